@@ -1,0 +1,38 @@
+-- The tree of names and byte files, as two finite maps. It is told in docs/TREE.md.
+use Rattle.std.specs.Prelude.{◌≡◌, ℕ, ◌≤◌, List, [], ◌∷◌, ◌++◌, Some}
+use Rattle.std.specs.declared.cmp.Ordering.{Ordering}
+use Rattle.std.specs.Ordering.{nat_cmp}
+use Rattle.std.specs.Cmp.Lexicographic.{slice_cmp}
+use Rattle.std.specs.FinMap.{FinMap, get}
+
+-- paths in order: names are compared by their bytes, and a path stands before the longer ones that begin with it
+abbrev pub path_cmp : List (List ℕ) → List (List ℕ) → Ordering
+path_cmp = slice_cmp (slice_cmp nat_cmp)
+
+-- what a number stands for: a directory, or a file with its bytes
+pub data Thing : Type 0 where
+  Dir : Thing
+  File : List ℕ → Thing
+
+-- from paths to numbers
+abbrev pub Names : Type 0
+Names = FinMap path_cmp ℕ
+
+-- from numbers to what they stand for
+abbrev pub Nodes : Type 0
+Nodes = FinMap nat_cmp Thing
+
+pub record Tree : Type 0 where
+  pub names : Names
+  pub nodes : Nodes
+
+-- The root is directory 1, each other path lies in a directory, each node has a path, a directory has one path alone, and no number is above the limit.
+pub record IsSound (limit : ℕ) (t : Tree) : Type 0 where
+  pub root : get t.names [] ≡ Some 1
+  pub root_dir : get t.nodes 1 ≡ Some Dir
+  pub parents : (up : List (List ℕ)) (name : List ℕ) (n : ℕ) → get t.names (up ++ name ∷ []) ≡ Some n
+      → (k : ℕ) × (get t.names up ≡ Some k) × (get t.nodes k ≡ Some Dir)
+  pub named : (p : List (List ℕ)) (n : ℕ) → get t.names p ≡ Some n → (x : Thing) × (get t.nodes n ≡ Some x)
+  pub reached : (n : ℕ) (x : Thing) → get t.nodes n ≡ Some x → (p : List (List ℕ)) × (get t.names p ≡ Some n)
+  pub one_path : (n : ℕ) (p q : List (List ℕ)) → get t.nodes n ≡ Some Dir → get t.names p ≡ Some n → get t.names q ≡ Some n → p ≡ q
+  pub within : (n : ℕ) (x : Thing) → get t.nodes n ≡ Some x → (1 ≤ n) × (n ≤ limit)

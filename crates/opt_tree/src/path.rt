@@ -1,0 +1,45 @@
+//! An absolute path: the list of the names that lead to it from the root, which is the empty list.
+//! How a path is written stands in the crate of the script.
+
+ghost use Rattle.std.specs.Prelude.{◌≡◌, ℕ, List, [], IfOk, length};
+
+use opt_base::{Name, NoMemory};
+use std::alloc::Global;
+use std::marker::Model;
+
+/// The names from the root down. Contracts see a path as the list of its names' bytes.
+#[derive(Debug, Drop)]
+pub struct Path {
+    names: Vec<Name>,
+}
+
+impl Model for Path {
+    ghost Value = { List (List ℕ) };
+
+    ghost view = { λ p. p.names.items };
+}
+
+impl Path {
+    /// The path of the root. This takes no memory.
+    pub fn root(alloc: Global) -> Path
+        ensures { result ≡ [] }
+    {
+        Path {
+            names: Vec::new(alloc),
+        }
+    }
+
+    /// The path with these names.
+    pub fn from_names(names: Vec<Name>) -> Path
+        ensures { result ≡ names.items }
+    {
+        Path { names }
+    }
+
+    /// The names from the root down.
+    pub fn names(&self) -> &[Name]
+        ensures { result.now ≡ self.now }
+    {
+        self.names.as_slice()
+    }
+}
