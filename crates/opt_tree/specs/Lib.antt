@@ -1,3 +1,6 @@
 pub mod Tree
 pub mod Step
 pub mod Run
+pub mod Refusals
+pub mod Code
+pub mod Stored

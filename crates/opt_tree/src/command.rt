@@ -1,6 +1,9 @@
 //! What a tree is asked and what it answers, as plain data. How commands and replies are written stands
 //! in the crate of the script; what they mean is the definition `step`, told in docs/TREE.md.
 
+ghost use Rattle.std.specs.Prelude.{◌≡◌};
+ghost use Rattle.opt_tree.specs.Refusals.{refusal_number, refusal_name};
+
 use crate::Path;
 use opt_base::Bytes;
 
@@ -57,4 +60,42 @@ pub enum Refusal {
     NoNode,
     /// 17: no memory was found.
     NoMemory,
+}
+
+impl Refusal {
+    /// The number by which the trace names the reason.
+    pub fn number(self) -> u8
+        ensures { result ≡ refusal_number self }
+    {
+        match self {
+            Refusal::NotFound => 1,
+            Refusal::Exists => 2,
+            Refusal::NotDir => 3,
+            Refusal::IsDir => 4,
+            Refusal::NotEmpty => 5,
+            Refusal::BelowItself => 6,
+            Refusal::TooLarge => 7,
+            Refusal::TooManyLinks => 8,
+            Refusal::NoNode => 9,
+            Refusal::NoMemory => 17,
+        }
+    }
+
+    /// The reason's name.
+    pub fn name(self) -> &'static str
+        ensures { result.now ≡ refusal_name self }
+    {
+        match self {
+            Refusal::NotFound => "NotFound",
+            Refusal::Exists => "Exists",
+            Refusal::NotDir => "NotDir",
+            Refusal::IsDir => "IsDir",
+            Refusal::NotEmpty => "NotEmpty",
+            Refusal::BelowItself => "BelowItself",
+            Refusal::TooLarge => "TooLarge",
+            Refusal::TooManyLinks => "TooManyLinks",
+            Refusal::NoNode => "NoNode",
+            Refusal::NoMemory => "NoMemory",
+        }
+    }
 }

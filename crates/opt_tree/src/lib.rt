@@ -3,7 +3,15 @@
 #![tactic(auto)]
 
 mod command;
+mod names;
+mod nodes;
 mod path;
+mod plain;
+mod state;
 
 pub use command::{Cmd, Refusal, Reply};
 pub use path::Path;
+pub use plain::PlainTree;
+
+#[cfg(test)]
+mod tests;

@@ -1,8 +1,9 @@
 //! An absolute path: the list of the names that lead to it from the root, which is the empty list.
 //! How a path is written stands in the crate of the script.
 
-ghost use Rattle.std.specs.Prelude.{◌≡◌, ℕ, List, [], IfOk, length};
+ghost use Rattle.std.specs.Prelude.{◌≡◌, ℕ, List, [], IfOk};
 
+use crate::names::copied;
 use opt_base::{Name, NoMemory};
 use std::alloc::Global;
 use std::marker::Model;
@@ -34,6 +35,17 @@ impl Path {
         ensures { result ≡ names.items }
     {
         Path { names }
+    }
+
+    /// A copy of this path.
+    ///
+    /// # Errors
+    /// Want of memory.
+    pub fn copy(&self, alloc: Global) -> Result<Path, NoMemory>
+        ensures { IfOk result (λ copy. copy ≡ self.now) }
+    {
+        let names = copied(alloc, self.names.as_slice())?;
+        Ok(Path { names })
     }
 
     /// The names from the root down.

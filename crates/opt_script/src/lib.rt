@@ -1,0 +1,12 @@
+//! The text of a script: which command a line is, and how commands and replies are written. It knows no
+//! tree and no stream. The grammar is the definition `command_of`, told in docs/SCRIPT.md; the texts are
+//! `command_text` and `text_of_reply`.
+#![tactic(auto)]
+
+mod parse;
+#[cfg(test)]
+mod tests;
+mod text;
+
+pub use parse::parse_line;
+pub use text::{cmd_text, reply_text};

@@ -1,0 +1,4 @@
+mod Paths
+mod Row
+mod Walks
+mod Sound

@@ -1,0 +1,30 @@
+-- How the reasons of refusals are written: each has a number and a name. They are told in docs/TREE.md.
+use Rattle.std.specs.Prelude.{ℕ, List, codes}
+use Rattle.opt_tree.specs.declared.command.Refusal.{Refusal}
+use Rattle.opt_tree.specs.declared.command.Refusal.TheVariants.{NotFound, Exists, NotDir, IsDir, NotEmpty, BelowItself, TooLarge, TooManyLinks, NoNode, NoMemory}
+
+-- the number by which the trace names the reason
+abbrev pub refusal_number : Refusal → ℕ
+refusal_number NotFound = 1
+refusal_number Exists = 2
+refusal_number NotDir = 3
+refusal_number IsDir = 4
+refusal_number NotEmpty = 5
+refusal_number BelowItself = 6
+refusal_number TooLarge = 7
+refusal_number TooManyLinks = 8
+refusal_number NoNode = 9
+refusal_number NoMemory = 17
+
+-- the reason's name
+abbrev pub refusal_name : Refusal → List ℕ
+refusal_name NotFound = codes "NotFound"
+refusal_name Exists = codes "Exists"
+refusal_name NotDir = codes "NotDir"
+refusal_name IsDir = codes "IsDir"
+refusal_name NotEmpty = codes "NotEmpty"
+refusal_name BelowItself = codes "BelowItself"
+refusal_name TooLarge = codes "TooLarge"
+refusal_name TooManyLinks = codes "TooManyLinks"
+refusal_name NoNode = codes "NoNode"
+refusal_name NoMemory = codes "NoMemory"

@@ -1,0 +1,5 @@
+pub mod LineLemmas
+pub mod RunLemmas
+pub mod RecordingLemmas
+pub mod ReadingLemmas
+pub mod ProgramLemmas

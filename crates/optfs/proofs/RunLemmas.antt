@@ -1,0 +1,74 @@
+-- Runs of commands joined, and a run for every list of commands.
+use Rattle.std.proofs.Common.{◌≡◌, ℕ, List, [], ◌∷◌, ◌++◌, refl, sym, ap, ◌∙◌, subst, inl, append_assoc}
+use Rattle.opt_tree.specs.declared.command.Cmd.{Cmd}
+use Rattle.opt_tree.specs.declared.command.Reply.{Reply}
+use Rattle.opt_tree.specs.Step.{Session, start, step}
+use Rattle.opt_tree.specs.Run.{Run}
+use Rattle.optfs.specs.Trace.{head, entry, entries, end_line}
+use Rattle.optfs.specs.Lines.{whole_commands}
+use Rattle.optfs.specs.Output.{Serves, IsWhole, IsFront, longest}
+use Rattle.optfs.proofs.LineLemmas.{commands-more}
+
+nil_bytes : (l : List ℕ) → l ++ [] ≡ l
+nil_bytes [] = refl
+nil_bytes (c ∷ l) = ap (λ r. c ∷ r) (nil_bytes l)
+
+pub run_append : (s t u : Session) (cmds : List Cmd) (replies : List Reply) (more : List Cmd) (later : List Reply)
+    → Run s cmds replies t → Run t more later u → Run s (cmds ++ more) (replies ++ later) u
+run_append s t u [] [] more later run next =
+    let P : Session → Type 0 = λ x. Run x more later u in
+    subst P run next
+run_append s t u [] (r ∷ replies) more later run next = absurd run
+run_append s t u (c ∷ cmds) [] more later run next = absurd run
+run_append s t u (c ∷ cmds) (r ∷ replies) more later run next =
+    (run.0, run.1, run_append run.0 t u cmds replies more later run.2 next)
+
+pub entries_append : (s t : Session) (cmds : List Cmd) (replies : List Reply) (more : List Cmd) (later : List Reply) → Run s cmds replies t
+    → entries (cmds ++ more) (replies ++ later) ≡ entries cmds replies ++ entries more later
+entries_append s t [] [] more later run = refl
+entries_append s t [] (r ∷ replies) more later run = absurd run
+entries_append s t (c ∷ cmds) [] more later run = absurd run
+entries_append s t (c ∷ cmds) (r ∷ replies) more later run =
+    ap (λ l. entry c r ++ l) (entries_append run.0 t cmds replies more later run.2) ∙ sym (append_assoc (entry c r) (entries cmds replies) (entries more later))
+
+-- more commands behind those that are served
+abbrev pub joined : (cmds more all : List Cmd) (body : List ℕ) (s : Serves cmds body) (tree next : Session) (later : List Reply)
+    → s.after ≡ tree → Run tree more later next → cmds ++ more ≡ all → Serves all (body ++ entries more later)
+joined cmds more all body s tree next later is run whole =
+    let P : Session → Type 0 = λ x. Run x more later next in
+    let Q : List Cmd → Type 0 = λ l. Run (start 16) l (s.replies ++ later) next in
+    record {
+      replies = s.replies ++ later;
+      after = next;
+      run = subst Q whole (run_append (start 16) s.after next cmds s.replies more later s.run (subst P (sym is) run));
+      is = ap (λ l. l ++ entries more later) s.is ∙ append_assoc head (entries cmds s.replies) (entries more later)
+          ∙ ap (λ l. head ++ l) (sym (entries_append (start 16) s.after cmds s.replies more later s.run) ∙ ap (λ l. entries l (s.replies ++ later)) whole);
+    }
+
+-- Every list of commands is answered somehow.
+pub any_run : (s : Session) (cmds : List Cmd) → (replies : List Reply) × (end : Session) × Run s cmds replies end
+any_run s [] = ([], s, refl)
+any_run s (c ∷ cmds) =
+    let answer = step s c in
+    let later = any_run answer.0 cmds in
+    (answer.1 ∷ later.0, later.1, (answer.0, inl refl, later.2))
+
+pub serves_more : (cmds : List Cmd) (text : List ℕ) → Serves cmds text → (more : List Cmd)
+    → (rest : List ℕ) × Serves (cmds ++ more) (text ++ rest)
+serves_more cmds text s more =
+    let later = any_run s.after more in
+    (entries more later.0, joined cmds more (cmds ++ more) text s s.after later.1 later.0 refl later.2 refl)
+
+-- What was served of a front of the bytes begins a whole trace of all of them.
+pub front_of_trace : (seen more body : List ℕ) → Serves (whole_commands longest seen) body → IsFront (IsWhole (seen ++ more)) body
+front_of_trace seen more body served =
+    let cmds = commands-more longest seen more in
+    let whole = serves_more (whole_commands longest seen) body served cmds.0 in
+    let P : List Cmd → Type 0 = λ l. Serves l (body ++ whole.0) in (
+      whole.0 ++ end_line,
+      inl (record {
+        body = body ++ whole.0;
+        served = subst P (sym cmds.1) whole.1;
+        is = sym (append_assoc body whole.0 end_line);
+      }),
+    )

@@ -1,0 +1,53 @@
+-- How far a recording has come after the bytes that it has seen. Only proofs and private contracts speak of it.
+use Rattle.std.specs.Prelude.{◌≡◌, ℕ, ◌+◌, ◌≤◌, List, take, Option, Result, Ok, Err}
+use Rattle.std.specs.Io.KnownBytes.{Appends}
+use Rattle.opt_io.specs.Faults.{Rose}
+use Rattle.opt_tree.specs.declared.command.Cmd.{Cmd}
+use Rattle.opt_tree.specs.declared.command.Reply.{Reply}
+use Rattle.opt_tree.specs.Step.{Session}
+use Rattle.opt_tree.specs.Run.{Run}
+use Rattle.optfs.specs.Lines.{open_line, whole_commands}
+use Rattle.optfs.specs.Trace.{entries}
+use Rattle.optfs.specs.Output.{Serves, IsWhole, IsFront, longest}
+use Rattle.optfs.specs.declared.recording.Stop.{Stop}
+use Rattle.optfs.specs.declared.recording.Stop.TheVariants.{NoMemory, SinkFault}
+
+-- These commands were answered, and the sink took their entries.
+pub record Served (cmds : List Cmd) (old new : Session) (before after : Option (List ℕ)) : Type 0 where
+  pub replies : List Reply
+  pub run : Run old cmds replies new
+  pub told : Appends before after (entries cmds replies)
+
+-- These commands are answered somehow, and the sink took a front of their entries.
+pub record Tried (cmds : List Cmd) (old : Session) (before after : Option (List ℕ)) : Type 0 where
+  pub replies : List Reply
+  pub new : Session
+  pub run : Run old cmds replies new
+  pub taken : ℕ
+  pub told : Appends before after (take taken (entries cmds replies))
+
+-- The commands of the whole lines seen are answered, the sink took the trace of them, and the open line is kept, up to one byte more than a line may have.
+pub record Follows (seen : List ℕ) (before after : Option (List ℕ)) (tree : Session) (line : List ℕ) : Type 0 where
+  pub body : List ℕ
+  pub served : Serves (whole_commands longest seen) body
+  pub tree_is : served.after ≡ tree
+  pub told : Appends before after body
+  pub kept : line ≡ take (longest + 1) (open_line seen)
+
+-- The sink took a front of a whole output for these bytes.
+pub record Stopped (seen : List ℕ) (before after : Option (List ℕ)) : Type 0 where
+  pub text : List ℕ
+  pub told : Appends before after text
+  pub front : IsFront (IsWhole seen) text
+
+-- the sink's count never falls, and a stop by the sink comes only where it rose
+abbrev pub StopsByCause : {T : Type 0} → ℕ → ℕ → Result T Stop → Type 0
+StopsByCause before now (Ok done) = before ≤ now
+StopsByCause before now (Err NoMemory) = before ≤ now
+StopsByCause before now (Err SinkFault) = (before ≤ now) × Rose before now
+
+-- These commands are answered on a new tree, and the sink took the beginning of the trace that they make.
+pub record ServesTo (cmds : List Cmd) (before after : Option (List ℕ)) : Type 0 where
+  pub body : List ℕ
+  pub served : Serves cmds body
+  pub told : Appends before after body

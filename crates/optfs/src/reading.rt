@@ -1,0 +1,130 @@
+//! The reading of an input: pull after pull, up to its end, to a fault of the source, or to the most
+//! bytes that an input may have. What the bytes do stands in the module of the recording.
+
+ghost use Rattle.std.specs.Prelude.{◌≡◌, ℕ, ◌+◌, ◌^◌, ◌<◌, ◌≤◌, List, length, Option, OnErr, IfOk};
+ghost use Rattle.optfs.specs.Follows.{StopsByCause};
+ghost use Rattle.optfs.specs.Reading.{At, Halted, Brings, AfterTurn, AtEnding};
+
+use crate::recording::{Recording, Stop};
+use opt_base::limits::LONGEST_INPUT;
+use opt_io::{Sink, Source, SourceFault};
+use std::alloc::Global;
+
+/// What one pull brought.
+#[derive(Clone, Copy, Debug, PartialEq, Eq)]
+pub enum Turn {
+    /// So many bytes, which the recording has taken.
+    Took(usize),
+    /// The input is over.
+    Ended,
+    /// The source failed.
+    Failed,
+}
+
+/// How a reading ends that nothing stopped.
+#[derive(Clone, Copy, Debug, PartialEq, Eq)]
+pub enum Ending {
+    /// The input was read to its end.
+    End,
+    /// The source failed.
+    SourceFault,
+    /// More bytes came than an input may have.
+    LongInput,
+}
+
+/// Pulls once, and lets the recording take what came.
+fn pull_once<S: Source, K: Sink>(
+    alloc: Global,
+    recording: &mut Recording,
+    input: &mut S,
+    out: &mut K,
+    chunk: &mut [u8],
+) -> Result<Turn, Stop>
+    requires { 0 < length chunk.old }
+    ensures some { IfOk result (λ turn. Brings turn (length chunk.old)) }
+    ensures ok { IfOk result (λ turn. (count : ℕ) (left told : Option (List ℕ))
+        → At count left (S.remaining input.old) told (K.taken out.old) recording.old.tree recording.old.line.items
+        → AfterTurn turn count (S.faults input.old) (S.faults input.new) left (S.remaining input.new)
+        told (K.taken out.new) recording.new.tree recording.new.line.items) }
+    ensures err { OnErr result ((count : ℕ) (left told : Option (List ℕ))
+        → At count left (S.remaining input.old) told (K.taken out.old) recording.old.tree recording.old.line.items
+        → Halted (count + length chunk.old) left (S.remaining input.new) told (K.taken out.new)) }
+    ensures source { S.faults input.old ≤ S.faults input.new }
+    ensures cause { StopsByCause (K.faults out.old) (K.faults out.new) result }
+{
+    let count = match input.pull(chunk) {
+        Err(SourceFault) => return Ok(Turn::Failed),
+        Ok(count) => count,
+    };
+    if count == 0 {
+        return Ok(Turn::Ended);
+    }
+    recording.take_all(alloc, out, &chunk[..count])?;
+    Ok(Turn::Took(count))
+}
+
+/// Reads the input to its end, by pieces of at most the chunk's length.
+///
+/// # Errors
+/// Want of memory, or a fault of the sink.
+pub fn read_all<S: Source, K: Sink>(
+    alloc: Global,
+    recording: &mut Recording,
+    input: &mut S,
+    out: &mut K,
+    chunk: &mut [u8],
+) -> Result<Ending, Stop>
+    requires { 0 < length chunk.old }
+    ensures ok { IfOk result (λ ending. (left told : Option (List ℕ))
+        → At 0 left (S.remaining input.old) told (K.taken out.old) recording.old.tree recording.old.line.items
+        → AtEnding ending (S.faults input.old) (S.faults input.new) left (S.remaining input.new) told (K.taken out.new)) }
+    ensures err { OnErr result ((left told : Option (List ℕ))
+        → At 0 left (S.remaining input.old) told (K.taken out.old) recording.old.tree recording.old.line.items
+        → Halted (2 ^ 30) left (S.remaining input.new) told (K.taken out.new)) }
+    ensures source { S.faults input.old ≤ S.faults input.new }
+    ensures cause { StopsByCause (K.faults out.old) (K.faults out.new) result }
+{
+    let mut count: usize = 0;
+    while count < MOST {
+        let room = chunk.len().min(MOST - count);
+        match pull_once(alloc, recording, input, out, &mut chunk[..room])? {
+            Turn::Failed => return Ok(Ending::SourceFault),
+            Turn::Ended => {
+                recording.take_end(alloc, out)?;
+                return Ok(Ending::End);
+            }
+            Turn::Took(more) => count += more,
+        }
+    }
+    read_past(alloc, recording, input, out)
+}
+
+/// Looks whether one byte more comes than an input may have.
+fn read_past<S: Source, K: Sink>(
+    alloc: Global,
+    recording: &mut Recording,
+    input: &mut S,
+    out: &mut K,
+) -> Result<Ending, Stop>
+    ensures ok { IfOk result (λ ending. (left told : Option (List ℕ))
+        → At (2 ^ 30) left (S.remaining input.old) told (K.taken out.old) recording.old.tree recording.old.line.items
+        → AtEnding ending (S.faults input.old) (S.faults input.new) left (S.remaining input.new) told (K.taken out.new)) }
+    ensures err { OnErr result ((left told : Option (List ℕ))
+        → At (2 ^ 30) left (S.remaining input.old) told (K.taken out.old) recording.old.tree recording.old.line.items
+        → Halted (2 ^ 30) left (S.remaining input.new) told (K.taken out.new)) }
+    ensures source { S.faults input.old ≤ S.faults input.new }
+    ensures cause { StopsByCause (K.faults out.old) (K.faults out.new) result }
+{
+    let mut next = [0u8; 1];
+    match input.pull(&mut next) {
+        Err(SourceFault) => Ok(Ending::SourceFault),
+        Ok(0) => {
+            recording.take_end(alloc, out)?;
+            Ok(Ending::End)
+        }
+        Ok(_) => Ok(Ending::LongInput),
+    }
+}
+
+/// The most bytes of a whole input.
+const MOST: usize = LONGEST_INPUT as usize;

@@ -1,0 +1,199 @@
+//! A recording on its way: a tree, and the line that is open. It takes the bytes of the input one by
+//! one, and after each line feed it answers the line and writes its entry of the trace. Where the
+//! bytes come from, and how a recording ends, stands in the module of the program.
+//!
+//! What holds after the bytes seen is one fact, `Follows`: the commands of the whole lines are answered
+//! in turn, the sink has taken the trace of them, and the open line is kept.
+
+ghost use Rattle.std.specs.Prelude.{◌≡◌, ℕ, List, [], ◌∷◌, ◌++◌, Option, OnOk, OnErr, IfOk};
+ghost use Rattle.opt_tree.specs.Step.{Session, start};
+ghost use Rattle.optfs.specs.Lines.{commands_of_line, commands_of};
+ghost use Rattle.optfs.specs.Output.{longest};
+ghost use Rattle.optfs.specs.Follows.{ServesTo, Served, Tried, Follows, Stopped, StopsByCause};
+
+use crate::lines::{command_of_line, entry_text};
+use opt_base::NoMemory;
+use opt_base::limits::LONGEST_LINE;
+use opt_io::{Sink, SinkFault, push_all};
+use opt_tree::{Cmd, PlainTree};
+use std::alloc::{AllocError, AllocFailed, Global};
+
+/// Why a recording stops before its input ends.
+#[derive(Clone, Copy, Debug, PartialEq, Eq)]
+pub enum Stop {
+    /// No memory was found.
+    NoMemory,
+    /// The sink failed.
+    SinkFault,
+}
+
+impl From<NoMemory> for Stop {
+    ghost use Rattle.std.specs.Prelude.{◌≡◌};
+    ghost use Rattle.optfs.specs.declared.recording.Stop.TheVariants.{NoMemory as OutOfMemory};
+
+    ghost from_gives = { λ _ stop. stop ≡ OutOfMemory };
+
+    fn from(_want: NoMemory) -> Stop {
+        Stop::NoMemory
+    }
+}
+
+impl<T: Drop> From<AllocFailed<T>> for Stop {
+    ghost use Rattle.std.specs.Prelude.{◌≡◌};
+    ghost use Rattle.optfs.specs.declared.recording.Stop.TheVariants.{NoMemory as OutOfMemory};
+
+    ghost from_gives = { λ _ stop. stop ≡ OutOfMemory };
+
+    fn from(_want: AllocFailed<T>) -> Stop {
+        Stop::NoMemory
+    }
+}
+
+impl From<AllocError> for Stop {
+    ghost use Rattle.std.specs.Prelude.{◌≡◌};
+    ghost use Rattle.optfs.specs.declared.recording.Stop.TheVariants.{NoMemory as OutOfMemory};
+
+    ghost from_gives = { λ _ stop. stop ≡ OutOfMemory };
+
+    fn from(_want: AllocError) -> Stop {
+        Stop::NoMemory
+    }
+}
+
+impl From<SinkFault> for Stop {
+    ghost use Rattle.std.specs.Prelude.{◌≡◌};
+    ghost use Rattle.optfs.specs.declared.recording.Stop.TheVariants.{SinkFault as Failed};
+
+    ghost from_gives = { λ _ stop. stop ≡ Failed };
+
+    fn from(_fault: SinkFault) -> Stop {
+        Stop::SinkFault
+    }
+}
+
+/// Answers one command and writes its entry.
+fn serve<K: Sink>(alloc: Global, tree: &mut PlainTree, out: &mut K, cmd: &Cmd) -> Result<(), Stop>
+    ensures ok { OnOk result (Served (cmd.now ∷ []) tree.old tree.new (K.taken out.old) (K.taken out.new)) }
+    ensures err { OnErr result (Tried (cmd.now ∷ []) tree.old (K.taken out.old) (K.taken out.new)) }
+    ensures cause { StopsByCause (K.faults out.old) (K.faults out.new) result }
+{
+    let reply = tree.apply(alloc, cmd);
+    let text = entry_text(alloc, cmd, &reply)?;
+    push_all(out, text.as_slice())?;
+    Ok(())
+}
+
+/// Answers the command that a line is, if it is one, and writes its entry.
+fn serve_line<K: Sink>(
+    alloc: Global,
+    tree: &mut PlainTree,
+    out: &mut K,
+    line: &[u8],
+) -> Result<(), Stop>
+    ensures ok { OnOk result (Served (commands_of_line longest line.now) tree.old tree.new (K.taken out.old) (K.taken out.new)) }
+    ensures err { OnErr result (Tried (commands_of_line longest line.now) tree.old (K.taken out.old) (K.taken out.new)) }
+    ensures cause { StopsByCause (K.faults out.old) (K.faults out.new) result }
+{
+    match command_of_line(alloc, line)? {
+        None => Ok(()),
+        Some(cmd) => {
+            serve(alloc, tree, out, &cmd)?;
+            Ok(())
+        }
+    }
+}
+
+/// A tree, and the line whose line feed hasn't come yet.
+#[derive(Drop)]
+pub struct Recording {
+    tree: PlainTree,
+    line: Vec<u8>,
+}
+
+impl Recording {
+    /// A new tree and no line.
+    ///
+    /// # Errors
+    /// Want of memory.
+    pub fn new(alloc: Global) -> Result<Recording, NoMemory>
+        ensures { IfOk result (λ r. (r.tree ≡ start 16) × (r.line.items ≡ [])) }
+    {
+        let tree = PlainTree::new(alloc, NODES)?;
+        Ok(Recording {
+            tree,
+            line: Vec::new(alloc),
+        })
+    }
+
+    /// Takes one byte of the input.
+    ///
+    /// # Errors
+    /// Want of memory, or a fault of the sink, which then has a front of an output.
+    pub fn take_byte<K: Sink>(&mut self, alloc: Global, out: &mut K, byte: u8) -> Result<(), Stop>
+        ensures ok { OnOk result ((seen : List ℕ) (before : Option (List ℕ))
+            → Follows seen before (K.taken out.old) self.old.tree self.old.line.items
+            → Follows (seen ++ byte ∷ []) before (K.taken out.new) self.new.tree self.new.line.items) }
+        ensures err { OnErr result ((seen more : List ℕ) (before : Option (List ℕ))
+            → Follows seen before (K.taken out.old) self.old.tree self.old.line.items
+            → Stopped (seen ++ byte ∷ more) before (K.taken out.new)) }
+        ensures cause { StopsByCause (K.faults out.old) (K.faults out.new) result }
+    {
+        if byte == FEED {
+            serve_line(alloc, &mut self.tree, out, self.line.as_slice())?;
+            self.line.clear();
+            return Ok(());
+        }
+        if self.line.len() <= LONGEST_LINE {
+            self.line.push(byte)?;
+        }
+        Ok(())
+    }
+
+    /// Takes these bytes of the input in order.
+    ///
+    /// # Errors
+    /// As `take_byte`, at the first byte that can't be taken.
+    pub fn take_all<K: Sink>(
+        &mut self,
+        alloc: Global,
+        out: &mut K,
+        bytes: &[u8],
+    ) -> Result<(), Stop>
+        ensures ok { OnOk result ((seen : List ℕ) (before : Option (List ℕ))
+            → Follows seen before (K.taken out.old) self.old.tree self.old.line.items
+            → Follows (seen ++ bytes.now) before (K.taken out.new) self.new.tree self.new.line.items) }
+        ensures err { OnErr result ((seen : List ℕ) (before : Option (List ℕ))
+            → Follows seen before (K.taken out.old) self.old.tree self.old.line.items
+            → Stopped (seen ++ bytes.now) before (K.taken out.new)) }
+        ensures cause { StopsByCause (K.faults out.old) (K.faults out.new) result }
+    {
+        for byte in bytes {
+            self.take_byte(alloc, out, *byte)?;
+        }
+        Ok(())
+    }
+
+    /// Answers the last line of an input that has ended, where it lacks its line feed.
+    ///
+    /// # Errors
+    /// As `take_byte`.
+    pub fn take_end<K: Sink>(&mut self, alloc: Global, out: &mut K) -> Result<(), Stop>
+        ensures ok { OnOk result ((seen : List ℕ) (before : Option (List ℕ))
+            → Follows seen before (K.taken out.old) self.old.tree self.old.line.items
+            → ServesTo (commands_of longest seen) before (K.taken out.new)) }
+        ensures err { OnErr result ((seen : List ℕ) (before : Option (List ℕ))
+            → Follows seen before (K.taken out.old) self.old.tree self.old.line.items
+            → Stopped seen before (K.taken out.new)) }
+        ensures cause { StopsByCause (K.faults out.old) (K.faults out.new) result }
+    {
+        serve_line(alloc, &mut self.tree, out, self.line.as_slice())?;
+        self.line.clear();
+        Ok(())
+    }
+}
+
+/// The number of node numbers of the tree.
+const NODES: u32 = 16;
+
+/// The line feed.
+const FEED: u8 = b'\n';

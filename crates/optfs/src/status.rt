@@ -1,0 +1,38 @@
+//! How a run of the program ends: a status for each cause, its number, and the last line that it
+//! writes. What comes before that line is the subject of the module of the recording.
+
+ghost use Rattle.std.specs.Prelude.{◌≡◌};
+ghost use Rattle.optfs.specs.Statuses.{status_number};
+
+/// The end of a run. The process exits with its number.
+#[derive(Clone, Copy, Debug, PartialEq, Eq)]
+pub enum Status {
+    /// 0: the input was read to its end and all output was taken.
+    Done,
+    /// 2: the words are outside the grammar.
+    Usage,
+    /// 4: no memory was found.
+    NoMemory,
+    /// 7: the source of the input failed.
+    SourceFault,
+    /// 8: the sink of the output failed.
+    SinkFault,
+    /// 12: more than 2^30 bytes came.
+    LongInput,
+}
+
+impl Status {
+    /// The number that the process exits with.
+    pub fn number(self) -> u8
+        ensures { result ≡ status_number self }
+    {
+        match self {
+            Status::Done => 0,
+            Status::Usage => 2,
+            Status::NoMemory => 4,
+            Status::SourceFault => 7,
+            Status::SinkFault => 8,
+            Status::LongInput => 12,
+        }
+    }
+}

@@ -1,0 +1,188 @@
+//! Scripts through the public call, over a source and a sink in memory, which fail where they are told
+//! to. What is expected was worked out by hand from docs/TRACE.md.
+
+use crate::{Status, optfs};
+use opt_io::{MemSink, MemSource};
+use std::alloc::Global;
+use std::test::Fail;
+
+const WORDS: [&str; 4] = ["record", "64", "16", "16"];
+
+/// What a run answered and wrote.
+#[derive(Drop)]
+struct Outcome {
+    status: Status,
+    text: Vec<u8>,
+}
+
+fn words_of(alloc: Global, words: &[&str]) -> Result<Vec<String>, Fail> {
+    let mut list = Vec::new(alloc);
+    for word in words {
+        list.push(String::from_str(alloc, word)?)?;
+    }
+    Ok(list)
+}
+
+fn run_over(
+    alloc: Global,
+    words: &[&str],
+    mut input: MemSource,
+    mut out: MemSink,
+) -> Result<Outcome, Fail> {
+    let words = words_of(alloc, words)?;
+    let status = optfs(alloc, words.as_slice(), &mut input, &mut out);
+    let text = Vec::from_slice(alloc, out.bytes())?;
+    Ok(Outcome { status, text })
+}
+
+fn run(alloc: Global, script: &[u8]) -> Result<Outcome, Fail> {
+    let input = MemSource::new(alloc, script, &[])?;
+    let out = MemSink::new(alloc, 1_000_000, &[])?;
+    run_over(alloc, &WORDS, input, out)
+}
+
+const FIRST: &[u8] = b"create /a\nwrite /a 0 6869\nread /a 0 9\nosync\n";
+
+const FIRST_TRACE: &[u8] =
+    b"g 64 16 16\nc create /a\nr 0 ok\nc write /a 0 6869\nr 0 ok\nc read /a 0 9\nr 0 hex 6869\nc osync\nr 0 synced 1\nend\n";
+
+#[test]
+fn scripts_give_their_traces(rt: HostRuntime) -> Result<(), Fail> {
+    let cases: [(&[u8], &[u8]); 7] = [
+        (FIRST, FIRST_TRACE),
+        (b"", b"g 64 16 16\nend\n"),
+        (
+            b"create /a\nwrite /a 3 ff\nread /a 0 9\nread /a 4 1\n",
+            b"g 64 16 16\nc create /a\nr 0 ok\nc write /a 3 ff\nr 0 ok\nc read /a 0 9\nr 0 hex 000000ff\nc read /a 4 1\nr 0 hex\nend\n",
+        ),
+        (
+            b"create /a\nosync\nosync\ncreate /a\ncreate /a/b\nread /c 0 1\nwrite / 0 00\n",
+            b"g 64 16 16\nc create /a\nr 0 ok\nc osync\nr 0 synced 1\nc osync\nr 0 synced 1\nc create /a\nr 0 refused 2 Exists\nc create /a/b\nr 0 refused 3 NotDir\nc read /c 0 1\nr 0 refused 1 NotFound\nc write / 0 00\nr 0 refused 4 IsDir\nend\n",
+        ),
+        (
+            b"create\n# note\n\nwrite /a 0 6\nosync",
+            b"g 64 16 16\nc ?\nr 0 bad\nc ?\nr 0 bad\nc osync\nr 0 synced 0\nend\n",
+        ),
+        (
+            b"create /a\nwrite /a 0 6A6b\n",
+            b"g 64 16 16\nc create /a\nr 0 ok\nc write /a 0 6a6b\nr 0 ok\nend\n",
+        ),
+        (
+            b"create /a\nwrite /a 1073741824 ff\n",
+            b"g 64 16 16\nc create /a\nr 0 ok\nc write /a 1073741824 ff\nr 0 refused 7 TooLarge\nend\n",
+        ),
+    ];
+    for (script, trace) in cases {
+        let outcome = run(rt.alloc(), script)?;
+        assert_eq!(rt; outcome.status, Status::Done);
+        assert_eq!(rt; outcome.text.as_slice(), trace);
+    }
+    Ok(())
+}
+
+#[test]
+fn other_words_are_usage(rt: HostRuntime) -> Result<(), Fail> {
+    let cases: [&[&str]; 5] = [
+        &["fly"],
+        &[],
+        &["record", "64", "16"],
+        &["record", "64", "16", "17"],
+        &["record", "64", "16", "16", "16"],
+    ];
+    for words in cases {
+        let input = MemSource::new(rt.alloc(), FIRST, &[])?;
+        let out = MemSink::new(rt.alloc(), 1000, &[])?;
+        let outcome = run_over(rt.alloc(), words, input, out)?;
+        assert_eq!(rt; outcome.status, Status::Usage);
+        assert_eq!(rt; outcome.text.as_slice(), b"error 2 usage\n".as_slice());
+    }
+    Ok(())
+}
+
+#[test]
+fn the_sixteenth_node_is_the_last(rt: HostRuntime) -> Result<(), Fail> {
+    let mut script = Vec::new(rt.alloc());
+    for letter in b'a'..=b'p' {
+        script.extend_from_slice(b"create /")?;
+        script.push(letter)?;
+        script.push(b'\n')?;
+    }
+    let outcome = run(rt.alloc(), script.as_slice())?;
+    assert_eq!(rt; outcome.status, Status::Done);
+    assert!(rt;
+        outcome.text.ends_with(b"c create /o\nr 0 ok\nc create /p\nr 0 refused 9 NoNode\nend\n")
+    );
+    Ok(())
+}
+
+#[test]
+fn a_source_that_fails_ends_the_trace(rt: HostRuntime) -> Result<(), Fail> {
+    let traces: [&[u8]; 3] = [
+        b"g 64 16 16\nerror 7 source\n",
+        b"g 64 16 16\nc create /a\nr 0 ok\nerror 7 source\n",
+        b"g 64 16 16\nc create /a\nr 0 ok\nc write /a 0 6869\nr 0 ok\nerror 7 source\n",
+    ];
+    for (turn, trace) in traces.iter().enumerate() {
+        let call = turn as u64 + 1;
+        let input = MemSource::new(rt.alloc(), FIRST, &[call])?.in_pieces(14);
+        let out = MemSink::new(rt.alloc(), 1000, &[])?;
+        let outcome = run_over(rt.alloc(), &WORDS, input, out)?;
+        assert_eq!(rt; outcome.status, Status::SourceFault);
+        assert_eq!(rt; outcome.text.as_slice(), *trace);
+    }
+    Ok(())
+}
+
+#[test]
+fn a_sink_that_fails_has_a_front(rt: HostRuntime) -> Result<(), Fail> {
+    for call in 1..=6u64 {
+        let input = MemSource::new(rt.alloc(), FIRST, &[])?;
+        let out = MemSink::new(rt.alloc(), 1000, &[call])?;
+        let outcome = run_over(rt.alloc(), &WORDS, input, out)?;
+        assert_eq!(rt; outcome.status, Status::SinkFault);
+        assert!(rt; FIRST_TRACE.starts_with(outcome.text.as_slice()));
+        assert!(rt; outcome.text.len() < FIRST_TRACE.len());
+    }
+    let input = MemSource::new(rt.alloc(), FIRST, &[])?;
+    let full = MemSink::new(rt.alloc(), 30, &[])?;
+    let outcome = run_over(rt.alloc(), &WORDS, input, full)?;
+    assert_eq!(rt; outcome.status, Status::SinkFault);
+    assert_eq!(rt; outcome.text.as_slice(), &FIRST_TRACE[..30]);
+    Ok(())
+}
+
+#[test]
+fn one_byte_at_a_time_gives_the_same(rt: HostRuntime) -> Result<(), Fail> {
+    let input = MemSource::new(rt.alloc(), FIRST, &[])?.in_pieces(1);
+    let out = MemSink::new(rt.alloc(), 1000, &[])?.in_pieces(1);
+    let outcome = run_over(rt.alloc(), &WORDS, input, out)?;
+    assert_eq!(rt; outcome.status, Status::Done);
+    assert_eq!(rt; outcome.text.as_slice(), FIRST_TRACE);
+    Ok(())
+}
+
+#[test]
+fn a_line_may_have_262144_bytes(rt: HostRuntime) -> Result<(), Fail> {
+    // `write /a 0 ` has 11 bytes and `write /aa 0 ` has 12, so that pairs of digits fill the rest.
+    let mut fits = Vec::from_slice(rt.alloc(), b"create /aa\nwrite /aa 0 ")?;
+    fits.resize(11 + 262_144, b'0')?;
+    let outcome = run(rt.alloc(), fits.as_slice())?;
+    assert!(rt; outcome.text.ends_with(b"00\nr 0 ok\nend\n"));
+    let mut over = Vec::from_slice(rt.alloc(), b"create /a\nwrite /a 0 ")?;
+    over.resize(10 + 262_145, b'0')?;
+    over.extend_from_slice(b"\nosync\n")?;
+    let outcome = run(rt.alloc(), over.as_slice())?;
+    assert_eq!(rt;
+        outcome.text.as_slice(),
+        b"g 64 16 16\nc create /a\nr 0 ok\nc ?\nr 0 bad\nc osync\nr 0 synced 1\nend\n".as_slice()
+    );
+    let mut comment = Vec::from_slice(rt.alloc(), b"#")?;
+    comment.resize(262_146, b' ')?;
+    comment.extend_from_slice(b"\nosync\n")?;
+    let outcome = run(rt.alloc(), comment.as_slice())?;
+    assert_eq!(rt;
+        outcome.text.as_slice(),
+        b"g 64 16 16\nc osync\nr 0 synced 0\nend\n".as_slice()
+    );
+    Ok(())
+}
