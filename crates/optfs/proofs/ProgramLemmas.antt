@@ -15,10 +15,10 @@ use Rattle.optfs.specs.declared.status.Status.TheVariants.{Done, NoMemory, Sourc
 regroup : (body line : List ℕ) (n : ℕ) → body ++ line ≡ (body ++ take n line) ++ drop n line
 regroup body line n = ap (λ l. body ++ l) (sym (take-append-drop n line)) ∙ sym (append_assoc body (take n line) (drop n line))
 
-pub tells_end : (result : Status) (left now told mid out : Option (List ℕ)) (sink sink_now : ℕ) (line : List ℕ) → line ≡ end_line
-    → ReadsAll left now told mid → Tells Done result line mid out sink sink_now → RecordsTo result left now told out
-tells_end result left now told mid out sink sink_now line is r (inl t) =
-    let P : Status → Type 0 = λ s. RecordsTo s left now told out in
+pub tells_end : (result : Status) (left now told mid out : Option (List ℕ)) (source source_now sink sink_now : ℕ) (line : List ℕ) → line ≡ end_line
+    → ReadsAll left now told mid → Tells Done result line mid out sink sink_now → RecordsTo result left now told out source source_now
+tells_end result left now told mid out source source_now sink sink_now line is r (inl t) =
+    let P : Status → Type 0 = λ s. RecordsTo s left now told out source source_now in
     let Q : List ℕ → Type 0 = λ l. Appends mid out l in
     subst P (sym t.0) (record {
       seen = r.seen;
@@ -27,10 +27,10 @@ tells_end result left now told mid out sink sink_now line is r (inl t) =
       writes = Appends-trans told mid out r.serves.body end_line r.serves.told (subst Q is t.1);
       output = record { body = r.serves.body; served = r.serves.served; is = refl };
     })
-tells_end result left now told mid out sink sink_now line is r (inr t) =
-    let P : Status → Type 0 = λ s. RecordsTo s left now told out in
+tells_end result left now told mid out source source_now sink sink_now line is r (inr t) =
+    let P : Status → Type 0 = λ s. RecordsTo s left now told out source source_now in
     let Q : List ℕ → Type 0 = λ l. Appends mid out (take t.1.0 l) in
-    let R : List ℕ → Type 0 = λ l. IsWhole r.seen l in
+    let R : List ℕ → Type 0 = λ l. IsWhole (Rose source source_now) r.seen l in
     subst P (sym t.0) (record {
       seen = r.seen;
       reads = inl (r.read, r.short);
@@ -39,10 +39,10 @@ tells_end result left now told mid out sink sink_now line is r (inr t) =
       output = (drop t.1.0 end_line, subst R (regroup r.serves.body end_line t.1.0) (inl (record { body = r.serves.body; served = r.serves.served; is = refl })));
     })
 
-pub tells_source : (result : Status) (left now told mid out : Option (List ℕ)) (sink sink_now : ℕ) (line : List ℕ) → line ≡ source_line
-    → ReadsSome left now told mid → Tells SourceFault result line mid out sink sink_now → RecordsTo result left now told out
-tells_source result left now told mid out sink sink_now line is r (inl t) =
-    let P : Status → Type 0 = λ s. RecordsTo s left now told out in
+pub tells_source : (result : Status) (left now told mid out : Option (List ℕ)) (source source_now sink sink_now : ℕ) (line : List ℕ) → line ≡ source_line → Rose source source_now
+    → ReadsSome left now told mid → Tells SourceFault result line mid out sink sink_now → RecordsTo result left now told out source source_now
+tells_source result left now told mid out source source_now sink sink_now line is rose r (inl t) =
+    let P : Status → Type 0 = λ s. RecordsTo s left now told out source source_now in
     let Q : List ℕ → Type 0 = λ l. Appends mid out l in
     subst P (sym t.0) (record {
       seen = r.seen;
@@ -51,22 +51,22 @@ tells_source result left now told mid out sink sink_now line is r (inl t) =
       writes = Appends-trans told mid out r.serves.body source_line r.serves.told (subst Q is t.1);
       output = record { body = r.serves.body; served = r.serves.served; is = refl };
     })
-tells_source result left now told mid out sink sink_now line is r (inr t) =
-    let P : Status → Type 0 = λ s. RecordsTo s left now told out in
+tells_source result left now told mid out source source_now sink sink_now line is rose r (inr t) =
+    let P : Status → Type 0 = λ s. RecordsTo s left now told out source source_now in
     let Q : List ℕ → Type 0 = λ l. Appends mid out (take t.1.0 l) in
-    let R : List ℕ → Type 0 = λ l. IsWhole r.seen l in
+    let R : List ℕ → Type 0 = λ l. IsWhole (Rose source source_now) r.seen l in
     subst P (sym t.0) (record {
       seen = r.seen;
       reads = inl (r.read, r.short);
       text = r.serves.body ++ take t.1.0 source_line;
       writes = Appends-trans told mid out r.serves.body _ r.serves.told (subst Q is t.1.1);
-      output = (drop t.1.0 source_line, subst R (regroup r.serves.body source_line t.1.0) (inr (inl (record { body = r.serves.body; served = r.serves.served; is = refl }))));
+      output = (drop t.1.0 source_line, subst R (regroup r.serves.body source_line t.1.0) (inr (inl (rose, record { body = r.serves.body; served = r.serves.served; is = refl }))));
     })
 
-pub tells_long : (result : Status) (left now told mid out : Option (List ℕ)) (sink sink_now : ℕ) (line : List ℕ) → line ≡ long_line
-    → ReadsTooMuch left now told mid → Tells LongInput result line mid out sink sink_now → RecordsTo result left now told out
-tells_long result left now told mid out sink sink_now line is r (inl t) =
-    let P : Status → Type 0 = λ s. RecordsTo s left now told out in
+pub tells_long : (result : Status) (left now told mid out : Option (List ℕ)) (source source_now sink sink_now : ℕ) (line : List ℕ) → line ≡ long_line
+    → ReadsTooMuch left now told mid → Tells LongInput result line mid out sink sink_now → RecordsTo result left now told out source source_now
+tells_long result left now told mid out source source_now sink sink_now line is r (inl t) =
+    let P : Status → Type 0 = λ s. RecordsTo s left now told out source source_now in
     let Q : List ℕ → Type 0 = λ l. Appends mid out l in
     subst P (sym t.0) (record {
       seen = r.seen;
@@ -75,20 +75,20 @@ tells_long result left now told mid out sink sink_now line is r (inl t) =
       writes = Appends-trans told mid out r.serves.body long_line r.serves.told (subst Q is t.1);
       output = record { body = r.serves.body; served = r.serves.served; is = refl };
     })
-tells_long result left now told mid out sink sink_now line is r (inr t) =
-    let P : Status → Type 0 = λ s. RecordsTo s left now told out in
+tells_long result left now told mid out source source_now sink sink_now line is r (inr t) =
+    let P : Status → Type 0 = λ s. RecordsTo s left now told out source source_now in
     let Q : List ℕ → Type 0 = λ l. Appends mid out (take t.1.0 l) in
-    let R : List ℕ → Type 0 = λ l. IsWhole r.seen l in
+    let R : List ℕ → Type 0 = λ l. IsWhole (Rose source source_now) r.seen l in
     subst P (sym t.0) (record {
       seen = r.seen;
       reads = inr (r.next, r.read, r.long);
       text = r.serves.body ++ take t.1.0 long_line;
       writes = Appends-trans told mid out r.serves.body _ r.serves.told (subst Q is t.1.1);
-      output = (drop t.1.0 long_line, subst R (regroup r.serves.body long_line t.1.0) (inr (inr (record { body = r.serves.body; served = r.serves.served; is = refl }))));
+      output = (drop t.1.0 long_line, subst R (regroup r.serves.body long_line t.1.0) (inr (inr (r.long, record { body = r.serves.body; served = r.serves.served; is = refl }))));
     })
 
-pub halted_memory : (left now told out : Option (List ℕ)) → Halted (2 ^ 30) left now told out → RecordsTo NoMemory left now told out
-halted_memory left now told out h = record {
+pub halted_memory : (left now told out : Option (List ℕ)) (source source_now : ℕ) → Halted (2 ^ 30) left now told out → RecordsTo NoMemory left now told out source source_now
+halted_memory left now told out source source_now h = record {
   seen = h.seen;
   reads = (h.read, h.short);
   text = h.stopped.text;
@@ -96,30 +96,30 @@ halted_memory left now told out h = record {
   output = h.stopped.front;
 }
 
-pub halted_sink : (left now told out : Option (List ℕ)) → Halted (2 ^ 30) left now told out → RecordsTo SinkFault left now told out
-halted_sink left now told out h = record {
+pub halted_sink : (left now told out : Option (List ℕ)) (source source_now : ℕ) → Halted (2 ^ 30) left now told out → RecordsTo SinkFault left now told out source source_now
+halted_sink left now told out source source_now h = record {
   seen = h.seen;
   reads = inl (h.read, h.short);
   text = h.stopped.text;
   writes = h.stopped.told;
-  output = h.stopped.front;
+  output = (h.stopped.front.0, inl h.stopped.front.1);
 }
 
 pub closes_end : (ending : Ending) (result : Status) (source source_now : ℕ) (left now told mid out : Option (List ℕ)) (sink sink_now : ℕ) (line : List ℕ) → ending ≡ End → line ≡ end_line
-    → AtEnding ending source source_now left now told mid → Tells Done result line mid out sink sink_now → RecordsTo result left now told out
+    → AtEnding ending source source_now left now told mid → Tells Done result line mid out sink sink_now → RecordsTo result left now told out source source_now
 closes_end ending result source source_now left now told mid out sink sink_now line at is h t =
     let P : Ending → Type 0 = λ e. AtEnding e source source_now left now told mid in
-    tells_end result left now told mid out sink sink_now line is (subst P at h) t
+    tells_end result left now told mid out source source_now sink sink_now line is (subst P at h) t
 
 pub closes_source : (ending : Ending) (result : Status) (source source_now : ℕ) (left now told mid out : Option (List ℕ)) (sink sink_now : ℕ) (line : List ℕ) → ending ≡ Broke → line ≡ source_line
-    → AtEnding ending source source_now left now told mid → Tells SourceFault result line mid out sink sink_now → RecordsTo result left now told out
+    → AtEnding ending source source_now left now told mid → Tells SourceFault result line mid out sink sink_now → RecordsTo result left now told out source source_now
 closes_source ending result source source_now left now told mid out sink sink_now line at is h t =
     let P : Ending → Type 0 = λ e. AtEnding e source source_now left now told mid in
     let r : Rose source source_now × ReadsSome left now told mid = subst P at h in
-    tells_source result left now told mid out sink sink_now line is r.1 t
+    tells_source result left now told mid out source source_now sink sink_now line is r.0 r.1 t
 
 pub closes_long : (ending : Ending) (result : Status) (source source_now : ℕ) (left now told mid out : Option (List ℕ)) (sink sink_now : ℕ) (line : List ℕ) → ending ≡ Longer → line ≡ long_line
-    → AtEnding ending source source_now left now told mid → Tells LongInput result line mid out sink sink_now → RecordsTo result left now told out
+    → AtEnding ending source source_now left now told mid → Tells LongInput result line mid out sink sink_now → RecordsTo result left now told out source source_now
 closes_long ending result source source_now left now told mid out sink sink_now line at is h t =
     let P : Ending → Type 0 = λ e. AtEnding e source source_now left now told mid in
-    tells_long result left now told mid out sink sink_now line is (subst P at h) t
+    tells_long result left now told mid out source source_now sink sink_now line is (subst P at h) t

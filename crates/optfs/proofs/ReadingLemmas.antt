@@ -7,7 +7,7 @@ use Rattle.opt_io.specs.Faults.{Rose}
 use Rattle.opt_tree.specs.Step.{Session, start}
 use Rattle.optfs.specs.Lines.{commands_of, open_line}
 use Rattle.optfs.specs.Trace.{head}
-use Rattle.optfs.specs.Output.{longest, Serves, IsWhole}
+use Rattle.optfs.specs.Output.{longest, Serves, IsTrace}
 use Rattle.optfs.specs.Follows.{Follows, Stopped, ServesTo}
 use Rattle.optfs.specs.Reading.{At, Halted, AfterTurn, AtEnding, ReadsAll, ReadsSome, ReadsTooMuch}
 use Rattle.optfs.specs.declared.reading.Turn.{Turn}
@@ -184,7 +184,7 @@ head_halts (Ok x) left told out n text is taken = tt
 head_halts (Err e) left told out n text is taken =
     let whole = front_of_trace [] [] head new_serves in
     let P : List ℕ → Type 0 = λ l. Appends told out (take n l) in
-    let Q : List ℕ → Type 0 = λ l. IsWhole [] l in
+    let Q : List ℕ → Type 0 = λ l. IsTrace [] l in
     record {
       seen = [];
       read = Consumes-nil left;

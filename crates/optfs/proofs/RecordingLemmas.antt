@@ -1,5 +1,5 @@
 -- What each step of a recording does to what holds of it.
-use Rattle.std.proofs.Common.{arith, min, get_or, drop-cons, ◌≡◌, ◌≢◌, ℕ, suc, ◌+◌, ◌<◌, ◌≤◌, Bool, true, false, cond, eqb, ltb, List, [], ◌∷◌, ◌++◌, length, take, drop, Option, Result, Ok, Err, OnErr, refl, sym, ap, ◌∙◌, subst, inl, append_assoc, append-nil, add-one, take-append-drop, take_all}
+use Rattle.std.proofs.Common.{arith, min, get_or, drop-cons, ◌≡◌, ◌≢◌, ℕ, suc, ◌+◌, ◌<◌, ◌≤◌, Bool, true, false, cond, eqb, ltb, List, [], ◌∷◌, ◌++◌, length, take, drop, Option, Result, Ok, Err, OnErr, refl, sym, ap, ◌∙◌, subst, append_assoc, append-nil, add-one, take-append-drop, take_all}
 use Rattle.std.proofs.lemmas.List.{take-append-le, length-take, length-take-le, length-append}
 use Rattle.std.proofs.lemmas.Bool.{lt-ltb, ne_eqb}
 use Rattle.std.proofs.lemmas.Bool.Decides.{nat_tests}
@@ -13,7 +13,7 @@ use Rattle.opt_tree.specs.Step.{Session, start}
 use Rattle.opt_tree.specs.Run.{Answers, Run}
 use Rattle.optfs.specs.Lines.{open_line, whole_commands, commands_of, commands_of_line}
 use Rattle.optfs.specs.Trace.{head, entry, entries, end_line}
-use Rattle.optfs.specs.Output.{Serves, IsWhole, longest}
+use Rattle.optfs.specs.Output.{Serves, IsTrace, longest}
 use Rattle.optfs.specs.Follows.{Served, Tried, Follows, Stopped, ServesTo}
 use Rattle.optfs.proofs.LineLemmas.{open-byte, open-feed, commands-byte, commands-feed, commands-end}
 use Rattle.optfs.proofs.RunLemmas.{joined, any_run, front_of_trace}
@@ -107,8 +107,8 @@ stopped_feed seen more before mid after tree line f s =
     let written = entries (commands_of_line longest line) s.replies in
     let served = joined (whole_commands longest seen) (commands_of_line longest line) (whole_commands longest (seen ++ 10 ∷ [])) f.body f.served tree s.new s.replies f.tree_is s.run (same_commands seen line f.kept ∙ sym (commands-feed longest seen)) in
     let whole = front_of_trace (seen ++ 10 ∷ []) more (f.body ++ written) served in
-    let P : List ℕ → Type 0 = λ l. IsWhole l (f.body ++ take s.taken written ++ (drop s.taken written ++ whole.0)) in
-    let Q : List ℕ → Type 0 = λ l. IsWhole ((seen ++ 10 ∷ []) ++ more) l in
+    let P : List ℕ → Type 0 = λ l. IsTrace l (f.body ++ take s.taken written ++ (drop s.taken written ++ whole.0)) in
+    let Q : List ℕ → Type 0 = λ l. IsTrace ((seen ++ 10 ∷ []) ++ more) l in
     record {
       text = f.body ++ take s.taken written;
       told = Appends-trans before mid after _ _ f.told s.told;
@@ -154,11 +154,11 @@ pub stopped_end : (seen : List ℕ) (before mid after : Option (List ℕ)) (tree
 stopped_end seen before mid after tree line f s =
     let written = entries (commands_of_line longest line) s.replies in
     let served = joined (whole_commands longest seen) (commands_of_line longest line) (commands_of longest seen) f.body f.served tree s.new s.replies f.tree_is s.run (same_commands seen line f.kept) in
-    let Q : List ℕ → Type 0 = λ l. IsWhole seen l in
+    let Q : List ℕ → Type 0 = λ l. IsTrace seen l in
     record {
       text = f.body ++ take s.taken written;
       told = Appends-trans before mid after _ _ f.told s.told;
-      front = (drop s.taken written ++ end_line, subst Q (regroup f.body written end_line s.taken) (inl (record { body = f.body ++ written; served = served; is = refl })));
+      front = (drop s.taken written ++ end_line, subst Q (regroup f.body written end_line s.taken) (record { body = f.body ++ written; served = served; is = refl }));
     }
   where
     regroup : (a w rest : List ℕ) (n : ℕ) → (a ++ w) ++ rest ≡ (a ++ take n w) ++ (drop n w ++ rest)

@@ -6,7 +6,7 @@ use Rattle.opt_tree.specs.Step.{Session, start, step}
 use Rattle.opt_tree.specs.Run.{Run}
 use Rattle.optfs.specs.Trace.{head, entry, entries, end_line}
 use Rattle.optfs.specs.Lines.{whole_commands}
-use Rattle.optfs.specs.Output.{Serves, IsWhole, IsFront, longest}
+use Rattle.optfs.specs.Output.{IsTrace, Serves, IsFront, longest}
 use Rattle.optfs.proofs.LineLemmas.{commands-more}
 
 nil_bytes : (l : List ℕ) → l ++ [] ≡ l
@@ -60,15 +60,15 @@ serves_more cmds text s more =
     (entries more later.0, joined cmds more (cmds ++ more) text s s.after later.1 later.0 refl later.2 refl)
 
 -- What was served of a front of the bytes begins a whole trace of all of them.
-pub front_of_trace : (seen more body : List ℕ) → Serves (whole_commands longest seen) body → IsFront (IsWhole (seen ++ more)) body
+pub front_of_trace : (seen more body : List ℕ) → Serves (whole_commands longest seen) body → IsFront (IsTrace (seen ++ more)) body
 front_of_trace seen more body served =
     let cmds = commands-more longest seen more in
     let whole = serves_more (whole_commands longest seen) body served cmds.0 in
     let P : List Cmd → Type 0 = λ l. Serves l (body ++ whole.0) in (
       whole.0 ++ end_line,
-      inl (record {
+      record {
         body = body ++ whole.0;
         served = subst P (sym cmds.1) whole.1;
         is = sym (append_assoc body whole.0 end_line);
-      }),
+      },
     )

@@ -8,7 +8,7 @@ use Rattle.opt_tree.specs.Step.{Session}
 use Rattle.opt_tree.specs.Run.{Run}
 use Rattle.optfs.specs.Lines.{open_line, whole_commands}
 use Rattle.optfs.specs.Trace.{entries}
-use Rattle.optfs.specs.Output.{Serves, IsWhole, IsFront, longest}
+use Rattle.optfs.specs.Output.{Serves, IsTrace, IsFront, longest}
 use Rattle.optfs.specs.declared.recording.Stop.{Stop}
 use Rattle.optfs.specs.declared.recording.Stop.TheVariants.{NoMemory, SinkFault}
 
@@ -34,11 +34,11 @@ pub record Follows (seen : List ℕ) (before after : Option (List ℕ)) (tree : 
   pub told : Appends before after body
   pub kept : line ≡ take (longest + 1) (open_line seen)
 
--- The sink took a front of a whole output for these bytes.
+-- The sink took a front of the trace of these bytes.
 pub record Stopped (seen : List ℕ) (before after : Option (List ℕ)) : Type 0 where
   pub text : List ℕ
   pub told : Appends before after text
-  pub front : IsFront (IsWhole seen) text
+  pub front : IsFront (IsTrace seen) text
 
 -- the sink's count never falls, and a stop by the sink comes only where it rose
 abbrev pub StopsByCause : {T : Type 0} → ℕ → ℕ → Result T Stop → Type 0

@@ -1,5 +1,5 @@
 -- What the program writes for the bytes that it read, status by status. It is told in docs/TRACE.md.
-use Rattle.std.specs.Prelude.{◌≡◌, ℕ, ◌⊎◌, List, ◌++◌, codes}
+use Rattle.std.specs.Prelude.{◌≡◌, ℕ, ◌^◌, ◌⊎◌, List, ◌++◌, codes, length}
 use Rattle.opt_tree.specs.declared.command.Cmd.{Cmd}
 use Rattle.opt_tree.specs.declared.command.Reply.{Reply}
 use Rattle.opt_tree.specs.Step.{Session, start}
@@ -41,19 +41,22 @@ long_line = codes "error 12 long input\n"
 abbrev pub usage_line : List ℕ
 usage_line = codes "error 2 usage\n"
 
--- The text is a whole output of a recording that read these bytes.
-abbrev pub IsWhole : List ℕ → List ℕ → Type 0
-IsWhole seen text = IsTrace seen text ⊎ (IsCutShort seen source_line text ⊎ IsCutShort seen long_line text)
+-- The text is a whole output of a recording that read these bytes: the trace, or the one after a fault of the source, where it failed, or the one of an input that is too long, where these bytes are as many as an input may have.
+abbrev pub IsWhole : Type 0 → List ℕ → List ℕ → Type 0
+IsWhole source_failed seen text =
+    IsTrace seen text
+    ⊎ ((source_failed × IsCutShort seen source_line text)
+    ⊎ ((length seen ≡ 2 ^ 30) × IsCutShort seen long_line text))
 
 -- The text is a front of such an output.
 abbrev pub IsFront : (List ℕ → Type 0) → List ℕ → Type 0
 IsFront P text = (rest : List ℕ) × P (text ++ rest)
 
--- what a recording that ended with this status wrote for the bytes that it read
-abbrev pub Recorded : Status → List ℕ → List ℕ → Type 0
-Recorded Done seen text = IsTrace seen text
-Recorded SourceFault seen text = IsCutShort seen source_line text
-Recorded LongInput seen text = IsCutShort seen long_line text
-Recorded Usage seen text = ⊥
-Recorded NoMemory seen text = IsFront (IsWhole seen) text
-Recorded SinkFault seen text = IsFront (IsWhole seen) text
+-- what a recording that ended with this status wrote for the bytes that it read, where the source failed or didn't
+abbrev pub Recorded : Status → Type 0 → List ℕ → List ℕ → Type 0
+Recorded Done source_failed seen text = IsTrace seen text
+Recorded SourceFault source_failed seen text = IsCutShort seen source_line text
+Recorded LongInput source_failed seen text = IsCutShort seen long_line text
+Recorded Usage source_failed seen text = ⊥
+Recorded NoMemory source_failed seen text = IsFront (IsTrace seen) text
+Recorded SinkFault source_failed seen text = IsFront (IsWhole source_failed seen) text

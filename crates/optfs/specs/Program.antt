@@ -24,12 +24,12 @@ Reads SinkFault seen left left_now = ReadsWithin seen left left_now ⊎ ReadsPas
 Reads LongInput seen left left_now = ReadsPast seen left left_now
 
 -- What a run with the words of a recording, ended with this status, read and wrote.
-pub record RecordsTo (status : Status) (left left_now taken taken_now : Option (List ℕ)) : Type 0 where
+pub record RecordsTo (status : Status) (left left_now taken taken_now : Option (List ℕ)) (source source_now : ℕ) : Type 0 where
   pub seen : List ℕ
   pub reads : Reads status seen left left_now
   pub text : List ℕ
   pub writes : Appends taken taken_now text
-  pub output : Recorded status seen text
+  pub output : Recorded status (Rose source source_now) seen text
 
 -- Other words are answered by the line of the usage; where the sink fails it has a front of that line.
 abbrev pub Declines : Status → Option (List ℕ) → Option (List ℕ) → Type 0

@@ -27,7 +27,8 @@ pub fn optfs<S: Source, K: Sink>(
     out: &mut K,
 ) -> Status
     ensures recorded { is_recording words.now ≡ true
-        → RecordsTo result (S.remaining input.old) (S.remaining input.new) (K.taken out.old) (K.taken out.new) }
+        → RecordsTo result (S.remaining input.old) (S.remaining input.new) (K.taken out.old) (K.taken out.new)
+        (S.faults input.old) (S.faults input.new) }
     ensures declined { is_recording words.now ≡ false
         → Declines result (K.taken out.old) (K.taken out.new) × (input.new ≡ input.old) }
 

@@ -117,10 +117,12 @@ fn the_sixteenth_node_is_the_last(rt: HostRuntime) -> Result<(), Fail> {
 
 #[test]
 fn a_source_that_fails_ends_the_trace(rt: HostRuntime) -> Result<(), Fail> {
-    let traces: [&[u8]; 3] = [
+    let traces: [&[u8]; 5] = [
         b"g 64 16 16\nerror 7 source\n",
         b"g 64 16 16\nc create /a\nr 0 ok\nerror 7 source\n",
         b"g 64 16 16\nc create /a\nr 0 ok\nc write /a 0 6869\nr 0 ok\nerror 7 source\n",
+        b"g 64 16 16\nc create /a\nr 0 ok\nc write /a 0 6869\nr 0 ok\nc read /a 0 9\nr 0 hex 6869\nerror 7 source\n",
+        b"g 64 16 16\nc create /a\nr 0 ok\nc write /a 0 6869\nr 0 ok\nc read /a 0 9\nr 0 hex 6869\nc osync\nr 0 synced 1\nerror 7 source\n",
     ];
     for (turn, trace) in traces.iter().enumerate() {
         let call = turn as u64 + 1;
