@@ -16,7 +16,7 @@ use opt_base::NoMemory;
 use opt_base::limits::LONGEST_LINE;
 use opt_io::{Sink, SinkFault, push_all};
 use opt_tree::{Cmd, PlainTree};
-use std::alloc::{AllocError, AllocFailed, Global};
+use std::alloc::{AllocFailed, Global};
 
 /// Why a recording stops before its input ends.
 #[derive(Clone, Copy, Debug, PartialEq, Eq)]
@@ -45,17 +45,6 @@ impl<T: Drop> From<AllocFailed<T>> for Stop {
     ghost from_gives = { λ _ stop. stop ≡ OutOfMemory };
 
     fn from(_want: AllocFailed<T>) -> Stop {
-        Stop::NoMemory
-    }
-}
-
-impl From<AllocError> for Stop {
-    ghost use Rattle.std.specs.Prelude.{◌≡◌};
-    ghost use Rattle.optfs.specs.declared.recording.Stop.TheVariants.{NoMemory as OutOfMemory};
-
-    ghost from_gives = { λ _ stop. stop ≡ OutOfMemory };
-
-    fn from(_want: AllocError) -> Stop {
         Stop::NoMemory
     }
 }
