@@ -1,5 +1,5 @@
 -- One byte more of an input: its whole lines, its open line, and the commands that they are.
-use Rattle.std.proofs.Common.{arith, ◌≡◌, ℕ, Bool, true, false, cond, eqb, List, [], ◌∷◌, ◌++◌, refl, sym, ap, ◌∙◌, subst, append_assoc}
+use Rattle.std.proofs.Common.{append-nil, arith, ◌≡◌, ℕ, Bool, true, false, cond, eqb, List, [], ◌∷◌, ◌++◌, refl, sym, ap, ◌∙◌, subst, append_assoc}
 use Rattle.std.specs.List.{onto_first, flat_map}
 use Rattle.std.proofs.lemmas.Grind.{flat_map-append}
 use Rattle.opt_tree.specs.declared.command.Cmd.{Cmd}
@@ -39,9 +39,6 @@ last_back : (ps : List (List ℕ)) (q : List ℕ) → last_of (ps ++ q ∷ []) �
 last_back [] q = refl
 last_back (p ∷ []) q = refl
 last_back (p ∷ r ∷ ps) q = last_back (r ∷ ps) q
-
-onto_behind : (x : ℕ) (part : List ℕ) (rest : List (List ℕ)) (q : List ℕ) → onto_first x ((part ∷ rest) ++ q ∷ []) ≡ onto_first x (part ∷ rest) ++ q ∷ []
-onto_behind x part rest q = refl
 
 parts-feed : (xs : List ℕ) → parts_of (xs ++ 10 ∷ []) ≡ parts_of xs ++ [] ∷ []
 parts-feed [] = refl
@@ -94,11 +91,7 @@ open-feed xs = ap last_of (parts-feed xs) ∙ last_back (parts_of xs) []
 pub commands-end : (n : ℕ) (xs : List ℕ) → commands_of n xs ≡ whole_commands n xs ++ commands_of_line n (open_line xs)
 commands-end n xs =
     ap (flat_map (commands_of_line n)) (parts-split xs) ∙ flat_map-append (commands_of_line n) (whole_lines xs) (open_line xs ∷ [])
-    ∙ ap (λ l. whole_commands n xs ++ l) (append_nil (commands_of_line n (open_line xs)))
-  where
-    append_nil : (l : List Cmd) → l ++ [] ≡ l
-    append_nil [] = refl
-    append_nil (c ∷ l) = ap (λ r. c ∷ r) (append_nil l)
+    ∙ ap (λ l. whole_commands n xs ++ l) (append-nil (commands_of_line n (open_line xs)))
 
 pub commands-feed : (n : ℕ) (xs : List ℕ) → whole_commands n (xs ++ 10 ∷ []) ≡ commands_of n xs
 commands-feed n xs = ap (flat_map (commands_of_line n)) (ap all_but_last (parts-feed xs) ∙ front_back (parts_of xs) [])
@@ -112,19 +105,11 @@ behind : (n : ℕ) (xs : List ℕ) (b : ℕ) (t : Bool) → eqb b 10 ≡ t → (
 behind n xs b true e =
     let P : ℕ → Type 0 = λ c. (more : List Cmd) × (whole_commands n (xs ++ c ∷ []) ≡ whole_commands n xs ++ more) in
     subst P (sym (eqb_feed b e)) (commands_of_line n (open_line xs), commands-feed n xs ∙ commands-end n xs)
-behind n xs b false e = ([], commands-byte n xs b e ∙ sym (append_nil (whole_commands n xs)))
-  where
-    append_nil : (l : List Cmd) → l ++ [] ≡ l
-    append_nil [] = refl
-    append_nil (c ∷ l) = ap (λ r. c ∷ r) (append_nil l)
+behind n xs b false e = ([], commands-byte n xs b e ∙ sym (append-nil (whole_commands n xs)))
 
 pub commands-more : (n : ℕ) (xs ys : List ℕ) → (more : List Cmd) × (commands_of n (xs ++ ys) ≡ whole_commands n xs ++ more)
 commands-more n xs [] =
-    (commands_of_line n (open_line xs), ap (commands_of n) (append_nothing xs) ∙ commands-end n xs)
-  where
-    append_nothing : (l : List ℕ) → l ++ [] ≡ l
-    append_nothing [] = refl
-    append_nothing (c ∷ l) = ap (λ r. c ∷ r) (append_nothing l)
+    (commands_of_line n (open_line xs), ap (commands_of n) (append-nil xs) ∙ commands-end n xs)
 commands-more n xs (y ∷ ys) =
     let here = behind n xs y (eqb y 10) refl in
     let later = commands-more n (xs ++ y ∷ []) ys in

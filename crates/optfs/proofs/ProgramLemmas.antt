@@ -5,12 +5,12 @@ use Rattle.std.proofs.KnownBytes.{Appends-trans}
 use Rattle.opt_io.specs.Faults.{Rose}
 use Rattle.optfs.specs.Trace.{end_line}
 use Rattle.optfs.specs.Output.{IsWhole, source_line, long_line}
-use Rattle.optfs.specs.Reading.{Halted, AtEnding, ReadsAll, ReadsSome, ReadsTooMuch}
+use Rattle.optfs.specs.Reading.{AtEnding, ReadsAll, ReadsSome, ReadsTooMuch}
 use Rattle.optfs.specs.Program.{RecordsTo, Tells}
 use Rattle.optfs.specs.declared.reading.Ending.{Ending}
 use Rattle.optfs.specs.declared.reading.Ending.TheVariants.{End, SourceFault as Broke, LongInput as Longer}
 use Rattle.optfs.specs.declared.status.Status.{Status}
-use Rattle.optfs.specs.declared.status.Status.TheVariants.{Done, NoMemory, SourceFault, SinkFault, LongInput}
+use Rattle.optfs.specs.declared.status.Status.TheVariants.{Done, SourceFault, SinkFault, LongInput}
 
 regroup : (body line : List ℕ) (n : ℕ) → body ++ line ≡ (body ++ take n line) ++ drop n line
 regroup body line n = ap (λ l. body ++ l) (sym (take-append-drop n line)) ∙ sym (append_assoc body (take n line) (drop n line))
@@ -86,24 +86,6 @@ tells_long result left now told mid out source source_now sink sink_now line is 
       writes = Appends-trans told mid out r.serves.body _ r.serves.told (subst Q is t.1.1);
       output = (drop t.1.0 long_line, subst R (regroup r.serves.body long_line t.1.0) (inr (inr (r.long, record { body = r.serves.body; served = r.serves.served; is = refl }))));
     })
-
-pub halted_memory : (left now told out : Option (List ℕ)) (source source_now : ℕ) → Halted (2 ^ 30) left now told out → RecordsTo NoMemory left now told out source source_now
-halted_memory left now told out source source_now h = record {
-  seen = h.seen;
-  reads = (h.read, h.short);
-  text = h.stopped.text;
-  writes = h.stopped.told;
-  output = h.stopped.front;
-}
-
-pub halted_sink : (left now told out : Option (List ℕ)) (source source_now : ℕ) → Halted (2 ^ 30) left now told out → RecordsTo SinkFault left now told out source source_now
-halted_sink left now told out source source_now h = record {
-  seen = h.seen;
-  reads = inl (h.read, h.short);
-  text = h.stopped.text;
-  writes = h.stopped.told;
-  output = (h.stopped.front.0, inl h.stopped.front.1);
-}
 
 pub closes_end : (ending : Ending) (result : Status) (source source_now : ℕ) (left now told mid out : Option (List ℕ)) (sink sink_now : ℕ) (line : List ℕ) → ending ≡ End → line ≡ end_line
     → AtEnding ending source source_now left now told mid → Tells Done result line mid out sink sink_now → RecordsTo result left now told out source source_now

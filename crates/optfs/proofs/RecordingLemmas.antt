@@ -72,6 +72,10 @@ kept_full n b all line kept full =
     let long : length line ≡ min (n + 1) (length all) = ap length kept ∙ length-take (n + 1) all in
     kept ∙ sym (take-append-le (n + 1) all (b ∷ []) (omega arith))
 
+-- a piece that is cut, before what follows it
+regroup : (a w rest : List ℕ) (n : ℕ) → (a ++ w) ++ rest ≡ (a ++ take n w) ++ (drop n w ++ rest)
+regroup a w rest n = ap (λ l. (a ++ l) ++ rest) (sym (take-append-drop n w)) ∙ simp append_assoc
+
 -- The bytes.
 
 longest_is : longest ≡ 262144
@@ -114,9 +118,6 @@ stopped_feed seen more before mid after tree line f s =
       told = Appends-trans before mid after _ _ f.told s.told;
       front = (drop s.taken written ++ whole.0, subst P (append_assoc seen (10 ∷ []) more) (subst Q (regroup f.body written whole.0 s.taken) whole.1));
     }
-  where
-    regroup : (a w rest : List ℕ) (n : ℕ) → (a ++ w) ++ rest ≡ (a ++ take n w) ++ (drop n w ++ rest)
-    regroup a w rest n = ap (λ l. (a ++ l) ++ rest) (sym (take-append-drop n w)) ∙ simp append_assoc
 
 pub follows_byte : (seen : List ℕ) (b : ℕ) (before after : Option (List ℕ)) (tree : Session) (line grown : List ℕ) → eqb b 10 ≡ false
     → Follows seen before after tree line → grown ≡ take (longest + 1) (open_line seen ++ b ∷ []) → Follows (seen ++ b ∷ []) before after tree grown
@@ -160,9 +161,6 @@ stopped_end seen before mid after tree line f s =
       told = Appends-trans before mid after _ _ f.told s.told;
       front = (drop s.taken written ++ end_line, subst Q (regroup f.body written end_line s.taken) (record { body = f.body ++ written; served = served; is = refl }));
     }
-  where
-    regroup : (a w rest : List ℕ) (n : ℕ) → (a ++ w) ++ rest ≡ (a ++ take n w) ++ (drop n w ++ rest)
-    regroup a w rest n = ap (λ l. (a ++ l) ++ rest) (sym (take-append-drop n w)) ∙ simp append_assoc
 
 -- The same, as the code has them: the byte is known to be a line feed, and the line was lent.
 

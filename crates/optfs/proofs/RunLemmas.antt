@@ -9,10 +9,6 @@ use Rattle.optfs.specs.Lines.{whole_commands}
 use Rattle.optfs.specs.Output.{IsTrace, Serves, IsFront, longest}
 use Rattle.optfs.proofs.LineLemmas.{commands-more}
 
-nil_bytes : (l : List ℕ) → l ++ [] ≡ l
-nil_bytes [] = refl
-nil_bytes (c ∷ l) = ap (λ r. c ∷ r) (nil_bytes l)
-
 pub run_append : (s t u : Session) (cmds : List Cmd) (replies : List Reply) (more : List Cmd) (later : List Reply)
     → Run s cmds replies t → Run t more later u → Run s (cmds ++ more) (replies ++ later) u
 run_append s t u [] [] more later run next =
