@@ -1,13 +1,22 @@
-//! What every other crate names: the name of a directory entry, a list of bytes, want of memory, and
-//! the limits. It knows no tree, no disk and no text but that of a name. The limits are told in
-//! docs/TREE.md and docs/SCRIPT.md.
+//! What every other crate names: the name of a directory entry, a list of bytes, a block with its digest
+//! and its seal, lists of block numbers and of runs, want of memory, and the limits. It knows no tree, no
+//! disk, no layout of a block but its seal, and no text but that of a name. The limits are told in
+//! docs/TREE.md, docs/SCRIPT.md and docs/LAYOUT.md.
 #![tactic(auto)]
 
+mod block;
 mod bytes;
 pub mod limits;
 mod memory;
 mod name;
+mod places;
+#[cfg(test)]
+mod tests;
+mod words;
 
+pub use block::{Block, digest, is_sealed, seal};
 pub use bytes::Bytes;
 pub use memory::NoMemory;
 pub use name::Name;
+pub use places::{Places, Run, RunList};
+pub use words::{Class, ReadFault};

@@ -1,5 +1,5 @@
 //! The limits as named constants, in the units that their names say. Their reasons are in
-//! docs/TREE.md and docs/SCRIPT.md.
+//! docs/TREE.md, docs/SCRIPT.md and docs/LAYOUT.md.
 
 /// The most bytes of a name.
 pub const LONGEST_NAME: usize = 59;
@@ -18,3 +18,42 @@ pub const LONGEST_LINE: usize = 262_144;
 
 /// The most bytes of a whole script: 1 GiB.
 pub const LONGEST_INPUT: u64 = 1_073_741_824;
+
+/// The bytes of a block.
+pub const BLOCK_LENGTH: usize = 1024;
+
+/// The fewest blocks of a disk.
+pub const LEAST_BLOCKS: u32 = 64;
+
+/// The most blocks of a disk.
+pub const MOST_BLOCKS: u32 = 1_048_576;
+
+/// The fewest blocks of the journal.
+pub const LEAST_JOURNAL: u32 = 16;
+
+/// The most blocks of the journal.
+pub const MOST_JOURNAL: u32 = 65_536;
+
+/// The fewest nodes.
+pub const LEAST_NODES: u32 = 16;
+
+/// The most nodes.
+pub const MOST_NODES: u32 = 65_536;
+
+/// The fewest data blocks.
+pub const LEAST_DATA: u32 = 8;
+
+/// The most runs of a node.
+pub const MOST_RUNS: usize = 28;
+
+/// The most links of a file.
+pub const MOST_LINKS: u32 = 65_535;
+
+/// The most notices that one tick of the pipeline takes.
+pub const MOST_NOTICES: u32 = 64;
+
+/// A disk with a number of a header or record from here on isn't mounted: 2^63 - 16.
+pub const SPENT_AT_MOUNT: u64 = 9_223_372_036_854_775_792;
+
+/// A session whose next turn or record would be numbered from here on is spent: 2^63 - 8.
+pub const SPENT: u64 = 9_223_372_036_854_775_800;
