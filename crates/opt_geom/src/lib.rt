@@ -1,0 +1,12 @@
+//! The geometry of a disk: how many blocks, journal blocks and nodes it has, and which blocks are its
+//! headers, journal, bitmap, node table and data. It reads and writes no block. The rules are told in
+//! docs/LAYOUT.md.
+#![tactic(auto)]
+
+mod geom;
+mod laws;
+#[cfg(test)]
+mod tests;
+
+pub use geom::{BadShape, Geom};
+pub use laws::{areas_part_the_disk, geometries_are_within_limits};
