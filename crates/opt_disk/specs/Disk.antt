@@ -1,0 +1,65 @@
+-- What is known of a disk, and what each of its calls does to that. The rules are told in docs/DISK.md.
+use Rattle.std.specs.Prelude.{◌≡◌, ◌⊎◌, ℕ, ◌+◌, ◌-◌, ◌^◌, ◌<◌, ◌≤◌, min, List, [], ◌∷◌, ◌++◌, false, Option, Some, None, Result, Ok, Err, IsErr}
+use Rattle.opt_base.specs.Seal.{Blocks}
+use Rattle.opt_disk.specs.declared.event.Event.{Event}
+use Rattle.opt_disk.specs.declared.event.Event.TheVariants.{Wrote, Lost, Noticed}
+use Rattle.opt_disk.specs.Cell.{accepted, is_lost, lost_from, IsOneOf, greatest_ticket, IsAccepted, IsNoticed, notices}
+
+-- a disk: its number of blocks, what they were when it began, the events since, and its counts of failed calls but reads, of failed reads, of waits and of polls; where it doesn't tell, `base` and `log` say nothing
+pub record State : Type 0 where
+  pub blocks : ℕ
+  pub base : Blocks
+  pub log : List Event
+  pub faults : ℕ
+  pub read_faults : ℕ
+  pub waits : ℕ
+  pub polls : ℕ
+
+-- one more, up to the last value of a count
+abbrev pub next_count : ℕ → ℕ
+next_count n = min (n + 1) (2 ^ 64 - 1)
+
+-- the count never falls, and a call fails only where it rose, or stands at its last value: a count of 64 bits that has come there can't rise again, and the fault is a fault all the same
+abbrev pub HasCause : {T E : Type 0} → Result T E → ℕ → ℕ → Type 0
+HasCause result before now = (before ≤ now) × (IsErr result → (before < now) ⊎ (now ≡ 2 ^ 64 - 1))
+
+-- what a read gives: the last accepted bytes; where writes to the block were lost after that one, those or the bytes of one of the lost
+pub record Reads (s : State) (b : ℕ) (x : List ℕ) : Type 0 where
+  pub calm : is_lost b s.log ≡ false → x ≡ accepted s.base s.log b
+  pub one : ∥ (x ≡ accepted s.base s.log b) ⊎ IsOneOf (lost_from b [] s.log) x ∥₁
+
+-- a write that is accepted adds itself, with a ticket above all earlier ones and never noticed; one that fails adds a lost write or nothing
+abbrev pub AddsWrite : {E : Type 0} → ℕ → List ℕ → Result ℕ E → List Event → List Event → Type 0
+AddsWrite b x (Ok ticket) old new = (greatest_ticket old < ticket) × (¬ IsNoticed ticket old) × (new ≡ old ++ Wrote ticket b x ∷ [])
+AddsWrite b x (Err e) old new = (new ≡ old) ⊎ (new ≡ old ++ Lost b x ∷ [])
+
+-- an open ticket: its write was accepted and has no durability notification yet
+abbrev pub IsOpen : ℕ → List Event → Type 0
+IsOpen t log = IsAccepted t log × ¬ IsNoticed t log
+
+-- a poll that answers a ticket adds its notification, and the ticket was open; any other poll adds nothing
+abbrev pub AddsPoll : {E : Type 0} → Result (Option ℕ) E → List Event → List Event → Type 0
+AddsPoll (Ok (Some t)) old new = IsOpen t old × (new ≡ old ++ Noticed t ∷ [])
+AddsPoll (Ok None) old new = new ≡ old
+AddsPoll (Err e) old new = new ≡ old
+
+-- each of these tickets is open when its turn comes
+abbrev pub AreOpen : List ℕ → List Event → Type 0
+AreOpen [] log = Unit {0}
+AreOpen (t ∷ ts) log = IsOpen t log × AreOpen ts (log ++ Noticed t ∷ [])
+
+-- a wait adds notifications of open tickets, and nothing else
+pub record AddsNotices (old new : List Event) : Type 0 where
+  pub tickets : List ℕ
+  pub open_before : AreOpen tickets old
+  pub log : new ≡ old ++ notices tickets
+
+-- what no call changes: how many blocks there are, and what they were when the disk began
+pub record SameDisk (old new : State) : Type 0 where
+  pub blocks : new.blocks ≡ old.blocks
+  pub base : new.base ≡ old.base
+
+-- a log that goes on: the old one with more events behind it
+pub record Grows (old new : List Event) : Type 0 where
+  pub more : List Event
+  pub log : new ≡ old ++ more

@@ -1,0 +1,47 @@
+-- Lawful logs, and settled and pending in the field's own words: the newest write whose durability was
+-- noticed, and the writes after it. The rules are told in docs/DISK.md.
+use Rattle.std.specs.Prelude.{◌≡◌, ◌⊎◌, ℕ, ◌<◌, ◌≤◌, ◌==◌, if◌then◌else◌, List, [], ◌∷◌, ◌++◌, Some, None}
+use Rattle.opt_disk.specs.declared.event.Event.{Event}
+use Rattle.opt_disk.specs.declared.event.Event.TheVariants.{Wrote, Lost, Noticed}
+use Rattle.opt_disk.specs.Cell.{Write, greatest_ticket, IsNoticed}
+use Rattle.opt_disk.specs.Disk.{IsOpen}
+
+-- an event that may come behind these: an accepted write has a ticket above all earlier ones, and a notification is of an open ticket
+abbrev pub MayCome : List Event → Event → Type 0
+MayCome before (Wrote ticket block bytes) = greatest_ticket before < ticket
+MayCome before (Lost block bytes) = Unit {0}
+MayCome before (Noticed ticket) = IsOpen ticket before
+
+-- these events may come one after the other, behind those
+abbrev pub AreLawfulAfter : List Event → List Event → Type 0
+AreLawfulAfter before [] = Unit {0}
+AreLawfulAfter before (e ∷ es) = MayCome before e × AreLawfulAfter (before ++ e ∷ []) es
+
+-- a lawful log: tickets ascend from 1, and each notification is of an accepted ticket, once
+abbrev pub IsLawful : List Event → Type 0
+IsLawful log = AreLawfulAfter [] log
+
+-- the writes to a block, accepted and lost, the oldest first
+abbrev pub writes_to : ℕ → List Event → List Write
+writes_to b [] = []
+writes_to b (Wrote ticket block bytes ∷ es) = if block == b then record { ticket = Some ticket; bytes = bytes } ∷ writes_to b es else writes_to b es
+writes_to b (Lost block bytes ∷ es) = if block == b then record { ticket = None; bytes = bytes } ∷ writes_to b es else writes_to b es
+writes_to b (Noticed ticket ∷ es) = writes_to b es
+
+-- ticket u is that of an accepted write to the block
+abbrev pub IsWriteOf : ℕ → ℕ → List Event → Type 0
+IsWriteOf u b [] = ⊥
+IsWriteOf u b (Wrote ticket block bytes ∷ es) = ((ticket ≡ u) × (block ≡ b)) ⊎ IsWriteOf u b es
+IsWriteOf u b (Lost block bytes ∷ es) = IsWriteOf u b es
+IsWriteOf u b (Noticed ticket ∷ es) = IsWriteOf u b es
+
+-- of the block's writes whose durability was noticed, the one with the greatest ticket, its bytes, and the events after it
+pub record IsNewestNoticed (log : List Event) (b ticket : ℕ) (bytes : List ℕ) (later : List Event) : Type 0 where
+  pub before : List Event
+  pub split : log ≡ before ++ (Wrote ticket b bytes ∷ later)
+  pub noticed : IsNoticed ticket log
+  pub greatest : (u : ℕ) → IsWriteOf u b log → IsNoticed u log → u ≤ ticket
+
+-- the durability of no write to the block was noticed
+abbrev pub HasNoneNoticed : List Event → ℕ → Type 0
+HasNoneNoticed log b = (u : ℕ) → IsWriteOf u b log → ¬ IsNoticed u log

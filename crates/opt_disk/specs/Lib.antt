@@ -1,0 +1,5 @@
+pub mod Bay
+pub mod Cell
+pub mod Crash
+pub mod Disk
+pub mod Lawful

@@ -1,0 +1,102 @@
+//! The contract of a disk's calls. A disk accepts writes and tells later, of each, that it is durable;
+//! it may make them durable in any order, lose some, and fail any call. What that means for a crash is
+//! told by the definitions of Cell and Crash, and in docs/DISK.md.
+
+ghost use Rattle.std.specs.Prelude.{◌≡◌, ◌<◌, ◌≤◌, ℕ, Bool, length, IsTrue, IsOk, IfOk, OnOk};
+ghost use Rattle.opt_disk.specs.Cell.{IsNoticed};
+ghost use Rattle.opt_disk.specs.Disk.{State, HasCause, Reads, AddsWrite, AddsPoll, AddsNotices, SameDisk, next_count};
+
+use opt_base::Block;
+use std::error::Error;
+use std::fmt;
+
+/// A call of a disk failed, which the disk has counted.
+#[derive(Clone, Copy, Debug, PartialEq, Eq)]
+pub struct DiskFault;
+
+impl fmt::Display for DiskFault {
+    fn fmt<W: fmt::Write>(&self, f: &mut fmt::Formatter<W>) -> fmt::Result {
+        write!(f, "a call of the disk failed")
+    }
+}
+
+impl Error for DiskFault {}
+
+/// A disk of blocks.
+///
+/// Its contents and events are told only where `tells` says so. Of a disk that doesn't tell, the
+/// clauses still say its number of blocks, that each fault is counted, and how often it was polled and
+/// waited for. Each count stops at 2^64 - 1.
+pub trait Disk {
+    /// Whether contents and events are told.
+    ghost tells: { Bool };
+
+    /// What is known of the disk.
+    ghost state: { Self → State };
+
+    /// The number of blocks, which never changes.
+    fn blocks(&self) -> u32
+        ensures { result ≡ (state self.now).blocks };
+
+    /// The number of events so far.
+    fn moment(&self) -> u64
+        ensures { IsTrue tells → result ≡ length (state self.now).log };
+
+    /// The number of failed reads so far, and of failed writes, polls and waits.
+    fn counts(&self) -> (u64, u64)
+        ensures { result ≡ ((state self.now).read_faults, (state self.now).faults) };
+
+    /// Reads block `b`, which there must be.
+    ///
+    /// # Errors
+    /// The read failed, which is counted. What then stands in `into` isn't told.
+    fn read(&mut self, b: u32, into: &mut Block) -> Result<(), DiskFault>
+        requires { b < (state self.old).blocks }
+        ensures reads { IsTrue tells → OnOk result (Reads (state self.old) b into.new) }
+        ensures log { IsTrue tells → (state self.new).log ≡ (state self.old).log }
+        ensures same { SameDisk (state self.old) (state self.new) }
+        ensures cause { HasCause result (state self.old).read_faults (state self.new).read_faults }
+        ensures faults { (state self.new).faults ≡ (state self.old).faults }
+        ensures waits { (state self.new).waits ≡ (state self.old).waits }
+        ensures polls { (state self.new).polls ≡ (state self.old).polls };
+
+    /// Writes block `b`, which there must be, and gives the write's ticket: a number above 0 and above
+    /// all earlier ones.
+    ///
+    /// # Errors
+    /// The write failed, which is counted. It may be on the medium all the same, or come there later.
+    fn write(&mut self, b: u32, from: &Block) -> Result<u64, DiskFault>
+        requires { b < (state self.old).blocks }
+        ensures log { IsTrue tells → AddsWrite b from.now result (state self.old).log (state self.new).log }
+        ensures same { SameDisk (state self.old) (state self.new) }
+        ensures cause { HasCause result (state self.old).faults (state self.new).faults }
+        ensures read_faults { (state self.new).read_faults ≡ (state self.old).read_faults }
+        ensures waits { (state self.new).waits ≡ (state self.old).waits }
+        ensures polls { (state self.new).polls ≡ (state self.old).polls };
+
+    /// The ticket of a write that is durable now and whose notice is new, or `None` where there is
+    /// none yet. It doesn't wait.
+    ///
+    /// # Errors
+    /// The poll failed, which is counted.
+    fn poll(&mut self) -> Result<Option<u64>, DiskFault>
+        ensures log { IsTrue tells → AddsPoll result (state self.old).log (state self.new).log }
+        ensures same { SameDisk (state self.old) (state self.new) }
+        ensures cause { HasCause result (state self.old).faults (state self.new).faults }
+        ensures read_faults { (state self.new).read_faults ≡ (state self.old).read_faults }
+        ensures waits { (state self.new).waits ≡ (state self.old).waits }
+        ensures polls { (state self.new).polls ≡ next_count (state self.old).polls };
+
+    /// Waits until the write of this ticket is durable. Other writes may become durable meanwhile.
+    ///
+    /// # Errors
+    /// The wait failed, which is counted. Some writes may have become durable.
+    fn wait(&mut self, ticket: u64) -> Result<(), DiskFault>
+        ensures log { IsTrue tells → AddsNotices (state self.old).log (state self.new).log }
+        ensures noticed { IsTrue tells → OnOk result (IsNoticed ticket (state self.new).log) }
+        ensures same { SameDisk (state self.old) (state self.new) }
+        ensures cause { HasCause result (state self.old).faults (state self.new).faults }
+        ensures read_faults { (state self.new).read_faults ≡ (state self.old).read_faults }
+        ensures waits { (state self.new).waits ≡ next_count (state self.old).waits }
+        ensures polls { (state self.new).polls ≡ (state self.old).polls };
+}

@@ -1,0 +1,34 @@
+//! Laws of logs and images, each an empty function whose clauses say it. They hold of any disk, since
+//! they speak of lists of events alone.
+
+ghost use Rattle.std.specs.Prelude.{◌≡◌, ℕ, List, [], ◌∷◌, ◌++◌, Option, Result};
+ghost use Rattle.opt_base.specs.Seal.{Blocks};
+ghost use Rattle.opt_disk.specs.declared.event.Event.{Event};
+ghost use Rattle.opt_disk.specs.declared.disk.DiskFault.{DiskFault};
+ghost use Rattle.opt_disk.specs.declared.event.Event.TheVariants.{Noticed};
+ghost use Rattle.opt_disk.specs.Cell.{Cell, cell_of};
+ghost use Rattle.opt_disk.specs.Crash.{IsImage, IsHonest};
+ghost use Rattle.opt_disk.specs.Disk.{AddsWrite, AddsPoll, AddsNotices};
+ghost use Rattle.opt_disk.specs.Lawful.{IsLawful, IsNewestNoticed, HasNoneNoticed, writes_to};
+
+/// Settled is the noticed write with the greatest ticket, else the base. Pending are the writes after it, lost ones too.
+#[tactic(auto, using(crate::proofs::Lawful::settled_newest, crate::proofs::Lawful::settled_base))]
+pub fn settled_is_the_newest_noticed()
+    ensures noticed { (base : Blocks) (log later : List Event) (b t : ℕ) (x : List ℕ) → IsLawful log → IsNewestNoticed log b t x later → cell_of base log b ≡ record { settled = x; pending = writes_to b later } }
+    ensures none { (base : Blocks) (log : List Event) (b : ℕ) → IsLawful log → HasNoneNoticed log b → cell_of base log b ≡ record { settled = base b; pending = writes_to b log } }
+{}
+
+/// A disk's calls keep its log lawful: tickets ascend, and each notice is of an accepted ticket, once.
+#[tactic(auto, using(crate::proofs::Lawful::lawful_write, crate::proofs::Lawful::lawful_poll, crate::proofs::Lawful::lawful_wait))]
+pub fn calls_keep_a_log_lawful()
+    ensures write { (b : ℕ) (x : List ℕ) (r : Result ℕ DiskFault) (old new : List Event) → IsLawful old → AddsWrite b x r old new → IsLawful new }
+    ensures poll { (r : Result (Option ℕ) DiskFault) (old new : List Event) → IsLawful old → AddsPoll r old new → IsLawful new }
+    ensures wait { (old new : List Event) → IsLawful old → AddsNotices old new → IsLawful new }
+{}
+
+/// A notice adds no image: each that a crash may leave after it, it might have left before, and an
+/// honest one was honest then.
+pub fn a_notice_adds_no_image()
+    ensures image { (n : ℕ) (base : Blocks) (log : List Event) (t : ℕ) (img : Blocks) → IsImage n base (log ++ Noticed t ∷ []) img → IsImage n base log img }
+    ensures honest { (n : ℕ) (base : Blocks) (log : List Event) (t : ℕ) (img : Blocks) → IsHonest n base (log ++ Noticed t ∷ []) img → IsHonest n base log img }
+{}

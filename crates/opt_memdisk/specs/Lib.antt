@@ -1,0 +1,4 @@
+pub mod Image
+pub mod Log
+pub mod MemBay
+pub mod MemDisk
