@@ -1,0 +1,11 @@
+pub mod Geometries
+pub mod Sealed
+pub mod Tags
+pub mod SameEntries
+pub mod Unique
+pub mod Spelled
+pub mod Empty
+pub mod Below
+pub mod ReadFields
+pub mod ReadEntries
+pub mod WriteText

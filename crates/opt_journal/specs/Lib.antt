@@ -1,0 +1,4 @@
+pub mod Layout
+pub mod Run
+pub mod Spelling
+pub mod Formatted

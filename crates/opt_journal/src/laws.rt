@@ -1,0 +1,62 @@
+//! Laws of the journal's definitions, as functions that do nothing: each clause is a law. They are told
+//! in docs/JOURNAL.md.
+ghost use Rattle.std.specs.Prelude.{◌≡◌, ℕ, ◌+◌, ◌<◌, ◌≤◌, length, List, Option, Some, None, true};
+ghost use Rattle.opt_base.specs.Seal.{Blocks, IsSealed};
+ghost use Rattle.opt_geom.specs.Geometry.{Geometry, geometry_fits};
+ghost use Rattle.opt_journal.specs.declared.header.Header.{Header};
+ghost use Rattle.opt_journal.specs.declared.record.Commit.{Commit};
+ghost use Rattle.opt_journal.specs.declared.record.Descriptor.{Descriptor};
+ghost use Rattle.opt_journal.specs.declared.entry.EntryKind.{EntryKind};
+ghost use Rattle.opt_journal.specs.Layout.{header_of, commit_of, descriptor_of, descriptor_count, is_stored};
+ghost use Rattle.opt_journal.specs.Spelling.{IsHeader, AreEntries, fits_in, header_block, commit_block, descriptor_block};
+ghost use Rattle.opt_journal.specs.Run.{Newest, Record, IsWhole, IsRun, live_part, HeldIs};
+ghost use Rattle.opt_journal.specs.Formatted.{formatted};
+
+/// What reads as a header, a commit block or a descriptor is sealed.
+#[tactic(auto, using(crate::proofs::Sealed::header_sealed, crate::proofs::Sealed::commit_sealed, crate::proofs::Sealed::descriptor_sealed))]
+pub fn journal_blocks_are_sealed()
+    ensures headers { (n : ℕ) (b : List ℕ) (h : Header) → header_of n b ≡ Some h → IsSealed b }
+    ensures commits { (g : Geometry) (b : List ℕ) (c : Commit) → commit_of g b ≡ Some c → IsSealed b }
+    ensures descriptors { (g : Geometry) (b : List ℕ) (d : Descriptor) → descriptor_of g b ≡ Some d → IsSealed b }
+{}
+
+/// A block reads as one of the three at most, whatever the geometries of the readings, and a stored
+/// payload as none.
+pub fn journal_blocks_are_told_apart()
+    ensures commit_no_descriptor { (g k : Geometry) (b : List ℕ) (c : Commit) → commit_of g b ≡ Some c → descriptor_of k b ≡ None }
+    ensures commit_no_header { (g : Geometry) (n : ℕ) (b : List ℕ) (c : Commit) → commit_of g b ≡ Some c → header_of n b ≡ None }
+    ensures descriptor_no_commit { (g k : Geometry) (b : List ℕ) (d : Descriptor) → descriptor_of g b ≡ Some d → commit_of k b ≡ None }
+    ensures descriptor_no_header { (g : Geometry) (n : ℕ) (b : List ℕ) (d : Descriptor) → descriptor_of g b ≡ Some d → header_of n b ≡ None }
+    ensures stored_no_header { (k : EntryKind) (n : ℕ) (b : List ℕ) → is_stored k b ≡ true → header_of n b ≡ None }
+    ensures stored_no_commit { (k : EntryKind) (g : Geometry) (b : List ℕ) → is_stored k b ≡ true → commit_of g b ≡ None }
+    ensures stored_no_descriptor { (k : EntryKind) (g : Geometry) (b : List ℕ) → is_stored k b ≡ true → descriptor_of g b ≡ None }
+{}
+
+/// An image has one newest header, in one slot; under a header, one whole record of a number and a
+/// place, and one run; so it holds one map at most.
+pub fn an_image_holds_one_map()
+    ensures newest { (n : ℕ) (img : Blocks) (s t : ℕ) (h k : Header) → Newest n img s h → Newest n img t k → (s ≡ t) × (h ≡ k) }
+    ensures records { (img : Blocks) (h : Header) (r q : Record) → IsWhole img h r → IsWhole img h q → r.number ≡ q.number → r.place ≡ q.place → r ≡ q }
+    ensures runs { (img : Blocks) (h : Header) (rs qs : List Record) → IsRun img h rs → IsRun img h qs → rs ≡ qs }
+    ensures maps { (n : ℕ) (img m q : Blocks) → HeldIs n img m → HeldIs n img q → (b : ℕ) → m b ≡ q b }
+{}
+
+/// Headers, commit blocks and descriptors that are written as they are spelled read as themselves, where
+/// their fields are within their ranges.
+pub fn journal_blocks_read_back()
+    ensures headers { (h : Header) → IsHeader h → header_of h.geom.n (header_block h) ≡ Some h }
+    ensures commits { (g : Geometry) (c : Commit) → fits_in 8 c.epoch → fits_in 8 c.number → fits_in 4 c.descriptors → fits_in 4 c.payloads → fits_in 4 c.fresh
+        → 0 < c.payloads → c.descriptors ≡ descriptor_count (c.payloads + c.fresh) → 1 + c.descriptors + c.payloads ≤ g.j → commit_of g (commit_block c) ≡ Some c }
+    ensures descriptors { (g : Geometry) (d : Descriptor) → g.n ≤ 1048576 → fits_in 8 d.epoch → fits_in 8 d.number → fits_in 4 d.index → 0 < length d.entries → length d.entries ≤ 24
+        → AreEntries g d.entries → descriptor_of g (descriptor_block d) ≡ Some d }
+{}
+
+/// What an image holds rests on the first n blocks alone: images that are alike there hold the same.
+pub fn images_alike_below_n_hold_the_same()
+    ensures { (n : ℕ) (img other m : Blocks) → ((b : ℕ) → b < n → img b ≡ other b) → HeldIs n img m → HeldIs n other m }
+{}
+
+/// The formatted disk holds its own live blocks: it has one header, in slot 0, and no record.
+pub fn the_formatted_disk_holds_itself()
+    ensures { (g : Geometry) → geometry_fits g ≡ true → HeldIs g.n (formatted g) (live_part g (formatted g)) }
+{}

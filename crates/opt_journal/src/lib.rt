@@ -1,0 +1,25 @@
+//! The journal's blocks, as values and as definitions of their bytes: headers, commit blocks,
+//! descriptors; and what an image of them holds: the newest header, the recoverable run, the recovered
+//! blocks. Nothing here writes to a disk. It is told in docs/JOURNAL.md.
+#![tactic(auto)]
+
+mod entry;
+mod header;
+mod laws;
+mod payload;
+mod read;
+mod record;
+#[cfg(test)]
+mod tests;
+mod write;
+
+pub use entry::{Entries, Entry, EntryKind};
+pub use header::Header;
+pub use laws::{
+    an_image_holds_one_map, images_alike_below_n_hold_the_same, journal_blocks_are_sealed,
+    journal_blocks_are_told_apart, journal_blocks_read_back, the_formatted_disk_holds_itself,
+};
+pub use payload::{is_stored, unescape};
+pub use read::{descriptor_count, read_commit, read_descriptor, read_header};
+pub use record::{Commit, Descriptor};
+pub use write::write_header;

@@ -1,0 +1,30 @@
+//! Payloads as they stand in the journal. One that begins as a block of the journal does is escaped:
+//! it stands with its first byte as zero, so that no payload is ever taken for a block of the journal.
+
+ghost use Rattle.std.specs.Prelude.{◌≡◌};
+ghost use Rattle.opt_journal.specs.Layout.{is_stored, unescaped};
+
+use crate::EntryKind;
+use opt_base::Block;
+
+/// Whether these bytes may stand as a payload of an entry of this kind. No bytes stand for a fresh block.
+#[tactic(auto, unfolding(crate::specs::Layout::is_stored))]
+pub fn is_stored(stored: &Block, kind: EntryKind) -> bool
+    ensures { result ≡ is_stored kind stored.now }
+{
+    match kind {
+        EntryKind::Payload => &stored[..3] != b"OPT".as_slice(),
+        EntryKind::Fresh => false,
+        EntryKind::Escaped => &stored[..3] == b"\0PT".as_slice(),
+    }
+}
+
+/// Writes the bytes that a stored payload stands for into the other block.
+pub fn unescape(stored: &Block, kind: EntryKind, into: &mut Block)
+    ensures { into.new ≡ unescaped kind stored.now }
+{
+    *into = *stored;
+    if kind == EntryKind::Escaped {
+        into[0] = b'O';
+    }
+}

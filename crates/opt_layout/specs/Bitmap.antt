@@ -1,0 +1,18 @@
+-- The bitmap: which blocks are in use. It is told in docs/LAYOUT.md.
+use Rattle.std.specs.Prelude.{ℕ, ◌+◌, ◌-◌, ◌*◌, ◌/◌, ◌%◌, ◌^◌, min, ◌==◌, Bool, List, map, slice_index}
+use Rattle.std.specs.Int.{bit_at}
+use Rattle.std.specs.List.{range_with_len}
+use Rattle.opt_base.specs.Seal.{Blocks}
+use Rattle.opt_geom.specs.Geometry.{Geometry, bitmap_start}
+
+-- whether the bitmap among these blocks has the bit of block b: in byte b / 8 of the bitmap, bit b % 8 from the lowest
+abbrev pub is_set : Geometry → Blocks → ℕ → Bool
+is_set g m b = bit_at (slice_index (m (bitmap_start g + b / 8192)) (b % 8192 / 8)) (b % 8) == 1
+
+-- byte i of a bitmap in which the first d blocks are set, and no others
+abbrev pub first_bits : ℕ → ℕ → ℕ
+first_bits d i = 2 ^ min (d - 8 * i) 8 - 1
+
+-- block k of such a bitmap
+abbrev pub first_bits_block : ℕ → ℕ → List ℕ
+first_bits_block d k = map (first_bits d) (range_with_len (1024 * k) 1024)

@@ -1,0 +1,4 @@
+pub mod Bytes
+pub mod Bitmap
+pub mod Node
+pub mod Slot

@@ -1,0 +1,90 @@
+-- Nodes as they stand in the node table. They are told in docs/LAYOUT.md.
+use Rattle.std.specs.Prelude.{ℕ, zero, suc, ◌+◌, ◌-◌, ◌*◌, ◌/◌, ◌%◌, Bool, true, ◌&&◌, not, ◌==◌, nat_lt, nat_le, if◌then◌else◌, List, [], ◌∷◌, ◌++◌, length, take, drop, replicate, slice_index, Option, Some, None}
+use Rattle.byteorder.specs.Endian.{little_bytes}
+use Rattle.opt_base.specs.Seal.{Blocks}
+use Rattle.opt_base.specs.declared.places.Run.{Run}
+use Rattle.opt_geom.specs.Geometry.{Geometry, table_start, data_start}
+use Rattle.opt_layout.specs.declared.node.Node.{Node}
+use Rattle.opt_layout.specs.declared.node.NodeKind.{NodeKind}
+use Rattle.opt_layout.specs.declared.node.NodeKind.TheVariants.{Free, Dir, File}
+use Rattle.opt_layout.specs.Bytes.{field, are_zeros, has_zeros, when}
+
+-- the kind that a node's first byte tells, for a node in use
+abbrev pub used_kind : ℕ → Option NodeKind
+used_kind n = if n == 1 then Some Dir else if n == 2 then Some File else None
+
+-- the first n runs, 8 bytes each
+abbrev pub runs_in : ℕ → List ℕ → List Run
+runs_in zero b = []
+runs_in (suc n) b = record { first = field b 0 4; count = field b 4 4 } ∷ runs_in n (drop 8 b)
+
+-- how many blocks the runs have
+abbrev pub run_blocks : List Run → ℕ
+run_blocks [] = 0
+run_blocks (r ∷ rs) = r.count + run_blocks rs
+
+-- each run has blocks, all of them data blocks, and none begins right behind the one before, which ended before block `end`
+abbrev pub runs_fit : Geometry → ℕ → List Run → Bool
+runs_fit g end [] = true
+runs_fit g end (r ∷ rs) =
+    nat_lt 0 r.count && (nat_le (data_start g) r.first && (nat_le (r.first + r.count) g.n && (not (r.first == end) && runs_fit g (r.first + r.count) rs)))
+
+-- a directory's entries have 64 bytes each; a file is bounded in links and bytes
+abbrev pub kind_fits : Node → NodeKind → Bool
+kind_fits node Free = true
+kind_fits node Dir = node.size % 64 == 0
+kind_fits node File = nat_le node.links 65535 && nat_le node.size 1073741824
+
+-- a node in use: it has a link, and its runs have as many blocks as its bytes need
+abbrev pub node_fits : Geometry → Node → Bool
+node_fits g node =
+    nat_lt 0 node.links && (nat_le (length node.runs) 28 && (runs_fit g 0 node.runs && ((run_blocks node.runs == (node.size + 1023) / 1024) && kind_fits node node.kind)))
+
+-- the bytes of a node that carry nothing are zeros
+abbrev pub spare_zeros : List ℕ → Bool
+spare_zeros b = (slice_index b 1 == 0) && (has_zeros b 16 32 && has_zeros b (32 + 8 * field b 2 2) 256)
+
+abbrev pub node_fields : NodeKind → List ℕ → Node
+node_fields kind b = record { kind = kind; links = field b 4 4; size = field b 8 8; runs = runs_in (field b 2 2) (drop 32 b) }
+
+abbrev pub node_with : Geometry → List ℕ → Option NodeKind → Option Node
+node_with g b None = None
+node_with g b (Some kind) = when (spare_zeros b) (when (node_fits g (node_fields kind b)) (Some (node_fields kind b)))
+
+-- the node in use in 256 bytes, if they are one's
+unfoldable pub node_of : Geometry → List ℕ → Option Node
+node_of g b = node_with g b (used_kind (slice_index b 0))
+
+-- the 256 bytes of node k among these blocks
+abbrev pub node_bytes : Geometry → Blocks → ℕ → List ℕ
+node_bytes g m k = take 256 (drop (256 * ((k - 1) % 4)) (m (table_start g + (k - 1) / 4)))
+
+-- node k, where it is in use
+abbrev pub node_at : Geometry → Blocks → ℕ → Option Node
+node_at g m k = node_of g (node_bytes g m k)
+
+-- how a node stands in 256 bytes
+
+abbrev pub kind_byte : NodeKind → ℕ
+kind_byte Free = 0
+kind_byte Dir = 1
+kind_byte File = 2
+
+abbrev pub run_bytes : List Run → List ℕ
+run_bytes [] = []
+run_bytes (r ∷ rs) = little_bytes 4 r.first ++ (little_bytes 4 r.count ++ run_bytes rs)
+
+abbrev pub node_spelling : Node → List ℕ
+node_spelling node =
+    kind_byte node.kind ∷ 0 ∷ (little_bytes 2 (length node.runs) ++ (little_bytes 4 node.links ++ (little_bytes 8 node.size
+    ++ (replicate 16 0 ++ (run_bytes node.runs ++ replicate (224 - 8 * length node.runs) 0)))))
+
+-- the numbers of a node's blocks, in order
+
+abbrev pub blocks_from : ℕ → ℕ → List ℕ
+blocks_from first zero = []
+blocks_from first (suc n) = first ∷ blocks_from (first + 1) n
+
+abbrev pub run_places : List Run → List ℕ
+run_places [] = []
+run_places (r ∷ rs) = blocks_from r.first r.count ++ run_places rs

@@ -1,0 +1,38 @@
+-- Directory slots. They are told in docs/LAYOUT.md.
+use Rattle.std.specs.Prelude.{ℕ, zero, suc, ◌+◌, ◌-◌, ◌*◌, Bool, ◌&&◌, ◌==◌, nat_le, List, [], ◌∷◌, ◌++◌, length, take, drop, replicate, slice_index, Option, Some, None}
+use Rattle.byteorder.specs.Endian.{little_bytes}
+use Rattle.opt_base.specs.Name.{is_name}
+use Rattle.opt_layout.specs.declared.slot.Slot.{Slot}
+use Rattle.opt_layout.specs.Bytes.{field, has_zeros, when}
+
+-- the bytes of a slot's name: the byte before them says how many
+abbrev pub name_in : List ℕ → List ℕ
+name_in b = take (slice_index b 4) (drop 5 b)
+
+-- the slot in 64 bytes, if they are one's
+unfoldable pub slot_of : List ℕ → Option Slot
+slot_of b =
+    when (nat_le (slice_index b 4) 59 && (is_name (name_in b) && has_zeros b (5 + slice_index b 4) 64))
+    (Some (record { node = field b 0 4; name = name_in b }))
+
+abbrev pub then_slot : Option Slot → Option (List Slot) → Option (List Slot)
+then_slot None slots = None
+then_slot (Some s) None = None
+then_slot (Some s) (Some slots) = Some (s ∷ slots)
+
+-- the first n slots, if each is one
+abbrev pub slots_in : ℕ → List ℕ → Option (List Slot)
+slots_in zero b = Some []
+slots_in (suc n) b = then_slot (slot_of (take 64 b)) (slots_in n (drop 64 b))
+
+-- how a slot stands in 64 bytes
+abbrev pub slot_spelling : Slot → List ℕ
+slot_spelling s = little_bytes 4 s.node ++ (length s.name ∷ (s.name ++ replicate (59 - length s.name) 0))
+
+-- the slots of a directory's block, and zeros behind them
+abbrev pub slot_bytes : List Slot → List ℕ
+slot_bytes [] = []
+slot_bytes (s ∷ slots) = slot_spelling s ++ slot_bytes slots
+
+abbrev pub directory_block : List Slot → List ℕ
+directory_block slots = slot_bytes slots ++ replicate (1024 - 64 * length slots) 0
