@@ -1,0 +1,21 @@
+//! The plain program of the journal's definitions: of a list of blocks it computes the newest header,
+//! the recoverable run and the recovered blocks, each as its definition says. It is slow and simple, and
+//! the recovery of the file system is compared with it. It reads and writes no disk.
+#![tactic(auto)]
+
+mod image;
+mod newest;
+mod order;
+mod record;
+mod recovered;
+mod replay;
+mod run;
+#[cfg(test)]
+mod tests;
+mod told;
+mod whole;
+
+pub use newest::newest_header;
+pub use record::{Record, RecordList};
+pub use recovered::{Recovered, recover};
+pub use run::recoverable_run;
