@@ -2,3 +2,4 @@ mod Paths
 mod Row
 mod Walks
 mod Sound
+mod PointLemmas

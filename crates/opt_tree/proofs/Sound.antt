@@ -1,5 +1,5 @@
 -- A sound tree stays sound under each command.
-use Rattle.std.proofs.Common.{◌≡◌, ◌≢◌, ℕ, zero, suc, ◌+◌, ◌-◌, ◌≤◌, ◌<◌, Bool, true, false, cond, T, List, [], ◌∷◌, ◌++◌, length, take, drop, Option, Some, None, Result, Ok, Err, IfOk, OnErr, is_some, is_none, unwrap_or, find as first, sym, refl, ap, ◌∙◌, subst, ◌⊎◌, inl, inr, arith, nat_cmp, nat_lt, true≢false, append_assoc, append-nil, ◌↔◌, if◌then◌else◌}
+use Rattle.std.proofs.Common.{◌≡◌, ℕ, zero, suc, ◌+◌, ◌-◌, ◌≤◌, ◌<◌, Bool, true, false, cond, T, List, [], ◌∷◌, ◌++◌, length, take, Option, Some, None, Result, Ok, Err, IfOk, OnErr, is_some, is_none, unwrap_or, find as first, sym, refl, ap, ◌∙◌, subst, ◌⊎◌, inl, inr, arith, nat_cmp, true≢false, append_assoc, append-nil, if◌then◌else◌}
 use Rattle.std.proofs.lemmas.Bool.{cases_Bool}
 use Rattle.std.specs.Ordering.{eq_by_cmp, is_eq}
 use Rattle.std.specs.declared.cmp.Ordering.{Ordering}
@@ -15,7 +15,7 @@ use Rattle.opt_tree.specs.declared.command.Reply.TheVariants.{Ok as Done, Refuse
 use Rattle.opt_tree.specs.declared.command.Refusal.{Refusal}
 use Rattle.opt_tree.specs.declared.command.Refusal.TheVariants.{NotFound, NotDir, TooLarge}
 use Rattle.opt_tree.specs.Tree.{Tree, Names, Nodes, Thing, Dir, File, IsSound, path_cmp}
-use Rattle.opt_tree.specs.Step.{Session, start, step, walk, walk_from, enter, is_dir, parent, parent_refusal, no_directory, least_unused, create, create_at, write, write_node, write_file, osync, read, with_new, with_bytes, written}
+use Rattle.opt_tree.specs.Step.{Session, start, step, walk, walk_from, enter, is_dir, parent, parent_refusal, no_directory, least_unused, create, create_at, write, write_node, osync, with_bytes, written}
 use Rattle.opt_tree.proofs.Paths.{path_total, path_same}
 
 equal_of : (o : Ordering) → is_eq o ≡ true → o ≡ Equal

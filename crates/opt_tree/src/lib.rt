@@ -3,6 +3,7 @@
 #![tactic(auto)]
 
 mod command;
+mod laws;
 mod names;
 mod nodes;
 mod path;
@@ -10,6 +11,7 @@ mod plain;
 mod state;
 
 pub use command::{Cmd, Refusal, Reply};
+pub use laws::a_reply_tells_the_session;
 pub use path::Path;
 pub use plain::PlainTree;
 

@@ -1,0 +1,47 @@
+-- What nodes are where their blocks no longer count: lists of slots, and links with bytes. They are told in docs/LAYOUT.md.
+use Rattle.std.specs.Prelude.{◌≡◌, ℕ, ◌/◌, ◌==◌, List, length, slice_get, Option, None, Some, option_map}
+use Rattle.opt_layout.specs.declared.node.NodeKind.{NodeKind}
+use Rattle.opt_layout.specs.declared.node.NodeKind.TheVariants.{Free, Dir, File}
+use Rattle.opt_layout.specs.declared.slot.Slot.{Slot}
+use Rattle.opt_layout.specs.Bytes.{when}
+use Rattle.opt_layout.specs.Slot.{slots_in}
+use Rattle.opt_tree.specs.Tree.{Thing, Dir as DirThing, File as FileThing}
+use Rattle.opt_stands.specs.Files.{FileNode, Files}
+
+-- a directory with its slots in order, or a file with its links and its bytes
+pub data Inode : Type 0 where
+  ADir : List Slot → Inode
+  AFile : ℕ → List ℕ → Inode
+
+-- the nodes in use, by their numbers
+abbrev pub Inodes : Type 0
+Inodes = ℕ → Option Inode
+
+-- a directory has one link, and its bytes are slots, 64 bytes each
+abbrev pub inode_by : NodeKind → ℕ → List ℕ → Option Inode
+inode_by Free links bytes = None
+inode_by Dir links bytes = when (links == 1) (option_map ADir (slots_in (length bytes / 64) bytes))
+inode_by File links bytes = Some (AFile links bytes)
+
+-- the inode that a node in use is, if it reads as one
+abbrev pub inode_of : FileNode → Option Inode
+inode_of file = inode_by file.kind file.links file.bytes
+
+-- nothing where there is no node, and the node's inode where there is one
+abbrev pub IsInodeOf : Option FileNode → Option Inode → Type 0
+IsInodeOf None inode = inode ≡ None
+IsInodeOf (Some file) None = ⊥
+IsInodeOf (Some file) (Some inode) = inode_of file ≡ Some inode
+
+-- each node in use reads as the inode under its number, and nothing else stands in the map
+abbrev pub AreInodesOf : Files → Inodes → Type 0
+AreInodesOf files inodes = (k : ℕ) → IsInodeOf (files k) (inodes k)
+
+-- no two of the slots have one name
+abbrev pub AreDistinct : List Slot → Type 0
+AreDistinct slots = (i j : ℕ) (s t : Slot) → slice_get slots i ≡ Some s → slice_get slots j ≡ Some t → s.name ≡ t.name → i ≡ j
+
+-- what the tree has for an inode
+abbrev pub thing_of : Inode → Thing
+thing_of (ADir slots) = DirThing
+thing_of (AFile links bytes) = FileThing bytes

@@ -1,0 +1,4 @@
+pub mod Files
+pub mod Inodes
+pub mod Walks
+pub mod Stands

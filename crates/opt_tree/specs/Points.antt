@@ -1,0 +1,61 @@
+-- The sync points of a run of commands, and which of them a crash may leave. They are told in docs/CRASHES.md.
+use Rattle.std.specs.Prelude.{ℕ, ◌+◌, max, nat_le, Bool, true, false, if◌then◌else◌, List, [], ◌∷◌, ◌++◌}
+use Rattle.opt_tree.specs.declared.command.Cmd.{Cmd}
+use Rattle.opt_tree.specs.declared.command.Cmd.TheVariants.{Osync}
+use Rattle.opt_tree.specs.declared.command.Reply.{Reply}
+use Rattle.opt_tree.specs.declared.command.Reply.TheVariants.{Refused}
+use Rattle.opt_tree.specs.Tree.{Tree}
+use Rattle.opt_tree.specs.Step.{Session, step}
+
+-- A sync point: its tree, and the number of events before the command that made it. A crash after fewer events can't leave it.
+pub record Point : Type 0 where
+  pub tree : Tree
+  pub begun : ℕ
+
+abbrev pub is_refusal : Reply → Bool
+is_refusal (Refused why) = true
+is_refusal _ = false
+
+abbrev pub is_sync : Cmd → Bool
+is_sync Osync = true
+is_sync _ = false
+
+-- the session after a command with its reply: a refusal leaves all as it was
+abbrev pub after_reply : Session → Cmd → Reply → Session
+after_reply s cmd reply = if is_refusal reply then s else (step s cmd).0
+
+-- the point that a command makes: a sync that isn't refused makes one where something changed since the last one
+abbrev pub made_by : Session → Cmd → Reply → ℕ → List Point
+made_by s cmd reply mark =
+    if is_sync cmd then (if is_refusal reply then [] else (if s.changed then record { tree = s.tree; begun = mark } ∷ [] else [])) else []
+
+-- The points that commands make, in order. A mark is the number of events when a reply comes, and a command begins at the mark before it.
+abbrev pub points_after : Session → ℕ → List Cmd → List Reply → List ℕ → List Point
+points_after s begun [] replies marks = []
+points_after s begun (cmd ∷ cmds) [] marks = []
+points_after s begun (cmd ∷ cmds) (reply ∷ replies) [] = []
+points_after s begun (cmd ∷ cmds) (reply ∷ replies) (mark ∷ marks) =
+    made_by s cmd reply begun ++ points_after (after_reply s cmd reply) mark cmds replies marks
+
+-- all points of a session: point 0 is the tree with which it began, and there from the first moment on
+abbrev pub points_of : Session → ℕ → List Cmd → List Reply → List ℕ → List Point
+points_of s mounted cmds replies marks = record { tree = s.tree; begun = 0 } ∷ points_after s mounted cmds replies marks
+
+-- how many of these points began at moment k or before
+abbrev pub begun_by : ℕ → List Point → ℕ
+begun_by k [] = 0
+begun_by k (p ∷ points) = (if nat_le p.begun k then 1 else 0) + begun_by k points
+
+-- the newest point that a crash after k events may leave, by its number: the last one begun by then
+abbrev pub top : ℕ → Session → ℕ → List Cmd → List Reply → List ℕ → ℕ
+top k s mounted cmds replies marks = begun_by k (points_after s mounted cmds replies marks)
+
+-- the point that a reply promises to be on the disk from then on. No command that is built waits for the disk, so no reply promises one past point 0
+abbrev pub promised_by : Reply → ℕ
+promised_by reply = 0
+
+-- the oldest point that a crash after k events may leave, by its number: the greatest that was promised by then
+abbrev pub floor : ℕ → List Reply → List ℕ → ℕ
+floor k [] marks = 0
+floor k (reply ∷ replies) [] = 0
+floor k (reply ∷ replies) (mark ∷ marks) = max (if nat_le mark k then promised_by reply else 0) (floor k replies marks)
