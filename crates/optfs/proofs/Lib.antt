@@ -3,3 +3,6 @@ pub mod RunLemmas
 pub mod RecordingLemmas
 pub mod ReadingLemmas
 pub mod ProgramLemmas
+mod Quiet
+mod Requests
+mod FormattedImages

@@ -1,6 +1,7 @@
 -- What each step of a recording does to what holds of it.
-use Rattle.std.proofs.Common.{arith, min, get_or, drop-cons, ◌≡◌, ◌≢◌, ℕ, suc, ◌+◌, ◌<◌, ◌≤◌, Bool, true, false, cond, eqb, ltb, List, [], ◌∷◌, ◌++◌, length, take, drop, Option, Result, Ok, Err, OnErr, refl, sym, ap, ◌∙◌, subst, append_assoc, append-nil, add-one, take-append-drop, take_all}
-use Rattle.std.proofs.lemmas.List.{take-append-le, length-take, length-take-le, length-append}
+use Rattle.std.proofs.Common.{arith, min, get_or, inl, drop-cons, ◌≡◌, ◌≢◌, ℕ, suc, ◌+◌, ◌<◌, ◌≤◌, Bool, true, false, cond, eqb, ltb, List, [], ◌∷◌, ◌++◌, length, take, drop, Option, Result, Ok, Err, OnErr, refl, sym, ap, ◌∙◌, subst, append_assoc, append-nil, add-one, take-append-drop, take_all}
+use Rattle.std.proofs.Math.Seq.{take-append-add}
+use Rattle.std.proofs.lemmas.List.{take_min, take-append-le, length-take, length-take-le, length-append}
 use Rattle.std.proofs.lemmas.Bool.{lt-ltb, ne_eqb}
 use Rattle.std.proofs.lemmas.Bool.Decides.{nat_tests}
 use Rattle.opt_tree.specs.declared.command.Cmd.TheVariants.{Bad}
@@ -9,37 +10,112 @@ use Rattle.std.specs.Io.KnownBytes.{Appends}
 use Rattle.std.proofs.KnownBytes.{Appends-nil, Appends-trans}
 use Rattle.opt_tree.specs.declared.command.Cmd.{Cmd}
 use Rattle.opt_tree.specs.declared.command.Reply.{Reply}
-use Rattle.opt_tree.specs.Step.{Session, start}
+use Rattle.opt_tree.specs.Step.{Session, start, step}
 use Rattle.opt_tree.specs.Run.{Answers, Run}
 use Rattle.optfs.specs.Lines.{open_line, whole_commands, commands_of, commands_of_line}
-use Rattle.optfs.specs.Trace.{head, entry, entries, end_line}
-use Rattle.optfs.specs.Output.{Serves, IsTrace, longest}
-use Rattle.optfs.specs.Follows.{Served, Tried, Follows, Stopped, ServesTo}
+use Rattle.opt_disk.specs.declared.event.Event.{Event}
+use Rattle.opt_geom.specs.Geometry.{Geometry}
+use Rattle.opt_trace.specs.Line.{geometry_line, command_line, reply_line, end_line}
+use Rattle.opt_script.specs.Text.{command_text, text_of_reply}
+use Rattle.optfs.specs.Output.{IsTrace, longest}
+use Rattle.optfs.specs.Follows.{entry, quiet_entries, ServesQuietly, Served, Tried, Follows, Stopped, ServesTo}
 use Rattle.optfs.proofs.LineLemmas.{open-byte, open-feed, commands-byte, commands-feed, commands-end}
 use Rattle.optfs.proofs.RunLemmas.{joined, any_run, front_of_trace}
 
-pub on_err : {T E : Type 0} (r : Result T E) (P : Type 0) → P → OnErr r P
-on_err (Ok x) P p = tt
-on_err (Err e) P p = p
-
 -- One command.
 
-pub none_tried : (cmds : List Cmd) (s : Session) (told : Option (List ℕ)) → Tried cmds s told told
+none_tried : (cmds : List Cmd) (s : Session) (told : Option (List ℕ)) → Tried cmds s told told
 none_tried cmds s told =
     let run = any_run s cmds in
     record { replies = run.0; new = run.1; run = run.2; taken = 0; told = Appends-nil told }
 
-pub one_tried : (cmd : Cmd) (s next : Session) (reply : Reply) (before after : Option (List ℕ)) (n : ℕ) (text : List ℕ)
-    → Answers s cmd reply next → text ≡ entry cmd reply → Appends before after (take n text) → Tried (cmd ∷ []) s before after
-one_tried cmd s next reply before after n text answer is told =
-    let P : List ℕ → Type 0 = λ l. Appends before after (take n l) in
-    record { replies = reply ∷ []; new = next; run = (next, answer, refl); taken = n; told = subst P (is ∙ sym (append-nil (entry cmd reply))) told }
+-- a front of a text is one of a longer text
+front_of : (n : ℕ) (a b : List ℕ) → take n a ≡ take (min n (length a)) (a ++ b)
+front_of n a b = sym (take_min n a) ∙ sym (take-append-le (min n (length a)) a b (omega arith))
 
-pub one_served : (cmd : Cmd) (s next : Session) (reply : Reply) (before after : Option (List ℕ)) (text : List ℕ)
-    → Answers s cmd reply next → text ≡ entry cmd reply → Appends before after text → Served (cmd ∷ []) s next before after
-one_served cmd s next reply before after text answer is told =
+-- the entry of one command, as entries
+one_entry : (cmd : Cmd) (reply : Reply) → command_line (command_text cmd) ++ reply_line 0 (text_of_reply reply) ≡ quiet_entries (cmd ∷ []) (reply ∷ [])
+one_entry cmd reply = sym (append-nil (entry 0 cmd reply))
+
+-- the sink has a front of the command's line
+line_tried : (cmd : Cmd) (s : Session) (before after : Option (List ℕ)) (n : ℕ)
+    → Appends before after (take n (command_line (command_text cmd))) → Tried (cmd ∷ []) s before after
+line_tried cmd s before after n told =
+    let answer = step s cmd in
     let P : List ℕ → Type 0 = λ l. Appends before after l in
-    record { replies = reply ∷ []; run = (next, answer, refl); told = subst P (is ∙ sym (append-nil (entry cmd reply))) told }
+    let Q : List ℕ → Type 0 = λ l. Appends before after (take (min n (length (command_line (command_text cmd)))) l) in
+    record {
+      replies = answer.1 ∷ [];
+      new = answer.0;
+      run = (answer.0, inl refl, refl);
+      taken = min n (length (command_line (command_text cmd)));
+      told = subst Q (one_entry cmd answer.1) (subst P (front_of n (command_line (command_text cmd)) (reply_line 0 (text_of_reply answer.1))) told);
+    }
+
+-- the sink has the command's line, and a front of the reply's
+reply_tried : (cmd : Cmd) (s next : Session) (reply : Reply) (before mid after : Option (List ℕ)) (n : ℕ) → Answers s cmd reply next
+    → Appends before mid (command_line (command_text cmd)) → Appends mid after (take n (reply_line 0 (text_of_reply reply))) → Tried (cmd ∷ []) s before after
+reply_tried cmd s next reply before mid after n answer asked told =
+    let line = command_line (command_text cmd) in
+    let rest = reply_line 0 (text_of_reply reply) in
+    let P : List ℕ → Type 0 = λ l. Appends before after l in
+    let Q : List ℕ → Type 0 = λ l. Appends before after (take (length line + n) l) in
+    record {
+      replies = reply ∷ [];
+      new = next;
+      run = (next, answer, refl);
+      taken = length line + n;
+      told = subst Q (one_entry cmd reply) (subst P (sym (take-append-add line rest n)) (Appends-trans before mid after line (take n rest) asked told));
+    }
+
+-- the sink has the whole entry
+reply_served : (cmd : Cmd) (s next : Session) (reply : Reply) (before mid after : Option (List ℕ)) → Answers s cmd reply next
+    → Appends before mid (command_line (command_text cmd)) → Appends mid after (reply_line 0 (text_of_reply reply)) → Served (cmd ∷ []) s next before after
+reply_served cmd s next reply before mid after answer asked told =
+    let P : List ℕ → Type 0 = λ l. Appends before after l in
+    record {
+      replies = reply ∷ [];
+      run = (next, answer, refl);
+      told = subst P (one_entry cmd reply) (Appends-trans before mid after _ _ asked told);
+    }
+
+-- The same as the code has them: the moment is known to be the first one, and the texts were made before.
+
+pub nothing_told : {T E : Type 0} (r : Result T E) (moment : ℕ) (cmds : List Cmd) (s : Session) (told : Option (List ℕ)) → OnErr r (moment ≡ 0 → Tried cmds s told told)
+nothing_told (Ok x) moment cmds s told = tt
+nothing_told (Err e) moment cmds s told = λ first. none_tried cmds s told
+
+pub line_cut : {T E : Type 0} (r : Result T E) (moment : ℕ) (cmd : Cmd) (s : Session) (before after : Option (List ℕ)) (text : List ℕ) (n : ℕ)
+    → text ≡ command_text cmd → Appends before after (take n (command_line text)) → OnErr r (moment ≡ 0 → Tried (cmd ∷ []) s before after)
+line_cut (Ok x) moment cmd s before after text n is told = tt
+line_cut (Err e) moment cmd s before after text n is told =
+    let P : List ℕ → Type 0 = λ l. Appends before after (take n (command_line l)) in
+    λ first. line_tried cmd s before after n (subst P is told)
+
+pub line_told : {T E : Type 0} (r : Result T E) (moment : ℕ) (cmd : Cmd) (s : Session) (before after : Option (List ℕ)) (text : List ℕ)
+    → text ≡ command_text cmd → Appends before after (command_line text) → OnErr r (moment ≡ 0 → Tried (cmd ∷ []) s before after)
+line_told r moment cmd s before after text is told =
+    let P : List ℕ → Type 0 = λ l. Appends before after l in
+    line_cut r moment cmd s before after text (length (command_line text)) is (subst P (sym (take_all (length (command_line text)) (command_line text) (omega arith))) told)
+
+pub reply_cut : {T E : Type 0} (r : Result T E) (moment : ℕ) (cmd : Cmd) (s next : Session) (reply : Reply) (before mid after : Option (List ℕ)) (asked answered : List ℕ) (n : ℕ)
+    → Answers s cmd reply next → asked ≡ command_text cmd → Appends before mid (command_line asked) → answered ≡ text_of_reply reply
+    → Appends mid after (take n (reply_line moment answered)) → OnErr r (moment ≡ 0 → Tried (cmd ∷ []) s before after)
+reply_cut (Ok x) moment cmd s next reply before mid after asked answered n answer asked_is line answered_is told = tt
+reply_cut (Err e) moment cmd s next reply before mid after asked answered n answer asked_is line answered_is told = λ first.
+    let P : List ℕ → Type 0 = λ l. Appends before mid (command_line l) in
+    let Q : ℕ → Type 0 = λ m. Appends mid after (take n (reply_line m (text_of_reply reply))) in
+    let R : List ℕ → Type 0 = λ l. Appends mid after (take n (reply_line moment l)) in
+    reply_tried cmd s next reply before mid after n answer (subst P asked_is line) (subst Q first (subst R answered_is told))
+
+pub one_served : (moment : ℕ) (cmd : Cmd) (s next : Session) (reply : Reply) (before mid after : Option (List ℕ)) (asked answered : List ℕ)
+    → Answers s cmd reply next → asked ≡ command_text cmd → Appends before mid (command_line asked) → answered ≡ text_of_reply reply
+    → Appends mid after (reply_line moment answered) → moment ≡ 0 → Served (cmd ∷ []) s next before after
+one_served moment cmd s next reply before mid after asked answered answer asked_is line answered_is told first =
+    let P : List ℕ → Type 0 = λ l. Appends before mid (command_line l) in
+    let Q : ℕ → Type 0 = λ m. Appends mid after (reply_line m (text_of_reply reply)) in
+    let R : List ℕ → Type 0 = λ l. Appends mid after (reply_line moment l) in
+    reply_served cmd s next reply before mid after answer (subst P asked_is line) (subst Q first (subst R answered_is told))
 
 -- The line that is kept.
 
@@ -95,67 +171,69 @@ same_commands : (seen line : List ℕ) → line ≡ take (longest + 1) (open_lin
 same_commands seen line kept =
     ap (λ l. whole_commands longest seen ++ l) (ap (commands_of_line longest) kept ∙ line_kept longest (open_line seen)) ∙ sym (commands-end longest seen)
 
-pub follows_feed : (seen : List ℕ) (before mid after : Option (List ℕ)) (tree next : Session) (line : List ℕ)
-    → Follows seen before mid tree line → Served (commands_of_line longest line) tree next mid after → Follows (seen ++ 10 ∷ []) before after next []
-follows_feed seen before mid after tree next line f s = record {
-  body = f.body ++ entries (commands_of_line longest line) s.replies;
-  served = joined _ _ _ f.body f.served tree next s.replies f.tree_is s.run (same_commands seen line f.kept ∙ sym (commands-feed longest seen));
+pub follows_feed : (geom : Geometry) (seen : List ℕ) (before mid after : Option (List ℕ)) (tree next : Session) (line : List ℕ) (log : List Event)
+    → Follows geom seen before mid tree line log → Served (commands_of_line longest line) tree next mid after → Follows geom (seen ++ 10 ∷ []) before after next [] log
+follows_feed geom seen before mid after tree next line log f s = record {
+  body = f.body ++ quiet_entries (commands_of_line longest line) s.replies;
+  served = joined geom _ _ _ f.body f.served tree next s.replies f.tree_is s.run (same_commands seen line f.kept ∙ sym (commands-feed longest seen));
   tree_is = refl;
   told = Appends-trans before mid after _ _ f.told s.told;
   kept = sym (ap (take (longest + 1)) (open-feed seen) ∙ take_all (longest + 1) [] (omega arith));
+  quiet = f.quiet;
 }
 
-pub stopped_feed : (seen more : List ℕ) (before mid after : Option (List ℕ)) (tree : Session) (line : List ℕ)
-    → Follows seen before mid tree line → Tried (commands_of_line longest line) tree mid after → Stopped (seen ++ 10 ∷ more) before after
-stopped_feed seen more before mid after tree line f s =
-    let written = entries (commands_of_line longest line) s.replies in
-    let served = joined (whole_commands longest seen) (commands_of_line longest line) (whole_commands longest (seen ++ 10 ∷ [])) f.body f.served tree s.new s.replies f.tree_is s.run (same_commands seen line f.kept ∙ sym (commands-feed longest seen)) in
-    let whole = front_of_trace (seen ++ 10 ∷ []) more (f.body ++ written) served in
-    let P : List ℕ → Type 0 = λ l. IsTrace l (f.body ++ take s.taken written ++ (drop s.taken written ++ whole.0)) in
-    let Q : List ℕ → Type 0 = λ l. IsTrace ((seen ++ 10 ∷ []) ++ more) l in
+pub stopped_feed : (geom : Geometry) (seen more : List ℕ) (before mid after : Option (List ℕ)) (tree : Session) (line : List ℕ) (log : List Event)
+    → Follows geom seen before mid tree line log → Tried (commands_of_line longest line) tree mid after → Stopped geom (seen ++ 10 ∷ more) before after
+stopped_feed geom seen more before mid after tree line log f s =
+    let written = quiet_entries (commands_of_line longest line) s.replies in
+    let served = joined geom (whole_commands longest seen) (commands_of_line longest line) (whole_commands longest (seen ++ 10 ∷ [])) f.body f.served tree s.new s.replies f.tree_is s.run (same_commands seen line f.kept ∙ sym (commands-feed longest seen)) in
+    let whole = front_of_trace geom (seen ++ 10 ∷ []) more (f.body ++ written) served in
+    let P : List ℕ → Type 0 = λ l. IsTrace (ServesQuietly geom) l (f.body ++ take s.taken written ++ (drop s.taken written ++ whole.0)) in
+    let Q : List ℕ → Type 0 = λ l. IsTrace (ServesQuietly geom) ((seen ++ 10 ∷ []) ++ more) l in
     record {
       text = f.body ++ take s.taken written;
       told = Appends-trans before mid after _ _ f.told s.told;
       front = (drop s.taken written ++ whole.0, subst P (append_assoc seen (10 ∷ []) more) (subst Q (regroup f.body written whole.0 s.taken) whole.1));
     }
 
-pub follows_byte : (seen : List ℕ) (b : ℕ) (before after : Option (List ℕ)) (tree : Session) (line grown : List ℕ) → eqb b 10 ≡ false
-    → Follows seen before after tree line → grown ≡ take (longest + 1) (open_line seen ++ b ∷ []) → Follows (seen ++ b ∷ []) before after tree grown
-follows_byte seen b before after tree line grown no_feed f kept =
-    let P : List Cmd → Type 0 = λ l. Serves l f.body in
+pub follows_byte : (geom : Geometry) (seen : List ℕ) (b : ℕ) (before after : Option (List ℕ)) (tree : Session) (line grown : List ℕ) (log : List Event) → eqb b 10 ≡ false
+    → Follows geom seen before after tree line log → grown ≡ take (longest + 1) (open_line seen ++ b ∷ []) → Follows geom (seen ++ b ∷ []) before after tree grown log
+follows_byte geom seen b before after tree line grown log no_feed f kept =
+    let P : List Cmd → Type 0 = λ l. ServesQuietly geom l f.body in
     record {
       body = f.body;
       served = record {
         replies = f.served.replies;
         after = f.served.after;
-        run = (let Q : List Cmd → Type 0 = λ l. Run (start 16) l f.served.replies f.served.after in subst Q (sym (commands-byte longest seen b no_feed)) f.served.run);
-        is = f.served.is ∙ ap (λ l. head ++ entries l f.served.replies) (sym (commands-byte longest seen b no_feed));
+        run = (let Q : List Cmd → Type 0 = λ l. Run (start geom.i) l f.served.replies f.served.after in subst Q (sym (commands-byte longest seen b no_feed)) f.served.run);
+        is = f.served.is ∙ ap (λ l. geometry_line geom ++ quiet_entries l f.served.replies) (sym (commands-byte longest seen b no_feed));
       };
       tree_is = f.tree_is;
       told = f.told;
       kept = kept ∙ ap (take (longest + 1)) (sym (open-byte seen b no_feed));
+      quiet = f.quiet;
     }
 
-pub stopped_here : (seen more : List ℕ) (before after : Option (List ℕ)) (tree : Session) (line : List ℕ)
-    → Follows seen before after tree line → Stopped (seen ++ more) before after
-stopped_here seen more before after tree line f = record { text = f.body; told = f.told; front = front_of_trace seen more f.body f.served }
+pub stopped_here : (geom : Geometry) (seen more : List ℕ) (before after : Option (List ℕ)) (tree : Session) (line : List ℕ) (log : List Event)
+    → Follows geom seen before after tree line log → Stopped geom (seen ++ more) before after
+stopped_here geom seen more before after tree line log f = record { text = f.body; told = f.told; front = front_of_trace geom seen more f.body f.served }
 
 -- The end.
 
-pub serves_end : (seen : List ℕ) (before mid after : Option (List ℕ)) (tree next : Session) (line : List ℕ)
-    → Follows seen before mid tree line → Served (commands_of_line longest line) tree next mid after → ServesTo (commands_of longest seen) before after
-serves_end seen before mid after tree next line f s = record {
-  body = f.body ++ entries (commands_of_line longest line) s.replies;
-  served = joined _ _ _ f.body f.served tree next s.replies f.tree_is s.run (same_commands seen line f.kept);
+pub serves_end : (geom : Geometry) (seen : List ℕ) (before mid after : Option (List ℕ)) (tree next : Session) (line : List ℕ) (log : List Event)
+    → Follows geom seen before mid tree line log → Served (commands_of_line longest line) tree next mid after → ServesTo geom (commands_of longest seen) before after
+serves_end geom seen before mid after tree next line log f s = record {
+  body = f.body ++ quiet_entries (commands_of_line longest line) s.replies;
+  served = joined geom _ _ _ f.body f.served tree next s.replies f.tree_is s.run (same_commands seen line f.kept);
   told = Appends-trans before mid after _ _ f.told s.told;
 }
 
-pub stopped_end : (seen : List ℕ) (before mid after : Option (List ℕ)) (tree : Session) (line : List ℕ)
-    → Follows seen before mid tree line → Tried (commands_of_line longest line) tree mid after → Stopped seen before after
-stopped_end seen before mid after tree line f s =
-    let written = entries (commands_of_line longest line) s.replies in
-    let served = joined (whole_commands longest seen) (commands_of_line longest line) (commands_of longest seen) f.body f.served tree s.new s.replies f.tree_is s.run (same_commands seen line f.kept) in
-    let Q : List ℕ → Type 0 = λ l. IsTrace seen l in
+pub stopped_end : (geom : Geometry) (seen : List ℕ) (before mid after : Option (List ℕ)) (tree : Session) (line : List ℕ) (log : List Event)
+    → Follows geom seen before mid tree line log → Tried (commands_of_line longest line) tree mid after → Stopped geom seen before after
+stopped_end geom seen before mid after tree line log f s =
+    let written = quiet_entries (commands_of_line longest line) s.replies in
+    let served = joined geom (whole_commands longest seen) (commands_of_line longest line) (commands_of longest seen) f.body f.served tree s.new s.replies f.tree_is s.run (same_commands seen line f.kept) in
+    let Q : List ℕ → Type 0 = λ l. IsTrace (ServesQuietly geom) seen l in
     record {
       text = f.body ++ take s.taken written;
       told = Appends-trans before mid after _ _ f.told s.told;
@@ -164,74 +242,74 @@ stopped_end seen before mid after tree line f s =
 
 -- The same, as the code has them: the byte is known to be a line feed, and the line was lent.
 
-pub fed : (seen : List ℕ) (byte : ℕ) (before mid after : Option (List ℕ)) (tree next : Session) (line cut left : List ℕ)
-    → byte ≡ 10 → cut ≡ line → left ≡ [] → Follows seen before mid tree line → Served (commands_of_line longest cut) tree next mid after
-    → Follows (seen ++ byte ∷ []) before after next left
-fed seen byte before mid after tree next line cut left feed lent empty f s =
+pub fed : (geom : Geometry) (seen : List ℕ) (byte : ℕ) (before mid after : Option (List ℕ)) (tree next : Session) (line cut left : List ℕ) (log : List Event)
+    → byte ≡ 10 → cut ≡ line → left ≡ [] → Follows geom seen before mid tree line log → (log ≡ [] → Served (commands_of_line longest cut) tree next mid after)
+    → Follows geom (seen ++ byte ∷ []) before after next left log
+fed geom seen byte before mid after tree next line cut left log feed lent empty f s =
     let P : List ℕ → Type 0 = λ l. Served (commands_of_line longest l) tree next mid after in
-    let Q : ℕ → Type 0 = λ b. Follows (seen ++ b ∷ []) before after next left in
-    let R : List ℕ → Type 0 = λ l. Follows (seen ++ 10 ∷ []) before after next l in
-    subst Q (sym feed) (subst R (sym empty) (follows_feed seen before mid after tree next line f (subst P lent s)))
+    let Q : ℕ → Type 0 = λ b. Follows geom (seen ++ b ∷ []) before after next left log in
+    let R : List ℕ → Type 0 = λ l. Follows geom (seen ++ 10 ∷ []) before after next l log in
+    subst Q (sym feed) (subst R (sym empty) (follows_feed geom seen before mid after tree next line log f (subst P lent (s f.quiet))))
 
-pub feed_stopped : (seen more : List ℕ) (byte : ℕ) (before mid after : Option (List ℕ)) (tree : Session) (line cut : List ℕ)
-    → byte ≡ 10 → cut ≡ line → Follows seen before mid tree line → Tried (commands_of_line longest cut) tree mid after
-    → Stopped (seen ++ byte ∷ more) before after
-feed_stopped seen more byte before mid after tree line cut feed lent f s =
+pub feed_stopped : (geom : Geometry) (seen more : List ℕ) (byte : ℕ) (before mid after : Option (List ℕ)) (tree : Session) (line cut : List ℕ) (log : List Event)
+    → byte ≡ 10 → cut ≡ line → Follows geom seen before mid tree line log → Tried (commands_of_line longest cut) tree mid after
+    → Stopped geom (seen ++ byte ∷ more) before after
+feed_stopped geom seen more byte before mid after tree line cut log feed lent f s =
     let P : List ℕ → Type 0 = λ l. Tried (commands_of_line longest l) tree mid after in
-    let Q : ℕ → Type 0 = λ b. Stopped (seen ++ b ∷ more) before after in
-    subst Q (sym feed) (stopped_feed seen more before mid after tree line f (subst P lent s))
+    let Q : ℕ → Type 0 = λ b. Stopped geom (seen ++ b ∷ more) before after in
+    subst Q (sym feed) (stopped_feed geom seen more before mid after tree line log f (subst P lent s))
 
-pub pushed : (seen : List ℕ) (byte : ℕ) (before after : Option (List ℕ)) (tree : Session) (line grown : List ℕ)
-    → byte ≢ 10 → length line ≤ 262144 → grown ≡ line ++ byte ∷ [] → Follows seen before after tree line → Follows (seen ++ byte ∷ []) before after tree grown
-pushed seen byte before after tree line grown other room is f =
-    follows_byte seen byte before after tree line grown (not_feed byte other) f
+pub pushed : (geom : Geometry) (seen : List ℕ) (byte : ℕ) (before after : Option (List ℕ)) (tree : Session) (line grown : List ℕ) (log : List Event)
+    → byte ≢ 10 → length line ≤ 262144 → grown ≡ line ++ byte ∷ [] → Follows geom seen before after tree line log → Follows geom (seen ++ byte ∷ []) before after tree grown log
+pushed geom seen byte before after tree line grown log other room is f =
+    follows_byte geom seen byte before after tree line grown log (not_feed byte other) f
     (is ∙ kept_push longest byte (open_line seen) line f.kept (within_longest (length line) room))
 
-pub passed : (seen : List ℕ) (byte : ℕ) (before after : Option (List ℕ)) (tree : Session) (line : List ℕ)
-    → byte ≢ 10 → 262144 < length line → Follows seen before after tree line → Follows (seen ++ byte ∷ []) before after tree line
-passed seen byte before after tree line other full f =
-    follows_byte seen byte before after tree line line (not_feed byte other) f
+pub passed : (geom : Geometry) (seen : List ℕ) (byte : ℕ) (before after : Option (List ℕ)) (tree : Session) (line : List ℕ) (log : List Event)
+    → byte ≢ 10 → 262144 < length line → Follows geom seen before after tree line log → Follows geom (seen ++ byte ∷ []) before after tree line log
+passed geom seen byte before after tree line log other full f =
+    follows_byte geom seen byte before after tree line line log (not_feed byte other) f
     (kept_full longest byte (open_line seen) line f.kept (past_longest (length line) full))
 
-pub ended : (seen : List ℕ) (before mid after : Option (List ℕ)) (tree next : Session) (line cut : List ℕ)
-    → cut ≡ line → Follows seen before mid tree line → Served (commands_of_line longest cut) tree next mid after → ServesTo (commands_of longest seen) before after
-ended seen before mid after tree next line cut lent f s =
+pub ended : (geom : Geometry) (seen : List ℕ) (before mid after : Option (List ℕ)) (tree next : Session) (line cut : List ℕ) (log : List Event)
+    → cut ≡ line → Follows geom seen before mid tree line log → (log ≡ [] → Served (commands_of_line longest cut) tree next mid after) → ServesTo geom (commands_of longest seen) before after
+ended geom seen before mid after tree next line cut log lent f s =
     let P : List ℕ → Type 0 = λ l. Served (commands_of_line longest l) tree next mid after in
-    serves_end seen before mid after tree next line f (subst P lent s)
+    serves_end geom seen before mid after tree next line log f (subst P lent (s f.quiet))
 
-pub end_stopped : (seen : List ℕ) (before mid after : Option (List ℕ)) (tree : Session) (line cut : List ℕ)
-    → cut ≡ line → Follows seen before mid tree line → Tried (commands_of_line longest cut) tree mid after → Stopped seen before after
-end_stopped seen before mid after tree line cut lent f s =
+pub end_stopped : (geom : Geometry) (seen : List ℕ) (before mid after : Option (List ℕ)) (tree : Session) (line cut : List ℕ) (log : List Event)
+    → cut ≡ line → Follows geom seen before mid tree line log → Tried (commands_of_line longest cut) tree mid after → Stopped geom seen before after
+end_stopped geom seen before mid after tree line cut log lent f s =
     let P : List ℕ → Type 0 = λ l. Tried (commands_of_line longest l) tree mid after in
-    stopped_end seen before mid after tree line f (subst P lent s)
+    stopped_end geom seen before mid after tree line log f (subst P lent s)
 
-pub feed_halts : {T E : Type 0} (r : Result T E) (byte : ℕ) (old new : Option (List ℕ)) (tree : Session) (line cut : List ℕ)
-    → byte ≡ 10 → cut ≡ line → Tried (commands_of_line longest cut) tree old new
-    → OnErr r ((seen more : List ℕ) (before : Option (List ℕ)) → Follows seen before old tree line → Stopped (seen ++ byte ∷ more) before new)
-feed_halts (Ok x) byte old new tree line cut feed lent s = tt
-feed_halts (Err e) byte old new tree line cut feed lent s = λ seen more before f. feed_stopped seen more byte before old new tree line cut feed lent f s
+pub feed_halts : {T E : Type 0} (r : Result T E) (byte : ℕ) (old new : Option (List ℕ)) (tree : Session) (line cut : List ℕ) (log : List Event)
+    → byte ≡ 10 → cut ≡ line → (log ≡ [] → Tried (commands_of_line longest cut) tree old new)
+    → OnErr r ((geom : Geometry) (seen more : List ℕ) (before : Option (List ℕ)) → Follows geom seen before old tree line log → Stopped geom (seen ++ byte ∷ more) before new)
+feed_halts (Ok x) byte old new tree line cut log feed lent s = tt
+feed_halts (Err e) byte old new tree line cut log feed lent s = λ geom seen more before f. feed_stopped geom seen more byte before old new tree line cut log feed lent f (s f.quiet)
 
-pub byte_halts : {T E : Type 0} (r : Result T E) (byte : ℕ) (told : Option (List ℕ)) (tree : Session) (line : List ℕ)
-    → OnErr r ((seen more : List ℕ) (before : Option (List ℕ)) → Follows seen before told tree line → Stopped (seen ++ byte ∷ more) before told)
-byte_halts (Ok x) byte told tree line = tt
-byte_halts (Err e) byte told tree line = λ seen more before f. stopped_here seen (byte ∷ more) before told tree line f
+pub byte_halts : {T E : Type 0} (r : Result T E) (byte : ℕ) (told : Option (List ℕ)) (tree : Session) (line : List ℕ) (log : List Event)
+    → OnErr r ((geom : Geometry) (seen more : List ℕ) (before : Option (List ℕ)) → Follows geom seen before told tree line log → Stopped geom (seen ++ byte ∷ more) before told)
+byte_halts (Ok x) byte told tree line log = tt
+byte_halts (Err e) byte told tree line log = λ geom seen more before f. stopped_here geom seen (byte ∷ more) before told tree line log f
 
-pub end_halts : {T E : Type 0} (r : Result T E) (old new : Option (List ℕ)) (tree : Session) (line cut : List ℕ)
-    → cut ≡ line → Tried (commands_of_line longest cut) tree old new
-    → OnErr r ((seen : List ℕ) (before : Option (List ℕ)) → Follows seen before old tree line → Stopped seen before new)
-end_halts (Ok x) old new tree line cut lent s = tt
-end_halts (Err e) old new tree line cut lent s = λ seen before f. end_stopped seen before old new tree line cut lent f s
+pub end_halts : {T E : Type 0} (r : Result T E) (old new : Option (List ℕ)) (tree : Session) (line cut : List ℕ) (log : List Event)
+    → cut ≡ line → (log ≡ [] → Tried (commands_of_line longest cut) tree old new)
+    → OnErr r ((geom : Geometry) (seen : List ℕ) (before : Option (List ℕ)) → Follows geom seen before old tree line log → Stopped geom seen before new)
+end_halts (Ok x) old new tree line cut log lent s = tt
+end_halts (Err e) old new tree line cut log lent s = λ geom seen before f. end_stopped geom seen before old new tree line cut log lent f (s f.quiet)
 
 -- the bytes up to here, this one, and the others are all of them
-pub rest_halts : {T E : Type 0} (r : Result T E) (bytes : List ℕ) (i byte : ℕ) (first old new : Option (List ℕ)) (tree_first tree : Session) (line_first line : List ℕ)
+pub rest_halts : {T E : Type 0} (r : Result T E) (bytes : List ℕ) (i byte : ℕ) (first old new : Option (List ℕ)) (tree_first tree : Session) (line_first line : List ℕ) (log_first log : List Event)
     → i < length bytes → byte ≡ get_or bytes i 0
-    → ((seen : List ℕ) (before : Option (List ℕ)) → Follows seen before first tree_first line_first → Follows (seen ++ take i bytes) before old tree line)
-    → ((seen more : List ℕ) (before : Option (List ℕ)) → Follows seen before old tree line → Stopped (seen ++ byte ∷ more) before new)
-    → OnErr r ((seen : List ℕ) (before : Option (List ℕ)) → Follows seen before first tree_first line_first → Stopped (seen ++ bytes) before new)
-rest_halts (Ok x) bytes i byte first old new tree_first tree line_first line below is so_far halts = tt
-rest_halts (Err e) bytes i byte first old new tree_first tree line_first line below is so_far halts = λ seen before f.
-    let P : List ℕ → Type 0 = λ l. Stopped l before new in
+    → ((geom : Geometry) (seen : List ℕ) (before : Option (List ℕ)) → Follows geom seen before first tree_first line_first log_first → Follows geom (seen ++ take i bytes) before old tree line log)
+    → ((geom : Geometry) (seen more : List ℕ) (before : Option (List ℕ)) → Follows geom seen before old tree line log → Stopped geom (seen ++ byte ∷ more) before new)
+    → OnErr r ((geom : Geometry) (seen : List ℕ) (before : Option (List ℕ)) → Follows geom seen before first tree_first line_first log_first → Stopped geom (seen ++ bytes) before new)
+rest_halts (Ok x) bytes i byte first old new tree_first tree line_first line log_first log below is so_far halts = tt
+rest_halts (Err e) bytes i byte first old new tree_first tree line_first line log_first log below is so_far halts = λ geom seen before f.
+    let P : List ℕ → Type 0 = λ l. Stopped geom l before new in
     let whole : take i bytes ++ byte ∷ drop (suc i) bytes ≡ bytes =
     ap (λ b. take i bytes ++ b ∷ drop (suc i) bytes) is ∙ ap (λ l. take i bytes ++ l) (sym (drop-cons bytes i 0 below)) ∙ take-append-drop i bytes in
     subst P (append_assoc seen (take i bytes) (byte ∷ drop (suc i) bytes) ∙ ap (λ l. seen ++ l) whole)
-    (halts (seen ++ take i bytes) (drop (suc i) bytes) before (so_far seen before f))
+    (halts geom (seen ++ take i bytes) (drop (suc i) bytes) before (so_far geom seen before f))

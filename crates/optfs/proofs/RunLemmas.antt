@@ -4,9 +4,11 @@ use Rattle.opt_tree.specs.declared.command.Cmd.{Cmd}
 use Rattle.opt_tree.specs.declared.command.Reply.{Reply}
 use Rattle.opt_tree.specs.Step.{Session, start, step}
 use Rattle.opt_tree.specs.Run.{Run}
-use Rattle.optfs.specs.Trace.{head, entry, entries, end_line}
+use Rattle.opt_geom.specs.Geometry.{Geometry}
+use Rattle.opt_trace.specs.Line.{geometry_line, end_line}
 use Rattle.optfs.specs.Lines.{whole_commands}
-use Rattle.optfs.specs.Output.{IsTrace, Serves, IsFront, longest}
+use Rattle.optfs.specs.Output.{IsTrace, IsFront, longest}
+use Rattle.optfs.specs.Follows.{entry, quiet_entries, ServesQuietly}
 use Rattle.optfs.proofs.LineLemmas.{commands-more}
 
 pub run_append : (s t u : Session) (cmds : List Cmd) (replies : List Reply) (more : List Cmd) (later : List Reply)
@@ -20,25 +22,25 @@ run_append s t u (c ∷ cmds) (r ∷ replies) more later run next =
     (run.0, run.1, run_append run.0 t u cmds replies more later run.2 next)
 
 pub entries_append : (s t : Session) (cmds : List Cmd) (replies : List Reply) (more : List Cmd) (later : List Reply) → Run s cmds replies t
-    → entries (cmds ++ more) (replies ++ later) ≡ entries cmds replies ++ entries more later
+    → quiet_entries (cmds ++ more) (replies ++ later) ≡ quiet_entries cmds replies ++ quiet_entries more later
 entries_append s t [] [] more later run = refl
 entries_append s t [] (r ∷ replies) more later run = absurd run
 entries_append s t (c ∷ cmds) [] more later run = absurd run
 entries_append s t (c ∷ cmds) (r ∷ replies) more later run =
-    ap (λ l. entry c r ++ l) (entries_append run.0 t cmds replies more later run.2) ∙ sym (append_assoc (entry c r) (entries cmds replies) (entries more later))
+    ap (λ l. entry 0 c r ++ l) (entries_append run.0 t cmds replies more later run.2) ∙ sym (append_assoc (entry 0 c r) (quiet_entries cmds replies) (quiet_entries more later))
 
 -- more commands behind those that are served
-abbrev pub joined : (cmds more all : List Cmd) (body : List ℕ) (s : Serves cmds body) (tree next : Session) (later : List Reply)
-    → s.after ≡ tree → Run tree more later next → cmds ++ more ≡ all → Serves all (body ++ entries more later)
-joined cmds more all body s tree next later is run whole =
+abbrev pub joined : (geom : Geometry) (cmds more all : List Cmd) (body : List ℕ) (s : ServesQuietly geom cmds body) (tree next : Session) (later : List Reply)
+    → s.after ≡ tree → Run tree more later next → cmds ++ more ≡ all → ServesQuietly geom all (body ++ quiet_entries more later)
+joined geom cmds more all body s tree next later is run whole =
     let P : Session → Type 0 = λ x. Run x more later next in
-    let Q : List Cmd → Type 0 = λ l. Run (start 16) l (s.replies ++ later) next in
+    let Q : List Cmd → Type 0 = λ l. Run (start geom.i) l (s.replies ++ later) next in
     record {
       replies = s.replies ++ later;
       after = next;
-      run = subst Q whole (run_append (start 16) s.after next cmds s.replies more later s.run (subst P (sym is) run));
-      is = ap (λ l. l ++ entries more later) s.is ∙ append_assoc head (entries cmds s.replies) (entries more later)
-          ∙ ap (λ l. head ++ l) (sym (entries_append (start 16) s.after cmds s.replies more later s.run) ∙ ap (λ l. entries l (s.replies ++ later)) whole);
+      run = subst Q whole (run_append (start geom.i) s.after next cmds s.replies more later s.run (subst P (sym is) run));
+      is = ap (λ l. l ++ quiet_entries more later) s.is ∙ append_assoc (geometry_line geom) (quiet_entries cmds s.replies) (quiet_entries more later)
+          ∙ ap (λ l. geometry_line geom ++ l) (sym (entries_append (start geom.i) s.after cmds s.replies more later s.run) ∙ ap (λ l. quiet_entries l (s.replies ++ later)) whole);
     }
 
 -- Every list of commands is answered somehow.
@@ -49,18 +51,18 @@ any_run s (c ∷ cmds) =
     let later = any_run answer.0 cmds in
     (answer.1 ∷ later.0, later.1, (answer.0, inl refl, later.2))
 
-pub serves_more : (cmds : List Cmd) (text : List ℕ) → Serves cmds text → (more : List Cmd)
-    → (rest : List ℕ) × Serves (cmds ++ more) (text ++ rest)
-serves_more cmds text s more =
+pub serves_more : (geom : Geometry) (cmds : List Cmd) (text : List ℕ) → ServesQuietly geom cmds text → (more : List Cmd)
+    → (rest : List ℕ) × ServesQuietly geom (cmds ++ more) (text ++ rest)
+serves_more geom cmds text s more =
     let later = any_run s.after more in
-    (entries more later.0, joined cmds more (cmds ++ more) text s s.after later.1 later.0 refl later.2 refl)
+    (quiet_entries more later.0, joined geom cmds more (cmds ++ more) text s s.after later.1 later.0 refl later.2 refl)
 
 -- What was served of a front of the bytes begins a whole trace of all of them.
-pub front_of_trace : (seen more body : List ℕ) → Serves (whole_commands longest seen) body → IsFront (IsTrace (seen ++ more)) body
-front_of_trace seen more body served =
+pub front_of_trace : (geom : Geometry) (seen more body : List ℕ) → ServesQuietly geom (whole_commands longest seen) body → IsFront (IsTrace (ServesQuietly geom) (seen ++ more)) body
+front_of_trace geom seen more body served =
     let cmds = commands-more longest seen more in
-    let whole = serves_more (whole_commands longest seen) body served cmds.0 in
-    let P : List Cmd → Type 0 = λ l. Serves l (body ++ whole.0) in (
+    let whole = serves_more geom (whole_commands longest seen) body served cmds.0 in
+    let P : List Cmd → Type 0 = λ l. ServesQuietly geom l (body ++ whole.0) in (
       whole.0 ++ end_line,
       record {
         body = body ++ whole.0;

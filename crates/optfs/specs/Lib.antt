@@ -1,7 +1,6 @@
 pub mod Lines
-pub mod Trace
+pub mod Crashes
 pub mod Output
-pub mod Words
 pub mod Follows
 pub mod Program
 pub mod Reading

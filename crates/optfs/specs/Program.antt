@@ -1,10 +1,13 @@
 -- The contract of the whole program. It is told in docs/PROMISES.md.
-use Rattle.std.specs.Prelude.{◌≡◌, ℕ, ◌^◌, ◌≤◌, ◌⊎◌, List, [], ◌∷◌, ◌++◌, length, take, Option}
+use Rattle.std.specs.Prelude.{◌≡◌, ℕ, ◌^◌, ◌≤◌, ◌⊎◌, Bool, true, false, List, [], ◌∷◌, ◌++◌, length, take, Option, Some, None}
 use Rattle.std.specs.Io.KnownBytes.{Appends, Consumes, IsAtEnd}
 use Rattle.opt_io.specs.Faults.{Rose}
-use Rattle.optfs.specs.Output.{Recorded, usage_line}
+use Rattle.opt_geom.specs.Geometry.{Geometry, geometry_fits}
+use Rattle.opt_words.specs.declared.request.Request.{Request}
+use Rattle.opt_words.specs.declared.request.Request.TheVariants.{Record}
+use Rattle.optfs.specs.Output.{Serves, Recorded, usage_line, shape_line}
 use Rattle.optfs.specs.declared.status.Status.{Status}
-use Rattle.optfs.specs.declared.status.Status.TheVariants.{Done, Usage, NoMemory, SourceFault, SinkFault, LongInput}
+use Rattle.optfs.specs.declared.status.Status.TheVariants.{Done, Usage, NoMemory, SourceFault, SinkFault, BadShape, LongInput}
 
 -- these bytes were read, which are no more than an input may have
 abbrev pub ReadsWithin : List ℕ → Option (List ℕ) → Option (List ℕ) → Type 0
@@ -18,24 +21,45 @@ ReadsPast seen left left_now = (next : ℕ) × Consumes left left_now (seen ++ n
 abbrev pub Reads : Status → List ℕ → Option (List ℕ) → Option (List ℕ) → Type 0
 Reads Done seen left left_now = ReadsWithin seen left left_now × IsAtEnd left_now
 Reads Usage seen left left_now = ⊥
+Reads BadShape seen left left_now = ⊥
 Reads NoMemory seen left left_now = ReadsWithin seen left left_now
 Reads SourceFault seen left left_now = ReadsWithin seen left left_now
 Reads SinkFault seen left left_now = ReadsWithin seen left left_now ⊎ ReadsPast seen left left_now
 Reads LongInput seen left left_now = ReadsPast seen left left_now
 
--- What a run with the words of a recording, ended with this status, read and wrote.
-pub record RecordsTo (status : Status) (left left_now taken taken_now : Option (List ℕ)) (source source_now : ℕ) : Type 0 where
+-- A recording on a disk of this geometry, ended with this status: what it read and wrote.
+pub record RecordsTo (g : Geometry) (status : Status) (left left_now taken taken_now : Option (List ℕ)) (source source_now : ℕ) : Type 0 where
   pub seen : List ℕ
   pub reads : Reads status seen left left_now
   pub text : List ℕ
   pub writes : Appends taken taken_now text
-  pub output : Recorded status (Rose source source_now) seen text
+  pub output : Recorded (Serves g) status (Rose source source_now) seen text
 
--- Other words are answered by the line of the usage; where the sink fails it has a front of that line.
-abbrev pub Declines : Status → Option (List ℕ) → Option (List ℕ) → Type 0
-Declines Usage taken taken_now = Appends taken taken_now usage_line
-Declines SinkFault taken taken_now = (n : ℕ) × Appends taken taken_now (take n usage_line)
-Declines _ taken taken_now = ⊥
+-- The line of this refusal is written; where the sink fails it has a front of that line, and where no memory is found nothing is written.
+abbrev pub Refuses : Status → List ℕ → Status → Option (List ℕ) → Option (List ℕ) → Type 0
+Refuses refusal line status taken taken_now =
+    ((status ≡ refusal) × Appends taken taken_now line)
+    ⊎ (((status ≡ SinkFault) × ((n : ℕ) × Appends taken taken_now (take n line)))
+    ⊎ ((status ≡ NoMemory) × (taken_now ≡ taken)))
+
+abbrev pub RecordsWhere : Bool → Geometry → Status → Option (List ℕ) → Option (List ℕ) → Option (List ℕ) → Option (List ℕ) → ℕ → ℕ → Type 0
+RecordsWhere true g status left left_now taken taken_now source source_now = RecordsTo g status left left_now taken taken_now source source_now
+RecordsWhere false g status left left_now taken taken_now source source_now = Refuses BadShape shape_line status taken taken_now
+
+-- the geometry that a request asks for
+abbrev pub shape_of : Request → Geometry
+shape_of (Record blocks journal nodes) = record { n = blocks; j = journal; i = nodes }
+
+-- What the program does for what its words ask: it records on a disk of the geometry, where that fits, and else says so; words that ask for nothing are told the usage.
+abbrev pub Does : Option Request → Status → Option (List ℕ) → Option (List ℕ) → Option (List ℕ) → Option (List ℕ) → ℕ → ℕ → Type 0
+Does None status left left_now taken taken_now source source_now = Refuses Usage usage_line status taken taken_now
+Does (Some request) status left left_now taken taken_now source source_now =
+    RecordsWhere (geometry_fits (shape_of request)) (shape_of request) status left left_now taken taken_now source source_now
+
+-- the words ask for a recording on a disk of a geometry that fits
+abbrev pub is_recording : Option Request → Bool
+is_recording None = false
+is_recording (Some request) = geometry_fits (shape_of request)
 
 -- a fault comes only where the count of the one that failed rose
 abbrev pub HasFault : Status → ℕ → ℕ → ℕ → ℕ → Type 0

@@ -1,15 +1,14 @@
-//! One line of a script, and the lines of the trace that one command and its reply make. How lines are
-//! cut from the input stands in the module of the recording.
+//! One line of a script, and the command that it is. How lines are cut from the input stands in the
+//! module of the recording.
 
 ghost use Rattle.std.specs.Prelude.{◌≡◌, IfOk, option_to_list};
 ghost use Rattle.optfs.specs.Lines.{commands_of_line};
 ghost use Rattle.optfs.specs.Output.{longest};
-ghost use Rattle.optfs.specs.Trace.{entry};
 
 use opt_base::NoMemory;
 use opt_base::limits::LONGEST_LINE;
-use opt_script::{cmd_text, parse_line, reply_text};
-use opt_tree::{Cmd, Reply};
+use opt_script::parse_line;
+use opt_tree::Cmd;
 use std::alloc::Global;
 
 /// The command that a line is, or `None` where it is empty or a comment. A line that is longer than a
@@ -35,20 +34,3 @@ pub fn command_of_line(alloc: Global, line: &[u8]) -> Result<Option<Cmd>, NoMemo
 }
 
 const COMMENT: u8 = b'#';
-
-/// The two lines of the trace for a command and its reply.
-///
-/// # Errors
-/// Want of memory.
-pub fn entry_text(alloc: Global, cmd: &Cmd, reply: &Reply) -> Result<Vec<u8>, NoMemory>
-    ensures { IfOk result (λ text. text.items ≡ entry cmd.now reply.now) }
-{
-    let command = cmd_text(alloc, cmd)?;
-    let answer = reply_text(alloc, reply)?;
-    let mut text = Vec::from_slice(alloc, b"c ")?;
-    text.extend_from_slice(command.as_slice())?;
-    text.extend_from_slice(b"\nr 0 ")?;
-    text.extend_from_slice(answer.as_slice())?;
-    text.extend_from_slice(b"\n")?;
-    Ok(text)
-}

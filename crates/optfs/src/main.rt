@@ -1,8 +1,9 @@
 //! The program `optfs`: words and a script in, a trace out. The crates below hold the parts; here stand
-//! the words of the command line, the reading of lines, the lines of the trace, and the exit status.
-//! The rules are told in docs/SCRIPT.md and docs/TRACE.md.
+//! the reading of lines, the recording of their commands, the formatted disk, and the exit status. The
+//! rules are told in docs/SCRIPT.md, docs/TRACE.md and docs/CRASHES.md.
 #![tactic(auto)]
 
+mod formatting;
 mod lines;
 mod program;
 mod reading;
@@ -10,9 +11,9 @@ mod recording;
 mod status;
 #[cfg(test)]
 mod tests;
-mod words;
 
 use opt_io::{ReadSource, WriteSink};
+use opt_memdisk::MemBay;
 pub use program::optfs;
 pub use status::Status;
 use std::env;
@@ -32,9 +33,13 @@ fn run(rt: &HostRuntime) -> io::Result<Status> {
     }
     let mut input = ReadSource::new(rt.stdin());
     let mut out = WriteSink::new(BufWriter::new(rt.alloc(), rt.stdout())?);
-    let status = optfs(rt.alloc(), words.as_slice(), &mut input, &mut out);
+    let mut bay = MemBay::new(rt.alloc(), ROOM);
+    let status = optfs(rt.alloc(), words.as_slice(), &mut input, &mut out, &mut bay);
     if out.flush().is_err() {
         return Ok(Status::SinkFault);
     }
     Ok(status)
 }
+
+/// How many writes each disk of the bay takes.
+const ROOM: u32 = 4096;

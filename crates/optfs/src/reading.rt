@@ -2,6 +2,7 @@
 //! bytes that an input may have. What the bytes do stands in the module of the recording.
 
 ghost use Rattle.std.specs.Prelude.{◌≡◌, ℕ, ◌+◌, ◌^◌, ◌<◌, ◌≤◌, List, length, Option, OnErr, IfOk};
+ghost use Rattle.opt_geom.specs.Geometry.{Geometry};
 ghost use Rattle.optfs.specs.Follows.{StopsByCause};
 ghost use Rattle.optfs.specs.Reading.{At, Halted, Brings, AfterTurn, AtEnding};
 
@@ -42,13 +43,13 @@ fn pull_once<S: Source, K: Sink>(
 ) -> Result<Turn, Stop>
     requires { 0 < length chunk.old }
     ensures some { IfOk result (λ turn. Brings turn (length chunk.old)) }
-    ensures ok { IfOk result (λ turn. (count : ℕ) (left told : Option (List ℕ))
-        → At count left (S.remaining input.old) told (K.taken out.old) recording.old.tree recording.old.line.items
-        → AfterTurn turn count (S.faults input.old) (S.faults input.new) left (S.remaining input.new)
-        told (K.taken out.new) recording.new.tree recording.new.line.items) }
-    ensures err { OnErr result ((count : ℕ) (left told : Option (List ℕ))
-        → At count left (S.remaining input.old) told (K.taken out.old) recording.old.tree recording.old.line.items
-        → Halted (count + length chunk.old) left (S.remaining input.new) told (K.taken out.new)) }
+    ensures ok { IfOk result (λ turn. (geom : Geometry) (count : ℕ) (left told : Option (List ℕ))
+        → At geom count left (S.remaining input.old) told (K.taken out.old) recording.old.tree recording.old.line.items recording.old.disk.log
+        → AfterTurn geom turn count (S.faults input.old) (S.faults input.new) left (S.remaining input.new)
+        told (K.taken out.new) recording.new.tree recording.new.line.items recording.new.disk.log) }
+    ensures err { OnErr result ((geom : Geometry) (count : ℕ) (left told : Option (List ℕ))
+        → At geom count left (S.remaining input.old) told (K.taken out.old) recording.old.tree recording.old.line.items recording.old.disk.log
+        → Halted geom (count + length chunk.old) left (S.remaining input.new) told (K.taken out.new)) }
     ensures source { S.faults input.old ≤ S.faults input.new }
     ensures cause { StopsByCause (K.faults out.old) (K.faults out.new) result }
 {
@@ -75,12 +76,12 @@ pub fn read_all<S: Source, K: Sink>(
     chunk: &mut [u8],
 ) -> Result<Ending, Stop>
     requires { 0 < length chunk.old }
-    ensures ok { IfOk result (λ ending. (left told : Option (List ℕ))
-        → At 0 left (S.remaining input.old) told (K.taken out.old) recording.old.tree recording.old.line.items
-        → AtEnding ending (S.faults input.old) (S.faults input.new) left (S.remaining input.new) told (K.taken out.new)) }
-    ensures err { OnErr result ((left told : Option (List ℕ))
-        → At 0 left (S.remaining input.old) told (K.taken out.old) recording.old.tree recording.old.line.items
-        → Halted (2 ^ 30) left (S.remaining input.new) told (K.taken out.new)) }
+    ensures ok { IfOk result (λ ending. (geom : Geometry) (left told : Option (List ℕ))
+        → At geom 0 left (S.remaining input.old) told (K.taken out.old) recording.old.tree recording.old.line.items recording.old.disk.log
+        → AtEnding geom ending (S.faults input.old) (S.faults input.new) left (S.remaining input.new) told (K.taken out.new)) }
+    ensures err { OnErr result ((geom : Geometry) (left told : Option (List ℕ))
+        → At geom 0 left (S.remaining input.old) told (K.taken out.old) recording.old.tree recording.old.line.items recording.old.disk.log
+        → Halted geom (2 ^ 30) left (S.remaining input.new) told (K.taken out.new)) }
     ensures source { S.faults input.old ≤ S.faults input.new }
     ensures cause { StopsByCause (K.faults out.old) (K.faults out.new) result }
 {
@@ -106,12 +107,12 @@ fn read_past<S: Source, K: Sink>(
     input: &mut S,
     out: &mut K,
 ) -> Result<Ending, Stop>
-    ensures ok { IfOk result (λ ending. (left told : Option (List ℕ))
-        → At (2 ^ 30) left (S.remaining input.old) told (K.taken out.old) recording.old.tree recording.old.line.items
-        → AtEnding ending (S.faults input.old) (S.faults input.new) left (S.remaining input.new) told (K.taken out.new)) }
-    ensures err { OnErr result ((left told : Option (List ℕ))
-        → At (2 ^ 30) left (S.remaining input.old) told (K.taken out.old) recording.old.tree recording.old.line.items
-        → Halted (2 ^ 30) left (S.remaining input.new) told (K.taken out.new)) }
+    ensures ok { IfOk result (λ ending. (geom : Geometry) (left told : Option (List ℕ))
+        → At geom (2 ^ 30) left (S.remaining input.old) told (K.taken out.old) recording.old.tree recording.old.line.items recording.old.disk.log
+        → AtEnding geom ending (S.faults input.old) (S.faults input.new) left (S.remaining input.new) told (K.taken out.new)) }
+    ensures err { OnErr result ((geom : Geometry) (left told : Option (List ℕ))
+        → At geom (2 ^ 30) left (S.remaining input.old) told (K.taken out.old) recording.old.tree recording.old.line.items recording.old.disk.log
+        → Halted geom (2 ^ 30) left (S.remaining input.new) told (K.taken out.new)) }
     ensures source { S.faults input.old ≤ S.faults input.new }
     ensures cause { StopsByCause (K.faults out.old) (K.faults out.new) result }
 {

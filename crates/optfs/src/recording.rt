@@ -1,20 +1,26 @@
-//! A recording on its way: a tree, and the line that is open. It takes the bytes of the input one by
-//! one, and after each line feed it answers the line and writes its entry of the trace. Where the
-//! bytes come from, and how a recording ends, stands in the module of the program.
+//! A recording on its way: a tree that answers, a disk, and the line that is open. It takes the bytes of
+//! the input one by one, and after each line feed it answers the line and writes its entry of the
+//! trace. Where the bytes come from, and how a recording ends, stands in the module of the program.
 //!
-//! What holds after the bytes seen is one fact, `Follows`: the commands of the whole lines are answered
-//! in turn, the sink has taken the trace of them, and the open line is kept.
+//! Nothing writes to the disk yet: the tree in memory answers all commands. What holds after the bytes
+//! seen is one fact, `Follows`: the commands of the whole lines are answered in turn, the sink has taken
+//! the trace of them, the open line is kept, and the disk has no event.
 
-ghost use Rattle.std.specs.Prelude.{◌≡◌, ℕ, List, [], ◌∷◌, ◌++◌, Option, OnOk, OnErr, IfOk};
+ghost use Rattle.std.specs.Prelude.{◌≡◌, ◌≤◌, ℕ, List, [], ◌∷◌, ◌++◌, length, Option, OnOk, OnErr, IfOk};
+ghost use Rattle.opt_geom.specs.Geometry.{Geometry};
 ghost use Rattle.opt_tree.specs.Step.{Session, start};
 ghost use Rattle.optfs.specs.Lines.{commands_of_line, commands_of};
 ghost use Rattle.optfs.specs.Output.{longest};
 ghost use Rattle.optfs.specs.Follows.{ServesTo, Served, Tried, Follows, Stopped, StopsByCause};
 
-use crate::lines::{command_of_line, entry_text};
+use crate::lines::command_of_line;
 use opt_base::NoMemory;
 use opt_base::limits::LONGEST_LINE;
-use opt_io::{Sink, SinkFault, push_all};
+use opt_disk::Disk;
+use opt_io::{Sink, SinkFault};
+use opt_memdisk::MemDisk;
+use opt_script::{cmd_text, reply_text};
+use opt_trace::{write_command, write_reply};
 use opt_tree::{Cmd, PlainTree};
 use std::alloc::{AllocFailed, Global};
 
@@ -60,15 +66,23 @@ impl From<SinkFault> for Stop {
     }
 }
 
-/// Answers one command and writes its entry.
-fn serve<K: Sink>(alloc: Global, tree: &mut PlainTree, out: &mut K, cmd: &Cmd) -> Result<(), Stop>
-    ensures ok { OnOk result (Served (cmd.now ∷ []) tree.old tree.new (K.taken out.old) (K.taken out.new)) }
-    ensures err { OnErr result (Tried (cmd.now ∷ []) tree.old (K.taken out.old) (K.taken out.new)) }
+/// Answers one command and writes its entry, with the number of events so far.
+fn serve<K: Sink>(
+    alloc: Global,
+    tree: &mut PlainTree,
+    out: &mut K,
+    moment: u64,
+    cmd: &Cmd,
+) -> Result<(), Stop>
+    ensures ok { OnOk result (moment ≡ 0 → Served (cmd.now ∷ []) tree.old tree.new (K.taken out.old) (K.taken out.new)) }
+    ensures err { OnErr result (moment ≡ 0 → Tried (cmd.now ∷ []) tree.old (K.taken out.old) (K.taken out.new)) }
     ensures cause { StopsByCause (K.faults out.old) (K.faults out.new) result }
 {
+    let asked = cmd_text(alloc, cmd)?;
+    write_command(out, asked.as_slice())?;
     let reply = tree.apply(alloc, cmd);
-    let text = entry_text(alloc, cmd, &reply)?;
-    push_all(out, text.as_slice())?;
+    let told = reply_text(alloc, &reply)?;
+    write_reply(out, moment, told.as_slice())?;
     Ok(())
 }
 
@@ -77,41 +91,52 @@ fn serve_line<K: Sink>(
     alloc: Global,
     tree: &mut PlainTree,
     out: &mut K,
+    moment: u64,
     line: &[u8],
 ) -> Result<(), Stop>
-    ensures ok { OnOk result (Served (commands_of_line longest line.now) tree.old tree.new (K.taken out.old) (K.taken out.new)) }
-    ensures err { OnErr result (Tried (commands_of_line longest line.now) tree.old (K.taken out.old) (K.taken out.new)) }
+    ensures ok { OnOk result (moment ≡ 0 → Served (commands_of_line longest line.now) tree.old tree.new (K.taken out.old) (K.taken out.new)) }
+    ensures err { OnErr result (moment ≡ 0 → Tried (commands_of_line longest line.now) tree.old (K.taken out.old) (K.taken out.new)) }
     ensures cause { StopsByCause (K.faults out.old) (K.faults out.new) result }
 {
     match command_of_line(alloc, line)? {
         None => Ok(()),
         Some(cmd) => {
-            serve(alloc, tree, out, &cmd)?;
+            serve(alloc, tree, out, moment, &cmd)?;
             Ok(())
         }
     }
 }
 
-/// A tree, and the line whose line feed hasn't come yet.
+/// A tree, the line whose line feed hasn't come yet, and the disk.
 #[derive(Drop)]
 pub struct Recording {
     tree: PlainTree,
     line: Vec<u8>,
+    disk: MemDisk,
 }
 
 impl Recording {
-    /// A new tree and no line.
+    /// A new tree of so many node numbers, no line, and this disk.
     ///
     /// # Errors
     /// Want of memory.
-    pub fn new(alloc: Global) -> Result<Recording, NoMemory>
-        ensures { IfOk result (λ r. (r.tree ≡ start 16) × (r.line.items ≡ [])) }
+    pub fn new(alloc: Global, nodes: u32, disk: MemDisk) -> Result<Recording, NoMemory>
+        requires { 1 ≤ nodes }
+        ensures { IfOk result (λ r. (r.tree ≡ start nodes) × (r.line.items ≡ []) × (r.disk ≡ disk)) }
     {
-        let tree = PlainTree::new(alloc, NODES)?;
+        let tree = PlainTree::new(alloc, nodes)?;
         Ok(Recording {
             tree,
             line: Vec::new(alloc),
+            disk,
         })
+    }
+
+    /// The number of events of the disk so far.
+    fn moment(&self) -> u64
+        ensures { result ≡ length self.now.disk.log }
+    {
+        self.disk.moment()
     }
 
     /// Takes one byte of the input.
@@ -119,16 +144,17 @@ impl Recording {
     /// # Errors
     /// Want of memory, or a fault of the sink, which then has a front of an output.
     pub fn take_byte<K: Sink>(&mut self, alloc: Global, out: &mut K, byte: u8) -> Result<(), Stop>
-        ensures ok { OnOk result ((seen : List ℕ) (before : Option (List ℕ))
-            → Follows seen before (K.taken out.old) self.old.tree self.old.line.items
-            → Follows (seen ++ byte ∷ []) before (K.taken out.new) self.new.tree self.new.line.items) }
-        ensures err { OnErr result ((seen more : List ℕ) (before : Option (List ℕ))
-            → Follows seen before (K.taken out.old) self.old.tree self.old.line.items
-            → Stopped (seen ++ byte ∷ more) before (K.taken out.new)) }
+        ensures ok { OnOk result ((geom : Geometry) (seen : List ℕ) (before : Option (List ℕ))
+            → Follows geom seen before (K.taken out.old) self.old.tree self.old.line.items self.old.disk.log
+            → Follows geom (seen ++ byte ∷ []) before (K.taken out.new) self.new.tree self.new.line.items self.new.disk.log) }
+        ensures err { OnErr result ((geom : Geometry) (seen more : List ℕ) (before : Option (List ℕ))
+            → Follows geom seen before (K.taken out.old) self.old.tree self.old.line.items self.old.disk.log
+            → Stopped geom (seen ++ byte ∷ more) before (K.taken out.new)) }
         ensures cause { StopsByCause (K.faults out.old) (K.faults out.new) result }
     {
         if byte == FEED {
-            serve_line(alloc, &mut self.tree, out, self.line.as_slice())?;
+            let moment = self.moment();
+            serve_line(alloc, &mut self.tree, out, moment, self.line.as_slice())?;
             self.line.clear();
             return Ok(());
         }
@@ -148,12 +174,12 @@ impl Recording {
         out: &mut K,
         bytes: &[u8],
     ) -> Result<(), Stop>
-        ensures ok { OnOk result ((seen : List ℕ) (before : Option (List ℕ))
-            → Follows seen before (K.taken out.old) self.old.tree self.old.line.items
-            → Follows (seen ++ bytes.now) before (K.taken out.new) self.new.tree self.new.line.items) }
-        ensures err { OnErr result ((seen : List ℕ) (before : Option (List ℕ))
-            → Follows seen before (K.taken out.old) self.old.tree self.old.line.items
-            → Stopped (seen ++ bytes.now) before (K.taken out.new)) }
+        ensures ok { OnOk result ((geom : Geometry) (seen : List ℕ) (before : Option (List ℕ))
+            → Follows geom seen before (K.taken out.old) self.old.tree self.old.line.items self.old.disk.log
+            → Follows geom (seen ++ bytes.now) before (K.taken out.new) self.new.tree self.new.line.items self.new.disk.log) }
+        ensures err { OnErr result ((geom : Geometry) (seen : List ℕ) (before : Option (List ℕ))
+            → Follows geom seen before (K.taken out.old) self.old.tree self.old.line.items self.old.disk.log
+            → Stopped geom (seen ++ bytes.now) before (K.taken out.new)) }
         ensures cause { StopsByCause (K.faults out.old) (K.faults out.new) result }
     {
         for byte in bytes {
@@ -167,22 +193,20 @@ impl Recording {
     /// # Errors
     /// As `take_byte`.
     pub fn take_end<K: Sink>(&mut self, alloc: Global, out: &mut K) -> Result<(), Stop>
-        ensures ok { OnOk result ((seen : List ℕ) (before : Option (List ℕ))
-            → Follows seen before (K.taken out.old) self.old.tree self.old.line.items
-            → ServesTo (commands_of longest seen) before (K.taken out.new)) }
-        ensures err { OnErr result ((seen : List ℕ) (before : Option (List ℕ))
-            → Follows seen before (K.taken out.old) self.old.tree self.old.line.items
-            → Stopped seen before (K.taken out.new)) }
+        ensures ok { OnOk result ((geom : Geometry) (seen : List ℕ) (before : Option (List ℕ))
+            → Follows geom seen before (K.taken out.old) self.old.tree self.old.line.items self.old.disk.log
+            → ServesTo geom (commands_of longest seen) before (K.taken out.new)) }
+        ensures err { OnErr result ((geom : Geometry) (seen : List ℕ) (before : Option (List ℕ))
+            → Follows geom seen before (K.taken out.old) self.old.tree self.old.line.items self.old.disk.log
+            → Stopped geom seen before (K.taken out.new)) }
         ensures cause { StopsByCause (K.faults out.old) (K.faults out.new) result }
     {
-        serve_line(alloc, &mut self.tree, out, self.line.as_slice())?;
+        let moment = self.moment();
+        serve_line(alloc, &mut self.tree, out, moment, self.line.as_slice())?;
         self.line.clear();
         Ok(())
     }
 }
-
-/// The number of node numbers of the tree.
-const NODES: u32 = 16;
 
 /// The line feed.
 const FEED: u8 = b'\n';

@@ -17,6 +17,8 @@ pub enum Status {
     SourceFault,
     /// 8: the sink of the output failed.
     SinkFault,
+    /// 11: the numbers of the geometry, each in its range, don't fit together.
+    BadShape,
     /// 12: more than 2^30 bytes came.
     LongInput,
 }
@@ -32,6 +34,7 @@ impl Status {
             Status::NoMemory => 4,
             Status::SourceFault => 7,
             Status::SinkFault => 8,
+            Status::BadShape => 11,
             Status::LongInput => 12,
         }
     }

@@ -1,8 +1,9 @@
-//! Scripts through the public call, over a source and a sink in memory, which fail where they are told
-//! to. What is expected was worked out by hand from docs/TRACE.md.
+//! Scripts through the public call, over a source, a sink and a bay in memory; source and sink fail
+//! where they are told to. What is expected was worked out by hand from docs/TRACE.md.
 
 use crate::{Status, optfs};
 use opt_io::{MemSink, MemSource};
+use opt_memdisk::MemBay;
 use std::alloc::Global;
 use std::test::Fail;
 
@@ -30,15 +31,20 @@ fn run_over(
     mut out: MemSink,
 ) -> Result<Outcome, Fail> {
     let words = words_of(alloc, words)?;
-    let status = optfs(alloc, words.as_slice(), &mut input, &mut out);
+    let mut bay = MemBay::new(alloc, 16);
+    let status = optfs(alloc, words.as_slice(), &mut input, &mut out, &mut bay);
     let text = Vec::from_slice(alloc, out.bytes())?;
     Ok(Outcome { status, text })
 }
 
-fn run(alloc: Global, script: &[u8]) -> Result<Outcome, Fail> {
+fn run_words(alloc: Global, words: &[&str], script: &[u8]) -> Result<Outcome, Fail> {
     let input = MemSource::new(alloc, script, &[])?;
     let out = MemSink::new(alloc, 1_000_000, &[])?;
-    run_over(alloc, &WORDS, input, out)
+    run_over(alloc, words, input, out)
+}
+
+fn run(alloc: Global, script: &[u8]) -> Result<Outcome, Fail> {
+    run_words(alloc, &WORDS, script)
 }
 
 const FIRST: &[u8] = b"create /a\nwrite /a 0 6869\nread /a 0 9\nosync\n";
@@ -82,19 +88,63 @@ fn scripts_give_their_traces(rt: HostRuntime) -> Result<(), Fail> {
 
 #[test]
 fn other_words_are_usage(rt: HostRuntime) -> Result<(), Fail> {
-    let cases: [&[&str]; 5] = [
+    let cases: [&[&str]; 16] = [
         &["fly"],
         &[],
         &["record", "64", "16"],
-        &["record", "64", "16", "17"],
         &["record", "64", "16", "16", "16"],
+        &["64", "record", "16", "16"],
+        &["record", "63", "16", "16"],
+        &["record", "1048577", "16", "16"],
+        &["record", "64", "15", "16"],
+        &["record", "64", "65537", "16"],
+        &["record", "64", "16", "15"],
+        &["record", "64", "16", "65537"],
+        &["record", "64", "16", "-16"],
+        &["record", "--notices=fifo", "64", "16", "16"],
+        &["record", "64", "16", "16", "--room=5"],
+        &["--help"],
+        &["help", "record"],
     ];
     for words in cases {
-        let input = MemSource::new(rt.alloc(), FIRST, &[])?;
-        let out = MemSink::new(rt.alloc(), 1000, &[])?;
-        let outcome = run_over(rt.alloc(), words, input, out)?;
+        let outcome = run_words(rt.alloc(), words, FIRST)?;
         assert_eq!(rt; outcome.status, Status::Usage);
         assert_eq!(rt; outcome.text.as_slice(), b"error 2 usage\n".as_slice());
+    }
+    Ok(())
+}
+
+#[test]
+fn numbers_that_do_not_fit_together_are_a_bad_shape(rt: HostRuntime) -> Result<(), Fail> {
+    // Seven data blocks; 18 nodes, which fill no whole blocks; a journal of 16 for 8 blocks of bits.
+    let cases: [&[&str]; 4] = [
+        &["record", "64", "50", "16"],
+        &["record", "64", "16", "18"],
+        &["record", "65536", "16", "16"],
+        &["record", "64", "65536", "65536"],
+    ];
+    for words in cases {
+        let outcome = run_words(rt.alloc(), words, FIRST)?;
+        assert_eq!(rt; outcome.status, Status::BadShape);
+        assert_eq!(rt; outcome.text.as_slice(), b"error 11 shape\n".as_slice());
+    }
+    Ok(())
+}
+
+#[test]
+fn each_geometry_that_fits_is_recorded_on(rt: HostRuntime) -> Result<(), Fail> {
+    let cases: [(&[&str], &[u8]); 4] = [
+        (&["record", "+64", "016", "16"], b"g 64 16 16\n"),
+        (&["record", "64", "49", "16"], b"g 64 49 16\n"),
+        (&["record", "192", "64", "16"], b"g 192 64 16\n"),
+        (&["record", "9000", "256", "1024"], b"g 9000 256 1024\n"),
+    ];
+    for (words, first) in cases {
+        let mut trace = Vec::from_slice(rt.alloc(), first)?;
+        trace.extend_from_slice(&FIRST_TRACE[11..])?;
+        let outcome = run_words(rt.alloc(), words, FIRST)?;
+        assert_eq!(rt; outcome.status, Status::Done);
+        assert_eq!(rt; outcome.text.as_slice(), trace.as_slice());
     }
     Ok(())
 }

@@ -1,16 +1,15 @@
--- The last line of each ending.
-use Rattle.std.proofs.Common.{refl}
-use Rattle.optfs.proofs.ProgramLemmas.{closes_end, closes_source, closes_long}
+-- Each request is done, or refused by its line.
+use Rattle.std.proofs.Common.{refl, sym, ◌∙◌}
+use Rattle.optfs.proofs.Requests.{does_memory, does_usage, does_shape, not_fitting}
 use Rattle.optfs.proofs.program.optfs.Goals as goal
 
-pub returns-in-Ok-End-clause-recorded : goal.returns-in-Ok-End-clause-recorded
-returns-in-Ok-End-clause-recorded g c =
-    λ _. closes_end _ _ _ _ _ _ _ _ _ _ _ _ c.in-Ok-End.field-0-is refl c.in-Ok-End.ensures.ok c.tell-in-Ok-End.ensures.told
+pub returns-in-Err-clause-does : goal.returns-in-Err-clause-does
+returns-in-Err-clause-does g c = does_memory _ _ _ _ _ (λ geom fits img. c.the_formatted_disk_stands_for_the_root.ensures.alike geom img fits)
 
-pub returns-in-Ok-SourceFault-clause-recorded : goal.returns-in-Ok-SourceFault-clause-recorded
-returns-in-Ok-SourceFault-clause-recorded g c =
-    λ _. closes_source _ _ _ _ _ _ _ _ _ _ _ _ c.in-Ok-SourceFault.field-0-is refl c.in-Ok-SourceFault.ensures.ok c.tell-in-Ok-SourceFault.ensures.told
+pub returns-in-Ok-None-clause-does : goal.returns-in-Ok-None-clause-does
+returns-in-Ok-None-clause-does g c =
+    does_usage _ _ _ _ _ _ _ _ _ _ _ (sym c.in-Ok-None.ensures.exact ∙ c.in-Ok-None.field-0-is) refl c.tell.ensures.told
 
-pub returns-in-Ok-LongInput-clause-recorded : goal.returns-in-Ok-LongInput-clause-recorded
-returns-in-Ok-LongInput-clause-recorded g c =
-    λ _. closes_long _ _ _ _ _ _ _ _ _ _ _ _ c.in-Ok-LongInput.field-0-is refl c.in-Ok-LongInput.ensures.ok c.tell-in-Ok-LongInput.ensures.told
+pub returns-in-Err-geometry-clause-does : goal.returns-in-Err-geometry-clause-does
+returns-in-Err-geometry-clause-does g c =
+    does_shape _ _ _ _ _ _ _ _ _ _ _ _ (sym c.in-Ok-Some.ensures.exact ∙ c.in-Ok-Some.field-0-is) (not_fitting _ _ _ c.in-Err-geometry.is c.geometry.ensures.exact) refl c.tell-in-Err-geometry.ensures.told

@@ -1,23 +1,22 @@
--- Before the first byte is read, the sink has a front of the first line.
+-- The last line of each ending.
 use Rattle.std.proofs.Common.{refl}
-use Rattle.optfs.proofs.ReadingLemmas.{head_halts, start_halts, begins, ending_halts}
+use Rattle.optfs.proofs.ProgramLemmas.{closes_end, closes_source, closes_long, halts_memory, halts_sink}
 use Rattle.optfs.proofs.program.record.Goals as goal
 
-pub returns-in_err-recording-clause-err : goal.returns-in_err-recording-clause-err
-returns-in_err-recording-clause-err g c = start_halts _ _ _
+pub returns-in-Err-NoMemory-clause-records : goal.returns-in-Err-NoMemory-clause-records
+returns-in-Err-NoMemory-clause-records g c = halts_memory c.args.geom.now (λ img. c.the_formatted_disk_stands_for_the_root.ensures.alike _ img c.lawful.ensures.fits) _ _ _ _ _ _ c.in-Err-NoMemory.ensures.err
 
-pub returns-in_err-chunk-clause-err : goal.returns-in_err-chunk-clause-err
-returns-in_err-chunk-clause-err g c = start_halts _ _ _
+pub returns-in-Err-SinkFault-clause-records : goal.returns-in-Err-SinkFault-clause-records
+returns-in-Err-SinkFault-clause-records g c = halts_sink c.args.geom.now (λ img. c.the_formatted_disk_stands_for_the_root.ensures.alike _ img c.lawful.ensures.fits) _ _ _ _ _ _ c.in-Err-SinkFault.ensures.err
 
-pub returns-in_err-push_all-clause-err : goal.returns-in_err-push_all-clause-err
-returns-in_err-push_all-clause-err g c =
-    let front = c.in_err-push_all.ensures.front in
-    head_halts _ _ _ _ front.0 _ refl front.1
+pub returns-in-Ok-End-clause-records : goal.returns-in-Ok-End-clause-records
+returns-in-Ok-End-clause-records g c =
+    closes_end c.args.geom.now (λ img. c.the_formatted_disk_stands_for_the_root.ensures.alike _ img c.lawful.ensures.fits) _ _ _ _ _ _ _ _ _ _ _ _ c.in-Ok-End.field-0-is refl c.in-Ok-End.ensures.ok c.tell.ensures.told
 
-pub returns-in_err-ending-clause-err : goal.returns-in_err-ending-clause-err
-returns-in_err-ending-clause-err g c =
-    ending_halts _ _ _ _ _ _ _ _ _ c.in_ok-recording.ensures.0 c.in_ok-recording.ensures.1 refl c.in_ok-push_all.ensures.all c.in_err-ending.ensures.err
+pub returns-in-Ok-SourceFault-clause-records : goal.returns-in-Ok-SourceFault-clause-records
+returns-in-Ok-SourceFault-clause-records g c =
+    closes_source c.args.geom.now (λ img. c.the_formatted_disk_stands_for_the_root.ensures.alike _ img c.lawful.ensures.fits) _ _ _ _ _ _ _ _ _ _ _ _ c.in-Ok-SourceFault.field-0-is refl c.in-Ok-SourceFault.ensures.ok c.tell-in-Ok-SourceFault.ensures.told
 
-pub returns-clause-ok : goal.returns-clause-ok
-returns-clause-ok g c =
-    c.in_ok-ending.ensures.ok _ _ (begins _ _ _ _ _ _ c.in_ok-recording.ensures.0 c.in_ok-recording.ensures.1 refl c.in_ok-push_all.ensures.all)
+pub returns-in-Ok-LongInput-clause-records : goal.returns-in-Ok-LongInput-clause-records
+returns-in-Ok-LongInput-clause-records g c =
+    closes_long c.args.geom.now (λ img. c.the_formatted_disk_stands_for_the_root.ensures.alike _ img c.lawful.ensures.fits) _ _ _ _ _ _ _ _ _ _ _ _ c.in-Ok-LongInput.field-0-is refl c.in-Ok-LongInput.ensures.ok c.tell-in-Ok-LongInput.ensures.told

@@ -7,26 +7,26 @@ use Rattle.optfs.proofs.reading.read_all.Goals as goal
 pub returns-in_err-pull_once-clause-err : goal.returns-in_err-pull_once-clause-err
 returns-in_err-pull_once-clause-err g c =
     let room = length-take-le c.min-room.result c.loop-count.chunk (omega (arith, c.min-room.ensures)) in
-    halted_turn _ c.loop-count.count _ _ _ _ _ _ _ _ _ _ _ (omega (arith, room, c.min-room.ensures, c.loop-count.invariant.within)) c.loop-count.invariant.so_far c.in_err-pull_once.ensures.err
+    halted_turn _ c.loop-count.count _ _ _ _ _ _ _ _ _ _ _ _ _ (omega (arith, room, c.min-room.ensures, c.loop-count.invariant.within)) c.loop-count.invariant.so_far c.in_err-pull_once.ensures.err
 
 pub returns-in-Failed-clause-ok : goal.returns-in-Failed-clause-ok
 returns-in-Failed-clause-ok g c =
-    failed_turn _ c.loop-count.count _ _ _ _ _ _ _ _ _ _ _ _ _ _ _ c.in-Failed.is c.loop-count.invariant.within c.loop-count.invariant.source_rises c.loop-count.invariant.so_far c.in_ok-pull_once.ensures.ok
+    failed_turn _ c.loop-count.count _ _ _ _ _ _ _ _ _ _ _ _ _ _ _ _ _ _ c.in-Failed.is c.loop-count.invariant.within c.loop-count.invariant.source_rises c.loop-count.invariant.so_far c.in_ok-pull_once.ensures.ok
 
 pub returns-in_err-take_end-in-Ended-clause-err : goal.returns-in_err-take_end-in-Ended-clause-err
 returns-in_err-take_end-in-Ended-clause-err g c =
-    let now = ended_turn _ c.loop-count.count _ _ _ _ _ _ _ _ _ _ _ _ _ _ c.in-Ended.is c.loop-count.invariant.so_far c.in_ok-pull_once.ensures.ok in
-    halted_end _ c.loop-count.count _ _ _ _ _ _ _ _ _ c.loop-count.invariant.within (λ left told f. (now left told f).1) c.in_err-take_end-in-Ended.ensures.err
+    let now = ended_turn _ c.loop-count.count _ _ _ _ _ _ _ _ _ _ _ _ _ _ _ _ _ c.in-Ended.is c.loop-count.invariant.so_far c.in_ok-pull_once.ensures.ok in
+    halted_end _ c.loop-count.count _ _ _ _ _ _ _ _ _ _ _ c.loop-count.invariant.within (λ geom left told f. (now geom left told f).1) c.in_err-take_end-in-Ended.ensures.err
 
 pub returns-in-Ended-clause-ok : goal.returns-in-Ended-clause-ok
 returns-in-Ended-clause-ok g c =
-    let now = ended_turn _ c.loop-count.count _ _ _ _ _ _ _ _ _ _ _ _ _ _ c.in-Ended.is c.loop-count.invariant.so_far c.in_ok-pull_once.ensures.ok in
-    all_turn c.loop-count.count _ _ _ _ _ _ _ _ _ c.loop-count.invariant.within now c.in_ok-take_end-in-Ended.ensures.ok
+    let now = ended_turn _ c.loop-count.count _ _ _ _ _ _ _ _ _ _ _ _ _ _ _ _ _ c.in-Ended.is c.loop-count.invariant.so_far c.in_ok-pull_once.ensures.ok in
+    all_turn c.loop-count.count _ _ _ _ _ _ _ _ _ _ _ c.loop-count.invariant.within now c.in_ok-take_end-in-Ended.ensures.ok
 
 pub returns-clause-ok : goal.returns-clause-ok
 returns-clause-ok g c =
-    after_loop _ c.loop-count.count _ _ _ _ _ _ _ _ _ _ _ _ _ (omega (arith, c.loop-count.invariant.within)) c.loop-count.invariant.source_rises c.loop-count.invariant.so_far c.read_past.ensures.ok
+    after_loop _ c.loop-count.count _ _ _ _ _ _ _ _ _ _ _ _ _ _ _ (omega (arith, c.loop-count.invariant.within)) c.loop-count.invariant.source_rises c.loop-count.invariant.so_far c.read_past.ensures.ok
 
 pub returns-clause-err : goal.returns-clause-err
 returns-clause-err g c =
-    halted_loop _ c.loop-count.count _ _ _ _ _ _ _ _ _ _ (omega (arith, c.loop-count.invariant.within)) c.loop-count.invariant.so_far c.read_past.ensures.err
+    halted_loop _ c.loop-count.count _ _ _ _ _ _ _ _ _ _ _ _ (omega (arith, c.loop-count.invariant.within)) c.loop-count.invariant.so_far c.read_past.ensures.err

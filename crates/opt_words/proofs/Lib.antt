@@ -1,0 +1,4 @@
+pub mod Numbers
+pub mod Walk
+pub mod Line
+pub mod Program

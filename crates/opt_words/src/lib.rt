@@ -1,0 +1,10 @@
+//! What the words of the command line ask for. The words are read by `clap`; what they may be is the
+//! definition `request_of`. Nothing here prints, and nothing here does what was asked for.
+#![tactic(auto)]
+
+mod command;
+mod request;
+#[cfg(test)]
+mod tests;
+
+pub use request::{Request, read_words};
