@@ -20,8 +20,12 @@ abbrev pub table_start : Geometry → ℕ
 table_start g = bitmap_start g + bitmap_blocks g
 
 -- the data begin behind the node table, which has four nodes in a block
+-- how many nodes stand in a block of the node table
+abbrev pub nodes_in_block : ℕ
+nodes_in_block = 4
+
 abbrev pub data_start : Geometry → ℕ
-data_start g = table_start g + g.i / 4
+data_start g = table_start g + g.i / nodes_in_block
 
 -- the block of a ring place
 abbrev pub ring_block : Geometry → ℕ → ℕ
@@ -31,7 +35,7 @@ ring_block g place = 2 + place % g.j
 unfoldable pub geometry_fits : Geometry → Bool
 geometry_fits g =
     nat_le 64 g.n && (nat_le g.n 1048576 && (nat_le 16 g.j && (nat_le g.j 65536 && (nat_le 16 g.i && (nat_le g.i 65536
-    && ((g.i % 4 == 0) && (nat_le (data_start g + 8) g.n && nat_le (25 * (7 + bitmap_blocks g)) (24 * (g.j - 2)))))))))
+    && ((g.i % nodes_in_block == 0) && (nat_le (data_start g + 8) g.n && nat_le (25 * (7 + bitmap_blocks g)) (24 * (g.j - 2)))))))))
 
 -- the same as facts: its numbers in their ranges, whole blocks of nodes, 8 blocks of data, and room in the journal
 pub record IsGeometry (g : Geometry) : Type 0 where
@@ -41,7 +45,7 @@ pub record IsGeometry (g : Geometry) : Type 0 where
   pub most_journal : g.j ≤ 65536
   pub least_nodes : 16 ≤ g.i
   pub most_nodes : g.i ≤ 65536
-  pub whole_blocks : g.i % 4 ≡ 0
+  pub whole_blocks : g.i % nodes_in_block ≡ 0
   pub data_room : data_start g + 8 ≤ g.n
   pub journal_room : 25 * (7 + bitmap_blocks g) ≤ 24 * (g.j - 2)
 

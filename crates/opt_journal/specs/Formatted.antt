@@ -4,7 +4,7 @@ use Rattle.opt_base.specs.Seal.{Blocks}
 use Rattle.opt_geom.specs.Geometry.{Geometry, bitmap_start, table_start, data_start}
 use Rattle.opt_layout.specs.declared.node.Node.{Node}
 use Rattle.opt_layout.specs.declared.node.NodeKind.TheVariants.{Dir}
-use Rattle.opt_layout.specs.Node.{node_spelling}
+use Rattle.opt_layout.specs.Node.{node_size, node_spelling}
 use Rattle.opt_layout.specs.Bitmap.{first_bits_block}
 use Rattle.opt_journal.specs.declared.header.Header.{Header}
 use Rattle.opt_journal.specs.Spelling.{header_block}
@@ -22,5 +22,5 @@ abbrev pub formatted : Geometry → Blocks
 formatted g b =
     if b == 0 then header_block (empty_header g 1 1)
     else if nat_le (bitmap_start g) b && nat_lt b (table_start g) then first_bits_block (data_start g) (b - bitmap_start g)
-    else if b == table_start g then node_spelling empty_root ++ replicate 768 0
+    else if b == table_start g then node_spelling empty_root ++ replicate (1024 - node_size) 0
     else replicate 1024 0

@@ -10,6 +10,17 @@ use Rattle.opt_journal.specs.declared.entry.Entry.{Entry}
 use Rattle.opt_journal.specs.declared.entry.EntryKind.{EntryKind}
 use Rattle.opt_journal.specs.declared.entry.EntryKind.TheVariants.{Payload, Fresh, Escaped}
 
+-- The tags of headers, commit blocks and descriptors, each in this one place.
+
+abbrev pub header_tag : List ℕ
+header_tag = codes "OPTH0001"
+
+abbrev pub commit_tag : List ℕ
+commit_tag = codes "OPTC0001"
+
+abbrev pub descriptor_tag : List ℕ
+descriptor_tag = codes "OPTD0001"
+
 -- the first eight bytes tell what a block is
 abbrev pub has_tag : List ℕ → List ℕ → Bool
 has_tag tag block = bytes_eq (take 8 block) tag
@@ -29,7 +40,7 @@ header_fields b = record {
 
 abbrev pub header_fits : ℕ → List ℕ → Header → Bool
 header_fits n b h =
-    has_tag (codes "OPTH0001") b && (nat_lt 0 h.epoch && (nat_lt 0 h.turn && (nat_lt 0 h.start && (nat_le h.start (h.sure + 1)
+    has_tag header_tag b && (nat_lt 0 h.epoch && (nat_lt 0 h.turn && (nat_lt 0 h.start && (nat_le h.start (h.sure + 1)
     && (nat_lt h.at h.geom.j && (nat_le (field b 44 4) 1 && (geometry_fits h.geom && ((h.geom.n == n) && has_zeros b 60 992))))))))
 
 -- the header in a block of a disk of n blocks, if it is sealed and fits
@@ -47,7 +58,7 @@ commit_fields b = record { epoch = field b 8 8; number = field b 16 8; descripto
 
 abbrev pub commit_fits : Geometry → List ℕ → Commit → Bool
 commit_fits g b c =
-    has_tag (codes "OPTC0001") b && (nat_lt 0 c.payloads && ((c.descriptors == descriptor_count (c.payloads + c.fresh))
+    has_tag commit_tag b && (nat_lt 0 c.payloads && ((c.descriptors == descriptor_count (c.payloads + c.fresh))
     && (nat_le (1 + c.descriptors + c.payloads) g.j && has_zeros b 36 992)))
 
 -- the commit block in a block, if it is sealed and fits
@@ -93,7 +104,7 @@ descriptor_with b (Some es) = Some (record { epoch = field b 8 8; number = field
 
 -- a descriptor has 1 to 24 entries, and zeros behind them
 abbrev pub descriptor_fits : List ℕ → Bool
-descriptor_fits b = has_tag (codes "OPTD0001") b && (nat_le (field b 28 4) 24 && (nat_lt 0 (field b 28 4) && has_zeros b (32 + 40 * field b 28 4) 992))
+descriptor_fits b = has_tag descriptor_tag b && (nat_le (field b 28 4) 24 && (nat_lt 0 (field b 28 4) && has_zeros b (32 + 40 * field b 28 4) 992))
 
 -- the descriptor in a block, if it is sealed and fits
 unfoldable pub descriptor_of : Geometry → List ℕ → Option Descriptor

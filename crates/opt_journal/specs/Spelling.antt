@@ -9,7 +9,7 @@ use Rattle.opt_journal.specs.declared.record.Descriptor.{Descriptor}
 use Rattle.opt_journal.specs.declared.entry.Entry.{Entry}
 use Rattle.opt_journal.specs.declared.entry.EntryKind.{EntryKind}
 use Rattle.opt_journal.specs.declared.entry.EntryKind.TheVariants.{Payload, Fresh, Escaped}
-use Rattle.opt_journal.specs.Layout.{first_named}
+use Rattle.opt_journal.specs.Layout.{header_tag, commit_tag, descriptor_tag, first_named}
 
 -- n bytes are enough for the number
 abbrev pub fits_in : ℕ → ℕ → Type 0
@@ -21,7 +21,7 @@ closed_number c = if c then 1 else 0
 -- the bytes of a header before its seal
 abbrev pub header_body : Header → List ℕ
 header_body h =
-    codes "OPTH0001" ++ (little_bytes 8 h.epoch ++ (little_bytes 8 h.turn ++ (little_bytes 8 h.start ++ (little_bytes 8 h.sure ++ (little_bytes 4 h.at
+    header_tag ++ (little_bytes 8 h.epoch ++ (little_bytes 8 h.turn ++ (little_bytes 8 h.start ++ (little_bytes 8 h.sure ++ (little_bytes 4 h.at
     ++ (little_bytes 4 (closed_number h.closed) ++ (little_bytes 4 h.geom.n ++ (little_bytes 4 h.geom.j ++ (little_bytes 4 h.geom.i ++ replicate 932 0)))))))))
 
 -- the block of a header
@@ -44,7 +44,7 @@ pub record IsHeader (h : Header) : Type 0 where
 -- the bytes of a commit block before its seal
 abbrev pub commit_body : Commit → List ℕ
 commit_body c =
-    codes "OPTC0001" ++ (little_bytes 8 c.epoch ++ (little_bytes 8 c.number ++ (little_bytes 4 c.descriptors ++ (little_bytes 4 c.payloads
+    commit_tag ++ (little_bytes 8 c.epoch ++ (little_bytes 8 c.number ++ (little_bytes 4 c.descriptors ++ (little_bytes 4 c.payloads
     ++ (little_bytes 4 c.fresh ++ replicate 956 0)))))
 
 abbrev pub commit_block : Commit → List ℕ
@@ -66,7 +66,7 @@ all_entry_bytes (e ∷ es) = entry_bytes e ++ all_entry_bytes es
 -- the bytes of a descriptor before its seal
 abbrev pub descriptor_body : Descriptor → List ℕ
 descriptor_body d =
-    codes "OPTD0001" ++ (little_bytes 8 d.epoch ++ (little_bytes 8 d.number ++ (little_bytes 4 d.index ++ (little_bytes 4 (length d.entries)
+    descriptor_tag ++ (little_bytes 8 d.epoch ++ (little_bytes 8 d.number ++ (little_bytes 4 d.index ++ (little_bytes 4 (length d.entries)
     ++ (all_entry_bytes d.entries ++ replicate (960 - 40 * length d.entries) 0)))))
 
 abbrev pub descriptor_block : Descriptor → List ℕ

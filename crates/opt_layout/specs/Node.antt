@@ -3,11 +3,24 @@ use Rattle.std.specs.Prelude.{ℕ, zero, suc, ◌+◌, ◌-◌, ◌*◌, ◌/◌
 use Rattle.byteorder.specs.Endian.{little_bytes}
 use Rattle.opt_base.specs.Seal.{Blocks}
 use Rattle.opt_base.specs.declared.places.Run.{Run}
-use Rattle.opt_geom.specs.Geometry.{Geometry, table_start, data_start}
+use Rattle.opt_geom.specs.Geometry.{Geometry, table_start, data_start, nodes_in_block}
 use Rattle.opt_layout.specs.declared.node.Node.{Node}
 use Rattle.opt_layout.specs.declared.node.NodeKind.{NodeKind}
 use Rattle.opt_layout.specs.declared.node.NodeKind.TheVariants.{Free, Dir, File}
+use Rattle.opt_layout.specs.Slot.{slot_size}
 use Rattle.opt_layout.specs.Bytes.{field, are_zeros, has_zeros, when}
+
+-- The sizes of nodes, each in this one place.
+
+-- the bytes of a node
+abbrev pub node_size : ℕ
+node_size = 256
+
+-- the most runs of a node
+abbrev pub most_runs : ℕ
+most_runs = 28
+
+-- The fields.
 
 -- the kind that a node's first byte tells, for a node in use
 abbrev pub used_kind : ℕ → Option NodeKind
@@ -29,20 +42,20 @@ runs_fit g end [] = true
 runs_fit g end (r ∷ rs) =
     nat_lt 0 r.count && (nat_le (data_start g) r.first && (nat_le (r.first + r.count) g.n && (not (r.first == end) && runs_fit g (r.first + r.count) rs)))
 
--- a directory's entries have 64 bytes each; a file is bounded in links and bytes
+-- a directory's bytes are whole slots; a file is bounded in links and bytes
 abbrev pub kind_fits : Node → NodeKind → Bool
 kind_fits node Free = true
-kind_fits node Dir = node.size % 64 == 0
+kind_fits node Dir = node.size % slot_size == 0
 kind_fits node File = nat_le node.links 65535 && nat_le node.size 1073741824
 
 -- a node in use: it has a link, and its runs have as many blocks as its bytes need
 abbrev pub node_fits : Geometry → Node → Bool
 node_fits g node =
-    nat_lt 0 node.links && (nat_le (length node.runs) 28 && (runs_fit g 0 node.runs && ((run_blocks node.runs == (node.size + 1023) / 1024) && kind_fits node node.kind)))
+    nat_lt 0 node.links && (nat_le (length node.runs) most_runs && (runs_fit g 0 node.runs && ((run_blocks node.runs == (node.size + 1023) / 1024) && kind_fits node node.kind)))
 
 -- the bytes of a node that carry nothing are zeros
 abbrev pub spare_zeros : List ℕ → Bool
-spare_zeros b = (slice_index b 1 == 0) && (has_zeros b 16 32 && has_zeros b (32 + 8 * field b 2 2) 256)
+spare_zeros b = (slice_index b 1 == 0) && (has_zeros b 16 32 && has_zeros b (32 + 8 * field b 2 2) node_size)
 
 abbrev pub node_fields : NodeKind → List ℕ → Node
 node_fields kind b = record { kind = kind; links = field b 4 4; size = field b 8 8; runs = runs_in (field b 2 2) (drop 32 b) }
@@ -51,19 +64,19 @@ abbrev pub node_with : Geometry → List ℕ → Option NodeKind → Option Node
 node_with g b None = None
 node_with g b (Some kind) = when (spare_zeros b) (when (node_fits g (node_fields kind b)) (Some (node_fields kind b)))
 
--- the node in use in 256 bytes, if they are one's
+-- the node in use in these bytes, if they are one's
 unfoldable pub node_of : Geometry → List ℕ → Option Node
 node_of g b = node_with g b (used_kind (slice_index b 0))
 
--- the 256 bytes of node k among these blocks
+-- the bytes of node k among these blocks
 abbrev pub node_bytes : Geometry → Blocks → ℕ → List ℕ
-node_bytes g m k = take 256 (drop (256 * ((k - 1) % 4)) (m (table_start g + (k - 1) / 4)))
+node_bytes g m k = take node_size (drop (node_size * ((k - 1) % nodes_in_block)) (m (table_start g + (k - 1) / nodes_in_block)))
 
 -- node k, where it is in use
 abbrev pub node_at : Geometry → Blocks → ℕ → Option Node
 node_at g m k = node_of g (node_bytes g m k)
 
--- how a node stands in 256 bytes
+-- how a node stands in its bytes
 
 abbrev pub kind_byte : NodeKind → ℕ
 kind_byte Free = 0
@@ -77,7 +90,7 @@ run_bytes (r ∷ rs) = little_bytes 4 r.first ++ (little_bytes 4 r.count ++ run_
 abbrev pub node_spelling : Node → List ℕ
 node_spelling node =
     kind_byte node.kind ∷ 0 ∷ (little_bytes 2 (length node.runs) ++ (little_bytes 4 node.links ++ (little_bytes 8 node.size
-    ++ (replicate 16 0 ++ (run_bytes node.runs ++ replicate (224 - 8 * length node.runs) 0)))))
+    ++ (replicate 16 0 ++ (run_bytes node.runs ++ replicate (node_size - 32 - 8 * length node.runs) 0)))))
 
 -- the numbers of a node's blocks, in order
 

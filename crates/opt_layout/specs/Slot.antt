@@ -5,14 +5,18 @@ use Rattle.opt_base.specs.Name.{is_name}
 use Rattle.opt_layout.specs.declared.slot.Slot.{Slot}
 use Rattle.opt_layout.specs.Bytes.{field, has_zeros, when}
 
+-- the bytes of a slot, in this one place
+abbrev pub slot_size : ℕ
+slot_size = 64
+
 -- the bytes of a slot's name: the byte before them says how many
 abbrev pub name_in : List ℕ → List ℕ
 name_in b = take (slice_index b 4) (drop 5 b)
 
--- the slot in 64 bytes, if they are one's
+-- the slot in these bytes, if they are one's
 unfoldable pub slot_of : List ℕ → Option Slot
 slot_of b =
-    when (nat_le (slice_index b 4) 59 && (is_name (name_in b) && has_zeros b (5 + slice_index b 4) 64))
+    when (nat_le (slice_index b 4) (slot_size - 5) && (is_name (name_in b) && has_zeros b (5 + slice_index b 4) slot_size))
     (Some (record { node = field b 0 4; name = name_in b }))
 
 abbrev pub then_slot : Option Slot → Option (List Slot) → Option (List Slot)
@@ -23,11 +27,11 @@ then_slot (Some s) (Some slots) = Some (s ∷ slots)
 -- the first n slots, if each is one
 abbrev pub slots_in : ℕ → List ℕ → Option (List Slot)
 slots_in zero b = Some []
-slots_in (suc n) b = then_slot (slot_of (take 64 b)) (slots_in n (drop 64 b))
+slots_in (suc n) b = then_slot (slot_of (take slot_size b)) (slots_in n (drop slot_size b))
 
--- how a slot stands in 64 bytes
+-- how a slot stands in its bytes
 abbrev pub slot_spelling : Slot → List ℕ
-slot_spelling s = little_bytes 4 s.node ++ (length s.name ∷ (s.name ++ replicate (59 - length s.name) 0))
+slot_spelling s = little_bytes 4 s.node ++ (length s.name ∷ (s.name ++ replicate (slot_size - 5 - length s.name) 0))
 
 -- the slots of a directory's block, and zeros behind them
 abbrev pub slot_bytes : List Slot → List ℕ
@@ -35,4 +39,4 @@ slot_bytes [] = []
 slot_bytes (s ∷ slots) = slot_spelling s ++ slot_bytes slots
 
 abbrev pub directory_block : List Slot → List ℕ
-directory_block slots = slot_bytes slots ++ replicate (1024 - 64 * length slots) 0
+directory_block slots = slot_bytes slots ++ replicate (1024 - slot_size * length slots) 0

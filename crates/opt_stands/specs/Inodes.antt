@@ -4,7 +4,7 @@ use Rattle.opt_layout.specs.declared.node.NodeKind.{NodeKind}
 use Rattle.opt_layout.specs.declared.node.NodeKind.TheVariants.{Free, Dir, File}
 use Rattle.opt_layout.specs.declared.slot.Slot.{Slot}
 use Rattle.opt_layout.specs.Bytes.{when}
-use Rattle.opt_layout.specs.Slot.{slots_in}
+use Rattle.opt_layout.specs.Slot.{slot_size, slots_in}
 use Rattle.opt_tree.specs.Tree.{Thing, Dir as DirThing, File as FileThing}
 use Rattle.opt_stands.specs.Files.{FileNode, Files}
 
@@ -17,10 +17,10 @@ pub data Inode : Type 0 where
 abbrev pub Inodes : Type 0
 Inodes = ℕ → Option Inode
 
--- a directory has one link, and its bytes are slots, 64 bytes each
+-- a directory has one link, and its bytes are slots
 abbrev pub inode_by : NodeKind → ℕ → List ℕ → Option Inode
 inode_by Free links bytes = None
-inode_by Dir links bytes = when (links == 1) (option_map ADir (slots_in (length bytes / 64) bytes))
+inode_by Dir links bytes = when (links == 1) (option_map ADir (slots_in (length bytes / slot_size) bytes))
 inode_by File links bytes = Some (AFile links bytes)
 
 -- the inode that a node in use is, if it reads as one

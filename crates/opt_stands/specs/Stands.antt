@@ -8,7 +8,7 @@ use Rattle.opt_layout.specs.declared.node.NodeKind.TheVariants.{Dir}
 use Rattle.opt_layout.specs.declared.slot.Slot.{Slot}
 use Rattle.opt_layout.specs.Bitmap.{is_set}
 use Rattle.opt_layout.specs.Bytes.{are_zeros}
-use Rattle.opt_layout.specs.Node.{node_at, node_bytes, run_places}
+use Rattle.opt_layout.specs.Node.{node_size, node_at, node_bytes, run_places}
 use Rattle.opt_journal.specs.Run.{HeldIs, is_live}
 use Rattle.opt_tree.specs.Tree.{Tree, Names}
 use Rattle.opt_stands.specs.Files.{files_of, used_node, past_content}
@@ -50,7 +50,7 @@ pub record AreSound (g : Geometry) (m : Blocks) : Type 0 where
   pub marked : (b : ℕ) → data_start g ≤ b → b < g.n → IsTrue (is_set g m b) ↔ ((k : ℕ) × (i : ℕ) × HasBlock g m k i b)
   pub past : (b : ℕ) → g.n ≤ b → b < 8192 * bitmap_blocks g → is_set g m b ≡ false
   -- a node out of use, and a directory's blocks past its last slot
-  pub free : (k : ℕ) → 1 ≤ k → k ≤ g.i → node_at g m k ≡ None → node_bytes g m k ≡ replicate 256 0
+  pub free : (k : ℕ) → 1 ≤ k → k ≤ g.i → node_at g m k ≡ None → node_bytes g m k ≡ replicate node_size 0
   pub tail : (k : ℕ) (node : Node) → used_node g m k ≡ Some node → node.kind ≡ Dir → IsTrue (are_zeros (past_content m node))
 
 -- The map of blocks stands for the tree.

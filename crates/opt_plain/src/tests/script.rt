@@ -3,8 +3,8 @@
 //! are torn or lost.
 
 use super::images::{
-    BITMAP, FILE_BLOCK, FIRST, ROOT_BLOCK, TABLE, formatted, found, fresh, get, header_block,
-    holds, mounted, payload, put, set, set_record, torn, zeros_after,
+    BITMAP, FILE_BLOCK, FIRST, HeaderText, ROOT_BLOCK, TABLE, formatted, found, fresh, get,
+    header_block, holds, mounted, payload, put, set, set_record, torn, zeros_after,
 };
 use crate::{newest_header, recover, recoverable_run};
 use opt_base::{Block, digest};
@@ -179,6 +179,42 @@ fn a_record_without_the_one_before_it_does_not_count(rt: HostRuntime) -> Result<
     assert_eq!(rt; found.run().len(), 0);
     assert!(rt; holds(&found, 19, &zeros_after(&[1, 0, 0, 0, 1])));
     assert!(rt; found.block(24).is_none());
+    Ok(())
+}
+
+// Record 1 has all its blocks but its commit block, which is block 2.
+#[test]
+fn a_record_without_its_commit_block_ends_the_run(rt: HostRuntime) -> Result<(), Fail> {
+    let mut image = after_script(rt.alloc())?;
+    set(&mut image, 2, &[0; 1024]);
+    let found = found(rt.alloc(), &image)?;
+    assert_eq!(rt; found.run().len(), 0);
+    assert!(rt; holds(&found, 19, &zeros_after(&[1, 0, 0, 0, 1])));
+    assert!(rt; found.block(24).is_none());
+    Ok(())
+}
+
+// Once record 1 is known to be durable, a header says so: turn 3, in the other slot. Record 2 may be lost.
+#[test]
+fn a_header_after_a_durable_record_keeps_it(rt: HostRuntime) -> Result<(), Fail> {
+    let third = HeaderText {
+        turn: 3,
+        sure: 1,
+        ..FIRST
+    };
+    let mut image = after_script(rt.alloc())?;
+    set(&mut image, 0, &header_block(third));
+    let both = found(rt.alloc(), &image)?;
+    assert_eq!(rt; both.slot(), 0);
+    assert_eq!(rt; both.run().len(), 2);
+    assert!(rt; holds(&both, 24, &hij()));
+    for number in 7..11 {
+        set(&mut image, number, &[0; 1024]);
+    }
+    let first = found(rt.alloc(), &image)?;
+    assert_eq!(rt; first.run().len(), 1);
+    assert!(rt; holds(&first, 19, &table(2)));
+    assert!(rt; holds(&first, 24, &hi()));
     Ok(())
 }
 
