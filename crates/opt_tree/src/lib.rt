@@ -11,7 +11,7 @@ mod plain;
 mod state;
 
 pub use command::{Cmd, Refusal, Reply};
-pub use laws::a_reply_tells_the_session;
+pub use laws::{a_reply_tells_the_session, two_syncs_make_one_point};
 pub use path::Path;
 pub use plain::PlainTree;
 
