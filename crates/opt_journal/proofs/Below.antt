@@ -8,7 +8,7 @@ use Rattle.opt_journal.specs.declared.header.Header.{Header}
 use Rattle.opt_journal.specs.declared.entry.Entry.{Entry}
 use Rattle.opt_journal.specs.Layout.{header_of, commit_of, descriptor_of, unescaped}
 use Rattle.opt_journal.specs.Run.{Newest, Record, heads, entries_fit, are_ascending, are_fresh, is_fresh, names_block, Fits, IsWhole, AreWhole, IsRun, payload_from, payload_of, or_else, covered_by, otherwise, replayed, live_part, HeldIs}
-use Rattle.opt_journal.proofs.Sealed.{header_geometry}
+use Rattle.opt_journal.proofs.Bounds.{header_bounds}
 use Rattle.opt_journal.proofs.Geometries.{IsSized, sizes, ring_before_bitmap}
 
 -- the same bytes in each of the first n blocks
@@ -124,8 +124,8 @@ live_alike g m k b size alike = by (nat_lt b g.n) refl
 -- images that are alike on the disk hold the same
 pub held_alike : (n : ℕ) (img other m : Blocks) → ((b : ℕ) → b < n → img b ≡ other b) → HeldIs n img m → HeldIs n other m
 held_alike n img other m alike held =
-    let of_disk = header_geometry n (img held.slot) held.header held.newest.stands in
-    let size = sizes held.header.geom of_disk.fits in
+    let of_disk = header_bounds n (img held.slot) held.header held.newest.stands in
+    let size = sizes held.header.geom of_disk.geom in
     let on_disk : AreAlike held.header.geom.n img other = subst (λ (k : ℕ). AreAlike k img other) (sym of_disk.blocks) alike in
     record {
       slot = held.slot;

@@ -9,3 +9,4 @@ pub mod Below
 pub mod ReadFields
 pub mod ReadEntries
 pub mod WriteText
+pub mod Bounds

@@ -1,5 +1,5 @@
 -- What stands in the journal's blocks, read by their fields. It is told in docs/JOURNAL.md.
-use Rattle.std.specs.Prelude.{ℕ, zero, suc, ◌+◌, ◌*◌, ◌/◌, Bool, false, ◌&&◌, not, ◌==◌, nat_lt, nat_le, bytes_eq, if◌then◌else◌, List, [], ◌∷◌, take, drop, Option, Some, None, codes}
+use Rattle.std.specs.Prelude.{◌≡◌, ◌<◌, ◌≤◌, ℕ, zero, suc, ◌+◌, ◌*◌, ◌/◌, Bool, true, false, ◌&&◌, not, ◌==◌, nat_lt, nat_le, bytes_eq, if◌then◌else◌, List, [], ◌∷◌, take, drop, Option, Some, None, codes}
 use Rattle.opt_base.specs.Seal.{is_sealed}
 use Rattle.opt_geom.specs.Geometry.{Geometry, geometry_fits, bitmap_start, data_start}
 use Rattle.opt_layout.specs.Bytes.{field, has_zeros, when}
@@ -47,6 +47,16 @@ header_fits n b h =
 unfoldable pub header_of : ℕ → List ℕ → Option Header
 header_of n b = when (is_sealed b) (when (header_fits n b (header_fields b)) (Some (header_fields b)))
 
+-- what the numbers of a header keep to, on a disk of n blocks
+pub record IsWithinDisk (n : ℕ) (h : Header) : Type 0 where
+  pub epoch : 0 < h.epoch
+  pub turn : 0 < h.turn
+  pub first : 0 < h.start
+  pub sure : h.start ≤ h.sure + 1
+  pub at : h.at < h.geom.j
+  pub geom : geometry_fits h.geom ≡ true
+  pub blocks : h.geom.n ≡ n
+
 -- Commit blocks.
 
 -- a descriptor has at most 24 entries
@@ -64,6 +74,12 @@ commit_fits g b c =
 -- the commit block in a block, if it is sealed and fits
 unfoldable pub commit_of : Geometry → List ℕ → Option Commit
 commit_of g b = when (is_sealed b) (when (commit_fits g b (commit_fields b)) (Some (commit_fields b)))
+
+-- what the numbers of a commit block keep to: it has payloads, as many descriptors as its entries need, and room in the ring
+pub record IsWithinRing (g : Geometry) (c : Commit) : Type 0 where
+  pub some : 0 < c.payloads
+  pub descriptors : c.descriptors ≡ descriptor_count (c.payloads + c.fresh)
+  pub room : 1 + c.descriptors + c.payloads ≤ g.j
 
 -- Entries and descriptors.
 

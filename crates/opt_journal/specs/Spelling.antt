@@ -1,5 +1,5 @@
 -- How the journal's blocks are written: one spelling for each value. It is told in docs/JOURNAL.md.
-use Rattle.std.specs.Prelude.{◌≡◌, ℕ, ◌+◌, ◌-◌, ◌*◌, ◌<◌, ◌≤◌, ◌^◌, Bool, true, if◌then◌else◌, List, [], ◌∷◌, ◌++◌, replicate, codes, length}
+use Rattle.std.specs.Prelude.{◌≡◌, ℕ, ◌+◌, ◌-◌, ◌*◌, ◌<◌, ◌≤◌, ◌^◌, Bool, true, if◌then◌else◌, List, [], ◌∷◌, ◌++◌, replicate, length}
 use Rattle.byteorder.specs.Endian.{little_bytes}
 use Rattle.opt_base.specs.Seal.{sha256}
 use Rattle.opt_geom.specs.Geometry.{Geometry, geometry_fits}

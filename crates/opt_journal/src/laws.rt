@@ -7,7 +7,7 @@ ghost use Rattle.opt_journal.specs.declared.header.Header.{Header};
 ghost use Rattle.opt_journal.specs.declared.record.Commit.{Commit};
 ghost use Rattle.opt_journal.specs.declared.record.Descriptor.{Descriptor};
 ghost use Rattle.opt_journal.specs.declared.entry.EntryKind.{EntryKind};
-ghost use Rattle.opt_journal.specs.Layout.{header_of, commit_of, descriptor_of, descriptor_count, is_stored};
+ghost use Rattle.opt_journal.specs.Layout.{header_of, IsWithinDisk, commit_of, IsWithinRing, descriptor_of, descriptor_count, is_stored};
 ghost use Rattle.opt_journal.specs.Spelling.{IsHeader, AreEntries, fits_in, header_block, commit_block, descriptor_block};
 ghost use Rattle.opt_journal.specs.Run.{Newest, Record, IsWhole, IsRun, live_part, HeldIs};
 ghost use Rattle.opt_journal.specs.Formatted.{formatted};
@@ -30,6 +30,13 @@ pub fn journal_blocks_are_told_apart()
     ensures stored_no_header { (k : EntryKind) (n : ℕ) (b : List ℕ) → is_stored k b ≡ true → header_of n b ≡ None }
     ensures stored_no_commit { (k : EntryKind) (g : Geometry) (b : List ℕ) → is_stored k b ≡ true → commit_of g b ≡ None }
     ensures stored_no_descriptor { (k : EntryKind) (g : Geometry) (b : List ℕ) → is_stored k b ≡ true → descriptor_of g b ≡ None }
+{}
+
+/// The numbers of what reads as a header keep to its disk, and those of what reads as a commit block to
+/// the ring.
+pub fn journal_blocks_keep_to_their_bounds()
+    ensures headers { (n : ℕ) (b : List ℕ) (h : Header) → header_of n b ≡ Some h → IsWithinDisk n h }
+    ensures commits { (g : Geometry) (b : List ℕ) (c : Commit) → commit_of g b ≡ Some c → IsWithinRing g c }
 {}
 
 /// An image has one newest header, in one slot; under a header, one whole record of a number and a

@@ -2,15 +2,14 @@
 use Rattle.std.proofs.Common.{◌≡◌, ◌⊎◌, ⊎_elim, ℕ, ◌+◌, ◌-◌, ◌*◌, ◌/◌, ◌<◌, ◌≤◌, min, List, ◌++◌, length, take, drop, Some, refl, sym, ◌∙◌, ap, ap₂, subst, arith, length-append, length-take, length-drop, take_all, take-append-drop}
 use Rattle.std.proofs.Math.Seq.{take-add, take-append_seam, drop-append_seam, take-append-le, drop-append-le}
 use Rattle.opt_base.specs.Seal.{Blocks}
-use Rattle.opt_geom.specs.Geometry.{ring_block}
+use Rattle.opt_geom.specs.Geometry.{Geometry, ring_block}
 use Rattle.opt_journal.specs.declared.header.Header.{Header}
 use Rattle.opt_journal.specs.declared.record.Commit.{Commit}
 use Rattle.opt_journal.specs.declared.record.Descriptor.{Descriptor}
 use Rattle.opt_journal.specs.declared.entry.Entry.{Entry}
-use Rattle.opt_journal.specs.Layout.{commit_of, descriptor_of, descriptor_count}
+use Rattle.opt_journal.specs.Layout.{commit_of, IsWithinRing, descriptor_of, descriptor_count}
 use Rattle.opt_journal.specs.Run.{Record, entries, commit_says}
 use Rattle.opt_plain.specs.Found.{IsOnly, IsTold, HasCommit, HasPart, HasParts}
-use Rattle.opt_plain.proofs.Headers.{commit_count}
 
 -- what is there twice is the same
 some_same : {A : Type 0} {x y : A} → Some x ≡ Some y → x ≡ y
@@ -32,6 +31,10 @@ record_same r q number place payloads fresh =
     ∙ ap {B = Record} (λ x. record { number = q.number; place = x; payloads = r.payloads; fresh = r.fresh }) place
     ∙ ap {B = Record} (λ (x : List Entry). record { number = q.number; place = q.place; payloads = x; fresh = r.fresh }) payloads
     ∙ ap {B = Record} (λ (x : List Entry). record { number = q.number; place = q.place; payloads = q.payloads; fresh = x }) fresh
+
+-- the law of the journal on the numbers of commit blocks
+abbrev pub CommitsKeep : Type 0
+CommitsKeep = (g : Geometry) (b : List ℕ) (c : Commit) → commit_of g b ≡ Some c → IsWithinRing g c
 
 module _ (img : Blocks) (h : Header) (number place : ℕ) where
   -- the commit block at the place of a told record is what it says
@@ -78,12 +81,12 @@ module _ (img : Blocks) (h : Header) (number place : ℕ) where
       counts k l e t p q lt = omega arith
 
   -- one part more
-  pub parts_more : (c : Commit) (k : ℕ) (es new : List Entry) → HasCommit img h number place c → k < c.descriptors → HasParts img h number place (c.payloads + c.fresh) k es
+  pub parts_more : CommitsKeep → (c : Commit) (k : ℕ) (es new : List Entry) → HasCommit img h number place c → k < c.descriptors → HasParts img h number place (c.payloads + c.fresh) k es
       → HasPart img h number place k new → length new ≡ min 24 (c.payloads + c.fresh - length es)
       → HasParts img h number place (c.payloads + c.fresh) (k + 1) (es ++ new)
-  parts_more c k es new has lt parts part len =
+  parts_more keep c k es new has lt parts part len =
       let total = c.payloads + c.fresh in
-      let few : k < (total + 23) / 24 = subst (λ n. k < n) (commit_count h.geom _ c has.stands) lt in
+      let few : k < (total + 23) / 24 = subst (λ n. k < n) ((keep h.geom _ c has.stands).descriptors) lt in
       let full : length es ≡ 24 * k = filled k (length es) total parts.count few in
       let short : length new ≤ 24 = omega (arith, len) in
       record {
@@ -117,19 +120,19 @@ module _ (img : Blocks) (h : Header) (number place : ℕ) where
       front k i full lt = ap (take 24) (drop-append-le (24 * i) es new (omega arith)) ∙ take-append-le 24 (drop (24 * i) es) new (omega (arith, length-drop (24 * i) es))
 
   -- there are enough entries for the payloads
-  pub enough : (c : Commit) (es : List Entry) → HasCommit img h number place c → HasParts img h number place (c.payloads + c.fresh) c.descriptors es → length es ≡ c.payloads + c.fresh
-  enough c es has parts = all (length es) c.descriptors (c.payloads + c.fresh) parts.count (commit_count h.geom _ c has.stands)
+  pub enough : CommitsKeep → (c : Commit) (es : List Entry) → HasCommit img h number place c → HasParts img h number place (c.payloads + c.fresh) c.descriptors es → length es ≡ c.payloads + c.fresh
+  enough keep c es has parts = all (length es) c.descriptors (c.payloads + c.fresh) parts.count ((keep h.geom _ c has.stands).descriptors)
     where
       all : (l d t : ℕ) → l ≡ min (24 * d) t → d ≡ (t + 23) / 24 → l ≡ t
       all l d t p q = omega arith
 
   -- the entries of all descriptors are those of the one record that is told
-  pub told_is : (c : Commit) (es : List Entry) (r : Record) → HasCommit img h number place c → HasParts img h number place (c.payloads + c.fresh) c.descriptors es
+  pub told_is : CommitsKeep → (c : Commit) (es : List Entry) (r : Record) → HasCommit img h number place c → HasParts img h number place (c.payloads + c.fresh) c.descriptors es
       → r ≡ record { number = number; place = place; payloads = take c.payloads es; fresh = drop c.payloads es } → IsOnly (IsTold img h) number place r
-  told_is c es r has parts is = subst (IsOnly (IsTold img h) number place) (sym is) only
+  told_is keep c es r has parts is = subst (IsOnly (IsTold img h) number place) (sym is) only
     where
       all : length es ≡ c.payloads + c.fresh
-      all = enough c es has parts
+      all = enough keep c es has parts
 
       whole : take c.payloads es ++ drop c.payloads es ≡ es
       whole = take-append-drop c.payloads es
@@ -141,7 +144,7 @@ module _ (img : Blocks) (h : Header) (number place : ℕ) where
       n_is = length-drop c.payloads es ∙ omega (arith, all)
 
       d_is : descriptor_count (length (take c.payloads es ++ drop c.payloads es)) ≡ c.descriptors
-      d_is = ap (λ (l : List Entry). descriptor_count (length l)) whole ∙ ap descriptor_count all ∙ sym (commit_count h.geom _ c has.stands)
+      d_is = ap (λ (l : List Entry). descriptor_count (length l)) whole ∙ ap descriptor_count all ∙ sym ((keep h.geom _ c has.stands).descriptors)
 
       only : IsOnly (IsTold img h) number place (record { number = number; place = place; payloads = take c.payloads es; fresh = drop c.payloads es })
       only = record {
@@ -154,7 +157,7 @@ module _ (img : Blocks) (h : Header) (number place : ℕ) where
         alone = λ q num at told.
             let same = told_commit c q has at told in
             let qm : length q.payloads ≡ c.payloads = ap (λ (x : Commit). x.payloads) same in
-            let list : es ≡ q.payloads ++ q.fresh = parts.alone q num at told ∙ take_all (24 * c.descriptors) (entries q) (room (length (entries q)) c.descriptors (c.payloads + c.fresh) (total_is c q has at told) (commit_count h.geom _ c has.stands)) in
+            let list : es ≡ q.payloads ++ q.fresh = parts.alone q num at told ∙ take_all (24 * c.descriptors) (entries q) (room (length (entries q)) c.descriptors (c.payloads + c.fresh) (total_is c q has at told) ((keep h.geom _ c has.stands).descriptors)) in
             record_same q _ num at
             (sym (take-append_seam q.payloads q.fresh) ∙ ap₂ (λ n (l : List Entry). take n l) qm (sym list))
             (sym (drop-append_seam q.payloads q.fresh) ∙ ap₂ (λ n (l : List Entry). drop n l) qm (sym list));

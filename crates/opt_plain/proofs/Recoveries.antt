@@ -5,26 +5,21 @@ use Rattle.opt_geom.specs.Geometry.{IsGeometry}
 use Rattle.opt_journal.specs.declared.header.Header.{Header}
 use Rattle.opt_journal.specs.Run.{Newest, Record, IsRun, replayed, HeldIs}
 use Rattle.opt_plain.specs.Recovery.{IsRecovery}
-use Rattle.opt_plain.proofs.Headers.{header_geometry}
 use Rattle.opt_plain.proofs.Lives.{same_live}
-
--- the geometry of the newest header is of a disk of the image's size
-pub size_is : (n : ℕ) (img : Blocks) (slot : ℕ) (h : Header) → Newest n img slot h → n ≡ h.geom.n
-size_is n img slot h newest = sym (header_geometry n (img slot) h newest.stands).1
 
 -- without a newest header no blocks are held
 pub none_held : (n : ℕ) (img : Blocks) → ((slot : ℕ) (h : Header) → ¬ Newest n img slot h) → (m : Blocks) → ¬ HeldIs n img m
 none_held n img none m held = none held.slot held.header held.newest
 
 -- a newest header, its run and the replayed blocks are a recovery
-pub recovery_is : (n : ℕ) (img : Blocks) (slot : ℕ) (h : Header) (run rs : List Record) (blocks : List (List ℕ)) → Newest n img slot h → IsRun img h run → rs ≡ run
+pub recovery_is : (n : ℕ) (img : Blocks) (slot : ℕ) (h : Header) (run rs : List Record) (blocks : List (List ℕ)) → Newest n img slot h → h.geom.n ≡ n → IsRun img h run → rs ≡ run
     → IsGeometry h.geom → length blocks ≡ h.geom.n → ((b : ℕ) → b < h.geom.n → blocks_of blocks b ≡ replayed h.geom img rs b)
     → IsRecovery n img (record { slot = slot; header = h; run = run; blocks = blocks })
-recovery_is n img slot h run rs blocks newest is_run same limits count each = record {
+recovery_is n img slot h run rs blocks newest size is_run same limits count each = record {
   newest = newest;
   is_run = is_run;
-  count = count ∙ sym (size_is n img slot h newest);
-  each = λ b lt. at b (subst (λ k. b < k) (size_is n img slot h newest) lt);
+  count = count ∙ size;
+  each = λ b lt. at b (subst (λ k. b < k) (sym size) lt);
   held = record { slot = slot; header = h; run = run; newest = newest; is_run = is_run; each = same_live h.geom (blocks_of blocks) (replayed h.geom img run) limits at };
 }
   where

@@ -8,7 +8,7 @@ ghost use Rattle.opt_journal.specs.Run.{Newest};
 
 use opt_base::Block;
 use opt_geom::geometries_are_within_limits;
-use opt_journal::{Header, read_header};
+use opt_journal::{Header, journal_blocks_keep_to_their_bounds, read_header};
 
 /// The newest header of the image, which is of a disk of its size, and the slot in which it stands, or
 /// `None` exactly where neither slot has a header: so of an image whose number of blocks is no disk's.
@@ -43,6 +43,7 @@ fn header_in(image: &[Block], slot: u32) -> Option<Header>
     ensures size { IfSome result (λ header. header.geom.n ≡ length image.now) }
 {
     geometries_are_within_limits();
+    journal_blocks_keep_to_their_bounds();
     let blocks = u32::try_from(image.len()).ok()?;
     if blocks <= slot {
         return None;

@@ -12,7 +12,10 @@ ghost use Rattle.opt_plain.specs.Found.{Finds, IsTold, HasCommit, HasPart, HasPa
 use crate::image::ring_block;
 use crate::record::Record;
 use opt_base::{Block, NoMemory};
-use opt_journal::{Commit, Descriptor, Entry, Header, read_commit, read_descriptor};
+use opt_journal::{
+    Commit, Descriptor, Entry, Header, journal_blocks_keep_to_their_bounds, read_commit,
+    read_descriptor,
+};
 use std::alloc::Global;
 
 /// The most entries of a descriptor.
@@ -33,6 +36,7 @@ pub(crate) fn told_record(
     requires { length image.now ≡ header.now.geom.n }
     ensures { IfOk result (Finds (IsTold (blocks_of image.now) header.now) (header.now.start + before) place) }
 {
+    journal_blocks_keep_to_their_bounds();
     let Some(commit) = commit_at(image, header, before, place) else {
         return Ok(None);
     };
@@ -104,6 +108,7 @@ fn told_entries(
     ensures found { IfOk result (λ told. IfSome told (λ list. HasParts (blocks_of image.now) header.now commit.now.number place (commit.now.payloads + commit.now.fresh) commit.now.descriptors list.items)) }
     ensures missing { IfOk result (λ told. told ≡ None → (r : journal.Record) → r.number ≡ commit.now.number → r.place ≡ place → ¬ IsTold (blocks_of image.now) header.now r) }
 {
+    journal_blocks_keep_to_their_bounds();
     let total = commit.payloads as usize + commit.fresh as usize;
     let mut list = Vec::new(alloc);
     for index in 0..commit.descriptors {

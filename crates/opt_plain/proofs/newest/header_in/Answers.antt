@@ -5,12 +5,12 @@ use Rattle.opt_plain.proofs.newest.header_in.Goals as goal
 
 pub returns-in_err-blocks-clause-value : goal.returns-in_err-blocks-clause-value
 returns-in_err-blocks-clause-value c = let far : 4294967295 < length c.args.image.now = search (rules, tests) in
-    c.from_residual.ensures ∙ sym (no_header c.geometries_are_within_limits.ensures (length c.args.image.now) (blocks_of c.args.image.now c.args.slot) (inr (omega (arith, far))))
+    c.from_residual.ensures ∙ sym (no_header c.geometries_are_within_limits.ensures c.journal_blocks_keep_to_their_bounds.ensures.headers (length c.args.image.now) (blocks_of c.args.image.now c.args.slot) (inr (omega (arith, far))))
 
 pub returns-then-blocks-slot-clause-value : goal.returns-then-blocks-slot-clause-value
 returns-then-blocks-slot-clause-value c = let few : length c.args.image.now ≤ c.args.slot = search (rules, tests) in
-    sym (no_header c.geometries_are_within_limits.ensures (length c.args.image.now) (blocks_of c.args.image.now c.args.slot) (inl (omega (arith, few, c.requires))))
+    sym (no_header c.geometries_are_within_limits.ensures c.journal_blocks_keep_to_their_bounds.ensures.headers (length c.args.image.now) (blocks_of c.args.image.now c.args.slot) (inl (omega (arith, few, c.requires))))
 
 pub returns-clause-size : goal.returns-clause-size
 returns-clause-size c = let same : c.in_ok-blocks.blocks ≡ length c.args.image.now = search (rules, tests) in
-    sized (length c.args.image.now) c.in_ok-blocks.blocks _ c.read_header.result c.read_header.ensures same
+    sized c.journal_blocks_keep_to_their_bounds.ensures.headers (length c.args.image.now) c.in_ok-blocks.blocks _ c.read_header.result c.read_header.ensures same

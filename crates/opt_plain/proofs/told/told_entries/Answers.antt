@@ -18,6 +18,6 @@ pub loop-index-preserved : goal.loop-index-preserved
 loop-index-preserved c =
     subst (HasParts (blocks_of c.args.image.now) c.args.header.now c.args.commit.now.number c.args.place (c.args.commit.now.payloads + c.args.commit.now.fresh) (c.loop-index.index + 1))
     (sym (c.in_ok-extend_from_slice.ensures.items ∙ ap (λ (l : List Entry). c.loop-index.list.items ++ l) c.as_slice-entries.ensures.value))
-    (parts_more (blocks_of c.args.image.now) c.args.header.now c.args.commit.now.number c.args.place c.args.commit.now c.loop-index.index
+    (parts_more (blocks_of c.args.image.now) c.args.header.now c.args.commit.now.number c.args.place c.journal_blocks_keep_to_their_bounds.ensures.commits c.args.commit.now c.loop-index.index
     c.loop-index.list.items c.in-Some.descriptor.entries c.requires.commit (omega (arith, c.loop-index-test.true)) c.loop-index.invariant c.in-Some.ensures.found
     (ap (λ (l : List Entry). length l) (sym c.as_slice-entries.ensures.value) ∙ c.if-entries-part_length.false ∙ c.part_length.ensures ∙ ap (λ n. min 24 (c.args.commit.now.payloads + c.args.commit.now.fresh - n)) (c.len.ensures ∙ c.loop-index.list.ok.0)))
