@@ -11,7 +11,7 @@ use std::alloc::Global;
 use std::marker::Model;
 
 /// The most entries of a descriptor.
-const MOST_ENTRIES: usize = 24;
+pub(crate) const MOST_ENTRIES: usize = 24;
 
 /// A record of the journal: its number, the ring place at which it begins, and its entries.
 #[derive(Debug, Drop)]

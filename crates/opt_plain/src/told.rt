@@ -10,16 +10,13 @@ ghost use Rattle.opt_journal.specs.Run as journal;
 ghost use Rattle.opt_plain.specs.Found.{Finds, IsTold, HasCommit, HasPart, HasParts};
 
 use crate::image::ring_block;
-use crate::record::Record;
+use crate::record::{MOST_ENTRIES, Record};
 use opt_base::{Block, NoMemory};
 use opt_journal::{
     Commit, Descriptor, Entry, Header, journal_blocks_keep_to_their_bounds, read_commit,
     read_descriptor,
 };
 use std::alloc::Global;
-
-/// The most entries of a descriptor.
-const MOST_ENTRIES: usize = 24;
 
 /// The record that a commit block and descriptors from this place on tell, whose number is `before`
 /// above the header's start.
