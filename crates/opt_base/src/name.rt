@@ -1,12 +1,13 @@
 //! The name of a directory entry. What its bytes may be is the definition `is_name`; a path, which is
 //! a list of names, stands in the crate of the tree.
 
-ghost use Rattle.std.specs.Prelude.{◌≡◌, ℕ, ◌≤◌, ◌<◌, true, List, length, IsTrue, IsSome, IfSome, ◌↔◌, ◌==◌};
+ghost use Rattle.std.specs.Prelude.{◌≡◌, ℕ, ◌≤◌, ◌<◌, true, List, length, IsTrue, IsSome, IfSome, ◌↔◌, ◌==◌, ⊤};
 ghost use Rattle.std.specs.List.{list_all};
 ghost use Rattle.opt_base.specs.Name.{is_name, is_name_byte, is_dots};
 
 use crate::limits::LONGEST_NAME;
 use arrayvec::ArrayVec;
+use std::alloc::AllocError;
 use std::marker::Model;
 
 /// 1 to 59 bytes of printable ASCII without blank and slash, and neither `.` nor `..`.
@@ -59,6 +60,17 @@ impl Name {
         ensures lawful { is_name result.now ≡ true }
     {
         self.bytes.as_slice()
+    }
+}
+
+/// A clone is the same name; it takes no memory and never fails.
+impl Clone for Name {
+    ghost is_clone = { λ name clone. clone ≡ name };
+
+    ghost is_infallible = { λ _. ⊤ };
+
+    fn clone(&self) -> Result<Name, AllocError> {
+        Ok(self.copy())
     }
 }
 

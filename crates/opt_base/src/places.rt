@@ -1,7 +1,8 @@
 //! Lists of block numbers: `Places` one by one, and `RunList` as at most 28 runs of neighbours. Which
 //! blocks a list may have is told by the crates that keep them.
 
-ghost use Rattle.std.specs.Prelude.{◌≡◌, ◌<◌, ◌++◌, ℕ, [], ◌∷◌, List, length, OnOk, OnErr};
+ghost use Rattle.std.specs.Prelude.{◌≡◌, ◌<◌, ◌++◌, ℕ, [], ◌∷◌, List, length, IfNone, OnOk, OnErr};
+ghost use Rattle.std.specs.Option.{option_to_list};
 ghost use Rattle.opt_base.specs.declared.places.Run.{Run};
 
 use crate::NoMemory;
@@ -102,6 +103,15 @@ impl RunList {
         ensures { self.new ≡ self.old ++ run ∷ [] }
     {
         self.runs.push(run);
+    }
+
+    /// Takes the last run out, where there is one.
+    pub fn pop(&mut self) -> Option<Run>
+        ensures parts { self.old ≡ self.new ++ option_to_list result }
+        ensures none { IfNone result (self.old ≡ []) }
+        ensures room { length self.new < 28 }
+    {
+        self.runs.pop()
     }
 
     /// The runs in order.

@@ -118,6 +118,18 @@ fn a_list_has_room_for_28_runs(rt: HostRuntime) {
 }
 
 #[test]
+fn the_last_run_is_taken_out(rt: HostRuntime) {
+    let mut runs = RunList::new();
+    assert!(rt; runs.pop() == None);
+    runs.push(Run { first: 3, count: 2 });
+    runs.push(Run { first: 9, count: 1 });
+    assert!(rt; runs.pop() == Some(Run { first: 9, count: 1 }));
+    assert_eq!(rt; runs.as_slice().len(), 1);
+    assert!(rt; runs.pop() == Some(Run { first: 3, count: 2 }));
+    assert!(rt; runs.as_slice().is_empty());
+}
+
+#[test]
 fn lists_of_the_same_runs_are_equal(rt: HostRuntime) {
     let mut one = RunList::new();
     let mut other = RunList::new();
