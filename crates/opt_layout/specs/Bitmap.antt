@@ -5,9 +5,13 @@ use Rattle.std.specs.List.{range_with_len}
 use Rattle.opt_base.specs.Seal.{Blocks}
 use Rattle.opt_geom.specs.Geometry.{Geometry, bitmap_start}
 
--- whether the bitmap among these blocks has the bit of block b: in byte b / 8 of the bitmap, bit b % 8 from the lowest
+-- whether a bitmap of these blocks has the bit of block b: in byte b / 8 of the bitmap, bit b % 8 from the lowest
+abbrev pub bit_in : Blocks → ℕ → Bool
+bit_in m b = bit_at (slice_index (m (b / 8192)) (b % 8192 / 8)) (b % 8) == 1
+
+-- whether the bitmap among the blocks of a disk has the bit of block b
 abbrev pub is_set : Geometry → Blocks → ℕ → Bool
-is_set g m b = bit_at (slice_index (m (bitmap_start g + b / 8192)) (b % 8192 / 8)) (b % 8) == 1
+is_set g m b = bit_in (λ k. m (bitmap_start g + k)) b
 
 -- byte i of a bitmap in which the first d blocks are set, and no others
 abbrev pub first_bits : ℕ → ℕ → ℕ

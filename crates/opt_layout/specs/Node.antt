@@ -91,13 +91,3 @@ abbrev pub node_spelling : Node → List ℕ
 node_spelling node =
     kind_byte node.kind ∷ 0 ∷ (little_bytes 2 (length node.runs) ++ (little_bytes 4 node.links ++ (little_bytes 8 node.size
     ++ (replicate 16 0 ++ (run_bytes node.runs ++ replicate (node_size - 32 - 8 * length node.runs) 0)))))
-
--- the numbers of a node's blocks, in order
-
-abbrev pub blocks_from : ℕ → ℕ → List ℕ
-blocks_from first zero = []
-blocks_from first (suc n) = first ∷ blocks_from (first + 1) n
-
-abbrev pub run_places : List Run → List ℕ
-run_places [] = []
-run_places (r ∷ rs) = blocks_from r.first r.count ++ run_places rs
