@@ -9,8 +9,8 @@ use Rattle.hex.specs.Hex.{decode_of, decode_pairs, digit_or_error, hex_digit_val
 use Rattle.hex.specs.declared.error.FromHexError.{FromHexError}
 use Rattle.opt_base.specs.Name.{is_name}
 use Rattle.opt_tree.specs.declared.command.Cmd.{Cmd}
-use Rattle.opt_tree.specs.declared.command.Cmd.TheVariants.{Read, Osync, Bad}
-use Rattle.opt_script.specs.Grammar.{command_of, command_of_parts, path_of, names_of, number_of, bytes_of, some_bytes, create_of, write_of, read_of, is_in_grammar}
+use Rattle.opt_tree.specs.declared.command.Cmd.TheVariants.{Mkdir, Create, Fill, Read, Link, Unlink, Rmdir, Rename, Stat, List as ListNames, Osync, Bad}
+use Rattle.opt_script.specs.Grammar.{command_of, command_of_parts, path_of, names_of, number_of, bytes_of, some_bytes, path_command, paths_command, truncate_of, write_of, read_of, fill_of, is_in_grammar}
 
 abbrev Lawful : Cmd → Type 0
 Lawful cmd = (cmd ≡ Bad) ⊎ (is_in_grammar cmd ≡ true)
@@ -102,9 +102,27 @@ kept_bytes (Err e) h = tt
 
 -- ---- commands
 
-create_lawful : (path : Option (List (List ℕ))) → IfSome path lawful_path → Lawful (create_of path)
-create_lawful (Some path) h = inr h
-create_lawful None h = inl refl
+either : (test : Bool) (one two : Cmd) → Lawful one → Lawful two → Lawful (if test then one else two)
+either true one two h k = h
+either false one two h k = k
+
+path_command_lawful : (word : List ℕ) (path : Option (List (List ℕ))) → IfSome path lawful_path → Lawful (path_command word path)
+path_command_lawful word None h = inl refl
+path_command_lawful word (Some path) h =
+    either _ (Mkdir path) _ (inr h) (either _ (Create path) _ (inr h) (either _ (Unlink path) _ (inr h)
+    (either _ (Rmdir path) _ (inr h) (either _ (Stat path) _ (inr h) (either _ (ListNames path) Bad (inr h) (inl refl))))))
+
+paths_command_lawful : (word : List ℕ) (path other : Option (List (List ℕ))) → IfSome path lawful_path → IfSome other lawful_path
+    → Lawful (paths_command word path other)
+paths_command_lawful word None other h k = inl refl
+paths_command_lawful word (Some path) None h k = inl refl
+paths_command_lawful word (Some path) (Some other) h k =
+    either _ (Link path other) _ (inr (rw h k)) (either _ (Rename path other) Bad (inr (rw h k)) (inl refl))
+
+truncate_lawful : (path : Option (List (List ℕ))) (size : Option ℕ) → IfSome path lawful_path → IfSome size small → Lawful (truncate_of path size)
+truncate_lawful None size h k = inl refl
+truncate_lawful (Some path) None h k = inl refl
+truncate_lawful (Some path) (Some size) h k = inr (rw h k)
 
 write_lawful : (path : Option (List (List ℕ))) (offset : Option ℕ) (bytes : Option (List ℕ))
     → IfSome path lawful_path → IfSome offset small → IfSome bytes some_of_them → Lawful (write_of path offset bytes)
@@ -125,15 +143,27 @@ read_lawful (Some path) None count h k = inl refl
 read_lawful (Some path) (Some offset) None h k = inl refl
 read_lawful (Some path) (Some offset) (Some count) h k = kept_read (nat_le count 1048576) path offset count h k refl
 
-either : (test : Bool) (one two : Cmd) → Lawful one → Lawful two → Lawful (if test then one else two)
-either true one two h k = h
-either false one two h k = k
+kept_fill : (test : Bool) (path : List (List ℕ)) (offset count byte : ℕ) → lawful_path path → small offset → small count
+    → nat_le byte 255 ≡ test → Lawful (if test then Fill path offset count byte else Bad)
+kept_fill true path offset count byte h k m n = inr (rw h (rw k (rw m n)))
+kept_fill false path offset count byte h k m n = inl refl
+
+fill_lawful : (path : Option (List (List ℕ))) (offset count byte : Option ℕ)
+    → IfSome path lawful_path → IfSome offset small → IfSome count small → Lawful (fill_of path offset count byte)
+fill_lawful None offset count byte h k m = inl refl
+fill_lawful (Some path) None count byte h k m = inl refl
+fill_lawful (Some path) (Some offset) None byte h k m = inl refl
+fill_lawful (Some path) (Some offset) (Some count) None h k m = inl refl
+fill_lawful (Some path) (Some offset) (Some count) (Some byte) h k m = kept_fill (nat_le byte 255) path offset count byte h k m refl
 
 parts_lawful : (parts : List (List ℕ)) → Lawful (command_of_parts parts)
 parts_lawful [] = inl refl
 parts_lawful (word ∷ []) = either _ Osync Bad (inr refl) (inl refl)
-parts_lawful (word ∷ path ∷ []) = either _ (create_of (path_of path)) Bad (create_lawful (path_of path) (path_lawful path)) (inl refl)
-parts_lawful (word ∷ path ∷ offset ∷ []) = inl refl
+parts_lawful (word ∷ path ∷ []) = path_command_lawful word (path_of path) (path_lawful path)
+parts_lawful (word ∷ path ∷ last ∷ []) =
+    either (bytes_eq word (codes "truncate")) (truncate_of (path_of path) (number_of last)) (paths_command word (path_of path) (path_of last))
+    (truncate_lawful (path_of path) (number_of last) (path_lawful path) (number_small last))
+    (paths_command_lawful word (path_of path) (path_of last) (path_lawful path) (path_lawful last))
 parts_lawful (word ∷ path ∷ offset ∷ last ∷ []) =
     let p = path_lawful path in
     let n = number_small offset in
@@ -142,7 +172,11 @@ parts_lawful (word ∷ path ∷ offset ∷ last ∷ []) =
     (write_lawful (path_of path) (number_of offset) (bytes_of last) p n (kept_bytes (decode_of last) (decoded_small last)))
     (either (bytes_eq word (codes "read")) (read_of (path_of path) (number_of offset) (number_of last)) Bad
     (read_lawful (path_of path) (number_of offset) (number_of last) p n) (inl refl))
-parts_lawful (word ∷ path ∷ offset ∷ last ∷ one ∷ more) = inl refl
+parts_lawful (word ∷ path ∷ offset ∷ count ∷ byte ∷ []) =
+    either (bytes_eq word (codes "fill")) (fill_of (path_of path) (number_of offset) (number_of count) (number_of byte)) Bad
+    (fill_lawful (path_of path) (number_of offset) (number_of count) (number_of byte) (path_lawful path) (number_small offset) (number_small count))
+    (inl refl)
+parts_lawful (word ∷ path ∷ offset ∷ count ∷ byte ∷ one ∷ more) = inl refl
 
 -- what a line reads as is `Bad` or in the grammar
 pub line_lawful : (line : List ℕ) → (command_of line ≡ Bad) ⊎ (is_in_grammar (command_of line) ≡ true)

@@ -1,6 +1,6 @@
 -- A command's text reads as that command.
-use Rattle.std.proofs.Common.{◌≡◌, sym, ap, refl, ◌∙◌, arith, rules, tests, ℕ, zero, suc, ◌/◌, ◌%◌, ◌<◌, ◌≤◌, ◌==◌, Bool, true, false, not, List, [], ◌∷◌, ◌++◌, length, Some, decimal, nat_lt, nat_le, codes, slice_index, append_assoc}
-use Rattle.std.proofs.lemmas.Bool.{and_parts}
+use Rattle.std.proofs.Common.{◌≡◌, sym, ap, refl, ◌∙◌, arith, rules, tests, ℕ, zero, suc, ◌/◌, ◌%◌, ◌<◌, ◌≤◌, ◌==◌, Bool, true, false, not, List, [], ◌∷◌, ◌++◌, length, Some, decimal, nat_lt, nat_le, bytes_eq, codes, slice_index, append_assoc}
+use Rattle.std.proofs.lemmas.Bool.{and_parts, false≢true}
 use Rattle.std.proofs.lemmas.Bool.Decides.{Decides-ltb}
 use Rattle.std.proofs.lemmas.List.{append-nil}
 use Rattle.std.proofs.lemmas.List.Splits.{slice_split_at, slice_split_none}
@@ -13,9 +13,10 @@ use Rattle.hex.specs.Hex.{encode_lower, encode_with, lower_digits}
 use Rattle.hex.proofs.HexLemmas.{decode_of-encode_lower}
 use Rattle.opt_base.specs.Name.{is_name, is_name_byte, is_dots}
 use Rattle.opt_tree.specs.declared.command.Cmd.{Cmd}
-use Rattle.opt_tree.specs.declared.command.Cmd.TheVariants.{Create, Write, Read, Osync, Bad}
-use Rattle.opt_script.specs.Text.{slashed, path_text, command_text}
-use Rattle.opt_script.specs.Grammar.{command_of, command_of_parts, path_of, number_of, bytes_of, some_bytes, create_of, write_of, read_of, is_in_grammar}
+use Rattle.opt_tree.specs.declared.command.Cmd.TheVariants.{Mkdir, Create, Write, Fill, Read, Truncate, Link, Unlink, Rmdir, Rename, Stat, List as ListNames, Osync, Bad}
+use Rattle.opt_tree.specs.Listing.{slashed, path_text}
+use Rattle.opt_script.specs.Text.{command_text}
+use Rattle.opt_script.specs.Grammar.{command_of, command_of_parts, path_of, number_of, bytes_of, some_bytes, path_command, paths_command, truncate_of, write_of, read_of, fill_of, fits, is_in_grammar}
 use Rattle.opt_script.proofs.Steps.{own}
 
 -- ---- lists without a byte
@@ -131,24 +132,68 @@ split_three : (xs ys zs : List ℕ) → list_all (other 32) xs ≡ true → list
     → slice_split (λ b. b == 32) (xs ++ 32 ∷ (ys ++ 32 ∷ zs)) ≡ xs ∷ ys ∷ zs ∷ []
 split_three xs ys zs h k m = split_at 32 xs (ys ++ 32 ∷ zs) h ∙ ap (λ rest. xs ∷ rest) (split_two ys zs k m)
 
-create_reads : (path : List (List ℕ)) → list_all is_name path ≡ true → command_of (command_text (Create path)) ≡ Create path
-create_reads path h =
-    ap (λ rest. command_of_parts (codes "create" ∷ rest)) (split_none 32 (path_text path) (path_lacks path h))
-    ∙ ap create_of (path_of-path_text path h)
+split_four : (xs ys zs vs : List ℕ) → list_all (other 32) xs ≡ true → list_all (other 32) ys ≡ true → list_all (other 32) zs ≡ true
+    → list_all (other 32) vs ≡ true
+    → slice_split (λ b. b == 32) (xs ++ 32 ∷ (ys ++ 32 ∷ (zs ++ 32 ∷ vs))) ≡ xs ∷ ys ∷ zs ∷ vs ∷ []
+split_four xs ys zs vs h k m n = split_at 32 xs (ys ++ 32 ∷ (zs ++ 32 ∷ vs)) h ∙ ap (λ rest. xs ∷ rest) (split_three ys zs vs k m n)
 
 -- `++` from the left, grouped as the cuts want it
-regroup : (a p d e : List ℕ) → a ++ p ++ codes " " ++ d ++ codes " " ++ e ≡ a ++ (p ++ 32 ∷ (d ++ 32 ∷ e))
-regroup a p d e =
+regroup_two : (a p d : List ℕ) → a ++ p ++ codes " " ++ d ≡ a ++ (p ++ 32 ∷ d)
+regroup_two a p d = append_assoc (a ++ p) (codes " ") d ∙ append_assoc a p (32 ∷ d)
+
+regroup_three : (a p d e : List ℕ) → a ++ p ++ codes " " ++ d ++ codes " " ++ e ≡ a ++ (p ++ 32 ∷ (d ++ 32 ∷ e))
+regroup_three a p d e =
     append_assoc (a ++ p ++ codes " " ++ d) (codes " ") e
     ∙ append_assoc (a ++ p ++ codes " ") d (32 ∷ e)
-    ∙ append_assoc (a ++ p) (codes " ") (d ++ 32 ∷ e)
-    ∙ append_assoc a p (32 ∷ (d ++ 32 ∷ e))
+    ∙ regroup_two a p (d ++ 32 ∷ e)
+
+regroup_four : (a p d e f : List ℕ)
+    → a ++ p ++ codes " " ++ d ++ codes " " ++ e ++ codes " " ++ f ≡ a ++ (p ++ 32 ∷ (d ++ 32 ∷ (e ++ 32 ∷ f)))
+regroup_four a p d e f =
+    append_assoc (a ++ p ++ codes " " ++ d ++ codes " " ++ e) (codes " ") f
+    ∙ append_assoc (a ++ p ++ codes " " ++ d ++ codes " ") e (32 ∷ f)
+    ∙ regroup_three a p d (e ++ 32 ∷ f)
+
+-- a word, a blank and a path read as the command of the word and the path
+path_reads : (word : List ℕ) (path : List (List ℕ)) → list_all (other 32) word ≡ true → list_all is_name path ≡ true
+    → command_of (word ++ 32 ∷ path_text path) ≡ path_command word (Some path)
+path_reads word path w h =
+    ap command_of_parts (split_two word (path_text path) w (path_lacks path h))
+    ∙ ap (λ p. path_command word p) (path_of-path_text path h)
+
+-- a word, which isn't `truncate`, and two paths read as the command of the word and the paths
+paths_read : (word : List ℕ) (path second : List (List ℕ)) → list_all (other 32) word ≡ true → bytes_eq word (codes "truncate") ≡ false
+    → list_all is_name path ≡ true → list_all is_name second ≡ true
+    → command_of (word ++ 32 ∷ (path_text path ++ 32 ∷ path_text second)) ≡ paths_command word (Some path) (Some second)
+paths_read word path second w off h k =
+    ap command_of_parts (split_three word (path_text path) (path_text second) w (path_lacks path h) (path_lacks second k))
+    ∙ rw off
+    (ap (λ p. paths_command word p (path_of (path_text second))) (path_of-path_text path h)
+    ∙ ap (λ p. paths_command word (Some path) p) (path_of-path_text second k))
+
+link_reads : (path second : List (List ℕ)) → list_all is_name path ≡ true → list_all is_name second ≡ true
+    → command_of (command_text (Link path second)) ≡ Link path second
+link_reads path second h k =
+    ap command_of (regroup_two (codes "link ") (path_text path) (path_text second)) ∙ paths_read (codes "link") path second refl refl h k
+
+rename_reads : (path second : List (List ℕ)) → list_all is_name path ≡ true → list_all is_name second ≡ true
+    → command_of (command_text (Rename path second)) ≡ Rename path second
+rename_reads path second h k =
+    ap command_of (regroup_two (codes "rename ") (path_text path) (path_text second)) ∙ paths_read (codes "rename") path second refl refl h k
+
+truncate_reads : (path : List (List ℕ)) (size : ℕ) → list_all is_name path ≡ true → size < 4294967296
+    → command_of (command_text (Truncate path size)) ≡ Truncate path size
+truncate_reads path size h small =
+    ap command_of (regroup_two (codes "truncate ") (path_text path) (decimal size))
+    ∙ ap (λ rest. command_of_parts (codes "truncate" ∷ rest)) (split_two (path_text path) (decimal size) (path_lacks path h) (decimal_lacks size small))
+    ∙ ap (λ p. truncate_of p (number_of (decimal size))) (path_of-path_text path h)
+    ∙ ap (λ n. truncate_of (Some path) n) (number_of-decimal size small)
 
 write_reads : (path : List (List ℕ)) (offset b : ℕ) (bytes : List ℕ) → list_all is_name path ≡ true → offset < 4294967296
     → list_all (λ b. nat_lt b 256) (b ∷ bytes) ≡ true
     → command_of (command_text (Write path offset (b ∷ bytes))) ≡ Write path offset (b ∷ bytes)
 write_reads path offset b bytes h small k =
-    ap command_of (regroup (codes "write ") (path_text path) (decimal offset) (encode_lower (b ∷ bytes)))
+    ap command_of (regroup_three (codes "write ") (path_text path) (decimal offset) (encode_lower (b ∷ bytes)))
     ∙ ap (λ rest. command_of_parts (codes "write" ∷ rest))
     (split_three (path_text path) (decimal offset) (encode_lower (b ∷ bytes)) (path_lacks path h) (decimal_lacks offset small) (digits_lack (b ∷ bytes)))
     ∙ ap (λ p. write_of p (number_of (decimal offset)) (bytes_of (encode_lower (b ∷ bytes)))) (path_of-path_text path h)
@@ -158,7 +203,7 @@ write_reads path offset b bytes h small k =
 read_reads : (path : List (List ℕ)) (offset count : ℕ) → list_all is_name path ≡ true → offset < 4294967296 → count < 4294967296
     → nat_le count 1048576 ≡ true → command_of (command_text (Read path offset count)) ≡ Read path offset count
 read_reads path offset count h small low k =
-    ap command_of (regroup (codes "read ") (path_text path) (decimal offset) (decimal count))
+    ap command_of (regroup_three (codes "read ") (path_text path) (decimal offset) (decimal count))
     ∙ ap (λ rest. command_of_parts (codes "read" ∷ rest))
     (split_three (path_text path) (decimal offset) (decimal count) (path_lacks path h) (decimal_lacks offset small) (decimal_lacks count low))
     ∙ ap (λ p. read_of p (number_of (decimal offset)) (number_of (decimal count))) (path_of-path_text path h)
@@ -166,22 +211,58 @@ read_reads path offset count h small low k =
     ∙ ap (λ n. read_of (Some path) (Some offset) n) (number_of-decimal count low)
     ∙ rw k refl
 
+fill_reads : (path : List (List ℕ)) (offset count byte : ℕ) → list_all is_name path ≡ true → offset < 4294967296 → count < 4294967296
+    → byte < 4294967296 → nat_le byte 255 ≡ true → command_of (command_text (Fill path offset count byte)) ≡ Fill path offset count byte
+fill_reads path offset count byte h small low lower k =
+    ap command_of (regroup_four (codes "fill ") (path_text path) (decimal offset) (decimal count) (decimal byte))
+    ∙ ap (λ rest. command_of_parts (codes "fill" ∷ rest))
+    (split_four (path_text path) (decimal offset) (decimal count) (decimal byte)
+    (path_lacks path h) (decimal_lacks offset small) (decimal_lacks count low) (decimal_lacks byte lower))
+    ∙ ap (λ p. fill_of p (number_of (decimal offset)) (number_of (decimal count)) (number_of (decimal byte))) (path_of-path_text path h)
+    ∙ ap (λ n. fill_of (Some path) n (number_of (decimal count)) (number_of (decimal byte))) (number_of-decimal offset small)
+    ∙ ap (λ n. fill_of (Some path) (Some offset) n (number_of (decimal byte))) (number_of-decimal count low)
+    ∙ ap (λ n. fill_of (Some path) (Some offset) (Some count) n) (number_of-decimal byte lower)
+    ∙ rw k refl
+
+fitting : (n : ℕ) → fits n ≡ true → n < 4294967296
+fitting n h = (Decides-ltb n 4294967296).0 h
+
 -- a command that some line asks for is what its text reads as
 pub round_trip : (cmd : Cmd) → is_in_grammar cmd ≡ true → command_of (command_text cmd) ≡ cmd
-round_trip (Create path) h = create_reads path h
+round_trip (Mkdir path) h = path_reads (codes "mkdir") path refl h
+round_trip (Create path) h = path_reads (codes "create") path refl h
 round_trip (Write path offset []) h =
     let first = and_parts (list_all is_name path) _ h in
-    let second = and_parts (nat_lt offset 4294967296) false first.1 in
+    let second = and_parts (fits offset) false first.1 in
     cc second.1
 round_trip (Write path offset (b ∷ bytes)) h =
     let first = and_parts (list_all is_name path) _ h in
-    let second = and_parts (nat_lt offset 4294967296) _ first.1 in
+    let second = and_parts (fits offset) _ first.1 in
     let third = and_parts (nat_lt 0 (length (b ∷ bytes))) (list_all (λ b. nat_lt b 256) (b ∷ bytes)) second.1 in
-    write_reads path offset b bytes first.0 ((Decides-ltb offset 4294967296).0 second.0) third.1
+    write_reads path offset b bytes first.0 (fitting offset second.0) third.1
+round_trip (Fill path offset count byte) h =
+    let first = and_parts (list_all is_name path) _ h in
+    let second = and_parts (fits offset) _ first.1 in
+    let third = and_parts (fits count) (nat_le byte 255) second.1 in
+    let below : byte ≤ 255 = search (rules, tests, third.1) in
+    fill_reads path offset count byte first.0 (fitting offset second.0) (fitting count third.0) (omega (arith, below)) third.1
 round_trip (Read path offset count) h =
     let first = and_parts (list_all is_name path) _ h in
-    let second = and_parts (nat_lt offset 4294967296) (nat_le count 1048576) first.1 in
+    let second = and_parts (fits offset) (nat_le count 1048576) first.1 in
     let below : count ≤ 1048576 = search (rules, tests, second.1) in
-    read_reads path offset count first.0 ((Decides-ltb offset 4294967296).0 second.0) (omega (arith, below)) second.1
+    read_reads path offset count first.0 (fitting offset second.0) (omega (arith, below)) second.1
+round_trip (Truncate path size) h =
+    let parts = and_parts (list_all is_name path) (fits size) h in
+    truncate_reads path size parts.0 (fitting size parts.1)
+round_trip (Link path second) h =
+    let parts = and_parts (list_all is_name path) (list_all is_name second) h in
+    link_reads path second parts.0 parts.1
+round_trip (Unlink path) h = path_reads (codes "unlink") path refl h
+round_trip (Rmdir path) h = path_reads (codes "rmdir") path refl h
+round_trip (Rename path second) h =
+    let parts = and_parts (list_all is_name path) (list_all is_name second) h in
+    rename_reads path second parts.0 parts.1
+round_trip (Stat path) h = path_reads (codes "stat") path refl h
+round_trip (ListNames path) h = path_reads (codes "list") path refl h
 round_trip Osync h = refl
-round_trip Bad h = cc h
+round_trip Bad h = absurd (false≢true h)

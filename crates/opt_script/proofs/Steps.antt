@@ -1,5 +1,5 @@
 -- What one more part or name adds, and when a part is no number.
-use Rattle.std.proofs.Common.{◌≡◌, ap, refl, arith, rules, ℕ, ◌+◌, ◌<◌, ◌^◌, true, false, ◌&&◌, inl, inr, List, [], ◌∷◌, ◌++◌, length, take, get_or, map, Err, None, Bor, decimal, nat_lt, bytes_eq, codes}
+use Rattle.std.proofs.Common.{◌≡◌, ap, refl, arith, rules, ℕ, ◌+◌, ◌<◌, ◌≤◌, ◌^◌, true, false, ◌&&◌, inl, inr, List, [], ◌∷◌, ◌++◌, length, take, get_or, map, Err, None, Bor, decimal, nat_lt, bytes_eq}
 use Rattle.std.proofs.lemmas.Bool.{cases_Bool, and_parts}
 use Rattle.std.proofs.lemmas.Bool.Decides.{Decides-ltb}
 use Rattle.std.proofs.lemmas.Slice.Eq.{bytes_eq-Decides}
@@ -16,14 +16,15 @@ use Rattle.std.specs.Str.Parse.{digits_value, ParsesUnsigned}
 use Rattle.opt_script.specs.Grammar.{number_of, command_of_parts}
 use Rattle.opt_tree.specs.declared.command.Cmd.TheVariants.{Bad}
 
--- three parts are no command
-pub three_parts : (parts : List (List ℕ)) → length parts ≡ 3 → Bad ≡ command_of_parts parts
-three_parts [] h = refl
-three_parts (a ∷ []) h = absurd (omega arith)
-three_parts (a ∷ b ∷ []) h = absurd (omega arith)
-three_parts (a ∷ b ∷ c ∷ []) h = refl
-three_parts (a ∷ b ∷ c ∷ d ∷ []) h = absurd (omega arith)
-three_parts (a ∷ b ∷ c ∷ d ∷ e ∷ more) h = refl
+-- six parts or more are no command
+pub many_parts : (parts : List (List ℕ)) → 6 ≤ length parts → Bad ≡ command_of_parts parts
+many_parts [] h = absurd (omega (arith, h))
+many_parts (a ∷ []) h = absurd (omega (arith, h))
+many_parts (a ∷ b ∷ []) h = absurd (omega (arith, h))
+many_parts (a ∷ b ∷ c ∷ []) h = absurd (omega (arith, h))
+many_parts (a ∷ b ∷ c ∷ d ∷ []) h = absurd (omega (arith, h))
+many_parts (a ∷ b ∷ c ∷ d ∷ e ∷ []) h = absurd (omega (arith, h))
+many_parts (a ∷ b ∷ c ∷ d ∷ e ∷ f ∷ more) h = refl
 
 -- digits alone, as a model of numerals
 pub own : IsNumeralModel (λ ds. list_all is_ascii_digit ds ≡ true) (digits_value 10)
@@ -79,11 +80,3 @@ unlawful_part parts i d below off =
     let inside : i < length (texts parts) = rw (length_texts parts) below in
     let at : get_or (texts parts) i [] ≡ (get_or parts i d).now = get_or-map (λ part. part.now) parts i d [] below in
     list_all_at is_name (texts parts) i [] inside (rw at off)
-
--- two parts whose word is another than `create`
-pub no_create : (parts : List (List ℕ)) → length parts ≡ 2 → bytes_eq (get_or parts 0 []) (codes "create") ≡ false
-    → Bad ≡ command_of_parts parts
-no_create [] h off = absurd (omega arith)
-no_create (a ∷ []) h off = absurd (omega arith)
-no_create (a ∷ b ∷ []) h off = rw off refl
-no_create (a ∷ b ∷ c ∷ more) h off = absurd (omega arith)

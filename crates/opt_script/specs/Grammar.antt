@@ -8,7 +8,7 @@ use Rattle.hex.specs.Hex.{decode_of}
 use Rattle.hex.specs.declared.error.FromHexError.{FromHexError}
 use Rattle.opt_base.specs.Name.{is_name}
 use Rattle.opt_tree.specs.declared.command.Cmd.{Cmd}
-use Rattle.opt_tree.specs.declared.command.Cmd.TheVariants.{Create, Write, Read, Osync, Bad}
+use Rattle.opt_tree.specs.declared.command.Cmd.TheVariants.{Mkdir, Create, Write, Fill, Read, Truncate, Link, Unlink, Rmdir, Rename, Stat, List as ListNames, Osync, Bad}
 
 -- the names behind the first slash, where what stands before it is empty and each is lawful
 abbrev pub names_of : List (List ℕ) → Option (List (List ℕ))
@@ -19,10 +19,14 @@ names_of _ = None
 abbrev pub path_of : List ℕ → Option (List (List ℕ))
 path_of part = if bytes_eq part (codes "/") then Some [] else names_of (slice_split (λ b. b == 47) part)
 
+-- whether a number is below 2^32
+abbrev pub fits : ℕ → Bool
+fits number = nat_lt number 4294967296
+
 -- the number below 2^32 whose decimal text the part is, with no sign and no zeros in front
 abbrev pub number_of : List ℕ → Option ℕ
 number_of part =
-    if list_all is_ascii_digit part && (nat_lt (digits_value 10 part) 4294967296 && bytes_eq (decimal (digits_value 10 part)) part)
+    if list_all is_ascii_digit part && (fits (digits_value 10 part) && bytes_eq (decimal (digits_value 10 part)) part)
     then Some (digits_value 10 part) else None
 
 -- the bytes, where they could be read and there are some
@@ -34,10 +38,32 @@ some_bytes _ = None
 abbrev pub bytes_of : List ℕ → Option (List ℕ)
 bytes_of part = some_bytes (decode_of part)
 
-abbrev pub create_of : Option (List (List ℕ)) → Cmd
-create_of (Some path) = Create path
-create_of None = Bad
+-- the command of a word and a path, where the part is one
+abbrev pub path_command : List ℕ → Option (List (List ℕ)) → Cmd
+path_command word (Some path) =
+    if bytes_eq word (codes "mkdir") then Mkdir path
+    else if bytes_eq word (codes "create") then Create path
+    else if bytes_eq word (codes "unlink") then Unlink path
+    else if bytes_eq word (codes "rmdir") then Rmdir path
+    else if bytes_eq word (codes "stat") then Stat path
+    else if bytes_eq word (codes "list") then ListNames path
+    else Bad
+path_command word None = Bad
 
+-- the command of a word and two paths, where both parts are paths
+abbrev pub paths_command : List ℕ → Option (List (List ℕ)) → Option (List (List ℕ)) → Cmd
+paths_command word (Some path) (Some other) =
+    if bytes_eq word (codes "link") then Link path other
+    else if bytes_eq word (codes "rename") then Rename path other
+    else Bad
+paths_command word _ _ = Bad
+
+-- a truncate, where there are a path and a size
+abbrev pub truncate_of : Option (List (List ℕ)) → Option ℕ → Cmd
+truncate_of (Some path) (Some size) = Truncate path size
+truncate_of _ _ = Bad
+
+-- a write, where there are a path, an offset and bytes
 abbrev pub write_of : Option (List (List ℕ)) → Option ℕ → Option (List ℕ) → Cmd
 write_of (Some path) (Some offset) (Some bytes) = Write path offset bytes
 write_of _ _ _ = Bad
@@ -47,14 +73,24 @@ abbrev pub read_of : Option (List (List ℕ)) → Option ℕ → Option ℕ → 
 read_of (Some path) (Some offset) (Some length) = if nat_le length 1048576 then Read path offset length else Bad
 read_of _ _ _ = Bad
 
+-- a fill with a byte, which is a number of at most 255
+abbrev pub fill_of : Option (List (List ℕ)) → Option ℕ → Option ℕ → Option ℕ → Cmd
+fill_of (Some path) (Some offset) (Some length) (Some byte) = if nat_le byte 255 then Fill path offset length byte else Bad
+fill_of _ _ _ _ = Bad
+
 -- the command whose word and arguments the parts are
 abbrev pub command_of_parts : List (List ℕ) → Cmd
 command_of_parts (word ∷ []) = if bytes_eq word (codes "osync") then Osync else Bad
-command_of_parts (word ∷ path ∷ []) = if bytes_eq word (codes "create") then create_of (path_of path) else Bad
+command_of_parts (word ∷ path ∷ []) = path_command word (path_of path)
+command_of_parts (word ∷ path ∷ last ∷ []) =
+    if bytes_eq word (codes "truncate") then truncate_of (path_of path) (number_of last)
+    else paths_command word (path_of path) (path_of last)
 command_of_parts (word ∷ path ∷ offset ∷ last ∷ []) =
     if bytes_eq word (codes "write") then write_of (path_of path) (number_of offset) (bytes_of last)
     else if bytes_eq word (codes "read") then read_of (path_of path) (number_of offset) (number_of last)
     else Bad
+command_of_parts (word ∷ path ∷ offset ∷ length ∷ byte ∷ []) =
+    if bytes_eq word (codes "fill") then fill_of (path_of path) (number_of offset) (number_of length) (number_of byte) else Bad
 command_of_parts _ = Bad
 
 -- the command that a line is
@@ -63,9 +99,18 @@ command_of line = command_of_parts (slice_split (λ b. b == 32) line)
 
 -- whether some line asks for the command: its names are lawful, its numbers fit, and a write has bytes
 abbrev pub is_in_grammar : Cmd → Bool
+is_in_grammar (Mkdir path) = list_all is_name path
 is_in_grammar (Create path) = list_all is_name path
 is_in_grammar (Write path offset bytes) =
-    list_all is_name path && (nat_lt offset 4294967296 && (nat_lt 0 (length bytes) && list_all (λ b. nat_lt b 256) bytes))
-is_in_grammar (Read path offset length) = list_all is_name path && (nat_lt offset 4294967296 && nat_le length 1048576)
+    list_all is_name path && (fits offset && (nat_lt 0 (length bytes) && list_all (λ b. nat_lt b 256) bytes))
+is_in_grammar (Fill path offset length byte) = list_all is_name path && (fits offset && (fits length && nat_le byte 255))
+is_in_grammar (Read path offset length) = list_all is_name path && (fits offset && nat_le length 1048576)
+is_in_grammar (Truncate path size) = list_all is_name path && fits size
+is_in_grammar (Link path other) = list_all is_name path && list_all is_name other
+is_in_grammar (Unlink path) = list_all is_name path
+is_in_grammar (Rmdir path) = list_all is_name path
+is_in_grammar (Rename path other) = list_all is_name path && list_all is_name other
+is_in_grammar (Stat path) = list_all is_name path
+is_in_grammar (ListNames path) = list_all is_name path
 is_in_grammar Osync = true
 is_in_grammar Bad = false

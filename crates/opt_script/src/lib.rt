@@ -3,10 +3,14 @@
 //! `command_text` and `text_of_reply`.
 #![tactic(auto)]
 
+mod arguments;
 mod parse;
+mod pieces;
+mod replies;
 #[cfg(test)]
 mod tests;
 mod text;
 
 pub use parse::parse_line;
-pub use text::{cmd_text, reply_text};
+pub use replies::reply_text;
+pub use text::cmd_text;

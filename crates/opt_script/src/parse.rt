@@ -1,20 +1,16 @@
-//! From a line to its command, part by part: words, paths, numbers and bytes. Each helper answers what
-//! the definition of its name answers, or want of memory.
+//! From a line to its command: the parts of the line, and which command a word and its arguments are.
+//! What an argument says stands in `arguments`. Each helper answers what the definition of the grammar
+//! answers for its parts, or want of memory.
 
-ghost use Rattle.std.specs.Prelude.{◌≡◌, ℕ, List, IfOk, ◌==◌, ◌⊎◌, map, bytes_eq, codes, true, if◌then◌else◌, Some, None};
-ghost use Rattle.std.specs.List.{slice_split, list_all};
-ghost use Rattle.std.specs.Char.{is_ascii_digit};
-ghost use Rattle.opt_base.specs.Name.{is_name};
+ghost use Rattle.std.specs.Prelude.{◌≡◌, ℕ, List, [], ◌∷◌, IfOk, ◌⊎◌, map, true, Some};
 ghost use Rattle.opt_tree.specs.declared.command.Cmd.TheVariants.{Bad};
-ghost use Rattle.opt_script.specs.Grammar.{command_of, command_of_parts, is_in_grammar, create_of, write_of, read_of, path_of, names_of, number_of, bytes_of};
+ghost use Rattle.opt_script.specs.Grammar.{command_of, command_of_parts, is_in_grammar, path_command, paths_command, truncate_of, write_of, read_of, fill_of, path_of, number_of, bytes_of};
 
-use hex::FromHexError;
-use itoa::Buffer;
+use crate::arguments::{bytes, number, parts, path};
+use opt_base::NoMemory;
 use opt_base::limits::LONGEST_READ;
-use opt_base::{Bytes, Name, NoMemory};
 use opt_tree::{Cmd, Path};
-use std::alloc::{AllocError, Global};
-use std::str;
+use std::alloc::Global;
 
 /// The command that this line is, which is given without its line feed.
 ///
@@ -29,12 +25,6 @@ pub fn parse_line(alloc: Global, line: &[u8]) -> Result<Cmd, NoMemory>
     Ok(cmd)
 }
 
-fn parts(alloc: Global, text: &[u8], separator: u8) -> Result<Vec<&[u8]>, AllocError>
-    ensures { IfOk result (λ parts. map (λ part. part.now) parts.items ≡ slice_split (λ b. b == separator) text.now) }
-{
-    text.split(move |b| *b == separator).collect(alloc)
-}
-
 fn cmd_of_parts(alloc: Global, parts: &[&[u8]]) -> Result<Cmd, NoMemory>
     ensures { IfOk result (λ cmd. cmd ≡ command_of_parts (map (λ part. part.now) parts.now)) }
 {
@@ -46,36 +36,127 @@ fn cmd_of_parts(alloc: Global, parts: &[&[u8]]) -> Result<Cmd, NoMemory>
             Ok(Cmd::Bad)
         }
         [word, path] => {
-            if *word == b"create".as_slice() {
-                let cmd = create(alloc, path)?;
-                return Ok(cmd);
-            }
-            Ok(Cmd::Bad)
+            let cmd = with_path(alloc, word, path)?;
+            Ok(cmd)
+        }
+        [word, path, last] => {
+            let cmd = with_two(alloc, word, path, last)?;
+            Ok(cmd)
         }
         [word, path, offset, last] => {
-            if *word == b"write".as_slice() {
-                let cmd = write(alloc, path, offset, last)?;
-                return Ok(cmd);
-            }
-            if *word == b"read".as_slice() {
-                let cmd = read(alloc, path, offset, last)?;
-                return Ok(cmd);
-            }
-            Ok(Cmd::Bad)
+            let cmd = with_three(alloc, word, path, offset, last)?;
+            Ok(cmd)
+        }
+        [word, path, offset, length, byte] => {
+            let cmd = with_four(alloc, word, path, offset, length, byte)?;
+            Ok(cmd)
         }
         [] => Ok(Cmd::Bad),
-        [_, _, _] => Ok(Cmd::Bad),
-        [_, _, _, _, _, ..] => Ok(Cmd::Bad),
+        [_, _, _, _, _, _, ..] => Ok(Cmd::Bad),
     }
 }
 
-fn create(alloc: Global, part: &[u8]) -> Result<Cmd, NoMemory>
-    ensures { IfOk result (λ cmd. cmd ≡ create_of (path_of part.now)) }
+// A word and a path.
+fn with_path(alloc: Global, word: &[u8], part: &[u8]) -> Result<Cmd, NoMemory>
+    ensures { IfOk result (λ cmd. cmd ≡ path_command word.now (path_of part.now)) }
 {
     match path(alloc, part)? {
-        Some(path) => Ok(Cmd::Create(path)),
+        Some(path) => Ok(cmd_of_path(word, path)),
         None => Ok(Cmd::Bad),
     }
+}
+
+fn cmd_of_path(word: &[u8], path: Path) -> Cmd
+    ensures { result ≡ path_command word.now (Some path) }
+{
+    if word == b"mkdir".as_slice() {
+        return Cmd::Mkdir(path);
+    }
+    if word == b"create".as_slice() {
+        return Cmd::Create(path);
+    }
+    if word == b"unlink".as_slice() {
+        return Cmd::Unlink(path);
+    }
+    if word == b"rmdir".as_slice() {
+        return Cmd::Rmdir(path);
+    }
+    if word == b"stat".as_slice() {
+        return Cmd::Stat(path);
+    }
+    if word == b"list".as_slice() {
+        return Cmd::List(path);
+    }
+    Cmd::Bad
+}
+
+// A word, a path and one argument more.
+fn with_two(alloc: Global, word: &[u8], part: &[u8], last: &[u8]) -> Result<Cmd, NoMemory>
+    ensures { IfOk result (λ cmd. cmd ≡ command_of_parts (word.now ∷ part.now ∷ last.now ∷ [])) }
+{
+    if word == b"truncate".as_slice() {
+        let cmd = truncate(alloc, part, last)?;
+        return Ok(cmd);
+    }
+    let cmd = with_paths(alloc, word, part, last)?;
+    Ok(cmd)
+}
+
+fn truncate(alloc: Global, part: &[u8], size: &[u8]) -> Result<Cmd, NoMemory>
+    ensures { IfOk result (λ cmd. cmd ≡ truncate_of (path_of part.now) (number_of size.now)) }
+{
+    let Some(path) = path(alloc, part)? else {
+        return Ok(Cmd::Bad);
+    };
+    match number(size) {
+        Some(size) => Ok(Cmd::Truncate(path, size)),
+        None => Ok(Cmd::Bad),
+    }
+}
+
+fn with_paths(alloc: Global, word: &[u8], part: &[u8], other: &[u8]) -> Result<Cmd, NoMemory>
+    ensures { IfOk result (λ cmd. cmd ≡ paths_command word.now (path_of part.now) (path_of other.now)) }
+{
+    let Some(first) = path(alloc, part)? else {
+        return Ok(Cmd::Bad);
+    };
+    match path(alloc, other)? {
+        Some(second) => Ok(cmd_of_paths(word, first, second)),
+        None => Ok(Cmd::Bad),
+    }
+}
+
+fn cmd_of_paths(word: &[u8], first: Path, second: Path) -> Cmd
+    ensures { result ≡ paths_command word.now (Some first) (Some second) }
+{
+    if word == b"link".as_slice() {
+        return Cmd::Link(first, second);
+    }
+    if word == b"rename".as_slice() {
+        return Cmd::Rename(first, second);
+    }
+    Cmd::Bad
+}
+
+// A word, a path, an offset and one argument more.
+fn with_three(
+    alloc: Global,
+    word: &[u8],
+    part: &[u8],
+    offset: &[u8],
+    last: &[u8],
+) -> Result<Cmd, NoMemory>
+    ensures { IfOk result (λ cmd. cmd ≡ command_of_parts (word.now ∷ part.now ∷ offset.now ∷ last.now ∷ [])) }
+{
+    if word == b"write".as_slice() {
+        let cmd = write(alloc, part, offset, last)?;
+        return Ok(cmd);
+    }
+    if word == b"read".as_slice() {
+        let cmd = read(alloc, part, offset, last)?;
+        return Ok(cmd);
+    }
+    Ok(Cmd::Bad)
 }
 
 fn write(alloc: Global, part: &[u8], offset: &[u8], digits: &[u8]) -> Result<Cmd, NoMemory>
@@ -111,83 +192,47 @@ fn read(alloc: Global, part: &[u8], offset: &[u8], length: &[u8]) -> Result<Cmd,
     Ok(Cmd::Bad)
 }
 
-fn path(alloc: Global, part: &[u8]) -> Result<Option<Path>, NoMemory>
-    ensures { IfOk result (λ path. path ≡ path_of part.now) }
+// A word, a path, an offset, a length and a byte.
+fn with_four(
+    alloc: Global,
+    word: &[u8],
+    part: &[u8],
+    offset: &[u8],
+    length: &[u8],
+    byte: &[u8],
+) -> Result<Cmd, NoMemory>
+    ensures { IfOk result (λ cmd. cmd ≡ command_of_parts (word.now ∷ part.now ∷ offset.now ∷ length.now ∷ byte.now ∷ [])) }
 {
-    if part == b"/".as_slice() {
-        return Ok(Some(Path::root(alloc)));
+    if word == b"fill".as_slice() {
+        let cmd = fill(alloc, part, offset, length, byte)?;
+        return Ok(cmd);
     }
-    let parts = parts(alloc, part, b'/')?;
-    let path = path_of_parts(alloc, parts.as_slice())?;
-    Ok(path)
+    Ok(Cmd::Bad)
 }
 
-fn path_of_parts(alloc: Global, parts: &[&[u8]]) -> Result<Option<Path>, NoMemory>
-    ensures { IfOk result (λ path. path ≡ names_of (map (λ part. part.now) parts.now)) }
+fn fill(
+    alloc: Global,
+    part: &[u8],
+    offset: &[u8],
+    length: &[u8],
+    byte: &[u8],
+) -> Result<Cmd, NoMemory>
+    ensures { IfOk result (λ cmd. cmd ≡ fill_of (path_of part.now) (number_of offset.now) (number_of length.now) (number_of byte.now)) }
 {
-    match parts {
-        [] => Ok(None),
-        [_] => Ok(None),
-        [first, names @ ..] => {
-            if !first.is_empty() {
-                return Ok(None);
-            }
-            let path = path_of_names(alloc, names)?;
-            Ok(path)
-        }
-    }
-}
-
-fn path_of_names(alloc: Global, parts: &[&[u8]]) -> Result<Option<Path>, NoMemory>
-    ensures { IfOk result (λ path. path ≡ (if list_all is_name (map (λ part. part.now) parts.now)
-        then Some (map (λ part. part.now) parts.now) else None)) }
-{
-    let mut names = Vec::new(alloc);
-    for part in parts {
-        let Some(name) = Name::new(part) else {
-            return Ok(None);
-        };
-        names.push(name)?;
-    }
-    Ok(Some(Path::from_names(names)))
-}
-
-fn number(part: &[u8]) -> Option<u32>
-    ensures { result ≡ number_of part.now }
-{
-    if !has_digits_alone(part) {
-        return None;
-    }
-    let Ok(text) = str::from_utf8(part) else {
-        return None;
+    let Some(path) = path(alloc, part)? else {
+        return Ok(Cmd::Bad);
     };
-    let Ok(number) = text.parse::<u32>() else {
-        return None;
+    let Some(offset) = number(offset) else {
+        return Ok(Cmd::Bad);
     };
-    let mut buffer = Buffer::new();
-    if buffer.format(number).as_bytes() == part {
-        return Some(number);
-    }
-    None
-}
-
-fn has_digits_alone(part: &[u8]) -> bool
-    ensures { result ≡ list_all is_ascii_digit part.now }
-{
-    part.iter().all(|byte| byte.is_ascii_digit())
-}
-
-fn bytes(alloc: Global, part: &[u8]) -> Result<Option<Bytes>, NoMemory>
-    ensures { IfOk result (λ bytes. bytes ≡ bytes_of part.now) }
-{
-    match hex::decode(alloc, part) {
-        Ok(bytes) => {
-            if bytes.is_empty() {
-                return Ok(None);
-            }
-            Ok(Some(Bytes::from_vec(bytes)))
-        }
-        Err(FromHexError::OutOfMemory) => Err(NoMemory),
-        Err(_) => Ok(None),
+    let Some(length) = number(length) else {
+        return Ok(Cmd::Bad);
+    };
+    let Some(number) = number(byte) else {
+        return Ok(Cmd::Bad);
+    };
+    match u8::try_from(number) {
+        Ok(byte) => Ok(Cmd::Fill(path, offset, length, byte)),
+        Err(_) => Ok(Cmd::Bad),
     }
 }

@@ -1,14 +1,15 @@
-//! From commands and replies to their texts. Each text is built piece by piece behind what is there, and
-//! each helper's clause names the piece that it adds.
+//! From a command to its text, the line that asks for it. The line is built piece by piece, and each
+//! helper's clause names what it adds.
 
-ghost use Rattle.std.specs.Prelude.{◌≡◌, ℕ, List, ◌++◌, OnOk, IfOk, true, codes, decimal};
+ghost use Rattle.std.specs.Prelude.{◌≡◌, ◌++◌, OnOk, IfOk, true, codes, decimal};
 ghost use Rattle.hex.specs.Hex.{encode_lower};
+ghost use Rattle.opt_tree.specs.Listing.{slashed, path_text};
 ghost use Rattle.opt_script.specs.Grammar.{command_of, is_in_grammar};
-ghost use Rattle.opt_script.specs.Text.{slashed, path_text, command_text, digits_behind_blank, text_of_reply};
+ghost use Rattle.opt_script.specs.Text.{command_text};
 
-use itoa::Buffer;
-use opt_base::{Bytes, Name, NoMemory};
-use opt_tree::{Cmd, Path, Reply};
+use crate::pieces::{push, push_digits, push_number};
+use opt_base::{Name, NoMemory};
+use opt_tree::{Cmd, Path};
 use std::alloc::Global;
 
 /// The line that asks for this command, without a line feed.
@@ -28,91 +29,59 @@ fn text_of_cmd(alloc: Global, cmd: &Cmd) -> Result<Vec<u8>, NoMemory>
 {
     let mut text = Vec::new(alloc);
     match cmd {
-        Cmd::Create(path) => {
-            push(&mut text, b"create ")?;
-            push_path(&mut text, path)?;
-        }
+        Cmd::Mkdir(path) => push_word_and_path(&mut text, b"mkdir ", path)?,
+        Cmd::Create(path) => push_word_and_path(&mut text, b"create ", path)?,
         Cmd::Write(path, offset, bytes) => {
-            push(&mut text, b"write ")?;
-            push_path(&mut text, path)?;
-            push_number(&mut text, u64::from(*offset))?;
-            push_digits(alloc, &mut text, bytes.as_slice())?;
+            push_at(&mut text, b"write ", path, *offset)?;
+            push_digits(&mut text, bytes.as_slice())?;
+        }
+        Cmd::Fill(path, offset, length, byte) => {
+            push_at(&mut text, b"fill ", path, *offset)?;
+            push_number(&mut text, u64::from(*length))?;
+            push_number(&mut text, u64::from(*byte))?;
         }
         Cmd::Read(path, offset, length) => {
-            push(&mut text, b"read ")?;
-            push_path(&mut text, path)?;
-            push_number(&mut text, u64::from(*offset))?;
+            push_at(&mut text, b"read ", path, *offset)?;
             push_number(&mut text, u64::from(*length))?;
         }
+        Cmd::Truncate(path, size) => push_at(&mut text, b"truncate ", path, *size)?,
+        Cmd::Link(path, other) => push_paths(&mut text, b"link ", path, other)?,
+        Cmd::Unlink(path) => push_word_and_path(&mut text, b"unlink ", path)?,
+        Cmd::Rmdir(path) => push_word_and_path(&mut text, b"rmdir ", path)?,
+        Cmd::Rename(path, other) => push_paths(&mut text, b"rename ", path, other)?,
+        Cmd::Stat(path) => push_word_and_path(&mut text, b"stat ", path)?,
+        Cmd::List(path) => push_word_and_path(&mut text, b"list ", path)?,
         Cmd::Osync => push(&mut text, b"osync")?,
         Cmd::Bad => push(&mut text, b"?")?,
     }
     Ok(text)
 }
 
-/// How this reply is written, without a line feed.
-///
-/// # Errors
-/// Want of memory.
-pub fn reply_text(alloc: Global, reply: &Reply) -> Result<Vec<u8>, NoMemory>
-    ensures { IfOk result (λ text. text.items ≡ text_of_reply reply.now) }
+// The word, which ends with a blank, and the path.
+fn push_word_and_path(text: &mut Vec<u8>, word: &[u8], path: &Path) -> Result<(), NoMemory>
+    ensures { OnOk result (text.new.items ≡ text.old.items ++ (word.now ++ path_text path.now)) }
 {
-    let mut text = Vec::new(alloc);
-    match reply {
-        Reply::Ok => push(&mut text, b"ok")?,
-        Reply::Bytes(bytes) => {
-            push(&mut text, b"hex")?;
-            push_found(alloc, &mut text, bytes.as_slice())?;
-        }
-        Reply::Synced(point) => {
-            push(&mut text, b"synced")?;
-            push_number(&mut text, *point)?;
-        }
-        Reply::Bad => push(&mut text, b"bad")?,
-        Reply::Refused(why) => {
-            push(&mut text, b"refused")?;
-            push_number(&mut text, u64::from(why.number()))?;
-            push(&mut text, b" ")?;
-            push(&mut text, why.name().as_bytes())?;
-        }
-    }
-    Ok(text)
-}
-
-fn push(text: &mut Vec<u8>, more: &[u8]) -> Result<(), NoMemory>
-    ensures { OnOk result (text.new.items ≡ text.old.items ++ more.now) }
-{
-    text.extend_from_slice(more)?;
+    push(text, word)?;
+    push_path(text, path)?;
     Ok(())
 }
 
-// A blank and the number.
-fn push_number(text: &mut Vec<u8>, number: u64) -> Result<(), NoMemory>
-    ensures { OnOk result (text.new.items ≡ text.old.items ++ (codes " " ++ decimal number)) }
+// The same, a blank and a number.
+fn push_at(text: &mut Vec<u8>, word: &[u8], path: &Path, number: u32) -> Result<(), NoMemory>
+    ensures { OnOk result (text.new.items ≡ text.old.items ++ (word.now ++ path_text path.now ++ codes " " ++ decimal number)) }
 {
-    let mut buffer = Buffer::new();
+    push_word_and_path(text, word, path)?;
+    push_number(text, u64::from(number))?;
+    Ok(())
+}
+
+// The word, which ends with a blank, the path, a blank and the other path.
+fn push_paths(text: &mut Vec<u8>, word: &[u8], path: &Path, other: &Path) -> Result<(), NoMemory>
+    ensures { OnOk result (text.new.items ≡ text.old.items ++ (word.now ++ path_text path.now ++ codes " " ++ path_text other.now)) }
+{
+    push_word_and_path(text, word, path)?;
     push(text, b" ")?;
-    push(text, buffer.format(number).as_bytes())?;
-    Ok(())
-}
-
-// A blank and the bytes' digits.
-fn push_digits(alloc: Global, text: &mut Vec<u8>, bytes: &[u8]) -> Result<(), NoMemory>
-    ensures { OnOk result (text.new.items ≡ text.old.items ++ (codes " " ++ encode_lower bytes.now)) }
-{
-    let digits = hex::encode(alloc, bytes)?;
-    push(text, b" ")?;
-    push(text, digits.as_bytes())?;
-    Ok(())
-}
-
-fn push_found(alloc: Global, text: &mut Vec<u8>, bytes: &[u8]) -> Result<(), NoMemory>
-    ensures { OnOk result (text.new.items ≡ text.old.items ++ digits_behind_blank bytes.now) }
-{
-    match bytes {
-        [] => {}
-        [_, ..] => push_digits(alloc, text, bytes)?,
-    }
+    push_path(text, other)?;
     Ok(())
 }
 

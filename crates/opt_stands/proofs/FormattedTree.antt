@@ -2,11 +2,12 @@
 use Rattle.std.proofs.Common.{◌≡◌, ◌≢◌, ℕ, zero, suc, ◌*◌, ◌<◌, ◌≤◌, ◌&&◌, ◌||◌, true, false, true≢false, IsTrue, nat_lt, nat_le, if◌then◌else◌, [], length, replicate, slice_get, Some, None, unwrap_or, option_map, sym, refl, subst, ap, ◌∙◌, ◌⊎◌, inl, inr, arith}
 use Rattle.std.proofs.lemmas.Bool.{cases_Bool, cases_eq, and_parts, and_from, ltb-true, ltb-false, leb-true, lt-ltb, le-ltb, le-leb}
 use Rattle.opt_base.specs.Seal.{Blocks}
+use Rattle.opt_base.specs.Runs.{run_places}
 use Rattle.opt_geom.specs.Geometry.{Geometry, IsGeometry, bitmap_start, bitmap_blocks, data_start}
 use Rattle.opt_layout.specs.declared.node.Node.{Node}
 use Rattle.opt_layout.specs.Bytes.{when, are_zeros}
 use Rattle.opt_layout.specs.Bitmap.{is_set}
-use Rattle.opt_layout.specs.Node.{node_bytes, node_at, run_places}
+use Rattle.opt_layout.specs.Node.{node_bytes, node_at}
 use Rattle.opt_journal.specs.Run.{is_live, live_part}
 use Rattle.opt_journal.specs.Formatted.{formatted, empty_root}
 use Rattle.opt_tree.specs.Step.{start}

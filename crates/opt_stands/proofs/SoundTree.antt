@@ -8,7 +8,7 @@ use Rattle.opt_layout.specs.declared.slot.Slot.{Slot}
 use Rattle.opt_layout.specs.Bytes.{when}
 use Rattle.opt_layout.specs.Node.{node_at}
 use Rattle.opt_tree.specs.Tree.{Tree, Thing, IsSound, Dir}
-use Rattle.opt_tree.specs.Step.{is_dir}
+use Rattle.opt_tree.specs.Walk.{is_dir}
 use Rattle.opt_stands.specs.Files.{FileNode, files_of, file_of}
 use Rattle.opt_stands.specs.Inodes.{Inode, ADir, AFile, IsInodeOf, thing_of}
 use Rattle.opt_stands.specs.Walks.{Entries, entries_of, entry_in, walk}

@@ -1,11 +1,12 @@
 -- The nodes in use among some blocks, each with its bytes. They are told in docs/LAYOUT.md.
 use Rattle.std.specs.Prelude.{ℕ, ◌&&◌, nat_le, List, [], ◌∷◌, ◌++◌, take, drop, Option, option_map}
 use Rattle.opt_base.specs.Seal.{Blocks}
+use Rattle.opt_base.specs.Runs.{run_places}
 use Rattle.opt_geom.specs.Geometry.{Geometry}
 use Rattle.opt_layout.specs.declared.node.Node.{Node}
 use Rattle.opt_layout.specs.declared.node.NodeKind.{NodeKind}
 use Rattle.opt_layout.specs.Bytes.{when}
-use Rattle.opt_layout.specs.Node.{node_at, run_places}
+use Rattle.opt_layout.specs.Node.{node_at}
 
 -- a node in use: its kind, how many slots name it, and its bytes
 pub record FileNode : Type 0 where

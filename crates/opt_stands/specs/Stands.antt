@@ -1,27 +1,21 @@
 -- When blocks, and an image of a disk, stand for a tree. It is told in docs/LAYOUT.md.
 use Rattle.std.specs.Prelude.{◌≡◌, ◌↔◌, ℕ, ◌+◌, ◌*◌, ◌<◌, ◌≤◌, ◌==◌, false, IsTrue, if◌then◌else◌, List, [], ◌∷◌, length, replicate, slice_get, None, Some, option_map}
-use Rattle.std.specs.FinMap.{get, entries}
+use Rattle.std.specs.FinMap.{get}
 use Rattle.opt_base.specs.Seal.{Blocks}
+use Rattle.opt_base.specs.Runs.{run_places}
 use Rattle.opt_geom.specs.Geometry.{Geometry, bitmap_blocks, data_start}
 use Rattle.opt_layout.specs.declared.node.Node.{Node}
 use Rattle.opt_layout.specs.declared.node.NodeKind.TheVariants.{Dir}
 use Rattle.opt_layout.specs.declared.slot.Slot.{Slot}
 use Rattle.opt_layout.specs.Bitmap.{is_set}
 use Rattle.opt_layout.specs.Bytes.{are_zeros}
-use Rattle.opt_layout.specs.Node.{node_size, node_at, node_bytes, run_places}
+use Rattle.opt_layout.specs.Node.{node_size, node_at, node_bytes}
 use Rattle.opt_journal.specs.Run.{HeldIs, is_live}
-use Rattle.opt_tree.specs.Tree.{Tree, Names}
+use Rattle.opt_tree.specs.Tree.{Tree}
+use Rattle.opt_tree.specs.Names.{path_count}
 use Rattle.opt_stands.specs.Files.{files_of, used_node, past_content}
 use Rattle.opt_stands.specs.Inodes.{Inode, Inodes, ADir, AFile, AreInodesOf, AreDistinct, thing_of}
 use Rattle.opt_stands.specs.Walks.{entries_of, walk, OnlyBy}
-
-abbrev pub times : ℕ → List (List (List ℕ) × ℕ) → ℕ
-times k [] = 0
-times k (e ∷ es) = (if e.1 == k then 1 else 0) + times k es
-
--- how many paths lead to node k
-abbrev pub path_count : Names → ℕ → ℕ
-path_count names k = times k (entries names)
 
 -- The inode map stands for the tree: its paths are the walks from the root, and its nodes are those in use.
 -- A file's links are the slots that name it. They are its paths too, since one path leads to each directory and names are distinct.

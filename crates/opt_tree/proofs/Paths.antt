@@ -1,13 +1,15 @@
 -- The search tree's entries stand for a finite map from paths: look-up and insertion agree.
-use Rattle.std.proofs.Common.{◌≡◌, ℕ, cond, List, [], ◌∷◌, map, sym, refl, ap, ◌∙◌}
+use Rattle.std.proofs.Common.{◌≡◌, ℕ, Bool, true, false, cond, List, [], ◌∷◌, map, Option, None, Some, IsSome, MutBor, subst, sym, refl, ap, ◌∙◌, ⊎_elim, true≢false}
+use Rattle.std.proofs.lemmas.Bool.{cases_Bool}
+use Rattle.std.specs.Option.{option_copied_mut}
 use Rattle.std.specs.Ordering.{is_eq, eq_by_cmp, match_ordering}
 use Rattle.std.specs.declared.cmp.Ordering.{Ordering}
 use Rattle.std.specs.declared.cmp.Ordering.TheVariants.{Less, Equal, Greater}
-use Rattle.std.specs.Cmp.{IsTotalOrder, nat_cmp_total}
+use Rattle.std.specs.Cmp.{IsTotalOrder, nat_cmp_total, eq_by_cmp_equiv}
 use Rattle.std.specs.Cmp.Lexicographic.{lists_total}
-use Rattle.std.specs.Map.{lookup}
+use Rattle.std.specs.Map.{lookup, IsKeyTest, AreApart, KeepsOthers}
 use Rattle.std.specs.BTreeMap.{insert_entry}
-use Rattle.std.specs.FinMap.{IsAntisymmetric, nat_cmp-IsAntisymmetric, slice_cmp-IsAntisymmetric, get, insert, from_entries, find, put, get-from_entries, get-insert, same_map}
+use Rattle.std.specs.FinMap.{IsAntisymmetric, nat_cmp-IsAntisymmetric, slice_cmp-IsAntisymmetric, get, insert, remove, from_entries, find, put, get-from_entries, get-insert, get-remove, same_map}
 use Rattle.std.specs.FinMap.Entries.{find-put, by_order}
 use Rattle.opt_tree.specs.Tree.{path_cmp}
 
@@ -48,3 +50,56 @@ module _ {V X : Type 0} (f : V → List (List ℕ)) where
       → from_entries {R = path_cmp} (pairs us) ≡ insert (from_entries (pairs es)) p v
   added es us k v p is key = ap (λ us. from_entries (pairs us)) is ∙ ap from_entries (pairs_put es k v) ∙ insert_put path_total path_same (pairs es) (f k) v
       ∙ ap (λ q. insert (from_entries (pairs es)) q v) key
+
+tied : (r : Ordering) → is_eq r ≡ true → r ≡ Equal
+tied Less is = absurd (true≢false (sym is))
+tied Equal is = refl
+tied Greater is = absurd (true≢false (sym is))
+
+pub same_path : (p q : List (List ℕ)) → eq_by_cmp path_cmp p q ≡ true → p ≡ q
+same_path p q is = path_same p q (tied _ is)
+
+pub path_itself : (p : List (List ℕ)) → eq_by_cmp path_cmp p p ≡ true
+path_itself p = (eq_by_cmp_equiv path_total).refl p
+
+pub not_same : (p q : List (List ℕ)) → (p ≡ q → ⊥) → eq_by_cmp path_cmp p q ≡ false
+not_same p q apart = ⊎_elim (λ is. absurd (apart (same_path p q is))) (λ is. is) (cases_Bool (eq_by_cmp path_cmp p q))
+
+module _ {V : Type 0} (f : V → List (List ℕ)) where
+  abbrev key_cmp : V → V → Ordering
+  key_cmp x y = path_cmp (f x) (f y)
+
+  finds_one : (q : List (List ℕ)) → IsKeyTest (eq_by_cmp key_cmp) (λ k. eq_by_cmp path_cmp q (f k))
+  finds_one q x y is = (eq_by_cmp_equiv path_total).congr q (f x) (f y) is
+
+  apart : (p q : List (List ℕ)) → eq_by_cmp path_cmp q p ≡ false → AreApart (λ k. eq_by_cmp path_cmp p (f k)) (λ k. eq_by_cmp path_cmp q (f k))
+  apart p q not k is = ap (eq_by_cmp path_cmp q) (sym (same_path p (f k) is)) ∙ not
+
+  others : {X : Type 0} (p q : List (List ℕ)) (es us : List (V × X)) → KeepsOthers (eq_by_cmp key_cmp) (λ k. eq_by_cmp path_cmp p (f k)) es us
+      → eq_by_cmp path_cmp q p ≡ false → lookup (λ k. eq_by_cmp path_cmp q (f k)) us ≡ lookup (λ k. eq_by_cmp path_cmp q (f k)) es
+  unfolding KeepsOthers
+  others p q es us kept not = kept (λ k. eq_by_cmp path_cmp q (f k)) (finds_one q) (apart p q not)
+
+  changed_at : {X : Type 0} (p q : List (List ℕ)) (es us : List (V × X)) (w : Option X) (b : Bool) → eq_by_cmp path_cmp q p ≡ b
+      → lookup (λ k. eq_by_cmp path_cmp p (f k)) us ≡ w → KeepsOthers (eq_by_cmp key_cmp) (λ k. eq_by_cmp path_cmp p (f k)) es us
+      → get (from_entries {R = path_cmp} (pairs f us)) q ≡ cond b w (get (from_entries {R = path_cmp} (pairs f es)) q)
+  changed_at p q es us w true is here kept = ap (get (from_entries {R = path_cmp} (pairs f us))) (same_path q p is) ∙ sym (found f p us) ∙ here
+  changed_at p q es us w false is here kept = sym (found f q us) ∙ others p q es us kept is ∙ found f q es
+
+  -- an entry taken out of the search tree
+  pub removed : {X : Type 0} (p : List (List ℕ)) (es us : List (V × X)) → lookup (λ k. eq_by_cmp path_cmp p (f k)) us ≡ None
+      → KeepsOthers (eq_by_cmp key_cmp) (λ k. eq_by_cmp path_cmp p (f k)) es us
+      → from_entries {R = path_cmp} (pairs f us) ≡ remove (from_entries {R = path_cmp} (pairs f es)) p
+  removed p es us here kept = same_map path_total path_same _ _ (λ q.
+      changed_at p q es us None _ refl here kept ∙ sym (get-remove path_total (from_entries (pairs f es)) p q))
+
+  -- the value of an entry written over
+  pub put_over : {X : Type 0} (p : List (List ℕ)) (v : X) (es us : List (V × X)) → lookup (λ k. eq_by_cmp path_cmp p (f k)) us ≡ Some v
+      → KeepsOthers (eq_by_cmp key_cmp) (λ k. eq_by_cmp path_cmp p (f k)) es us
+      → from_entries {R = path_cmp} (pairs f us) ≡ insert (from_entries {R = path_cmp} (pairs f es)) p v
+  put_over p v es us here kept = same_map path_total path_same _ _ (λ q.
+      changed_at p q es us (Some v) _ refl here kept ∙ sym (get-insert path_total (from_entries (pairs f es)) p v q))
+
+pub lent_there : (lent : Option (MutBor ℕ)) {o : Option ℕ} → option_copied_mut lent ≡ o → IsSome o → IsSome lent
+lent_there None is here = subst IsSome (sym is) here
+lent_there (Some x) is here = refl

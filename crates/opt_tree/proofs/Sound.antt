@@ -1,266 +1,168 @@
--- A sound tree stays sound under each command.
-use Rattle.std.proofs.Common.{◌≡◌, ℕ, zero, suc, ◌+◌, ◌-◌, ◌≤◌, ◌<◌, Bool, true, false, cond, T, List, [], ◌∷◌, ◌++◌, length, take, Option, Some, None, Result, Ok, Err, IfOk, OnErr, is_some, is_none, unwrap_or, find as first, sym, refl, ap, ◌∙◌, subst, ◌⊎◌, inl, inr, arith, nat_cmp, true≢false, append_assoc, append-nil, if◌then◌else◌}
-use Rattle.std.proofs.lemmas.Bool.{cases_Bool}
-use Rattle.std.specs.Ordering.{eq_by_cmp, is_eq}
-use Rattle.std.specs.declared.cmp.Ordering.{Ordering}
-use Rattle.std.specs.declared.cmp.Ordering.TheVariants.{Less, Equal, Greater}
-use Rattle.std.specs.List.{range_with_len}
-use Rattle.std.specs.Cmp.{IsTotalOrder, nat_cmp_total, tied_itself}
-use Rattle.std.specs.FinMap.{FinMap, IsAntisymmetric, nat_cmp-IsAntisymmetric, get, insert, empty, get-insert, get-empty}
-use Rattle.opt_base.specs.declared.memory.NoMemory.{NoMemory}
+-- A sound tree stays sound under each command, its greatest number stays, and the empty root is sound.
+use Rattle.std.proofs.Common.{◌≡◌, ℕ, ◌≤◌, ◌==◌, Bool, true, false, List, [], ◌∷◌, ◌++◌, length, replicate, Option, Some, None, sym, refl, ap, ◌∙◌, subst, ◌⊎◌, inl, inr, arith, if◌then◌else◌, nat_le}
+use Rattle.std.specs.Cmp.{nat_cmp_total}
+use Rattle.std.specs.FinMap.{nat_cmp-IsAntisymmetric, get, insert, empty, get-empty}
+use Rattle.std.specs.Ordering.{nat_cmp}
 use Rattle.opt_tree.specs.declared.command.Cmd.{Cmd}
-use Rattle.opt_tree.specs.declared.command.Cmd.TheVariants.{Create, Write, Read, Osync, Bad}
+use Rattle.opt_tree.specs.declared.command.Cmd.TheVariants.{Mkdir, Create, Write, Fill, Read, Truncate, Link, Unlink, Rmdir, Rename, Stat, List as ListNames, Osync, Bad}
 use Rattle.opt_tree.specs.declared.command.Reply.{Reply}
-use Rattle.opt_tree.specs.declared.command.Reply.TheVariants.{Ok as Done, Refused}
+use Rattle.opt_tree.specs.declared.command.Reply.TheVariants.{Ok as Done}
 use Rattle.opt_tree.specs.declared.command.Refusal.{Refusal}
-use Rattle.opt_tree.specs.declared.command.Refusal.TheVariants.{NotFound, NotDir, TooLarge}
+use Rattle.opt_tree.specs.declared.command.Refusal.TheVariants.{Exists, IsDir, NotDir, NotEmpty, BelowItself, TooManyLinks}
 use Rattle.opt_tree.specs.Tree.{Tree, Names, Nodes, Thing, Dir, File, IsSound, path_cmp}
-use Rattle.opt_tree.specs.Step.{Session, start, step, walk, walk_from, enter, is_dir, parent, parent_refusal, no_directory, least_unused, create, create_at, write, write_node, osync, with_bytes, written}
+use Rattle.opt_tree.specs.Paths.{parent}
+use Rattle.opt_tree.specs.Names.{holds_names}
+use Rattle.opt_tree.specs.Walk.{walk_refusal, parent_refusal, thing_at, is_dir, is_file, is_there, is_same_node, links, content}
+use Rattle.opt_tree.specs.Conditions.{when, file_refusal, link_refusal, rmdir_refusal, refusal}
+use Rattle.opt_tree.specs.Step.{Session, start, step, answered, changed_to, edited, written, resized, linked_by, linked, removed, moved, osync}
+use Rattle.opt_tree.specs.Run.{Answers}
 use Rattle.opt_tree.proofs.Paths.{path_total, path_same}
-
-equal_of : (o : Ordering) → is_eq o ≡ true → o ≡ Equal
-equal_of Less e = absurd (true≢false (sym e))
-equal_of Equal e = refl
-equal_of Greater e = absurd (true≢false (sym e))
-
-some_same : {A : Type 0} (x y : A) → Some x ≡ Some y → x ≡ y
-some_same x y e = ap (λ o. unwrap_or o x) e
-
-none_some : {A : Type 0} {o : Option A} (x : A) → o ≡ None → o ≡ Some x → ⊥
-none_some x none some = subst T (ap is_some (sym some ∙ none)) tt
-
--- what a map has at a key after one entry was put in
-module _ {K X : Type 0} {R : K → K → Ordering} (o : IsTotalOrder R) (same : IsAntisymmetric R) where
-  put_here : (m : FinMap R X) (k : K) (v : X) (q : K) → q ≡ k → get (insert m k v) q ≡ Some v
-  put_here m k v q e = get-insert o m k v q ∙ ap (λ b. cond b (Some v) (get m q)) (ap (λ x. eq_by_cmp R x k) e ∙ ap is_eq (tied_itself o k))
-
-  look : (m : FinMap R X) (k : K) (v : X) (q : K) → (q ≡ k) ⊎ (get (insert m k v) q ≡ get m q)
-  look m k v q = by (cases_Bool (eq_by_cmp R q k))
-    where
-      by : (eq_by_cmp R q k ≡ true) ⊎ (eq_by_cmp R q k ≡ false) → (q ≡ k) ⊎ (get (insert m k v) q ≡ get m q)
-      by (inl e) = inl (same q k (equal_of (R q k) e))
-      by (inr e) = inr (get-insert o m k v q ∙ ap (λ b. cond b (Some v) (get m q)) e)
-
-  keeps : (m : FinMap R X) (k : K) (v : X) (q : K) (x : X) → get m k ≡ None → get m q ≡ Some x → get (insert m k v) q ≡ Some x
-  keeps m k v q x free there = by (look m k v q)
-    where
-      by : (q ≡ k) ⊎ (get (insert m k v) q ≡ get m q) → get (insert m k v) q ≡ Some x
-      by (inl e) = absurd (none_some x (ap (get m) e ∙ free) there)
-      by (inr e) = e ∙ there
-
-dir_of : (o : Option Thing) → is_dir o ≡ true → o ≡ Some Dir
-dir_of None e = absurd (true≢false (sym e))
-dir_of (Some Dir) e = refl
-dir_of (Some (File bytes)) e = absurd (true≢false (sym e))
-
-dir_file : {bytes : List ℕ} {o : Option Thing} → o ≡ Some Dir → o ≡ Some (File bytes) → ⊥
-dir_file dir file = true≢false (sym (ap is_dir dir) ∙ ap is_dir file)
-
-ok_part : Result ℕ Refusal → Option ℕ
-ok_part (Ok n) = Some n
-ok_part (Err why) = None
-
-err_ok : (why : Refusal) (k : ℕ) → Err why ≡ Ok k → ⊥
-unfolding ok_part
-err_ok why k e = none_some k refl (ap ok_part e)
-
--- the walk ends at the number that the whole path has
-walked : (t : Tree) (here : List (List ℕ)) (n : ℕ) (rest : List (List ℕ)) (k : ℕ) → get t.names here ≡ Some n → walk_from t here n rest ≡ Ok k → get t.names (here ++ rest) ≡ Some k
-unfolding ok_part
-walked t here n [] k at end = ap (get t.names) (append-nil here) ∙ at ∙ ap ok_part end
-walked t here n (name ∷ rest) k at end = by (is_dir (get t.nodes n)) (get t.names (here ++ name ∷ [])) refl (λ m. walked t (here ++ name ∷ []) m rest k) end
-  where
-    by : (b : Bool) (found : Option ℕ) → get t.names (here ++ name ∷ []) ≡ found
-        → ((m : ℕ) → get t.names (here ++ name ∷ []) ≡ Some m → walk_from t (here ++ name ∷ []) m rest ≡ Ok k → get t.names ((here ++ name ∷ []) ++ rest) ≡ Some k)
-        → enter b found (λ m. walk_from t (here ++ name ∷ []) m rest) ≡ Ok k → get t.names (here ++ name ∷ rest) ≡ Some k
-    by false found is go e = absurd (err_ok NotDir k e)
-    by true None is go e = absurd (err_ok NotFound k e)
-    by true (Some m) is go e = ap (get t.names) (sym (append_assoc here (name ∷ []) rest)) ∙ go m is e
-
-one_less : (n : ℕ) → suc (suc n) - 1 ≡ suc (suc n - 1)
-one_less n = omega arith
-
-parent_longer : (x : List ℕ) (up : List (List ℕ)) (name : List ℕ) → parent (x ∷ (up ++ name ∷ [])) ≡ x ∷ parent (up ++ name ∷ [])
-parent_longer x [] name = refl
-parent_longer x (y ∷ up) name = ap (λ n. take n (x ∷ (y ∷ (up ++ name ∷ [])))) (one_less (length (up ++ name ∷ [])))
-
-parent_append : (up : List (List ℕ)) (name : List ℕ) → parent (up ++ name ∷ []) ≡ up
-parent_append [] name = refl
-parent_append (x ∷ up) name = parent_longer x up name ∙ ap (λ rest. x ∷ rest) (parent_append up name)
-
-found_in : (test : ℕ → Bool) (a n m : ℕ) → first test (range_with_len a n) ≡ Some m → (test m ≡ true) × (a ≤ m) × (m < a + n)
-found_in test a zero m e = absurd (none_some m refl e)
-found_in test a (suc n) m e = by (test a) refl (found_in test (a + 1) n m) e
-  where
-    by : (b : Bool) → test a ≡ b → (first test (range_with_len (a + 1) n) ≡ Some m → (test m ≡ true) × (a + 1 ≤ m) × (m < a + 1 + n))
-        → cond b (Some a) (first test (range_with_len (a + 1) n)) ≡ Some m → (test m ≡ true) × (a ≤ m) × (m < a + suc n)
-    by true is go e = let same : a ≡ m = some_same a m e in (ap test (sym same) ∙ is, omega (arith, same), omega (arith, same))
-    by false is go e = let r = go e in (r.0, omega (arith, r.1), omega (arith, r.2))
-
-none_of : {A : Type 0} (o : Option A) → is_none o ≡ true → o ≡ None
-none_of None e = refl
-none_of (Some x) e = absurd (true≢false (sym e))
-
-unused_is : (limit m : ℕ) (nodes : Nodes) → least_unused limit nodes ≡ Some m → (get nodes m ≡ None) × (1 ≤ m) × (m ≤ limit)
-unfolding least_unused
-unused_is limit m nodes e = let r = found_in (λ n. is_none (get nodes n)) 1 limit m e in (none_of _ r.0, r.1, omega (arith, r.2))
+use Rattle.opt_tree.proofs.Strips.{none_some, some_same, lacks, no_append}
+use Rattle.opt_tree.proofs.Finds.{put_here, look}
+use Rattle.opt_tree.proofs.WalkLemmas.{no_reason, no_reasons, not_so, thing_is, walked_there, parent_is, nothing_below_file, target_apart}
+use Rattle.opt_tree.proofs.SoundChanges.{with_link, added_sound, edited_sound}
+use Rattle.opt_tree.proofs.SoundMoves.{removed_sound, moved_onto_sound}
 
 module _ (limit : ℕ) (t : Tree) (s : IsSound limit t) where
-  -- a new file at a new path, below a directory
-  with_file : (path : List (List ℕ)) (m k : ℕ) → get t.names path ≡ None → get t.nodes m ≡ None → 1 ≤ m → m ≤ limit → get t.names (parent path) ≡ Some k → get t.nodes k ≡ Some Dir
-      → IsSound limit (record { names = insert t.names path m; nodes = insert t.nodes m (File []) })
-  with_file path m k no_path no_node low high up_at up_dir = record {
-    root = keep_name [] 1 s.root;
-    root_dir = keep_node 1 Dir s.root_dir;
-    parents = λ up name n e. parents_by up name n e (look path_total path_same t.names path m (up ++ name ∷ []));
-    named = λ p n e. named_by p n e (look path_total path_same t.names path m p);
-    reached = λ n x e. reached_by n x e (look nat_cmp_total nat_cmp-IsAntisymmetric t.nodes m (File []) n);
-    one_path = λ n p q dir at_p at_q. one_by n p q dir at_p at_q (look nat_cmp_total nat_cmp-IsAntisymmetric t.nodes m (File []) n);
-    within = λ n x e. within_by n x e (look nat_cmp_total nat_cmp-IsAntisymmetric t.nodes m (File []) n);
-  }
+  -- what is there and isn't a directory is a file
+  file_there : (path : List (List ℕ)) (n : ℕ) → get t.names path ≡ Some n → is_dir (thing_at t path) ≡ false → (bytes : List ℕ) × (get t.nodes n ≡ Some (File bytes))
+  file_there path n at no_dir = by (s.named path n at)
     where
-      keep_name : (p : List (List ℕ)) (n : ℕ) → get t.names p ≡ Some n → get (insert t.names path m) p ≡ Some n
-      keep_name p n e = keeps path_total path_same t.names path m p n no_path e
+      by : (x : Thing) × (get t.nodes n ≡ Some x) → (bytes : List ℕ) × (get t.nodes n ≡ Some (File bytes))
+      by (Dir, is) = let e : is_dir (thing_at t path) ≡ true = ap is_dir (thing_is t path n Dir at is) in absurd cc
+      by (File bytes, is) = (bytes, is)
 
-      keep_node : (n : ℕ) (x : Thing) → get t.nodes n ≡ Some x → get (insert t.nodes m (File [])) n ≡ Some x
-      keep_node n x e = keeps nat_cmp_total nat_cmp-IsAntisymmetric t.nodes m (File []) n x no_node e
-
-      new_name : (p : List (List ℕ)) → p ≡ path → get (insert t.names path m) p ≡ Some m
-      new_name p e = put_here path_total path_same t.names path m p e
-
-      new_node : (n : ℕ) → n ≡ m → get (insert t.nodes m (File [])) n ≡ Some (File [])
-      new_node n e = put_here nat_cmp_total nat_cmp-IsAntisymmetric t.nodes m (File []) n e
-
-      lift : (up : List (List ℕ)) → (j : ℕ) × (get t.names up ≡ Some j) × (get t.nodes j ≡ Some Dir) → (j : ℕ) × (get (insert t.names path m) up ≡ Some j) × (get (insert t.nodes m (File [])) j ≡ Some Dir)
-      lift up r = (r.0, keep_name up r.0 r.1, keep_node r.0 Dir r.2)
-
-      parents_by : (up : List (List ℕ)) (name : List ℕ) (n : ℕ) → get (insert t.names path m) (up ++ name ∷ []) ≡ Some n
-          → (up ++ name ∷ [] ≡ path) ⊎ (get (insert t.names path m) (up ++ name ∷ []) ≡ get t.names (up ++ name ∷ []))
-          → (j : ℕ) × (get (insert t.names path m) up ≡ Some j) × (get (insert t.nodes m (File [])) j ≡ Some Dir)
-      parents_by up name n e (inl is) = lift up (k, ap (get t.names) (sym (parent_append up name) ∙ ap parent is) ∙ up_at, up_dir)
-      parents_by up name n e (inr is) = lift up (s.parents up name n (sym is ∙ e))
-
-      named_by : (p : List (List ℕ)) (n : ℕ) → get (insert t.names path m) p ≡ Some n → (p ≡ path) ⊎ (get (insert t.names path m) p ≡ get t.names p) → (x : Thing) × (get (insert t.nodes m (File [])) n ≡ Some x)
-      named_by p n e (inl is) = (File [], new_node n (some_same n m (sym e ∙ new_name p is)))
-      named_by p n e (inr is) = let r = s.named p n (sym is ∙ e) in (r.0, keep_node n r.0 r.1)
-
-      reached_by : (n : ℕ) (x : Thing) → get (insert t.nodes m (File [])) n ≡ Some x → (n ≡ m) ⊎ (get (insert t.nodes m (File [])) n ≡ get t.nodes n) → (p : List (List ℕ)) × (get (insert t.names path m) p ≡ Some n)
-      reached_by n x e (inl is) = (path, new_name path refl ∙ ap Some (sym is))
-      reached_by n x e (inr is) = let r = s.reached n x (sym is ∙ e) in (r.0, keep_name r.0 n r.1)
-
-      old_name : (n : ℕ) (p : List (List ℕ)) → get t.nodes n ≡ Some Dir → get (insert t.names path m) p ≡ Some n → (p ≡ path) ⊎ (get (insert t.names path m) p ≡ get t.names p) → get t.names p ≡ Some n
-      old_name n p dir e (inl is) = absurd (none_some Dir no_node (ap (get t.nodes) (some_same m n (sym (new_name p is) ∙ e)) ∙ dir))
-      old_name n p dir e (inr is) = sym is ∙ e
-
-      one_by : (n : ℕ) (p q : List (List ℕ)) → get (insert t.nodes m (File [])) n ≡ Some Dir → get (insert t.names path m) p ≡ Some n → get (insert t.names path m) q ≡ Some n
-          → (n ≡ m) ⊎ (get (insert t.nodes m (File [])) n ≡ get t.nodes n) → p ≡ q
-      one_by n p q dir at_p at_q (inl is) = absurd (dir_file dir (new_node n is))
-      one_by n p q dir at_p at_q (inr is) = let was : get t.nodes n ≡ Some Dir = sym is ∙ dir in
-          s.one_path n p q was (old_name n p was at_p (look path_total path_same t.names path m p)) (old_name n q was at_q (look path_total path_same t.names path m q))
-
-      within_by : (n : ℕ) (x : Thing) → get (insert t.nodes m (File [])) n ≡ Some x → (n ≡ m) ⊎ (get (insert t.nodes m (File [])) n ≡ get t.nodes n) → (1 ≤ n) × (n ≤ limit)
-      within_by n x e (inl is) = (omega (arith, is, low), omega (arith, is, high))
-      within_by n x e (inr is) = s.within n x (sym is ∙ e)
-
-  -- other bytes in a file
-  with_other : (n : ℕ) (old bytes : List ℕ) → get t.nodes n ≡ Some (File old) → IsSound limit (record { names = t.names; nodes = insert t.nodes n (File bytes) })
-  with_other n old bytes there = record {
-    root = s.root;
-    root_dir = dir 1 s.root_dir;
-    parents = λ up name j e. let r = s.parents up name j e in (r.0, r.1, dir r.0 r.2);
-    named = λ p j e. some_by j (s.named p j e) (look nat_cmp_total nat_cmp-IsAntisymmetric t.nodes n (File bytes) j);
-    reached = λ j x e. let r = old_by j x e (look nat_cmp_total nat_cmp-IsAntisymmetric t.nodes n (File bytes) j) in s.reached j r.0 r.1;
-    one_path = λ j p q is at_p at_q. s.one_path j p q (dir_by j is (look nat_cmp_total nat_cmp-IsAntisymmetric t.nodes n (File bytes) j)) at_p at_q;
-    within = λ j x e. let r = old_by j x e (look nat_cmp_total nat_cmp-IsAntisymmetric t.nodes n (File bytes) j) in s.within j r.0 r.1;
-  }
+  linked_sound : (path other : List (List ℕ)) → link_refusal t path other ≡ None → IsSound limit (linked t path other)
+  linked_sound path other e =
+      let many : Option Refusal = when (nat_le 65535 (links t path)) TooManyLinks in
+      let dir : Option Refusal = when (is_dir (thing_at t path)) IsDir in
+      let there : Option Refusal = when (is_there t other) Exists in
+      let one = no_reason (walk_refusal t path) (parent_refusal t other ∷ there ∷ dir ∷ many ∷ []) e in
+      let two = no_reason (parent_refusal t other) (there ∷ dir ∷ many ∷ []) one.1 in
+      let r = no_reasons there dir many two.1 in
+      let free : get t.names other ≡ None = lacks (get t.names other) (not_so (is_there t other) Exists r.0) in
+      let up = parent_is t other s.root (λ root. none_some 1 (ap (get t.names) (sym root) ∙ free) s.root) two.0 in
+      by (get t.names path) refl free (not_so (is_dir (thing_at t path)) IsDir r.1) up
     where
-      new_node : (j : ℕ) → j ≡ n → get (insert t.nodes n (File bytes)) j ≡ Some (File bytes)
-      new_node j e = put_here nat_cmp_total nat_cmp-IsAntisymmetric t.nodes n (File bytes) j e
+      by : (o : Option ℕ) → get t.names path ≡ o → get t.names other ≡ None → is_dir (thing_at t path) ≡ false → (k : ℕ) × (get t.names (parent other) ≡ Some k) × (get t.nodes k ≡ Some Dir)
+          → IsSound limit (linked_by t other o)
+      by None at free file up = s
+      by (Some n) at free file up = let f = file_there path n at file in with_link limit t s other n up.0 f.0 free f.1 up.1 up.2
 
-      dir_at : (j : ℕ) → get t.nodes j ≡ Some Dir → (j ≡ n) ⊎ (get (insert t.nodes n (File bytes)) j ≡ get t.nodes j) → get (insert t.nodes n (File bytes)) j ≡ Some Dir
-      dir_at j e (inl is) = absurd (dir_file e (ap (get t.nodes) is ∙ there))
-      dir_at j e (inr is) = is ∙ e
+  unlinked_sound : (path : List (List ℕ)) → file_refusal t path ≡ None → IsSound limit (removed t path)
+  unlinked_sound path e =
+      let one = no_reason (walk_refusal t path) (when (is_dir (thing_at t path)) IsDir ∷ []) e in
+      let two = no_reason (when (is_dir (thing_at t path)) IsDir) [] one.1 in
+      let file = not_so (is_dir (thing_at t path)) IsDir two.0 in
+      let n = walked_there t path s.root one.0 in
+      let f = file_there path n.0 n.1 file in
+      let is : is_file (thing_at t path) ≡ true = ap is_file (thing_is t path n.0 (File f.0) n.1 f.1) in
+      removed_sound limit t s path (nothing_below_file limit t s path is) (λ root. root_is_dir file root)
+    where
+      root_is_dir : is_dir (thing_at t path) ≡ false → path ≡ [] → ⊥
+      root_is_dir file root =
+          let at : get t.names path ≡ Some 1 = ap (get t.names) root ∙ s.root in
+          let dir : is_dir (thing_at t path) ≡ true = ap is_dir (thing_is t path 1 Dir at s.root_dir) in
+          cc
 
-      dir : (j : ℕ) → get t.nodes j ≡ Some Dir → get (insert t.nodes n (File bytes)) j ≡ Some Dir
-      dir j e = dir_at j e (look nat_cmp_total nat_cmp-IsAntisymmetric t.nodes n (File bytes) j)
-
-      some_by : (j : ℕ) → (x : Thing) × (get t.nodes j ≡ Some x) → (j ≡ n) ⊎ (get (insert t.nodes n (File bytes)) j ≡ get t.nodes j) → (x : Thing) × (get (insert t.nodes n (File bytes)) j ≡ Some x)
-      some_by j r (inl is) = (File bytes, new_node j is)
-      some_by j r (inr is) = (r.0, is ∙ r.1)
-
-      old_by : (j : ℕ) (x : Thing) → get (insert t.nodes n (File bytes)) j ≡ Some x → (j ≡ n) ⊎ (get (insert t.nodes n (File bytes)) j ≡ get t.nodes j) → (y : Thing) × (get t.nodes j ≡ Some y)
-      old_by j x e (inl is) = (File old, ap (get t.nodes) is ∙ there)
-      old_by j x e (inr is) = (x, sym is ∙ e)
-
-      dir_by : (j : ℕ) → get (insert t.nodes n (File bytes)) j ≡ Some Dir → (j ≡ n) ⊎ (get (insert t.nodes n (File bytes)) j ≡ get t.nodes j) → get t.nodes j ≡ Some Dir
-      dir_by j e (inl is) = absurd (dir_file e (new_node j is))
-      dir_by j e (inr is) = sym is ∙ e
+  rmdir_sound : (path : List (List ℕ)) → rmdir_refusal t path ≡ None → IsSound limit (removed t path)
+  rmdir_sound path e =
+      let root : Option Refusal = when (length path == 0) BelowItself in
+      let full : Option Refusal = when (holds_names t.names path) NotEmpty in
+      let file : Option Refusal = when (is_file (thing_at t path)) NotDir in
+      let one = no_reason (walk_refusal t path) (file ∷ full ∷ root ∷ []) e in
+      let r = no_reasons file full root one.1 in
+      removed_sound limit t s path (not_so (holds_names t.names path) NotEmpty r.1) (λ none. not_root none (not_so (length path == 0) BelowItself r.2))
+    where
+      not_root : path ≡ [] → (length path == 0) ≡ false → ⊥
+      not_root none e = let so : (length path == 0) ≡ true = ap (λ p. length p == 0) none in cc
 
 abbrev pub Sound : Session → Type 0
 Sound s = IsSound s.limit s.tree
 
--- a parent that is no refusal is a directory with its path
-parent_is : (t : Tree) (path : List (List ℕ)) → get t.names [] ≡ Some 1 → get t.names path ≡ None → parent_refusal t path ≡ None → (k : ℕ) × (get t.names (parent path) ≡ Some k) × (get t.nodes k ≡ Some Dir)
-parent_is t [] root free e = absurd (none_some 1 free root)
-parent_is t (name ∷ names) root free e = by (walk t (parent (name ∷ names))) refl e
-  where
-    of_dir : (k : ℕ) (b : Bool) → is_dir (get t.nodes k) ≡ b → (if b then None else Some NotDir) ≡ None → get t.nodes k ≡ Some Dir
-    of_dir k true is e = dir_of (get t.nodes k) is
-    of_dir k false is e = absurd (none_some NotDir e refl)
+-- what a command leaves is sound, and its greatest number is as it was
+abbrev Stays : Session → Session × Reply → Type 0
+Stays s answer = (IsSound s.limit answer.0.tree) × (answer.0.limit ≡ s.limit)
 
-    by : (r : Result ℕ Refusal) → walk t (parent (name ∷ names)) ≡ r → no_directory t r ≡ None → (k : ℕ) × (get t.names (parent (name ∷ names)) ≡ Some k) × (get t.nodes k ≡ Some Dir)
-    by (Err why) is e = absurd (none_some why e refl)
-    by (Ok k) is e = (k, walked t [] 1 (parent (name ∷ names)) k root is, of_dir k (is_dir (get t.nodes k)) refl e)
+-- nothing changes where the test holds, and else this tree comes
+choice_stays : (s : Session) (t : Tree) (b : Bool) → Sound s → (b ≡ false → IsSound s.limit t) → Stays s (if b then (s, Done) else changed_to s t)
+choice_stays s t true ok new = (ok, refl)
+choice_stays s t false ok new = (new refl, refl)
 
-create_sound : (s : Session) (path : List (List ℕ)) (r : Option Refusal) → parent_refusal s.tree path ≡ r → Sound s → Sound (create s path r).0
-create_sound s path (Some why) is ok = ok
-create_sound s path None is ok = by (get s.tree.names path) (least_unused s.limit s.tree.nodes) refl refl
-  where
-    by : (found unused : Option ℕ) → get s.tree.names path ≡ found → least_unused s.limit s.tree.nodes ≡ unused → Sound (create_at s path found unused).0
-    by (Some there) unused f u = ok
-    by None None f u = ok
-    by None (Some m) f u =
-        let up = parent_is s.tree path ok.root f is in
-        let number = unused_is s.limit m s.tree.nodes u in
-        with_file s.limit s.tree ok path m up.0 f number.0 number.1 number.2 up.1 up.2
+osync_stays : (s : Session) (b : Bool) → Sound s → Stays s (osync s b)
+osync_stays s true ok = (ok, refl)
+osync_stays s false ok = (ok, refl)
 
-abbrev pick : Bool → Session × Reply → Session × Reply → Session × Reply
-pick large x y = if large then x else y
+accepted_stays : (s : Session) (cmd : Cmd) → Sound s → refusal s.limit s.tree cmd ≡ None → Stays s (answered s cmd None)
+accepted_stays s (Mkdir path) ok e = (added_sound s.limit s.tree ok path Dir e, refl)
+accepted_stays s (Create path) ok e = (added_sound s.limit s.tree ok path (File []) e, refl)
+accepted_stays s (Write path offset bytes) ok e = choice_stays s (edited s.tree path (written offset bytes)) (length bytes == 0) ok (λ _. edited_sound s.limit s.tree ok path (written offset bytes))
+accepted_stays s (Fill path offset count byte) ok e =
+    choice_stays s (edited s.tree path (written offset (replicate count byte))) (length (replicate count byte) == 0) ok (λ _. edited_sound s.limit s.tree ok path (written offset (replicate count byte)))
+accepted_stays s (Read path offset count) ok e = (ok, refl)
+accepted_stays s (Truncate path size) ok e = choice_stays s (edited s.tree path (resized size)) (size == length (content s.tree path)) ok (λ _. edited_sound s.limit s.tree ok path (resized size))
+accepted_stays s (Link path other) ok e = (linked_sound s.limit s.tree ok path other e, refl)
+accepted_stays s (Unlink path) ok e = (unlinked_sound s.limit s.tree ok path e, refl)
+accepted_stays s (Rmdir path) ok e = (rmdir_sound s.limit s.tree ok path e, refl)
+accepted_stays s (Rename from to) ok e =
+    choice_stays s (moved (removed s.tree to) from to) (is_same_node s.tree from to) ok (λ other. moved_onto_sound s.limit s.tree ok from to (target_apart s.limit s.tree ok from to e other))
+accepted_stays s (Stat path) ok e = (ok, refl)
+accepted_stays s (ListNames path) ok e = (ok, refl)
+accepted_stays s Osync ok e = osync_stays s s.changed ok
+accepted_stays s Bad ok e = (ok, refl)
 
-write_sound : (s : Session) (off : ℕ) (bytes : List ℕ) (r : Result ℕ Refusal) → Sound s → Sound (write s off bytes r).0
-write_sound s off bytes (Err why) ok = ok
-write_sound s off bytes (Ok n) ok = by bytes (get s.tree.nodes n) refl
-  where
-    room : (b : ℕ) (bytes old : List ℕ) (large : Bool) → get s.tree.nodes n ≡ Some (File old)
-        → Sound (pick large (s, Refused TooLarge) (with_bytes s n (written off (b ∷ bytes) old), Done)).0
-    room b bytes old true is = ok
-    room b bytes old false is = with_other s.limit s.tree ok n old (written off (b ∷ bytes) old) is
+answered_stays : (s : Session) (cmd : Cmd) (r : Option Refusal) → refusal s.limit s.tree cmd ≡ r → Sound s → Stays s (answered s cmd r)
+answered_stays s cmd (Some why) is ok = (ok, refl)
+answered_stays s cmd None is ok = accepted_stays s cmd ok is
 
-    by : (bytes : List ℕ) (o : Option Thing) → get s.tree.nodes n ≡ o → Sound (write_node s n off bytes o).0
-    by bytes None is = ok
-    by bytes (Some Dir) is = ok
-    by [] (Some (File old)) is = ok
-    by (b ∷ bytes) (Some (File old)) is = room b bytes old _ is
+pub step_sound : (s : Session) (cmd : Cmd) → IsSound s.limit s.tree → IsSound s.limit (step s cmd).0.tree
+step_sound s cmd ok = (answered_stays s cmd (refusal s.limit s.tree cmd) refl ok).0
 
-osync_sound : (s : Session) (b : Bool) → Sound s → Sound (osync s b).0
-osync_sound s true ok = ok
-osync_sound s false ok = ok
+-- The greatest number stays, sound or not.
 
-pub step_sound : (s : Session) (cmd : Cmd) → Sound s → Sound (step s cmd).0
-step_sound s (Create path) ok = create_sound s path (parent_refusal s.tree path) refl ok
-step_sound s (Write path off bytes) ok = write_sound s off bytes (walk s.tree path) ok
-step_sound s (Read path off len) ok = ok
-step_sound s Osync ok = osync_sound s s.changed ok
-step_sound s Bad ok = ok
+choice_limit : (s : Session) (t : Tree) (b : Bool) → (if b then (s, Done) else changed_to s t).0.limit ≡ s.limit
+choice_limit s t true = refl
+choice_limit s t false = refl
 
-head_of : List (List ℕ) → Option (List ℕ)
-head_of [] = None
-head_of (x ∷ xs) = Some x
+osync_limit : (s : Session) (b : Bool) → (osync s b).0.limit ≡ s.limit
+osync_limit s true = refl
+osync_limit s false = refl
 
-no_append : (up : List (List ℕ)) (name : List ℕ) → up ++ name ∷ [] ≡ [] → ⊥
-unfolding head_of
-no_append [] name e = none_some name refl (sym (ap head_of e))
-no_append (x ∷ up) name e = none_some x refl (sym (ap head_of e))
+answered_limit : (s : Session) (cmd : Cmd) (r : Option Refusal) → (answered s cmd r).0.limit ≡ s.limit
+answered_limit s cmd (Some why) = refl
+answered_limit s (Mkdir path) None = refl
+answered_limit s (Create path) None = refl
+answered_limit s (Write path offset bytes) None = choice_limit s _ (length bytes == 0)
+answered_limit s (Fill path offset count byte) None = choice_limit s _ (length (replicate count byte) == 0)
+answered_limit s (Read path offset count) None = refl
+answered_limit s (Truncate path size) None = choice_limit s _ (size == length (content s.tree path))
+answered_limit s (Link path other) None = refl
+answered_limit s (Unlink path) None = refl
+answered_limit s (Rmdir path) None = refl
+answered_limit s (Rename from to) None = choice_limit s _ (is_same_node s.tree from to)
+answered_limit s (Stat path) None = refl
+answered_limit s (ListNames path) None = refl
+answered_limit s Osync None = osync_limit s s.changed
+answered_limit s Bad None = refl
+
+pub step_limit : (s : Session) (cmd : Cmd) → (step s cmd).0.limit ≡ s.limit
+step_limit s cmd = answered_limit s cmd (refusal s.limit s.tree cmd)
+
+-- after a command the whole session is sound
+pub stepped : (s : Session) (cmd : Cmd) → Sound s → Sound (step s cmd).0
+stepped s cmd ok = subst (λ limit. IsSound limit (step s cmd).0.tree) (sym (step_limit s cmd)) (step_sound s cmd ok)
+
+-- after an answer the tree is sound, whether memory was found or not
+pub answer_sound : (old new : Session) (cmd : Cmd) (reply : Reply) → Answers old cmd reply new → Sound old → Sound new
+answer_sound old new cmd reply (inl is) ok = subst Sound (ap (λ r. r.0) is) (stepped old cmd ok)
+answer_sound old new cmd reply (inr kept) ok = subst Sound (sym kept.1) ok
+
+-- and the greatest number is as it was
+pub answer_limit : (old new : Session) (cmd : Cmd) (reply : Reply) → Answers old cmd reply new → new.limit ≡ old.limit
+answer_limit old new cmd reply (inl is) = ap (λ r. r.0.limit) (sym is) ∙ step_limit old cmd
+answer_limit old new cmd reply (inr kept) = ap (λ s. s.limit) kept.1
+
+-- The empty root.
 
 abbrev no_names : Names
 no_names = empty
@@ -268,13 +170,13 @@ no_names = empty
 abbrev no_nodes : Nodes
 no_nodes = empty
 
-pub start_sound : (limit : ℕ) → 1 ≤ limit → Sound (start limit)
+pub start_sound : (limit : ℕ) → 1 ≤ limit → IsSound limit (start limit).tree
 start_sound limit low = record {
-  root = put_here path_total path_same no_names [] 1 [] refl;
-  root_dir = put_here nat_cmp_total nat_cmp-IsAntisymmetric no_nodes 1 Dir 1 refl;
+  root = put_here path_total no_names [] 1 [] refl;
+  root_dir = put_here nat_cmp_total no_nodes 1 Dir 1 refl;
   parents = λ up name n e. absurd (no_append up name (name_by (up ++ name ∷ []) n e (look path_total path_same no_names [] 1 (up ++ name ∷ []))));
-  named = λ p n e. (Dir, put_here nat_cmp_total nat_cmp-IsAntisymmetric no_nodes 1 Dir n (some_same n 1 (sym e ∙ put_here path_total path_same no_names [] 1 p (name_by p n e (look path_total path_same no_names [] 1 p)))));
-  reached = λ n x e. ([], put_here path_total path_same no_names [] 1 [] refl ∙ ap Some (sym (node_by n x e (look nat_cmp_total nat_cmp-IsAntisymmetric no_nodes 1 Dir n))));
+  named = λ p n e. (Dir, put_here nat_cmp_total no_nodes 1 Dir n (some_same n 1 (sym e ∙ put_here path_total no_names [] 1 p (name_by p n e (look path_total path_same no_names [] 1 p)))));
+  reached = λ n x e. ([], put_here path_total no_names [] 1 [] refl ∙ ap Some (sym (node_by n x e (look nat_cmp_total nat_cmp-IsAntisymmetric no_nodes 1 Dir n))));
   one_path = λ n p q dir at_p at_q. name_by p n at_p (look path_total path_same no_names [] 1 p) ∙ sym (name_by q n at_q (look path_total path_same no_names [] 1 q));
   within = λ n x e. let is = node_by n x e (look nat_cmp_total nat_cmp-IsAntisymmetric no_nodes 1 Dir n) in (omega (arith, is), omega (arith, is, low));
 }
@@ -286,8 +188,3 @@ start_sound limit low = record {
     node_by : (n : ℕ) (x : Thing) → get (insert no_nodes 1 Dir) n ≡ Some x → (n ≡ 1) ⊎ (get (insert no_nodes 1 Dir) n ≡ get no_nodes n) → n ≡ 1
     node_by n x e (inl is) = is
     node_by n x e (inr is) = absurd (none_some x (is ∙ get-empty nat_cmp n) e)
-
--- after an answer the tree is sound, whether memory was found or not
-pub answer_sound : (old new : Session) (cmd : Cmd) (result : Result Reply NoMemory) → Sound old → IfOk result (λ reply. step old cmd ≡ (new, reply)) → OnErr result (new ≡ old) → Sound new
-answer_sound old new cmd (Ok reply) sound done kept = subst Sound (ap (λ r. r.0) done) (step_sound old cmd sound)
-answer_sound old new cmd (Err why) sound done kept = subst Sound (sym kept) sound

@@ -1,7 +1,13 @@
 pub mod Tree
+pub mod Paths
+pub mod Names
+pub mod Walk
+pub mod Conditions
 pub mod Step
 pub mod Run
 pub mod Points
+pub mod Figures
+pub mod Listing
 pub mod Refusals
 pub mod Code
 pub mod Stored

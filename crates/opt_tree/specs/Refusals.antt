@@ -1,7 +1,7 @@
 -- How the reasons of refusals are written: each has a number and a name. They are told in docs/TREE.md.
 use Rattle.std.specs.Prelude.{ℕ, List, codes}
 use Rattle.opt_tree.specs.declared.command.Refusal.{Refusal}
-use Rattle.opt_tree.specs.declared.command.Refusal.TheVariants.{NotFound, Exists, NotDir, IsDir, NotEmpty, BelowItself, TooLarge, TooManyLinks, NoNode, NoMemory}
+use Rattle.opt_tree.specs.declared.command.Refusal.TheVariants.{NotFound, Exists, NotDir, IsDir, NotEmpty, BelowItself, TooLarge, TooManyLinks, NoNode, Full, TooBig, Scattered, ReadFault, DiskFault, Stopped, Spent, NoMemory}
 
 -- the number by which the trace names the reason
 abbrev pub refusal_number : Refusal → ℕ
@@ -14,6 +14,13 @@ refusal_number BelowItself = 6
 refusal_number TooLarge = 7
 refusal_number TooManyLinks = 8
 refusal_number NoNode = 9
+refusal_number (Full need left) = 10
+refusal_number (TooBig weight cost room) = 11
+refusal_number (Scattered runs) = 12
+refusal_number ReadFault = 13
+refusal_number DiskFault = 14
+refusal_number Stopped = 15
+refusal_number Spent = 16
 refusal_number NoMemory = 17
 
 -- the reason's name
@@ -27,4 +34,11 @@ refusal_name BelowItself = codes "BelowItself"
 refusal_name TooLarge = codes "TooLarge"
 refusal_name TooManyLinks = codes "TooManyLinks"
 refusal_name NoNode = codes "NoNode"
+refusal_name (Full need left) = codes "Full"
+refusal_name (TooBig weight cost room) = codes "TooBig"
+refusal_name (Scattered runs) = codes "Scattered"
+refusal_name ReadFault = codes "ReadFault"
+refusal_name DiskFault = codes "DiskFault"
+refusal_name Stopped = codes "Stopped"
+refusal_name Spent = codes "Spent"
 refusal_name NoMemory = codes "NoMemory"

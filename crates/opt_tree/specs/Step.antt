@@ -1,14 +1,17 @@
--- What each command does to the tree and answers, by cases on its two maps. It is told in docs/TREE.md.
-use Rattle.std.specs.Prelude.{ℕ, ◌+◌, ◌-◌, ◌^◌, min, Bool, true, false, if◌then◌else◌, List, [], ◌∷◌, ◌++◌, length, take, drop, replicate, nat_lt, is_none, Option, None, Some, Result, Ok, Err, find}
-use Rattle.std.specs.List.{range_with_len}
-use Rattle.std.specs.FinMap.{get, insert, empty}
+-- What each command does to the tree and answers. It is told in docs/TREE.md.
+use Rattle.std.specs.Prelude.{ℕ, ◌+◌, ◌-◌, ◌*◌, ◌^◌, ◌==◌, min, Bool, true, false, if◌then◌else◌, List, [], ◌++◌, length, take, drop, replicate, Option, None, Some}
+use Rattle.std.specs.FinMap.{get, insert, remove, empty}
 use Rattle.opt_tree.specs.declared.command.Cmd.{Cmd}
-use Rattle.opt_tree.specs.declared.command.Cmd.TheVariants.{Create, Write, Read, Osync, Bad}
+use Rattle.opt_tree.specs.declared.command.Cmd.TheVariants.{Mkdir, Create, Write, Fill, Read, Truncate, Link, Unlink, Rmdir, Rename, Stat, List as ListNames, Osync, Bad}
+use Rattle.opt_tree.specs.declared.command.Kind.TheVariants.{Dir as DirKind, File as FileKind}
 use Rattle.opt_tree.specs.declared.command.Reply.{Reply}
-use Rattle.opt_tree.specs.declared.command.Reply.TheVariants.{Ok as Done, Bytes, Synced, Bad as NotUnderstood, Refused}
+use Rattle.opt_tree.specs.declared.command.Reply.TheVariants.{Ok as Done, Bytes, Stat as StatReply, Names as NamesReply, Synced, Bad as NotUnderstood, Refused}
 use Rattle.opt_tree.specs.declared.command.Refusal.{Refusal}
-use Rattle.opt_tree.specs.declared.command.Refusal.TheVariants.{NotFound, Exists, NotDir, IsDir, TooLarge, NoNode}
-use Rattle.opt_tree.specs.Tree.{Tree, Nodes, Thing, Dir, File}
+use Rattle.opt_tree.specs.declared.command.Refusal.TheVariants.{NotFound}
+use Rattle.opt_tree.specs.Tree.{Tree, Names, Nodes, Thing, Dir, File}
+use Rattle.opt_tree.specs.Names.{path_count, names_in, renamed}
+use Rattle.opt_tree.specs.Walk.{content, is_same_node}
+use Rattle.opt_tree.specs.Conditions.{least_unused, refusal}
 
 -- a tree with the greatest node number that it may use, the number of its last sync point, and whether a command changed it since
 pub record Session : Type 0 where
@@ -17,92 +20,95 @@ pub record Session : Type 0 where
   pub points : ℕ
   pub changed : Bool
 
--- The walk from the root, name by name.
-
--- whether something is there that is a directory
-abbrev pub is_dir : Option Thing → Bool
-is_dir (Some Dir) = true
-is_dir _ = false
-
--- from a directory to what stands under a name there, and on
-abbrev pub enter : Bool → Option ℕ → (ℕ → Result ℕ Refusal) → Result ℕ Refusal
-enter false found on = Err NotDir
-enter true None on = Err NotFound
-enter true (Some n) on = on n
-
--- the walk that has come to `here`, which is node n, and has the names `rest` to go
-abbrev pub walk_from : Tree → List (List ℕ) → ℕ → List (List ℕ) → Result ℕ Refusal
-walk_from t here n [] = Ok n
-walk_from t here n (name ∷ rest) =
-    enter (is_dir (get t.nodes n)) (get t.names (here ++ name ∷ [])) (λ m. walk_from t (here ++ name ∷ []) m rest)
-
--- the number that the path leads to, or what the walk meets in its way
-abbrev pub walk : Tree → List (List ℕ) → Result ℕ Refusal
-walk t path = walk_from t [] 1 path
-
--- all names of a path but the last
-abbrev pub parent : List (List ℕ) → List (List ℕ)
-parent path = take (length path - 1) path
-
-abbrev pub no_directory : Tree → Result ℕ Refusal → Option Refusal
-no_directory t (Err why) = Some why
-no_directory t (Ok n) = if is_dir (get t.nodes n) then None else Some NotDir
-
--- why a path can't come to be there: its parent is walked to and must be a directory. The root has no walk
-abbrev pub parent_refusal : Tree → List (List ℕ) → Option Refusal
-parent_refusal t [] = None
-parent_refusal t (name ∷ names) = no_directory t (walk t (parent (name ∷ names)))
-
--- The commands.
-
--- the least number from 1 to the limit that stands for nothing
-unfoldable pub least_unused : ℕ → Nodes → Option ℕ
-least_unused limit nodes = find (λ n. is_none (get nodes n)) (range_with_len 1 limit)
-
--- a new path to a new node
-abbrev pub with_new : Session → List (List ℕ) → ℕ → Thing → Session
-with_new s path n thing =
-    record s { tree = record { names = insert s.tree.names path n; nodes = insert s.tree.nodes n thing }; changed = true }
-
-abbrev pub create_at : Session → List (List ℕ) → Option ℕ → Option ℕ → Session × Reply
-create_at s path (Some there) unused = (s, Refused Exists)
-create_at s path None None = (s, Refused NoNode)
-create_at s path None (Some n) = (with_new s path n (File []), Done)
-
--- an empty file at a path that isn't there, under the least unused number
-abbrev pub create : Session → List (List ℕ) → Option Refusal → Session × Reply
-create s path (Some why) = (s, Refused why)
-create s path None = create_at s path (get s.tree.names path) (least_unused s.limit s.tree.nodes)
+-- The bytes of a file.
 
 -- xs with ys from byte `off` on; a gap past the end is zeros
 abbrev pub written : ℕ → List ℕ → List ℕ → List ℕ
 written off ys xs = take off (xs ++ replicate (off - length xs) 0) ++ (ys ++ drop (off + length ys) xs)
 
--- node n with these bytes
-abbrev pub with_bytes : Session → ℕ → List ℕ → Session
-with_bytes s n bytes = record s { tree = record { names = s.tree.names; nodes = insert s.tree.nodes n (File bytes) }; changed = true }
+-- the first `size` bytes; growth is zeros
+abbrev pub resized : ℕ → List ℕ → List ℕ
+resized size xs = take size (xs ++ replicate (size - length xs) 0)
 
-abbrev pub write_file : Session → ℕ → ℕ → List ℕ → List ℕ → Session × Reply
-write_file s n off [] old = (s, Done)
-write_file s n off (b ∷ bytes) old =
-    if nat_lt 1073741824 (off + length (b ∷ bytes)) then (s, Refused TooLarge) else (with_bytes s n (written off (b ∷ bytes) old), Done)
+-- The tree after a change.
 
-abbrev pub write_node : Session → ℕ → ℕ → List ℕ → Option Thing → Session × Reply
-write_node s n off bytes (Some (File old)) = write_file s n off bytes old
-write_node s n off bytes _ = (s, Refused IsDir)
+abbrev pub with_node : Tree → List (List ℕ) → Thing → Option ℕ → Tree
+with_node t path thing None = t
+with_node t path thing (Some n) = record { names = insert t.names path n; nodes = insert t.nodes n thing }
 
-abbrev pub write : Session → ℕ → List ℕ → Result ℕ Refusal → Session × Reply
-write s off bytes (Err why) = (s, Refused why)
-write s off bytes (Ok n) = write_node s n off bytes (get s.tree.nodes n)
+-- a new node at the path, under the least unused number
+abbrev pub added : ℕ → Tree → List (List ℕ) → Thing → Tree
+added limit t path thing = with_node t path thing (least_unused limit t.nodes)
 
-abbrev pub read_node : ℕ → ℕ → Option Thing → Reply
-read_node off len (Some (File bytes)) = Bytes (take len (drop off bytes))
-read_node off len _ = Refused IsDir
+abbrev pub with_bytes : Nodes → ℕ → (List ℕ → List ℕ) → Option Thing → Nodes
+with_bytes nodes n change (Some (File bytes)) = insert nodes n (File (change bytes))
+with_bytes nodes n change _ = nodes
 
--- the bytes from `off` up to the lesser of off + len and the size
-abbrev pub read : Tree → ℕ → ℕ → Result ℕ Refusal → Reply
-read t off len (Err why) = Refused why
-read t off len (Ok n) = read_node off len (get t.nodes n)
+-- the nodes with the bytes of file n changed so
+abbrev pub edited_node : Nodes → ℕ → (List ℕ → List ℕ) → Nodes
+edited_node nodes n change = with_bytes nodes n change (get nodes n)
+
+abbrev pub edited_at : Tree → (List ℕ → List ℕ) → Option ℕ → Tree
+edited_at t change None = t
+edited_at t change (Some n) = record { names = t.names; nodes = edited_node t.nodes n change }
+
+-- the bytes of the file at the path changed so
+abbrev pub edited : Tree → List (List ℕ) → (List ℕ → List ℕ) → Tree
+edited t path change = edited_at t change (get t.names path)
+
+abbrev pub linked_by : Tree → List (List ℕ) → Option ℕ → Tree
+linked_by t other None = t
+linked_by t other (Some n) = record { names = insert t.names other n; nodes = t.nodes }
+
+-- the second path leads to the node at the first one too
+abbrev pub linked : Tree → List (List ℕ) → List (List ℕ) → Tree
+linked t path other = linked_by t other (get t.names path)
+
+-- node n is gone where no path leads to it
+abbrev pub with_used : Names → Nodes → ℕ → Tree
+with_used names nodes n = record { names = names; nodes = if path_count names n == 0 then remove nodes n else nodes }
+
+abbrev pub removed_by : Tree → List (List ℕ) → Option ℕ → Tree
+removed_by t path None = t
+removed_by t path (Some n) = with_used (remove t.names path) t.nodes n
+
+-- the path is gone, and its node too where it was the last one
+abbrev pub removed : Tree → List (List ℕ) → Tree
+removed t path = removed_by t path (get t.names path)
+
+-- every path at or below the first one moves to the second one
+abbrev pub moved : Tree → List (List ℕ) → List (List ℕ) → Tree
+moved t from to = record { names = renamed t.names from to; nodes = t.nodes }
+
+-- What the commands answer and leave, where nothing refuses them.
+
+-- done, with this tree
+abbrev pub changed_to : Session → Tree → Session × Reply
+changed_to s t = (record { tree = t; limit = s.limit; points = s.points; changed = true }, Done)
+
+-- no bytes change nothing
+abbrev pub write : Session → List (List ℕ) → ℕ → List ℕ → Session × Reply
+write s path offset bytes = if length bytes == 0 then (s, Done) else changed_to s (edited s.tree path (written offset bytes))
+
+abbrev pub truncate : Session → List (List ℕ) → ℕ → Session × Reply
+truncate s path size = if size == length (content s.tree path) then (s, Done) else changed_to s (edited s.tree path (resized size))
+
+-- what stood at `to` goes, and then the paths move; nothing happens where both lead to one node
+abbrev pub rename : Session → List (List ℕ) → List (List ℕ) → Session × Reply
+rename s from to = if is_same_node s.tree from to then (s, Done) else changed_to s (moved (removed s.tree to) from to)
+
+abbrev pub stat_of : Tree → List (List ℕ) → ℕ → Option Thing → Reply
+stat_of t path n None = Refused NotFound
+stat_of t path n (Some Dir) = StatReply (record { kind = DirKind; number = n; size = 64 * length (names_in t.names path); links = 1 })
+stat_of t path n (Some (File bytes)) = StatReply (record { kind = FileKind; number = n; size = length bytes; links = path_count t.names n })
+
+abbrev pub stat_by : Tree → List (List ℕ) → Option ℕ → Reply
+stat_by t path None = Refused NotFound
+stat_by t path (Some n) = stat_of t path n (get t.nodes n)
+
+-- kind, number, size and links of what stands at the path. A directory has 64 bytes for each name in it, and one link
+abbrev pub stat : Tree → List (List ℕ) → Reply
+stat t path = stat_by t path (get t.names path)
 
 -- the number after this one. Like every count it stops at 2^64 - 1
 abbrev pub next_point : ℕ → ℕ
@@ -110,16 +116,32 @@ next_point n = min (n + 1) (2 ^ 64 - 1)
 
 -- the next point where something changed since the last one, and else the last one
 abbrev pub osync : Session → Bool → Session × Reply
-osync s true = (record s { points = next_point s.points; changed = false }, Synced (next_point s.points))
+osync s true = (record { tree = s.tree; limit = s.limit; points = next_point s.points; changed = false }, Synced (next_point s.points))
 osync s false = (s, Synced s.points)
 
--- one command
+abbrev pub accepted : Session → Cmd → Session × Reply
+accepted s (Mkdir path) = changed_to s (added s.limit s.tree path Dir)
+accepted s (Create path) = changed_to s (added s.limit s.tree path (File []))
+accepted s (Write path offset bytes) = write s path offset bytes
+accepted s (Fill path offset count byte) = write s path offset (replicate count byte)
+accepted s (Read path offset count) = (s, Bytes (take count (drop offset (content s.tree path))))
+accepted s (Truncate path size) = truncate s path size
+accepted s (Link path other) = changed_to s (linked s.tree path other)
+accepted s (Unlink path) = changed_to s (removed s.tree path)
+accepted s (Rmdir path) = changed_to s (removed s.tree path)
+accepted s (Rename from to) = rename s from to
+accepted s (Stat path) = (s, stat s.tree path)
+accepted s (ListNames path) = (s, NamesReply (names_in s.tree.names path))
+accepted s Osync = osync s s.changed
+accepted s Bad = (s, NotUnderstood)
+
+abbrev pub answered : Session → Cmd → Option Refusal → Session × Reply
+answered s cmd (Some why) = (s, Refused why)
+answered s cmd None = accepted s cmd
+
+-- one command: refused for a reason, and then all is as it was, or done
 abbrev pub step : Session → Cmd → Session × Reply
-step s (Create path) = create s path (parent_refusal s.tree path)
-step s (Write path off bytes) = write s off bytes (walk s.tree path)
-step s (Read path off len) = (s, read s.tree off len (walk s.tree path))
-step s Osync = osync s s.changed
-step s Bad = (s, NotUnderstood)
+step s cmd = answered s cmd (refusal s.limit s.tree cmd)
 
 -- the root alone, on which nothing was done yet
 abbrev pub start : ℕ → Session

@@ -1,5 +1,5 @@
 -- The tree of names and byte files, as two finite maps. It is told in docs/TREE.md.
-use Rattle.std.specs.Prelude.{◌≡◌, ℕ, ◌≤◌, List, [], ◌∷◌, ◌++◌, Some}
+use Rattle.std.specs.Prelude.{◌≡◌, ℕ, ◌≤◌, List, [], ◌∷◌, ◌++◌, length, Some}
 use Rattle.std.specs.declared.cmp.Ordering.{Ordering}
 use Rattle.std.specs.Ordering.{nat_cmp}
 use Rattle.std.specs.Cmp.Lexicographic.{slice_cmp}
@@ -36,3 +36,7 @@ pub record IsSound (limit : ℕ) (t : Tree) : Type 0 where
   pub reached : (n : ℕ) (x : Thing) → get t.nodes n ≡ Some x → (p : List (List ℕ)) × (get t.names p ≡ Some n)
   pub one_path : (n : ℕ) (p q : List (List ℕ)) → get t.nodes n ≡ Some Dir → get t.names p ≡ Some n → get t.names q ≡ Some n → p ≡ q
   pub within : (n : ℕ) (x : Thing) → get t.nodes n ≡ Some x → (1 ≤ n) × (n ≤ limit)
+
+-- no file has more than 2^30 bytes
+abbrev pub HasSmallFiles : Nodes → Type 0
+HasSmallFiles nodes = (n : ℕ) (bytes : List ℕ) → get nodes n ≡ Some (File bytes) → length bytes ≤ 1073741824

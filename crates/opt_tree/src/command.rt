@@ -4,18 +4,36 @@
 ghost use Rattle.std.specs.Prelude.{◌≡◌};
 ghost use Rattle.opt_tree.specs.Refusals.{refusal_number, refusal_name};
 
-use crate::Path;
+use crate::{NameList, Path};
 use opt_base::Bytes;
 
 /// One command. `Bad` is a line that is none; it changes nothing and is answered `Bad`.
 #[derive(Debug, Drop)]
 pub enum Cmd {
+    /// Makes an empty directory.
+    Mkdir(Path),
     /// Makes an empty file.
     Create(Path),
     /// Puts the bytes into the file from this byte offset on.
     Write(Path, u32, Bytes),
+    /// Puts so many bytes of this value into the file: offset, length, byte.
+    Fill(Path, u32, u32, u8),
     /// Asks for at most so many bytes of the file from this byte offset on.
     Read(Path, u32, u32),
+    /// Makes the file so many bytes long; what is new is zeros.
+    Truncate(Path, u32),
+    /// Makes the second path lead to the file of the first one too.
+    Link(Path, Path),
+    /// Takes a path of a file away, and with its last path the file.
+    Unlink(Path),
+    /// Takes an empty directory away.
+    Rmdir(Path),
+    /// Moves the first path, with all below it, to the second one.
+    Rename(Path, Path),
+    /// Asks what stands at the path.
+    Stat(Path),
+    /// Asks for the names in the directory.
+    List(Path),
     /// Makes a sync point, where something changed since the last one.
     Osync,
     /// A line outside the grammar.
@@ -29,6 +47,10 @@ pub enum Reply {
     Ok,
     /// The bytes that a read found, which may be none.
     Bytes(Bytes),
+    /// What stands at a path.
+    Stat(Stat),
+    /// The names in a directory, ascending by their bytes.
+    Names(NameList),
     /// The number of the last sync point.
     Synced(u64),
     /// The command was `Cmd::Bad`.
@@ -37,20 +59,40 @@ pub enum Reply {
     Refused(Refusal),
 }
 
-/// Why a command was refused. Each has a number, by which the trace names it.
+/// Whether a node is a directory or a file.
+#[derive(Clone, Copy, Debug, PartialEq, Eq)]
+pub enum Kind {
+    Dir,
+    File,
+}
+
+/// What stands at a path.
+#[derive(Clone, Copy, Debug, PartialEq, Eq)]
+pub struct Stat {
+    pub kind: Kind,
+    /// The number of the node.
+    pub number: u32,
+    /// The bytes of a file; 64 for each name in a directory.
+    pub size: u64,
+    /// How many paths lead to it.
+    pub links: u64,
+}
+
+/// Why a command was refused. Each has a number, by which the trace names it. The tree alone answers 1 to
+/// 9 and 17; the others come from a file system over a disk.
 #[derive(Clone, Copy, Debug, PartialEq, Eq)]
 pub enum Refusal {
     /// 1: a name on the way isn't there.
     NotFound,
     /// 2: the path is there already.
     Exists,
-    /// 3: something on the way is no directory.
+    /// 3: something on the way is no directory, or a directory is wanted.
     NotDir,
     /// 4: the path names a directory, and a file is wanted.
     IsDir,
     /// 5: the directory holds names.
     NotEmpty,
-    /// 6: a directory would come to lie below itself.
+    /// 6: a directory would come to lie below itself, or the root would go.
     BelowItself,
     /// 7: the file would grow past 1 GiB.
     TooLarge,
@@ -58,6 +100,20 @@ pub enum Refusal {
     TooManyLinks,
     /// 9: every node number is used.
     NoNode,
+    /// 10: the command needs more blocks than are left.
+    Full { need: u32, left: u32 },
+    /// 11: what changed since the last sync point and this command don't fit one record of the journal.
+    TooBig { weight: u32, cost: u32, room: u32 },
+    /// 12: the blocks of the file would lie in more stretches than a node can tell.
+    Scattered { runs: u32 },
+    /// 13: the disk failed to read.
+    ReadFault,
+    /// 14: the disk failed in another call, and the session ends.
+    DiskFault,
+    /// 15: the session has ended by a fault of the disk.
+    Stopped,
+    /// 16: the numbers of the journal are used up.
+    Spent,
     /// 17: no memory was found.
     NoMemory,
 }
@@ -77,6 +133,13 @@ impl Refusal {
             Refusal::TooLarge => 7,
             Refusal::TooManyLinks => 8,
             Refusal::NoNode => 9,
+            Refusal::Full { .. } => 10,
+            Refusal::TooBig { .. } => 11,
+            Refusal::Scattered { .. } => 12,
+            Refusal::ReadFault => 13,
+            Refusal::DiskFault => 14,
+            Refusal::Stopped => 15,
+            Refusal::Spent => 16,
             Refusal::NoMemory => 17,
         }
     }
@@ -95,6 +158,13 @@ impl Refusal {
             Refusal::TooLarge => "TooLarge",
             Refusal::TooManyLinks => "TooManyLinks",
             Refusal::NoNode => "NoNode",
+            Refusal::Full { .. } => "Full",
+            Refusal::TooBig { .. } => "TooBig",
+            Refusal::Scattered { .. } => "Scattered",
+            Refusal::ReadFault => "ReadFault",
+            Refusal::DiskFault => "DiskFault",
+            Refusal::Stopped => "Stopped",
+            Refusal::Spent => "Spent",
             Refusal::NoMemory => "NoMemory",
         }
     }

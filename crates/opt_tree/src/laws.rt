@@ -1,16 +1,90 @@
-//! Laws of the definitions: what a reply tells of the session after it, and the sync points of a short
-//! run. They run nothing.
+//! Laws of the definitions: what commands leave of a tree, where they change it and what that costs, what a
+//! reply tells of the session after it, and short runs worked out. They run nothing.
 
-ghost use Rattle.std.specs.Prelude.{◌≡◌, ℕ, true, [], ◌∷◌};
+ghost use Rattle.std.specs.Prelude.{◌≡◌, ◌≤◌, ◌||◌, ◌++◌, ℕ, true, false, nat_lt, List, [], ◌∷◌, length, codes, None, Some};
+ghost use Rattle.std.specs.FinMap.{get, insert, empty};
 ghost use Rattle.opt_tree.specs.declared.command.Cmd.{Cmd};
-ghost use Rattle.opt_tree.specs.declared.command.Cmd.TheVariants.{Osync};
+ghost use Rattle.opt_tree.specs.declared.command.Cmd.TheVariants.{Mkdir, Create, Write, Link, Rmdir, Rename, Osync};
 ghost use Rattle.opt_tree.specs.declared.command.Reply.{Reply};
-ghost use Rattle.opt_tree.specs.declared.command.Reply.TheVariants.{Synced, Refused};
-ghost use Rattle.opt_tree.specs.declared.command.Refusal.TheVariants.{NoMemory};
-ghost use Rattle.opt_tree.specs.Tree.{Tree};
-ghost use Rattle.opt_tree.specs.Step.{Session};
-ghost use Rattle.opt_tree.specs.Run.{Answers};
-ghost use Rattle.opt_tree.specs.Points.{after_reply, points_after, top};
+ghost use Rattle.opt_tree.specs.declared.command.Reply.TheVariants.{Ok as Done, Synced, Refused};
+ghost use Rattle.opt_tree.specs.declared.command.Refusal.TheVariants.{NotFound, NotDir, NotEmpty, NoMemory};
+ghost use Rattle.opt_tree.specs.Tree.{Tree, Dir, File, IsSound};
+ghost use Rattle.opt_tree.specs.Paths.{is_within};
+ghost use Rattle.opt_tree.specs.Names.{path_count};
+ghost use Rattle.opt_tree.specs.Walk.{is_same_node};
+ghost use Rattle.opt_tree.specs.Conditions.{refusal};
+ghost use Rattle.opt_tree.specs.Step.{Session, step, start};
+ghost use Rattle.opt_tree.specs.Run.{Answers, Run};
+ghost use Rattle.opt_tree.specs.Points.{after_reply, is_sync, points_after, top};
+ghost use Rattle.opt_tree.specs.Figures.{blocks, growth, release, figures, write_figures, truncate_figures};
+
+/// The empty root is sound, and a sound tree is sound after every command: each path lies in a directory,
+/// each node has a path, a directory has one alone, and no number is above the limit, which stays as it
+/// was.
+pub fn commands_keep_a_tree_sound()
+    ensures start { (limit : ℕ) → 1 ≤ limit → IsSound limit (start limit).tree }
+    ensures step { (s : Session) (cmd : Cmd) → IsSound s.limit s.tree → IsSound s.limit (step s cmd).0.tree }
+    ensures limit { (s : Session) (cmd : Cmd) → (step s cmd).0.limit ≡ s.limit }
+{}
+
+/// A move between two paths of one node changes nothing. Every other move of a sound tree that isn't
+/// refused takes with it all that lies below: what was at or below the first path is at or below the
+/// second one, nothing is left at or below the first one, and every other path leads where it led.
+pub fn a_move_takes_all_below()
+    ensures same { (s : Session) (from to : List (List ℕ)) → is_same_node s.tree from to ≡ true → (step s (Rename from to)).0 ≡ s }
+    ensures second { (s : Session) (from to rest : List (List ℕ)) → IsSound s.limit s.tree → refusal s.limit s.tree (Rename from to) ≡ None
+        → is_same_node s.tree from to ≡ false → get (step s (Rename from to)).0.tree.names (to ++ rest) ≡ get s.tree.names (from ++ rest) }
+    ensures first { (s : Session) (from to rest : List (List ℕ)) → IsSound s.limit s.tree → refusal s.limit s.tree (Rename from to) ≡ None
+        → is_same_node s.tree from to ≡ false → get (step s (Rename from to)).0.tree.names (from ++ rest) ≡ None }
+    ensures others { (s : Session) (from to path : List (List ℕ)) → IsSound s.limit s.tree → refusal s.limit s.tree (Rename from to) ≡ None
+        → is_same_node s.tree from to ≡ false → is_within from path ≡ false → is_within to path ≡ false
+        → get (step s (Rename from to)).0.tree.names path ≡ get s.tree.names path }
+{}
+
+/// A command that isn't a sync changes something exactly where it may add something to the journal, for
+/// every number of bitmap blocks.
+#[tactic(auto, using(crate::proofs::FigureLemmas::changed_where_it_costs))]
+pub fn a_command_changes_where_it_costs()
+    ensures { (bitmap : ℕ) (s : Session) (cmd : Cmd) → is_sync cmd ≡ false → (step s cmd).0.changed ≡ (s.changed || nat_lt 0 (figures bitmap s cmd).cost) }
+{}
+
+/// Runs in an empty tree of at most 16 numbers. `/a` and `/b` lead to one file, and a move between them
+/// leaves both. Where several conditions hold, the walks come first and then the least number: the root,
+/// which holds `/a`, isn't empty; it can't come onto a file; a file is no directory to walk through; and
+/// what isn't there gets no other path, though that one is there already. A directory moves with its file.
+/// A file moves onto another one, whose number serves again.
+pub fn short_runs_are_answered_so()
+    ensures one_node { (end : Session)
+        × Run (start 16) (Create (codes "a" ∷ []) ∷ Link (codes "a" ∷ []) (codes "b" ∷ []) ∷ Rename (codes "a" ∷ []) (codes "b" ∷ []) ∷ []) (Done ∷ Done ∷ Done ∷ []) end
+        × (get end.tree.names (codes "a" ∷ []) ≡ Some 2) × (get end.tree.names (codes "b" ∷ []) ≡ Some 2) × (path_count end.tree.names 2 ≡ 2) }
+    ensures reasons { (end : Session)
+        × Run (start 16)
+        (Create (codes "a" ∷ []) ∷ Rmdir [] ∷ Rename [] (codes "a" ∷ []) ∷ Write (codes "a" ∷ codes "b" ∷ []) 0 (120 ∷ []) ∷ Link (codes "b" ∷ []) (codes "a" ∷ []) ∷ [])
+        (Done ∷ Refused NotEmpty ∷ Refused NotDir ∷ Refused NotDir ∷ Refused NotFound ∷ []) end }
+    ensures directory { (end : Session)
+        × Run (start 16) (Mkdir (codes "a" ∷ []) ∷ Create (codes "a" ∷ codes "c" ∷ []) ∷ Rename (codes "a" ∷ []) (codes "b" ∷ []) ∷ []) (Done ∷ Done ∷ Done ∷ []) end
+        × (get end.tree.names (codes "b" ∷ []) ≡ Some 2) × (get end.tree.names (codes "b" ∷ codes "c" ∷ []) ≡ Some 3)
+        × (get end.tree.names (codes "a" ∷ []) ≡ None) × (get end.tree.names (codes "a" ∷ codes "c" ∷ []) ≡ None) }
+    ensures onto { (end : Session)
+        × Run (start 16) (Create (codes "a" ∷ []) ∷ Create (codes "b" ∷ []) ∷ Rename (codes "a" ∷ []) (codes "b" ∷ []) ∷ Mkdir (codes "c" ∷ []) ∷ [])
+        (Done ∷ Done ∷ Done ∷ Done ∷ []) end
+        × (get end.tree.names (codes "a" ∷ []) ≡ None) × (get end.tree.names (codes "b" ∷ []) ≡ Some 2) × (get end.tree.names (codes "c" ∷ []) ≡ Some 3) }
+{}
+
+/// A tree whose root holds one file of 1,025 bytes has three blocks. With one bitmap block: the first name
+/// of a directory needs a block and costs 4 payloads, the 17th name needs one too, and the 17th is the one
+/// whose going frees it; the first two bytes of a file cost 2 payloads and a fresh block; 14 blocks written
+/// over cost 15 payloads; and a file that is cut from 3 blocks to one frees two of them at 2 payloads. A
+/// payload stands for 25.
+pub fn small_changes_cost_so()
+    ensures blocks { (bytes : List ℕ) → length bytes ≡ 1025
+        → blocks (record { names = insert (insert empty [] 1) (codes "a" ∷ []) 2; nodes = insert (insert empty 1 Dir) 2 (File bytes) }) ≡ 3 }
+    ensures first_name { figures 1 (start 16) (Create (codes "a" ∷ [])) ≡ record { need = 1; cost = 100; freed = 0 } }
+    ensures names { (growth 15 ≡ 0) × (growth 16 ≡ 1) × (release 17 ≡ 1) × (release 16 ≡ 0) }
+    ensures first_bytes { write_figures 1 0 0 2 ≡ record { need = 1; cost = 51; freed = 0 } }
+    ensures overwrite { write_figures 1 14336 0 14336 ≡ record { need = 0; cost = 375; freed = 0 } }
+    ensures cut { truncate_figures 1 2049 1024 ≡ record { need = 0; cost = 50; freed = 2 } }
+{}
 
 /// The sync points of a run are those of the sessions that it goes through: the session after a
 /// command is the one that its reply tells.

@@ -2,16 +2,32 @@
 //! It knows no block, no disk and no text of a script. The rules are told in docs/TREE.md.
 #![tactic(auto)]
 
+mod below;
 mod command;
+mod conditions;
+mod content;
+mod counts;
+mod effects;
+mod figures;
 mod laws;
+mod listing;
+mod moves;
+mod name_list;
 mod names;
 mod nodes;
 mod path;
 mod plain;
+mod replies;
 mod state;
+mod walks;
 
-pub use command::{Cmd, Refusal, Reply};
-pub use laws::{a_reply_tells_the_session, two_syncs_make_one_point};
+pub use command::{Cmd, Kind, Refusal, Reply, Stat};
+pub use laws::{
+    a_command_changes_where_it_costs, a_move_takes_all_below, a_reply_tells_the_session,
+    commands_keep_a_tree_sound, short_runs_are_answered_so, small_changes_cost_so,
+    two_syncs_make_one_point,
+};
+pub use name_list::NameList;
 pub use path::Path;
 pub use plain::PlainTree;
 

@@ -2,6 +2,7 @@
 //! How a path is written stands in the crate of the script.
 
 ghost use Rattle.std.specs.Prelude.{◌≡◌, ℕ, List, [], IfOk};
+ghost use Rattle.opt_tree.specs.Paths.{is_below};
 
 use crate::names::copied;
 use opt_base::{Name, NoMemory};
@@ -53,5 +54,22 @@ impl Path {
         ensures { result.now ≡ self.now }
     {
         self.names.as_slice()
+    }
+
+    /// The names from the root down, as they are kept.
+    pub(crate) fn list(&self) -> &Vec<Name>
+        ensures { result.now.items ≡ self.now }
+    {
+        &self.names
+    }
+
+    /// Whether this path lies below that one: it begins with its names and has more.
+    pub(crate) fn is_below(&self, top: &Path) -> bool
+        ensures { result ≡ is_below top.now self.now }
+    {
+        if self.names.len() <= top.names.len() {
+            return false;
+        }
+        self.names.starts_with(top.names())
     }
 }

@@ -1,26 +1,29 @@
 //! The tree in memory behind its public type: it answers each command as the definition `step` says,
-//! and where no memory was found it stays as it was. Its paths lie in a search tree and its nodes in a
-//! row by their numbers.
+//! and where no memory is found it stays as it was. What single commands do stands in the modules
+//! `effects` and `replies`, and why they are refused in `conditions`.
 
-ghost use Rattle.std.specs.Prelude.{◌≡◌, ◌≤◌, IfOk, OnErr};
-ghost use Rattle.opt_tree.specs.Step.{start, step, walk, create, parent_refusal, write, osync};
+ghost use Rattle.std.specs.Prelude.{◌≡◌, ◌≤◌, ◌↔◌, None, IsTrue, IfOk, OnErr};
+ghost use Rattle.opt_tree.specs.Tree.{IsSound};
+ghost use Rattle.opt_tree.specs.Conditions.{refusal};
+ghost use Rattle.opt_tree.specs.Step.{start, step, accepted, osync};
 
+use crate::conditions::refusal;
 use crate::names::Names;
-use crate::nodes::{Node, Nodes, add_file};
+use crate::nodes::{Node, Nodes};
 use crate::{Cmd, Refusal, Reply};
-use opt_base::limits::{LARGEST_FILE, ROOT};
-use opt_base::{Name, NoMemory};
+use opt_base::NoMemory;
+use opt_base::limits::ROOT;
 use std::alloc::Global;
 use std::marker::Model;
 
 /// The tree with what belongs to it, of which no contract says yet that it is sound.
 #[derive(Drop)]
 pub(crate) struct State {
-    names: Names,
-    nodes: Nodes,
-    limit: u32,
-    points: u64,
-    changed: bool,
+    pub(crate) names: Names,
+    pub(crate) nodes: Nodes,
+    pub(crate) limit: u32,
+    pub(crate) points: u64,
+    pub(crate) changed: bool,
 }
 
 impl Model for State {
@@ -41,7 +44,7 @@ impl State {
     /// Want of memory.
     pub(crate) fn new(alloc: Global, nodes: u32) -> Result<State, NoMemory>
         requires { 1 ≤ nodes }
-        ensures { IfOk result (λ tree. tree ≡ start nodes) }
+        ensures { IfOk result (λ state. state ≡ start nodes) }
     {
         let limit = nodes;
         let mut names = Names::new(alloc);
@@ -56,89 +59,84 @@ impl State {
         })
     }
 
+    /// The same state once more.
+    ///
+    /// # Errors
+    /// Want of memory.
+    pub(crate) fn copy(&self, alloc: Global) -> Result<State, NoMemory>
+        ensures { IfOk result (λ copy. copy ≡ self.now) }
+    {
+        let names = self.names.copy()?;
+        let nodes = self.nodes.copy(alloc)?;
+        Ok(State {
+            names,
+            nodes,
+            limit: self.limit,
+            points: self.points,
+            changed: self.changed,
+        })
+    }
+
+    /// Whether both have the same paths with the same numbers, and the same nodes. It stops at the first
+    /// difference.
+    pub(crate) fn is_same_tree(&self, other: &State) -> bool
+        ensures { IsTrue result ↔ (self.now.tree ≡ other.now.tree) }
+    {
+        if !self.names.is_same(&other.names) {
+            return false;
+        }
+        self.nodes.is_same(&other.nodes)
+    }
+
     /// Answers the command.
     ///
     /// # Errors
     /// Want of memory; then all is as before.
     pub(crate) fn answer(&mut self, alloc: Global, cmd: &Cmd) -> Result<Reply, NoMemory>
+        requires { IsSound self.old.limit self.old.tree }
         ensures ok { IfOk result (λ reply. step self.old cmd.now ≡ (self.new, reply)) }
         ensures err { OnErr result (self.new ≡ self.old) }
     {
+        if let Some(why) = self.refusal(cmd) {
+            return Ok(Reply::Refused(why));
+        }
+        let reply = self.accept(alloc, cmd)?;
+        Ok(reply)
+    }
+
+    /// Why the command is refused.
+    pub(crate) fn refusal(&self, cmd: &Cmd) -> Option<Refusal>
+        ensures { result ≡ refusal self.now.limit self.now.tree cmd.now }
+    {
+        refusal(&self.names, &self.nodes, self.limit, cmd)
+    }
+
+    /// Does a command that nothing refuses.
+    fn accept(&mut self, alloc: Global, cmd: &Cmd) -> Result<Reply, NoMemory>
+        requires sound { IsSound self.old.limit self.old.tree }
+        requires free { refusal self.old.limit self.old.tree cmd.now ≡ None }
+        ensures ok { IfOk result (λ reply. accepted self.old cmd.now ≡ (self.new, reply)) }
+        ensures err { OnErr result (self.new ≡ self.old) }
+    {
         match cmd {
-            Cmd::Create(path) => {
-                let reply = self.create(alloc, path.names())?;
-                Ok(reply)
-            }
-            Cmd::Write(path, off, bytes) => {
-                let reply = self.write(path.names(), *off, bytes.as_slice())?;
-                Ok(reply)
-            }
-            Cmd::Read(path, off, len) => {
-                let number = match walk(&self.names, &self.nodes, path.names()) {
-                    Err(why) => return Ok(Reply::Refused(why)),
-                    Ok(number) => number,
-                };
-                let reply = self.nodes.read(alloc, number, *off, *len)?;
-                Ok(reply)
-            }
+            Cmd::Mkdir(path) => self.make(alloc, path, Node::Dir),
+            Cmd::Create(path) => self.make(alloc, path, Node::File(Vec::new(alloc))),
+            Cmd::Write(path, offset, bytes) => self.write(path, *offset, bytes.as_slice()),
+            Cmd::Fill(path, offset, count, byte) => self.fill(path, *offset, *count, *byte),
+            Cmd::Read(path, offset, count) => self.read(alloc, path, *offset, *count),
+            Cmd::Truncate(path, size) => self.truncate(path, *size),
+            Cmd::Link(path, other) => self.link(alloc, path, other),
+            Cmd::Unlink(path) => self.remove(path),
+            Cmd::Rmdir(path) => self.remove(path),
+            Cmd::Rename(from, to) => self.rename(alloc, from, to),
+            Cmd::Stat(path) => Ok(self.stat(path)),
+            Cmd::List(path) => self.list(alloc, path),
             Cmd::Osync => Ok(self.osync()),
             Cmd::Bad => Ok(Reply::Bad),
         }
     }
 
-    fn create(&mut self, alloc: Global, path: &[Name]) -> Result<Reply, NoMemory>
-        ensures ok { IfOk result (λ reply. create self.old path.now (parent_refusal self.old.tree path.now) ≡ (self.new, reply)) }
-        ensures err { OnErr result (self.new ≡ self.old) }
-    {
-        if let Some(why) = parent_refusal(&self.names, &self.nodes, path) {
-            return Ok(Reply::Refused(why));
-        }
-        if let Some(_) = self.names.find(path) {
-            return Ok(Reply::Refused(Refusal::Exists));
-        }
-        let number = match self.nodes.unused(self.limit) {
-            None => return Ok(Reply::Refused(Refusal::NoNode)),
-            Some(number) => number,
-        };
-        add_file(
-            alloc,
-            &mut self.names,
-            &mut self.nodes,
-            path,
-            number,
-            self.limit,
-        )?;
-        self.changed = true;
-        Ok(Reply::Ok)
-    }
-
-    fn write(&mut self, path: &[Name], off: u32, bytes: &[u8]) -> Result<Reply, NoMemory>
-        ensures ok { IfOk result (λ reply. write self.old off bytes.now (walk self.old.tree path.now) ≡ (self.new, reply)) }
-        ensures err { OnErr result (self.new ≡ self.old) }
-    {
-        let number = match walk(&self.names, &self.nodes, path) {
-            Err(why) => return Ok(Reply::Refused(why)),
-            Ok(number) => number,
-        };
-        match self.nodes.at(number) {
-            Some(Node::Dir) => return Ok(Reply::Refused(Refusal::IsDir)),
-            Some(Node::File(_)) => {}
-            None => return Ok(Reply::Refused(Refusal::IsDir)),
-        }
-        if bytes.is_empty() {
-            return Ok(Reply::Ok);
-        }
-        if bytes.len() as u64 > LARGEST_FILE {
-            return Ok(Reply::Refused(Refusal::TooLarge));
-        }
-        if u64::from(off) + bytes.len() as u64 > LARGEST_FILE {
-            return Ok(Reply::Refused(Refusal::TooLarge));
-        }
-        self.nodes.write(number, off as usize, bytes)?;
-        self.changed = true;
-        Ok(Reply::Ok)
-    }
-
+    /// Makes a sync point, where something changed since the last one.
     fn osync(&mut self) -> Reply
         ensures { osync self.old self.old.changed ≡ (self.new, result) }
     {
@@ -147,40 +145,5 @@ impl State {
             self.changed = false;
         }
         Reply::Synced(self.points)
-    }
-}
-
-/// The number that the path leads to, or what the walk meets in its way.
-fn walk(names: &Names, nodes: &Nodes, path: &[Name]) -> Result<u32, Refusal>
-    ensures { result ≡ walk (record { names = names.now; nodes = nodes.now }) path.now }
-{
-    let mut number = ROOT;
-    for depth in 0..path.len() {
-        if !nodes.is_dir(number) {
-            return Err(Refusal::NotDir);
-        }
-        match names.find(&path[..depth + 1]) {
-            None => return Err(Refusal::NotFound),
-            Some(next) => number = next,
-        }
-    }
-    Ok(number)
-}
-
-/// Why the path can't come to be there.
-fn parent_refusal(names: &Names, nodes: &Nodes, path: &[Name]) -> Option<Refusal>
-    ensures { result ≡ parent_refusal (record { names = names.now; nodes = nodes.now }) path.now }
-{
-    if path.is_empty() {
-        return None;
-    }
-    let number = match walk(names, nodes, &path[..path.len() - 1]) {
-        Err(why) => return Some(why),
-        Ok(number) => number,
-    };
-    if nodes.is_dir(number) {
-        None
-    } else {
-        Some(Refusal::NotDir)
     }
 }

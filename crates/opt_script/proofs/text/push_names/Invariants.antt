@@ -1,5 +1,5 @@
 use Rattle.std.proofs.Common.{◌≡◌, ◌++◌, take}
-use Rattle.opt_script.specs.Text.{slashed}
+use Rattle.opt_tree.specs.Listing.{slashed}
 use Rattle.opt_script.proofs.text.push_names.Given as goal
 
 abbrev pub invariant-loop-name : goal.invariant-loop-name
