@@ -1,0 +1,5 @@
+pub mod Places
+pub mod Tidy
+pub mod Count
+pub mod Cut
+pub mod Add

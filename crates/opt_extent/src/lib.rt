@@ -1,0 +1,14 @@
+//! A list of block numbers as at most 28 runs of neighbours, as a node has them: `Runs` adds numbers at
+//! the end, cuts the list, and finds a number by its place. It knows no disk and no node. The runs are
+//! told in docs/LAYOUT.md.
+#![tactic(auto)]
+
+mod laws;
+mod runs;
+#[cfg(test)]
+mod tests;
+
+pub use laws::{
+    a_list_has_its_runs, four_stretches_and_their_runs, tidy_runs_are_those_of_their_numbers,
+};
+pub use runs::{Runs, Scattered};
