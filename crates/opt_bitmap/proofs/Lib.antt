@@ -1,0 +1,4 @@
+pub mod Written
+pub mod Words
+pub mod Frees
+pub mod Counts
