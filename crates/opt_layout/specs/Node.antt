@@ -1,5 +1,6 @@
 -- Nodes as they stand in the node table. They are told in docs/LAYOUT.md.
-use Rattle.std.specs.Prelude.{ℕ, zero, suc, ◌+◌, ◌-◌, ◌*◌, ◌/◌, ◌%◌, Bool, true, ◌&&◌, not, ◌==◌, nat_lt, nat_le, if◌then◌else◌, List, [], ◌∷◌, ◌++◌, length, take, drop, replicate, slice_index, Option, Some, None}
+use Rattle.std.specs.Prelude.{◌≡◌, ◌<◌, ℕ, zero, suc, ◌+◌, ◌-◌, ◌*◌, ◌/◌, ◌%◌, ◌^◌, Bool, true, ◌&&◌, not, ◌==◌, nat_lt, nat_le, if◌then◌else◌, List, [], ◌∷◌, ◌++◌, length, take, drop, replicate, slice_index, Option, Some, None}
+use Rattle.std.specs.List.{All}
 use Rattle.byteorder.specs.Endian.{little_bytes}
 use Rattle.opt_base.specs.Seal.{Blocks}
 use Rattle.opt_base.specs.declared.places.Run.{Run}
@@ -91,3 +92,25 @@ abbrev pub node_spelling : Node → List ℕ
 node_spelling node =
     kind_byte node.kind ∷ 0 ∷ (little_bytes 2 (length node.runs) ++ (little_bytes 4 node.links ++ (little_bytes 8 node.size
     ++ (replicate 16 0 ++ (run_bytes node.runs ++ replicate (node_size - 32 - 8 * length node.runs) 0)))))
+
+-- a node that isn't in use: it has no links, no bytes and no runs
+abbrev pub free_node : Node
+free_node = record { kind = Free; links = 0; size = 0; runs = [] }
+
+-- a free node has nothing, and one in use fits
+abbrev pub FitsAs : Geometry → Node → NodeKind → Type 0
+FitsAs g node Free = node ≡ free_node
+FitsAs g node Dir = node_fits g node ≡ true
+FitsAs g node File = node_fits g node ≡ true
+
+-- each number of a node has room in its bytes
+pub record HasRoom (node : Node) : Type 0 where
+  pub links : node.links < 256 ^ 4
+  pub size : node.size < 256 ^ 8
+  pub runs : All (λ (r : Run). (r.first < 256 ^ 4) × (r.count < 256 ^ 4)) node.runs
+
+-- a node and its bytes: it has room in them, it is free or fits, and they are its spelling
+pub record IsNode (g : Geometry) (bytes : List ℕ) (node : Node) : Type 0 where
+  pub room : HasRoom node
+  pub fits : FitsAs g node node.kind
+  pub spelling : bytes ≡ node_spelling node
