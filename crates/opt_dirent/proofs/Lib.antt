@@ -1,0 +1,5 @@
+pub mod Spelled
+pub mod Written
+pub mod Entries
+pub mod Places
+pub mod Blocks
