@@ -11,7 +11,7 @@ use Rattle.opt_tree.specs.Walk.{is_same_node, content, is_there}
 use Rattle.opt_tree.specs.Conditions.{refusal}
 use Rattle.opt_tree.specs.Step.{Session, step, answered, changed_to}
 use Rattle.opt_tree.specs.Points.{is_sync}
-use Rattle.opt_tree.specs.Figures.{Figures, nothing, moving, writing, shrinking, growth, release, siblings, blocks_gone, blocks_for, are_in_one, truncate_figures, move_figures, figures_by, figures}
+use Rattle.opt_tree.specs.Figures.{Figures, nothing, moving, writing, shrinking, blocks_for, are_in_one, truncate_figures, move_figures, figures_by, figures}
 
 or_false : (b : Bool) → b ≡ (b || false)
 or_false true = refl
@@ -80,7 +80,7 @@ answered_costs bitmap s (Unlink path) None e = costs s.changed _ (omega arith)
 answered_costs bitmap s (Rmdir path) None e = costs s.changed _ (omega arith)
 answered_costs bitmap s (Rename from to) None e =
     choice_costs s _ (is_same_node s.tree from to) (move_figures bitmap s.tree from to)
-    (move_costs bitmap (is_there s.tree to) (are_in_one from to) (growth (siblings s.tree.names to)) (release (siblings s.tree.names from) + blocks_gone s.tree to) (release (siblings s.tree.names from)))
+    (move_costs bitmap (is_there s.tree to) (are_in_one from to) _ _ _)
 answered_costs bitmap s (Stat path) None e = or_false s.changed
 answered_costs bitmap s (ListNames path) None e = or_false s.changed
 answered_costs bitmap s Osync None e = absurd cc

@@ -1,6 +1,10 @@
 mod Answered
 mod BelowPath
+mod BlockChanges
+mod BlockLaws
 mod BlockLemmas
+mod BlockMoves
+mod BlockSums
 mod Copies
 mod CountsKept
 mod Examples
@@ -27,6 +31,7 @@ mod SoundMoves
 mod StripLemmas
 mod Stripping
 mod Strips
+mod Totals
 mod Undo
 mod WalkLemmas
 mod WalkSteps

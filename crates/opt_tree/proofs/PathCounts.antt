@@ -116,13 +116,26 @@ none_in = nil_from_length (entries (empty {X = ℕ} {R = path_cmp})) (sym (len-e
 abbrev pub KeepApart : (List (List ℕ) → List (List ℕ)) → List (List (List ℕ) × ℕ) → Type 0
 KeepApart f es = (p q : List (List ℕ)) (m n : ℕ) → find path_cmp p es ≡ Some m → find path_cmp q es ≡ Some n → f p ≡ f q → p ≡ q
 
+-- so it is behind the first entry
+pub behind_first : (f : List (List ℕ) → List (List ℕ)) (e : List (List ℕ) × ℕ) (es : List (List (List ℕ) × ℕ)) → T (is_sorted path_cmp (e ∷ es)) → KeepApart f (e ∷ es) → (T (is_sorted path_cmp es)) × KeepApart f es
+behind_first f e es h same = (
+  (both _ _ h).1,
+  λ p q m k at_p at_q.
+      let a = later path_total e es p m at_p in
+      let b = later path_total e es q k at_q in
+      same p q a.0 b.0 a.1 b.1,
+)
+
+-- and none of the others comes where the first one does
+pub first_free : (f : List (List ℕ) → List (List ℕ)) (e : List (List ℕ) × ℕ) (es : List (List (List ℕ) × ℕ)) → T (is_sorted path_cmp (e ∷ es)) → KeepApart f (e ∷ es)
+    → get (from_entries {R = path_cmp} (map (λ e. (f e.0, e.1)) es)) (f e.0) ≡ None
+first_free f e es h same = get-from_entries path_total (map (λ e. (f e.0, e.1)) es) (f e.0)
+    ∙ find_left path_total f (f e.0) es (λ k v is. apart path_same (f e.0) (f k) (λ t. below_found e.0 es k v (both _ _ h).0 is
+    (same e.0 k e.1 (later path_total e es k v is).0 (first_is path_total e es) (later path_total e es k v is).1 t)))
+
 pub count_moved : (f : List (List ℕ) → List (List ℕ)) (es : List (List (List ℕ) × ℕ)) (n : ℕ) → T (is_sorted path_cmp es) → KeepApart f es
     → path_count (from_entries (map (λ e. (f e.0, e.1)) es)) n ≡ times n es
 count_moved f [] n h same = ap (times n) none_in
 count_moved f (e ∷ es) n h same =
-    let rest = count_moved f es n (both _ _ h).1 (λ p q m k at_p at_q. same p q (later path_total e es p m at_p).0 (later path_total e es q k at_q).0 (later path_total e es p m at_p).1 (later path_total e es q k at_q).1) in
-    let free : get (from_entries {R = path_cmp} (map (λ e. (f e.0, e.1)) es)) (f e.0) ≡ None =
-    get-from_entries path_total (map (λ e. (f e.0, e.1)) es) (f e.0)
-    ∙ find_left path_total f (f e.0) es (λ k v is. apart path_same (f e.0) (f k) (λ t. below_found e.0 es k v (both _ _ h).0 is
-    (same e.0 k e.1 (later path_total e es k v is).0 (first_is path_total e es) (later path_total e es k v is).1 t))) in
-    count_inserted (from_entries (map (λ e. (f e.0, e.1)) es)) (f e.0) e.1 n free ∙ ap (λ k. one_for e.1 n + k) rest
+    let b = behind_first f e es h same in
+    count_inserted (from_entries (map (λ e. (f e.0, e.1)) es)) (f e.0) e.1 n (first_free f e es h same) ∙ ap (λ k. one_for e.1 n + k) (count_moved f es n b.0 b.1)

@@ -43,7 +43,7 @@ module _ (names : Names) (from to : List (List ℕ)) (gone : get names to ≡ No
   none_at [] n at = none_some n gone (ap (get names) (sym (append-nil to)) ∙ at)
   none_at (x ∷ r) n at = none_held names to r x n free at
 
-  found : (k : List (List ℕ)) (v : ℕ) → find path_cmp k (entries names) ≡ Some v → get names k ≡ Some v
+  pub found : (k : List (List ℕ)) (v : ℕ) → find path_cmp k (entries names) ≡ Some v → get names k ≡ Some v
   found k v is = get-entries names k ∙ is
 
   look_up : (y : List (List ℕ)) → get (renamed names from to) y ≡ find path_cmp y (map (λ e. (moved_path from to e.0, e.1)) (entries names))
@@ -76,7 +76,7 @@ module _ (names : Names) (from to : List (List ℕ)) (gone : get names to ≡ No
           ∙ sym (apart path_same y k (λ same. not_behind from y s apart_from (same ∙ strip_is from k s is)))
 
   -- no two paths come to one
-  two_apart : (k l : List (List ℕ)) (m n : ℕ) → get names k ≡ Some m → get names l ≡ Some n → moved_path from to k ≡ moved_path from to l → k ≡ l
+  pub two_apart : (k l : List (List ℕ)) (m n : ℕ) → get names k ≡ Some m → get names l ≡ Some n → moved_path from to k ≡ moved_path from to l → k ≡ l
   two_apart k l m n at_k at_l e = by (strip from k) (strip from l) refl refl e
     where
       by : (o u : Option (List (List ℕ))) → strip from k ≡ o → strip from l ≡ u → moved_by to k o ≡ moved_by to l u → k ≡ l

@@ -23,9 +23,16 @@ use Rattle.opt_tree.proofs.WalkLemmas.{no_reason, no_reasons, not_so, thing_is, 
 use Rattle.opt_tree.proofs.SoundChanges.{with_link, added_sound, edited_sound}
 use Rattle.opt_tree.proofs.SoundMoves.{removed_sound, moved_onto_sound}
 
+-- What a removal that isn't refused finds: something is there, below it lies nothing, and it isn't the root.
+pub record CanGo (t : Tree) (path : List (List ℕ)) : Type 0 where
+  pub number : ℕ
+  pub at : get t.names path ≡ Some number
+  pub free : holds_names t.names path ≡ false
+  pub below_root : path ≡ [] → ⊥
+
 module _ (limit : ℕ) (t : Tree) (s : IsSound limit t) where
   -- what is there and isn't a directory is a file
-  file_there : (path : List (List ℕ)) (n : ℕ) → get t.names path ≡ Some n → is_dir (thing_at t path) ≡ false → (bytes : List ℕ) × (get t.nodes n ≡ Some (File bytes))
+  pub file_there : (path : List (List ℕ)) (n : ℕ) → get t.names path ≡ Some n → is_dir (thing_at t path) ≡ false → (bytes : List ℕ) × (get t.nodes n ≡ Some (File bytes))
   file_there path n at no_dir = by (s.named path n at)
     where
       by : (x : Thing) × (get t.nodes n ≡ Some x) → (bytes : List ℕ) × (get t.nodes n ≡ Some (File bytes))
@@ -49,15 +56,16 @@ module _ (limit : ℕ) (t : Tree) (s : IsSound limit t) where
       by None at free file up = s
       by (Some n) at free file up = let f = file_there path n at file in with_link limit t s other n up.0 f.0 free f.1 up.1 up.2
 
-  unlinked_sound : (path : List (List ℕ)) → file_refusal t path ≡ None → IsSound limit (removed t path)
-  unlinked_sound path e =
+  -- a path of a file can go
+  pub can_unlink : (path : List (List ℕ)) → file_refusal t path ≡ None → CanGo t path
+  can_unlink path e =
       let one = no_reason (walk_refusal t path) (when (is_dir (thing_at t path)) IsDir ∷ []) e in
       let two = no_reason (when (is_dir (thing_at t path)) IsDir) [] one.1 in
       let file = not_so (is_dir (thing_at t path)) IsDir two.0 in
       let n = walked_there t path s.root one.0 in
       let f = file_there path n.0 n.1 file in
       let is : is_file (thing_at t path) ≡ true = ap is_file (thing_is t path n.0 (File f.0) n.1 f.1) in
-      removed_sound limit t s path (nothing_below_file limit t s path is) (λ root. root_is_dir file root)
+      record { number = n.0; at = n.1; free = nothing_below_file limit t s path is; below_root = λ root. root_is_dir file root }
     where
       root_is_dir : is_dir (thing_at t path) ≡ false → path ≡ [] → ⊥
       root_is_dir file root =
@@ -65,17 +73,22 @@ module _ (limit : ℕ) (t : Tree) (s : IsSound limit t) where
           let dir : is_dir (thing_at t path) ≡ true = ap is_dir (thing_is t path 1 Dir at s.root_dir) in
           cc
 
-  rmdir_sound : (path : List (List ℕ)) → rmdir_refusal t path ≡ None → IsSound limit (removed t path)
-  rmdir_sound path e =
+  -- an empty directory can go
+  pub can_rmdir : (path : List (List ℕ)) → rmdir_refusal t path ≡ None → CanGo t path
+  can_rmdir path e =
       let root : Option Refusal = when (length path == 0) BelowItself in
       let full : Option Refusal = when (holds_names t.names path) NotEmpty in
       let file : Option Refusal = when (is_file (thing_at t path)) NotDir in
       let one = no_reason (walk_refusal t path) (file ∷ full ∷ root ∷ []) e in
       let r = no_reasons file full root one.1 in
-      removed_sound limit t s path (not_so (holds_names t.names path) NotEmpty r.1) (λ none. not_root none (not_so (length path == 0) BelowItself r.2))
+      let n = walked_there t path s.root one.0 in
+      record { number = n.0; at = n.1; free = not_so (holds_names t.names path) NotEmpty r.1; below_root = λ none. not_root none (not_so (length path == 0) BelowItself r.2) }
     where
       not_root : path ≡ [] → (length path == 0) ≡ false → ⊥
       not_root none e = let so : (length path == 0) ≡ true = ap (λ p. length p == 0) none in cc
+
+  gone_sound : (path : List (List ℕ)) → CanGo t path → IsSound limit (removed t path)
+  gone_sound path can = removed_sound limit t s path can.free can.below_root
 
 abbrev pub Sound : Session → Type 0
 Sound s = IsSound s.limit s.tree
@@ -102,8 +115,8 @@ accepted_stays s (Fill path offset count byte) ok e =
 accepted_stays s (Read path offset count) ok e = (ok, refl)
 accepted_stays s (Truncate path size) ok e = choice_stays s (edited s.tree path (resized size)) (size == length (content s.tree path)) ok (λ _. edited_sound s.limit s.tree ok path (resized size))
 accepted_stays s (Link path other) ok e = (linked_sound s.limit s.tree ok path other e, refl)
-accepted_stays s (Unlink path) ok e = (unlinked_sound s.limit s.tree ok path e, refl)
-accepted_stays s (Rmdir path) ok e = (rmdir_sound s.limit s.tree ok path e, refl)
+accepted_stays s (Unlink path) ok e = (gone_sound s.limit s.tree ok path (can_unlink s.limit s.tree ok path e), refl)
+accepted_stays s (Rmdir path) ok e = (gone_sound s.limit s.tree ok path (can_rmdir s.limit s.tree ok path e), refl)
 accepted_stays s (Rename from to) ok e =
     choice_stays s (moved (removed s.tree to) from to) (is_same_node s.tree from to) ok (λ other. moved_onto_sound s.limit s.tree ok from to (target_apart s.limit s.tree ok from to e other))
 accepted_stays s (Stat path) ok e = (ok, refl)

@@ -184,7 +184,7 @@ longer : (up : Place) (name : List ℕ) → up ++ name ∷ [] ≡ up → ⊥
 longer up name e = omega (arith, length-append up (name ∷ []), ap length e)
 
 -- a path that isn't the root doesn't lie in itself
-not_own_parent : (p : Place) → (p ≡ [] → ⊥) → parent p ≡ p → ⊥
+pub not_own_parent : (p : Place) → (p ≡ [] → ⊥) → parent p ≡ p → ⊥
 not_own_parent p below_root e = by (from_end p)
   where
     by : (p ≡ []) ⊎ ((up : Place) × (name : List ℕ) × (p ≡ up ++ name ∷ [])) → ⊥

@@ -1,7 +1,7 @@
 //! Laws of the definitions: what commands leave of a tree, where they change it and what that costs, what a
 //! reply tells of the session after it, and short runs worked out. They run nothing.
 
-ghost use Rattle.std.specs.Prelude.{◌≡◌, ◌≤◌, ◌||◌, ◌++◌, ℕ, true, false, nat_lt, List, [], ◌∷◌, length, codes, None, Some};
+ghost use Rattle.std.specs.Prelude.{◌≡◌, ◌≤◌, ◌||◌, ◌+◌, ◌++◌, ℕ, true, false, nat_lt, List, [], ◌∷◌, length, codes, None, Some};
 ghost use Rattle.std.specs.FinMap.{get, insert, empty};
 ghost use Rattle.opt_tree.specs.declared.command.Cmd.{Cmd};
 ghost use Rattle.opt_tree.specs.declared.command.Cmd.TheVariants.{Mkdir, Create, Write, Link, Rmdir, Rename, Osync};
@@ -46,6 +46,15 @@ pub fn a_move_takes_all_below()
 #[tactic(auto, using(crate::proofs::FigureLemmas::changed_where_it_costs))]
 pub fn a_command_changes_where_it_costs()
     ensures { (bitmap : ℕ) (s : Session) (cmd : Cmd) → is_sync cmd ≡ false → (step s cmd).0.changed ≡ (s.changed || nat_lt 0 (figures bitmap s cmd).cost) }
+{}
+
+/// A command changes the blocks of a sound tree by what its figures tell, for every number of bitmap
+/// blocks: after it the tree has so many more as it needs, and so many fewer as it frees. A refused one
+/// changes nothing and has no figures.
+#[tactic(auto, using(crate::proofs::BlockLaws::figures_tell))]
+pub fn the_figures_are_the_blocks()
+    ensures { (bitmap : ℕ) (s : Session) (cmd : Cmd) → IsSound s.limit s.tree
+        → blocks (step s cmd).0.tree + (figures bitmap s cmd).freed ≡ blocks s.tree + (figures bitmap s cmd).need }
 {}
 
 /// Runs in an empty tree of at most 16 numbers. `/a` and `/b` lead to one file, and a move between them

@@ -25,7 +25,7 @@ pub use command::{Cmd, Kind, Refusal, Reply, Stat};
 pub use laws::{
     a_command_changes_where_it_costs, a_move_takes_all_below, a_reply_tells_the_session,
     commands_keep_a_tree_sound, short_runs_are_answered_so, small_changes_cost_so,
-    two_syncs_make_one_point,
+    the_figures_are_the_blocks, two_syncs_make_one_point,
 };
 pub use name_list::NameList;
 pub use path::Path;
