@@ -16,7 +16,7 @@ use Rattle.opt_tree.proofs.WalkLemmas.{no_reasons, not_so}
 use Rattle.opt_tree.proofs.Sound.{can_unlink}
 use Rattle.opt_tree.proofs.BlockChanges.{length_written, length_resized, added_blocks, linked_blocks, edited_blocks, gone_blocks, rmdir_blocks, moved_blocks}
 
--- the tree of the first session has other blocks than that of the second one, by these figures
+-- the new tree has the blocks of the old one, with what the figures need and without what they free
 abbrev Tells : Tree → Tree → Figures → Type 0
 Tells new old f = blocks new + f.freed ≡ blocks old + f.need
 

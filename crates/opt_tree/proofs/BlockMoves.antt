@@ -38,9 +38,6 @@ both_one p q r s = ap (λ o. if is_some (lone_name o) then 1 else 0) (strip_both
 
 -- what stands at `from` moves to `to`, where nothing stands
 module _ (names : Names) (from to : Place) (gone : get names to ≡ None) (free : holds_names names to ≡ false) (apart : is_within from to ≡ false) where
-  move : Place → Place
-  move p = moved_path from to p
-
   -- a path other than `from` lies after the move in the directory in which it lay
   one_stays : (q p : Place) (k m : ℕ) → get names q ≡ Some k → get names p ≡ Some m → (p ≡ from → ⊥) → one_in (moved_path from to q) (moved_path from to p) ≡ one_in q p
   one_stays q p k m at_q at_p off = by (strip from q) (strip from p) refl refl
@@ -157,11 +154,7 @@ module _ (names : Names) (from to : Place) (gone : get names to ≡ None) (free 
 -- the same where something stands at `to`, which goes first: the directory above it holds as many names as before
 module _ (names : Names) (from to : Place) (free : holds_names names to ≡ false) (apart : is_within from to ≡ false) (n m j k : ℕ) (at : get names from ≡ Some n) (there : get names to ≡ Some m)
     (below_root : from ≡ [] → ⊥) (to_below_root : to ≡ [] → ⊥) (from_up : get names (parent from) ≡ Some j) (to_up : get names (parent to) ≡ Some k) where
-  rest : Names
-  rest = remove names to
-
-  stays_there : (p : Place) (v : ℕ) → (p ≡ to → ⊥) → get names p ≡ Some v → get rest p ≡ Some v
-  unfolding rest
+  stays_there : (p : Place) (v : ℕ) → (p ≡ to → ⊥) → get names p ≡ Some v → get (remove names to) p ≡ Some v
   stays_there p v off e = stays path_total path_same names to p off ∙ e
 
   from_other : from ≡ to → ⊥
@@ -172,7 +165,6 @@ module _ (names : Names) (from to : Place) (free : holds_names names to ≡ fals
   up_other e = let end = last_name (parent from) from (in_parent from below_root) in none_held names to [] end.0 n free (ap (get names) (ap (λ p. p ++ end.0 ∷ []) (sym e) ∙ sym end.1) ∙ at)
 
   pub dirs_onto : dirs (renamed (remove names to) from to) + release (held names (parent from)) ≡ dirs names
-  unfolding rest
   dirs_onto = by (which_key path_same (parent from) (parent to))
     where
       gone : get (remove names to) to ≡ None
