@@ -1,7 +1,7 @@
 -- A directory's block reads as the slots that were written, and nothing else reads so.
-use Rattle.std.proofs.Common.{◌+◌, ◌-◌, ◌*◌, ◌≡◌, ◌<◌, ◌≤◌, ◌⊎◌, inl, inr, ℕ, zero, suc, Bool, true, false, List, [], ◌∷◌, ◌++◌, length, take, drop, replicate, slice_index, slice_index_or, Option, Some, None, refl, sym, ◌∙◌, subst, ap, ap₂, arith, append_assoc, append-nil, take_all}
+use Rattle.std.proofs.Common.{◌+◌, ◌-◌, ◌*◌, ◌≡◌, ◌<◌, ◌≤◌, ◌⊎◌, inl, inr, ℕ, zero, suc, true, List, [], ◌∷◌, ◌++◌, length, take, drop, replicate, slice_index, slice_index_or, Option, Some, None, refl, sym, ◌∙◌, subst, ap, ap₂, arith, append_assoc, append-nil, take_all}
 use Rattle.std.proofs.lemmas.Bool.{cases_eq, cases_lt}
-use Rattle.std.proofs.lemmas.List.{length-take-le, length-take, length-drop, length-append, length-replicate, take-append-drop, drop-drop, drop-replicate, drop-append-le, take_at, drop_at, get_or-take, get_or-drop, get_or_past, take_more}
+use Rattle.std.proofs.lemmas.List.{length-take-le, length-take, length-drop, length-append, take-append-drop, drop-drop, drop-replicate, take_at, drop_at, get_or-take, get_or-drop, get_or_past, take_more}
 use Rattle.std.specs.List.{All, slice_get}
 use Rattle.opt_layout.specs.Bytes.{are_zeros}
 use Rattle.opt_layout.specs.Slot.{slot_of, slots_in, then_slot, slot_spelling, slot_bytes, directory_block}

@@ -1,15 +1,14 @@
 -- The entries of a directory, place by place: what reads as they do, and what changes of their bytes make of them.
-use Rattle.std.proofs.Common.{◌+◌, ◌-◌, ◌*◌, ◌≡◌, ◌<◌, ◌≤◌, ◌==◌, ◌&&◌, ◌⊎◌, inl, inr, ℕ, zero, suc, Bool, true, false, List, [], ◌∷◌, ◌++◌, length, take, drop, replicate, slice_index, slice_index_or, Option, Some, None, refl, sym, ◌∙◌, ap, ap₂, arith, bytes_eq, nat_lt, nat_le}
+use Rattle.std.proofs.Common.{◌+◌, ◌-◌, ◌*◌, ◌≡◌, ◌<◌, ◌≤◌, ◌==◌, ◌&&◌, ◌⊎◌, inl, inr, ℕ, zero, suc, true, List, [], ◌∷◌, ◌++◌, length, take, drop, replicate, slice_index, slice_index_or, Option, Some, None, refl, sym, ◌∙◌, ap, ap₂, arith, bytes_eq, nat_le}
 use Rattle.std.proofs.Math.ListN.{set}
-use Rattle.std.proofs.lemmas.Bool.{cases_eq, cases_lt, cases_Bool, and_parts, leb-true, eqb-true, ne_eqb, eq-eqb, false_from_ne_true}
-use Rattle.std.proofs.lemmas.List.{length-set, length-take-le, length-drop, length-replicate, length-append, length_push, drop-drop, drop_all, get_or-set_same, get_or-set_other, get_or_append_left, get_or_push, get_or-take, get_or_default}
+use Rattle.std.proofs.lemmas.Bool.{cases_eq, cases_lt, and_parts, leb-true, ne_eqb, eq-eqb, false_from_ne_true}
+use Rattle.std.proofs.lemmas.List.{length-set, length-take-le, length-drop, length-replicate, length-append, length_push, drop-drop, drop_all, get_or-set_same, get_or-set_other, get_or_append_left, get_or_push, get_or-take}
 use Rattle.std.proofs.lemmas.Slice.Eq.{bytes_eq-Decides}
 use Rattle.std.specs.List.{concat}
-use Rattle.opt_base.specs.Name.{is_name}
 use Rattle.opt_layout.specs.Bytes.{are_zeros}
-use Rattle.opt_layout.specs.Slot.{slot_of, slots_in, then_slot, slot_spelling, name_in}
-use Rattle.opt_dirent.specs.Slots.{Slot, IsLawful}
-use Rattle.opt_dirent.specs.Directory.{entries_in, slot_at, place_of, overwrite, without_at}
+use Rattle.opt_layout.specs.Slot.{slot_of, slots_in, then_slot, name_in}
+use Rattle.opt_dirent.specs.Slots.{Slot}
+use Rattle.opt_dirent.specs.Directory.{overwrite, without_at}
 use Rattle.opt_dirent.proofs.Spelled.{from_when, zeros_before}
 use Rattle.opt_dirent.proofs.Written.{AreWhole, joined_length, part, part_same, part_other, behind_same, from_there}
 

@@ -1,5 +1,5 @@
 -- The place of a name among the entries, looked for from the front.
-use Rattle.std.proofs.Common.{◌+◌, ◌*◌, ◌≡◌, ◌≢◌, ◌<◌, ◌≤◌, ◌==◌, ◌&&◌, ◌⊎◌, inl, inr, ℕ, Bool, true, false, cond, List, [], length, take, drop, slice_index, slice_index_or, Option, Some, None, sym, ◌∙◌, ap, arith, bytes_eq, nat_lt}
+use Rattle.std.proofs.Common.{◌+◌, ◌*◌, ◌≡◌, ◌≢◌, ◌<◌, ◌≤◌, ◌==◌, ◌&&◌, ◌⊎◌, inl, inr, ℕ, true, false, cond, List, length, take, drop, slice_index, slice_index_or, Option, Some, None, sym, ◌∙◌, ap, arith, bytes_eq, nat_lt}
 use Rattle.std.proofs.lemmas.Bool.{cond-true, cond-false, lt-ltb, le-ltb, cases_eq, cases_lt, both_ways}
 use Rattle.std.proofs.lemmas.Slice.Eq.{bytes_eq-Decides}
 use Rattle.std.proofs.lemmas.List.{length-take-le, length-drop}
@@ -7,10 +7,10 @@ use Rattle.std.proofs.lemmas.List.Sums.{position_or_len_is, fails_before_first, 
 use Rattle.std.specs.List.{All, concat, position_or_len, slice_get}
 use Rattle.opt_layout.specs.Slot.{slot_of, slots_in}
 use Rattle.opt_dirent.specs.Slots.{Slot}
-use Rattle.opt_dirent.specs.Directory.{entries_in, slot_at, place_of}
+use Rattle.opt_dirent.specs.Directory.{slot_at, place_of}
 use Rattle.opt_dirent.proofs.Written.{AreWhole, joined_length}
 use Rattle.opt_dirent.proofs.Blocks.{at_place}
-use Rattle.opt_dirent.proofs.Entries.{count_read, each_read, name_test, room}
+use Rattle.opt_dirent.proofs.Entries.{each_read, name_test, room}
 
 -- the bytes of an entry are 64
 pub slot_length : (blocks : List (List ℕ)) (i : ℕ) → AreWhole blocks → 64 * i + 64 ≤ 1024 * length blocks → length (slot_at i blocks) ≡ 64

@@ -1,8 +1,8 @@
 -- Bytes written over others, in one block and in blocks that are joined.
 use Rattle.std.proofs.Common.{◌+◌, ◌-◌, ◌*◌, ◌/◌, ◌%◌, ◌≡◌, ◌<◌, ◌≤◌, ℕ, zero, suc, List, [], ◌∷◌, ◌++◌, length, take, drop, slice_index_or, refl, sym, ◌∙◌, ap, ap₂, arith, append_assoc, ◌⊎◌, inl, inr}
 use Rattle.std.proofs.Math.ListN.{set}
-use Rattle.std.proofs.Math.Seq.{take-append_seam, drop-append_seam, take-append-add}
-use Rattle.std.proofs.lemmas.List.{length-take-le, length-take, length-drop, length-append, drop-drop, take-append-le, drop-append-le, take_at, drop_at, take-take, drop_all, drop-take}
+use Rattle.std.proofs.Math.Seq.{drop-append_seam, take-append-add}
+use Rattle.std.proofs.lemmas.List.{length-take-le, length-drop, length-append, drop-drop, take-append-le, drop-append-le, take_at, drop_at, take-take, drop-take}
 use Rattle.std.proofs.lemmas.Bool.{cases_order}
 use Rattle.std.specs.List.{concat}
 use Rattle.opt_dirent.specs.Directory.{slot_at, overwrite}

@@ -9,6 +9,7 @@ ghost use Rattle.opt_dirent.specs.Directory.{overwrite};
 use crate::Slots;
 use crate::slot::{BadSlot, SLOT_LENGTH, are_zeros, slot_of, slot_text};
 use opt_base::Block;
+use opt_base::limits::BLOCK_LENGTH;
 
 /// The slots of a directory's block that has so many entries.
 ///
@@ -31,7 +32,7 @@ pub fn write_dir_block(slots: &Slots, into: &mut Block)
     ensures spelled { into.new ≡ directory_block slots.now }
     ensures lawful { All IsLawful slots.now }
 {
-    *into = [0; 1024];
+    *into = [0; BLOCK_LENGTH];
     for place in 0..slots.len() {
         put(
             into,

@@ -1,5 +1,5 @@
 -- The slots that were read are spelled in the block; and a block with slots would have been read.
-use Rattle.std.proofs.Common.{◌≡◌, ◌≤◌, ◌<◌, ◌*◌, ◌-◌, ℕ, Bool, true, false, List, length, drop, take, slice_index, Result, Ok, Err, IfOk, OnErr, Some, None, sym, ◌∙◌, ap, arith}
+use Rattle.std.proofs.Common.{◌≡◌, ◌≤◌, ◌<◌, ◌*◌, ℕ, true, false, List, length, drop, slice_index, Result, Ok, Err, IfOk, OnErr, Some, None, sym, ◌∙◌, ap}
 use Rattle.std.specs.Result.{result_ok}
 use Rattle.opt_layout.specs.Bytes.{are_zeros}
 use Rattle.opt_dirent.specs.Slots.{Slot, IsDirBlock, slots_in}

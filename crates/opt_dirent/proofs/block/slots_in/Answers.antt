@@ -1,5 +1,5 @@
 -- Each turn reads one more slot from its place.
-use Rattle.std.proofs.Common.{◌≡◌, ◌+◌, ◌-◌, ◌*◌, ◌<◌, Some, None, List, take, drop, length, slice_index_or, ◌∙◌, ap, sym, arith}
+use Rattle.std.proofs.Common.{◌≡◌, ◌+◌, ◌-◌, ◌*◌, Some, None, List, take, drop, length, slice_index_or, ◌∙◌, ap, sym, arith}
 use Rattle.std.proofs.lemmas.List.{length_push}
 use Rattle.opt_layout.specs.Slot.{slot_of}
 use Rattle.opt_dirent.specs.Slots.{Slot}

@@ -1,6 +1,5 @@
 -- Each turn writes one more slot in its place.
-use Rattle.std.proofs.Common.{◌≡◌, ◌*◌, ◌∙◌, ap, arith}
-use Rattle.opt_dirent.specs.Directory.{overwrite}
+use Rattle.std.proofs.Common.{◌∙◌, arith}
 use Rattle.opt_dirent.proofs.Blocks.{front_more}
 use Rattle.opt_dirent.proofs.block.write_dir_block.Goals as goal
 

@@ -1,5 +1,5 @@
 -- Each slot is there, since the entries read; and its bytes have the name exactly where the entry has it.
-use Rattle.std.proofs.Common.{◌≡◌, ◌+◌, ◌*◌, ◌≤◌, ◌<◌, ℕ, [], false, length, arith, sym, ◌∙◌, ap, bytes_eq, slice_index_or}
+use Rattle.std.proofs.Common.{[], length, arith, sym, ◌∙◌, ap}
 use Rattle.opt_dirent.specs.Slots.{Slot}
 use Rattle.opt_dirent.specs.Directory.{place_of}
 use Rattle.opt_dirent.proofs.Entries.{count_read, room}

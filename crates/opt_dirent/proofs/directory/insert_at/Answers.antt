@@ -1,6 +1,5 @@
 -- The slot's spelling reads as it.
-use Rattle.std.proofs.Common.{◌≡◌, ◌+◌, ◌*◌, ◌≤◌, ◌++◌, [], ◌∷◌, length, drop, Some, arith, ◌∙◌, ap, sym}
-use Rattle.std.proofs.Math.ListN.{set}
+use Rattle.std.proofs.Common.{◌≡◌, ◌+◌, ◌*◌, ◌≤◌, length, drop, arith, ◌∙◌, ap}
 use Rattle.std.specs.List.{concat}
 use Rattle.opt_layout.specs.Bytes.{are_zeros}
 use Rattle.opt_layout.specs.Slot.{slots_in, slot_spelling}

@@ -1,5 +1,4 @@
 -- The slot's place in its block is its place among the joined bytes.
-use Rattle.std.proofs.Common.{arith, ◌∙◌, ap}
 use Rattle.opt_dirent.proofs.Written.{slot_written}
 use Rattle.opt_dirent.proofs.directory.put_at.Goals as goal
 

@@ -1,5 +1,5 @@
 -- The last slot's bytes are 64, and they read as the last entry.
-use Rattle.std.proofs.Common.{◌≡◌, ℕ, ◌+◌, ◌-◌, ◌*◌, ◌≤◌, length, drop, replicate, Some, arith, ◌∙◌, ap, ap₂, sym}
+use Rattle.std.proofs.Common.{◌≡◌, ℕ, ◌-◌, ◌*◌, length, drop, replicate, arith, ◌∙◌, ap, ap₂}
 use Rattle.std.proofs.lemmas.List.{length-take-le, length-drop, length-replicate}
 use Rattle.std.specs.List.{concat}
 use Rattle.opt_layout.specs.Bytes.{are_zeros}

@@ -1,5 +1,5 @@
 -- The pieces stand one behind the other, and so many zeros are left of 59.
-use Rattle.std.proofs.Common.{◌≡◌, ℕ, ◌+◌, ◌-◌, List, [], ◌∷◌, ◌++◌, length, take, drop, replicate, sym, ◌∙◌, ap, ap₂, arith, append_assoc, take_all}
+use Rattle.std.proofs.Common.{◌≡◌, ℕ, ◌-◌, List, [], ◌∷◌, ◌++◌, length, take, drop, replicate, ◌∙◌, ap, arith, append_assoc, take_all}
 use Rattle.std.proofs.lemmas.List.{drop-replicate, length-replicate}
 use Rattle.byteorder.specs.Endian.{little_bytes}
 use Rattle.opt_dirent.proofs.slot.slot_text.Goals as goal

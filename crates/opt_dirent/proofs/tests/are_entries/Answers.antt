@@ -1,5 +1,5 @@
 -- Each turn reads one more slot.
-use Rattle.std.proofs.Common.{◌≡◌, ◌+◌, ◌-◌, ◌*◌, ◌/◌, ◌%◌, ℕ, true, [], ◌∷◌, ◌++◌, List, Option, Some, None, is_some, length, take, drop, slice_index_or, arith, sym, ◌∙◌, ap}
+use Rattle.std.proofs.Common.{◌≡◌, ◌+◌, ◌-◌, ◌*◌, ◌/◌, ◌%◌, ℕ, true, [], ◌∷◌, ◌++◌, List, Option, Some, None, is_some, take, drop, slice_index_or, arith, sym, ◌∙◌, ap}
 use Rattle.std.proofs.lemmas.List.{length_push}
 use Rattle.opt_layout.specs.Slot.{slot_of, slots_in}
 use Rattle.opt_dirent.specs.Slots.{Slot}
