@@ -36,7 +36,6 @@ pub fn insert_at(dir: &mut [Block], at: u32, slot: &Slot)
     requires { 64 * at + 64 ≤ 1024 * length dir.old }
     ensures bytes { concat dir.new ≡ overwrite (64 * at) (slot_spelling slot.now) (concat dir.old) }
     ensures others { (k : ℕ) → k ≢ at / 16 → blocks_of dir.new k ≡ blocks_of dir.old k }
-
     ensures behind { (entries : ℕ) → at < entries → is_clear_behind entries dir.new ≡ is_clear_behind entries dir.old }
 
     // The entries afterwards, where it was written over one of them, and where it was written behind them.
