@@ -577,27 +577,53 @@ fn each_command_has_its_figures(rt: HostRuntime) -> Result<(), Fail> {
     Ok(())
 }
 
+/// A directory whose 16 names fill a block.
+const SIXTEEN: &str = "mkdir /d = ok
+    create /d/a = ok
+    create /d/b = ok
+    create /d/c = ok
+    create /d/d = ok
+    create /d/e = ok
+    create /d/f = ok
+    create /d/g = ok
+    create /d/h = ok
+    create /d/i = ok
+    create /d/j = ok
+    create /d/k = ok
+    create /d/l = ok
+    create /d/m = ok
+    create /d/n = ok
+    create /d/o = ok
+    create /d/p = ok";
+
+/// The same with one name more.
+const SEVENTEEN: &str = "mkdir /d = ok
+    create /d/a = ok
+    create /d/b = ok
+    create /d/c = ok
+    create /d/d = ok
+    create /d/e = ok
+    create /d/f = ok
+    create /d/g = ok
+    create /d/h = ok
+    create /d/i = ok
+    create /d/j = ok
+    create /d/k = ok
+    create /d/l = ok
+    create /d/m = ok
+    create /d/n = ok
+    create /d/o = ok
+    create /d/p = ok
+    create /d/q = ok";
+
 #[test]
 fn sixteen_names_fill_a_block(rt: HostRuntime) -> Result<(), Fail> {
-    let alloc = rt.alloc();
-    let mut tree = PlainTree::new(alloc, 64)?;
-    follows(alloc, &mut tree, "mkdir /d = ok")?;
-    for letter in b'a'..=b'p' {
-        let name = Name::new(&[letter]).expect(&rt, "a name");
-        let dir = Name::new(b"d").expect(&rt, "a name");
-        let mut names = Vec::new(alloc);
-        names.push(dir)?;
-        names.push(name)?;
-        let create = Cmd::Create(Path::from_names(names));
-        let cost = if letter == b'a' { 100 } else { 75 };
-        assert_eq!(rt; tree.figures_of(alloc, &create, 1)?.1, cost);
-        assert!(rt; matches!(tree.apply(alloc, &create), Reply::Ok));
-    }
-    let seventeenth = command(alloc, "create /d/q")?;
-    assert!(rt; tree.figures_of(alloc, &seventeenth, 1)? == (1, 100, 0));
-    follows(alloc, &mut tree, "create /d/q = ok")?;
-    let unlink = command(alloc, "unlink /d/q")?;
-    assert!(rt; tree.figures_of(alloc, &unlink, 1)? == (0, 125, 1));
+    let seventeenth = figures_after(rt.alloc(), SIXTEEN, "create /d/q", 1)?;
+    assert!(rt; seventeenth == (1, 100, 0));
+    let gone = figures_after(rt.alloc(), SEVENTEEN, "unlink /d/q", 1)?;
+    assert!(rt; gone == (0, 125, 1));
+    let one_of_sixteen = figures_after(rt.alloc(), SIXTEEN, "unlink /d/p", 1)?;
+    assert!(rt; one_of_sixteen == (0, 100, 0));
     Ok(())
 }
 
