@@ -4,12 +4,14 @@
 #![tactic(auto)]
 
 mod bay;
+mod boxed;
 mod disk;
 mod event;
 mod laws;
 mod ordered;
 
 pub use bay::{Bay, BayFault, Mark};
+pub use boxed::BoxedBlock;
 pub use disk::{Disk, DiskFault};
 pub use event::Event;
 pub use laws::{a_notice_adds_no_image, calls_keep_a_log_lawful, settled_is_the_newest_noticed};

@@ -1,4 +1,8 @@
+pub mod Choice
+pub mod Crash
 pub mod Image
 pub mod Log
 pub mod MemBay
 pub mod MemDisk
+pub mod Settled
+pub mod Torn

@@ -1,66 +1,82 @@
 -- What the log of a disk in memory is as a list of events, and what its rows keep of that list.
-use Rattle.std.specs.Prelude.{◌≡◌, ℕ, zero, suc, ◌+◌, ◌*◌, ◌≤◌, ◌<◌, ◌==◌, ◌&&◌, nat_lt, nat_le, Bool, false, if◌then◌else◌, List, [], ◌∷◌, length, slice_index_or}
+use Rattle.std.specs.Prelude.{◌≡◌, ℕ, ◌+◌, ◌*◌, ◌≤◌, ◌<◌, Bool, not, if◌then◌else◌, List, [], ◌∷◌, length}
+use Rattle.std.specs.List.{filter}
 use Rattle.opt_disk.specs.declared.event.Event.{Event}
 use Rattle.opt_disk.specs.declared.event.Event.TheVariants.{Wrote, Lost, Noticed}
-use Rattle.opt_disk.specs.Cell.{greatest_ticket, is_accepted, is_noticed}
-use Rattle.opt_memdisk.specs.declared.log.Accepted.{Accepted}
-use Rattle.opt_memdisk.specs.declared.log.Step.{Step}
-use Rattle.opt_memdisk.specs.declared.log.Step.TheVariants.{Write, Notice}
+use Rattle.opt_disk.specs.Cell.{greatest_ticket, is_noticed}
+use Rattle.opt_disk.specs.Lawful.{IsLawful}
+use Rattle.opt_ranks.specs.Ranks.{RanksState}
 
--- a log: its events, and how many writes it has room for
+-- a log: its events, how many writes it has room for, accepted and lost, and how many boxes are ready for their bytes
 pub record LogState : Type 0 where
   pub events : List Event
   pub room : ℕ
+  pub boxes : ℕ
 
--- how many writes were accepted
-abbrev pub accepted_count : List Event → ℕ
-accepted_count [] = 0
-accepted_count (Wrote ticket block bytes ∷ es) = accepted_count es + 1
-accepted_count (Lost block bytes ∷ es) = accepted_count es
-accepted_count (Noticed ticket ∷ es) = accepted_count es
+-- the tickets of the accepted writes, in the order of the log
+abbrev pub tickets : List Event → List ℕ
+tickets [] = []
+tickets (Wrote ticket block bytes ∷ es) = ticket ∷ tickets es
+tickets (Lost block bytes ∷ es) = tickets es
+tickets (Noticed ticket ∷ es) = tickets es
 
--- the bytes of the accepted write with this ticket
-abbrev pub written_with : ℕ → List Event → List ℕ
-written_with t [] = []
-written_with t (Wrote ticket block bytes ∷ es) = if ticket == t then bytes else written_with t es
-written_with t (Lost block bytes ∷ es) = written_with t es
-written_with t (Noticed ticket ∷ es) = written_with t es
+-- the tickets of accepted writes that have no notice yet, in the order of the log
+abbrev pub open_tickets : List Event → List ℕ
+open_tickets log = filter (λ t. not (is_noticed t log)) (tickets log)
 
--- the events that steps are: each write step is the next write of the row, with tickets from t on
-abbrev pub events_of : ℕ → List Accepted → List Step → List Event
-events_of t ws [] = []
-events_of t [] (Write ∷ steps) = events_of t [] steps
-events_of t (w ∷ ws) (Write ∷ steps) = Wrote t w.block w.bytes ∷ events_of (t + 1) ws steps
-events_of t ws (Notice ticket ∷ steps) = Noticed ticket ∷ events_of t ws steps
+-- how many writes there were, accepted and lost
+abbrev pub write_count : List Event → ℕ
+write_count [] = 0
+write_count (Wrote ticket block bytes ∷ es) = write_count es + 1
+write_count (Lost block bytes ∷ es) = write_count es + 1
+write_count (Noticed ticket ∷ es) = write_count es
 
--- how many steps are writes
-abbrev pub write_steps : List Step → ℕ
-write_steps [] = 0
-write_steps (Write ∷ steps) = write_steps steps + 1
-write_steps (Notice ticket ∷ steps) = write_steps steps
+-- how many more writes an event is: one, or none where it is a notice
+abbrev pub writes_in : Event → ℕ
+writes_in (Wrote ticket block bytes) = 1
+writes_in (Lost block bytes) = 1
+writes_in (Noticed ticket) = 0
 
--- how many of the tests are true
-abbrev pub count_true : List Bool → ℕ
-count_true [] = 0
-count_true (b ∷ bs) = (if b then 1 else 0) + count_true bs
+-- the places of the accepted writes among these events, which begin at place p
+abbrev pub accepted_places : ℕ → List Event → List ℕ
+accepted_places p [] = []
+accepted_places p (Wrote ticket block bytes ∷ es) = p ∷ accepted_places (p + 1) es
+accepted_places p (Lost block bytes ∷ es) = accepted_places (p + 1) es
+accepted_places p (Noticed ticket ∷ es) = accepted_places (p + 1) es
 
--- the bytes of a write of the row
-abbrev pub bytes_at : List Accepted → ℕ → List ℕ
-bytes_at [] k = []
-bytes_at (w ∷ ws) zero = w.bytes
-bytes_at (w ∷ ws) (suc k) = bytes_at ws k
+-- the places of the lost writes among these events, which begin at place p
+abbrev pub lost_places : ℕ → List Event → List ℕ
+lost_places p [] = []
+lost_places p (Wrote ticket block bytes ∷ es) = lost_places (p + 1) es
+lost_places p (Lost block bytes ∷ es) = p ∷ lost_places (p + 1) es
+lost_places p (Noticed ticket ∷ es) = lost_places (p + 1) es
 
--- the rows fit one another and the events: each write has its step, its ticket and its flag of a notice, each notice its step, and there is room for what may come
-pub record IsKept (writes : List Accepted) (steps : List Step) (noticed : List Bool) (room most_writes most_steps most_flags : ℕ) : Type 0 where
-  pub each : write_steps steps ≡ length writes
-  pub few : length writes ≤ room
-  pub flags : length noticed ≡ length writes
-  pub notices : length steps ≡ length writes + count_true noticed
-  pub count : accepted_count (events_of 1 writes steps) ≡ length writes
-  pub greatest : greatest_ticket (events_of 1 writes steps) ≡ length writes
-  pub given : (t : ℕ) → is_accepted t (events_of 1 writes steps) ≡ (nat_lt 0 t && nat_le t (length writes))
-  pub told : (k : ℕ) → is_noticed (k + 1) (events_of 1 writes steps) ≡ slice_index_or noticed k false
-  pub bytes : (k : ℕ) → k < length writes → written_with (k + 1) (events_of 1 writes steps) ≡ bytes_at writes k
-  pub writes_fit : room ≤ most_writes
-  pub steps_fit : 2 * room ≤ most_steps
-  pub flags_fit : room ≤ most_flags
+-- the numbers, counted from n, of those that pass the test
+abbrev pub numbers_of : (ℕ → Bool) → ℕ → List ℕ → List ℕ
+numbers_of test n [] = []
+numbers_of test n (t ∷ ts) = if test t then n ∷ numbers_of test (n + 1) ts else numbers_of test (n + 1) ts
+
+-- each write among these events is to one of n blocks
+abbrev pub AreWithin : ℕ → List Event → Type 0
+AreWithin n [] = Unit {0}
+AreWithin n (Wrote ticket block bytes ∷ es) = block < n × AreWithin n es
+AreWithin n (Lost block bytes ∷ es) = block < n × AreWithin n es
+AreWithin n (Noticed ticket ∷ es) = AreWithin n es
+
+-- the rows fit one another and the events, and each has room for what may come
+pub record IsKept (events : List Event) (row places lost : List ℕ) (ranks : RanksState) (room boxes most_events most_tickets most_places most_lost : ℕ) : Type 0 where
+  pub lawful : IsLawful events
+  pub next : 0 < boxes → greatest_ticket events ≡ length row
+  pub few : write_count events + boxes ≤ room
+  pub short : room < 4294967296
+  pub row_is : row ≡ tickets events
+  pub places_are : places ≡ accepted_places 0 events
+  pub lost_are : lost ≡ lost_places 0 events
+  pub open_are : ranks.members ≡ numbers_of (λ t. not (is_noticed t events)) 1 (tickets events)
+  pub joined : ranks.joined ≡ length row
+  pub open_fit : room ≤ ranks.most
+  pub count : length events + length ranks.members ≤ 2 * write_count events
+  pub events_fit : 2 * room ≤ most_events
+  pub tickets_fit : room ≤ most_tickets
+  pub places_fit : room ≤ most_places
+  pub lost_fit : room ≤ most_lost

@@ -1,18 +1,30 @@
-//! A disk in memory. It holds one copy of each block that it began with, and one of each write since; it
-//! fails a write only where its room is used up, and a wait only for a ticket that it never gave. Its
-//! polls have no notices.
+//! A disk in memory. It keeps the blocks that it began with and its log, in which the bytes of each write
+//! stand once. Which calls fail, and which notices its polls have, is told to it. The rules are told in
+//! docs/DISK.md.
 
-ghost use Rattle.std.specs.Prelude.{◌≡◌, ◌<◌, ◌≤◌, ◌+◌, ◌^◌, ℕ, Bool, true, length, Ok, None, is_ok, is_err, IfOk, OnOk, IsTrue};
+ghost use Rattle.std.specs.Prelude.{◌≡◌, ◌<◌, ◌≤◌, ◌+◌, ◌^◌, ℕ, Bool, true, false, not, List, length, Ok, Err, None, is_ok, is_err, option_map, take, IfOk, OnOk, OnErr, IsTrue, if◌then◌else◌};
+ghost use Rattle.std.specs.List.{slice_get};
 ghost use Rattle.opt_base.specs.Seal.{blocks_of};
-ghost use Rattle.opt_disk.specs.Cell.{accepted, is_accepted, IsNoticed};
-ghost use Rattle.opt_disk.specs.Disk.{HasCause, Reads, AddsWrite, AddsPoll, AddsNotices, SameDisk, next_count};
-ghost use Rattle.opt_memdisk.specs.Log.{accepted_count};
-ghost use Rattle.opt_memdisk.specs.MemDisk.{begun, state_of, has_room, after_write, after_poll, after_wait};
+ghost use Rattle.opt_disk.specs.Cell.{accepted, greatest_ticket, is_accepted, is_noticed, IsNoticed};
+ghost use Rattle.opt_disk.specs.Disk.{IsOpen, HasCause, Reads, AddsWrite, AddsPoll, AddsNotices, SameDisk, next_count};
+ghost use Rattle.opt_disk.specs.Bay.{zero_blocks};
+ghost use Rattle.opt_disk.specs.Crash.{IsImage};
+ghost use Rattle.opt_disk.specs.Lawful.{IsLawful};
+ghost use Rattle.opt_disk.specs.declared.event.Event.{Event};
+ghost use Rattle.opt_disk.specs.declared.event.Event.TheVariants.{Wrote, Lost, Noticed};
+ghost use Rattle.opt_memdisk.specs.Choice.{GivesImage};
+ghost use Rattle.opt_memdisk.specs.Log.{AreWithin, write_count};
+ghost use Rattle.opt_memdisk.specs.MemDisk.{begun, with_log, state_of, has_room, next_ticket, next_call, fails_next, with_event, counted, faulted, after_read, after_write, after_poll, after_wait, poll_answer, can_wait, by_rule, AreLast};
+ghost use Rattle.opt_memdisk.specs.declared.calls.DiskCall.TheVariants.{Read, Write, Poll, Wait};
 
-use crate::Image;
+use crate::calls::is_listed;
+use crate::crash::image_at;
+use crate::laws::pending_writes_are_those_of_the_cells;
 use crate::log::Log;
+use crate::rule::Notices;
+use crate::{Choice, DiskCall, Fail, Image, ImageRefusal, Rule};
 use opt_base::{Block, NoMemory};
-use opt_disk::{Disk, DiskFault};
+use opt_disk::{Disk, DiskFault, Event};
 use std::alloc::Global;
 use std::marker::Model;
 
@@ -20,44 +32,248 @@ use std::marker::Model;
 #[derive(Drop)]
 pub struct MemDisk {
     base: Image,
-    places: Vec<u32>,
+    /// For each block one more than the place in the log of its last accepted write, or 0.
+    last: Vec<usize>,
     log: Log,
+    notices: Notices,
+    fails: Vec<Fail>,
     faults: u64,
     read_faults: u64,
-    waits: u64,
+    reads: u64,
+    writes: u64,
     polls: u64,
+    waits: u64,
 }
 
 impl Model for MemDisk {
-    ghost use Rattle.opt_memdisk.specs.MemDisk.{MemDiskState, ArePlaces};
+    ghost use Rattle.opt_memdisk.specs.MemDisk.{MemDiskState, IsDisk};
 
     ghost Value = { MemDiskState };
 
-    ghost view = { λ d. record { base = d.base; log = d.log.events; room = d.log.room; faults = d.faults; read_faults = d.read_faults; waits = d.waits; polls = d.polls } };
+    ghost view = { λ d. record { base = d.base; log = d.log.events; room = d.log.room; notices = d.notices; fails = d.fails.items; faults = d.faults; read_faults = d.read_faults; reads = d.reads; writes = d.writes; polls = d.polls; waits = d.waits } };
 
-    ghost invariant = { λ d. ArePlaces d.base d.log.events d.places.items };
+    ghost invariant = { λ d. IsDisk d.base d.log d.last.items };
 }
 
 impl MemDisk {
-    /// A disk that begins with the blocks of an image, and has room for so many writes.
+    /// A disk of so many blocks of zeros that has room for so many writes.
+    ///
+    /// # Errors
+    /// Want of memory for all of the room.
+    pub fn blank(alloc: Global, blocks: u32, room: u32) -> Result<MemDisk, NoMemory>
+        ensures { IfOk result (λ disk. disk ≡ begun (zero_blocks blocks) room) }
+    {
+        let image = Image::zeros(alloc, blocks)?;
+        let disk = MemDisk::of_image(alloc, image, room)?;
+        Ok(disk)
+    }
+
+    /// A disk that begins with the blocks of an image, and has room for so many writes, accepted and lost.
+    /// Its polls have no notices, and no call is listed to fail.
     ///
     /// # Errors
     /// Want of memory for all of the room.
     pub fn of_image(alloc: Global, image: Image, room: u32) -> Result<MemDisk, NoMemory>
         ensures { IfOk result (λ disk. disk ≡ begun image room) }
     {
-        let places = vec![in alloc; 0u32; image.blocks() as usize]?;
+        let last = vec![in alloc; 0usize; image.blocks() as usize]?;
         let log = Log::new(alloc, room)?;
-        Ok(MemDisk {
-            base: image,
-            places,
+        Ok(MemDisk::of_parts(alloc, image, last, log))
+    }
+
+    /// A disk that began with the blocks of an image and has this log behind it. It has no room for more
+    /// writes. The log must be one that the calls of a disk of these blocks can leave.
+    ///
+    /// # Errors
+    /// Want of memory.
+    pub fn of_log(alloc: Global, image: Image, log: Vec<Event>) -> Result<MemDisk, NoMemory>
+        requires lawful { IsLawful log.items }
+        requires within { AreWithin (length image) log.items }
+        ensures { IfOk result (λ disk. disk ≡ with_log image log.items) }
+    {
+        let last = last_places(alloc, log.as_slice(), image.blocks())?;
+        let log = Log::of_events(alloc, log)?;
+        Ok(MemDisk::of_parts(alloc, image, last, log))
+    }
+
+    // A disk of these parts, none of whose calls were made.
+    fn of_parts(alloc: Global, base: Image, last: Vec<usize>, log: Log) -> MemDisk
+        requires places { AreLast base log.events last.items }
+        requires within { AreWithin (length base) log.events }
+        requires boxes { write_count log.events + log.boxes ≡ log.room }
+        ensures { result ≡ record (begun base log.room) { log = log.events } }
+    {
+        MemDisk {
+            base,
+            last,
             log,
+            notices: Notices::new(Rule::Silent),
+            fails: Vec::new(alloc),
             faults: 0,
             read_faults: 0,
-            waits: 0,
+            reads: 0,
+            writes: 0,
             polls: 0,
-        })
+            waits: 0,
+        }
     }
+
+    /// From now on polls find their notices by this rule. That of a seed begins with its first draw.
+    pub fn notices(&mut self, rule: Rule)
+        ensures { self.new ≡ record self.old { notices = by_rule rule } }
+    {
+        self.notices = Notices::new(rule);
+    }
+
+    /// From now on exactly these calls fail, beside those that must. A write among them is lost; of what else
+    /// they do, nothing happens. The list takes the place of the one before.
+    ///
+    /// # Errors
+    /// Want of memory, and the list stays as it was.
+    pub fn fail_at(&mut self, alloc: Global, list: &[Fail]) -> Result<(), NoMemory>
+        ensures done { OnOk result (self.new ≡ record self.old { fails = list.now }) }
+        ensures same { OnErr result (self.new ≡ self.old) }
+    {
+        self.fails = Vec::from_slice(alloc, list)?;
+        Ok(())
+    }
+
+    /// The event at this place of the log, the first of which is 0, where there is one.
+    pub fn event(&self, i: u64) -> Option<&Event>
+        ensures { option_map (λ event. event.now) result ≡ slice_get self.now.log i }
+    {
+        let i = usize::try_from(i).ok()?;
+        self.log.events().get(i)
+    }
+
+    /// The image that a crash after the first `moment` events leaves by a choice.
+    ///
+    /// # Errors
+    /// `BadChoice` exactly where the moment is past the log, or a write that the choice names isn't pending
+    /// then; want of memory.
+    pub fn image(&self, alloc: Global, moment: u64, choice: &Choice) -> Result<Image, ImageRefusal>
+        ensures image { GivesImage self.now.base self.now.log moment choice.now result }
+        ensures crash { IfOk result (λ image. IsImage (length self.now.base) (blocks_of self.now.base) (take moment self.now.log) (blocks_of image)) }
+    {
+        // calls for their clauses alone: which writes are pending, that the log is lawful, what blocks are
+        pending_writes_are_those_of_the_cells();
+        let _ = self.log.events();
+        let image = image_at(alloc, &self.base, &self.log, moment, choice)?;
+        let _ = image.as_slice();
+        Ok(image)
+    }
+
+    // Counts a call, and whether it is listed to fail.
+    fn begins(&mut self, call: DiskCall) -> bool
+        ensures listed { result ≡ fails_next call self.old }
+        ensures state { self.new ≡ counted call self.old }
+    {
+        let nth = self.count(call);
+        is_listed(self.fails.as_slice(), call, nth)
+    }
+
+    // Counts a call, and gives which of its kind it is.
+    fn count(&mut self, call: DiskCall) -> u64
+        ensures nth { result ≡ next_call call self.old }
+        ensures state { self.new ≡ counted call self.old }
+    {
+        match call {
+            DiskCall::Read => {
+                self.reads = self.reads.saturating_add(1);
+                self.reads
+            }
+            DiskCall::Write => {
+                self.writes = self.writes.saturating_add(1);
+                self.writes
+            }
+            DiskCall::Poll => {
+                self.polls = self.polls.saturating_add(1);
+                self.polls
+            }
+            DiskCall::Wait => {
+                self.waits = self.waits.saturating_add(1);
+                self.waits
+            }
+        }
+    }
+
+    // The last accepted bytes of a block.
+    fn last_bytes(&self, b: u32) -> &Block
+        requires { b < length self.now.base }
+        ensures { result.now ≡ accepted (blocks_of self.now.base) self.now.log b }
+    {
+        let last = self.last[b as usize];
+        if last == 0 {
+            return self.base.block(b);
+        }
+        match &self.log.events()[last - 1] {
+            Event::Wrote { bytes, .. } => bytes.bytes(),
+            Event::Lost { .. } => self.base.block(b),
+            Event::Noticed { .. } => self.base.block(b),
+        }
+    }
+
+    // Counts a failed call that isn't a read.
+    fn fault(&mut self) -> DiskFault
+        ensures cause { HasCause {T = ℕ} (Err result) self.old.faults self.new.faults }
+        ensures state { self.new ≡ faulted self.old }
+    {
+        self.faults = self.faults.saturating_add(1);
+        DiskFault
+    }
+
+    // Whether one more write has room.
+    fn has_room(&self) -> bool
+        ensures { result ≡ has_room self.now }
+    {
+        self.log.has_box()
+    }
+
+    // Adds a write, for which there must be room, and gives its ticket.
+    fn accept(&mut self, b: u32, from: &Block) -> u64
+        requires there { b < length self.old.base }
+        requires room { IsTrue (has_room self.old) }
+        ensures ticket { result ≡ next_ticket self.old }
+        ensures above { greatest_ticket self.old.log < result }
+        ensures unnoticed { is_noticed result self.old.log ≡ false }
+        ensures state { self.new ≡ with_event (Wrote result b from.now) self.old }
+    {
+        let place = self.log.events().len() + 1;
+        let ticket = self.log.add_write(b, from);
+        self.last[b as usize] = place;
+        ticket
+    }
+
+    // Adds a lost write, for which there must be room.
+    fn lose(&mut self, b: u32, from: &Block)
+        requires there { b < length self.old.base }
+        requires room { IsTrue (has_room self.old) }
+        ensures { self.new ≡ with_event (Lost b from.now) self.old }
+    {
+        self.log.add_lost(b, from);
+    }
+
+    // Adds the notice of a ticket that is open.
+    fn note(&mut self, ticket: u64)
+        requires { IsOpen ticket self.old.log }
+        ensures { self.new ≡ with_event (Noticed ticket) self.old }
+    {
+        self.log.add_notice(ticket);
+    }
+}
+
+// For each of so many blocks one more than the place of its last accepted write, or 0.
+fn last_places(alloc: Global, log: &[Event], blocks: u32) -> Result<Vec<usize>, NoMemory>
+    requires { AreWithin blocks log.now }
+    ensures { (base : List (List ℕ)) → length base ≡ blocks → IfOk result (λ last. AreLast base log.now last.items) }
+{
+    let mut last = vec![in alloc; 0usize; blocks as usize]?;
+    for place in 0..log.len() {
+        if let Event::Wrote { block, .. } = &log[place] {
+            last[*block as usize] = place + 1;
+        }
+    }
+    Ok(last)
 }
 
 impl Disk for MemDisk {
@@ -83,15 +299,18 @@ impl Disk for MemDisk {
 
     fn read(&mut self, b: u32, into: &mut Block) -> Result<(), DiskFault>
         requires { b < length self.old.base }
-        ensures exact { is_ok result ≡ true }
-        ensures bytes { into.new ≡ accepted (blocks_of self.old.base) self.old.log b }
+        ensures exact { is_ok result ≡ not (fails_next Read self.old) }
+        ensures bytes { OnOk result (into.new ≡ accepted (blocks_of self.old.base) self.old.log b) }
+        ensures failed { OnErr result (into.new ≡ into.old) }
+        ensures cause { HasCause result self.old.read_faults self.new.read_faults }
         ensures base { self.new.base ≡ self.old.base }
-        ensures state { self.new ≡ self.old }
+        ensures state { self.new ≡ after_read self.old }
     {
-        match self.places[b as usize] {
-            0 => *into = *self.base.block(b),
-            ticket => *into = *self.log.bytes(ticket),
+        if self.begins(DiskCall::Read) {
+            self.read_faults = self.read_faults.saturating_add(1);
+            return Err(DiskFault);
         }
+        *into = *self.last_bytes(b);
         Ok(())
     }
 
@@ -99,44 +318,58 @@ impl Disk for MemDisk {
         requires { b < length self.old.base }
         ensures log { AddsWrite b from.now result self.old.log self.new.log }
         ensures cause { HasCause result self.old.faults self.new.faults }
-        ensures exact { is_ok result ≡ has_room self.old }
-        ensures ticket { IfOk result (λ t. t ≡ accepted_count self.old.log + 1) }
+        ensures exact { is_ok result ≡ (if fails_next Write self.old then false else has_room self.old) }
+        ensures ticket { IfOk result (λ t. t ≡ next_ticket self.old) }
         ensures base { self.new.base ≡ self.old.base }
         ensures state { self.new ≡ after_write self.old b from.now }
     {
-        if !self.log.has_room() {
-            self.faults = self.faults.saturating_add(1);
-            return Err(DiskFault);
+        let listed = self.begins(DiskCall::Write);
+        if !self.has_room() {
+            return Err(self.fault());
         }
-        let ticket = self.log.add_write(b, from);
-        self.places[b as usize] = ticket;
-        Ok(u64::from(ticket))
+        if listed {
+            self.lose(b, from);
+            return Err(self.fault());
+        }
+        Ok(self.accept(b, from))
     }
 
     fn poll(&mut self) -> Result<Option<u64>, DiskFault>
-        ensures exact { result ≡ Ok None }
+        ensures log { AddsPoll result self.old.log self.new.log }
+        ensures cause { HasCause result self.old.faults self.new.faults }
+        ensures exact { is_ok result ≡ not (fails_next Poll self.old) }
+        ensures answer { IfOk result (λ ticket. ticket ≡ poll_answer self.old) }
         ensures base { self.new.base ≡ self.old.base }
         ensures state { self.new ≡ after_poll self.old }
     {
-        self.polls = self.polls.saturating_add(1);
-        Ok(None)
+        if self.begins(DiskCall::Poll) {
+            return Err(self.fault());
+        }
+        match self.notices.next(&self.log) {
+            None => Ok(None),
+            Some(ticket) => {
+                self.note(ticket);
+                Ok(Some(ticket))
+            }
+        }
     }
 
     fn wait(&mut self, ticket: u64) -> Result<(), DiskFault>
         ensures log { AddsNotices self.old.log self.new.log }
         ensures noticed { OnOk result (IsNoticed ticket self.new.log) }
         ensures cause { HasCause result self.old.faults self.new.faults }
-        ensures exact { is_ok result ≡ is_accepted ticket self.old.log }
+        ensures exact { is_ok result ≡ can_wait self.old ticket }
         ensures base { self.new.base ≡ self.old.base }
         ensures state { self.new ≡ after_wait self.old ticket }
     {
-        self.waits = self.waits.saturating_add(1);
+        if self.begins(DiskCall::Wait) {
+            return Err(self.fault());
+        }
         if !self.log.is_accepted(ticket) {
-            self.faults = self.faults.saturating_add(1);
-            return Err(DiskFault);
+            return Err(self.fault());
         }
         if !self.log.is_noticed(ticket) {
-            self.log.add_notice(ticket);
+            self.note(ticket);
         }
         Ok(())
     }

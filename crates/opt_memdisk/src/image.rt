@@ -3,6 +3,7 @@
 ghost use Rattle.std.specs.Prelude.{◌≡◌, ◌<◌, length, slice_set, IfOk};
 ghost use Rattle.opt_base.specs.Seal.{blocks_of};
 ghost use Rattle.opt_disk.specs.Bay.{zero_blocks};
+ghost use Rattle.opt_memdisk.specs.Image.{AreBlocks};
 
 use opt_base::{Block, NoMemory};
 use std::alloc::Global;
@@ -40,6 +41,17 @@ impl Image {
         Ok(Image { blocks })
     }
 
+    /// The same blocks once more.
+    ///
+    /// # Errors
+    /// Want of memory.
+    pub fn copy(&self, alloc: Global) -> Result<Image, NoMemory>
+        ensures { IfOk result (λ image. image ≡ self.now) }
+    {
+        let blocks = Vec::from_slice(alloc, self.blocks.as_slice())?;
+        Ok(Image { blocks })
+    }
+
     /// The number of blocks.
     pub fn blocks(&self) -> u32
         ensures { result ≡ length self.now }
@@ -66,7 +78,8 @@ impl Image {
 
     /// All blocks in order.
     pub fn as_slice(&self) -> &[Block]
-        ensures { result.now ≡ self.now }
+        ensures value { result.now ≡ self.now }
+        ensures blocks { AreBlocks self.now }
     {
         self.blocks.as_slice()
     }

@@ -1,15 +1,33 @@
-//! A disk in memory that keeps its log, the image that it begins with, and a bay of such disks. It is
-//! for tests and for runs that are told what a disk does; nothing here outlives the program. Notices
-//! come by `wait` alone: a poll never has one.
+//! A disk in memory that keeps its log, the images that it begins with and that crashes leave of it, and a
+//! bay of such disks. It is for tests and for runs that are told what a disk does; nothing here outlives
+//! the program. The rules are told in docs/DISK.md.
 #![tactic(auto)]
 
 mod bay;
+mod calls;
+mod choice;
+mod crash;
+#[cfg(test)]
+mod crash_tests;
 mod disk;
+#[cfg(test)]
+mod failure_tests;
 mod image;
+mod laws;
 mod log;
+#[cfg(test)]
+mod log_tests;
+mod rule;
+mod settled;
+#[cfg(test)]
+mod testing;
 #[cfg(test)]
 mod tests;
 
 pub use bay::MemBay;
+pub use calls::{DiskCall, Fail};
+pub use choice::{Choice, Fate, ImageRefusal, Named, WriteName};
 pub use disk::MemDisk;
 pub use image::Image;
+pub use laws::{a_choice_makes_each_torn_image, pending_writes_are_those_of_the_cells};
+pub use rule::Rule;

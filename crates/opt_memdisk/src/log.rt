@@ -1,135 +1,324 @@
-//! The log of a disk in memory. The bytes of accepted writes stand in one row and the steps, writes and
-//! notices by turns, in another, so that a notice costs some bytes and not a block. Room for all is made
-//! ready at the start: no event takes memory. Tickets are 1, 2, 3 and so on. It knows no blocks but
-//! those written.
+//! The log of a disk in memory: its events as they came, and rows by which a ticket, a lost write and an
+//! open ticket are found without a walk over it. The boxes for the bytes of writes, and room for all
+//! events that may come, are made ready at the start: no event takes memory. What blocks there are is not
+//! its matter.
 
-ghost use Rattle.std.specs.Prelude.{◌≡◌, ◌<◌, ◌+◌, ◌++◌, [], ◌∷◌, false, length, nat_lt, IfOk};
-ghost use Rattle.opt_disk.specs.declared.event.Event.TheVariants.{Wrote, Noticed};
+ghost use Rattle.std.specs.Prelude.{◌≡◌, ◌<◌, ◌≤◌, ◌+◌, ◌-◌, ◌++◌, ℕ, [], ◌∷◌, false, length, nat_lt, Option, Some, IfSome, IfNone, IfOk};
+ghost use Rattle.std.specs.List.{slice_get};
+ghost use Rattle.std.specs.List.Sorted.{IsNonDecreasing};
+ghost use Rattle.opt_disk.specs.declared.event.Event.TheVariants.{Wrote, Lost, Noticed};
 ghost use Rattle.opt_disk.specs.Cell.{greatest_ticket, is_accepted, is_noticed, IsAccepted};
 ghost use Rattle.opt_disk.specs.Disk.{IsOpen};
-ghost use Rattle.opt_memdisk.specs.Log.{accepted_count, written_with};
+ghost use Rattle.opt_disk.specs.Lawful.{MayCome, IsLawful};
+ghost use Rattle.opt_memdisk.specs.Log.{tickets, open_tickets, write_count, writes_in};
+ghost use Rattle.opt_memdisk.specs.Settled.{name_at};
 
+use crate::WriteName;
 use opt_base::{Block, NoMemory};
+use opt_disk::{BoxedBlock, Event};
+use opt_ranks::Ranks;
 use std::alloc::Global;
 use std::marker::Model;
 
-/// A write that was accepted: what came to which block. Its ticket is its place in the row, from 1.
-#[derive(Clone, Copy, Debug, PartialEq, Eq)]
-pub struct Accepted {
-    pub block: u32,
-    pub bytes: Block,
-}
-
-/// One event: the next write of the row, or a notice of a ticket.
-#[derive(Clone, Copy, Debug, PartialEq, Eq)]
-pub enum Step {
-    Write,
-    Notice { ticket: u64 },
-}
-
-/// The events of a disk, with room for so many writes and a notice of each.
+/// The events of a disk.
 #[derive(Drop)]
-pub struct Log {
-    writes: Vec<Accepted>,
-    steps: Vec<Step>,
-    noticed: Vec<bool>,
+pub(crate) struct Log {
+    events: Vec<Event>,
+    /// The boxes for the bytes of writes to come.
+    boxes: Vec<BoxedBlock>,
+    /// The tickets of accepted writes, which ascend.
+    tickets: Vec<u64>,
+    /// Where in the log they stand.
+    places: Vec<usize>,
+    /// Where in the log the lost writes stand.
+    lost: Vec<usize>,
+    /// Which of the accepted writes, counted from 1, have no notice yet.
+    unnoticed: Ranks,
+    /// How many writes there is room for, accepted and lost.
     room: u32,
 }
 
 impl Model for Log {
-    ghost use Rattle.opt_memdisk.specs.Log.{LogState, events_of, IsKept};
-    ghost use Rattle.std.specs.Prelude.{vec_capacity};
+    ghost use Rattle.opt_memdisk.specs.Log.{LogState, IsKept};
+    ghost use Rattle.std.specs.Prelude.{length, vec_capacity};
 
     ghost Value = { LogState };
 
-    ghost view = { λ l. record { events = events_of 1 l.writes.items l.steps.items; room = l.room } };
+    ghost view = { λ l. record { events = l.events.items; room = l.room; boxes = length l.boxes.items } };
 
-    ghost invariant = { λ l. IsKept l.writes.items l.steps.items l.noticed.items l.room (vec_capacity l.writes) (vec_capacity l.steps) (vec_capacity l.noticed) };
+    ghost invariant = { λ l. IsKept l.events.items l.tickets.items l.places.items l.lost.items l.unnoticed l.room (length l.boxes.items) (vec_capacity l.events) (vec_capacity l.tickets) (vec_capacity l.places) (vec_capacity l.lost) };
 }
 
 impl Log {
-    /// No events, and room for so many writes.
+    /// No events, and room for so many writes and a notice of each, with boxes for their bytes.
     ///
     /// # Errors
     /// Want of memory for all of the room.
-    pub fn new(alloc: Global, room: u32) -> Result<Log, NoMemory>
-        ensures { IfOk result (λ log. log ≡ record { events = []; room = room }) }
+    pub(crate) fn new(alloc: Global, room: u32) -> Result<Log, NoMemory>
+        ensures { IfOk result (λ log. log ≡ record { events = []; room = room; boxes = room }) }
+    {
+        let mut log = Log::without_boxes(alloc, room)?;
+        log.boxes = boxes(alloc, room)?;
+        Ok(log)
+    }
+
+    /// These events, and no room for more writes.
+    ///
+    /// # Errors
+    /// Want of memory.
+    pub(crate) fn of_events(alloc: Global, events: Vec<Event>) -> Result<Log, NoMemory>
+        requires { IsLawful events.items }
+        ensures { IfOk result (λ log. log ≡ record { events = events.items; room = write_count events.items; boxes = 0 }) }
+    {
+        let room = write_count(events.as_slice());
+        let room = u32::try_from(room).map_err(|_| NoMemory)?;
+        let mut log = Log::without_boxes(alloc, room)?;
+        for event in events {
+            log.add(event);
+        }
+        Ok(log)
+    }
+
+    // No events, and room for so many writes, but no boxes.
+    fn without_boxes(alloc: Global, room: u32) -> Result<Log, NoMemory>
+        ensures { IfOk result (λ log. log ≡ record { events = []; room = room; boxes = 0 }) }
     {
         let most = usize::try_from(u64::from(room) * 2).map_err(|_| NoMemory)?;
-        let writes = Vec::with_capacity(alloc, room as usize)?;
-        let noticed = Vec::with_capacity(alloc, room as usize)?;
-        let steps = Vec::with_capacity(alloc, most)?;
+        let events = Vec::with_capacity(alloc, most)?;
+        let tickets = Vec::with_capacity(alloc, room as usize)?;
+        let places = Vec::with_capacity(alloc, room as usize)?;
+        let lost = Vec::with_capacity(alloc, room as usize)?;
+        let unnoticed = Ranks::new(alloc, room)?;
         Ok(Log {
-            writes,
-            steps,
-            noticed,
+            events,
+            boxes: Vec::new(alloc),
+            tickets,
+            places,
+            lost,
+            unnoticed,
             room,
         })
     }
 
     /// The number of events.
-    pub fn len(&self) -> u64
+    pub(crate) fn len(&self) -> u64
         ensures { result ≡ length self.now.events }
     {
-        self.steps.len() as u64
+        self.events.len() as u64
     }
 
-    /// Whether one more write has room.
-    pub fn has_room(&self) -> bool
-        ensures { result ≡ nat_lt (accepted_count self.now.events) self.now.room }
+    /// All events, in their order.
+    pub(crate) fn events(&self) -> &[Event]
+        ensures value { result.now ≡ self.now.events }
+        ensures lawful { IsLawful self.now.events }
     {
-        self.writes.len() < self.room as usize
+        self.events.as_slice()
+    }
+
+    /// Whether a box is ready for one more write.
+    pub(crate) fn has_box(&self) -> bool
+        ensures { result ≡ nat_lt 0 self.now.boxes }
+    {
+        !self.boxes.is_empty()
     }
 
     /// Whether a write has this ticket.
-    pub fn is_accepted(&self, ticket: u64) -> bool
+    pub(crate) fn is_accepted(&self, ticket: u64) -> bool
         ensures { result ≡ is_accepted ticket self.now.events }
     {
-        ticket != 0 && ticket <= self.writes.len() as u64
+        self.index_of(ticket).is_some()
     }
 
     /// Whether the write of this ticket, which there must be, was noticed.
-    pub fn is_noticed(&self, ticket: u64) -> bool
+    pub(crate) fn is_noticed(&self, ticket: u64) -> bool
         requires { IsAccepted ticket self.now.events }
         ensures { result ≡ is_noticed ticket self.now.events }
     {
-        self.noticed[(ticket - 1) as usize]
+        !self.unnoticed.has(self.number_of(ticket))
     }
 
-    /// The bytes of the write of this ticket, which there must be.
-    pub fn bytes(&self, ticket: u32) -> &Block
+    // Which of the accepted writes has this ticket, counted from 1.
+    fn number_of(&self, ticket: u64) -> u32
         requires { IsAccepted ticket self.now.events }
-        ensures { result.now ≡ written_with ticket self.now.events }
+        ensures above { 0 < result }
+        ensures ticket { slice_get (tickets self.now.events) (result - 1) ≡ Some ticket }
     {
-        &self.writes[(ticket - 1) as usize].bytes
+        match self.index_of(ticket) {
+            Some(index) => index as u32 + 1,
+            None => 0,
+        }
     }
 
-    /// Adds a write, for which there must be room, and gives its ticket.
-    pub fn add_write(&mut self, block: u32, bytes: &Block) -> u32
-        requires { accepted_count self.old.events < self.old.room }
-        ensures ticket { result ≡ accepted_count self.old.events + 1 }
-        ensures above { greatest_ticket self.old.events < result }
-        ensures new { is_accepted result self.old.events ≡ false }
-        ensures unnoticed { is_noticed result self.old.events ≡ false }
-        ensures state { self.new ≡ record self.old { events = self.old.events ++ Wrote result block bytes.now ∷ [] } }
+    // Where this ticket stands in the row of tickets.
+    fn index_of(&self, ticket: u64) -> Option<usize>
+        ensures there { IfSome result (λ i. slice_get (tickets self.now.events) i ≡ Some ticket) }
+        ensures short { IfSome result (λ i. i + 1 < 4294967296) }
+        ensures none { IfNone result (is_accepted ticket self.now.events ≡ false) }
     {
-        let ticket = self.writes.len() as u32 + 1;
-        let write = Accepted {
-            block,
-            bytes: *bytes,
-        };
-        self.writes.push(write).unwrap();
-        self.noticed.push(false).unwrap();
-        self.steps.push(Step::Write).unwrap();
+        place_in(self.tickets.as_slice(), ticket)
+    }
+
+    /// The place in the log of the write of this name, where there is one.
+    pub(crate) fn place_of(&self, write: WriteName) -> Option<usize>
+        ensures there { IfSome result (λ p. name_at self.now.events p ≡ Some write) }
+        ensures none { IfNone result ((p : ℕ) → name_at self.now.events p ≡ Some write → ⊥) }
+    {
+        match write {
+            WriteName::Accepted { ticket } => {
+                let index = self.index_of(ticket)?;
+                Some(self.places[index])
+            }
+            WriteName::Lost { number } => {
+                if number == 0 {
+                    return None;
+                }
+                numbered(self.lost.as_slice(), number)
+            }
+        }
+    }
+
+    /// How many tickets of accepted writes have no notice.
+    pub(crate) fn open_count(&self) -> u32
+        ensures { result ≡ length (open_tickets self.now.events) }
+    {
+        self.unnoticed.len()
+    }
+
+    /// The ticket at this place of those that have no notice, in ascending order, the first of which is 0.
+    pub(crate) fn open_at(&self, place: u32) -> Option<u64>
+        ensures { result ≡ slice_get (open_tickets self.now.events) place }
+    {
+        let number = self.unnoticed.at(place)?;
+        Some(self.tickets[(number - 1) as usize])
+    }
+
+    /// Adds a write, for which a box must be ready, and gives its ticket.
+    pub(crate) fn add_write(&mut self, block: u32, bytes: &Block) -> u64
+        requires { 0 < self.old.boxes }
+        ensures ticket { result ≡ length (tickets self.old.events) + 1 }
+        ensures above { greatest_ticket self.old.events < result }
+        ensures unnoticed { is_noticed result self.old.events ≡ false }
+        ensures state { self.new ≡ record self.old { events = self.old.events ++ Wrote result block bytes.now ∷ []; boxes = self.old.boxes - 1 } }
+    {
+        let ticket = self.tickets.len() as u64 + 1;
+        let bytes = self.boxed(bytes);
+        self.push_wrote(ticket, block, bytes);
         ticket
     }
 
+    /// Adds a lost write, for which a box must be ready.
+    pub(crate) fn add_lost(&mut self, block: u32, bytes: &Block)
+        requires { 0 < self.old.boxes }
+        ensures { self.new ≡ record self.old { events = self.old.events ++ Lost block bytes.now ∷ []; boxes = self.old.boxes - 1 } }
+    {
+        let bytes = self.boxed(bytes);
+        self.push_lost(block, bytes);
+    }
+
     /// Adds the notice of a ticket that is open.
-    pub fn add_notice(&mut self, ticket: u64)
+    pub(crate) fn add_notice(&mut self, ticket: u64)
         requires { IsOpen ticket self.old.events }
         ensures { self.new ≡ record self.old { events = self.old.events ++ Noticed ticket ∷ [] } }
     {
-        self.noticed[(ticket - 1) as usize] = true;
-        self.steps.push(Step::Notice { ticket }).unwrap();
+        let number = self.number_of(ticket);
+        self.unnoticed.take_out(number);
+        self.events.push(Event::Noticed { ticket }).unwrap();
     }
+
+    // One of the boxes that are ready, with these bytes. There is room for the writes of all of them.
+    fn boxed(&mut self, bytes: &Block) -> BoxedBlock
+        requires { 0 < self.old.boxes }
+        ensures bytes { result ≡ bytes.now }
+        ensures room { write_count self.old.events + self.old.boxes ≤ self.old.room }
+        ensures state { self.new ≡ record self.old { boxes = self.old.boxes - 1 } }
+    {
+        let mut boxed = self.boxes.pop().unwrap();
+        boxed.set(bytes);
+        boxed
+    }
+
+    // Adds an event that may come, for which there must be room, where no boxes are ready.
+    fn add(&mut self, event: Event)
+        requires may { MayCome self.old.events event }
+        requires room { write_count self.old.events + writes_in event ≤ self.old.room }
+        requires boxes { self.old.boxes ≡ 0 }
+        ensures { self.new ≡ record self.old { events = self.old.events ++ event ∷ [] } }
+    {
+        match event {
+            Event::Wrote {
+                ticket,
+                block,
+                bytes,
+            } => self.push_wrote(ticket, block, bytes),
+            Event::Lost { block, bytes } => self.push_lost(block, bytes),
+            Event::Noticed { ticket } => self.add_notice(ticket),
+        }
+    }
+
+    // Adds a write, whose ticket is the next one where boxes are ready, and for which there must be room.
+    fn push_wrote(&mut self, ticket: u64, block: u32, bytes: BoxedBlock)
+        requires above { greatest_ticket self.old.events < ticket }
+        requires next { 0 < self.old.boxes → ticket ≡ length (tickets self.old.events) + 1 }
+        requires room { write_count self.old.events + 1 + self.old.boxes ≤ self.old.room }
+        ensures { self.new ≡ record self.old { events = self.old.events ++ Wrote ticket block bytes ∷ [] } }
+    {
+        self.tickets.push(ticket).unwrap();
+        self.places.push(self.events.len()).unwrap();
+        self.unnoticed.join();
+        let event = Event::Wrote {
+            ticket,
+            block,
+            bytes,
+        };
+        self.events.push(event).unwrap();
+    }
+
+    // Adds a lost write, for which there must be room.
+    fn push_lost(&mut self, block: u32, bytes: BoxedBlock)
+        requires { write_count self.old.events + 1 + self.old.boxes ≤ self.old.room }
+        ensures { self.new ≡ record self.old { events = self.old.events ++ Lost block bytes ∷ [] } }
+    {
+        self.lost.push(self.events.len()).unwrap();
+        self.events.push(Event::Lost { block, bytes }).unwrap();
+    }
+}
+
+// So many boxes.
+fn boxes(alloc: Global, n: u32) -> Result<Vec<BoxedBlock>, NoMemory>
+    ensures { IfOk result (λ boxes. length boxes.items ≡ n) }
+{
+    let mut boxes = Vec::with_capacity(alloc, n as usize)?;
+    while boxes.len() < n as usize {
+        let ready = BoxedBlock::new(alloc, &[0; 1024])?;
+        boxes.push(ready).unwrap();
+    }
+    Ok(boxes)
+}
+
+// How many of these events are writes, accepted and lost.
+fn write_count(events: &[Event]) -> usize
+    ensures { result ≡ write_count events.now }
+{
+    events
+        .iter()
+        .filter(|event| !matches!(event, Event::Noticed { .. }))
+        .count()
+}
+
+// The place of a number in a row in order, where it is there.
+fn place_in(row: &[u64], number: u64) -> Option<usize>
+    requires { IsNonDecreasing row.now }
+    ensures there { IfSome result (λ p. slice_get row.now p ≡ Some number) }
+    ensures none { IfNone result ((p : ℕ) → slice_get row.now p ≡ Some number → ⊥) }
+{
+    row.binary_search(&number).ok()
+}
+
+// What stands in a row at this number, where the first is 1.
+fn numbered(row: &[usize], number: u64) -> Option<usize>
+    requires { 0 < number }
+    ensures { result ≡ slice_get row.now (number - 1) }
+{
+    let index = usize::try_from(number - 1).ok()?;
+    row.get(index).copied()
 }

@@ -2,7 +2,7 @@
 
 use crate::{write_command, write_end, write_event, write_geom, write_reply};
 use opt_base::Block;
-use opt_disk::Event;
+use opt_disk::{BoxedBlock, Event};
 use opt_geom::Geom;
 use opt_io::{MemSink, SinkFault};
 use std::test::Fail;
@@ -51,7 +51,7 @@ fn an_accepted_write_has_its_line(rt: HostRuntime) -> Result<(), Fail> {
     let event = Event::Wrote {
         ticket: 7,
         block: 25,
-        bytes: block(),
+        bytes: BoxedBlock::new(rt.alloc(), &block())?,
     };
     assert_eq!(rt; write_event(&mut out, &event), Ok(()));
     assert_eq!(rt; out.bytes().len(), 2 + 1 + 1 + 2 + 1 + 2048 + 1);
@@ -66,7 +66,7 @@ fn the_longest_line_is_written(rt: HostRuntime) -> Result<(), Fail> {
     let event = Event::Wrote {
         ticket: u64::MAX,
         block: u32::MAX,
-        bytes: block(),
+        bytes: BoxedBlock::new(rt.alloc(), &block())?,
     };
     assert_eq!(rt; write_event(&mut out, &event), Ok(()));
     assert_eq!(rt; out.bytes().len(), 2 + 20 + 1 + 10 + 1 + 2048 + 1);
@@ -86,7 +86,7 @@ fn a_lost_write_has_its_line(rt: HostRuntime) -> Result<(), Fail> {
     let mut out = MemSink::new(rt.alloc(), 3000, &[])?;
     let event = Event::Lost {
         block: 0,
-        bytes: block(),
+        bytes: BoxedBlock::new(rt.alloc(), &block())?,
     };
     assert_eq!(rt; write_event(&mut out, &event), Ok(()));
     assert!(rt; is_line(out.bytes(), b"f 0 01ab", 2042, b"f0\n"));

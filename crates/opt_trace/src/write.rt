@@ -63,11 +63,11 @@ fn put_event(line: &mut Line, event: &Event)
             put(line, b"w ");
             put_number(line, *ticket);
             put(line, b" ");
-            put_block(line, *block, bytes);
+            put_block(line, *block, bytes.bytes());
         }
         Event::Lost { block, bytes } => {
             put(line, b"f ");
-            put_block(line, *block, bytes);
+            put_block(line, *block, bytes.bytes());
         }
         Event::Noticed { ticket } => {
             put(line, b"d ");

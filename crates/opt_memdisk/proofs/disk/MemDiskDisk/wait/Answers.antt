@@ -1,22 +1,16 @@
-use Rattle.std.proofs.Common.{List, sym, ◌∙◌, ap, subst}
-use Rattle.opt_disk.specs.declared.event.Event.{Event}
-use Rattle.opt_disk.specs.Disk.{AddsNotices}
-use Rattle.opt_memdisk.specs.Log.{LogState}
-use Rattle.opt_memdisk.specs.MemDisk.{MemDiskState, ArePlaces}
-use Rattle.opt_memdisk.proofs.Places.{places_noticed}
-use Rattle.opt_memdisk.proofs.Waits.{adds_one, noticed_one}
+use Rattle.std.proofs.Common.{◌≡◌, ◌++◌, [], ◌∷◌, rules}
+use Rattle.opt_disk.specs.declared.event.Event.TheVariants.{Noticed}
+use Rattle.opt_disk.specs.Disk.{IsOpen}
+use Rattle.opt_memdisk.proofs.CallNotices.{noticed_now, one_notice}
 use Rattle.opt_memdisk.proofs.disk.MemDiskDisk.wait.Goals as goal
-
-pub invariant_of-self-then-not-is_noticed : goal.invariant_of-self-then-not-is_noticed
-invariant_of-self-then-not-is_noticed c =
-    let d = c.self.inside in
-    subst (λ (l : List Event). ArePlaces d.base l d.places.items) (sym (ap (λ (s : LogState). s.events) c.add_notice.ensures)) (places_noticed d.base d.log.events d.places.items c.args.ticket c.self.invariant)
 
 pub returns-then-not-is_noticed-clause-log : goal.returns-then-not-is_noticed-clause-log
 returns-then-not-is_noticed-clause-log c =
-    let new = c.add_notice.new.self.events in
-    subst (λ (l : List Event). AddsNotices l new) (ap (λ (s : MemDiskState). s.log) c.self.view_is)
-    (adds_one c.self.inside.log.events new c.args.ticket (sym c.is_accepted.ensures ∙ c.if-not-is_accepted.false) (sym c.is_noticed.ensures ∙ c.if-not-is_noticed.true) (ap (λ (s : LogState). s.events) c.add_notice.ensures))
+    let is : IsOpen c.args.ticket c.args.self.now.log = search rules in
+    let more : c.note.new.self.log ≡ c.args.self.now.log ++ Noticed c.args.ticket ∷ [] = search rules in
+    one_notice c.args.ticket c.args.self.now.log c.note.new.self.log is more
 
 pub returns-then-not-is_noticed-clause-noticed : goal.returns-then-not-is_noticed-clause-noticed
-returns-then-not-is_noticed-clause-noticed c = noticed_one c.self.inside.log.events _ c.args.ticket (ap (λ (s : LogState). s.events) c.add_notice.ensures)
+returns-then-not-is_noticed-clause-noticed c =
+    let more : c.note.new.self.log ≡ c.args.self.now.log ++ Noticed c.args.ticket ∷ [] = search rules in
+    noticed_now c.args.ticket c.args.self.now.log c.note.new.self.log more

@@ -1,0 +1,7 @@
+use Rattle.std.proofs.Common.{◌≡◌, ◌≤◌, map, take}
+use Rattle.std.specs.Prelude.{vec_capacity}
+use Rattle.opt_memdisk.specs.Crash.{first_fate}
+use Rattle.opt_memdisk.proofs.crash.fates_at_first.Given as goal
+
+abbrev pub invariant-loop-event : goal.invariant-loop-event
+invariant-loop-event l = (l.fates.items ≡ map (λ e. first_fate e l.all) (take l.event-index l.event-items)) × (l.moment ≤ vec_capacity l.fates)

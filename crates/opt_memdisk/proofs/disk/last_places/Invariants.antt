@@ -1,0 +1,6 @@
+use Rattle.std.proofs.Common.{take}
+use Rattle.opt_memdisk.proofs.LastFound.{AreFound}
+use Rattle.opt_memdisk.proofs.disk.last_places.Given as goal
+
+abbrev pub invariant-loop-place : goal.invariant-loop-place
+invariant-loop-place l = AreFound l.blocks (take l.place l.log) l.last.items

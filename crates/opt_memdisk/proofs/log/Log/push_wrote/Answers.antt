@@ -1,0 +1,34 @@
+use Rattle.std.proofs.Common.{◌≡◌, ◌<◌, ◌≤◌, ◌+◌, ◌++◌, [], ◌∷◌, sym, subst, arith, length}
+use Rattle.opt_disk.specs.declared.event.Event.TheVariants.{Wrote}
+use Rattle.opt_disk.specs.Cell.{greatest_ticket}
+use Rattle.opt_memdisk.specs.Log.{LogState, write_count, tickets}
+use Rattle.opt_memdisk.proofs.AddRows.{pushed}
+use Rattle.opt_memdisk.proofs.AddKept.{room_for_wrote, kept_wrote}
+use Rattle.opt_memdisk.proofs.log.Log.push_wrote.Goals as goal
+
+pub unwrap-requires : goal.unwrap-requires
+unwrap-requires c =
+    let more = subst (λ (s : LogState). write_count s.events + 1 + s.boxes ≤ s.room) (sym c.self.view_is) c.requires.room in
+    c.push.ensures.succeeds (omega (arith, room_for_wrote c.self.invariant more, c.self.inside.tickets.ok))
+
+pub unwrap-requires-2 : goal.unwrap-requires-2
+unwrap-requires-2 c =
+    let more = subst (λ (s : LogState). write_count s.events + 1 + s.boxes ≤ s.room) (sym c.self.view_is) c.requires.room in
+    c.push-2.ensures.succeeds (omega (arith, room_for_wrote c.self.invariant more, c.self.inside.places.ok))
+
+pub join-requires : goal.join-requires
+join-requires c =
+    let more = subst (λ (s : LogState). write_count s.events + 1 + s.boxes ≤ s.room) (sym c.self.view_is) c.requires.room in
+    (room_for_wrote c.self.invariant more).3
+
+pub invariant_of-self : goal.invariant_of-self
+invariant_of-self c =
+    let more = subst (λ (s : LogState). write_count s.events + 1 + s.boxes ≤ s.room) (sym c.self.view_is) c.requires.room in
+    let above = subst (λ (s : LogState). greatest_ticket s.events < c.args.ticket) (sym c.self.view_is) c.requires.above in
+    let next = subst (λ (s : LogState). 0 < s.boxes → c.args.ticket ≡ length (tickets s.events) + 1) (sym c.self.view_is) c.requires.next in
+    let place : c.len.result ≡ length c.self.inside.events.items = omega (arith, c.len.ensures, c.self.inside.events.ok) in
+    let row : c.push.new.self.items ≡ c.self.inside.tickets.items ++ c.args.ticket ∷ [] = pushed _ _ _ _ _ c.unwrap.ensures c.push.ensures.items in
+    let places : c.push-2.new.self.items ≡ c.self.inside.places.items ++ c.len.result ∷ [] = pushed _ _ _ _ _ c.unwrap-2.ensures c.push-2.ensures.items in
+    let events : c.push-3.new.self.items ≡ c.self.inside.events.items ++ Wrote c.args.ticket c.args.block c.args.bytes ∷ [] = pushed _ _ _ _ _ c.unwrap-3.ensures c.push-3.ensures.items in
+    rw (row, places, events, place, c.join.ensures.state)
+    (kept_wrote c.self.invariant c.args.ticket c.args.block c.args.bytes _ _ _ above next more c.push-3.ensures.capacity c.push.ensures.capacity c.push-2.ensures.capacity)

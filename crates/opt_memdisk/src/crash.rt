@@ -1,0 +1,223 @@
+//! The image that a crash leaves of a disk in memory by a choice. It is made in one walk over the log up
+//! to the moment and one over the blocks.
+
+ghost use Rattle.std.specs.Prelude.{ℕ, Bool, false, slice_set, ◌≡◌, ◌≤◌, ◌<◌, ◌∷◌, [], ◌++◌, List, length, take, drop, IsTrue, Result, Ok, Err, Some, IfOk, OnOk, IfErr};
+ghost use Rattle.std.specs.List.{list_all, slice_get};
+ghost use Rattle.opt_base.specs.Seal.{blocks_of};
+ghost use Rattle.opt_disk.specs.Cell.{cell_of};
+ghost use Rattle.opt_disk.specs.declared.event.Event.{Event};
+ghost use Rattle.opt_disk.specs.Lawful.{IsLawful};
+ghost use Rattle.opt_memdisk.specs.Log.{AreWithin};
+ghost use Rattle.opt_memdisk.specs.declared.choice.Named.{Named};
+ghost use Rattle.opt_memdisk.specs.declared.choice.ImageRefusal.TheVariants.{BadChoice};
+ghost use Rattle.opt_memdisk.specs.Choice.{ChoiceState, chosen, is_pending, joined, left_by, AreBlocksOf, GivesImage};
+ghost use Rattle.opt_memdisk.specs.Crash.{first_fate, pending_answer, is_past, put_event};
+ghost use Rattle.opt_memdisk.specs.Settled.{AreSettledPlaces, AreFates};
+
+use crate::Image;
+use crate::choice::{Choice, Fate, ImageRefusal, Named};
+use crate::log::Log;
+use crate::settled::{settled_bytes, settled_image, settled_places};
+use opt_base::{Block, NoMemory};
+use opt_disk::Event;
+use std::alloc::Global;
+
+/// The image that a crash after the first `moment` events leaves by a choice.
+///
+/// # Errors
+/// `BadChoice` exactly where the moment is past the log, or a write that the choice names isn't pending
+/// then; want of memory.
+pub(crate) fn image_at(
+    alloc: Global,
+    base: &Image,
+    log: &Log,
+    moment: u64,
+    choice: &Choice,
+) -> Result<Image, ImageRefusal>
+    requires { AreWithin (length base.now) log.now.events }
+    ensures { GivesImage base.now log.now.events moment choice.now result }
+{
+    let events = log.events();
+    if moment > events.len() as u64 {
+        return Err(ImageRefusal::BadChoice);
+    }
+    let moment = moment as usize;
+    let places = settled_places(alloc, log, base.blocks(), moment)?;
+    let fates = fates(alloc, log, places.as_slice(), moment, choice)?;
+    let mut image = settled_image(alloc, base, log, places.as_slice())?;
+    put_pending(&mut image, base, log, places.as_slice(), fates.as_slice());
+    Ok(image)
+}
+
+// What the choice says of each of the first `moment` events that are writes.
+fn fates(
+    alloc: Global,
+    log: &Log,
+    places: &[usize],
+    moment: usize,
+    choice: &Choice,
+) -> Result<Vec<Option<Fate>>, ImageRefusal>
+    requires lawful { IsLawful log.now.events }
+    requires within { AreWithin (length places.now) log.now.events }
+    requires there { moment ≤ length log.now.events }
+    requires places { AreSettledPlaces (length places.now) (take moment log.now.events) places.now }
+    ensures fates { IfOk result (λ fates. AreFates (take moment log.now.events) choice.now.all choice.now.named fates.items) }
+    ensures pending { OnOk result (IsTrue (list_all (λ n. is_pending (take moment log.now.events) n.write) choice.now.named)) }
+    ensures bad { IfErr result (λ why. why ≡ BadChoice → list_all (λ n. is_pending (take moment log.now.events) n.write) choice.now.named ≡ false) }
+{
+    let mut fates = fates_at_first(alloc, log, moment, choice.stands_all())?;
+    for named in choice.named() {
+        name_fate(fates.as_mut_slice(), log, places, *named)?;
+    }
+    Ok(fates)
+}
+
+// What is said of the first `moment` events before single ones are named.
+fn fates_at_first(
+    alloc: Global,
+    log: &Log,
+    moment: usize,
+    all: bool,
+) -> Result<Vec<Option<Fate>>, NoMemory>
+    requires { moment ≤ length log.now.events }
+    ensures { IfOk result (λ fates. AreFates (take moment log.now.events) all [] fates.items) }
+{
+    let mut fates = Vec::with_capacity(alloc, moment)?;
+    for event in &log.events()[..moment] {
+        fates.push(fate_at_first(event, all)).unwrap();
+    }
+    Ok(fates)
+}
+
+// What is said of one event before single ones are named.
+fn fate_at_first(event: &Event, all: bool) -> Option<Fate>
+    ensures { result ≡ first_fate event.now all }
+{
+    match event {
+        Event::Wrote { .. } => all.then_some(Fate::Stands),
+        Event::Lost { .. } => None,
+        Event::Noticed { .. } => None,
+    }
+}
+
+// Adds what is said of one write, which must be pending.
+fn name_fate(
+    fates: &mut [Option<Fate>],
+    log: &Log,
+    places: &[usize],
+    named: Named,
+) -> Result<(), ImageRefusal>
+    requires lawful { IsLawful log.now.events }
+    requires within { AreWithin (length places.now) log.now.events }
+    requires there { length fates.old ≤ length log.now.events }
+    requires places { AreSettledPlaces (length places.now) (take (length fates.old) log.now.events) places.now }
+    ensures answer { result ≡ pending_answer (is_pending (take (length fates.old) log.now.events) named.write) }
+    ensures fates { OnOk result ((all : Bool) (said : List Named) → AreFates (take (length fates.old) log.now.events) all said fates.old → AreFates (take (length fates.old) log.now.events) all (said ++ named ∷ []) fates.new) }
+{
+    let Some(place) = log.place_of(named.write) else {
+        return Err(ImageRefusal::BadChoice);
+    };
+    if place >= fates.len() {
+        return Err(ImageRefusal::BadChoice);
+    }
+    if !is_pending_at(event_at(log, place), places, place) {
+        return Err(ImageRefusal::BadChoice);
+    }
+    fates[place] = Some(joined(fates[place], named.fate));
+    Ok(())
+}
+
+// The event at this place, which there must be.
+fn event_at(log: &Log, place: usize) -> &Event
+    requires { place < length log.now.events }
+    ensures { slice_get log.now.events place ≡ Some result.now }
+{
+    &log.events()[place]
+}
+
+// Whether the event of this place is a write after what is settled of its block.
+fn is_pending_at(event: &Event, places: &[usize], place: usize) -> bool
+    requires { AreWithin (length places.now) (event.now ∷ []) }
+    ensures { result ≡ is_past places.now place event.now }
+{
+    match event {
+        Event::Wrote { block, .. } => places[*block as usize] <= place,
+        Event::Lost { block, .. } => places[*block as usize] <= place,
+        Event::Noticed { .. } => false,
+    }
+}
+
+// What is said of a write after one more fate.
+fn joined(before: Option<Fate>, fate: Fate) -> Fate
+    ensures { Some result ≡ joined before fate }
+{
+    match (before, fate) {
+        (Some(Fate::Torn { bytes }), Fate::Stands) => Fate::Torn { bytes },
+        _ => fate,
+    }
+}
+
+// Puts what the fates leave of the pending writes over the settled contents.
+fn put_pending(image: &mut Image, base: &Image, log: &Log, places: &[usize], fates: &[Option<Fate>])
+    requires size { length image.old ≡ length base.now }
+    requires lawful { IsLawful log.now.events }
+    requires within { AreWithin (length base.now) log.now.events }
+    requires there { length fates.now ≤ length log.now.events }
+    requires places { AreSettledPlaces (length base.now) (take (length fates.now) log.now.events) places.now }
+    requires settled { AreBlocksOf (length base.now) (λ b. (cell_of (blocks_of base.now) (take (length fates.now) log.now.events) b).settled) image.old }
+    ensures { (c : ChoiceState) → AreFates (take (length fates.now) log.now.events) c.all c.named fates.now → AreBlocksOf (length base.now) (chosen c (blocks_of base.now) (take (length fates.now) log.now.events)) image.new }
+{
+    for place in 0..fates.len() {
+        if let Some(fate) = fates[place] {
+            put_event(image, base, log, places, place, fate);
+        }
+    }
+}
+
+// Puts what a fate leaves of the write at this place, if it is pending.
+fn put_event(image: &mut Image, base: &Image, log: &Log, places: &[usize], place: usize, fate: Fate)
+    requires size { length image.old ≡ length base.now }
+    requires within { AreWithin (length base.now) log.now.events }
+    requires there { place < length log.now.events }
+    requires places { length places.now ≡ length base.now }
+    ensures { (moment : ℕ) (event : Event) → AreSettledPlaces (length base.now) (take moment log.now.events) places.now → slice_get log.now.events place ≡ Some event → image.new ≡ put_event (λ b. (cell_of (blocks_of base.now) (take moment log.now.events) b).settled) places.now place event fate image.old }
+{
+    match event_at(log, place) {
+        Event::Wrote { block, bytes, .. } => {
+            let settled = places[*block as usize];
+            if settled <= place {
+                let settled = settled_bytes(base, log, *block, settled);
+                put_write(image, *block, bytes.bytes(), settled, fate);
+            }
+        }
+        Event::Lost { block, bytes } => {
+            let settled = places[*block as usize];
+            if settled <= place {
+                let settled = settled_bytes(base, log, *block, settled);
+                put_write(image, *block, bytes.bytes(), settled, fate);
+            }
+        }
+        Event::Noticed { .. } => {}
+    }
+}
+
+// Puts what a fate leaves of a write of these bytes to a block of which these are settled.
+fn put_write(image: &mut Image, block: u32, bytes: &Block, settled: &Block, fate: Fate)
+    requires { block < length image.old }
+    ensures { image.new ≡ slice_set image.old block (left_by (Some fate) settled.now bytes.now []) }
+{
+    match fate {
+        Fate::Stands => image.set(block, bytes),
+        Fate::Torn { bytes: count } => image.set(block, &torn(bytes, count, settled)),
+    }
+}
+
+// The first bytes of a write, and then those that are settled.
+fn torn(bytes: &Block, count: u16, settled: &Block) -> Block
+    ensures { result ≡ take count bytes.now ++ drop count settled.now }
+{
+    let mut torn = *settled;
+    let count = usize::from(count).min(1024);
+    torn[..count].copy_from_slice(&bytes[..count]);
+    torn
+}
