@@ -1,3 +1,4 @@
+pub mod FitEntries
 pub mod Geometries
 pub mod Sealed
 pub mod Tags

@@ -1,8 +1,9 @@
 -- What a record's commit block and descriptors determine: its entries.
-use Rattle.std.proofs.Common.{◌≡◌, ℕ, zero, suc, ◌+◌, ◌-◌, ◌*◌, ◌/◌, ◌<◌, ◌≤◌, List, [], ◌∷◌, ◌++◌, length, take, drop, refl, sym, ◌∙◌, ap, arith, length-drop}
+use Rattle.std.proofs.Common.{◌≡◌, ℕ, zero, suc, ◌+◌, ◌-◌, ◌*◌, ◌/◌, ◌<◌, ◌≤◌, List, [], ◌∷◌, ◌++◌, length, take, drop, refl, sym, ◌∙◌, ap, arith, length-drop, length-append}
 use Rattle.std.proofs.lemmas.List.{take-append-drop, drop-drop}
 use Rattle.opt_journal.specs.declared.entry.Entry.{Entry}
 use Rattle.opt_journal.specs.Layout.{descriptor_count}
+use Rattle.opt_journal.specs.Run.{Record, entries}
 
 -- lists that agree in each part of 24 are the same
 chunks : (fuel : ℕ) (xs ys : List Entry) → length xs ≡ length ys → length xs ≤ 24 * fuel → ((i : ℕ) → i < fuel → take 24 (drop (24 * i) xs) ≡ take 24 (drop (24 * i) ys)) → xs ≡ ys
@@ -46,3 +47,10 @@ same_parts {A} (a ∷ ks) bs (x ∷ xs) ys len e =
     let tails : ks ++ bs ≡ xs ++ ys = cc in
     let rest = same_parts ks bs xs ys (omega arith) tails in
     (ap (λ (y : A). y ∷ ks) head ∙ ap (λ (l : List A). x ∷ l) rest.0, rest.1)
+
+-- the descriptors of a record tell its entries
+pub told_entries : (r q : Record) → length r.payloads ≡ length q.payloads → length r.fresh ≡ length q.fresh
+    → ((i : ℕ) → i < descriptor_count (length (entries r)) → take 24 (drop (24 * i) (entries r)) ≡ take 24 (drop (24 * i) (entries q))) → (r.payloads ≡ q.payloads) × (r.fresh ≡ q.fresh)
+told_entries r q payloads fresh same =
+    same_parts r.payloads r.fresh q.payloads q.fresh payloads
+    (same_entries (entries r) (entries q) (omega (arith, payloads, fresh, length-append r.payloads r.fresh, length-append q.payloads q.fresh)) same)

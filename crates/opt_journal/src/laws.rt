@@ -1,15 +1,16 @@
 //! Laws of the journal's definitions, as functions that do nothing: each clause is a law. They are told
 //! in docs/JOURNAL.md.
-ghost use Rattle.std.specs.Prelude.{◌≡◌, ℕ, ◌+◌, ◌<◌, ◌≤◌, length, List, Option, Some, None, true};
+ghost use Rattle.std.specs.Prelude.{◌≡◌, ℕ, ◌+◌, ◌*◌, ◌<◌, ◌≤◌, length, take, drop, slice_get, List, Option, Some, None, IsTrue, true, false};
 ghost use Rattle.opt_base.specs.Seal.{Blocks, IsSealed};
-ghost use Rattle.opt_geom.specs.Geometry.{Geometry, geometry_fits};
+ghost use Rattle.opt_geom.specs.Geometry.{Geometry, geometry_fits, bitmap_start, data_start};
 ghost use Rattle.opt_journal.specs.declared.header.Header.{Header};
 ghost use Rattle.opt_journal.specs.declared.record.Commit.{Commit};
 ghost use Rattle.opt_journal.specs.declared.record.Descriptor.{Descriptor};
+ghost use Rattle.opt_journal.specs.declared.entry.Entry.{Entry};
 ghost use Rattle.opt_journal.specs.declared.entry.EntryKind.{EntryKind};
 ghost use Rattle.opt_journal.specs.Layout.{header_of, IsWithinDisk, commit_of, IsWithinRing, descriptor_of, descriptor_count, is_stored};
 ghost use Rattle.opt_journal.specs.Spelling.{IsHeader, AreEntries, fits_in, header_block, commit_block, descriptor_block};
-ghost use Rattle.opt_journal.specs.Run.{Newest, Record, IsWhole, IsRun, live_part, HeldIs};
+ghost use Rattle.opt_journal.specs.Run.{Newest, Record, entries, entries_fit, names_block, IsWhole, IsRun, live_part, HeldIs};
 ghost use Rattle.opt_journal.specs.Formatted.{formatted};
 
 /// What reads as a header, a commit block or a descriptor is sealed.
@@ -46,6 +47,24 @@ pub fn an_image_holds_one_map()
     ensures records { (img : Blocks) (h : Header) (r q : Record) → IsWhole img h r → IsWhole img h q → r.number ≡ q.number → r.place ≡ q.place → r ≡ q }
     ensures runs { (img : Blocks) (h : Header) (rs qs : List Record) → IsRun img h rs → IsRun img h qs → rs ≡ qs }
     ensures maps { (n : ℕ) (img m q : Blocks) → HeldIs n img m → HeldIs n img q → (b : ℕ) → m b ≡ q b }
+{}
+
+/// The descriptors of a record tell its entries: two records with as many payloads and as many fresh
+/// blocks whose descriptors say the same have the same entries.
+#[tactic(auto, using(crate::proofs::SameEntries::told_entries))]
+pub fn descriptors_tell_the_entries()
+    ensures { (r q : Record) → length r.payloads ≡ length q.payloads → length r.fresh ≡ length q.fresh
+        → ((i : ℕ) → i < descriptor_count (length (entries r)) → take 24 (drop (24 * i) (entries r)) ≡ take 24 (drop (24 * i) (entries q))) → (r.payloads ≡ q.payloads) × (r.fresh ≡ q.fresh) }
+{}
+
+/// The entries of a record that fit name blocks of the disk: payloads those behind the journal, fresh
+/// entries data blocks, which ascend and are none of the payloads'.
+#[tactic(auto, using(crate::proofs::FitEntries::payload_in_disk, crate::proofs::FitEntries::fresh_data, crate::proofs::FitEntries::fresh_below, crate::proofs::FitEntries::fresh_ordered, crate::proofs::FitEntries::fresh_apart))]
+pub fn entries_that_fit_keep_to_the_disk()
+    ensures payloads { (g : Geometry) (r : Record) (i : ℕ) (e : Entry) → IsTrue (entries_fit g r) → slice_get r.payloads i ≡ Some e → (bitmap_start g ≤ e.block) × (e.block < g.n) }
+    ensures fresh { (g : Geometry) (r : Record) (i : ℕ) (e : Entry) → IsTrue (entries_fit g r) → slice_get r.fresh i ≡ Some e → (data_start g ≤ e.block) × (e.block < g.n) }
+    ensures ascending { (g : Geometry) (r : Record) (i k : ℕ) (e f : Entry) → IsTrue (entries_fit g r) → i < k → slice_get r.fresh i ≡ Some e → slice_get r.fresh k ≡ Some f → e.block < f.block }
+    ensures apart { (g : Geometry) (r : Record) (i : ℕ) (e : Entry) → IsTrue (entries_fit g r) → slice_get r.fresh i ≡ Some e → names_block r.payloads e.block ≡ false }
 {}
 
 /// Headers, commit blocks and descriptors that are written as they are spelled read as themselves, where

@@ -16,9 +16,9 @@ mod write;
 pub use entry::{Entries, Entry, EntryKind};
 pub use header::Header;
 pub use laws::{
-    an_image_holds_one_map, images_alike_below_n_hold_the_same, journal_blocks_are_sealed,
-    journal_blocks_are_told_apart, journal_blocks_keep_to_their_bounds, journal_blocks_read_back,
-    the_formatted_disk_holds_itself,
+    an_image_holds_one_map, descriptors_tell_the_entries, entries_that_fit_keep_to_the_disk,
+    images_alike_below_n_hold_the_same, journal_blocks_are_sealed, journal_blocks_are_told_apart,
+    journal_blocks_keep_to_their_bounds, journal_blocks_read_back, the_formatted_disk_holds_itself,
 };
 pub use payload::{is_stored, unescape};
 pub use read::{descriptor_count, read_commit, read_descriptor, read_header};
