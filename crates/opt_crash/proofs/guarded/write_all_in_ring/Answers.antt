@@ -1,0 +1,17 @@
+use Rattle.std.proofs.Common.{◌+◌, ◌∙◌, arith}
+use Rattle.opt_crash.proofs.guarded.write_all_in_ring.Goals as goal
+
+pub returns-in_err-write_in_ring-clause-safe : goal.returns-in_err-write_in_ring-clause-safe
+returns-in_err-write_in_ring-clause-safe g c = λ tells s l t floor place may safe.
+    let m = may c.loop-block.block-index c.loop-block-test.true in
+    c.write_in_ring.ensures.safe tells s l t floor (place + c.loop-block.block-index) (c.loop-block.invariant.at ∙ m.0) m.1 (c.loop-block.invariant.safe tells s l t floor place may safe)
+
+pub loop-block-preserved : goal.loop-block-preserved
+loop-block-preserved g c = record {
+  at = omega (arith, c.loop-block.invariant.at);
+  same = record { blocks = c.write_in_ring.ensures.same.blocks ∙ c.loop-block.invariant.same.blocks; base = c.write_in_ring.ensures.same.base ∙ c.loop-block.invariant.same.base };
+  counted = omega (arith, c.loop-block.invariant.counted, c.write_in_ring.ensures.cause.0);
+  safe = λ tells s l t floor place may safe.
+      let m = may c.loop-block.block-index c.loop-block-test.true in
+      c.write_in_ring.ensures.safe tells s l t floor (place + c.loop-block.block-index) (c.loop-block.invariant.at ∙ m.0) m.1 (c.loop-block.invariant.safe tells s l t floor place may safe);
+}

@@ -1,0 +1,13 @@
+pub mod FirstRecord
+pub mod Formatted
+pub mod JournalLaws
+pub mod LastWrites
+pub mod Ledger
+pub mod OneRecord
+pub mod Opening
+pub mod PipelineData
+pub mod Points
+pub mod Recording
+pub mod Replay
+pub mod ReplayMade
+pub mod Steps

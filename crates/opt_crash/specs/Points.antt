@@ -1,0 +1,119 @@
+-- The sync points of a session, from its disk's base and log.
+use Rattle.std.specs.Prelude.{◌≡◌, ◌⊎◌, ℕ, ◌+◌, ◌-◌, ◌<◌, ◌≤◌, Bool, false, ◌&&◌, ◌==◌, nat_le, nat_lt, if◌then◌else◌, List, [], ◌∷◌, length, take, Option, Some, None, Result, Ok, Err}
+use Rattle.opt_base.specs.Seal.{Blocks}
+use Rattle.opt_disk.specs.declared.event.Event.{Event}
+use Rattle.opt_disk.specs.declared.event.Event.TheVariants.{Wrote, Lost, Noticed}
+use Rattle.opt_disk.specs.Cell.{Cell}
+use Rattle.opt_disk.specs.Crash.{IsHonest}
+use Rattle.opt_geom.specs.Geometry.{Geometry, ring_block, data_start, bitmap_start}
+use Rattle.opt_journal.specs.declared.header.Header.{Header}
+use Rattle.opt_journal.specs.declared.record.Commit.{Commit}
+use Rattle.opt_journal.specs.declared.record.Descriptor.{Descriptor}
+use Rattle.opt_journal.specs.Layout.{commit_of, descriptor_of, header_of}
+use Rattle.opt_journal.specs.Run.{live_part, HeldIs}
+use Rattle.opt_crash.specs.Ledger.{WrittenRecord, Ledger, issued, latest, next_number, IsConsistentWith}
+use Rattle.opt_crash.specs.Steps.{with_record, with_header}
+
+-- what was read is a commit block of this epoch
+abbrev pub has_epoch : ℕ → Option Commit → Bool
+has_epoch epoch None = false
+has_epoch epoch (Some c) = c.epoch == epoch
+
+-- bytes that are one, written into the ring
+abbrev pub is_commit : Geometry → ℕ → ℕ → List ℕ → Bool
+is_commit g epoch block x = nat_le 2 block && nat_lt block (bitmap_start g) && has_epoch epoch (commit_of g x)
+
+-- how many commit blocks of this epoch were written, accepted or lost
+abbrev pub commits : Geometry → ℕ → List Event → ℕ
+commits g epoch [] = 0
+commits g epoch (Wrote ticket block x ∷ es) = (if is_commit g epoch block x then 1 else 0) + commits g epoch es
+commits g epoch (Lost block x ∷ es) = (if is_commit g epoch block x then 1 else 0) + commits g epoch es
+commits g epoch (Noticed ticket ∷ es) = commits g epoch es
+
+-- a session as its mount began it
+pub record MountedSession : Type 0 where
+  pub geom : Geometry
+  pub epoch : ℕ
+  -- the number of the mount's events, and of the first record after it
+  pub mounted : ℕ
+  pub first : ℕ
+
+-- after k events the commit block of point p has just been written; for point 0 the mount has just ended
+pub record IsMoment (s : MountedSession) (log : List Event) (p k : ℕ) : Type 0 where
+  pub within : k ≤ length log
+  pub count : commits s.geom s.epoch (take k log) ≡ p
+  pub just : ((p ≡ 0) × (k ≡ s.mounted)) ⊎ ((s.mounted < k) × (commits s.geom s.epoch (take (k - 1) log) < p))
+
+-- m is the map of sync point p: what the disk holds once all that was issued by then stands
+pub record IsPoint (s : MountedSession) (base : Blocks) (log : List Event) (p : ℕ) (m : Blocks) : Type 0 where
+  pub moment : ℕ
+  pub at : IsMoment s log p moment
+  pub held : HeldIs s.geom.n (issued base (take moment log)) m
+
+-- a crash at some moment from t on may leave an image that holds m
+pub record LeftSince (s : MountedSession) (base : Blocks) (log : List Event) (t : ℕ) (m : Blocks) : Type 0 where
+  pub moment : ℕ
+  pub from : t ≤ moment
+  pub within : moment ≤ length log
+  pub img : Blocks
+  pub honest : IsHonest s.geom.n base (take moment log) img
+  pub held : HeldIs s.geom.n img m
+
+-- m is the map of a point from `floor` to `top`
+pub record IsPointBetween (s : MountedSession) (base : Blocks) (log : List Event) (floor top : ℕ) (m : Blocks) : Type 0 where
+  pub point : ℕ
+  pub from : floor ≤ point
+  pub upto : point ≤ top
+  pub is : IsPoint s base log point m
+
+-- each map that a crash from t on may leave is that of one point, from `floor` to `top`
+pub record StandsBetween (s : MountedSession) (base : Blocks) (log : List Event) (t floor top : ℕ) : Type 0 where
+  pub each : (m : Blocks) → LeftSince s base log t m → ∥ IsPointBetween s base log floor top m ∥₁
+
+-- each map of the ledger is that of a point
+pub record HasPoints (s : MountedSession) (base : Blocks) (log : List Event) (l : Ledger) : Type 0 where
+  pub geom : s.geom ≡ l.geom
+  pub epoch : s.epoch ≡ l.epoch
+  pub first : s.first ≤ l.known
+  pub late : s.mounted ≤ length log
+  pub count : s.first + commits s.geom s.epoch log ≡ next_number l
+  pub each : (n : ℕ) → l.known ≤ n → n ≤ next_number l → IsPoint s base log (n - s.first) (live_part l.geom (l.map_before n))
+
+-- The disk is as the ledger says, and each map that a crash since t may leave is that of a point from `floor` to the newest.
+pub record IsSafe (s : MountedSession) (base : Blocks) (log : List Event) (l : Ledger) (t floor : ℕ) : Type 0 where
+  pub keeps : IsConsistentWith base log l
+  pub points : HasPoints s base log l
+  pub low : floor ≤ l.known - s.first
+  pub window : StandsBetween s base log t floor (next_number l - s.first)
+
+-- After the call for a commit block: accepted, the record is in the ledger; else it is there, or no event came.
+abbrev pub CommitWritten : {E : Type 0} → MountedSession → Ledger → WrittenRecord → Blocks → ℕ → ℕ → Result ℕ E → List Event → Blocks → List Event → Type 0
+CommitWritten s l w m t floor (Ok ticket) log base new = IsSafe s base new (with_record l w m) t floor
+CommitWritten s l w m t floor (Err e) log base new = ((new ≡ log) × IsSafe s base new l t floor) ⊎ IsSafe s base new (with_record l w m) t floor
+
+-- the same for a header
+abbrev pub HeaderWritten : {E : Type 0} → MountedSession → Ledger → Header → ℕ → ℕ → Result ℕ E → List Event → Blocks → List Event → Type 0
+HeaderWritten s l h t floor (Ok ticket) log base new = IsSafe s base new (with_header l h) t floor
+HeaderWritten s l h t floor (Err e) log base new = ((new ≡ log) × IsSafe s base new l t floor) ⊎ IsSafe s base new (with_header l h) t floor
+
+-- A mount has ended: its last header is durable and releases all, its epoch is new, and nothing is pending.
+pub record IsMounted (cells : ℕ → Cell) (g : Geometry) (slot : ℕ) (h : Header) : Type 0 where
+  pub is_slot : slot < 2
+  pub idle : (b : ℕ) → (cells b).pending ≡ []
+  pub stands : header_of g.n (cells slot).settled ≡ Some h
+  pub other : (k : Header) → header_of g.n (cells (1 - slot)).settled ≡ Some k → k.turn < h.turn
+  pub geom : h.geom ≡ g
+  pub not_closed : h.closed ≡ false
+  pub empty : h.start ≡ h.sure + 1
+  pub no_commit : (place : ℕ) (c : Commit) → commit_of g (cells (ring_block g place)).settled ≡ Some c → c.epoch < h.epoch
+  pub no_descriptor : (place : ℕ) (d : Descriptor) → descriptor_of g (cells (ring_block g place)).settled ≡ Some d → d.epoch < h.epoch
+  pub shape : data_start g ≤ g.n
+  pub ring : 0 < g.j
+
+-- the ledger with which a session begins
+abbrev pub ledger_at_mount : (ℕ → Cell) → Geometry → ℕ → Header → Ledger
+ledger_at_mount cells g slot h = record { geom = g; epoch = h.epoch; slot = slot; header = h; next = None; records = []; known = h.start; map_before = λ n b. latest (cells b) }
+
+-- the session that begins with it: its mount is over after these events, and its first record is the header's next one
+abbrev pub session_at_mount : Geometry → Header → List Event → MountedSession
+session_at_mount g h log = record { geom = g; epoch = h.epoch; mounted = length log; first = h.start }

@@ -1,0 +1,66 @@
+-- A mount that replays: what each image holds while it goes on.
+use Rattle.std.specs.Prelude.{◌≡◌, ◌⊎◌, ℕ, ◌+◌, ◌-◌, ◌<◌, ◌≤◌, IsTrue, List, [], length, Some, None}
+use Rattle.opt_base.specs.Seal.{Blocks}
+use Rattle.opt_disk.specs.Cell.{Cell}
+use Rattle.opt_geom.specs.Geometry.{ring_block, bitmap_start}
+use Rattle.opt_journal.specs.declared.header.Header.{Header}
+use Rattle.opt_journal.specs.declared.record.Commit.{Commit}
+use Rattle.opt_journal.specs.Layout.{header_of, commit_of}
+use Rattle.opt_journal.specs.Run.{Newest, Record, IsRun, covered_by, replayed, live_part}
+use Rattle.opt_crash.specs.Ledger.{StandsIn}
+
+-- what mount found: the newest header, its run, and the map
+pub record IsFound (n : ℕ) (at : Blocks) (slot : ℕ) (h : Header) (run : List Record) : Type 0 where
+  pub newest : Newest n at slot h
+  pub is_run : IsRun at h run
+
+-- the map that it found
+abbrev pub found_map : Blocks → Header → List Record → Blocks
+found_map at h run = live_part h.geom (replayed h.geom at run)
+
+-- one header stands alone in its slot, and in the other slot an older one or this next one
+pub record HasHeaders (n : ℕ) (cells : ℕ → Cell) (slot : ℕ) (h next : Header) : Type 0 where
+  pub is_slot : slot < 2
+  pub stands : header_of n (cells slot).settled ≡ Some h
+  pub alone : (cells slot).pending ≡ []
+  pub other : (x : List ℕ) (k : Header) → StandsIn (cells (1 - slot)) x → header_of n x ≡ Some k → (k.turn < h.turn) ⊎ (k ≡ next)
+  pub newer : h.turn < next.turn
+
+-- the blocks are as they were found
+pub record IsAsFound (cells : ℕ → Cell) (at : Blocks) (b : ℕ) : Type 0 where
+  pub settled : (cells b).settled ≡ at b
+  pub idle : (cells b).pending ≡ []
+
+-- a closed header for that run
+pub record Closes (h closed : Header) (run : List Record) : Type 0 where
+  pub geom : closed.geom ≡ h.geom
+  pub epoch : closed.epoch ≡ h.epoch
+  pub start : closed.start ≡ h.start
+  pub place : closed.at ≡ h.at
+  pub is_closed : IsTrue closed.closed
+  pub sure : closed.sure + 1 ≡ h.start + length run
+
+-- First the closed header is written; all else is as it was found.
+pub record IsClosing (n : ℕ) (cells : ℕ → Cell) (at : Blocks) (slot : ℕ) (h closed : Header) (run : List Record) : Type 0 where
+  pub headers : HasHeaders n cells slot h closed
+  pub closes : Closes h closed run
+  pub rest : (b : ℕ) → 2 ≤ b → IsAsFound cells at b
+
+-- Then, with the closed header alone in its slot, the blocks that the run covers are written home.
+pub record IsReplaying (n : ℕ) (cells : ℕ → Cell) (at : Blocks) (slot : ℕ) (h closed : Header) (run : List Record) : Type 0 where
+  pub closes : Closes h closed run
+  pub is_slot : slot < 2
+  pub stands : header_of n (cells slot).settled ≡ Some closed
+  pub alone : (cells slot).pending ≡ []
+  pub other : (x : List ℕ) (k : Header) → StandsIn (cells (1 - slot)) x → header_of n x ≡ Some k → k.turn < closed.turn
+  pub ring : (place : ℕ) → IsAsFound cells at (ring_block h.geom place)
+  pub uncovered : (b : ℕ) → bitmap_start h.geom ≤ b → covered_by h.geom at None run b ≡ None → IsAsFound cells at b
+
+-- Last, with all of them at home, a header of a new epoch is written.
+pub record IsOpening (n : ℕ) (cells : ℕ → Cell) (at : Blocks) (slot : ℕ) (h closed fresh : Header) (run : List Record) : Type 0 where
+  pub closes : Closes h closed run
+  pub headers : HasHeaders n cells slot closed fresh
+  pub geom : fresh.geom ≡ h.geom
+  pub new_epoch : (place : ℕ) (c : Commit) → commit_of h.geom (at (ring_block h.geom place)) ≡ Some c → c.epoch < fresh.epoch
+  pub ring : (place : ℕ) → IsAsFound cells at (ring_block h.geom place)
+  pub home : (b : ℕ) → bitmap_start h.geom ≤ b → ((cells b).settled ≡ replayed h.geom at run b) × ((cells b).pending ≡ [])

@@ -1,0 +1,88 @@
+//! The last step of a mount of a disk whose journal holds no record that counts: a header of a new epoch
+//! beside the newest one, written and waited for, over any disk. Which header is the newest, and which
+//! epoch is the greatest in the journal, is found elsewhere.
+
+ghost use Rattle.std.specs.Prelude.{◌≡◌, ◌<◌, ◌≤◌, ◌-◌, ◌^◌, ℕ, true, [], length, IsTrue, OnOk};
+ghost use Rattle.opt_disk.specs.Cell.{cell_of};
+ghost use Rattle.opt_disk.specs.Crash.{Window};
+ghost use Rattle.opt_disk.specs.Disk.{SameDisk, HasCause};
+ghost use Rattle.opt_geom.specs.Geometry.{Geometry, geometry_fits};
+ghost use Rattle.opt_journal.specs.Spelling.{header_block};
+ghost use Rattle.opt_journal.specs.Run.{IsRun, HeldIs};
+ghost use Rattle.opt_journal.specs.Formatted.{empty_header, formatted};
+ghost use Rattle.opt_crash.specs.Points.{IsMounted, commits};
+ghost use Rattle.opt_crash.specs.Replay.{found_map};
+ghost use Rattle.opt_crash.specs.Opening.{opening_header, settled, IsReadyToOpen, AddsDurable};
+
+use crate::journal::the_journal_is_lawful;
+use opt_base::Block;
+use opt_disk::{Disk, DiskFault};
+use opt_journal::{Header, journal_blocks_are_told_apart, journal_blocks_read_back, write_header};
+
+/// The header that opens a journal after this one: an epoch above all in the journal, the next turn, and
+/// no record. Where the next record will begin stays as it is.
+pub fn opening_header(newest: &Header, greatest_epoch: u64) -> Header
+    requires epoch { greatest_epoch < 2 ^ 64 - 1 }
+    requires turn { newest.now.turn < 2 ^ 64 - 1 }
+    requires sure { newest.now.sure < 2 ^ 64 - 1 }
+    ensures { result ≡ opening_header newest.now greatest_epoch }
+{
+    Header {
+        epoch: greatest_epoch + 1,
+        turn: newest.turn + 1,
+        start: newest.sure + 1,
+        sure: newest.sure,
+        at: newest.at,
+        closed: false,
+        geom: newest.geom,
+    }
+}
+
+/// Writes that header beside the newest one, which stands in this slot, and waits for it. On `Ok` the
+/// disk is mounted. Whatever comes of the calls, each honest image since holds what stood there, where no
+/// record of the journal counts.
+///
+/// # Errors
+/// A call failed, which the disk has counted. The newest header stands as it did; the other may stand
+/// beside it, or come there later.
+pub fn open_journal<D: Disk>(
+    disk: &mut D,
+    slot: u32,
+    newest: &Header,
+    greatest_epoch: u64,
+) -> Result<(), DiskFault>
+    requires slot { slot < 2 }
+    requires within { 2 ≤ (D.state disk.old).blocks }
+    requires epoch { greatest_epoch < 2 ^ 64 - 1 }
+    requires turn { newest.now.turn < 2 ^ 64 - 1 }
+    requires sure { newest.now.sure < 2 ^ 64 - 1 }
+    ensures opened { IsTrue D.tells → IsReadyToOpen (cell_of (D.state disk.old).base (D.state disk.old).log) slot newest.now greatest_epoch
+        → OnOk result (IsMounted (cell_of (D.state disk.new).base (D.state disk.new).log) newest.now.geom (1 - slot) (opening_header newest.now greatest_epoch)) }
+    ensures holds { IsTrue D.tells → IsReadyToOpen (cell_of (D.state disk.old).base (D.state disk.old).log) slot newest.now greatest_epoch → IsRun (settled (cell_of (D.state disk.old).base (D.state disk.old).log)) newest.now []
+        → Window newest.now.geom.n (D.state disk.old).base (D.state disk.new).log (length (D.state disk.old).log) (λ img. HeldIs newest.now.geom.n img (found_map (settled (cell_of (D.state disk.old).base (D.state disk.old).log)) newest.now [])) }
+    ensures log { IsTrue D.tells → AddsDurable (1 - slot) (header_block (opening_header newest.now greatest_epoch)) result (D.state disk.old).log (D.state disk.new).log }
+    ensures commits { IsTrue D.tells → (g : Geometry) (epoch : ℕ) → commits g epoch (D.state disk.new).log ≡ commits g epoch (D.state disk.old).log }
+    ensures same { SameDisk (D.state disk.old) (D.state disk.new) }
+    ensures cause { HasCause result (D.state disk.old).faults (D.state disk.new).faults }
+    ensures read_faults { (D.state disk.new).read_faults ≡ (D.state disk.old).read_faults }
+{
+    the_journal_is_lawful();
+    journal_blocks_read_back();
+    let header = opening_header(newest, greatest_epoch);
+    let mut block: Block = [0; 1024];
+    write_header(&header, &mut block);
+    let ticket = disk.write(1 - slot, &block)?;
+    disk.wait(ticket)?;
+    Ok(())
+}
+
+/// The journal of a formatted disk may be opened, and no record of it counts: the conditions above can be
+/// met.
+pub fn the_formatted_disk_may_be_opened()
+    ensures ready { (g : Geometry) → geometry_fits g ≡ true → IsReadyToOpen (cell_of (formatted g) []) 0 (empty_header g 1 1) 1 }
+    ensures run { (g : Geometry) → geometry_fits g ≡ true → IsRun (settled (cell_of (formatted g) [])) (empty_header g 1 1) [] }
+{
+    the_journal_is_lawful();
+    journal_blocks_are_told_apart();
+    journal_blocks_read_back();
+}

@@ -1,0 +1,76 @@
+//! What a pipeline's data say of the ledger, as laws: as a mount ends, and after each step; and that the
+//! conditions of writes follow from them. There is no pipeline here, and the functions do nothing.
+
+ghost use Rattle.std.specs.Prelude.{◌≡◌, ◌≢◌, ◌<◌, ◌≤◌, ◌+◌, ◌-◌, ℕ, List, ◌++◌, ◌∷◌, [], length, slice_get, true, false, IsTrue, Some, None};
+ghost use Rattle.opt_base.specs.Seal.{Blocks};
+ghost use Rattle.opt_disk.specs.declared.event.Event.{Event};
+ghost use Rattle.opt_disk.specs.declared.event.Event.TheVariants.{Wrote, Noticed};
+ghost use Rattle.opt_disk.specs.Cell.{cell_of, greatest_ticket, IsNoticed};
+ghost use Rattle.opt_geom.specs.Geometry.{Geometry, data_start};
+ghost use Rattle.opt_journal.specs.declared.header.Header.{Header};
+ghost use Rattle.opt_journal.specs.Layout.{header_of};
+ghost use Rattle.opt_journal.specs.Run.{is_live};
+ghost use Rattle.opt_crash.specs.Ledger.{Ledger, WrittenRecord, IsConsistentWith, cover, next_number};
+ghost use Rattle.opt_crash.specs.Steps.{MayWriteInPlace, MayWriteHeader, AreNoticed, IsDurable, with_known, with_header, with_record, with_durable_header};
+ghost use Rattle.opt_crash.specs.Points.{IsMounted, ledger_at_mount};
+ghost use Rattle.opt_crash.specs.LastWrites.{HasTickets, IsDead, FreshAreNew};
+ghost use Rattle.opt_crash.specs.PipelineData.{PipelineData, DataAgree, AreAllNoticed, IsHomeNoticed, AreFreed, data_at_mount, with_placed, with_durable, with_pending, with_committed, with_batch, with_home, with_sent, NeedsCheckpoint, next_header};
+
+/// A session begins with no data but its ring's place.
+pub fn a_mounted_disk_has_its_data()
+    ensures begins { (base : Blocks) (log : List Event) (g : Geometry) (slot : ℕ) (h : Header) → IsMounted (cell_of base log) g slot h → DataAgree base log (ledger_at_mount (cell_of base log) g slot h) (data_at_mount h) }
+{}
+
+/// A notice leaves all of it.
+pub fn a_notice_keeps_the_data()
+    ensures kept { (base : Blocks) (log : List Event) (l : Ledger) (p : PipelineData) (t : ℕ) → IsConsistentWith base log l → DataAgree base log l p → DataAgree base (log ++ Noticed t ∷ []) l p }
+{}
+
+/// Records of which each ticket is noticed are durable.
+pub fn records_become_durable()
+    ensures noticed { (base : Blocks) (log : List Event) (l : Ledger) (p : PipelineData) (number : ℕ) → IsConsistentWith base log l → DataAgree base log l p → l.known ≤ number → number ≤ next_number l → AreAllNoticed log l p number → AreNoticed (cell_of base log) l number }
+    ensures knows { (base : Blocks) (log : List Event) (l : Ledger) (p : PipelineData) (number : ℕ) → IsConsistentWith base log l → DataAgree base log l p → l.known ≤ number → DataAgree base log (with_known l number) p }
+{}
+
+/// The header that was written last is durable once its ticket is noticed. Then records are sure or released, and blocks serve again.
+pub fn a_header_becomes_durable()
+    ensures durable { (base : Blocks) (log : List Event) (l : Ledger) (p : PipelineData) (h : Header) (t : ℕ) → IsConsistentWith base log l → DataAgree base log l p → l.next ≡ Some h → p.pending ≡ Some t → IsNoticed t log → IsDurable (cell_of base log) l h }
+    ensures knows { (base : Blocks) (log : List Event) (l : Ledger) (p : PipelineData) (h : Header) → IsConsistentWith base log l → DataAgree base log l p → IsDurable (cell_of base log) l h → DataAgree base log (with_durable_header l h) (with_durable p l h) }
+{}
+
+/// A batch whose home writes are issued and noticed is at home.
+pub fn a_batch_comes_home()
+    ensures knows { (base : Blocks) (log : List Event) (l : Ledger) (p : PipelineData) → IsConsistentWith base log l → DataAgree base log l p → l.geom.n ≤ p.sent → IsHomeNoticed log p.home → DataAgree base log l (with_placed p) }
+{}
+
+/// The next header may be written: it releases what is at home, and makes sure what is known.
+pub fn the_next_header_may_be_written()
+    ensures may { (base : Blocks) (log : List Event) (l : Ledger) (p : PipelineData) (x : List ℕ) → IsConsistentWith base log l → DataAgree base log l p → l.next ≡ None → header_of l.geom.n x ≡ Some (next_header l p.placed) → MayWriteHeader (cell_of base log) l x (next_header l p.placed) }
+    ensures knows { (base : Blocks) (log : List Event) (l : Ledger) (p : PipelineData) (x : List ℕ) (t : ℕ) → IsConsistentWith base log l → DataAgree base log l p → l.next ≡ None → header_of l.geom.n x ≡ Some (next_header l p.placed) → greatest_ticket log < t → ¬ IsNoticed t log
+        → DataAgree base (log ++ Wrote t (1 - l.slot) x ∷ []) (with_header l (next_header l p.placed)) (with_pending p t) }
+{}
+
+/// A block that the batch covers and that is live after the last sure record may be written home, while the batch ends with that record.
+pub fn a_home_write_may_be_made()
+    ensures may { (base : Blocks) (log : List Event) (l : Ledger) (p : PipelineData) (b : ℕ) (x : List ℕ) (keeps : IsConsistentWith base log l) (k : DataAgree base log l p) → l.header.start + p.placed + p.batch ≡ l.header.sure + 1
+        → cover None k.batch b ≡ Some x → IsTrue (is_live l.geom (l.map_before (l.header.sure + 1)) b) → MayWriteInPlace (cell_of base log) l b }
+{}
+
+/// The records that are sure become the batch, its blocks are written home, ascending, and then all are sent.
+pub fn a_batch_goes_home()
+    ensures taken { (base : Blocks) (log : List Event) (l : Ledger) (p : PipelineData) (count : ℕ) → IsConsistentWith base log l → DataAgree base log l p → p.batch ≡ 0 → l.header.start + p.placed + count ≡ l.header.sure + 1 → DataAgree base log l (with_batch p count) }
+    ensures written { (base : Blocks) (log : List Event) (l : Ledger) (p : PipelineData) (t b : ℕ) (x : List ℕ) → IsConsistentWith base log l → (k : DataAgree base log l p) → greatest_ticket log < t → ¬ IsNoticed t log → l.header.start + p.placed + p.batch ≡ l.header.sure + 1
+        → NeedsCheckpoint l k.batch b x → ((c : ℕ) (y : List ℕ) → p.sent ≤ c → c < b → ¬ NeedsCheckpoint l k.batch c y) → DataAgree base (log ++ Wrote t b x ∷ []) l (with_home p b t) }
+    ensures sent { (base : Blocks) (log : List Event) (l : Ledger) (p : PipelineData) (n : ℕ) → IsConsistentWith base log l → (k : DataAgree base log l p) → ((c : ℕ) (y : List ℕ) → p.sent ≤ c → c < n → ¬ NeedsCheckpoint l k.batch c y) → DataAgree base log l (with_sent p n) }
+{}
+
+/// A data block that is dead now and doesn't wait may be written fresh.
+pub fn a_reusable_block_is_dead()
+    ensures dead { (base : Blocks) (log : List Event) (l : Ledger) (p : PipelineData) (b : ℕ) → IsConsistentWith base log l → DataAgree base log l p → data_start l.geom ≤ b → is_live l.geom (l.map_before (next_number l)) b ≡ false → ((i r : ℕ) → ¬ (slice_get p.waiting i ≡ Some (b, r))) → IsDead l b }
+{}
+
+/// A record of which all is issued joins the data. The disk kept the old ledger until its commit block was written.
+pub fn a_record_joins_the_data()
+    ensures knows { (base : Blocks) (old log : List Event) (l : Ledger) (p : PipelineData) (w : WrittenRecord) (m : Blocks) (tickets freed : List ℕ) → IsConsistentWith base old l → DataAgree base log l p → w.says.number ≡ next_number l → HasTickets log (with_record l w m) w tickets → FreshAreNew (with_record l w m) → AreFreed l w m freed
+        → DataAgree base log (with_record l w m) (with_committed p l w tickets freed) }
+{}

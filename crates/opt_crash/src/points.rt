@@ -1,0 +1,36 @@
+//! Sync points as laws: how they begin with a mounted disk, that the last one is what has been issued, and
+//! that none changes as the log grows.
+
+ghost use Rattle.std.specs.Prelude.{◌≡◌, ◌-◌, ◌≤◌, ℕ, List, ◌++◌, length};
+ghost use Rattle.opt_base.specs.Seal.{Blocks};
+ghost use Rattle.opt_disk.specs.declared.event.Event.{Event};
+ghost use Rattle.opt_disk.specs.Cell.{cell_of};
+ghost use Rattle.opt_geom.specs.Geometry.{Geometry};
+ghost use Rattle.opt_journal.specs.declared.header.Header.{Header};
+ghost use Rattle.opt_journal.specs.Run.{live_part, HeldIs};
+ghost use Rattle.opt_crash.specs.Ledger.{Ledger, issued, next_number};
+ghost use Rattle.opt_crash.specs.Points.{MountedSession, IsMounted, IsPoint, IsSafe, commits, ledger_at_mount, session_at_mount};
+
+use crate::journal::the_journal_is_lawful;
+
+/// A mounted disk is safe: what it holds is point 0, and each honest image stands for it.
+pub fn a_mounted_disk_is_safe()
+    ensures { (base : Blocks) (log : List Event) (g : Geometry) (slot : ℕ) (h : Header) → IsMounted (cell_of base log) g slot h → commits g h.epoch log ≡ 0
+        → IsSafe (session_at_mount g h log) base log (ledger_at_mount (cell_of base log) g slot h) (length log) 0 }
+{
+    the_journal_is_lawful();
+}
+
+/// The image in which all that was issued stands is that of the last point.
+pub fn all_issued_is_the_last_point()
+    ensures held { (s : MountedSession) (base : Blocks) (log : List Event) (l : Ledger) (t floor : ℕ) → IsSafe s base log l t floor → HeldIs l.geom.n (issued base log) (live_part l.geom (l.map_before (next_number l))) }
+    ensures last { (s : MountedSession) (base : Blocks) (log : List Event) (l : Ledger) (t floor : ℕ) → IsSafe s base log l t floor → IsPoint s base log (commits s.geom s.epoch log) (live_part l.geom (l.map_before (next_number l))) }
+{
+    the_journal_is_lawful();
+}
+
+/// A point stays as it is in every longer log, and a longer log adds none to those that were there.
+pub fn a_point_is_for_ever()
+    ensures stays { (s : MountedSession) (base : Blocks) (log more : List Event) (p : ℕ) (m : Blocks) → IsPoint s base log p m → IsPoint s base (log ++ more) p m }
+    ensures was { (s : MountedSession) (base : Blocks) (log more : List Event) (p : ℕ) (m : Blocks) → s.mounted ≤ length log → p ≤ commits s.geom s.epoch log → IsPoint s base (log ++ more) p m → IsPoint s base log p m }
+{}

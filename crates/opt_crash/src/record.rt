@@ -1,0 +1,63 @@
+//! The calls that write a record, block by block, each with what is issued of it then. What a record says,
+//! and which places and blocks it takes, is decided elsewhere.
+
+ghost use Rattle.std.specs.Prelude.{◌≡◌, ◌<◌, ◌≤◌, ◌+◌, ℕ, List, length, slice_get, IsTrue, Some};
+ghost use Rattle.opt_base.specs.Seal.{Blocks};
+ghost use Rattle.opt_disk.specs.Disk.{SameDisk, HasCause, AddsWrite};
+ghost use Rattle.opt_geom.specs.Geometry.{ring_block};
+ghost use Rattle.opt_journal.specs.declared.entry.Entry.{Entry};
+ghost use Rattle.opt_journal.specs.Run.{places};
+ghost use Rattle.opt_crash.specs.Ledger.{Ledger, WrittenRecord, block_at};
+ghost use Rattle.opt_crash.specs.Points.{MountedSession, IsSafe};
+ghost use Rattle.opt_crash.specs.LastWrites.{FreshAreNew};
+ghost use Rattle.opt_crash.specs.PipelineData.{PipelineData};
+ghost use Rattle.opt_crash.specs.Recording.{IsNextRecord, IsPartlyWritten, PartWritten, RecordWritten};
+
+use crate::journal::the_journal_is_lawful;
+use opt_base::Block;
+use opt_disk::{Disk, DiskFault};
+
+/// Writes the next fresh block of a record.
+pub fn write_fresh<D: Disk>(disk: &mut D, block: u32, bytes: &Block) -> Result<u64, DiskFault>
+    requires { block < (D.state disk.old).blocks }
+    ensures under_way { IsTrue D.tells → (s : MountedSession) (l : Ledger) (p : PipelineData) (w : WrittenRecord) (m : Blocks) (t floor i issued : ℕ) (e : Entry) (tickets : List ℕ) → FreshAreNew l → IsNextRecord l w m
+        → slice_get w.says.fresh i ≡ Some e → block ≡ e.block → bytes.now ≡ block_at w.fresh i
+        → IsSafe s (D.state disk.old).base (D.state disk.old).log l t floor → IsPartlyWritten (D.state disk.old).base (D.state disk.old).log l p w tickets i issued
+        → PartWritten s l p w t floor tickets (i + 1) issued result (D.state disk.new).base (D.state disk.new).log }
+    ensures log { IsTrue D.tells → AddsWrite block bytes.now result (D.state disk.old).log (D.state disk.new).log }
+    ensures same { SameDisk (D.state disk.old) (D.state disk.new) }
+    ensures cause { HasCause result (D.state disk.old).faults (D.state disk.new).faults }
+{
+    the_journal_is_lawful();
+    disk.write(block, bytes)
+}
+
+/// Writes the next descriptor or payload of a record.
+pub fn write_part<D: Disk>(disk: &mut D, block: u32, bytes: &Block) -> Result<u64, DiskFault>
+    requires { block < (D.state disk.old).blocks }
+    ensures under_way { IsTrue D.tells → (s : MountedSession) (l : Ledger) (p : PipelineData) (w : WrittenRecord) (m : Blocks) (t floor i laid : ℕ) (tickets : List ℕ) → FreshAreNew l → IsNextRecord l w m
+        → 0 < i → i < places w.says → block ≡ ring_block l.geom (w.says.place + i) → bytes.now ≡ block_at w.ring i
+        → IsSafe s (D.state disk.old).base (D.state disk.old).log l t floor → IsPartlyWritten (D.state disk.old).base (D.state disk.old).log l p w tickets laid i
+        → PartWritten s l p w t floor tickets laid (i + 1) result (D.state disk.new).base (D.state disk.new).log }
+    ensures log { IsTrue D.tells → AddsWrite block bytes.now result (D.state disk.old).log (D.state disk.new).log }
+    ensures same { SameDisk (D.state disk.old) (D.state disk.new) }
+    ensures cause { HasCause result (D.state disk.old).faults (D.state disk.new).faults }
+{
+    the_journal_is_lawful();
+    disk.write(block, bytes)
+}
+
+/// Writes the commit block of a record of which all else is issued. Where it is accepted or lost, a point is made.
+pub fn write_last<D: Disk>(disk: &mut D, block: u32, bytes: &Block) -> Result<u64, DiskFault>
+    requires { block < (D.state disk.old).blocks }
+    ensures recorded { IsTrue D.tells → (s : MountedSession) (l : Ledger) (p : PipelineData) (w : WrittenRecord) (m : Blocks) (t floor : ℕ) (tickets : List ℕ) → FreshAreNew l → IsNextRecord l w m
+        → block ≡ ring_block l.geom w.says.place → bytes.now ≡ block_at w.ring 0
+        → IsSafe s (D.state disk.old).base (D.state disk.old).log l t floor → IsPartlyWritten (D.state disk.old).base (D.state disk.old).log l p w tickets (length w.says.fresh) (places w.says)
+        → RecordWritten s l p w m t floor tickets result (D.state disk.old).log (D.state disk.new).base (D.state disk.new).log }
+    ensures log { IsTrue D.tells → AddsWrite block bytes.now result (D.state disk.old).log (D.state disk.new).log }
+    ensures same { SameDisk (D.state disk.old) (D.state disk.new) }
+    ensures cause { HasCause result (D.state disk.old).faults (D.state disk.new).faults }
+{
+    the_journal_is_lawful();
+    disk.write(block, bytes)
+}
