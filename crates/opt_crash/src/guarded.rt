@@ -4,7 +4,7 @@
 ghost use Rattle.std.specs.Prelude.{◌≡◌, ◌<◌, ◌≤◌, ◌+◌, ◌-◌, ◌^◌, ℕ, List, length, IsTrue, OnOk, IfOk, slice_index_or, []};
 ghost use Rattle.opt_base.specs.Seal.{Blocks};
 ghost use Rattle.opt_disk.specs.Cell.{cell_of, IsNoticed};
-ghost use Rattle.opt_disk.specs.Disk.{SameDisk, HasCause, AddsWrite, AddsPoll, AddsNotices};
+ghost use Rattle.opt_disk.specs.Disk.{SameDisk, HasCause, AddsWrite, AddsPoll, AddsNotices, next_count};
 ghost use Rattle.opt_geom.specs.Geometry.{ring_block};
 ghost use Rattle.opt_journal.specs.declared.header.Header.{Header};
 ghost use Rattle.opt_crash.specs.Ledger.{Ledger, WrittenRecord, IsConsistentWith, block_at};
@@ -24,6 +24,9 @@ pub fn write_in_ring<D: Disk>(disk: &mut D, block: u32, bytes: &Block) -> Result
     ensures log { IsTrue D.tells → AddsWrite block bytes.now result (D.state disk.old).log (D.state disk.new).log }
     ensures same { SameDisk (D.state disk.old) (D.state disk.new) }
     ensures cause { HasCause result (D.state disk.old).faults (D.state disk.new).faults }
+    ensures waits { (D.state disk.new).waits ≡ (D.state disk.old).waits }
+    ensures polls { (D.state disk.new).polls ≡ (D.state disk.old).polls }
+    ensures read_faults { (D.state disk.new).read_faults ≡ (D.state disk.old).read_faults }
 {
     the_journal_is_lawful();
     disk.write(block, bytes)
@@ -37,6 +40,9 @@ pub fn write_in_place<D: Disk>(disk: &mut D, block: u32, bytes: &Block) -> Resul
     ensures log { IsTrue D.tells → AddsWrite block bytes.now result (D.state disk.old).log (D.state disk.new).log }
     ensures same { SameDisk (D.state disk.old) (D.state disk.new) }
     ensures cause { HasCause result (D.state disk.old).faults (D.state disk.new).faults }
+    ensures waits { (D.state disk.new).waits ≡ (D.state disk.old).waits }
+    ensures polls { (D.state disk.new).polls ≡ (D.state disk.old).polls }
+    ensures read_faults { (D.state disk.new).read_faults ≡ (D.state disk.old).read_faults }
 {
     the_journal_is_lawful();
     disk.write(block, bytes)
@@ -51,6 +57,9 @@ pub fn write_commit<D: Disk>(disk: &mut D, block: u32, bytes: &Block) -> Result<
     ensures log { IsTrue D.tells → AddsWrite block bytes.now result (D.state disk.old).log (D.state disk.new).log }
     ensures same { SameDisk (D.state disk.old) (D.state disk.new) }
     ensures cause { HasCause result (D.state disk.old).faults (D.state disk.new).faults }
+    ensures waits { (D.state disk.new).waits ≡ (D.state disk.old).waits }
+    ensures polls { (D.state disk.new).polls ≡ (D.state disk.old).polls }
+    ensures read_faults { (D.state disk.new).read_faults ≡ (D.state disk.old).read_faults }
 {
     the_journal_is_lawful();
     disk.write(block, bytes)
@@ -65,6 +74,9 @@ pub fn write_header<D: Disk>(disk: &mut D, slot: u32, bytes: &Block) -> Result<u
     ensures log { IsTrue D.tells → AddsWrite slot bytes.now result (D.state disk.old).log (D.state disk.new).log }
     ensures same { SameDisk (D.state disk.old) (D.state disk.new) }
     ensures cause { HasCause result (D.state disk.old).faults (D.state disk.new).faults }
+    ensures waits { (D.state disk.new).waits ≡ (D.state disk.old).waits }
+    ensures polls { (D.state disk.new).polls ≡ (D.state disk.old).polls }
+    ensures read_faults { (D.state disk.new).read_faults ≡ (D.state disk.old).read_faults }
 {
     the_journal_is_lawful();
     disk.write(slot, bytes)
@@ -80,6 +92,9 @@ pub fn wait_for<D: Disk>(disk: &mut D, ticket: u64) -> Result<(), DiskFault>
     ensures noticed { IsTrue D.tells → OnOk result (IsNoticed ticket (D.state disk.new).log) }
     ensures same { SameDisk (D.state disk.old) (D.state disk.new) }
     ensures cause { HasCause result (D.state disk.old).faults (D.state disk.new).faults }
+    ensures waits { (D.state disk.new).waits ≡ next_count (D.state disk.old).waits }
+    ensures polls { (D.state disk.new).polls ≡ (D.state disk.old).polls }
+    ensures read_faults { (D.state disk.new).read_faults ≡ (D.state disk.old).read_faults }
 {
     the_journal_is_lawful();
     disk.wait(ticket)
@@ -94,6 +109,9 @@ pub fn poll_once<D: Disk>(disk: &mut D) -> Result<Option<u64>, DiskFault>
     ensures log { IsTrue D.tells → AddsPoll result (D.state disk.old).log (D.state disk.new).log }
     ensures same { SameDisk (D.state disk.old) (D.state disk.new) }
     ensures cause { HasCause result (D.state disk.old).faults (D.state disk.new).faults }
+    ensures waits { (D.state disk.new).waits ≡ (D.state disk.old).waits }
+    ensures polls { (D.state disk.new).polls ≡ next_count (D.state disk.old).polls }
+    ensures read_faults { (D.state disk.new).read_faults ≡ (D.state disk.old).read_faults }
 {
     the_journal_is_lawful();
     disk.poll()
@@ -112,6 +130,9 @@ pub fn write_all_in_ring<D: Disk>(
         → IsSafe s (D.state disk.old).base (D.state disk.old).log l t floor → IsSafe s (D.state disk.new).base (D.state disk.new).log l t floor }
     ensures same { SameDisk (D.state disk.old) (D.state disk.new) }
     ensures cause { HasCause result (D.state disk.old).faults (D.state disk.new).faults }
+    ensures waits { (D.state disk.new).waits ≡ (D.state disk.old).waits }
+    ensures polls { (D.state disk.new).polls ≡ (D.state disk.old).polls }
+    ensures read_faults { (D.state disk.new).read_faults ≡ (D.state disk.old).read_faults }
 {
     let mut at = first;
     for block in blocks {

@@ -91,6 +91,8 @@ pub(crate) fn write_record<D: Disk>(disk: &mut D, record: &OneRecord) -> Result<
         → RecordLeaves s l p w m t floor result (D.state disk.new).base (D.state disk.new).log }
     ensures same { SameDisk (D.state disk.old) (D.state disk.new) }
     ensures cause { HasCause result (D.state disk.old).faults (D.state disk.new).faults }
+    ensures read_faults { (D.state disk.new).read_faults ≡ (D.state disk.old).read_faults }
+    ensures waits { (D.state disk.new).waits ≡ (D.state disk.old).waits }
 {
     let fresh = write_fresh(disk, record.fresh_block, &record.fresh)?;
     let descriptor = write_part(disk, record.descriptor_block, &record.descriptor)?;

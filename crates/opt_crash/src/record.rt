@@ -27,6 +27,9 @@ pub fn write_fresh<D: Disk>(disk: &mut D, block: u32, bytes: &Block) -> Result<u
     ensures log { IsTrue D.tells → AddsWrite block bytes.now result (D.state disk.old).log (D.state disk.new).log }
     ensures same { SameDisk (D.state disk.old) (D.state disk.new) }
     ensures cause { HasCause result (D.state disk.old).faults (D.state disk.new).faults }
+    ensures waits { (D.state disk.new).waits ≡ (D.state disk.old).waits }
+    ensures polls { (D.state disk.new).polls ≡ (D.state disk.old).polls }
+    ensures read_faults { (D.state disk.new).read_faults ≡ (D.state disk.old).read_faults }
 {
     the_journal_is_lawful();
     disk.write(block, bytes)
@@ -42,6 +45,9 @@ pub fn write_part<D: Disk>(disk: &mut D, block: u32, bytes: &Block) -> Result<u6
     ensures log { IsTrue D.tells → AddsWrite block bytes.now result (D.state disk.old).log (D.state disk.new).log }
     ensures same { SameDisk (D.state disk.old) (D.state disk.new) }
     ensures cause { HasCause result (D.state disk.old).faults (D.state disk.new).faults }
+    ensures waits { (D.state disk.new).waits ≡ (D.state disk.old).waits }
+    ensures polls { (D.state disk.new).polls ≡ (D.state disk.old).polls }
+    ensures read_faults { (D.state disk.new).read_faults ≡ (D.state disk.old).read_faults }
 {
     the_journal_is_lawful();
     disk.write(block, bytes)
@@ -57,6 +63,9 @@ pub fn write_last<D: Disk>(disk: &mut D, block: u32, bytes: &Block) -> Result<u6
     ensures log { IsTrue D.tells → AddsWrite block bytes.now result (D.state disk.old).log (D.state disk.new).log }
     ensures same { SameDisk (D.state disk.old) (D.state disk.new) }
     ensures cause { HasCause result (D.state disk.old).faults (D.state disk.new).faults }
+    ensures waits { (D.state disk.new).waits ≡ (D.state disk.old).waits }
+    ensures polls { (D.state disk.new).polls ≡ (D.state disk.old).polls }
+    ensures read_faults { (D.state disk.new).read_faults ≡ (D.state disk.old).read_faults }
 {
     the_journal_is_lawful();
     disk.write(block, bytes)

@@ -24,6 +24,7 @@ pub fn make_sure<D: Disk>(disk: &mut D, slot: u32, header: &Block) -> Result<(),
         → HeaderLeaves s l p (next_header l p.placed) t floor result (D.state disk.new).base (D.state disk.new).log }
     ensures same { SameDisk (D.state disk.old) (D.state disk.new) }
     ensures cause { HasCause result (D.state disk.old).faults (D.state disk.new).faults }
+    ensures read_faults { (D.state disk.new).read_faults ≡ (D.state disk.old).read_faults }
 {
     the_journal_is_lawful();
     let ticket = write_header(disk, 1 - slot, header)?;
@@ -41,6 +42,7 @@ pub fn checkpoint<D: Disk>(disk: &mut D, block: u32, bytes: &Block) -> Result<()
         → CheckpointLeaves s l p count block t floor result (D.state disk.new).base (D.state disk.new).log }
     ensures same { SameDisk (D.state disk.old) (D.state disk.new) }
     ensures cause { HasCause result (D.state disk.old).faults (D.state disk.new).faults }
+    ensures read_faults { (D.state disk.new).read_faults ≡ (D.state disk.old).read_faults }
 {
     the_journal_is_lawful();
     let written = write_in_place(disk, block, bytes)?;

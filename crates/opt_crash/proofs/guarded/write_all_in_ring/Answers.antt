@@ -11,6 +11,9 @@ loop-block-preserved g c = record {
   at = omega (arith, c.loop-block.invariant.at);
   same = record { blocks = c.write_in_ring.ensures.same.blocks ∙ c.loop-block.invariant.same.blocks; base = c.write_in_ring.ensures.same.base ∙ c.loop-block.invariant.same.base };
   counted = omega (arith, c.loop-block.invariant.counted, c.write_in_ring.ensures.cause.0);
+  waits = c.write_in_ring.ensures.waits ∙ c.loop-block.invariant.waits;
+  polls = c.write_in_ring.ensures.polls ∙ c.loop-block.invariant.polls;
+  read_faults = c.write_in_ring.ensures.read_faults ∙ c.loop-block.invariant.read_faults;
   safe = λ tells s l t floor place may safe.
       let m = may c.loop-block.block-index c.loop-block-test.true in
       c.write_in_ring.ensures.safe tells s l t floor (place + c.loop-block.block-index) (c.loop-block.invariant.at ∙ m.0) m.1 (c.loop-block.invariant.safe tells s l t floor place may safe);
