@@ -32,6 +32,7 @@ pub mod RecordLife
 pub mod RecordSteps
 pub mod ReplayMade
 pub mod ReplayStages
+pub mod Rows
 pub mod Safe
 pub mod SettlingSteps
 pub mod Stands

@@ -1,9 +1,9 @@
 -- The sync points of a session, from its disk's base and log.
-use Rattle.std.specs.Prelude.{◌≡◌, ◌⊎◌, ℕ, ◌+◌, ◌-◌, ◌<◌, ◌≤◌, Bool, false, ◌&&◌, ◌==◌, nat_le, nat_lt, if◌then◌else◌, List, [], ◌∷◌, length, take, Option, Some, None, Result, Ok, Err}
+use Rattle.std.specs.Prelude.{◌≡◌, ◌⊎◌, ℕ, ◌+◌, ◌-◌, ◌<◌, ◌≤◌, Bool, false, ◌&&◌, ◌==◌, nat_le, nat_lt, if◌then◌else◌, List, [], ◌∷◌, length, take, Option, Some, None, Result, Ok, Err, ◌++◌}
 use Rattle.opt_base.specs.Seal.{Blocks}
 use Rattle.opt_disk.specs.declared.event.Event.{Event}
 use Rattle.opt_disk.specs.declared.event.Event.TheVariants.{Wrote, Lost, Noticed}
-use Rattle.opt_disk.specs.Cell.{Cell}
+use Rattle.opt_disk.specs.Cell.{Cell, greatest_ticket, IsNoticed}
 use Rattle.opt_disk.specs.Crash.{IsHonest}
 use Rattle.opt_geom.specs.Geometry.{Geometry, ring_block, data_start, bitmap_start}
 use Rattle.opt_journal.specs.declared.header.Header.{Header}
@@ -117,3 +117,8 @@ ledger_at_mount cells g slot h = record { geom = g; epoch = h.epoch; slot = slot
 -- the session that begins with it: its mount is over after these events, and its first record is the header's next one
 abbrev pub session_at_mount : Geometry → Header → List Event → MountedSession
 session_at_mount g h log = record { geom = g; epoch = h.epoch; mounted = length log; first = h.start }
+
+-- these blocks were written one behind the other, from block b on, each accepted with a new ticket
+abbrev pub AddsRow : ℕ → List (List ℕ) → List Event → List Event → Type 0
+AddsRow b [] old new = new ≡ old
+AddsRow b (x ∷ xs) old new = (t : ℕ) × (greatest_ticket old < t) × (¬ IsNoticed t old) × AddsRow (b + 1) xs (old ++ Wrote t b x ∷ []) new

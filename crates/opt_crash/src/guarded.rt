@@ -10,7 +10,7 @@ ghost use Rattle.opt_journal.specs.declared.header.Header.{Header};
 ghost use Rattle.opt_crash.specs.Ledger.{Ledger, WrittenRecord, IsConsistentWith, block_at};
 ghost use Rattle.opt_crash.specs.PipelineData.{PipelineData, DataAgree};
 ghost use Rattle.opt_crash.specs.Steps.{MayWriteInRing, MayWriteInPlace, IsReadyToCommit, MayWriteHeader};
-ghost use Rattle.opt_crash.specs.Points.{MountedSession, IsSafe, CommitWritten, HeaderWritten};
+ghost use Rattle.opt_crash.specs.Points.{MountedSession, IsSafe, CommitWritten, HeaderWritten, AddsRow};
 
 use crate::journal::the_journal_is_lawful;
 use opt_base::Block;
@@ -128,6 +128,7 @@ pub fn write_all_in_ring<D: Disk>(
     ensures safe { IsTrue D.tells → (s : MountedSession) (l : Ledger) (t floor place : ℕ)
         → ((i : ℕ) → i < length blocks.now → (first + i ≡ ring_block l.geom (place + i)) × MayWriteInRing l (place + i) (slice_index_or blocks.now i []))
         → IsSafe s (D.state disk.old).base (D.state disk.old).log l t floor → IsSafe s (D.state disk.new).base (D.state disk.new).log l t floor }
+    ensures log { IsTrue D.tells → OnOk result (AddsRow first blocks.now (D.state disk.old).log (D.state disk.new).log) }
     ensures same { SameDisk (D.state disk.old) (D.state disk.new) }
     ensures cause { HasCause result (D.state disk.old).faults (D.state disk.new).faults }
     ensures waits { (D.state disk.new).waits ≡ (D.state disk.old).waits }

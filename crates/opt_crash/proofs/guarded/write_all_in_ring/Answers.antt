@@ -1,4 +1,5 @@
 use Rattle.std.proofs.Common.{◌+◌, ◌∙◌, arith}
+use Rattle.opt_crash.proofs.Rows.{row_next}
 use Rattle.opt_crash.proofs.guarded.write_all_in_ring.Goals as goal
 
 pub returns-in_err-write_in_ring-clause-safe : goal.returns-in_err-write_in_ring-clause-safe
@@ -14,6 +15,9 @@ loop-block-preserved g c = record {
   waits = c.write_in_ring.ensures.waits ∙ c.loop-block.invariant.waits;
   polls = c.write_in_ring.ensures.polls ∙ c.loop-block.invariant.polls;
   read_faults = c.write_in_ring.ensures.read_faults ∙ c.loop-block.invariant.read_faults;
+  row = λ tells.
+      let h = c.in_ok-write_in_ring.ensures.log tells in
+      row_next _ _ _ c.loop-block.block-index c.args.blocks.now _ _ _ c.loop-block-test.true (c.loop-block.invariant.row tells) c.loop-block.invariant.at h.0 h.1 h.2;
   safe = λ tells s l t floor place may safe.
       let m = may c.loop-block.block-index c.loop-block-test.true in
       c.write_in_ring.ensures.safe tells s l t floor (place + c.loop-block.block-index) (c.loop-block.invariant.at ∙ m.0) m.1 (c.loop-block.invariant.safe tells s l t floor place may safe);
