@@ -33,6 +33,13 @@ impl Places {
         }
     }
 
+    /// These very numbers.
+    pub fn from_vec(numbers: Vec<u32>) -> Places
+        ensures { result ≡ numbers.items }
+    {
+        Places { numbers }
+    }
+
     /// Adds a number at the end.
     ///
     /// # Errors
