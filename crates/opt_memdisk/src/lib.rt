@@ -7,20 +7,12 @@ mod bay;
 mod calls;
 mod choice;
 mod crash;
-#[cfg(test)]
-mod crash_tests;
 mod disk;
-#[cfg(test)]
-mod failure_tests;
 mod image;
 mod laws;
 mod log;
-#[cfg(test)]
-mod log_tests;
 mod rule;
 mod settled;
-#[cfg(test)]
-mod testing;
 #[cfg(test)]
 mod tests;
 

@@ -35,3 +35,4 @@ mod Totals
 mod Undo
 mod WalkLemmas
 mod WalkSteps
+pub mod PathLaws

@@ -16,6 +16,7 @@ mod name_list;
 mod names;
 mod nodes;
 mod path;
+mod path_laws;
 mod plain;
 mod replies;
 mod state;
@@ -29,6 +30,10 @@ pub use laws::{
 };
 pub use name_list::NameList;
 pub use path::Path;
+pub use path_laws::{
+    new_paths_keep_a_tree_sound, paths_are_counted, what_goes_holds_nothing,
+    what_is_held_has_a_name,
+};
 pub use plain::PlainTree;
 
 #[cfg(test)]

@@ -1,0 +1,11 @@
+use Rattle.opt_tree.proofs.PathLaws.{unlink_finds, rmdir_finds, move_finds}
+use Rattle.opt_tree.proofs.path_laws.what_goes_holds_nothing.Goals as goal
+
+pub returns-clause-unlinked : goal.returns-clause-unlinked
+returns-clause-unlinked c = unlink_finds
+
+pub returns-clause-removed : goal.returns-clause-removed
+returns-clause-removed c = rmdir_finds
+
+pub returns-clause-moved : goal.returns-clause-moved
+returns-clause-moved c = move_finds
