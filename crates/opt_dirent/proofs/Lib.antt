@@ -3,3 +3,4 @@ pub mod Written
 pub mod Entries
 pub mod Places
 pub mod Blocks
+pub mod Joined

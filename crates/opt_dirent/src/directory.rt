@@ -18,7 +18,7 @@ const SLOTS_IN_BLOCK: u32 = 16;
 /// The place of the first entry with this name, or `None` where no entry has it. The directory's first
 /// `entries` slots must be slots. Each of them is looked at once, and no longer once the name is found.
 pub fn find(dir: &[Block], entries: u32, name: &Name) -> Option<u32>
-    requires { (slots : List SlotValue) × (entries_in entries dir.now ≡ Some slots) }
+    requires { 64 * entries ≤ 1024 * length dir.now }
     ensures { (slots : List SlotValue) → entries_in entries dir.now ≡ Some slots → result ≡ place_of name.now slots }
 {
     let wanted = name.as_bytes();

@@ -14,6 +14,9 @@ mod tests;
 
 pub use block::{read_dir_block, write_dir_block};
 pub use directory::{find, insert_at, take_out};
-pub use laws::{a_name_has_its_first_place, directory_blocks_read_back, slots_read_back};
+pub use laws::{
+    a_name_has_its_first_place, directory_blocks_read_back, entries_follow_their_bytes,
+    slots_read_back,
+};
 pub use slot::{BadSlot, read_slot, write_slot};
 pub use slots::Slots;

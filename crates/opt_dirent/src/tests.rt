@@ -1,11 +1,8 @@
 //! Slots and directories against bytes that were written down by hand from docs/LAYOUT.md: a number in
 //! four bytes, the lowest first, the length of the name, the name, and zeros up to 64 bytes.
 
-ghost use Rattle.std.specs.Prelude.{◌≡◌, ◌≤◌, ◌<◌, ◌+◌, ◌*◌, true, Some, List, length};
-ghost use Rattle.opt_dirent.specs.Slots.{Slot as SlotValue};
-ghost use Rattle.opt_dirent.specs.Directory.{entries_in};
+ghost use Rattle.std.specs.Prelude.{◌≤◌, ◌<◌, length};
 
-use crate::slot::slot_of;
 use crate::{
     BadSlot, Slots, find, insert_at, read_dir_block, read_slot, take_out, write_dir_block,
     write_slot,
@@ -55,25 +52,10 @@ fn is_bad_block(block: &Block, entries: u32) -> bool
     read_dir_block(block, entries).is_err()
 }
 
-/// Whether the first slots of the directory are slots.
-fn are_entries(dir: &[Block], entries: u32) -> bool
-    ensures { result ≡ true → (slots : List SlotValue) × (entries_in entries dir.now ≡ Some slots) }
-{
-    if entries as usize > 16 * dir.len() {
-        return false;
-    }
-    for place in 0..entries {
-        let at = 64 * (place % 16) as usize;
-        if slot_of(&dir[(place / 16) as usize][at..at + 64]).is_none() {
-            return false;
-        }
-    }
-    true
-}
-
+/// Where the entry of this name is; `BadSlot` where the blocks have no room for so many entries.
 fn place_of(dir: &[Block], entries: u32, name: &[u8]) -> Result<Option<u32>, BadSlot> {
     let name = Name::new(name).ok_or(BadSlot)?;
-    if !are_entries(dir, entries) {
+    if entries as usize > 16 * dir.len() {
         return Err(BadSlot);
     }
     Ok(find(dir, entries, &name))

@@ -1,4 +1,4 @@
--- The header of a formatted disk tells the geometry that it was formatted with.
+-- The header of a formatted disk has the geometry that it was formatted with.
 use Rattle.std.proofs.Common.{◌≡◌, ℕ, zero, suc, ◌<◌, ◌≤◌, Bool, true, false, replicate, Option, Some, None, unwrap_or, sym, subst, ap, ◌∙◌, arith}
 use Rattle.opt_base.specs.Seal.{Blocks, is_sealed}
 use Rattle.opt_geom.specs.Geometry.{Geometry, IsGeometry, geometry_fits}

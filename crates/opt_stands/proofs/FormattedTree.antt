@@ -12,9 +12,9 @@ use Rattle.opt_journal.specs.Run.{is_live, live_part}
 use Rattle.opt_journal.specs.Formatted.{formatted, empty_root}
 use Rattle.opt_tree.specs.Step.{start}
 use Rattle.opt_stands.specs.Files.{used_node, files_of, file_of, past_content}
-use Rattle.opt_stands.specs.Inodes.{ADir, AreInodesOf, IsInodeOf}
+use Rattle.opt_stands.specs.Inodes.{ADir, AreInodesOf, IsInodeOf, root_alone}
 use Rattle.opt_stands.specs.Stands.{HasBlock, AreSound, IsTreeOf}
-use Rattle.opt_stands.proofs.Root.{root_alone, root_is_shown, root_is_distinct, none_some}
+use Rattle.opt_stands.proofs.Root.{root_is_map, none_some}
 use Rattle.opt_stands.proofs.FormattedBlocks.{bits, root_node, other_bytes, other_nodes, whole_blocks}
 
 module _ (g : Geometry) (m : Blocks) (same : (b : ℕ) → bitmap_start g ≤ b → b < data_start g → m b ≡ formatted g b) (is : IsGeometry g) where
@@ -80,14 +80,7 @@ module _ (g : Geometry) (m : Blocks) (same : (b : ℕ) → bitmap_start g ≤ b 
 
   -- and so they are the tree of the root
   pub root_stands : IsTreeOf g m (start g.i).tree
-  root_stands = record {
-    inodes = root_alone;
-    read = are_inodes;
-    root = ([], refl);
-    distinct = root_is_distinct;
-    shows = root_is_shown g.i;
-    sound = sound;
-  }
+  root_stands = record { inodes = root_alone; read = are_inodes; map = root_is_map g.i (omega (arith, is.least_nodes)); sound = sound }
 
 -- the live part of a formatted disk has its bitmap and its node table
 live_there : (g : Geometry) → IsGeometry g → (b : ℕ) → bitmap_start g ≤ b → b < data_start g → live_part g (formatted g) b ≡ formatted g b

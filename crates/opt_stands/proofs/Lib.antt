@@ -1,8 +1,9 @@
-pub mod FirstBits
 pub mod Root
+pub mod OneMap
+pub mod SoundTree
+pub mod NamedSlots
+pub mod OneTree
+pub mod FirstBits
 pub mod FormattedBlocks
 pub mod FormattedTree
 pub mod FormattedHeader
-pub mod OneTree
-pub mod SoundTree
-pub mod NamedSlots

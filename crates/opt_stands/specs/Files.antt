@@ -1,4 +1,4 @@
--- The nodes in use among some blocks, each with its bytes. They are told in docs/LAYOUT.md.
+-- The nodes in use among some blocks, each with its bytes. docs/LAYOUT.md describes them.
 use Rattle.std.specs.Prelude.{ℕ, ◌&&◌, nat_le, List, [], ◌∷◌, ◌++◌, take, drop, Option, option_map}
 use Rattle.opt_base.specs.Seal.{Blocks}
 use Rattle.opt_base.specs.Runs.{run_places}

@@ -1,5 +1,5 @@
--- What nodes are where their blocks no longer count: lists of slots, and links with bytes. They are told in docs/LAYOUT.md.
-use Rattle.std.specs.Prelude.{◌≡◌, ℕ, ◌/◌, ◌==◌, List, length, slice_get, Option, None, Some, option_map}
+-- What nodes are where their blocks no longer count: lists of slots, and links with bytes. docs/LAYOUT.md describes them.
+use Rattle.std.specs.Prelude.{◌≡◌, ℕ, zero, suc, ◌/◌, ◌==◌, List, [], length, slice_get, Option, None, Some, option_map, option_and_then}
 use Rattle.opt_layout.specs.declared.node.NodeKind.{NodeKind}
 use Rattle.opt_layout.specs.declared.node.NodeKind.TheVariants.{Free, Dir, File}
 use Rattle.opt_layout.specs.declared.slot.Slot.{Slot}
@@ -36,6 +36,16 @@ IsInodeOf (Some file) (Some inode) = inode_of file ≡ Some inode
 -- each node in use reads as the inode under its number, and nothing else stands in the map
 abbrev pub AreInodesOf : Files → Inodes → Type 0
 AreInodesOf files inodes = (k : ℕ) → IsInodeOf (files k) (inodes k)
+
+-- what the nodes in use read as; one that reads as none has nothing
+abbrev pub inodes_of : Files → Inodes
+inodes_of files k = option_and_then inode_of (files k)
+
+-- the root as a directory without slots, and nothing else
+abbrev pub root_alone : Inodes
+root_alone zero = None
+root_alone (suc zero) = Some (ADir [])
+root_alone (suc (suc k)) = None
 
 -- no two of the slots have one name
 abbrev pub AreDistinct : List Slot → Type 0

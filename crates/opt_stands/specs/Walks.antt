@@ -1,4 +1,4 @@
--- Walks from the root by names, over directories alone. They are told in docs/LAYOUT.md.
+-- Walks from the root by names, over directories alone. docs/LAYOUT.md describes them.
 use Rattle.std.specs.Prelude.{◌≡◌, ℕ, List, [], ◌∷◌, bytes_eq, if◌then◌else◌, Option, None, Some, option_and_then}
 use Rattle.opt_layout.specs.declared.slot.Slot.{Slot}
 use Rattle.opt_stands.specs.Inodes.{Inode, Inodes, ADir, AFile}
@@ -26,6 +26,10 @@ abbrev pub walk : Entries → ℕ → List (List ℕ) → Option ℕ
 walk e k [] = Some k
 walk e k (name ∷ path) = option_and_then (λ j. walk e j path) (e k name)
 
--- no path but p leads from the root to node k
-abbrev pub OnlyBy : Entries → ℕ → List (List ℕ) → Type 0
-OnlyBy e k p = (q : List (List ℕ)) → walk e 1 q ≡ Some k → q ≡ p
+-- the path leads from the root to node k
+abbrev pub LeadsTo : Inodes → List (List ℕ) → ℕ → Type 0
+LeadsTo m path k = walk (entries_of m) 1 path ≡ Some k
+
+-- no path but p leads to node k
+abbrev pub OnlyBy : Inodes → ℕ → List (List ℕ) → Type 0
+OnlyBy m k p = (q : List (List ℕ)) → LeadsTo m q k → q ≡ p

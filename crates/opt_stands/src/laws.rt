@@ -1,13 +1,11 @@
 //! What holds of blocks and images that stand for a tree. The functions do nothing; their clauses are
 //! the laws.
 
-ghost use Rattle.std.specs.Prelude.{◌≡◌, ◌≢◌, ◌<◌, ℕ, true, List, slice_get, Some};
+ghost use Rattle.std.specs.Prelude.{◌≡◌, ◌<◌, ℕ, true};
 ghost use Rattle.opt_base.specs.Seal.{Blocks};
 ghost use Rattle.opt_geom.specs.Geometry.{Geometry, geometry_fits};
 ghost use Rattle.opt_journal.specs.Formatted.{formatted};
 ghost use Rattle.opt_journal.specs.Run.{live_part};
-ghost use Rattle.opt_layout.specs.declared.slot.Slot.{Slot};
-ghost use Rattle.opt_stands.specs.Inodes.{Inode, ADir};
 ghost use Rattle.opt_stands.specs.Stands.{IsTreeOf, StandsFor};
 ghost use Rattle.opt_tree.specs.Step.{start};
 ghost use Rattle.opt_tree.specs.Tree.{Tree, IsSound};
@@ -39,13 +37,7 @@ pub fn an_image_stands_for_one_tree()
     an_image_holds_one_map();
 }
 
-/// A tree that blocks stand for is sound. Each slot names a node in use and never the root, and two slots
-/// that name one directory are one slot.
+/// A tree that blocks stand for is sound.
 pub fn a_tree_that_stands_is_sound()
     ensures sound { (g : Geometry) (m : Blocks) (t : Tree) → IsTreeOf g m t → IsSound g.i t }
-    ensures slots { (g : Geometry) (m : Blocks) (t : Tree) (is : IsTreeOf g m t) (k i : ℕ) (slots : List Slot) (s : Slot) → is.inodes k ≡ Some (ADir slots) → slice_get slots i ≡ Some s
-        → (s.node ≢ 1) × ((x : Inode) × (is.inodes s.node ≡ Some x)) }
-    ensures once { (g : Geometry) (m : Blocks) (t : Tree) (is : IsTreeOf g m t) (k l i j n : ℕ) (slots others below : List Slot) (s u : Slot)
-        → is.inodes k ≡ Some (ADir slots) → is.inodes l ≡ Some (ADir others) → slice_get slots i ≡ Some s → slice_get others j ≡ Some u
-        → s.node ≡ n → u.node ≡ n → is.inodes n ≡ Some (ADir below) → (k ≡ l) × (i ≡ j) }
 {}

@@ -2,7 +2,7 @@
 use Rattle.std.proofs.Common.{[], length, arith, sym, ◌∙◌, ap}
 use Rattle.opt_dirent.specs.Slots.{Slot}
 use Rattle.opt_dirent.specs.Directory.{place_of}
-use Rattle.opt_dirent.proofs.Entries.{count_read, room}
+use Rattle.opt_dirent.proofs.Entries.{count_read}
 use Rattle.opt_dirent.proofs.Places.{slot_length, entry_test, place_is, place_is_none, none_yet}
 use Rattle.opt_dirent.proofs.directory.find.Goals as goal
 
@@ -10,12 +10,12 @@ blank : Slot
 blank = record { node = 0; name = [] }
 
 pub slot_at-requires : goal.slot_at-requires
-slot_at-requires c = room c.args.entries c.args.dir.now c.requires.0 c.loop-place.place c.told-dir c.requires.1 c.loop-place-test.true
+slot_at-requires c = omega (arith, c.requires, c.loop-place-test.true)
 
 pub has_name-requires-clause-size : goal.has_name-requires-clause-size
 has_name-requires-clause-size c =
     ap length c.slot_at.ensures
-    ∙ slot_length c.args.dir.now c.loop-place.place c.told-dir (room c.args.entries c.args.dir.now c.requires.0 c.loop-place.place c.told-dir c.requires.1 c.loop-place-test.true)
+    ∙ slot_length c.args.dir.now c.loop-place.place c.told-dir (omega (arith, c.requires, c.loop-place-test.true))
 
 pub returns-then-has_name : goal.returns-then-has_name
 returns-then-has_name c = λ slots e.

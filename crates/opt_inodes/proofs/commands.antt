@@ -1,0 +1,10 @@
+pub mod Adding
+pub mod Losing
+pub mod Taking
+pub mod Editing
+pub mod Moving
+pub mod Renaming
+pub mod Commands
+pub mod Unchanged
+pub mod Made
+pub mod Examples

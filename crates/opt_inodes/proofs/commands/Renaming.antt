@@ -1,0 +1,220 @@
+-- What a move makes of the slots, within one directory or between two, to a free name or onto what stands there: all in one shape.
+use Rattle.std.proofs.Common.{◌≡◌, ℕ, false, List, [], ◌∷◌, ◌++◌, slice_get, Option, Some, None, option_map, option_and_then, sym, refl, ap, ap₂, ◌∙◌, ◌⊎◌, inl, inr, arith, ne_eqb}
+use Rattle.std.proofs.lemmas.Bool.{cases_eq}
+use Rattle.std.specs.FinMap.{get, remove}
+use Rattle.opt_layout.specs.declared.slot.Slot.{Slot}
+use Rattle.opt_dirent.specs.Directory.{without_at}
+use Rattle.opt_tree.specs.declared.command.Cmd.TheVariants.{Rename}
+use Rattle.opt_tree.specs.Tree.{Tree, Dir}
+use Rattle.opt_tree.specs.Names.{path_count}
+use Rattle.opt_tree.specs.Walk.{is_same_node, are_same}
+use Rattle.opt_tree.specs.Conditions.{refusal}
+use Rattle.opt_tree.specs.Step.{Session, step, removed, removed_by, with_used}
+use Rattle.opt_stands.specs.Inodes.{Inodes, ADir, AFile, AreDistinct, thing_of}
+use Rattle.opt_stands.specs.Walks.{entries_of, entry_in, node_in}
+use Rattle.opt_inodes.specs.Changes.{slot_of, with_slot, one_link_less, MovesSlot}
+use Rattle.opt_inodes.specs.TreeLaws.{TreeLaws}
+use Rattle.opt_inodes.proofs.basics.Paths.{Path, none_some, some_same, which}
+use Rattle.opt_inodes.proofs.slots.Slots.{finds, taken_distinct, taken_here, taken_other}
+use Rattle.opt_inodes.proofs.slots.NamePlaces.{Puts, puts}
+use Rattle.opt_inodes.proofs.agreement.Steps.{step_at}
+use Rattle.opt_inodes.proofs.agreement.Agree.{Agrees}
+use Rattle.opt_inodes.proofs.commands.Adding.{one_dir, dir_file, counts_none}
+use Rattle.opt_inodes.proofs.commands.Losing.{left_empty, left_no_dir, one_less_path, used_other, lost_here, lost_links}
+use Rattle.opt_inodes.proofs.commands.Taking.{distinct_as}
+use Rattle.opt_inodes.proofs.commands.Moving.{empty_at, moved_agrees}
+
+module _ (limit : ℕ) (m : Inodes) (t : Tree) (a : Agrees limit m t) where
+  -- a directory of the map is one of the tree
+  dir_of : (d : ℕ) (slots : List Slot) → m d ≡ Some (ADir slots) → get t.nodes d ≡ Some Dir
+  dir_of d slots is = a.nodes d ∙ ap (option_map thing_of) is
+
+  -- what stands under a name stands at the path with that name
+  under : (up : Path) (d : ℕ) (slots : List Slot) (b : List ℕ) → get t.names up ≡ Some d → m d ≡ Some (ADir slots) → get t.names (up ++ b ∷ []) ≡ node_in slots b
+  under up d slots b at is = step_at (entries_of m) (get t.names) a.goes up b d at ∙ ap (λ o. entry_in o b) is
+
+  -- a slot's path leads to the node that it names
+  pub slot_path : (up : Path) (d i n : ℕ) (slots : List Slot) (b : List ℕ) → get t.names up ≡ Some d → m d ≡ Some (ADir slots) → slice_get slots i ≡ Some (slot_of n b) → get t.names (up ++ b ∷ []) ≡ Some n
+  slot_path up d i n slots b at is at_i = under up d slots b at is ∙ finds slots i (slot_of n b) (a.distinct d slots is) at_i
+
+-- what isn't node n isn't the same node
+not_same : (n : ℕ) (o : Option ℕ) → (o ≡ Some n → ⊥) → are_same (Some n) o ≡ false
+not_same n None off = refl
+not_same n (Some w) off = ne_eqb n w (λ e. off (ap Some (sym e)))
+
+-- an option holds a number, or not
+holds_number : (o : Option ℕ) (k : ℕ) → (o ≡ Some k) ⊎ (o ≡ Some k → ⊥)
+holds_number None k = inr (λ e. none_some k refl e)
+holds_number (Some w) k = by (cases_eq w k)
+  where
+    by : (w ≡ k) ⊎ (w ≡ k → ⊥) → (Some w ≡ Some k) ⊎ (Some w ≡ Some k → ⊥)
+    by (inl e) = inl (ap Some e)
+    by (inr off) = inr (λ e. off (some_same w k e))
+
+-- What holds of all numbers but w holds of w too, which loses a path.
+module _ (laws : TreeLaws) (limit : ℕ) (m new : Inodes) (t : Tree) (a : Agrees limit m t) (target : Path) (w : ℕ) (there : get t.names target ≡ Some w)
+    (left : new w ≡ option_and_then one_link_less (m w)) where
+  -- the tree without the path that w had there
+  gone_tree : removed t target ≡ with_used (remove t.names target) t.nodes w
+  gone_tree = ap (removed_by t target) there
+
+  -- the nodes that are left are those of the new map
+  nodes_onto : ((k : ℕ) → (k ≡ w → ⊥) → option_map thing_of (m k) ≡ option_map thing_of (new k)) → (k : ℕ) → get (removed t target).nodes k ≡ option_map thing_of (new k)
+  nodes_onto alike k = ap (λ t. get t.nodes k) gone_tree ∙ by (cases_eq k w)
+    where
+      by : (k ≡ w) ⊎ (k ≡ w → ⊥) → get (with_used (remove t.names target) t.nodes w).nodes k ≡ option_map thing_of (new k)
+      by (inl e) = ap (get (with_used (remove t.names target) t.nodes w).nodes) e ∙ lost_here laws limit m t a target w there
+          ∙ sym (ap (λ k. option_map thing_of (new k)) e ∙ ap (option_map thing_of) left)
+      by (inr off) = used_other laws limit m t a target w there k off ∙ a.nodes k ∙ alike k off
+
+  -- each file has as many paths as links
+  links_onto : ((k links : ℕ) (bytes : List ℕ) → (k ≡ w → ⊥) → new k ≡ Some (AFile links bytes) → m k ≡ Some (AFile links bytes))
+      → (k links : ℕ) (bytes : List ℕ) → new k ≡ Some (AFile links bytes) → path_count (removed t target).names k ≡ links
+  links_onto same k links bytes is = ap (λ t. path_count t.names k) gone_tree ∙ by (cases_eq k w)
+    where
+      by : (k ≡ w) ⊎ (k ≡ w → ⊥) → path_count (remove t.names target) k ≡ links
+      by (inl e) = ap (path_count (remove t.names target)) e ∙ lost_links laws limit m t a target w there links bytes (sym left ∙ ap new (sym e) ∙ is)
+      by (inr off) = omega (arith, one_less_path laws limit m t a target w there k, counts_none w k (λ e. off (sym e)), a.links k links bytes (same k links bytes off is))
+
+module _ (laws : TreeLaws) (s : Session) (m new : Inodes) (a : Agrees s.limit m s.tree) (up to : Path) (name other : List ℕ) (d c n : ℕ)
+    (at_up : get s.tree.names up ≡ Some d) (at_to : get s.tree.names to ≡ Some c) (ch : MovesSlot m new d c n name other)
+    (accepted : refusal s.limit s.tree (Rename (up ++ name ∷ []) (to ++ other ∷ [])) ≡ None) where
+  -- no name comes twice in the first directory
+  from_distinct : AreDistinct ch.slots
+  from_distinct = a.distinct d ch.slots ch.from_dir
+
+  -- the second directory with the new slot
+  put : Puts ch.target (with_slot ch.target (slot_of n other)) (slot_of n other)
+  put = puts ch.target (slot_of n other) (a.distinct c ch.target ch.into_dir)
+
+  -- the first path leads to the node
+  first_path : get s.tree.names (up ++ name ∷ []) ≡ Some n
+  first_path = slot_path s.limit m s.tree a up d ch.place n ch.slots name at_up ch.from_dir ch.slot
+
+  -- the second one leads where the second name does
+  second_path : get s.tree.names (to ++ other ∷ []) ≡ node_in ch.target other
+  second_path = under s.limit m s.tree a to c ch.target other at_to ch.into_dir
+
+  -- and not to that node
+  two_nodes : is_same_node s.tree (up ++ name ∷ []) (to ++ other ∷ []) ≡ false
+  two_nodes = ap₂ are_same first_path second_path ∙ not_same n (node_in ch.target other) ch.differ
+
+  -- nothing stands below what goes
+  old_empty : (w : ℕ) → node_in ch.target other ≡ Some w → (b : List ℕ) → entry_in (m w) b ≡ None
+  old_empty w is = empty_at laws s.limit m s.tree a (to ++ other ∷ []) w (second_path ∙ is) (laws.moved s.limit s.tree (up ++ name ∷ []) (to ++ other ∷ []) a.sound accepted two_nodes).1
+
+  -- Within one directory.
+
+  -- both lists are one
+  one_list : d ≡ c → ch.target ≡ ch.slots
+  one_list e = one_dir ch.target ch.slots ch.into_dir (ap m (sym e) ∙ ch.from_dir)
+
+  -- and the two names differ
+  two_names : d ≡ c → name ≡ other → ⊥
+  two_names e same = ch.differ (ap (node_in ch.target) (sym same) ∙ ap (λ l. node_in l name) (one_list e) ∙ finds ch.slots ch.place (slot_of n name) from_distinct ch.slot)
+
+  -- so the slot is where it was
+  still_there : d ≡ c → slice_get (with_slot ch.target (slot_of n other)) ch.place ≡ Some (slot_of n name)
+  still_there e = put.kept ch.place (slot_of n name) (ap (λ l. slice_get l ch.place) (one_list e) ∙ ch.slot) (two_names e)
+
+  -- The slots of the first directory, just before its slot goes.
+  record Source : Type 0 where
+    list : List Slot
+    distinct : AreDistinct list
+    slot : slice_get list ch.place ≡ Some (slot_of n name)
+    taken : new d ≡ Some (ADir (without_at ch.place list))
+    others : (b : List ℕ) → ((d ≡ c) × (b ≡ other) → ⊥) → node_in list b ≡ node_in ch.slots b
+
+  -- those with the new slot, or those that it had
+  source : Source
+  source = by (cases_eq d c)
+    where
+      by : (d ≡ c) ⊎ (d ≡ c → ⊥) → Source
+      by (inl e) = record {
+        list = with_slot ch.target (slot_of n other);
+        distinct = put.distinct;
+        slot = still_there e;
+        taken = ch.within e;
+        others = λ b off. put.others b (λ f. off (e, f)) ∙ ap (λ l. node_in l b) (one_list e);
+      }
+      by (inr apart) = record { list = ch.slots; distinct = from_distinct; slot = ch.slot; taken = (ch.across apart).0; others = λ b off. refl }
+
+  -- the second name leads to the node
+  entry_new : entries_of new c other ≡ Some n
+  entry_new = by (cases_eq d c)
+    where
+      by : (d ≡ c) ⊎ (d ≡ c → ⊥) → entries_of new c other ≡ Some n
+      by (inl e) = ap (λ k. entries_of new k other) (sym e) ∙ ap (λ o. entry_in o other) (ch.within e)
+          ∙ taken_other (with_slot ch.target (slot_of n other)) ch.place (slot_of n name) put.distinct (still_there e) other (λ f. two_names e (sym f)) ∙ put.here
+      by (inr apart) = ap (λ o. entry_in o other) (ch.across apart).1 ∙ put.here
+
+  -- Each number: the first directory, the second one, what goes, or another one.
+  module _ (k : ℕ) where
+    -- the second directory, where it isn't the first one
+    is_target : (k ≡ d → ⊥) → k ≡ c → new k ≡ Some (ADir (with_slot ch.target (slot_of n other)))
+    is_target off e = ap new e ∙ (ch.across (λ f. off (e ∙ sym f))).1
+
+    -- no other entry changed
+    entry_others : (b : List ℕ) → ((k ≡ d) × (b ≡ name) → ⊥) → ((k ≡ c) × (b ≡ other) → ⊥) → entries_of new k b ≡ entries_of m k b
+    entry_others b off_name off_other = by (cases_eq k d) (cases_eq k c) (holds_number (node_in ch.target other) k)
+      where
+        by : (k ≡ d) ⊎ (k ≡ d → ⊥) → (k ≡ c) ⊎ (k ≡ c → ⊥) → (node_in ch.target other ≡ Some k) ⊎ (node_in ch.target other ≡ Some k → ⊥) → entries_of new k b ≡ entries_of m k b
+        by (inl e) two three = ap (λ k. entries_of new k b) e ∙ ap (λ o. entry_in o b) source.taken
+            ∙ taken_other source.list ch.place (slot_of n name) source.distinct source.slot b (λ f. off_name (e, f))
+            ∙ source.others b (λ both. off_other (e ∙ both.0, both.1))
+            ∙ sym (ap (λ k. entries_of m k b) e ∙ ap (λ o. entry_in o b) ch.from_dir)
+        by (inr off) (inl e) three = ap (λ o. entry_in o b) (is_target off e) ∙ put.others b (λ f. off_other (e, f)) ∙ sym (ap (λ k. entries_of m k b) e ∙ ap (λ o. entry_in o b) ch.into_dir)
+        by (inr off) (inr away) (inl old) = ap (λ o. entry_in o b) (ch.left k old) ∙ left_empty (m k) b ∙ sym (old_empty k old b)
+        by (inr off) (inr away) (inr far) = ap (λ o. entry_in o b) (ch.others k off away far)
+
+    -- every number but what goes stands for the same
+    alike : (node_in ch.target other ≡ Some k → ⊥) → option_map thing_of (m k) ≡ option_map thing_of (new k)
+    alike far = by (cases_eq k d) (cases_eq k c)
+      where
+        by : (k ≡ d) ⊎ (k ≡ d → ⊥) → (k ≡ c) ⊎ (k ≡ c → ⊥) → option_map thing_of (m k) ≡ option_map thing_of (new k)
+        by (inl e) two = ap (λ k. option_map thing_of (m k)) e ∙ ap (option_map thing_of) ch.from_dir ∙ sym (ap (λ k. option_map thing_of (new k)) e ∙ ap (option_map thing_of) source.taken)
+        by (inr off) (inl e) = ap (λ k. option_map thing_of (m k)) e ∙ ap (option_map thing_of) ch.into_dir ∙ sym (ap (option_map thing_of) (is_target off e))
+        by (inr off) (inr away) = ap (option_map thing_of) (sym (ch.others k off away far))
+
+    -- and every file but what goes is the same
+    file_same : (links : ℕ) (bytes : List ℕ) → (node_in ch.target other ≡ Some k → ⊥) → new k ≡ Some (AFile links bytes) → m k ≡ Some (AFile links bytes)
+    file_same links bytes far is = by (cases_eq k d) (cases_eq k c)
+      where
+        by : (k ≡ d) ⊎ (k ≡ d → ⊥) → (k ≡ c) ⊎ (k ≡ c → ⊥) → m k ≡ Some (AFile links bytes)
+        by (inl e) two = absurd (dir_file _ links bytes (ap new e ∙ source.taken) is)
+        by (inr off) (inl e) = absurd (dir_file _ links bytes (is_target off e) is)
+        by (inr off) (inr away) = sym (ch.others k off away far) ∙ is
+
+    -- no directory has a name twice
+    slots_distinct : (slots : List Slot) → new k ≡ Some (ADir slots) → AreDistinct slots
+    slots_distinct slots is = by (cases_eq k d) (cases_eq k c) (holds_number (node_in ch.target other) k)
+      where
+        by : (k ≡ d) ⊎ (k ≡ d → ⊥) → (k ≡ c) ⊎ (k ≡ c → ⊥) → (node_in ch.target other ≡ Some k) ⊎ (node_in ch.target other ≡ Some k → ⊥) → AreDistinct slots
+        by (inl e) two three = distinct_as (one_dir slots _ (ap new (sym e) ∙ is) source.taken) (taken_distinct source.list ch.place (slot_of n name) source.distinct source.slot)
+        by (inr off) (inl e) three = distinct_as (one_dir slots _ is (is_target off e)) put.distinct
+        by (inr off) (inr away) (inl old) = absurd (left_no_dir (m k) slots (sym (ch.left k old) ∙ is))
+        by (inr off) (inr away) (inr far) = a.distinct k slots (sym (ch.others k off away far) ∙ is)
+
+  -- the nodes once the second path is gone are those of the new map
+  nodes_left : (k : ℕ) → get (removed s.tree (to ++ other ∷ [])).nodes k ≡ option_map thing_of (new k)
+  nodes_left k = by (which (node_in ch.target other))
+    where
+      by : (node_in ch.target other ≡ None) ⊎ ((w : ℕ) × (node_in ch.target other ≡ Some w)) → get (removed s.tree (to ++ other ∷ [])).nodes k ≡ option_map thing_of (new k)
+      by (inl none) = ap (λ t. get t.nodes k) (ap (removed_by s.tree (to ++ other ∷ [])) (second_path ∙ none)) ∙ a.nodes k ∙ alike k (λ e. none_some k none e)
+      by (inr some) = nodes_onto laws s.limit m new s.tree a (to ++ other ∷ []) some.0 (second_path ∙ some.1) (ch.left some.0 some.1)
+          (λ j off. alike j (λ e. off (some_same j some.0 (sym e ∙ some.1)))) k
+
+  -- and each file has as many paths as links
+  links_left : (k links : ℕ) (bytes : List ℕ) → new k ≡ Some (AFile links bytes) → path_count (removed s.tree (to ++ other ∷ [])).names k ≡ links
+  links_left k links bytes is = by (which (node_in ch.target other))
+    where
+      by : (node_in ch.target other ≡ None) ⊎ ((w : ℕ) × (node_in ch.target other ≡ Some w)) → path_count (removed s.tree (to ++ other ∷ [])).names k ≡ links
+      by (inl none) = ap (λ t. path_count t.names k) (ap (removed_by s.tree (to ++ other ∷ [])) (second_path ∙ none)) ∙ a.links k links bytes (file_same k links bytes (λ e. none_some k none e) is)
+      by (inr some) = links_onto laws s.limit m new s.tree a (to ++ other ∷ []) some.0 (second_path ∙ some.1) (ch.left some.0 some.1)
+          (λ j l bs off. file_same j l bs (λ e. off (some_same j some.0 (sym e ∙ some.1)))) k links bytes is
+
+  -- the new map is that of the tree after the move
+  pub renamed_agrees : Agrees s.limit new (step s (Rename (up ++ name ∷ []) (to ++ other ∷ []))).0.tree
+  renamed_agrees = moved_agrees laws s m new a up to name other d c n at_up (dir_of s.limit m s.tree a d ch.slots ch.from_dir) at_to (dir_of s.limit m s.tree a c ch.target ch.into_dir) first_path accepted two_nodes
+      entry_new (ap (λ o. entry_in o name) source.taken ∙ taken_here source.list ch.place (slot_of n name) source.distinct source.slot) entry_others
+      nodes_left links_left slots_distinct

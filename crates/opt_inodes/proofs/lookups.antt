@@ -1,0 +1,9 @@
+pub mod Walking
+pub mod Reasons
+pub mod Neighbours
+pub mod Rows
+pub mod Ordered
+pub mod Replies
+pub mod NamingSlots
+pub mod Descent
+pub mod Lines

@@ -1,0 +1,13 @@
+pub mod Lookups
+pub mod Changes
+pub mod Refusals
+pub mod Figures
+pub mod Names
+pub mod Replies
+pub mod Listing
+pub mod Links
+pub mod Scan
+pub mod Rules
+pub mod Examples
+pub mod TreeLaws
+pub mod SlotLaws
