@@ -1,9 +1,8 @@
 -- What the entries of a record keep to: payloads stand behind the journal, fresh blocks among the data, each row ascends, and no block is in both.
-use Rattle.std.proofs.Common.{◌≡◌, ℕ, zero, suc, ◌+◌, ◌<◌, ◌≤◌, Bool, not, IsTrue, true, false, nat_le, nat_lt, ◌&&◌, List, [], ◌∷◌, Some, slice_get, subst, arith}
+use Rattle.std.proofs.Common.{◌≡◌, ℕ, zero, suc, ◌+◌, ◌<◌, ◌≤◌, not, IsTrue, true, false, nat_le, nat_lt, ◌&&◌, List, [], ◌∷◌, Some, slice_get, subst, arith}
 use Rattle.std.proofs.lemmas.Bool.{and_parts, not-true, leb-true, ltb-true}
 use Rattle.opt_geom.specs.Geometry.{Geometry, bitmap_start, data_start}
 use Rattle.opt_journal.specs.declared.entry.Entry.{Entry}
-use Rattle.opt_journal.specs.Layout.{descriptor_count}
 use Rattle.opt_journal.specs.Run.{Record, entries_fit, is_fresh, are_fresh, are_ascending, names_block}
 
 -- what is asked of the first of fresh entries, and of the others

@@ -11,3 +11,4 @@ pub mod ReadFields
 pub mod ReadEntries
 pub mod WriteText
 pub mod Bounds
+pub mod Stored

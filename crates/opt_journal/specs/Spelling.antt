@@ -1,5 +1,5 @@
 -- How the journal's blocks are written: one spelling for each value. It is told in docs/JOURNAL.md.
-use Rattle.std.specs.Prelude.{◌≡◌, ℕ, ◌+◌, ◌-◌, ◌*◌, ◌<◌, ◌≤◌, ◌^◌, Bool, true, if◌then◌else◌, List, [], ◌∷◌, ◌++◌, replicate, length}
+use Rattle.std.specs.Prelude.{◌≡◌, ℕ, ◌+◌, ◌-◌, ◌*◌, ◌<◌, ◌≤◌, ◌^◌, Bool, true, if◌then◌else◌, List, [], ◌∷◌, ◌++◌, replicate, length, take, drop, bytes_eq}
 use Rattle.byteorder.specs.Endian.{little_bytes}
 use Rattle.opt_base.specs.Seal.{sha256}
 use Rattle.opt_geom.specs.Geometry.{Geometry, geometry_fits}
@@ -81,3 +81,17 @@ pub record IsEntry (g : Geometry) (e : Entry) : Type 0 where
 abbrev pub AreEntries : Geometry → List Entry → Type 0
 AreEntries g [] = Unit {0}
 AreEntries g (e ∷ es) = IsEntry g e × AreEntries g es
+
+-- Payloads as they are stored.
+
+-- bytes that begin as a block of the journal does
+abbrev pub begins_tag : List ℕ → Bool
+begins_tag x = bytes_eq (take 3 x) (79 ∷ 80 ∷ 84 ∷ [])
+
+-- such a payload is stored with its first byte as zero, and every other as it is
+abbrev pub stored_of : List ℕ → List ℕ
+stored_of x = if begins_tag x then 0 ∷ drop 1 x else x
+
+-- the kind that its entry has then
+abbrev pub stored_kind : List ℕ → EntryKind
+stored_kind x = if begins_tag x then Escaped else Payload

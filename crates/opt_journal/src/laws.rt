@@ -8,8 +8,8 @@ ghost use Rattle.opt_journal.specs.declared.record.Commit.{Commit};
 ghost use Rattle.opt_journal.specs.declared.record.Descriptor.{Descriptor};
 ghost use Rattle.opt_journal.specs.declared.entry.Entry.{Entry};
 ghost use Rattle.opt_journal.specs.declared.entry.EntryKind.{EntryKind};
-ghost use Rattle.opt_journal.specs.Layout.{header_of, IsWithinDisk, commit_of, IsWithinRing, descriptor_of, descriptor_count, is_stored};
-ghost use Rattle.opt_journal.specs.Spelling.{IsHeader, AreEntries, fits_in, header_block, commit_block, descriptor_block};
+ghost use Rattle.opt_journal.specs.Layout.{header_of, IsWithinDisk, commit_of, IsWithinRing, descriptor_of, descriptor_count, is_stored, unescaped};
+ghost use Rattle.opt_journal.specs.Spelling.{IsHeader, AreEntries, fits_in, header_block, commit_block, descriptor_block, stored_of, stored_kind};
 ghost use Rattle.opt_journal.specs.Run.{Newest, Record, entries, entries_fit, names_block, IsWhole, IsRun, live_part, HeldIs};
 ghost use Rattle.opt_journal.specs.Formatted.{formatted};
 
@@ -75,6 +75,13 @@ pub fn journal_blocks_read_back()
         → 0 < c.payloads → c.descriptors ≡ descriptor_count (c.payloads + c.fresh) → 1 + c.descriptors + c.payloads ≤ g.j → commit_of g (commit_block c) ≡ Some c }
     ensures descriptors { (g : Geometry) (d : Descriptor) → g.n ≤ 1048576 → fits_in 8 d.epoch → fits_in 8 d.number → fits_in 4 d.index → 0 < length d.entries → length d.entries ≤ 24
         → AreEntries g d.entries → descriptor_of g (descriptor_block d) ≡ Some d }
+{}
+
+/// A payload that is stored as it has to be reads back: unescaped, it is what it was, and it begins as one
+/// of its kind does, so it reads as no block of the journal.
+pub fn payloads_read_back()
+    ensures bytes { (x : List ℕ) → unescaped (stored_kind x) (stored_of x) ≡ x }
+    ensures stored { (x : List ℕ) → is_stored (stored_kind x) (stored_of x) ≡ true }
 {}
 
 /// What an image holds rests on the first n blocks alone: images that are alike there hold the same.

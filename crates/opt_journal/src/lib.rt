@@ -9,18 +9,25 @@ mod laws;
 mod payload;
 mod read;
 mod record;
+mod record_writer;
+mod ring;
 #[cfg(test)]
 mod tests;
 mod write;
+mod write_record;
 
 pub use entry::{Entries, Entry, EntryKind};
 pub use header::Header;
 pub use laws::{
     an_image_holds_one_map, descriptors_tell_the_entries, entries_that_fit_keep_to_the_disk,
     images_alike_below_n_hold_the_same, journal_blocks_are_sealed, journal_blocks_are_told_apart,
-    journal_blocks_keep_to_their_bounds, journal_blocks_read_back, the_formatted_disk_holds_itself,
+    journal_blocks_keep_to_their_bounds, journal_blocks_read_back, payloads_read_back,
+    the_formatted_disk_holds_itself,
 };
-pub use payload::{is_stored, unescape};
+pub use payload::{escape, is_stored, unescape};
 pub use read::{descriptor_count, read_commit, read_descriptor, read_header};
 pub use record::{Commit, Descriptor};
+pub use record_writer::RecordWriter;
+pub use ring::{Ring, ring_block};
 pub use write::write_header;
+pub use write_record::{write_commit, write_descriptor};

@@ -3,6 +3,7 @@
 
 ghost use Rattle.std.specs.Prelude.{◌≡◌};
 ghost use Rattle.opt_journal.specs.Layout.{is_stored, unescaped};
+ghost use Rattle.opt_journal.specs.Spelling.{begins_tag, stored_kind, stored_of};
 
 use crate::EntryKind;
 use opt_base::Block;
@@ -27,4 +28,24 @@ pub fn unescape(stored: &Block, kind: EntryKind, into: &mut Block)
     if kind == EntryKind::Escaped {
         into[0] = b'O';
     }
+}
+
+/// Writes these bytes into the other block as they are stored in the journal, and answers the kind
+/// that their entry has.
+pub fn escape(from: &Block, into: &mut Block) -> EntryKind
+    ensures stored { into.new ≡ stored_of from.now }
+    ensures kind { result ≡ stored_kind from.now }
+{
+    *into = *from;
+    if begins_tag(from) {
+        into[0] = 0;
+        return EntryKind::Escaped;
+    }
+    EntryKind::Payload
+}
+
+fn begins_tag(block: &Block) -> bool
+    ensures { result ≡ begins_tag block.now }
+{
+    &block[..3] == b"OPT".as_slice()
 }

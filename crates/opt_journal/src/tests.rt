@@ -4,8 +4,8 @@
 ghost use Rattle.std.specs.Prelude.{◌≤◌, ◌<◌, length};
 
 use crate::{
-    Commit, Entries, Entry, EntryKind, Header, descriptor_count, is_stored, read_commit,
-    read_descriptor, read_header, unescape, write_header,
+    Commit, Entries, Entry, EntryKind, Header, RecordWriter, descriptor_count, is_stored,
+    read_commit, read_descriptor, read_header, unescape, write_commit, write_header,
 };
 use opt_base::{Block, seal};
 use opt_geom::Geom;
@@ -412,4 +412,38 @@ fn entries_are_kept_in_order(rt: HostRuntime) {
         entries.as_slice().get(1),
         Some(&entry(20, EntryKind::Payload, 2))
     );
+}
+
+// A commit block whose numbers have unlike bytes.
+const WIDE_COMMIT: [u8; 36] = [
+    0x4f, 0x50, 0x54, 0x43, 0x30, 0x30, 0x30, 0x31, 0x01, 0x02, 0x03, 0x04, 0x05, 0x06, 0x07, 0x08,
+    0x11, 0x12, 0x13, 0x14, 0x15, 0x16, 0x17, 0x18, 0x21, 0x22, 0x23, 0x24, 0x31, 0x32, 0x33, 0x34,
+    0x41, 0x42, 0x43, 0x44,
+];
+
+// The SHA-256 of these bytes and 956 zeros.
+const WIDE_SEAL: [u8; 32] = [
+    0xc7, 0x4c, 0x18, 0x43, 0x87, 0x36, 0x2b, 0x34, 0xbb, 0xc3, 0xb9, 0x4a, 0x3a, 0xf2, 0x30, 0xe2,
+    0xc5, 0x27, 0x7c, 0x16, 0x4e, 0x9c, 0x8a, 0xe6, 0x10, 0x07, 0xb2, 0x38, 0xcd, 0x10, 0x54, 0xee,
+];
+
+#[test]
+fn a_record_is_written_as_its_entries_come(rt: HostRuntime) {
+    let mut writer = RecordWriter::new(2, 5, 2, 1);
+    let mut into = [7u8; 1024];
+    assert!(rt; !writer.add(&entry(18, EntryKind::Payload, 0x11), &mut into));
+    assert!(rt; !writer.add(&entry(19, EntryKind::Escaped, 0x22), &mut into));
+    assert!(rt; writer.add(&entry(23, EntryKind::Fresh, 0x33), &mut into));
+    assert!(rt; into == descriptor_block());
+    writer.commit(&mut into);
+    assert!(rt; into == commit_block());
+    let wide = Commit {
+        epoch: 0x0807_0605_0403_0201,
+        number: 0x1817_1615_1413_1211,
+        descriptors: 0x2423_2221,
+        payloads: 0x3433_3231,
+        fresh: 0x4443_4241,
+    };
+    write_commit(&wide, &mut into);
+    assert!(rt; into == block_of(WIDE_COMMIT.as_slice(), &WIDE_SEAL));
 }

@@ -15,7 +15,7 @@ use sha2::{Digest, Sha256};
 const SPARE: usize = 932;
 
 /// The bytes of a block as far as they are written.
-type Text = ArrayVec<u8, 1024>;
+pub(crate) type Text = ArrayVec<u8, 1024>;
 
 /// Writes the block of this header, in place of all the bytes there.
 pub fn write_header(header: &Header, into: &mut Block)
@@ -54,7 +54,7 @@ fn closed_number(closed: bool) -> u32
 }
 
 /// Writes a number in eight bytes, the lowest first.
-fn put_8(text: &mut Text, number: u64)
+pub(crate) fn put_8(text: &mut Text, number: u64)
     requires { array_vec_len text.old + 8 ≤ 1024 }
     ensures bytes { text.new.items ≡ text.old.items ++ little_bytes 8 number }
     ensures size { array_vec_len text.new ≡ array_vec_len text.old + 8 }
@@ -63,7 +63,7 @@ fn put_8(text: &mut Text, number: u64)
 }
 
 /// Writes a number in four bytes, the lowest first.
-fn put_4(text: &mut Text, number: u32)
+pub(crate) fn put_4(text: &mut Text, number: u32)
     requires { array_vec_len text.old + 4 ≤ 1024 }
     ensures bytes { text.new.items ≡ text.old.items ++ little_bytes 4 number }
     ensures size { array_vec_len text.new ≡ array_vec_len text.old + 4 }
@@ -71,7 +71,7 @@ fn put_4(text: &mut Text, number: u32)
     put(text, number.to_le_bytes().as_slice());
 }
 
-fn put(text: &mut Text, bytes: &[u8])
+pub(crate) fn put(text: &mut Text, bytes: &[u8])
     requires { array_vec_len text.old + length bytes.now ≤ 1024 }
     ensures { text.new.items ≡ text.old.items ++ bytes.now }
 {

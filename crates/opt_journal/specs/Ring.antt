@@ -1,0 +1,17 @@
+-- The ring of the journal: which of its places are taken. It is told in docs/JOURNAL.md.
+use Rattle.std.specs.Prelude.{ℕ, ◌+◌, ◌-◌, ◌%◌}
+use Rattle.opt_geom.specs.Geometry.{Geometry}
+
+-- the place at which the next record will begin, and how many places before it are taken
+pub record RingPlaces : Type 0 where
+  pub geom : Geometry
+  pub next : ℕ
+  pub taken : ℕ
+
+-- the ring with so many places taken more
+abbrev pub with_places : RingPlaces → ℕ → RingPlaces
+with_places r places = record r { next = (r.next + places) % r.geom.j; taken = r.taken + places }
+
+-- and with the oldest of them given back
+abbrev pub without_places : RingPlaces → ℕ → RingPlaces
+without_places r places = record r { taken = r.taken - places }
