@@ -3,8 +3,6 @@
 //! rules are told in docs/SCRIPT.md, docs/TRACE.md and docs/CRASHES.md.
 #![tactic(auto)]
 
-#[cfg(test)]
-mod command_tests;
 mod formatting;
 mod lines;
 mod program;

@@ -1,5 +1,6 @@
 //! Scripts through the public call, over a source, a sink and a bay in memory; source and sink fail
-//! where they are told to. What is expected was worked out by hand from docs/TRACE.md.
+//! where they are told to. What is expected was worked out by hand from docs/TRACE.md. What commands
+//! answer is tested by the rows of `opt_rows`, and a whole trace by the files `stdin` and `stdout`.
 
 use crate::{Status, optfs};
 use opt_io::{MemSink, MemSource};
@@ -51,40 +52,6 @@ const FIRST: &[u8] = b"create /a\nwrite /a 0 6869\nread /a 0 9\nosync\n";
 
 const FIRST_TRACE: &[u8] =
     b"g 64 16 16\nc create /a\nr 0 ok\nc write /a 0 6869\nr 0 ok\nc read /a 0 9\nr 0 hex 6869\nc osync\nr 0 synced 1\nend\n";
-
-#[test]
-fn scripts_give_their_traces(rt: HostRuntime) -> Result<(), Fail> {
-    let cases: [(&[u8], &[u8]); 7] = [
-        (FIRST, FIRST_TRACE),
-        (b"", b"g 64 16 16\nend\n"),
-        (
-            b"create /a\nwrite /a 3 ff\nread /a 0 9\nread /a 4 1\n",
-            b"g 64 16 16\nc create /a\nr 0 ok\nc write /a 3 ff\nr 0 ok\nc read /a 0 9\nr 0 hex 000000ff\nc read /a 4 1\nr 0 hex\nend\n",
-        ),
-        (
-            b"create /a\nosync\nosync\ncreate /a\ncreate /a/b\nread /c 0 1\nwrite / 0 00\n",
-            b"g 64 16 16\nc create /a\nr 0 ok\nc osync\nr 0 synced 1\nc osync\nr 0 synced 1\nc create /a\nr 0 refused 2 Exists\nc create /a/b\nr 0 refused 3 NotDir\nc read /c 0 1\nr 0 refused 1 NotFound\nc write / 0 00\nr 0 refused 4 IsDir\nend\n",
-        ),
-        (
-            b"create\n# note\n\nwrite /a 0 6\nosync",
-            b"g 64 16 16\nc ?\nr 0 bad\nc ?\nr 0 bad\nc osync\nr 0 synced 0\nend\n",
-        ),
-        (
-            b"create /a\nwrite /a 0 6A6b\n",
-            b"g 64 16 16\nc create /a\nr 0 ok\nc write /a 0 6a6b\nr 0 ok\nend\n",
-        ),
-        (
-            b"create /a\nwrite /a 1073741824 ff\n",
-            b"g 64 16 16\nc create /a\nr 0 ok\nc write /a 1073741824 ff\nr 0 refused 7 TooLarge\nend\n",
-        ),
-    ];
-    for (script, trace) in cases {
-        let outcome = run(rt.alloc(), script)?;
-        assert_eq!(rt; outcome.status, Status::Done);
-        assert_eq!(rt; outcome.text.as_slice(), trace);
-    }
-    Ok(())
-}
 
 #[test]
 fn other_words_are_usage(rt: HostRuntime) -> Result<(), Fail> {
@@ -150,22 +117,6 @@ fn each_geometry_that_fits_is_recorded_on(rt: HostRuntime) -> Result<(), Fail> {
 }
 
 #[test]
-fn the_sixteenth_node_is_the_last(rt: HostRuntime) -> Result<(), Fail> {
-    let mut script = Vec::new(rt.alloc());
-    for letter in b'a'..=b'p' {
-        script.extend_from_slice(b"create /")?;
-        script.push(letter)?;
-        script.push(b'\n')?;
-    }
-    let outcome = run(rt.alloc(), script.as_slice())?;
-    assert_eq!(rt; outcome.status, Status::Done);
-    assert!(rt;
-        outcome.text.ends_with(b"c create /o\nr 0 ok\nc create /p\nr 0 refused 9 NoNode\nend\n")
-    );
-    Ok(())
-}
-
-#[test]
 fn a_source_that_fails_ends_the_trace(rt: HostRuntime) -> Result<(), Fail> {
     let traces: [&[u8]; 5] = [
         b"g 64 16 16\nerror 7 source\n",
@@ -204,6 +155,14 @@ fn a_sink_that_fails_has_a_front(rt: HostRuntime) -> Result<(), Fail> {
 }
 
 #[test]
+fn an_empty_script_has_a_trace_of_two_lines(rt: HostRuntime) -> Result<(), Fail> {
+    let outcome = run(rt.alloc(), b"")?;
+    assert_eq!(rt; outcome.status, Status::Done);
+    assert_eq!(rt; outcome.text.as_slice(), b"g 64 16 16\nend\n".as_slice());
+    Ok(())
+}
+
+#[test]
 fn one_byte_at_a_time_gives_the_same(rt: HostRuntime) -> Result<(), Fail> {
     let input = MemSource::new(rt.alloc(), FIRST, &[])?.in_pieces(1);
     let out = MemSink::new(rt.alloc(), 1000, &[])?.in_pieces(1);
@@ -236,5 +195,23 @@ fn a_line_may_have_262144_bytes(rt: HostRuntime) -> Result<(), Fail> {
         outcome.text.as_slice(),
         b"g 64 16 16\nc osync\nr 0 synced 0\nend\n".as_slice()
     );
+    Ok(())
+}
+
+#[test]
+fn a_file_has_at_most_65535_paths(rt: HostRuntime) -> Result<(), Fail> {
+    let mut script = Vec::from_slice(rt.alloc(), b"create /1\n")?;
+    for number in 2..=65_536u32 {
+        script.extend_from_slice(b"link /1 /")?;
+        script.extend_from_slice(number.to_string(rt.alloc())?.as_bytes())?;
+        script.push(b'\n')?;
+    }
+    script.extend_from_slice(b"stat /65535\nunlink /1\nlink /2 /1\n")?;
+    let input = MemSource::new(rt.alloc(), script.as_slice(), &[])?;
+    let out = MemSink::new(rt.alloc(), 10_000_000, &[])?;
+    let outcome = run_over(rt.alloc(), &WORDS, input, out)?;
+    let end =
+        b"c link /1 /65535\nr 0 ok\nc link /1 /65536\nr 0 refused 8 TooManyLinks\nc stat /65535\nr 0 stat file 2 0 65535\nc unlink /1\nr 0 ok\nc link /2 /1\nr 0 ok\nend\n";
+    assert!(rt; outcome.text.ends_with(end));
     Ok(())
 }

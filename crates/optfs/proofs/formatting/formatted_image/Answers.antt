@@ -1,8 +1,10 @@
-use Rattle.std.proofs.Common.{ap, ◌∙◌}
-use Rattle.opt_disk.specs.Bay.{zero_blocks}
-use Rattle.optfs.proofs.FormattedImages.{image_is}
+use Rattle.std.proofs.Common.{arith}
+use Rattle.opt_journal.specs.Formatted.{formatted}
+use Rattle.optfs.proofs.FormattedImages.{one_more, all_there}
 use Rattle.optfs.proofs.formatting.formatted_image.Goals as goal
 
+pub loop-b-preserved : goal.loop-b-preserved
+loop-b-preserved c = one_more (formatted c.args.geom.now) c.args.geom.now.n _ _ c.loop-b.b c.formatted_block.result c.loop-b.invariant (omega (arith, c.loop-b-test.true)) c.formatted_block.ensures c.set.ensures
+
 pub returns-clause-blocks : goal.returns-clause-blocks
-returns-clause-blocks c = image_is _ _ _ _ _ c.lawful.ensures.limits (c.in_ok-image.ensures ∙ ap zero_blocks c.n.ensures) c.set_header.ensures
-    c.set_bitmap.ensures.size c.set_bitmap.ensures.bitmap c.set_bitmap.ensures.others c.set_root.ensures
+returns-clause-blocks c = all_there (formatted c.args.geom.now) c.args.geom.now.n _ c.loop-b.b c.loop-b.invariant (λ k from. c.the_formatted_disk_is_empty.ensures.zeros c.args.geom.now k c.lawful.ensures.fits (omega (arith, from)))

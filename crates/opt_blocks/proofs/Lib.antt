@@ -1,0 +1,17 @@
+pub mod Members
+pub mod Times
+pub mod Ranges
+pub mod Histories
+pub mod PlainSteps
+pub mod BitWrites
+pub mod HasTaken
+pub mod Takes
+pub mod Fronts
+pub mod Ends
+pub mod PlainPoints
+pub mod PlainSyncs
+pub mod Begins
+pub mod Fills
+pub mod DefinedSteps
+pub mod Growths
+pub mod Syncing

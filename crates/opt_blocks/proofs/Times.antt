@@ -1,0 +1,90 @@
+-- Two calls, one behind the other.
+use Rattle.std.proofs.Common.{◌≡◌, Bool, false, arith, ⊎_elim, inl, inr, ◌∙◌, refl, ap}
+use Rattle.std.proofs.Math.Logic.{∥∥₁_map}
+use Rattle.opt_base.specs.Seal.{Blocks}
+use Rattle.opt_blocks.specs.State.{State}
+use Rattle.opt_blocks.specs.Calls.{UsesDisk}
+use Rattle.opt_blocks.specs.Crashes.{HoldsPointBetween, Advances, IssuesNothing, IsTold}
+use Rattle.opt_blocks.specs.Effects.{LeavesDisk}
+
+-- a map of a point in the middle is one in the end
+kept : (old mid new : State) → Advances old mid → Advances mid new → (m : Blocks) → HoldsPointBetween mid old.books.floor mid.books.point m → HoldsPointBetween new old.books.floor new.books.point m
+kept old mid new a b m i = record { point = i.point; from = i.from; upto = omega (arith, i.upto, b.last); map = i.map; holds = (b.holds m i.map).1 i.holds; is = (b.point i.point i.map i.upto).1 i.is }
+
+-- the floor only rises
+lower : (old mid new : State) → Advances old mid → (m : Blocks) → HoldsPointBetween new mid.books.floor new.books.point m → HoldsPointBetween new old.books.floor new.books.point m
+lower old mid new a m i = record { point = i.point; from = omega (arith, a.floor, i.from); upto = i.upto; map = i.map; holds = i.holds; is = i.is }
+
+pub advances_on : (old mid new : State) → Advances old mid → Advances mid new → Advances old new
+advances_on old mid new a b = record {
+  window = λ m left. ⊎_elim (λ was. ∥∥₁_map (a.window m was) (kept old mid new a b m)) (λ late. ∥∥₁_map late (lower old mid new a m)) (b.earlier old.crash.moment m a.later left);
+  earlier = λ t m before left. ⊎_elim
+      (λ was. ⊎_elim inl (λ point. inr (∥∥₁_map point (kept old mid new a b m))) (a.earlier t m before was))
+      (λ late. inr (∥∥₁_map late (lower old mid new a m)))
+      (b.earlier t m (omega (arith, before, a.later)) left);
+  point = λ p m low. (λ is. (a.point p m low).0 ((b.point p m (omega (arith, low, a.last))).0 is), λ is. (b.point p m (omega (arith, low, a.last))).1 ((a.point p m low).1 is));
+  holds = λ img m. (λ is. (a.holds img m).0 ((b.holds img m).0 is), λ is. (b.holds img m).1 ((a.holds img m).1 is));
+  later = omega (arith, a.later, b.later);
+  last = omega (arith, a.last, b.last);
+  floor = omega (arith, a.floor, b.floor);
+}
+
+-- nothing is issued, twice
+pub nothing_on : (old mid new : State) → IssuesNothing old mid → IssuesNothing mid new → IssuesNothing old new
+nothing_on old mid new a b = record {
+  moment = b.moment ∙ a.moment;
+  point = λ p m. (λ is. (a.point p m).0 ((b.point p m).0 is), λ is. (b.point p m).1 ((a.point p m).1 is));
+  left = λ t m. (λ is. (a.left t m).0 ((b.left t m).0 is), λ is. (b.left t m).1 ((a.left t m).1 is));
+  holds = λ img m. (λ is. (a.holds img m).0 ((b.holds img m).0 is), λ is. (b.holds img m).1 ((a.holds img m).1 is));
+  issued = λ m. (λ is. (a.issued m).0 ((b.issued m).0 is), λ is. (b.issued m).1 ((a.issued m).1 is));
+  writes = b.writes ∙ a.writes;
+}
+
+pub nothing_not : (s : State) → IssuesNothing s s
+nothing_not s = record {
+  moment = refl;
+  point = λ p m. (λ is. is, λ is. is);
+  left = λ t m. (λ is. is, λ is. is);
+  holds = λ img m. (λ is. is, λ is. is);
+  issued = λ m. (λ is. is, λ is. is);
+  writes = refl;
+}
+
+-- the disk is left alone, twice
+pub leaves_on : (tells : Bool) (old mid new : State) → LeavesDisk tells old mid → LeavesDisk tells mid new → LeavesDisk tells old new
+leaves_on tells old mid new a b = record { counts = b.counts ∙ a.counts; crash = λ t. nothing_on old mid new (a.crash t) (b.crash t) }
+
+pub leaves_not : (tells : Bool) (s : State) → LeavesDisk tells s s
+leaves_not tells s = record { counts = refl; crash = λ t. nothing_not s }
+
+-- a call that issues nothing is one in which time goes on, if the points' numbers stay
+pub nothing_advances : (old new : State) → IsTold old → new.books.point ≡ old.books.point → new.books.floor ≡ old.books.floor → IssuesNothing old new → Advances old new
+nothing_advances old new told e f a = record {
+  window = λ m left. ∥∥₁_map (told.now m ((a.left old.crash.moment m).0 left)) (λ i. record { point = i.point; from = i.from; upto = omega (arith, i.upto, e); map = i.map; holds = (a.holds m i.map).1 i.holds; is = (a.point i.point i.map).1 i.is });
+  earlier = λ t m before left. inl ((a.left t m).0 left);
+  point = λ p m low. a.point p m;
+  holds = λ img m. a.holds img m;
+  later = omega (arith, a.moment);
+  last = omega (arith, e);
+  floor = omega (arith, f);
+}
+
+-- the disk's counts over two calls, of which the first didn't fail
+pub disk_on : (failed : Bool) (old mid new : State) → UsesDisk false old mid → UsesDisk failed mid new → UsesDisk failed old new
+disk_on failed old mid new a b = record {
+  faults = omega (arith, a.faults, b.faults);
+  rose = λ fails. ⊎_elim (λ more. inl (omega (arith, a.faults, more))) inr (b.rose fails);
+  stopped = b.stopped;
+  read_faults = b.read_faults ∙ a.read_faults;
+  waits = omega (arith, a.waits, b.waits);
+}
+
+-- the disk's counts where it was used in the midst alone
+pub disk_along : (failed : Bool) (old s t new : State) → s.counts ≡ old.counts → UsesDisk failed s t → new.counts ≡ t.counts → new.books.stopped ≡ t.books.stopped → UsesDisk failed old new
+disk_along failed old s t new before d after stays = record {
+  faults = omega (arith, ap (λ c. c.faults) before, d.faults, ap (λ c. c.faults) after);
+  rose = λ fails. ⊎_elim (λ more. inl (omega (arith, ap (λ c. c.faults) before, more, ap (λ c. c.faults) after))) (λ top. inr (ap (λ c. c.faults) after ∙ top)) (d.rose fails);
+  stopped = stays ∙ d.stopped;
+  read_faults = ap (λ c. c.read_faults) after ∙ d.read_faults ∙ ap (λ c. c.read_faults) before;
+  waits = omega (arith, ap (λ c. c.waits) before, d.waits, ap (λ c. c.waits) after);
+}

@@ -1,0 +1,78 @@
+-- What a crash may leave of a map of blocks, before and after a call. It is told in docs/BLOCKS.md.
+use Rattle.std.specs.Prelude.{◌≡◌, ◌↔◌, ◌⊎◌, ℕ, ◌+◌, ◌<◌, ◌≤◌, false, true, IsTrue, [], length}
+use Rattle.opt_base.specs.Seal.{Blocks}
+use Rattle.opt_geom.specs.Geometry.{Geometry}
+use Rattle.opt_layout.specs.Bitmap.{is_set}
+use Rattle.opt_journal.specs.Run.{is_live}
+use Rattle.opt_blocks.specs.Running.{payloads, fresh_blocks, HasNoBare}
+use Rattle.opt_blocks.specs.State.{State, is_defined}
+
+-- the image holds a map, and it is that of a point from `floor` to `top`
+pub record HoldsPointBetween (s : State) (floor top : ℕ) (img : Blocks) : Type 0 where
+  pub point : ℕ
+  pub from : floor ≤ point
+  pub upto : point ≤ top
+  pub map : Blocks
+  pub holds : s.crash.holds img map
+  pub is : s.crash.is_point point map
+
+-- m has the live blocks of a map: the bitmap, the node table, and the data blocks that it marks
+abbrev pub HasLiveBlocks : Geometry → Blocks → Blocks → Type 0
+HasLiveBlocks g map m = (b : ℕ) → IsTrue (is_live g map b) → m b ≡ map b
+
+-- No event comes, and no point: a crash may leave what it might have left.
+pub record IssuesNothing (old new : State) : Type 0 where
+  pub moment : new.crash.moment ≡ old.crash.moment
+  pub point : (p : ℕ) (m : Blocks) → new.crash.is_point p m ↔ old.crash.is_point p m
+  pub left : (t : ℕ) (img : Blocks) → new.crash.left_since t img ↔ old.crash.left_since t img
+  pub holds : (img m : Blocks) → new.crash.holds img m ↔ old.crash.holds img m
+  pub issued : (m : Blocks) → new.crash.issued m ↔ old.crash.issued m
+  pub writes : new.crash.writes ≡ old.crash.writes
+
+-- Time goes on. At each moment of the call a crash leaves an image that holds the map of a point, from the floor as it began to the last one as it ended.
+pub record Advances (old new : State) : Type 0 where
+  pub window : (img : Blocks) → new.crash.left_since old.crash.moment img → ∥ HoldsPointBetween new old.books.floor new.books.point img ∥₁
+  -- the same for something that began earlier: what a crash since then may leave it might have left before the call, or it holds such a map
+  pub earlier : (t : ℕ) (img : Blocks) → t ≤ old.crash.moment → new.crash.left_since t img → old.crash.left_since t img ⊎ ∥ HoldsPointBetween new old.books.floor new.books.point img ∥₁
+  -- which map an image holds is for ever
+  pub holds : (img m : Blocks) → new.crash.holds img m ↔ old.crash.holds img m
+  -- a point is for ever
+  pub point : (p : ℕ) (m : Blocks) → p ≤ old.books.point → new.crash.is_point p m ↔ old.crash.is_point p m
+  pub later : old.crash.moment ≤ new.crash.moment
+  pub last : old.books.point ≤ new.books.point
+  pub floor : old.books.floor ≤ new.books.floor
+
+-- the map now is that of point p, on its live blocks
+abbrev pub HasMapOfPoint : State → ℕ → Type 0
+HasMapOfPoint s p = (m : Blocks) → s.crash.is_point p m → HasLiveBlocks s.books.geom s.map m
+
+-- if a point came, the map now is its
+abbrev pub MakesPoint : State → State → Type 0
+MakesPoint old new = old.books.point < new.books.point → HasMapOfPoint new new.books.point
+
+-- The writes so far, and those that are still to come for what was committed, grow by so many at most.
+abbrev pub WritesAtMost : ℕ → State → State → Type 0
+WritesAtMost more old new = new.crash.writes + new.books.owed ≤ old.crash.writes + old.books.owed + more
+
+-- Nothing was done yet: no point was made, and the transaction is empty.
+pub record IsBegun (s : State) : Type 0 where
+  pub point : s.books.point ≡ 0
+  pub weight : s.books.running.weight ≡ 0
+  pub held : s.books.running.held ≡ 0
+  pub payloads : payloads s.books.geom s.books.running ≡ 0
+  pub fresh : fresh_blocks s.books.geom s.books.running ≡ 0
+  pub none_bare : HasNoBare s.books.running
+  pub going : s.books.stopped ≡ false
+
+-- where all accepted writes stand, the map is that of the last point
+pub record StandsForLast (s : State) : Type 0 where
+  pub some : ∥ ((m : Blocks) × s.crash.issued m) ∥₁
+  pub each : (m : Blocks) → s.crash.issued m → s.crash.is_point s.books.point m
+
+-- What is told of each state: a crash now leaves an image that holds the map of a point from the floor on; the bits of the map are those of the bookkeeping; each block on which the map is defined is whole, and elsewhere it has nothing; and while no call of the disk failed, all that was issued is the last point.
+pub record IsTold (s : State) : Type 0 where
+  pub now : (img : Blocks) → s.crash.left_since s.crash.moment img → ∥ HoldsPointBetween s s.books.floor s.books.point img ∥₁
+  pub bits : (b : ℕ) → b < s.books.geom.n → s.books.marked b ≡ is_set s.books.geom s.map b
+  pub whole : (b : ℕ) → b < s.books.geom.n → is_defined s.books b ≡ true → length (s.map b) ≡ 1024
+  pub nothing : (b : ℕ) → is_defined s.books b ≡ false → s.map b ≡ []
+  pub issued : s.books.stopped ≡ false → StandsForLast s

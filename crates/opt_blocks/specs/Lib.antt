@@ -1,0 +1,12 @@
+pub mod Running
+pub mod State
+pub mod Calls
+pub mod Crashes
+pub mod Effects
+pub mod History
+pub mod Puts
+pub mod Plain
+pub mod PlainOf
+pub mod Ranges
+pub mod Defined
+pub mod PlainLaws

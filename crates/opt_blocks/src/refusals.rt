@@ -1,0 +1,54 @@
+//! Why a call of a map of blocks gave up.
+
+use std::error::Error;
+use std::fmt;
+
+/// Why no list of numbers to take was given.
+#[derive(Clone, Copy, Debug, PartialEq, Eq)]
+pub enum LowestRefusal {
+    /// Fewer numbers than asked for may be taken, and none waits to be so again.
+    Short {
+        /// How many were asked for.
+        need: u32,
+        /// How many there are.
+        reusable: u32,
+    },
+    /// A write, a poll or a wait of the disk failed, which the disk has counted.
+    DiskFault,
+    /// Out of memory.
+    NoMemory,
+}
+
+impl fmt::Display for LowestRefusal {
+    fn fmt<W: fmt::Write>(&self, f: &mut fmt::Formatter<W>) -> fmt::Result {
+        match self {
+            LowestRefusal::Short { need, reusable } => {
+                write!(f, "{need} blocks are needed, and {reusable} are free")
+            }
+            LowestRefusal::DiskFault => write!(f, "a call of the disk failed"),
+            LowestRefusal::NoMemory => write!(f, "out of memory"),
+        }
+    }
+}
+
+impl Error for LowestRefusal {}
+
+/// Why a sync point wasn't made, or isn't known to be durable.
+#[derive(Clone, Copy, Debug, PartialEq, Eq)]
+pub enum SyncRefusal {
+    /// A write, a poll or a wait of the disk failed, which the disk has counted.
+    DiskFault,
+    /// Out of memory, and nothing was done.
+    NoMemory,
+}
+
+impl fmt::Display for SyncRefusal {
+    fn fmt<W: fmt::Write>(&self, f: &mut fmt::Formatter<W>) -> fmt::Result {
+        match self {
+            SyncRefusal::DiskFault => write!(f, "a call of the disk failed"),
+            SyncRefusal::NoMemory => write!(f, "out of memory"),
+        }
+    }
+}
+
+impl Error for SyncRefusal {}

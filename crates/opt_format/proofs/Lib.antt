@@ -1,0 +1,2 @@
+mod FirstBits
+mod Formatted

@@ -1,0 +1,12 @@
+use Rattle.std.proofs.Common.{arith}
+use Rattle.opt_format.proofs.Formatted.{bit_is_first, zeros_behind, block_is_whole}
+use Rattle.opt_format.proofs.laws.the_formatted_disk_is_empty.Goals as goal
+
+pub returns-clause-bits : goal.returns-clause-bits
+returns-clause-bits c = λ g b fits within. bit_is_first g b ((c.geometries_are_within_limits.ensures g).0 fits) within
+
+pub returns-clause-zeros : goal.returns-clause-zeros
+returns-clause-zeros c = λ g b fits from. zeros_behind g b (omega (arith, from, ((c.geometries_are_within_limits.ensures g).0 fits).least_nodes))
+
+pub returns-clause-whole : goal.returns-clause-whole
+returns-clause-whole c = block_is_whole
