@@ -1,5 +1,7 @@
 pub mod Adds
+pub mod BetweenSteps
 pub mod Core
+pub mod CountSteps
 pub mod Events
 pub mod FirstBitmap
 pub mod FirstMount
@@ -10,6 +12,7 @@ pub mod Formatted
 pub mod FormattedOpens
 pub mod Geometries
 pub mod HeaderSteps
+pub mod HomeTests
 pub mod HomeWrites
 pub mod Homing
 pub mod Idle
@@ -18,10 +21,12 @@ pub mod InPlace
 pub mod LastWrites
 pub mod Lists
 pub mod Mounted
+pub mod NewestBytes
 pub mod NextHeader
 pub mod Notices
 pub mod OpeningMoments
 pub mod OpeningSteps
+pub mod OnePendingSteps
 pub mod PipelineNotices
 pub mod PipelineSteps
 pub mod PipelineWrites
@@ -40,3 +45,4 @@ pub mod Steps
 pub mod Tickets
 pub mod Whole
 pub mod WindowSteps
+pub mod TakenBlocks

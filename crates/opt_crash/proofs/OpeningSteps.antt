@@ -66,7 +66,7 @@ opening_is newest epoch n within low turn sure = record {
   turn_from = omega arith;
   start_from = omega arith;
   start_upto = omega arith;
-  at = within.at;
+  at = omega (arith, within.at);
   geom = within.geom;
 }
   where

@@ -14,7 +14,7 @@ use Rattle.opt_journal.specs.Run.{Record, places, all_places, place_after, AreCo
 use Rattle.opt_crash.specs.Ledger.{Ledger, WrittenRecord, IsConsistentWith, FitsRecords, from_start, next_number, all_say, cover, payload_in, latest, last_of}
 use Rattle.opt_crash.specs.Steps.{AreNoticed, with_known, IsDurable, with_durable_header, MayWriteHeader, MayWriteInPlace}
 use Rattle.opt_crash.specs.LastWrites.{HasTickets, IsDead, is_among}
-use Rattle.opt_crash.specs.PipelineData.{PipelineData, DataAgree, IsSettledIn, StaysLive, LeavesAlone, AllNoticed, AreAllNoticed, IsHomeNoticed, with_placed, with_durable, still_waiting, next_header}
+use Rattle.opt_crash.specs.PipelineData.{PipelineData, DataAgree, IsSettledIn, StaysLive, LeavesAlone, AllNoticed, AreAllNoticed, AreNewlyNoticed, IsHomeNoticed, with_placed, with_durable, still_waiting, next_header}
 use Rattle.opt_crash.proofs.Lists.{get_some, get_drop, front_get, get_behind, say_append, say_length, places_append, place_after-append}
 use Rattle.opt_crash.proofs.Tickets.{noticed_done, done_notice}
 use Rattle.opt_crash.proofs.LastWrites.{last_stays}
@@ -25,7 +25,7 @@ use Rattle.std.proofs.lemmas.List.{drop-append-le, take-append-drop}
 use Rattle.std.proofs.Math.Seq.{take-append_seam, drop-append_seam}
 
 -- these records leave the block alone, or they decide by themselves
-leave_or_decide : (ws : List WrittenRecord) (b : ℕ) → ((k : ℕ) (w : WrittenRecord) → slice_get ws k ≡ Some w → LeavesAlone w b) ⊎ ((o : Option (List ℕ)) → cover o ws b ≡ cover None ws b)
+pub leave_or_decide : (ws : List WrittenRecord) (b : ℕ) → ((k : ℕ) (w : WrittenRecord) → slice_get ws k ≡ Some w → LeavesAlone w b) ⊎ ((o : Option (List ℕ)) → cover o ws b ≡ cover None ws b)
 leave_or_decide [] b = inl (λ k w e. cc)
 leave_or_decide (w ∷ ws) b = by (payload_in w b) (names_block w.says.fresh b) refl refl (leave_or_decide ws b)
   where
@@ -99,6 +99,19 @@ module _ (base : Blocks) (log : List Event) (l : Ledger) (keeps : IsConsistentWi
         (cases_lt w.says.number l.known);
     fresh = λ i j w e is low late at. ⊎_elim (λ old. (keeps.each i w is).intact_fresh late old j e at)
         (λ new. let ts = ticket_of i w is in let o = (k.tickets i w ts.0 is ts.1 new).fresh late j e at in (noticed_done base log _ o.0 _ o.2 (among_noticed log ts.0 o.0 (all i w ts.0 is ts.1 low) o.1)).pending)
+        (cases_lt w.says.number l.known);
+  }
+
+  -- of those that are known already nothing need be asked
+  pub newly_noticed : (number : ℕ) → l.known ≤ number → number ≤ next_number l → AreNewlyNoticed log l p number → AreNoticed (cell_of base log) l number
+  newly_noticed number from upto all = record {
+    from = from;
+    upto = upto;
+    ring = λ i j w is low lt. ⊎_elim (λ old. (keeps.each i w is).intact old j lt)
+        (λ new. let ts = ticket_of i w is in let o = (k.tickets i w ts.0 is ts.1 new).ring j lt in (noticed_done base log _ o.0 _ o.2 (among_noticed log ts.0 o.0 (all i w ts.0 is ts.1 new low) o.1)).pending)
+        (cases_lt w.says.number l.known);
+    fresh = λ i j w e is low late at. ⊎_elim (λ old. (keeps.each i w is).intact_fresh late old j e at)
+        (λ new. let ts = ticket_of i w is in let o = (k.tickets i w ts.0 is ts.1 new).fresh late j e at in (noticed_done base log _ o.0 _ o.2 (among_noticed log ts.0 o.0 (all i w ts.0 is ts.1 new low) o.1)).pending)
         (cases_lt w.says.number l.known);
   }
 

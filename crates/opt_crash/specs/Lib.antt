@@ -1,8 +1,11 @@
+pub mod Counts
 pub mod FirstRecord
+pub mod HomeTest
 pub mod Formatted
 pub mod JournalLaws
 pub mod LastWrites
 pub mod Ledger
+pub mod OnePending
 pub mod OneRecord
 pub mod Opening
 pub mod PipelineData

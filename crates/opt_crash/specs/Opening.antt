@@ -12,14 +12,14 @@ use Rattle.opt_journal.specs.declared.record.Descriptor.{Descriptor}
 use Rattle.opt_journal.specs.Layout.{commit_of, descriptor_of}
 use Rattle.opt_journal.specs.Run.{Newest}
 
--- The header that opens a journal after this one: an epoch above all in the journal, the next turn, and no record. The next record is the one behind `sure`, and begins at the same ring place as that header's first one.
+-- The header that opens a journal after this one: an epoch above all in the journal, the next turn, and no record. The next record is the one behind `sure`, and begins at the first ring place.
 abbrev pub opening_header : Header → ℕ → Header
 opening_header newest greatest_epoch = record {
   epoch = greatest_epoch + 1;
   turn = newest.turn + 1;
   start = newest.sure + 1;
   sure = newest.sure;
-  at = newest.at;
+  at = 0;
   closed = false;
   geom = newest.geom;
 }

@@ -90,6 +90,27 @@ AllNoticed log (t ∷ ts) = IsNoticed t log × AllNoticed log ts
 abbrev pub AreAllNoticed : List Event → Ledger → PipelineData → ℕ → Type 0
 AreAllNoticed log l p number = (k : ℕ) (w : WrittenRecord) (ts : List ℕ) → slice_get l.records k ≡ Some w → slice_get p.tickets k ≡ Some ts → w.says.number < number → AllNoticed log ts
 
+-- all tickets of the records from the first that isn't known on and before this number are noticed; of those that are known nothing is asked
+abbrev pub AreNewlyNoticed : List Event → Ledger → PipelineData → ℕ → Type 0
+AreNewlyNoticed log l p number = (k : ℕ) (w : WrittenRecord) (ts : List ℕ) → slice_get l.records k ≡ Some w → slice_get p.tickets k ≡ Some ts → l.known ≤ w.says.number → w.says.number < number → AllNoticed log ts
+
+-- other pairs, among which all those are that wait by these data
+pub record WaitMore (few many : List (ℕ × ℕ)) : Type 0 where
+  pub each : (k b r : ℕ) → slice_get few k ≡ Some (b, r) → (i : ℕ) × (slice_get many i ≡ Some (b, r))
+
+-- the data with other pairs that wait
+abbrev pub with_waiting : PipelineData → List (ℕ × ℕ) → PipelineData
+with_waiting p many = record p { waiting = many }
+
+-- other tickets, which are the same for each record that isn't known
+pub record SameNewTickets (l : Ledger) (old new : List (List ℕ)) : Type 0 where
+  pub count : length new ≡ length old
+  pub each : (k : ℕ) (w : WrittenRecord) → slice_get l.records k ≡ Some w → l.known ≤ w.says.number → slice_get new k ≡ slice_get old k
+
+-- the data with other tickets
+abbrev pub with_tickets : PipelineData → List (List ℕ) → PipelineData
+with_tickets p tickets = record p { tickets = tickets }
+
 -- the batch's home writes are noticed
 abbrev pub IsHomeNoticed : List Event → List (ℕ × ℕ) → Type 0
 IsHomeNoticed log home = (k b t : ℕ) → slice_get home k ≡ Some (b, t) → IsNoticed t log

@@ -20,7 +20,7 @@ use opt_disk::{Disk, DiskFault};
 use opt_journal::{Header, journal_blocks_are_told_apart, journal_blocks_read_back, write_header};
 
 /// The header that opens a journal after this one: an epoch above all in the journal, the next turn, and
-/// no record. Where the next record will begin stays as it is.
+/// no record. The next record will begin at the first ring place.
 pub fn opening_header(newest: &Header, greatest_epoch: u64) -> Header
     requires epoch { greatest_epoch < 2 ^ 64 - 1 }
     requires turn { newest.now.turn < 2 ^ 64 - 1 }
@@ -32,7 +32,7 @@ pub fn opening_header(newest: &Header, greatest_epoch: u64) -> Header
         turn: newest.turn + 1,
         start: newest.sure + 1,
         sure: newest.sure,
-        at: newest.at,
+        at: 0,
         closed: false,
         geom: newest.geom,
     }

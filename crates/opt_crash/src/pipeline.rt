@@ -1,7 +1,7 @@
 //! What a pipeline's data say of the ledger, as laws: as a mount ends, and after each step; and that the
 //! conditions of writes follow from them. There is no pipeline here, and the functions do nothing.
 
-ghost use Rattle.std.specs.Prelude.{◌≡◌, ◌≢◌, ◌<◌, ◌≤◌, ◌+◌, ◌-◌, ℕ, List, ◌++◌, ◌∷◌, [], length, slice_get, true, false, IsTrue, Some, None};
+ghost use Rattle.std.specs.Prelude.{◌≡◌, ◌≢◌, ◌<◌, ◌≤◌, ◌+◌, ◌-◌, ℕ, List, ◌++◌, ◌∷◌, [], length, take, drop, slice_get, true, false, IsTrue, Some, None};
 ghost use Rattle.opt_base.specs.Seal.{Blocks};
 ghost use Rattle.opt_disk.specs.declared.event.Event.{Event};
 ghost use Rattle.opt_disk.specs.declared.event.Event.TheVariants.{Wrote, Noticed};
@@ -13,8 +13,9 @@ ghost use Rattle.opt_journal.specs.Run.{is_live};
 ghost use Rattle.opt_crash.specs.Ledger.{Ledger, WrittenRecord, IsConsistentWith, cover, next_number};
 ghost use Rattle.opt_crash.specs.Steps.{MayWriteInPlace, MayWriteHeader, AreNoticed, IsDurable, with_known, with_header, with_record, with_durable_header};
 ghost use Rattle.opt_crash.specs.Points.{IsMounted, ledger_at_mount};
+ghost use Rattle.opt_crash.specs.HomeTest.{goes_home, AreFreedBy};
 ghost use Rattle.opt_crash.specs.LastWrites.{HasTickets, IsDead, FreshAreNew};
-ghost use Rattle.opt_crash.specs.PipelineData.{PipelineData, DataAgree, AreAllNoticed, IsHomeNoticed, AreFreed, data_at_mount, with_placed, with_durable, with_pending, with_committed, with_batch, with_home, with_sent, NeedsCheckpoint, next_header};
+ghost use Rattle.opt_crash.specs.PipelineData.{PipelineData, DataAgree, AreAllNoticed, AreNewlyNoticed, WaitMore, with_waiting, SameNewTickets, with_tickets, IsHomeNoticed, AreFreed, data_at_mount, with_placed, with_durable, with_pending, with_committed, with_batch, with_home, with_sent, NeedsCheckpoint, next_header};
 
 /// A session begins with no data but its ring's place.
 pub fn a_mounted_disk_has_its_data()
@@ -29,6 +30,7 @@ pub fn a_notice_keeps_the_data()
 /// Records of which each ticket is noticed are durable.
 pub fn records_become_durable()
     ensures noticed { (base : Blocks) (log : List Event) (l : Ledger) (p : PipelineData) (number : ℕ) → IsConsistentWith base log l → DataAgree base log l p → l.known ≤ number → number ≤ next_number l → AreAllNoticed log l p number → AreNoticed (cell_of base log) l number }
+    ensures newly { (base : Blocks) (log : List Event) (l : Ledger) (p : PipelineData) (number : ℕ) → IsConsistentWith base log l → DataAgree base log l p → l.known ≤ number → number ≤ next_number l → AreNewlyNoticed log l p number → AreNoticed (cell_of base log) l number }
     ensures knows { (base : Blocks) (log : List Event) (l : Ledger) (p : PipelineData) (number : ℕ) → IsConsistentWith base log l → DataAgree base log l p → l.known ≤ number → DataAgree base log (with_known l number) p }
 {}
 
@@ -73,4 +75,35 @@ pub fn a_reusable_block_is_dead()
 pub fn a_record_joins_the_data()
     ensures knows { (base : Blocks) (old log : List Event) (l : Ledger) (p : PipelineData) (w : WrittenRecord) (m : Blocks) (tickets freed : List ℕ) → IsConsistentWith base old l → DataAgree base log l p → w.says.number ≡ next_number l → HasTickets log (with_record l w m) w tickets → FreshAreNew (with_record l w m) → AreFreed l w m freed
         → DataAgree base log (with_record l w m) (with_committed p l w tickets freed) }
+{}
+
+/// The test of a batch's records, each with the blocks that it freed, finds the blocks that need a
+/// checkpoint write, with their bytes, and no others.
+pub fn the_home_test_is_exact()
+    ensures needs { (base : Blocks) (log : List Event) (l : Ledger) (p : PipelineData) (freed : List (List ℕ)) (b : ℕ) (x : List ℕ) → IsConsistentWith base log l → (k : DataAgree base log l p) → AreFreedBy l freed → l.header.start + p.placed + p.batch ≡ l.header.sure + 1
+        → goes_home None k.batch (take p.batch (drop p.placed freed)) b ≡ Some x → NeedsCheckpoint l k.batch b x }
+    ensures finds { (base : Blocks) (log : List Event) (l : Ledger) (p : PipelineData) (freed : List (List ℕ)) (b : ℕ) (x : List ℕ) → IsConsistentWith base log l → (k : DataAgree base log l p) → AreFreedBy l freed → l.header.start + p.placed + p.batch ≡ l.header.sure + 1
+        → NeedsCheckpoint l k.batch b x → goes_home None k.batch (take p.batch (drop p.placed freed)) b ≡ Some x }
+{}
+
+/// Pairs that wait longer than they have to change nothing.
+pub fn more_may_wait()
+    ensures { (base : Blocks) (log : List Event) (l : Ledger) (p : PipelineData) (many : List (ℕ × ℕ)) → DataAgree base log l p → WaitMore p.waiting many → DataAgree base log l (with_waiting p many) }
+{}
+
+/// The tickets of records that are known may be forgotten.
+pub fn known_tickets_may_go()
+    ensures { (base : Blocks) (log : List Event) (l : Ledger) (p : PipelineData) (tickets : List (List ℕ)) → DataAgree base log l p → SameNewTickets l p.tickets tickets → DataAgree base log l (with_tickets p tickets) }
+{}
+
+/// Of the blocks that are sent fewer may be claimed.
+pub fn fewer_may_be_sent()
+    ensures { (base : Blocks) (log : List Event) (l : Ledger) (p : PipelineData) (n : ℕ) → DataAgree base log l p → n ≤ p.sent → DataAgree base log l (with_sent p n) }
+{}
+
+/// The data's two counts say which records are at their blocks, which are the batch and which come behind it.
+pub fn counts_tell_the_batch()
+    ensures placed { (base : Blocks) (log : List Event) (l : Ledger) (p : PipelineData) → (k : DataAgree base log l p) → k.placed ≡ take p.placed l.records }
+    ensures batch { (base : Blocks) (log : List Event) (l : Ledger) (p : PipelineData) → (k : DataAgree base log l p) → k.batch ≡ take p.batch (drop p.placed l.records) }
+    ensures rest { (base : Blocks) (log : List Event) (l : Ledger) (p : PipelineData) → (k : DataAgree base log l p) → k.rest ≡ drop p.batch (drop p.placed l.records) }
 {}

@@ -1,14 +1,15 @@
 //! Sync points as laws: how they begin with a mounted disk, that the last one is what has been issued, and
 //! that none changes as the log grows.
 
-ghost use Rattle.std.specs.Prelude.{◌≡◌, ◌-◌, ◌≤◌, ℕ, List, ◌++◌, length};
+ghost use Rattle.std.specs.Prelude.{◌≡◌, ◌-◌, ◌≤◌, ℕ, List, ◌++◌, length, IsTrue, Some, None};
 ghost use Rattle.opt_base.specs.Seal.{Blocks};
 ghost use Rattle.opt_disk.specs.declared.event.Event.{Event};
 ghost use Rattle.opt_disk.specs.Cell.{cell_of};
 ghost use Rattle.opt_geom.specs.Geometry.{Geometry};
 ghost use Rattle.opt_journal.specs.declared.header.Header.{Header};
-ghost use Rattle.opt_journal.specs.Run.{live_part, HeldIs};
-ghost use Rattle.opt_crash.specs.Ledger.{Ledger, issued, next_number};
+ghost use Rattle.opt_journal.specs.Run.{is_live, live_part, HeldIs};
+ghost use Rattle.opt_crash.specs.Ledger.{Ledger, IsConsistentWith, cover, issued, next_number};
+ghost use Rattle.opt_crash.specs.PipelineData.{PipelineData, DataAgree};
 ghost use Rattle.opt_crash.specs.Points.{MountedSession, IsMounted, IsPoint, IsSafe, commits, ledger_at_mount, session_at_mount};
 
 use crate::journal::the_journal_is_lawful;
@@ -33,4 +34,19 @@ pub fn all_issued_is_the_last_point()
 pub fn a_point_is_for_ever()
     ensures stays { (s : MountedSession) (base : Blocks) (log more : List Event) (p : ℕ) (m : Blocks) → IsPoint s base log p m → IsPoint s base (log ++ more) p m }
     ensures was { (s : MountedSession) (base : Blocks) (log more : List Event) (p : ℕ) (m : Blocks) → s.mounted ≤ length log → p ≤ commits s.geom s.epoch log → IsPoint s base (log ++ more) p m → IsPoint s base log p m }
+{}
+
+/// A call that begins now begins safe: each image from this moment on stands for a point that is known, or
+/// a later one.
+pub fn a_call_begins_safe()
+    ensures { (s : MountedSession) (base : Blocks) (log : List Event) (l : Ledger) (t floor : ℕ) → IsSafe s base log l t floor → IsSafe s base log l (length log) (l.known - s.first) }
+{
+    the_journal_is_lawful();
+}
+
+/// The newest bytes of a live block are those of its last payload among the records that aren't at their
+/// blocks, or else what was written to it last.
+pub fn the_newest_bytes_are_the_map()
+    ensures payload { (base : Blocks) (log : List Event) (l : Ledger) (p : PipelineData) (b : ℕ) (y : List ℕ) → IsConsistentWith base log l → (k : DataAgree base log l p) → IsTrue (is_live l.geom (l.map_before (next_number l)) b) → cover None (k.batch ++ k.rest) b ≡ Some y → l.map_before (next_number l) b ≡ y }
+    ensures written { (base : Blocks) (log : List Event) (l : Ledger) (p : PipelineData) (b : ℕ) → IsConsistentWith base log l → (k : DataAgree base log l p) → IsTrue (is_live l.geom (l.map_before (next_number l)) b) → cover None (k.batch ++ k.rest) b ≡ None → l.map_before (next_number l) b ≡ issued base log b }
 {}

@@ -1,0 +1,25 @@
+//! How many writes a session makes, as laws: what the sync points account for bounds them, at each kind of
+//! write. Which write is made when isn't said here.
+
+ghost use Rattle.std.specs.Prelude.{◌≡◌, ℕ, ◌+◌, ◌<◌, ◌≤◌, List, Option, Result};
+ghost use Rattle.opt_disk.specs.declared.event.Event.{Event};
+ghost use Rattle.opt_disk.specs.declared.disk.DiskFault.{DiskFault};
+ghost use Rattle.opt_disk.specs.Disk.{AddsWrite, AddsPoll, AddsNotices};
+ghost use Rattle.opt_crash.specs.Counts.{writes_in, WriteCounts, AreWithinSum, counts_at_mount, with_point, with_part, with_home_write, without_payloads, with_header_write, MovesOn};
+
+/// The writes are within what the points account for as a mount ends, and after each write.
+pub fn writes_keep_within_the_sum()
+    ensures begins { (last : ℕ) → AreWithinSum (counts_at_mount last) }
+    ensures point { (c : WriteCounts) (m n d : ℕ) → c.coming ≡ 0 → AreWithinSum c → AreWithinSum (with_point c m n d) }
+    ensures part { (c : WriteCounts) → 0 < c.coming → AreWithinSum c → AreWithinSum (with_part c) }
+    ensures home { (c : WriteCounts) (count : ℕ) → 0 < count → count ≤ c.away → AreWithinSum c → AreWithinSum (with_home_write c count) }
+    ensures fewer { (c : WriteCounts) (count : ℕ) → AreWithinSum c → AreWithinSum (without_payloads c count) }
+    ensures header { (c : WriteCounts) (sure start : ℕ) → MovesOn c sure start → AreWithinSum c → AreWithinSum (with_header_write c sure start) }
+{}
+
+/// Each call of a disk adds one write at most, and only a write adds one.
+pub fn calls_add_at_most_one_write()
+    ensures write { (b : ℕ) (x : List ℕ) (r : Result ℕ DiskFault) (old new : List Event) → AddsWrite b x r old new → writes_in new ≤ writes_in old + 1 }
+    ensures poll { (r : Result (Option ℕ) DiskFault) (old new : List Event) → AddsPoll r old new → writes_in new ≡ writes_in old }
+    ensures wait { (old new : List Event) → AddsNotices old new → writes_in new ≡ writes_in old }
+{}
