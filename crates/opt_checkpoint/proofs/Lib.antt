@@ -1,0 +1,12 @@
+pub mod Lists
+pub mod Notices
+pub mod Durables
+pub mod NextHeaders
+pub mod Turned
+pub mod Homes
+pub mod HomeWrites
+pub mod Accepts
+pub mod Batches
+pub mod BatchRows
+pub mod Expected
+pub mod NoticeRows

@@ -1,0 +1,73 @@
+-- The next header is written beside the durable one.
+use Rattle.std.proofs.Common.{◌≡◌, ◌≢◌, inl, ⊎_elim, ℕ, ◌+◌, ◌-◌, ◌%◌, ◌==◌, ◌||◌, true, List, [], ◌∷◌, ◌++◌, length, Some, refl, sym, ◌∙◌, ap, arith}
+use Rattle.std.proofs.lemmas.Bool.{eq-eqb}
+use Rattle.std.proofs.lemmas.Option.{same_Some}
+use Rattle.opt_base.specs.Seal.{Blocks}
+use Rattle.opt_disk.specs.declared.event.Event.{Event}
+use Rattle.opt_disk.specs.declared.event.Event.TheVariants.{Wrote}
+use Rattle.opt_disk.specs.Cell.{cell_of}
+use Rattle.opt_geom.specs.Geometry.{ring_block}
+use Rattle.opt_journal.specs.declared.header.Header.{Header}
+use Rattle.opt_journal.specs.Ring.{RingPlaces}
+use Rattle.opt_crash.specs.Ledger.{Ledger, IsConsistentWith}
+use Rattle.opt_crash.specs.Steps.{NoneIsBeingWritten, with_header}
+use Rattle.opt_crash.specs.OnePending.{HasOnePending, MayWriteAllFresh}
+use Rattle.opt_crash.specs.PipelineData.{DataAgree, next_header, with_pending}
+use Rattle.opt_notes.specs.Notes.{Expected, is_expected, is_noticed}
+use Rattle.opt_checkpoint.specs.declared.pipeline.Pending.{Pending}
+use Rattle.opt_checkpoint.specs.declared.pipeline.Pipeline.{Pipeline}
+use Rattle.opt_checkpoint.specs.Agree.{PipelineAgrees, IsRecordAt, data_of}
+use Rattle.opt_checkpoint.proofs.Expected.{are_more, home_more, with_one, with_old}
+use Rattle.opt_checkpoint.proofs.Notices.{noticed_before}
+
+-- records stay where they are under another header
+moved : (l : Ledger) (h : Header) (freed : List (List ℕ)) (k number place count : ℕ) (payloads : List Rattle.opt_tx.specs.declared.put.Put.Put) (fresh own : List ℕ) → IsRecordAt l freed k number place count payloads fresh own → IsRecordAt (with_header l h) freed k number place count payloads fresh own
+moved l h freed k number place count payloads fresh own r = record { written = r.written; is = r.is; keeps = r.keeps; freed_is = r.freed_is }
+
+module _ (base : Blocks) (log : List Event) (l : Ledger) (v : Pipeline) (ring : RingPlaces) (waiting : List (ℕ × ℕ)) (taken : List ℕ) (a : PipelineAgrees base log l v ring waiting taken) (keeps : IsConsistentWith base log l)
+    (t : ℕ) (x : List ℕ) (notes : Expected) (expect : (u : ℕ) → is_expected u notes.notes ≡ (t == u || is_expected u v.notes.notes)) (quiet : (u : ℕ) → is_noticed u notes.notes ≡ is_noticed u v.notes.notes)
+    (agree : DataAgree base (log ++ Wrote t (1 - l.slot) x ∷ []) (with_header l (next_header l (length v.placed.items))) (with_pending (data_of v ring waiting) t))
+    (one : HasOnePending base (log ++ Wrote t (1 - l.slot) x ∷ []) (with_header l (next_header l (length v.placed.items))) (with_pending (data_of v ring waiting) t) [])
+    (free : MayWriteAllFresh (log ++ Wrote t (1 - l.slot) x ∷ []) (with_header l (next_header l (length v.placed.items))) (data_of v ring waiting) taken)
+    (idle_wrote : (b : ℕ) → ((place : ℕ) → ring_block l.geom place ≢ b) → NoneIsBeingWritten (cell_of base log) l → NoneIsBeingWritten (cell_of base (log ++ Wrote t b x ∷ [])) l) where
+  abbrev pub header : Header
+  header = next_header l (length v.placed.items)
+
+  abbrev pub next : Pipeline
+  next = record v { next = Some (record { header = header; ticket = t }); notes = notes }
+
+  pub agrees_header : PipelineAgrees base (log ++ Wrote t (1 - l.slot) x ∷ []) (with_header l header) next ring waiting taken
+  agrees_header = record {
+    geom = a.geom;
+    ring_geom = a.ring_geom;
+    slot = a.slot;
+    header = a.header;
+    next = refl;
+    not_closed = λ h st. ⊎_elim (λ e. a.not_closed h (inl e)) (λ e. ap (λ (q : Header). q.closed) (sym (same_Some _ _ e))) st;
+    known = a.known;
+    count = a.count;
+    sure = a.sure;
+    batch = a.batch;
+    freed = a.freed;
+    freed_by = record { count = a.freed_by.count; killed = a.freed_by.killed; dead = a.freed_by.dead };
+    placed_at = a.placed_at;
+    sure_at = λ k s is. moved l header a.freed _ s.number s.place s.count s.payloads.items s.fresh.items s.freed.items (a.sure_at k s is);
+    durable_at = λ k s is. moved l header a.freed _ s.number s.place s.count s.payloads.items s.fresh.items s.freed.items (a.durable_at k s is);
+    committed_at = λ k s is. moved l header a.freed _ s.number s.place s.count s.payloads.items s.fresh.items s.freed.items (a.committed_at k s is);
+    agree = agree;
+    notes = λ u e. noticed_before u log (Wrote t (1 - l.slot) x) (a.notes u (sym (quiet u) ∙ e));
+    expected = record {
+      records = λ k c is. are_more c.tickets.items v.notes.notes notes.notes more (a.expected.records k c is);
+      home = home_more v.home.items v.notes.notes notes.notes more a.expected.home;
+      header = λ q is. expect q.ticket ∙ with_one t q.ticket (is_expected q.ticket v.notes.notes) (eq-eqb t q.ticket (ap (λ (p : Pending). p.ticket) (same_Some _ _ is)));
+    };
+    free = free;
+    idle = record { each = (idle_wrote (1 - l.slot) (λ place same. slot_apart l.slot (place % l.geom.j) same) a.idle).each };
+    one = one;
+  }
+    where
+      more : (u : ℕ) → is_expected u v.notes.notes ≡ true → is_expected u notes.notes ≡ true
+      more u e = expect u ∙ with_old (t == u) (is_expected u v.notes.notes) e
+
+      slot_apart : (s k : ℕ) → 2 + k ≡ 1 - s → ⊥
+      slot_apart s k e = omega (arith, e)

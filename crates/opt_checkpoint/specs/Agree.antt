@@ -1,0 +1,131 @@
+-- What the pipeline keeps: its own data agree with the ledger, and with what the crash argument asks for. It is told in docs/PIPELINE.md.
+use Rattle.std.specs.Prelude.{◌≡◌, ℕ, zero, suc, ◌+◌, ◌≤◌, nat_lt, true, false, IsTrue, if◌then◌else◌, List, [], ◌∷◌, ◌++◌, length, map, slice_get, Some, option_map}
+use Rattle.opt_base.specs.Seal.{Blocks}
+use Rattle.opt_disk.specs.declared.event.Event.{Event}
+use Rattle.opt_disk.specs.Cell.{cell_of, IsNoticed}
+use Rattle.opt_journal.specs.declared.header.Header.{Header}
+use Rattle.opt_journal.specs.Ring.{RingPlaces}
+use Rattle.opt_geom.specs.Geometry.{data_start}
+use Rattle.opt_journal.specs.Run.{places, names_block, is_live}
+use Rattle.opt_crash.specs.Ledger.{Ledger, WrittenRecord, IsStanding, payload_in, next_number}
+use Rattle.opt_crash.specs.Steps.{NoneIsBeingWritten}
+use Rattle.opt_crash.specs.HomeTest.{is_one_of, AreFreedBy}
+use Rattle.opt_crash.specs.OnePending.{HasOnePending, MayWriteAllFresh}
+use Rattle.opt_crash.specs.PipelineData.{PipelineData, DataAgree}
+use Rattle.opt_notes.specs.declared.notes.Note.{Note}
+use Rattle.opt_notes.specs.Notes.{is_expected, is_noticed, are_expected}
+use Rattle.opt_tx.specs.declared.put.Put.{Put}
+use Rattle.opt_tx.specs.Rows.{put_of}
+use Rattle.opt_tx.specs.declared.commit.Committed.{Committed}
+use Rattle.opt_tx.specs.declared.states.Durable.{Durable}
+use Rattle.opt_tx.specs.declared.states.Sure.{Sure}
+use Rattle.opt_tx.specs.declared.states.Placed.{Placed}
+use Rattle.opt_checkpoint.specs.declared.pipeline.Pending.{Pending}
+use Rattle.opt_checkpoint.specs.declared.pipeline.HomeWrite.{HomeWrite}
+use Rattle.opt_checkpoint.specs.declared.pipeline.Pipeline.{Pipeline}
+
+abbrev pub header_in : Pending → Header
+header_in p = p.header
+
+abbrev pub ticket_in : Pending → ℕ
+ticket_in p = p.ticket
+
+abbrev pub home_pair : HomeWrite → ℕ × ℕ
+home_pair h = (h.block, h.ticket)
+
+abbrev pub home_ticket : HomeWrite → ℕ
+home_ticket h = h.ticket
+
+-- so many records whose tickets are forgotten
+abbrev pub no_tickets : ℕ → List (List ℕ)
+no_tickets zero = []
+no_tickets (suc n) = [] ∷ no_tickets n
+
+abbrev pub tickets_in : Committed → List ℕ
+tickets_in c = c.tickets.items
+
+-- how many of its records are known to be durable
+abbrev pub durable_count : Pipeline → ℕ
+durable_count v = length v.placed.items + length v.sure.items + length v.durable.items
+
+-- the data of a pipeline, its ring and the freed blocks that wait, as the crash argument speaks of them
+abbrev pub data_of : Pipeline → RingPlaces → List (ℕ × ℕ) → PipelineData
+data_of v ring waiting = record {
+  tickets = no_tickets (durable_count v) ++ map tickets_in v.committed.items;
+  placed = length v.placed.items;
+  batch = v.batch;
+  home = map home_pair v.home.items;
+  sent = if nat_lt 0 v.batch then v.geom.n else 0;
+  pending = option_map ticket_in v.next;
+  next_place = ring.next;
+  taken = ring.taken;
+  waiting = waiting;
+}
+
+-- what a state keeps of its record
+pub record KeepsRecord (w : WrittenRecord) (number place count : ℕ) (payloads : List Put) (fresh : List ℕ) : Type 0 where
+  pub number_is : w.says.number ≡ number
+  pub place_is : w.says.place ≡ place
+  pub count_is : places w.says ≡ count
+  pub paid : (b : ℕ) → payload_in w b ≡ put_of b payloads
+  pub laid : (b : ℕ) → names_block w.says.fresh b ≡ is_one_of b fresh
+
+-- the record at this place of the ledger, and the blocks that it freed
+pub record IsRecordAt (l : Ledger) (freed : List (List ℕ)) (k number place count : ℕ) (payloads : List Put) (fresh own_freed : List ℕ) : Type 0 where
+  pub written : WrittenRecord
+  pub is : slice_get l.records k ≡ Some written
+  pub keeps : KeepsRecord written number place count payloads fresh
+  pub freed_is : slice_get freed k ≡ Some own_freed
+
+-- each ticket that the notes call noticed is noticed
+abbrev pub NotesAreTrue : List Event → List Note → Type 0
+NotesAreTrue log notes = (t : ℕ) → is_noticed t notes ≡ true → IsNoticed t log
+
+-- these are the blocks that the next record frees, where m is the map after it: each data block that it kills is among them, and each of them is dead after it
+pub record HasFreed (l : Ledger) (m : Blocks) (freed : List ℕ) : Type 0 where
+  pub killed : (b : ℕ) → data_start l.geom ≤ b → IsTrue (is_live l.geom (l.map_before (next_number l)) b) → is_live l.geom m b ≡ false → is_one_of b freed ≡ true
+  pub dead : (b : ℕ) → is_one_of b freed ≡ true → is_live l.geom m b ≡ false
+
+-- each of these puts is of a block that the transaction took
+abbrev pub AreTaken : List Put → List ℕ → Type 0
+AreTaken laid taken = (i : ℕ) (q : Put) → slice_get laid i ≡ Some q → is_one_of q.block taken ≡ true
+
+-- each of these checkpoint writes is expected by the notes
+abbrev pub AreExpectedHome : List HomeWrite → List Note → Type 0
+AreExpectedHome home notes = (k : ℕ) (h : HomeWrite) → slice_get home k ≡ Some h → is_expected h.ticket notes ≡ true
+
+-- each open ticket is expected by the notes: those of committed records, of checkpoint writes and of the header that isn't known to be durable
+pub record OpenAreExpected (v : Pipeline) : Type 0 where
+  pub records : (k : ℕ) (c : Committed) → slice_get v.committed.items k ≡ Some c → are_expected c.tickets.items v.notes.notes ≡ true
+  pub home : AreExpectedHome v.home.items v.notes.notes
+  pub header : (q : Pending) → v.next ≡ Some q → is_expected q.ticket v.notes.notes ≡ true
+
+-- What each step of the pipeline keeps, beside that the disk is safe with this ledger. `waiting` are the freed blocks that wait, and `taken` the blocks that the running transaction took.
+pub record PipelineAgrees (base : Blocks) (log : List Event) (l : Ledger) (v : Pipeline) (ring : RingPlaces) (waiting : List (ℕ × ℕ)) (taken : List ℕ) : Type 0 where
+  -- the headers
+  pub geom : v.geom ≡ l.geom
+  pub ring_geom : ring.geom ≡ l.geom
+  pub slot : v.slot ≡ l.slot
+  pub header : v.header ≡ l.header
+  pub next : l.next ≡ option_map header_in v.next
+  pub not_closed : (h : Header) → IsStanding l h → h.closed ≡ false
+  -- the records: placed ones, sure ones of which the first are the batch, durable ones, committed ones
+  pub known : l.known ≡ l.header.start + durable_count v
+  pub count : length l.records ≡ durable_count v + length v.committed.items
+  pub sure : l.header.start + length v.placed.items + length v.sure.items ≡ l.header.sure + 1
+  pub batch : v.batch ≤ length v.sure.items
+  pub freed : List (List ℕ)
+  pub freed_by : AreFreedBy l freed
+  pub placed_at : (k : ℕ) (t : Placed) → slice_get v.placed.items k ≡ Some t → (w : WrittenRecord) × (slice_get l.records k ≡ Some w) × (w.says.number ≡ t.number) × (places w.says ≡ t.count)
+  pub sure_at : (k : ℕ) (t : Sure) → slice_get v.sure.items k ≡ Some t → IsRecordAt l freed (length v.placed.items + k) t.number t.place t.count t.payloads.items t.fresh.items t.freed.items
+  pub durable_at : (k : ℕ) (t : Durable) → slice_get v.durable.items k ≡ Some t → IsRecordAt l freed (length v.placed.items + length v.sure.items + k) t.number t.place t.count t.payloads.items t.fresh.items t.freed.items
+  pub committed_at : (k : ℕ) (t : Committed) → slice_get v.committed.items k ≡ Some t → IsRecordAt l freed (durable_count v + k) t.number t.place t.count t.payloads.items t.fresh.items t.freed.items
+  -- tickets, the batch's writes, the ring and the freed blocks, for crashes
+  pub agree : DataAgree base log l (data_of v ring waiting)
+  pub notes : NotesAreTrue log v.notes.notes
+  pub expected : OpenAreExpected v
+  -- no record is under way, and no block has two writes pending
+  pub idle : NoneIsBeingWritten (cell_of base log) l
+  pub one : HasOnePending base log l (data_of v ring waiting) []
+  -- the blocks that the running transaction took may be written fresh still
+  pub free : MayWriteAllFresh log l (data_of v ring waiting) taken

@@ -1,0 +1,70 @@
+//! A commit that goes into the pipeline: the heart of a sync whose record fits the ring. When to commit, and
+//! how places come free, isn't said here.
+
+ghost use Rattle.std.specs.Prelude.{◌≡◌, ◌≤◌, ◌<◌, ◌+◌, ◌++◌, ◌⊎◌, ◌-◌, ◌^◌, ℕ, List, length, IsTrue, OnOk, IfErr, vec_len, vec_capacity};
+ghost use Rattle.opt_base.specs.Seal.{Blocks};
+ghost use Rattle.opt_disk.specs.Disk.{SameDisk};
+ghost use Rattle.opt_journal.specs.Ring.{with_places};
+ghost use Rattle.opt_journal.specs.Run.{places};
+ghost use Rattle.opt_crash.specs.Ledger.{Ledger};
+ghost use Rattle.opt_crash.specs.PipelineData.{pairs_of};
+ghost use Rattle.opt_crash.specs.Points.{MountedSession, IsSafe};
+ghost use Rattle.opt_tx.specs.declared.commit.Committed.{Committed};
+ghost use Rattle.opt_tx.specs.Record.{record_of, written_of, AreBelow, IsTransaction};
+ghost use Rattle.opt_tx.specs.Commits.{IsCommitOf, WhereNoMemory, WhereDiskFault};
+ghost use Rattle.opt_tx.specs.Writes.{AddsWrites, record_writes};
+ghost use Rattle.opt_checkpoint.specs.Agree.{PipelineAgrees, HasFreed, AreTaken};
+ghost use Rattle.opt_checkpoint.specs.Steps.{Accepts, CommitNextLeaves, WhereFront};
+
+use crate::{Pipeline, accept};
+use opt_disk::Disk;
+use opt_journal::Ring;
+use opt_tx::{CommitRefusal, Running, noticed_tickets_stay_so};
+use std::alloc::Global;
+
+/// Commits the running transaction as the next record, and takes it into the pipeline. Nothing is waited for.
+///
+/// # Errors
+/// The transaction comes back, with why, and the pipeline is as it was. Where memory was wanted, nothing was
+/// written. Where the disk failed, what a crash leaves is still one sync point, and the ring's places stay
+/// taken.
+pub fn commit_next<D: Disk>(
+    alloc: Global,
+    disk: &mut D,
+    ring: &mut Ring,
+    pipeline: &mut Pipeline,
+    running: Running,
+    epoch: u64,
+    number: u64,
+) -> Result<(), (Running, CommitRefusal)>
+    requires some { 0 < length running.paid.items }
+    requires small { length running.paid.items + length running.laid.items ≤ 2097152 }
+    requires on_disk { (D.state disk.old).blocks ≡ ring.old.geom.n }
+    requires free { ring.old.taken + places (record_of 0 0 running.paid.items running.laid.items) ≤ ring.old.geom.j }
+    requires below { AreBelow (D.state disk.old).blocks running.laid.items }
+    requires room { vec_len pipeline.old.committed < vec_capacity pipeline.old.committed }
+    requires tickets { length running.laid.items + places (record_of 0 0 running.paid.items running.laid.items) ≤ pipeline.old.notes.room }
+    ensures agrees { IsTrue D.tells → (s : MountedSession) (l : Ledger) (m : Blocks) (t floor : ℕ) (waiting : List (ℕ × ℕ)) (taken : List ℕ) → IsSafe s (D.state disk.old).base (D.state disk.old).log l t floor → PipelineAgrees (D.state disk.old).base (D.state disk.old).log l pipeline.old ring.old waiting taken
+        → IsTransaction l epoch number ring.old.next running.paid.items running.laid.items m → AreTaken running.laid.items taken → HasFreed l m running.freed.items
+        → CommitNextLeaves s l (written_of epoch number ring.old.next running.paid.items running.laid.items) m t floor result (D.state disk.new).base (D.state disk.new).log pipeline.new ring.new (waiting ++ pairs_of number running.freed.items) }
+    ensures joins { OnOk result ((c : Committed) × IsCommitOf running number ring.old.next c × Accepts c pipeline.old pipeline.new × (IsTrue D.tells → AddsWrites (record_writes ring.old.geom epoch number ring.old.next running.paid.items running.laid.items) c.tickets.items (D.state disk.old).log (D.state disk.new).log)) }
+    ensures back { IfErr result (λ (back, why). (back ≡ running) × (pipeline.new ≡ pipeline.old)) }
+    ensures nothing { IfErr result (λ (back, why). WhereNoMemory why ((disk.new ≡ disk.old) × (ring.new ≡ ring.old))) }
+    ensures ring { OnOk result (ring.new ≡ with_places ring.old (places (record_of 0 0 running.paid.items running.laid.items))) }
+    ensures places { IfErr result (λ (back, why). WhereDiskFault why (ring.new ≡ with_places ring.old (places (record_of 0 0 running.paid.items running.laid.items)))) }
+    ensures front { IsTrue D.tells → IfErr result (λ (back, why). WhereFront why (record_writes ring.old.geom epoch number ring.old.next running.paid.items running.laid.items) (D.state disk.old).log (D.state disk.new).log) }
+    ensures same { SameDisk (D.state disk.old) (D.state disk.new) }
+    ensures cause { IfErr result (λ (back, why). WhereDiskFault why (((D.state disk.old).faults < (D.state disk.new).faults) ⊎ ((D.state disk.new).faults ≡ 2 ^ 64 - 1))) }
+    ensures counted { (D.state disk.old).faults ≤ (D.state disk.new).faults }
+    ensures waits { (D.state disk.new).waits ≡ (D.state disk.old).waits }
+    ensures polls { (D.state disk.new).polls ≡ (D.state disk.old).polls }
+    ensures read_faults { (D.state disk.new).read_faults ≡ (D.state disk.old).read_faults }
+{
+    noticed_tickets_stay_so();
+    let committed = match running.commit(alloc, disk, ring, epoch, number) {
+        Ok(committed) => committed,
+        Err(refused) => return Err(refused),
+    };
+    accept(pipeline, committed);
+    Ok(())
+}

@@ -1,0 +1,13 @@
+pub mod Forms
+pub mod Spelled
+pub mod Logs
+pub mod Parts
+pub mod Outcomes
+pub mod RowSteps
+pub mod RowOrder
+pub mod Numbers
+pub mod Sizes
+pub mod OnePending
+pub mod KeepsOne
+pub mod Puts
+pub mod Stays

@@ -1,0 +1,24 @@
+use Rattle.std.proofs.Common.{◌≡◌, ◌≤◌, ◌+◌, ℕ, IsTrue, length, vec_len, vec_capacity}
+use Rattle.opt_base.specs.Seal.{Blocks}
+use Rattle.opt_journal.specs.Layout.{descriptor_count}
+use Rattle.opt_journal.specs.Run.{places}
+use Rattle.opt_crash.specs.Ledger.{Ledger, WrittenRecord}
+use Rattle.opt_crash.specs.Points.{MountedSession, IsSafe}
+use Rattle.opt_crash.specs.LastWrites.{FreshAreNew}
+use Rattle.opt_crash.specs.PipelineData.{PipelineData}
+use Rattle.opt_crash.specs.Recording.{IsNextRecord, IsPartlyWritten}
+use Rattle.opt_tx.specs.Record.{AreParts, record_of, descriptor_blocks}
+use Rattle.opt_tx.specs.Writes.{WritesSoFar, HasWritten, ring_writes}
+use Rattle.opt_tx.proofs.writes.issue_descriptors.Given as goal
+
+abbrev pub invariant-loop-index : goal.invariant-loop-index
+invariant-loop-index g l = record {
+  only : WritesSoFar (g.D.Disk.state l.fn.disk) (g.D.Disk.state l.disk);
+  taken : vec_len l.tickets ≡ vec_len l.fn.tickets + l.index;
+  capacity : vec_capacity l.fn.tickets ≤ vec_capacity l.tickets;
+  log : IsTrue g.D.Disk.tells → HasWritten (ring_writes l.geom (l.place + 1) (descriptor_blocks l.epoch (record_of l.number 0 l.paid l.laid))) l.index l.fn.tickets.items l.tickets.items (g.D.Disk.state l.fn.disk).log (g.D.Disk.state l.disk).log;
+  under_way : IsTrue g.D.Disk.tells → (s : MountedSession) (k : Ledger) (p : PipelineData) (w : WrittenRecord) (m : Blocks) (t floor laid_so_far : ℕ) → FreshAreNew k → IsNextRecord k w m
+      → l.geom ≡ k.geom → l.place ≡ w.says.place → AreParts w 1 (descriptor_blocks l.epoch (record_of l.number 0 l.paid l.laid)) → 1 + descriptor_count (length l.paid + length l.laid) ≤ places w.says
+      → IsSafe s (g.D.Disk.state l.fn.disk).base (g.D.Disk.state l.fn.disk).log k t floor → IsPartlyWritten (g.D.Disk.state l.fn.disk).base (g.D.Disk.state l.fn.disk).log k p w l.fn.tickets.items laid_so_far 1
+      → IsSafe s (g.D.Disk.state l.disk).base (g.D.Disk.state l.disk).log k t floor × IsPartlyWritten (g.D.Disk.state l.disk).base (g.D.Disk.state l.disk).log k p w l.tickets.items laid_so_far (1 + l.index);
+}

@@ -1,0 +1,21 @@
+use Rattle.std.proofs.Common.{◌≡◌, ◌≤◌, ◌+◌, ℕ, IsTrue, map, vec_len, vec_capacity}
+use Rattle.opt_base.specs.Seal.{Blocks}
+use Rattle.opt_crash.specs.Ledger.{Ledger, WrittenRecord}
+use Rattle.opt_crash.specs.Points.{MountedSession, IsSafe}
+use Rattle.opt_crash.specs.LastWrites.{FreshAreNew}
+use Rattle.opt_crash.specs.PipelineData.{PipelineData}
+use Rattle.opt_crash.specs.Recording.{IsNextRecord, IsPartlyWritten}
+use Rattle.opt_tx.specs.Record.{AreLaid}
+use Rattle.opt_tx.specs.Writes.{WritesSoFar, HasWritten, fresh_write}
+use Rattle.opt_tx.proofs.writes.issue_fresh.Given as goal
+
+abbrev pub invariant-loop-put : goal.invariant-loop-put
+invariant-loop-put g l = record {
+  only : WritesSoFar (g.D.Disk.state l.fn.disk) (g.D.Disk.state l.disk);
+  taken : vec_len l.tickets ≡ vec_len l.fn.tickets + l.put-index;
+  capacity : vec_capacity l.fn.tickets ≤ vec_capacity l.tickets;
+  log : IsTrue g.D.Disk.tells → HasWritten (map fresh_write l.laid) l.put-index l.fn.tickets.items l.tickets.items (g.D.Disk.state l.fn.disk).log (g.D.Disk.state l.disk).log;
+  under_way : IsTrue g.D.Disk.tells → (s : MountedSession) (k : Ledger) (p : PipelineData) (w : WrittenRecord) (m : Blocks) (t floor issued : ℕ) → FreshAreNew k → IsNextRecord k w m → AreLaid l.laid w
+      → IsSafe s (g.D.Disk.state l.fn.disk).base (g.D.Disk.state l.fn.disk).log k t floor → IsPartlyWritten (g.D.Disk.state l.fn.disk).base (g.D.Disk.state l.fn.disk).log k p w l.fn.tickets.items 0 issued
+      → IsSafe s (g.D.Disk.state l.disk).base (g.D.Disk.state l.disk).log k t floor × IsPartlyWritten (g.D.Disk.state l.disk).base (g.D.Disk.state l.disk).log k p w l.tickets.items l.put-index issued;
+}

@@ -1,0 +1,147 @@
+//! The commit of the running transaction, as one record of the journal. Nothing is waited for.
+
+ghost use Rattle.std.specs.Prelude.{◌≡◌, ◌≤◌, ◌<◌, ◌+◌, ◌-◌, ◌^◌, ◌⊎◌, ℕ, List, [], length, map, IsTrue, IfErr, IfOk, OnOk};
+ghost use Rattle.opt_base.specs.Seal.{Blocks};
+ghost use Rattle.opt_disk.specs.Cell.{cell_of};
+ghost use Rattle.opt_disk.specs.Disk.{SameDisk};
+ghost use Rattle.opt_journal.specs.Run.{places};
+ghost use Rattle.opt_journal.specs.Ring.{with_places};
+ghost use Rattle.opt_crash.specs.Ledger.{Ledger};
+ghost use Rattle.opt_crash.specs.OnePending.{HasOnePending};
+ghost use Rattle.opt_crash.specs.Steps.{NoneIsBeingWritten};
+ghost use Rattle.opt_crash.specs.Points.{MountedSession, IsSafe};
+ghost use Rattle.opt_crash.specs.PipelineData.{PipelineData, DataAgree};
+ghost use Rattle.opt_tx.specs.declared.put.Put.{Put};
+ghost use Rattle.opt_tx.specs.Record.{record_of, written_of, block_of, AreBelow, IsTransaction};
+ghost use Rattle.opt_tx.specs.Writes.{record_writes};
+ghost use Rattle.opt_tx.specs.Commits.{CommitLeaves, CommitAdds, IsCommitOf, WhereNoMemory, WhereDiskFault, CommitKeepsOne, AreNotOnTheirWay};
+
+use crate::{Put, Running, issue_record};
+use opt_base::NoMemory;
+use opt_crash::{
+    a_write_to_an_idle_block_is_the_one, blocks_to_be_written_are_idle, one_write_is_pending,
+    one_write_stays_pending, records_stand_in_order,
+};
+use opt_disk::Disk;
+use opt_journal::{
+    Ring, descriptor_count, entries_that_fit_keep_to_the_disk, journal_blocks_read_back,
+    payloads_read_back,
+};
+use std::alloc::Global;
+
+/// Why a transaction wasn't committed.
+#[derive(Clone, Copy, Debug, PartialEq, Eq)]
+pub enum CommitRefusal {
+    /// No memory was found. Nothing was written.
+    NoMemory,
+    /// A write failed, which the disk has counted. What a crash leaves is still one sync point.
+    DiskFault,
+}
+
+/// A transaction that is issued as a record: its number, its ring places, the tickets of its writes, its
+/// payloads ascending by block, and its fresh and freed blocks.
+#[derive(Debug, Drop)]
+pub struct Committed {
+    pub number: u64,
+    pub place: u32,
+    pub count: u32,
+    pub tickets: Vec<u64>,
+    pub payloads: Vec<Put>,
+    pub fresh: Vec<u32>,
+    pub freed: Vec<u32>,
+}
+
+/// How many ring places a record of so many payloads and fresh blocks takes.
+pub fn places_of(payloads: u32, fresh: u32) -> u32
+    requires { payloads + fresh ≤ 2097152 }
+    ensures { (number place : ℕ) (paid laid : List Put) → length paid ≡ payloads → length laid ≡ fresh → result ≡ places (record_of number place paid laid) }
+{
+    1 + descriptor_count(payloads + fresh) + payloads
+}
+
+/// The numbers of these puts' blocks.
+fn numbers_of(alloc: Global, puts: &[Put]) -> Result<Vec<u32>, NoMemory>
+    ensures { IfOk result (λ numbers. numbers.items ≡ map block_of puts.now) }
+{
+    let mut numbers = Vec::new(alloc);
+    for put in puts {
+        numbers.push(put.block)?;
+    }
+    Ok(numbers)
+}
+
+impl Running {
+    /// Issues the transaction as the record of this number. All memory is taken before the first write,
+    /// and no write is waited for.
+    ///
+    /// # Errors
+    /// The transaction comes back, with why. After a fault of the disk the ring's places stay taken.
+    pub fn commit<D: Disk>(
+        self,
+        alloc: Global,
+        disk: &mut D,
+        ring: &mut Ring,
+        epoch: u64,
+        number: u64,
+    ) -> Result<Committed, (Running, CommitRefusal)>
+        requires some { 0 < length self.paid.items }
+        requires small { length self.paid.items + length self.laid.items ≤ 2097152 }
+        requires on_disk { (D.state disk.old).blocks ≡ ring.old.geom.n }
+        requires free { ring.old.taken + places (record_of 0 0 self.paid.items self.laid.items) ≤ ring.old.geom.j }
+        requires below { AreBelow (D.state disk.old).blocks self.laid.items }
+        ensures leaves { IsTrue D.tells → (s : MountedSession) (l : Ledger) (p : PipelineData) (m : Blocks) (t floor : ℕ) → ring.old.geom ≡ l.geom → IsTransaction l epoch number ring.old.next self.paid.items self.laid.items m
+            → NoneIsBeingWritten (cell_of (D.state disk.old).base (D.state disk.old).log) l → DataAgree (D.state disk.old).base (D.state disk.old).log l p → IsSafe s (D.state disk.old).base (D.state disk.old).log l t floor
+            → CommitLeaves s l p (written_of epoch number ring.old.next self.paid.items self.laid.items) m t floor result (D.state disk.new).base (D.state disk.new).log }
+        ensures log { IsTrue D.tells → CommitAdds (record_writes ring.old.geom epoch number ring.old.next self.paid.items self.laid.items) result (D.state disk.old).log (D.state disk.new).log }
+        ensures one { IsTrue D.tells → (s : MountedSession) (l : Ledger) (p : PipelineData) (m : Blocks) (t floor : ℕ) → ring.old.geom ≡ l.geom → IsTransaction l epoch number ring.old.next self.paid.items self.laid.items m
+            → DataAgree (D.state disk.old).base (D.state disk.old).log l p → IsSafe s (D.state disk.old).base (D.state disk.old).log l t floor → HasOnePending (D.state disk.old).base (D.state disk.old).log l p [] → AreNotOnTheirWay (D.state disk.old).log p self.laid.items
+            → CommitKeepsOne l p (written_of epoch number ring.old.next self.paid.items self.laid.items) m result (D.state disk.new).base (D.state disk.new).log }
+        ensures made { IfOk result (IsCommitOf self number ring.old.next) }
+        ensures back { IfErr result (λ (running, why). running ≡ self) }
+        ensures nothing { IfErr result (λ (running, why). WhereNoMemory why ((disk.new ≡ disk.old) × (ring.new ≡ ring.old))) }
+        ensures ring { OnOk result (ring.new ≡ with_places ring.old (places (record_of 0 0 self.paid.items self.laid.items))) }
+        ensures places { IfErr result (λ (running, why). WhereDiskFault why (ring.new ≡ with_places ring.old (places (record_of 0 0 self.paid.items self.laid.items)))) }
+        ensures same { SameDisk (D.state disk.old) (D.state disk.new) }
+        ensures cause { IfErr result (λ (running, why). WhereDiskFault why (((D.state disk.old).faults < (D.state disk.new).faults) ⊎ ((D.state disk.new).faults ≡ 2 ^ 64 - 1))) }
+        ensures counted { (D.state disk.old).faults ≤ (D.state disk.new).faults }
+        ensures waits { (D.state disk.new).waits ≡ (D.state disk.old).waits }
+        ensures polls { (D.state disk.new).polls ≡ (D.state disk.old).polls }
+        ensures read_faults { (D.state disk.new).read_faults ≡ (D.state disk.old).read_faults }
+    {
+        payloads_read_back();
+        journal_blocks_read_back();
+        records_stand_in_order();
+        one_write_is_pending();
+        blocks_to_be_written_are_idle();
+        a_write_to_an_idle_block_is_the_one();
+        one_write_stays_pending();
+        entries_that_fit_keep_to_the_disk();
+        ring.lawful();
+        let geom = ring.geom();
+        geom.lawful();
+        let paid = self.paid.as_slice();
+        let laid = self.laid.as_slice();
+        let count = places_of(paid.len() as u32, laid.len() as u32);
+        let mut tickets = match Vec::with_capacity(alloc, laid.len() + count as usize) {
+            Ok(tickets) => tickets,
+            Err(_) => return Err((self, CommitRefusal::NoMemory)),
+        };
+        let fresh = match numbers_of(alloc, laid) {
+            Ok(fresh) => fresh,
+            Err(_) => return Err((self, CommitRefusal::NoMemory)),
+        };
+        let place = ring.take(count);
+        if issue_record(disk, &geom, epoch, number, place, paid, laid, &mut tickets).is_err() {
+            return Err((self, CommitRefusal::DiskFault));
+        }
+        Ok(Committed {
+            number,
+            place,
+            count,
+            tickets,
+            payloads: self.paid,
+            fresh,
+            freed: self.freed,
+        })
+    }
+}

@@ -1,0 +1,24 @@
+//! The running transaction, and its commit as one record of the journal: all of the record's writes are
+//! issued at once, and none is waited for. When to commit, and what is done with a record later, isn't
+//! its matter.
+#![tactic(auto)]
+
+mod commit;
+mod entries;
+mod laws;
+mod put;
+mod rows;
+mod running;
+mod states;
+mod writes;
+
+pub use commit::{CommitRefusal, Committed, places_of};
+pub use entries::{descriptor_at, entry_at};
+pub use laws::{
+    a_record_keeps_its_puts, a_record_makes_so_many_writes, noticed_tickets_stay_so,
+    writes_join_a_log_one_by_one,
+};
+pub use put::{Class, Put};
+pub use running::Running;
+pub use states::{Durable, Placed, Released, Sure};
+pub use writes::{issue_descriptors, issue_fresh, issue_payloads, issue_record};

@@ -1,0 +1,153 @@
+//! What becomes of a committed transaction: durable, sure, placed, released, in this order. Each step uses
+//! the state up and tests its condition; where the condition isn't met the state comes back as it was.
+//! What the conditions mean for a crash isn't said here.
+
+ghost use Rattle.std.specs.Prelude.{◌≡◌, ◌<◌, ◌≤◌, ◌&&◌, nat_le, nat_lt, is_ok, IfOk, IfErr};
+ghost use Rattle.opt_notes.specs.Notes.{are_noticed};
+ghost use Rattle.opt_tx.specs.States.{IsDurableOf, IsSureOf, IsPlacedOf, IsReleasedOf};
+
+use crate::{Committed, Put};
+use opt_notes::Notes;
+
+/// All of the record is noticed.
+#[derive(Debug, Drop)]
+pub struct Durable {
+    pub number: u64,
+    pub place: u32,
+    pub count: u32,
+    pub payloads: Vec<Put>,
+    pub fresh: Vec<u32>,
+    pub freed: Vec<u32>,
+}
+
+/// A durable header says that the record is durable.
+#[derive(Debug, Drop)]
+pub struct Sure {
+    pub number: u64,
+    pub place: u32,
+    pub count: u32,
+    pub payloads: Vec<Put>,
+    pub fresh: Vec<u32>,
+    pub freed: Vec<u32>,
+}
+
+/// The record's payloads are at their blocks.
+#[derive(Debug, PartialEq, Eq, Drop)]
+pub struct Placed {
+    pub number: u64,
+    pub place: u32,
+    pub count: u32,
+}
+
+/// A durable header starts past the record.
+#[derive(Debug, PartialEq, Eq, Drop)]
+pub struct Released {
+    pub place: u32,
+    pub count: u32,
+}
+
+impl Committed {
+    /// The durable state, where all tickets are noticed.
+    ///
+    /// # Errors
+    /// A ticket isn't noticed.
+    pub fn settled(self, notes: &Notes) -> Result<Durable, Committed>
+        ensures exact { is_ok result ≡ are_noticed self.tickets.items notes.now.notes }
+        ensures ok { IfOk result (IsDurableOf self) }
+        ensures back { IfErr result (λ tx. tx ≡ self) }
+    {
+        if !notes.all_noticed(self.tickets.as_slice()) {
+            return Err(self);
+        }
+        let Committed {
+            number,
+            place,
+            count,
+            tickets: _,
+            payloads,
+            fresh,
+            freed,
+        } = self;
+        Ok(Durable {
+            number,
+            place,
+            count,
+            payloads,
+            fresh,
+            freed,
+        })
+    }
+}
+
+impl Durable {
+    /// The sure state, where a header's `sure` reaches the record.
+    ///
+    /// # Errors
+    /// It doesn't.
+    pub fn sured(self, sure: u64) -> Result<Sure, Durable>
+        ensures exact { is_ok result ≡ nat_le self.number sure }
+        ensures ok { IfOk result (IsSureOf self) }
+        ensures back { IfErr result (λ tx. tx ≡ self) }
+    {
+        if sure < self.number {
+            return Err(self);
+        }
+        let Durable {
+            number,
+            place,
+            count,
+            payloads,
+            fresh,
+            freed,
+        } = self;
+        Ok(Sure {
+            number,
+            place,
+            count,
+            payloads,
+            fresh,
+            freed,
+        })
+    }
+}
+
+impl Sure {
+    /// The placed state, where all checkpoint writes of its batch are noticed.
+    ///
+    /// # Errors
+    /// One isn't noticed.
+    pub fn placed(self, notes: &Notes, home: &[u64]) -> Result<Placed, Sure>
+        ensures exact { is_ok result ≡ are_noticed home.now notes.now.notes }
+        ensures ok { IfOk result (IsPlacedOf self) }
+        ensures back { IfErr result (λ tx. tx ≡ self) }
+    {
+        if !notes.all_noticed(home) {
+            return Err(self);
+        }
+        Ok(Placed {
+            number: self.number,
+            place: self.place,
+            count: self.count,
+        })
+    }
+}
+
+impl Placed {
+    /// The released state, where a header's `start` is past the record.
+    ///
+    /// # Errors
+    /// It isn't.
+    pub fn released(self, start: u64) -> Result<Released, Placed>
+        ensures exact { is_ok result ≡ nat_lt self.number start }
+        ensures ok { IfOk result (IsReleasedOf self) }
+        ensures back { IfErr result (λ tx. tx ≡ self) }
+    {
+        if start <= self.number {
+            return Err(self);
+        }
+        Ok(Released {
+            place: self.place,
+            count: self.count,
+        })
+    }
+}
