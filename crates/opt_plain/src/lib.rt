@@ -3,19 +3,17 @@
 //! the recovery of the file system is compared with it. It reads and writes no disk.
 #![tactic(auto)]
 
+mod described;
 mod image;
 mod newest;
-mod order;
-mod record;
 mod recovered;
 mod replay;
 mod run;
 #[cfg(test)]
 mod tests;
-mod told;
 mod whole;
 
 pub use newest::newest_header;
-pub use record::{Record, RecordList};
+pub use opt_record::{Record, RecordList};
 pub use recovered::{Recovered, recover};
 pub use run::recoverable_run;

@@ -1,14 +1,14 @@
-//! The newest header of an image. Whether an image is sealed and honest is told elsewhere; any list of
-//! blocks is read.
+//! The newest header of an image. Any list of blocks is read, sealed and honest
+//! or not.
 
 ghost use Rattle.std.specs.Prelude.{◌≡◌, ◌<◌, ℕ, length, IfSome, None};
 ghost use Rattle.opt_base.specs.Seal.{blocks_of};
-ghost use Rattle.opt_journal.specs.Layout.{header_of};
+ghost use Rattle.opt_journal.specs.Layout.{header_of, IsWithinDisk};
 ghost use Rattle.opt_journal.specs.Run.{Newest};
 
 use opt_base::Block;
-use opt_geom::geometries_are_within_limits;
 use opt_journal::{Header, journal_blocks_keep_to_their_bounds, read_header};
+use opt_record::{headers_need_a_size, newer_header};
 
 /// The newest header of the image, which is of a disk of its size, and the slot in which it stands, or
 /// `None` exactly where neither slot has a header: so of an image whose number of blocks is no disk's.
@@ -19,30 +19,15 @@ pub fn newest_header(image: &[Block]) -> Option<(u32, Header)>
 {
     let first = header_in(image, 0);
     let second = header_in(image, 1);
-    match first {
-        None => match second {
-            None => None,
-            Some(one) => Some((1, one)),
-        },
-        Some(zero) => match second {
-            None => Some((0, zero)),
-            Some(one) => {
-                if zero.turn < one.turn {
-                    Some((1, one))
-                } else {
-                    Some((0, zero))
-                }
-            }
-        },
-    }
+    newer_header(first, second)
 }
 
 fn header_in(image: &[Block], slot: u32) -> Option<Header>
     requires { slot < 2 }
     ensures value { result ≡ header_of (length image.now) (blocks_of image.now slot) }
-    ensures size { IfSome result (λ header. header.geom.n ≡ length image.now) }
+    ensures within { IfSome result (IsWithinDisk (length image.now)) }
 {
-    geometries_are_within_limits();
+    headers_need_a_size();
     journal_blocks_keep_to_their_bounds();
     let blocks = u32::try_from(image.len()).ok()?;
     if blocks <= slot {

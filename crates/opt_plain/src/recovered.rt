@@ -8,12 +8,12 @@ ghost use Rattle.opt_journal.specs.Run.{is_live, HeldIs};
 ghost use Rattle.opt_plain.specs.Recovery.{IsRecovery};
 
 use crate::newest::newest_header;
-use crate::record::RecordList;
 use crate::replay::replayed;
 use crate::run::recoverable_run;
 use opt_base::{Block, NoMemory};
 use opt_geom::Geom;
 use opt_journal::Header;
+use opt_record::RecordList;
 use std::alloc::Global;
 use std::marker::Model;
 
@@ -77,7 +77,7 @@ impl Recovered {
 /// slot has a header.
 ///
 /// # Errors
-/// Want of memory.
+/// Out of memory.
 pub fn recover(alloc: Global, image: &[Block]) -> Result<Option<Recovered>, NoMemory>
     ensures found { IfOk result (λ found. IfSome found (IsRecovery (length image.now) (blocks_of image.now))) }
     ensures missing { IfOk result (λ found. found ≡ None → (m : Blocks) → ¬ HeldIs (length image.now) (blocks_of image.now) m) }

@@ -5,17 +5,16 @@ ghost use Rattle.opt_base.specs.Seal.{blocks_of};
 ghost use Rattle.opt_journal.specs.Run.{payload_from, payload_of, names_block, otherwise, covered_by, replayed};
 
 use crate::image::{block_at, ring_block};
-use crate::order::names_block;
-use crate::record::Record;
 use opt_base::{Block, NoMemory};
 use opt_geom::Geom;
 use opt_journal::{Entry, unescape};
+use opt_record::{Record, names_block};
 use std::alloc::Global;
 
 /// All blocks of an image once the records are replayed.
 ///
 /// # Errors
-/// Want of memory.
+/// Out of memory.
 pub(crate) fn replayed(
     alloc: Global,
     image: &[Block],

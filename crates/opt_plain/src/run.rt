@@ -3,19 +3,19 @@
 ghost use Rattle.std.specs.Prelude.{◌≡◌, ◌+◌, length, IfOk};
 ghost use Rattle.opt_base.specs.Seal.{blocks_of};
 ghost use Rattle.opt_journal.specs.Run.{IsRun};
-ghost use Rattle.opt_plain.specs.Found.{Finds, MayCome};
+ghost use Rattle.opt_record.specs.Found.{Finds, MayCome};
 
-use crate::record::{Record, RecordList};
 use crate::whole::whole_record;
 use opt_base::{Block, NoMemory};
 use opt_journal::Header;
+use opt_record::{Record, RecordList, runs_grow_by_the_next_record};
 use std::alloc::Global;
 
 /// The recoverable run of an image under a header of a disk of its size: the longest list of whole
 /// records from the header's start on.
 ///
 /// # Errors
-/// Want of memory.
+/// Out of memory.
 pub fn recoverable_run(
     alloc: Global,
     image: &[Block],
@@ -24,6 +24,7 @@ pub fn recoverable_run(
     requires { length image.now ≡ header.now.geom.n }
     ensures { IfOk result (λ run. IsRun (blocks_of image.now) header.now run) }
 {
+    runs_grow_by_the_next_record();
     let mut run = RecordList::new(alloc);
     let mut place = header.at;
     let mut left = header.geom.j() as usize;

@@ -5,21 +5,20 @@ ghost use Rattle.std.specs.Prelude.{◌≡◌, ◌↔◌, ◌+◌, ◌<◌, ◌^
 ghost use Rattle.opt_base.specs.Seal.{blocks_of};
 ghost use Rattle.opt_journal.specs.declared.entry.Entry as listed;
 ghost use Rattle.opt_journal.specs.Run.{IsWhole};
-ghost use Rattle.opt_plain.specs.Found.{Finds, IsTold, fits, payloads_fit, fresh_fit};
+ghost use Rattle.opt_record.specs.Found.{Finds, IsDescribed, fits, payloads_fit, fresh_fit};
 
+use crate::described::described_record;
 use crate::image::{block_at, ring_block};
-use crate::order::entries_fit;
-use crate::record::Record;
-use crate::told::told_record;
-use opt_base::{Block, NoMemory, digest};
+use opt_base::{Block, NoMemory};
 use opt_geom::Geom;
-use opt_journal::{Entry, Header, is_stored};
+use opt_journal::{Entry, Header, entries_that_fit_keep_to_the_disk};
+use opt_record::{Record, entries_fit, fits, has_digest, whole_records_pass_their_tests};
 use std::alloc::Global;
 
 /// The whole record that begins at this place, whose number is `before` above the header's start.
 ///
 /// # Errors
-/// Want of memory.
+/// Out of memory.
 pub(crate) fn whole_record(
     alloc: Global,
     image: &[Block],
@@ -30,32 +29,34 @@ pub(crate) fn whole_record(
     requires { length image.now ≡ header.now.geom.n }
     ensures { IfOk result (Finds (IsWhole (blocks_of image.now) header.now) (header.now.start + before) place) }
 {
-    let Some(told) = told_record(alloc, image, header, before, place)? else {
+    let Some(described) = described_record(alloc, image, header, before, place)? else {
         return Ok(None);
     };
-    if !is_whole(image, header, &told) {
+    if !is_whole(image, header, &described) {
         return Ok(None);
     }
-    Ok(Some(told))
+    Ok(Some(described))
 }
 
 /// Whether a record whose commit block and descriptors stand is whole.
-fn is_whole(image: &[Block], header: &Header, told: &Record) -> bool
+fn is_whole(image: &[Block], header: &Header, found: &Record) -> bool
     requires size { length image.now ≡ header.now.geom.n }
-    requires told { IsTold (blocks_of image.now) header.now told.now }
-    ensures { IsTrue result ↔ IsWhole (blocks_of image.now) header.now told.now }
+    requires described { IsDescribed (blocks_of image.now) header.now found.now }
+    ensures { IsTrue result ↔ IsWhole (blocks_of image.now) header.now found.now }
 {
-    if !entries_fit(header.geom, told) {
+    whole_records_pass_their_tests();
+    entries_that_fit_keep_to_the_disk();
+    if !entries_fit(header.geom, found) {
         return false;
     }
-    let first = told.place() as usize + told.heads();
-    if !payloads_fit(image, header.geom, first, told.payloads()) {
+    let first = found.place() as usize + found.heads();
+    if !payloads_fit(image, header.geom, first, found.payloads()) {
         return false;
     }
-    if told.number() <= header.sure {
+    if found.number() <= header.sure {
         return true;
     }
-    fresh_fit(image, told.fresh())
+    fresh_fit(image, found.fresh())
 }
 
 /// Whether each payload, from this ring place on, fits its entry.
@@ -72,23 +73,13 @@ fn payloads_fit(image: &[Block], geom: Geom, first: usize, payloads: &[Entry]) -
     true
 }
 
-/// Whether a payload as it stands in the ring fits its entry.
-fn fits(entry: &Entry, stored: &Block) -> bool
-    ensures { result ≡ fits entry.now stored.now }
-{
-    if digest(stored) != entry.digest {
-        return false;
-    }
-    is_stored(stored, entry.kind)
-}
-
 /// Whether each fresh block has the digest of its entry.
 fn fresh_fit(image: &[Block], fresh: &[Entry]) -> bool
     requires { (i : ℕ) (e : listed.Entry) → slice_get fresh.now i ≡ Some e → e.block < length image.now }
     ensures { result ≡ fresh_fit (blocks_of image.now) fresh.now }
 {
     for entry in fresh {
-        if digest(block_at(image, entry.block)) != entry.digest {
+        if !has_digest(entry, block_at(image, entry.block)) {
             return false;
         }
     }

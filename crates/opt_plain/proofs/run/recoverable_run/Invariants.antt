@@ -1,5 +1,5 @@
 use Rattle.opt_base.specs.Seal.{blocks_of}
-use Rattle.opt_plain.proofs.Runs.{IsFront}
+use Rattle.opt_record.specs.Found.{IsFront}
 use Rattle.opt_plain.proofs.run.recoverable_run.Given as goal
 
 -- so many ring places are left

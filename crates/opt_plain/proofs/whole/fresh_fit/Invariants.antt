@@ -1,6 +1,6 @@
 use Rattle.std.proofs.Common.{◌≡◌, ◌≤◌, length, drop}
 use Rattle.opt_base.specs.Seal.{blocks_of}
-use Rattle.opt_plain.specs.Found.{fresh_fit}
+use Rattle.opt_record.specs.Found.{fresh_fit}
 use Rattle.opt_plain.proofs.whole.fresh_fit.Given as goal
 
 -- the entries from here on decide

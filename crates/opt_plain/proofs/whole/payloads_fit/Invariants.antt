@@ -1,6 +1,6 @@
 use Rattle.std.proofs.Common.{◌≡◌, ◌+◌, ◌≤◌, length, drop}
 use Rattle.opt_base.specs.Seal.{blocks_of}
-use Rattle.opt_plain.specs.Found.{payloads_fit}
+use Rattle.opt_record.specs.Found.{payloads_fit}
 use Rattle.opt_plain.proofs.whole.payloads_fit.Given as goal
 
 -- the payloads from here on decide

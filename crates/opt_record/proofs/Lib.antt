@@ -1,0 +1,4 @@
+pub mod Headers
+pub mod Parts
+pub mod Wholes
+pub mod Runs

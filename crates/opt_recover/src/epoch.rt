@@ -1,0 +1,127 @@
+//! The greatest epoch that stands on a disk, which the next mount's must be above.
+
+ghost use Rattle.std.specs.Prelude.{◌≡◌, ◌<◌, ◌≤◌, ◌+◌, length, ℕ, max, IfOk};
+ghost use Rattle.opt_layout.specs.Bytes.{field};
+ghost use Rattle.opt_base.specs.Seal.{Blocks};
+ghost use Rattle.opt_journal.specs.Layout.{has_tag, commit_tag, descriptor_tag};
+ghost use Rattle.opt_disk.specs.Disk.{HasCause};
+ghost use Rattle.opt_recover.specs.Reading.{Gives, OnlyReads};
+ghost use Rattle.opt_recover.specs.Epoch.{is_of_record, record_epoch, header_epoch, headers_epoch, greatest_epoch};
+
+use crate::reading::{read_block, read_ring};
+use byteorder::{ByteOrder, LittleEndian};
+use opt_base::{Block, ReadFault, is_sealed};
+use opt_disk::{Disk, DiskFault};
+use opt_geom::Geom;
+use opt_journal::read_header;
+
+/// The greatest epoch of the headers and of the sealed blocks of the journal that begin as a commit block
+/// or descriptor does, or 0 where there is none. Nothing is written.
+///
+/// # Errors
+/// A read failed, which the disk has counted.
+pub fn greatest_epoch<D: Disk>(disk: &mut D, geom: &Geom) -> Result<u64, ReadFault>
+    requires { (D.state disk.old).blocks ≡ geom.now.n }
+    ensures value { (img : Blocks) → Gives D.tells (D.state disk.old) img → IfOk result (λ e. e ≡ greatest_epoch geom.now img geom.now.j) }
+    ensures reads { OnlyReads D.tells (D.state disk.old) (D.state disk.new) }
+    ensures cause { HasCause result (D.state disk.old).read_faults (D.state disk.new).read_faults }
+{
+    match epoch_of_all(disk, *geom) {
+        Ok(epoch) => Ok(epoch),
+        Err(_) => Err(ReadFault),
+    }
+}
+
+fn epoch_of_all<D: Disk>(disk: &mut D, geom: Geom) -> Result<u64, DiskFault>
+    requires { (D.state disk.old).blocks ≡ geom.n }
+    ensures value { (img : Blocks) → Gives D.tells (D.state disk.old) img → IfOk result (λ e. e ≡ greatest_epoch geom img geom.j) }
+    ensures reads { OnlyReads D.tells (D.state disk.old) (D.state disk.new) }
+    ensures cause { HasCause result (D.state disk.old).read_faults (D.state disk.new).read_faults }
+{
+    let mut greatest = epoch_of_headers(disk, geom)?;
+    for place in 0..geom.j() {
+        let mut block = [0u8; 1024];
+        read_ring(disk, geom, place as usize, &mut block)?;
+        greatest = greater(greatest, record_epoch(&block));
+    }
+    Ok(greatest)
+}
+
+fn epoch_of_headers<D: Disk>(disk: &mut D, geom: Geom) -> Result<u64, DiskFault>
+    requires { (D.state disk.old).blocks ≡ geom.n }
+    ensures value { (img : Blocks) → Gives D.tells (D.state disk.old) img → IfOk result (λ e. e ≡ headers_epoch geom.n img) }
+    ensures reads { OnlyReads D.tells (D.state disk.old) (D.state disk.new) }
+    ensures cause { HasCause result (D.state disk.old).read_faults (D.state disk.new).read_faults }
+{
+    let first = epoch_in_slot(disk, geom, 0)?;
+    let second = epoch_in_slot(disk, geom, 1)?;
+    Ok(greater(first, second))
+}
+
+fn epoch_in_slot<D: Disk>(disk: &mut D, geom: Geom, slot: u32) -> Result<u64, DiskFault>
+    requires size { (D.state disk.old).blocks ≡ geom.n }
+    requires slot { slot < 2 }
+    ensures value { (img : Blocks) → Gives D.tells (D.state disk.old) img → IfOk result (λ e. e ≡ header_epoch geom.n (img slot)) }
+    ensures reads { OnlyReads D.tells (D.state disk.old) (D.state disk.new) }
+    ensures cause { HasCause result (D.state disk.old).read_faults (D.state disk.new).read_faults }
+{
+    geom.lawful();
+    let mut block = [0u8; 1024];
+    read_block(disk, slot, &mut block)?;
+    Ok(header_epoch(&block, geom.n()))
+}
+
+fn greater(a: u64, b: u64) -> u64
+    ensures { result ≡ max a b }
+{
+    if a < b { b } else { a }
+}
+
+fn header_epoch(block: &Block, blocks: u32) -> u64
+    ensures { result ≡ header_epoch blocks block.now }
+{
+    match read_header(block, blocks) {
+        Some(header) => header.epoch,
+        None => 0,
+    }
+}
+
+fn record_epoch(block: &Block) -> u64
+    ensures { result ≡ record_epoch block.now }
+{
+    if !is_of_record(block) {
+        return 0;
+    }
+    number_8(block.as_slice(), 8)
+}
+
+fn number_8(bytes: &[u8], at: usize) -> u64
+    requires { at + 8 ≤ length bytes.now }
+    ensures { result ≡ field bytes.now at 8 }
+{
+    LittleEndian::read_u64(&bytes[at..])
+}
+
+fn is_of_record(block: &Block) -> bool
+    ensures { result ≡ is_of_record block.now }
+{
+    if !is_sealed(block) {
+        return false;
+    }
+    if is_commit(block) {
+        return true;
+    }
+    is_descriptor(block)
+}
+
+fn is_commit(block: &Block) -> bool
+    ensures { result ≡ has_tag commit_tag block.now }
+{
+    &block[..8] == b"OPTC0001".as_slice()
+}
+
+fn is_descriptor(block: &Block) -> bool
+    ensures { result ≡ has_tag descriptor_tag block.now }
+{
+    &block[..8] == b"OPTD0001".as_slice()
+}

@@ -1,0 +1,86 @@
+//! Reading a block of a disk, by its number or by its ring place. Nothing is written, and what a block
+//! means isn't told here.
+
+ghost use Rattle.std.specs.Prelude.{◌≡◌, ◌<◌, OnOk};
+ghost use Rattle.opt_base.specs.Seal.{Blocks};
+ghost use Rattle.opt_geom.specs.Geometry.{ring_block};
+ghost use Rattle.opt_disk.specs.Disk.{HasCause};
+ghost use Rattle.opt_recover.specs.Reading.{Gives, OnlyReads};
+
+use opt_base::{Block, NoMemory};
+use opt_disk::{Disk, DiskFault};
+use opt_geom::Geom;
+
+/// How many header slots stand before the ring.
+const HEADERS: usize = 2;
+
+/// Why a search stopped before its end.
+#[derive(Clone, Copy, Debug, PartialEq, Eq)]
+pub enum Stop {
+    /// A read failed, which the disk has counted.
+    ReadFault,
+    /// No memory was found.
+    NoMemory,
+}
+
+impl From<NoMemory> for Stop {
+    ghost use Rattle.std.specs.Prelude.{◌≡◌};
+    ghost use Rattle.opt_recover.specs.declared.reading.Stop.TheVariants.{NoMemory as OutOfMemory};
+
+    ghost from_gives = { λ _ stop. stop ≡ OutOfMemory };
+
+    fn from(_want: NoMemory) -> Stop {
+        Stop::NoMemory
+    }
+}
+
+impl From<DiskFault> for Stop {
+    ghost use Rattle.std.specs.Prelude.{◌≡◌};
+    ghost use Rattle.opt_recover.specs.declared.reading.Stop.TheVariants.{ReadFault as Unread};
+
+    ghost from_gives = { λ _ stop. stop ≡ Unread };
+
+    fn from(_fault: DiskFault) -> Stop {
+        Stop::ReadFault
+    }
+}
+
+/// Reads a block.
+///
+/// # Errors
+/// The read failed, which the disk has counted.
+pub(crate) fn read_block<D: Disk>(disk: &mut D, b: u32, into: &mut Block) -> Result<(), DiskFault>
+    requires { b < (D.state disk.old).blocks }
+    ensures gives { (img : Blocks) → Gives D.tells (D.state disk.old) img → OnOk result (into.new ≡ img b) }
+    ensures reads { OnlyReads D.tells (D.state disk.old) (D.state disk.new) }
+    ensures cause { HasCause result (D.state disk.old).read_faults (D.state disk.new).read_faults }
+{
+    disk.read(b, into)
+}
+
+/// Reads the block of a ring place.
+///
+/// # Errors
+/// The read failed, which the disk has counted.
+pub(crate) fn read_ring<D: Disk>(
+    disk: &mut D,
+    geom: Geom,
+    place: usize,
+    into: &mut Block,
+) -> Result<(), DiskFault>
+    requires { (D.state disk.old).blocks ≡ geom.n }
+    ensures gives { (img : Blocks) → Gives D.tells (D.state disk.old) img → OnOk result (into.new ≡ img (ring_block geom place)) }
+    ensures reads { OnlyReads D.tells (D.state disk.old) (D.state disk.new) }
+    ensures cause { HasCause result (D.state disk.old).read_faults (D.state disk.new).read_faults }
+{
+    geom.lawful();
+    read_block(disk, ring_block(geom, place), into)
+}
+
+/// The block of a ring place.
+pub(crate) fn ring_block(geom: Geom, place: usize) -> u32
+    ensures { result ≡ ring_block geom place }
+{
+    geom.lawful();
+    (HEADERS + place % geom.j() as usize) as u32
+}

@@ -1,0 +1,76 @@
+//! The recoverable run of a disk: record after record, as long as one may come. No ring place is read
+//! twice: what is read of a record lies within the places that the records before it leave.
+
+ghost use Rattle.std.specs.Prelude.{◌≡◌, ◌+◌, ◌≤◌, length, IfOk, IfSome};
+ghost use Rattle.opt_base.specs.Seal.{Blocks};
+ghost use Rattle.opt_journal.specs.Run.{IsRun, places};
+ghost use Rattle.opt_record.specs.Found.{Finds, MayCome};
+ghost use Rattle.opt_recover.specs.Reading.{Gives, OnlyReads, ReadFailed, OnReadFault};
+
+use crate::described::candidate_at;
+use crate::reading::Stop;
+use crate::whole::is_whole;
+use opt_disk::Disk;
+use opt_journal::Header;
+use opt_record::{
+    Record, RecordList, runs_grow_by_the_next_record, whole_records_pass_their_tests,
+};
+use std::alloc::Global;
+
+/// The recoverable run of the disk's blocks under a header of its size: the longest list of whole
+/// records from the header's start on.
+///
+/// # Errors
+/// A read failed, or out of memory.
+pub(crate) fn recoverable_run<D: Disk>(
+    alloc: Global,
+    disk: &mut D,
+    header: &Header,
+) -> Result<RecordList, Stop>
+    requires { (D.state disk.old).blocks ≡ header.now.geom.n }
+    ensures run { (img : Blocks) → Gives D.tells (D.state disk.old) img → IfOk result (IsRun img header.now) }
+    ensures few { IfOk result (λ run. length run ≤ header.now.geom.j) }
+    ensures reads { OnlyReads D.tells (D.state disk.old) (D.state disk.new) }
+    ensures cause { OnReadFault result (ReadFailed (D.state disk.old) (D.state disk.new)) }
+{
+    runs_grow_by_the_next_record();
+    let mut run = RecordList::new(alloc);
+    let mut place = header.at;
+    let mut left = header.geom.j() as usize;
+    while let Some(next) = next_record(alloc, disk, header, run.len() as u64, place, left)? {
+        left -= next.places();
+        place = next.place_after(header.geom);
+        run.push(next)?;
+    }
+    Ok(run)
+}
+
+/// The record that may come at this place, whose number is `before` above the header's start, where so
+/// many ring places are left. Where none is left, nothing is read.
+fn next_record<D: Disk>(
+    alloc: Global,
+    disk: &mut D,
+    header: &Header,
+    before: u64,
+    place: u32,
+    left: usize,
+) -> Result<Option<Record>, Stop>
+    requires { (D.state disk.old).blocks ≡ header.now.geom.n }
+    ensures found { (img : Blocks) → Gives D.tells (D.state disk.old) img → IfOk result (Finds (MayCome img header.now left) (header.now.start + before) place) }
+    ensures within { IfOk result (λ found. IfSome found (λ r. places r ≤ left)) }
+    ensures reads { OnlyReads D.tells (D.state disk.old) (D.state disk.new) }
+    ensures cause { OnReadFault result (ReadFailed (D.state disk.old) (D.state disk.new)) }
+{
+    whole_records_pass_their_tests();
+    if left == 0 {
+        return Ok(None);
+    }
+    let Some(found) = candidate_at(alloc, disk, header, before, place, left)? else {
+        return Ok(None);
+    };
+    let whole = is_whole(disk, header, &found)?;
+    if !whole {
+        return Ok(None);
+    }
+    Ok(Some(found))
+}
