@@ -166,13 +166,13 @@ pub record IsReady (spare : Spare) (puts takes frees : ℕ) : Type 0 where
 
 -- What holds of each bookkeeping.
 
--- Each data block that serves may be taken, is marked, is held by the transaction that freed it, or waits; what may be taken isn't marked.
+-- Each data block may be taken, is marked, is held by the transaction that freed it, or waits; what may be taken isn't marked.
 pub record IsSound (k : Bookkeeping) : Type 0 where
   pub accounts : length (reusable_blocks k) + length (live_blocks k) + k.running.held + k.waiting ≡ k.area
-  pub area : k.area ≤ k.geom.n - data_start k.geom
+  pub area : k.area ≡ k.geom.n - data_start k.geom
   pub unmarked : (b : ℕ) → IsReusable k.geom k.reusable b → k.marked b ≡ false
   pub fits : k.running.weight ≤ k.room
-  pub room : k.room ≤ 24 * (k.geom.j - 2)
+  pub room : k.room ≡ 24 * (k.geom.j - 2)
   -- what a commit would write in place was taken in its transaction
   pub took : fresh_blocks k.geom k.running ≤ k.running.took
   pub floor : k.floor ≤ k.point

@@ -22,7 +22,7 @@ pub record Bookkeeping : Type 0 where
   -- the numbers that may be taken, and how many wait to be so again
   pub reusable : ℕ → Bool
   pub waiting : ℕ
-  -- how many data blocks serve, and how much weight a transaction may have
+  -- how many data blocks there are, and how much weight a transaction may have
   pub area : ℕ
   pub room : ℕ
   -- the ring places of no record, the greater of the last header's turn and the next record's number, and the writes that are still to come for what was committed

@@ -1,4 +1,6 @@
-//! Functions over any map of blocks, which show how its contract is used.
+//! Functions over any map of blocks, which show how its contract is used: conditions are met one after
+//! the other, windows of crashes compose over several calls, and a sync may follow a change. They know
+//! nothing of files, and no layer above needs them.
 
 ghost use Rattle.std.specs.Prelude.{◌≡◌, ◌+◌, ◌*◌, ◌<◌, ◌≤◌, ◌^◌, ℕ, min, true, false, IsTrue, ◌||◌, ◌∷◌, length, take, All, IfOk, IfErr, OnOk, OnErr, if◌then◌else◌};
 ghost use Rattle.opt_base.specs.Seal.{Blocks as BlockMap};

@@ -1,9 +1,10 @@
-//! The figures of a map of blocks: its space, its transaction, its sync points.
+//! The figures of a map of blocks: its space, its transaction, its sync points. They are numbers of the
+//! bookkeeping; what is known beyond numbers has no value here.
 
 /// What a map of blocks tells of itself in numbers.
 #[derive(Clone, Copy, Debug, PartialEq, Eq)]
 pub struct Figures {
-    /// The data blocks that serve.
+    /// How many data blocks there are.
     pub area: u32,
     /// The data blocks whose bit is set.
     pub live: u32,

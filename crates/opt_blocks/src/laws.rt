@@ -1,5 +1,6 @@
 //! Laws of maps of blocks, each an empty function whose clauses say it: how calls compose, which numbers
-//! may be taken together, and how what a commit would have grows from call to call.
+//! may be taken together, and how what a commit would have grows from call to call. What holds of each
+//! single map is told by the laws of the trait.
 
 ghost use Rattle.std.specs.Prelude.{◌≡◌, ◌+◌, ◌*◌, ◌<◌, ◌≤◌, ℕ, Bool, true, false, IsTrue, min, List, All, length, take};
 ghost use Rattle.opt_base.specs.declared.words.Class.{Class};

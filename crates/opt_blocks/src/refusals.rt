@@ -1,4 +1,5 @@
-//! Why a call of a map of blocks gave up.
+//! Why a call of a map of blocks was refused. When each refusal comes is told by the clauses of the
+//! calls; a failed read and a failed call of the disk alone have the errors of the crates below.
 
 use std::error::Error;
 use std::fmt;
