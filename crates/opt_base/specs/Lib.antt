@@ -1,3 +1,4 @@
 pub mod Name
 pub mod Runs
 pub mod Seal
+pub mod Counts

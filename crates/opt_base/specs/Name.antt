@@ -1,8 +1,8 @@
--- The grammar of a name, on its bytes. The rule is told in docs/TREE.md.
+-- The grammar of a name, on its bytes. The rule is described in docs/TREE.md.
 use Rattle.std.specs.Prelude.{ℕ, ◌==◌, Bool, not, ◌&&◌, ◌||◌, List, [], ◌∷◌, length, nat_lt, nat_le, bytes_eq}
 use Rattle.std.specs.List.{list_all}
 
--- a byte that may stand in a name: printable, no blank, no slash
+-- a byte that may be in a name: printable, no blank, no slash
 abbrev pub is_name_byte : ℕ → Bool
 is_name_byte b = nat_le 33 b && (nat_le b 126 && not (b == 47))
 
@@ -10,6 +10,6 @@ is_name_byte b = nat_le 33 b && (nat_le b 126 && not (b == 47))
 abbrev pub is_dots : List ℕ → Bool
 is_dots name = bytes_eq name (46 ∷ []) || bytes_eq name (46 ∷ 46 ∷ [])
 
--- 1 to 59 bytes, each of which may stand in a name, and neither `.` nor `..`
+-- 1 to 59 bytes, each of which may be in a name, and neither `.` nor `..`
 abbrev pub is_name : List ℕ → Bool
 is_name name = nat_lt 0 (length name) && (nat_le (length name) 59 && (list_all is_name_byte name && not (is_dots name)))

@@ -1,4 +1,4 @@
--- The numbers of runs. They are told in docs/LAYOUT.md.
+-- The numbers of runs. They are described in docs/LAYOUT.md.
 use Rattle.std.specs.Prelude.{ℕ, zero, suc, ◌+◌, List, [], ◌∷◌, ◌++◌}
 use Rattle.opt_base.specs.declared.places.Run.{Run}
 

@@ -1,4 +1,4 @@
--- Sealed blocks, and blocks by their numbers. A seal is told in docs/LAYOUT.md.
+-- Sealed blocks, and blocks by their numbers. A seal is described in docs/LAYOUT.md.
 use Rattle.std.specs.Prelude.{◌≡◌, ℕ, Bool, List, [], take, drop, bytes_eq, slice_index_or}
 pub use Rattle.sha2.specs.Sha256.{sha256}
 

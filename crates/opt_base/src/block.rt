@@ -1,12 +1,12 @@
 //! A block of a disk, its digest, and its seal: the last 32 bytes of a sealed block are the digest of
-//! the bytes before them. What stands in a block is told by the crates of the layout and the journal.
+//! the bytes before them. What is in a block is described by the crates of the layout and the journal.
 
 ghost use Rattle.std.specs.Prelude.{◌≡◌, true, take};
 ghost use Rattle.opt_base.specs.Seal.{sha256, is_sealed};
 
 use sha2::{Digest, Sha256};
 
-/// The bytes of one block. It is lent by reference, since it has 1,024 of them.
+/// The bytes of one block. It is passed by reference, since it has 1,024 of them.
 pub type Block = [u8; 1024];
 
 /// How many bytes of a sealed block its seal covers.

@@ -3,7 +3,7 @@
 ghost use Rattle.std.specs.Prelude.{◌≡◌, ◌==◌, ℕ, List, [], length, IfOk};
 
 use crate::NoMemory;
-use std::alloc::Global;
+use std::alloc::{AllocError, Global};
 use std::marker::Model;
 
 /// A list of bytes, as a command carries it to a file and a reply brings it back.
@@ -31,7 +31,7 @@ impl Bytes {
     /// A copy of these bytes.
     ///
     /// # Errors
-    /// Want of memory.
+    /// Out of memory.
     pub fn from_slice(alloc: Global, bytes: &[u8]) -> Result<Bytes, NoMemory>
         ensures { IfOk result (λ list. list ≡ bytes.now) }
     {
@@ -65,5 +65,38 @@ impl Bytes {
         ensures { result ≡ (length self.now == 0) }
     {
         self.bytes.is_empty()
+    }
+}
+
+/// Equal lists have the same bytes.
+impl PartialEq for Bytes {
+    ghost use Rattle.std.specs.Prelude.{bytes_eq};
+    ghost use Rattle.std.specs.Cmp.{partial_equiv_from_equiv};
+    ghost use Rattle.std.specs.Cmp.Lexicographic.{nat_list_eq_equiv};
+
+    ghost eq = { λ left right. bytes_eq left right };
+
+    ghost laws = { partial_equiv_from_equiv nat_list_eq_equiv };
+
+    fn eq(&self, other: &Bytes) -> bool {
+        self.bytes.as_slice() == other.bytes.as_slice()
+    }
+}
+
+impl Eq for Bytes {
+    ghost use Rattle.std.specs.Cmp.Lexicographic.{nat_list_eq_equiv};
+
+    ghost laws = { nat_list_eq_equiv };
+}
+
+/// A clone is the same list.
+impl Clone for Bytes {
+    ghost use Rattle.std.specs.Prelude.{◌≡◌};
+
+    ghost is_clone = { λ bytes clone. clone ≡ bytes };
+
+    fn clone(&self) -> Result<Bytes, AllocError> {
+        let bytes = self.bytes.clone()?;
+        Ok(Bytes { bytes })
     }
 }

@@ -1,6 +1,6 @@
 //! What every other crate names: the name of a directory entry, a list of bytes, a block with its digest
-//! and its seal, lists of block numbers and of runs, want of memory, and the limits. It knows no tree, no
-//! disk, no layout of a block but its seal, and no text but that of a name. The limits are told in
+//! and its seal, lists of block numbers and of runs, the error of being out of memory, and the limits. It knows no tree, no
+//! disk, no layout of a block but its seal, and no text but that of a name. The limits are described in
 //! docs/TREE.md, docs/SCRIPT.md and docs/LAYOUT.md.
 #![tactic(auto)]
 

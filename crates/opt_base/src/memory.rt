@@ -1,4 +1,4 @@
-//! Want of memory: the one answer that no contract ties to a cause.
+//! Out of memory: the one answer that no contract ties to a cause.
 
 ghost use Rattle.std.specs.Prelude.{⊤};
 

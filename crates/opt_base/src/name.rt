@@ -1,5 +1,5 @@
 //! The name of a directory entry. What its bytes may be is the definition `is_name`; a path, which is
-//! a list of names, stands in the crate of the tree.
+//! a list of names, is in the crate of the tree.
 
 ghost use Rattle.std.specs.Prelude.{◌≡◌, ℕ, ◌≤◌, ◌<◌, true, List, length, IsTrue, IsSome, IfSome, ◌↔◌, ◌==◌, ⊤};
 ghost use Rattle.std.specs.List.{list_all};

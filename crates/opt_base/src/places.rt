@@ -1,5 +1,5 @@
 //! Lists of block numbers: `Places` one by one, and `RunList` as at most 28 runs of neighbours. Which
-//! blocks a list may have is told by the crates that keep them.
+//! blocks a list may have is described by the crates that keep them.
 
 ghost use Rattle.std.specs.Prelude.{◌≡◌, ◌<◌, ◌++◌, ℕ, [], ◌∷◌, List, length, IfNone, OnOk, OnErr};
 ghost use Rattle.std.specs.Option.{option_to_list};
@@ -43,7 +43,7 @@ impl Places {
     /// Adds a number at the end.
     ///
     /// # Errors
-    /// Want of memory; the list is as it was.
+    /// Out of memory; the list is as it was.
     pub fn push(&mut self, number: u32) -> Result<(), NoMemory>
         ensures ok { OnOk result (self.new ≡ self.old ++ number ∷ []) }
         ensures err { OnErr result (self.new ≡ self.old) }

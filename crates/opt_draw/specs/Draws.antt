@@ -1,4 +1,4 @@
--- A row of draws: numbers below 2^31 that a seed decides. It is told in docs/DRAWS.md.
+-- A row of draws: numbers below 2^31 that a seed decides. It is described in docs/DRAWS.md.
 use Rattle.std.specs.Prelude.{ℕ, zero, suc, ◌+◌, ◌*◌, ◌/◌, ◌%◌, ◌^◌, List, [], ◌∷◌}
 
 -- the state after one step: the state times the first number, and the second one more, without what lies above 64 bits

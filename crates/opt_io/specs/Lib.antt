@@ -1,3 +1,3 @@
-pub mod Faults
 pub mod Memory
 pub mod Adapter
+pub mod Prefix

@@ -1,9 +1,9 @@
 -- The source and the sink in memory as values, and what each call makes of them. These say exactly
--- which calls fail, and how many bytes any other call moves; which bytes they are is told by the
+-- which calls fail, and how many bytes any other call moves; which bytes they are is described by the
 -- traits' own clauses.
 use Rattle.std.specs.Prelude.{ℕ, ◌==◌, Bool, if◌then◌else◌, ◌&&◌, ◌||◌, List, length, drop, take, ◌++◌, ◌-◌, min, nat_lt}
 use Rattle.std.specs.List.{list_any}
-use Rattle.opt_io.specs.Faults.{one_more}
+use Rattle.opt_base.specs.Counts.{next_count}
 
 -- a source: the bytes left, the most that a call gives, the calls to fail, the calls and faults so far
 pub record SourceState : Type 0 where
@@ -24,7 +24,7 @@ pub record SinkState : Type 0 where
 
 -- whether the next call, counted from 1, is one of those to fail
 abbrev pub is_listed : List ℕ → ℕ → Bool
-is_listed failing calls = list_any (λ n. n == one_more calls) failing
+is_listed failing calls = list_any (λ n. n == next_count calls) failing
 
 -- whether a pull fails
 abbrev pub pull_fails : SourceState → Bool
@@ -40,8 +40,8 @@ pulled s wanted = record {
   left = if pull_fails s then s.left else drop (given s wanted) s.left;
   most = s.most;
   failing = s.failing;
-  calls = one_more s.calls;
-  faults = if pull_fails s then one_more s.faults else s.faults;
+  calls = next_count s.calls;
+  faults = if pull_fails s then next_count s.faults else s.faults;
 }
 
 -- whether a push fails: its call is listed, or there are bytes and no room is left
@@ -59,6 +59,6 @@ pushed s piece = record {
   room = if push_fails s piece then s.room else s.room - accepted s piece;
   most = s.most;
   failing = s.failing;
-  calls = one_more s.calls;
-  faults = if push_fails s piece then one_more s.faults else s.faults;
+  calls = next_count s.calls;
+  faults = if push_fails s piece then next_count s.faults else s.faults;
 }

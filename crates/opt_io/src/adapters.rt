@@ -4,7 +4,7 @@
 ghost use Rattle.std.specs.Prelude.{◌≡◌, ◌<◌, length, IfOk};
 ghost use Rattle.std.specs.Io.{ReadsAtMost, WritesAtMost};
 ghost use Rattle.std.specs.Io.KnownBytes.{ReadConsumes, WriteAppends, Keeps};
-ghost use Rattle.opt_io.specs.Faults.{HasCause, counted};
+ghost use Rattle.opt_base.specs.Counts.{HasCause};
 
 use crate::{Sink, SinkFault, Source, SourceFault};
 use std::io::{Read, Write};
@@ -51,8 +51,7 @@ impl<R: Read> Source for ReadSource<R> {
         requires { 0 < length into.old }
         ensures bound { ReadsAtMost result into.new }
         ensures bytes { ReadConsumes (R.remaining self.old.inner) (R.remaining self.new.inner) result into.new }
-        ensures cause { HasCause self.old.faults self.new.faults result }
-        ensures counted { self.new.faults ≡ counted self.old.faults result }
+        ensures cause { HasCause result self.old.faults self.new.faults }
     {
         match self.reader.read(into) {
             Ok(count) => Ok(count),
@@ -102,8 +101,7 @@ impl<W: Write> WriteSink<W> {
     /// The writer's flush failed, which is counted as a fault. What was taken stays taken.
     pub fn flush(&mut self) -> Result<(), SinkFault>
         ensures bytes { Keeps (W.contents self.old.inner) (W.contents self.new.inner) }
-        ensures cause { HasCause self.old.faults self.new.faults result }
-        ensures counted { self.new.faults ≡ counted self.old.faults result }
+        ensures cause { HasCause result self.old.faults self.new.faults }
     {
         match self.writer.flush() {
             Ok(()) => Ok(()),
@@ -124,8 +122,7 @@ impl<W: Write> Sink for WriteSink<W> {
         ensures bound { WritesAtMost result bytes.now }
         ensures some { IfOk result (λ n. 0 < length bytes.now → 0 < n) }
         ensures bytes { WriteAppends (W.contents self.old.inner) (W.contents self.new.inner) result bytes.now }
-        ensures cause { HasCause self.old.faults self.new.faults result }
-        ensures counted { self.new.faults ≡ counted self.old.faults result }
+        ensures cause { HasCause result self.old.faults self.new.faults }
     {
         match self.writer.write(bytes) {
             Ok(0) if !bytes.is_empty() => {

@@ -1,10 +1,10 @@
 //! A sink into memory that is set aside as it is made, so that no push takes memory. It fails at
-//! the calls that it is told to, and where it is full. Tests read back what it took.
+//! the calls that its caller lists, and where it is full. Tests read back what it took.
 
 ghost use Rattle.std.specs.Prelude.{◌≡◌, ℕ, ◌<◌, List, [], length, IfOk, is_err};
 ghost use Rattle.std.specs.Io.{WritesAtMost};
 ghost use Rattle.std.specs.Io.KnownBytes.{WriteAppends};
-ghost use Rattle.opt_io.specs.Faults.{HasCause};
+ghost use Rattle.opt_base.specs.Counts.{HasCause};
 ghost use Rattle.opt_io.specs.Memory.{push_fails, accepted, pushed};
 
 use crate::{Sink, SinkFault};
@@ -12,7 +12,7 @@ use opt_base::NoMemory;
 use std::alloc::Global;
 use std::marker::Model;
 
-/// The bytes that were pushed, up to a given number. It fails at the calls that it is told to.
+/// The bytes that were pushed, up to a given number. It fails at the calls that its caller lists.
 #[derive(Drop)]
 pub struct MemSink {
     bytes: Vec<u8>,
@@ -39,7 +39,7 @@ impl MemSink {
     /// A call takes as many bytes as there is room for.
     ///
     /// # Errors
-    /// Want of memory for all of the room.
+    /// Out of memory for all of the room.
     pub fn new(alloc: Global, room: u64, fail: &[u64]) -> Result<MemSink, NoMemory>
         ensures { IfOk result (λ s. s ≡ record { bytes = []; room = room; most = usize.MAX; failing = fail.now; calls = 0; faults = 0 }) }
     {
@@ -85,7 +85,7 @@ impl Sink for MemSink {
         ensures bound { WritesAtMost result bytes.now }
         ensures some { IfOk result (λ n. 0 < length bytes.now → 0 < n) }
         ensures bytes { WriteAppends (Some self.old.bytes) (Some self.new.bytes) result bytes.now }
-        ensures cause { HasCause self.old.faults self.new.faults result }
+        ensures cause { HasCause result self.old.faults self.new.faults }
         ensures exact { is_err result ≡ push_fails self.old bytes.now }
         ensures count { IfOk result (λ n. n ≡ accepted self.old bytes.now) }
         ensures state { self.new ≡ pushed self.old bytes.now }

@@ -1,10 +1,10 @@
-//! A source over bytes in memory, for tests and for runs that are told which calls fail. It takes
+//! A source over bytes in memory, for tests and for runs that say which calls fail. It takes
 //! no memory after it was made. It doesn't wait, and its faults come at listed calls alone.
 
 ghost use Rattle.std.specs.Prelude.{◌≡◌, ℕ, ◌+◌, ◌^◌, ◌-◌, ◌<◌, ◌≤◌, List, length, drop, Option, Some, IfOk, is_err};
 ghost use Rattle.std.specs.Io.{ReadsAtMost};
 ghost use Rattle.std.specs.Io.KnownBytes.{ReadConsumes};
-ghost use Rattle.opt_io.specs.Faults.{HasCause};
+ghost use Rattle.opt_base.specs.Counts.{HasCause};
 ghost use Rattle.opt_io.specs.Memory.{SourceState, pull_fails, given, pulled};
 
 use crate::{Source, SourceFault};
@@ -12,7 +12,7 @@ use opt_base::NoMemory;
 use std::alloc::Global;
 use std::marker::Model;
 
-/// The bytes of a list, given in order. It fails at the calls that it is told to.
+/// The bytes of a list, given in order. It fails at the calls that its caller lists.
 #[derive(Drop)]
 pub struct MemSource {
     bytes: Vec<u8>,
@@ -39,7 +39,7 @@ impl MemSource {
     /// many bytes as fit and are left.
     ///
     /// # Errors
-    /// Want of memory.
+    /// Out of memory.
     pub fn new(alloc: Global, bytes: &[u8], fail: &[u64]) -> Result<MemSource, NoMemory>
         ensures { IfOk result (λ s. s ≡ record { left = bytes.now; most = usize.MAX; failing = fail.now; calls = 0; faults = 0 }) }
     {
@@ -76,7 +76,7 @@ impl Source for MemSource {
     fn pull(&mut self, into: &mut [u8]) -> Result<usize, SourceFault>
         ensures bound { ReadsAtMost result into.new }
         ensures bytes { ReadConsumes (Some self.old.left) (Some self.new.left) result into.new }
-        ensures cause { HasCause self.old.faults self.new.faults result }
+        ensures cause { HasCause result self.old.faults self.new.faults }
         ensures exact { is_err result ≡ pull_fails self.old }
         ensures count { IfOk result (λ n. n ≡ given self.old (length into.old)) }
         ensures state { self.new ≡ pulled self.old (length into.old) }

@@ -4,7 +4,7 @@ use Rattle.std.specs.Prelude.{slice_index}
 use Rattle.opt_ranks.specs.Counts.{AreMarks, AreSums, IsDoubled, sum_from}
 use Rattle.opt_ranks.proofs.Sums.{sum_below, doubled_up}
 
--- a place on its level: what stands before it there and what is left make up the rank, and the place has more than is left
+-- a place on its level: what is before it there and what is left make up the rank, and the place has more than is left
 pub record IsOnWay (counts : List ℕ) (size rank place left : ℕ) : Type 0 where
   pub times : ℕ
   pub level : ℕ

@@ -1,4 +1,4 @@
--- The counts that a set of numbers is kept as: a tree in a list, whose root stands at 1, and below place p the places 2 p and 2 p + 1. Its leaves are the places from `size` on, one for each number.
+-- The counts that a set of numbers is kept as: a tree in a list, whose root is at 1, and below place p the places 2 p and 2 p + 1. Its leaves are the places from `size` on, one for each number.
 use Rattle.std.specs.Prelude.{◌≡◌, ℕ, zero, suc, ◌+◌, ◌*◌, ◌≤◌, ◌<◌, ◌==◌, if◌then◌else◌, List, [], ◌∷◌, ◌++◌, length, slice_index}
 
 -- the numbers from 1 to n whose leaf is 1

@@ -1,6 +1,6 @@
-//! A tree of counts in one slice: the root stands at 1, below place p stand the places 2 p and 2 p + 1,
+//! A tree of counts in one slice: the root is at 1, below place p stand the places 2 p and 2 p + 1,
 //! and the leaves begin at `size`. Each place above the leaves has the sum of the two below it. What the
-//! leaves stand for is told in `ranks`.
+//! leaves stand for is described in `ranks`.
 
 ghost use Rattle.std.specs.Prelude.{◌≡◌, ◌≢◌, ℕ, ◌+◌, ◌*◌, ◌<◌, ◌≤◌, length, slice_index};
 ghost use Rattle.opt_ranks.specs.Counts.{AreMarks, AreSums, IsDoubled, sum_from};

@@ -1,5 +1,5 @@
 //! The type `Ranks`: which numbers joined and weren't taken out. It is kept as a tree of counts, whose
-//! changes and search stand in `counts`. All its memory is taken at `new`.
+//! changes and search are in `counts`. All its memory is taken at `new`.
 
 ghost use Rattle.std.specs.Prelude.{◌≡◌, ◌<◌, ◌+◌, [], length, slice_get, IfOk};
 ghost use Rattle.opt_ranks.specs.Ranks.{is_member, with_next, without};
@@ -14,7 +14,7 @@ use std::marker::Model;
 #[derive(Drop)]
 pub struct Ranks {
     /// A tree with the root at 1, and the places 2 p and 2 p + 1 below place p. The leaf of number n
-    /// stands at `size` + n - 1.
+    /// is at `size` + n - 1.
     counts: Vec<u32>,
     /// How many leaves the tree has: a power of 2, at least `most`.
     size: usize,
@@ -37,7 +37,7 @@ impl Ranks {
     /// No numbers, and room for those from 1 to `most`.
     ///
     /// # Errors
-    /// Want of memory for all of the room.
+    /// Out of memory for all of the room.
     pub fn new(alloc: Global, most: u32) -> Result<Ranks, NoMemory>
         ensures { IfOk result (λ ranks. ranks ≡ record { members = []; joined = 0; most = most }) }
     {
