@@ -1,5 +1,5 @@
 -- Laws of cells.
-use Rattle.std.proofs.Common.{◌≡◌, ◌≢◌, ◌⊎◌, inl, inr, ⊎_elim, ℕ, ◌<◌, max, Bool, true, false, ◌==◌, ◌||◌, if◌then◌else◌, List, [], ◌∷◌, ◌++◌, length, Some, refl, sym, ◌∙◌, ap, subst, arith}
+use Rattle.std.proofs.Common.{◌≡◌, ◌≢◌, ◌⊎◌, inl, inr, ⊎_elim, ℕ, ◌<◌, max, Bool, true, false, ◌==◌, ◌||◌, if◌then◌else◌, List, [], ◌∷◌, ◌++◌, length, Some, None, refl, sym, ◌∙◌, ap, subst, arith}
 use Rattle.std.proofs.lemmas.Bool.{eqb-true, eqb-false, eq-eqb, or_cases, false≢true}
 use Rattle.std.proofs.Math.Bool.{or_assoc}
 use Rattle.opt_base.specs.Seal.{Blocks}
@@ -132,6 +132,14 @@ other_lost base log a b x apart = cell_of-append base log _ b ∙ if_false (a ==
 -- a write to the block is pending on it
 pub own_wrote : (base : Blocks) (log : List Event) (t a : ℕ) (x : List ℕ) → cell_of base (log ++ Wrote t a x ∷ []) a ≡ with_write (cell_of base log a) (Some t) x
 own_wrote base log t a x = cell_of-append base log _ a ∙ if_true (a == a) _ _ (eq-eqb a a refl)
+
+-- so is a lost one
+pub own_lost : (base : Blocks) (log : List Event) (a : ℕ) (x : List ℕ) → cell_of base (log ++ Lost a x ∷ []) a ≡ with_write (cell_of base log a) None x
+own_lost base log a x = cell_of-append base log _ a ∙ if_true (a == a) _ _ (eq-eqb a a refl)
+
+-- a notice settles the write that it is of
+pub one_noticed : (base : Blocks) (log : List Event) (t b : ℕ) → cell_of base (log ++ Noticed t ∷ []) b ≡ settle (cell_of base log b) (from_ticket t (cell_of base log b).pending)
+one_noticed base log t b = cell_of-append base log _ b
 
 -- notices change nothing of a block with nothing pending
 pub same_noticed : (base : Blocks) (log : List Event) (b : ℕ) (ts : List ℕ) → (cell_of base log b).pending ≡ [] → cell_of base (log ++ notices ts) b ≡ cell_of base log b

@@ -83,14 +83,14 @@ write_above before (Wrote t d x ∷ xs) u b h w = ⊎_elim (λ p. let low = h.0 
 write_above before (Lost d x ∷ xs) u b h w = let low = write_above (before ++ Lost d x ∷ []) xs u b h.1 w in let all = greatest-append before (Lost d x ∷ []) in omega arith
 write_above before (Noticed t ∷ xs) u b h w = let low = write_above (before ++ Noticed t ∷ []) xs u b h.1 w in let all = greatest-append before (Noticed t ∷ []) in omega arith
 
--- a write that stands in two lists stands in one of them
+-- a write that is in two lists is in one of them
 write_parts : (u b : ℕ) (xs ys : List Event) → IsWriteOf u b (xs ++ ys) → IsWriteOf u b xs ⊎ IsWriteOf u b ys
 write_parts u b [] ys w = inr w
 write_parts u b (Wrote t d x ∷ xs) ys w = ⊎_elim (λ p. inl (inl p)) (λ r. ⊎_elim (λ l. inl (inr l)) inr (write_parts u b xs ys r)) w
 write_parts u b (Lost d x ∷ xs) ys w = write_parts u b xs ys w
 write_parts u b (Noticed t ∷ xs) ys w = write_parts u b xs ys w
 
--- and one of the second list stands in both
+-- and one of the second list is in both
 write_right : (u b : ℕ) (xs ys : List Event) → IsWriteOf u b ys → IsWriteOf u b (xs ++ ys)
 write_right u b [] ys w = w
 write_right u b (Wrote t d x ∷ xs) ys w = inr (write_right u b xs ys w)
@@ -232,7 +232,7 @@ module _ (base : Blocks) (b : ℕ) (log : List Event) (n : ℕ) (lawful : IsLawf
   same_writes : (es : List Event) → writes_to b (es ++ Noticed n ∷ []) ≡ writes_to b es
   same_writes es = writes_append b es (Noticed n ∷ []) ∙ append-nil (writes_to b es)
 
-  -- the writes of the log after a write that stands in it have greater tickets
+  -- the writes of the log after a write that is in it have greater tickets
   above_split : (before later : List Event) (t : ℕ) (x : List ℕ) (u : ℕ) → log ≡ before ++ (Wrote t b x ∷ later) → IsWriteOf u b later → t < u
   above_split before later t x u split w =
       let rest = lawful_behind [] before (Wrote t b x ∷ later) (subst IsLawful split lawful) in
@@ -320,7 +320,7 @@ told_all base b before (e ∷ es) lawful rest told = subst (λ (l : List Event).
 told : (base : Blocks) (b : ℕ) (log : List Event) → IsLawful log → Told base b log
 told base b log lawful = told_all base b [] log tt lawful (inr (record { none = λ u w n. w; cell = refl }))
 
--- a ticket stands once in a lawful log
+-- a ticket comes once in a lawful log
 once : (p before before2 later later2 : List Event) (b t : ℕ) (x x2 : List ℕ) → AreLawfulAfter p (before ++ (Wrote t b x ∷ later)) → before ++ (Wrote t b x ∷ later) ≡ before2 ++ (Wrote t b x2 ∷ later2) → (x ≡ x2) × (later ≡ later2)
 once p [] [] later later2 b t x x2 h e = (cc, cc)
 once p [] (f ∷ before2) later later2 b t x x2 h e =

@@ -6,9 +6,10 @@ use Rattle.opt_disk.specs.declared.bay.Mark.{Mark}
 use Rattle.opt_disk.specs.declared.bay.BayFault.{BayFault}
 use Rattle.opt_disk.specs.declared.bay.BayFault.TheVariants.{Fault, NoMemory}
 use Rattle.opt_disk.specs.Cell.{accepted}
-use Rattle.opt_disk.specs.Disk.{State, next_count}
+use Rattle.opt_base.specs.Counts.{next_count}
+use Rattle.opt_disk.specs.Disk.{State}
 
--- what stands under one name: the image that its next disk begins with; and of the disk that was handed back last its base, log and counts of faults, with the marks that came along
+-- what is under one name: the image that its next disk begins with; and of the disk that was handed back last its base, log and counts of faults, with the marks that came along
 pub record Kept : Type 0 where
   pub image : List (List ℕ)
   pub base : Blocks
@@ -17,7 +18,7 @@ pub record Kept : Type 0 where
   pub faults : ℕ
   pub marks : List Mark
 
--- a bay: its count of failed calls, of disks that were handed back with faults of their own, of disks handed out, of disks taken back, and what stands under each name; where it doesn't tell, `kept` says nothing
+-- a bay: its count of failed calls, of disks that were handed back with faults of their own, of disks handed out, of disks taken back, and what is under each name; where it doesn't tell, `kept` says nothing
 pub record BayState : Type 0 where
   pub faults : ℕ
   pub disk_faults : ℕ
@@ -33,7 +34,7 @@ zero_blocks n = replicate n (replicate 1024 0)
 abbrev pub fresh : List (List ℕ) → Kept
 fresh image = record { image = image; base = blocks_of image; log = []; read_faults = 0; faults = 0; marks = [] }
 
--- the image that stands under a name
+-- the image that is under a name
 abbrev pub image_of : Option Kept → Option (List (List ℕ))
 image_of kept = option_map (λ k. k.image) kept
 
@@ -54,13 +55,13 @@ pub record HasNoCounts (disk : State) : Type 0 where
   pub waits : disk.waits ≡ 0
   pub polls : disk.polls ≡ 0
 
--- what must hold where a call failed by a fault; want of memory asks for nothing
+-- what must hold where a call failed by a fault; out of memory asks for nothing
 abbrev pub OnFault : {T : Type 0} → Result T BayFault → Type 0 → Type 0
 OnFault (Ok x) P = ⊤
 OnFault (Err Fault) P = P
 OnFault (Err NoMemory) P = ⊤
 
--- the count of faults never falls, and a call fails by a fault only where it rose, or stands at its last value
+-- the count of faults never falls, and a call fails by a fault only where it rose, or is at its last value
 abbrev pub HasBayCause : {T : Type 0} → Result T BayFault → ℕ → ℕ → Type 0
 HasBayCause result before now = (before ≤ now) × OnFault result ((before < now) ⊎ (now ≡ 2 ^ 64 - 1))
 
@@ -68,7 +69,7 @@ HasBayCause result before now = (before ≤ now) × OnFault result ((before < no
 abbrev pub counted_ok : {T E : Type 0} → Result T E → ℕ → ℕ
 counted_ok result n = if is_ok result then next_count n else n
 
--- what stands under each name but this one is as it was
+-- what is under each name but this one is as it was
 abbrev pub SameElsewhere : List ℕ → BayState → BayState → Type 0
 SameElsewhere name old new = (other : List ℕ) → other ≢ name → new.kept other ≡ old.kept other
 
@@ -94,7 +95,7 @@ pub record Makes {D : Type 0} (tells : Bool) (state : D → State) (name : List 
   pub handed : new.handed ≡ counted_ok result old.handed
   pub closed : new.closed ≡ old.closed
 
--- `open`: the disk begins with the image that stands under the name, and what is kept stays
+-- `open`: the disk begins with the image that is under the name, and what is kept stays
 pub record Opens {D : Type 0} (tells : Bool) (state : D → State) (name : List ℕ) (result : Result D BayFault) (old new : BayState) : Type 0 where
   pub counts : IfOk result (λ disk. HasNoCounts (state disk))
   pub disk : IsTrue tells → IfOk result (λ disk. BeginsWith (old.kept name) (state disk))
@@ -109,7 +110,7 @@ pub record IsLeftBy (disk : State) (image : List (List ℕ)) : Type 0 where
   pub length : length image ≡ disk.blocks
   pub each : (b : ℕ) → b < disk.blocks → blocks_of image b ≡ accepted disk.base disk.log b
 
--- what stands under a name after a disk was handed back under it with these marks along
+-- what is under a name after a disk was handed back under it with these marks along
 pub record IsKeptOf (disk : State) (along : List Mark) (kept : Kept) : Type 0 where
   pub image : IsLeftBy disk kept.image
   pub base : kept.base ≡ disk.base

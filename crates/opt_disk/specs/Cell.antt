@@ -1,5 +1,5 @@
 -- What a disk holds of each block after a list of events: its settled content, and the writes that are
--- pending on it. The rules are told in docs/DISK.md; what a crash makes of it stands in Crash.
+-- pending on it. The rules are described in docs/DISK.md; what a crash makes of it is in Crash.
 use Rattle.std.specs.Prelude.{◌≡◌, ◌⊎◌, ℕ, max, ◌==◌, ◌||◌, Bool, true, false, IsTrue, if◌then◌else◌, List, [], ◌∷◌, ◌++◌, Option, None, Some}
 use Rattle.opt_base.specs.Seal.{Blocks}
 use Rattle.opt_disk.specs.declared.event.Event.{Event}

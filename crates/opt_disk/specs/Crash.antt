@@ -1,5 +1,5 @@
 -- What a crash may leave of a disk: crash images, torn blocks, the honest images that proofs speak of,
--- and statements on every moment of a log. The rules are told in docs/DISK.md.
+-- and statements on every moment of a log. The rules are described in docs/DISK.md.
 use Rattle.std.specs.Prelude.{◌≡◌, ◌≢◌, ◌⊎◌, ℕ, ◌≤◌, ◌<◌, List, [], ◌∷◌, length, take}
 use Rattle.opt_base.specs.Seal.{Blocks, IsSealed, sha256}
 use Rattle.opt_disk.specs.declared.event.Event.{Event}

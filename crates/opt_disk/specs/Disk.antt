@@ -1,5 +1,6 @@
--- What is known of a disk, and what each of its calls does to that. The rules are told in docs/DISK.md.
-use Rattle.std.specs.Prelude.{◌≡◌, ◌⊎◌, ℕ, ◌+◌, ◌-◌, ◌^◌, ◌<◌, ◌≤◌, min, List, [], ◌∷◌, ◌++◌, false, Option, Some, None, Result, Ok, Err, IsErr}
+-- What is known of a disk, and what each of its calls does to that. The rules are described in docs/DISK.md.
+use Rattle.std.specs.Prelude.{◌≡◌, ◌⊎◌, ℕ, ◌+◌, ◌-◌, ◌^◌, ◌<◌, ◌≤◌, min, List, [], ◌∷◌, ◌++◌, Bool, true, false, Option, Some, None, Result, Ok, Err}
+use Rattle.opt_base.specs.Counts.{after_call, after_calls}
 use Rattle.opt_base.specs.Seal.{Blocks}
 use Rattle.opt_disk.specs.declared.event.Event.{Event}
 use Rattle.opt_disk.specs.declared.event.Event.TheVariants.{Wrote, Lost, Noticed}
@@ -14,14 +15,6 @@ pub record State : Type 0 where
   pub read_faults : ℕ
   pub waits : ℕ
   pub polls : ℕ
-
--- one more, up to the last value of a count
-abbrev pub next_count : ℕ → ℕ
-next_count n = min (n + 1) (2 ^ 64 - 1)
-
--- the count never falls, and a call fails only where it rose, or stands at its last value: a count of 64 bits that has come there can't rise again, and the fault is a fault all the same
-abbrev pub HasCause : {T E : Type 0} → Result T E → ℕ → ℕ → Type 0
-HasCause result before now = (before ≤ now) × (IsErr result → (before < now) ⊎ (now ≡ 2 ^ 64 - 1))
 
 -- what a read gives: the last accepted bytes; where writes to the block were lost after that one, those or the bytes of one of the lost
 pub record Reads (s : State) (b : ℕ) (x : List ℕ) : Type 0 where
@@ -58,6 +51,47 @@ pub record AddsNotices (old new : List Event) : Type 0 where
 pub record SameDisk (old new : State) : Type 0 where
   pub blocks : new.blocks ≡ old.blocks
   pub base : new.base ≡ old.base
+
+-- What a call spends that reads nothing, and waits and polls so many times: where it failed, that was counted once, and nothing else is new but the log.
+pub record Spends (failed : Bool) (made asked : ℕ) (old new : State) : Type 0 where
+  pub same : SameDisk old new
+  pub faults : new.faults ≡ after_call failed old.faults
+  pub read_faults : new.read_faults ≡ old.read_faults
+  pub waits : new.waits ≡ after_calls made old.waits
+  pub polls : new.polls ≡ after_calls asked old.polls
+
+-- the call only writes: it waits for nothing, polls nothing and reads nothing
+abbrev pub OnlyWrites : Bool → State → State → Type 0
+OnlyWrites failed old new = Spends failed 0 0 old new
+
+-- the call polls once, and does nothing else
+abbrev pub OnlyPolls : Bool → State → State → Type 0
+OnlyPolls failed old new = Spends failed 0 1 old new
+
+-- the call waits once, and does nothing else
+abbrev pub OnlyWaits : Bool → State → State → Type 0
+OnlyWaits failed old new = Spends failed 1 0 old new
+
+-- of so many calls in a row, which end at the first failure, all were made where none failed, and else some
+abbrev pub MadeUpTo : Bool → ℕ → ℕ → ℕ → Type 0
+MadeUpTo false count before now = now ≡ after_calls count before
+MadeUpTo true count before now = (made : ℕ) × (made ≤ count) × (now ≡ after_calls made before)
+
+-- What several calls in a row spend that end at the first failure: they read nothing and poll nothing, and wait so many times where none fails.
+pub record SpendsUpTo (failed : Bool) (most : ℕ) (old new : State) : Type 0 where
+  pub same : SameDisk old new
+  pub faults : new.faults ≡ after_call failed old.faults
+  pub read_faults : new.read_faults ≡ old.read_faults
+  pub waits : MadeUpTo failed most old.waits new.waits
+  pub polls : new.polls ≡ old.polls
+
+-- The call only reads: where a read failed, that was counted once, and nothing else is new.
+pub record OnlyReads (failed : Bool) (old new : State) : Type 0 where
+  pub same : SameDisk old new
+  pub faults : new.faults ≡ old.faults
+  pub read_faults : new.read_faults ≡ after_call failed old.read_faults
+  pub waits : new.waits ≡ old.waits
+  pub polls : new.polls ≡ old.polls
 
 -- a log that goes on: the old one with more events behind it
 pub record Grows (old new : List Event) : Type 0 where

@@ -1,6 +1,6 @@
 -- Lawful logs, and settled and pending in the field's own words: the newest write whose durability was
--- noticed, and the writes after it. The rules are told in docs/DISK.md.
-use Rattle.std.specs.Prelude.{◌≡◌, ◌⊎◌, ℕ, ◌<◌, ◌≤◌, ◌==◌, if◌then◌else◌, List, [], ◌∷◌, ◌++◌, Some, None}
+-- noticed, and the writes after it. The rules are described in docs/DISK.md.
+use Rattle.std.specs.Prelude.{◌≡◌, ◌⊎◌, ℕ, ◌<◌, ◌≤◌, ◌^◌, ◌==◌, if◌then◌else◌, List, [], ◌∷◌, ◌++◌, length, slice_index_or, Some, None}
 use Rattle.opt_disk.specs.declared.event.Event.{Event}
 use Rattle.opt_disk.specs.declared.event.Event.TheVariants.{Wrote, Lost, Noticed}
 use Rattle.opt_disk.specs.Cell.{Write, greatest_ticket, IsNoticed}
@@ -20,6 +20,27 @@ AreLawfulAfter before (e ∷ es) = MayCome before e × AreLawfulAfter (before ++
 -- a lawful log: tickets ascend from 1, and each notification is of an accepted ticket, once
 abbrev pub IsLawful : List Event → Type 0
 IsLawful log = AreLawfulAfter [] log
+
+-- the bytes of a block: 1,024 numbers below 256
+pub record IsBlock (x : List ℕ) : Type 0 where
+  pub length : length x ≡ 1024
+  pub bytes : (i : ℕ) → i < 1024 → slice_index_or x i 0 < 256
+
+-- an event of a disk of n blocks: a write is of one of them and has the bytes of a block, and a ticket has 64 bits
+abbrev pub IsEventOf : ℕ → Event → Type 0
+IsEventOf n (Wrote ticket block bytes) = (ticket < 2 ^ 64) × (block < n) × IsBlock bytes
+IsEventOf n (Lost block bytes) = (block < n) × IsBlock bytes
+IsEventOf n (Noticed ticket) = ticket < 2 ^ 64
+
+-- each of these events is one of a disk of n blocks
+abbrev pub AreEventsOf : ℕ → List Event → Type 0
+AreEventsOf n [] = Unit {0}
+AreEventsOf n (e ∷ es) = IsEventOf n e × AreEventsOf n es
+
+-- a log of a disk of n blocks: it is lawful, and each event is one of such a disk
+pub record IsLogOf (n : ℕ) (log : List Event) : Type 0 where
+  pub lawful : IsLawful log
+  pub events : AreEventsOf n log
 
 -- the writes to a block, accepted and lost, the oldest first
 abbrev pub writes_to : ℕ → List Event → List Write

@@ -5,6 +5,8 @@ ghost use Rattle.std.specs.Prelude.{ℕ, Bool, IsTrue};
 ghost use Rattle.opt_disk.specs.Bay.{BayState, Makes, Opens, Closes};
 
 use crate::Disk;
+use std::error::Error;
+use std::fmt;
 
 /// A place in a disk's life that is to be found again: its moment, and its two counts of faults there.
 #[derive(Clone, Copy, Debug, PartialEq, Eq)]
@@ -26,15 +28,26 @@ pub enum BayFault {
     NoMemory,
 }
 
+impl fmt::Display for BayFault {
+    fn fmt<W: fmt::Write>(&self, f: &mut fmt::Formatter<W>) -> fmt::Result {
+        match self {
+            BayFault::Fault => write!(f, "a call of the bay failed"),
+            BayFault::NoMemory => write!(f, "out of memory"),
+        }
+    }
+}
+
+impl Error for BayFault {}
+
 /// A shelf of disks, each under a name.
 ///
-/// A call that fails changes no image, and no call changes what stands under another name than its
+/// A call that fails changes no image, and no call changes what is under another name than its
 /// own. Each count stops at 2^64 - 1.
 pub trait Bay {
     /// The disks that it hands out.
     type D: Disk + Drop;
 
-    /// Whether what is kept is told.
+    /// Whether what is kept is known.
     ghost tells: { Bool };
 
     /// What is known of the bay.
@@ -43,14 +56,14 @@ pub trait Bay {
     /// A disk of so many blocks of zeros, which replace what stood under the name.
     ///
     /// # Errors
-    /// A fault, which is counted, or want of memory. The image under the name is as it was.
+    /// A fault, which is counted, or out of memory. The image under the name is as it was.
     fn make(&mut self, name: &str, blocks: u32) -> Result<Self::D, BayFault>
         ensures { Makes tells Self.D.state name.now blocks result (state self.old) (state self.new) };
 
     /// A disk that begins with the image under the name. What is kept stays as it was.
     ///
     /// # Errors
-    /// A fault, which is counted: that nothing stands under the name is one. Or want of memory.
+    /// A fault, which is counted: that nothing is under the name is one. Or out of memory.
     fn open(&mut self, name: &str) -> Result<Self::D, BayFault>
         ensures { Opens tells Self.D.state name.now result (state self.old) (state self.new) };
 
@@ -58,7 +71,7 @@ pub trait Bay {
     /// stood there.
     ///
     /// # Errors
-    /// A fault, which is counted, or want of memory. The image under the name is as it was, and the
+    /// A fault, which is counted, or out of memory. The image under the name is as it was, and the
     /// disk is gone.
     fn close(&mut self, name: &str, disk: Self::D, marks: Vec<Mark>) -> Result<(), BayFault>
         ensures { Closes tells name.now (Self.D.state disk) marks.items result (state self.old) (state self.new) };

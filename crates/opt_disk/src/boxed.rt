@@ -26,7 +26,7 @@ impl BoxedBlock {
     /// A box with these bytes.
     ///
     /// # Errors
-    /// Want of memory.
+    /// Out of memory.
     pub fn new(alloc: Global, bytes: &Block) -> Result<BoxedBlock, NoMemory>
         ensures { IfOk result (λ boxed. boxed ≡ bytes.now) }
     {

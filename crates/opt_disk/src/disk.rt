@@ -1,10 +1,10 @@
-//! The contract of a disk's calls. A disk accepts writes and tells later, of each, that it is durable;
+//! The contract of a disk's calls. A disk accepts writes and reports later, of each, that it is durable;
 //! it may make them durable in any order, lose some, and fail any call. What that means for a crash is
-//! told by the definitions of Cell and Crash, and in docs/DISK.md.
+//! described by the definitions of Cell and Crash, and in docs/DISK.md.
 
-ghost use Rattle.std.specs.Prelude.{◌≡◌, ◌<◌, ◌≤◌, ℕ, Bool, length, IsTrue, IsOk, IfOk, OnOk};
+ghost use Rattle.std.specs.Prelude.{◌≡◌, ◌<◌, ℕ, Bool, length, IsTrue, OnOk, is_err};
 ghost use Rattle.opt_disk.specs.Cell.{IsNoticed};
-ghost use Rattle.opt_disk.specs.Disk.{State, HasCause, Reads, AddsWrite, AddsPoll, AddsNotices, SameDisk, next_count};
+ghost use Rattle.opt_disk.specs.Disk.{State, Reads, AddsWrite, AddsPoll, AddsNotices, OnlyReads, OnlyWrites, OnlyPolls, OnlyWaits};
 
 use opt_base::Block;
 use std::error::Error;
@@ -24,11 +24,11 @@ impl Error for DiskFault {}
 
 /// A disk of blocks.
 ///
-/// Its contents and events are told only where `tells` says so. Of a disk that doesn't tell, the
+/// Its contents and events are known only where `tells` says so. Of a disk that doesn't tell, the
 /// clauses still say its number of blocks, that each fault is counted, and how often it was polled and
 /// waited for. Each count stops at 2^64 - 1.
 pub trait Disk {
-    /// Whether contents and events are told.
+    /// Whether contents and events are known.
     ghost tells: { Bool };
 
     /// What is known of the disk.
@@ -49,16 +49,12 @@ pub trait Disk {
     /// Reads block `b`, which there must be.
     ///
     /// # Errors
-    /// The read failed, which is counted. What then stands in `into` isn't told.
+    /// The read failed, which is counted. What then is in `into` isn't known.
     fn read(&mut self, b: u32, into: &mut Block) -> Result<(), DiskFault>
         requires { b < (state self.old).blocks }
         ensures reads { IsTrue tells → OnOk result (Reads (state self.old) b into.new) }
         ensures log { IsTrue tells → (state self.new).log ≡ (state self.old).log }
-        ensures same { SameDisk (state self.old) (state self.new) }
-        ensures cause { HasCause result (state self.old).read_faults (state self.new).read_faults }
-        ensures faults { (state self.new).faults ≡ (state self.old).faults }
-        ensures waits { (state self.new).waits ≡ (state self.old).waits }
-        ensures polls { (state self.new).polls ≡ (state self.old).polls };
+        ensures spends { OnlyReads (is_err result) (state self.old) (state self.new) };
 
     /// Writes block `b`, which there must be, and gives the write's ticket: a number above 0 and above
     /// all earlier ones.
@@ -68,11 +64,7 @@ pub trait Disk {
     fn write(&mut self, b: u32, from: &Block) -> Result<u64, DiskFault>
         requires { b < (state self.old).blocks }
         ensures log { IsTrue tells → AddsWrite b from.now result (state self.old).log (state self.new).log }
-        ensures same { SameDisk (state self.old) (state self.new) }
-        ensures cause { HasCause result (state self.old).faults (state self.new).faults }
-        ensures read_faults { (state self.new).read_faults ≡ (state self.old).read_faults }
-        ensures waits { (state self.new).waits ≡ (state self.old).waits }
-        ensures polls { (state self.new).polls ≡ (state self.old).polls };
+        ensures spends { OnlyWrites (is_err result) (state self.old) (state self.new) };
 
     /// The ticket of a write that is durable now and whose notice is new, or `None` where there is
     /// none yet. It doesn't wait.
@@ -81,11 +73,7 @@ pub trait Disk {
     /// The poll failed, which is counted.
     fn poll(&mut self) -> Result<Option<u64>, DiskFault>
         ensures log { IsTrue tells → AddsPoll result (state self.old).log (state self.new).log }
-        ensures same { SameDisk (state self.old) (state self.new) }
-        ensures cause { HasCause result (state self.old).faults (state self.new).faults }
-        ensures read_faults { (state self.new).read_faults ≡ (state self.old).read_faults }
-        ensures waits { (state self.new).waits ≡ (state self.old).waits }
-        ensures polls { (state self.new).polls ≡ next_count (state self.old).polls };
+        ensures spends { OnlyPolls (is_err result) (state self.old) (state self.new) };
 
     /// Waits until the write of this ticket is durable. Other writes may become durable meanwhile.
     ///
@@ -94,9 +82,5 @@ pub trait Disk {
     fn wait(&mut self, ticket: u64) -> Result<(), DiskFault>
         ensures log { IsTrue tells → AddsNotices (state self.old).log (state self.new).log }
         ensures noticed { IsTrue tells → OnOk result (IsNoticed ticket (state self.new).log) }
-        ensures same { SameDisk (state self.old) (state self.new) }
-        ensures cause { HasCause result (state self.old).faults (state self.new).faults }
-        ensures read_faults { (state self.new).read_faults ≡ (state self.old).read_faults }
-        ensures waits { (state self.new).waits ≡ next_count (state self.old).waits }
-        ensures polls { (state self.new).polls ≡ (state self.old).polls };
+        ensures spends { OnlyWaits (is_err result) (state self.old) (state self.new) };
 }

@@ -1,5 +1,5 @@
 //! The events of a disk, of which its log is a list. What they do to a block is the definition
-//! `after`; which of them may come when is told by the trait of the disk.
+//! `after`; which of them may come when is described by the trait of the disk.
 
 use crate::BoxedBlock;
 
@@ -23,7 +23,7 @@ pub enum Event {
         /// What was to be written.
         bytes: BoxedBlock,
     },
-    /// The disk told that the write of this ticket is durable.
+    /// The disk reported that the write of this ticket is durable.
     Noticed {
         /// The number that the disk gave to the write.
         ticket: u64,

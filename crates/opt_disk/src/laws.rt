@@ -1,14 +1,14 @@
 //! Laws of logs and images, each an empty function whose clauses say it. They hold of any disk, since
 //! they speak of lists of events alone.
 
-ghost use Rattle.std.specs.Prelude.{◌≡◌, ℕ, List, [], ◌∷◌, ◌++◌, Option, Result};
+ghost use Rattle.std.specs.Prelude.{◌≡◌, ◌≢◌, ◌+◌, ℕ, Bool, false, List, [], ◌∷◌, ◌++◌, Option, Some, None, Result};
 ghost use Rattle.opt_base.specs.Seal.{Blocks};
 ghost use Rattle.opt_disk.specs.declared.event.Event.{Event};
 ghost use Rattle.opt_disk.specs.declared.disk.DiskFault.{DiskFault};
-ghost use Rattle.opt_disk.specs.declared.event.Event.TheVariants.{Noticed};
-ghost use Rattle.opt_disk.specs.Cell.{Cell, cell_of};
+ghost use Rattle.opt_disk.specs.declared.event.Event.TheVariants.{Wrote, Lost, Noticed};
+ghost use Rattle.opt_disk.specs.Cell.{Cell, cell_of, with_write, settle, from_ticket};
 ghost use Rattle.opt_disk.specs.Crash.{IsImage, IsHonest};
-ghost use Rattle.opt_disk.specs.Disk.{AddsWrite, AddsPoll, AddsNotices};
+ghost use Rattle.opt_disk.specs.Disk.{State, AddsWrite, AddsPoll, AddsNotices, Spends};
 ghost use Rattle.opt_disk.specs.Lawful.{IsLawful, IsNewestNoticed, HasNoneNoticed, writes_to};
 
 /// Settled is the noticed write with the greatest ticket, else the base. Pending are the writes after it, lost ones too.
@@ -24,6 +24,20 @@ pub fn calls_keep_a_log_lawful()
     ensures write { (b : ℕ) (x : List ℕ) (r : Result ℕ DiskFault) (old new : List Event) → IsLawful old → AddsWrite b x r old new → IsLawful new }
     ensures poll { (r : Result (Option ℕ) DiskFault) (old new : List Event) → IsLawful old → AddsPoll r old new → IsLawful new }
     ensures wait { (old new : List Event) → IsLawful old → AddsNotices old new → IsLawful new }
+{}
+
+/// Calls in a row spend what each of them does, where only the last one may have failed.
+pub fn calls_in_a_row_spend_together()
+    ensures { (failed : Bool) (waits polls more_waits more_polls : ℕ) (old mid new : State) → Spends false waits polls old mid → Spends failed more_waits more_polls mid new → Spends failed (more_waits + waits) (more_polls + polls) old new }
+{}
+
+/// What one event makes of a block: a write to it is pending, also a lost one; a notice settles what it is of; and a write to another block leaves it.
+pub fn an_event_changes_one_block()
+    ensures wrote { (base : Blocks) (log : List Event) (t b : ℕ) (x : List ℕ) → cell_of base (log ++ Wrote t b x ∷ []) b ≡ with_write (cell_of base log b) (Some t) x }
+    ensures lost { (base : Blocks) (log : List Event) (b : ℕ) (x : List ℕ) → cell_of base (log ++ Lost b x ∷ []) b ≡ with_write (cell_of base log b) None x }
+    ensures noticed { (base : Blocks) (log : List Event) (t b : ℕ) → cell_of base (log ++ Noticed t ∷ []) b ≡ settle (cell_of base log b) (from_ticket t (cell_of base log b).pending) }
+    ensures wrote_elsewhere { (base : Blocks) (log : List Event) (t a b : ℕ) (x : List ℕ) → a ≢ b → cell_of base (log ++ Wrote t a x ∷ []) b ≡ cell_of base log b }
+    ensures lost_elsewhere { (base : Blocks) (log : List Event) (a b : ℕ) (x : List ℕ) → a ≢ b → cell_of base (log ++ Lost a x ∷ []) b ≡ cell_of base log b }
 {}
 
 /// A notice adds no image: each that a crash may leave after it, it might have left before, and an

@@ -1,10 +1,10 @@
 //! Two writes in order, by a wait between them: the plain way to have one block durable before
 //! another, and an example of a promise over every moment of a log.
 
-ghost use Rattle.std.specs.Prelude.{◌≡◌, ◌≢◌, ◌<◌, [], length, IsTrue, IsOk, OnOk};
+ghost use Rattle.std.specs.Prelude.{◌≡◌, ◌≢◌, ◌<◌, [], length, IsTrue, OnOk, is_err};
 ghost use Rattle.opt_disk.specs.Cell.{cell_of, accepted};
 ghost use Rattle.opt_disk.specs.Crash.{Window};
-ghost use Rattle.opt_disk.specs.Disk.{HasCause, SameDisk};
+ghost use Rattle.opt_disk.specs.Disk.{SpendsUpTo};
 
 use crate::{Disk, DiskFault};
 use opt_base::Block;
@@ -30,9 +30,7 @@ pub fn write_in_order<D: Disk>(
     requires differs { IsTrue D.tells → (cell_of (D.state disk.old).base (D.state disk.old).log b).settled ≢ second.now }
     ensures first { IsTrue D.tells → OnOk result (cell_of (D.state disk.old).base (D.state disk.new).log a ≡ record { settled = first.now; pending = [] }) }
     ensures second { IsTrue D.tells → OnOk result (accepted (D.state disk.old).base (D.state disk.new).log b ≡ second.now) }
-    ensures same { SameDisk (D.state disk.old) (D.state disk.new) }
-    ensures cause { HasCause result (D.state disk.old).faults (D.state disk.new).faults }
-    ensures read_faults { (D.state disk.new).read_faults ≡ (D.state disk.old).read_faults }
+    ensures spends { SpendsUpTo (is_err result) 1 (D.state disk.old) (D.state disk.new) }
     ensures window { IsTrue D.tells → Window (D.state disk.old).blocks (D.state disk.old).base (D.state disk.new).log (length (D.state disk.old).log)
         (λ img. img b ≡ second.now → img a ≡ first.now) }
 {

@@ -1,6 +1,6 @@
 -- What a choice says of a log's pending writes, and the blocks that a crash by it leaves.
-use Rattle.std.specs.Prelude.{◌≡◌, ℕ, ◌+◌, ◌<◌, ◌==◌, ◌&&◌, nat_le, Bool, false, IsTrue, if◌then◌else◌, List, [], ◌∷◌, ◌++◌, length, take, drop, Option, Some, None, Result, Ok, Err}
-use Rattle.std.specs.List.{list_any, list_all}
+use Rattle.std.specs.Prelude.{◌≡◌, ℕ, ◌+◌, ◌<◌, ◌≤◌, ◌==◌, ◌&&◌, nat_le, Bool, false, not, IsTrue, if◌then◌else◌, List, [], ◌∷◌, ◌++◌, length, take, drop, Option, Some, None, option_map, Result, Ok, Err}
+use Rattle.std.specs.List.{list_any, list_all, find}
 use Rattle.opt_base.specs.Seal.{Blocks, blocks_of}
 use Rattle.opt_disk.specs.declared.event.Event.{Event}
 use Rattle.opt_disk.specs.declared.event.Event.TheVariants.{Wrote, Lost, Noticed}
@@ -11,7 +11,7 @@ use Rattle.opt_memdisk.specs.declared.choice.Fate.{Fate}
 use Rattle.opt_memdisk.specs.declared.choice.Fate.TheVariants.{Stands, Torn}
 use Rattle.opt_memdisk.specs.declared.choice.Named.{Named}
 use Rattle.opt_memdisk.specs.declared.choice.ImageRefusal.{ImageRefusal}
-use Rattle.opt_memdisk.specs.declared.choice.ImageRefusal.TheVariants.{BadChoice, NoMemory}
+use Rattle.opt_memdisk.specs.declared.choice.ImageRefusal.TheVariants.{PastTheLog, NotPending, NoMemory}
 
 -- a choice: whether every pending accepted write stands, and what is said of single writes, one after the other
 pub record ChoiceState : Type 0 where
@@ -83,7 +83,7 @@ left_by None settled bytes before = before
 left_by (Some Stands) settled bytes before = bytes
 left_by (Some (Torn n)) settled bytes before = take n bytes ++ drop n settled
 
--- what stands in block b after these pending writes, where `before` stood
+-- what is in block b after these pending writes, where `before` stood
 abbrev pub left_after : ChoiceState → ℕ → List ℕ → List ℕ → List NamedWrite → List ℕ
 left_after c b settled before [] = before
 left_after c b settled before (w ∷ ws) = left_after c b settled (if w.block == b then left_by (fate c w.name) settled w.bytes before else before) ws
@@ -109,8 +109,17 @@ pub record AreBlocksOf (n : ℕ) (blocks : Blocks) (image : List (List ℕ)) : T
   pub count : length image ≡ n
   pub each : (b : ℕ) → b < n → blocks_of image b ≡ blocks b
 
--- what a call for an image gives: the chosen one exactly where the choice can be made; want of memory asks for nothing
+-- the first of these named writes that isn't pending after these events
+abbrev pub first_not_pending : List Event → List Named → Option WriteName
+first_not_pending log ns = option_map (λ n. n.write) (find (λ n. not (is_pending log n.write)) ns)
+
+-- why no image is made: the moment is past the log, or else a named write isn't pending then, and the first such one is given; out of memory asks for nothing
+abbrev pub Refuses : ChoiceState → ℕ → List Event → ImageRefusal → Type 0
+Refuses c moment log (PastTheLog asked events) = (length log < moment) × (asked ≡ moment) × (events ≡ length log)
+Refuses c moment log (NotPending write) = (moment ≤ length log) × (first_not_pending (take moment log) c.named ≡ Some write)
+Refuses c moment log NoMemory = Unit {0}
+
+-- what a call for an image gives: the chosen one exactly where the choice can be made, else why it can't
 abbrev pub GivesImage : List (List ℕ) → List Event → ℕ → ChoiceState → Result (List (List ℕ)) ImageRefusal → Type 0
 GivesImage base log moment c (Ok image) = IsTrue (can_choose c moment log) × AreBlocksOf (length base) (chosen c (blocks_of base) (take moment log)) image
-GivesImage base log moment c (Err BadChoice) = can_choose c moment log ≡ false
-GivesImage base log moment c (Err NoMemory) = Unit {0}
+GivesImage base log moment c (Err why) = Refuses c moment log why

@@ -6,7 +6,8 @@ use Rattle.opt_disk.specs.declared.event.Event.TheVariants.{Wrote, Lost, Noticed
 use Rattle.opt_memdisk.specs.declared.choice.Fate.{Fate}
 use Rattle.opt_memdisk.specs.declared.choice.Fate.TheVariants.{Stands}
 use Rattle.opt_memdisk.specs.declared.choice.ImageRefusal.{ImageRefusal}
-use Rattle.opt_memdisk.specs.declared.choice.ImageRefusal.TheVariants.{BadChoice}
+use Rattle.opt_memdisk.specs.declared.choice.WriteName.{WriteName}
+use Rattle.opt_memdisk.specs.declared.choice.ImageRefusal.TheVariants.{NotPending}
 use Rattle.opt_memdisk.specs.Choice.{left_by}
 
 -- what is said of an event before single writes are named
@@ -15,10 +16,10 @@ first_fate (Wrote ticket block bytes) all = if all then Some Stands else None
 first_fate (Lost block bytes) all = None
 first_fate (Noticed ticket) all = None
 
--- the answer where a named write is pending, and where it isn't
-abbrev pub pending_answer : Bool → Result (Unit {0}) ImageRefusal
-pending_answer true = Ok tt
-pending_answer false = Err BadChoice
+-- the answer where the write of this name is pending, and where it isn't
+abbrev pub pending_answer : WriteName → Bool → Result (Unit {0}) ImageRefusal
+pending_answer name true = Ok tt
+pending_answer name false = Err (NotPending name)
 
 -- whether an event is a write whose place p isn't before the settled place of its block
 abbrev pub is_past : List ℕ → ℕ → Event → Bool

@@ -1,7 +1,8 @@
 -- A bay of disks in memory as a value. It keeps no image, and its `make` and `open` fail.
 use Rattle.std.specs.Prelude.{ℕ, if◌then◌else◌, None}
 use Rattle.opt_disk.specs.Bay.{BayState, has_faults}
-use Rattle.opt_disk.specs.Disk.{State, next_count}
+use Rattle.opt_base.specs.Counts.{next_count}
+use Rattle.opt_disk.specs.Disk.{State}
 
 -- a bay: the room of its disks, and its counts
 pub record MemBayState : Type 0 where

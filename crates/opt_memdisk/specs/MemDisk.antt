@@ -1,4 +1,4 @@
--- A disk in memory as a value, and what each call makes of it. The rules are told in docs/DISK.md.
+-- A disk in memory as a value, and what each call makes of it. The rules are described in docs/DISK.md.
 use Rattle.std.specs.Prelude.{◌≡◌, ℕ, zero, suc, ◌+◌, ◌<◌, ◌==◌, ◌&&◌, ◌/◌, ◌%◌, nat_lt, Bool, true, false, not, if◌then◌else◌, List, [], ◌∷◌, ◌++◌, length, slice_index_or, Option, Some, None}
 use Rattle.std.specs.List.{slice_get, list_any}
 use Rattle.opt_base.specs.Seal.{Blocks, blocks_of}
@@ -6,7 +6,8 @@ use Rattle.opt_draw.specs.Draws.{next_state, drawn}
 use Rattle.opt_disk.specs.declared.event.Event.{Event}
 use Rattle.opt_disk.specs.declared.event.Event.TheVariants.{Wrote, Lost, Noticed}
 use Rattle.opt_disk.specs.Cell.{accepted, is_accepted, is_noticed}
-use Rattle.opt_disk.specs.Disk.{State, next_count}
+use Rattle.opt_base.specs.Counts.{next_count}
+use Rattle.opt_disk.specs.Disk.{State}
 use Rattle.opt_memdisk.specs.declared.calls.DiskCall.{DiskCall}
 use Rattle.opt_memdisk.specs.declared.calls.DiskCall.TheVariants as calls
 use Rattle.opt_memdisk.specs.declared.calls.Fail.{Fail}

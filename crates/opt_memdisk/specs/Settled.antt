@@ -20,7 +20,7 @@ pub record AreSettledPlaces (n : ℕ) (log : List Event) (places : List ℕ) : T
   pub size : length places ≡ n
   pub each : (b : ℕ) → b < n → IsSettledPlace log b (slice_index_or places b 0)
 
--- the name of the write at place p of these events, where so many were lost before them, or none where no write stands there
+-- the name of the write at place p of these events, where so many were lost before them, or none where no write is there
 abbrev pub name_from : ℕ → List Event → ℕ → Option WriteName
 name_from lost [] p = None
 name_from lost (Wrote t b x ∷ es) zero = Some (names.Accepted t)

@@ -13,7 +13,7 @@ use std::alloc::Global;
 use std::marker::Model;
 
 /// A bay that keeps nothing.
-#[derive(Drop)]
+#[derive(Debug, Drop)]
 pub struct MemBay {
     alloc: Global,
     room: u32,

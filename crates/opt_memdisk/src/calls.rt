@@ -1,5 +1,5 @@
 //! Which calls of a disk in memory are to fail: by their kind, and by how many of that kind came by
-//! then. What a call that fails leaves behind isn't told here.
+//! then. What a call that fails leaves behind isn't described here.
 
 ghost use Rattle.std.specs.Prelude.{◌≡◌, ◌&&◌, ◌==◌};
 ghost use Rattle.opt_memdisk.specs.MemDisk.{same_call, is_listed};

@@ -6,7 +6,7 @@ ghost use Rattle.opt_memdisk.specs.Choice.{ChoiceState, with_fate};
 ghost use Rattle.opt_memdisk.specs.declared.choice.Fate.TheVariants.{Stands, Torn};
 
 use opt_base::NoMemory;
-use std::alloc::Global;
+use std::alloc::{AllocError, Global};
 use std::error::Error;
 use std::fmt;
 use std::marker::Model;
@@ -18,6 +18,15 @@ pub enum WriteName {
     Accepted { ticket: u64 },
     /// A lost write by its number among those of the log, in their order, counted from 1.
     Lost { number: u64 },
+}
+
+impl fmt::Display for WriteName {
+    fn fmt<W: fmt::Write>(&self, f: &mut fmt::Formatter<W>) -> fmt::Result {
+        match self {
+            WriteName::Accepted { ticket } => write!(f, "the write of ticket {ticket}"),
+            WriteName::Lost { number } => write!(f, "the lost write {number}"),
+        }
+    }
 }
 
 /// What is on the medium of a pending write.
@@ -40,7 +49,7 @@ pub struct Named {
 /// named nothing is on the medium, but for accepted ones where all of them stand. A write that is both to
 /// stand and torn is torn, and where it is torn twice the later one counts. Of several writes to one block
 /// that are on the medium the last of the log counts.
-#[derive(Drop)]
+#[derive(Debug, Drop)]
 pub struct Choice {
     all: bool,
     named: Vec<Named>,
@@ -78,7 +87,7 @@ impl Choice {
     /// This write stands, unless it is torn.
     ///
     /// # Errors
-    /// Want of memory, and the choice stays as it was.
+    /// Out of memory, and the choice stays as it was.
     pub fn stand(&mut self, write: WriteName) -> Result<(), NoMemory>
         ensures done { OnOk result (self.new ≡ with_fate self.old write Stands) }
         ensures same { OnErr result (self.new ≡ self.old) }
@@ -90,10 +99,11 @@ impl Choice {
         Ok(())
     }
 
-    /// This write is torn behind so many bytes.
+    /// This write is torn behind so many bytes. Behind 0 bytes it leaves the settled content of its block,
+    /// also where an earlier write to the block stands. So that isn't as if it weren't named.
     ///
     /// # Errors
-    /// Want of memory, and the choice stays as it was.
+    /// Out of memory, and the choice stays as it was.
     pub fn tear(&mut self, write: WriteName, bytes: u16) -> Result<(), NoMemory>
         ensures done { OnOk result (self.new ≡ with_fate self.old write (Torn bytes)) }
         ensures same { OnErr result (self.new ≡ self.old) }
@@ -120,22 +130,68 @@ impl Choice {
     }
 }
 
+/// Equal choices say the same, in the same order.
+impl PartialEq for Choice {
+    ghost use mathlib.Core.Bool.{beq};
+    ghost use Rattle.std.specs.Ordering.{on, eq_of_both};
+    ghost use Rattle.std.specs.Cmp.{partial_equiv_from_equiv, and_equiv, on_equiv, bool_eq_equiv};
+    ghost use Rattle.std.specs.Cmp.Lexicographic.{pointwise, lists_equiv};
+    ghost use Rattle.opt_memdisk.specs.contracts.choice.NamedPartialEq.TheImpl as named;
+    ghost use Rattle.opt_memdisk.specs.contracts.choice.NamedEq.TheImpl.Laws as named_laws;
+
+    ghost eq = { eq_of_both (on (λ c. c.all) beq) (on (λ c. c.named) (pointwise named.ghosts.eq)) };
+
+    ghost laws = { partial_equiv_from_equiv (and_equiv (on_equiv (λ c. c.all) bool_eq_equiv) (on_equiv (λ c. c.named) (lists_equiv named_laws.laws-law))) };
+
+    fn eq(&self, other: &Choice) -> bool {
+        self.all == other.all && self.named.as_slice() == other.named.as_slice()
+    }
+}
+
+impl Eq for Choice {
+    ghost use Rattle.std.specs.Cmp.{and_equiv, on_equiv, bool_eq_equiv};
+    ghost use Rattle.std.specs.Cmp.Lexicographic.{lists_equiv};
+    ghost use Rattle.opt_memdisk.specs.contracts.choice.NamedEq.TheImpl.Laws as named_laws;
+
+    ghost laws = { and_equiv (on_equiv (λ c. c.all) bool_eq_equiv) (on_equiv (λ c. c.named) (lists_equiv named_laws.laws-law)) };
+}
+
+/// A clone is the same choice.
+impl Clone for Choice {
+    ghost use Rattle.std.specs.Prelude.{◌≡◌};
+
+    ghost is_clone = { λ choice clone. clone ≡ choice };
+
+    fn clone(&self) -> Result<Choice, AllocError> {
+        let named = self.named.clone()?;
+        Ok(Choice {
+            all: self.all,
+            named,
+        })
+    }
+}
+
 /// Why no image was made.
 #[derive(Clone, Copy, Debug, PartialEq, Eq)]
 pub enum ImageRefusal {
-    /// The moment is past the log, or a write that the choice names isn't pending then.
-    BadChoice,
-    /// Want of memory.
+    /// The moment is past the log, which has only so many events.
+    PastTheLog { moment: u64, events: u64 },
+    /// The first write that the choice names and that isn't pending at the moment.
+    NotPending { write: WriteName },
+    /// Out of memory.
     NoMemory,
 }
 
 impl fmt::Display for ImageRefusal {
     fn fmt<W: fmt::Write>(&self, f: &mut fmt::Formatter<W>) -> fmt::Result {
         match self {
-            ImageRefusal::BadChoice => write!(
-                f,
-                "the moment is past the log, or a named write isn't pending"
-            ),
+            ImageRefusal::PastTheLog { moment, events } => {
+                write!(
+                    f,
+                    "moment {moment} is past the log, whose last moment is {events}"
+                )
+            }
+            ImageRefusal::NotPending { write } => write!(f, "{write} isn't pending"),
             ImageRefusal::NoMemory => write!(f, "no memory"),
         }
     }

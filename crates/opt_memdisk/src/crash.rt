@@ -9,8 +9,7 @@ ghost use Rattle.opt_disk.specs.declared.event.Event.{Event};
 ghost use Rattle.opt_disk.specs.Lawful.{IsLawful};
 ghost use Rattle.opt_memdisk.specs.Log.{AreWithin};
 ghost use Rattle.opt_memdisk.specs.declared.choice.Named.{Named};
-ghost use Rattle.opt_memdisk.specs.declared.choice.ImageRefusal.TheVariants.{BadChoice};
-ghost use Rattle.opt_memdisk.specs.Choice.{ChoiceState, chosen, is_pending, joined, left_by, AreBlocksOf, GivesImage};
+ghost use Rattle.opt_memdisk.specs.Choice.{ChoiceState, chosen, is_pending, joined, left_by, AreBlocksOf, GivesImage, Refuses};
 ghost use Rattle.opt_memdisk.specs.Crash.{first_fate, pending_answer, is_past, put_event};
 ghost use Rattle.opt_memdisk.specs.Settled.{AreSettledPlaces, AreFates};
 
@@ -25,8 +24,8 @@ use std::alloc::Global;
 /// The image that a crash after the first `moment` events leaves by a choice.
 ///
 /// # Errors
-/// `BadChoice` exactly where the moment is past the log, or a write that the choice names isn't pending
-/// then; want of memory.
+/// `PastTheLog` where the moment is past the log. Else `NotPending` where a write that the choice names isn't
+/// pending at the moment, with the first such one. Out of memory.
 pub(crate) fn image_at(
     alloc: Global,
     base: &Image,
@@ -39,7 +38,10 @@ pub(crate) fn image_at(
 {
     let events = log.events();
     if moment > events.len() as u64 {
-        return Err(ImageRefusal::BadChoice);
+        return Err(ImageRefusal::PastTheLog {
+            moment,
+            events: events.len() as u64,
+        });
     }
     let moment = moment as usize;
     let places = settled_places(alloc, log, base.blocks(), moment)?;
@@ -63,7 +65,7 @@ fn fates(
     requires places { AreSettledPlaces (length places.now) (take moment log.now.events) places.now }
     ensures fates { IfOk result (λ fates. AreFates (take moment log.now.events) choice.now.all choice.now.named fates.items) }
     ensures pending { OnOk result (IsTrue (list_all (λ n. is_pending (take moment log.now.events) n.write) choice.now.named)) }
-    ensures bad { IfErr result (λ why. why ≡ BadChoice → list_all (λ n. is_pending (take moment log.now.events) n.write) choice.now.named ≡ false) }
+    ensures bad { IfErr result (λ why. Refuses choice.now moment log.now.events why) }
 {
     let mut fates = fates_at_first(alloc, log, moment, choice.stands_all())?;
     for named in choice.named() {
@@ -111,17 +113,18 @@ fn name_fate(
     requires within { AreWithin (length places.now) log.now.events }
     requires there { length fates.old ≤ length log.now.events }
     requires places { AreSettledPlaces (length places.now) (take (length fates.old) log.now.events) places.now }
-    ensures answer { result ≡ pending_answer (is_pending (take (length fates.old) log.now.events) named.write) }
+    ensures answer { result ≡ pending_answer named.write (is_pending (take (length fates.old) log.now.events) named.write) }
     ensures fates { OnOk result ((all : Bool) (said : List Named) → AreFates (take (length fates.old) log.now.events) all said fates.old → AreFates (take (length fates.old) log.now.events) all (said ++ named ∷ []) fates.new) }
 {
+    let refusal = ImageRefusal::NotPending { write: named.write };
     let Some(place) = log.place_of(named.write) else {
-        return Err(ImageRefusal::BadChoice);
+        return Err(refusal);
     };
     if place >= fates.len() {
-        return Err(ImageRefusal::BadChoice);
+        return Err(refusal);
     }
     if !is_pending_at(event_at(log, place), places, place) {
-        return Err(ImageRefusal::BadChoice);
+        return Err(refusal);
     }
     fates[place] = Some(joined(fates[place], named.fate));
     Ok(())

@@ -1,12 +1,13 @@
 //! A disk in memory. It keeps the blocks that it began with and its log, in which the bytes of each write
-//! stand once. Which calls fail, and which notices its polls have, is told to it. The rules are told in
+//! are kept once. Which calls fail, and which notices its polls have, is set by its caller. The rules are described in
 //! docs/DISK.md.
 
 ghost use Rattle.std.specs.Prelude.{◌≡◌, ◌<◌, ◌≤◌, ◌+◌, ◌^◌, ℕ, Bool, true, false, not, List, length, Ok, Err, None, is_ok, is_err, option_map, take, IfOk, OnOk, OnErr, IsTrue, if◌then◌else◌};
 ghost use Rattle.std.specs.List.{slice_get};
 ghost use Rattle.opt_base.specs.Seal.{blocks_of};
 ghost use Rattle.opt_disk.specs.Cell.{accepted, greatest_ticket, is_accepted, is_noticed, IsNoticed};
-ghost use Rattle.opt_disk.specs.Disk.{IsOpen, HasCause, Reads, AddsWrite, AddsPoll, AddsNotices, SameDisk, next_count};
+ghost use Rattle.opt_base.specs.Counts.{HasCause, next_count};
+ghost use Rattle.opt_disk.specs.Disk.{IsOpen, Reads, AddsWrite, AddsPoll, AddsNotices, SameDisk};
 ghost use Rattle.opt_disk.specs.Bay.{zero_blocks};
 ghost use Rattle.opt_disk.specs.Crash.{IsImage};
 ghost use Rattle.opt_disk.specs.Lawful.{IsLawful};
@@ -29,7 +30,7 @@ use std::alloc::Global;
 use std::marker::Model;
 
 /// A disk of the blocks of an image.
-#[derive(Drop)]
+#[derive(Debug, Drop)]
 pub struct MemDisk {
     base: Image,
     /// For each block one more than the place in the log of its last accepted write, or 0.
@@ -59,7 +60,7 @@ impl MemDisk {
     /// A disk of so many blocks of zeros that has room for so many writes.
     ///
     /// # Errors
-    /// Want of memory for all of the room.
+    /// Out of memory for all of the room.
     pub fn blank(alloc: Global, blocks: u32, room: u32) -> Result<MemDisk, NoMemory>
         ensures { IfOk result (λ disk. disk ≡ begun (zero_blocks blocks) room) }
     {
@@ -72,7 +73,7 @@ impl MemDisk {
     /// Its polls have no notices, and no call is listed to fail.
     ///
     /// # Errors
-    /// Want of memory for all of the room.
+    /// Out of memory for all of the room.
     pub fn of_image(alloc: Global, image: Image, room: u32) -> Result<MemDisk, NoMemory>
         ensures { IfOk result (λ disk. disk ≡ begun image room) }
     {
@@ -85,7 +86,7 @@ impl MemDisk {
     /// writes. The log must be one that the calls of a disk of these blocks can leave.
     ///
     /// # Errors
-    /// Want of memory.
+    /// Out of memory.
     pub fn of_log(alloc: Global, image: Image, log: Vec<Event>) -> Result<MemDisk, NoMemory>
         requires lawful { IsLawful log.items }
         requires within { AreWithin (length image) log.items }
@@ -129,7 +130,7 @@ impl MemDisk {
     /// they do, nothing happens. The list takes the place of the one before.
     ///
     /// # Errors
-    /// Want of memory, and the list stays as it was.
+    /// Out of memory, and the list stays as it was.
     pub fn fail_at(&mut self, alloc: Global, list: &[Fail]) -> Result<(), NoMemory>
         ensures done { OnOk result (self.new ≡ record self.old { fails = list.now }) }
         ensures same { OnErr result (self.new ≡ self.old) }
@@ -149,8 +150,8 @@ impl MemDisk {
     /// The image that a crash after the first `moment` events leaves by a choice.
     ///
     /// # Errors
-    /// `BadChoice` exactly where the moment is past the log, or a write that the choice names isn't pending
-    /// then; want of memory.
+    /// `PastTheLog` exactly where the moment is past the log. Else `NotPending` exactly where a write that
+    /// the choice names isn't pending at the moment, with the first such one. Out of memory.
     pub fn image(&self, alloc: Global, moment: u64, choice: &Choice) -> Result<Image, ImageRefusal>
         ensures image { GivesImage self.now.base self.now.log moment choice.now result }
         ensures crash { IfOk result (λ image. IsImage (length self.now.base) (blocks_of self.now.base) (take moment self.now.log) (blocks_of image)) }

@@ -6,7 +6,7 @@ ghost use Rattle.opt_disk.specs.Bay.{zero_blocks};
 ghost use Rattle.opt_memdisk.specs.Image.{AreBlocks};
 
 use opt_base::{Block, NoMemory};
-use std::alloc::Global;
+use std::alloc::{AllocError, Global};
 use std::marker::Model;
 
 /// A list of blocks, which contracts see as that list.
@@ -30,7 +30,7 @@ impl Image {
     /// So many blocks of zeros.
     ///
     /// # Errors
-    /// Want of memory.
+    /// Out of memory.
     pub fn zeros(alloc: Global, n: u32) -> Result<Image, NoMemory>
         ensures { IfOk result (λ image. image ≡ zero_blocks n) }
     {
@@ -44,7 +44,7 @@ impl Image {
     /// The same blocks once more.
     ///
     /// # Errors
-    /// Want of memory.
+    /// Out of memory.
     pub fn copy(&self, alloc: Global) -> Result<Image, NoMemory>
         ensures { IfOk result (λ image. image ≡ self.now) }
     {
@@ -82,5 +82,39 @@ impl Image {
         ensures blocks { AreBlocks self.now }
     {
         self.blocks.as_slice()
+    }
+}
+
+/// Equal images have the same blocks.
+impl PartialEq for Image {
+    ghost use Rattle.std.specs.Prelude.{bytes_eq};
+    ghost use Rattle.std.specs.Cmp.{partial_equiv_from_equiv};
+    ghost use Rattle.std.specs.Cmp.Lexicographic.{pointwise, lists_equiv, nat_list_eq_equiv};
+
+    ghost eq = { λ left right. pointwise bytes_eq left right };
+
+    ghost laws = { partial_equiv_from_equiv (lists_equiv nat_list_eq_equiv) };
+
+    fn eq(&self, other: &Image) -> bool {
+        self.blocks.as_slice() == other.blocks.as_slice()
+    }
+}
+
+impl Eq for Image {
+    ghost use Rattle.std.specs.Cmp.Lexicographic.{lists_equiv, nat_list_eq_equiv};
+
+    ghost laws = { lists_equiv nat_list_eq_equiv };
+}
+
+/// A clone is the same image.
+impl Clone for Image {
+    ghost use Rattle.std.specs.Prelude.{◌≡◌};
+
+    ghost is_clone = { λ image clone. clone ≡ image };
+
+    fn clone(&self) -> Result<Image, AllocError> {
+        let alloc = *self.blocks.allocator();
+        let blocks = Vec::from_slice(alloc, self.blocks.as_slice())?;
+        Ok(Image { blocks })
     }
 }

@@ -1,6 +1,6 @@
 //! A disk in memory that keeps its log, the images that it begins with and that crashes leave of it, and a
-//! bay of such disks. It is for tests and for runs that are told what a disk does; nothing here outlives
-//! the program. The rules are told in docs/DISK.md.
+//! bay of such disks. It is for tests and for runs that say what a disk does; nothing here outlives
+//! the program. The rules are described in docs/DISK.md.
 #![tactic(auto)]
 
 mod bay;
@@ -13,8 +13,6 @@ mod laws;
 mod log;
 mod rule;
 mod settled;
-#[cfg(test)]
-mod tests;
 
 pub use bay::MemBay;
 pub use calls::{DiskCall, Fail};

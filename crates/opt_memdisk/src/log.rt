@@ -18,6 +18,7 @@ use opt_base::{Block, NoMemory};
 use opt_disk::{BoxedBlock, Event};
 use opt_ranks::Ranks;
 use std::alloc::Global;
+use std::fmt;
 use std::marker::Model;
 
 /// The events of a disk.
@@ -49,11 +50,21 @@ impl Model for Log {
     ghost invariant = { λ l. IsKept l.events.items l.tickets.items l.places.items l.lost.items l.unnoticed l.room (length l.boxes.items) (vec_capacity l.events) (vec_capacity l.tickets) (vec_capacity l.places) (vec_capacity l.lost) };
 }
 
+/// The events and the room alone.
+impl fmt::Debug for Log {
+    fn fmt<W: fmt::Write>(&self, f: &mut fmt::Formatter<W>) -> fmt::Result {
+        f.debug_struct("Log")
+            .field("events", &self.events)
+            .field("room", &self.room)
+            .finish_non_exhaustive()
+    }
+}
+
 impl Log {
     /// No events, and room for so many writes and a notice of each, with boxes for their bytes.
     ///
     /// # Errors
-    /// Want of memory for all of the room.
+    /// Out of memory for all of the room.
     pub(crate) fn new(alloc: Global, room: u32) -> Result<Log, NoMemory>
         ensures { IfOk result (λ log. log ≡ record { events = []; room = room; boxes = room }) }
     {
@@ -65,7 +76,7 @@ impl Log {
     /// These events, and no room for more writes.
     ///
     /// # Errors
-    /// Want of memory.
+    /// Out of memory.
     pub(crate) fn of_events(alloc: Global, events: Vec<Event>) -> Result<Log, NoMemory>
         requires { IsLawful events.items }
         ensures { IfOk result (λ log. log ≡ record { events = events.items; room = write_count events.items; boxes = 0 }) }
@@ -149,7 +160,7 @@ impl Log {
         }
     }
 
-    // Where this ticket stands in the row of tickets.
+    // Where this ticket is in the row of tickets.
     fn index_of(&self, ticket: u64) -> Option<usize>
         ensures there { IfSome result (λ i. slice_get (tickets self.now.events) i ≡ Some ticket) }
         ensures short { IfSome result (λ i. i + 1 < 4294967296) }
@@ -314,7 +325,7 @@ fn place_in(row: &[u64], number: u64) -> Option<usize>
     row.binary_search(&number).ok()
 }
 
-// What stands in a row at this number, where the first is 1.
+// What is in a row at this number, where the first is 1.
 fn numbered(row: &[usize], number: u64) -> Option<usize>
     requires { 0 < number }
     ensures { result ≡ slice_get row.now (number - 1) }

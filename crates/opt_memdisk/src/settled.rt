@@ -1,5 +1,5 @@
 //! For each block of a disk in memory, which write its settled content is of at a moment. What a choice
-//! does to pending writes isn't told here.
+//! does to pending writes isn't described here.
 
 ghost use Rattle.std.specs.Prelude.{ℕ, ◌≡◌, ◌+◌, ◌<◌, ◌≤◌, length, take, Some, IfOk};
 ghost use Rattle.std.specs.List.{slice_get};
@@ -21,7 +21,7 @@ use std::alloc::Global;
 /// the first `moment` events, or 0 where there is none.
 ///
 /// # Errors
-/// Want of memory.
+/// Out of memory.
 pub(crate) fn settled_places(
     alloc: Global,
     log: &Log,
@@ -94,7 +94,7 @@ pub(crate) fn settled_bytes<'a>(
 /// The settled contents of all blocks, which have these places.
 ///
 /// # Errors
-/// Want of memory.
+/// Out of memory.
 pub(crate) fn settled_image(
     alloc: Global,
     base: &Image,

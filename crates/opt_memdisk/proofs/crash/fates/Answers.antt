@@ -1,6 +1,7 @@
 use Rattle.std.proofs.Common.{subst, refl, sym, take, []}
+use Rattle.opt_memdisk.specs.Choice.{Refuses}
 use Rattle.opt_memdisk.specs.Settled.{AreFates}
-use Rattle.opt_memdisk.proofs.FateEach.{one_more, all_named, all_pending}
+use Rattle.opt_memdisk.proofs.crash_images.FateEach.{fates_count, refused, handed_on, one_more, all_named, all_pending}
 use Rattle.opt_memdisk.proofs.crash.fates.Goals as goal
 
 pub loop-named-init : goal.loop-named-init
@@ -15,3 +16,10 @@ returns-clause-fates c = all_named (take c.args.moment c.args.log.now.events) c.
 
 pub returns-clause-pending : goal.returns-clause-pending
 returns-clause-pending c = all_pending (take c.args.moment c.args.log.now.events) c.named-named-items.result.now c.args.choice.now.named c.loop-named.named-index c.loop-named-test.false c.named-named-items.ensures c.loop-named.invariant.1
+
+pub returns-in_err-name_fate-clause-bad : goal.returns-in_err-name_fate-clause-bad
+returns-in_err-name_fate-clause-bad c =
+    let its : Refuses c.args.choice.now c.args.moment c.args.log.now.events c.in_err-name_fate.field-0.0 =
+    refused c.args.choice.now c.args.moment _ c.args.log.now.events c.named-named-items.result.now c.loop-named.named-index _ _ c.requires.there c.loop-named-test.true
+    (fates_count c.args.log.now.events c.args.moment c.args.choice.now.all _ c.loop-named.fates.items c.as_mut_slice.result.now c.requires.there c.as_mut_slice.ensures.value c.loop-named.invariant.0) c.named-named-items.ensures c.loop-named.invariant.1 c.in_err-name_fate.ensures.answer in
+    handed_on c.from_residual-in_err-name_fate.result (Refuses c.args.choice.now c.args.moment c.args.log.now.events) c.in_err-name_fate.field-0.0 c.from_residual-in_err-name_fate.ensures.1 its

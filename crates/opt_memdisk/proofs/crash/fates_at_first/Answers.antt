@@ -1,7 +1,7 @@
 use Rattle.std.proofs.Common.{◌≡◌, ◌∙◌, ap, arith, length, take, is_ok, length-take}
 use Rattle.std.proofs.lemmas.Bool.{cond-true}
 use Rattle.std.proofs.lemmas.List.{length-map}
-use Rattle.opt_memdisk.proofs.FateSaid.{first_step, first_end}
+use Rattle.opt_memdisk.proofs.crash_images.FateSaid.{first_step, first_end}
 use Rattle.opt_memdisk.proofs.crash.fates_at_first.Goals as goal
 
 pub loop-event-init : goal.loop-event-init

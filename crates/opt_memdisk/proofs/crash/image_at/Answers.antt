@@ -1,8 +1,8 @@
 use Rattle.std.proofs.Common.{◌≤◌, refl, subst, length}
 use Rattle.opt_base.specs.Seal.{blocks_of}
-use Rattle.opt_memdisk.proofs.PutImage.{settled_there, whole, can}
+use Rattle.opt_memdisk.proofs.crash_images.PutImage.{settled_there, whole, can}
 use Rattle.opt_memdisk.proofs.crash.image_at.Goals as goal
-use Rattle.opt_memdisk.proofs.FateEach.{fates_count}
+use Rattle.opt_memdisk.proofs.crash_images.FateEach.{fates_count}
 
 pub put_pending-requires-clause-size : goal.put_pending-requires-clause-size
 put_pending-requires-clause-size c =

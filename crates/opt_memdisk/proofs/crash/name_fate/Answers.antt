@@ -1,20 +1,20 @@
 use Rattle.std.proofs.Common.{true, false, length, Some, None, sym, ap}
 use Rattle.std.proofs.lemmas.Option.{slice_get-get_or}
 use Rattle.opt_memdisk.specs.Crash.{pending_answer}
-use Rattle.opt_memdisk.proofs.FateFound.{unknown, to_come, answered, named_there}
+use Rattle.opt_memdisk.proofs.crash_images.FateFound.{unknown, to_come, answered, named_there}
 use Rattle.opt_memdisk.proofs.crash.name_fate.Goals as goal
-use Rattle.opt_memdisk.proofs.Events.{one_within}
+use Rattle.opt_memdisk.proofs.log_rows.Events.{one_within}
 
 pub returns-in_default-clause-answer : goal.returns-in_default-clause-answer
-returns-in_default-clause-answer c = ap pending_answer (sym (unknown _ _ _ c.in_default.ensures.none))
+returns-in_default-clause-answer c = ap (pending_answer c.args.named.write) (sym (unknown _ _ _ c.in_default.ensures.none))
 
 pub returns-then-place-fates-clause-answer : goal.returns-then-place-fates-clause-answer
-returns-then-place-fates-clause-answer c = ap pending_answer (sym (to_come _ _ _ _ c.requires.lawful c.in-Some.ensures.there c.if-place-fates.true))
+returns-then-place-fates-clause-answer c = ap (pending_answer c.args.named.write) (sym (to_come _ _ _ _ c.requires.lawful c.in-Some.ensures.there c.if-place-fates.true))
 
 pub is_pending_at-requires : goal.is_pending_at-requires
 is_pending_at-requires c = one_within (length c.args.places.now) c.args.log.now.events c.in-Some.place c.event_at.result.now c.requires.within c.event_at.ensures
 
--- whether the named write is pending is told by the event of its place
+-- whether the named write is pending is described by the event of its place
 pub returns-then-not-is_pending_at-clause-answer : goal.returns-then-not-is_pending_at-clause-answer
 returns-then-not-is_pending_at-clause-answer c = answered (length c.args.places.now) c.args.log.now.events c.args.places.now (length c.args.fates.now) c.in-Some.place c.event_at.result.now c.args.named.write false
     c.requires.lawful c.requires.within c.requires.places c.event_at.ensures c.in-Some.ensures.there c.if-place-fates.false c.if-not-is_pending_at.ensures

@@ -1,6 +1,6 @@
 use Rattle.std.proofs.Common.{◌∙◌, ap, arith, length, Some}
 use Rattle.opt_memdisk.proofs.crash.put_event.Goals as goal
-use Rattle.opt_memdisk.proofs.Events.{write_within, lost_within}
+use Rattle.opt_memdisk.proofs.log_rows.Events.{write_within, lost_within}
 
 pub bounds-places-block : goal.bounds-places-block
 bounds-places-block c =

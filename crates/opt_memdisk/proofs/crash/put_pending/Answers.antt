@@ -1,7 +1,7 @@
 use Rattle.std.proofs.Common.{◌∙◌, sym, ap, subst, length, take, ◌+◌, arith, length-take}
 use Rattle.opt_base.specs.Seal.{blocks_of}
-use Rattle.opt_memdisk.proofs.PutWalk.{AreLeft, walk_start, walk_end}
-use Rattle.opt_memdisk.proofs.PutLoop.{puts_count, over_put, over_none}
+use Rattle.opt_memdisk.proofs.crash_images.PutWalk.{AreLeft, walk_start, walk_end}
+use Rattle.opt_memdisk.proofs.crash_images.PutLoop.{puts_count, over_put, over_none}
 use Rattle.opt_memdisk.proofs.crash.put_pending.Goals as goal
 use Rattle.opt_memdisk.proofs.crash.put_pending.Goals.{in-Some, in_default}
 

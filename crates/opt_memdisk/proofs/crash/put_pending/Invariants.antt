@@ -2,7 +2,7 @@ use Rattle.std.proofs.Common.{◌≡◌, length, take}
 use Rattle.opt_base.specs.Seal.{blocks_of}
 use Rattle.opt_memdisk.specs.Choice.{ChoiceState}
 use Rattle.opt_memdisk.specs.Settled.{AreFates}
-use Rattle.opt_memdisk.proofs.PutWalk.{AreLeft}
+use Rattle.opt_memdisk.proofs.crash_images.PutWalk.{AreLeft}
 use Rattle.opt_memdisk.proofs.crash.put_pending.Given as goal
 
 abbrev pub invariant-loop-place : goal.invariant-loop-place

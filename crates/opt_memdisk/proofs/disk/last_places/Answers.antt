@@ -1,5 +1,5 @@
 use Rattle.std.proofs.Common.{◌+◌, subst, sym, arith, take}
-use Rattle.opt_memdisk.proofs.LastFound.{AreFound, found_within, found_wrote, found_other}
+use Rattle.opt_memdisk.proofs.disk_calls.LastFound.{AreFound, found_within, found_wrote, found_other}
 use Rattle.opt_memdisk.proofs.disk.last_places.Goals.{in-Wrote, in_default}
 use Rattle.opt_memdisk.proofs.disk.last_places.Goals as goal
 

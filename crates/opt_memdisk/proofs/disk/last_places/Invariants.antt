@@ -1,5 +1,5 @@
 use Rattle.std.proofs.Common.{take}
-use Rattle.opt_memdisk.proofs.LastFound.{AreFound}
+use Rattle.opt_memdisk.proofs.disk_calls.LastFound.{AreFound}
 use Rattle.opt_memdisk.proofs.disk.last_places.Given as goal
 
 abbrev pub invariant-loop-place : goal.invariant-loop-place

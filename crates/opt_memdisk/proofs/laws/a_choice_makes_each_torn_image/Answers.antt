@@ -1,4 +1,4 @@
-use Rattle.opt_memdisk.proofs.TornChoices.{choice_of_torn}
+use Rattle.opt_memdisk.proofs.crash_images.TornChoices.{choice_of_torn}
 use Rattle.opt_memdisk.proofs.laws.a_choice_makes_each_torn_image.Goals as goal
 
 pub returns : goal.returns

@@ -1,4 +1,4 @@
-use Rattle.opt_memdisk.proofs.PendingCells.{pending_of_cells}
+use Rattle.opt_memdisk.proofs.settled_places.PendingCells.{pending_of_cells}
 use Rattle.opt_memdisk.proofs.laws.pending_writes_are_those_of_the_cells.Goals as goal
 
 pub returns : goal.returns

@@ -1,4 +1,4 @@
-use Rattle.opt_memdisk.proofs.RowSearch.{absent}
+use Rattle.opt_memdisk.proofs.log_rows.RowSearch.{absent}
 use Rattle.opt_memdisk.proofs.log.place_in.Goals as goal
 
 pub returns-clause-none : goal.returns-clause-none

@@ -1,7 +1,7 @@
 use Rattle.std.proofs.Common.{◌∙◌, rules, tests}
 use Rattle.std.proofs.lemmas.Iterator.{YieldsList-from_slice}
 use Rattle.std.proofs.lemmas.Iterator.Consumers.{count_from_yields_List, YieldsList-from_filter}
-use Rattle.opt_memdisk.proofs.RowCount.{is_write, length-writes}
+use Rattle.opt_memdisk.proofs.log_rows.RowCount.{is_write, length-writes}
 use Rattle.opt_memdisk.proofs.log.write_count.Goals as goal
 
 pub returns : goal.returns

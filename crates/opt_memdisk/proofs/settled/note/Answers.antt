@@ -2,13 +2,13 @@ use Rattle.std.proofs.Common.{◌≡◌, length, Some, ap, arith}
 use Rattle.std.specs.List.{slice_get}
 use Rattle.opt_disk.specs.declared.event.Event.TheVariants.{Wrote}
 use Rattle.opt_memdisk.specs.declared.choice.WriteName.TheVariants as names
-use Rattle.opt_memdisk.proofs.SettledMoments.{read_there, read_other, places_here, places_later, notice_has_place}
+use Rattle.opt_memdisk.proofs.settled_places.SettledMoments.{read_there, read_other, places_here, places_later, notice_has_place}
 use Rattle.opt_memdisk.proofs.settled.note.Goals as goal
 use Rattle.opt_memdisk.proofs.settled.note.Goals.{In-Wrote}
-use Rattle.opt_memdisk.proofs.Events.{write_within}
-use Rattle.opt_memdisk.proofs.FateNames.{name_within}
+use Rattle.opt_memdisk.proofs.log_rows.Events.{write_within}
+use Rattle.opt_memdisk.proofs.crash_images.FateNames.{name_within}
 
--- the write of the ticket stands at the place that was found
+-- the write of the ticket is at the place that was found
 stands : (c : In-Wrote) → slice_get c.args.log.now.events c.in-Some.place ≡ Some (Wrote c.args.ticket c.in-Wrote.block c.in-Wrote.bytes)
 stands c = read_there c.events-events.result.now c.args.log.now.events c.in-Some.place c.args.ticket c.in-Wrote.ticket c.in-Wrote.block c.in-Wrote.bytes c.index-events-place.result c.events-events.ensures.value c.index-events-place.is c.in-Wrote.is c.in-Some.ensures.there
 

@@ -1,6 +1,6 @@
 use Rattle.std.proofs.Common.{Some, ap, ◌∙◌}
 use Rattle.opt_disk.specs.declared.event.Event.{Event}
-use Rattle.opt_memdisk.proofs.SettledMoments.{places_wrote, places_lost}
+use Rattle.opt_memdisk.proofs.settled_places.SettledMoments.{places_wrote, places_lost}
 use Rattle.opt_memdisk.proofs.settled.pass.Goals as goal
 
 pub returns-in-Lost : goal.returns-in-Lost

@@ -2,7 +2,7 @@ use Rattle.std.proofs.Common.{[], ◌∷◌, ap}
 use Rattle.opt_base.specs.Seal.{blocks_of}
 use Rattle.opt_disk.specs.declared.event.Event.{Event}
 use Rattle.opt_memdisk.specs.Log.{tickets}
-use Rattle.opt_memdisk.proofs.SettledBytes.{bytes_zero, bytes_wrote, no_other, no_end}
+use Rattle.opt_memdisk.proofs.settled_places.SettledBytes.{bytes_zero, bytes_wrote, no_other, no_end}
 use Rattle.opt_memdisk.proofs.settled.settled_bytes.Goals as goal
 
 pub returns-then-place-eq0-clause-bytes : goal.returns-then-place-eq0-clause-bytes

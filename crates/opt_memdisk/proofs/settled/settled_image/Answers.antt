@@ -1,5 +1,5 @@
 use Rattle.std.proofs.Common.{arith}
-use Rattle.opt_memdisk.proofs.SettledImages.{image_start, image_more, image_whole}
+use Rattle.opt_memdisk.proofs.settled_places.SettledImages.{image_start, image_more, image_whole}
 use Rattle.opt_memdisk.proofs.settled.settled_image.Goals as goal
 
 pub loop-block-init : goal.loop-block-init

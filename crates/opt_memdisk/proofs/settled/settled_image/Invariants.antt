@@ -1,4 +1,4 @@
-use Rattle.opt_memdisk.proofs.SettledImages.{AreSettledTo}
+use Rattle.opt_memdisk.proofs.settled_places.SettledImages.{AreSettledTo}
 use Rattle.opt_memdisk.proofs.settled.settled_image.Given as goal
 
 abbrev pub invariant-loop-block : goal.invariant-loop-block

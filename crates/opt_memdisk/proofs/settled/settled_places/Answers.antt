@@ -1,6 +1,6 @@
 use Rattle.std.proofs.Common.{[], sym, subst}
 use Rattle.opt_memdisk.specs.Settled.{AreSettledPlaces}
-use Rattle.opt_memdisk.proofs.SettledMoments.{places_start, places_passed, places_walked}
+use Rattle.opt_memdisk.proofs.settled_places.SettledMoments.{places_start, places_passed, places_walked}
 use Rattle.opt_memdisk.proofs.settled.settled_places.Goals as goal
 
 pub loop-event-init : goal.loop-event-init

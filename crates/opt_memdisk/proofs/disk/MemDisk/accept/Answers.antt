@@ -1,7 +1,7 @@
 use Rattle.std.proofs.Common.{◌≡◌, ◌<◌, ◌+◌, List, length, slice_set, ap, subst, sym, rules}
 use Rattle.opt_disk.specs.declared.event.Event.{Event}
 use Rattle.opt_memdisk.specs.MemDisk.{IsDisk}
-use Rattle.opt_memdisk.proofs.LastDisks.{disk_wrote}
+use Rattle.opt_memdisk.proofs.disk_calls.LastDisks.{disk_wrote}
 use Rattle.opt_memdisk.proofs.disk.MemDisk.accept.Goals as goal
 
 pub invariant_of-self : goal.invariant_of-self

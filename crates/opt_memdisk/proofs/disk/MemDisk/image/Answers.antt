@@ -2,7 +2,7 @@ use Rattle.std.proofs.Common.{length, take, subst}
 use Rattle.opt_base.specs.Seal.{blocks_of}
 use Rattle.opt_disk.specs.Crash.{IsImage}
 use Rattle.opt_memdisk.specs.MemDisk.{MemDiskState}
-use Rattle.opt_memdisk.proofs.ChosenImages.{left_is_image}
+use Rattle.opt_memdisk.proofs.crash_images.ChosenImages.{left_is_image}
 use Rattle.opt_memdisk.proofs.disk.MemDisk.image.Goals as goal
 
 pub returns-clause-crash : goal.returns-clause-crash

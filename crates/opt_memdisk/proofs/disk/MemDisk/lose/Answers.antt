@@ -1,6 +1,6 @@
 use Rattle.std.proofs.Common.{◌<◌, length, subst, sym, rules}
 use Rattle.opt_memdisk.specs.MemDisk.{IsDisk}
-use Rattle.opt_memdisk.proofs.LastDisks.{disk_lost}
+use Rattle.opt_memdisk.proofs.disk_calls.LastDisks.{disk_lost}
 use Rattle.opt_memdisk.proofs.disk.MemDisk.lose.Goals as goal
 
 pub invariant_of-self : goal.invariant_of-self

@@ -1,6 +1,6 @@
 use Rattle.std.proofs.Common.{subst, sym}
 use Rattle.opt_memdisk.specs.MemDisk.{IsDisk}
-use Rattle.opt_memdisk.proofs.LastDisks.{disk_noticed}
+use Rattle.opt_memdisk.proofs.disk_calls.LastDisks.{disk_noticed}
 use Rattle.opt_memdisk.proofs.disk.MemDisk.note.Goals as goal
 
 pub invariant_of-self : goal.invariant_of-self

@@ -1,7 +1,7 @@
 use Rattle.std.proofs.Common.{◌≡◌, ◌++◌, [], ◌∷◌, sym, subst, rules}
 use Rattle.opt_disk.specs.declared.event.Event.TheVariants.{Noticed}
 use Rattle.opt_disk.specs.Disk.{IsOpen}
-use Rattle.opt_memdisk.proofs.PollTickets.{polled_open}
+use Rattle.opt_memdisk.proofs.disk_calls.PollTickets.{polled_open}
 use Rattle.opt_memdisk.proofs.disk.MemDiskDisk.poll.Goals as goal
 
 pub note-requires : goal.note-requires

@@ -1,7 +1,7 @@
 use Rattle.std.proofs.Common.{◌≡◌, ◌++◌, [], ◌∷◌, rules}
 use Rattle.opt_disk.specs.declared.event.Event.TheVariants.{Noticed}
 use Rattle.opt_disk.specs.Disk.{IsOpen}
-use Rattle.opt_memdisk.proofs.CallNotices.{noticed_now, one_notice}
+use Rattle.opt_memdisk.proofs.disk_calls.CallNotices.{noticed_now, one_notice}
 use Rattle.opt_memdisk.proofs.disk.MemDiskDisk.wait.Goals as goal
 
 pub returns-then-not-is_noticed-clause-log : goal.returns-then-not-is_noticed-clause-log

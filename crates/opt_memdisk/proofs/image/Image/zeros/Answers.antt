@@ -1,7 +1,7 @@
 use Rattle.std.proofs.Common.{◌∙◌, ap, arith, length-append, [], ◌∷◌, length}
 use Rattle.std.specs.Prelude.{is_ok, replicate}
 use Rattle.std.proofs.lemmas.Bool.{cond-true}
-use Rattle.opt_memdisk.proofs.Zeros.{same_more}
+use Rattle.opt_memdisk.proofs.disk_calls.Zeros.{same_more}
 use Rattle.opt_memdisk.proofs.image.Image.zeros.Goals as goal
 
 pub loop-blocks-preserved : goal.loop-blocks-preserved

@@ -3,8 +3,8 @@ use Rattle.std.specs.List.{slice_get}
 use Rattle.opt_disk.specs.declared.event.Event.TheVariants.{Noticed}
 use Rattle.opt_disk.specs.Disk.{IsOpen}
 use Rattle.opt_memdisk.specs.Log.{LogState, tickets}
-use Rattle.opt_memdisk.proofs.AddRows.{pushed}
-use Rattle.opt_memdisk.proofs.AddKept.{room_for_notice, kept_notice}
+use Rattle.opt_memdisk.proofs.log_rows.AddRows.{pushed}
+use Rattle.opt_memdisk.proofs.log_rows.AddKept.{room_for_notice, kept_notice}
 use Rattle.opt_memdisk.proofs.log.Log.add_notice.Goals as goal
 
 pub unwrap-requires : goal.unwrap-requires

@@ -1,8 +1,8 @@
 use Rattle.std.proofs.Common.{◌∙◌, sym, ap, subst, arith}
 use Rattle.std.specs.List.Sorted.{IsNonDecreasing}
 use Rattle.opt_memdisk.specs.Log.{LogState, tickets}
-use Rattle.opt_memdisk.proofs.RowTickets.{tickets_in_order}
-use Rattle.opt_memdisk.proofs.RowSearch.{place_short, none_accepted}
+use Rattle.opt_memdisk.proofs.log_rows.RowTickets.{tickets_in_order}
+use Rattle.opt_memdisk.proofs.log_rows.RowSearch.{place_short, none_accepted}
 use Rattle.opt_memdisk.proofs.log.Log.index_of.Goals as goal
 
 pub place_in-requires : goal.place_in-requires

@@ -1,5 +1,5 @@
 use Rattle.std.proofs.Common.{◌∙◌}
-use Rattle.opt_memdisk.proofs.RowSearch.{found_is_accepted}
+use Rattle.opt_memdisk.proofs.log_rows.RowSearch.{found_is_accepted}
 use Rattle.opt_memdisk.proofs.log.Log.is_accepted.Goals as goal
 
 pub returns : goal.returns

@@ -2,7 +2,7 @@ use Rattle.std.proofs.Common.{◌∙◌, ap, not, ◌-◌}
 use Rattle.std.specs.List.{slice_get}
 use Rattle.opt_disk.specs.Cell.{is_noticed}
 use Rattle.opt_memdisk.specs.Log.{LogState, tickets}
-use Rattle.opt_memdisk.proofs.RowOpen.{noticed_by_number}
+use Rattle.opt_memdisk.proofs.log_rows.RowOpen.{noticed_by_number}
 use Rattle.opt_memdisk.proofs.log.Log.is_noticed.Goals as goal
 
 pub returns : goal.returns

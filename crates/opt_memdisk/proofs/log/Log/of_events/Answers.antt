@@ -3,9 +3,9 @@ use Rattle.std.proofs.lemmas.List.{nil_from_length}
 use Rattle.opt_disk.specs.declared.event.Event.{Event}
 use Rattle.opt_disk.specs.Lawful.{MayCome, IsLawful}
 use Rattle.opt_memdisk.specs.Log.{LogState, write_count, writes_in}
-use Rattle.opt_memdisk.proofs.AddRows.{writes_up_to}
+use Rattle.opt_memdisk.proofs.log_rows.AddRows.{writes_up_to}
 use Rattle.opt_memdisk.proofs.log.Log.of_events.Goals as goal
-use Rattle.opt_memdisk.proofs.Events.{lawful_next}
+use Rattle.opt_memdisk.proofs.log_rows.Events.{lawful_next}
 
 pub loop-event-init : goal.loop-event-init
 loop-event-init c =

@@ -1,7 +1,7 @@
 use Rattle.std.proofs.Common.{◌∙◌, ap, sym, arith}
 use Rattle.std.specs.List.{slice_get}
 use Rattle.opt_memdisk.specs.Log.{LogState, open_tickets}
-use Rattle.opt_memdisk.proofs.RowOpen.{open_none, open_number, open_some}
+use Rattle.opt_memdisk.proofs.log_rows.RowOpen.{open_none, open_number, open_some}
 use Rattle.opt_memdisk.proofs.log.Log.open_at.Goals as goal
 
 pub returns-in_err-number : goal.returns-in_err-number

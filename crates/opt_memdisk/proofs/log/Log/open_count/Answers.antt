@@ -1,6 +1,6 @@
 use Rattle.std.proofs.Common.{◌∙◌, ap, length}
 use Rattle.opt_memdisk.specs.Log.{LogState, open_tickets}
-use Rattle.opt_memdisk.proofs.RowOpen.{open_length}
+use Rattle.opt_memdisk.proofs.log_rows.RowOpen.{open_length}
 use Rattle.opt_memdisk.proofs.log.Log.open_count.Goals as goal
 
 pub returns : goal.returns

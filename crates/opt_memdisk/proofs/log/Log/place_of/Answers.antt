@@ -2,7 +2,7 @@ use Rattle.std.proofs.Common.{◌∙◌, Some, ap, sym, arith}
 use Rattle.std.proofs.lemmas.Option.{IfSome_then}
 use Rattle.opt_memdisk.specs.declared.choice.WriteName.{WriteName}
 use Rattle.opt_memdisk.specs.Log.{LogState, accepted_places, lost_places}
-use Rattle.opt_memdisk.proofs.RowPlaces.{accepted_read, accepted_within, accepted_nowhere, lost_found, lost_there, lost_nowhere}
+use Rattle.opt_memdisk.proofs.log_rows.RowPlaces.{accepted_read, accepted_within, accepted_nowhere, lost_found, lost_there, lost_nowhere}
 use Rattle.opt_memdisk.proofs.log.Log.place_of.Goals as goal
 
 pub returns-in_err-index-in-Accepted-clause-none : goal.returns-in_err-index-in-Accepted-clause-none

@@ -1,8 +1,8 @@
 use Rattle.std.proofs.Common.{◌≡◌, ◌≤◌, ◌+◌, ◌++◌, [], ◌∷◌, sym, subst, arith, length}
 use Rattle.opt_disk.specs.declared.event.Event.TheVariants.{Lost}
 use Rattle.opt_memdisk.specs.Log.{LogState, write_count}
-use Rattle.opt_memdisk.proofs.AddRows.{pushed}
-use Rattle.opt_memdisk.proofs.AddKept.{room_for_lost, kept_lost}
+use Rattle.opt_memdisk.proofs.log_rows.AddRows.{pushed}
+use Rattle.opt_memdisk.proofs.log_rows.AddKept.{room_for_lost, kept_lost}
 use Rattle.opt_memdisk.proofs.log.Log.push_lost.Goals as goal
 
 pub unwrap-requires : goal.unwrap-requires

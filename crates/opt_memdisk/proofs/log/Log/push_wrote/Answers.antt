@@ -2,8 +2,8 @@ use Rattle.std.proofs.Common.{◌≡◌, ◌<◌, ◌≤◌, ◌+◌, ◌++◌, 
 use Rattle.opt_disk.specs.declared.event.Event.TheVariants.{Wrote}
 use Rattle.opt_disk.specs.Cell.{greatest_ticket}
 use Rattle.opt_memdisk.specs.Log.{LogState, write_count, tickets}
-use Rattle.opt_memdisk.proofs.AddRows.{pushed}
-use Rattle.opt_memdisk.proofs.AddKept.{room_for_wrote, kept_wrote}
+use Rattle.opt_memdisk.proofs.log_rows.AddRows.{pushed}
+use Rattle.opt_memdisk.proofs.log_rows.AddKept.{room_for_wrote, kept_wrote}
 use Rattle.opt_memdisk.proofs.log.Log.push_wrote.Goals as goal
 
 pub unwrap-requires : goal.unwrap-requires

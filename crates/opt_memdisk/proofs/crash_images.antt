@@ -1,0 +1,14 @@
+pub mod ChosenImages
+pub mod FateBehind
+pub mod FateEach
+pub mod FateFound
+pub mod FateNames
+pub mod FatePending
+pub mod FateSaid
+pub mod PutImage
+pub mod PutLoop
+pub mod PutWalk
+pub mod TornChoices
+pub mod TornEntries
+pub mod TornLeft
+pub mod TornNames

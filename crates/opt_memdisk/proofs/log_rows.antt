@@ -1,0 +1,10 @@
+pub mod AddKept
+pub mod AddNumbers
+pub mod AddRows
+pub mod Events
+pub mod RowCount
+pub mod RowNumbers
+pub mod RowOpen
+pub mod RowPlaces
+pub mod RowSearch
+pub mod RowTickets
