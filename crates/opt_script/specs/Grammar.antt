@@ -10,7 +10,7 @@ use Rattle.opt_base.specs.Name.{is_name}
 use Rattle.opt_tree.specs.declared.command.Cmd.{Cmd}
 use Rattle.opt_tree.specs.declared.command.Cmd.TheVariants.{Mkdir, Create, Write, Fill, Read, Truncate, Link, Unlink, Rmdir, Rename, Stat, List as ListNames, Osync, Bad}
 
--- the names behind the first slash, where what stands before it is empty and each is lawful
+-- the names behind the first slash, where what is before it is empty and each is lawful
 abbrev pub names_of : List (List ℕ) → Option (List (List ℕ))
 names_of ([] ∷ name ∷ names) = if list_all is_name (name ∷ names) then Some (name ∷ names) else None
 names_of _ = None

@@ -1,5 +1,5 @@
 //! From the arguments of a line to what they say: paths, numbers and bytes. Each helper answers what the
-//! definition of its name answers, or want of memory. Which command they belong to is not told here.
+//! definition of its name answers, or out of memory. Which command they belong to is not said here.
 
 ghost use Rattle.std.specs.Prelude.{◌≡◌, IfOk, ◌==◌, map, if◌then◌else◌, Some, None};
 ghost use Rattle.std.specs.List.{slice_split, list_all};
@@ -17,7 +17,7 @@ use std::str;
 /// The parts of a text that a byte parts, one more than there are such bytes.
 ///
 /// # Errors
-/// Want of memory.
+/// Out of memory.
 pub fn parts(alloc: Global, text: &[u8], separator: u8) -> Result<Vec<&[u8]>, AllocError>
     ensures { IfOk result (λ parts. map (λ part. part.now) parts.items ≡ slice_split (λ b. b == separator) text.now) }
 {
@@ -27,7 +27,7 @@ pub fn parts(alloc: Global, text: &[u8], separator: u8) -> Result<Vec<&[u8]>, Al
 /// The path that is written so.
 ///
 /// # Errors
-/// Want of memory.
+/// Out of memory.
 pub fn path(alloc: Global, part: &[u8]) -> Result<Option<Path>, NoMemory>
     ensures { IfOk result (λ path. path ≡ path_of part.now) }
 {
@@ -98,7 +98,7 @@ fn has_digits_alone(part: &[u8]) -> bool
 /// The bytes whose digits these are, at least one.
 ///
 /// # Errors
-/// Want of memory.
+/// Out of memory.
 pub fn bytes(alloc: Global, part: &[u8]) -> Result<Option<Bytes>, NoMemory>
     ensures { IfOk result (λ bytes. bytes ≡ bytes_of part.now) }
 {

@@ -1,5 +1,5 @@
 //! The text of a script: which command a line is, and how commands and replies are written. It knows no
-//! tree and no stream. The grammar is the definition `command_of`, told in docs/SCRIPT.md; the texts are
+//! tree and no stream. The grammar is the definition `command_of`, described in docs/SCRIPT.md; the texts are
 //! `command_text` and `text_of_reply`.
 #![tactic(auto)]
 
@@ -7,8 +7,6 @@ mod arguments;
 mod parse;
 mod pieces;
 mod replies;
-#[cfg(test)]
-mod tests;
 mod text;
 
 pub use parse::parse_line;

@@ -1,6 +1,6 @@
 //! From a line to its command: the parts of the line, and which command a word and its arguments are.
-//! What an argument says stands in `arguments`. Each helper answers what the definition of the grammar
-//! answers for its parts, or want of memory.
+//! What an argument says is in `arguments`. Each helper answers what the definition of the grammar
+//! answers for its parts, or out of memory.
 
 ghost use Rattle.std.specs.Prelude.{◌≡◌, ℕ, List, [], ◌∷◌, IfOk, ◌⊎◌, map, true, Some};
 ghost use Rattle.opt_tree.specs.declared.command.Cmd.TheVariants.{Bad};
@@ -15,7 +15,7 @@ use std::alloc::Global;
 /// The command that this line is, which is given without its line feed.
 ///
 /// # Errors
-/// Want of memory.
+/// Out of memory.
 pub fn parse_line(alloc: Global, line: &[u8]) -> Result<Cmd, NoMemory>
     ensures read { IfOk result (λ cmd. cmd ≡ command_of line.now) }
     ensures lawful { IfOk result (λ cmd. (cmd ≡ Bad) ⊎ (is_in_grammar cmd ≡ true)) }

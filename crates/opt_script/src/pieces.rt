@@ -1,5 +1,5 @@
 //! The pieces of which texts are built. Each puts one behind what is there, and its clause names the
-//! piece. Which pieces make a text is told by `text` and `replies`.
+//! piece. Which pieces make a text is described by `text` and `replies`.
 
 ghost use Rattle.std.specs.Prelude.{◌≡◌, ◌++◌, OnOk, codes, decimal};
 ghost use Rattle.hex.specs.Hex.{encode_lower};
@@ -10,7 +10,7 @@ use opt_base::NoMemory;
 /// The text.
 ///
 /// # Errors
-/// Want of memory.
+/// Out of memory.
 pub fn push(text: &mut Vec<u8>, more: &[u8]) -> Result<(), NoMemory>
     ensures { OnOk result (text.new.items ≡ text.old.items ++ more.now) }
 {
@@ -21,7 +21,7 @@ pub fn push(text: &mut Vec<u8>, more: &[u8]) -> Result<(), NoMemory>
 /// A blank and the text.
 ///
 /// # Errors
-/// Want of memory.
+/// Out of memory.
 pub fn push_behind_blank(text: &mut Vec<u8>, more: &[u8]) -> Result<(), NoMemory>
     ensures { OnOk result (text.new.items ≡ text.old.items ++ (codes " " ++ more.now)) }
 {
@@ -33,7 +33,7 @@ pub fn push_behind_blank(text: &mut Vec<u8>, more: &[u8]) -> Result<(), NoMemory
 /// A blank and the number in decimal digits.
 ///
 /// # Errors
-/// Want of memory.
+/// Out of memory.
 pub fn push_number(text: &mut Vec<u8>, number: u64) -> Result<(), NoMemory>
     ensures { OnOk result (text.new.items ≡ text.old.items ++ (codes " " ++ decimal number)) }
 {
@@ -46,7 +46,7 @@ pub fn push_number(text: &mut Vec<u8>, number: u64) -> Result<(), NoMemory>
 /// be many.
 ///
 /// # Errors
-/// Want of memory.
+/// Out of memory.
 pub fn push_digits(text: &mut Vec<u8>, bytes: &[u8]) -> Result<(), NoMemory>
     ensures { OnOk result (text.new.items ≡ text.old.items ++ (codes " " ++ encode_lower bytes.now)) }
 {

@@ -14,7 +14,7 @@ use std::alloc::Global;
 /// How this reply is written, without a line feed.
 ///
 /// # Errors
-/// Want of memory.
+/// Out of memory.
 pub fn reply_text(alloc: Global, reply: &Reply) -> Result<Vec<u8>, NoMemory>
     ensures { IfOk result (λ text. text.items ≡ text_of_reply reply.now) }
 {

@@ -15,7 +15,7 @@ use std::alloc::Global;
 /// The line that asks for this command, without a line feed.
 ///
 /// # Errors
-/// Want of memory.
+/// Out of memory.
 pub fn cmd_text(alloc: Global, cmd: &Cmd) -> Result<Vec<u8>, NoMemory>
     ensures text { IfOk result (λ text. text.items ≡ command_text cmd.now) }
     ensures reads_back { IfOk result (λ text. is_in_grammar cmd.now ≡ true → command_of text.items ≡ cmd.now) }

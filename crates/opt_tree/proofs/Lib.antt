@@ -1,38 +1,7 @@
-mod Answered
-mod BelowPath
-mod BlockChanges
-mod BlockLaws
-mod BlockLemmas
-mod BlockMoves
-mod BlockSums
-mod Copies
-mod CountsKept
-mod Examples
-mod FigureLemmas
-mod Finds
-mod Fronts
-mod InOrder
-mod MoveLaws
-mod Neighbours
-mod PathCounts
-mod Paths
-mod Pieces
-mod PointLemmas
-mod Prefixes
-mod Removals
-mod Renames
-mod Renaming
-mod Replacing
-mod Row
-mod Sizes
-mod Sound
-mod SoundChanges
-mod SoundMoves
-mod StripLemmas
-mod Stripping
-mod Strips
-mod Totals
-mod Undo
-mod WalkLemmas
-mod WalkSteps
-pub mod PathLaws
+pub mod basics
+pub mod counting
+pub mod walking
+pub mod moving
+pub mod soundness
+pub mod blocks
+pub mod runs

@@ -21,7 +21,7 @@ first_reason [] = None
 first_reason (None ∷ later) = first_reason later
 first_reason (Some why ∷ later) = Some why
 
--- the least number from 1 to the limit that stands for nothing
+-- the least number from 1 to the limit that no node has
 unfoldable pub least_unused : ℕ → Nodes → Option ℕ
 least_unused limit nodes = find (λ n. is_none (get nodes n)) (range_with_len 1 limit)
 
@@ -56,7 +56,7 @@ abbrev pub rmdir_refusal : Tree → List (List ℕ) → Option Refusal
 rmdir_refusal t path =
     first_reason (walk_refusal t path ∷ when (is_file (thing_at t path)) NotDir ∷ when (holds_names t.names path) NotEmpty ∷ when (length path == 0) BelowItself ∷ [])
 
--- why what stands at one path can't take the other one, which leads to another node or to none
+-- why what is at one path can't take the other one, which leads to another node or to none
 abbrev pub onto_refusal : Tree → List (List ℕ) → List (List ℕ) → Option Refusal
 onto_refusal t from to =
     first_reason (when (is_dir (thing_at t from) && is_file (thing_at t to)) NotDir

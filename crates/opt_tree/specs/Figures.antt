@@ -110,7 +110,7 @@ truncate_figures bitmap old new =
     else if nat_lt new old then shrinking bitmap (blocks_for old - blocks_for new)
     else nothing
 
--- a move onto what stands there takes a name out; within one directory a name changes; else one goes here and one comes there
+-- a move onto what is there takes a name out; within one directory a name changes; else one goes here and one comes there
 abbrev pub move_figures : ℕ → Tree → List (List ℕ) → List (List ℕ) → Figures
 move_figures bitmap t from to =
     if is_there t to then moving bitmap 0 (release (siblings t.names from) + blocks_gone t to)

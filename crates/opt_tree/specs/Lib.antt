@@ -9,5 +9,3 @@ pub mod Points
 pub mod Figures
 pub mod Listing
 pub mod Refusals
-pub mod Code
-pub mod Stored

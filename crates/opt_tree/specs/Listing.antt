@@ -1,4 +1,4 @@
--- How paths and bytes are written, and the listing of a tree. It is told in docs/TREE.md.
+-- How paths and bytes are written, and the listing of a tree. It is described in docs/TREE.md.
 use Rattle.std.specs.Prelude.{ℕ, List, [], ◌∷◌, ◌++◌, codes, decimal, length, Option, None, Some}
 use Rattle.std.specs.List.{flat_map}
 use Rattle.std.specs.FinMap.{get, entries}

@@ -1,11 +1,11 @@
--- What the map of paths tells: how many paths a node has, which names a directory holds, and the map after a move. They are told in docs/TREE.md.
+-- What follows from the map of paths: how many paths a node has, which names a directory holds, and the map after a move. They are described in docs/TREE.md.
 use Rattle.std.specs.Prelude.{ℕ, ◌+◌, ◌==◌, Bool, if◌then◌else◌, List, [], ◌∷◌, map}
 use Rattle.std.specs.List.{filter_map, list_any}
 use Rattle.std.specs.FinMap.{entries, from_entries}
 use Rattle.opt_tree.specs.Tree.{Names}
 use Rattle.opt_tree.specs.Paths.{name_in, is_below, moved_path}
 
--- how often the number stands in the list
+-- how often the number is in the list
 abbrev pub times : ℕ → List (List (List ℕ) × ℕ) → ℕ
 times n [] = 0
 times n (e ∷ es) = (if e.1 == n then 1 else 0) + times n es

@@ -1,4 +1,4 @@
--- Paths as lists of names: which lie below which, and where a path comes to lie when what it leads through moves. They are told in docs/TREE.md.
+-- Paths as lists of names: which lie below which, and where a path comes to lie when what it leads through moves. They are described in docs/TREE.md.
 use Rattle.std.specs.Prelude.{ℕ, ◌-◌, Bool, true, false, if◌then◌else◌, List, [], ◌∷◌, ◌++◌, length, take, bytes_eq, is_some, Option, None, Some}
 
 -- what is left of a path behind another one with which it begins

@@ -1,4 +1,4 @@
--- The sync points of a run of commands, and which of them a crash may leave. They are told in docs/CRASHES.md.
+-- The sync points of a run of commands, and which of them a crash may leave. They are described in docs/CRASHES.md.
 use Rattle.std.specs.Prelude.{ℕ, ◌+◌, max, nat_le, Bool, true, false, if◌then◌else◌, List, [], ◌∷◌, ◌++◌}
 use Rattle.opt_tree.specs.declared.command.Cmd.{Cmd}
 use Rattle.opt_tree.specs.declared.command.Cmd.TheVariants.{Osync}

@@ -1,4 +1,4 @@
--- Whole runs of commands: the fold of `step`, want of memory aside. It is told in docs/TREE.md.
+-- Whole runs of commands: the fold of `step`, being out of memory aside. It is described in docs/TREE.md.
 use Rattle.std.specs.Prelude.{◌≡◌, List, [], ◌∷◌, ◌⊎◌}
 use Rattle.opt_tree.specs.declared.command.Cmd.{Cmd}
 use Rattle.opt_tree.specs.declared.command.Reply.{Reply}

@@ -1,4 +1,4 @@
--- What each command does to the tree and answers. It is told in docs/TREE.md.
+-- What each command does to the tree, and its reply. It is described in docs/TREE.md.
 use Rattle.std.specs.Prelude.{ℕ, ◌+◌, ◌-◌, ◌*◌, ◌^◌, ◌==◌, min, Bool, true, false, if◌then◌else◌, List, [], ◌++◌, length, take, drop, replicate, Option, None, Some}
 use Rattle.std.specs.FinMap.{get, insert, remove, empty}
 use Rattle.opt_tree.specs.declared.command.Cmd.{Cmd}
@@ -93,7 +93,7 @@ write s path offset bytes = if length bytes == 0 then (s, Done) else changed_to 
 abbrev pub truncate : Session → List (List ℕ) → ℕ → Session × Reply
 truncate s path size = if size == length (content s.tree path) then (s, Done) else changed_to s (edited s.tree path (resized size))
 
--- what stood at `to` goes, and then the paths move; nothing happens where both lead to one node
+-- what was at `to` goes, and then the paths move; nothing happens where both lead to one node
 abbrev pub rename : Session → List (List ℕ) → List (List ℕ) → Session × Reply
 rename s from to = if is_same_node s.tree from to then (s, Done) else changed_to s (moved (removed s.tree to) from to)
 
@@ -106,7 +106,7 @@ abbrev pub stat_by : Tree → List (List ℕ) → Option ℕ → Reply
 stat_by t path None = Refused NotFound
 stat_by t path (Some n) = stat_of t path n (get t.nodes n)
 
--- kind, number, size and links of what stands at the path. A directory has 64 bytes for each name in it, and one link
+-- kind, number, size and links of what is at the path. A directory has 64 bytes for each name in it, and one link
 abbrev pub stat : Tree → List (List ℕ) → Reply
 stat t path = stat_by t path (get t.names path)
 

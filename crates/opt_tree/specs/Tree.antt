@@ -1,15 +1,15 @@
--- The tree of names and byte files, as two finite maps. It is told in docs/TREE.md.
+-- The tree of names and byte files, as two finite maps. It is described in docs/TREE.md.
 use Rattle.std.specs.Prelude.{◌≡◌, ℕ, ◌≤◌, List, [], ◌∷◌, ◌++◌, length, Some}
 use Rattle.std.specs.declared.cmp.Ordering.{Ordering}
 use Rattle.std.specs.Ordering.{nat_cmp}
 use Rattle.std.specs.Cmp.Lexicographic.{slice_cmp}
 use Rattle.std.specs.FinMap.{FinMap, get}
 
--- paths in order: names are compared by their bytes, and a path stands before the longer ones that begin with it
+-- paths in order: names are compared by their bytes, and a path is before the longer ones that begin with it
 abbrev pub path_cmp : List (List ℕ) → List (List ℕ) → Ordering
 path_cmp = slice_cmp (slice_cmp nat_cmp)
 
--- what a number stands for: a directory, or a file with its bytes
+-- a node: a directory, or a file with its bytes
 pub data Thing : Type 0 where
   Dir : Thing
   File : List ℕ → Thing
@@ -18,7 +18,7 @@ pub data Thing : Type 0 where
 abbrev pub Names : Type 0
 Names = FinMap path_cmp ℕ
 
--- from numbers to what they stand for
+-- from numbers to nodes
 abbrev pub Nodes : Type 0
 Nodes = FinMap nat_cmp Thing
 

@@ -1,4 +1,4 @@
--- The walk from the root, name by name, and what stands at a path. It is told in docs/TREE.md.
+-- The walk from the root, name by name, and what is at a path. It is described in docs/TREE.md.
 use Rattle.std.specs.Prelude.{ℕ, ◌==◌, Bool, true, false, if◌then◌else◌, List, [], ◌∷◌, ◌++◌, is_some, Option, None, Some, option_and_then, Result, Ok, Err}
 use Rattle.std.specs.FinMap.{get}
 use Rattle.opt_tree.specs.declared.command.Refusal.{Refusal}
@@ -17,7 +17,7 @@ abbrev pub is_file : Option Thing → Bool
 is_file (Some (File bytes)) = true
 is_file _ = false
 
--- from a directory to what stands under a name there, and on
+-- from a directory to what is under a name there, and on
 abbrev pub enter : Bool → Option ℕ → (ℕ → Result ℕ Refusal) → Result ℕ Refusal
 enter false found on = Err NotDir
 enter true None on = Err NotFound
@@ -50,7 +50,7 @@ abbrev pub parent_refusal : Tree → List (List ℕ) → Option Refusal
 parent_refusal t [] = None
 parent_refusal t (name ∷ names) = no_directory t (walk t (parent (name ∷ names)))
 
--- What stands at a path.
+-- What is at a path.
 
 -- the node at the path
 abbrev pub thing_at : Tree → List (List ℕ) → Option Thing

@@ -1,14 +1,16 @@
-//! What a tree is asked and what it answers, as plain data. How commands and replies are written stands
-//! in the crate of the script; what they mean is the definition `step`, told in docs/TREE.md.
+//! What a tree is asked and what it answers, as plain data. How commands and replies are written is
+//! described in the crate of the script; what they mean is the definition `step`, described in docs/TREE.md.
 
 ghost use Rattle.std.specs.Prelude.{◌≡◌};
 ghost use Rattle.opt_tree.specs.Refusals.{refusal_number, refusal_name};
 
 use crate::{NameList, Path};
 use opt_base::Bytes;
+use std::error::Error;
+use std::fmt;
 
 /// One command. `Bad` is a line that is none; it changes nothing and is answered `Bad`.
-#[derive(Debug, Drop)]
+#[derive(Clone, Debug, PartialEq, Eq, Drop)]
 pub enum Cmd {
     /// Makes an empty directory.
     Mkdir(Path),
@@ -30,7 +32,7 @@ pub enum Cmd {
     Rmdir(Path),
     /// Moves the first path, with all below it, to the second one.
     Rename(Path, Path),
-    /// Asks what stands at the path.
+    /// Asks what is at the path.
     Stat(Path),
     /// Asks for the names in the directory.
     List(Path),
@@ -41,13 +43,13 @@ pub enum Cmd {
 }
 
 /// The answer to one command.
-#[derive(Debug, Drop)]
+#[derive(Clone, Debug, PartialEq, Eq, Drop)]
 pub enum Reply {
     /// Done.
     Ok,
     /// The bytes that a read found, which may be none.
     Bytes(Bytes),
-    /// What stands at a path.
+    /// What is at a path.
     Stat(Stat),
     /// The names in a directory, ascending by their bytes.
     Names(NameList),
@@ -66,7 +68,7 @@ pub enum Kind {
     File,
 }
 
-/// What stands at a path.
+/// What is at a path.
 #[derive(Clone, Copy, Debug, PartialEq, Eq)]
 pub struct Stat {
     pub kind: Kind,
@@ -78,7 +80,7 @@ pub struct Stat {
     pub links: u64,
 }
 
-/// Why a command was refused. Each has a number, by which the trace names it. The tree alone answers 1 to
+/// Why a command was refused. Each has a number, by which the trace names it. The tree alone refuses with 1 to
 /// 9 and 17; the others come from a file system over a disk.
 #[derive(Clone, Copy, Debug, PartialEq, Eq)]
 pub enum Refusal {
@@ -104,7 +106,7 @@ pub enum Refusal {
     Full { need: u32, left: u32 },
     /// 11: what changed since the last sync point and this command don't fit one record of the journal.
     TooBig { weight: u32, cost: u32, room: u32 },
-    /// 12: the blocks of the file would lie in more stretches than a node can tell.
+    /// 12: the blocks of the file would lie in more stretches than a node can hold.
     Scattered { runs: u32 },
     /// 13: the disk failed to read.
     ReadFault,
@@ -169,3 +171,47 @@ impl Refusal {
         }
     }
 }
+
+/// What is wrong, in words for people.
+impl fmt::Display for Refusal {
+    ghost use Rattle.std.specs.Prelude.{Some};
+    ghost use Rattle.opt_tree.specs.Refusals.{refusal_text};
+
+    ghost output = { λ why. Some (refusal_text why) };
+
+    fn fmt<W: fmt::Write>(&self, f: &mut fmt::Formatter<W>) -> fmt::Result {
+        match self {
+            Refusal::NotFound => write!(f, "there is no such file or directory"),
+            Refusal::Exists => write!(f, "the path is there already"),
+            Refusal::NotDir => write!(f, "what should be a directory is none"),
+            Refusal::IsDir => write!(f, "what should be a file is a directory"),
+            Refusal::NotEmpty => write!(f, "the directory holds names"),
+            Refusal::BelowItself => write!(
+                f,
+                "a directory can't go below itself, nor the root away"
+            ),
+            Refusal::TooLarge => write!(f, "the file would have more than 1 GiB"),
+            Refusal::TooManyLinks => write!(f, "the file has 65535 paths already"),
+            Refusal::NoNode => write!(f, "all node numbers are used"),
+            Refusal::Full { need, left } => {
+                write!(f, "the command needs {need} blocks")?;
+                write!(f, ", and {left} are left")
+            }
+            Refusal::TooBig { weight, cost, room } => {
+                write!(f, "the command costs {cost}")?;
+                write!(f, ", and what changed since the last sync point {weight}")?;
+                write!(f, ", where a record has room for {room}")
+            }
+            Refusal::Scattered { runs } => {
+                write!(f, "the blocks of the file would be in {runs} stretches")
+            }
+            Refusal::ReadFault => write!(f, "the disk failed to read"),
+            Refusal::DiskFault => write!(f, "the disk failed, and the session ends"),
+            Refusal::Stopped => write!(f, "the session has ended by a fault of the disk"),
+            Refusal::Spent => write!(f, "the numbers of the journal are used up"),
+            Refusal::NoMemory => write!(f, "out of memory"),
+        }
+    }
+}
+
+impl Error for Refusal {}

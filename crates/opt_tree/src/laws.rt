@@ -1,5 +1,5 @@
 //! Laws of the definitions: what commands leave of a tree, where they change it and what that costs, what a
-//! reply tells of the session after it, and short runs worked out. They run nothing.
+//! reply says of the session after it, and short runs worked out. They run nothing.
 
 ghost use Rattle.std.specs.Prelude.{◌≡◌, ◌≤◌, ◌||◌, ◌+◌, ◌++◌, ℕ, true, false, nat_lt, List, [], ◌∷◌, length, codes, None, Some};
 ghost use Rattle.std.specs.FinMap.{get, insert, empty};
@@ -8,7 +8,7 @@ ghost use Rattle.opt_tree.specs.declared.command.Cmd.TheVariants.{Mkdir, Create,
 ghost use Rattle.opt_tree.specs.declared.command.Reply.{Reply};
 ghost use Rattle.opt_tree.specs.declared.command.Reply.TheVariants.{Ok as Done, Synced, Refused};
 ghost use Rattle.opt_tree.specs.declared.command.Refusal.TheVariants.{NotFound, NotDir, NotEmpty, NoMemory};
-ghost use Rattle.opt_tree.specs.Tree.{Tree, Dir, File, IsSound};
+ghost use Rattle.opt_tree.specs.Tree.{Tree, Dir, File, IsSound, HasSmallFiles};
 ghost use Rattle.opt_tree.specs.Paths.{is_within};
 ghost use Rattle.opt_tree.specs.Names.{path_count};
 ghost use Rattle.opt_tree.specs.Walk.{is_same_node};
@@ -27,6 +27,12 @@ pub fn commands_keep_a_tree_sound()
     ensures limit { (s : Session) (cmd : Cmd) → (step s cmd).0.limit ≡ s.limit }
 {}
 
+/// The root alone has no file of more than 2^30 bytes, and no command makes one.
+pub fn files_stay_small()
+    ensures start { (limit : ℕ) → HasSmallFiles (start limit).tree.nodes }
+    ensures step { (s : Session) (cmd : Cmd) → HasSmallFiles s.tree.nodes → HasSmallFiles (step s cmd).0.tree.nodes }
+{}
+
 /// A move between two paths of one node changes nothing. Every other move of a sound tree that isn't
 /// refused takes with it all that lies below: what was at or below the first path is at or below the
 /// second one, nothing is left at or below the first one, and every other path leads where it led.
@@ -43,15 +49,15 @@ pub fn a_move_takes_all_below()
 
 /// A command that isn't a sync changes something exactly where it may add something to the journal, for
 /// every number of bitmap blocks.
-#[tactic(auto, using(crate::proofs::FigureLemmas::changed_where_it_costs))]
+#[tactic(auto, using(crate::proofs::blocks::Figures::changed_where_it_costs))]
 pub fn a_command_changes_where_it_costs()
     ensures { (bitmap : ℕ) (s : Session) (cmd : Cmd) → is_sync cmd ≡ false → (step s cmd).0.changed ≡ (s.changed || nat_lt 0 (figures bitmap s cmd).cost) }
 {}
 
-/// A command changes the blocks of a sound tree by what its figures tell, for every number of bitmap
+/// A command changes the blocks of a sound tree by its figures, for every number of bitmap
 /// blocks: after it the tree has so many more as it needs, and so many fewer as it frees. A refused one
 /// changes nothing and has no figures.
-#[tactic(auto, using(crate::proofs::BlockLaws::figures_tell))]
+#[tactic(auto, using(crate::proofs::blocks::BlockLaws::figures_tell))]
 pub fn the_figures_are_the_blocks()
     ensures { (bitmap : ℕ) (s : Session) (cmd : Cmd) → IsSound s.limit s.tree
         → blocks (step s cmd).0.tree + (figures bitmap s cmd).freed ≡ blocks s.tree + (figures bitmap s cmd).need }
@@ -84,7 +90,7 @@ pub fn short_runs_are_answered_so()
 /// of a directory needs a block and costs 4 payloads, the 17th name needs one too, and the 17th is the one
 /// whose going frees it; the first two bytes of a file cost 2 payloads and a fresh block; 14 blocks written
 /// over cost 15 payloads; and a file that is cut from 3 blocks to one frees two of them at 2 payloads. A
-/// payload stands for 25.
+/// payload counts 25.
 pub fn small_changes_cost_so()
     ensures blocks { (bytes : List ℕ) → length bytes ≡ 1025
         → blocks (record { names = insert (insert empty [] 1) (codes "a" ∷ []) 2; nodes = insert (insert empty 1 Dir) 2 (File bytes) }) ≡ 3 }
@@ -96,8 +102,8 @@ pub fn small_changes_cost_so()
 {}
 
 /// The sync points of a run are those of the sessions that it goes through: the session after a
-/// command is the one that its reply tells.
-#[tactic(auto, using(crate::proofs::PointLemmas::answer_tells))]
+/// command is the one that its reply says.
+#[tactic(auto, using(crate::proofs::runs::Points::answer_tells))]
 pub fn a_reply_tells_the_session()
     ensures { (old new : Session) (cmd : Cmd) (reply : Reply) → Answers old cmd reply new → new ≡ after_reply old cmd reply }
 {}

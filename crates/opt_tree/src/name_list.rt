@@ -1,8 +1,9 @@
-//! A list of names, as a directory's names are answered.
+//! A list of names, as a directory's names are answered, and copies of names.
 
-ghost use Rattle.std.specs.Prelude.{◌≡◌, ℕ, List};
+ghost use Rattle.std.specs.Prelude.{◌≡◌, ℕ, List, IfOk};
 
-use opt_base::Name;
+use opt_base::{Name, NoMemory};
+use std::alloc::{AllocError, Global};
 use std::marker::Model;
 
 /// Names in a row. Contracts see them as the list of the names' bytes.
@@ -31,4 +32,51 @@ impl NameList {
     {
         self.names.as_slice()
     }
+}
+
+/// Equal lists have the same names.
+impl PartialEq for NameList {
+    ghost use Rattle.std.specs.Prelude.{bytes_eq};
+    ghost use Rattle.std.specs.Cmp.{partial_equiv_from_equiv};
+    ghost use Rattle.std.specs.Cmp.Lexicographic.{pointwise, lists_equiv, nat_list_eq_equiv};
+
+    ghost eq = { λ left right. pointwise bytes_eq left right };
+
+    ghost laws = { partial_equiv_from_equiv (lists_equiv nat_list_eq_equiv) };
+
+    fn eq(&self, other: &NameList) -> bool {
+        self.names.as_slice() == other.names.as_slice()
+    }
+}
+
+impl Eq for NameList {
+    ghost use Rattle.std.specs.Cmp.Lexicographic.{lists_equiv, nat_list_eq_equiv};
+
+    ghost laws = { lists_equiv nat_list_eq_equiv };
+}
+
+/// A clone is the same list.
+impl Clone for NameList {
+    ghost use Rattle.std.specs.Prelude.{◌≡◌};
+
+    ghost is_clone = { λ list clone. clone ≡ list };
+
+    fn clone(&self) -> Result<NameList, AllocError> {
+        let names = self.names.clone()?;
+        Ok(NameList { names })
+    }
+}
+
+/// A copy of the names.
+///
+/// # Errors
+/// Out of memory.
+pub fn copy_names(alloc: Global, names: &[Name]) -> Result<Vec<Name>, NoMemory>
+    ensures { IfOk result (λ copy. copy.items ≡ names.now) }
+{
+    let mut copy = Vec::with_capacity(alloc, names.len())?;
+    for name in names {
+        copy.push(name.copy())?;
+    }
+    Ok(copy)
 }

@@ -1,12 +1,12 @@
 //! An absolute path: the list of the names that lead to it from the root, which is the empty list.
-//! How a path is written stands in the crate of the script.
+//! How a path is written is described in the crate of the script.
 
 ghost use Rattle.std.specs.Prelude.{◌≡◌, ℕ, List, [], IfOk};
 ghost use Rattle.opt_tree.specs.Paths.{is_below};
 
-use crate::names::copied;
+use crate::copy_names;
 use opt_base::{Name, NoMemory};
-use std::alloc::Global;
+use std::alloc::{AllocError, Global};
 use std::marker::Model;
 
 /// The names from the root down. Contracts see a path as the list of its names' bytes.
@@ -41,11 +41,11 @@ impl Path {
     /// A copy of this path.
     ///
     /// # Errors
-    /// Want of memory.
+    /// Out of memory.
     pub fn copy(&self, alloc: Global) -> Result<Path, NoMemory>
         ensures { IfOk result (λ copy. copy ≡ self.now) }
     {
-        let names = copied(alloc, self.names.as_slice())?;
+        let names = copy_names(alloc, self.names.as_slice())?;
         Ok(Path { names })
     }
 
@@ -56,20 +56,53 @@ impl Path {
         self.names.as_slice()
     }
 
-    /// The names from the root down, as they are kept.
-    pub(crate) fn list(&self) -> &Vec<Name>
+    /// The names from the root down, as the vector in which they are kept.
+    pub fn list(&self) -> &Vec<Name>
         ensures { result.now.items ≡ self.now }
     {
         &self.names
     }
 
     /// Whether this path lies below that one: it begins with its names and has more.
-    pub(crate) fn is_below(&self, top: &Path) -> bool
+    pub fn is_below(&self, top: &Path) -> bool
         ensures { result ≡ is_below top.now self.now }
     {
         if self.names.len() <= top.names.len() {
             return false;
         }
         self.names.starts_with(top.names())
+    }
+}
+
+/// Equal paths have the same names.
+impl PartialEq for Path {
+    ghost use Rattle.std.specs.Prelude.{bytes_eq};
+    ghost use Rattle.std.specs.Cmp.{partial_equiv_from_equiv};
+    ghost use Rattle.std.specs.Cmp.Lexicographic.{pointwise, lists_equiv, nat_list_eq_equiv};
+
+    ghost eq = { λ left right. pointwise bytes_eq left right };
+
+    ghost laws = { partial_equiv_from_equiv (lists_equiv nat_list_eq_equiv) };
+
+    fn eq(&self, other: &Path) -> bool {
+        self.names.as_slice() == other.names.as_slice()
+    }
+}
+
+impl Eq for Path {
+    ghost use Rattle.std.specs.Cmp.Lexicographic.{lists_equiv, nat_list_eq_equiv};
+
+    ghost laws = { lists_equiv nat_list_eq_equiv };
+}
+
+/// A clone is the same path.
+impl Clone for Path {
+    ghost use Rattle.std.specs.Prelude.{◌≡◌};
+
+    ghost is_clone = { λ path clone. clone ≡ path };
+
+    fn clone(&self) -> Result<Path, AllocError> {
+        let names = self.names.clone()?;
+        Ok(Path { names })
     }
 }

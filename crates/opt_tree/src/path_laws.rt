@@ -12,7 +12,7 @@ ghost use Rattle.opt_tree.specs.Conditions.{file_refusal, rmdir_refusal, rename_
 
 /// How many paths a number has: at least one where a path leads to it, and only then; one more with a path
 /// that is put in, one less with a path that is taken out; and as many as before after a move to where
-/// nothing stands. A directory of a sound tree has one.
+/// nothing is. A directory of a sound tree has one.
 pub fn paths_are_counted()
     ensures there { (names : Names) (p : List (List ℕ)) (n : ℕ) → get names p ≡ Some n → 1 ≤ path_count names n }
     ensures found { (names : Names) (n : ℕ) → 1 ≤ path_count names n → (p : List (List ℕ)) × (get names p ≡ Some n) }
@@ -22,7 +22,7 @@ pub fn paths_are_counted()
     ensures directory { (limit : ℕ) (t : Tree) (p : List (List ℕ)) (n : ℕ) → IsSound limit t → get t.names p ≡ Some n → get t.nodes n ≡ Some Dir → path_count t.names n ≡ 1 }
 {}
 
-/// Some path lies below another one of a sound tree exactly where a name stands in the directory there.
+/// Some path lies below another one of a sound tree exactly where the directory there has a name.
 pub fn what_is_held_has_a_name()
     ensures held { (names : Names) (p rest : List (List ℕ)) (name : List ℕ) (n : ℕ) → get names (p ++ name ∷ rest) ≡ Some n → holds_names names p ≡ true }
     ensures holds { (limit : ℕ) (t : Tree) (p : List (List ℕ)) → IsSound limit t → holds_names t.names p ≡ true → (name : List ℕ) × (n : ℕ) × (get t.names (p ++ name ∷ []) ≡ Some n) }
@@ -37,11 +37,12 @@ pub fn new_paths_keep_a_tree_sound()
         → get t.names (parent path) ≡ Some k → get t.nodes k ≡ Some Dir → IsSound limit (record { names = insert t.names path n; nodes = t.nodes }) }
 {}
 
-/// Of a sound tree only what has nothing below it goes, and never the root; and a move never leads to where
-/// it begins or below it, nor to the root, nor to what holds names.
+/// Of a sound tree only what has nothing below it goes, and never the root. What moves is there; and a move
+/// never leads to where it begins or below it, nor to the root, nor to what holds names.
 pub fn what_goes_holds_nothing()
     ensures unlinked { (limit : ℕ) (t : Tree) (path : List (List ℕ)) → IsSound limit t → file_refusal t path ≡ None → (holds_names t.names path ≡ false) × (path ≢ []) }
     ensures removed { (limit : ℕ) (t : Tree) (path : List (List ℕ)) → IsSound limit t → rmdir_refusal t path ≡ None → (holds_names t.names path ≡ false) × (path ≢ []) }
+    ensures there { (limit : ℕ) (t : Tree) (from to : List (List ℕ)) → IsSound limit t → rename_refusal t from to ≡ None → (n : ℕ) × (get t.names from ≡ Some n) }
     ensures moved { (limit : ℕ) (t : Tree) (from to : List (List ℕ)) → IsSound limit t → rename_refusal t from to ≡ None → is_same_node t from to ≡ false
         → (is_within from to ≡ false) × (holds_names t.names to ≡ false) × (to ≢ []) }
 {}

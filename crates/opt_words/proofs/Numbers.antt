@@ -115,7 +115,7 @@ reads-number E G low high t r read only small e = go r (subst (λ (u : List ℕ)
     go (Some v) h = ap (λ (n : ℕ). Some n) (only t (Ok v) h).1
     go None h = absurd (only t (Err h.0) h.1 (f.numeral, omega (arith, f.most)))
 
--- what stands under an id, as a number
+-- what is under an id, as a number
 pub number-found : (f : Found) (id t : List ℕ) (low high n : ℕ) (E : Type 0) (G : List ℕ → Result ℕ E → Type 0) (r : Option ℕ)
     → ((u : List ℕ) → one_text f id ≡ Some u → ReadsOne G u r) → ((u : List ℕ) (x : Result ℕ E) → G u x → ParsesUnsigned 32 10 u x)
     → high < 2 ^ 32 → one_of id (rows_of f) ≡ Some (without_minus t) → number_in low high t ≡ Some n → r ≡ Some n

@@ -67,7 +67,7 @@ read_request words rows found sub result entered asks same read =
     let kept : found ≡ kept_numbers asks.a asks.b asks.c = let e : found ≡ rows = cc in e ∙ asks.kept in
     read asks.a asks.b asks.c asks.blocks asks.journal asks.nodes kept asks.first asks.second asks.third ∙ sym asks.request
 
--- a parse that fails, but for want of memory, had words that ask for nothing
+-- a parse that fails, but for out of memory, had words that ask for nothing
 pub refused_request : (p : App) (words : List Text) (e : Error) → p ≡ program
     → (is_simple_and_free p ≡ true → HasKind (fault_of p words) e) → (kind_of e ≡ OutOfMemory → ⊥) → request_of_texts words ≡ None
 refused_request p words e is kinds memory =

@@ -77,7 +77,7 @@ abbrev pub Goes : Walk → List Text → Option (List Row) → Type 0
 Goes w words None = is_clean (faults_from w words) ≡ false
 Goes w words (Some rows) = (is_clean (faults_from w words) ≡ true) × (rows_from w words ≡ rows)
 
--- what a word does: its faults, and where the walk stands behind it
+-- what a word does: its faults, and where the walk is behind it
 abbrev Turn : Kinds → Walk → List Text → Option (List Row) → Type 0
 Turn faults next words None = is_clean (or_else faults (faults_from next words)) ≡ false
 Turn faults next words (Some rows) = (is_clean (or_else faults (faults_from next words)) ≡ true) × (rows_from next words ≡ rows)

@@ -1,4 +1,4 @@
--- What the words of the command line ask for. The rules are told in the crate's README.
+-- What the words of the command line ask for. The rules are described in the crate's README.
 use Rattle.std.specs.Prelude.{◌≤◌, ⊤, ℕ, ◌&&◌, List, [], ◌∷◌, Option, Some, None, map, length, nat_lt, nat_le, if◌then◌else◌, codes, option_map, option_and_then, string_bytes}
 use Rattle.std.specs.Str.{bytes_eq, all_ascii_digits}
 use Rattle.std.specs.Str.Parse.{digits_value, without_leading_plus}

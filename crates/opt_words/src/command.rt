@@ -27,7 +27,7 @@ pub const NODES: &str = "nodes";
 /// The whole command line. It has no help, since `clap` is never to print.
 ///
 /// # Errors
-/// Want of memory.
+/// Out of memory.
 pub fn program<'a>(alloc: Global) -> Result<Command<'a>, NoMemory>
     ensures { IfOk result (λ command. app_of command ≡ program) }
 {

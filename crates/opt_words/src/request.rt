@@ -1,5 +1,5 @@
-//! The request that words ask for: its type, and how it is read from them. How `clap` is told of the
-//! command line stands in the module of the command.
+//! The request that words ask for: its type, and how it is read from them. How `clap` is known of the
+//! command line is in the module of the command.
 
 ghost use Rattle.std.specs.Prelude.{◌≡◌, IfOk};
 ghost use Rattle.clap.specs.Words.{found_of, rows_of};
@@ -27,7 +27,7 @@ pub enum Request {
 /// Reads the words behind the program's name. `None`: they are outside the grammar.
 ///
 /// # Errors
-/// Want of memory.
+/// Out of memory.
 pub fn read_words(alloc: Global, words: &[String]) -> Result<Option<Request>, NoMemory>
     ensures exact { IfOk result (λ request. request ≡ request_of words.now) }
     ensures range { IfOk result (λ request. IsInRange request) }

@@ -1,4 +1,4 @@
-use Rattle.opt_tree.proofs.Sound.{start_sound, step_sound, step_limit}
+use Rattle.opt_tree.proofs.soundness.Sound.{start_sound, step_sound, step_limit}
 use Rattle.opt_tree.proofs.laws.commands_keep_a_tree_sound.Goals as goal
 
 pub returns-clause-start : goal.returns-clause-start

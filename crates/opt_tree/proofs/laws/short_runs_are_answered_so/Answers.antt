@@ -1,4 +1,4 @@
-use Rattle.opt_tree.proofs.Examples.{one_node, first_reasons, dir_moves, onto_file}
+use Rattle.opt_tree.proofs.runs.Examples.{one_node, first_reasons, dir_moves, onto_file}
 use Rattle.opt_tree.proofs.laws.short_runs_are_answered_so.Goals as goal
 
 pub returns-clause-one_node : goal.returns-clause-one_node

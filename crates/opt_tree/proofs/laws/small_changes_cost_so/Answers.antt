@@ -1,4 +1,4 @@
-use Rattle.opt_tree.proofs.Examples.{three_blocks, first_name}
+use Rattle.opt_tree.proofs.runs.Examples.{three_blocks, first_name}
 use Rattle.opt_tree.proofs.laws.small_changes_cost_so.Goals as goal
 
 pub returns-clause-blocks : goal.returns-clause-blocks

@@ -1,4 +1,4 @@
-use Rattle.opt_tree.proofs.SoundChanges.{with_new, with_link}
+use Rattle.opt_tree.proofs.soundness.SoundChanges.{with_new, with_link}
 use Rattle.opt_tree.proofs.path_laws.new_paths_keep_a_tree_sound.Goals as goal
 
 pub returns-clause-node : goal.returns-clause-node

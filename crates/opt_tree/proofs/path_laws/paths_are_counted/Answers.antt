@@ -1,5 +1,5 @@
-use Rattle.opt_tree.proofs.PathCounts.{used, count_inserted, count_removed, one_of_dir}
-use Rattle.opt_tree.proofs.PathLaws.{path_of, count_after_move}
+use Rattle.opt_tree.proofs.counting.PathCounts.{used, count_inserted, count_removed, one_of_dir}
+use Rattle.opt_tree.proofs.soundness.PathLaws.{path_of, count_after_move}
 use Rattle.opt_tree.proofs.path_laws.paths_are_counted.Goals as goal
 
 pub returns-clause-there : goal.returns-clause-there

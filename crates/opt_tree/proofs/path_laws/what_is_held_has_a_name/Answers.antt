@@ -1,4 +1,4 @@
-use Rattle.opt_tree.proofs.PathLaws.{held_by, first_name}
+use Rattle.opt_tree.proofs.soundness.PathLaws.{held_by, first_name}
 use Rattle.opt_tree.proofs.path_laws.what_is_held_has_a_name.Goals as goal
 
 pub returns-clause-held : goal.returns-clause-held

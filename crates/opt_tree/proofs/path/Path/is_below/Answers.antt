@@ -1,7 +1,7 @@
 use Rattle.std.proofs.Common.{◌≡◌, ◌∙◌, ◌≤◌, ◌<◌, length, ap, rules}
 use Rattle.std.specs.Prelude.{bytes_eq}
 use Rattle.std.specs.List.{starts_with}
-use Rattle.opt_tree.proofs.BelowPath.{below_longer, starts_below}
+use Rattle.opt_tree.proofs.basics.BelowPath.{below_longer, starts_below}
 use Rattle.opt_tree.proofs.path.Path.is_below.Goals as goal
 
 pub returns-then-len : goal.returns-then-len

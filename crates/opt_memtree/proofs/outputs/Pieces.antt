@@ -1,0 +1,101 @@
+-- A text that a sink takes piece by piece: what is left of it, and that a fault leaves a front of it taken.
+use Rattle.std.proofs.Common.{◌≡◌, ℕ, ◌+◌, ◌<◌, List, [], ◌∷◌, ◌++◌, length, drop, get_or, map, flat_map, codes, Option, Result, Ok, Err, OnErr, Vec, sym, refl, ap, ap₂, ◌∙◌, subst, arith, append_assoc, append-nil, drop-cons, suc, slice_index, ◌/◌, ◌%◌, decimal}
+use Rattle.std.specs.Io.KnownBytes.{Appends}
+use Rattle.std.proofs.KnownBytes.{Appends-trans, Appends-nil}
+use Rattle.std.specs.FinMap.{get}
+use Rattle.hex.specs.Hex.{encode_lower, encode_with, lower_digits}
+use Rattle.opt_io.specs.Prefix.{TakesPrefix}
+use Rattle.opt_tree.specs.Tree.{Names, Nodes, Thing, path_cmp}
+use Rattle.opt_tree.specs.Listing.{slashed, path_text, digits_behind_blank, line_of, listing}
+use Rattle.opt_memtree.specs.Stored.{names_of}
+use Rattle.opt_memtree.proofs.keys.InOrder.{Rise, tree_in_order}
+
+-- what holds anyway holds on an error
+pub on_err : {T E : Type 0} (r : Result T E) (P : Type 0) → P → OnErr r P
+on_err (Ok x) P p = tt
+on_err (Err e) P p = p
+
+-- of the whole text all but the rest was taken
+pub record Wrote (old now : Option (List ℕ)) (rest whole : List ℕ) : Type 0 where
+  pub done : List ℕ
+  pub taken : Appends old now done
+  pub split : done ++ rest ≡ whole
+
+pub wrote_nothing : (old : Option (List ℕ)) (rest whole : List ℕ) → rest ≡ whole → Wrote old old rest whole
+wrote_nothing old rest whole is = record { done = []; taken = Appends-nil old; split = is }
+
+pub wrote_first : (old now : Option (List ℕ)) (first rest whole : List ℕ) → Appends old now first → first ++ rest ≡ whole → Wrote old now rest whole
+wrote_first old now first rest whole taken is = record { done = first; taken = taken; split = is }
+
+pub wrote_more : (old now new : Option (List ℕ)) (left piece rest whole : List ℕ) → Wrote old now left whole → left ≡ piece ++ rest → Appends now new piece
+    → Wrote old new rest whole
+wrote_more old now new left piece rest whole so_far is taken = record {
+  done = so_far.done ++ piece;
+  taken = Appends-trans old now new so_far.done piece so_far.taken taken;
+  split = append_assoc so_far.done piece rest ∙ ap (λ xs. so_far.done ++ xs) (sym is) ∙ so_far.split;
+}
+
+pub wrote_all : (old now : Option (List ℕ)) (left whole : List ℕ) → Wrote old now left whole → left ≡ [] → Appends old now whole
+wrote_all old now left whole so_far is =
+    subst (Appends old now) (sym (append-nil so_far.done) ∙ ap (λ xs. so_far.done ++ xs) (sym is) ∙ so_far.split) so_far.taken
+
+-- a prefix of what was taken before, of the next piece and of the rest is one of the whole
+pub wrote_front : (old now new : Option (List ℕ)) (left piece rest whole : List ℕ) (so_far : Wrote old now left whole) → left ≡ piece ++ rest
+    → TakesPrefix old new (so_far.done ++ (piece ++ rest)) → TakesPrefix old new whole
+wrote_front old now new left piece rest whole so_far is front = subst (TakesPrefix old new) (ap (λ xs. so_far.done ++ xs) (sym is) ∙ so_far.split) front
+
+-- The texts.
+
+-- the kind with its blank, the path and the number
+abbrev pub head : List ℕ → List (List ℕ) → ℕ → List ℕ
+head kind path n = kind ++ path_text path ++ codes " " ++ decimal n
+
+pub slashed_all : (path : List (List ℕ)) → 0 < length path → slashed path ≡ path_text path
+slashed_all [] some = absurd (omega arith)
+slashed_all (name ∷ path) some = refl
+
+-- the next name of a path, and those behind it
+pub slashed_next : (path : List (List ℕ)) (i : ℕ) (name : List ℕ) → i < length path → name ≡ get_or path i name
+    → slashed (drop i path) ≡ (47 ∷ name) ++ slashed (drop (i + 1) path)
+slashed_next path i name within is =
+    let next : suc i ≡ i + 1 = omega arith in
+    ap slashed (drop-cons path i name within) ∙ ap (λ x. (47 ∷ x) ++ slashed (drop (suc i) path)) (sym is)
+    ∙ ap (λ k. (47 ∷ name) ++ slashed (drop k path)) next
+
+pub digits_all : (bytes : List ℕ) → 0 < length bytes → codes " " ++ encode_lower bytes ≡ digits_behind_blank bytes
+digits_all [] some = absurd (omega arith)
+digits_all (byte ∷ bytes) some = refl
+
+encode_append : (digits xs ys : List ℕ) → encode_with digits (xs ++ ys) ≡ encode_with digits xs ++ encode_with digits ys
+unfolding encode_with
+encode_append digits [] ys = refl
+encode_append digits (x ∷ xs) ys = ap (λ rest. slice_index digits (x / 16) ∷ slice_index digits (x % 16) ∷ rest) (encode_append digits xs ys)
+
+pub digits_next : (left piece rest : List ℕ) → left ≡ piece ++ rest → encode_lower left ≡ encode_lower piece ++ encode_lower rest
+digits_next left piece rest is = ap encode_lower is ∙ encode_append lower_digits piece rest
+
+pub no_digits : (left : List ℕ) → length left ≡ 0 → encode_lower left ≡ []
+unfolding encode_with
+no_digits [] none = refl
+no_digits (x ∷ left) none = absurd (omega arith)
+
+module _ {Z : Type 0} (nodes : Nodes) where
+  -- the lines of the search tree's entries
+  abbrev pub lines : List (Vec (List ℕ) Z × ℕ) → List ℕ
+  lines es = flat_map (λ e. line_of e.0.items e.1 (get nodes e.1)) es
+
+  lines_shown : (es : List (Vec (List ℕ) Z × ℕ)) → flat_map (λ (e : List (List ℕ) × ℕ). line_of e.0 e.1 (get nodes e.1)) (map (λ e. (e.0.items, e.1)) es) ≡ lines es
+  lines_shown [] = refl
+  lines_shown (e ∷ es) = ap (λ rest. line_of e.0.items e.1 (get nodes e.1) ++ rest) (lines_shown es)
+
+  pub lines_all : (names : Names) (es range : List (Vec (List ℕ) Z × ℕ)) → names_of es ≡ names → Rise (λ x y. path_cmp x.items y.items) es → range ≡ es
+      → lines range ≡ listing (record { names = names; nodes = nodes })
+  lines_all names es range is rise same =
+      subst (λ m. lines range ≡ listing (record { names = m; nodes = nodes })) is
+      (ap lines same ∙ sym (ap (flat_map (λ (e : List (List ℕ) × ℕ). line_of e.0 e.1 (get nodes e.1))) (tree_in_order es rise) ∙ lines_shown es))
+
+  -- the next line, as the code writes it, and those behind it
+  pub lines_next : (left rest : List (Vec (List ℕ) Z × ℕ)) (key : Vec (List ℕ) Z) (n : ℕ) (path : List (List ℕ)) (thing : Option Thing)
+      → left ≡ (key, n) ∷ rest → path ≡ key.items → thing ≡ get nodes n → lines left ≡ line_of path n thing ++ lines rest
+  lines_next left rest key n path thing is same found =
+      ap lines is ∙ sym (ap₂ (λ p x. line_of p n x ++ lines rest) same found)

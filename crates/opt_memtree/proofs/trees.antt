@@ -1,0 +1,3 @@
+pub mod Removals
+pub mod WalkSteps
+pub mod Answered

@@ -1,0 +1,4 @@
+pub mod Order
+pub mod Strips
+pub mod Finds
+pub mod BelowPath

@@ -1,0 +1,5 @@
+pub mod BlockSums
+pub mod BlockMoves
+pub mod BlockChanges
+pub mod BlockLaws
+pub mod Figures

@@ -1,0 +1,2 @@
+pub mod PathCounts
+pub mod Totals

@@ -1,0 +1,5 @@
+pub mod SoundChanges
+pub mod SoundMoves
+pub mod Sound
+pub mod Sizes
+pub mod PathLaws
