@@ -28,7 +28,7 @@ one_again g old new b was free becomes =
 abbrev is_clear : Blocks → ℕ → Bool
 is_clear m b = not (bit_in m b)
 
--- the free blocks before a place stand in the front of a list, and its rest is as it was
+-- the free blocks before a place are in the front of a list, and its rest is as it was
 pub record AreFound (g : Geometry) (m : Blocks) (old new : List ℕ) (count from : ℕ) : Type 0 where
   pub low : data_start g ≤ from
   pub high : from ≤ g.n

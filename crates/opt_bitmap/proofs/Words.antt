@@ -11,7 +11,7 @@ use Rattle.byteorder.specs.Endian.{little_from, little_number}
 use Rattle.opt_base.specs.Seal.{Blocks, blocks_of}
 use Rattle.opt_bitmap.specs.Bits.{bit_in}
 
--- bit k of a number whose lowest byte stands before the rest
+-- bit k of a number whose lowest byte is before the rest
 bit_of_split : (i k number byte rest : ℕ) (bytes : List ℕ) → number ≡ byte + 256 * rest → byte < 256 → byte ≡ slice_index bytes i
     → (8 ≤ k → bit_at rest (k - 8) ≡ bit_at (slice_index bytes (suc i + (k - 8) / 8)) ((k - 8) % 8)) → bit_at number k ≡ bit_at (slice_index bytes (i + k / 8)) (k % 8)
 bit_of_split i k number byte rest bytes split small is later = by (cases_lt k 8)

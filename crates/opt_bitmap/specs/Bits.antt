@@ -1,4 +1,4 @@
--- The bits of a whole bitmap: which of them are wrong, which data blocks are free, and what it is to write one. It is told in docs/LAYOUT.md.
+-- The bits of a whole bitmap: which of them are wrong, which data blocks are free, and what it is to write one. It is described in docs/LAYOUT.md.
 use Rattle.std.specs.Prelude.{◌≡◌, ℕ, ◌-◌, ◌*◌, ◌≤◌, ◌<◌, ◌==◌, Bool, false, not, ◌&&◌, ◌||◌, nat_lt, nat_le, if◌then◌else◌, List}
 use Rattle.std.specs.List.{filter, range_with_len}
 use Rattle.opt_base.specs.Seal.{Blocks}

@@ -6,10 +6,9 @@ ghost use Rattle.opt_base.specs.Seal.{blocks_of};
 ghost use Rattle.opt_geom.specs.Geometry.{bitmap_blocks};
 ghost use Rattle.opt_bitmap.specs.Bits.{is_bad_bit};
 
-use crate::bits::BITS_IN_BLOCK;
 use crate::scan::{next_clear, next_set};
 use opt_base::Block;
-use opt_geom::Geom;
+use opt_geom::{BITS_IN_BLOCK, Geom};
 use std::error::Error;
 use std::fmt;
 

@@ -1,4 +1,4 @@
-//! Single bits of a lent bitmap. Which blocks they stand for is told by the geometry, which isn't known
+//! Single bits of a borrowed bitmap. Which blocks they stand for is described by the geometry, which isn't known
 //! here.
 
 ghost use Rattle.std.specs.Prelude.{◌≡◌, ◌≢◌, ◌*◌, ◌/◌, ◌<◌, ℕ, true, false, length};
@@ -7,9 +7,7 @@ ghost use Rattle.opt_layout.specs.Bitmap.{bit_in};
 ghost use Rattle.opt_bitmap.specs.Bits.{BitBecomes};
 
 use opt_base::Block;
-
-/// How many bits a block of the bitmap has.
-pub(crate) const BITS_IN_BLOCK: u32 = 8192;
+use opt_geom::BITS_IN_BLOCK;
 
 /// How many bits a byte has.
 const BITS_IN_BYTE: u32 = 8;

@@ -1,6 +1,6 @@
-//! The bitmap of a disk, lent as its blocks in order: reading and writing single bits, the check of the
+//! The bitmap of a disk, borrowed as its blocks in order: reading and writing single bits, the check of the
 //! bits that no data block has, and the search for the lowest free data blocks. It keeps no bitmap,
-//! reads no disk, and takes no memory. The layout is told in docs/LAYOUT.md.
+//! reads no disk, and takes no memory. The layout is described in docs/LAYOUT.md.
 #![tactic(auto)]
 
 mod bad;

@@ -1,4 +1,4 @@
-//! The next clear bit and the next set bit of a lent bitmap. Set bits are passed over 64 at once.
+//! The next clear bit and the next set bit of a borrowed bitmap. Set bits are passed over 64 at once.
 
 ghost use Rattle.std.specs.Prelude.{◌≡◌, ◌+◌, ◌-◌, ◌*◌, ◌/◌, ◌%◌, ◌<◌, ◌≤◌, ◌==◌, ℕ, true, false, length, slice_index};
 ghost use Rattle.std.specs.Int.{bit_at};
@@ -6,8 +6,8 @@ ghost use Rattle.opt_base.specs.Seal.{blocks_of};
 ghost use Rattle.opt_layout.specs.Bitmap.{bit_in};
 
 use crate::bits::is_set;
-use byteorder::{ByteOrder, LittleEndian};
 use opt_base::Block;
+use opt_layout::number_8;
 
 /// How many bits a word has.
 const BITS_IN_WORD: u32 = 64;
@@ -74,7 +74,7 @@ fn word_in(bytes: &[u8], at: usize) -> u64
     requires { at + 8 ≤ length bytes.now }
     ensures { (i : ℕ) → i < 64 → bit_at result i ≡ bit_at (slice_index bytes.now (at + i / 8)) (i % 8) }
 {
-    LittleEndian::read_u64(&bytes[at..])
+    number_8(bytes, at)
 }
 
 /// How many bits from bit `k` on are set, before the first that is clear.

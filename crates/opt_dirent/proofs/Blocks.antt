@@ -7,7 +7,8 @@ use Rattle.opt_layout.specs.Bytes.{are_zeros}
 use Rattle.opt_layout.specs.Slot.{slot_of, slots_in, then_slot, slot_spelling, slot_bytes, directory_block}
 use Rattle.opt_dirent.specs.Slots.{Slot, IsLawful, IsSlot, IsDirBlock}
 use Rattle.opt_dirent.specs.Directory.{overwrite}
-use Rattle.opt_dirent.proofs.Spelled.{zeros_are, are_these_zeros, name_short, spelling_length, reads, spelled}
+use Rattle.opt_dirent.proofs.Fields.{zeros_are, are_these_zeros}
+use Rattle.opt_dirent.proofs.Spelled.{name_short, spelling_length, reads, spelled}
 use Rattle.opt_dirent.proofs.Written.{part}
 use Rattle.opt_dirent.proofs.Entries.{taken, count_read, each_read}
 
@@ -110,7 +111,7 @@ at_place [] i s d e = cc
 at_place (x ∷ slots) zero s d e = cc
 at_place (x ∷ slots) (suc i) s d e = at_place slots i s d e
 
--- one more spelling stands behind the others
+-- one more spelling is behind the others
 bytes_more : (slots : List Slot) (s : Slot) → slot_bytes (slots ++ s ∷ []) ≡ slot_bytes slots ++ slot_spelling s
 bytes_more [] s = append-nil (slot_spelling s)
 bytes_more (x ∷ slots) s = ap (λ y. slot_spelling x ++ y) (bytes_more slots s) ∙ sym (append_assoc (slot_spelling x) (slot_bytes slots) (slot_spelling s))
@@ -120,6 +121,12 @@ pub one_list : (b : List ℕ) (n : ℕ) (slots others : List Slot) → IsDirBloc
 one_list b n slots others is other =
     let both : Some slots ≡ Some others = sym (block_reads n b slots is) ∙ block_reads n b others other in
     cc
+
+-- the slot at a place that there is
+pub is_there : (slots : List Slot) (i : ℕ) (d : Slot) → i < length slots → slice_get slots i ≡ Some (slice_index_or slots i d)
+is_there [] i d low = absurd (omega arith)
+is_there (x ∷ slots) zero d low = refl
+is_there (x ∷ slots) (suc i) d low = is_there slots i d (omega arith)
 
 -- the first slots of a block, and zeros behind them
 pub record IsFront (into : List ℕ) (place : ℕ) (slots : List Slot) : Type 0 where

@@ -9,7 +9,7 @@ use Rattle.opt_layout.specs.Bytes.{are_zeros}
 use Rattle.opt_layout.specs.Slot.{slot_of, slots_in, then_slot, name_in}
 use Rattle.opt_dirent.specs.Slots.{Slot}
 use Rattle.opt_dirent.specs.Directory.{overwrite, without_at}
-use Rattle.opt_dirent.proofs.Spelled.{from_when, zeros_before}
+use Rattle.opt_dirent.proofs.Fields.{when_parts, zeros_before}
 use Rattle.opt_dirent.proofs.Written.{AreWhole, joined_length, part, part_same, part_other, behind_same, from_there}
 
 -- the name of a slot, where there is one
@@ -162,7 +162,7 @@ name_test b name s size e = by (cases_eq (slice_index b 4) (length name))
   where
     got : (nat_le (slice_index b 4) 59 ≡ true) × (name_in b ≡ s.name)
     got =
-        let w = from_when _ _ s e in
+        let w = when_parts _ _ s e in
         ((and_parts _ _ w.0).0, ap (λ (o : Option Slot). name_of o) w.1)
 
     size_is : length s.name ≡ slice_index b 4

@@ -4,3 +4,4 @@ pub mod Entries
 pub mod Places
 pub mod Blocks
 pub mod Joined
+pub mod Fields

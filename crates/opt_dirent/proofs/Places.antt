@@ -1,5 +1,5 @@
 -- The place of a name among the entries, looked for from the front.
-use Rattle.std.proofs.Common.{◌+◌, ◌*◌, ◌≡◌, ◌≢◌, ◌<◌, ◌≤◌, ◌==◌, ◌&&◌, ◌⊎◌, inl, inr, ℕ, true, false, cond, List, length, take, drop, slice_index, slice_index_or, Option, Some, None, sym, ◌∙◌, ap, arith, bytes_eq, nat_lt}
+use Rattle.std.proofs.Common.{◌+◌, ◌*◌, ◌≡◌, ◌≢◌, ◌<◌, ◌≤◌, ◌⊎◌, inl, inr, refl, [], ℕ, true, false, cond, List, length, drop, slice_index_or, Option, Some, None, sym, ◌∙◌, ap, arith, bytes_eq, nat_lt}
 use Rattle.std.proofs.lemmas.Bool.{cond-true, cond-false, lt-ltb, le-ltb, cases_eq, cases_lt, both_ways}
 use Rattle.std.proofs.lemmas.Slice.Eq.{bytes_eq-Decides}
 use Rattle.std.proofs.lemmas.List.{length-take-le, length-drop}
@@ -7,10 +7,10 @@ use Rattle.std.proofs.lemmas.List.Sums.{position_or_len_is, fails_before_first, 
 use Rattle.std.specs.List.{All, concat, position_or_len, slice_get}
 use Rattle.opt_layout.specs.Slot.{slot_of, slots_in}
 use Rattle.opt_dirent.specs.Slots.{Slot}
-use Rattle.opt_dirent.specs.Directory.{slot_at, place_of}
+use Rattle.opt_dirent.specs.Directory.{entries_in, slot_at, has_name, IsFirstNamed, place_of}
 use Rattle.opt_dirent.proofs.Written.{AreWhole, joined_length}
 use Rattle.opt_dirent.proofs.Blocks.{at_place}
-use Rattle.opt_dirent.proofs.Entries.{each_read, name_test, room}
+use Rattle.opt_dirent.proofs.Entries.{count_read, each_read, name_test, room}
 
 -- the bytes of an entry are 64
 pub slot_length : (blocks : List (List ℕ)) (i : ℕ) → AreWhole blocks → 64 * i + 64 ≤ 1024 * length blocks → length (slot_at i blocks) ≡ 64
@@ -20,7 +20,7 @@ slot_length blocks i whole within =
 -- the bytes of an entry have the name exactly where the entry has it
 pub entry_test : (blocks : List (List ℕ)) (n i : ℕ) (slots : List Slot) (d : Slot) (slot name : List ℕ) → AreWhole blocks → slot ≡ slot_at i blocks → i < n
     → slots_in n (concat blocks) ≡ Some slots
-    → ((slice_index slot 4 == length name) && bytes_eq (take (length name) (drop 5 slot)) name) ≡ bytes_eq (slice_index_or slots i d).name name
+    → has_name slot name ≡ bytes_eq (slice_index_or slots i d).name name
 entry_test blocks n i slots d slot name whole is low e =
     name_test slot name (slice_index_or slots i d) (ap length is ∙ slot_length blocks i whole (room n blocks slots i whole e low))
     (ap slot_of is ∙ each_read n (concat blocks) slots i d e low)
@@ -42,14 +42,30 @@ place_is_none name slots d before =
     sym (ap (place_from slots) (position_or_len_is (λ (s : Slot). bytes_eq s.name name) slots (length slots) d (omega arith) before (λ low. absurd (omega arith)))
     ∙ cond-false _ _ _ (le-ltb (length slots) (length slots) (omega arith)))
 
--- one more entry without the name
-pub none_yet : (name : List ℕ) (slots : List Slot) (i : ℕ) (d : Slot) → ((k : ℕ) → k < i → bytes_eq (slice_index_or slots k d).name name ≡ false)
-    → bytes_eq (slice_index_or slots i d).name name ≡ false → (k : ℕ) → k < i + 1 → bytes_eq (slice_index_or slots k d).name name ≡ false
-none_yet name slots i d before here k low = by (cases_eq k i)
+-- one more place whose bytes don't have the name
+pub none_yet : (blocks : List (List ℕ)) (name : List ℕ) (i : ℕ) → ((k : ℕ) → k < i → has_name (slot_at k blocks) name ≡ false)
+    → has_name (slot_at i blocks) name ≡ false → (k : ℕ) → k < i + 1 → has_name (slot_at k blocks) name ≡ false
+none_yet blocks name i before here k low = by (cases_eq k i)
   where
-    by : ((k ≡ i) ⊎ (k ≡ i → ⊥)) → bytes_eq (slice_index_or slots k d).name name ≡ false
-    by (inl same) = ap (λ j. bytes_eq (slice_index_or slots j d).name name) same ∙ here
+    by : ((k ≡ i) ⊎ (k ≡ i → ⊥)) → has_name (slot_at k blocks) name ≡ false
+    by (inl same) = ap (λ j. has_name (slot_at j blocks) name) same ∙ here
     by (inr apart) = before k (omega arith)
+
+blank : Slot
+blank = record { node = 0; name = [] }
+
+-- where the entries are slots, the first place whose bytes have the name is that of the first entry with it
+pub named_is : (entries : ℕ) (blocks : List (List ℕ)) (name : List ℕ) (p : Option ℕ) (slots : List Slot) → AreWhole blocks → IsFirstNamed entries blocks name p
+    → entries_in entries blocks ≡ Some slots → p ≡ place_of name slots
+named_is entries blocks name None slots whole none e =
+    place_is_none name slots blank
+    (λ k low.
+    let within : k < entries = omega (arith, count_read entries (concat blocks) slots e, low) in
+    sym (entry_test blocks entries k slots blank (slot_at k blocks) name whole refl within e) ∙ none k within)
+named_is entries blocks name (Some p) slots whole is e =
+    place_is name slots p blank (omega (arith, count_read entries (concat blocks) slots e, is.0))
+    (λ k low. sym (entry_test blocks entries k slots blank (slot_at k blocks) name whole refl (omega (arith, low, is.0)) e) ∙ is.2 k low)
+    (sym (entry_test blocks entries p slots blank (slot_at p blocks) name whole refl is.0 e) ∙ is.1)
 
 -- where there is a place, it is within the entries and counts those before the first with the name
 place_counts : (name : List ℕ) (slots : List Slot) (i : ℕ) → place_of name slots ≡ Some i

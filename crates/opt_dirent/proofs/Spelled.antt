@@ -1,42 +1,16 @@
 -- A slot's spelling reads as that slot, and what reads as a slot is its spelling.
-use Rattle.std.proofs.Common.{◌+◌, ◌-◌, ◌≡◌, ◌<◌, ◌≤◌, ◌==◌, ℕ, zero, suc, Bool, true, false, List, [], ◌∷◌, ◌++◌, length, take, drop, replicate, slice_index, Option, Some, refl, sym, ◌∙◌, ap, ap₂, arith, take_all}
+use Rattle.std.proofs.Common.{◌+◌, ◌-◌, ◌≡◌, ◌<◌, ◌≤◌, ℕ, zero, suc, true, List, [], ◌∷◌, ◌++◌, length, take, drop, replicate, slice_index, Some, refl, sym, ◌∙◌, ap, ap₂, arith, take_all}
 use Rattle.std.proofs.Math.Seq.{take-append_seam, drop-append_seam}
 use Rattle.std.proofs.lemmas.List.{length-replicate, length-take-le, length-drop, length-append, drop-drop, take-append-drop}
-use Rattle.std.proofs.lemmas.Bool.{and_from, and_parts, le-leb, leb-true, eqb-true}
+use Rattle.std.proofs.lemmas.Bool.{and_from, and_parts, le-leb, leb-true}
 use Rattle.std.proofs.lemmas.Nat.{le_bytes_4}
 use Rattle.byteorder.specs.Endian.{little_bytes}
 use Rattle.byteorder.specs.Numbers.{little_number-reads_back, little_from-lt}
 use Rattle.opt_base.specs.Name.{is_name}
-use Rattle.opt_layout.specs.Bytes.{field, are_zeros, has_zeros, when}
+use Rattle.opt_layout.specs.Bytes.{field, are_zeros, has_zeros}
+use Rattle.opt_dirent.proofs.Fields.{when_is, when_parts, zeros_are, are_these_zeros}
 use Rattle.opt_layout.specs.Slot.{name_in, slot_of, slot_spelling}
 use Rattle.opt_dirent.specs.Slots.{Slot, IsLawful, IsSlot}
-
--- where a test holds, the value stands
-pub when_is : {A : Type 0} (t : Bool) (o : Option A) → t ≡ true → when t o ≡ o
-when_is true o e = refl
-when_is false o e = cc
-
--- and where a value stands, the test holds
-pub from_when : {A : Type 0} (t : Bool) (o : Option A) (a : A) → when t o ≡ Some a → (t ≡ true) × (o ≡ Some a)
-from_when true o a e = (refl, e)
-from_when false o a e = cc
-
--- zeros are zeros
-pub zeros_are : (n : ℕ) → are_zeros (replicate n 0) ≡ true
-zeros_are zero = refl
-zeros_are (suc n) = zeros_are n
-
--- zeros before other bytes
-pub zeros_before : (n : ℕ) (rest : List ℕ) → are_zeros (replicate n 0 ++ rest) ≡ are_zeros rest
-zeros_before zero rest = refl
-zeros_before (suc n) rest = zeros_before n rest
-
--- and bytes that are zeros are so many zeros
-pub are_these_zeros : (xs : List ℕ) → are_zeros xs ≡ true → xs ≡ replicate (length xs) 0
-are_these_zeros [] e = refl
-are_these_zeros (x ∷ xs) e =
-    let parts = and_parts (x == 0) (are_zeros xs) e in
-    ap₂ (λ (y : ℕ) (ys : List ℕ). y ∷ ys) (eqb-true x 0 parts.0) (are_these_zeros xs parts.1)
 
 -- a name has 1 to 59 bytes
 pub name_short : (name : List ℕ) → is_name name ≡ true → length name ≤ 59
@@ -86,7 +60,7 @@ four a b c d rest la lb lc ld =
     below (suc (suc (suc zero))) = ld
     below (suc (suc (suc (suc i)))) = omega arith
 
--- the name and the zeros behind it are what stands behind the length
+-- the name and the zeros behind it are what is behind the length
 named : (n : ℕ) (rest : List ℕ) → n ≤ 59 → length rest ≡ 59 → are_zeros (drop n rest) ≡ true
     → (n ∷ rest) ≡ length (take n rest) ∷ (take n rest ++ replicate (59 - length (take n rest)) 0)
 named n rest low len zeros =
@@ -100,7 +74,7 @@ pub spelled : (b : List ℕ) (s : Slot) → length b ≡ 64 → ((i : ℕ) → s
 unfolding slot_of
 spelled (a ∷ b ∷ c ∷ d ∷ n ∷ rest) s len below e =
     let all = a ∷ b ∷ c ∷ d ∷ n ∷ rest in
-    let got = from_when _ _ s e in
+    let got = when_parts _ _ s e in
     let is : s ≡ record { node = field all 0 4; name = take n rest } = cc (got.1) in
     let tests = and_parts _ _ got.0 in
     let low : n ≤ 59 = leb-true n 59 tests.0 in

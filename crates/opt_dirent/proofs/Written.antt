@@ -89,7 +89,7 @@ part i bytes = take 64 (drop (64 * i) bytes)
 pub from_there : (bytes new : List ℕ) (at : ℕ) → 64 * at ≤ length bytes → drop (64 * at) (overwrite (64 * at) new bytes) ≡ new ++ drop (64 * at + length new) bytes
 from_there bytes new at fits = drop_at (take (64 * at) bytes) (new ++ drop (64 * at + length new) bytes) (64 * at) (length-take-le (64 * at) bytes fits)
 
--- what was written at a place stands there
+-- what was written at a place is there
 pub part_same : (bytes new : List ℕ) (at : ℕ) → length new ≡ 64 → 64 * at + 64 ≤ length bytes → part at (overwrite (64 * at) new bytes) ≡ new
 part_same bytes new at size fits =
     ap (take 64) (from_there bytes new at (omega arith))

@@ -1,5 +1,5 @@
--- A directory over its blocks, and what changes of it leave. It is told in docs/LAYOUT.md.
-use Rattle.std.specs.Prelude.{ℕ, ◌+◌, ◌*◌, Bool, List, [], ◌++◌, length, take, drop, bytes_eq, Option}
+-- A directory over its blocks, and what changes of it leave. It is described in docs/LAYOUT.md.
+use Rattle.std.specs.Prelude.{◌≡◌, ◌<◌, ℕ, ◌+◌, ◌*◌, ◌==◌, ◌&&◌, Bool, true, false, List, [], ◌++◌, length, take, drop, slice_index, bytes_eq, Option, Some, None}
 use Rattle.std.specs.List.{concat, position, swap_remove}
 use Rattle.opt_layout.specs.declared.slot.Slot.{Slot}
 use Rattle.opt_layout.specs.Bytes.{are_zeros}
@@ -12,6 +12,16 @@ entries_in entries blocks = slots_in entries (concat blocks)
 -- the bytes of the slot at a place
 abbrev pub slot_at : ℕ → List (List ℕ) → List ℕ
 slot_at place blocks = take slot_size (drop (slot_size * place) (concat blocks))
+
+-- the bytes of a slot have this name: the byte before the name says its length, and the name comes behind it
+abbrev pub has_name : List ℕ → List ℕ → Bool
+has_name slot name = (slice_index slot 4 == length name) && bytes_eq (take (length name) (drop 5 slot)) name
+
+-- the first of so many places whose bytes have this name, or none where no place's bytes have it
+abbrev pub IsFirstNamed : ℕ → List (List ℕ) → List ℕ → Option ℕ → Type 0
+IsFirstNamed entries blocks name None = (k : ℕ) → k < entries → has_name (slot_at k blocks) name ≡ false
+IsFirstNamed entries blocks name (Some p) =
+    (p < entries) × (has_name (slot_at p blocks) name ≡ true) × ((k : ℕ) → k < p → has_name (slot_at k blocks) name ≡ false)
 
 -- every byte behind the first slots is zero
 abbrev pub is_clear_behind : ℕ → List (List ℕ) → Bool

@@ -1,4 +1,4 @@
--- Which bytes are a slot's, and which block is one of a directory's. It is told in docs/LAYOUT.md.
+-- Which bytes are a slot's, and which block is one of a directory's. It is described in docs/LAYOUT.md.
 use Rattle.std.specs.Prelude.{◌≡◌, ◌<◌, ◌^◌, ℕ, true, List, length}
 use Rattle.std.specs.List.{All}
 use Rattle.opt_base.specs.Name.{is_name}

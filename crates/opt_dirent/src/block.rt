@@ -1,5 +1,5 @@
 //! One block of a directory: its slots from the front, and zeros behind them. How many entries a block
-//! has isn't told by the block, but by the size of its directory.
+//! has isn't said by the block, but by the size of its directory.
 
 ghost use Rattle.std.specs.Prelude.{◌≡◌, ◌≤◌, ◌+◌, ◌*◌, List, length, IfOk, OnErr};
 ghost use Rattle.std.specs.List.{All};
@@ -7,9 +7,10 @@ ghost use Rattle.opt_dirent.specs.Slots.{Slot as SlotValue, IsLawful, IsDirBlock
 ghost use Rattle.opt_dirent.specs.Directory.{overwrite};
 
 use crate::Slots;
-use crate::slot::{BadSlot, SLOT_LENGTH, are_zeros, slot_of, slot_text};
+use crate::slot::{BadSlot, slot_of, slot_text};
 use opt_base::Block;
 use opt_base::limits::BLOCK_LENGTH;
+use opt_layout::{SLOT_LENGTH, are_zeros};
 
 /// The slots of a directory's block that has so many entries.
 ///
@@ -33,12 +34,10 @@ pub fn write_dir_block(slots: &Slots, into: &mut Block)
     ensures lawful { All IsLawful slots.now }
 {
     *into = [0; BLOCK_LENGTH];
-    for place in 0..slots.len() {
-        put(
-            into,
-            SLOT_LENGTH * place,
-            slot_text(slots.at(place)).as_slice(),
-        );
+    let mut at = 0;
+    for slot in slots.as_slice() {
+        put(into, at, slot_text(slot).as_slice());
+        at += SLOT_LENGTH;
     }
 }
 

@@ -1,25 +1,26 @@
-//! A directory over its lent blocks: finding an entry, putting one in, taking one out. Each call reads or
+//! A directory over its borrowed blocks: finding an entry, putting one in, taking one out. Each call reads or
 //! writes the slots that it needs in their places, and builds none in between.
 
-ghost use Rattle.std.specs.Prelude.{◌≡◌, ◌≢◌, ◌≤◌, ◌<◌, ◌+◌, ◌-◌, ◌*◌, ◌/◌, ◌&&◌, ◌==◌, ℕ, Some, List, [], ◌∷◌, ◌++◌, length, take, drop, replicate, set, slice_index, bytes_eq};
+ghost use Rattle.std.specs.Prelude.{◌≡◌, ◌≢◌, ◌≤◌, ◌<◌, ◌+◌, ◌-◌, ◌*◌, ◌/◌, ℕ, Some, List, [], ◌∷◌, ◌++◌, length, replicate, set};
 ghost use Rattle.std.specs.List.{concat};
 ghost use Rattle.opt_base.specs.Seal.{blocks_of};
 ghost use Rattle.opt_dirent.specs.Slots.{Slot as SlotValue, slot_spelling};
-ghost use Rattle.opt_dirent.specs.Directory.{entries_in, slot_at, is_clear_behind, place_of, overwrite, without_at};
+ghost use Rattle.opt_dirent.specs.Directory.{entries_in, slot_at, has_name, IsFirstNamed, is_clear_behind, place_of, overwrite, without_at};
 
 use crate::block::put;
-use crate::slot::{NAME_AT, NAME_LENGTH_AT, SLOT_LENGTH, slot_text};
+use crate::slot::{NAME_AT, NAME_LENGTH_AT, slot_text};
 use opt_base::{Block, Name};
-use opt_layout::Slot;
+use opt_layout::{SLOT_LENGTH, Slot};
 
 /// How many slots a block has.
 const SLOTS_IN_BLOCK: u32 = 16;
 
-/// The place of the first entry with this name, or `None` where no entry has it. The directory's first
-/// `entries` slots must be slots. Each of them is looked at once, and no longer once the name is found.
+/// The place of the first entry with this name, or `None` where no entry has it. The blocks must have
+/// room for so many entries. Each is looked at once, and none behind the one that is found.
 pub fn find(dir: &[Block], entries: u32, name: &Name) -> Option<u32>
     requires { 64 * entries ≤ 1024 * length dir.now }
-    ensures { (slots : List SlotValue) → entries_in entries dir.now ≡ Some slots → result ≡ place_of name.now slots }
+    ensures bytes { IsFirstNamed entries dir.now name.now result }
+    ensures entries { (slots : List SlotValue) → entries_in entries dir.now ≡ Some slots → result ≡ place_of name.now slots }
 {
     let wanted = name.as_bytes();
     for place in 0..entries {
@@ -90,7 +91,7 @@ fn put_at(dir: &mut [Block], place: u32, bytes: &[u8])
 fn has_name(slot: &[u8], name: &[u8]) -> bool
     requires size { length slot.now ≡ 64 }
     requires short { length name.now ≤ 59 }
-    ensures { result ≡ ((slice_index slot.now 4 == length name.now) && bytes_eq (take (length name.now) (drop 5 slot.now)) name.now) }
+    ensures { result ≡ has_name slot.now name.now }
 {
     if slot[NAME_LENGTH_AT] as usize != name.len() {
         return false;

@@ -1,6 +1,6 @@
-//! Directory slots and whole directories over lent blocks: reading and writing one slot or one block of
+//! Directory slots and whole directories over borrowed blocks: reading and writing one slot or one block of
 //! slots, finding an entry by its name, putting one in and taking one out. It keeps no directory, reads
-//! no disk and takes no memory; which entry goes where is for its callers to say. The layout is told in
+//! no disk and takes no memory; which entry goes where is for its callers to say. The layout is described in
 //! docs/LAYOUT.md.
 #![tactic(auto)]
 
@@ -18,5 +18,6 @@ pub use laws::{
     a_name_has_its_first_place, directory_blocks_read_back, entries_follow_their_bytes,
     slots_read_back,
 };
+pub use opt_layout::Slot;
 pub use slot::{BadSlot, read_slot, write_slot};
 pub use slots::Slots;

@@ -1,20 +1,15 @@
-//! One slot and its 64 bytes. Where slots stand in a block is told by the modules that keep many.
+//! One slot and its 64 bytes. Where slots are in a block is described by the modules that keep many.
 
-ghost use Rattle.std.specs.Prelude.{◌≡◌, ◌≤◌, ◌+◌, ◌++◌, length, IfOk, OnErr};
+ghost use Rattle.std.specs.Prelude.{◌≡◌, length, IfOk, OnErr};
 ghost use Rattle.arrayvec.specs.ArrayVec.{array_vec_len};
-ghost use Rattle.opt_layout.specs.Bytes.{are_zeros};
 ghost use Rattle.opt_dirent.specs.Slots.{Slot as SlotValue, IsLawful, IsSlot, slot_of, slot_spelling};
 
 use arrayvec::ArrayVec;
-use byteorder::{ByteOrder, LittleEndian};
 use opt_base::Name;
 use opt_base::limits::LONGEST_NAME;
-use opt_layout::Slot;
+use opt_layout::{SLOT_LENGTH, Slot, are_zeros, number_4, put, put_4, put_zeros};
 use std::error::Error;
 use std::fmt;
-
-/// The bytes of a slot.
-pub(crate) const SLOT_LENGTH: usize = 64;
 
 /// The byte that says how many bytes the name has.
 pub(crate) const NAME_LENGTH_AT: usize = 4;
@@ -77,7 +72,7 @@ pub(crate) fn slot_of(bytes: &[u8]) -> Option<Slot>
         return None;
     }
     Some(Slot {
-        node: LittleEndian::read_u32(bytes),
+        node: number_4(bytes, 0),
         name,
     })
 }
@@ -89,24 +84,10 @@ pub(crate) fn slot_text(slot: &Slot) -> Text
     ensures lawful { IsLawful slot.now }
 {
     let name = slot.name.as_bytes();
-    let zeros = [0u8; LONGEST_NAME];
     let mut text = ArrayVec::new();
-    put(&mut text, slot.node.to_le_bytes().as_slice());
+    put_4(&mut text, slot.node);
     text.push(name.len() as u8);
     put(&mut text, name);
-    put(&mut text, &zeros[name.len()..]);
+    put_zeros(&mut text, LONGEST_NAME - name.len());
     text
-}
-
-pub(crate) fn are_zeros(bytes: &[u8]) -> bool
-    ensures { result ≡ are_zeros bytes.now }
-{
-    bytes.iter().all(|byte| *byte == 0)
-}
-
-fn put(text: &mut Text, bytes: &[u8])
-    requires { array_vec_len text.old + length bytes.now ≤ 64 }
-    ensures { text.new.items ≡ text.old.items ++ bytes.now }
-{
-    text.try_extend_from_slice(bytes).unwrap();
 }

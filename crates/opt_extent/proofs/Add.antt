@@ -6,7 +6,7 @@ use Rattle.opt_base.specs.declared.places.Run.{Run}
 use Rattle.opt_base.specs.Runs.{blocks_from, run_places}
 use Rattle.opt_extent.specs.Runs.{AreTidy, LieBelow, stretches}
 use Rattle.opt_extent.proofs.Places.{places_append, blocks_more}
-use Rattle.opt_extent.proofs.Tidy.{Apart, tidy_cons, tidy_first, tidy_apart, tidy_rest}
+use Rattle.opt_extent.specs.TidyLaws.{Apart, tidy_cons, tidy_first, tidy_apart, tidy_rest}
 use Rattle.opt_extent.proofs.Count.{tidy_count}
 
 -- the last run, one number longer

@@ -8,7 +8,7 @@ use Rattle.opt_base.specs.declared.places.Run.{Run}
 use Rattle.opt_base.specs.Runs.{blocks_from, run_places}
 use Rattle.opt_extent.specs.Runs.{is_break, stretches, before_runs, runs_of, AreTidy}
 use Rattle.opt_extent.specs.Next.{next_after, next_number, goes_on}
-use Rattle.opt_extent.proofs.Tidy.{tidy_first, tidy_rest, runs_of_places}
+use Rattle.opt_extent.specs.TidyLaws.{tidy_first, tidy_rest, runs_of_places}
 
 -- how many numbers don't go on, where this one would at the beginning
 abbrev starts : Option ℕ → List ℕ → ℕ

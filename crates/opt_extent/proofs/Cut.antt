@@ -5,7 +5,7 @@ use Rattle.std.proofs.lemmas.List.Elements.{All-nil, All-cons, All-head, All-tai
 use Rattle.opt_base.specs.declared.places.Run.{Run}
 use Rattle.opt_base.specs.Runs.{blocks_from, run_places}
 use Rattle.opt_extent.specs.Runs.{AreTidy, LieBelow}
-use Rattle.opt_extent.proofs.Tidy.{Apart, tidy_cons, tidy_first, tidy_apart, tidy_rest}
+use Rattle.opt_extent.specs.TidyLaws.{Apart, tidy_cons, tidy_first, tidy_apart, tidy_rest}
 
 -- the runs of the first n numbers
 abbrev pub cut_runs : ℕ → List Run → List Run

@@ -1,4 +1,4 @@
--- A list of block numbers as its runs of neighbours. It is told in docs/LAYOUT.md.
+-- A list of block numbers as its runs of neighbours. It is described in docs/LAYOUT.md.
 use Rattle.std.specs.Prelude.{◌≢◌, ℕ, ◌+◌, ◌<◌, ◌≤◌, Bool, not, ◌==◌, ⊤, if◌then◌else◌, List, [], ◌∷◌}
 use Rattle.std.specs.List.{All, zip, count_by}
 use Rattle.opt_base.specs.declared.places.Run.{Run}

@@ -1,6 +1,6 @@
 //! A list of block numbers as at most 28 runs of neighbours, as a node has them: `Runs` adds numbers at
 //! the end, cuts the list, and finds a number by its place. It knows no disk and no node. The runs are
-//! told in docs/LAYOUT.md.
+//! described in docs/LAYOUT.md.
 #![tactic(auto)]
 
 mod laws;

@@ -1,5 +1,5 @@
 //! The type `Runs`. Its runs are always tidy, and their numbers are those of blocks of a disk. Which
-//! blocks a list may have is told by the crates that keep one.
+//! blocks a list may have is described by the crates that keep one.
 
 ghost use Rattle.std.specs.Prelude.{◌≡◌, ◌↔◌, ◌<◌, ◌≤◌, ◌++◌, ◌∷◌, [], length, take, slice_get, Some, IfSome, IsOk, OnOk, OnErr, IfErr};
 ghost use Rattle.std.specs.List.{All};
@@ -37,7 +37,7 @@ impl Error for Scattered {}
 
 /// A list of block numbers, each below 1,048,576, which contracts see as that list. It is kept as at
 /// most 28 runs in the value itself, so it takes no memory.
-#[derive(Debug, Drop)]
+#[derive(Debug, PartialEq, Eq, Drop)]
 pub struct Runs {
     list: RunList,
 }
@@ -45,13 +45,20 @@ pub struct Runs {
 impl Model for Runs {
     ghost use Rattle.std.specs.Prelude.{ℕ, List};
     ghost use Rattle.opt_base.specs.Runs.{run_places};
-    ghost use Rattle.opt_extent.specs.Runs.{AreTidy, LieBelow, most_blocks};
+    ghost use Rattle.std.proofs.Common.{ap};
+    ghost use Rattle.opt_base.specs.declared.places.Run.{Run};
+    ghost use Rattle.opt_extent.specs.Runs.{AreTidy, LieBelow, most_blocks, runs_of};
+    ghost use Rattle.opt_extent.specs.TidyLaws.{runs_of_places};
 
     ghost Value = { List ℕ };
 
     ghost view = { λ r. run_places r.list };
 
     ghost invariant = { λ r. AreTidy r.list × LieBelow most_blocks r.list };
+
+    ghost inverse = { λ xs. record { list = runs_of xs } };
+
+    ghost inverse_ok = { λ r tidy. ap (λ (rs : List Run). record { list = rs }) (runs_of_places r.list tidy.0) };
 }
 
 impl Runs {

@@ -52,7 +52,7 @@ root_there g b e = by_tests g b false false true (ne_eqb b 0 (omega (arith, e)))
 pub zeros_behind : (g : Geometry) (b : ℕ) → table_start g < b → formatted g b ≡ replicate 1024 0
 zeros_behind g b low = by_tests g b false false false (ne_eqb b 0 (omega (arith, low))) (second_fails _ _ (le-leb (bitmap_start g) b (omega (arith, low))) (le-ltb b (table_start g) (omega (arith, low)))) (ne_eqb b (table_start g) (omega (arith, low)))
 
--- the bit of block b is set exactly where b stands before the data
+-- the bit of block b is set exactly where b is before the data
 pub bit_is_first : (g : Geometry) (b : ℕ) → IsGeometry g → b < 8192 * bitmap_blocks g → is_set g (formatted g) b ≡ nat_lt b (data_start g)
 bit_is_first g b is within =
     ap (λ x. bit_at (get_or x (b % 8192 / 8) 0) (b % 8) == 1)

@@ -8,16 +8,13 @@ ghost use Rattle.opt_layout.specs.Node.{node_spelling};
 
 use opt_base::limits::BLOCK_LENGTH;
 use opt_base::{Block, RunList};
-use opt_geom::Geom;
+use opt_geom::{Geom, NODE_LENGTH};
 use opt_journal::{Header, write_header};
 use opt_layout::{Node, NodeKind};
 use opt_node::write_node;
 
 /// How many bits a byte of the bitmap has.
 const BITS_IN_BYTE: u32 = 8;
-
-/// How many bytes a node has in the node table.
-const NODE_LENGTH: usize = 256;
 
 /// What block `b` has on a disk that was just formatted with this geometry. Past the disk's end these
 /// are zeros.

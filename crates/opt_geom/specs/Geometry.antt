@@ -1,4 +1,4 @@
--- The geometry of a disk and its areas. It is told in docs/LAYOUT.md.
+-- The geometry of a disk and its areas. It is described in docs/LAYOUT.md.
 use Rattle.std.specs.Prelude.{◌≡◌, ℕ, ◌+◌, ◌-◌, ◌*◌, ◌/◌, ◌%◌, ◌≤◌, ◌<◌, Bool, ◌&&◌, ◌==◌, nat_le}
 
 pub record Geometry : Type 0 where
@@ -19,11 +19,15 @@ bitmap_start g = g.j + 2
 abbrev pub table_start : Geometry → ℕ
 table_start g = bitmap_start g + bitmap_blocks g
 
--- the data begin behind the node table, which has four nodes in a block
--- how many nodes stand in a block of the node table
+-- the bytes of a node, in this one place
+abbrev pub node_size : ℕ
+node_size = 256
+
+-- how many nodes a block of the node table has
 abbrev pub nodes_in_block : ℕ
 nodes_in_block = 4
 
+-- the data begin behind the node table
 abbrev pub data_start : Geometry → ℕ
 data_start g = table_start g + g.i / nodes_in_block
 

@@ -1,8 +1,8 @@
 //! The three numbers of a geometry, which are always within their limits, and the starts of its areas.
-//! Which bytes stand in the areas is told by the crates of the layout.
+//! Which bytes are in the areas is described by the crates of the layout.
 
 ghost use Rattle.std.specs.Prelude.{◌≡◌, ◌↔◌, ◌≤◌, ◌+◌, ◌-◌, ◌*◌, ◌/◌, ◌%◌, ◌&&◌, true, nat_le, IsOk, IfOk};
-ghost use Rattle.opt_geom.specs.Geometry.{geometry_fits, IsGeometry, LiesIn, bitmap_blocks, bitmap_start, table_start, data_start};
+ghost use Rattle.opt_geom.specs.Geometry.{geometry_fits, IsGeometry, LiesIn, node_size, nodes_in_block, bitmap_blocks, bitmap_start, table_start, data_start};
 ghost use Rattle.opt_geom.specs.Geometry.Area.{Table};
 
 use opt_base::limits::{
@@ -12,17 +12,17 @@ use std::error::Error;
 use std::fmt;
 use std::marker::Model;
 
-/// How many header slots stand before the journal.
+/// How many header slots are before the journal.
 const HEADERS: u32 = 2;
 
 /// How many bits a block of the bitmap has.
-const BITS_IN_BLOCK: u32 = 8192;
+pub const BITS_IN_BLOCK: u32 = 8192;
 
-/// How many nodes stand in a block of the node table.
+/// How many nodes are in a block of the node table.
 const NODES_IN_BLOCK: u32 = 4;
 
 /// The bytes of a node.
-const NODE_LENGTH: u32 = 256;
+pub const NODE_LENGTH: usize = 256;
 
 /// The numbers are no geometry: one is out of its range, or the areas don't fit.
 #[derive(Clone, Copy, Debug, PartialEq, Eq)]
@@ -137,14 +137,14 @@ impl Geom {
     pub fn node_place(&self, number: u32) -> (u32, u32)
         requires above_zero { 1 ≤ number }
         requires in_table { number ≤ self.now.i }
-        ensures block { result.0 ≡ table_start self.now + (number - 1) / 4 }
-        ensures byte { result.1 ≡ 256 * ((number - 1) % 4) }
+        ensures block { result.0 ≡ table_start self.now + (number - 1) / nodes_in_block }
+        ensures byte { result.1 ≡ node_size * ((number - 1) % nodes_in_block) }
         ensures lies { LiesIn self.now Table result.0 }
     {
         self.lawful();
         let before = number - 1;
         let block = self.table_start() + before / NODES_IN_BLOCK;
-        (block, NODE_LENGTH * (before % NODES_IN_BLOCK))
+        (block, NODE_LENGTH as u32 * (before % NODES_IN_BLOCK))
     }
 }
 

@@ -1,12 +1,13 @@
 -- What a header or a commit block that reads says of its numbers.
 use Rattle.std.proofs.Common.{◌≡◌, ℕ, ◌+◌, ◌==◌, nat_lt, nat_le, List, Some, subst, eqb-true}
 use Rattle.std.proofs.lemmas.Bool.{and_parts, leb-true, ltb-true}
+use Rattle.std.proofs.lemmas.Option.{same_Some}
 use Rattle.opt_base.specs.Seal.{is_sealed}
 use Rattle.opt_geom.specs.Geometry.{Geometry, geometry_fits}
 use Rattle.opt_layout.specs.Bytes.{field}
 use Rattle.opt_journal.specs.declared.header.Header.{Header}
 use Rattle.opt_journal.specs.declared.record.Commit.{Commit}
-use Rattle.opt_journal.proofs.Sealed.{when_some, when_inner, same_some}
+use Rattle.opt_journal.proofs.Fields.{when_some, when_inner}
 use Rattle.opt_journal.specs.Layout.{has_tag, header_tag, header_fields, header_fits, header_of, IsWithinDisk, commit_tag, commit_fields, commit_fits, commit_of, IsWithinRing, descriptor_count}
 
 -- each number of a header that reads was tested
@@ -15,7 +16,7 @@ unfolding header_of
 header_bounds n b h e =
     let inner = when_inner (is_sealed b) _ h e in
     let fits = when_some (header_fits n b (header_fields b)) _ h inner in
-    let same = same_some (when_inner (header_fits n b (header_fields b)) _ h inner) in
+    let same = same_Some _ _ (when_inner (header_fits n b (header_fields b)) _ h inner) in
     let f : Header = header_fields b in
     let tag = and_parts (has_tag header_tag b) _ fits in
     let epoch = and_parts (nat_lt 0 f.epoch) _ tag.1 in
@@ -43,7 +44,7 @@ unfolding commit_of
 commit_bounds g b c e =
     let inner = when_inner (is_sealed b) _ c e in
     let fits = when_some (commit_fits g b (commit_fields b)) _ c inner in
-    let same = same_some (when_inner (commit_fits g b (commit_fields b)) _ c inner) in
+    let same = same_Some _ _ (when_inner (commit_fits g b (commit_fields b)) _ c inner) in
     let f : Commit = commit_fields b in
     let tag = and_parts (has_tag commit_tag b) _ fits in
     let some = and_parts (nat_lt 0 f.payloads) _ tag.1 in

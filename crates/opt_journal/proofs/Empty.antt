@@ -1,4 +1,4 @@
--- The formatted disk has one header and no record, so it holds what stands on it.
+-- The formatted disk has one header and no record, so it holds what rests on it.
 use Rattle.std.proofs.Common.{◌≡◌, ℕ, ◌≤◌, ◌<◌, ◌==◌, Bool, true, false, ◌&&◌, nat_le, nat_lt, if◌then◌else◌, List, [], take, replicate, slice_index, Some, refl, sym, ◌∙◌, ap, arith}
 use Rattle.std.proofs.lemmas.Bool.{ne_eqb, lt-leb}
 use Rattle.opt_geom.specs.Geometry.{Geometry, geometry_fits, bitmap_start, table_start, ring_block}

@@ -1,4 +1,4 @@
--- What the entries of a record keep to: payloads stand behind the journal, fresh blocks among the data, each row ascends, and no block is in both.
+-- What the entries of a record keep to: payloads are behind the journal, fresh blocks among the data, each row ascends, and no block is in both.
 use Rattle.std.proofs.Common.{◌≡◌, ℕ, zero, suc, ◌+◌, ◌<◌, ◌≤◌, not, IsTrue, true, false, nat_le, nat_lt, ◌&&◌, List, [], ◌∷◌, Some, slice_get, subst, arith}
 use Rattle.std.proofs.lemmas.Bool.{and_parts, not-true, leb-true, ltb-true}
 use Rattle.opt_geom.specs.Geometry.{Geometry, bitmap_start, data_start}

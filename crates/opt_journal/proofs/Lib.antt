@@ -12,3 +12,4 @@ pub mod ReadEntries
 pub mod WriteText
 pub mod Bounds
 pub mod Stored
+pub mod Fields

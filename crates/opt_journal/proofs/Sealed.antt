@@ -1,27 +1,13 @@
 -- Headers, commit blocks and descriptors are sealed, and a header tells its disk's geometry.
-use Rattle.std.proofs.Common.{◌≡◌, ℕ, Bool, true, false, List, Option, Some, refl, take, drop}
+use Rattle.std.proofs.Common.{◌≡◌, ℕ, true, List, Some, take, drop}
 use Rattle.std.proofs.lemmas.Slice.Eq.{bytes_eq-Decides}
 use Rattle.opt_base.specs.Seal.{IsSealed, is_sealed, sha256}
 use Rattle.opt_geom.specs.Geometry.{Geometry}
-use Rattle.opt_layout.specs.Bytes.{when}
+use Rattle.opt_journal.proofs.Fields.{when_some}
 use Rattle.opt_journal.specs.declared.header.Header.{Header}
 use Rattle.opt_journal.specs.declared.record.Commit.{Commit}
 use Rattle.opt_journal.specs.declared.record.Descriptor.{Descriptor}
 use Rattle.opt_journal.specs.Layout.{header_of, commit_of, descriptor_of}
-
--- what is read under a test passed the test
-pub when_some : {A : Type 0} (t : Bool) (o : Option A) (y : A) → when t o ≡ Some y → t ≡ true
-when_some true o y e = refl
-when_some false o y e = cc
-
--- and is what stood under it
-pub when_inner : {A : Type 0} (t : Bool) (o : Option A) (y : A) → when t o ≡ Some y → o ≡ Some y
-when_inner true o y e = e
-when_inner false o y e = cc
-
--- two values that one reading gives are one
-pub same_some : {A : Type 0} {x y : A} → Some x ≡ Some y → x ≡ y
-same_some e = cc
 
 -- the test of a seal finds sealed blocks alone
 pub is_sealed-IsSealed : (b : List ℕ) → is_sealed b ≡ true → IsSealed b

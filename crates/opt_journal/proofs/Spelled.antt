@@ -1,5 +1,5 @@
 -- Headers, commit blocks and descriptors that are written as they are spelled read as themselves.
-use Rattle.std.proofs.Common.{◌+◌, ◌≡◌, ℕ, zero, suc, ◌≤◌, ◌==◌, Bool, true, false, List, ◌∷◌, ◌++◌, length, take, drop, replicate, Option, Some, refl, sym, ◌∙◌, ap, ap₂, arith, bytes_eq, nat_lt, nat_le, length-append, ◌&&◌, ◌<◌, ◌*◌, ◌-◌, [], append_assoc, take_all}
+use Rattle.std.proofs.Common.{◌+◌, ◌≡◌, ℕ, ◌≤◌, ◌==◌, Bool, true, false, List, ◌∷◌, ◌++◌, length, take, drop, replicate, Option, Some, refl, sym, ◌∙◌, ap, ap₂, arith, bytes_eq, nat_lt, nat_le, length-append, ◌&&◌, ◌<◌, ◌*◌, ◌-◌, [], append_assoc, take_all}
 use Rattle.std.specs.Prelude.{codes}
 use Rattle.std.proofs.Math.Seq.{take-append_seam, drop-append_seam}
 use Rattle.std.proofs.lemmas.List.{length-replicate, drop-drop}
@@ -9,7 +9,8 @@ use Rattle.byteorder.specs.Endian.{little_number, little_bytes}
 use Rattle.byteorder.specs.Numbers.{little_number-reads_back}
 use Rattle.opt_base.specs.Seal.{sha256, is_sealed}
 use Rattle.opt_geom.specs.Geometry.{Geometry}
-use Rattle.opt_layout.specs.Bytes.{field, are_zeros, has_zeros, when}
+use Rattle.opt_layout.specs.Bytes.{field, are_zeros, has_zeros}
+use Rattle.opt_journal.proofs.Fields.{when_is, zeros_first}
 use Rattle.opt_journal.specs.declared.header.Header.{Header}
 use Rattle.opt_journal.specs.declared.record.Commit.{Commit}
 use Rattle.opt_journal.specs.declared.record.Descriptor.{Descriptor}
@@ -28,11 +29,6 @@ reads_back n v rest f = little_number-reads_back n v rest f
 small4 : (v : ℕ) → v ≤ 1048576 → fits_in 4 v
 small4 v low = omega arith
 
--- where a test holds, the value stands
-when_is : {A : Type 0} (t : Bool) (o : Option A) → t ≡ true → when t o ≡ o
-when_is true o e = refl
-when_is false o e = cc
-
 -- the test of bytes finds equal ones
 same_bytes : (xs ys : List ℕ) → xs ≡ ys → bytes_eq xs ys ≡ true
 same_bytes xs ys e = (bytes_eq-Decides xs ys).1 e
@@ -40,11 +36,6 @@ same_bytes xs ys e = (bytes_eq-Decides xs ys).1 e
 -- a body of 992 bytes behind which its digest stands is sealed
 pub sealed_is : (body : List ℕ) → length body ≡ 992 → is_sealed (body ++ sha256 body) ≡ true
 sealed_is body len = same_bytes _ _ (ap (λ n. drop n (body ++ sha256 body)) (sym len) ∙ drop-append_seam body (sha256 body) ∙ ap sha256 (sym (ap (λ n. take n (body ++ sha256 body)) (sym len) ∙ take-append_seam body (sha256 body))))
-
--- zeros before other bytes are zeros
-zeros_then : (z : ℕ) (rest : List ℕ) → are_zeros (take z (replicate z 0 ++ rest)) ≡ true
-zeros_then zero rest = refl
-zeros_then (suc z) rest = zeros_then z rest
 
 -- the bytes before a header's seal are 992
 header_length : (h : Header) → length (header_body h) ≡ 992
@@ -77,7 +68,7 @@ header_may : (h : Header) → IsHeader h → header_fits h.geom.n (header_block 
 header_may h is =
     and_from _ _ (same_bytes (take 8 (header_block h)) (codes "OPTH0001") refl)
     (and_from _ _ (lt-ltb _ _ is.epoch_from) (and_from _ _ (lt-ltb _ _ is.turn_from) (and_from _ _ (lt-ltb _ _ is.start_from) (and_from _ _ (le-leb _ _ is.start_upto)
-    (and_from _ _ (lt-ltb _ _ is.at) (and_from _ _ (le-leb _ _ (closed_upto h.closed)) (and_from _ _ is.geom (and_from _ _ (eq-eqb h.geom.n h.geom.n refl) (zeros_then 932 (sha256 (header_body h)))))))))))
+    (and_from _ _ (lt-ltb _ _ is.at) (and_from _ _ (le-leb _ _ (closed_upto h.closed)) (and_from _ _ is.geom (and_from _ _ (eq-eqb h.geom.n h.geom.n refl) (zeros_first 932 (sha256 (header_body h)))))))))))
 
 -- a header that was written reads as itself
 pub header_reads : (h : Header) → IsHeader h → header_of h.geom.n (header_block h) ≡ Some h
@@ -101,7 +92,7 @@ commit_from c epoch number descriptors payloads fresh e n d p f = rw (e, n, d, p
 commit_may : (g : Geometry) (c : Commit) → 0 < c.payloads → c.descriptors ≡ descriptor_count (c.payloads + c.fresh) → 1 + c.descriptors + c.payloads ≤ g.j → commit_fits g (commit_block c) c ≡ true
 commit_may g c some count room =
     and_from _ _ (same_bytes (take 8 (commit_block c)) (codes "OPTC0001") refl)
-    (and_from _ _ (lt-ltb _ _ some) (and_from _ _ (eq-eqb c.descriptors (descriptor_count (c.payloads + c.fresh)) count) (and_from _ _ (le-leb _ _ room) (zeros_then 956 (sha256 (commit_body c))))))
+    (and_from _ _ (lt-ltb _ _ some) (and_from _ _ (eq-eqb c.descriptors (descriptor_count (c.payloads + c.fresh)) count) (and_from _ _ (le-leb _ _ room) (zeros_first 956 (sha256 (commit_body c))))))
 
 -- a commit block that was written reads as itself
 pub commit_reads : (g : Geometry) (c : Commit) → fits_in 8 c.epoch → fits_in 8 c.number → fits_in 4 c.descriptors → fits_in 4 c.payloads → fits_in 4 c.fresh
@@ -175,14 +166,14 @@ descriptor_length d g are low =
 behind_head : (d : Descriptor) → drop 32 (descriptor_block d) ≡ all_entry_bytes d.entries ++ (replicate (960 - 40 * length d.entries) 0 ++ sha256 (descriptor_body d))
 behind_head d = append_assoc (all_entry_bytes d.entries) (replicate (960 - 40 * length d.entries) 0) (sha256 (descriptor_body d))
 
--- as many zeros as stand before other bytes
-zeros_first : (a z : ℕ) (xs rest : List ℕ) → a ≡ z → xs ≡ replicate z 0 ++ rest → are_zeros (take a xs) ≡ true
-zeros_first a z xs rest count is = rw (count, is) (zeros_then z rest)
+-- as many zeros as are before other bytes
+zeros_by : (a z : ℕ) (xs rest : List ℕ) → a ≡ z → xs ≡ replicate z 0 ++ rest → are_zeros (take a xs) ≡ true
+zeros_by a z xs rest count is = rw (count, is) (zeros_first z rest)
 
 -- behind its entries a written descriptor has zeros
 behind_entries : (g : Geometry) (d : Descriptor) → AreEntries g d.entries → has_zeros (descriptor_block d) (32 + 40 * length d.entries) 992 ≡ true
 behind_entries g d are =
-    zeros_first (992 - (32 + 40 * length d.entries)) (960 - 40 * length d.entries) (drop (32 + 40 * length d.entries) (descriptor_block d)) (sha256 (descriptor_body d)) (room (length d.entries))
+    zeros_by (992 - (32 + 40 * length d.entries)) (960 - 40 * length d.entries) (drop (32 + 40 * length d.entries) (descriptor_block d)) (sha256 (descriptor_body d)) (room (length d.entries))
     (sym (drop-drop (40 * length d.entries) 32 (descriptor_block d)) ∙ ap (drop (40 * length d.entries)) (behind_head d)
     ∙ drop_front (40 * length d.entries) (all_entry_bytes d.entries) (replicate (960 - 40 * length d.entries) 0 ++ sha256 (descriptor_body d)) (all_length g d.entries are))
   where

@@ -11,7 +11,7 @@ use Rattle.opt_journal.specs.declared.record.Descriptor.{Descriptor}
 use Rattle.opt_journal.specs.declared.entry.EntryKind.{EntryKind}
 use Rattle.opt_journal.specs.declared.entry.EntryKind.TheVariants.{Payload, Fresh, Escaped}
 use Rattle.opt_journal.specs.Layout.{has_tag, header_fits, header_fields, header_of, commit_fits, commit_fields, commit_of, descriptor_fits, descriptor_of, is_stored}
-use Rattle.opt_journal.proofs.Sealed.{when_some, when_inner}
+use Rattle.opt_journal.proofs.Fields.{when_some, when_inner}
 
 -- a block with a tag begins with its bytes
 tag_is : (tag block : List ℕ) → has_tag tag block ≡ true → take 8 block ≡ tag

@@ -9,14 +9,14 @@ use Rattle.opt_journal.specs.declared.entry.Entry.{Entry}
 use Rattle.opt_journal.specs.Layout.{header_of, commit_of, descriptor_of, descriptor_count}
 use Rattle.opt_journal.specs.Run.{Newest, Record, entries, places, commit_says, IsWhole, AreConsecutive, AreWhole, AreLetIn, IsLetIn, IsRun, all_places, replayed, live_part, HeldIs}
 use Rattle.opt_journal.proofs.SameEntries.{same_entries, same_parts}
-use Rattle.opt_journal.proofs.Sealed.{same_some}
+use Rattle.std.proofs.lemmas.Option.{same_Some}
 
 -- the newest header and its slot: of two in two slots, the greater turn or slot 0 decides
 pub newest_same : (n : ℕ) (img : Blocks) (s t : ℕ) (h k : Header) → Newest n img s h → Newest n img t k → (s ≡ t) × (h ≡ k)
 newest_same n img s t h k a b = ⊎_elim same apart (slots s t a.is_slot b.is_slot)
   where
     same : s ≡ t → (s ≡ t) × (h ≡ k)
-    same e = (e, same_some (sym a.stands ∙ ap (λ i. header_of n (img i)) e ∙ b.stands))
+    same e = (e, same_Some _ _ (sym a.stands ∙ ap (λ i. header_of n (img i)) e ∙ b.stands))
 
     slots : (i j : ℕ) → i < 2 → j < 2 → (i ≡ j) ⊎ ((1 - i ≡ j) × (1 - j ≡ i))
     slots i j p q = grind arith
@@ -30,7 +30,7 @@ newest_same n img s t h k a b = ⊎_elim same apart (slots s t a.is_slot b.is_sl
         back : (h.turn < k.turn) ⊎ ((h.turn ≡ k.turn) × (t ≡ 0))
         back = b.other h (ap (λ i. header_of n (img i)) e.1 ∙ a.stands)
 
--- a whole record is told by its number and place
+-- a whole record is described by its number and place
 pub record_same : (img : Blocks) (h : Header) (r q : Record) → IsWhole img h r → IsWhole img h q → r.number ≡ q.number → r.place ≡ q.place → r ≡ q
 record_same img h r q a b number place = ap {B = Record} (λ n. record { number = n; place = r.place; payloads = r.payloads; fresh = r.fresh }) number ∙ ap {B = Record} (λ p. record { number = q.number; place = p; payloads = r.payloads; fresh = r.fresh }) place ∙ ap {B = Record} (λ (es : List Entry). record { number = q.number; place = q.place; payloads = es; fresh = r.fresh }) parts.0 ∙ ap {B = Record} (λ (es : List Entry). record { number = q.number; place = q.place; payloads = q.payloads; fresh = es }) parts.1
   where
@@ -38,17 +38,17 @@ record_same img h r q a b number place = ap {B = Record} (λ n. record { number 
     commits = sym a.commit ∙ ap (λ p. commit_of h.geom (img (ring_block h.geom p))) place ∙ b.commit
 
     m_same : length r.payloads ≡ length q.payloads
-    m_same = ap (λ (c : Commit). c.payloads) (same_some commits)
+    m_same = ap (λ (c : Commit). c.payloads) (same_Some _ _ commits)
 
     n_same : length r.fresh ≡ length q.fresh
-    n_same = ap (λ (c : Commit). c.fresh) (same_some commits)
+    n_same = ap (λ (c : Commit). c.fresh) (same_Some _ _ commits)
 
     all_same : length (entries r) ≡ length (entries q)
     all_same = omega (arith, m_same, n_same, length-append r.payloads r.fresh, length-append q.payloads q.fresh)
 
     entries_same : entries r ≡ entries q
     entries_same = same_entries (entries r) (entries q) all_same (λ i lt.
-        ap (λ (d : Descriptor). d.entries) (same_some (sym (a.descriptors i lt) ∙ ap (λ p. descriptor_of h.geom (img (ring_block h.geom (p + 1 + i)))) place ∙ b.descriptors i (omega (arith, lt, ap descriptor_count all_same)))))
+        ap (λ (d : Descriptor). d.entries) (same_Some _ _ (sym (a.descriptors i lt) ∙ ap (λ p. descriptor_of h.geom (img (ring_block h.geom (p + 1 + i)))) place ∙ b.descriptors i (omega (arith, lt, ap descriptor_count all_same)))))
 
     parts : (r.payloads ≡ q.payloads) × (r.fresh ≡ q.fresh)
     parts = same_parts r.payloads r.fresh q.payloads q.fresh m_same entries_same

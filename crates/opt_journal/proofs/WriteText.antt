@@ -3,10 +3,6 @@ use Rattle.std.proofs.Common.{◌≡◌, ℕ, zero, suc, ◌+◌, ◌<◌, ◌++
 use Rattle.opt_journal.specs.declared.entry.Entry.{Entry}
 use Rattle.opt_journal.specs.Spelling.{entry_bytes, all_entry_bytes}
 
--- a piece put behind a text, and what follows both
-pub behind : (t t' p rest : List ℕ) → t' ≡ t ++ p → t' ++ rest ≡ t ++ (p ++ rest)
-behind t t' p rest put = ap (λ xs. xs ++ rest) put ∙ append_assoc t p rest
-
 -- the entries as far as they are written, and one more
 pub entries_more : (es : List Entry) (k : ℕ) (d : Entry) → k < length es → all_entry_bytes (take k es) ++ entry_bytes (slice_index_or es k d) ≡ all_entry_bytes (take (k + 1) es)
 entries_more [] k d lt = absurd (omega arith)

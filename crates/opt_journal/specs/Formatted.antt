@@ -1,4 +1,4 @@
--- The formatted disk of a geometry. It is told in docs/LAYOUT.md.
+-- The formatted disk of a geometry. It is described in docs/LAYOUT.md.
 use Rattle.std.specs.Prelude.{ℕ, ◌-◌, ◌==◌, ◌&&◌, nat_le, nat_lt, false, if◌then◌else◌, [], ◌++◌, replicate}
 use Rattle.opt_base.specs.Seal.{Blocks}
 use Rattle.opt_geom.specs.Geometry.{Geometry, bitmap_start, table_start, data_start}

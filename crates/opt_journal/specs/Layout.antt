@@ -1,4 +1,4 @@
--- What stands in the journal's blocks, read by their fields. It is told in docs/JOURNAL.md.
+-- What is in the journal's blocks, read by their fields. It is described in docs/JOURNAL.md.
 use Rattle.std.specs.Prelude.{◌≡◌, ◌<◌, ◌≤◌, ℕ, zero, suc, ◌+◌, ◌*◌, ◌/◌, Bool, true, false, ◌&&◌, not, ◌==◌, nat_lt, nat_le, bytes_eq, if◌then◌else◌, List, [], ◌∷◌, take, drop, Option, Some, None, codes}
 use Rattle.opt_base.specs.Seal.{is_sealed}
 use Rattle.opt_geom.specs.Geometry.{Geometry, geometry_fits, bitmap_start, data_start}

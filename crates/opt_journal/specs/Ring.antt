@@ -1,4 +1,4 @@
--- The ring of the journal: which of its places are taken. It is told in docs/JOURNAL.md.
+-- The ring of the journal: which of its places are taken. It is described in docs/JOURNAL.md.
 use Rattle.std.specs.Prelude.{ℕ, ◌+◌, ◌-◌, ◌%◌}
 use Rattle.opt_geom.specs.Geometry.{Geometry}
 

@@ -1,4 +1,4 @@
--- What an image holds: its newest header, its recoverable run, and the recovered blocks. It is told in docs/JOURNAL.md.
+-- What an image holds: its newest header, its recoverable run, and the recovered blocks. It is described in docs/JOURNAL.md.
 use Rattle.std.specs.Prelude.{◌≡◌, ◌⊎◌, ℕ, ◌+◌, ◌-◌, ◌*◌, ◌%◌, ◌<◌, ◌≤◌, nat_le, nat_lt, ◌&&◌, ◌||◌, not, Bool, true, false, IsTrue, ◌==◌, if◌then◌else◌, List, [], ◌∷◌, ◌++◌, length, take, drop, slice_get, Option, Some, None}
 use Rattle.opt_base.specs.Seal.{Blocks, sha256}
 use Rattle.opt_geom.specs.Geometry.{Geometry, ring_block, bitmap_start, data_start}
@@ -11,7 +11,7 @@ use Rattle.opt_journal.specs.declared.entry.EntryKind.{EntryKind}
 use Rattle.opt_journal.specs.declared.entry.EntryKind.TheVariants.{Payload, Fresh, Escaped}
 use Rattle.opt_journal.specs.Layout.{header_of, commit_of, descriptor_of, descriptor_count, unescaped, is_stored}
 
--- the newest header of an image of n blocks stands in this slot: it has the greater turn, and slot 0 wins a tie
+-- the newest header of an image of n blocks is in this slot: it has the greater turn, and slot 0 wins a tie
 pub record Newest (n : ℕ) (img : Blocks) (slot : ℕ) (h : Header) : Type 0 where
   pub is_slot : slot < 2
   pub stands : header_of n (img slot) ≡ Some h
@@ -66,7 +66,7 @@ are_fresh g payloads (e ∷ es) =
 unfoldable pub entries_fit : Geometry → Record → Bool
 entries_fit g r = are_ascending (bitmap_start g) g.n r.payloads && (are_ascending (data_start g) g.n r.fresh && are_fresh g r.payloads r.fresh)
 
--- a payload as it stands in the ring fits its entry
+-- a payload as it is in the ring fits its entry
 pub record Fits (e : Entry) (stored : List ℕ) : Type 0 where
   pub digest : sha256 stored ≡ e.digest
   pub kind : IsTrue (is_stored e.kind stored)
@@ -133,7 +133,7 @@ abbrev pub or_else : Option (List ℕ) → Option (List ℕ) → Option (List �
 or_else None y = y
 or_else (Some x) y = Some x
 
--- what the records leave in a block, if they cover it: the last entry that names it decides, and a fresh one leaves what stands there
+-- what the records leave in a block, if they cover it: the last entry that names it decides, and a fresh one leaves what is there
 abbrev pub covered_by : Geometry → Blocks → Option (List ℕ) → List Record → ℕ → Option (List ℕ)
 covered_by g img before [] b = before
 covered_by g img before (r ∷ rs) b = covered_by g img (or_else (payload_of g img r b) (if names_block r.fresh b then None else before)) rs b

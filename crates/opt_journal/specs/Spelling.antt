@@ -1,4 +1,4 @@
--- How the journal's blocks are written: one spelling for each value. It is told in docs/JOURNAL.md.
+-- How the journal's blocks are written: one spelling for each value. It is described in docs/JOURNAL.md.
 use Rattle.std.specs.Prelude.{◌≡◌, ℕ, ◌+◌, ◌-◌, ◌*◌, ◌<◌, ◌≤◌, ◌^◌, Bool, true, if◌then◌else◌, List, [], ◌∷◌, ◌++◌, replicate, length, take, drop, bytes_eq}
 use Rattle.byteorder.specs.Endian.{little_bytes}
 use Rattle.opt_base.specs.Seal.{sha256}

@@ -1,4 +1,4 @@
--- A record whose blocks are written as its entries come. It is told in docs/JOURNAL.md.
+-- A record whose blocks are written as its entries come. It is described in docs/JOURNAL.md.
 use Rattle.std.specs.Prelude.{ℕ, ◌+◌, ◌/◌, ◌++◌, ◌||◌, nat_eq, Bool, if◌then◌else◌, List, [], ◌∷◌, length}
 use Rattle.opt_journal.specs.declared.entry.Entry.{Entry}
 use Rattle.opt_journal.specs.declared.record.Commit.{Commit}

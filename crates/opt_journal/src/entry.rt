@@ -1,6 +1,6 @@
 //! The value of a descriptor's entry: a block that a record writes, and the digest of its bytes.
 
-ghost use Rattle.std.specs.Prelude.{◌≡◌, ◌<◌, ◌≤◌, ◌++◌, [], ◌∷◌, length};
+ghost use Rattle.std.specs.Prelude.{◌≡◌, ◌<◌, ◌≤◌, ◌++◌, ◌==◌, [], ◌∷◌, length};
 
 use arrayvec::ArrayVec;
 use std::marker::Model;
@@ -8,12 +8,12 @@ use std::marker::Model;
 /// How a record carries a block.
 #[derive(Clone, Copy, Debug, PartialEq, Eq, Default)]
 pub enum EntryKind {
-    /// Its bytes stand in the journal.
+    /// Its bytes are in the journal.
     #[default]
     Payload,
-    /// Its bytes stand in the block itself, which nothing used before.
+    /// Its bytes are in the block itself, which nothing used before.
     Fresh,
-    /// Its bytes stand in the journal with their first byte as zero.
+    /// Its bytes are in the journal with their first byte as zero.
     Escaped,
 }
 
@@ -23,16 +23,19 @@ pub struct Entry {
     /// The number of the block.
     pub block: u32,
     pub kind: EntryKind,
-    /// The SHA-256 of the bytes as they stand in the journal or, for a fresh block, in the block.
+    /// The SHA-256 of the bytes as they are in the journal or, for a fresh block, in the block.
     pub digest: [u8; 32],
 }
 
+/// The bytes of an entry.
+pub(crate) const ENTRY_LENGTH: usize = 40;
+
 /// The most entries of a descriptor.
-const MOST_ENTRIES: usize = 24;
+pub const MOST_ENTRIES: usize = 24;
 
 /// At most 24 entries, as a descriptor has them, which contracts see as their list. They lie in the value
 /// itself, so they take no memory.
-#[derive(Debug, Drop)]
+#[derive(Clone, Debug, PartialEq, Eq, Drop)]
 pub struct Entries {
     entries: ArrayVec<Entry, MOST_ENTRIES>,
 }
@@ -66,6 +69,20 @@ impl Entries {
         ensures { self.new ≡ self.old ++ entry ∷ [] }
     {
         self.entries.push(entry);
+    }
+
+    /// How many entries.
+    pub fn len(&self) -> usize
+        ensures { result ≡ length self.now }
+    {
+        self.entries.len()
+    }
+
+    /// Whether there are none.
+    pub fn is_empty(&self) -> bool
+        ensures { result ≡ (length self.now == 0) }
+    {
+        self.entries.is_empty()
     }
 
     /// The entries in order.

@@ -1,11 +1,11 @@
-//! The value of a journal header, which stands in one of the two header slots of a disk.
+//! The value of a journal header, which is in one of the two header slots of a disk.
 
 use opt_geom::Geom;
 
 /// What a header says of the journal and the disk.
 #[derive(Clone, Copy, Debug, PartialEq, Eq)]
 pub struct Header {
-    /// Raised by each mount, so that records of earlier sessions are told apart.
+    /// Raised by each mount, so that records of earlier sessions can be distinguished.
     pub epoch: u64,
     /// Raised by each header; the newest one counts.
     pub turn: u64,

@@ -1,4 +1,4 @@
-//! Laws of the journal's definitions, as functions that do nothing: each clause is a law. They are told
+//! Laws of the journal's definitions, as functions that do nothing: each clause is a law. They are known
 //! in docs/JOURNAL.md.
 ghost use Rattle.std.specs.Prelude.{◌≡◌, ℕ, ◌+◌, ◌*◌, ◌<◌, ◌≤◌, length, take, drop, slice_get, List, Option, Some, None, IsTrue, true, false};
 ghost use Rattle.opt_base.specs.Seal.{Blocks, IsSealed};

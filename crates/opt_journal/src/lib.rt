@@ -1,6 +1,6 @@
 //! The journal's blocks, as values and as definitions of their bytes: headers, commit blocks,
 //! descriptors; and what an image of them holds: the newest header, the recoverable run, the recovered
-//! blocks. Nothing here writes to a disk. It is told in docs/JOURNAL.md.
+//! blocks. Nothing here writes to a disk. It is described in docs/JOURNAL.md.
 #![tactic(auto)]
 
 mod entry;
@@ -16,7 +16,7 @@ mod tests;
 mod write;
 mod write_record;
 
-pub use entry::{Entries, Entry, EntryKind};
+pub use entry::{Entries, Entry, EntryKind, MOST_ENTRIES};
 pub use header::Header;
 pub use laws::{
     an_image_holds_one_map, descriptors_tell_the_entries, entries_that_fit_keep_to_the_disk,

@@ -1,4 +1,4 @@
-//! Payloads as they stand in the journal. One that begins as a block of the journal does is escaped:
+//! Payloads as they are in the journal. One that begins as a block of the journal does is escaped:
 //! it stands with its first byte as zero, so that no payload is ever taken for a block of the journal.
 
 ghost use Rattle.std.specs.Prelude.{◌≡◌};

@@ -1,16 +1,17 @@
 //! Reading the journal's blocks: headers, commit blocks and descriptors, each refused unless it is
 //! sealed and fits the grammar of its kind. Whether what is read fits its neighbours, as a record's
-//! descriptors fit its commit block, is told by the search for the run.
+//! descriptors fit its commit block, is described by the search for the run.
 
 ghost use Rattle.std.specs.Prelude.{◌≡◌, ◌≤◌, ◌+◌, ◌*◌, ◌&&◌, true, false, nat_le, nat_lt, length, Some, None, IfSome};
 ghost use Rattle.opt_geom.specs.Geometry.{geometry_fits};
-ghost use Rattle.opt_layout.specs.Bytes.{field, has_zeros};
+ghost use Rattle.opt_layout.specs.Bytes.{field};
 ghost use Rattle.opt_journal.specs.Layout.{has_tag, header_fields, header_fits, header_of, descriptor_count, commit_fields, commit_fits, commit_of, kind_of, first_named, entry_of, entries_in, descriptor_fits, descriptor_with, descriptor_of};
 
-use crate::{Commit, Descriptor, Entries, Entry, EntryKind, Header};
-use byteorder::{ByteOrder, LittleEndian};
+use crate::entry::ENTRY_LENGTH;
+use crate::{Commit, Descriptor, Entries, Entry, EntryKind, Header, MOST_ENTRIES};
 use opt_base::{Block, is_sealed};
 use opt_geom::Geom;
+use opt_layout::{has_zeros, number_4, number_8};
 
 /// How many bytes of a block its seal covers.
 const BODY: usize = 992;
@@ -18,13 +19,7 @@ const BODY: usize = 992;
 /// The bytes of a descriptor before its entries.
 const DESCRIPTOR_HEAD: usize = 32;
 
-/// The bytes of an entry.
-const ENTRY_LENGTH: usize = 40;
-
-/// The most entries of a descriptor.
-const MOST_ENTRIES: u32 = 24;
-
-/// The header that stands in a block of a disk of `blocks` blocks. `None` says that the block isn't
+/// The header that is in a block of a disk of `blocks` blocks. `None` says that the block isn't
 /// sealed, or isn't within the grammar of a header, or is one of a disk of another size.
 #[tactic(auto, unfolding(crate::specs::Layout::header_of))]
 pub fn read_header(block: &Block, blocks: u32) -> Option<Header>
@@ -37,7 +32,7 @@ pub fn read_header(block: &Block, blocks: u32) -> Option<Header>
     Some(header)
 }
 
-/// The commit block that stands in a block of a disk of this geometry. `None` says that the block isn't
+/// The commit block that is in a block of a disk of this geometry. `None` says that the block isn't
 /// sealed, or isn't within the grammar of a commit block.
 #[tactic(auto, unfolding(crate::specs::Layout::commit_of))]
 pub fn read_commit(block: &Block, geom: &Geom) -> Option<Commit>
@@ -50,7 +45,7 @@ pub fn read_commit(block: &Block, geom: &Geom) -> Option<Commit>
     Some(commit)
 }
 
-/// The descriptor that stands in a block of a disk of this geometry. `None` says that the block isn't
+/// The descriptor that is in a block of a disk of this geometry. `None` says that the block isn't
 /// sealed, or isn't within the grammar of a descriptor, or has an entry that isn't within the grammar of
 /// entries.
 #[tactic(auto, unfolding(crate::specs::Layout::descriptor_of))]
@@ -72,35 +67,13 @@ pub fn read_descriptor(block: &Block, geom: &Geom) -> Option<Descriptor>
 pub fn descriptor_count(entries: u32) -> u32
     ensures { result ≡ descriptor_count entries }
 {
-    entries.div_ceil(MOST_ENTRIES)
-}
-
-fn number_4(bytes: &[u8], at: usize) -> u32
-    requires { at + 4 ≤ length bytes.now }
-    ensures { result ≡ field bytes.now at 4 }
-{
-    LittleEndian::read_u32(&bytes[at..])
-}
-
-fn number_8(bytes: &[u8], at: usize) -> u64
-    requires { at + 8 ≤ length bytes.now }
-    ensures { result ≡ field bytes.now at 8 }
-{
-    LittleEndian::read_u64(&bytes[at..])
+    entries.div_ceil(MOST_ENTRIES as u32)
 }
 
 fn has_tag(block: &Block, tag: &[u8]) -> bool
     ensures { result ≡ has_tag tag.now block.now }
 {
     &block[..8] == tag
-}
-
-fn has_zeros(bytes: &[u8], at: usize, end: usize) -> bool
-    requires order { at ≤ end }
-    requires within { end ≤ length bytes.now }
-    ensures { result ≡ has_zeros bytes.now at end }
-{
-    bytes[at..end].iter().all(|byte| *byte == 0)
 }
 
 /// The fields of a header, or `None` where they hold no geometry.
@@ -188,7 +161,7 @@ fn commit_fits(block: &Block, geom: &Geom, commit: &Commit) -> bool
         return false;
     }
     let entries = u64::from(commit.payloads) + u64::from(commit.fresh);
-    if u64::from(commit.descriptors) != entries.div_ceil(u64::from(MOST_ENTRIES)) {
+    if u64::from(commit.descriptors) != entries.div_ceil(MOST_ENTRIES as u64) {
         return false;
     }
     let places = 1 + u64::from(commit.descriptors) + u64::from(commit.payloads);
@@ -206,7 +179,7 @@ fn descriptor_fits(block: &Block) -> bool
         return false;
     }
     let count = number_4(block.as_slice(), 28);
-    if count > MOST_ENTRIES {
+    if count > MOST_ENTRIES as u32 {
         return false;
     }
     if count == 0 {

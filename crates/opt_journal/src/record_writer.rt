@@ -1,18 +1,18 @@
 //! The blocks of a record as its entries come, one by one: each descriptor once it is full, and last the
 //! commit block. The entries of one descriptor are held, and no memory is taken. Which entries a record
-//! has, and where its blocks go, isn't its matter. Nothing stands on it yet: opt_tx makes its descriptors
+//! has, and where its blocks go, isn't its matter. Nothing rests on it yet: opt_tx makes its descriptors
 //! by their index.
 
 ghost use Rattle.std.specs.Prelude.{◌≡◌, ◌<◌, ◌≤◌, ◌+◌, [], if◌then◌else◌};
 ghost use Rattle.opt_journal.specs.Spelling.{commit_block, descriptor_block};
 ghost use Rattle.opt_journal.specs.Writing.{RecordSoFar, is_complete, descriptor_with, with_entry, commit_of_all};
 
-use crate::{Commit, Descriptor, Entries, Entry, descriptor_count, write_commit, write_descriptor};
+use crate::{
+    Commit, Descriptor, Entries, Entry, MOST_ENTRIES, descriptor_count, write_commit,
+    write_descriptor,
+};
 use opt_base::Block;
 use std::marker::Model;
-
-/// The most entries of a descriptor.
-const MOST_ENTRIES: u32 = 24;
 
 /// A record of so many payloads and fresh blocks, of which some entries have come. Those of the descriptor
 /// that isn't complete are held.
@@ -55,7 +55,7 @@ impl RecordWriter {
         }
     }
 
-    /// Takes the next entry, and answers whether a descriptor is complete with it. If so, it stands in the
+    /// Takes the next entry, and answers whether a descriptor is complete with it. If so, it is in the
     /// block; otherwise the block stays as it is.
     pub fn add(&mut self, entry: &Entry, into: &mut Block) -> bool
         requires { self.old.added < self.old.payloads + self.old.fresh }
@@ -65,9 +65,9 @@ impl RecordWriter {
     {
         let mut entries = std::mem::replace(&mut self.kept, Entries::new());
         entries.push(*entry);
-        let index = self.added / MOST_ENTRIES;
+        let index = self.added / MOST_ENTRIES as u32;
         self.added += 1;
-        if entries.as_slice().len() < 24 && self.added < self.payloads + self.fresh {
+        if entries.as_slice().len() < MOST_ENTRIES && self.added < self.payloads + self.fresh {
             self.kept = entries;
             return false;
         }

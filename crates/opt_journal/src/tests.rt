@@ -1,11 +1,12 @@
 //! Blocks of the journal, field by field. Their bytes and seals were worked out by a script in Python,
 //! by `struct.pack` and `hashlib.sha256`; what a changed byte leads to was worked out by hand.
 
-ghost use Rattle.std.specs.Prelude.{◌≤◌, ◌<◌, length};
+ghost use Rattle.std.specs.Prelude.{◌≤◌, length};
 
 use crate::{
-    Commit, Entries, Entry, EntryKind, Header, RecordWriter, descriptor_count, is_stored,
-    read_commit, read_descriptor, read_header, unescape, write_commit, write_header,
+    Commit, Descriptor, Entries, Entry, EntryKind, Header, RecordWriter, descriptor_count, escape,
+    is_stored, read_commit, read_descriptor, read_header, unescape, write_commit, write_descriptor,
+    write_header,
 };
 use opt_base::{Block, seal};
 use opt_geom::Geom;
@@ -59,6 +60,19 @@ const DESCRIPTOR_SEAL: [u8; 32] = [
     0x9e, 0xb6, 0x0e, 0xa5, 0x4f, 0x67, 0xfe, 0x6e, 0xfa, 0x4e, 0x6a, 0xc0, 0x7b, 0x06, 0xdd, 0xb1,
 ];
 
+// A commit block whose numbers have unlike bytes.
+const WIDE_COMMIT: [u8; 36] = [
+    0x4f, 0x50, 0x54, 0x43, 0x30, 0x30, 0x30, 0x31, 0x01, 0x02, 0x03, 0x04, 0x05, 0x06, 0x07, 0x08,
+    0x11, 0x12, 0x13, 0x14, 0x15, 0x16, 0x17, 0x18, 0x21, 0x22, 0x23, 0x24, 0x31, 0x32, 0x33, 0x34,
+    0x41, 0x42, 0x43, 0x44,
+];
+
+// The SHA-256 of these bytes and 956 zeros.
+const WIDE_SEAL: [u8; 32] = [
+    0xc7, 0x4c, 0x18, 0x43, 0x87, 0x36, 0x2b, 0x34, 0xbb, 0xc3, 0xb9, 0x4a, 0x3a, 0xf2, 0x30, 0xe2,
+    0xc5, 0x27, 0x7c, 0x16, 0x4e, 0x9c, 0x8a, 0xe6, 0x10, 0x07, 0xb2, 0x38, 0xcd, 0x10, 0x54, 0xee,
+];
+
 fn block_of(bytes: &[u8], seal: &[u8; 32]) -> Block
     requires { length bytes.now ≤ 992 }
 {
@@ -80,184 +94,23 @@ fn descriptor_block() -> Block {
     block_of(DESCRIPTOR.as_slice(), &DESCRIPTOR_SEAL)
 }
 
-/// The block with one byte changed, and sealed anew.
-fn with(block: &Block, at: usize, byte: u8) -> Block
-    requires { at < 992 }
-{
+/// A byte that is changed: its place before the seal, and what it becomes.
+type Change = (usize, u8);
+
+/// The block with two bytes changed, one behind the other, and sealed anew.
+fn with(block: &Block, changes: [Change; 2]) -> Block {
     let mut changed = *block;
-    changed[at] = byte;
+    changed[changes[0].0.min(991)] = changes[0].1;
+    changed[changes[1].0.min(991)] = changes[1].1;
     seal(&mut changed);
     changed
 }
 
-fn header() -> Result<Header, Fail> {
-    Ok(Header {
-        epoch: 1,
-        turn: 1,
-        start: 1,
-        sure: 0,
-        at: 0,
-        closed: false,
-        geom: Geom::new(64, 16, 16)?,
-    })
-}
-
-#[test]
-fn a_header_is_read_and_written(rt: HostRuntime) -> Result<(), Fail> {
-    assert_eq!(rt; read_header(&header_block(), 64), Some(header()?));
-    let mut into = [7u8; 1024];
-    write_header(&header()?, &mut into);
-    assert!(rt; into == header_block());
-    Ok(())
-}
-
-#[test]
-fn each_field_of_a_header_is_read_from_its_place(rt: HostRuntime) -> Result<(), Fail> {
-    let mut block = header_block();
-    block[8..48].copy_from_slice(
-        b"\x01\x02\x03\x04\x05\x06\x07\x08\x11\x12\x13\x14\x15\x16\x17\x18\
-\x21\x22\x23\x24\x25\x26\x27\x28\x31\x32\x33\x34\x35\x36\x37\x38\x0f\x00\x00\x00\x01\x00\x00\x00"
-            .as_slice(),
-    );
-    seal(&mut block);
-    let wanted = Header {
-        epoch: 0x0807_0605_0403_0201,
-        turn: 0x1817_1615_1413_1211,
-        start: 0x2827_2625_2423_2221,
-        sure: 0x3837_3635_3433_3231,
-        at: 15,
-        closed: true,
-        geom: Geom::new(64, 16, 16)?,
-    };
-    assert_eq!(rt; read_header(&block, 64), Some(wanted));
-    let mut into = [0u8; 1024];
-    write_header(&wanted, &mut into);
-    assert!(rt; into == block);
-    Ok(())
-}
-
-#[test]
-fn a_header_counts_from_one(rt: HostRuntime) {
-    let block = header_block();
-    assert!(rt; read_header(&with(&block, 8, 0), 64).is_none());
-    assert!(rt; read_header(&with(&block, 16, 0), 64).is_none());
-    assert!(rt; read_header(&with(&block, 24, 0), 64).is_none());
-    // the numbers are eight bytes long
-    assert!(rt; read_header(&with(&with(&block, 8, 0), 15, 1), 64).is_some());
-}
-
-#[test]
-fn a_header_starts_at_most_one_past_what_is_sure(rt: HostRuntime) {
-    let second = with(&header_block(), 24, 2);
-    assert!(rt; read_header(&second, 64).is_none());
-    assert!(rt; read_header(&with(&second, 32, 1), 64).is_some());
-    assert!(rt; read_header(&with(&second, 32, 200), 64).is_some());
-}
-
-#[test]
-fn a_header_begins_within_the_ring(rt: HostRuntime) {
-    let block = header_block();
-    assert!(rt; read_header(&with(&block, 40, 15), 64).is_some());
-    assert!(rt; read_header(&with(&block, 40, 16), 64).is_none());
-    assert!(rt; read_header(&with(&block, 43, 1), 64).is_none());
-}
-
-#[test]
-fn a_header_is_closed_or_not(rt: HostRuntime) {
-    let block = header_block();
-    let closed = |block: &Block| read_header(block, 64).map(|header| header.closed);
-    assert_eq!(rt; closed(&block), Some(false));
-    assert_eq!(rt; closed(&with(&block, 44, 1)), Some(true));
-    assert_eq!(rt; closed(&with(&block, 44, 2)), None);
-    assert_eq!(rt; closed(&with(&block, 47, 1)), None);
-}
-
-#[test]
-fn a_header_is_of_its_disk(rt: HostRuntime) {
-    let block = header_block();
-    assert!(rt; read_header(&block, 65).is_none());
-    assert!(rt; read_header(&block, 0).is_none());
-    assert!(rt; read_header(&with(&block, 48, 65), 65).is_some());
-    assert!(rt; read_header(&with(&block, 48, 63), 63).is_none());
-    assert!(rt; read_header(&with(&block, 52, 15), 64).is_none());
-    assert!(rt; read_header(&with(&block, 56, 18), 64).is_none());
-}
-
-#[test]
-fn a_header_has_its_tag_and_its_zeros_and_its_seal(rt: HostRuntime) {
-    let block = header_block();
-    assert!(rt; read_header(&with(&block, 3, b'C'), 64).is_none());
-    assert!(rt; read_header(&with(&block, 7, b'2'), 64).is_none());
-    assert!(rt; read_header(&with(&block, 60, 1), 64).is_none());
-    assert!(rt; read_header(&with(&block, 991, 1), 64).is_none());
-    let mut broken = block;
-    broken[1023] = 0xcb;
-    assert!(rt; read_header(&broken, 64).is_none());
-    broken = block;
-    broken[8] = 2;
-    assert!(rt; read_header(&broken, 64).is_none());
-    assert!(rt; read_header(&[0u8; 1024], 64).is_none());
-}
-
-#[test]
-fn a_commit_block_is_read(rt: HostRuntime) -> Result<(), Fail> {
-    let geom = Geom::new(64, 16, 16)?;
-    let commit = Commit {
-        epoch: 2,
-        number: 5,
-        descriptors: 1,
-        payloads: 2,
-        fresh: 1,
-    };
-    assert_eq!(rt; read_commit(&commit_block(), &geom), Some(commit));
-    assert!(rt; read_header(&commit_block(), 64).is_none());
-    assert!(rt; read_descriptor(&commit_block(), &geom).is_none());
-    Ok(())
-}
-
-#[test]
-fn a_commit_block_has_payloads_and_their_descriptors(rt: HostRuntime) -> Result<(), Fail> {
-    let geom = Geom::new(64, 16, 16)?;
-    let block = commit_block();
-    assert!(rt; read_commit(&with(&block, 28, 0), &geom).is_none());
-    assert!(rt; read_commit(&with(&block, 24, 0), &geom).is_none());
-    assert!(rt; read_commit(&with(&block, 24, 2), &geom).is_none());
-    // 2 and 22 entries have one descriptor, 2 and 23 have two
-    assert!(rt; read_commit(&with(&block, 32, 22), &geom).is_some());
-    assert!(rt; read_commit(&with(&block, 32, 23), &geom).is_none());
-    assert!(rt; read_commit(&with(&with(&block, 32, 23), 24, 2), &geom).is_some());
-    // 1 commit block, 1 descriptor and 14 payloads fill the ring of 16
-    assert!(rt; read_commit(&with(&block, 28, 14), &geom).is_some());
-    assert!(rt; read_commit(&with(&block, 28, 15), &geom).is_none());
-    // 2^32 - 1 fresh blocks and 2 payloads don't have 0 descriptors
-    let mut many = block;
-    many[24] = 0;
-    many[32..36].copy_from_slice(b"\xff\xff\xff\xff".as_slice());
-    seal(&mut many);
-    assert!(rt; read_commit(&many, &geom).is_none());
-    Ok(())
-}
-
-#[test]
-fn a_commit_block_has_its_tag_and_its_zeros_and_its_seal(rt: HostRuntime) -> Result<(), Fail> {
-    let geom = Geom::new(64, 16, 16)?;
-    let block = commit_block();
-    assert!(rt; read_commit(&with(&block, 3, b'D'), &geom).is_none());
-    assert!(rt; read_commit(&with(&block, 36, 1), &geom).is_none());
-    assert!(rt; read_commit(&with(&block, 991, 1), &geom).is_none());
-    let mut broken = block;
-    broken[992] = 0;
-    assert!(rt; read_commit(&broken, &geom).is_none());
-    Ok(())
-}
-
-#[test]
-fn descriptors_are_counted(rt: HostRuntime) {
-    assert_eq!(rt; descriptor_count(0), 0);
-    assert_eq!(rt; descriptor_count(1), 1);
-    assert_eq!(rt; descriptor_count(24), 1);
-    assert_eq!(rt; descriptor_count(25), 2);
-    assert_eq!(rt; descriptor_count(4_294_967_295), 178_956_971);
+/// The block with one byte changed, whose seal is left.
+fn broken(block: &Block, at: usize, byte: u8) -> Block {
+    let mut changed = *block;
+    changed[at.min(1023)] = byte;
+    changed
 }
 
 fn entry(block: u32, kind: EntryKind, byte: u8) -> Entry {
@@ -268,77 +121,21 @@ fn entry(block: u32, kind: EntryKind, byte: u8) -> Entry {
     }
 }
 
-#[test]
-fn a_descriptor_is_read(rt: HostRuntime) -> Result<(), Fail> {
-    let geom = Geom::new(64, 16, 16)?;
-    let descriptor = read_descriptor(&descriptor_block(), &geom).expect(&rt, "a descriptor");
-    assert_eq!(rt; descriptor.epoch, 2);
-    assert_eq!(rt; descriptor.number, 5);
-    assert_eq!(rt; descriptor.index, 0);
-    let entries = descriptor.entries.as_slice();
-    assert_eq!(rt; entries.len(), 3);
-    assert_eq!(rt; entries.get(0), Some(&entry(18, EntryKind::Payload, 0x11)));
-    assert_eq!(rt; entries.get(1), Some(&entry(19, EntryKind::Escaped, 0x22)));
-    assert_eq!(rt; entries.get(2), Some(&entry(23, EntryKind::Fresh, 0x33)));
-    Ok(())
-}
-
-#[test]
-fn an_entry_has_a_kind_and_three_zeros(rt: HostRuntime) -> Result<(), Fail> {
-    let geom = Geom::new(64, 16, 16)?;
-    let block = descriptor_block();
-    assert!(rt; read_descriptor(&with(&block, 36, 0), &geom).is_none());
-    assert!(rt; read_descriptor(&with(&block, 36, 3), &geom).is_some());
-    assert!(rt; read_descriptor(&with(&block, 36, 4), &geom).is_none());
-    assert!(rt; read_descriptor(&with(&block, 37, 1), &geom).is_none());
-    assert!(rt; read_descriptor(&with(&block, 39, 1), &geom).is_none());
-    assert!(rt; read_descriptor(&with(&block, 116, 4), &geom).is_none());
-    assert!(rt; read_descriptor(&with(&block, 119, 1), &geom).is_none());
-    Ok(())
-}
-
-// The bitmap of 64 16 16 is block 18, and the data begin at block 23.
-#[test]
-fn an_entry_names_a_block_behind_the_journal(rt: HostRuntime) -> Result<(), Fail> {
-    let geom = Geom::new(64, 16, 16)?;
-    let block = descriptor_block();
-    assert!(rt; read_descriptor(&with(&block, 32, 17), &geom).is_none());
-    assert!(rt; read_descriptor(&with(&block, 32, 63), &geom).is_some());
-    assert!(rt; read_descriptor(&with(&block, 32, 64), &geom).is_none());
-    assert!(rt; read_descriptor(&with(&block, 35, 1), &geom).is_none());
-    assert!(rt; read_descriptor(&with(&block, 72, 17), &geom).is_none());
-    assert!(rt; read_descriptor(&with(&block, 112, 22), &geom).is_none());
-    assert!(rt; read_descriptor(&with(&block, 112, 63), &geom).is_some());
-    assert!(rt; read_descriptor(&with(&block, 112, 64), &geom).is_none());
-    Ok(())
-}
-
-#[test]
-fn a_descriptor_has_entries_and_then_zeros(rt: HostRuntime) -> Result<(), Fail> {
-    let geom = Geom::new(64, 16, 16)?;
-    let block = descriptor_block();
-    assert!(rt; read_descriptor(&with(&block, 28, 0), &geom).is_none());
-    assert!(rt; read_descriptor(&with(&block, 28, 2), &geom).is_none());
-    assert!(rt; read_descriptor(&with(&block, 28, 4), &geom).is_none());
-    assert!(rt; read_descriptor(&with(&block, 28, 25), &geom).is_none());
-    assert!(rt; read_descriptor(&with(&block, 31, 1), &geom).is_none());
-    assert!(rt; read_descriptor(&with(&block, 152, 1), &geom).is_none());
-    assert!(rt; read_descriptor(&with(&block, 991, 1), &geom).is_none());
-    assert!(rt; read_descriptor(&with(&block, 3, b'C'), &geom).is_none());
-    let mut broken = block;
-    broken[28] = 2;
-    assert!(rt; read_descriptor(&broken, &geom).is_none());
-    Ok(())
+/// The entries of the descriptor above.
+fn three_entries() -> Entries {
+    let mut entries = Entries::new();
+    entries.push(entry(18, EntryKind::Payload, 0x11));
+    entries.push(entry(19, EntryKind::Escaped, 0x22));
+    entries.push(entry(23, EntryKind::Fresh, 0x33));
+    entries
 }
 
 /// A descriptor with as many payload entries of block 20 as it says, which are at most 24.
-fn full_descriptor(count: u8) -> Block
-    requires { count ≤ 24 }
-{
+fn full_descriptor(count: u8) -> Block {
     let mut block = [0u8; 1024];
     block[..8].copy_from_slice(b"OPTD0001".as_slice());
-    block[28] = count;
-    for k in 0..count {
+    block[28] = count.min(24);
+    for k in 0..count.min(24) {
         let at = 32 + 40 * (k as usize);
         block[at] = 20;
         block[at + 4] = 1;
@@ -347,19 +144,23 @@ fn full_descriptor(count: u8) -> Block
     block
 }
 
-#[test]
-fn a_descriptor_has_up_to_twenty_four_entries(rt: HostRuntime) -> Result<(), Fail> {
-    let geom = Geom::new(64, 16, 16)?;
-    let length = |block: &Block| read_descriptor(block, &geom).map(|it| it
-        .entries
-        .as_slice()
-        .len());
-    assert_eq!(rt; length(&full_descriptor(0)), None);
-    assert_eq!(rt; length(&full_descriptor(1)), Some(1));
-    assert_eq!(rt; length(&full_descriptor(24)), Some(24));
-    assert_eq!(rt; length(&with(&full_descriptor(24), 28, 25)), None);
-    assert_eq!(rt; length(&with(&full_descriptor(24), 28, 23)), None);
-    Ok(())
+/// Whether a header is written as this block, and read from it on a disk of 64 blocks.
+fn is_header(header: &Header, block: &Block) -> bool {
+    let mut into = [7u8; 1024];
+    write_header(header, &mut into);
+    into == *block && read_header(block, 64) == Some(*header)
+}
+
+/// Whether a header with these changes reads on a disk of so many blocks, and then whether it is closed.
+fn closed_with(changes: [Change; 2], blocks: u32) -> Option<bool> {
+    let header = read_header(&with(&header_block(), changes), blocks)?;
+    Some(header.closed)
+}
+
+/// How many entries the descriptor in this block has, if it is one's.
+fn entries_of(block: &Block, geom: &Geom) -> Option<usize> {
+    let descriptor = read_descriptor(block, geom)?;
+    Some(descriptor.entries.len())
 }
 
 /// A block that begins with these three bytes.
@@ -370,62 +171,75 @@ fn beginning(first: &[u8; 3]) -> Block {
 }
 
 #[test]
-fn a_payload_never_begins_as_a_block_of_the_journal(rt: HostRuntime) {
-    let tagged = beginning(b"OPT");
-    let escaped = beginning(b"\0PT");
-    let plain = beginning(b"OPU");
-    assert!(rt; !is_stored(&tagged, EntryKind::Payload));
-    assert!(rt; !is_stored(&tagged, EntryKind::Escaped));
-    assert!(rt; !is_stored(&tagged, EntryKind::Fresh));
-    assert!(rt; is_stored(&escaped, EntryKind::Payload));
-    assert!(rt; is_stored(&escaped, EntryKind::Escaped));
-    assert!(rt; !is_stored(&escaped, EntryKind::Fresh));
-    assert!(rt; is_stored(&plain, EntryKind::Payload));
-    assert!(rt; !is_stored(&plain, EntryKind::Escaped));
-    assert!(rt; !is_stored(&plain, EntryKind::Fresh));
+fn headers_are_read_and_written(rt: HostRuntime) -> Result<(), Fail> {
+    let geom = Geom::new(64, 16, 16)?;
+    let first = Header {
+        epoch: 1,
+        turn: 1,
+        start: 1,
+        sure: 0,
+        at: 0,
+        closed: false,
+        geom,
+    };
+    assert!(rt; is_header(&first, &header_block()));
+    let mut block = header_block();
+    block[8..48].copy_from_slice(
+        b"\x01\x02\x03\x04\x05\x06\x07\x08\x11\x12\x13\x14\x15\x16\x17\x18\
+\x21\x22\x23\x24\x25\x26\x27\x28\x31\x32\x33\x34\x35\x36\x37\x38\x0f\x00\x00\x00\x01\x00\x00\x00"
+            .as_slice(),
+    );
+    seal(&mut block);
+    let wide = Header {
+        epoch: 0x0807_0605_0403_0201,
+        turn: 0x1817_1615_1413_1211,
+        start: 0x2827_2625_2423_2221,
+        sure: 0x3837_3635_3433_3231,
+        at: 15,
+        closed: true,
+        geom,
+    };
+    assert!(rt; is_header(&wide, &block));
+    Ok(())
 }
 
 #[test]
-fn an_escaped_payload_stands_for_tagged_bytes(rt: HostRuntime) {
-    let escaped = beginning(b"\0PT");
-    let mut into = [0u8; 1024];
-    unescape(&escaped, EntryKind::Escaped, &mut into);
-    assert!(rt; into == beginning(b"OPT"));
-    unescape(&escaped, EntryKind::Payload, &mut into);
-    assert!(rt; into == escaped);
-    unescape(&beginning(b"abc"), EntryKind::Fresh, &mut into);
-    assert!(rt; into == beginning(b"abc"));
-}
-
-#[test]
-fn entries_are_kept_in_order(rt: HostRuntime) {
-    let mut entries = Entries::new();
-    assert_eq!(rt; entries.as_slice().len(), 0);
-    entries.push(entry(30, EntryKind::Fresh, 1));
-    entries.push(entry(20, EntryKind::Payload, 2));
-    assert_eq!(rt; entries.as_slice().len(), 2);
+fn blocks_of_a_record_are_read_and_written(rt: HostRuntime) -> Result<(), Fail> {
+    let geom = Geom::new(64, 16, 16)?;
+    let mut block: Block = [0; 1024];
+    let commit = Commit {
+        epoch: 2,
+        number: 5,
+        descriptors: 1,
+        payloads: 2,
+        fresh: 1,
+    };
+    assert_eq!(rt; read_commit(&commit_block(), &geom), Some(commit));
+    assert!(rt; read_header(&commit_block(), 64).is_none());
+    assert!(rt; read_descriptor(&commit_block(), &geom).is_none());
+    let descriptor = Descriptor {
+        epoch: 2,
+        number: 5,
+        index: 0,
+        entries: three_entries(),
+    };
+    write_descriptor(&descriptor, &mut block);
+    assert!(rt; block == descriptor_block());
     assert_eq!(rt;
-        entries.as_slice().get(0),
-        Some(&entry(30, EntryKind::Fresh, 1))
+        read_descriptor(&descriptor_block(), &geom),
+        Some(descriptor)
     );
-    assert_eq!(rt;
-        entries.as_slice().get(1),
-        Some(&entry(20, EntryKind::Payload, 2))
-    );
+    let wide = Commit {
+        epoch: 0x0807_0605_0403_0201,
+        number: 0x1817_1615_1413_1211,
+        descriptors: 0x2423_2221,
+        payloads: 0x3433_3231,
+        fresh: 0x4443_4241,
+    };
+    write_commit(&wide, &mut block);
+    assert!(rt; block == block_of(WIDE_COMMIT.as_slice(), &WIDE_SEAL));
+    Ok(())
 }
-
-// A commit block whose numbers have unlike bytes.
-const WIDE_COMMIT: [u8; 36] = [
-    0x4f, 0x50, 0x54, 0x43, 0x30, 0x30, 0x30, 0x31, 0x01, 0x02, 0x03, 0x04, 0x05, 0x06, 0x07, 0x08,
-    0x11, 0x12, 0x13, 0x14, 0x15, 0x16, 0x17, 0x18, 0x21, 0x22, 0x23, 0x24, 0x31, 0x32, 0x33, 0x34,
-    0x41, 0x42, 0x43, 0x44,
-];
-
-// The SHA-256 of these bytes and 956 zeros.
-const WIDE_SEAL: [u8; 32] = [
-    0xc7, 0x4c, 0x18, 0x43, 0x87, 0x36, 0x2b, 0x34, 0xbb, 0xc3, 0xb9, 0x4a, 0x3a, 0xf2, 0x30, 0xe2,
-    0xc5, 0x27, 0x7c, 0x16, 0x4e, 0x9c, 0x8a, 0xe6, 0x10, 0x07, 0xb2, 0x38, 0xcd, 0x10, 0x54, 0xee,
-];
 
 #[test]
 fn a_record_is_written_as_its_entries_come(rt: HostRuntime) {
@@ -437,13 +251,193 @@ fn a_record_is_written_as_its_entries_come(rt: HostRuntime) {
     assert!(rt; into == descriptor_block());
     writer.commit(&mut into);
     assert!(rt; into == commit_block());
-    let wide = Commit {
-        epoch: 0x0807_0605_0403_0201,
-        number: 0x1817_1615_1413_1211,
-        descriptors: 0x2423_2221,
-        payloads: 0x3433_3231,
-        fresh: 0x4443_4241,
-    };
-    write_commit(&wide, &mut into);
-    assert!(rt; into == block_of(WIDE_COMMIT.as_slice(), &WIDE_SEAL));
+}
+
+#[test]
+fn a_header_is_within_its_grammar(rt: HostRuntime) {
+    for (changes, blocks, wanted) in [
+        // numbers from 1, eight bytes long
+        ([(8, 0), (8, 0)], 64, None),
+        ([(16, 0), (16, 0)], 64, None),
+        ([(24, 0), (24, 0)], 64, None),
+        ([(8, 0), (15, 1)], 64, Some(false)),
+        // it starts at most one past what is sure
+        ([(24, 2), (24, 2)], 64, None),
+        ([(24, 2), (32, 1)], 64, Some(false)),
+        ([(24, 2), (32, 200)], 64, Some(false)),
+        // it begins within the ring
+        ([(40, 15), (40, 15)], 64, Some(false)),
+        ([(40, 16), (40, 16)], 64, None),
+        ([(43, 1), (43, 1)], 64, None),
+        // it is closed or not
+        ([(44, 0), (44, 0)], 64, Some(false)),
+        ([(44, 1), (44, 1)], 64, Some(true)),
+        ([(44, 2), (44, 2)], 64, None),
+        ([(47, 1), (47, 1)], 64, None),
+        // it is of its disk
+        ([(48, 64), (48, 64)], 65, None),
+        ([(48, 64), (48, 64)], 0, None),
+        ([(48, 65), (48, 65)], 65, Some(false)),
+        ([(48, 63), (48, 63)], 63, None),
+        ([(52, 15), (52, 15)], 64, None),
+        ([(56, 18), (56, 18)], 64, None),
+        // its tag and its zeros
+        ([(3, b'C'), (3, b'C')], 64, None),
+        ([(7, b'2'), (7, b'2')], 64, None),
+        ([(60, 1), (60, 1)], 64, None),
+        ([(991, 1), (991, 1)], 64, None),
+    ] {
+        let at = changes[1].0;
+        assert_eq!(rt;
+            closed_with(changes, blocks),
+            wanted,
+            "byte {at}, {blocks} blocks"
+        );
+    }
+    // its seal
+    for (at, byte) in [(1023, 0xcb), (8, 2)] {
+        assert!(rt; read_header(&broken(&header_block(), at, byte), 64).is_none());
+    }
+    assert!(rt; read_header(&[0u8; 1024], 64).is_none());
+}
+
+#[test]
+fn a_commit_block_is_within_its_grammar(rt: HostRuntime) -> Result<(), Fail> {
+    let geom = Geom::new(64, 16, 16)?;
+    for (changes, wanted) in [
+        // payloads, and their descriptors
+        ([(28, 0), (28, 0)], false),
+        ([(24, 0), (24, 0)], false),
+        ([(24, 2), (24, 2)], false),
+        // 2 and 22 entries have one descriptor, 2 and 23 have two
+        ([(32, 22), (32, 22)], true),
+        ([(32, 23), (32, 23)], false),
+        ([(32, 23), (24, 2)], true),
+        // 1 commit block, 1 descriptor and 14 payloads fill the ring of 16
+        ([(28, 14), (28, 14)], true),
+        ([(28, 15), (28, 15)], false),
+        // its tag and its zeros
+        ([(3, b'D'), (3, b'D')], false),
+        ([(36, 1), (36, 1)], false),
+        ([(991, 1), (991, 1)], false),
+    ] {
+        let block = with(&commit_block(), changes);
+        let at = changes[1];
+        assert_eq!(rt; read_commit(&block, &geom).is_some(), wanted, "{at:?}");
+    }
+    // its seal
+    assert!(rt; read_commit(&broken(&commit_block(), 992, 0), &geom).is_none());
+    // 2^32 - 1 fresh blocks and 2 payloads don't have 0 descriptors
+    let mut many = commit_block();
+    many[24] = 0;
+    many[32..36].copy_from_slice(b"\xff\xff\xff\xff".as_slice());
+    seal(&mut many);
+    assert!(rt; read_commit(&many, &geom).is_none());
+    for (entries, wanted) in [
+        (0, 0),
+        (1, 1),
+        (24, 1),
+        (25, 2),
+        (4_294_967_295, 178_956_971),
+    ] {
+        assert_eq!(rt; descriptor_count(entries), wanted, "{entries} entries");
+    }
+    Ok(())
+}
+
+// The bitmap of 64 16 16 is block 18, and the data begin at block 23.
+#[test]
+fn a_descriptor_is_within_its_grammar(rt: HostRuntime) -> Result<(), Fail> {
+    let geom = Geom::new(64, 16, 16)?;
+    for (at, byte, wanted) in [
+        // a kind of entry and three zeros
+        (36, 0, None),
+        (36, 3, Some(3)),
+        (36, 4, None),
+        (37, 1, None),
+        (39, 1, None),
+        (116, 4, None),
+        (119, 1, None),
+        // a block behind the journal, and a fresh one among the data
+        (32, 17, None),
+        (32, 63, Some(3)),
+        (32, 64, None),
+        (35, 1, None),
+        (72, 17, None),
+        (112, 22, None),
+        (112, 63, Some(3)),
+        (112, 64, None),
+        // entries and then zeros
+        (28, 0, None),
+        (28, 2, None),
+        (28, 3, Some(3)),
+        (28, 4, None),
+        (28, 25, None),
+        (31, 1, None),
+        (152, 1, None),
+        (991, 1, None),
+        (3, b'C', None),
+    ] {
+        let block = with(&descriptor_block(), [(at, byte), (at, byte)]);
+        assert_eq!(rt; entries_of(&block, &geom), wanted, "byte {at}: {byte}");
+    }
+    // its seal
+    assert!(rt; entries_of(&broken(&descriptor_block(), 28, 2), &geom).is_none());
+    // up to 24 entries
+    for (entries, told, wanted) in [
+        (0, 0, None),
+        (1, 1, Some(1)),
+        (24, 24, Some(24)),
+        (24, 25, None),
+        (24, 23, None),
+    ] {
+        let block = with(&full_descriptor(entries), [(28, told), (28, told)]);
+        assert_eq!(rt;
+            entries_of(&block, &geom),
+            wanted,
+            "{entries} entries, {told} told"
+        );
+    }
+    Ok(())
+}
+
+#[test]
+fn a_payload_never_begins_as_a_block_of_the_journal(rt: HostRuntime) {
+    for (first, payload, escaped) in [
+        (b"OPT", false, false),
+        (b"\0PT", true, true),
+        (b"OPU", true, false),
+    ] {
+        let block = beginning(first);
+        assert_eq!(rt; is_stored(&block, EntryKind::Payload), payload);
+        assert_eq!(rt; is_stored(&block, EntryKind::Escaped), escaped);
+        assert!(rt; !is_stored(&block, EntryKind::Fresh));
+    }
+    let mut into = [0u8; 1024];
+    for (first, kind, wanted) in [
+        (b"\0PT", EntryKind::Escaped, b"OPT"),
+        (b"\0PT", EntryKind::Payload, b"\0PT"),
+        (b"abc", EntryKind::Fresh, b"abc"),
+    ] {
+        unescape(&beginning(first), kind, &mut into);
+        assert!(rt; into == beginning(wanted));
+    }
+    for (first, kind, wanted) in [
+        (b"OPT", EntryKind::Escaped, b"\0PT"),
+        (b"OPU", EntryKind::Payload, b"OPU"),
+    ] {
+        assert!(rt; escape(&beginning(first), &mut into) == kind);
+        assert!(rt; into == beginning(wanted));
+    }
+    // entries are kept in order
+    let mut entries = Entries::new();
+    assert!(rt; entries.is_empty());
+    entries.push(entry(30, EntryKind::Fresh, 1));
+    entries.push(entry(20, EntryKind::Payload, 2));
+    let wanted = [
+        entry(30, EntryKind::Fresh, 1),
+        entry(20, EntryKind::Payload, 2),
+    ];
+    assert!(rt; entries.as_slice() == wanted.as_slice());
+    assert_eq!(rt; entries.len(), 2);
 }

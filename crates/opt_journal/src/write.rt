@@ -1,14 +1,14 @@
 //! Writing a journal header: the one spelling of each, its seal included. Commit blocks and descriptors
 //! are written elsewhere.
 
-ghost use Rattle.std.specs.Prelude.{◌≡◌, ◌≤◌, ◌+◌, ◌++◌, length};
+ghost use Rattle.std.specs.Prelude.{◌≡◌};
 ghost use Rattle.arrayvec.specs.ArrayVec.{array_vec_len};
-ghost use Rattle.byteorder.specs.Endian.{little_bytes};
 ghost use Rattle.opt_journal.specs.Spelling.{closed_number, header_body, header_block};
 
 use crate::Header;
 use arrayvec::ArrayVec;
 use opt_base::Block;
+use opt_layout::{put, put_4, put_8, put_zeros};
 use sha2::{Digest, Sha256};
 
 /// The bytes of a header's block between what it says and its seal.
@@ -43,7 +43,7 @@ fn header_body(header: &Header) -> Text
     put_4(&mut text, header.geom.n());
     put_4(&mut text, header.geom.j());
     put_4(&mut text, header.geom.i());
-    put(&mut text, [0u8; SPARE].as_slice());
+    put_zeros(&mut text, SPARE);
     text
 }
 
@@ -51,29 +51,4 @@ fn closed_number(closed: bool) -> u32
     ensures { result ≡ closed_number closed }
 {
     if closed { 1 } else { 0 }
-}
-
-/// Writes a number in eight bytes, the lowest first.
-pub(crate) fn put_8(text: &mut Text, number: u64)
-    requires { array_vec_len text.old + 8 ≤ 1024 }
-    ensures bytes { text.new.items ≡ text.old.items ++ little_bytes 8 number }
-    ensures size { array_vec_len text.new ≡ array_vec_len text.old + 8 }
-{
-    put(text, number.to_le_bytes().as_slice());
-}
-
-/// Writes a number in four bytes, the lowest first.
-pub(crate) fn put_4(text: &mut Text, number: u32)
-    requires { array_vec_len text.old + 4 ≤ 1024 }
-    ensures bytes { text.new.items ≡ text.old.items ++ little_bytes 4 number }
-    ensures size { array_vec_len text.new ≡ array_vec_len text.old + 4 }
-{
-    put(text, number.to_le_bytes().as_slice());
-}
-
-pub(crate) fn put(text: &mut Text, bytes: &[u8])
-    requires { array_vec_len text.old + length bytes.now ≤ 1024 }
-    ensures { text.new.items ≡ text.old.items ++ bytes.now }
-{
-    text.try_extend_from_slice(bytes).unwrap();
 }

@@ -1,15 +1,17 @@
 //! Writing a record's own blocks: its commit block and its descriptors, each in its one spelling, the seal
 //! included. Which entries a descriptor has isn't its matter.
 
-ghost use Rattle.std.specs.Prelude.{◌≡◌, ◌≤◌, ◌+◌, ◌*◌, ◌-◌, ◌++◌, length, replicate};
+ghost use Rattle.std.specs.Prelude.{◌≡◌, ◌≤◌, ◌+◌, ◌*◌, ◌++◌, length};
 ghost use Rattle.arrayvec.specs.ArrayVec.{array_vec_len};
 ghost use Rattle.opt_base.specs.Seal.{sha256};
 ghost use Rattle.opt_journal.specs.Spelling.{commit_body, commit_block, kind_number, entry_bytes, all_entry_bytes, descriptor_body, descriptor_block};
 
-use crate::write::{Text, put, put_4, put_8};
+use crate::entry::ENTRY_LENGTH;
+use crate::write::Text;
 use crate::{Commit, Descriptor, Entry, EntryKind};
 use arrayvec::ArrayVec;
 use opt_base::Block;
+use opt_layout::{put, put_4, put_8, put_zeros};
 use sha2::{Digest, Sha256};
 
 /// The bytes of a commit block between what it says and its seal.
@@ -17,9 +19,6 @@ const SPARE: usize = 956;
 
 /// The bytes of a descriptor that entries may take.
 const ENTRY_ROOM: usize = 960;
-
-/// The bytes of an entry.
-const ENTRY_LENGTH: usize = 40;
 
 /// Writes the block of this commit block, in place of all the bytes there.
 pub fn write_commit(commit: &Commit, into: &mut Block)
@@ -61,7 +60,7 @@ fn commit_body(commit: &Commit) -> Text
     put_4(&mut text, commit.descriptors);
     put_4(&mut text, commit.payloads);
     put_4(&mut text, commit.fresh);
-    put(&mut text, [0u8; SPARE].as_slice());
+    put_zeros(&mut text, SPARE);
     text
 }
 
@@ -110,14 +109,4 @@ fn kind_number(kind: EntryKind) -> u8
         EntryKind::Fresh => 2,
         EntryKind::Escaped => 3,
     }
-}
-
-fn put_zeros(text: &mut Text, count: usize)
-    requires few { count ≤ 960 }
-    requires room { array_vec_len text.old + count ≤ 1024 }
-    ensures bytes { text.new.items ≡ text.old.items ++ replicate count 0 }
-    ensures size { array_vec_len text.new ≡ array_vec_len text.old + count }
-{
-    let zeros = [0u8; ENTRY_ROOM];
-    put(text, &zeros[..count]);
 }

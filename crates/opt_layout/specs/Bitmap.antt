@@ -1,4 +1,4 @@
--- The bitmap: which blocks are in use. It is told in docs/LAYOUT.md.
+-- The bitmap: which blocks are in use. It is described in docs/LAYOUT.md.
 use Rattle.std.specs.Prelude.{ℕ, ◌+◌, ◌-◌, ◌*◌, ◌/◌, ◌%◌, ◌^◌, min, ◌==◌, Bool, List, map, slice_index}
 use Rattle.std.specs.Int.{bit_at}
 use Rattle.std.specs.List.{range_with_len}

@@ -1,23 +1,18 @@
--- Nodes as they stand in the node table. They are told in docs/LAYOUT.md.
+-- Nodes as they are in the node table. They are described in docs/LAYOUT.md.
 use Rattle.std.specs.Prelude.{◌≡◌, ◌<◌, ℕ, zero, suc, ◌+◌, ◌-◌, ◌*◌, ◌/◌, ◌%◌, ◌^◌, Bool, true, ◌&&◌, not, ◌==◌, nat_lt, nat_le, if◌then◌else◌, List, [], ◌∷◌, ◌++◌, length, take, drop, replicate, slice_index, Option, Some, None}
 use Rattle.std.specs.List.{All}
 use Rattle.byteorder.specs.Endian.{little_bytes}
 use Rattle.opt_base.specs.Seal.{Blocks}
 use Rattle.opt_base.specs.declared.places.Run.{Run}
+pub use Rattle.opt_geom.specs.Geometry.{node_size}
 use Rattle.opt_geom.specs.Geometry.{Geometry, table_start, data_start, nodes_in_block}
 use Rattle.opt_layout.specs.declared.node.Node.{Node}
 use Rattle.opt_layout.specs.declared.node.NodeKind.{NodeKind}
 use Rattle.opt_layout.specs.declared.node.NodeKind.TheVariants.{Free, Dir, File}
 use Rattle.opt_layout.specs.Slot.{slot_size}
-use Rattle.opt_layout.specs.Bytes.{field, are_zeros, has_zeros, when}
+use Rattle.opt_layout.specs.Bytes.{field, has_zeros, when}
 
--- The sizes of nodes, each in this one place.
-
--- the bytes of a node
-abbrev pub node_size : ℕ
-node_size = 256
-
--- the most runs of a node
+-- the most runs of a node, in this one place
 abbrev pub most_runs : ℕ
 most_runs = 28
 
@@ -77,7 +72,7 @@ node_bytes g m k = take node_size (drop (node_size * ((k - 1) % nodes_in_block))
 abbrev pub node_at : Geometry → Blocks → ℕ → Option Node
 node_at g m k = node_of g (node_bytes g m k)
 
--- how a node stands in its bytes
+-- how a node is in its bytes
 
 abbrev pub kind_byte : NodeKind → ℕ
 kind_byte Free = 0

@@ -1,4 +1,4 @@
--- Directory slots. They are told in docs/LAYOUT.md.
+-- Directory slots. They are described in docs/LAYOUT.md.
 use Rattle.std.specs.Prelude.{ℕ, zero, suc, ◌+◌, ◌-◌, ◌*◌, Bool, ◌&&◌, ◌==◌, nat_le, List, [], ◌∷◌, ◌++◌, length, take, drop, replicate, slice_index, Option, Some, None}
 use Rattle.byteorder.specs.Endian.{little_bytes}
 use Rattle.opt_base.specs.Name.{is_name}
@@ -29,7 +29,7 @@ abbrev pub slots_in : ℕ → List ℕ → Option (List Slot)
 slots_in zero b = Some []
 slots_in (suc n) b = then_slot (slot_of (take slot_size b)) (slots_in n (drop slot_size b))
 
--- how a slot stands in its bytes
+-- how a slot is in its bytes
 abbrev pub slot_spelling : Slot → List ℕ
 slot_spelling s = little_bytes 4 s.node ++ (length s.name ∷ (s.name ++ replicate (slot_size - 5 - length s.name) 0))
 

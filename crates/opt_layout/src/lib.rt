@@ -1,10 +1,15 @@
-//! What stands in the blocks of a disk beside its journal: the bitmap, nodes and directory slots, as
-//! values and as definitions of their bytes. The codecs that read and write them stand in crates of
-//! their own, and so does the tree that they make. The layout is told in docs/LAYOUT.md.
+//! What is in the blocks of a disk beside its journal: the bitmap, nodes and directory slots, as
+//! values and as definitions of their bytes. The codecs that read and write them are in crates of
+//! their own, and so does the tree that they make; what they share, fields of bytes, stands here. The
+//! layout is described in docs/LAYOUT.md.
 #![tactic(auto)]
 
+mod fields;
 mod node;
 mod slot;
+mod text;
 
+pub use fields::{are_zeros, has_zeros, number_2, number_4, number_8};
 pub use node::{Node, NodeKind};
-pub use slot::Slot;
+pub use slot::{SLOT_LENGTH, Slot};
+pub use text::{put, put_2, put_4, put_8, put_zeros};

@@ -1,4 +1,4 @@
-//! The value of a node of the node table. How it stands in 256 bytes is the definition `node_of`.
+//! The value of a node of the node table. How it is in 256 bytes is the definition `node_of`.
 
 use opt_base::RunList;
 

@@ -2,7 +2,7 @@
 use Rattle.std.proofs.Common.{◌≡◌, ℕ, suc, ◌+◌, ◌-◌, ◌*◌, ◌≤◌, ◌==◌, ◌&&◌, Bool, true, false, if◌then◌else◌, List, [], ◌∷◌, ◌++◌, length, take, drop, replicate, slice_index, Option, Some, None, Result, Ok, Err, IfOk, OnErr, refl, sym, subst, ap, ap₂, ◌∙◌, arith, drop-drop, length-drop, eqb-true}
 use Rattle.std.specs.Option.{ok_or}
 use Rattle.std.proofs.lemmas.Bool.{and_parts, leb-true}
-use Rattle.std.proofs.lemmas.List.{take-append-drop, length-take-le, take_all}
+use Rattle.std.proofs.lemmas.Option.{same_Some}
 use Rattle.byteorder.specs.Endian.{little_number, little_bytes}
 use Rattle.byteorder.specs.Numbers.{little_from-lt}
 use Rattle.opt_geom.specs.Geometry.{Geometry}
@@ -10,38 +10,14 @@ use Rattle.opt_layout.specs.declared.node.Node.{Node}
 use Rattle.opt_layout.specs.declared.node.NodeKind.{NodeKind}
 use Rattle.opt_layout.specs.declared.node.NodeKind.TheVariants.{Free, Dir, File}
 use Rattle.opt_node.specs.declared.read.BadNode.{BadNode}
-use Rattle.opt_layout.specs.Bytes.{field, are_zeros, has_zeros, when}
+use Rattle.opt_layout.specs.Bytes.{field, are_zeros, has_zeros}
 use Rattle.opt_layout.specs.Node.{used_kind, runs_in, node_fits, spare_zeros, node_fields, node_with, node_of, kind_byte, run_bytes, node_spelling, free_node, FitsAs, HasRoom, IsNode}
-use Rattle.opt_node.proofs.Numbers.{AreBytes, bytes_drop, bytes_again, zeros_are, are_zeros-replicate}
+use Rattle.opt_node.proofs.Fields.{when_some, when_inner, AreBytes, bytes_drop, bytes_again, zeros_are, are_these_zeros, zeros_then, zeros_end}
 use Rattle.opt_node.proofs.Runs.{runs_again, runs_length, runs_room}
 use Rattle.opt_node.proofs.Spelled.{node_reads, free_zeros, zeros_free}
 
--- what is read under a test passed the test, and is what stood under it
-when_some : {A : Type 0} (t : Bool) (o : Option A) (y : A) → when t o ≡ Some y → t ≡ true
-when_some true o y e = refl
-when_some false o y e = cc
-
-when_inner : {A : Type 0} (t : Bool) (o : Option A) (y : A) → when t o ≡ Some y → o ≡ Some y
-when_inner true o y e = e
-when_inner false o y e = cc
-
-same_some : {A : Type 0} {x y : A} → Some x ≡ Some y → x ≡ y
-same_some e = cc
-
 same_ok : {A E : Type 0} {x y : A} → ◌≡◌ {A = Result A E} (Ok x) (Ok y) → x ≡ y
 same_ok e = cc
-
--- a part that is zeros, and what stands behind it
-zeros_then : (n : ℕ) (xs : List ℕ) → n ≤ length xs → are_zeros (take n xs) ≡ true → xs ≡ replicate n 0 ++ drop n xs
-zeros_then n xs few e =
-    sym (take-append-drop n xs)
-    ∙ ap (λ ys. ys ++ drop n xs) (zeros_are (take n xs) e ∙ ap (λ k. replicate k 0) (length-take-le n xs few))
-
--- bytes that are zeros to their end
-zeros_end : (n : ℕ) (xs : List ℕ) → length xs ≡ n → are_zeros (take n xs) ≡ true → xs ≡ replicate n 0
-zeros_end n xs len e =
-    let all : take n xs ≡ xs = take_all n xs (omega (arith, len)) in
-    zeros_are xs (ap are_zeros (sym all) ∙ e) ∙ ap (λ k. replicate k 0) len
 
 -- five parts one behind the other
 five_parts : (b b6 b14 b30 runs count links size zeros run_part end : List ℕ) → b ≡ count ++ b6 → b6 ≡ links ++ b14 → b14 ≡ size ++ b30 → b30 ≡ zeros ++ runs → runs ≡ run_part ++ end
@@ -99,11 +75,11 @@ kind_spelled : (n : ℕ) (kind : NodeKind) → used_kind n ≡ Some kind → (n 
 kind_spelled n kind e = by (n == 1) (n == 2) refl refl e
   where
     by : (a b : Bool) → (n == 1) ≡ a → (n == 2) ≡ b → (if a then Some Dir else if b then Some File else None) ≡ Some kind → (n ≡ kind_byte kind) × (kind ≡ Free → ⊥)
-    by true b p q e = (eqb-true n 1 p ∙ ap kind_byte (same_some e), λ free. is_free (same_some e ∙ free))
+    by true b p q e = (eqb-true n 1 p ∙ ap kind_byte (same_Some _ _ e), λ free. is_free (same_Some _ _ e ∙ free))
       where
         is_free : Dir ≡ Free → ⊥
         is_free f = cc
-    by false true p q e = (eqb-true n 2 q ∙ ap kind_byte (same_some e), λ free. is_free (same_some e ∙ free))
+    by false true p q e = (eqb-true n 2 q ∙ ap kind_byte (same_Some _ _ e), λ free. is_free (same_Some _ _ e ∙ free))
       where
         is_free : File ≡ Free → ⊥
         is_free f = cc
@@ -121,7 +97,7 @@ by_kind g b n (Some kind) len low k e =
     let inner = when_inner (spare_zeros b) _ n e in
     let spare = when_some (spare_zeros b) _ n e in
     let fits = when_some (node_fits g (node_fields kind b)) _ n inner in
-    let same = same_some (when_inner (node_fits g (node_fields kind b)) _ n inner) in
+    let same = same_Some _ _ (when_inner (node_fits g (node_fields kind b)) _ n inner) in
     let told = kind_spelled (slice_index b 0) kind k in
     let few : length (runs_in (field b 2 2) (drop 32 b)) ≤ 28 = leb-true _ 28 (and_parts _ _ (and_parts _ _ fits).1).0 in
     let whole : IsNode g b (node_fields kind b) = record {
@@ -140,7 +116,7 @@ node_spelled g b n len low e = by_kind g b n (used_kind (slice_index b 0)) len l
 pub zeros_read : (g : Geometry) (b : List ℕ) (n : Node) → length b ≡ 256 → are_zeros b ≡ true → n ≡ free_node → IsNode g b n
 zeros_read g b n len zeros free =
     subst (λ (m : Node). IsNode g b m) (sym free)
-    (subst (λ xs. IsNode g xs free_node) (sym (zeros_are b zeros ∙ ap (λ k. replicate k 0) len)) (zeros_free g))
+    (subst (λ xs. IsNode g xs free_node) (sym (are_these_zeros b zeros ∙ ap (λ k. replicate k 0) len)) (zeros_free g))
 
 -- what the two readings find, and that they refuse nothing else
 pub found : (g : Geometry) (b : List ℕ) (o : Option Node) (r : Result Node BadNode) → r ≡ ok_or o (record {}) → o ≡ node_of g b → length b ≡ 256 → AreBytes b → IfOk r (λ n. IsNode g b n)
@@ -153,7 +129,7 @@ refused g b o (Ok m) told is other = tt
 refused g b None (Err e) told is other = λ n stands. by n stands n.kind refl
   where
     by : (n : Node) → IsNode g b n → (kind : NodeKind) → n.kind ≡ kind → ⊥
-    by n stands Free k = zeros (ap are_zeros (free_zeros g b n stands k) ∙ are_zeros-replicate 256)
+    by n stands Free k = zeros (ap are_zeros (free_zeros g b n stands k) ∙ zeros_are 256)
       where
         zeros : are_zeros b ≡ true → ⊥
         zeros e = cc

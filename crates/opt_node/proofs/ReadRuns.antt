@@ -1,13 +1,14 @@
 -- The runs of a node, read one by one from the front.
-use Rattle.std.proofs.Common.{◌≡◌, ℕ, suc, ◌+◌, ◌-◌, ◌*◌, ◌<◌, ◌&&◌, Bool, true, false, nat_lt, nat_le, List, [], ◌∷◌, ◌++◌, length, take, drop, slice_index, Option, Some, None, refl, sym, ap, ◌∙◌, arith, append_assoc, drop-drop, take_all, length-drop}
-use Rattle.std.proofs.lemmas.Bool.{lt-leb}
+use Rattle.std.proofs.Common.{◌≡◌, ℕ, suc, ◌+◌, ◌-◌, ◌*◌, ◌<◌, false, nat_lt, nat_le, List, [], ◌∷◌, ◌++◌, length, take, drop, slice_index, Some, None, sym, ap, ◌∙◌, arith, append_assoc, drop-drop, take_all, length-drop}
+use Rattle.std.proofs.lemmas.Bool.{lt-leb, and_left, and_right}
 use Rattle.std.proofs.lemmas.List.{length-append}
 use Rattle.byteorder.specs.Endian.{little_number}
 use Rattle.opt_base.specs.declared.places.Run.{Run}
 use Rattle.opt_geom.specs.Geometry.{Geometry}
 use Rattle.opt_layout.specs.declared.node.NodeKind.{NodeKind}
-use Rattle.opt_layout.specs.Bytes.{field, when}
+use Rattle.opt_layout.specs.Bytes.{field}
 use Rattle.opt_layout.specs.Node.{used_kind, runs_in, node_fits, spare_zeros, node_fields, node_with, node_of}
+use Rattle.opt_node.proofs.Fields.{none_behind}
 use Rattle.opt_node.proofs.Runs.{runs_length}
 
 -- one run more, read behind those read so far
@@ -30,21 +31,10 @@ pub runs_within : (c d : ℕ) (b : List ℕ) → length b ≡ 256 → c ≡ d �
 runs_within c d b len e =
     ap (λ xs. runs_in c xs) (take_all (length b - 32) (drop 32 b) (omega (arith, length-drop 32 b))) ∙ ap (λ k. runs_in k (drop 32 b)) e
 
--- a number of runs that is too great tells no node
-later_false : (a : Bool) {b : Bool} → b ≡ false → (a && b) ≡ false
-later_false true p = p
-later_false false p = refl
-
-first_false : {a : Bool} (b : Bool) → a ≡ false → (a && b) ≡ false
-first_false b p = ap (λ a. a && b) p
-
-none_behind : {A : Type 0} (s : Bool) {t : Bool} (x : Option A) → t ≡ false → when s (when t x) ≡ None
-none_behind true x p = ap (λ t. when t x) p
-none_behind false x p = refl
-
+-- a number of runs that is too great is no node's
 pub too_many : (g : Geometry) (b : List ℕ) (kind : NodeKind) → used_kind (slice_index b 0) ≡ Some kind → 28 < field b 2 2 → node_of g b ≡ None
 unfolding node_of
 too_many g b kind k many =
     let unfit : nat_le (length (runs_in (field b 2 2) (drop 32 b))) 28 ≡ false = lt-leb _ _ (omega (arith, many, runs_length (field b 2 2) (drop 32 b))) in
     ap (node_with g b) k
-    ∙ none_behind (spare_zeros b) {t = node_fits g (node_fields kind b)} (Some (node_fields kind b)) (later_false (nat_lt 0 (field b 4 4)) (first_false _ unfit))
+    ∙ none_behind (spare_zeros b) {t = node_fits g (node_fields kind b)} (Some (node_fields kind b)) (and_right (nat_lt 0 (field b 4 4)) _ (and_left _ _ unfit))

@@ -6,7 +6,7 @@ use Rattle.byteorder.specs.Numbers.{little_number-reads_back, little_from-lt}
 use Rattle.opt_base.specs.declared.places.Run.{Run}
 use Rattle.opt_layout.specs.Bytes.{field}
 use Rattle.opt_layout.specs.Node.{runs_in, run_bytes}
-use Rattle.opt_node.proofs.Numbers.{AreBytes, bytes_drop, bytes_again}
+use Rattle.opt_node.proofs.Fields.{AreBytes, bytes_drop, bytes_again}
 
 -- the numbers of each run have room in four bytes
 abbrev pub RunsHaveRoom : List Run → Type 0

@@ -1,5 +1,5 @@
 -- A node that is written as it is spelled reads as itself, and no other node is spelled so.
-use Rattle.std.proofs.Common.{◌≡◌, ℕ, ◌+◌, ◌-◌, ◌*◌, ◌≤◌, ◌==◌, ◌&&◌, Bool, false, if◌then◌else◌, true, List, [], ◌++◌, length, take, drop, replicate, slice_index, Option, Some, refl, sym, subst, ap, ◌∙◌, arith, length-append, drop-drop}
+use Rattle.std.proofs.Common.{◌≡◌, ℕ, ◌+◌, ◌-◌, ◌*◌, ◌≤◌, ◌==◌, ◌&&◌, if◌then◌else◌, true, List, [], ◌++◌, length, take, drop, replicate, slice_index, Some, refl, sym, subst, ap, ◌∙◌, arith, length-append, drop-drop}
 use Rattle.std.proofs.Math.Seq.{drop-append_seam}
 use Rattle.std.proofs.lemmas.Bool.{and_parts, and_from, leb-true}
 use Rattle.std.proofs.lemmas.List.{length-replicate, take-replicate}
@@ -11,7 +11,7 @@ use Rattle.opt_layout.specs.declared.node.NodeKind.{NodeKind}
 use Rattle.opt_layout.specs.declared.node.NodeKind.TheVariants.{Free, Dir, File}
 use Rattle.opt_layout.specs.Bytes.{field, are_zeros, has_zeros, when}
 use Rattle.opt_layout.specs.Node.{used_kind, runs_in, node_fits, spare_zeros, node_fields, node_with, node_of, kind_byte, run_bytes, node_spelling, free_node, FitsAs, HasRoom, IsNode}
-use Rattle.opt_node.proofs.Numbers.{are_zeros-replicate}
+use Rattle.opt_node.proofs.Fields.{when_is, zeros_are}
 use Rattle.opt_node.proofs.Runs.{runs_read, bytes_length}
 
 -- a node that fits has at most 28 runs
@@ -73,7 +73,7 @@ runs_end n =
     ∙ drop-append_seam (run_bytes n.runs) (replicate (224 - 8 * length n.runs) 0)
 
 all_zeros : (a z : ℕ) (xs : List ℕ) → a ≡ z → xs ≡ replicate z 0 → are_zeros (take a xs) ≡ true
-all_zeros a z xs e f = ap are_zeros (ap (take a) f ∙ ap (λ k. take k (replicate z 0)) e ∙ take-replicate z z 0 (omega arith)) ∙ are_zeros-replicate z
+all_zeros a z xs e f = ap are_zeros (ap (take a) f ∙ ap (λ k. take k (replicate z 0)) e ∙ take-replicate z z 0 (omega arith)) ∙ zeros_are z
 
 pub spare_read : (n : Node) → length n.runs ≤ 28 → spare_zeros (node_spelling n) ≡ true
 spare_read n few =
@@ -82,11 +82,6 @@ spare_read n few =
     (and_from (has_zeros b 16 32) (has_zeros b (32 + 8 * field b 2 2) 256) refl
     (ap (λ c. has_zeros b (32 + 8 * c) 256) (count_read n few)
     ∙ all_zeros (256 - (32 + 8 * length n.runs)) (224 - 8 * length n.runs) (drop (32 + 8 * length n.runs) b) (omega arith) (runs_end n)))
-
--- where a test holds, the value stands
-when_is : {A : Type 0} (t : Bool) (o : Option A) → t ≡ true → when t o ≡ o
-when_is true o e = refl
-when_is false o e = cc
 
 -- the spelling of a node in use reads as that node
 reads_as : (g : Geometry) (b : List ℕ) (n : Node) (kind : NodeKind) → spare_zeros b ≡ true → node_fields kind b ≡ n → node_fits g n ≡ true

@@ -1,13 +1,10 @@
 -- The bytes of a node, put together piece by piece from the front.
-use Rattle.std.proofs.Common.{◌≡◌, ℕ, ◌-◌, ◌*◌, List, [], ◌∷◌, ◌++◌, length, replicate, ap, ap₂, ◌∙◌, append_assoc}
+use Rattle.std.proofs.Common.{◌≡◌, ℕ, ◌-◌, ◌*◌, List, [], ◌∷◌, ◌++◌, length, replicate, ap, ap₂, ◌∙◌}
 use Rattle.byteorder.specs.Endian.{little_bytes}
 use Rattle.opt_base.specs.declared.places.Run.{Run}
+use Rattle.opt_node.proofs.Fields.{behind}
 use Rattle.opt_layout.specs.declared.node.Node.{Node}
 use Rattle.opt_layout.specs.Node.{kind_byte, run_bytes, node_spelling}
-
--- a piece put behind a text, and what follows both
-behind : (t t' p rest : List ℕ) → t' ≡ t ++ p → t' ++ rest ≡ t ++ (p ++ rest)
-behind t t' p rest put = ap (λ xs. xs ++ rest) put ∙ append_assoc t p rest
 
 pieces : (t2 t3 t4 t5 t6 t7 p1 p2 p3 p4 p5 p6 p7 : List ℕ) → t2 ≡ p1 ++ p2 → t3 ≡ t2 ++ p3 → t4 ≡ t3 ++ p4 → t5 ≡ t4 ++ p5 → t6 ≡ t5 ++ p6 → t7 ≡ t6 ++ p7
     → t7 ≡ p1 ++ (p2 ++ (p3 ++ (p4 ++ (p5 ++ (p6 ++ p7)))))

@@ -1,4 +1,4 @@
-//! Laws of a node and its bytes, as functions that do nothing: each clause is a law. They are told in
+//! Laws of a node and its bytes, as functions that do nothing: each clause is a law. They are described in
 //! docs/LAYOUT.md.
 
 ghost use Rattle.std.specs.Prelude.{◌≡◌, ◌↔◌, ◌<◌, ◌^◌, ℕ, true, List, length, replicate, slice_index, Some};
@@ -25,7 +25,7 @@ pub fn a_free_node_is_zeros()
     ensures free { (g : Geometry) → IsNode g (replicate node_size 0) free_node }
 {}
 
-/// A node that fits a disk stands in its spelling. Its links must have room in four bytes, since a
+/// A node that fits a disk is in its spelling. Its links must have room in four bytes, since a
 /// directory's have no other limit.
 pub fn a_node_that_fits_has_a_spelling()
     ensures { (g : Geometry) (n : Node) → geometry_fits g ≡ true → FitsAs g n n.kind → n.links < 256 ^ 4 → IsNode g (node_spelling n) n }

@@ -1,18 +1,18 @@
 //! Reading a node: 256 bytes are refused unless they are the one spelling of a node that fits a disk of
-//! this geometry. Whether blocks belong to one node alone is told by the check of a whole tree.
+//! this geometry. Whether blocks belong to one node alone is described by the check of a whole tree.
 
 ghost use Rattle.std.specs.Prelude.{◌≡◌, ◌≤◌, ◌+◌, ◌*◌, ◌&&◌, ◌==◌, not, nat_lt, nat_le, length, IfOk, OnErr};
+ghost use Rattle.opt_extent.specs.Runs.{AreTidy, LieBelow, most_blocks};
 ghost use Rattle.opt_geom.specs.Geometry.{data_start};
-ghost use Rattle.opt_layout.specs.Bytes.{field, are_zeros, has_zeros};
+ghost use Rattle.opt_layout.specs.Bytes.{field};
 ghost use Rattle.opt_layout.specs.declared.node.Node.{Node};
 ghost use Rattle.opt_layout.specs.Node.{IsNode, free_node, used_kind, node_of, node_fields, node_fits, runs_in, runs_fit, run_blocks, kind_fits, spare_zeros};
 
-use crate::sizes::{NODE_LENGTH, RUN_LENGTH, RUNS_AT, SLOT_LENGTH, SPARE_AT};
-use byteorder::{ByteOrder, LittleEndian};
+use crate::sizes::{RUN_LENGTH, RUNS_AT, SPARE_AT};
 use opt_base::limits::{BLOCK_LENGTH, LARGEST_FILE, MOST_LINKS, MOST_RUNS};
 use opt_base::{Run, RunList};
-use opt_geom::Geom;
-use opt_layout::{Node, NodeKind};
+use opt_geom::{Geom, NODE_LENGTH};
+use opt_layout::{Node, NodeKind, SLOT_LENGTH, are_zeros, has_zeros, number_2, number_4, number_8};
 use std::error::Error;
 use std::fmt;
 
@@ -28,7 +28,7 @@ impl fmt::Display for BadNode {
 
 impl Error for BadNode {}
 
-/// The node that stands in these 256 bytes, on a disk of this geometry. A free node stands in zeros. This
+/// The node that is in these 256 bytes, on a disk of this geometry. A free node is in zeros. This
 /// takes no memory.
 ///
 /// # Errors
@@ -37,7 +37,12 @@ impl Error for BadNode {}
 pub fn read_node(bytes: &[u8], geom: &Geom) -> Result<Node, BadNode>
     ensures found { IfOk result (λ node. IsNode geom.now bytes.now node) }
     ensures refused { OnErr result ((node : Node) → IsNode geom.now bytes.now node → ⊥) }
+
+    // The runs are what `Runs::of` of opt_extent asks for.
+    ensures tidy { IfOk result (λ node. AreTidy node.runs) }
+    ensures below { IfOk result (λ node. LieBelow most_blocks node.runs) }
 {
+    geom.lawful();
     if bytes.len() != NODE_LENGTH {
         return Err(BadNode);
     }
@@ -66,7 +71,7 @@ fn used_node(bytes: &[u8], geom: &Geom) -> Option<Node>
     ensures { result ≡ node_of geom.now bytes.now }
 {
     let kind = used_kind(bytes[0])?;
-    let count = number_2(bytes, 2);
+    let count = usize::from(number_2(bytes, 2));
     if count > MOST_RUNS {
         return None;
     }
@@ -88,42 +93,6 @@ fn used_kind(number: u8) -> Option<NodeKind>
         2 => Some(NodeKind::File),
         _ => None,
     }
-}
-
-fn number_2(bytes: &[u8], at: usize) -> usize
-    requires { at + 2 ≤ length bytes.now }
-    ensures { result ≡ field bytes.now at 2 }
-{
-    usize::from(LittleEndian::read_u16(&bytes[at..]))
-}
-
-fn number_4(bytes: &[u8], at: usize) -> u32
-    requires { at + 4 ≤ length bytes.now }
-    ensures { result ≡ field bytes.now at 4 }
-{
-    LittleEndian::read_u32(&bytes[at..])
-}
-
-fn number_8(bytes: &[u8], at: usize) -> u64
-    requires { at + 8 ≤ length bytes.now }
-    ensures { result ≡ field bytes.now at 8 }
-{
-    LittleEndian::read_u64(&bytes[at..])
-}
-
-fn are_zeros(bytes: &[u8]) -> bool
-    ensures { result ≡ are_zeros bytes.now }
-{
-    bytes.iter().all(|byte| *byte == 0)
-}
-
-/// Whether the bytes from `at` up to byte `end` are zeros.
-fn has_zeros(bytes: &[u8], at: usize, end: usize) -> bool
-    requires order { at ≤ end }
-    requires within { end ≤ length bytes.now }
-    ensures { result ≡ has_zeros bytes.now at end }
-{
-    are_zeros(&bytes[at..end])
 }
 
 /// Whether the bytes that carry nothing are zeros, where there are `count` runs.
@@ -196,7 +165,7 @@ fn kind_fits(node: &Node) -> bool
 {
     match node.kind {
         NodeKind::Free => true,
-        NodeKind::Dir => node.size % SLOT_LENGTH == 0,
+        NodeKind::Dir => node.size % SLOT_LENGTH as u64 == 0,
         NodeKind::File => node.links <= MOST_LINKS && node.size <= LARGEST_FILE,
     }
 }

@@ -1,7 +1,5 @@
-//! The sizes of a node and of its parts, in bytes. Limits of its numbers are told by `opt_base::limits`.
-
-/// The bytes of a node.
-pub const NODE_LENGTH: usize = 256;
+//! The places and sizes of a node's parts, in bytes. Its own size is `opt_geom::NODE_LENGTH`, and the
+//! limits of its numbers are those of `opt_base::limits`.
 
 /// Where the bytes begin that carry nothing, behind a node's size.
 pub const SPARE_AT: usize = 16;
@@ -11,6 +9,3 @@ pub const RUNS_AT: usize = 32;
 
 /// The bytes of a run.
 pub const RUN_LENGTH: usize = 8;
-
-/// The bytes of a directory slot, of which a directory has whole ones.
-pub const SLOT_LENGTH: u64 = 64;

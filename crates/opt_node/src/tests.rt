@@ -1,10 +1,11 @@
-//! Nodes as bytes, field by field. The bytes were worked out by hand from the layout. Most nodes stand on
+//! Nodes as bytes, field by field. The bytes were worked out by hand from the layout. Most nodes rest on
 //! a disk of `64 16 16`, whose data are blocks 23 to 63.
 
-ghost use Rattle.std.specs.Prelude.{◌≤◌, ◌<◌, length};
+ghost use Rattle.std.specs.Prelude.{◌≤◌, length};
 
 use crate::{BadNode, read_node, write_node};
 use opt_base::{Run, RunList};
+use opt_extent::Runs;
 use opt_geom::Geom;
 use opt_layout::{Node, NodeKind};
 use std::test::Fail;
@@ -73,20 +74,42 @@ fn bytes_of(kind: u8, links: u32, size: u64, runs: &[(u32, u32)]) -> [u8; 256]
     bytes
 }
 
-/// Whether such bytes are a node's.
-fn is_node(geom: &Geom, kind: u8, links: u32, size: u64, runs: &[(u32, u32)]) -> bool
-    requires { length runs.now ≤ 28 }
-{
-    read_node(bytes_of(kind, links, size, runs).as_slice(), geom).is_ok()
+/// A node's kind, links and size, how many runs it has, at most two, these runs, and whether that is one.
+type Row = (u8, u32, u64, usize, [(u32, u32); 2], bool);
+
+/// Where a row has no run.
+const NO: (u32, u32) = (0, 0);
+
+/// The first row that isn't as it says.
+fn first_wrong(geom: &Geom, rows: &[Row]) -> Option<usize> {
+    for place in 0..rows.len() {
+        let row = rows[place];
+        let bytes = bytes_of(row.0, row.1, row.2, &row.4[..row.3.min(2)]);
+        if read_node(bytes.as_slice(), geom).is_ok() != row.5 {
+            return Some(place);
+        }
+    }
+    None
 }
 
-/// The file's bytes with one changed.
-fn with(at: usize, byte: u8) -> [u8; 256]
-    requires { at < 256 }
-{
-    let mut bytes = file_bytes();
-    bytes[at] = byte;
-    bytes
+/// Whether the node is written as these bytes, and they are read as it.
+fn is_spelled(node: &Node, bytes: &[u8; 256], geom: &Geom) -> bool {
+    let mut into = [7u8; 256];
+    write_node(node, into.as_mut_slice());
+    let read = match read_node(bytes.as_slice(), geom) {
+        Ok(found) => found == *node,
+        Err(BadNode) => false,
+    };
+    into == *bytes && read
+}
+
+/// Whether so many bytes are a node's, of the file above or zeros.
+fn is_node_of(length: usize, file: bool, geom: &Geom) -> bool {
+    let mut bytes = [0u8; 257];
+    if file {
+        bytes[..48].copy_from_slice(HEAD.as_slice());
+    }
+    read_node(&bytes[..length.min(257)], geom).is_ok()
 }
 
 /// The blocks 63, 62 and so on down to 36, each a run.
@@ -98,35 +121,25 @@ fn most_runs() -> [(u32, u32); 28] {
     runs
 }
 
+/// Whether bytes with these runs are a node's, whose count of runs is these two bytes.
+fn is_full_node(size: u64, count: [u8; 2], geom: &Geom) -> bool {
+    let runs = most_runs();
+    let mut bytes = bytes_of(FILE, 1, size, runs.as_slice());
+    bytes[2] = count[0];
+    bytes[3] = count[1];
+    read_node(bytes.as_slice(), geom).is_ok()
+}
+
 #[test]
-fn a_free_node_is_zeros(rt: HostRuntime) -> Result<(), Fail> {
+fn nodes_are_written_and_read(rt: HostRuntime) -> Result<(), Fail> {
     let free = Node {
         kind: NodeKind::Free,
         links: 0,
         size: 0,
         runs: RunList::new(),
     };
-    let mut into = [7u8; 256];
-    write_node(&free, into.as_mut_slice());
-    assert!(rt; into == [0u8; 256]);
-    assert_eq!(rt; read_node([0u8; 256].as_slice(), &least()?), Ok(free));
-    Ok(())
-}
-
-#[test]
-fn a_file_is_written_and_read(rt: HostRuntime) -> Result<(), Fail> {
-    let mut into = [7u8; 256];
-    write_node(&file(), into.as_mut_slice());
-    assert!(rt; into == file_bytes());
-    assert_eq!(rt;
-        read_node(file_bytes().as_slice(), &greatest()?),
-        Ok(file())
-    );
-    Ok(())
-}
-
-#[test]
-fn a_directory_is_written_and_read(rt: HostRuntime) -> Result<(), Fail> {
+    assert!(rt; is_spelled(&free, &[0u8; 256], &least()?));
+    assert!(rt; is_spelled(&file(), &file_bytes(), &greatest()?));
     let mut runs = RunList::new();
     runs.push(Run {
         first: 40,
@@ -139,10 +152,10 @@ fn a_directory_is_written_and_read(rt: HostRuntime) -> Result<(), Fail> {
         runs,
     };
     let bytes = bytes_of(DIR, 1, 1088, [(40, 2)].as_slice());
-    let mut into = [7u8; 256];
-    write_node(&directory, into.as_mut_slice());
-    assert!(rt; into == bytes);
-    assert_eq!(rt; read_node(into.as_slice(), &least()?), Ok(directory));
+    assert!(rt; is_spelled(&directory, &bytes, &least()?));
+    // the runs of a node that was read are a list's
+    let read = read_node(file_bytes().as_slice(), &greatest()?)?;
+    assert_eq!(rt; Runs::of(read.runs).count(), 773);
     Ok(())
 }
 
@@ -150,17 +163,11 @@ fn a_directory_is_written_and_read(rt: HostRuntime) -> Result<(), Fail> {
 fn bytes_that_carry_nothing_are_zeros(rt: HostRuntime) -> Result<(), Fail> {
     let geom = greatest()?;
     for at in [1, 16, 20, 31, 48, 51, 52, 255] {
-        assert_eq!(rt;
-            read_node(with(at, 1).as_slice(), &geom),
-            Err(BadNode),
-            "at {at}"
-        );
+        let mut bytes = file_bytes();
+        bytes[at] = 1;
+        assert_eq!(rt; read_node(bytes.as_slice(), &geom), Err(BadNode), "at {at}");
     }
-    Ok(())
-}
-
-#[test]
-fn a_free_node_has_nothing(rt: HostRuntime) -> Result<(), Fail> {
+    // and a free node has nothing
     let geom = least()?;
     for at in [1, 2, 4, 8, 16, 31, 32, 255] {
         let mut bytes = [0u8; 256];
@@ -171,152 +178,150 @@ fn a_free_node_has_nothing(rt: HostRuntime) -> Result<(), Fail> {
 }
 
 #[test]
-fn a_node_has_one_of_three_kinds(rt: HostRuntime) -> Result<(), Fail> {
-    let geom = least()?;
-    for (kind, wanted) in [(0, false), (1, true), (2, true), (3, false), (255, false)] {
-        assert_eq!(rt; is_node(&geom, kind, 1, 0, &[]), wanted, "kind {kind}");
-    }
+fn a_node_has_a_kind_and_links(rt: HostRuntime) -> Result<(), Fail> {
+    let rows = [
+        // one of three kinds
+        (0, 1, 0, 0, [NO, NO], false),
+        (1, 1, 0, 0, [NO, NO], true),
+        (2, 1, 0, 0, [NO, NO], true),
+        (3, 1, 0, 0, [NO, NO], false),
+        (255, 1, 0, 0, [NO, NO], false),
+        // links
+        (FILE, 0, 0, 0, [NO, NO], false),
+        (FILE, 1, 0, 0, [NO, NO], true),
+        (FILE, 65_535, 0, 0, [NO, NO], true),
+        (FILE, 65_536, 0, 0, [NO, NO], false),
+        (FILE, 4_294_967_295, 0, 0, [NO, NO], false),
+        (DIR, 0, 0, 0, [NO, NO], false),
+        (DIR, 1, 0, 0, [NO, NO], true),
+        (DIR, 65_535, 0, 0, [NO, NO], true),
+        (DIR, 65_536, 0, 0, [NO, NO], true),
+        (DIR, 4_294_967_295, 0, 0, [NO, NO], true),
+    ];
+    assert_eq!(rt; first_wrong(&least()?, rows.as_slice()), None);
     Ok(())
 }
 
 #[test]
-fn a_node_has_256_bytes(rt: HostRuntime) -> Result<(), Fail> {
-    let geom = greatest()?;
-    let mut shorter = [0u8; 255];
-    assert_eq!(rt; read_node(shorter.as_slice(), &geom), Err(BadNode));
-    shorter[..48].copy_from_slice(HEAD.as_slice());
-    assert_eq!(rt; read_node(shorter.as_slice(), &geom), Err(BadNode));
-    let mut longer = [0u8; 257];
-    assert_eq!(rt; read_node(longer.as_slice(), &geom), Err(BadNode));
-    longer[..48].copy_from_slice(HEAD.as_slice());
-    assert_eq!(rt; read_node(longer.as_slice(), &geom), Err(BadNode));
-    assert_eq!(rt; read_node(&[], &geom), Err(BadNode));
+fn a_node_has_as_many_blocks_as_its_size_needs(rt: HostRuntime) -> Result<(), Fail> {
+    let rows = [
+        // neighbouring runs are one
+        (FILE, 1, 2048, 2, [(24, 1), (25, 1)], false),
+        (FILE, 1, 2048, 1, [(24, 2), NO], true),
+        (FILE, 1, 2048, 2, [(24, 1), (26, 1)], true),
+        (FILE, 1, 2048, 2, [(25, 1), (24, 1)], true),
+        // as many blocks as the size needs
+        (FILE, 1, 1024, 1, [(24, 2), NO], false),
+        (FILE, 1, 1025, 1, [(24, 2), NO], true),
+        (FILE, 1, 2049, 1, [(24, 2), NO], false),
+        (FILE, 1, 1024, 2, [(24, 1), (30, 1)], false),
+        (FILE, 1, 1025, 2, [(24, 1), (30, 1)], true),
+        (FILE, 1, 2048, 2, [(24, 1), (30, 1)], true),
+        (FILE, 1, 2049, 2, [(24, 1), (30, 1)], false),
+        (FILE, 1, 1, 0, [NO, NO], false),
+        (FILE, 1, 0, 1, [(24, 1), NO], false),
+        (FILE, 1, 1, 1, [(24, 1), NO], true),
+        (DIR, 1, 18_446_744_073_709_551_552, 0, [NO, NO], false),
+        // a directory is whole slots
+        (DIR, 1, 63, 1, [(23, 1), NO], false),
+        (DIR, 1, 64, 1, [(23, 1), NO], true),
+        (DIR, 1, 65, 1, [(23, 1), NO], false),
+        (DIR, 1, 1024, 1, [(23, 1), NO], true),
+    ];
+    assert_eq!(rt; first_wrong(&least()?, rows.as_slice()), None);
     Ok(())
 }
 
 #[test]
-fn a_node_in_use_has_a_link(rt: HostRuntime) -> Result<(), Fail> {
-    let geom = least()?;
-    for (links, file, directory) in [
-        (0, false, false),
-        (1, true, true),
-        (65_535, true, true),
-        (65_536, false, true),
-        (4_294_967_295, false, true),
-    ] {
-        assert_eq!(rt; is_node(&geom, FILE, links, 0, &[]), file, "{links} links");
-        assert_eq!(rt;
-            is_node(&geom, DIR, links, 0, &[]),
-            directory,
-            "{links} links"
-        );
-    }
-    Ok(())
-}
-
-#[test]
-fn neighbouring_runs_are_one(rt: HostRuntime) -> Result<(), Fail> {
-    let geom = least()?;
-    assert!(rt; !is_node(&geom, FILE, 1, 2048, &[(24, 1), (25, 1)]));
-    assert!(rt; is_node(&geom, FILE, 1, 2048, &[(24, 2)]));
-    assert!(rt; is_node(&geom, FILE, 1, 2048, &[(24, 1), (26, 1)]));
-    assert!(rt; is_node(&geom, FILE, 1, 2048, &[(25, 1), (24, 1)]));
-    Ok(())
-}
-
-#[test]
-fn runs_have_as_many_blocks_as_the_size_needs(rt: HostRuntime) -> Result<(), Fail> {
-    let geom = least()?;
-    for (size, wanted) in [(1024, false), (1025, true), (2048, true), (2049, false)] {
-        assert_eq!(rt;
-            is_node(&geom, FILE, 1, size, &[(24, 2)]),
-            wanted,
-            "size {size}"
-        );
-        assert_eq!(rt;
-            is_node(&geom, FILE, 1, size, &[(24, 1), (30, 1)]),
-            wanted,
-            "size {size}"
-        );
-    }
-    assert!(rt; is_node(&geom, FILE, 1, 0, &[]));
-    assert!(rt; !is_node(&geom, FILE, 1, 1, &[]));
-    assert!(rt; !is_node(&geom, FILE, 1, 0, &[(24, 1)]));
-    assert!(rt; is_node(&geom, FILE, 1, 1, &[(24, 1)]));
-    assert!(rt; !is_node(&geom, DIR, 1, 18_446_744_073_709_551_552, &[]));
-    Ok(())
-}
-
-#[test]
-fn runs_lie_in_the_data(rt: HostRuntime) -> Result<(), Fail> {
-    let geom = least()?;
-    assert!(rt; !is_node(&geom, FILE, 1, 1024, &[(22, 1)]));
-    assert!(rt; !is_node(&geom, FILE, 1, 2048, &[(22, 2)]));
-    assert!(rt; is_node(&geom, FILE, 1, 1024, &[(23, 1)]));
-    assert!(rt; is_node(&geom, FILE, 1, 4096, &[(60, 4)]));
-    assert!(rt; !is_node(&geom, FILE, 1, 5120, &[(60, 5)]));
-    assert!(rt; is_node(&geom, FILE, 1, 1024, &[(63, 1)]));
-    assert!(rt; !is_node(&geom, FILE, 1, 1024, &[(64, 1)]));
-    assert!(rt; is_node(&geom, FILE, 1, 41_984, &[(23, 41)]));
-    assert!(rt;
-        !is_node(
-            &geom,
+fn the_blocks_of_a_node_are_data_blocks(rt: HostRuntime) -> Result<(), Fail> {
+    let rows = [
+        // blocks of the data
+        (FILE, 1, 1024, 1, [(22, 1), NO], false),
+        (FILE, 1, 2048, 1, [(22, 2), NO], false),
+        (FILE, 1, 1024, 1, [(23, 1), NO], true),
+        (FILE, 1, 4096, 1, [(60, 4), NO], true),
+        (FILE, 1, 5120, 1, [(60, 5), NO], false),
+        (FILE, 1, 1024, 1, [(63, 1), NO], true),
+        (FILE, 1, 1024, 1, [(64, 1), NO], false),
+        (FILE, 1, 41_984, 1, [(23, 41), NO], true),
+        (
             DIR,
             1,
             4_398_046_510_080,
-            &[(4_294_967_295, 4_294_967_295)]
-        )
-    );
+            1,
+            [(4_294_967_295, 4_294_967_295), NO],
+            false,
+        ),
+        // a block in each run
+        (FILE, 1, 0, 1, [(24, 0), NO], false),
+        (FILE, 1, 1024, 2, [(24, 1), (30, 0)], false),
+        (FILE, 1, 1024, 2, [(30, 0), (24, 1)], false),
+    ];
+    assert_eq!(rt; first_wrong(&least()?, rows.as_slice()), None);
     Ok(())
 }
 
-#[test]
-fn a_run_has_a_block(rt: HostRuntime) -> Result<(), Fail> {
-    let geom = least()?;
-    assert!(rt; !is_node(&geom, FILE, 1, 0, &[(24, 0)]));
-    assert!(rt; !is_node(&geom, FILE, 1, 1024, &[(24, 1), (30, 0)]));
-    assert!(rt; !is_node(&geom, FILE, 1, 1024, &[(30, 0), (24, 1)]));
-    Ok(())
-}
-
-#[test]
-fn a_node_has_at_most_28_runs(rt: HostRuntime) -> Result<(), Fail> {
-    let geom = least()?;
-    let runs = most_runs();
-    assert!(rt; is_node(&geom, FILE, 1, 28_672, runs.as_slice()));
-    let mut bytes = bytes_of(FILE, 1, 29_696, runs.as_slice());
-    bytes[2] = 29;
-    assert_eq!(rt; read_node(bytes.as_slice(), &geom), Err(BadNode));
-    bytes[3] = 255;
-    assert_eq!(rt; read_node(bytes.as_slice(), &geom), Err(BadNode));
-    let mut bytes = bytes_of(FILE, 1, 28_672, runs.as_slice());
-    bytes[2] = 29;
-    assert_eq!(rt; read_node(bytes.as_slice(), &geom), Err(BadNode));
-    Ok(())
-}
-
-#[test]
-fn a_directory_is_whole_slots(rt: HostRuntime) -> Result<(), Fail> {
-    let geom = least()?;
-    for (size, wanted) in [(63, false), (64, true), (65, false), (1024, true)] {
-        assert_eq!(rt;
-            is_node(&geom, DIR, 1, size, &[(23, 1)]),
-            wanted,
-            "size {size}"
-        );
-    }
-    Ok(())
-}
-
-// Whether a block is in two runs isn't asked of one node: 1,048,186 blocks and 390 of them again are 2^20.
 #[test]
 fn a_file_has_at_most_a_gibibyte(rt: HostRuntime) -> Result<(), Fail> {
+    // A file has at most a gibibyte. Whether a block is in two runs isn't asked of one node: 1,048,186
+    // blocks and 390 of them again are 2^20.
+    let rows = [
+        (
+            FILE,
+            1,
+            1_073_741_824,
+            2,
+            [(390, 1_048_186), (390, 390)],
+            true,
+        ),
+        (
+            FILE,
+            1,
+            1_073_741_825,
+            2,
+            [(390, 1_048_186), (390, 391)],
+            false,
+        ),
+        (
+            DIR,
+            1,
+            1_073_741_888,
+            2,
+            [(390, 1_048_186), (390, 391)],
+            true,
+        ),
+    ];
+    assert_eq!(rt; first_wrong(&greatest()?, rows.as_slice()), None);
+    Ok(())
+}
+
+#[test]
+fn a_node_has_256_bytes_and_at_most_28_runs(rt: HostRuntime) -> Result<(), Fail> {
     let geom = greatest()?;
-    let full = [(390, 1_048_186), (390, 390)];
-    let more = [(390, 1_048_186), (390, 391)];
-    assert!(rt; is_node(&geom, FILE, 1, 1_073_741_824, full.as_slice()));
-    assert!(rt; !is_node(&geom, FILE, 1, 1_073_741_825, more.as_slice()));
-    assert!(rt; is_node(&geom, DIR, 1, 1_073_741_888, more.as_slice()));
+    for (length, file, wanted) in [
+        (255, false, false),
+        (255, true, false),
+        (256, false, true),
+        (256, true, true),
+        (257, false, false),
+        (257, true, false),
+        (0, false, false),
+    ] {
+        assert_eq!(rt; is_node_of(length, file, &geom), wanted, "{length} bytes");
+    }
+    let geom = least()?;
+    for (size, low, high, wanted) in [
+        (28_672, 28, 0, true),
+        (29_696, 29, 0, false),
+        (29_696, 29, 255, false),
+        (28_672, 29, 0, false),
+    ] {
+        assert_eq!(rt;
+            is_full_node(size, [low, high], &geom),
+            wanted,
+            "{size}, {low}, {high}"
+        );
+    }
     Ok(())
 }
 

@@ -1,21 +1,21 @@
-//! Writing a node: the one spelling of each, 256 bytes. Whether a node fits a disk is told by reading.
+//! Writing a node: the one spelling of each, 256 bytes. Whether a node fits a disk is described by reading.
 
-ghost use Rattle.std.specs.Prelude.{◌≡◌, ◌≤◌, ◌+◌, ◌*◌, ◌++◌, length, replicate};
+ghost use Rattle.std.specs.Prelude.{◌≡◌, ◌≤◌, ◌+◌, ◌*◌, ◌++◌, length};
 ghost use Rattle.arrayvec.specs.ArrayVec.{array_vec_len};
-ghost use Rattle.byteorder.specs.Endian.{little_bytes};
-ghost use Rattle.opt_layout.specs.Node.{kind_byte, node_spelling, run_bytes};
+ghost use Rattle.opt_layout.specs.Node.{kind_byte, node_size, node_spelling, run_bytes};
 
-use crate::sizes::{NODE_LENGTH, RUN_LENGTH, RUNS_AT, SPARE_AT};
+use crate::sizes::{RUN_LENGTH, RUNS_AT, SPARE_AT};
 use arrayvec::ArrayVec;
 use opt_base::Run;
-use opt_layout::{Node, NodeKind};
+use opt_geom::NODE_LENGTH;
+use opt_layout::{Node, NodeKind, put, put_2, put_4, put_8, put_zeros};
 
 /// The bytes of a node as far as they are written.
 type Text = ArrayVec<u8, NODE_LENGTH>;
 
 /// Writes the bytes of this node in place of all the 256 bytes there. This takes no memory.
 pub fn write_node(node: &Node, into: &mut [u8])
-    requires { length into.old ≡ 256 }
+    requires { length into.old ≡ node_size }
     ensures { into.new ≡ node_spelling node.now }
 {
     let mut text = ArrayVec::new();
@@ -50,48 +50,4 @@ fn put_runs(text: &mut Text, runs: &[Run])
         put_4(text, run.first);
         put_4(text, run.count);
     }
-}
-
-/// Writes so many zeros.
-fn put_zeros(text: &mut Text, count: usize)
-    requires { array_vec_len text.old + count ≤ 256 }
-    ensures bytes { text.new.items ≡ text.old.items ++ replicate count 0 }
-    ensures size { array_vec_len text.new ≡ array_vec_len text.old + count }
-{
-    let zeros = [0u8; NODE_LENGTH];
-    put(text, &zeros[..count]);
-}
-
-/// Writes a number in eight bytes, the lowest first.
-fn put_8(text: &mut Text, number: u64)
-    requires { array_vec_len text.old + 8 ≤ 256 }
-    ensures bytes { text.new.items ≡ text.old.items ++ little_bytes 8 number }
-    ensures size { array_vec_len text.new ≡ array_vec_len text.old + 8 }
-{
-    put(text, number.to_le_bytes().as_slice());
-}
-
-/// Writes a number in four bytes, the lowest first.
-fn put_4(text: &mut Text, number: u32)
-    requires { array_vec_len text.old + 4 ≤ 256 }
-    ensures bytes { text.new.items ≡ text.old.items ++ little_bytes 4 number }
-    ensures size { array_vec_len text.new ≡ array_vec_len text.old + 4 }
-{
-    put(text, number.to_le_bytes().as_slice());
-}
-
-/// Writes a number in two bytes, the lowest first.
-fn put_2(text: &mut Text, number: u16)
-    requires { array_vec_len text.old + 2 ≤ 256 }
-    ensures bytes { text.new.items ≡ text.old.items ++ little_bytes 2 number }
-    ensures size { array_vec_len text.new ≡ array_vec_len text.old + 2 }
-{
-    put(text, number.to_le_bytes().as_slice());
-}
-
-fn put(text: &mut Text, bytes: &[u8])
-    requires { array_vec_len text.old + length bytes.now ≤ 256 }
-    ensures { text.new.items ≡ text.old.items ++ bytes.now }
-{
-    text.try_extend_from_slice(bytes).unwrap();
 }

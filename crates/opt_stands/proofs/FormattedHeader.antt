@@ -11,22 +11,22 @@ use Rattle.opt_journal.specs.Formatted.{formatted, empty_header}
 use Rattle.opt_tree.specs.Tree.{Tree}
 use Rattle.opt_stands.specs.Stands.{IsTreeOf, StandsFor}
 use Rattle.opt_stands.proofs.Root.{none_some}
-use Rattle.opt_stands.proofs.FormattedBlocks.{before_bitmap}
+use Rattle.opt_stands.proofs.FormattedBlocks.{IsFormatted}
 
-when_some : {A : Type 0} (t : Bool) (o : Option A) (y : A) → when t o ≡ Some y → o ≡ Some y
-when_some true o y e = e
-when_some false o y e = absurd (none_some y e)
+when_inner : {A : Type 0} (t : Bool) (o : Option A) (y : A) → when t o ≡ Some y → o ≡ Some y
+when_inner true o y e = e
+when_inner false o y e = cc
 
 -- zeros read as no header: the first of them is no letter
 zeros_read : (n : ℕ) (h : Header) → header_of n (replicate 1024 0) ≡ Some h → ⊥
 unfolding header_of
-zeros_read n h e = none_some h (when_some (is_sealed (replicate 1024 0)) None h e)
+zeros_read n h e = none_some h (when_inner (is_sealed (replicate 1024 0)) None h e)
 
 -- 0 and 1 have eight bytes at most
 small : (x : ℕ) → x ≤ 1 → fits_in 8 x
 small x low = omega arith
 
-module _ (g : Geometry) (fits : geometry_fits g ≡ true) (is : IsGeometry g) where
+module _ (g : Geometry) (fits : geometry_fits g ≡ true) (is : IsGeometry g) (law : IsFormatted g) where
   can_be_written : IsHeader (empty_header g 1 1)
   can_be_written = record {
     epoch = small 1 (omega arith);
@@ -45,7 +45,7 @@ module _ (g : Geometry) (fits : geometry_fits g ≡ true) (is : IsGeometry g) wh
   geometry_in : (n slot : ℕ) (h : Header) → header_of n (header_block (empty_header g 1 1)) ≡ Some (empty_header g 1 1)
       → slot < 2 → header_of n (formatted g slot) ≡ Some h → h.geom ≡ g
   geometry_in n zero h reads low e = ap (λ o. (unwrap_or o h).geom) (sym e ∙ reads)
-  geometry_in n (suc zero) h reads low e = absurd (zeros_read n h (sym (ap (header_of n) (before_bitmap g 1 (omega arith) (omega (arith, is.least_journal)))) ∙ e))
+  geometry_in n (suc zero) h reads low e = absurd (zeros_read n h (sym (ap (header_of n) (law.journal 1 (omega arith) (omega (arith, is.least_journal)))) ∙ e))
   geometry_in n (suc (suc slot)) h reads low e = absurd (omega (arith, low))
 
   -- where written headers read back, an image like the formatted disk that holds its live blocks stands for the tree that they stand for

@@ -15,18 +15,18 @@ use Rattle.opt_stands.specs.Files.{used_node, files_of, file_of, past_content}
 use Rattle.opt_stands.specs.Inodes.{ADir, AreInodesOf, IsInodeOf, root_alone}
 use Rattle.opt_stands.specs.Stands.{HasBlock, AreSound, IsTreeOf}
 use Rattle.opt_stands.proofs.Root.{root_is_map, none_some}
-use Rattle.opt_stands.proofs.FormattedBlocks.{bits, root_node, other_bytes, other_nodes, whole_blocks}
+use Rattle.opt_stands.proofs.FormattedBlocks.{IsFormatted, bits, root_node, other_bytes, other_nodes}
 
-module _ (g : Geometry) (m : Blocks) (same : (b : ℕ) → bitmap_start g ≤ b → b < data_start g → m b ≡ formatted g b) (is : IsGeometry g) where
+module _ (g : Geometry) (m : Blocks) (same : (b : ℕ) → bitmap_start g ≤ b → b < data_start g → m b ≡ formatted g b) (is : IsGeometry g) (law : IsFormatted g) where
   used_root : used_node g m 1 ≡ Some empty_root
-  used_root = ap (λ b. when b (node_at g m 1)) (le-leb 1 g.i (omega (arith, is.least_nodes))) ∙ root_node g m same is
+  used_root = ap (λ b. when b (node_at g m 1)) (le-leb 1 g.i (omega (arith, is.least_nodes))) ∙ root_node g m same is law
 
   -- no other number is in use
   used_other : (k : ℕ) → 2 ≤ k → used_node g m k ≡ None
   used_other k low = by (cases_Bool (nat_le 1 k && nat_le k g.i))
     where
       by : ((nat_le 1 k && nat_le k g.i) ≡ true) ⊎ ((nat_le 1 k && nat_le k g.i) ≡ false) → used_node g m k ≡ None
-      by (inl e) = ap (λ b. when b (node_at g m k)) e ∙ other_nodes g m same is k low (leb-true _ _ (and_parts _ _ e).1)
+      by (inl e) = ap (λ b. when b (node_at g m k)) e ∙ other_nodes g m same is law k low (leb-true _ _ (and_parts _ _ e).1)
       by (inr e) = ap (λ b. when b (node_at g m k)) e
 
   -- a node in use is the root
@@ -45,7 +45,7 @@ module _ (g : Geometry) (m : Blocks) (same : (b : ℕ) → bitmap_start g ≤ b 
   are_inodes (suc (suc k)) = subst (λ file. IsInodeOf file None) (sym (ap (option_map (file_of m)) (used_other (suc (suc k)) (omega arith)))) refl
 
   data_clear : (b : ℕ) → data_start g ≤ b → b < 8192 * bitmap_blocks g → is_set g m b ≡ false
-  data_clear b low high = bits g m same is b high ∙ le-ltb _ _ low
+  data_clear b low high = bits g m same is law b high ∙ le-ltb _ _ low
 
   -- a live block lies before the data
   live_within : (b : ℕ) → IsTrue (is_live g m b) → (bitmap_start g ≤ b) × (b < data_start g)
@@ -64,14 +64,14 @@ module _ (g : Geometry) (m : Blocks) (same : (b : ℕ) → bitmap_start g ≤ b 
   zeros_where_none k low high none = by (cases_eq k 1)
     where
       by : (k ≡ 1) ⊎ (k ≢ 1) → node_bytes g m k ≡ replicate 256 0
-      by (inl e) = absurd (none_some empty_root (sym none ∙ ap (node_at g m) e ∙ root_node g m same is))
-      by (inr d) = other_bytes g m same is k (omega (arith, low, d)) high
+      by (inl e) = absurd (none_some empty_root (sym none ∙ ap (node_at g m) e ∙ root_node g m same is law))
+      by (inr d) = other_bytes g m same is law k (omega (arith, low, d)) high
 
   sound : AreSound g m
   sound = record {
-    whole = λ b live. let at = live_within b live in ap length (same b at.0 at.1) ∙ whole_blocks g b at.0;
+    whole = λ b live. let at = live_within b live in ap length (same b at.0 at.1) ∙ law.whole b;
     own = λ k l i j b h. absurd (no_block k i b h);
-    fixed = λ b low. bits g m same is b (omega (arith, low, is.data_room)) ∙ lt-ltb _ _ low;
+    fixed = λ b low. bits g m same is law b (omega (arith, low, is.data_room)) ∙ lt-ltb _ _ low;
     marked = λ b low high. (λ set. absurd (true≢false (sym set ∙ data_clear b low (omega (arith, high)))), λ h. absurd (no_block h.0 h.1 b h.2));
     past = λ b low high. data_clear b (omega (arith, is.data_room, low)) high;
     free = zeros_where_none;
@@ -89,5 +89,5 @@ live_there g is b low high = ap (λ t. if t then formatted g b else []) live
     live : is_live g (formatted g) b ≡ true
     live = and_from _ _ (le-leb _ _ low) (and_from _ _ (lt-ltb b g.n (omega (arith, high, is.data_room))) (ap (λ t. t || is_set g (formatted g) b) (lt-ltb _ _ high)))
 
-pub live_blocks_stand : (g : Geometry) → IsGeometry g → IsTreeOf g (live_part g (formatted g)) (start g.i).tree
-live_blocks_stand g is = root_stands g (live_part g (formatted g)) (live_there g is) is
+pub live_blocks_stand : (g : Geometry) → IsGeometry g → IsFormatted g → IsTreeOf g (live_part g (formatted g)) (start g.i).tree
+live_blocks_stand g is law = root_stands g (live_part g (formatted g)) (live_there g is) is law

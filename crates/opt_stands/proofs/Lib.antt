@@ -3,7 +3,6 @@ pub mod OneMap
 pub mod SoundTree
 pub mod NamedSlots
 pub mod OneTree
-pub mod FirstBits
 pub mod FormattedBlocks
 pub mod FormattedTree
 pub mod FormattedHeader

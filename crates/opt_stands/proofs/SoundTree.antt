@@ -41,7 +41,7 @@ dir_in (Some (ADir slots)) e = (slots, refl)
 dir_in (Some (AFile links bytes)) e = absurd (true≢false (ap is_dir (sym e)))
 
 module _ (limit : ℕ) (m : Inodes) (t : Tree) (is : IsMapOf limit m t) where
-  -- what has a path with a last name stands in a directory
+  -- what has a path with a last name is in a directory
   parent_of : (up : List (List ℕ)) (name : List ℕ) (n : ℕ) (o : Option ℕ) → o ≡ walk (entries_of m) 1 up → option_and_then (λ j. entries_of m j name) o ≡ Some n
       → (k : ℕ) × (get t.names up ≡ Some k) × (get t.nodes k ≡ Some Dir)
   parent_of up name n None at e = absurd (none_some n e)

@@ -33,7 +33,7 @@ IsInodeOf None inode = inode ≡ None
 IsInodeOf (Some file) None = ⊥
 IsInodeOf (Some file) (Some inode) = inode_of file ≡ Some inode
 
--- each node in use reads as the inode under its number, and nothing else stands in the map
+-- each node in use reads as the inode under its number, and nothing else is in the map
 abbrev pub AreInodesOf : Files → Inodes → Type 0
 AreInodesOf files inodes = (k : ℕ) → IsInodeOf (files k) (inodes k)
 

@@ -3,7 +3,7 @@ use Rattle.std.specs.Prelude.{◌≡◌, ℕ, List, [], ◌∷◌, bytes_eq, if�
 use Rattle.opt_layout.specs.declared.slot.Slot.{Slot}
 use Rattle.opt_stands.specs.Inodes.{Inode, Inodes, ADir, AFile}
 
--- what stands under a name in a directory, by the directory's number
+-- what is under a name in a directory, by the directory's number
 abbrev pub Entries : Type 0
 Entries = ℕ → List ℕ → Option ℕ
 
@@ -17,7 +17,7 @@ entry_in None name = None
 entry_in (Some (ADir slots)) name = node_in slots name
 entry_in (Some (AFile links bytes)) name = None
 
--- what stands under a name there; a file has nothing under any name, and so has a number out of use
+-- what is under a name there; a file has nothing under any name, and so has a number out of use
 abbrev pub entries_of : Inodes → Entries
 entries_of inodes k name = entry_in (inodes k) name
 

@@ -31,7 +31,7 @@ pub fn slots_name_nodes_in_use()
         → slice_get slots i ≡ Some s → slice_get others j ≡ Some u → s.node ≡ n → u.node ≡ n → m n ≡ Some (ADir below) → (k ≡ l) × (i ≡ j) }
 {}
 
-/// A walk by a path with one name more is the walk, and then what stands under that name.
+/// A walk by a path with one name more is the walk, and then what is under that name.
 pub fn a_walk_goes_on()
     ensures last { (e : Entries) (k : ℕ) (up : List (List ℕ)) (name : List ℕ) → walk e k (up ++ name ∷ []) ≡ option_and_then (λ j. e j name) (walk e k up) }
 {}

@@ -1,4 +1,4 @@
-use Rattle.opt_extent.proofs.Tidy.{places_of_runs, runs_are_tidy}
+use Rattle.opt_extent.specs.TidyLaws.{places_of_runs, runs_are_tidy}
 use Rattle.opt_extent.proofs.Count.{runs_count}
 use Rattle.opt_extent.proofs.laws.a_list_has_its_runs.Goals as goal
 

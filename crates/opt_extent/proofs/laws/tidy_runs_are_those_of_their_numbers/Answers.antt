@@ -1,4 +1,4 @@
-use Rattle.opt_extent.proofs.Tidy.{runs_of_places}
+use Rattle.opt_extent.specs.TidyLaws.{runs_of_places}
 use Rattle.opt_extent.proofs.laws.tidy_runs_are_those_of_their_numbers.Goals as goal
 
 pub returns : goal.returns

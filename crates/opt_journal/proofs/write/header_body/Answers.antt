@@ -2,7 +2,7 @@
 use Rattle.std.proofs.Common.{◌≡◌, ◌∙◌, ◌++◌, codes, replicate, ap, rules}
 use Rattle.byteorder.specs.Endian.{little_bytes}
 use Rattle.opt_journal.specs.Spelling.{closed_number}
-use Rattle.opt_journal.proofs.WriteText.{behind}
+use Rattle.opt_journal.proofs.Fields.{behind}
 use Rattle.opt_journal.proofs.write.header_body.Goals as goal
 
 pub returns-clause-body : goal.returns-clause-body
@@ -13,8 +13,6 @@ returns-clause-body c =
     let n : c.put_4-3.new.text.items ≡ c.put_4-2.new.text.items ++ little_bytes 4 h.geom.n = search rules in
     let j : c.put_4-4.new.text.items ≡ c.put_4-3.new.text.items ++ little_bytes 4 h.geom.j = search rules in
     let i : c.put_4-5.new.text.items ≡ c.put_4-4.new.text.items ++ little_bytes 4 h.geom.i = search rules in
-    let spare : c.put-2.new.text.items ≡ c.put_4-5.new.text.items ++ replicate 932 0 =
-    c.put-2.ensures ∙ ap (λ z. c.put_4-5.new.text.items ++ z) c.as_slice-2.ensures in
     let from_spare = replicate 932 0 in
     let from_i = little_bytes 4 h.geom.i ++ from_spare in
     let from_j = little_bytes 4 h.geom.j ++ from_i in
@@ -25,7 +23,7 @@ returns-clause-body c =
     let from_start = little_bytes 8 h.start ++ from_sure in
     let from_turn = little_bytes 8 h.turn ++ from_start in
     let from_epoch = little_bytes 8 h.epoch ++ from_turn in
-    spare
+    c.put_zeros.ensures.bytes
     ∙ behind c.put_4-4.new.text.items c.put_4-5.new.text.items (little_bytes 4 h.geom.i) from_spare i
     ∙ behind c.put_4-3.new.text.items c.put_4-4.new.text.items (little_bytes 4 h.geom.j) from_i j
     ∙ behind c.put_4-2.new.text.items c.put_4-3.new.text.items (little_bytes 4 h.geom.n) from_j n

@@ -1,4 +1,4 @@
--- The seal is that of the body, and stands behind it.
+-- The seal is that of the body, and is behind it.
 use Rattle.std.proofs.Common.{◌≡◌, ◌∙◌, ◌++◌, ap, ap₂}
 use Rattle.opt_base.specs.Seal.{sha256}
 use Rattle.opt_journal.specs.Spelling.{header_body}
@@ -9,4 +9,4 @@ returns c =
     let body = c.header_body-text.ensures.body in
     let seal : c.as_slice-2.result.now ≡ sha256 (header_body c.args.header.now) =
     c.as_slice-2.ensures ∙ c.digest-seal.ensures ∙ ap sha256 (c.as_slice.ensures.value ∙ body) in
-    c.copy_from_slice.ensures.after ∙ c.as_slice-3.ensures.value ∙ c.put.ensures ∙ ap₂ ◌++◌ body seal
+    c.copy_from_slice.ensures.after ∙ c.as_slice-3.ensures.value ∙ c.put.ensures.bytes ∙ ap₂ ◌++◌ body seal

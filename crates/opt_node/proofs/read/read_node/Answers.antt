@@ -1,6 +1,7 @@
 -- A node's spelling has 256 bytes, and is zeros where the node is free; else it reads as the node.
 use Rattle.std.proofs.Common.{length, sym, ap, ◌∙◌, arith}
 use Rattle.opt_node.proofs.Spelled.{has_few_runs, spelling_length}
+use Rattle.opt_node.proofs.Bounds.{runs_of_node, tidy_part, below_part}
 use Rattle.opt_node.proofs.FromBytes.{zeros_read, found, refused}
 use Rattle.opt_node.proofs.read.read_node.Goals as goal
 
@@ -19,3 +20,11 @@ returns-clause-found c =
 pub returns-clause-refused : goal.returns-clause-refused
 returns-clause-refused c =
     refused c.args.geom.now c.args.bytes.now c.used_node.result c.ok_or.result c.ok_or.ensures.value c.used_node.ensures (sym c.are_zeros.ensures ∙ c.if-are_zeros.false)
+
+pub returns-clause-tidy : goal.returns-clause-tidy
+returns-clause-tidy c =
+    tidy_part c.ok_or.result (runs_of_node c.args.geom.now c.args.bytes.now c.ok_or.result c.lawful.ensures.fits (returns-clause-found c))
+
+pub returns-clause-below : goal.returns-clause-below
+returns-clause-below c =
+    below_part c.ok_or.result (runs_of_node c.args.geom.now c.args.bytes.now c.ok_or.result c.lawful.ensures.fits (returns-clause-found c))

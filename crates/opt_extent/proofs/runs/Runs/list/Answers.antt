@@ -1,6 +1,6 @@
 use Rattle.std.proofs.Common.{sym, ap, ◌∙◌}
 use Rattle.opt_extent.specs.Runs.{runs_of}
-use Rattle.opt_extent.proofs.Tidy.{runs_of_places}
+use Rattle.opt_extent.specs.TidyLaws.{runs_of_places}
 use Rattle.opt_extent.proofs.runs.Runs.list.Goals as goal
 
 pub returns-clause-value : goal.returns-clause-value
