@@ -8,7 +8,7 @@ use Rattle.opt_journal.specs.Layout.{header_of, IsWithinDisk}
 abbrev pub HeadersKeep : Type 0
 HeadersKeep = (n : ℕ) (b : List ℕ) (h : Header) → header_of n b ≡ Some h → IsWithinDisk n h
 
--- no header stands in a block of a disk of a size that no geometry has
+-- no header is in a block of a disk of a size that no geometry has
 pub no_header : ((g : Geometry) → (geometry_fits g ≡ true) ↔ IsGeometry g) → HeadersKeep → (n : ℕ) (b : List ℕ) → (n < 64) ⊎ (1048576 < n) → header_of n b ≡ None
 no_header law keep n b far = none_or (header_of n b) (λ h e.
     let bounds = keep n b h e in

@@ -2,3 +2,4 @@ pub mod Headers
 pub mod Parts
 pub mod Wholes
 pub mod Runs
+pub mod Passing

@@ -20,7 +20,7 @@ abbrev pub Finds : (Record → Type 0) → ℕ → ℕ → Option Record → Typ
 Finds P number place (Some r) = IsOnly P number place r
 Finds P number place None = (q : Record) → q.number ≡ number → q.place ≡ place → ¬ P q
 
--- the record is described: its commit block and descriptors stand in the image
+-- the record is described: its commit block and descriptors are in the image
 pub record IsDescribed (img : Blocks) (h : Header) (r : Record) : Type 0 where
   pub commit : commit_of h.geom (img (ring_block h.geom r.place)) ≡ Some (commit_says h.epoch r)
   pub descriptors : (i : ℕ) → i < descriptor_count (length (entries r))
@@ -65,7 +65,7 @@ AllFit g img place es = (i : ℕ) (e : Entry) → slice_get es i ≡ Some e → 
 abbrev pub AllMatch : Blocks → List Entry → Type 0
 AllMatch img es = (i : ℕ) (e : Entry) → slice_get es i ≡ Some e → sha256 (img e.block) ≡ e.digest
 
--- the same as tests, of one payload as it stands in the ring and of all of them
+-- the same as tests, of one payload as it is in the ring and of all of them
 abbrev pub fits : Entry → List ℕ → Bool
 fits e stored = bytes_eq (sha256 stored) e.digest && is_stored e.kind stored
 

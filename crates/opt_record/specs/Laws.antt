@@ -8,7 +8,7 @@ use Rattle.opt_journal.specs.Layout.{header_of}
 use Rattle.opt_journal.specs.Run.{Record, heads, places, entries_fit, commit_says, IsWhole, IsRun}
 use Rattle.opt_record.specs.Found.{IsOnly, IsDescribed, MayCome, IsFront, HasCommit, HasPart, HasParts, payloads_fit, fresh_fit}
 
--- no header stands in a block of a disk of a size that no geometry has
+-- no header is in a block of a disk of a size that no geometry has
 abbrev pub HeadersNeedASize : Type 0
 HeadersNeedASize = (n : ℕ) (b : List ℕ) → (n < 64) ⊎ (1048576 < n) → header_of n b ≡ None
 

@@ -1,5 +1,5 @@
 //! What a block says of a record: its commit block, one of its descriptors, a payload or a fresh block
-//! of it; and which of two headers is the newer. Where the block was read isn't told here.
+//! of it; and which of two headers is the newer. Where the block was read isn't described here.
 
 ghost use Rattle.std.specs.Prelude.{◌≡◌, ◌+◌, ◌≤◌, ℕ, List, min, None, Option, IfSome, bytes_eq};
 ghost use Rattle.opt_base.specs.Seal.{Blocks, sha256};
@@ -13,12 +13,9 @@ ghost use Rattle.opt_record.specs.Found.{HasCommit, HasPart, fits};
 
 use opt_base::{Block, digest};
 use opt_journal::{
-    Commit, Descriptor, Entry, Header, is_stored, journal_blocks_keep_to_their_bounds, read_commit,
-    read_descriptor,
+    Commit, Descriptor, Entry, Header, MOST_ENTRIES, is_stored,
+    journal_blocks_keep_to_their_bounds, read_commit, read_descriptor,
 };
-
-/// The most entries of a descriptor.
-pub(crate) const MOST_ENTRIES: usize = 24;
 
 /// The newer of the headers of slot 0 and slot 1, and its slot, or `None` exactly where neither slot has
 /// one. Slot 0 wins a tie.
@@ -95,7 +92,7 @@ pub fn part_length(left: usize) -> usize
     }
 }
 
-/// Whether a payload, as it stands in the journal, fits its entry.
+/// Whether a payload, as it is in the journal, fits its entry.
 pub fn fits(entry: &Entry, stored: &Block) -> bool
     ensures { result ≡ fits entry.now stored.now }
 {

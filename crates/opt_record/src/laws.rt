@@ -1,5 +1,5 @@
 //! The laws of the search for a run, as functions that do nothing: each clause is a law. They hold of
-//! every image; how its blocks are read is not told here.
+//! every image; how its blocks are read is not said here.
 
 ghost use Rattle.std.specs.Prelude.{ℕ};
 ghost use Rattle.opt_base.specs.Seal.{Blocks};
@@ -10,7 +10,7 @@ ghost use Rattle.opt_record.specs.Laws.{HeadersNeedASize, DescriptionLaws, Whole
 use opt_geom::geometries_are_within_limits;
 use opt_journal::journal_blocks_keep_to_their_bounds;
 
-/// No header stands on a disk of a size that no geometry has.
+/// No header rests on a disk of a size that no geometry has.
 pub fn headers_need_a_size()
     ensures { HeadersNeedASize }
 {

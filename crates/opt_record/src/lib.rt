@@ -1,6 +1,6 @@
 //! A record of the journal, what the blocks of an image say of it, and the laws by which a search for
-//! the recoverable run goes from record to record. It reads no image and no disk: `opt_plain` searches
-//! a list of blocks, and `opt_recover` a disk.
+//! the recoverable run goes from record to record. It reads no image and no disk: `opt_plain_recovery`
+//! searches a list of blocks, and `opt_recover` a disk.
 #![tactic(auto)]
 
 mod blocks;

@@ -1,7 +1,7 @@
-//! Whether the entries of a record are in order, by the blocks that they name. What stands in these
+//! Whether the entries of a record are in order, by the blocks that they name. What is in these
 //! blocks isn't looked at here.
 
-ghost use Rattle.std.specs.Prelude.{◌≡◌, ◌&&◌};
+ghost use Rattle.std.specs.Prelude.{◌≡◌, ◌+◌, ◌≤◌, ◌&&◌, ℕ, true};
 ghost use Rattle.opt_geom.specs.Geometry.{bitmap_start, data_start};
 ghost use Rattle.opt_journal.specs.Run.{are_ascending, is_fresh, names_block, are_fresh, entries_fit};
 
@@ -63,10 +63,14 @@ pub fn names_block(entries: &[Entry], block: u32) -> bool
     false
 }
 
-/// Whether the entries are fresh ones that name data blocks which no payload entry names.
+/// Whether the entries are fresh ones that name data blocks which no payload entry names. Both lists
+/// ascend, so one pass over both tells it.
 fn are_fresh(geom: Geom, payloads: &[Entry], fresh: &[Entry]) -> bool
+    requires payloads { are_ascending (bitmap_start geom) geom.n payloads.now ≡ true }
+    requires fresh { are_ascending (data_start geom) geom.n fresh.now ≡ true }
     ensures { result ≡ are_fresh geom payloads.now fresh.now }
 {
+    let mut left = payloads;
     for entry in fresh {
         if !is_fresh(entry.kind) {
             return false;
@@ -77,9 +81,34 @@ fn are_fresh(geom: Geom, payloads: &[Entry], fresh: &[Entry]) -> bool
         if entry.block >= geom.n() {
             return false;
         }
-        if names_block(payloads, entry.block) {
+        left = from_block(left, entry.block);
+        if first_names(left, entry.block) {
             return false;
         }
     }
     true
+}
+
+/// The entries from the first one on whose block isn't below this one.
+fn from_block(entries: &[Entry], block: u32) -> &[Entry]
+    ensures names { (b : ℕ) → block ≤ b → names_block result.now b ≡ names_block entries.now b }
+    ensures ascends { (low high : ℕ) → are_ascending low high entries.now ≡ true → are_ascending block high result.now ≡ true }
+{
+    for at in 0..entries.len() {
+        if entries[at].block >= block {
+            return &entries[at..];
+        }
+    }
+    &entries[entries.len()..]
+}
+
+/// Whether the first entry names the block. Where the entries ascend from that block on, no other one
+/// does.
+fn first_names(entries: &[Entry], block: u32) -> bool
+    ensures { (high : ℕ) → are_ascending block high entries.now ≡ true → result ≡ names_block entries.now block }
+{
+    match entries {
+        [] => false,
+        [first, ..] => first.block == block,
+    }
 }

@@ -4,10 +4,9 @@
 ghost use Rattle.std.specs.Prelude.{◌≡◌, ◌<◌, ◌+◌, ◌%◌, ◌^◌, ◌==◌, ◌++◌, [], ◌∷◌, ◌≤◌, length, take, drop, IfOk, OnOk};
 ghost use Rattle.opt_journal.specs.Run.{heads, places};
 
-use crate::blocks::MOST_ENTRIES;
 use opt_base::NoMemory;
 use opt_geom::Geom;
-use opt_journal::Entry;
+use opt_journal::{Entry, MOST_ENTRIES};
 use std::alloc::Global;
 use std::marker::Model;
 
@@ -67,14 +66,14 @@ impl Record {
         self.place
     }
 
-    /// The entries whose bytes stand in the journal.
+    /// The entries whose bytes are in the journal.
     pub fn payloads(&self) -> &[Entry]
         ensures { result.now ≡ self.now.payloads }
     {
         self.payloads.as_slice()
     }
 
-    /// The entries whose bytes stand in their own blocks.
+    /// The entries whose bytes are in their own blocks.
     pub fn fresh(&self) -> &[Entry]
         ensures { result.now ≡ self.now.fresh }
     {

@@ -1,5 +1,5 @@
--- The greatest epoch that stands on a disk.
-use Rattle.std.specs.Prelude.{ℕ, zero, suc, max, Bool, ◌&&◌, ◌||◌, if◌then◌else◌, List, Option, Some, None}
+-- The greatest epoch on a disk.
+use Rattle.std.specs.Prelude.{ℕ, ◌≡◌, ◌<◌, ◌≤◌, ◌⊎◌, Bool, true, ◌&&◌, ◌||◌, if◌then◌else◌, List, Option, Some, None}
 use Rattle.opt_base.specs.Seal.{Blocks, is_sealed}
 use Rattle.opt_geom.specs.Geometry.{Geometry, ring_block}
 use Rattle.opt_layout.specs.Bytes.{field}
@@ -10,9 +10,19 @@ use Rattle.opt_journal.specs.Layout.{header_of, has_tag, commit_tag, descriptor_
 abbrev pub is_of_record : List ℕ → Bool
 is_of_record b = is_sealed b && (has_tag commit_tag b || has_tag descriptor_tag b)
 
--- its epoch, and 0 for any other block
-abbrev pub record_epoch : List ℕ → ℕ
-record_epoch b = if is_of_record b then field b 8 8 else 0
+-- a header in slot 0 or 1 has this epoch
+abbrev pub IsHeaderEpoch : Geometry → Blocks → ℕ → Type 0
+IsHeaderEpoch g img e = (slot : ℕ) × (h : Header) × (slot < 2) × (header_of g.n (img slot) ≡ Some h) × (h.epoch ≡ e)
+
+-- a block of the ring that begins as one of a record does has this epoch
+abbrev pub IsRecordEpoch : Geometry → Blocks → ℕ → Type 0
+IsRecordEpoch g img e = (place : ℕ) × (place < g.j) × (is_of_record (img (ring_block g place)) ≡ true) × (field (img (ring_block g place)) 8 8 ≡ e)
+
+-- the greatest of these epochs, and 0 where there is none
+pub record IsGreatestEpoch (g : Geometry) (img : Blocks) (e : ℕ) : Type 0 where
+  pub headers : (a : ℕ) → IsHeaderEpoch g img a → a ≤ e
+  pub blocks : (a : ℕ) → IsRecordEpoch g img a → a ≤ e
+  pub is_one : (e ≡ 0) ⊎ (IsHeaderEpoch g img e ⊎ IsRecordEpoch g img e)
 
 -- the epoch of a header, and 0 where there is none
 abbrev pub epoch_of : Option Header → ℕ
@@ -22,11 +32,6 @@ epoch_of (Some h) = h.epoch
 abbrev pub header_epoch : ℕ → List ℕ → ℕ
 header_epoch n b = epoch_of (header_of n b)
 
--- the greater epoch of the two slots of a disk of n blocks
-abbrev pub headers_epoch : ℕ → Blocks → ℕ
-headers_epoch n img = max (header_epoch n (img 0)) (header_epoch n (img 1))
-
--- the greatest of the slots and of the first so many ring places
-abbrev pub greatest_epoch : Geometry → Blocks → ℕ → ℕ
-greatest_epoch g img zero = headers_epoch g.n img
-greatest_epoch g img (suc k) = max (greatest_epoch g img k) (record_epoch (img (ring_block g k)))
+-- the epoch of a block that begins as one of a record does, and 0 for any other
+abbrev pub record_epoch : List ℕ → ℕ
+record_epoch b = if is_of_record b then field b 8 8 else 0

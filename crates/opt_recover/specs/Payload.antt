@@ -1,4 +1,4 @@
--- Where the last payload of a block stands in the journal.
+-- Where the last payload of a block is in the journal.
 use Rattle.std.specs.Prelude.{ℕ, ◌+◌, ◌==◌, if◌then◌else◌, List, [], ◌∷◌, Option, Some, None}
 use Rattle.opt_base.specs.Seal.{Blocks}
 use Rattle.opt_journal.specs.Layout.{unescaped}

@@ -1,8 +1,8 @@
 -- What is read of a disk, and what reading changes of it.
-use Rattle.std.specs.Prelude.{◌≡◌, ◌⊎◌, ℕ, ◌<◌, ◌≤◌, ◌^◌, ◌-◌, ⊤, Bool, IsTrue, false, Result, Ok, Err}
+use Rattle.std.specs.Prelude.{◌≡◌, ℕ, ◌<◌, Bool, IsTrue, true, false, Result, Ok, Err}
 use Rattle.opt_base.specs.Seal.{Blocks}
 use Rattle.opt_disk.specs.Cell.{accepted, is_lost}
-use Rattle.opt_disk.specs.Disk.{State}
+use Rattle.opt_disk.specs.Disk.{State, OnlyReads}
 use Rattle.opt_recover.specs.declared.reading.Stop.{Stop}
 use Rattle.opt_recover.specs.declared.reading.Stop.TheVariants.{ReadFault, NoMemory}
 
@@ -12,22 +12,13 @@ pub record Gives (tells : Bool) (s : State) (img : Blocks) : Type 0 where
   pub calm : (b : ℕ) → b < s.blocks → is_lost b s.log ≡ false
   pub blocks : (b : ℕ) → img b ≡ accepted s.base s.log b
 
--- nothing but the count of failed reads is another, and that never falls
-pub record OnlyReads (tells : Bool) (old new : State) : Type 0 where
+-- A search only reads: the read that stopped it was counted, once, and nothing else of the disk is new.
+pub record Searches (tells failed : Bool) (old new : State) : Type 0 where
   pub log : IsTrue tells → new.log ≡ old.log
-  pub blocks : new.blocks ≡ old.blocks
-  pub base : new.base ≡ old.base
-  pub faults : new.faults ≡ old.faults
-  pub waits : new.waits ≡ old.waits
-  pub polls : new.polls ≡ old.polls
-  pub read_faults : old.read_faults ≤ new.read_faults
+  pub only : OnlyReads failed old new
 
--- a read failed: their count rose, or stands at its last value
-abbrev pub ReadFailed : State → State → Type 0
-ReadFailed old new = (old.read_faults < new.read_faults) ⊎ (new.read_faults ≡ 2 ^ 64 - 1)
-
--- what must hold where a read stopped the search; want of memory asks for nothing
-abbrev pub OnReadFault : {T : Type 0} → Result T Stop → Type 0 → Type 0
-OnReadFault (Ok x) P = ⊤
-OnReadFault (Err ReadFault) P = P
-OnReadFault (Err NoMemory) P = ⊤
+-- a failed read stopped the search
+abbrev pub is_unread : {T : Type 0} → Result T Stop → Bool
+is_unread (Ok x) = false
+is_unread (Err ReadFault) = true
+is_unread (Err NoMemory) = false

@@ -1,5 +1,5 @@
 -- What the search finds on a disk.
-use Rattle.std.specs.Prelude.{◌≡◌, ℕ, ◌+◌, ◌-◌, ⊤, Bool, nat_le, ◌||◌, true, List, length, Result, Ok, Err}
+use Rattle.std.specs.Prelude.{◌≡◌, ℕ, ◌+◌, ◌-◌, ⊤, Bool, nat_le, ◌||◌, true, false, List, length, Result, Ok, Err}
 use Rattle.opt_base.specs.Seal.{Blocks}
 use Rattle.opt_journal.specs.declared.header.Header.{Header}
 use Rattle.opt_journal.specs.Run.{Newest, Record, IsRun}
@@ -38,10 +38,10 @@ RefusalSays n img Spent = IsSpent n img
 RefusalSays n img ReadFault = ⊤
 RefusalSays n img NoMemory = ⊤
 
--- a read failed where the answer is so
-abbrev pub OnUnread : {T : Type 0} → Result T RecoverRefusal → Type 0 → Type 0
-OnUnread (Ok x) P = ⊤
-OnUnread (Err NoHeader) P = ⊤
-OnUnread (Err Spent) P = ⊤
-OnUnread (Err ReadFault) P = P
-OnUnread (Err NoMemory) P = ⊤
+-- a failed read stopped the search for the run
+abbrev pub find_is_unread : {T : Type 0} → Result T RecoverRefusal → Bool
+find_is_unread (Ok x) = false
+find_is_unread (Err NoHeader) = false
+find_is_unread (Err Spent) = false
+find_is_unread (Err ReadFault) = true
+find_is_unread (Err NoMemory) = false

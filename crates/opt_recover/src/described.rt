@@ -1,16 +1,15 @@
 //! The record that the commit block and the descriptors at a ring place of a disk describe, where it may
 //! come at all. Whether its blocks fit its entries is looked at by the search for whole records.
 
-ghost use Rattle.std.specs.Prelude.{◌≡◌, ◌↔◌, ◌+◌, ◌≤◌, ℕ, List, length, None, OnOk, IfOk, IfSome, IsTrue, ◌++◌};
+ghost use Rattle.std.specs.Prelude.{◌≡◌, ◌↔◌, ◌+◌, ◌≤◌, ℕ, List, length, None, OnOk, IfOk, IfSome, IsTrue, ◌++◌, is_err};
 ghost use Rattle.opt_base.specs.Seal.{Blocks};
 ghost use Rattle.opt_journal.specs.declared.record.Commit as commits;
 ghost use Rattle.opt_journal.specs.declared.entry.Entry as listed;
 ghost use Rattle.opt_journal.specs.Layout.{IsWithinRing};
 ghost use Rattle.opt_journal.specs.Run as journal;
-ghost use Rattle.opt_disk.specs.Disk.{HasCause};
 ghost use Rattle.opt_record.specs.Found.{Finds, IsDescribed, HasCommit, HasPart, HasParts};
 ghost use Rattle.opt_recover.specs.Candidate.{IsCandidate, CommitMayCome};
-ghost use Rattle.opt_recover.specs.Reading.{Gives, OnlyReads, ReadFailed, OnReadFault};
+ghost use Rattle.opt_recover.specs.Reading.{Gives, Searches, is_unread};
 
 use crate::reading::{Stop, read_ring};
 use opt_base::NoMemory;
@@ -38,8 +37,7 @@ pub(crate) fn candidate_at<D: Disk>(
     requires { (D.state disk.old).blocks ≡ header.now.geom.n }
     ensures found { (img : Blocks) → Gives D.tells (D.state disk.old) img → IfOk result (Finds (IsCandidate img header.now left) (header.now.start + before) place) }
     ensures within { IfOk result (λ o. IfSome o (λ r. journal.places r ≤ left)) }
-    ensures reads { OnlyReads D.tells (D.state disk.old) (D.state disk.new) }
-    ensures cause { OnReadFault result (ReadFailed (D.state disk.old) (D.state disk.new)) }
+    ensures reads { Searches D.tells (is_unread result) (D.state disk.old) (D.state disk.new) }
 {
     records_are_described_by_their_blocks();
     let Some(commit) = commit_at(disk, header, before, place)? else {
@@ -78,8 +76,7 @@ fn commit_at<D: Disk>(
     ensures found { (img : Blocks) → Gives D.tells (D.state disk.old) img → IfOk result (λ o. IfSome o (HasCommit img header.now (header.now.start + before) place)) }
     ensures missing { (img : Blocks) → Gives D.tells (D.state disk.old) img → IfOk result (λ o. o ≡ None → (c : commits.Commit) → ¬ HasCommit img header.now (header.now.start + before) place c) }
     ensures within { IfOk result (λ o. IfSome o (IsWithinRing header.now.geom)) }
-    ensures reads { OnlyReads D.tells (D.state disk.old) (D.state disk.new) }
-    ensures cause { HasCause result (D.state disk.old).read_faults (D.state disk.new).read_faults }
+    ensures reads { Searches D.tells (is_err result) (D.state disk.old) (D.state disk.new) }
 {
     let mut block = [0u8; 1024];
     read_ring(disk, header.geom, place as usize, &mut block)?;
@@ -101,8 +98,7 @@ fn described_entries<D: Disk>(
     ensures missing { (img : Blocks) → Gives D.tells (D.state disk.old) img → HasCommit img header.now commit.now.number place commit.now
         → IfOk result (λ o. o ≡ None → (r : journal.Record) → r.number ≡ commit.now.number → r.place ≡ place → ¬ IsDescribed img header.now r) }
     ensures count { IfOk result (λ o. IfSome o (λ list. length list.items ≡ commit.now.payloads + commit.now.fresh)) }
-    ensures reads { OnlyReads D.tells (D.state disk.old) (D.state disk.new) }
-    ensures cause { OnReadFault result (ReadFailed (D.state disk.old) (D.state disk.new)) }
+    ensures reads { Searches D.tells (is_unread result) (D.state disk.old) (D.state disk.new) }
 {
     records_are_described_by_their_blocks();
     let total = commit.payloads as usize + commit.fresh as usize;
@@ -139,8 +135,7 @@ fn descriptor_at<D: Disk>(
     requires { (D.state disk.old).blocks ≡ header.now.geom.n }
     ensures found { (img : Blocks) → Gives D.tells (D.state disk.old) img → IfOk result (λ o. IfSome o (λ d. HasPart img header.now number place index d.entries)) }
     ensures missing { (img : Blocks) → Gives D.tells (D.state disk.old) img → IfOk result (λ o. o ≡ None → (es : List listed.Entry) → ¬ HasPart img header.now number place index es) }
-    ensures reads { OnlyReads D.tells (D.state disk.old) (D.state disk.new) }
-    ensures cause { HasCause result (D.state disk.old).read_faults (D.state disk.new).read_faults }
+    ensures reads { Searches D.tells (is_err result) (D.state disk.old) (D.state disk.new) }
 {
     let at = place as usize + 1 + index as usize;
     let mut block = [0u8; 1024];

@@ -1,19 +1,17 @@
-//! The greatest epoch that stands on a disk, which the next mount's must be above.
+//! The greatest epoch on a disk, which the next mount's must be above.
 
-ghost use Rattle.std.specs.Prelude.{◌≡◌, ◌<◌, ◌≤◌, ◌+◌, length, ℕ, max, IfOk};
-ghost use Rattle.opt_layout.specs.Bytes.{field};
+ghost use Rattle.std.specs.Prelude.{◌≡◌, ◌<◌, ◌≤◌, ℕ, max, IfOk, is_err};
 ghost use Rattle.opt_base.specs.Seal.{Blocks};
 ghost use Rattle.opt_journal.specs.Layout.{has_tag, commit_tag, descriptor_tag};
-ghost use Rattle.opt_disk.specs.Disk.{HasCause};
-ghost use Rattle.opt_recover.specs.Reading.{Gives, OnlyReads};
-ghost use Rattle.opt_recover.specs.Epoch.{is_of_record, record_epoch, header_epoch, headers_epoch, greatest_epoch};
+ghost use Rattle.opt_recover.specs.Reading.{Gives, Searches};
+ghost use Rattle.opt_recover.specs.Epoch.{IsGreatestEpoch, is_of_record, record_epoch, header_epoch};
 
 use crate::reading::{read_block, read_ring};
-use byteorder::{ByteOrder, LittleEndian};
 use opt_base::{Block, ReadFault, is_sealed};
 use opt_disk::{Disk, DiskFault};
 use opt_geom::Geom;
 use opt_journal::read_header;
+use opt_layout::number_8;
 
 /// The greatest epoch of the headers and of the sealed blocks of the journal that begin as a commit block
 /// or descriptor does, or 0 where there is none. Nothing is written.
@@ -22,9 +20,8 @@ use opt_journal::read_header;
 /// A read failed, which the disk has counted.
 pub fn greatest_epoch<D: Disk>(disk: &mut D, geom: &Geom) -> Result<u64, ReadFault>
     requires { (D.state disk.old).blocks ≡ geom.now.n }
-    ensures value { (img : Blocks) → Gives D.tells (D.state disk.old) img → IfOk result (λ e. e ≡ greatest_epoch geom.now img geom.now.j) }
-    ensures reads { OnlyReads D.tells (D.state disk.old) (D.state disk.new) }
-    ensures cause { HasCause result (D.state disk.old).read_faults (D.state disk.new).read_faults }
+    ensures value { (img : Blocks) → Gives D.tells (D.state disk.old) img → IfOk result (IsGreatestEpoch geom.now img) }
+    ensures reads { Searches D.tells (is_err result) (D.state disk.old) (D.state disk.new) }
 {
     match epoch_of_all(disk, *geom) {
         Ok(epoch) => Ok(epoch),
@@ -34,9 +31,8 @@ pub fn greatest_epoch<D: Disk>(disk: &mut D, geom: &Geom) -> Result<u64, ReadFau
 
 fn epoch_of_all<D: Disk>(disk: &mut D, geom: Geom) -> Result<u64, DiskFault>
     requires { (D.state disk.old).blocks ≡ geom.n }
-    ensures value { (img : Blocks) → Gives D.tells (D.state disk.old) img → IfOk result (λ e. e ≡ greatest_epoch geom img geom.j) }
-    ensures reads { OnlyReads D.tells (D.state disk.old) (D.state disk.new) }
-    ensures cause { HasCause result (D.state disk.old).read_faults (D.state disk.new).read_faults }
+    ensures value { (img : Blocks) → Gives D.tells (D.state disk.old) img → IfOk result (IsGreatestEpoch geom img) }
+    ensures reads { Searches D.tells (is_err result) (D.state disk.old) (D.state disk.new) }
 {
     let mut greatest = epoch_of_headers(disk, geom)?;
     for place in 0..geom.j() {
@@ -49,9 +45,8 @@ fn epoch_of_all<D: Disk>(disk: &mut D, geom: Geom) -> Result<u64, DiskFault>
 
 fn epoch_of_headers<D: Disk>(disk: &mut D, geom: Geom) -> Result<u64, DiskFault>
     requires { (D.state disk.old).blocks ≡ geom.n }
-    ensures value { (img : Blocks) → Gives D.tells (D.state disk.old) img → IfOk result (λ e. e ≡ headers_epoch geom.n img) }
-    ensures reads { OnlyReads D.tells (D.state disk.old) (D.state disk.new) }
-    ensures cause { HasCause result (D.state disk.old).read_faults (D.state disk.new).read_faults }
+    ensures value { (img : Blocks) → Gives D.tells (D.state disk.old) img → IfOk result (λ e. e ≡ max (header_epoch geom.n (img 0)) (header_epoch geom.n (img 1))) }
+    ensures reads { Searches D.tells (is_err result) (D.state disk.old) (D.state disk.new) }
 {
     let first = epoch_in_slot(disk, geom, 0)?;
     let second = epoch_in_slot(disk, geom, 1)?;
@@ -62,8 +57,7 @@ fn epoch_in_slot<D: Disk>(disk: &mut D, geom: Geom, slot: u32) -> Result<u64, Di
     requires size { (D.state disk.old).blocks ≡ geom.n }
     requires slot { slot < 2 }
     ensures value { (img : Blocks) → Gives D.tells (D.state disk.old) img → IfOk result (λ e. e ≡ header_epoch geom.n (img slot)) }
-    ensures reads { OnlyReads D.tells (D.state disk.old) (D.state disk.new) }
-    ensures cause { HasCause result (D.state disk.old).read_faults (D.state disk.new).read_faults }
+    ensures reads { Searches D.tells (is_err result) (D.state disk.old) (D.state disk.new) }
 {
     geom.lawful();
     let mut block = [0u8; 1024];
@@ -93,13 +87,6 @@ fn record_epoch(block: &Block) -> u64
         return 0;
     }
     number_8(block.as_slice(), 8)
-}
-
-fn number_8(bytes: &[u8], at: usize) -> u64
-    requires { at + 8 ≤ length bytes.now }
-    ensures { result ≡ field bytes.now at 8 }
-{
-    LittleEndian::read_u64(&bytes[at..])
 }
 
 fn is_of_record(block: &Block) -> bool

@@ -2,9 +2,9 @@
 
 ghost use Rattle.std.specs.Prelude.{◌≡◌, ◌≤◌, ◌+◌, ◌<◌, ℕ, length, IfOk, IfErr, None, false};
 ghost use Rattle.opt_base.specs.Seal.{Blocks};
-ghost use Rattle.opt_recover.specs.Reading.{Gives, OnlyReads, ReadFailed};
+ghost use Rattle.opt_recover.specs.Reading.{Gives, Searches};
 ghost use Rattle.opt_recover.specs.Payload.{stored_after};
-ghost use Rattle.opt_recover.specs.Search.{last_number, is_spent, IsFound, RefusalSays, OnUnread};
+ghost use Rattle.opt_recover.specs.Search.{last_number, is_spent, IsFound, RefusalSays, find_is_unread};
 
 use crate::newest::newest_header;
 use crate::reading::Stop;
@@ -15,6 +15,8 @@ use opt_journal::{EntryKind, Header};
 use opt_record::RecordList;
 use std::alloc::Global;
 use std::collections::BTreeMap;
+use std::error::Error;
+use std::fmt;
 use std::marker::Model;
 
 /// The least turn or number of a record that no mount goes on from.
@@ -32,6 +34,19 @@ pub enum RecoverRefusal {
     /// Out of memory.
     NoMemory,
 }
+
+impl fmt::Display for RecoverRefusal {
+    fn fmt<W: fmt::Write>(&self, f: &mut fmt::Formatter<W>) -> fmt::Result {
+        match self {
+            RecoverRefusal::NoHeader => write!(f, "neither block 0 nor block 1 has a header"),
+            RecoverRefusal::Spent => write!(f, "the numbers of the journal are used up"),
+            RecoverRefusal::ReadFault => write!(f, "a read of the disk failed"),
+            RecoverRefusal::NoMemory => write!(f, "out of memory"),
+        }
+    }
+}
+
+impl Error for RecoverRefusal {}
 
 /// What recovery finds on a disk.
 #[derive(Debug, Drop)]
@@ -105,8 +120,7 @@ pub fn find_run<D: Disk>(alloc: Global, disk: &mut D) -> Result<Run, RecoverRefu
     ensures refused { (img : Blocks) → Gives D.tells (D.state disk.old) img → IfErr result (RefusalSays (D.state disk.old).blocks img) }
     ensures going { IfOk result (λ run. is_spent run.header (length run.records) ≡ false) }
     ensures size { IfOk result (λ run. run.header.geom.n ≡ (D.state disk.old).blocks) }
-    ensures reads { OnlyReads D.tells (D.state disk.old) (D.state disk.new) }
-    ensures cause { OnUnread result (ReadFailed (D.state disk.old) (D.state disk.new)) }
+    ensures reads { Searches D.tells (find_is_unread result) (D.state disk.old) (D.state disk.new) }
 {
     let newest = match newest_header(disk) {
         Ok(newest) => newest,

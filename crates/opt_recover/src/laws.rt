@@ -9,7 +9,7 @@ ghost use Rattle.opt_journal.specs.declared.record.Commit.{Commit};
 ghost use Rattle.opt_journal.specs.declared.record.Descriptor.{Descriptor};
 ghost use Rattle.opt_journal.specs.Layout.{header_of, commit_of, descriptor_of};
 ghost use Rattle.opt_journal.specs.Run.{Record, covered_by};
-ghost use Rattle.opt_recover.specs.Epoch.{greatest_epoch};
+ghost use Rattle.opt_recover.specs.Epoch.{IsGreatestEpoch};
 ghost use Rattle.opt_recover.specs.Payload.{stored_after, bytes_of};
 
 /// What the records leave in a block is what the last payload stands for, where the last entry that
@@ -19,9 +19,9 @@ pub fn the_last_payload_is_what_records_leave()
     ensures { (g : Geometry) (img : Blocks) (rs : List Record) (b : ℕ) → covered_by g img None rs b ≡ bytes_of img (stored_after g None rs b) }
 {}
 
-/// No header, and no commit block or descriptor in the ring, has an epoch above the greatest.
+/// No header, and no commit block or descriptor in the ring, has an epoch above the greatest one.
 pub fn no_epoch_is_above_the_greatest()
-    ensures headers { (g : Geometry) (img : Blocks) (slot : ℕ) (h : Header) → slot < 2 → header_of g.n (img slot) ≡ Some h → h.epoch ≤ greatest_epoch g img g.j }
-    ensures commits { (g : Geometry) (img : Blocks) (place : ℕ) (c : Commit) → 0 < g.j → commit_of g (img (ring_block g place)) ≡ Some c → c.epoch ≤ greatest_epoch g img g.j }
-    ensures descriptors { (g : Geometry) (img : Blocks) (place : ℕ) (d : Descriptor) → 0 < g.j → descriptor_of g (img (ring_block g place)) ≡ Some d → d.epoch ≤ greatest_epoch g img g.j }
+    ensures headers { (g : Geometry) (img : Blocks) (e slot : ℕ) (h : Header) → IsGreatestEpoch g img e → slot < 2 → header_of g.n (img slot) ≡ Some h → h.epoch ≤ e }
+    ensures commits { (g : Geometry) (img : Blocks) (e place : ℕ) (c : Commit) → IsGreatestEpoch g img e → 0 < g.j → commit_of g (img (ring_block g place)) ≡ Some c → c.epoch ≤ e }
+    ensures descriptors { (g : Geometry) (img : Blocks) (e place : ℕ) (d : Descriptor) → IsGreatestEpoch g img e → 0 < g.j → descriptor_of g (img (ring_block g place)) ≡ Some d → d.epoch ≤ e }
 {}

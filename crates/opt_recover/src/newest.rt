@@ -1,12 +1,11 @@
 //! The newest header of a disk. What the journal holds under it isn't looked for here.
 
-ghost use Rattle.std.specs.Prelude.{◌≡◌, ◌<◌, ℕ, IfOk, IfSome, None, Option};
+ghost use Rattle.std.specs.Prelude.{◌≡◌, ◌<◌, ℕ, IfOk, IfSome, None, Option, is_err};
 ghost use Rattle.opt_base.specs.Seal.{Blocks};
 ghost use Rattle.opt_journal.specs.declared.header.Header as headers;
 ghost use Rattle.opt_journal.specs.Layout.{header_of, IsWithinDisk};
 ghost use Rattle.opt_journal.specs.Run.{Newest};
-ghost use Rattle.opt_disk.specs.Disk.{HasCause};
-ghost use Rattle.opt_recover.specs.Reading.{Gives, OnlyReads};
+ghost use Rattle.opt_recover.specs.Reading.{Gives, Searches};
 
 use crate::reading::read_block;
 use opt_disk::{Disk, DiskFault};
@@ -22,8 +21,7 @@ pub(crate) fn newest_header<D: Disk>(disk: &mut D) -> Result<Option<(u32, Header
     ensures found { (img : Blocks) → Gives D.tells (D.state disk.old) img → IfOk result (λ o. IfSome o (λ p. Newest (D.state disk.old).blocks img p.0 p.1)) }
     ensures missing { (img : Blocks) → Gives D.tells (D.state disk.old) img → IfOk result (λ o. o ≡ None → (slot : ℕ) (h : headers.Header) → ¬ Newest (D.state disk.old).blocks img slot h) }
     ensures within { IfOk result (λ o. IfSome o (λ p. IsWithinDisk (D.state disk.old).blocks p.1)) }
-    ensures reads { OnlyReads D.tells (D.state disk.old) (D.state disk.new) }
-    ensures cause { HasCause result (D.state disk.old).read_faults (D.state disk.new).read_faults }
+    ensures reads { Searches D.tells (is_err result) (D.state disk.old) (D.state disk.new) }
 {
     let first = header_in(disk, 0)?;
     let second = header_in(disk, 1)?;
@@ -34,8 +32,7 @@ fn header_in<D: Disk>(disk: &mut D, slot: u32) -> Result<Option<Header>, DiskFau
     requires { slot < 2 }
     ensures value { (img : Blocks) → Gives D.tells (D.state disk.old) img → IfOk result (λ o. o ≡ header_of (D.state disk.old).blocks (img slot)) }
     ensures within { IfOk result (λ o. IfSome o (IsWithinDisk (D.state disk.old).blocks)) }
-    ensures reads { OnlyReads D.tells (D.state disk.old) (D.state disk.new) }
-    ensures cause { HasCause result (D.state disk.old).read_faults (D.state disk.new).read_faults }
+    ensures reads { Searches D.tells (is_err result) (D.state disk.old) (D.state disk.new) }
 {
     headers_need_a_size();
     journal_blocks_keep_to_their_bounds();

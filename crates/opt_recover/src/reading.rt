@@ -1,17 +1,16 @@
 //! Reading a block of a disk, by its number or by its ring place. Nothing is written, and what a block
-//! means isn't told here.
+//! means isn't described here.
 
-ghost use Rattle.std.specs.Prelude.{◌≡◌, ◌<◌, OnOk};
+ghost use Rattle.std.specs.Prelude.{◌≡◌, ◌<◌, OnOk, is_err};
 ghost use Rattle.opt_base.specs.Seal.{Blocks};
 ghost use Rattle.opt_geom.specs.Geometry.{ring_block};
-ghost use Rattle.opt_disk.specs.Disk.{HasCause};
-ghost use Rattle.opt_recover.specs.Reading.{Gives, OnlyReads};
+ghost use Rattle.opt_recover.specs.Reading.{Gives, Searches};
 
 use opt_base::{Block, NoMemory};
 use opt_disk::{Disk, DiskFault};
 use opt_geom::Geom;
 
-/// How many header slots stand before the ring.
+/// How many header slots are before the ring.
 const HEADERS: usize = 2;
 
 /// Why a search stopped before its end.
@@ -52,8 +51,7 @@ impl From<DiskFault> for Stop {
 pub(crate) fn read_block<D: Disk>(disk: &mut D, b: u32, into: &mut Block) -> Result<(), DiskFault>
     requires { b < (D.state disk.old).blocks }
     ensures gives { (img : Blocks) → Gives D.tells (D.state disk.old) img → OnOk result (into.new ≡ img b) }
-    ensures reads { OnlyReads D.tells (D.state disk.old) (D.state disk.new) }
-    ensures cause { HasCause result (D.state disk.old).read_faults (D.state disk.new).read_faults }
+    ensures reads { Searches D.tells (is_err result) (D.state disk.old) (D.state disk.new) }
 {
     disk.read(b, into)
 }
@@ -70,8 +68,7 @@ pub(crate) fn read_ring<D: Disk>(
 ) -> Result<(), DiskFault>
     requires { (D.state disk.old).blocks ≡ geom.n }
     ensures gives { (img : Blocks) → Gives D.tells (D.state disk.old) img → OnOk result (into.new ≡ img (ring_block geom place)) }
-    ensures reads { OnlyReads D.tells (D.state disk.old) (D.state disk.new) }
-    ensures cause { HasCause result (D.state disk.old).read_faults (D.state disk.new).read_faults }
+    ensures reads { Searches D.tells (is_err result) (D.state disk.old) (D.state disk.new) }
 {
     geom.lawful();
     read_block(disk, ring_block(geom, place), into)

@@ -5,7 +5,7 @@ ghost use Rattle.std.specs.Prelude.{◌≡◌, ◌+◌, ◌≤◌, length, IfOk,
 ghost use Rattle.opt_base.specs.Seal.{Blocks};
 ghost use Rattle.opt_journal.specs.Run.{IsRun, places};
 ghost use Rattle.opt_record.specs.Found.{Finds, MayCome};
-ghost use Rattle.opt_recover.specs.Reading.{Gives, OnlyReads, ReadFailed, OnReadFault};
+ghost use Rattle.opt_recover.specs.Reading.{Gives, Searches, is_unread};
 
 use crate::described::candidate_at;
 use crate::reading::Stop;
@@ -30,8 +30,7 @@ pub(crate) fn recoverable_run<D: Disk>(
     requires { (D.state disk.old).blocks ≡ header.now.geom.n }
     ensures run { (img : Blocks) → Gives D.tells (D.state disk.old) img → IfOk result (IsRun img header.now) }
     ensures few { IfOk result (λ run. length run ≤ header.now.geom.j) }
-    ensures reads { OnlyReads D.tells (D.state disk.old) (D.state disk.new) }
-    ensures cause { OnReadFault result (ReadFailed (D.state disk.old) (D.state disk.new)) }
+    ensures reads { Searches D.tells (is_unread result) (D.state disk.old) (D.state disk.new) }
 {
     runs_grow_by_the_next_record();
     let mut run = RecordList::new(alloc);
@@ -58,8 +57,7 @@ fn next_record<D: Disk>(
     requires { (D.state disk.old).blocks ≡ header.now.geom.n }
     ensures found { (img : Blocks) → Gives D.tells (D.state disk.old) img → IfOk result (Finds (MayCome img header.now left) (header.now.start + before) place) }
     ensures within { IfOk result (λ found. IfSome found (λ r. places r ≤ left)) }
-    ensures reads { OnlyReads D.tells (D.state disk.old) (D.state disk.new) }
-    ensures cause { OnReadFault result (ReadFailed (D.state disk.old) (D.state disk.new)) }
+    ensures reads { Searches D.tells (is_unread result) (D.state disk.old) (D.state disk.new) }
 {
     whole_records_pass_their_tests();
     if left == 0 {

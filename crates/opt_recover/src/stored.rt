@@ -1,4 +1,4 @@
-//! Where the payloads of a run stand in the journal: a search tree over the blocks that they name. A
+//! Where the payloads of a run are in the journal: a search tree over the blocks that they name. A
 //! block that the run's last entry names as fresh isn't in it. No block is looked at here.
 
 ghost use Rattle.std.specs.Prelude.{◌≡◌, ◌<◌, ◌+◌, ◌^◌, ◌==◌, ℕ, length, None, Some, OnOk, IfOk, if◌then◌else◌};

@@ -1,13 +1,12 @@
 //! Whether a record that is described is whole: its entries are in order, and its blocks on the disk fit
 //! them.
 
-ghost use Rattle.std.specs.Prelude.{◌≡◌, ◌↔◌, ◌+◌, ◌<◌, ◌^◌, ℕ, IsTrue, length, IfOk, slice_get, Some};
+ghost use Rattle.std.specs.Prelude.{◌≡◌, ◌↔◌, ◌+◌, ◌<◌, ◌^◌, ℕ, IsTrue, length, IfOk, slice_get, Some, is_err};
 ghost use Rattle.opt_base.specs.Seal.{Blocks};
 ghost use Rattle.opt_journal.specs.declared.entry.Entry as listed;
 ghost use Rattle.opt_journal.specs.Run.{IsWhole, heads};
-ghost use Rattle.opt_disk.specs.Disk.{HasCause};
 ghost use Rattle.opt_record.specs.Found.{IsDescribed, payloads_fit, fresh_fit};
-ghost use Rattle.opt_recover.specs.Reading.{Gives, OnlyReads};
+ghost use Rattle.opt_recover.specs.Reading.{Gives, Searches};
 
 use crate::reading::{read_block, read_ring};
 use opt_disk::{Disk, DiskFault};
@@ -23,8 +22,7 @@ pub(crate) fn is_whole<D: Disk>(
 ) -> Result<bool, DiskFault>
     requires { (D.state disk.old).blocks ≡ header.now.geom.n }
     ensures whole { (img : Blocks) → Gives D.tells (D.state disk.old) img → IsDescribed img header.now found.now → IfOk result (λ b. IsTrue b ↔ IsWhole img header.now found.now) }
-    ensures reads { OnlyReads D.tells (D.state disk.old) (D.state disk.new) }
-    ensures cause { HasCause result (D.state disk.old).read_faults (D.state disk.new).read_faults }
+    ensures reads { Searches D.tells (is_err result) (D.state disk.old) (D.state disk.new) }
 {
     whole_records_pass_their_tests();
     entries_that_fit_keep_to_the_disk();
@@ -46,8 +44,7 @@ pub(crate) fn is_whole<D: Disk>(
 fn have_payloads<D: Disk>(disk: &mut D, geom: Geom, found: &Record) -> Result<bool, DiskFault>
     requires { (D.state disk.old).blocks ≡ geom.n }
     ensures value { (img : Blocks) → Gives D.tells (D.state disk.old) img → IfOk result (λ b. b ≡ payloads_fit geom img (found.now.place + heads found.now) found.now.payloads) }
-    ensures reads { OnlyReads D.tells (D.state disk.old) (D.state disk.new) }
-    ensures cause { HasCause result (D.state disk.old).read_faults (D.state disk.new).read_faults }
+    ensures reads { Searches D.tells (is_err result) (D.state disk.old) (D.state disk.new) }
 {
     let first = found.place() as usize + found.heads();
     payloads_fit(disk, geom, first, found.payloads())
@@ -63,8 +60,7 @@ fn payloads_fit<D: Disk>(
     requires size { (D.state disk.old).blocks ≡ geom.n }
     requires room { first + length payloads.now < 2 ^ 64 }
     ensures value { (img : Blocks) → Gives D.tells (D.state disk.old) img → IfOk result (λ b. b ≡ payloads_fit geom img first payloads.now) }
-    ensures reads { OnlyReads D.tells (D.state disk.old) (D.state disk.new) }
-    ensures cause { HasCause result (D.state disk.old).read_faults (D.state disk.new).read_faults }
+    ensures reads { Searches D.tells (is_err result) (D.state disk.old) (D.state disk.new) }
 {
     let mut place = first;
     for entry in payloads {
@@ -82,8 +78,7 @@ fn payloads_fit<D: Disk>(
 fn fresh_fit<D: Disk>(disk: &mut D, fresh: &[Entry]) -> Result<bool, DiskFault>
     requires { (i : ℕ) (e : listed.Entry) → slice_get fresh.now i ≡ Some e → e.block < (D.state disk.old).blocks }
     ensures value { (img : Blocks) → Gives D.tells (D.state disk.old) img → IfOk result (λ b. b ≡ fresh_fit img fresh.now) }
-    ensures reads { OnlyReads D.tells (D.state disk.old) (D.state disk.new) }
-    ensures cause { HasCause result (D.state disk.old).read_faults (D.state disk.new).read_faults }
+    ensures reads { Searches D.tells (is_err result) (D.state disk.old) (D.state disk.new) }
 {
     for entry in fresh {
         let mut bytes = [0u8; 1024];

@@ -17,7 +17,7 @@ pub(super) struct HeaderText {
 }
 
 /// A record of epoch 2 with one descriptor. Its payloads are of the blocks `first`, `first + 1` and so
-/// on. At ring place p, payload k stands in block 2 + (p + 2 + k) mod 16.
+/// on. At ring place p, payload k is in block 2 + (p + 2 + k) mod 16.
 #[derive(Clone, Copy)]
 pub(super) struct RecordText {
     pub number: u8,
@@ -62,7 +62,7 @@ fn commit_block(text: RecordText) -> Block {
     block
 }
 
-/// The bytes of payload k as they stand in the journal: all the same, but for the first three of an
+/// The bytes of payload k as they are in the journal: all the same, but for the first three of an
 /// escaped one.
 fn payload_bytes(text: RecordText, k: u8) -> Block {
     let mut block = [text.number.saturating_mul(16).saturating_add(k); 1024];

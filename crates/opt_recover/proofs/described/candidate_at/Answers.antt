@@ -19,7 +19,7 @@ pub returns-in_default-2-clause-found : goal.returns-in_default-2-clause-found
 returns-in_default-2-clause-found g c = λ img gives.
     let found = rw c.in-Some.is at c.in_ok-commit.ensures.found img gives in
     let has : HasCommit img c.args.header.now c.in-Some.commit.number c.args.place c.in-Some.commit = record { stands = found.stands; epoch = found.epoch; is_number = refl } in
-    let none = rw c.in_default-2.is at c.in_ok-entries.ensures.missing img (still_gives _ _ _ img c.commit_at.ensures.reads gives) has in
+    let none = rw c.in_default-2.is at c.in_ok-entries.ensures.missing img (still_gives _ _ _ _ img c.commit_at.ensures.reads gives) has in
     λ q num at x. none refl q (num ∙ sym found.is_number) at x.described
 
 pub new-requires : goal.new-requires
@@ -31,7 +31,7 @@ pub returns-clause-found : goal.returns-clause-found
 returns-clause-found g c = λ img gives.
     let found = rw c.in-Some.is at c.in_ok-commit.ensures.found img gives in
     let has : HasCommit img c.args.header.now c.in-Some.commit.number c.args.place c.in-Some.commit = record { stands = found.stands; epoch = found.epoch; is_number = refl } in
-    let parts = rw c.in-Some-2.is at c.in_ok-entries.ensures.found img (still_gives _ _ _ img c.commit_at.ensures.reads gives) has in
+    let parts = rw c.in-Some-2.is at c.in_ok-entries.ensures.found img (still_gives _ _ _ _ img c.commit_at.ensures.reads gives) has in
     let laws = c.records_are_described_by_their_blocks.ensures img c.args.header.now c.in-Some.commit.number c.args.place in
     subst (λ n. IsOnly (IsCandidate img c.args.header.now c.args.left) n c.args.place c.in_ok-found.found) found.is_number
     (comes img c.args.header.now c.args.left c.in-Some.commit.number c.args.place laws c.in-Some.commit c.in_ok-found.found has (c.may_come.ensures.0 c.if-not-may_come.false)

@@ -1,6 +1,6 @@
-use Rattle.std.proofs.Common.{◌+◌, ◌≤◌, length}
+use Rattle.std.proofs.Common.{false, ◌+◌, ◌≤◌, length}
 use Rattle.opt_base.specs.Seal.{Blocks}
-use Rattle.opt_recover.specs.Reading.{Gives, OnlyReads}
+use Rattle.opt_recover.specs.Reading.{Gives, Searches}
 use Rattle.opt_record.specs.Found.{IsFront}
 use Rattle.opt_recover.proofs.run.recoverable_run.Given as goal
 
@@ -11,7 +11,7 @@ decreases-loop-run g l = l.left
 -- the records so far are a front of the run
 abbrev pub invariant-loop-run : goal.invariant-loop-run
 invariant-loop-run g l = record {
-  only : OnlyReads g.D.Disk.tells (g.D.Disk.state l.fn.disk) (g.D.Disk.state l.disk);
+  only : Searches g.D.Disk.tells false (g.D.Disk.state l.fn.disk) (g.D.Disk.state l.disk);
   room : length l.run + l.left ≤ l.header.geom.j;
   front : (img : Blocks) → Gives g.D.Disk.tells (g.D.Disk.state l.fn.disk) img → IsFront img l.header l.run l.place l.left;
 }

@@ -1,13 +1,13 @@
-use Rattle.std.proofs.Common.{◌≡◌, ◌≤◌, length, drop}
+use Rattle.std.proofs.Common.{false, ◌≡◌, ◌≤◌, length, drop}
 use Rattle.opt_base.specs.Seal.{Blocks}
 use Rattle.opt_record.specs.Found.{fresh_fit}
-use Rattle.opt_recover.specs.Reading.{Gives, OnlyReads}
+use Rattle.opt_recover.specs.Reading.{Gives, Searches}
 use Rattle.opt_recover.proofs.whole.fresh_fit.Given as goal
 
 -- the entries from here on decide
 abbrev pub invariant-loop-entry : goal.invariant-loop-entry
 invariant-loop-entry g l = record {
-  only : OnlyReads g.D.Disk.tells (g.D.Disk.state l.fn.disk) (g.D.Disk.state l.disk);
+  only : Searches g.D.Disk.tells false (g.D.Disk.state l.fn.disk) (g.D.Disk.state l.disk);
   at : l.entry-index ≤ length l.fresh;
   rest : (img : Blocks) → Gives g.D.Disk.tells (g.D.Disk.state l.fn.disk) img
       → fresh_fit img (drop l.entry-index l.fresh) ≡ fresh_fit img l.fresh;

@@ -1,13 +1,13 @@
-use Rattle.std.proofs.Common.{◌≡◌, ◌+◌, ◌≤◌, length, drop}
+use Rattle.std.proofs.Common.{false, ◌≡◌, ◌+◌, ◌≤◌, length, drop}
 use Rattle.opt_base.specs.Seal.{Blocks}
 use Rattle.opt_record.specs.Found.{payloads_fit}
-use Rattle.opt_recover.specs.Reading.{Gives, OnlyReads}
+use Rattle.opt_recover.specs.Reading.{Gives, Searches}
 use Rattle.opt_recover.proofs.whole.payloads_fit.Given as goal
 
 -- the payloads from here on decide
 abbrev pub invariant-loop-entry : goal.invariant-loop-entry
 invariant-loop-entry g l = record {
-  only : OnlyReads g.D.Disk.tells (g.D.Disk.state l.fn.disk) (g.D.Disk.state l.disk);
+  only : Searches g.D.Disk.tells false (g.D.Disk.state l.fn.disk) (g.D.Disk.state l.disk);
   at : l.entry-index ≤ length l.payloads;
   place : l.place ≡ l.first + l.entry-index;
   rest : (img : Blocks) → Gives g.D.Disk.tells (g.D.Disk.state l.fn.disk) img
