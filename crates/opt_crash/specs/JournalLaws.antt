@@ -1,4 +1,4 @@
--- The laws of the journal and of geometries that the argument stands on, gathered. Each is a clause of a function of a lower crate.
+-- The laws of the journal and of geometries that the argument rests on, gathered. Each is a clause of a function of a lower crate.
 use Rattle.std.specs.Prelude.{◌≡◌, ℕ, ◌*◌, ◌<◌, ◌≤◌, true, false, IsTrue, List, length, take, drop, slice_get, Some, None}
 use Rattle.opt_base.specs.Seal.{Blocks, IsSealed}
 use Rattle.opt_geom.specs.Geometry.{Geometry, geometry_fits, bitmap_start, data_start}

@@ -3,6 +3,7 @@ use Rattle.std.specs.Prelude.{◌≡◌, ◌⊎◌, ℕ, ◌+◌, ◌-◌, ◌<�
 use Rattle.opt_base.specs.Seal.{Blocks, sha256}
 use Rattle.opt_disk.specs.declared.event.Event.{Event}
 use Rattle.opt_disk.specs.Cell.{Cell, Write, cell_of, IsWritten}
+use Rattle.opt_disk.specs.Disk.{State}
 use Rattle.opt_disk.specs.Crash.{AreBytesOf}
 use Rattle.opt_geom.specs.Geometry.{Geometry, ring_block, data_start, bitmap_start}
 use Rattle.opt_journal.specs.declared.header.Header.{Header}
@@ -11,6 +12,10 @@ use Rattle.opt_journal.specs.declared.record.Descriptor.{Descriptor}
 use Rattle.opt_journal.specs.declared.entry.Entry.{Entry}
 use Rattle.opt_journal.specs.Layout.{header_of, commit_of, descriptor_of, descriptor_count, unescaped}
 use Rattle.opt_journal.specs.Run.{place_after, entries_fit, Record, Fits, entries, heads, places, commit_says, descriptor_says, AreConsecutive, all_places, names_block, or_else, otherwise, is_live, live_part, HeldIs}
+
+-- the cells of a disk
+abbrev pub cells_of : State → ℕ → Cell
+cells_of d = cell_of d.base d.log
 
 -- the bytes of the last of these writes, or x where there is none
 abbrev pub last_of : List ℕ → List Write → List ℕ
@@ -114,7 +119,7 @@ pub record FitsRecords (l : Ledger) (h : Header) : Type 0 where
   pub consecutive : AreConsecutive l.geom.j h.start h.at (all_say (from_start l h))
   pub within : all_places (all_say (from_start l h)) ≤ l.geom.j
 
--- Headers alternate: the durable one stands alone in its slot; in the other, an older one or the next one.
+-- Headers alternate: the durable one is alone in its slot; in the other, an older one or the next one.
 pub record HeadersAlternate (cells : ℕ → Cell) (l : Ledger) : Type 0 where
   pub is_slot : l.slot < 2
   pub durable : header_of l.geom.n (cells l.slot).settled ≡ Some l.header
@@ -123,7 +128,7 @@ pub record HeadersAlternate (cells : ℕ → Cell) (l : Ledger) : Type 0 where
   pub newer : (h : Header) → l.next ≡ Some h → l.header.turn < h.turn
   pub fits : (h : Header) → IsStanding l h → FitsRecords l h
 
--- Each record stands in the ring, noticed or not.
+-- Each record is in the ring, noticed or not.
 pub record IsIssued (base : Blocks) (cells : ℕ → Cell) (log : List Event) (l : Ledger) (w : WrittenRecord) : Type 0 where
   pub spelled : IsSpelled l.geom l.epoch w
   pub ring : (i : ℕ) → i < places w.says → latest (cells (ring_block l.geom (w.says.place + i))) ≡ block_at w.ring i
@@ -164,9 +169,18 @@ pub record IsConsistentWith (base : Blocks) (log : List Event) (l : Ledger) : Ty
   pub known : l.known ≤ next_number l
   pub home : HomeIsCovered (cell_of base log) l
 
+-- the same of what is known of a disk
+abbrev pub IsConsistentOn : State → Ledger → Type 0
+IsConsistentOn d l = IsConsistentWith d.base d.log l
+
+-- The image of a disk of n blocks holds m, under a newest header of this geometry.
+pub record HoldsUnder (n : ℕ) (g : Geometry) (img m : Blocks) : Type 0 where
+  pub held : HeldIs n img m
+  pub geom : held.header.geom ≡ g
+
 -- the image holds the map before some record that comes after all that are known, and is at most the next one
 pub record StandsForOne (l : Ledger) (img : Blocks) : Type 0 where
   pub number : ℕ
   pub known : l.known ≤ number
   pub issued : number ≤ next_number l
-  pub held : HeldIs l.geom.n img (live_part l.geom (l.map_before number))
+  pub held : HoldsUnder l.geom.n l.geom img (live_part l.geom (l.map_before number))

@@ -1,12 +1,10 @@
 pub mod Counts
-pub mod FirstRecord
 pub mod HomeTest
 pub mod Formatted
 pub mod JournalLaws
 pub mod LastWrites
 pub mod Ledger
 pub mod OnePending
-pub mod OneRecord
 pub mod Opening
 pub mod PipelineData
 pub mod Points
@@ -14,3 +12,4 @@ pub mod Recording
 pub mod Replay
 pub mod ReplayMade
 pub mod Steps
+pub mod Writes

@@ -1,43 +1,62 @@
 -- The last step of a mount of a disk whose journal holds no record that counts: the header that opens the journal, when it may be written, and what writing it adds to the log.
-use Rattle.std.specs.Prelude.{◌≡◌, ◌⊎◌, ℕ, ◌+◌, ◌<◌, ◌≤◌, false, List, [], ◌∷◌, ◌++◌, Some, Result, Ok, Err}
+use Rattle.std.specs.Prelude.{◌≡◌, ◌⊎◌, ℕ, ◌+◌, ◌-◌, ◌<◌, ◌≤◌, true, false, List, [], ◌∷◌, ◌++◌, length, Some, Result, Ok, Err}
 use Rattle.opt_base.specs.Seal.{Blocks}
 use Rattle.opt_disk.specs.declared.event.Event.{Event}
 use Rattle.opt_disk.specs.declared.event.Event.TheVariants.{Wrote, Lost}
 use Rattle.opt_disk.specs.Cell.{Cell, greatest_ticket, IsNoticed}
 use Rattle.opt_disk.specs.Disk.{AddsNotices}
-use Rattle.opt_geom.specs.Geometry.{ring_block}
+use Rattle.opt_geom.specs.Geometry.{Geometry, ring_block}
 use Rattle.opt_journal.specs.declared.header.Header.{Header}
 use Rattle.opt_journal.specs.declared.record.Commit.{Commit}
 use Rattle.opt_journal.specs.declared.record.Descriptor.{Descriptor}
-use Rattle.opt_journal.specs.Layout.{commit_of, descriptor_of}
-use Rattle.opt_journal.specs.Run.{Newest}
+use Rattle.opt_journal.specs.Layout.{header_of, commit_of, descriptor_of}
+use Rattle.opt_journal.specs.Run.{Newest, Record}
 
--- The header that opens a journal after this one: an epoch above all in the journal, the next turn, and no record. The next record is the one behind `sure`, and begins at the first ring place.
-abbrev pub opening_header : Header → ℕ → Header
-opening_header newest greatest_epoch = record {
+-- the number of the last record of this run under a header, which is the one before the header's first where the run is empty
+abbrev pub last_number : Header → List Record → ℕ
+last_number h run = h.start + length run - 1
+
+-- The header that opens a journal after this one, with the number of the last record that it has: an epoch above all on the disk, the next turn, and no record. The next record is the one behind the last, and begins at the first ring place.
+abbrev pub opening_header : Header → ℕ → ℕ → Header
+opening_header newest last greatest_epoch = record {
   epoch = greatest_epoch + 1;
   turn = newest.turn + 1;
-  start = newest.sure + 1;
-  sure = newest.sure;
+  start = last + 1;
+  sure = last;
   at = 0;
   closed = false;
   geom = newest.geom;
+}
+
+-- The header of the next turn that closes the run of this one, whose last record has this number: it lets in the records up to that one, and no other.
+abbrev pub closed_header : Header → ℕ → Header
+closed_header h last = record {
+  epoch = h.epoch;
+  turn = h.turn + 1;
+  start = h.start;
+  sure = last;
+  at = h.at;
+  closed = true;
+  geom = h.geom;
 }
 
 -- what is settled in each block
 abbrev pub settled : (ℕ → Cell) → Blocks
 settled cells b = (cells b).settled
 
--- The journal may be opened after the newest header, which stands in this slot, where no epoch in the journal is above the given one.
+-- No header in a slot, and no commit block or descriptor in the ring, has an epoch above this one.
+pub record HasNoEpochAbove (g : Geometry) (img : Blocks) (epoch : ℕ) : Type 0 where
+  pub headers : (slot : ℕ) (h : Header) → slot < 2 → header_of g.n (img slot) ≡ Some h → h.epoch ≤ epoch
+  pub commits : (place : ℕ) (c : Commit) → commit_of g (img (ring_block g place)) ≡ Some c → c.epoch ≤ epoch
+  pub descriptors : (place : ℕ) (d : Descriptor) → descriptor_of g (img (ring_block g place)) ≡ Some d → d.epoch ≤ epoch
+
+-- The journal may be opened after the newest header, which is in this slot, where no epoch on the disk is above the given one.
 pub record IsReadyToOpen (cells : ℕ → Cell) (slot : ℕ) (newest : Header) (greatest_epoch : ℕ) : Type 0 where
   -- all that was written is settled
   pub idle : (b : ℕ) → (cells b).pending ≡ []
-  -- the header is the newest one of what is settled, and stands in this slot
+  -- the header is the newest one of what is settled, and is in this slot
   pub is_newest : Newest newest.geom.n (settled cells) slot newest
-  -- no commit block in the ring has a greater epoch
-  pub commit_epochs : (place : ℕ) (c : Commit) → commit_of newest.geom (settled cells (ring_block newest.geom place)) ≡ Some c → c.epoch ≤ greatest_epoch
-  -- and no descriptor there has one
-  pub descriptor_epochs : (place : ℕ) (d : Descriptor) → descriptor_of newest.geom (settled cells (ring_block newest.geom place)) ≡ Some d → d.epoch ≤ greatest_epoch
+  pub epochs : HasNoEpochAbove newest.geom (settled cells) greatest_epoch
 
 -- one accepted write of these bytes to the block, with a new ticket, and notices behind it
 pub record AddsWaited (block : ℕ) (x : List ℕ) (old new : List Event) : Type 0 where

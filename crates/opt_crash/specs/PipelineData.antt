@@ -3,11 +3,12 @@ use Rattle.std.specs.Prelude.{◌≡◌, ℕ, ◌+◌, ◌-◌, ◌%◌, ◌<◌
 use Rattle.opt_base.specs.Seal.{Blocks}
 use Rattle.opt_disk.specs.declared.event.Event.{Event}
 use Rattle.opt_disk.specs.Cell.{Cell, cell_of, IsNoticed}
+use Rattle.opt_disk.specs.Disk.{State}
 use Rattle.opt_geom.specs.Geometry.{data_start}
 use Rattle.opt_journal.specs.declared.header.Header.{Header}
 use Rattle.opt_journal.specs.Layout.{header_of}
 use Rattle.opt_journal.specs.Run.{is_live, names_block, places, all_places, place_after}
-use Rattle.opt_crash.specs.Ledger.{Ledger, WrittenRecord, next_number, cover, payload_in, all_say}
+use Rattle.opt_crash.specs.Ledger.{Ledger, WrittenRecord, IsConsistentOn, next_number, cover, payload_in, all_say}
 use Rattle.opt_crash.specs.LastWrites.{IsLastWrite, HasTickets, FreshAreNew, IsBatch}
 
 -- The data of a session's pipeline, ring and reuse, as far as they speak of crashes.
@@ -80,6 +81,14 @@ pub record DataAgree (base : Blocks) (log : List Event) (l : Ledger) (p : Pipeli
   pub next_place : p.next_place ≡ place_after l.geom.j l.header.at (all_say l.records)
   pub taken : p.taken ≡ all_places (all_say l.records)
   pub waiting : FreedWait l p.waiting
+
+-- the same of what is known of a disk
+abbrev pub DataAgreeOn : State → Ledger → PipelineData → Type 0
+DataAgreeOn d l p = DataAgree d.base d.log l p
+
+-- the disk is as the ledger says, and the data agree with both
+abbrev pub AreRightOn : State → Ledger → PipelineData → Type 0
+AreRightOn d l p = IsConsistentOn d l × DataAgreeOn d l p
 
 -- each of these tickets is noticed
 abbrev pub AllNoticed : List Event → List ℕ → Type 0

@@ -3,15 +3,16 @@ use Rattle.std.specs.Prelude.{◌≡◌, ◌⊎◌, ℕ, ◌+◌, ◌-◌, ◌<�
 use Rattle.opt_base.specs.Seal.{Blocks}
 use Rattle.opt_disk.specs.declared.event.Event.{Event}
 use Rattle.opt_disk.specs.declared.event.Event.TheVariants.{Wrote, Lost, Noticed}
-use Rattle.opt_disk.specs.Cell.{Cell, greatest_ticket, IsNoticed}
-use Rattle.opt_disk.specs.Crash.{IsHonest}
+use Rattle.opt_disk.specs.Cell.{Cell}
+use Rattle.opt_disk.specs.Crash.{Window}
+use Rattle.opt_disk.specs.Disk.{State}
 use Rattle.opt_geom.specs.Geometry.{Geometry, ring_block, data_start, bitmap_start}
 use Rattle.opt_journal.specs.declared.header.Header.{Header}
 use Rattle.opt_journal.specs.declared.record.Commit.{Commit}
 use Rattle.opt_journal.specs.declared.record.Descriptor.{Descriptor}
 use Rattle.opt_journal.specs.Layout.{commit_of, descriptor_of, header_of}
-use Rattle.opt_journal.specs.Run.{live_part, HeldIs}
-use Rattle.opt_crash.specs.Ledger.{WrittenRecord, Ledger, issued, latest, next_number, IsConsistentWith}
+use Rattle.opt_journal.specs.Run.{live_part}
+use Rattle.opt_crash.specs.Ledger.{WrittenRecord, Ledger, HoldsUnder, issued, latest, next_number, IsConsistentWith}
 use Rattle.opt_crash.specs.Steps.{with_record, with_header}
 
 -- what was read is a commit block of this epoch
@@ -48,27 +49,20 @@ pub record IsMoment (s : MountedSession) (log : List Event) (p k : ℕ) : Type 0
 pub record IsPoint (s : MountedSession) (base : Blocks) (log : List Event) (p : ℕ) (m : Blocks) : Type 0 where
   pub moment : ℕ
   pub at : IsMoment s log p moment
-  pub held : HeldIs s.geom.n (issued base (take moment log)) m
+  pub held : HoldsUnder s.geom.n s.geom (issued base (take moment log)) m
 
--- a crash at some moment from t on may leave an image that holds m
-pub record LeftSince (s : MountedSession) (base : Blocks) (log : List Event) (t : ℕ) (m : Blocks) : Type 0 where
-  pub moment : ℕ
-  pub from : t ≤ moment
-  pub within : moment ≤ length log
-  pub img : Blocks
-  pub honest : IsHonest s.geom.n base (take moment log) img
-  pub held : HeldIs s.geom.n img m
-
--- m is the map of a point from `floor` to `top`
-pub record IsPointBetween (s : MountedSession) (base : Blocks) (log : List Event) (floor top : ℕ) (m : Blocks) : Type 0 where
+-- The image holds a map, and that is the map of a point from `floor` to `top`.
+pub record HoldsPoint (s : MountedSession) (base : Blocks) (log : List Event) (floor top : ℕ) (img : Blocks) : Type 0 where
+  pub map : Blocks
+  pub held : HoldsUnder s.geom.n s.geom img map
   pub point : ℕ
   pub from : floor ≤ point
   pub upto : point ≤ top
-  pub is : IsPoint s base log point m
+  pub is : IsPoint s base log point map
 
--- each map that a crash from t on may leave is that of one point, from `floor` to `top`
-pub record StandsBetween (s : MountedSession) (base : Blocks) (log : List Event) (t floor top : ℕ) : Type 0 where
-  pub each : (m : Blocks) → LeftSince s base log t m → ∥ IsPointBetween s base log floor top m ∥₁
+-- Each honest image that a crash at a moment from t on may leave holds the map of a point from `floor` to `top`.
+abbrev pub StandsBetween : MountedSession → Blocks → List Event → ℕ → ℕ → ℕ → Type 0
+StandsBetween s base log t floor top = Window s.geom.n base log t (λ img. ∥ HoldsPoint s base log floor top img ∥₁)
 
 -- each map of the ledger is that of a point
 pub record HasPoints (s : MountedSession) (base : Blocks) (log : List Event) (l : Ledger) : Type 0 where
@@ -79,22 +73,30 @@ pub record HasPoints (s : MountedSession) (base : Blocks) (log : List Event) (l 
   pub count : s.first + commits s.geom s.epoch log ≡ next_number l
   pub each : (n : ℕ) → l.known ≤ n → n ≤ next_number l → IsPoint s base log (n - s.first) (live_part l.geom (l.map_before n))
 
--- The disk is as the ledger says, and each map that a crash since t may leave is that of a point from `floor` to the newest.
+-- The disk is as the ledger says, and each honest image that a crash since t may leave holds the map of a point from `floor` to the newest.
 pub record IsSafe (s : MountedSession) (base : Blocks) (log : List Event) (l : Ledger) (t floor : ℕ) : Type 0 where
   pub keeps : IsConsistentWith base log l
   pub points : HasPoints s base log l
   pub low : floor ≤ l.known - s.first
   pub window : StandsBetween s base log t floor (next_number l - s.first)
 
+-- the same of what is known of a disk
+abbrev pub IsSafeOn : MountedSession → State → Ledger → ℕ → ℕ → Type 0
+IsSafeOn s d l t floor = IsSafe s d.base d.log l t floor
+
+-- a disk that was safe by this ledger is so still
+abbrev pub StaysSafe : MountedSession → Ledger → ℕ → ℕ → State → State → Type 0
+StaysSafe s l t floor old new = IsSafeOn s old l t floor → IsSafeOn s new l t floor
+
 -- After the call for a commit block: accepted, the record is in the ledger; else it is there, or no event came.
-abbrev pub CommitWritten : {E : Type 0} → MountedSession → Ledger → WrittenRecord → Blocks → ℕ → ℕ → Result ℕ E → List Event → Blocks → List Event → Type 0
-CommitWritten s l w m t floor (Ok ticket) log base new = IsSafe s base new (with_record l w m) t floor
-CommitWritten s l w m t floor (Err e) log base new = ((new ≡ log) × IsSafe s base new l t floor) ⊎ IsSafe s base new (with_record l w m) t floor
+abbrev pub CommitWritten : {E : Type 0} → MountedSession → Ledger → WrittenRecord → Blocks → ℕ → ℕ → Result ℕ E → State → State → Type 0
+CommitWritten s l w m t floor (Ok ticket) old new = IsSafeOn s new (with_record l w m) t floor
+CommitWritten s l w m t floor (Err e) old new = ((new.log ≡ old.log) × IsSafeOn s new l t floor) ⊎ IsSafeOn s new (with_record l w m) t floor
 
 -- the same for a header
-abbrev pub HeaderWritten : {E : Type 0} → MountedSession → Ledger → Header → ℕ → ℕ → Result ℕ E → List Event → Blocks → List Event → Type 0
-HeaderWritten s l h t floor (Ok ticket) log base new = IsSafe s base new (with_header l h) t floor
-HeaderWritten s l h t floor (Err e) log base new = ((new ≡ log) × IsSafe s base new l t floor) ⊎ IsSafe s base new (with_header l h) t floor
+abbrev pub HeaderWritten : {E : Type 0} → MountedSession → Ledger → Header → ℕ → ℕ → Result ℕ E → State → State → Type 0
+HeaderWritten s l h t floor (Ok ticket) old new = IsSafeOn s new (with_header l h) t floor
+HeaderWritten s l h t floor (Err e) old new = ((new.log ≡ old.log) × IsSafeOn s new l t floor) ⊎ IsSafeOn s new (with_header l h) t floor
 
 -- A mount has ended: its last header is durable and releases all, its epoch is new, and nothing is pending.
 pub record IsMounted (cells : ℕ → Cell) (g : Geometry) (slot : ℕ) (h : Header) : Type 0 where
@@ -102,6 +104,7 @@ pub record IsMounted (cells : ℕ → Cell) (g : Geometry) (slot : ℕ) (h : Hea
   pub idle : (b : ℕ) → (cells b).pending ≡ []
   pub stands : header_of g.n (cells slot).settled ≡ Some h
   pub other : (k : Header) → header_of g.n (cells (1 - slot)).settled ≡ Some k → k.turn < h.turn
+  pub new_epoch : (k : Header) → header_of g.n (cells (1 - slot)).settled ≡ Some k → k.epoch < h.epoch
   pub geom : h.geom ≡ g
   pub not_closed : h.closed ≡ false
   pub empty : h.start ≡ h.sure + 1
@@ -117,8 +120,3 @@ ledger_at_mount cells g slot h = record { geom = g; epoch = h.epoch; slot = slot
 -- the session that begins with it: its mount is over after these events, and its first record is the header's next one
 abbrev pub session_at_mount : Geometry → Header → List Event → MountedSession
 session_at_mount g h log = record { geom = g; epoch = h.epoch; mounted = length log; first = h.start }
-
--- these blocks were written one behind the other, from block b on, each accepted with a new ticket
-abbrev pub AddsRow : ℕ → List (List ℕ) → List Event → List Event → Type 0
-AddsRow b [] old new = new ≡ old
-AddsRow b (x ∷ xs) old new = (t : ℕ) × (greatest_ticket old < t) × (¬ IsNoticed t old) × AddsRow (b + 1) xs (old ++ Wrote t b x ∷ []) new

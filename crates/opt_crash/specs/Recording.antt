@@ -3,13 +3,14 @@ use Rattle.std.specs.Prelude.{◌≡◌, ◌⊎◌, ℕ, ◌+◌, ◌<◌, ◌�
 use Rattle.opt_base.specs.Seal.{Blocks}
 use Rattle.opt_disk.specs.declared.event.Event.{Event}
 use Rattle.opt_disk.specs.Cell.{cell_of}
+use Rattle.opt_disk.specs.Disk.{State}
 use Rattle.opt_geom.specs.Geometry.{ring_block}
 use Rattle.opt_journal.specs.declared.header.Header.{Header}
 use Rattle.opt_journal.specs.declared.entry.Entry.{Entry}
 use Rattle.opt_journal.specs.Run.{place_after, places, all_places, names_block, is_live}
 use Rattle.opt_crash.specs.Ledger.{Ledger, WrittenRecord, block_at, IsSpelled, IsStanding, next_number, all_say, payload_in}
 use Rattle.opt_crash.specs.Steps.{IsBeingWritten, NoneIsBeingWritten, with_record}
-use Rattle.opt_crash.specs.Points.{MountedSession, IsSafe}
+use Rattle.opt_crash.specs.Points.{MountedSession, IsSafe, IsSafeOn}
 use Rattle.opt_crash.specs.PipelineData.{PipelineData, DataAgree, AreFreed, with_committed}
 use Rattle.opt_crash.specs.LastWrites.{IsLastWrite, HasTickets, IsDead, FreshAreNew, is_among}
 
@@ -41,10 +42,14 @@ pub record IsPartlyWritten (base : Blocks) (log : List Event) (l : Ledger) (p : 
   -- all that the session's data say holds on
   pub knows : DataAgree base log l p
 
+-- the same of what is known of a disk
+abbrev pub IsPartlyOn : State → Ledger → PipelineData → WrittenRecord → List ℕ → ℕ → ℕ → Type 0
+IsPartlyOn d l p w tickets laid issued = IsPartlyWritten d.base d.log l p w tickets laid issued
+
 -- what is known once a call has written one block more of the record
-abbrev pub PartWritten : {E : Type 0} → MountedSession → Ledger → PipelineData → WrittenRecord → ℕ → ℕ → List ℕ → ℕ → ℕ → Result ℕ E → Blocks → List Event → Type 0
-PartWritten s l p w t floor tickets laid issued (Ok ticket) base new = IsSafe s base new l t floor × IsPartlyWritten base new l p w (tickets ++ ticket ∷ []) laid issued
-PartWritten s l p w t floor tickets laid issued (Err e) base new = IsSafe s base new l t floor
+abbrev pub PartWritten : {E : Type 0} → MountedSession → Ledger → PipelineData → WrittenRecord → ℕ → ℕ → List ℕ → ℕ → ℕ → Result ℕ E → State → Type 0
+PartWritten s l p w t floor tickets laid issued (Ok ticket) new = IsSafeOn s new l t floor × IsPartlyOn new l p w (tickets ++ ticket ∷ []) laid issued
+PartWritten s l p w t floor tickets laid issued (Err e) new = IsSafeOn s new l t floor
 
 -- and once the commit block was written: the record is in the ledger, with its tickets, and none is being written
 pub record IsInLedger (s : MountedSession) (base : Blocks) (log : List Event) (l : Ledger) (p : PipelineData) (w : WrittenRecord) (m : Blocks) (t floor : ℕ) (tickets : List ℕ) : Type 0 where
@@ -55,6 +60,6 @@ pub record IsInLedger (s : MountedSession) (base : Blocks) (log : List Event) (l
   pub joined : (freed : List ℕ) → AreFreed l w m freed → DataAgree base log (with_record l w m) (with_committed p l w tickets freed)
 
 -- after the call for the commit block: the record is in the ledger, or the disk is safe all the same, with the record or without it
-abbrev pub RecordWritten : {E : Type 0} → MountedSession → Ledger → PipelineData → WrittenRecord → Blocks → ℕ → ℕ → List ℕ → Result ℕ E → List Event → Blocks → List Event → Type 0
-RecordWritten s l p w m t floor tickets (Ok ticket) log base new = IsInLedger s base new l p w m t floor (tickets ++ ticket ∷ [])
-RecordWritten s l p w m t floor tickets (Err e) log base new = ((new ≡ log) × IsSafe s base new l t floor) ⊎ IsSafe s base new (with_record l w m) t floor
+abbrev pub RecordWritten : {E : Type 0} → MountedSession → Ledger → PipelineData → WrittenRecord → Blocks → ℕ → ℕ → List ℕ → Result ℕ E → State → State → Type 0
+RecordWritten s l p w m t floor tickets (Ok ticket) old new = IsInLedger s new.base new.log l p w m t floor (tickets ++ ticket ∷ [])
+RecordWritten s l p w m t floor tickets (Err e) old new = ((new.log ≡ old.log) × IsSafeOn s new l t floor) ⊎ IsSafeOn s new (with_record l w m) t floor

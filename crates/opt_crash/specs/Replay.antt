@@ -18,12 +18,16 @@ pub record IsFound (n : ℕ) (at : Blocks) (slot : ℕ) (h : Header) (run : List
 abbrev pub found_map : Blocks → Header → List Record → Blocks
 found_map at h run = live_part h.geom (replayed h.geom at run)
 
--- one header stands alone in its slot, and in the other slot an older one or this next one
+-- A header beside this one, which is in this slot, is older: it has a lower turn, or the same turn in slot 1.
+abbrev pub IsOlder : ℕ → Header → Header → Type 0
+IsOlder slot h k = (k.turn < h.turn) ⊎ ((k.turn ≡ h.turn) × (slot ≡ 0))
+
+-- one header is alone in its slot, and in the other slot an older one or this next one
 pub record HasHeaders (n : ℕ) (cells : ℕ → Cell) (slot : ℕ) (h next : Header) : Type 0 where
   pub is_slot : slot < 2
   pub stands : header_of n (cells slot).settled ≡ Some h
   pub alone : (cells slot).pending ≡ []
-  pub other : (x : List ℕ) (k : Header) → StandsIn (cells (1 - slot)) x → header_of n x ≡ Some k → (k.turn < h.turn) ⊎ (k ≡ next)
+  pub other : (x : List ℕ) (k : Header) → StandsIn (cells (1 - slot)) x → header_of n x ≡ Some k → IsOlder slot h k ⊎ (k ≡ next)
   pub newer : h.turn < next.turn
 
 -- the blocks are as they were found
@@ -52,15 +56,19 @@ pub record IsReplaying (n : ℕ) (cells : ℕ → Cell) (at : Blocks) (slot : �
   pub is_slot : slot < 2
   pub stands : header_of n (cells slot).settled ≡ Some closed
   pub alone : (cells slot).pending ≡ []
-  pub other : (x : List ℕ) (k : Header) → StandsIn (cells (1 - slot)) x → header_of n x ≡ Some k → k.turn < closed.turn
+  pub other : (x : List ℕ) (k : Header) → StandsIn (cells (1 - slot)) x → header_of n x ≡ Some k → IsOlder slot closed k
   pub ring : (place : ℕ) → IsAsFound cells at (ring_block h.geom place)
   pub uncovered : (b : ℕ) → bitmap_start h.geom ≤ b → covered_by h.geom at None run b ≡ None → IsAsFound cells at b
 
--- Last, with all of them at home, a header of a new epoch is written.
-pub record IsOpening (n : ℕ) (cells : ℕ → Cell) (at : Blocks) (slot : ℕ) (h closed fresh : Header) (run : List Record) : Type 0 where
+-- All of them are at home: the ring is as it was found, and each block behind the journal is as the run leaves it.
+pub record IsReplayed (cells : ℕ → Cell) (at : Blocks) (h closed : Header) (run : List Record) : Type 0 where
   pub closes : Closes h closed run
+  pub ring : (place : ℕ) → IsAsFound cells at (ring_block h.geom place)
+  pub home : (b : ℕ) → bitmap_start h.geom ≤ b → ((cells b).settled ≡ replayed h.geom at run b) × ((cells b).pending ≡ [])
+
+-- Last, a header of a new epoch is written.
+pub record IsOpening (n : ℕ) (cells : ℕ → Cell) (at : Blocks) (slot : ℕ) (h closed fresh : Header) (run : List Record) : Type 0 where
+  pub replayed : IsReplayed cells at h closed run
   pub headers : HasHeaders n cells slot closed fresh
   pub geom : fresh.geom ≡ h.geom
   pub new_epoch : (place : ℕ) (c : Commit) → commit_of h.geom (at (ring_block h.geom place)) ≡ Some c → c.epoch < fresh.epoch
-  pub ring : (place : ℕ) → IsAsFound cells at (ring_block h.geom place)
-  pub home : (b : ℕ) → bitmap_start h.geom ≤ b → ((cells b).settled ≡ replayed h.geom at run b) × ((cells b).pending ≡ [])

@@ -17,8 +17,8 @@ ghost use Rattle.opt_crash.specs.OnePending.{MayWriteAllFresh};
 
 /// None is being written still.
 pub fn nothing_is_written_between_records()
-    ensures notice { (base : Blocks) (log : List Event) (l : Ledger) (t : ℕ) → NoneIsBeingWritten (cell_of base log) l → NoneIsBeingWritten (cell_of base (log ++ Noticed t ∷ [])) l }
-    ensures accepted { (base : Blocks) (log : List Event) (l : Ledger) (t b : ℕ) (x : List ℕ) → ((place : ℕ) → ring_block l.geom place ≢ b) → NoneIsBeingWritten (cell_of base log) l → NoneIsBeingWritten (cell_of base (log ++ Wrote t b x ∷ [])) l }
+    ensures notice { (base : Blocks) (log : List Event) (l : Ledger) (ticket : ℕ) → NoneIsBeingWritten (cell_of base log) l → NoneIsBeingWritten (cell_of base (log ++ Noticed ticket ∷ [])) l }
+    ensures accepted { (base : Blocks) (log : List Event) (l : Ledger) (ticket b : ℕ) (x : List ℕ) → ((place : ℕ) → ring_block l.geom place ≢ b) → NoneIsBeingWritten (cell_of base log) l → NoneIsBeingWritten (cell_of base (log ++ Wrote ticket b x ∷ [])) l }
     ensures lost { (base : Blocks) (log : List Event) (l : Ledger) (b : ℕ) (x : List ℕ) → ((place : ℕ) → ring_block l.geom place ≢ b) → NoneIsBeingWritten (cell_of base log) l → NoneIsBeingWritten (cell_of base (log ++ Lost b x ∷ [])) l }
     ensures known { (base : Blocks) (log : List Event) (l : Ledger) (number : ℕ) → NoneIsBeingWritten (cell_of base log) l → NoneIsBeingWritten (cell_of base log) (with_known l number) }
     ensures header { (base : Blocks) (log : List Event) (l : Ledger) (h : Header) → NoneIsBeingWritten (cell_of base log) l → NoneIsBeingWritten (cell_of base log) (with_header l h) }
@@ -40,5 +40,5 @@ pub fn taken_blocks_stay_dead()
     ensures known { (log : List Event) (l : Ledger) (p : PipelineData) (taken : List ℕ) (number : ℕ) → MayWriteAllFresh log l p taken → MayWriteAllFresh log (with_known l number) p taken }
     ensures header { (log : List Event) (l : Ledger) (p : PipelineData) (taken : List ℕ) (h : Header) → MayWriteAllFresh log l p taken → MayWriteAllFresh log (with_header l h) p taken }
     ensures durable { (base : Blocks) (log : List Event) (l : Ledger) (p : PipelineData) (taken : List ℕ) (h : Header) → IsConsistentWith base log l → l.next ≡ Some h → MayWriteAllFresh log l p taken → MayWriteAllFresh log (with_durable_header l h) p taken }
-    ensures home { (base : Blocks) (log : List Event) (l : Ledger) (p : PipelineData) (taken : List ℕ) (batch : List WrittenRecord) (b t : ℕ) (x : List ℕ) → IsConsistentWith base log l → NeedsCheckpoint l batch b x → MayWriteAllFresh log l p taken → MayWriteAllFresh log l (with_home p b t) taken }
+    ensures home { (base : Blocks) (log : List Event) (l : Ledger) (p : PipelineData) (taken : List ℕ) (batch : List WrittenRecord) (b ticket : ℕ) (x : List ℕ) → IsConsistentWith base log l → NeedsCheckpoint l batch b x → MayWriteAllFresh log l p taken → MayWriteAllFresh log l (with_home p b ticket) taken }
 {}

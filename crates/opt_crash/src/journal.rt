@@ -1,5 +1,5 @@
-//! The laws of lower crates that the argument stands on, gathered in one contract. The function does
-//! nothing; what the argument makes of these laws isn't told here.
+//! The laws of lower crates that the argument rests on, gathered in one contract. The function does
+//! nothing; what the argument makes of these laws isn't described here.
 
 ghost use Rattle.opt_crash.specs.JournalLaws.{JournalLaws};
 

@@ -1,6 +1,6 @@
 //! The theorem, that each honest image stands for one point, and one law for each kind of event: what must
 //! hold before it, and which ledger holds after it. The functions do nothing but call laws. How code knows
-//! that a condition holds isn't told here.
+//! that a condition holds isn't described here.
 
 ghost use Rattle.std.specs.Prelude.{◌≡◌, true, ◌<◌, ◌≤◌, ◌+◌, ◌-◌, ℕ, List, ◌++◌, ◌∷◌, []};
 ghost use Rattle.opt_base.specs.Seal.{Blocks};

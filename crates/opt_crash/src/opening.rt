@@ -2,16 +2,19 @@
 //! beside the newest one, written and waited for, over any disk. Which header is the newest, and which
 //! epoch is the greatest in the journal, is found elsewhere.
 
-ghost use Rattle.std.specs.Prelude.{◌≡◌, ◌<◌, ◌≤◌, ◌-◌, ◌^◌, ℕ, true, [], length, IsTrue, OnOk};
+ghost use Rattle.std.specs.Prelude.{◌≡◌, ◌<◌, ◌≤◌, ◌-◌, ◌^◌, ℕ, true, List, [], length, IsTrue, OnOk, is_err};
+ghost use Rattle.opt_base.specs.Seal.{Blocks};
 ghost use Rattle.opt_disk.specs.Cell.{cell_of};
 ghost use Rattle.opt_disk.specs.Crash.{Window};
-ghost use Rattle.opt_disk.specs.Disk.{SameDisk, HasCause};
+ghost use Rattle.opt_disk.specs.Disk.{SpendsUpTo};
 ghost use Rattle.opt_geom.specs.Geometry.{Geometry, geometry_fits};
+ghost use Rattle.opt_journal.specs.declared.header.Header.{Header};
 ghost use Rattle.opt_journal.specs.Spelling.{header_block};
-ghost use Rattle.opt_journal.specs.Run.{IsRun, HeldIs};
+ghost use Rattle.opt_journal.specs.Run.{Record, IsRun};
 ghost use Rattle.opt_journal.specs.Formatted.{empty_header, formatted};
+ghost use Rattle.opt_crash.specs.Ledger.{cells_of, HoldsUnder};
 ghost use Rattle.opt_crash.specs.Points.{IsMounted, commits};
-ghost use Rattle.opt_crash.specs.Replay.{found_map};
+ghost use Rattle.opt_crash.specs.Replay.{IsFound, IsReplayed, found_map};
 ghost use Rattle.opt_crash.specs.Opening.{opening_header, settled, IsReadyToOpen, AddsDurable};
 
 use crate::journal::the_journal_is_lawful;
@@ -19,27 +22,28 @@ use opt_base::Block;
 use opt_disk::{Disk, DiskFault};
 use opt_journal::{Header, journal_blocks_are_told_apart, journal_blocks_read_back, write_header};
 
-/// The header that opens a journal after this one: an epoch above all in the journal, the next turn, and
-/// no record. The next record will begin at the first ring place.
-pub fn opening_header(newest: &Header, greatest_epoch: u64) -> Header
+/// The header that opens a journal after this one, whose last record has the number `last`: an epoch above
+/// all on the disk, the next turn, and no record. The next record is the one behind the last, and will begin
+/// at the first ring place.
+pub fn opening_header(newest: &Header, last: u64, greatest_epoch: u64) -> Header
     requires epoch { greatest_epoch < 2 ^ 64 - 1 }
     requires turn { newest.now.turn < 2 ^ 64 - 1 }
-    requires sure { newest.now.sure < 2 ^ 64 - 1 }
-    ensures { result ≡ opening_header newest.now greatest_epoch }
+    requires last { last < 2 ^ 64 - 1 }
+    ensures { result ≡ opening_header newest.now last greatest_epoch }
 {
     Header {
         epoch: greatest_epoch + 1,
         turn: newest.turn + 1,
-        start: newest.sure + 1,
-        sure: newest.sure,
+        start: last + 1,
+        sure: last,
         at: 0,
         closed: false,
         geom: newest.geom,
     }
 }
 
-/// Writes that header beside the newest one, which stands in this slot, and waits for it. On `Ok` the
-/// disk is mounted. Whatever comes of the calls, each honest image since holds what stood there, where no
+/// Writes that header beside the newest one, which is in this slot, and waits for it. On `Ok` the
+/// disk is mounted. Whatever comes of the calls, each honest image since holds what was there, where no
 /// record of the journal counts.
 ///
 /// # Errors
@@ -49,26 +53,27 @@ pub fn open_journal<D: Disk>(
     disk: &mut D,
     slot: u32,
     newest: &Header,
+    last: u64,
     greatest_epoch: u64,
 ) -> Result<(), DiskFault>
     requires slot { slot < 2 }
     requires within { 2 ≤ (D.state disk.old).blocks }
     requires epoch { greatest_epoch < 2 ^ 64 - 1 }
     requires turn { newest.now.turn < 2 ^ 64 - 1 }
-    requires sure { newest.now.sure < 2 ^ 64 - 1 }
-    ensures opened { IsTrue D.tells → IsReadyToOpen (cell_of (D.state disk.old).base (D.state disk.old).log) slot newest.now greatest_epoch
-        → OnOk result (IsMounted (cell_of (D.state disk.new).base (D.state disk.new).log) newest.now.geom (1 - slot) (opening_header newest.now greatest_epoch)) }
-    ensures holds { IsTrue D.tells → IsReadyToOpen (cell_of (D.state disk.old).base (D.state disk.old).log) slot newest.now greatest_epoch → IsRun (settled (cell_of (D.state disk.old).base (D.state disk.old).log)) newest.now []
-        → Window newest.now.geom.n (D.state disk.old).base (D.state disk.new).log (length (D.state disk.old).log) (λ img. HeldIs newest.now.geom.n img (found_map (settled (cell_of (D.state disk.old).base (D.state disk.old).log)) newest.now [])) }
-    ensures log { IsTrue D.tells → AddsDurable (1 - slot) (header_block (opening_header newest.now greatest_epoch)) result (D.state disk.old).log (D.state disk.new).log }
+    requires last { last < 2 ^ 64 - 1 }
+    ensures opened { IsTrue D.tells → IsReadyToOpen (cells_of (D.state disk.old)) slot newest.now greatest_epoch
+        → OnOk result (IsMounted (cells_of (D.state disk.new)) newest.now.geom (1 - slot) (opening_header newest.now last greatest_epoch)) }
+    ensures holds { IsTrue D.tells → IsReadyToOpen (cells_of (D.state disk.old)) slot newest.now greatest_epoch → IsRun (settled (cells_of (D.state disk.old))) newest.now []
+        → Window newest.now.geom.n (D.state disk.old).base (D.state disk.new).log (length (D.state disk.old).log) (λ img. HoldsUnder newest.now.geom.n newest.now.geom img (found_map (settled (cells_of (D.state disk.old))) newest.now [])) }
+    ensures replayed { IsTrue D.tells → (at : Blocks) (old_slot : ℕ) (h : Header) (run : List Record) → IsReadyToOpen (cells_of (D.state disk.old)) slot newest.now greatest_epoch → IsFound newest.now.geom.n at old_slot h run → IsReplayed (cells_of (D.state disk.old)) at h newest.now run
+        → Window newest.now.geom.n (D.state disk.old).base (D.state disk.new).log (length (D.state disk.old).log) (λ img. HoldsUnder newest.now.geom.n h.geom img (found_map at h run)) }
+    ensures log { IsTrue D.tells → AddsDurable (1 - slot) (header_block (opening_header newest.now last greatest_epoch)) result (D.state disk.old).log (D.state disk.new).log }
     ensures commits { IsTrue D.tells → (g : Geometry) (epoch : ℕ) → commits g epoch (D.state disk.new).log ≡ commits g epoch (D.state disk.old).log }
-    ensures same { SameDisk (D.state disk.old) (D.state disk.new) }
-    ensures cause { HasCause result (D.state disk.old).faults (D.state disk.new).faults }
-    ensures read_faults { (D.state disk.new).read_faults ≡ (D.state disk.old).read_faults }
+    ensures spends { SpendsUpTo (is_err result) 1 (D.state disk.old) (D.state disk.new) }
 {
     the_journal_is_lawful();
     journal_blocks_read_back();
-    let header = opening_header(newest, greatest_epoch);
+    let header = opening_header(newest, last, greatest_epoch);
     let mut block: Block = [0; 1024];
     write_header(&header, &mut block);
     let ticket = disk.write(1 - slot, &block)?;

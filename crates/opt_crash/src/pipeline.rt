@@ -24,7 +24,7 @@ pub fn a_mounted_disk_has_its_data()
 
 /// A notice leaves all of it.
 pub fn a_notice_keeps_the_data()
-    ensures kept { (base : Blocks) (log : List Event) (l : Ledger) (p : PipelineData) (t : ℕ) → IsConsistentWith base log l → DataAgree base log l p → DataAgree base (log ++ Noticed t ∷ []) l p }
+    ensures kept { (base : Blocks) (log : List Event) (l : Ledger) (p : PipelineData) (ticket : ℕ) → IsConsistentWith base log l → DataAgree base log l p → DataAgree base (log ++ Noticed ticket ∷ []) l p }
 {}
 
 /// Records of which each ticket is noticed are durable.
@@ -36,7 +36,7 @@ pub fn records_become_durable()
 
 /// The header that was written last is durable once its ticket is noticed. Then records are sure or released, and blocks serve again.
 pub fn a_header_becomes_durable()
-    ensures durable { (base : Blocks) (log : List Event) (l : Ledger) (p : PipelineData) (h : Header) (t : ℕ) → IsConsistentWith base log l → DataAgree base log l p → l.next ≡ Some h → p.pending ≡ Some t → IsNoticed t log → IsDurable (cell_of base log) l h }
+    ensures durable { (base : Blocks) (log : List Event) (l : Ledger) (p : PipelineData) (h : Header) (ticket : ℕ) → IsConsistentWith base log l → DataAgree base log l p → l.next ≡ Some h → p.pending ≡ Some ticket → IsNoticed ticket log → IsDurable (cell_of base log) l h }
     ensures knows { (base : Blocks) (log : List Event) (l : Ledger) (p : PipelineData) (h : Header) → IsConsistentWith base log l → DataAgree base log l p → IsDurable (cell_of base log) l h → DataAgree base log (with_durable_header l h) (with_durable p l h) }
 {}
 
@@ -48,8 +48,8 @@ pub fn a_batch_comes_home()
 /// The next header may be written: it releases what is at home, and makes sure what is known.
 pub fn the_next_header_may_be_written()
     ensures may { (base : Blocks) (log : List Event) (l : Ledger) (p : PipelineData) (x : List ℕ) → IsConsistentWith base log l → DataAgree base log l p → l.next ≡ None → header_of l.geom.n x ≡ Some (next_header l p.placed) → MayWriteHeader (cell_of base log) l x (next_header l p.placed) }
-    ensures knows { (base : Blocks) (log : List Event) (l : Ledger) (p : PipelineData) (x : List ℕ) (t : ℕ) → IsConsistentWith base log l → DataAgree base log l p → l.next ≡ None → header_of l.geom.n x ≡ Some (next_header l p.placed) → greatest_ticket log < t → ¬ IsNoticed t log
-        → DataAgree base (log ++ Wrote t (1 - l.slot) x ∷ []) (with_header l (next_header l p.placed)) (with_pending p t) }
+    ensures knows { (base : Blocks) (log : List Event) (l : Ledger) (p : PipelineData) (x : List ℕ) (ticket : ℕ) → IsConsistentWith base log l → DataAgree base log l p → l.next ≡ None → header_of l.geom.n x ≡ Some (next_header l p.placed) → greatest_ticket log < ticket → ¬ IsNoticed ticket log
+        → DataAgree base (log ++ Wrote ticket (1 - l.slot) x ∷ []) (with_header l (next_header l p.placed)) (with_pending p ticket) }
 {}
 
 /// A block that the batch covers and that is live after the last sure record may be written home, while the batch ends with that record.
@@ -61,8 +61,8 @@ pub fn a_home_write_may_be_made()
 /// The records that are sure become the batch, its blocks are written home, ascending, and then all are sent.
 pub fn a_batch_goes_home()
     ensures taken { (base : Blocks) (log : List Event) (l : Ledger) (p : PipelineData) (count : ℕ) → IsConsistentWith base log l → DataAgree base log l p → p.batch ≡ 0 → l.header.start + p.placed + count ≡ l.header.sure + 1 → DataAgree base log l (with_batch p count) }
-    ensures written { (base : Blocks) (log : List Event) (l : Ledger) (p : PipelineData) (t b : ℕ) (x : List ℕ) → IsConsistentWith base log l → (k : DataAgree base log l p) → greatest_ticket log < t → ¬ IsNoticed t log → l.header.start + p.placed + p.batch ≡ l.header.sure + 1
-        → NeedsCheckpoint l k.batch b x → ((c : ℕ) (y : List ℕ) → p.sent ≤ c → c < b → ¬ NeedsCheckpoint l k.batch c y) → DataAgree base (log ++ Wrote t b x ∷ []) l (with_home p b t) }
+    ensures written { (base : Blocks) (log : List Event) (l : Ledger) (p : PipelineData) (ticket b : ℕ) (x : List ℕ) → IsConsistentWith base log l → (k : DataAgree base log l p) → greatest_ticket log < ticket → ¬ IsNoticed ticket log → l.header.start + p.placed + p.batch ≡ l.header.sure + 1
+        → NeedsCheckpoint l k.batch b x → ((c : ℕ) (y : List ℕ) → p.sent ≤ c → c < b → ¬ NeedsCheckpoint l k.batch c y) → DataAgree base (log ++ Wrote ticket b x ∷ []) l (with_home p b ticket) }
     ensures sent { (base : Blocks) (log : List Event) (l : Ledger) (p : PipelineData) (n : ℕ) → IsConsistentWith base log l → (k : DataAgree base log l p) → ((c : ℕ) (y : List ℕ) → p.sent ≤ c → c < n → ¬ NeedsCheckpoint l k.batch c y) → DataAgree base log l (with_sent p n) }
 {}
 

@@ -1,16 +1,17 @@
 //! Sync points as laws: how they begin with a mounted disk, that the last one is what has been issued, and
 //! that none changes as the log grows.
 
-ghost use Rattle.std.specs.Prelude.{◌≡◌, ◌-◌, ◌≤◌, ℕ, List, ◌++◌, length, IsTrue, Some, None};
+ghost use Rattle.std.specs.Prelude.{◌≡◌, ◌-◌, ◌≤◌, ℕ, List, ◌++◌, length, take, IsTrue, Some, None};
 ghost use Rattle.opt_base.specs.Seal.{Blocks};
 ghost use Rattle.opt_disk.specs.declared.event.Event.{Event};
 ghost use Rattle.opt_disk.specs.Cell.{cell_of};
+ghost use Rattle.opt_disk.specs.Crash.{IsHonest};
 ghost use Rattle.opt_geom.specs.Geometry.{Geometry};
 ghost use Rattle.opt_journal.specs.declared.header.Header.{Header};
 ghost use Rattle.opt_journal.specs.Run.{is_live, live_part, HeldIs};
-ghost use Rattle.opt_crash.specs.Ledger.{Ledger, IsConsistentWith, cover, issued, next_number};
+ghost use Rattle.opt_crash.specs.Ledger.{Ledger, HoldsUnder, IsConsistentWith, cover, issued, next_number};
 ghost use Rattle.opt_crash.specs.PipelineData.{PipelineData, DataAgree};
-ghost use Rattle.opt_crash.specs.Points.{MountedSession, IsMounted, IsPoint, IsSafe, commits, ledger_at_mount, session_at_mount};
+ghost use Rattle.opt_crash.specs.Points.{MountedSession, IsMounted, IsPoint, HoldsPoint, IsSafe, commits, ledger_at_mount, session_at_mount};
 
 use crate::journal::the_journal_is_lawful;
 
@@ -22,9 +23,19 @@ pub fn a_mounted_disk_is_safe()
     the_journal_is_lawful();
 }
 
+/// What a crash at a moment from t on may leave of a safe disk: an honest image holds the map of a point,
+/// from `floor` to the last one, and each map that it holds is such a one.
+pub fn a_crash_leaves_a_point()
+    ensures holds { (s : MountedSession) (base : Blocks) (log : List Event) (l : Ledger) (t floor k : ℕ) (img : Blocks) → IsSafe s base log l t floor → t ≤ k → k ≤ length log → IsHonest s.geom.n base (take k log) img → ∥ HoldsPoint s base log floor (commits s.geom s.epoch log) img ∥₁ }
+    ensures each { (s : MountedSession) (base : Blocks) (log : List Event) (l : Ledger) (t floor k : ℕ) (img m : Blocks) → IsSafe s base log l t floor → t ≤ k → k ≤ length log → IsHonest s.geom.n base (take k log) img → HeldIs s.geom.n img m
+        → ∥ ((point : ℕ) × (floor ≤ point) × (point ≤ commits s.geom s.epoch log) × IsPoint s base log point m) ∥₁ }
+{
+    the_journal_is_lawful();
+}
+
 /// The image in which all that was issued stands is that of the last point.
 pub fn all_issued_is_the_last_point()
-    ensures held { (s : MountedSession) (base : Blocks) (log : List Event) (l : Ledger) (t floor : ℕ) → IsSafe s base log l t floor → HeldIs l.geom.n (issued base log) (live_part l.geom (l.map_before (next_number l))) }
+    ensures held { (s : MountedSession) (base : Blocks) (log : List Event) (l : Ledger) (t floor : ℕ) → IsSafe s base log l t floor → HoldsUnder l.geom.n l.geom (issued base log) (live_part l.geom (l.map_before (next_number l))) }
     ensures last { (s : MountedSession) (base : Blocks) (log : List Event) (l : Ledger) (t floor : ℕ) → IsSafe s base log l t floor → IsPoint s base log (commits s.geom s.epoch log) (live_part l.geom (l.map_before (next_number l))) }
 {
     the_journal_is_lawful();
@@ -32,8 +43,8 @@ pub fn all_issued_is_the_last_point()
 
 /// A point stays as it is in every longer log, and a longer log adds none to those that were there.
 pub fn a_point_is_for_ever()
-    ensures stays { (s : MountedSession) (base : Blocks) (log more : List Event) (p : ℕ) (m : Blocks) → IsPoint s base log p m → IsPoint s base (log ++ more) p m }
-    ensures was { (s : MountedSession) (base : Blocks) (log more : List Event) (p : ℕ) (m : Blocks) → s.mounted ≤ length log → p ≤ commits s.geom s.epoch log → IsPoint s base (log ++ more) p m → IsPoint s base log p m }
+    ensures stays { (s : MountedSession) (base : Blocks) (log more : List Event) (point : ℕ) (m : Blocks) → IsPoint s base log point m → IsPoint s base (log ++ more) point m }
+    ensures was { (s : MountedSession) (base : Blocks) (log more : List Event) (point : ℕ) (m : Blocks) → s.mounted ≤ length log → point ≤ commits s.geom s.epoch log → IsPoint s base (log ++ more) point m → IsPoint s base log point m }
 {}
 
 /// A call that begins now begins safe: each image from this moment on stands for a point that is known, or

@@ -1,17 +1,17 @@
 //! The calls that write a record, block by block, each with what is issued of it then. What a record says,
 //! and which places and blocks it takes, is decided elsewhere.
 
-ghost use Rattle.std.specs.Prelude.{◌≡◌, ◌<◌, ◌≤◌, ◌+◌, ℕ, List, length, slice_get, IsTrue, Some};
+ghost use Rattle.std.specs.Prelude.{◌≡◌, ◌<◌, ◌+◌, ℕ, List, length, slice_get, IsTrue, Some, is_err};
 ghost use Rattle.opt_base.specs.Seal.{Blocks};
-ghost use Rattle.opt_disk.specs.Disk.{SameDisk, HasCause, AddsWrite};
+ghost use Rattle.opt_disk.specs.Disk.{AddsWrite, OnlyWrites};
 ghost use Rattle.opt_geom.specs.Geometry.{ring_block};
 ghost use Rattle.opt_journal.specs.declared.entry.Entry.{Entry};
 ghost use Rattle.opt_journal.specs.Run.{places};
 ghost use Rattle.opt_crash.specs.Ledger.{Ledger, WrittenRecord, block_at};
-ghost use Rattle.opt_crash.specs.Points.{MountedSession, IsSafe};
+ghost use Rattle.opt_crash.specs.Points.{MountedSession, IsSafeOn};
 ghost use Rattle.opt_crash.specs.LastWrites.{FreshAreNew};
 ghost use Rattle.opt_crash.specs.PipelineData.{PipelineData};
-ghost use Rattle.opt_crash.specs.Recording.{IsNextRecord, IsPartlyWritten, PartWritten, RecordWritten};
+ghost use Rattle.opt_crash.specs.Recording.{IsNextRecord, IsPartlyOn, PartWritten, RecordWritten};
 
 use crate::journal::the_journal_is_lawful;
 use opt_base::Block;
@@ -22,14 +22,10 @@ pub fn write_fresh<D: Disk>(disk: &mut D, block: u32, bytes: &Block) -> Result<u
     requires { block < (D.state disk.old).blocks }
     ensures under_way { IsTrue D.tells → (s : MountedSession) (l : Ledger) (p : PipelineData) (w : WrittenRecord) (m : Blocks) (t floor i issued : ℕ) (e : Entry) (tickets : List ℕ) → FreshAreNew l → IsNextRecord l w m
         → slice_get w.says.fresh i ≡ Some e → block ≡ e.block → bytes.now ≡ block_at w.fresh i
-        → IsSafe s (D.state disk.old).base (D.state disk.old).log l t floor → IsPartlyWritten (D.state disk.old).base (D.state disk.old).log l p w tickets i issued
-        → PartWritten s l p w t floor tickets (i + 1) issued result (D.state disk.new).base (D.state disk.new).log }
+        → IsSafeOn s (D.state disk.old) l t floor → IsPartlyOn (D.state disk.old) l p w tickets i issued
+        → PartWritten s l p w t floor tickets (i + 1) issued result (D.state disk.new) }
     ensures log { IsTrue D.tells → AddsWrite block bytes.now result (D.state disk.old).log (D.state disk.new).log }
-    ensures same { SameDisk (D.state disk.old) (D.state disk.new) }
-    ensures cause { HasCause result (D.state disk.old).faults (D.state disk.new).faults }
-    ensures waits { (D.state disk.new).waits ≡ (D.state disk.old).waits }
-    ensures polls { (D.state disk.new).polls ≡ (D.state disk.old).polls }
-    ensures read_faults { (D.state disk.new).read_faults ≡ (D.state disk.old).read_faults }
+    ensures spends { OnlyWrites (is_err result) (D.state disk.old) (D.state disk.new) }
 {
     the_journal_is_lawful();
     disk.write(block, bytes)
@@ -40,14 +36,10 @@ pub fn write_part<D: Disk>(disk: &mut D, block: u32, bytes: &Block) -> Result<u6
     requires { block < (D.state disk.old).blocks }
     ensures under_way { IsTrue D.tells → (s : MountedSession) (l : Ledger) (p : PipelineData) (w : WrittenRecord) (m : Blocks) (t floor i laid : ℕ) (tickets : List ℕ) → FreshAreNew l → IsNextRecord l w m
         → 0 < i → i < places w.says → block ≡ ring_block l.geom (w.says.place + i) → bytes.now ≡ block_at w.ring i
-        → IsSafe s (D.state disk.old).base (D.state disk.old).log l t floor → IsPartlyWritten (D.state disk.old).base (D.state disk.old).log l p w tickets laid i
-        → PartWritten s l p w t floor tickets laid (i + 1) result (D.state disk.new).base (D.state disk.new).log }
+        → IsSafeOn s (D.state disk.old) l t floor → IsPartlyOn (D.state disk.old) l p w tickets laid i
+        → PartWritten s l p w t floor tickets laid (i + 1) result (D.state disk.new) }
     ensures log { IsTrue D.tells → AddsWrite block bytes.now result (D.state disk.old).log (D.state disk.new).log }
-    ensures same { SameDisk (D.state disk.old) (D.state disk.new) }
-    ensures cause { HasCause result (D.state disk.old).faults (D.state disk.new).faults }
-    ensures waits { (D.state disk.new).waits ≡ (D.state disk.old).waits }
-    ensures polls { (D.state disk.new).polls ≡ (D.state disk.old).polls }
-    ensures read_faults { (D.state disk.new).read_faults ≡ (D.state disk.old).read_faults }
+    ensures spends { OnlyWrites (is_err result) (D.state disk.old) (D.state disk.new) }
 {
     the_journal_is_lawful();
     disk.write(block, bytes)
@@ -58,14 +50,10 @@ pub fn write_last<D: Disk>(disk: &mut D, block: u32, bytes: &Block) -> Result<u6
     requires { block < (D.state disk.old).blocks }
     ensures recorded { IsTrue D.tells → (s : MountedSession) (l : Ledger) (p : PipelineData) (w : WrittenRecord) (m : Blocks) (t floor : ℕ) (tickets : List ℕ) → FreshAreNew l → IsNextRecord l w m
         → block ≡ ring_block l.geom w.says.place → bytes.now ≡ block_at w.ring 0
-        → IsSafe s (D.state disk.old).base (D.state disk.old).log l t floor → IsPartlyWritten (D.state disk.old).base (D.state disk.old).log l p w tickets (length w.says.fresh) (places w.says)
-        → RecordWritten s l p w m t floor tickets result (D.state disk.old).log (D.state disk.new).base (D.state disk.new).log }
+        → IsSafeOn s (D.state disk.old) l t floor → IsPartlyOn (D.state disk.old) l p w tickets (length w.says.fresh) (places w.says)
+        → RecordWritten s l p w m t floor tickets result (D.state disk.old) (D.state disk.new) }
     ensures log { IsTrue D.tells → AddsWrite block bytes.now result (D.state disk.old).log (D.state disk.new).log }
-    ensures same { SameDisk (D.state disk.old) (D.state disk.new) }
-    ensures cause { HasCause result (D.state disk.old).faults (D.state disk.new).faults }
-    ensures waits { (D.state disk.new).waits ≡ (D.state disk.old).waits }
-    ensures polls { (D.state disk.new).polls ≡ (D.state disk.old).polls }
-    ensures read_faults { (D.state disk.new).read_faults ≡ (D.state disk.old).read_faults }
+    ensures spends { OnlyWrites (is_err result) (D.state disk.old) (D.state disk.new) }
 {
     the_journal_is_lawful();
     disk.write(block, bytes)

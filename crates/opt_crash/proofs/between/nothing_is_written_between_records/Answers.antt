@@ -1,4 +1,4 @@
-use Rattle.opt_crash.proofs.BetweenSteps.{idle_notice, idle_wrote, idle_lost, idle_known, idle_header, idle_durable}
+use Rattle.opt_crash.proofs.pipe.BetweenSteps.{idle_notice, idle_wrote, idle_lost, idle_known, idle_header, idle_durable}
 use Rattle.opt_crash.proofs.between.nothing_is_written_between_records.Goals as goal
 
 pub returns : goal.returns

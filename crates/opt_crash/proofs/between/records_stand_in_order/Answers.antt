@@ -1,5 +1,5 @@
-use Rattle.opt_crash.proofs.BetweenSteps.{record_at, ring_apart}
-use Rattle.opt_crash.proofs.Places.{behind_free}
+use Rattle.opt_crash.proofs.pipe.BetweenSteps.{record_at, ring_apart}
+use Rattle.opt_crash.proofs.log.Places.{behind_free}
 use Rattle.opt_crash.proofs.between.records_stand_in_order.Goals as goal
 
 pub returns : goal.returns

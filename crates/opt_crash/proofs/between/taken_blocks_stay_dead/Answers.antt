@@ -1,4 +1,4 @@
-use Rattle.opt_crash.proofs.TakenBlocks.{stay_by_events, stay_known, stay_header, stay_durable, stay_home}
+use Rattle.opt_crash.proofs.pipe.TakenBlocks.{stay_by_events, stay_known, stay_header, stay_durable, stay_home}
 use Rattle.opt_crash.proofs.between.taken_blocks_stay_dead.Goals as goal
 
 pub returns : goal.returns

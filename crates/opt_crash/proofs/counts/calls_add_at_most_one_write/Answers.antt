@@ -1,4 +1,4 @@
-use Rattle.opt_crash.proofs.CountSteps.{one_write, no_write_polled, no_write_waited}
+use Rattle.opt_crash.proofs.pipe.CountSteps.{one_write, no_write_polled, no_write_waited}
 use Rattle.opt_crash.proofs.counts.calls_add_at_most_one_write.Goals as goal
 
 pub returns : goal.returns

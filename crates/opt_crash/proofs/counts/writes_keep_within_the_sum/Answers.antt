@@ -1,4 +1,4 @@
-use Rattle.opt_crash.proofs.CountSteps.{counts_begin, counts_point, counts_part, counts_home, counts_fewer, counts_header}
+use Rattle.opt_crash.proofs.pipe.CountSteps.{counts_begin, counts_point, counts_part, counts_home, counts_fewer, counts_header}
 use Rattle.opt_crash.proofs.counts.writes_keep_within_the_sum.Goals as goal
 
 pub returns : goal.returns

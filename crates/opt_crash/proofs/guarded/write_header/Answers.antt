@@ -4,20 +4,20 @@ use Rattle.opt_disk.specs.declared.event.Event.TheVariants.{Wrote, Lost}
 use Rattle.opt_disk.specs.declared.disk.DiskFault.{DiskFault}
 use Rattle.opt_base.specs.Seal.{Blocks}
 use Rattle.opt_disk.specs.Cell.{cell_of}
-use Rattle.opt_disk.specs.Disk.{AddsWrite}
+use Rattle.opt_disk.specs.Disk.{State, AddsWrite}
 use Rattle.opt_journal.specs.declared.header.Header.{Header}
 use Rattle.opt_crash.specs.JournalLaws.{JournalLaws}
 use Rattle.opt_crash.specs.Ledger.{Ledger}
 use Rattle.opt_crash.specs.Steps.{MayWriteHeader, with_header}
 use Rattle.opt_crash.specs.Points.{MountedSession, IsSafe, HeaderWritten}
-use Rattle.opt_crash.proofs.Safe.{safe_wrote_header, safe_lost_header, moved}
+use Rattle.opt_crash.proofs.steps.Safe.{safe_wrote_header, safe_lost_header, moved}
 use Rattle.opt_crash.proofs.guarded.write_header.Goals as goal
 
-written : JournalLaws → (s : MountedSession) (base base2 : Blocks) (log new : List Event) (l : Ledger) (h : Header) (t floor slot : ℕ) (x : List ℕ) (r : Result ℕ DiskFault) → base2 ≡ base → slot ≡ 1 - l.slot
-    → MayWriteHeader (cell_of base log) l x h → AddsWrite slot x r log new → IsSafe s base log l t floor → HeaderWritten s l h t floor r log base2 new
-written laws s base base2 log new l h t floor slot x (Ok n) same at may adds safe = moved s base base2 _ new (with_header l h) t floor same (adds.2 ∙ ap (λ b. log ++ Wrote n b x ∷ []) at) (safe_wrote_header laws s base log l t floor safe n x h may)
-written laws s base base2 log new l h t floor slot x (Err e) same at may adds safe =
-    ⊎_elim (λ same_log. inl (same_log, moved s base base2 log new l t floor same same_log safe)) (λ lost. inr (moved s base base2 _ new (with_header l h) t floor same (lost ∙ ap (λ b. log ++ Lost b x ∷ []) at) (safe_lost_header laws s base log l t floor safe x h may))) adds
+written : JournalLaws → (s : MountedSession) (old new : State) (l : Ledger) (h : Header) (t floor slot : ℕ) (x : List ℕ) (r : Result ℕ DiskFault) → new.base ≡ old.base → slot ≡ 1 - l.slot
+    → MayWriteHeader (cell_of old.base old.log) l x h → AddsWrite slot x r old.log new.log → IsSafe s old.base old.log l t floor → HeaderWritten s l h t floor r old new
+written laws s old new l h t floor slot x (Ok n) same at may adds safe = moved s old.base new.base _ new.log (with_header l h) t floor same (adds.2 ∙ ap (λ b. old.log ++ Wrote n b x ∷ []) at) (safe_wrote_header laws s old.base old.log l t floor safe n x h may)
+written laws s old new l h t floor slot x (Err e) same at may adds safe =
+    ⊎_elim (λ same_log. inl (same_log, moved s old.base new.base old.log new.log l t floor same same_log safe)) (λ lost. inr (moved s old.base new.base _ new.log (with_header l h) t floor same (lost ∙ ap (λ b. old.log ++ Lost b x ∷ []) at) (safe_lost_header laws s old.base old.log l t floor safe x h may))) adds
 
 pub returns-clause-safe : goal.returns-clause-safe
-returns-clause-safe g c = λ tells s l h t floor at may safe. written c.the_journal_is_lawful.ensures s _ _ _ _ l h t floor c.args.slot c.args.bytes.now c.write.result c.write.ensures.same.base at may (c.write.ensures.log tells) safe
+returns-clause-safe g c = λ tells s l h t floor at may safe. written c.the_journal_is_lawful.ensures s (g.D.Disk.state c.args.disk.now) (g.D.Disk.state c.write.new.self) l h t floor c.args.slot c.args.bytes.now c.write.result c.write.ensures.spends.same.base at may (c.write.ensures.log tells) safe

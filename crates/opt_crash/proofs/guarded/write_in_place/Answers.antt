@@ -8,7 +8,7 @@ use Rattle.opt_crash.specs.JournalLaws.{JournalLaws}
 use Rattle.opt_crash.specs.Ledger.{Ledger}
 use Rattle.opt_crash.specs.Steps.{MayWriteInPlace}
 use Rattle.opt_crash.specs.Points.{MountedSession, IsSafe}
-use Rattle.opt_crash.proofs.Safe.{safe_wrote_in_place, safe_lost_in_place, moved}
+use Rattle.opt_crash.proofs.steps.Safe.{safe_wrote_in_place, safe_lost_in_place, moved}
 use Rattle.opt_crash.proofs.guarded.write_in_place.Goals as goal
 
 written : JournalLaws → (s : MountedSession) (base base2 : Blocks) (log new : List Event) (l : Ledger) (t floor block : ℕ) (x : List ℕ) (r : Result ℕ DiskFault) → base2 ≡ base → MayWriteInPlace (cell_of base log) l block
@@ -18,4 +18,4 @@ written laws s base base2 log new l t floor block x (Err e) same may adds safe =
     ⊎_elim (λ same_log. moved s base base2 log new l t floor same same_log safe) (λ lost. moved s base base2 _ new l t floor same lost (safe_lost_in_place laws s base log l t floor safe block x may)) adds
 
 pub returns-clause-safe : goal.returns-clause-safe
-returns-clause-safe g c = λ tells s l t floor may safe. written c.the_journal_is_lawful.ensures s _ _ _ _ l t floor c.args.block c.args.bytes.now c.write.result c.write.ensures.same.base may (c.write.ensures.log tells) safe
+returns-clause-safe g c = λ tells s l t floor may safe. written c.the_journal_is_lawful.ensures s _ _ _ _ l t floor c.args.block c.args.bytes.now c.write.result c.write.ensures.spends.same.base may (c.write.ensures.log tells) safe

@@ -9,7 +9,7 @@ use Rattle.opt_crash.specs.JournalLaws.{JournalLaws}
 use Rattle.opt_crash.specs.Ledger.{Ledger}
 use Rattle.opt_crash.specs.Steps.{MayWriteInRing}
 use Rattle.opt_crash.specs.Points.{MountedSession, IsSafe}
-use Rattle.opt_crash.proofs.Safe.{safe_wrote_ring, safe_lost_ring, moved}
+use Rattle.opt_crash.proofs.steps.Safe.{safe_wrote_ring, safe_lost_ring, moved}
 use Rattle.opt_crash.proofs.guarded.write_in_ring.Goals as goal
 
 written : JournalLaws → (s : MountedSession) (base base2 : Blocks) (log new : List Event) (l : Ledger) (t floor place block : ℕ) (x : List ℕ) (r : Result ℕ DiskFault) → base2 ≡ base → block ≡ ring_block l.geom place → MayWriteInRing l place x
@@ -20,4 +20,4 @@ written laws s base base2 log new l t floor place block x (Err e) same at may ad
     ⊎_elim (λ same_log. moved s base base2 log new l t floor same same_log safe) (λ lost. moved s base base2 _ new l t floor same (lost ∙ ap (λ b. log ++ Lost b x ∷ []) at) (safe_lost_ring laws s base log l t floor safe place x may)) adds
 
 pub returns-clause-safe : goal.returns-clause-safe
-returns-clause-safe g c = λ tells s l t floor place at may safe. written c.the_journal_is_lawful.ensures s _ _ _ _ l t floor place c.args.block c.args.bytes.now c.write.result c.write.ensures.same.base at may (c.write.ensures.log tells) safe
+returns-clause-safe g c = λ tells s l t floor place at may safe. written c.the_journal_is_lawful.ensures s _ _ _ _ l t floor place c.args.block c.args.bytes.now c.write.result c.write.ensures.spends.same.base at may (c.write.ensures.log tells) safe

@@ -1,4 +1,4 @@
-use Rattle.opt_crash.proofs.Geometries.{sized}
+use Rattle.opt_crash.proofs.theorem.Geometries.{sized}
 use Rattle.opt_crash.proofs.journal.the_journal_is_lawful.Goals as goal
 
 pub returns : goal.returns

@@ -1,4 +1,4 @@
-use Rattle.opt_crash.proofs.Safe.{safe_wrote_commit, safe_lost_commit}
+use Rattle.opt_crash.proofs.steps.Safe.{safe_wrote_commit, safe_lost_commit}
 use Rattle.opt_crash.proofs.laws.a_commit_is_safe.Goals as goal
 
 pub returns : goal.returns

@@ -1,4 +1,4 @@
-use Rattle.opt_crash.proofs.Safe.{safe_turned}
+use Rattle.opt_crash.proofs.steps.Safe.{safe_turned}
 use Rattle.opt_crash.proofs.laws.a_durable_header_is_safe.Goals as goal
 
 pub returns : goal.returns

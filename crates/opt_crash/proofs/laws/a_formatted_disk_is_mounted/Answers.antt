@@ -1,6 +1,6 @@
 use Rattle.std.proofs.Common.{replicate}
 use Rattle.opt_journal.specs.declared.entry.EntryKind.TheVariants.{Payload}
-use Rattle.opt_crash.proofs.Formatted.{formatted_mounts, zeros_are_stored}
+use Rattle.opt_crash.proofs.mount.Formatted.{formatted_mounts, zeros_are_stored}
 use Rattle.opt_crash.proofs.laws.a_formatted_disk_is_mounted.Goals as goal
 
 pub returns : goal.returns

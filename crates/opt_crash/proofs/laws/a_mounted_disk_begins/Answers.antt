@@ -1,5 +1,5 @@
-use Rattle.opt_crash.proofs.Idle.{begins_idle}
-use Rattle.opt_crash.proofs.PointSteps.{begins}
+use Rattle.opt_crash.proofs.steps.Idle.{begins_idle}
+use Rattle.opt_crash.proofs.steps.PointSteps.{begins}
 use Rattle.opt_crash.proofs.laws.a_mounted_disk_begins.Goals as goal
 
 pub returns : goal.returns

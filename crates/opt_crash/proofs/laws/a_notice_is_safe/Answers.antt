@@ -1,4 +1,4 @@
-use Rattle.opt_crash.proofs.Safe.{safe_notice}
+use Rattle.opt_crash.proofs.steps.Safe.{safe_notice}
 use Rattle.opt_crash.proofs.laws.a_notice_is_safe.Goals as goal
 
 pub returns : goal.returns

@@ -1,4 +1,4 @@
-use Rattle.opt_crash.proofs.Safe.{safe_wrote_ring, safe_lost_ring}
+use Rattle.opt_crash.proofs.steps.Safe.{safe_wrote_ring, safe_lost_ring}
 use Rattle.opt_crash.proofs.laws.a_ring_write_is_safe.Goals as goal
 
 pub returns : goal.returns

@@ -1,4 +1,4 @@
-use Rattle.opt_crash.proofs.Safe.{safe_wrote_in_place, safe_lost_in_place}
+use Rattle.opt_crash.proofs.steps.Safe.{safe_wrote_in_place, safe_lost_in_place}
 use Rattle.opt_crash.proofs.laws.a_write_in_place_is_safe.Goals as goal
 
 pub returns : goal.returns

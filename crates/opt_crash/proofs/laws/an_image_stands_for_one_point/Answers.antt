@@ -1,4 +1,4 @@
-use Rattle.opt_crash.proofs.Whole.{stands_for_one}
+use Rattle.opt_crash.proofs.theorem.Whole.{stands_for_one}
 use Rattle.opt_crash.proofs.laws.an_image_stands_for_one_point.Goals as goal
 
 pub returns : goal.returns

@@ -1,4 +1,4 @@
-use Rattle.opt_crash.proofs.Safe.{safe_known}
+use Rattle.opt_crash.proofs.steps.Safe.{safe_known}
 use Rattle.opt_crash.proofs.laws.noticed_records_are_known.Goals as goal
 
 pub returns : goal.returns

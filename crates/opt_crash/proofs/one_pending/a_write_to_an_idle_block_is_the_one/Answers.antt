@@ -1,4 +1,4 @@
-use Rattle.opt_crash.proofs.OnePendingSteps.{one_under_way, one_header, one_home}
+use Rattle.opt_crash.proofs.pipe.OnePendingSteps.{one_under_way, one_header, one_home}
 use Rattle.opt_crash.proofs.one_pending.a_write_to_an_idle_block_is_the_one.Goals as goal
 
 pub returns : goal.returns

@@ -1,4 +1,4 @@
-use Rattle.opt_crash.proofs.OnePendingSteps.{fresh_idle, home_idle}
+use Rattle.opt_crash.proofs.pipe.OnePendingSteps.{fresh_idle, home_idle}
 use Rattle.opt_crash.proofs.one_pending.blocks_to_be_written_are_idle.Goals as goal
 
 pub returns : goal.returns

@@ -1,4 +1,4 @@
-use Rattle.opt_crash.proofs.OnePendingSteps.{one_begins, one_notice, one_lost}
+use Rattle.opt_crash.proofs.pipe.OnePendingSteps.{one_begins, one_notice, one_lost}
 use Rattle.opt_crash.proofs.one_pending.one_write_is_pending.Goals as goal
 
 pub returns : goal.returns

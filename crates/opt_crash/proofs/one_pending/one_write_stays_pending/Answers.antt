@@ -1,4 +1,4 @@
-use Rattle.opt_crash.proofs.OnePendingSteps.{one_known, one_durable, one_batch, one_sent, one_placed, one_joins}
+use Rattle.opt_crash.proofs.pipe.OnePendingSteps.{one_known, one_durable, one_batch, one_sent, one_placed, one_joins}
 use Rattle.opt_crash.proofs.one_pending.one_write_stays_pending.Goals as goal
 
 pub returns : goal.returns

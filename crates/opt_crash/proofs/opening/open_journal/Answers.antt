@@ -4,9 +4,13 @@ use Rattle.opt_disk.specs.Cell.{cell_of}
 use Rattle.opt_journal.specs.Spelling.{header_block}
 use Rattle.opt_crash.specs.Points.{IsMounted}
 use Rattle.opt_crash.specs.Opening.{opening_header}
-use Rattle.opt_crash.proofs.OpeningMoments.{holds_waited, holds_failed}
-use Rattle.opt_crash.proofs.OpeningSteps.{opened, then_waited, then_noticed, failed_write, failed_wait, commits_failed, commits_waited, is_low}
+use Rattle.opt_crash.proofs.mount.OpeningMoments.{holds_waited, holds_failed, found_waited, found_failed}
+use Rattle.opt_crash.proofs.mount.OpeningSteps.{opened, then_waited, then_noticed, failed_write, failed_wait, commits_failed, commits_waited, is_low}
+use Rattle.opt_crash.proofs.log.Spending.{wait_failed}
 use Rattle.opt_crash.proofs.opening.open_journal.Goals as goal
+
+pub returns-in_err-wait-clause-spends : goal.returns-in_err-wait-clause-spends
+returns-in_err-wait-clause-spends g c = wait_failed _ _ _ _ c.from_residual-in_err-wait.ensures.0 c.in_ok-ticket.ensures.spends c.in_err-wait.ensures.spends
 
 pub returns-in_err-ticket-clause-log : goal.returns-in_err-ticket-clause-log
 returns-in_err-ticket-clause-log g c = λ tells.
@@ -26,23 +30,38 @@ returns-in_err-wait-clause-commits g c = λ tells geom epoch. commits_waited geo
 
 pub returns-clause-opened : goal.returns-clause-opened
 returns-clause-opened g c = λ tells ready.
-    let done = then_noticed (1 - c.args.slot) c.in_ok-ticket.ticket (header_block (opening_header c.args.newest.now c.args.greatest_epoch)) c.write_header.new.into _ _ _ (c.write_header.ensures ∙ ap header_block c.opening_header-header.ensures) (c.in_ok-ticket.ensures.log tells) (c.wait.ensures.log tells) (c.in_ok-wait.ensures.noticed tells) in
-    subst (λ (b : Blocks). IsMounted (cell_of b (g.D.Disk.state c.wait.new.self).log) c.args.newest.now.geom (1 - c.args.slot) (opening_header c.args.newest.now c.args.greatest_epoch)) (sym (c.wait.ensures.same.base ∙ c.write.ensures.same.base))
-    (opened c.the_journal_is_lawful.ensures c.journal_blocks_read_back.ensures.headers _ _ _ c.args.slot c.args.newest.now c.args.greatest_epoch c.requires.epoch c.requires.turn c.requires.sure ready done.0 done.1)
+    let done = then_noticed (1 - c.args.slot) c.in_ok-ticket.ticket (header_block (opening_header c.args.newest.now c.args.last c.args.greatest_epoch)) c.write_header.new.into _ _ _ (c.write_header.ensures ∙ ap header_block c.opening_header-header.ensures) (c.in_ok-ticket.ensures.log tells) (c.wait.ensures.log tells) (c.in_ok-wait.ensures.noticed tells) in
+    subst (λ (b : Blocks). IsMounted (cell_of b (g.D.Disk.state c.wait.new.self).log) c.args.newest.now.geom (1 - c.args.slot) (opening_header c.args.newest.now c.args.last c.args.greatest_epoch)) (sym (c.wait.ensures.spends.same.base ∙ c.write.ensures.spends.same.base))
+    (opened c.the_journal_is_lawful.ensures c.journal_blocks_read_back.ensures.headers _ _ _ c.args.slot c.args.newest.now c.args.last c.args.greatest_epoch c.requires.epoch c.requires.turn c.requires.last ready done.0 done.1)
 
 pub returns-in_err-ticket-clause-holds : goal.returns-in_err-ticket-clause-holds
 returns-in_err-ticket-clause-holds g c = λ tells ready run.
-    holds_failed c.the_journal_is_lawful.ensures c.journal_blocks_read_back.ensures.headers _ _ c.args.slot c.args.newest.now c.args.greatest_epoch c.requires.epoch c.requires.turn c.requires.sure ready run _ _ c.in_err-ticket.field-0.0
+    holds_failed c.the_journal_is_lawful.ensures c.journal_blocks_read_back.ensures.headers _ _ c.args.slot c.args.newest.now c.args.last c.args.greatest_epoch c.requires.epoch c.requires.turn c.requires.last ready run _ _ c.in_err-ticket.field-0.0
+    (c.write_header.ensures ∙ ap header_block c.opening_header-header.ensures) (c.in_err-ticket.ensures.log tells)
+
+pub returns-in_err-ticket-clause-replayed : goal.returns-in_err-ticket-clause-replayed
+returns-in_err-ticket-clause-replayed g c = λ tells was old_slot h run ready found done.
+    found_failed c.the_journal_is_lawful.ensures c.journal_blocks_read_back.ensures.headers _ _ c.args.slot c.args.newest.now c.args.last c.args.greatest_epoch c.requires.epoch c.requires.turn c.requires.last ready was old_slot h run found done _ _ c.in_err-ticket.field-0.0
     (c.write_header.ensures ∙ ap header_block c.opening_header-header.ensures) (c.in_err-ticket.ensures.log tells)
 
 pub returns-in_err-wait-clause-holds : goal.returns-in_err-wait-clause-holds
 returns-in_err-wait-clause-holds g c = λ tells ready run.
-    holds_waited c.the_journal_is_lawful.ensures c.journal_blocks_read_back.ensures.headers _ _ c.args.slot c.args.newest.now c.args.greatest_epoch c.requires.epoch c.requires.turn c.requires.sure ready run _
+    holds_waited c.the_journal_is_lawful.ensures c.journal_blocks_read_back.ensures.headers _ _ c.args.slot c.args.newest.now c.args.last c.args.greatest_epoch c.requires.epoch c.requires.turn c.requires.last ready run _
+    (then_waited _ c.in_ok-ticket.ticket _ _ _ _ _ (c.write_header.ensures ∙ ap header_block c.opening_header-header.ensures) (c.in_ok-ticket.ensures.log tells) (c.wait.ensures.log tells))
+
+pub returns-in_err-wait-clause-replayed : goal.returns-in_err-wait-clause-replayed
+returns-in_err-wait-clause-replayed g c = λ tells was old_slot h run ready found done.
+    found_waited c.the_journal_is_lawful.ensures c.journal_blocks_read_back.ensures.headers _ _ c.args.slot c.args.newest.now c.args.last c.args.greatest_epoch c.requires.epoch c.requires.turn c.requires.last ready was old_slot h run found done _
     (then_waited _ c.in_ok-ticket.ticket _ _ _ _ _ (c.write_header.ensures ∙ ap header_block c.opening_header-header.ensures) (c.in_ok-ticket.ensures.log tells) (c.wait.ensures.log tells))
 
 pub returns-clause-holds : goal.returns-clause-holds
 returns-clause-holds g c = λ tells ready run.
-    holds_waited c.the_journal_is_lawful.ensures c.journal_blocks_read_back.ensures.headers _ _ c.args.slot c.args.newest.now c.args.greatest_epoch c.requires.epoch c.requires.turn c.requires.sure ready run _
+    holds_waited c.the_journal_is_lawful.ensures c.journal_blocks_read_back.ensures.headers _ _ c.args.slot c.args.newest.now c.args.last c.args.greatest_epoch c.requires.epoch c.requires.turn c.requires.last ready run _
+    (then_waited _ c.in_ok-ticket.ticket _ _ _ _ _ (c.write_header.ensures ∙ ap header_block c.opening_header-header.ensures) (c.in_ok-ticket.ensures.log tells) (c.wait.ensures.log tells))
+
+pub returns-clause-replayed : goal.returns-clause-replayed
+returns-clause-replayed g c = λ tells was old_slot h run ready found done.
+    found_waited c.the_journal_is_lawful.ensures c.journal_blocks_read_back.ensures.headers _ _ c.args.slot c.args.newest.now c.args.last c.args.greatest_epoch c.requires.epoch c.requires.turn c.requires.last ready was old_slot h run found done _
     (then_waited _ c.in_ok-ticket.ticket _ _ _ _ _ (c.write_header.ensures ∙ ap header_block c.opening_header-header.ensures) (c.in_ok-ticket.ensures.log tells) (c.wait.ensures.log tells))
 
 pub returns-clause-log : goal.returns-clause-log

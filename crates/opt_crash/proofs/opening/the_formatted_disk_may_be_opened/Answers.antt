@@ -1,7 +1,7 @@
 use Rattle.std.proofs.Common.{replicate}
 use Rattle.opt_journal.specs.declared.entry.EntryKind.TheVariants.{Payload}
-use Rattle.opt_crash.proofs.Formatted.{zeros_are_stored}
-use Rattle.opt_crash.proofs.FormattedOpens.{formatted_opens, formatted_runs}
+use Rattle.opt_crash.proofs.mount.Formatted.{zeros_are_stored}
+use Rattle.opt_crash.proofs.mount.FormattedOpens.{formatted_opens, formatted_runs}
 use Rattle.opt_crash.proofs.opening.the_formatted_disk_may_be_opened.Goals as goal
 
 pub returns : goal.returns

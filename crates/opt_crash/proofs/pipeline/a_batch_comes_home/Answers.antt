@@ -1,4 +1,4 @@
-use Rattle.opt_crash.proofs.PipelineSteps.{knows_placed}
+use Rattle.opt_crash.proofs.pipe.PipelineSteps.{knows_placed}
 use Rattle.opt_crash.proofs.pipeline.a_batch_comes_home.Goals as goal
 
 pub returns : goal.returns

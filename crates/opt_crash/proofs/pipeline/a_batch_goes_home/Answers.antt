@@ -1,4 +1,4 @@
-use Rattle.opt_crash.proofs.Homing.{knows_batch, knows_home, knows_sent}
+use Rattle.opt_crash.proofs.pipe.Homing.{knows_batch, knows_home, knows_sent}
 use Rattle.opt_crash.proofs.pipeline.a_batch_goes_home.Goals as goal
 
 pub returns : goal.returns

@@ -1,4 +1,4 @@
-use Rattle.opt_crash.proofs.PipelineSteps.{header_durable, knows_turned}
+use Rattle.opt_crash.proofs.pipe.PipelineSteps.{header_durable, knows_turned}
 use Rattle.opt_crash.proofs.pipeline.a_header_becomes_durable.Goals as goal
 
 pub returns : goal.returns

@@ -1,5 +1,5 @@
 use Rattle.std.proofs.Common.{arith}
-use Rattle.opt_crash.proofs.PipelineSteps.{home_write_may}
+use Rattle.opt_crash.proofs.pipe.PipelineSteps.{home_write_may}
 use Rattle.opt_crash.proofs.pipeline.a_home_write_may_be_made.Goals as goal
 
 pub returns : goal.returns

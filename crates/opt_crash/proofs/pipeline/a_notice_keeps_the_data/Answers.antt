@@ -1,4 +1,4 @@
-use Rattle.opt_crash.proofs.PipelineSteps.{knows_notice}
+use Rattle.opt_crash.proofs.pipe.PipelineSteps.{knows_notice}
 use Rattle.opt_crash.proofs.pipeline.a_notice_keeps_the_data.Goals as goal
 
 pub returns : goal.returns

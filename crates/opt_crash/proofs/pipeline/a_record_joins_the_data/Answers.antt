@@ -1,4 +1,4 @@
-use Rattle.opt_crash.proofs.PipelineWrites.{knows_recorded}
+use Rattle.opt_crash.proofs.pipe.PipelineWrites.{knows_recorded}
 use Rattle.opt_crash.proofs.pipeline.a_record_joins_the_data.Goals as goal
 
 pub returns : goal.returns

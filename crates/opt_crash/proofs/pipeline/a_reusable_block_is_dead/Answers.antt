@@ -1,4 +1,4 @@
-use Rattle.opt_crash.proofs.PipelineSteps.{reusable_dead}
+use Rattle.opt_crash.proofs.pipe.PipelineSteps.{reusable_dead}
 use Rattle.opt_crash.proofs.pipeline.a_reusable_block_is_dead.Goals as goal
 
 pub returns : goal.returns

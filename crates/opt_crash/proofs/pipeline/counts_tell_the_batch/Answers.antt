@@ -1,4 +1,4 @@
-use Rattle.opt_crash.proofs.BetweenSteps.{placed_told, batch_told, rest_told}
+use Rattle.opt_crash.proofs.pipe.BetweenSteps.{placed_told, batch_told, rest_told}
 use Rattle.opt_crash.proofs.pipeline.counts_tell_the_batch.Goals as goal
 
 pub returns : goal.returns

@@ -1,4 +1,4 @@
-use Rattle.opt_crash.proofs.BetweenSteps.{knows_less_sent}
+use Rattle.opt_crash.proofs.pipe.BetweenSteps.{knows_less_sent}
 use Rattle.opt_crash.proofs.pipeline.fewer_may_be_sent.Goals as goal
 
 pub returns : goal.returns

@@ -1,4 +1,4 @@
-use Rattle.opt_crash.proofs.PipelineSteps.{durable_noticed, newly_noticed, knows_known}
+use Rattle.opt_crash.proofs.pipe.PipelineSteps.{durable_noticed, newly_noticed, knows_known}
 use Rattle.opt_crash.proofs.pipeline.records_become_durable.Goals as goal
 
 pub returns : goal.returns

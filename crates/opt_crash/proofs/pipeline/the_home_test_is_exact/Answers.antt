@@ -1,4 +1,4 @@
-use Rattle.opt_crash.proofs.HomeTests.{test_needs, needs_test}
+use Rattle.opt_crash.proofs.pipe.HomeTests.{test_needs, needs_test}
 use Rattle.opt_crash.proofs.pipeline.the_home_test_is_exact.Goals as goal
 
 pub returns : goal.returns

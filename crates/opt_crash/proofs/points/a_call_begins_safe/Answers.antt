@@ -1,5 +1,5 @@
 use Rattle.std.proofs.Common.{arith}
-use Rattle.opt_crash.proofs.WindowSteps.{between_start}
+use Rattle.opt_crash.proofs.steps.WindowSteps.{between_start}
 use Rattle.opt_crash.proofs.points.a_call_begins_safe.Goals as goal
 
 pub returns : goal.returns

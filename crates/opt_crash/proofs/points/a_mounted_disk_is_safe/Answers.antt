@@ -1,4 +1,4 @@
-use Rattle.opt_crash.proofs.Mounted.{mounted_safe}
+use Rattle.opt_crash.proofs.mount.Mounted.{mounted_safe}
 use Rattle.opt_crash.proofs.points.a_mounted_disk_is_safe.Goals as goal
 
 pub returns : goal.returns

@@ -1,4 +1,4 @@
-use Rattle.opt_crash.proofs.Mounted.{safe_holds, safe_last}
+use Rattle.opt_crash.proofs.mount.Mounted.{safe_holds, safe_last}
 use Rattle.opt_crash.proofs.points.all_issued_is_the_last_point.Goals as goal
 
 pub returns : goal.returns

@@ -1,4 +1,4 @@
-use Rattle.opt_crash.proofs.NewestBytes.{newest_payload, newest_written}
+use Rattle.opt_crash.proofs.pipe.NewestBytes.{newest_payload, newest_written}
 use Rattle.opt_crash.proofs.points.the_newest_bytes_are_the_map.Goals as goal
 
 pub returns : goal.returns

@@ -1,4 +1,4 @@
-use Rattle.opt_crash.proofs.ReplayStages.{closing_holds, replaying_holds, opening_holds}
+use Rattle.opt_crash.proofs.mount.ReplayStages.{closing_holds, replaying_holds, opening_holds}
 use Rattle.opt_crash.proofs.replay.a_replay_holds_what_was_found.Goals as goal
 
 pub returns : goal.returns

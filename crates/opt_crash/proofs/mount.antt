@@ -1,0 +1,9 @@
+pub mod Mounted
+pub mod Formatted
+pub mod FormattedOpens
+pub mod OpeningSteps
+pub mod OpeningMoments
+pub mod ReplayStages
+pub mod ReplayMade
+pub mod HomeWrites
+pub mod ReplaySteps

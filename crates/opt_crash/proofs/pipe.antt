@@ -1,0 +1,13 @@
+pub mod InPlace
+pub mod PipelineSteps
+pub mod PipelineWrites
+pub mod PipelineNotices
+pub mod Homing
+pub mod NextHeader
+pub mod RecordSteps
+pub mod HomeTests
+pub mod NewestBytes
+pub mod BetweenSteps
+pub mod TakenBlocks
+pub mod OnePendingSteps
+pub mod CountSteps

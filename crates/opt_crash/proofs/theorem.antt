@@ -1,0 +1,5 @@
+pub mod Geometries
+pub mod Images
+pub mod Core
+pub mod Stands
+pub mod Whole

@@ -1,0 +1,11 @@
+pub mod FirstBitmap
+pub mod FirstMount
+pub mod FirstNext
+pub mod FirstSettled
+pub mod FirstSpelled
+pub mod RecordClient
+pub mod RecordLife
+pub mod SettlingSteps
+pub mod Tests
+pub mod Spending
+pub mod Orders

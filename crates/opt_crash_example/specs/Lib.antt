@@ -1,0 +1,3 @@
+pub mod FirstRecord
+pub mod OneRecord
+pub mod CrashLaws
