@@ -137,7 +137,7 @@ grows_by_list g bs old new less = by_list (λ c. is_payload (old c)) (λ c. is_p
     by c (inl e) = inl e
     by c (inr e) = inr (sym (bits_are g bs c) ∙ e)
 
--- a bit of the list stands in the bitmap
+-- a bit of the list is in the bitmap
 bit_within : (g : Geometry) (bs : List ℕ) (c : ℕ) → All (λ b. b < g.n) bs → has_bit g bs c ≡ true → (bitmap_start g ≤ c) × (c < bitmap_start g + bitmap_blocks g)
 bit_within g [] c all is = absurd (false≢true is)
 bit_within g (b ∷ bs) c all is = by (cases_Bool (c == bit_block g b)) (bit_within g bs c (λ i d low. all (suc i) d (omega (arith, low))))

@@ -23,7 +23,7 @@ points_kept saved now (start ∷ starts) b x before is behind =
 
 -- They were saved before.
 
--- what stands in the block now doesn't matter where it is written at last
+-- what is in the block now doesn't matter where it is written at last
 undone_over : (ss : List Saved) (now : List (List ℕ)) (b : ℕ) (x y : List ℕ) → slice_set (undone ss (slice_set now b x)) b y ≡ slice_set (undone ss now) b y
 undone_over [] now b x y = set-set now b x y
 undone_over (s ∷ ss) now b x y = by (cases_eq s.block b) (undone_over ss now b x y)

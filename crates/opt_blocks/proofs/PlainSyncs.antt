@@ -1,6 +1,6 @@
 -- A sync of a map of blocks in memory: nothing to commit, out of memory, a point made, and the floor raised.
 use Rattle.std.proofs.Common.{◌≡◌, ◌≢◌, ℕ, ◌+◌, ◌≤◌, ◌==◌, true, false, [], ◌∷◌, ◌++◌, refl, sym, ap, subst, ◌∙◌, arith, inl, inr, Ok, Err}
-use Rattle.std.proofs.lemmas.Bool.{cond-true, cond-false, eq-eqb, ne_eqb, false≢true}
+use Rattle.std.proofs.lemmas.Bool.{cond-true, cond-false, eq-eqb, ne_eqb}
 use Rattle.opt_blocks.specs.declared.plain.PlainBlocks.{PlainBlocks}
 use Rattle.opt_blocks.specs.declared.refusals.SyncRefusal.TheVariants.{NoMemory}
 use Rattle.opt_blocks.specs.Running.{Running, HasNoBare, nothing_running}
@@ -22,8 +22,7 @@ changed r x y d = cond-false (r.weight == 0) y x (ne_eqb r.weight 0 d)
 -- memory has no counts but that of ticks
 quiet : (old new : PlainBlocks) → UsesDisk false (state_of old) (state_of new)
 quiet old new = record {
-  faults = omega arith;
-  rose = λ fails. absurd (false≢true fails);
+  faults = refl;
   stopped = refl;
   read_faults = refl;
   waits = omega arith;
@@ -114,7 +113,7 @@ syncs_durably old mid point floor rises h = record {
     floor = omega (arith, h.after.floor, rises);
   };
   ends = record { running = h.ends.running; free_places = h.ends.free_places };
-  disk = record { faults = h.disk.faults; rose = h.disk.rose; stopped = h.disk.stopped; read_faults = h.disk.read_faults; waits = h.disk.waits };
+  disk = record { faults = h.disk.faults; stopped = h.disk.stopped; read_faults = h.disk.read_faults; waits = h.disk.waits };
   ticks = h.ticks;
   map = h.map;
   crash = λ t. advances_on (state_of old) (state_of mid) (with_floor mid floor) (h.crash t) (floor_rises mid floor rises);

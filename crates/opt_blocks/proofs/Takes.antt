@@ -101,6 +101,6 @@ may_next k xs i d low may =
     let one : IsReusable k.geom k.reusable (get_or xs i d) = may.each i d low in
     record { from = one.from; below = one.below; free = ap (λ t. not t && k.reusable (get_or xs i d)) (not_before xs i d low may.distinct) ∙ one.free }
 
--- and its bit stands in none of them
+-- and its bit is in none of them
 pub bits_apart : (k : Bookkeeping) (xs : List ℕ) (i b : ℕ) → MayBeTaken k.geom k.reusable xs → b < k.geom.n → (c : ℕ) → has (take i xs) c ≡ true → c ≢ bit_block k.geom b
 bits_apart k xs i b may low c is e = omega (arith, e, (among (IsReusable k.geom k.reusable) (take i xs) (front_all (IsReusable k.geom k.reusable) i xs may.each) c is).from, low)

@@ -1,6 +1,7 @@
 -- Two calls, one behind the other.
 use Rattle.std.proofs.Common.{◌≡◌, Bool, false, arith, ⊎_elim, inl, inr, ◌∙◌, refl, ap}
 use Rattle.std.proofs.Math.Logic.{∥∥₁_map}
+use Rattle.opt_base.specs.Counts.{after_call}
 use Rattle.opt_base.specs.Seal.{Blocks}
 use Rattle.opt_blocks.specs.State.{State}
 use Rattle.opt_blocks.specs.Calls.{UsesDisk}
@@ -72,8 +73,7 @@ nothing_advances old new told e f a = record {
 -- the disk's counts over two calls, of which the first didn't fail
 pub disk_on : (failed : Bool) (old mid new : State) → UsesDisk false old mid → UsesDisk failed mid new → UsesDisk failed old new
 disk_on failed old mid new a b = record {
-  faults = omega (arith, a.faults, b.faults);
-  rose = λ fails. ⊎_elim (λ more. inl (omega (arith, a.faults, more))) inr (b.rose fails);
+  faults = b.faults ∙ ap (after_call failed) a.faults;
   stopped = b.stopped;
   read_faults = b.read_faults ∙ a.read_faults;
   waits = omega (arith, a.waits, b.waits);
@@ -82,8 +82,7 @@ disk_on failed old mid new a b = record {
 -- the disk's counts where it was used in the midst alone
 pub disk_along : (failed : Bool) (old s t new : State) → s.counts ≡ old.counts → UsesDisk failed s t → new.counts ≡ t.counts → new.books.stopped ≡ t.books.stopped → UsesDisk failed old new
 disk_along failed old s t new before d after stays = record {
-  faults = omega (arith, ap (λ c. c.faults) before, d.faults, ap (λ c. c.faults) after);
-  rose = λ fails. ⊎_elim (λ more. inl (omega (arith, ap (λ c. c.faults) before, more, ap (λ c. c.faults) after))) (λ top. inr (ap (λ c. c.faults) after ∙ top)) (d.rose fails);
+  faults = ap (λ c. c.faults) after ∙ d.faults ∙ ap (λ c. after_call failed c.faults) before;
   stopped = stays ∙ d.stopped;
   read_faults = ap (λ c. c.read_faults) after ∙ d.read_faults ∙ ap (λ c. c.read_faults) before;
   waits = omega (arith, ap (λ c. c.waits) before, d.waits, ap (λ c. c.waits) after);

@@ -1,5 +1,6 @@
--- What a call of a map of blocks leaves of its blocks, its bookkeeping and its counts. It is told in docs/BLOCKS.md.
+-- What a call of a map of blocks leaves of its blocks, its bookkeeping and its counts. It is described in docs/BLOCKS.md.
 use Rattle.std.specs.Prelude.{◌≡◌, ◌≢◌, ◌⊎◌, ℕ, ◌+◌, ◌-◌, ◌*◌, ◌^◌, ◌<◌, ◌≤◌, ⊤, Bool, true, false, IsTrue, nat_le, ◌==◌, if◌then◌else◌, List, [], length, take, Result, Ok, Err}
+use Rattle.opt_base.specs.Counts.{after_call}
 use Rattle.opt_base.specs.Seal.{Blocks}
 use Rattle.opt_geom.specs.Geometry.{Geometry, bitmap_blocks, data_start}
 use Rattle.opt_layout.specs.Bitmap.{is_set}
@@ -71,22 +72,16 @@ pub record AreLowest (n : ℕ) (old new : Bookkeeping) (found : List ℕ) : Type
 
 -- The counts.
 
--- a count rose, or stands at the last number of 64 bits, where it stops
-abbrev pub Rose : ℕ → ℕ → Type 0
-Rose old new = (old < new) ⊎ (new ≡ 2 ^ 64 - 1)
-
--- A read was made: it is refused only where the count of failed reads rose.
+-- A read was made: it is refused exactly where the disk failed it, which is counted once.
 pub record CountsReads (failed : Bool) (old new : Counts) : Type 0 where
-  pub read_faults : old.read_faults ≤ new.read_faults
-  pub rose : IsTrue failed → Rose old.read_faults new.read_faults
+  pub read_faults : new.read_faults ≡ after_call failed old.read_faults
   pub faults : new.faults ≡ old.faults
   pub waits : new.waits ≡ old.waits
   pub ticks : new.ticks ≡ old.ticks
 
--- The disk may have been written, polled and waited for: a call is refused by it only where its count of failed calls rose, and then nothing is written any more.
+-- The disk may have been written, polled and waited for: a call is refused by it exactly where the disk failed it, which is counted once, and then nothing is written any more.
 pub record UsesDisk (failed : Bool) (old new : State) : Type 0 where
-  pub faults : old.counts.faults ≤ new.counts.faults
-  pub rose : IsTrue failed → Rose old.counts.faults new.counts.faults
+  pub faults : new.counts.faults ≡ after_call failed old.counts.faults
   pub stopped : new.books.stopped ≡ failed
   pub read_faults : new.counts.read_faults ≡ old.counts.read_faults
   pub waits : old.counts.waits ≤ new.counts.waits

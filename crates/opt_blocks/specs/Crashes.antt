@@ -1,4 +1,4 @@
--- What a crash may leave of a map of blocks, before and after a call. It is told in docs/BLOCKS.md.
+-- What a crash may leave of a map of blocks, before and after a call. It is described in docs/BLOCKS.md.
 use Rattle.std.specs.Prelude.{◌≡◌, ◌↔◌, ◌⊎◌, ℕ, ◌+◌, ◌<◌, ◌≤◌, false, true, IsTrue, [], length}
 use Rattle.opt_base.specs.Seal.{Blocks}
 use Rattle.opt_geom.specs.Geometry.{Geometry}
@@ -69,7 +69,7 @@ pub record StandsForLast (s : State) : Type 0 where
   pub some : ∥ ((m : Blocks) × s.crash.issued m) ∥₁
   pub each : (m : Blocks) → s.crash.issued m → s.crash.is_point s.books.point m
 
--- What is told of each state: a crash now leaves an image that holds the map of a point from the floor on; the bits of the map are those of the bookkeeping; each block on which the map is defined is whole, and elsewhere it has nothing; and while no call of the disk failed, all that was issued is the last point.
+-- What is known of each state: a crash now leaves an image that holds the map of a point from the floor on; the bits of the map are those of the bookkeeping; each block on which the map is defined is whole, and elsewhere it has nothing; and while no call of the disk failed, all that was issued is the last point.
 pub record IsTold (s : State) : Type 0 where
   pub now : (img : Blocks) → s.crash.left_since s.crash.moment img → ∥ HoldsPointBetween s s.books.floor s.books.point img ∥₁
   pub bits : (b : ℕ) → b < s.books.geom.n → s.books.marked b ≡ is_set s.books.geom s.map b

@@ -20,7 +20,7 @@ pub table_defined : (k : Bookkeeping) (b : ℕ) → bitmap_start k.geom ≤ b �
 table_defined k b from below =
     ap₂ (λ x y. x && (y || (nat_lt b k.geom.n && (k.marked b && not (is_bare (k.running.roles b)))))) (le-leb (bitmap_start k.geom) b from) (lt-ltb b (data_start k.geom) below)
 
--- so all bits of the bitmap are told
+-- so all bits of the bitmap are known
 pub bitmap_bit : (k : Bookkeeping) (m : Blocks) (b : ℕ) → b < 8192 * bitmap_blocks k.geom → is_set k.geom (defined_part k m) b ≡ is_set k.geom m b
 bitmap_bit k m b low =
     ap (λ x. bit_at (slice_index x (b % 8192 / 8)) (b % 8) == 1)

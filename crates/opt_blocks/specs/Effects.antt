@@ -1,4 +1,4 @@
--- What several calls of a map of blocks have in common. It is told in docs/BLOCKS.md.
+-- What several calls of a map of blocks have in common. It is described in docs/BLOCKS.md.
 use Rattle.std.specs.Prelude.{◌≡◌, ℕ, Bool, IsTrue, IfOk, OnOk, Result}
 use Rattle.opt_blocks.specs.declared.refusals.SyncRefusal.{SyncRefusal}
 use Rattle.opt_blocks.specs.State.{State}

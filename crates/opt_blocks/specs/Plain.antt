@@ -1,4 +1,4 @@
--- What is known of a map of blocks in memory, by its parts. It is told in docs/BLOCKS.md.
+-- What is known of a map of blocks in memory, by its parts. It is described in docs/BLOCKS.md.
 use Rattle.std.specs.Prelude.{◌≡◌, ℕ, ◌+◌, ◌-◌, ◌<◌, ◌≤◌, Bool, false, nat_lt, not, ◌&&◌, if◌then◌else◌, List, [], length, slice_index_or}
 use Rattle.opt_base.specs.Seal.{Blocks, blocks_of}
 use Rattle.opt_geom.specs.Geometry.{Geometry, bitmap_start}

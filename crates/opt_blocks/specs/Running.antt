@@ -1,4 +1,4 @@
--- The running transaction: what it has of each block, and how each call changes that. It is told in docs/BLOCKS.md.
+-- The running transaction: what it has of each block, and how each call changes that. It is described in docs/BLOCKS.md.
 use Rattle.std.specs.Prelude.{◌≡◌, ℕ, ◌+◌, ◌*◌, ◌/◌, Bool, true, false, ◌==◌, ◌||◌, if◌then◌else◌, List, [], ◌∷◌, length}
 use Rattle.std.specs.List.{filter, range_with_len}
 use Rattle.opt_base.specs.declared.words.Class.{Class}

@@ -1,4 +1,4 @@
--- What is known of a map of blocks with sync points: its bookkeeping, its counts, its blocks, and what a crash may leave of them. It is told in docs/BLOCKS.md.
+-- What is known of a map of blocks with sync points: its bookkeeping, its counts, its blocks, and what a crash may leave of them. It is described in docs/BLOCKS.md.
 use Rattle.std.specs.Prelude.{◌≡◌, ◌≢◌, ℕ, ◌+◌, ◌-◌, ◌<◌, ◌≤◌, Bool, true, false, not, nat_le, nat_lt, ◌==◌, ◌&&◌, ◌||◌, if◌then◌else◌, List, [], length}
 use Rattle.std.specs.List.{filter, range_with_len, All, AllPairs}
 use Rattle.opt_base.specs.Seal.{Blocks}
@@ -13,7 +13,7 @@ pub record Counts : Type 0 where
   pub faults : ℕ
   pub waits : ℕ
 
--- What is known whether or not contents are told. A block is marked where its bit is set in the bitmap as the bookkeeping has it.
+-- What is known whether or not contents are known. A block is marked where its bit is set in the bitmap as the bookkeeping has it.
 pub record Bookkeeping : Type 0 where
   pub geom : Geometry
   pub running : Running
@@ -35,7 +35,7 @@ pub record Bookkeeping : Type 0 where
   -- a call of the disk failed in a write, a poll or a wait, and nothing is written any more
   pub stopped : Bool
 
--- What is told of crashes: the moment, which maps are those of a point, which images a crash at some moment from one on may leave, which map an image holds, what stands where all accepted writes stand, and how many writes there were.
+-- What is known of crashes: the moment, which maps are those of a point, which images a crash at some moment from one on may leave, which map an image holds, what stands where all accepted writes stand, and how many writes there were.
 pub record CrashView : Type 1 where
   pub moment : ℕ
   pub is_point : ℕ → Blocks → Type 0
@@ -44,14 +44,14 @@ pub record CrashView : Type 1 where
   pub issued : Blocks → Type 0
   pub writes : ℕ
 
--- The whole. The map has the bytes of each block on which it is defined, and nothing elsewhere; where contents aren't told, it and `crash` say nothing.
+-- The whole. The map has the bytes of each block on which it is defined, and nothing elsewhere; where contents aren't known, it and `crash` say nothing.
 pub record State : Type 1 where
   pub books : Bookkeeping
   pub counts : Counts
   pub map : Blocks
   pub crash : CrashView
 
--- The map is defined on the bitmap, the node table, and each data block that is marked and isn't bare, so was put since it was taken. Of any other block nothing is told, since its bytes may change at any time.
+-- The map is defined on the bitmap, the node table, and each data block that is marked and isn't bare, so was put since it was taken. Of any other block nothing is known, since its bytes may change at any time.
 abbrev pub defined_by : Geometry → Bool → Bool → ℕ → Bool
 defined_by g marked bare b = nat_le (bitmap_start g) b && (nat_lt b (data_start g) || (nat_lt b g.n && (marked && not bare)))
 
@@ -100,7 +100,7 @@ after_take k bs = record k {
   reusable = λ b. not (has bs b) && k.reusable b;
 }
 
--- a block whose bit was clear already isn't held; where contents are told, this never comes
+-- a block whose bit was clear already isn't held; where contents are known, this never comes
 abbrev pub after_free : Bookkeeping → ℕ → Bookkeeping
 after_free k b = record k {
   running = record k.running { roles = with_free k.geom k.running.roles b; held = k.running.held + (if k.marked b then 1 else 0) };

@@ -1,5 +1,5 @@
 //! The bitmap among the blocks of a map in memory: one bit is written, the whole is copied, and the lowest
-//! clear bits are found. What a bit stands for is told by the map itself.
+//! clear bits are found. What a bit stands for is described by the map itself.
 
 ghost use Rattle.std.specs.Prelude.{◌≡◌, ◌+◌, ◌<◌, ◌≤◌, ◌==◌, ℕ, length, take, [], ◌∷◌, if◌then◌else◌, IfOk};
 ghost use Rattle.opt_base.specs.Seal.{blocks_of};
@@ -12,11 +12,8 @@ ghost use Rattle.opt_blocks.specs.Plain.{IsWithBits};
 use crate::history::History;
 use opt_base::{Block, NoMemory, Places};
 use opt_bitmap::{clear, lowest, set};
-use opt_geom::Geom;
+use opt_geom::{BITS_IN_BLOCK, Geom};
 use std::alloc::Global;
-
-/// How many bits a block of the bitmap has.
-const BITS_IN_BLOCK: u32 = 8192;
 
 /// The block of the bitmap that has the bit of block `b`.
 pub(crate) fn bit_block(geom: &Geom, b: u32) -> u32

@@ -1,11 +1,11 @@
 //! The contract of a map of blocks with sync points: which blocks there are, how they are changed in a
 //! transaction, and what a crash may leave of them. It knows no journal, no disk and no file; a map in
-//! memory and a store over a disk both meet it. The rules are told in docs/BLOCKS.md.
+//! memory and a store over a disk both meet it. The rules are described in docs/BLOCKS.md.
 
 ghost use Rattle.std.specs.Prelude.{◌≡◌, ◌<◌, ◌≤◌, ◌+◌, Bool, true, false, IsTrue, length, is_err, IfOk, IfErr, OnOk, OnErr, Ok};
 ghost use Rattle.opt_geom.specs.Geometry.{bitmap_start, table_start, data_start};
 ghost use Rattle.opt_layout.specs.Bitmap.{is_set};
-ghost use Rattle.opt_disk.specs.Disk.{next_count};
+ghost use Rattle.opt_base.specs.Counts.{next_count};
 ghost use Rattle.opt_blocks.specs.State.{State, reusable_blocks, is_defined, MayBeTaken, after_put, after_take, after_free, after_weigh};
 ghost use Rattle.opt_blocks.specs.Calls.{IsWithBlock, IsWithTaken, IsWithFreed, OnNoMemory, AreLowest, LowestRefused, lowest_fails, CountsReads, commit_places, MaySync, HasTurns, AreFigures, IsReady, IsSound};
 ghost use Rattle.opt_blocks.specs.Crashes.{IssuesNothing, IsTold};
@@ -20,11 +20,11 @@ use std::alloc::Global;
 /// A map of blocks with sync points.
 ///
 /// Blocks are changed in a running transaction, which a sync ends. What a crash leaves is the map of a
-/// sync point, and never that of a transaction that wasn't ended. The contents are told only where
+/// sync point, and never that of a transaction that wasn't ended. The contents are known only where
 /// `tells` says so, and only of the blocks on which the map is defined; the bookkeeping and the counts
 /// always are.
 pub trait Blocks {
-    /// Whether the blocks and what crashes may leave of them are told.
+    /// Whether the blocks and what crashes may leave of them are known.
     ghost tells: { Bool };
 
     /// What is known.
@@ -39,7 +39,7 @@ pub trait Blocks {
         ensures { AreFigures (state self.now).books result };
 
     /// Reads block `b` of the bitmap, the node table or the data. Where the map isn't defined on it,
-    /// nothing is told of the bytes.
+    /// nothing is known of the bytes.
     ///
     /// # Errors
     /// A read of the disk failed, which the disk has counted.
@@ -176,7 +176,7 @@ pub trait Blocks {
     /// The bookkeeping is sound.
     ghost is_sound: { (s : Self) → IsSound (state s).books };
 
-    /// A crash now leaves an image that holds the map of a point from the floor on, and what is told
+    /// A crash now leaves an image that holds the map of a point from the floor on, and what is known
     /// agrees with the bookkeeping.
     ghost is_told: { (s : Self) → IsTrue tells → IsTold (state s) };
 }

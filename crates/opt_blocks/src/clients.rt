@@ -6,7 +6,7 @@ ghost use Rattle.std.specs.Prelude.{◌≡◌, ◌+◌, ◌*◌, ◌<◌, ◌≤
 ghost use Rattle.opt_base.specs.Seal.{Blocks as BlockMap};
 ghost use Rattle.opt_geom.specs.Geometry.{bitmap_blocks};
 ghost use Rattle.opt_layout.specs.Bitmap.{is_set};
-ghost use Rattle.opt_disk.specs.Disk.{next_count};
+ghost use Rattle.opt_base.specs.Counts.{next_count};
 ghost use Rattle.opt_blocks.specs.Running.{has, has_bit, nothing_running};
 ghost use Rattle.opt_blocks.specs.State.{reusable_blocks};
 ghost use Rattle.opt_blocks.specs.Calls.{MaySync, HasTurns, UsesDisk, LowestRefused, sync_fails, lowest_fails, if_changed};

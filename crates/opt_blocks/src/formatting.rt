@@ -1,4 +1,4 @@
-//! The blocks with which a map in memory begins, in a row. What each of them has is told by `opt_format`.
+//! The blocks with which a map in memory begins, in a row. What each of them has is described by `opt_format`.
 
 ghost use Rattle.std.specs.Prelude.{◌≡◌, ◌-◌, map, IfOk};
 ghost use Rattle.std.specs.List.{range_with_len};

@@ -1,4 +1,4 @@
-//! Blocks as they are now and as they were at each sync point so far. A change keeps what stood there
+//! Blocks as they are now and as they were at each sync point so far. A change keeps what was there
 //! before, so a point takes the memory of what was changed since, and making one copies nothing. The
 //! memory for changes is made ready before they are made.
 
@@ -10,7 +10,7 @@ use opt_base::{Block, NoMemory};
 use std::alloc::Global;
 use std::marker::Model;
 
-/// What stood in a block before a change.
+/// What was in a block before a change.
 #[derive(Drop)]
 pub(crate) struct Saved {
     block: u32,
@@ -21,7 +21,7 @@ pub(crate) struct Saved {
 #[derive(Drop)]
 pub(crate) struct History {
     blocks: Vec<Block>,
-    /// What stood in a block before its first change after a point, the newest last.
+    /// What was in a block before its first change after a point, the newest last.
     saved: Vec<Saved>,
     /// For each point, how many of these came before it; and the greatest of these numbers.
     starts: Vec<usize>,
@@ -125,7 +125,7 @@ impl History {
     }
 }
 
-/// Keeps what stands in block `b`, unless it was kept since the last point.
+/// Keeps what is in block `b`, unless it was kept since the last point.
 fn save(saved: &mut Vec<Saved>, places: &mut [usize], last: usize, b: u32, block: &Block)
     requires room { vec_len saved.old < vec_capacity saved.old }
     requires saves { AreSaved saved.old.items last places.old }

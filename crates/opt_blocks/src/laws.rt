@@ -1,6 +1,6 @@
 //! Laws of maps of blocks, each an empty function whose clauses say it: how calls compose, which numbers
 //! may be taken together, and how what a commit would have grows from call to call. What holds of each
-//! single map is told by the laws of the trait.
+//! single map is described by the laws of the trait.
 
 ghost use Rattle.std.specs.Prelude.{◌≡◌, ◌+◌, ◌*◌, ◌<◌, ◌≤◌, ℕ, Bool, true, false, IsTrue, min, List, All, length, take};
 ghost use Rattle.opt_base.specs.declared.words.Class.{Class};
@@ -31,7 +31,7 @@ pub fn the_lowest_may_be_taken()
 {}
 
 /// How the payloads and the fresh blocks that a commit would have grow: there are none in an empty
-/// transaction, and each call adds so many at most. What is taken or freed is told of a list, since many
+/// transaction, and each call adds so many at most. What is taken or freed is known of a list, since many
 /// blocks have their bits in one block of the bitmap.
 pub fn a_commit_grows_by_each_call()
     ensures begins { (g : Geometry) → 25 * payloads g nothing_running + fresh_blocks g nothing_running ≡ 0 }

@@ -1,6 +1,6 @@
-//! A map of blocks with sync points: the contract that the file system's proof stands on, and a map in
+//! A map of blocks with sync points: the contract that the file system's proof rests on, and a map in
 //! memory that meets it. Blocks are changed in a running transaction, which a sync ends; what a crash
-//! leaves is the map of a sync point. No journal and no disk is known here. The rules are told in
+//! leaves is the map of a sync point. No journal and no disk is known here. The rules are described in
 //! docs/BLOCKS.md.
 #![tactic(auto)]
 

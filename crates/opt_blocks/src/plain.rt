@@ -1,6 +1,6 @@
 //! A map of blocks in memory, with the points that were made of it. It has no journal and no disk: nothing
 //! fails, nothing waits, and blocks that were freed may be taken again after the next sync. What is known
-//! of it is told by `state_of` of specs/PlainOf.
+//! of it is described by `state_of` of specs/PlainOf.
 
 ghost use Rattle.std.specs.Prelude.{◌≡◌, ◌+◌, ◌-◌, ◌*◌, ◌/◌, ◌<◌, ◌≤◌, ℕ, Bool, true, false, not, length, [], ◌∷◌, take, IfOk};
 ghost use Rattle.opt_base.specs.Seal.{blocks_of};

@@ -1,4 +1,4 @@
-//! Why a call of a map of blocks was refused. When each refusal comes is told by the clauses of the
+//! Why a call of a map of blocks was refused. When each refusal comes is described by the clauses of the
 //! calls; a failed read and a failed call of the disk alone have the errors of the crates below.
 
 use std::error::Error;

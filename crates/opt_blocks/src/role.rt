@@ -1,5 +1,5 @@
 //! What the running transaction did with a block, which decides how a commit writes it, and the roles of
-//! many blocks. How the roles change with each call is told in specs/Running.
+//! many blocks. How the roles change with each call is described in specs/Running.
 
 ghost use Rattle.std.specs.Prelude.{◌≡◌, length, replicate, IfOk};
 ghost use Rattle.opt_blocks.specs.declared.role.Role.TheVariants.{Untouched};

@@ -5,7 +5,8 @@ use Rattle.std.proofs.lemmas.Option.{same_Some, none-some, slice_get_within}
 use Rattle.opt_tx.specs.declared.put.Put.{Put}
 use Rattle.opt_tx.specs.Record.{AreBelow}
 use Rattle.opt_tx.specs.Rows.{IsRising, put_of}
-use Rattle.opt_tx.specs.Writes.{AddsFront, AddsAll, fresh_write}
+use Rattle.opt_crash.specs.Writes.{AddsFront, AddsAll}
+use Rattle.opt_tx.specs.Writes.{fresh_write}
 use Rattle.opt_disk.specs.declared.event.Event.{Event}
 use Rattle.opt_checkpoint.proofs.Lists.{choose_true, choose_false, below_none}
 use Rattle.opt_checkpoint.specs.HomeState.{sent_behind}

@@ -1,5 +1,5 @@
 -- Tickets that join a set one by one, as notices or as expected ones.
-use Rattle.std.proofs.Common.{◌≡◌, ℕ, zero, suc, ◌+◌, ◌<◌, ◌==◌, ◌&&◌, ◌||◌, Bool, true, false, if◌then◌else◌, List, [], ◌∷◌, ◌++◌, length, take, slice_index_or, min, Result, Ok, Err, IsErr, OnOk, refl, sym, ◌∙◌, ap, subst, arith, append_assoc, append-nil, length-append}
+use Rattle.std.proofs.Common.{◌≡◌, ℕ, zero, suc, ◌+◌, ◌<◌, ◌≤◌, ◌==◌, ◌&&◌, ◌||◌, Bool, true, false, if◌then◌else◌, List, [], ◌∷◌, ◌++◌, length, take, slice_index_or, min, Result, Ok, Err, IsErr, OnOk, refl, sym, ◌∙◌, ap, subst, arith, append_assoc, append-nil, length-append}
 use Rattle.std.proofs.lemmas.Bool.{false≢true, eq-eqb}
 use Rattle.opt_disk.specs.declared.event.Event.{Event}
 use Rattle.opt_disk.specs.Cell.{notices}
@@ -8,8 +8,9 @@ use Rattle.opt_crash.specs.HomeTest.{is_one_of}
 use Rattle.opt_notes.specs.declared.notes.Note.{Note}
 use Rattle.opt_notes.specs.Notes.{is_expected, is_noticed, are_expected, are_noticed}
 use Rattle.opt_tx.specs.declared.commit.Committed.{Committed}
-use Rattle.opt_disk.specs.Disk.{State, next_count}
-use Rattle.opt_checkpoint.specs.Steps.{TakesAll, TakesOne, TakesNotices, is_first_noticed, polls_more}
+use Rattle.opt_base.specs.Counts.{after_call, after_calls, next_count}
+use Rattle.opt_disk.specs.Disk.{State, Spends, OnlyPolls}
+use Rattle.opt_checkpoint.specs.Steps.{TakesAll, TakesOne, TakesNotices, PollsUpTo, is_first_noticed}
 use Rattle.opt_checkpoint.specs.declared.pipeline.Pipeline.{Pipeline}
 use Rattle.opt_checkpoint.proofs.Lists.{below_none}
 
@@ -113,11 +114,25 @@ first_is [] d notes some = absurd (below_none 0 some)
 first_is (c ∷ cs) d notes some = refl
 
 -- one poll more
-pub polls_step : (p k : ℕ) → next_count (polls_more p k) ≡ polls_more p (k + 1)
-polls_step p k = ap (polls_more p) (s k)
+pub polls_step : (p k : ℕ) → next_count (after_calls k p) ≡ after_calls (k + 1) p
+polls_step p k = ap (λ n. after_calls n p) (s k)
   where
     s : (k : ℕ) → suc k ≡ k + 1
     s k = omega arith
+
+-- one poll more, which may have failed
+pub polls_on : (failed : Bool) (k : ℕ) (a b c : State) → Spends false 0 k a b → OnlyPolls failed b c → Spends failed 0 (k + 1) a c
+polls_on failed k a b c one two = record {
+  same = record { blocks = two.same.blocks ∙ one.same.blocks; base = two.same.base ∙ one.same.base };
+  faults = two.faults ∙ ap (after_call failed) one.faults;
+  read_faults = two.read_faults ∙ one.read_faults;
+  waits = two.waits ∙ one.waits;
+  polls = two.polls ∙ ap next_count one.polls ∙ polls_step a.polls k;
+}
+
+-- so they are few
+pub polls_few : (r failed : Bool) (k most : ℕ) (a b c : State) → r ≡ failed → k < most → Spends false 0 k a b → OnlyPolls failed b c → PollsUpTo r most a c
+polls_few r failed k most a b c is lt one two = subst (λ (v : Bool). PollsUpTo v most a c) (sym is) (record { asked = k + 1; upto = omega (arith, lt); spends = polls_on failed k a b c one two })
 
 -- the tickets so far, and what the next poll gave
 abbrev pub TakenSoFar : ℕ → Pipeline → Pipeline → List Event → List Event → Type 0
@@ -141,13 +156,13 @@ on_ok : {A E : Type 0} {P : Type 0} (r : Result A E) → P → OnOk r P
 on_ok (Ok a) p = p
 on_ok (Err e) p = tt
 
-pub last_taken : {E A F : Type 0} (r : Result Bool E) (result : Result A F) (n : ℕ) (u v w : Pipeline) (old mid new : State) → r ≡ Ok false → n < 64 → TakenSoFar n u v old.log mid.log → TakesOne r v w mid.log new.log → new.polls ≡ polls_more old.polls (n + 1) → TakesNotices result u w old new
+pub last_taken : {E A F : Type 0} (r : Result Bool E) (result : Result A F) (n : ℕ) (u v w : Pipeline) (old mid new : State) → r ≡ Ok false → n < 64 → TakenSoFar n u v old.log mid.log → TakesOne r v w mid.log new.log → new.polls ≡ after_calls (n + 1) old.polls → TakesNotices result u w old new
 last_taken (Ok true) result n u v w old mid new e few so_far one polls = cc
 last_taken (Ok false) result n u v w old mid new e few so_far one polls = record {
   tickets = so_far.0;
   log = one.0 ∙ so_far.2;
   notes = subst (λ (p : Pipeline). TakesAll so_far.0 u.notes.notes p.notes.notes) (sym one.1) so_far.3;
-  polls = on_ok result (polls ∙ ap (polls_more old.polls) (few_polls n (length so_far.0) few so_far.1));
+  polls = on_ok result (polls ∙ ap (λ k. after_calls k old.polls) (few_polls n (length so_far.0) few so_far.1));
 }
 last_taken (Err f) result n u v w old mid new e few so_far one polls = cc
 
@@ -163,10 +178,10 @@ failed_taken (Err g) (Err h) n u v w old mid new e f so_far one = record {
 }
 
 -- or there were as many as one call takes
-pub all_taken : {A F : Type 0} (result : Result A F) (n : ℕ) (u v : Pipeline) (old new : State) → n ≡ 64 → TakenSoFar n u v old.log new.log → new.polls ≡ polls_more old.polls n → TakesNotices result u v old new
+pub all_taken : {A F : Type 0} (result : Result A F) (n : ℕ) (u v : Pipeline) (old new : State) → n ≡ 64 → TakenSoFar n u v old.log new.log → new.polls ≡ after_calls n old.polls → TakesNotices result u v old new
 all_taken result n u v old new many so_far polls = record {
   tickets = so_far.0;
   log = so_far.2;
   notes = so_far.3;
-  polls = on_ok result (polls ∙ ap (polls_more old.polls) (many ∙ most_polls (length so_far.0) (so_far.1 ∙ many)));
+  polls = on_ok result (polls ∙ ap (λ k. after_calls k old.polls) (many ∙ most_polls (length so_far.0) (so_far.1 ∙ many)));
 }

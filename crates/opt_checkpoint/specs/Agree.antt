@@ -1,4 +1,4 @@
--- What the pipeline keeps: its own data agree with the ledger, and with what the crash argument asks for. It is told in docs/PIPELINE.md.
+-- What the pipeline keeps: its own data agree with the ledger, and with what the crash argument asks for. It is described in docs/PIPELINE.md.
 use Rattle.std.specs.Prelude.{◌≡◌, ℕ, zero, suc, ◌+◌, ◌≤◌, nat_lt, true, false, IsTrue, if◌then◌else◌, List, [], ◌∷◌, ◌++◌, length, map, slice_get, Some, option_map}
 use Rattle.opt_base.specs.Seal.{Blocks}
 use Rattle.opt_disk.specs.declared.event.Event.{Event}

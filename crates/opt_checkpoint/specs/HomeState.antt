@@ -1,4 +1,4 @@
--- A batch whose checkpoint writes are made: its blocks are written ascending, each that the test names. It is told in docs/PIPELINE.md.
+-- A batch whose checkpoint writes are made: its blocks are written ascending, each that the test names. It is described in docs/PIPELINE.md.
 use Rattle.std.specs.Prelude.{◌≡◌, ℕ, ◌+◌, List, [], ◌∷◌, take, drop, Option, None, Result, Ok, Err}
 use Rattle.opt_base.specs.Seal.{Blocks}
 use Rattle.opt_disk.specs.declared.event.Event.{Event}

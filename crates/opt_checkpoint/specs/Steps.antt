@@ -1,9 +1,10 @@
--- What the pipeline's calls make of it, told of its own lists: a commit joins, the oldest record becomes durable, notices are taken. It is told in docs/PIPELINE.md.
-use Rattle.std.specs.Prelude.{◌≡◌, ◌⊎◌, ⊤, ℕ, zero, suc, ◌+◌, min, ◌||◌, ◌&&◌, Bool, true, false, List, [], ◌∷◌, ◌++◌, length, Result, Ok, Err, OnOk}
+-- What the pipeline's calls make of it, in terms of its own lists: a commit joins, the oldest record becomes durable, notices are taken. It is described in docs/PIPELINE.md.
+use Rattle.std.specs.Prelude.{◌≡◌, ◌⊎◌, ⊤, ℕ, ◌+◌, ◌≤◌, min, ◌||◌, ◌&&◌, Bool, true, false, List, [], ◌∷◌, ◌++◌, length, Result, Ok, Err, OnOk}
 use Rattle.opt_base.specs.Seal.{Blocks}
 use Rattle.opt_disk.specs.declared.event.Event.{Event}
 use Rattle.opt_disk.specs.Cell.{notices}
-use Rattle.opt_disk.specs.Disk.{State, next_count}
+use Rattle.opt_base.specs.Counts.{after_calls}
+use Rattle.opt_disk.specs.Disk.{State, Spends}
 use Rattle.opt_journal.specs.Ring.{RingPlaces}
 use Rattle.opt_crash.specs.Ledger.{Ledger, WrittenRecord}
 use Rattle.opt_crash.specs.Steps.{with_record}
@@ -16,7 +17,7 @@ use Rattle.opt_tx.specs.declared.commit.CommitRefusal.{CommitRefusal}
 use Rattle.opt_tx.specs.declared.commit.CommitRefusal.TheVariants.{NoMemory, DiskFault}
 use Rattle.opt_tx.specs.declared.states.Durable.{Durable}
 use Rattle.opt_tx.specs.States.{IsDurableOf}
-use Rattle.opt_tx.specs.Writes.{AddsFront}
+use Rattle.opt_crash.specs.Writes.{AddsFront}
 use Rattle.opt_checkpoint.specs.declared.pipeline.Pipeline.{Pipeline}
 use Rattle.opt_checkpoint.specs.Agree.{PipelineAgrees}
 
@@ -31,17 +32,18 @@ TakesOne (Ok true) v w old new = (t : ℕ) × (new ≡ old ++ notices (t ∷ [])
 TakesOne (Ok false) v w old new = (new ≡ old) × (w ≡ v)
 TakesOne (Err e) v w old new = (new ≡ old) × (w ≡ v)
 
--- the count of polls after so many more, each of which raises it up to its last value
-abbrev pub polls_more : ℕ → ℕ → ℕ
-polls_more polls zero = polls
-polls_more polls (suc k) = next_count (polls_more polls k)
+-- what polls in a row spend, so many at most
+pub record PollsUpTo (failed : Bool) (most : ℕ) (old new : State) : Type 0 where
+  pub asked : ℕ
+  pub upto : asked ≤ most
+  pub spends : Spends failed 0 asked old new
 
 -- Polls for notices, 64 at most: each notice is taken by the notes, and where no poll failed the last one gave none, or was the 64th.
 pub record TakesNotices {A E : Type 0} (result : Result A E) (v w : Pipeline) (old new : State) : Type 0 where
   pub tickets : List ℕ
   pub log : new.log ≡ old.log ++ notices tickets
   pub notes : TakesAll tickets v.notes.notes w.notes.notes
-  pub polls : OnOk result (new.polls ≡ polls_more old.polls (min 64 (length tickets + 1)))
+  pub polls : OnOk result (new.polls ≡ after_calls (min 64 (length tickets + 1)) old.polls)
 
 -- all tickets of the oldest committed record are noticed
 abbrev pub is_first_noticed : List Committed → List Note → Bool

@@ -3,7 +3,7 @@
 
 ghost use Rattle.std.specs.Prelude.{◌≡◌, ◌≤◌, ◌<◌, ◌+◌, ◌++◌, ◌⊎◌, ◌-◌, ◌^◌, ℕ, List, length, IsTrue, OnOk, IfErr, vec_len, vec_capacity};
 ghost use Rattle.opt_base.specs.Seal.{Blocks};
-ghost use Rattle.opt_disk.specs.Disk.{SameDisk};
+ghost use Rattle.opt_disk.specs.Disk.{OnlyWrites};
 ghost use Rattle.opt_journal.specs.Ring.{with_places};
 ghost use Rattle.opt_journal.specs.Run.{places};
 ghost use Rattle.opt_crash.specs.Ledger.{Ledger};
@@ -11,8 +11,9 @@ ghost use Rattle.opt_crash.specs.PipelineData.{pairs_of};
 ghost use Rattle.opt_crash.specs.Points.{MountedSession, IsSafe};
 ghost use Rattle.opt_tx.specs.declared.commit.Committed.{Committed};
 ghost use Rattle.opt_tx.specs.Record.{record_of, written_of, AreBelow, IsTransaction};
-ghost use Rattle.opt_tx.specs.Commits.{IsCommitOf, WhereNoMemory, WhereDiskFault};
-ghost use Rattle.opt_tx.specs.Writes.{AddsWrites, record_writes};
+ghost use Rattle.opt_tx.specs.Commits.{IsCommitOf, WhereNoMemory, WhereDiskFault, is_disk_fault};
+ghost use Rattle.opt_crash.specs.Writes.{AddsWrites};
+ghost use Rattle.opt_tx.specs.Writes.{record_writes};
 ghost use Rattle.opt_checkpoint.specs.Agree.{PipelineAgrees, HasFreed, AreTaken};
 ghost use Rattle.opt_checkpoint.specs.Steps.{Accepts, CommitNextLeaves, WhereFront};
 
@@ -53,12 +54,7 @@ pub fn commit_next<D: Disk>(
     ensures ring { OnOk result (ring.new ≡ with_places ring.old (places (record_of 0 0 running.paid.items running.laid.items))) }
     ensures places { IfErr result (λ (back, why). WhereDiskFault why (ring.new ≡ with_places ring.old (places (record_of 0 0 running.paid.items running.laid.items)))) }
     ensures front { IsTrue D.tells → IfErr result (λ (back, why). WhereFront why (record_writes ring.old.geom epoch number ring.old.next running.paid.items running.laid.items) (D.state disk.old).log (D.state disk.new).log) }
-    ensures same { SameDisk (D.state disk.old) (D.state disk.new) }
-    ensures cause { IfErr result (λ (back, why). WhereDiskFault why (((D.state disk.old).faults < (D.state disk.new).faults) ⊎ ((D.state disk.new).faults ≡ 2 ^ 64 - 1))) }
-    ensures counted { (D.state disk.old).faults ≤ (D.state disk.new).faults }
-    ensures waits { (D.state disk.new).waits ≡ (D.state disk.old).waits }
-    ensures polls { (D.state disk.new).polls ≡ (D.state disk.old).polls }
-    ensures read_faults { (D.state disk.new).read_faults ≡ (D.state disk.old).read_faults }
+    ensures spends { OnlyWrites (is_disk_fault result) (D.state disk.old) (D.state disk.new) }
 {
     noticed_tickets_stay_so();
     let committed = match running.commit(alloc, disk, ring, epoch, number) {

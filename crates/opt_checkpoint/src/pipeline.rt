@@ -3,11 +3,11 @@
 //! for now, whose front is taken out at the cost of their length; deques are to take their place. Headers,
 //! batches and their ends aren't steps here yet.
 
-ghost use Rattle.std.specs.Prelude.{◌≡◌, ◌≤◌, ◌<◌, ◌+◌, ◌||◌, ℕ, List, [], ◌++◌, length, IsTrue, if◌then◌else◌, vec_len, vec_capacity};
+ghost use Rattle.std.specs.Prelude.{◌≡◌, ◌≤◌, ◌<◌, ◌+◌, ◌||◌, ℕ, List, [], ◌++◌, length, IsTrue, if◌then◌else◌, is_err, vec_len, vec_capacity};
 ghost use Rattle.opt_base.specs.Seal.{Blocks};
 ghost use Rattle.opt_disk.specs.declared.event.Event.{Event};
 ghost use Rattle.opt_disk.specs.Cell.{IsNoticed};
-ghost use Rattle.opt_disk.specs.Disk.{SameDisk, HasCause, next_count};
+ghost use Rattle.opt_disk.specs.Disk.{OnlyPolls};
 ghost use Rattle.opt_journal.specs.Ring.{RingPlaces, with_places};
 ghost use Rattle.opt_journal.specs.Run.{places};
 ghost use Rattle.opt_crash.specs.HomeTest.{is_one_of};
@@ -22,7 +22,7 @@ ghost use Rattle.opt_tx.specs.Record.{written_of};
 ghost use Rattle.opt_tx.specs.Commits.{IsCommitOf};
 ghost use Rattle.opt_tx.specs.declared.running.Running.{Running};
 ghost use Rattle.opt_checkpoint.specs.Agree.{PipelineAgrees, HasFreed, data_of};
-ghost use Rattle.opt_checkpoint.specs.Steps.{TakesNotices, TakesOne, SettlesOrStays, Accepts, is_first_noticed};
+ghost use Rattle.opt_checkpoint.specs.Steps.{TakesNotices, TakesOne, PollsUpTo, SettlesOrStays, Accepts, is_first_noticed};
 
 use opt_crash::{
     known_tickets_may_go, nothing_is_written_between_records, noticed_records_are_known,
@@ -79,10 +79,7 @@ pub fn take_notices<D: Disk>(disk: &mut D, pipeline: &mut Pipeline) -> Result<()
         → IsSafe s (D.state disk.new).base (D.state disk.new).log l t floor × PipelineAgrees (D.state disk.new).base (D.state disk.new).log l pipeline.new ring waiting taken }
     ensures takes { IsTrue D.tells → TakesNotices result pipeline.old pipeline.new (D.state disk.old) (D.state disk.new) }
     ensures rest { pipeline.new ≡ record pipeline.old { notes = pipeline.new.notes } }
-    ensures same { SameDisk (D.state disk.old) (D.state disk.new) }
-    ensures cause { HasCause result (D.state disk.old).faults (D.state disk.new).faults }
-    ensures waits { (D.state disk.new).waits ≡ (D.state disk.old).waits }
-    ensures read_faults { (D.state disk.new).read_faults ≡ (D.state disk.old).read_faults }
+    ensures spends { PollsUpTo (is_err result) 64 (D.state disk.old) (D.state disk.new) }
 {
     for turn in 0..MOST_NOTICES {
         if !take_notice(disk, pipeline)? {
@@ -98,11 +95,7 @@ fn take_notice<D: Disk>(disk: &mut D, pipeline: &mut Pipeline) -> Result<bool, D
         → IsSafe s (D.state disk.new).base (D.state disk.new).log l t floor × PipelineAgrees (D.state disk.new).base (D.state disk.new).log l pipeline.new ring waiting taken }
     ensures takes { IsTrue D.tells → TakesOne result pipeline.old pipeline.new (D.state disk.old).log (D.state disk.new).log }
     ensures rest { pipeline.new ≡ record pipeline.old { notes = pipeline.new.notes } }
-    ensures same { SameDisk (D.state disk.old) (D.state disk.new) }
-    ensures cause { HasCause result (D.state disk.old).faults (D.state disk.new).faults }
-    ensures waits { (D.state disk.new).waits ≡ (D.state disk.old).waits }
-    ensures polls { (D.state disk.new).polls ≡ next_count (D.state disk.old).polls }
-    ensures read_faults { (D.state disk.new).read_faults ≡ (D.state disk.old).read_faults }
+    ensures spends { OnlyPolls (is_err result) (D.state disk.old) (D.state disk.new) }
 {
     nothing_is_written_between_records();
     one_write_is_pending();

@@ -28,6 +28,6 @@ abbrev pub stat_at : Inodes → Option ℕ → Reply
 stat_at m None = Refused NotFound
 stat_at m (Some n) = stat_by n (m n)
 
--- kind, number, size and links of what stands at the path
+-- kind, number, size and links of what is at the path
 abbrev pub stat_in : Inodes → List (List ℕ) → Reply
 stat_in m path = stat_at m (number_at m path)

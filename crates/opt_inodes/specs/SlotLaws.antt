@@ -1,4 +1,4 @@
--- The laws of slots and their bytes that the proofs of this crate stand on, gathered. Each is a clause of a function of opt_dirent.
+-- The laws of slots and their bytes that the proofs of this crate rest on, gathered. Each is a clause of a function of opt_dirent.
 use Rattle.std.specs.Prelude.{◌≡◌, ℕ, ◌<◌, ◌≤◌, ◌+◌, ◌*◌, ◌++◌, List, [], ◌∷◌, length, take, drop, set, slice_get, Some}
 use Rattle.opt_layout.specs.declared.slot.Slot.{Slot}
 use Rattle.opt_layout.specs.Slot.{slot_of, slots_in, slot_spelling}

@@ -1,4 +1,4 @@
--- The laws of trees and of their maps that the proofs of this crate stand on, gathered. Each is a clause of a function of opt_tree or opt_stands.
+-- The laws of trees and of their maps that the proofs of this crate rest on, gathered. Each is a clause of a function of opt_tree or opt_stands.
 use Rattle.std.specs.Prelude.{◌≡◌, ◌≢◌, ℕ, ◌≤◌, ◌+◌, ◌==◌, if◌then◌else◌, true, false, List, [], ◌∷◌, ◌++◌, slice_get, None, Some, option_and_then}
 use Rattle.std.specs.FinMap.{get, insert, remove}
 use Rattle.opt_layout.specs.declared.slot.Slot.{Slot}

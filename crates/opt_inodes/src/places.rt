@@ -1,4 +1,4 @@
-//! What stands under a name in a list of slots, by the place of the slot. The function does nothing.
+//! What is under a name in a list of slots, by the place of the slot. The function does nothing.
 
 ghost use Rattle.std.specs.Prelude.{◌≡◌, ◌<◌, ℕ, List, length, set, slice_get, None, Some};
 ghost use Rattle.opt_layout.specs.declared.slot.Slot.{Slot};
@@ -7,8 +7,8 @@ ghost use Rattle.opt_stands.specs.Inodes.{AreDistinct};
 ghost use Rattle.opt_stands.specs.Walks.{node_in};
 ghost use Rattle.opt_inodes.specs.Changes.{slot_of, with_slot};
 
-/// The slot at the place of a name has that name, and what stands under the name is what it names. A name
-/// without a place has nothing under it. Where no two slots have one name, what stands under a slot's name is
+/// The slot at the place of a name has that name, and what is under the name is what it names. A name
+/// without a place has nothing under it. Where no two slots have one name, what is under a slot's name is
 /// what it names. A slot with a free name that comes behind the last one and then into the hole of one that is
 /// taken out is in that one's place.
 pub fn a_name_stands_at_its_place()

@@ -14,7 +14,7 @@ use crate::tree::the_tree_is_lawful;
 /// A move that isn't refused, between paths of two nodes. The second directory has a slot for the node under
 /// the second name: in the stead of the one that stood there, or behind the last one. Then the first slot goes
 /// and the last one comes into its hole; so within one directory, to a free name, the slot only changes its
-/// name. What stood at the second path has one link less or goes. With the slots all below comes along, and
+/// name. What was at the second path has one link less or goes. With the slots all below comes along, and
 /// nothing of it changes. A move between two paths of one node changes nothing
 /// (`what_changes_nothing_keeps_the_map`).
 pub fn a_move_is_mapped()

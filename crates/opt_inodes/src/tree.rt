@@ -1,4 +1,4 @@
-//! The laws of trees, their maps and slots that the other laws stand on, gathered in two contracts. The
+//! The laws of trees, their maps and slots that the other laws rest on, gathered in two contracts. The
 //! functions do nothing but call laws.
 
 ghost use Rattle.opt_inodes.specs.SlotLaws.{SlotLaws};

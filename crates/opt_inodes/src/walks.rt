@@ -18,7 +18,7 @@ use crate::tree::the_tree_is_lawful;
 
 /// A walk in the map comes to the same number as the walk in the tree, or is refused for the same reason:
 /// from the root, and on from each path. It comes to its end exactly where the path leads there. A path
-/// leads to what stands under its last name in the directory above it.
+/// leads to what is under its last name in the directory above it.
 pub fn walks_are_the_same()
     ensures walk { (limit : ℕ) (m : Inodes) (t : Tree) (path : List (List ℕ)) → IsMapOf limit m t → walk t path ≡ walk_on m 1 path }
     ensures on { (limit : ℕ) (m : Inodes) (t : Tree) (here rest : List (List ℕ)) (k : ℕ) → IsMapOf limit m t → LeadsTo m here k → walk_from t here k rest ≡ walk_on m k rest }
@@ -30,7 +30,7 @@ pub fn walks_are_the_same()
     the_tree_is_lawful();
 }
 
-/// What stands at a path is what the inode there stands for, and its bytes are the inode's. Two paths lie in
+/// What is at a path is what the inode there stands for, and its bytes are the inode's. Two paths lie in
 /// one directory exactly where the paths above them lead to one number.
 pub fn paths_lead_to_inodes()
     ensures node { (limit : ℕ) (m : Inodes) (t : Tree) (path : List (List ℕ)) → IsMapOf limit m t → thing_at t path ≡ option_map thing_of (inode_at m path) }

@@ -108,7 +108,7 @@ impl Notes {
     }
 }
 
-/// Where the ticket stands first.
+/// The first place of the ticket.
 fn place_of(notes: &[Note], ticket: u64) -> Option<usize>
     ensures there { IfSome result (λ at. (at < length notes.now) × (is_expected ticket (take at notes.now) ≡ false) × ((n : Note) → slice_get notes.now at ≡ Some n → n.ticket ≡ ticket)) }
     ensures none { result ≡ None → is_expected ticket notes.now ≡ false }

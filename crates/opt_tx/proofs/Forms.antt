@@ -2,7 +2,7 @@
 use Rattle.std.proofs.Common.{◌≡◌, ℕ, zero, suc, ◌+◌, ◌<◌, ◌≤◌, Bool, true, false, if◌then◌else◌, List, [], ◌∷◌, ◌++◌, length, take, drop, map, slice_get, slice_index_or, Some, Result, Ok, Err, IsErr, OnOk, refl, ◌∙◌, ap, sym, arith}
 use Rattle.std.proofs.lemmas.Option.{same_Some}
 
--- what stands at an index within a list
+-- what is at an index within a list
 pub get_is : {A : Type 0} (xs : List A) (k : ℕ) (d : A) → k < length xs → slice_get xs k ≡ Some (slice_index_or xs k d)
 get_is [] k d lt = absurd (omega arith)
 get_is (x ∷ xs) zero d lt = refl
@@ -13,7 +13,7 @@ pub on_err : {T E : Type 0} (r : Result T E) (P : Type 0) → IsErr r → OnOk r
 on_err (Ok x) P e = cc
 on_err (Err x) P e = tt
 
--- what stands in a list that was mapped
+-- what is in a list that was mapped
 pub get_map : {A B : Type 0} (f : A → B) (xs : List A) (k : ℕ) (y : B) → slice_get (map f xs) k ≡ Some y → (x : A) × (slice_get xs k ≡ Some x) × (f x ≡ y)
 get_map f [] k y e = cc
 get_map f (x ∷ xs) zero y e = (x, refl, same_Some _ _ e)

@@ -15,7 +15,8 @@ use Rattle.opt_crash.specs.OnePending.{IsIdle, HasOnePending, IsNotOnItsWay, Are
 use Rattle.opt_crash.specs.PipelineData.{PipelineData, DataAgree, with_committed}
 use Rattle.opt_tx.specs.declared.put.Put.{Put}
 use Rattle.opt_tx.specs.Record.{record_of, written_of, fresh_entry, IsTransaction}
-use Rattle.opt_tx.specs.Writes.{AddsWrites, AddsFront, record_writes}
+use Rattle.opt_crash.specs.Writes.{AddsWrites, AddsFront}
+use Rattle.opt_tx.specs.Writes.{record_writes}
 use Rattle.opt_tx.specs.Commits.{AreNotOnTheirWay}
 use Rattle.opt_tx.proofs.Forms.{map_get}
 use Rattle.opt_tx.proofs.OnePending.{AreIdle, AreUnlike, record_idle, record_unlike, record_own, one_all, one_front, under}

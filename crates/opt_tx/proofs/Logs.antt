@@ -1,14 +1,16 @@
 -- Writes join a log one by one.
-use Rattle.std.proofs.Common.{◌≡◌, ◌⊎◌, ⊎_elim, inl, inr, ℕ, zero, suc, ◌+◌, ◌<◌, ◌≤◌, List, [], ◌∷◌, ◌++◌, length, take, drop, slice_get, Some, Result, Ok, Err, IsErr, refl, sym, ◌∙◌, ap, subst, arith, append_assoc, append-nil}
+use Rattle.std.proofs.Common.{◌≡◌, ◌⊎◌, ⊎_elim, inl, inr, Bool, false, ℕ, zero, suc, ◌+◌, ◌<◌, ◌≤◌, List, [], ◌∷◌, ◌++◌, length, take, drop, slice_get, Some, Result, Ok, Err, IsErr, refl, sym, ◌∙◌, ap, subst, arith, append_assoc, append-nil}
 use Rattle.std.proofs.lemmas.Bool.{false≢true}
 use Rattle.std.proofs.lemmas.List.{take_all, take-append-drop}
 use Rattle.std.proofs.lemmas.Option.{same_Some}
 use Rattle.opt_disk.specs.declared.event.Event.{Event}
 use Rattle.opt_disk.specs.declared.event.Event.TheVariants.{Wrote, Lost}
 use Rattle.opt_disk.specs.Cell.{greatest_ticket, IsNoticed}
-use Rattle.opt_disk.specs.Disk.{State, SameDisk, HasCause}
+use Rattle.opt_base.specs.Counts.{after_call}
+use Rattle.opt_disk.specs.Disk.{State, OnlyWrites}
 use Rattle.opt_geom.specs.Geometry.{Geometry, ring_block}
-use Rattle.opt_tx.specs.Writes.{AddsWrites, AddsFront, AddsAll, HasWritten, WritesSoFar, ring_writes}
+use Rattle.opt_crash.specs.Writes.{AddsWrites, AddsFront, AddsAll, HasWritten}
+use Rattle.opt_tx.specs.Writes.{ring_writes}
 use Rattle.opt_tx.proofs.Forms.{push, drop_get}
 
 -- writes behind others
@@ -101,17 +103,18 @@ pub length_ring_writes : (g : Geometry) (place : ℕ) (xs : List (List ℕ)) →
 length_ring_writes g place [] = refl
 length_ring_writes g place (x ∷ xs) = omega (arith, length_ring_writes g (place + 1) xs)
 
--- what the calls leave of the disk's counts
-pub still : (s : State) → WritesSoFar s s
-still s = record { same = record { blocks = refl; base = refl }; counted = omega arith; waits = refl; polls = refl; read_faults = refl }
+-- nothing is spent by no call
+pub still : (s : State) → OnlyWrites false s s
+still s = record { same = record { blocks = refl; base = refl }; faults = refl; read_faults = refl; waits = refl; polls = refl }
 
-pub still_more : {A E : Type 0} (r : Result A E) (old mid new : State) → WritesSoFar old mid → SameDisk mid new → HasCause r mid.faults new.faults → new.waits ≡ mid.waits → new.polls ≡ mid.polls → new.read_faults ≡ mid.read_faults → WritesSoFar old new
-still_more r old mid new so_far same cause waits polls read_faults = record {
-  same = record { blocks = same.blocks ∙ so_far.same.blocks; base = same.base ∙ so_far.same.base };
-  counted = omega (arith, so_far.counted, cause.0);
-  waits = waits ∙ so_far.waits;
-  polls = polls ∙ so_far.polls;
-  read_faults = read_faults ∙ so_far.read_faults;
+-- and writes behind writes of which none failed only write
+pub still_more : (failed : Bool) (old mid new : State) → OnlyWrites false old mid → OnlyWrites failed mid new → OnlyWrites failed old new
+still_more failed old mid new so_far more = record {
+  same = record { blocks = more.same.blocks ∙ so_far.same.blocks; base = more.same.base ∙ so_far.same.base };
+  faults = more.faults ∙ ap (after_call failed) so_far.faults;
+  read_faults = more.read_faults ∙ so_far.read_faults;
+  waits = more.waits ∙ so_far.waits;
+  polls = more.polls ∙ so_far.polls;
 }
 
 -- where a call failed, a front is what is asked for

@@ -7,7 +7,7 @@ use Rattle.std.proofs.lemmas.Option.{same_Some, none-some, slice_get_within}
 use Rattle.opt_base.specs.Seal.{Blocks}
 use Rattle.opt_disk.specs.declared.event.Event.{Event}
 use Rattle.opt_disk.specs.declared.event.Event.TheVariants.{Wrote, Lost}
-use Rattle.opt_disk.specs.Cell.{cell_of}
+use Rattle.opt_disk.specs.Cell.{Cell, cell_of, after, after_all}
 use Rattle.opt_geom.specs.Geometry.{Geometry, ring_block, bitmap_start}
 use Rattle.opt_journal.specs.Spelling.{commit_block}
 use Rattle.opt_journal.specs.Run.{heads, places, commit_says}
@@ -15,13 +15,25 @@ use Rattle.opt_crash.specs.Ledger.{Ledger}
 use Rattle.opt_crash.specs.HomeTest.{is_one_of}
 use Rattle.opt_crash.specs.OnePending.{IsIdle, HasOnePending, AreOfRecord}
 use Rattle.opt_crash.specs.PipelineData.{PipelineData}
-use Rattle.opt_crash.proofs.Events.{other_wrote}
 use Rattle.opt_tx.specs.declared.put.Put.{Put}
 use Rattle.opt_tx.specs.Record.{record_of, written_of, descriptor_blocks, stored_put, fresh_entry}
-use Rattle.opt_tx.specs.Writes.{AddsWrites, AddsFront, fresh_write, ring_writes, record_writes}
+use Rattle.opt_crash.specs.Writes.{AddsWrites, AddsFront}
+use Rattle.opt_tx.specs.Writes.{fresh_write, ring_writes, record_writes}
 use Rattle.opt_tx.proofs.Forms.{if_false, get_map, map_get}
 use Rattle.opt_tx.proofs.Logs.{length_ring_writes}
 use Rattle.opt_tx.proofs.Spelled.{length_descriptor_blocks}
+
+-- events after others
+after_all-append : (b : ℕ) (c : Cell) (xs ys : List Event) → after_all b c (xs ++ ys) ≡ after_all b (after_all b c xs) ys
+after_all-append b c [] ys = refl
+after_all-append b c (x ∷ xs) ys = after_all-append b (after b c x) xs ys
+
+-- a write to another block leaves a cell
+other_wrote : (base : Blocks) (log : List Event) (t a b : ℕ) (x : List ℕ) → a ≢ b → cell_of base (log ++ Wrote t a x ∷ []) b ≡ cell_of base log b
+other_wrote base log t a b x apart = after_all-append b _ log _ ∙ if_false (a == b) _ _ (neq a b apart)
+  where
+    neq : (m n : ℕ) → m ≢ n → (m == n) ≡ false
+    neq m n d = grind arith
 
 -- the blocks of some writes, the last one first, before others
 abbrev pub under : List (ℕ × List ℕ) → List ℕ → List ℕ
@@ -56,7 +68,7 @@ module _ (base : Blocks) (l : Ledger) (p : PipelineData) (small : l.slot < 2)
       (λ i v is. let was = idle (suc i) v is in (was.0, subst IsIdle (sym (other_wrote base old t w.0 v.0 w.1 (unlike 0 (suc i) w v (omega arith) refl is))) was.1))
       (λ i k v x lt is at. unlike (suc i) (suc k) v x (omega arith) is at) a.2
 
--- what stands in two lists, one behind the other
+-- what is in two lists, one behind the other
 either : {A : Type 0} (xs ys : List A) (k : ℕ) (z : A) → slice_get (xs ++ ys) k ≡ Some z → ((k < length xs) × (slice_get xs k ≡ Some z)) ⊎ ((i : ℕ) × (k ≡ length xs + i) × (slice_get ys i ≡ Some z))
 either [] ys k z is = inr (k, omega arith, is)
 either (x ∷ xs) ys zero z is = inl (omega arith, is)

@@ -11,7 +11,8 @@ use Rattle.opt_crash.specs.PipelineData.{PipelineData}
 use Rattle.opt_crash.specs.Recording.{IsInLedger}
 use Rattle.opt_tx.specs.declared.put.Put.{Put}
 use Rattle.opt_tx.specs.Record.{record_of, written_of}
-use Rattle.opt_tx.specs.Writes.{AddsAll, AddsFront, AddsWrites, record_writes}
+use Rattle.opt_crash.specs.Writes.{AddsAll, AddsFront, AddsWrites}
+use Rattle.opt_tx.specs.Writes.{record_writes}
 use Rattle.opt_geom.specs.Geometry.{Geometry}
 use Rattle.opt_tx.specs.Commits.{RecordLeaves}
 

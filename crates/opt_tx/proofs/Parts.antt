@@ -58,7 +58,7 @@ module _ (epoch number place : ℕ) (paid laid : List Put) where
           item (p ∷ ps) (suc k) lt = item ps k (omega arith)
 
 module _ (epoch number place : ℕ) (paid laid : List Put) where
-  -- the payloads stand behind the commit block and the descriptors
+  -- the payloads are behind the commit block and the descriptors
   pub heads_is : 1 + descriptor_count (length paid + length laid) ≡ heads (record_of number place paid laid)
   heads_is = ap (λ n. 1 + descriptor_count n) (sym (entries_length number place paid laid))
 

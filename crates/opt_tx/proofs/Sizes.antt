@@ -10,7 +10,8 @@ use Rattle.opt_journal.specs.Run.{heads, commit_says}
 use Rattle.opt_crash.specs.Counts.{writes_in}
 use Rattle.opt_tx.specs.declared.put.Put.{Put}
 use Rattle.opt_tx.specs.Record.{record_of, descriptor_blocks, stored_put}
-use Rattle.opt_tx.specs.Writes.{AddsWrites, AddsFront, fresh_write, ring_writes, record_writes}
+use Rattle.opt_crash.specs.Writes.{AddsWrites, AddsFront}
+use Rattle.opt_tx.specs.Writes.{fresh_write, ring_writes, record_writes}
 use Rattle.opt_tx.proofs.Logs.{length_ring_writes}
 use Rattle.opt_tx.proofs.Spelled.{length_descriptor_blocks, entries_length}
 

@@ -59,7 +59,7 @@ same_from epoch number a b paid laid i (suc more) = ap (λ (l : List (List ℕ))
 pub same_descriptors : (epoch number a b : ℕ) (paid laid : List Put) → descriptor_blocks epoch (record_of number a paid laid) ≡ descriptor_blocks epoch (record_of number b paid laid)
 same_descriptors epoch number a b paid laid = same_from epoch number a b paid laid 0 (descriptor_count (length (entries (record_of number a paid laid))))
 
--- where the blocks of a record stand in it
+-- where the blocks of a record are in it
 pub ring_descriptor : (epoch number place : ℕ) (paid laid : List Put) (i : ℕ) → i < descriptor_count (length (entries (record_of number place paid laid)))
     → block_at (written_of epoch number place paid laid).ring (1 + i) ≡ descriptor_block (descriptor_says epoch (record_of number place paid laid) i)
 ring_descriptor epoch number place paid laid i lt =

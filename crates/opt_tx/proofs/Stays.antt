@@ -4,7 +4,7 @@ use Rattle.std.proofs.lemmas.Bool.{false≢true}
 use Rattle.opt_disk.specs.declared.event.Event.{Event}
 use Rattle.opt_disk.specs.declared.event.Event.TheVariants.{Wrote, Lost, Noticed}
 use Rattle.opt_disk.specs.Cell.{IsNoticed, is_noticed}
-use Rattle.opt_tx.specs.Writes.{AddsWrites}
+use Rattle.opt_crash.specs.Writes.{AddsWrites}
 
 noticed_before : (t : ℕ) (log : List Event) (e : Event) → IsNoticed t log → IsNoticed t (log ++ e ∷ [])
 noticed_before t [] e n = absurd (false≢true n)

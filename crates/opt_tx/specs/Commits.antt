@@ -1,5 +1,5 @@
 -- What a commit leaves.
-use Rattle.std.specs.Prelude.{◌≡◌, ◌⊎◌, ⊤, ℕ, ◌+◌, ◌≤◌, List, [], length, map, slice_get, Some, Result, Ok, Err}
+use Rattle.std.specs.Prelude.{◌≡◌, ◌⊎◌, ⊤, ℕ, Bool, true, false, ◌+◌, ◌≤◌, List, [], length, map, slice_get, Some, Result, Ok, Err}
 use Rattle.opt_base.specs.Seal.{Blocks}
 use Rattle.opt_disk.specs.declared.event.Event.{Event}
 use Rattle.opt_journal.specs.Run.{places}
@@ -16,7 +16,7 @@ use Rattle.opt_tx.specs.declared.commit.Committed.{Committed}
 use Rattle.opt_tx.specs.declared.commit.CommitRefusal.{CommitRefusal}
 use Rattle.opt_tx.specs.declared.commit.CommitRefusal.TheVariants.{NoMemory, DiskFault}
 use Rattle.opt_tx.specs.Record.{record_of, block_of}
-use Rattle.opt_tx.specs.Writes.{AddsWrites, AddsFront}
+use Rattle.opt_crash.specs.Writes.{AddsWrites, AddsFront}
 
 -- After the calls that write a whole record: it is in the ledger, with its tickets. Where one failed, the record is there or not, and the disk is safe.
 abbrev pub RecordLeaves : {A E : Type 0} → MountedSession → Ledger → PipelineData → WrittenRecord → Blocks → ℕ → ℕ → Result A E → List ℕ → Blocks → List Event → Type 0
@@ -53,6 +53,12 @@ WhereNoMemory DiskFault P = ⊤
 abbrev pub WhereDiskFault : CommitRefusal → Type 0 → Type 0
 WhereDiskFault NoMemory P = ⊤
 WhereDiskFault DiskFault P = P
+
+-- it was refused because the disk failed
+abbrev pub is_disk_fault : {A B : Type 0} → Result A (B × CommitRefusal) → Bool
+is_disk_fault (Ok a) = false
+is_disk_fault (Err (b, NoMemory)) = false
+is_disk_fault (Err (b, DiskFault)) = true
 
 -- No block has two writes pending after a commit: the record joins the ledger, and nothing is under way; or a write of it failed, or nothing was written.
 abbrev pub CommitKeepsOne : Ledger → PipelineData → WrittenRecord → Blocks → Result Committed (Running × CommitRefusal) → Blocks → List Event → Type 0

@@ -3,7 +3,7 @@
 ghost use Rattle.std.specs.Prelude.{◌≡◌, ◌≤◌, ◌<◌, ◌+◌, ◌-◌, ◌^◌, ◌⊎◌, ℕ, List, [], length, map, IsTrue, IfErr, IfOk, OnOk};
 ghost use Rattle.opt_base.specs.Seal.{Blocks};
 ghost use Rattle.opt_disk.specs.Cell.{cell_of};
-ghost use Rattle.opt_disk.specs.Disk.{SameDisk};
+ghost use Rattle.opt_disk.specs.Disk.{OnlyWrites};
 ghost use Rattle.opt_journal.specs.Run.{places};
 ghost use Rattle.opt_journal.specs.Ring.{with_places};
 ghost use Rattle.opt_crash.specs.Ledger.{Ledger};
@@ -14,7 +14,7 @@ ghost use Rattle.opt_crash.specs.PipelineData.{PipelineData, DataAgree};
 ghost use Rattle.opt_tx.specs.declared.put.Put.{Put};
 ghost use Rattle.opt_tx.specs.Record.{record_of, written_of, block_of, AreBelow, IsTransaction};
 ghost use Rattle.opt_tx.specs.Writes.{record_writes};
-ghost use Rattle.opt_tx.specs.Commits.{CommitLeaves, CommitAdds, IsCommitOf, WhereNoMemory, WhereDiskFault, CommitKeepsOne, AreNotOnTheirWay};
+ghost use Rattle.opt_tx.specs.Commits.{CommitLeaves, CommitAdds, IsCommitOf, WhereNoMemory, WhereDiskFault, is_disk_fault, CommitKeepsOne, AreNotOnTheirWay};
 
 use crate::{Put, Running, issue_record};
 use opt_base::NoMemory;
@@ -101,12 +101,7 @@ impl Running {
         ensures nothing { IfErr result (λ (running, why). WhereNoMemory why ((disk.new ≡ disk.old) × (ring.new ≡ ring.old))) }
         ensures ring { OnOk result (ring.new ≡ with_places ring.old (places (record_of 0 0 self.paid.items self.laid.items))) }
         ensures places { IfErr result (λ (running, why). WhereDiskFault why (ring.new ≡ with_places ring.old (places (record_of 0 0 self.paid.items self.laid.items)))) }
-        ensures same { SameDisk (D.state disk.old) (D.state disk.new) }
-        ensures cause { IfErr result (λ (running, why). WhereDiskFault why (((D.state disk.old).faults < (D.state disk.new).faults) ⊎ ((D.state disk.new).faults ≡ 2 ^ 64 - 1))) }
-        ensures counted { (D.state disk.old).faults ≤ (D.state disk.new).faults }
-        ensures waits { (D.state disk.new).waits ≡ (D.state disk.old).waits }
-        ensures polls { (D.state disk.new).polls ≡ (D.state disk.old).polls }
-        ensures read_faults { (D.state disk.new).read_faults ≡ (D.state disk.old).read_faults }
+        ensures spends { OnlyWrites (is_disk_fault result) (D.state disk.old) (D.state disk.new) }
     {
         payloads_read_back();
         journal_blocks_read_back();

@@ -7,10 +7,7 @@ ghost use Rattle.opt_tx.specs.Record.{payload_entry, fresh_entry, record_of};
 
 use crate::Put;
 use opt_base::{Block, digest};
-use opt_journal::{Descriptor, Entries, Entry, EntryKind, escape};
-
-/// The most entries of a descriptor.
-const MOST_ENTRIES: usize = 24;
+use opt_journal::{Descriptor, Entries, Entry, EntryKind, MOST_ENTRIES, escape};
 
 fn payload_entry(put: &Put) -> Entry
     ensures { result ≡ payload_entry put.now }

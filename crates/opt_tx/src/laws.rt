@@ -1,12 +1,9 @@
-//! What a record says of the puts that it was made of, and what a row of writes adds to a log, as laws. The
-//! functions do nothing.
+//! What a record says of the puts that it was made of, and how many writes it makes, as laws. The functions
+//! do nothing.
 
-ghost use Rattle.std.specs.Prelude.{◌≡◌, ◌≤◌, ◌<◌, ◌+◌, ◌++◌, ◌∷◌, ◌⊎◌, [], ℕ, List, length, map, slice_get, Some, Ok};
+ghost use Rattle.std.specs.Prelude.{◌≡◌, ◌≤◌, ◌+◌, ℕ, List, length, map};
 ghost use Rattle.opt_disk.specs.declared.event.Event.{Event};
-ghost use Rattle.opt_disk.specs.declared.event.Event.TheVariants.{Lost};
-ghost use Rattle.opt_disk.specs.declared.disk.DiskFault.{DiskFault};
 ghost use Rattle.opt_disk.specs.Cell.{IsNoticed};
-ghost use Rattle.opt_disk.specs.Disk.{AddsWrite};
 ghost use Rattle.opt_geom.specs.Geometry.{Geometry};
 ghost use Rattle.opt_journal.specs.Layout.{descriptor_count};
 ghost use Rattle.opt_journal.specs.Run.{names_block};
@@ -16,7 +13,8 @@ ghost use Rattle.opt_crash.specs.HomeTest.{is_one_of};
 ghost use Rattle.opt_tx.specs.declared.put.Put.{Put};
 ghost use Rattle.opt_tx.specs.Record.{written_of, fresh_entry, block_of};
 ghost use Rattle.opt_tx.specs.Rows.{put_of};
-ghost use Rattle.opt_tx.specs.Writes.{record_writes, AddsWrites, AddsFront, HasWritten};
+ghost use Rattle.opt_crash.specs.Writes.{AddsWrites, AddsFront};
+ghost use Rattle.opt_tx.specs.Writes.{record_writes};
 
 use opt_journal::payloads_read_back;
 
@@ -39,12 +37,4 @@ pub fn a_record_makes_so_many_writes()
 /// A record's writes leave what is noticed so.
 pub fn noticed_tickets_stay_so()
     ensures { (ws : List (ℕ × List ℕ)) (ts : List ℕ) (old new : List Event) (t : ℕ) → AddsWrites ws ts old new → IsNoticed t old → IsNoticed t new }
-{}
-
-/// Writes that are made one by one join a log: so far none, one more, all, or all but one that failed.
-pub fn writes_join_a_log_one_by_one()
-    ensures none { (ws : List (ℕ × List ℕ)) (start : List ℕ) (old : List Event) → HasWritten ws 0 start start old old }
-    ensures more { (ws : List (ℕ × List ℕ)) (k b : ℕ) (x : List ℕ) (t : ℕ) (start now next : List ℕ) (old mid new : List Event) → slice_get ws k ≡ Some (b, x) → next ≡ now ++ t ∷ [] → HasWritten ws k start now old mid → AddsWrite {E = DiskFault} b x (Ok t) mid new → HasWritten ws (k + 1) start next old new }
-    ensures all { (ws : List (ℕ × List ℕ)) (k : ℕ) (start now : List ℕ) (old new : List Event) → length ws ≤ k → HasWritten ws k start now old new → (ts : List ℕ) × (now ≡ start ++ ts) × AddsWrites ws ts old new }
-    ensures failed { (ws : List (ℕ × List ℕ)) (k b : ℕ) (x : List ℕ) (start now : List ℕ) (old mid new : List Event) → slice_get ws k ≡ Some (b, x) → HasWritten ws k start now old mid → (new ≡ mid) ⊎ (new ≡ mid ++ Lost b x ∷ []) → AddsFront ws old new }
 {}

@@ -14,10 +14,7 @@ mod writes;
 
 pub use commit::{CommitRefusal, Committed, places_of};
 pub use entries::{descriptor_at, entry_at};
-pub use laws::{
-    a_record_keeps_its_puts, a_record_makes_so_many_writes, noticed_tickets_stay_so,
-    writes_join_a_log_one_by_one,
-};
+pub use laws::{a_record_keeps_its_puts, a_record_makes_so_many_writes, noticed_tickets_stay_so};
 pub use put::{Class, Put};
 pub use running::Running;
 pub use states::{Durable, Placed, Released, Sure};

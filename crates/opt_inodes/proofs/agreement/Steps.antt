@@ -99,7 +99,7 @@ module _ (e f : Entries) (old new : Path → Option ℕ) (goes : GoesOn e old) (
   pub take_goes : GoesOn f new
   take_goes at b = take_step at b (look at) (look (at ++ b ∷ []))
 
--- What stands at or below one path comes to another one, which isn't at or below the first. Nothing stands below what stood there.
+-- What is at or below one path comes to another one, which isn't at or below the first. Nothing stands below what was there.
 module _ (e f : Entries) (old new : Path → Option ℕ) (goes : GoesOn e old) (up to : Path) (name other : List ℕ) (d c n : ℕ)
     (at_up : old up ≡ Some d) (only_up : (q : Path) → old q ≡ Some d → q ≡ up)
     (at_to : old to ≡ Some c) (only_to : (q : Path) → old q ≡ Some c → q ≡ to)

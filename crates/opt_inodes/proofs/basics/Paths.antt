@@ -97,7 +97,7 @@ from_end (a ∷ p) = by (from_end p)
     by (inl e) = inr ([], a, ap (λ p. a ∷ p) e)
     by (inr s) = inr (a ∷ s.0, s.1, ap (λ p. a ∷ p) s.2)
 
--- what is left of a path stands behind its front
+-- what is left of a path is behind its front
 pub strip_is : (p q r : Path) → strip p q ≡ Some r → q ≡ p ++ r
 strip_is [] q r e = some_same q r e
 strip_is (a ∷ p) [] r e = absurd (none_some r refl e)

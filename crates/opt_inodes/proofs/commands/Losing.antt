@@ -15,7 +15,7 @@ use Rattle.opt_inodes.proofs.basics.FinMaps.{node_gone, node_stays}
 use Rattle.opt_inodes.proofs.commands.Adding.{one_if, counts_one, dir_file, one_file}
 use Rattle.opt_inodes.proofs.agreement.Agree.{Agrees}
 
--- nothing stands in what is left
+-- nothing is in what is left
 pub left_empty : (o : Option Inode) (b : List ℕ) → entry_in (option_and_then one_link_less o) b ≡ None
 left_empty None b = refl
 left_empty (Some (ADir slots)) b = refl

@@ -16,7 +16,7 @@ use Rattle.opt_inodes.proofs.basics.Numbers.{everywhere}
 pub set_here : (m : Inodes) (k : ℕ) (x : Option Inode) (l : ℕ) → l ≡ k → with_inode m k x l ≡ x
 set_here m k x l e = ap (λ b. if b then x else m l) (eq-eqb l k e)
 
--- and under every other one what stood there
+-- and under every other one what was there
 pub set_other : (m : Inodes) (k : ℕ) (x : Option Inode) (l : ℕ) → (l ≡ k → ⊥) → with_inode m k x l ≡ m l
 set_other m k x l off = ap (λ b. if b then x else m l) (ne_eqb l k off)
 
@@ -36,7 +36,7 @@ still_read old new m k x read here others l = by (cases_eq l k)
 abbrev set_two : Inodes → ℕ → Option Inode → ℕ → Option Inode → Inodes
 set_two m a x b y = with_inode (with_inode m a x) b y
 
--- the second one stands there
+-- the second one is there
 second_here : (m : Inodes) (a : ℕ) (x : Option Inode) (b : ℕ) (y : Option Inode) → set_two m a x b y b ≡ y
 second_here m a x b y = set_here (with_inode m a x) b y b refl
 

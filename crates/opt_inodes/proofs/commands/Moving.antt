@@ -1,4 +1,4 @@
--- What stands at a path moves, whatever slots of which directories that changed: what these give of entries, nodes, links and names is a premise here.
+-- What is at a path moves, whatever slots of which directories that changed: what these give of entries, nodes, links and names is a premise here.
 use Rattle.std.proofs.Common.{◌≡◌, ℕ, false, true≢false, List, [], ◌∷◌, ◌++◌, Option, Some, None, if◌then◌else◌, option_map, sym, refl, ap, ◌∙◌, ◌⊎◌, inl, inr}
 use Rattle.std.specs.FinMap.{get, remove}
 use Rattle.opt_layout.specs.declared.slot.Slot.{Slot}

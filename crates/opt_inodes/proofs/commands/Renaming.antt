@@ -1,4 +1,4 @@
--- What a move makes of the slots, within one directory or between two, to a free name or onto what stands there: all in one shape.
+-- What a move makes of the slots, within one directory or between two, to a free name or onto what is there: all in one shape.
 use Rattle.std.proofs.Common.{◌≡◌, ℕ, false, List, [], ◌∷◌, ◌++◌, slice_get, Option, Some, None, option_map, option_and_then, sym, refl, ap, ap₂, ◌∙◌, ◌⊎◌, inl, inr, arith, ne_eqb}
 use Rattle.std.proofs.lemmas.Bool.{cases_eq}
 use Rattle.std.specs.FinMap.{get, remove}
@@ -29,7 +29,7 @@ module _ (limit : ℕ) (m : Inodes) (t : Tree) (a : Agrees limit m t) where
   dir_of : (d : ℕ) (slots : List Slot) → m d ≡ Some (ADir slots) → get t.nodes d ≡ Some Dir
   dir_of d slots is = a.nodes d ∙ ap (option_map thing_of) is
 
-  -- what stands under a name stands at the path with that name
+  -- what is under a name is at the path with that name
   under : (up : Path) (d : ℕ) (slots : List Slot) (b : List ℕ) → get t.names up ≡ Some d → m d ≡ Some (ADir slots) → get t.names (up ++ b ∷ []) ≡ node_in slots b
   under up d slots b at is = step_at (entries_of m) (get t.names) a.goes up b d at ∙ ap (λ o. entry_in o b) is
 

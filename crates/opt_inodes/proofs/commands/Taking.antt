@@ -33,7 +33,7 @@ module _ (laws : TreeLaws) (limit : ℕ) (m new : Inodes) (t : Tree) (a : Agrees
   pub there : get t.names (up ++ name ∷ []) ≡ Some n
   there = step_at (entries_of m) (get t.names) a.goes up name d at_up ∙ ap (λ o. entry_in o name) ch.dir ∙ finds ch.slots ch.place (slot_of n name) slots_distinct ch.slot
 
-  -- nothing stands under the name, and no other entry changed
+  -- nothing is under the name, and no other entry changed
   entry : EntryIs (entries_of m) (entries_of new) d name None
   entry = record {
     here = ap (λ o. entry_in o name) ch.taken ∙ taken_here ch.slots ch.place (slot_of n name) slots_distinct ch.slot;

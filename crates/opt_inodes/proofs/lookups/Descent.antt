@@ -18,7 +18,7 @@ use Rattle.opt_inodes.proofs.lookups.Ordered.{zeros}
 
 -- Order.
 
--- a path stands before what lies below it
+-- a path is before what lies below it
 before_below : (p : Path) (b : List ℕ) (r : Path) → path_cmp p (p ++ b ∷ r) ≡ Less
 before_below [] b r = refl
 before_below (x ∷ p) b r = ap (λ o. ordering_then o (path_cmp p (p ++ b ∷ r))) (tied_itself name_total x) ∙ before_below p b r
@@ -27,7 +27,7 @@ before_below (x ∷ p) b r = ap (λ o. ordering_then o (path_cmp p (p ++ b ∷ r
 less_first : (o q : Ordering) → o ≡ Less → ordering_then o q ≡ Less
 less_first o q e = ap (λ o. ordering_then o q) e
 
--- what lies below one name stands before what lies below a later one
+-- what lies below one name is before what lies below a later one
 side_by_side : (p : Path) (b c : List ℕ) (r s : Path) → name_cmp b c ≡ Less → path_cmp (p ++ b ∷ r) (p ++ c ∷ s) ≡ Less
 side_by_side [] b c r s e = less_first (name_cmp b c) (path_cmp r s) e
 side_by_side (x ∷ p) b c r s e = ap (λ o. ordering_then o (path_cmp (p ++ b ∷ r) (p ++ c ∷ s))) (tied_itself name_total x) ∙ side_by_side p b c r s e
@@ -42,7 +42,7 @@ less_of Less h = refl
 less_of Equal h = absurd h
 less_of Greater h = absurd h
 
--- what stands before two lists stands before both in a row
+-- what is before two lists is before both in a row
 below_both : (x : Path) (xs ys : List (Path × ℕ)) → T (below_all path_cmp x xs) → T (below_all path_cmp x ys) → T (below_all path_cmp x (xs ++ ys))
 below_both x [] ys h k = k
 below_both x (e ∷ xs) ys h k = join_of _ _ (both_of _ _ h).0 (below_both x xs ys (both_of _ _ h).1 k)
@@ -88,7 +88,7 @@ module _ (names : Names) (p : Path) where
       ∙ ap₂ option_or (found_under names (p ++ b ∷ []) q) (found_parts q bs)
       ∙ either (is_within (p ++ b ∷ []) q) (list_any (λ b. is_within (p ++ b ∷ []) q) bs) (get names q)
 
-  -- what is behind x, where x stands before all that lies below a name
+  -- what is behind x, where x is before all that lies below a name
   behind_part : (x : Path) (b : List ℕ) → ((r : Path) → path_cmp x (p ++ b ∷ r) ≡ Less) → (es : List (Path × ℕ)) → T (below_all path_cmp x (filter (λ e. is_within (p ++ b ∷ []) e.0) es))
   behind_part x b less [] = tt
   behind_part x b less (e ∷ es) = by (which (strip (p ++ b ∷ []) e.0)) (behind_part x b less es)

@@ -25,7 +25,7 @@ use Rattle.opt_inodes.proofs.slots.Slots.{rest_distinct}
 use Rattle.opt_inodes.proofs.lookups.Rows.{name_cmp, name_total, both_of, row_of, row_at, row_entries, first_new, here_distinct, lone_is, lone_at}
 use Rattle.opt_inodes.proofs.sums.Totals.{exchange, gone_in_front, sum_from, sum_same, by_number, numbers_summed, numbers_within, all_are, nothing_times, one_times, later_paths, here_path}
 
--- how often the number stands in a row
+-- how often the number is in a row
 abbrev in_row : ℕ → List (List ℕ × ℕ) → ℕ
 in_row n [] = 0
 in_row n (e ∷ es) = (if e.1 == n then 1 else 0) + in_row n es

@@ -18,11 +18,11 @@ use Rattle.opt_inodes.proofs.basics.FinMaps.{tied, which_key}
 use Rattle.opt_inodes.proofs.slots.Slots.{set_here, set_other, finds, found}
 use Rattle.opt_inodes.proofs.lookups.Rows.{name_cmp, name_total, name_same, row_in, row_at, join_of, both_of}
 
--- each name stands at one place at most
+-- each name is at one place at most
 abbrev OnePlace : List (List ℕ) → Type 0
 OnePlace l = (i j : ℕ) (x : List ℕ) → slice_get l i ≡ Some x → slice_get l j ≡ Some x → i ≡ j
 
--- where what stands in a list after an exchange stood before it
+-- where what is in a list after an exchange stood before it
 came : (l : List (List ℕ)) (a b k : ℕ) (x : List ℕ) → a < length l → b < length l → slice_get (swap l a b) k ≡ Some x
     → ((k ≡ b) × (slice_get l a ≡ Some x)) ⊎ (((k ≡ b → ⊥) × (k ≡ a) × (slice_get l b ≡ Some x)) ⊎ ((k ≡ b → ⊥) × (k ≡ a → ⊥) × (slice_get l k ≡ Some x)))
 came [] a b k x low_a low_b e = absurd (omega (arith, low_a))
@@ -37,7 +37,7 @@ came (d ∷ ys) a b k x low_a low_b e = by (cases_eq k b) (cases_eq k a)
     at_b : slice_get (d ∷ ys) b ≡ Some (get_or (d ∷ ys) b d)
     at_b = slice_get-get_or (d ∷ ys) b d low_b
 
-    -- something stands at b after the first step
+    -- something is at b after the first step
     there : (y : List ℕ) × (slice_get (set (d ∷ ys) a (get_or (d ∷ ys) b d)) b ≡ Some y)
     there = by (cases_eq b a)
       where
@@ -57,7 +57,7 @@ came (d ∷ ys) a b k x low_a low_b e = by (cases_eq k b) (cases_eq k a)
         ))
     by (inr off) (inr away) = inr (inr (off, away, sym (set_other (d ∷ ys) a k _ away) ∙ sym (set_other (set (d ∷ ys) a (get_or (d ∷ ys) b d)) b k _ off) ∙ e))
 
--- where what stands in a list after an exchange stood before it, in a word
+-- where what is in a list after an exchange stood before it, in a word
 abbrev Came : List (List ℕ) → ℕ → ℕ → List ℕ → ℕ → Type 0
 Came l a b x k = ((k ≡ b) × (slice_get l a ≡ Some x)) ⊎ (((k ≡ b → ⊥) × (k ≡ a) × (slice_get l b ≡ Some x)) ⊎ ((k ≡ b → ⊥) × (k ≡ a → ⊥) × (slice_get l k ≡ Some x)))
 
@@ -92,12 +92,12 @@ is_less Less e off = tt
 is_less Equal e off = absurd (off refl)
 is_less Greater e off = absurd (true≢false e)
 
--- a name stands before a list where it stands before each
+-- a name is before a list where it is before each
 all_behind : (x : List ℕ) (xs : List (List ℕ)) → ((i : ℕ) (y : List ℕ) → slice_get xs i ≡ Some y → T (is_lt (name_cmp x y))) → T (below_all name_cmp x (zeros xs))
 all_behind x [] h = tt
 all_behind x (y ∷ xs) h = join_of _ _ (h 0 y refl) (all_behind x xs (λ i z at. h (suc i) z at))
 
--- a list rises where each name stands before all later ones
+-- a list rises where each name is before all later ones
 rises : (xs : List (List ℕ)) → ((i j : ℕ) (x y : List ℕ) → i < j → slice_get xs i ≡ Some x → slice_get xs j ≡ Some y → T (is_lt (name_cmp x y))) → T (is_sorted name_cmp (zeros xs))
 rises [] h = tt
 rises (x ∷ xs) h = join_of _ _ (all_behind x xs (λ i y at. h 0 (suc i) x y (omega arith) refl at)) (rises xs (λ i j u v low at_i at_j. h (suc i) (suc j) u v (omega (arith, low)) at_i at_j))
@@ -185,7 +185,7 @@ module _ (slots : List Slot) (distinct : AreDistinct slots) (names : List (List 
   at_name (r ∷ l) zero s e = ap (λ r. Some r.name) (some_same r s e)
   at_name (r ∷ l) (suc i) s e = at_name l i s e
 
-  -- each stands at one place
+  -- each is at one place
   one_place : OnePlace (map (λ s. s.name) slots)
   one_place i j x at_i at_j =
       let s = named slots i x at_i in
@@ -196,7 +196,7 @@ module _ (slots : List Slot) (distinct : AreDistinct slots) (names : List (List 
   names_rise : T (is_sorted name_cmp (zeros names))
   names_rise = sorted_rises names up (shuffled_one (map (λ s. s.name) slots) names shuffled one_place)
 
-  -- a name is a key of the row where something stands under it
+  -- a name is a key of the row where something is under it
   in_keys : (q : List ℕ) → is_some (find name_cmp q (zeros (keys (row_in slots)))) ≡ is_some (node_in slots q)
   in_keys q = key_found q (entries (row_in slots)) ∙ ap is_some (sym (get-entries (row_in slots) q) ∙ row_at slots q)
 

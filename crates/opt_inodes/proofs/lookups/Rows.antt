@@ -138,7 +138,7 @@ same_test a b = by (which_key name_total name_same a b)
     by (inl e) = tied name_total name_same a b e ∙ sym (ap (bytes_eq b) e ∙ same_name b)
     by (inr off) = off ∙ sym (other_name b a (λ e. true≢false (sym (tied name_total name_same a b (sym e)) ∙ off)))
 
--- a name is found among slots as it stands under them
+-- a name is found among slots as it is under them
 find_slot : (slots : List Slot) (b : List ℕ) → find name_cmp b (pairs_of slots) ≡ node_in slots b
 find_slot [] b = refl
 find_slot (s ∷ slots) b = ap (λ t. cond t (Some s.node) (find name_cmp b (pairs_of slots))) (same_test b s.name) ∙ ap (cond (bytes_eq s.name b) (Some s.node)) (find_slot slots b)
@@ -162,14 +162,14 @@ row_length (s ∷ slots) distinct =
     let new : get (row_in slots) s.name ≡ None = row_at slots s.name ∙ first_new s slots distinct in
     omega (arith, len-insert name_total (row_in slots) s.name s.node ∙ ap (λ o. cond (is_some o) (len (row_in slots)) (len (row_in slots) + 1)) new, row_length slots (rest_distinct s slots distinct))
 
--- what stands under a name in an inode is what its slots have
+-- what is under a name in an inode is what its slots have
 pub entry_is : (o : Option Inode) (b : List ℕ) → entry_in o b ≡ node_in (slots_of o) b
 entry_is None b = refl
 entry_is (Some (ADir slots)) b = refl
 entry_is (Some (AFile links bytes)) b = refl
 
 module _ (limit : ℕ) (m : Inodes) (t : Tree) (a : Agrees limit m t) (up : Path) where
-  -- what stands under a name at a path, which may be no directory
+  -- what is under a name at a path, which may be no directory
   name_at : (b : List ℕ) → get t.names (up ++ b ∷ []) ≡ node_in (slots_of (inode_at m up)) b
   name_at b = a.goes up b ∙ ap (option_and_then (λ k. entry_in (m k) b)) (number_given limit m t a up) ∙ by (number_at m up)
     where

@@ -1,4 +1,4 @@
--- Walks in the inode map are walks in the tree, and what stands at a path is the inode there.
+-- Walks in the inode map are walks in the tree, and what is at a path is the inode there.
 use Rattle.std.proofs.Common.{◌≡◌, ℕ, Bool, true, false, true≢false, List, [], ◌∷◌, ◌++◌, Option, Some, None, is_some, option_map, option_and_then, Result, Ok, Err, if◌then◌else◌, sym, refl, ap, ap₂, ◌∙◌}
 use Rattle.std.proofs.lemmas.Bool.{false_from_ne_true}
 use Rattle.std.specs.FinMap.{get}

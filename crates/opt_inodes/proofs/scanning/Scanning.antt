@@ -46,7 +46,7 @@ module _ (laws : TreeLaws) (limit : ℕ) (m new : Inodes) (t : Tree) (is : IsMap
   a : Agrees limit m t
   a = agrees laws limit m t is
 
-  -- nothing stands at a path whose name no slot has
+  -- nothing is at a path whose name no slot has
   free_at : (slots : List Slot) (up : Path) → m d ≡ Some (ADir slots) → get t.names up ≡ Some d → node_in slots name ≡ None → get t.names (up ++ name ∷ []) ≡ None
   free_at slots up dir at none = step_at (entries_of m) (get t.names) a.goes up name d at ∙ ap (λ o. entry_in o name) dir ∙ none
 

@@ -1,4 +1,4 @@
--- The place of a name among slots, what stands under it, and the slots with one that has the name.
+-- The place of a name among slots, what is under it, and the slots with one that has the name.
 use Rattle.std.proofs.Common.{◌≡◌, ℕ, zero, suc, ◌+◌, ◌-◌, ◌<◌, ◌≤◌, nat_lt, Bool, true, false, cond, not, List, [], ◌∷◌, ◌++◌, length, take, set, get_or, bytes_eq, slice_get, Option, Some, None, refl, sym, ap, ◌∙◌, arith, length-append, take_all}
 use Rattle.std.proofs.lemmas.Bool.{ltb-true, ltb-false, le-ltb}
 use Rattle.std.proofs.lemmas.List.{take-append-le, length-set}
@@ -30,7 +30,7 @@ less_one i n e = omega (arith, e)
 one_up : (n : ℕ) → 1 + n ≡ suc n
 one_up n = omega arith
 
--- the first slot that passes has the name, and its node stands under it
+-- the first slot that passes has the name, and its node is under it
 first_at : (name : List ℕ) (slots : List Slot) → position_or_len (λ s. bytes_eq s.name name) slots < length slots → IsFirst slots name (position_or_len (λ s. bytes_eq s.name name) slots)
 first_at name [] low = absurd (omega (arith, low))
 first_at name (s ∷ slots) low = by (bytes_eq s.name name) refl low (first_at name slots)
@@ -51,7 +51,7 @@ first_at name (s ∷ slots) low = by (bytes_eq s.name name) refl low (first_at n
 not_less : (i n : ℕ) → suc n ≤ 1 + i → nat_lt i n ≡ false
 not_less i n e = le-ltb i n (omega (arith, e))
 
--- where no slot passes, nothing stands under the name
+-- where no slot passes, nothing is under the name
 none_at : (name : List ℕ) (slots : List Slot) → nat_lt (position_or_len (λ s. bytes_eq s.name name) slots) (length slots) ≡ false → node_in slots name ≡ None
 none_at name [] high = refl
 none_at name (s ∷ slots) high = by (bytes_eq s.name name) refl high (none_at name slots)
@@ -61,7 +61,7 @@ none_at name (s ∷ slots) high = by (bytes_eq s.name name) refl high (none_at n
     by true is high go = let low = ltb-false _ _ high in absurd (omega (arith, low))
     by false is high go = let low = ltb-false _ _ high in go (not_less _ _ low)
 
--- what stands at the place of a name
+-- what is at the place of a name
 pub place_found : (slots : List Slot) (name : List ℕ) (place : ℕ) → place_of name slots ≡ Some place → (node : ℕ) × (slice_get slots place ≡ Some (slot_of node name)) × (node_in slots name ≡ Some node)
 place_found slots name place e = by (nat_lt (position_or_len (λ s. bytes_eq s.name name) slots) (length slots)) refl e
   where
@@ -82,7 +82,7 @@ place_missing slots name e = by (nat_lt (position_or_len (λ s. bytes_eq s.name 
 
 -- The slots with one of that name.
 
--- what the new slots are: no name twice, the node under its name, under every other name what stood there, and each slot of another name in its place
+-- what the new slots are: no name twice, the node under its name, under every other name what was there, and each slot of another name in its place
 pub record Puts (slots new : List Slot) (s : Slot) : Type 0 where
   pub distinct : AreDistinct new
   pub here : node_in new s.name ≡ Some s.node

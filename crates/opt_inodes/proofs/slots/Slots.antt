@@ -1,4 +1,4 @@
--- Lists of slots: what stands at a place, and what stands under a name, after a slot came, changed or went.
+-- Lists of slots: what is at a place, and what is under a name, after a slot came, changed or went.
 use Rattle.std.proofs.Common.{◌≡◌, ℕ, zero, suc, ◌-◌, ◌<◌, Bool, true, false, cond, List, [], ◌∷◌, ◌++◌, length, take, set, get_or, slice_get, bytes_eq, Some, None, sym, refl, ap, ◌∙◌, ◌⊎◌, inl, inr, arith}
 use Rattle.std.proofs.lemmas.Bool.{cases_Bool, cases_eq}
 use Rattle.std.proofs.lemmas.Option.{slice_get_within, slice_get-get_or}
@@ -9,7 +9,7 @@ use Rattle.opt_stands.specs.Inodes.{AreDistinct}
 use Rattle.opt_stands.specs.Walks.{node_in}
 use Rattle.opt_inodes.proofs.basics.Paths.{none_some, some_same, which}
 
--- What stands at a place.
+-- What is at a place.
 
 -- the place that was set has the new one
 pub set_here : {A : Type 0} (xs : List A) (i : ℕ) (x v : A) → slice_get xs i ≡ Some x → slice_get (set xs i v) i ≡ Some v
@@ -40,7 +40,7 @@ pub last_at : {A : Type 0} (xs : List A) (v : A) → slice_get (xs ++ v ∷ []) 
 last_at [] v = refl
 last_at (y ∷ xs) v = last_at xs v
 
--- what stands in a list with one more at its end stood there, or is that one
+-- what is in a list with one more at its end stood there, or is that one
 pub at_in_longer : {A : Type 0} (xs : List A) (v : A) (i : ℕ) (x : A) → slice_get (xs ++ v ∷ []) i ≡ Some x → (slice_get xs i ≡ Some x) ⊎ ((i ≡ length xs) × (x ≡ v))
 at_in_longer [] v zero x e = inr (refl, sym (some_same v x e))
 at_in_longer [] v (suc i) x e = absurd (none_some x refl e)
@@ -71,7 +71,7 @@ at_in_front (suc n) (y ∷ xs) (suc i) x e = let low = at_in_front n xs i x e in
 
 -- The names of slots.
 
--- the slot stands in the list
+-- the slot is in the list
 abbrev pub Has : List Slot → Slot → Type 0
 Has slots s = (i : ℕ) × (slice_get slots i ≡ Some s)
 
@@ -95,7 +95,7 @@ finds (x ∷ slots) (suc i) s distinct at = by (finds slots i s (rest_distinct x
     by rest (inl e) = absurd (omega (arith, distinct 0 (suc i) x s refl at ((bytes_eq-Decides x.name s.name).0 e)))
     by rest (inr e) = ap (λ b. cond b (Some x.node) (node_in slots s.name)) e ∙ rest
 
--- what stands under a name is what a slot of that name names
+-- what is under a name is what a slot of that name names
 pub found : (slots : List Slot) (name : List ℕ) (n : ℕ) → node_in slots name ≡ Some n → (s : Slot) × (Has slots s) × (s.name ≡ name) × (s.node ≡ n)
 found [] name n e = absurd (none_some n refl e)
 found (x ∷ slots) name n e = by (bytes_eq x.name name) refl e (found slots name n)
@@ -142,11 +142,11 @@ module _ (slots : List Slot) (s : Slot) (distinct : AreDistinct slots) (free : n
       by (inr e) (inl f) = absurd (not_named slots s.name j v distinct free f (sym same ∙ ap (λ r. r.name) e.1))
       by (inr e) (inr f) = e.0 ∙ sym f.0
 
-  -- its node stands under its name
+  -- its node is under its name
   pub added_here : node_in (slots ++ s ∷ []) s.name ≡ Some s.node
   added_here = finds (slots ++ s ∷ []) (length slots) s added_distinct (last_at slots s)
 
-  -- and under every other name what stood there
+  -- and under every other name what was there
   pub added_other : (name : List ℕ) → (name ≡ s.name → ⊥) → node_in (slots ++ s ∷ []) name ≡ node_in slots name
   added_other name off = same_under slots (slots ++ s ∷ []) name distinct added_distinct
       (λ u at same. (at.0, front_at slots (s ∷ []) at.0 u at.1))
@@ -159,7 +159,7 @@ module _ (slots : List Slot) (s : Slot) (distinct : AreDistinct slots) (free : n
 -- Another slot at the place of one.
 
 module _ (slots : List Slot) (place : ℕ) (s v : Slot) (distinct : AreDistinct slots) (at : slice_get slots place ≡ Some s) where
-  -- what stands at a place is the new slot, or what stood there
+  -- what is at a place is the new slot, or what was there
   at_set : (i : ℕ) (u : Slot) → slice_get (set slots place v) i ≡ Some u → ((i ≡ place) × (u ≡ v)) ⊎ ((i ≡ place → ⊥) × (slice_get slots i ≡ Some u))
   at_set i u e = by (cases_eq i place)
     where
@@ -183,11 +183,11 @@ module _ (slots : List Slot) (place : ℕ) (s v : Slot) (distinct : AreDistinct 
         by (inr e) (inl f) = absurd (no_other i u e.0 e.1 (same ∙ ap (λ r. r.name) f.1))
         by (inr e) (inr f) = distinct i j u w e.1 f.1 same
 
-    -- the new slot's node stands under its name
+    -- the new slot's node is under its name
     pub set_here_name : node_in (set slots place v) v.name ≡ Some v.node
     set_here_name = finds (set slots place v) place v set_distinct (set_here slots place s v at)
 
-    -- and under every other name what stood there
+    -- and under every other name what was there
     pub set_other_name : (name : List ℕ) → (name ≡ v.name → ⊥) → node_in (set slots place v) name ≡ node_in slots name
     set_other_name name off = same_under slots (set slots place v) name distinct set_distinct
         (λ u there same. (there.0, set_other slots place there.0 v (λ e. off (sym same ∙ ap (λ r. r.name) (some_same u s (sym there.1 ∙ ap (slice_get slots) e ∙ at)) ∙ sym own)) ∙ there.1))
@@ -204,11 +204,11 @@ module _ (slots : List Slot) (place : ℕ) (s : Slot) (distinct : AreDistinct sl
   low : place < length slots
   low = slice_get_within slots place s at
 
-  -- a slot stands at the last place
+  -- a slot is at the last place
   last_slot : slice_get slots (length slots - 1) ≡ Some (get_or slots (length slots - 1) (record { node = 0; name = [] }))
   last_slot = slice_get-get_or slots (length slots - 1) (record { node = 0; name = [] }) (omega (arith, low))
 
-  -- what stands there stood elsewhere, and not at the place
+  -- what is there stood elsewhere, and not at the place
   came_from : (i : ℕ) (u : Slot) → slice_get (without_at place slots) i ≡ Some u
       → ((i ≡ place) × (i < length slots - 1) × (slice_get slots (length slots - 1) ≡ Some u)) ⊎ ((i ≡ place → ⊥) × (i < length slots - 1) × (slice_get slots i ≡ Some u))
   came_from i u e =
@@ -256,7 +256,7 @@ module _ (slots : List Slot) (place : ℕ) (s : Slot) (distinct : AreDistinct sl
       by (inl e) = ((length slots - 1, e.2), λ same. let same_place = distinct (length slots - 1) place u s e.2 at same in absurd (omega (arith, e.0, e.1, same_place)))
       by (inr e) = ((there.0, e.2), λ same. e.0 (distinct there.0 place u s e.2 at same))
 
-  -- nothing stands under the name of the one that went
+  -- nothing is under the name of the one that went
   pub taken_here : node_in (without_at place slots) s.name ≡ None
   taken_here = by (which (node_in (without_at place slots) s.name))
     where
@@ -264,7 +264,7 @@ module _ (slots : List Slot) (place : ℕ) (s : Slot) (distinct : AreDistinct sl
       by (inl none) = none
       by (inr some) = let u = found (without_at place slots) s.name some.0 some.1 in absurd ((was_there u.0 u.1).1 u.2)
 
-  -- and under every other name what stood there
+  -- and under every other name what was there
   pub taken_other : (name : List ℕ) → (name ≡ s.name → ⊥) → node_in (without_at place slots) name ≡ node_in slots name
   taken_other name off = same_under slots (without_at place slots) name distinct taken_distinct
       (λ u there same. comes_to there.0 u (λ e. off (sym same ∙ ap (λ r. r.name) (some_same u s (sym there.1 ∙ ap (slice_get slots) e ∙ at)))) there.1)

@@ -16,7 +16,7 @@ use Rattle.opt_checkpoint.proofs.home.write_batch.Goals as goal
 
 pub loop-put-init : goal.loop-put-init
 loop-put-init g c = record {
-  only = record { same = record { blocks = refl; base = refl }; counted = omega arith; waits = refl; polls = refl; read_faults = refl };
+  spends = record { same = record { blocks = refl; base = refl }; faults = refl; read_faults = refl; waits = refl; polls = refl };
   taken = omega arith;
   capacity = omega arith;
   room = omega arith;
@@ -32,7 +32,7 @@ loop-put-init g c = record {
 }
 
 pub write_home-requires : goal.write_home-requires
-write_home-requires g c = omega (arith, c.requires.below c.loop-put.put-index c.put-item.result (slice_get_read c.args.row.now _ c.loop-put.put-index c.put-item.result refl c.loop-put-test.true c.put-item.is), c.loop-put.invariant.only.same.blocks)
+write_home-requires g c = omega (arith, c.requires.below c.loop-put.put-index c.put-item.result (slice_get_read c.args.row.now _ c.loop-put.put-index c.put-item.result refl c.loop-put-test.true c.put-item.is), c.loop-put.invariant.spends.same.blocks)
 
 pub returns-in_err-ticket-clause-home : goal.returns-in_err-ticket-clause-home
 returns-in_err-ticket-clause-home g c = λ tells s l p freed taken t floor safe st none homes rising test.
@@ -48,12 +48,12 @@ loop-put-preserved g c =
     let room : vec_len c.loop-put.home < vec_capacity c.loop-put.home = omega (arith, c.requires.room, c.loop-put.invariant.taken, c.loop-put.invariant.capacity, c.loop-put-test.true) in
     let items : c.push.new.self.items ≡ c.loop-put.home.items ++ record { block = c.put-item.result.block; ticket = c.in_ok-ticket.ticket } ∷ [] = c.push.ensures.items ∙ choose_true _ _ _ (c.push.ensures.succeeds room) in
     record {
-      only = record {
-        same = record { blocks = c.write_home.ensures.same.blocks ∙ c.loop-put.invariant.only.same.blocks; base = c.write_home.ensures.same.base ∙ c.loop-put.invariant.only.same.base };
-        counted = omega (arith, c.loop-put.invariant.only.counted, c.write_home.ensures.cause.0);
-        waits = c.write_home.ensures.waits ∙ c.loop-put.invariant.only.waits;
-        polls = c.write_home.ensures.polls ∙ c.loop-put.invariant.only.polls;
-        read_faults = c.write_home.ensures.read_faults ∙ c.loop-put.invariant.only.read_faults;
+      spends = record {
+        same = record { blocks = c.write_home.ensures.spends.same.blocks ∙ c.loop-put.invariant.spends.same.blocks; base = c.write_home.ensures.spends.same.base ∙ c.loop-put.invariant.spends.same.base };
+        faults = c.in_ok-ticket.ensures.spends.faults ∙ c.loop-put.invariant.spends.faults;
+        read_faults = c.write_home.ensures.spends.read_faults ∙ c.loop-put.invariant.spends.read_faults;
+        waits = c.write_home.ensures.spends.waits ∙ c.loop-put.invariant.spends.waits;
+        polls = c.write_home.ensures.spends.polls ∙ c.loop-put.invariant.spends.polls;
       };
       taken = c.push.ensures.len ∙ choose_true _ _ _ (c.push.ensures.succeeds room) ∙ omega (arith, c.loop-put.invariant.taken);
       capacity = omega (arith, c.push.ensures.capacity, c.loop-put.invariant.capacity);

@@ -1,17 +1,19 @@
-use Rattle.std.proofs.Common.{◌≡◌, ◌≤◌, ◌+◌, ℕ, true, List, take, map, IsTrue, vec_len, vec_capacity}
+use Rattle.std.proofs.Common.{◌≡◌, ◌≤◌, ◌+◌, ℕ, true, List, take, map, IsTrue, vec_len, vec_capacity, false}
 use Rattle.opt_crash.specs.Ledger.{Ledger}
 use Rattle.opt_crash.specs.Points.{MountedSession, IsSafe}
 use Rattle.opt_crash.specs.PipelineData.{PipelineData}
 use Rattle.opt_tx.specs.Rows.{IsRising, put_of}
 use Rattle.opt_notes.specs.Notes.{is_expected, is_noticed}
-use Rattle.opt_tx.specs.Writes.{WritesSoFar, HasWritten, fresh_write}
+use Rattle.opt_disk.specs.Disk.{OnlyWrites}
+use Rattle.opt_crash.specs.Writes.{HasWritten}
+use Rattle.opt_tx.specs.Writes.{fresh_write}
 use Rattle.opt_checkpoint.specs.Agree.{AreExpectedHome, home_pair, home_ticket}
 use Rattle.opt_checkpoint.specs.HomeState.{HomeState, home_of, with_homes, sent_behind}
 use Rattle.opt_checkpoint.proofs.home.write_batch.Given as goal
 
 abbrev pub invariant-loop-put : goal.invariant-loop-put
 invariant-loop-put g l = record {
-  only : WritesSoFar (g.D.Disk.state l.fn.disk) (g.D.Disk.state l.disk);
+  spends : OnlyWrites false (g.D.Disk.state l.fn.disk) (g.D.Disk.state l.disk);
   taken : vec_len l.home ≡ vec_len l.fn.home + l.put-index;
   capacity : vec_capacity l.fn.home ≤ vec_capacity l.home;
   room : l.fn.notes.room ≤ l.notes.room + l.put-index;

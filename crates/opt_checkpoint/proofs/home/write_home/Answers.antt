@@ -43,6 +43,6 @@ returns-clause-home g c = λ tells s l p freed taken t floor safe st from test b
     let free = c.taken_blocks_stay_dead.ensures.events log (Wrote ticket b x ∷ []) l (with_home p b ticket) taken (c.taken_blocks_stay_dead.ensures.home base log l p taken st.agree.batch b ticket x safe.keeps needs st.free) in
     let here : HomeState base (log ++ Wrote ticket b x ∷ []) l (with_home p b ticket) freed taken = record { agree = agree; freed_by = st.freed_by; ends = st.ends; idle = idle; one = one; free = free } in (
       c.write_in_place.ensures.safe tells s l t floor may safe,
-      subst (λ (bs : Blocks). HomeState bs (g.D.Disk.state c.write_in_place.new.disk).log l (with_home p b ticket) freed taken) (sym c.write_in_place.ensures.same.base)
+      subst (λ (bs : Blocks). HomeState bs (g.D.Disk.state c.write_in_place.new.disk).log l (with_home p b ticket) freed taken) (sym c.write_in_place.ensures.spends.same.base)
           (subst (λ (lg : List Event). HomeState base lg l (with_home p b ticket) freed taken) (sym adds.2) here),
     )

@@ -29,8 +29,8 @@ returns-clause-agrees g c = λ tells s l m t floor waiting taken safe a may in_t
     let off : AreNotOnTheirWay old p r.laid.items = λ i q is. (a.free q.block (in_taken i q is)).1 in
     let one = c.in-Ok.ensures.one tells s l p m t floor a.ring_geom may a.agree safe a.one off in
     let made = c.in-Ok.ensures.made in
-    let there = subst (λ (bs : Blocks). PipelineAgrees bs old l v ring waiting taken) (sym c.commit.ensures.same.base) a in
-    let safe_there = subst (λ (bs : Blocks). IsSafe s bs old l t floor) (sym c.commit.ensures.same.base) safe in
+    let there = subst (λ (bs : Blocks). PipelineAgrees bs old l v ring waiting taken) (sym c.commit.ensures.spends.same.base) a in
+    let safe_there = subst (λ (bs : Blocks). IsSafe s bs old l t floor) (sym c.commit.ensures.spends.same.base) safe in
     let joined = c.accept.ensures.agrees s base old new l m t floor c.args.epoch ring waiting taken r there safe_there
     (subst (λ n. IsCommitOf r n ring.next tx) is_next made)
     (λ u. c.noticed_tickets_stay_so.ensures _ _ old new u (c.in-Ok.ensures.log tells))

@@ -9,18 +9,18 @@ use Rattle.opt_checkpoint.proofs.pipeline.take_notice.Goals as goal
 pub returns-in_err-ticket-clause-agrees : goal.returns-in_err-ticket-clause-agrees
 returns-in_err-ticket-clause-agrees g c = λ tells s l t floor ring waiting taken safe a. (
   c.poll_once.ensures.safe tells s l t floor safe,
-  agrees_moved _ (g.D.Disk.state c.poll_once.new.disk).base _ (g.D.Disk.state c.poll_once.new.disk).log l c.args.pipeline.now ring waiting taken c.poll_once.ensures.same.base (c.in_err-ticket.ensures.log tells) a,
+  agrees_moved _ (g.D.Disk.state c.poll_once.new.disk).base _ (g.D.Disk.state c.poll_once.new.disk).log l c.args.pipeline.now ring waiting taken c.poll_once.ensures.spends.same.base (c.in_err-ticket.ensures.log tells) a,
 )
 
 pub returns-in-None-clause-agrees : goal.returns-in-None-clause-agrees
 returns-in-None-clause-agrees g c = λ tells s l t floor ring waiting taken safe a. (
   c.poll_once.ensures.safe tells s l t floor safe,
-  agrees_moved _ (g.D.Disk.state c.poll_once.new.disk).base _ (g.D.Disk.state c.poll_once.new.disk).log l c.args.pipeline.now ring waiting taken c.poll_once.ensures.same.base (none_adds DiskFault c.in_ok-ticket.field-0 _ _ c.in-None.is (c.in_ok-ticket.ensures.log tells)) a,
+  agrees_moved _ (g.D.Disk.state c.poll_once.new.disk).base _ (g.D.Disk.state c.poll_once.new.disk).log l c.args.pipeline.now ring waiting taken c.poll_once.ensures.spends.same.base (none_adds DiskFault c.in_ok-ticket.field-0 _ _ c.in-None.is (c.in_ok-ticket.ensures.log tells)) a,
 )
 
 pub returns-in-Some-clause-agrees : goal.returns-in-Some-clause-agrees
 returns-in-Some-clause-agrees g c = λ tells s l t floor ring waiting taken safe a.
-    let here = agrees_moved _ (g.D.Disk.state c.poll_once.new.disk).base _ (g.D.Disk.state c.args.disk.now).log l c.args.pipeline.now ring waiting taken c.poll_once.ensures.same.base refl a in
+    let here = agrees_moved _ (g.D.Disk.state c.poll_once.new.disk).base _ (g.D.Disk.state c.args.disk.now).log l c.args.pipeline.now ring waiting taken c.poll_once.ensures.spends.same.base refl a in
     let known = c.poll_once.ensures.knows tells l (data_of c.args.pipeline.now ring waiting) (safe.keeps, a.agree) in (
       c.poll_once.ensures.safe tells s l t floor safe,
       agrees_notice (g.D.Disk.state c.poll_once.new.disk).base (g.D.Disk.state c.args.disk.now).log (g.D.Disk.state c.poll_once.new.disk).log l c.args.pipeline.now ring waiting taken here c.in-Some.ticket c.noticed.new.self (some_adds DiskFault c.in_ok-ticket.field-0 c.in-Some.ticket _ _ c.in-Some.is (c.in_ok-ticket.ensures.log tells)) known.1 c.nothing_is_written_between_records.ensures.notice c.one_write_is_pending.ensures.notice c.taken_blocks_stay_dead.ensures.events c.noticed.ensures.expected c.noticed.ensures.noticed,

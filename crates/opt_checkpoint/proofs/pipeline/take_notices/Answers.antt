@@ -1,17 +1,13 @@
 -- Each turn takes one notice more.
-use Rattle.std.proofs.Common.{Ok, refl, ◌∙◌, ap, arith}
-use Rattle.opt_disk.specs.Disk.{next_count}
+use Rattle.std.proofs.Common.{Ok, true, false, refl, ◌∙◌, ap, arith}
+use Rattle.opt_base.specs.Counts.{next_count}
 use Rattle.opt_checkpoint.specs.declared.pipeline.Pipeline.{Pipeline}
-use Rattle.opt_checkpoint.proofs.NoticeRows.{none_taken, one_taken, last_taken, polls_step}
+use Rattle.opt_checkpoint.proofs.NoticeRows.{none_taken, one_taken, last_taken, polls_step, polls_on, polls_few}
 use Rattle.opt_checkpoint.proofs.pipeline.take_notices.Goals as goal
 
 pub loop-turn-init : goal.loop-turn-init
 loop-turn-init g c = record {
-  same = record { blocks = refl; base = refl };
-  counted = omega arith;
-  waits = refl;
-  read_faults = refl;
-  polls = refl;
+  spends = record { same = record { blocks = refl; base = refl }; faults = refl; read_faults = refl; waits = refl; polls = refl };
   rest = refl;
   takes = λ tells. none_taken c.args.pipeline.now (g.D.Disk.state c.args.disk.now).log;
   agrees = λ tells s l t floor ring waiting taken safe a. (safe, a);
@@ -25,11 +21,7 @@ returns-then-not-branch-clause-agrees g c = λ tells s l t floor ring waiting ta
 
 pub loop-turn-preserved : goal.loop-turn-preserved
 loop-turn-preserved g c = record {
-  same = record { blocks = c.take_notice.ensures.same.blocks ∙ c.loop-turn.invariant.same.blocks; base = c.take_notice.ensures.same.base ∙ c.loop-turn.invariant.same.base };
-  counted = omega (arith, c.loop-turn.invariant.counted, c.take_notice.ensures.cause.0);
-  waits = c.take_notice.ensures.waits ∙ c.loop-turn.invariant.waits;
-  read_faults = c.take_notice.ensures.read_faults ∙ c.loop-turn.invariant.read_faults;
-  polls = c.take_notice.ensures.polls ∙ ap next_count c.loop-turn.invariant.polls ∙ polls_step (g.D.Disk.state c.args.disk.now).polls c.loop-turn.turn;
+  spends = polls_on false c.loop-turn.turn _ _ _ c.loop-turn.invariant.spends c.in_ok-take_notice.ensures.spends;
   rest = c.take_notice.ensures.rest ∙ ap (λ (v : Pipeline). record v { notes = c.take_notice.new.pipeline.notes }) c.loop-turn.invariant.rest;
   takes = λ tells. one_taken c.take_notice.result c.loop-turn.turn c.args.pipeline.now c.loop-turn.pipeline c.take_notice.new.pipeline _ _ _ (c.in_ok-take_notice.was ∙ ap Ok c.if-not-branch.false) (c.loop-turn.invariant.takes tells) (c.take_notice.ensures.takes tells);
   agrees = λ tells s l t floor ring waiting taken safe a. let was = c.loop-turn.invariant.agrees tells s l t floor ring waiting taken safe a in c.take_notice.ensures.agrees tells s l t floor ring waiting taken was.0 was.1;
@@ -37,4 +29,13 @@ loop-turn-preserved g c = record {
 
 pub returns-then-not-branch-clause-takes : goal.returns-then-not-branch-clause-takes
 returns-then-not-branch-clause-takes g c = λ tells. last_taken c.take_notice.result _ c.loop-turn.turn c.args.pipeline.now c.loop-turn.pipeline c.take_notice.new.pipeline (g.D.Disk.state c.args.disk.now) (g.D.Disk.state c.loop-turn.disk) (g.D.Disk.state c.take_notice.new.disk) (c.in_ok-take_notice.was ∙ ap Ok c.if-not-branch.true) c.loop-turn-test.true (c.loop-turn.invariant.takes tells) (c.take_notice.ensures.takes tells)
-    (c.take_notice.ensures.polls ∙ ap next_count c.loop-turn.invariant.polls ∙ polls_step (g.D.Disk.state c.args.disk.now).polls c.loop-turn.turn)
+    (c.take_notice.ensures.spends.polls ∙ ap next_count c.loop-turn.invariant.spends.polls ∙ polls_step (g.D.Disk.state c.args.disk.now).polls c.loop-turn.turn)
+
+pub returns-in_err-take_notice-clause-spends : goal.returns-in_err-take_notice-clause-spends
+returns-in_err-take_notice-clause-spends g c = polls_few _ true c.loop-turn.turn 64 _ _ _ c.from_residual.ensures.0 c.loop-turn-test.true c.loop-turn.invariant.spends c.in_err-take_notice.ensures.spends
+
+pub returns-then-not-branch-clause-spends : goal.returns-then-not-branch-clause-spends
+returns-then-not-branch-clause-spends g c = polls_few _ false c.loop-turn.turn 64 _ _ _ refl c.loop-turn-test.true c.loop-turn.invariant.spends c.in_ok-take_notice.ensures.spends
+
+pub returns-clause-spends : goal.returns-clause-spends
+returns-clause-spends g c = record { asked = c.loop-turn.turn; upto = omega (arith, c.loop-turn.auto.turn-end); spends = c.loop-turn.invariant.spends }

@@ -1,20 +1,16 @@
-use Rattle.std.proofs.Common.{◌≡◌, ◌≤◌, ◌++◌, ℕ, IsTrue, List, length}
-use Rattle.opt_disk.specs.Disk.{SameDisk}
+use Rattle.std.proofs.Common.{◌≡◌, ◌++◌, ℕ, false, IsTrue, List, length}
+use Rattle.opt_disk.specs.Disk.{Spends}
 use Rattle.opt_journal.specs.Ring.{RingPlaces}
 use Rattle.opt_crash.specs.Ledger.{Ledger}
 use Rattle.opt_crash.specs.Points.{MountedSession, IsSafe}
 use Rattle.opt_disk.specs.Cell.{notices}
 use Rattle.opt_checkpoint.specs.Agree.{PipelineAgrees}
-use Rattle.opt_checkpoint.specs.Steps.{TakesAll, polls_more}
+use Rattle.opt_checkpoint.specs.Steps.{TakesAll}
 use Rattle.opt_checkpoint.proofs.pipeline.take_notices.Given as goal
 
 abbrev pub invariant-loop-turn : goal.invariant-loop-turn
 invariant-loop-turn g l = record {
-  same : SameDisk (g.D.Disk.state l.fn.disk) (g.D.Disk.state l.disk);
-  counted : (g.D.Disk.state l.fn.disk).faults ≤ (g.D.Disk.state l.disk).faults;
-  waits : (g.D.Disk.state l.disk).waits ≡ (g.D.Disk.state l.fn.disk).waits;
-  read_faults : (g.D.Disk.state l.disk).read_faults ≡ (g.D.Disk.state l.fn.disk).read_faults;
-  polls : (g.D.Disk.state l.disk).polls ≡ polls_more (g.D.Disk.state l.fn.disk).polls l.turn;
+  spends : Spends false 0 l.turn (g.D.Disk.state l.fn.disk) (g.D.Disk.state l.disk);
   rest : l.pipeline ≡ record l.fn.pipeline { notes = l.pipeline.notes };
   takes : IsTrue g.D.Disk.tells → (ts : List ℕ) × (length ts ≡ l.turn) × ((g.D.Disk.state l.disk).log ≡ (g.D.Disk.state l.fn.disk).log ++ notices ts) × TakesAll ts l.fn.pipeline.notes.notes l.pipeline.notes.notes;
   agrees : IsTrue g.D.Disk.tells → (s : MountedSession) (k : Ledger) (t floor : ℕ) (ring : RingPlaces) (waiting : List (ℕ × ℕ)) (taken : List ℕ) → IsSafe s (g.D.Disk.state l.fn.disk).base (g.D.Disk.state l.fn.disk).log k t floor → PipelineAgrees (g.D.Disk.state l.fn.disk).base (g.D.Disk.state l.fn.disk).log k l.fn.pipeline ring waiting taken

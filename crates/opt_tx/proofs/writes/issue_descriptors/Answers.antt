@@ -1,5 +1,5 @@
 -- Each turn writes one descriptor more, and its ticket joins the list.
-use Rattle.std.proofs.Common.{◌≡◌, ◌<◌, ◌+◌, ◌++◌, ◌∷◌, [], ℕ, List, length, slice_get, vec_len, vec_capacity, Some, ap, ◌∙◌, sym, subst, arith}
+use Rattle.std.proofs.Common.{◌≡◌, ◌<◌, ◌+◌, ◌++◌, ◌∷◌, [], ℕ, List, length, slice_get, vec_len, vec_capacity, Some, ap, ◌∙◌, sym, subst, arith, false}
 use Rattle.opt_geom.specs.Geometry.{Geometry, ring_block}
 use Rattle.opt_journal.specs.Layout.{descriptor_count}
 use Rattle.opt_journal.specs.Spelling.{descriptor_block}
@@ -30,7 +30,7 @@ write_is g place epoch r i block x lt b e = ring_write_is g (place + 1) (descrip
 
 pub loop-index-init : goal.loop-index-init
 loop-index-init g c = record {
-  only = still _;
+  spends = still _;
   taken = omega arith;
   capacity = omega arith;
   log = λ tells. none_written (ring_writes c.args.geom.now (c.args.place + 1) (descriptor_blocks c.args.epoch (record_of c.args.number 0 c.args.paid.now c.args.laid.now))) c.args.tickets.now.items (g.D.Disk.state c.args.disk.now).log;
@@ -65,7 +65,7 @@ loop-index-preserved g c =
     let room : vec_len c.loop-index.tickets < vec_capacity c.loop-index.tickets = omega (arith, c.requires.room, c.loop-index.invariant.taken, c.loop-index.invariant.capacity, c.loop-index-test.true, c.descriptor_count-index-end.ensures) in
     let items : c.push.new.self.items ≡ c.loop-index.tickets.items ++ c.in_ok-ticket.ticket ∷ [] = c.push.ensures.items ∙ if_true _ _ _ (c.push.ensures.succeeds room) in
     record {
-      only = still_more _ _ _ _ c.loop-index.invariant.only c.write_part.ensures.same c.write_part.ensures.cause c.write_part.ensures.waits c.write_part.ensures.polls c.write_part.ensures.read_faults;
+      spends = still_more false _ _ _ c.loop-index.invariant.spends c.in_ok-ticket.ensures.spends;
       taken = c.push.ensures.len ∙ if_true _ _ _ (c.push.ensures.succeeds room) ∙ omega (arith, c.loop-index.invariant.taken);
       capacity = omega (arith, c.push.ensures.capacity, c.loop-index.invariant.capacity);
       log = λ tells.

@@ -1,4 +1,4 @@
-use Rattle.std.proofs.Common.{◌≡◌, ◌≤◌, ◌+◌, ℕ, IsTrue, length, vec_len, vec_capacity}
+use Rattle.std.proofs.Common.{◌≡◌, ◌≤◌, ◌+◌, ℕ, IsTrue, length, vec_len, vec_capacity, false}
 use Rattle.opt_base.specs.Seal.{Blocks}
 use Rattle.opt_journal.specs.Layout.{descriptor_count}
 use Rattle.opt_journal.specs.Run.{places}
@@ -8,12 +8,14 @@ use Rattle.opt_crash.specs.LastWrites.{FreshAreNew}
 use Rattle.opt_crash.specs.PipelineData.{PipelineData}
 use Rattle.opt_crash.specs.Recording.{IsNextRecord, IsPartlyWritten}
 use Rattle.opt_tx.specs.Record.{AreParts, record_of, descriptor_blocks}
-use Rattle.opt_tx.specs.Writes.{WritesSoFar, HasWritten, ring_writes}
+use Rattle.opt_disk.specs.Disk.{OnlyWrites}
+use Rattle.opt_crash.specs.Writes.{HasWritten}
+use Rattle.opt_tx.specs.Writes.{ring_writes}
 use Rattle.opt_tx.proofs.writes.issue_descriptors.Given as goal
 
 abbrev pub invariant-loop-index : goal.invariant-loop-index
 invariant-loop-index g l = record {
-  only : WritesSoFar (g.D.Disk.state l.fn.disk) (g.D.Disk.state l.disk);
+  spends : OnlyWrites false (g.D.Disk.state l.fn.disk) (g.D.Disk.state l.disk);
   taken : vec_len l.tickets ≡ vec_len l.fn.tickets + l.index;
   capacity : vec_capacity l.fn.tickets ≤ vec_capacity l.tickets;
   log : IsTrue g.D.Disk.tells → HasWritten (ring_writes l.geom (l.place + 1) (descriptor_blocks l.epoch (record_of l.number 0 l.paid l.laid))) l.index l.fn.tickets.items l.tickets.items (g.D.Disk.state l.fn.disk).log (g.D.Disk.state l.disk).log;

@@ -1,5 +1,5 @@
 -- Each turn writes one fresh block more, and its ticket joins the list.
-use Rattle.std.proofs.Common.{◌≡◌, ◌<◌, ◌+◌, ◌++◌, ◌∷◌, [], ℕ, List, map, vec_len, vec_capacity, Some, ap, ◌∙◌, refl, sym, subst, arith}
+use Rattle.std.proofs.Common.{◌≡◌, ◌<◌, ◌+◌, ◌++◌, ◌∷◌, [], ℕ, List, map, vec_len, vec_capacity, Some, ap, ◌∙◌, refl, sym, subst, arith, false}
 use Rattle.std.proofs.lemmas.List.{length-map}
 use Rattle.std.proofs.lemmas.Option.{slice_get_read}
 use Rattle.opt_crash.specs.Recording.{IsPartlyWritten}
@@ -10,7 +10,7 @@ use Rattle.opt_tx.proofs.writes.issue_fresh.Goals as goal
 
 pub loop-put-init : goal.loop-put-init
 loop-put-init g c = record {
-  only = still _;
+  spends = still _;
   taken = omega arith;
   capacity = omega arith;
   log = λ tells. none_written (map fresh_write c.args.laid.now) c.args.tickets.now.items (g.D.Disk.state c.args.disk.now).log;
@@ -33,7 +33,7 @@ loop-put-preserved g c =
     let room : vec_len c.loop-put.tickets < vec_capacity c.loop-put.tickets = omega (arith, c.requires.room, c.loop-put.invariant.taken, c.loop-put.invariant.capacity, c.loop-put-test.true) in
     let items : c.push.new.self.items ≡ c.loop-put.tickets.items ++ c.in_ok-ticket.ticket ∷ [] = c.push.ensures.items ∙ if_true _ _ _ (c.push.ensures.succeeds room) in
     record {
-      only = still_more _ _ _ _ c.loop-put.invariant.only c.write_fresh.ensures.same c.write_fresh.ensures.cause c.write_fresh.ensures.waits c.write_fresh.ensures.polls c.write_fresh.ensures.read_faults;
+      spends = still_more false _ _ _ c.loop-put.invariant.spends c.in_ok-ticket.ensures.spends;
       taken = c.push.ensures.len ∙ if_true _ _ _ (c.push.ensures.succeeds room) ∙ omega (arith, c.loop-put.invariant.taken);
       capacity = omega (arith, c.push.ensures.capacity, c.loop-put.invariant.capacity);
       log = λ tells.

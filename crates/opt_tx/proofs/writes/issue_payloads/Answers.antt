@@ -1,5 +1,5 @@
 -- Each turn writes one payload more, and its ticket joins the list.
-use Rattle.std.proofs.Common.{◌≡◌, ◌<◌, ◌+◌, ◌++◌, ◌∷◌, [], ℕ, List, map, slice_get, vec_len, vec_capacity, Some, ap, ◌∙◌, refl, sym, subst, arith}
+use Rattle.std.proofs.Common.{◌≡◌, ◌<◌, ◌+◌, ◌++◌, ◌∷◌, [], ℕ, List, map, slice_get, vec_len, vec_capacity, Some, ap, ◌∙◌, refl, sym, subst, arith, false}
 use Rattle.std.proofs.lemmas.List.{length-map}
 use Rattle.std.proofs.lemmas.Option.{slice_get_read}
 use Rattle.opt_geom.specs.Geometry.{Geometry, ring_block}
@@ -27,7 +27,7 @@ write_is g first at k paid p block x bytes here b e stored same = ring_write_is 
 pub loop-put-init : goal.loop-put-init
 loop-put-init g c = record {
   at = omega arith;
-  only = still _;
+  spends = still _;
   taken = omega arith;
   capacity = omega arith;
   log = λ tells. none_written (ring_writes c.args.geom.now c.args.first (map stored_put c.args.paid.now)) c.args.tickets.now.items (g.D.Disk.state c.args.disk.now).log;
@@ -63,7 +63,7 @@ loop-put-preserved g c =
     let items : c.push.new.self.items ≡ c.loop-put.tickets.items ++ c.in_ok-ticket.ticket ∷ [] = c.push.ensures.items ∙ if_true _ _ _ (c.push.ensures.succeeds room) in
     record {
       at = omega (arith, c.loop-put.invariant.at);
-      only = still_more _ _ _ _ c.loop-put.invariant.only c.write_part.ensures.same c.write_part.ensures.cause c.write_part.ensures.waits c.write_part.ensures.polls c.write_part.ensures.read_faults;
+      spends = still_more false _ _ _ c.loop-put.invariant.spends c.in_ok-ticket.ensures.spends;
       taken = c.push.ensures.len ∙ if_true _ _ _ (c.push.ensures.succeeds room) ∙ omega (arith, c.loop-put.invariant.taken);
       capacity = omega (arith, c.push.ensures.capacity, c.loop-put.invariant.capacity);
       log = λ tells.

@@ -1,4 +1,4 @@
-use Rattle.std.proofs.Common.{◌≡◌, ◌≤◌, ◌<◌, ◌+◌, ℕ, IsTrue, length, map, vec_len, vec_capacity}
+use Rattle.std.proofs.Common.{◌≡◌, ◌≤◌, ◌<◌, ◌+◌, ℕ, IsTrue, length, map, vec_len, vec_capacity, false}
 use Rattle.opt_base.specs.Seal.{Blocks}
 use Rattle.opt_journal.specs.Run.{places}
 use Rattle.opt_crash.specs.Ledger.{Ledger, WrittenRecord}
@@ -7,13 +7,15 @@ use Rattle.opt_crash.specs.LastWrites.{FreshAreNew}
 use Rattle.opt_crash.specs.PipelineData.{PipelineData}
 use Rattle.opt_crash.specs.Recording.{IsNextRecord, IsPartlyWritten}
 use Rattle.opt_tx.specs.Record.{AreParts, stored_put}
-use Rattle.opt_tx.specs.Writes.{WritesSoFar, HasWritten, ring_writes}
+use Rattle.opt_disk.specs.Disk.{OnlyWrites}
+use Rattle.opt_crash.specs.Writes.{HasWritten}
+use Rattle.opt_tx.specs.Writes.{ring_writes}
 use Rattle.opt_tx.proofs.writes.issue_payloads.Given as goal
 
 abbrev pub invariant-loop-put : goal.invariant-loop-put
 invariant-loop-put g l = record {
   at : l.at ≡ l.first + l.put-index;
-  only : WritesSoFar (g.D.Disk.state l.fn.disk) (g.D.Disk.state l.disk);
+  spends : OnlyWrites false (g.D.Disk.state l.fn.disk) (g.D.Disk.state l.disk);
   taken : vec_len l.tickets ≡ vec_len l.fn.tickets + l.put-index;
   capacity : vec_capacity l.fn.tickets ≤ vec_capacity l.tickets;
   log : IsTrue g.D.Disk.tells → HasWritten (ring_writes l.geom l.first (map stored_put l.paid)) l.put-index l.fn.tickets.items l.tickets.items (g.D.Disk.state l.fn.disk).log (g.D.Disk.state l.disk).log;

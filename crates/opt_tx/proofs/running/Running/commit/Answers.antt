@@ -6,7 +6,8 @@ use Rattle.opt_journal.specs.Run.{entries_fit}
 use Rattle.opt_crash.specs.Ledger.{WrittenRecord}
 use Rattle.opt_tx.specs.declared.put.Put.{Put}
 use Rattle.opt_tx.specs.Record.{record_of, written_of, block_of, IsTransaction}
-use Rattle.opt_tx.specs.Writes.{record_writes, AddsFront, AddsWrites}
+use Rattle.opt_crash.specs.Writes.{AddsFront, AddsWrites}
+use Rattle.opt_tx.specs.Writes.{record_writes}
 use Rattle.opt_tx.specs.Commits.{RecordLeaves}
 use Rattle.opt_tx.proofs.Spelled.{is_next}
 use Rattle.opt_tx.proofs.Outcomes.{err_left, ok_left, err_adds, ok_adds, ok_holds, same_size, same_written, same_writes}
@@ -96,7 +97,7 @@ returns-clause-ring g c = c.take-place.ensures.places ∙ ap (with_places c.args
 pub returns-then-is_err-clause-one : goal.returns-then-is_err-clause-one
 returns-then-is_err-clause-one g c = λ tells s l p m t floor geom may known safe o off.
     let adds = subst (λ (q : Geometry). AddsFront (record_writes q c.args.epoch c.args.number c.args.ring.now.next c.args.self.paid.items c.args.self.laid.items) (g.D.Disk.state c.args.disk.now).log (g.D.Disk.state c.issue_record.new.disk).log) geom (returns-then-is_err-clause-log g c tells) in
-    subst (λ (base : Blocks). (b : ℕ) → length (cell_of base (g.D.Disk.state c.issue_record.new.disk).log b).pending ≤ 1) (sym c.issue_record.ensures.only.same.base)
+    subst (λ (base : Blocks). (b : ℕ) → length (cell_of base (g.D.Disk.state c.issue_record.new.disk).log b).pending ≤ 1) (sym c.issue_record.ensures.spends.same.base)
     (keeps_one_lost c.entries_that_fit_keep_to_the_disk.ensures.fresh c.entries_that_fit_keep_to_the_disk.ensures.ascending c.blocks_to_be_written_are_idle.ensures.fresh c.records_stand_in_order.ensures.behind c.records_stand_in_order.ensures.apart c.a_write_to_an_idle_block_is_the_one.ensures.under_way
     (g.D.Disk.state c.args.disk.now).base l p c.args.epoch c.args.number c.args.ring.now.next c.args.self.paid.items c.args.self.laid.items m (g.D.Disk.state c.args.disk.now).log may known safe.keeps o off c.one_write_is_pending.ensures.lost (g.D.Disk.state c.issue_record.new.disk).log adds)
 
@@ -104,6 +105,6 @@ pub returns-clause-one : goal.returns-clause-one
 returns-clause-one g c = λ tells s l p m t floor geom may known safe o off freed.
     let adds = subst (λ (q : Geometry). AddsWrites (record_writes q c.args.epoch c.args.number c.args.ring.now.next c.args.self.paid.items c.args.self.laid.items) c.issue_record.new.tickets.items (g.D.Disk.state c.args.disk.now).log (g.D.Disk.state c.issue_record.new.disk).log) geom (returns-clause-log g c tells) in
     let w = written_of c.args.epoch c.args.number c.args.ring.now.next c.args.self.paid.items c.args.self.laid.items in
-    subst (λ (base : Blocks). HasOnePending base (g.D.Disk.state c.issue_record.new.disk).log (with_record l w m) (with_committed p l w c.issue_record.new.tickets.items freed) []) (sym c.issue_record.ensures.only.same.base)
+    subst (λ (base : Blocks). HasOnePending base (g.D.Disk.state c.issue_record.new.disk).log (with_record l w m) (with_committed p l w c.issue_record.new.tickets.items freed) []) (sym c.issue_record.ensures.spends.same.base)
     (keeps_one c.entries_that_fit_keep_to_the_disk.ensures.fresh c.entries_that_fit_keep_to_the_disk.ensures.ascending c.blocks_to_be_written_are_idle.ensures.fresh c.records_stand_in_order.ensures.behind c.records_stand_in_order.ensures.apart c.a_write_to_an_idle_block_is_the_one.ensures.under_way
     (g.D.Disk.state c.args.disk.now).base l p c.args.epoch c.args.number c.args.ring.now.next c.args.self.paid.items c.args.self.laid.items m (g.D.Disk.state c.args.disk.now).log may known safe.keeps o off c.one_write_stays_pending.ensures.joins c.issue_record.new.tickets.items freed (g.D.Disk.state c.issue_record.new.disk).log adds)
