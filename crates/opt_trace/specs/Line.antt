@@ -1,4 +1,4 @@
--- The lines of a trace. They are told in docs/TRACE.md.
+-- The lines of a trace. They are described in docs/TRACE.md.
 use Rattle.std.specs.Prelude.{ℕ, List, [], ◌∷◌, ◌++◌, codes, decimal}
 use Rattle.hex.specs.Hex.{encode_lower}
 use Rattle.opt_geom.specs.Geometry.{Geometry}

@@ -1,4 +1,4 @@
--- The text of a whole trace. It is told in docs/TRACE.md.
+-- The text of a whole trace. It is described in docs/TRACE.md.
 use Rattle.std.specs.Prelude.{ℕ, ◌-◌, List, [], ◌∷◌, ◌++◌, take, drop}
 use Rattle.opt_geom.specs.Geometry.{Geometry}
 use Rattle.opt_disk.specs.declared.event.Event.{Event}

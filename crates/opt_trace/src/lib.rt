@@ -1,6 +1,6 @@
 //! The lines of a trace, written to a sink as they come: the geometry, what happened on the disk, each
 //! command, each reply, and the end. It takes no memory, reads no trace, and doesn't know in which order
-//! the lines come but by the definition of a whole trace. The rules are told in docs/TRACE.md.
+//! the lines come but by the definition of a whole trace. The rules are described in docs/TRACE.md.
 #![tactic(auto)]
 
 mod line;

@@ -1,5 +1,5 @@
 //! A line of bounded length, put together from texts, numbers and digits before it is pushed. It lies in
-//! the value itself, so it takes no memory. What a line says is told by the writers.
+//! the value itself, so it takes no memory. What a line says is described by the writers.
 
 ghost use Rattle.std.specs.Prelude.{◌≡◌, ◌≤◌, ◌+◌, ◌++◌, length, decimal};
 ghost use Rattle.hex.specs.Hex.{encode_lower};

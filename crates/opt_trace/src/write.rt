@@ -5,14 +5,14 @@ ghost use Rattle.std.specs.Prelude.{ℕ, ◌≡◌, ◌+◌, ◌≤◌, [], ◌+
 ghost use Rattle.std.specs.Io.KnownBytes.{Appends};
 ghost use Rattle.hex.specs.Hex.{encode_lower};
 ghost use Rattle.arrayvec.specs.ArrayVec.{array_vec_len};
-ghost use Rattle.opt_io.specs.Faults.{HasCause};
+ghost use Rattle.opt_base.specs.Counts.{HasCause};
 ghost use Rattle.opt_trace.specs.Line.{geometry_line, event_line, command_line, reply_line, end_line};
 
 use crate::line::{Line, put, put_digits, put_number};
 use opt_base::Block;
 use opt_disk::Event;
 use opt_geom::Geom;
-use opt_io::{Sink, SinkFault, push_all};
+use opt_io::{Sink, SinkFault, prefixes_join, push_all};
 
 /// Writes the first line, with the numbers of the geometry.
 ///
@@ -21,7 +21,7 @@ use opt_io::{Sink, SinkFault, push_all};
 pub fn write_geom<K: Sink>(out: &mut K, geom: &Geom) -> Result<(), SinkFault>
     ensures all { OnOk result (Appends (K.taken out.old) (K.taken out.new) (geometry_line geom.now)) }
     ensures front { OnErr result ((n : ℕ) × Appends (K.taken out.old) (K.taken out.new) (take n (geometry_line geom.now))) }
-    ensures cause { HasCause (K.faults out.old) (K.faults out.new) result }
+    ensures cause { HasCause result (K.faults out.old) (K.faults out.new) }
 {
     let mut line = Line::new();
     put(&mut line, b"g ");
@@ -42,7 +42,7 @@ pub fn write_geom<K: Sink>(out: &mut K, geom: &Geom) -> Result<(), SinkFault>
 pub fn write_event<K: Sink>(out: &mut K, event: &Event) -> Result<(), SinkFault>
     ensures all { OnOk result (Appends (K.taken out.old) (K.taken out.new) (event_line event.now)) }
     ensures front { OnErr result ((n : ℕ) × Appends (K.taken out.old) (K.taken out.new) (take n (event_line event.now))) }
-    ensures cause { HasCause (K.faults out.old) (K.faults out.new) result }
+    ensures cause { HasCause result (K.faults out.old) (K.faults out.new) }
 {
     let mut line = Line::new();
     put_event(&mut line, event);
@@ -95,7 +95,7 @@ fn put_block(line: &mut Line, block: u32, bytes: &Block)
 pub fn write_command<K: Sink>(out: &mut K, text: &[u8]) -> Result<(), SinkFault>
     ensures all { OnOk result (Appends (K.taken out.old) (K.taken out.new) (command_line text.now)) }
     ensures front { OnErr result ((n : ℕ) × Appends (K.taken out.old) (K.taken out.new) (take n (command_line text.now))) }
-    ensures cause { HasCause (K.faults out.old) (K.faults out.new) result }
+    ensures cause { HasCause result (K.faults out.old) (K.faults out.new) }
 {
     write_behind(out, b"c ", text)?;
     Ok(())
@@ -109,7 +109,7 @@ pub fn write_command<K: Sink>(out: &mut K, text: &[u8]) -> Result<(), SinkFault>
 pub fn write_reply<K: Sink>(out: &mut K, moment: u64, text: &[u8]) -> Result<(), SinkFault>
     ensures all { OnOk result (Appends (K.taken out.old) (K.taken out.new) (reply_line moment text.now)) }
     ensures front { OnErr result ((n : ℕ) × Appends (K.taken out.old) (K.taken out.new) (take n (reply_line moment text.now))) }
-    ensures cause { HasCause (K.faults out.old) (K.faults out.new) result }
+    ensures cause { HasCause result (K.faults out.old) (K.faults out.new) }
 {
     let mut head = Line::new();
     put(&mut head, b"r ");
@@ -123,8 +123,9 @@ pub fn write_reply<K: Sink>(out: &mut K, moment: u64, text: &[u8]) -> Result<(),
 fn write_behind<K: Sink>(out: &mut K, head: &[u8], text: &[u8]) -> Result<(), SinkFault>
     ensures all { OnOk result (Appends (K.taken out.old) (K.taken out.new) (head.now ++ (text.now ++ codes "\n"))) }
     ensures front { OnErr result ((n : ℕ) × Appends (K.taken out.old) (K.taken out.new) (take n (head.now ++ (text.now ++ codes "\n")))) }
-    ensures cause { HasCause (K.faults out.old) (K.faults out.new) result }
+    ensures cause { HasCause result (K.faults out.old) (K.faults out.new) }
 {
+    prefixes_join();
     push_all(out, head)?;
     push_all(out, text)?;
     push_all(out, b"\n")?;
@@ -138,7 +139,7 @@ fn write_behind<K: Sink>(out: &mut K, head: &[u8], text: &[u8]) -> Result<(), Si
 pub fn write_end<K: Sink>(out: &mut K) -> Result<(), SinkFault>
     ensures all { OnOk result (Appends (K.taken out.old) (K.taken out.new) end_line) }
     ensures front { OnErr result ((n : ℕ) × Appends (K.taken out.old) (K.taken out.new) (take n end_line)) }
-    ensures cause { HasCause (K.faults out.old) (K.faults out.new) result }
+    ensures cause { HasCause result (K.faults out.old) (K.faults out.new) }
 {
     push_all(out, b"end\n")?;
     Ok(())

@@ -2,7 +2,7 @@
 use Rattle.std.proofs.Common.{◌≡◌, ℕ, ◌^◌, List, ◌++◌, take, drop, Option, refl, sym, ap, ◌∙◌, subst, inl, inr, append_assoc, take-append-drop}
 use Rattle.std.specs.Io.KnownBytes.{Appends}
 use Rattle.std.proofs.KnownBytes.{Appends-trans}
-use Rattle.opt_io.specs.Faults.{Rose}
+use Rattle.opt_base.specs.Counts.{Rose}
 use Rattle.opt_geom.specs.Geometry.{Geometry}
 use Rattle.opt_trace.specs.Line.{end_line}
 use Rattle.optfs.specs.Output.{Serves, IsWhole, source_line, long_line}

@@ -82,6 +82,7 @@ consistent g begins cmds replies marks = record {
 pub in_whole : (g : Geometry) → BeginsEmpty g → (cmds : List Cmd) (text : List ℕ) → ServesQuietly g cmds text → Serves g cmds text
 in_whole g begins cmds text s = record {
   log = [];
+  is_log = record { lawful = tt; events = tt };
   mounted = 0;
   replies = s.replies;
   marks = no_marks s.replies;

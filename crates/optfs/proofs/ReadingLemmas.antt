@@ -3,7 +3,7 @@ use Rattle.std.proofs.Common.{arith, ◌≡◌, ℕ, ◌+◌, ◌^◌, ◌<◌, 
 use Rattle.std.proofs.lemmas.List.{length-take-le, length-append}
 use Rattle.std.specs.Io.KnownBytes.{Appends, Consumes, IsAtEnd}
 use Rattle.std.proofs.KnownBytes.{Consumes-trans, Consumes-nil, Appends-nil}
-use Rattle.opt_io.specs.Faults.{Rose}
+use Rattle.opt_base.specs.Counts.{Rose}
 use Rattle.opt_tree.specs.Step.{Session, start}
 use Rattle.optfs.specs.Lines.{commands_of, open_line}
 use Rattle.opt_disk.specs.declared.event.Event.{Event}

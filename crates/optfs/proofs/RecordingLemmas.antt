@@ -240,7 +240,7 @@ stopped_end geom seen before mid after tree line log f s =
       front = (drop s.taken written ++ end_line, subst Q (regroup f.body written end_line s.taken) (record { body = f.body ++ written; served = served; is = refl }));
     }
 
--- The same, as the code has them: the byte is known to be a line feed, and the line was lent.
+-- The same, as the code has them: the byte is known to be a line feed, and the line was borrowed.
 
 pub fed : (geom : Geometry) (seen : List ℕ) (byte : ℕ) (before mid after : Option (List ℕ)) (tree next : Session) (line cut left : List ℕ) (log : List Event)
     → byte ≡ 10 → cut ≡ line → left ≡ [] → Follows geom seen before mid tree line log → (log ≡ [] → Served (commands_of_line longest cut) tree next mid after)

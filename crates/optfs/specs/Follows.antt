@@ -1,7 +1,7 @@
 -- How far a recording has come after the bytes that it has seen. Only proofs and private contracts speak of it.
 use Rattle.std.specs.Prelude.{◌≡◌, ℕ, ◌+◌, ◌≤◌, List, [], ◌∷◌, ◌++◌, take, Option, Result, Ok, Err}
 use Rattle.std.specs.Io.KnownBytes.{Appends}
-use Rattle.opt_io.specs.Faults.{Rose}
+use Rattle.opt_base.specs.Counts.{Rose}
 use Rattle.opt_disk.specs.declared.event.Event.{Event}
 use Rattle.opt_geom.specs.Geometry.{Geometry}
 use Rattle.opt_script.specs.Text.{command_text, text_of_reply}

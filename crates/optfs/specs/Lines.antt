@@ -1,4 +1,4 @@
--- The lines of an input and the commands that they are. It is told in docs/SCRIPT.md.
+-- The lines of an input and the commands that they are. It is described in docs/SCRIPT.md.
 use Rattle.std.specs.Prelude.{ℕ, ◌==◌, Bool, true, if◌then◌else◌, nat_lt, List, [], ◌∷◌, length}
 use Rattle.std.specs.List.{slice_split, flat_map}
 use Rattle.opt_tree.specs.declared.command.Cmd.{Cmd}
@@ -20,11 +20,11 @@ last_of [] = []
 last_of (part ∷ []) = part
 last_of (part ∷ next ∷ parts) = last_of (next ∷ parts)
 
--- the lines whose line feed stands in the input
+-- the lines whose line feed is in the input
 abbrev pub whole_lines : List ℕ → List (List ℕ)
 whole_lines input = all_but_last (parts_of input)
 
--- what stands behind the last line feed
+-- what is behind the last line feed
 abbrev pub open_line : List ℕ → List ℕ
 open_line input = last_of (parts_of input)
 
@@ -38,7 +38,7 @@ abbrev pub commands_of_line : ℕ → List ℕ → List Cmd
 commands_of_line longest line =
     if is_skipped line then [] else ((if nat_lt longest (length line) then Bad else command_of line) ∷ [])
 
--- the commands of the lines whose line feed stands in the input, for lines of at most `longest` bytes
+-- the commands of the lines whose line feed is in the input, for lines of at most `longest` bytes
 abbrev pub whole_commands : ℕ → List ℕ → List Cmd
 whole_commands longest input = flat_map (commands_of_line longest) (whole_lines input)
 

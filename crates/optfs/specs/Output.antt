@@ -1,6 +1,7 @@
--- What the program writes for the bytes that it read, status by status. It is told in docs/TRACE.md.
+-- What the program writes for the bytes that it read, status by status. It is described in docs/TRACE.md.
 use Rattle.std.specs.Prelude.{◌≡◌, ℕ, ◌^◌, ◌≤◌, ◌⊎◌, List, [], ◌∷◌, ◌++◌, codes, length}
 use Rattle.opt_disk.specs.declared.event.Event.{Event}
+use Rattle.opt_disk.specs.Lawful.{IsLogOf}
 use Rattle.opt_geom.specs.Geometry.{Geometry}
 use Rattle.opt_trace.specs.Line.{end_line}
 use Rattle.opt_trace.specs.Trace.{trace_front}
@@ -22,6 +23,7 @@ Ascend from (mark ∷ marks) events = (from ≤ mark) × Ascend mark marks event
 pub record Serves (g : Geometry) (cmds : List Cmd) (text : List ℕ) : Type 0 where
   -- all events of the disk, and how many of them are the mount's
   pub log : List Event
+  pub is_log : IsLogOf g.n log
   pub mounted : ℕ
   pub replies : List Reply
   -- for each reply, how many events there were when it came

@@ -1,7 +1,7 @@
 -- How far the reading of an input has come. Only proofs and private contracts speak of it.
 use Rattle.std.specs.Prelude.{◌≡◌, ℕ, ◌+◌, ◌^◌, ◌<◌, ◌≤◌, List, [], ◌∷◌, ◌++◌, length, Option}
 use Rattle.std.specs.Io.KnownBytes.{Consumes, IsAtEnd}
-use Rattle.opt_io.specs.Faults.{Rose}
+use Rattle.opt_base.specs.Counts.{Rose}
 use Rattle.opt_disk.specs.declared.event.Event.{Event}
 use Rattle.opt_geom.specs.Geometry.{Geometry}
 use Rattle.opt_tree.specs.Step.{Session}

@@ -1,4 +1,4 @@
--- The number of each status, with which the process exits. It is told in docs/TRACE.md.
+-- The number of each status, with which the process exits. It is described in docs/TRACE.md.
 use Rattle.std.specs.Prelude.{ℕ}
 use Rattle.optfs.specs.declared.status.Status.{Status}
 use Rattle.optfs.specs.declared.status.Status.TheVariants.{Done, Usage, NoMemory, SourceFault, SinkFault, BadShape, LongInput}

@@ -1,5 +1,5 @@
-//! The image of a formatted disk in memory. What each block has is told by `opt_format`, and how an image
-//! comes to lie on a disk is told elsewhere.
+//! The image of a formatted disk in memory. What each block has is described by `opt_format`, and how an image
+//! comes to lie on a disk is said in `opt_format`.
 
 ghost use Rattle.std.specs.Prelude.{◌≡◌, ◌<◌, ℕ, length, IfOk};
 ghost use Rattle.opt_base.specs.Seal.{blocks_of};

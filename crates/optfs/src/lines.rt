@@ -1,4 +1,4 @@
-//! One line of a script, and the command that it is. How lines are cut from the input stands in the
+//! One line of a script, and the command that it is. How lines are cut from the input is in the
 //! module of the recording.
 
 ghost use Rattle.std.specs.Prelude.{◌≡◌, IfOk, option_to_list};
@@ -15,7 +15,7 @@ use std::alloc::Global;
 /// line may be is `Bad`.
 ///
 /// # Errors
-/// Want of memory.
+/// Out of memory.
 #[tactic(auto, unfolding(crate::specs::Output::longest))]
 pub fn command_of_line(alloc: Global, line: &[u8]) -> Result<Option<Cmd>, NoMemory>
     ensures { IfOk result (λ found. option_to_list found ≡ commands_of_line longest line.now) }

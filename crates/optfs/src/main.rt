@@ -1,6 +1,6 @@
-//! The program `optfs`: words and a script in, a trace out. The crates below hold the parts; here stand
+//! The program `optfs`: words and a script in, a trace out. The crates below hold the parts; here are
 //! the reading of lines, the recording of their commands, the formatted disk, and the exit status. The
-//! rules are told in docs/SCRIPT.md, docs/TRACE.md and docs/CRASHES.md.
+//! rules are described in docs/SCRIPT.md, docs/TRACE.md and docs/CRASHES.md.
 #![tactic(auto)]
 
 mod formatting;
@@ -11,28 +11,38 @@ mod recording;
 mod status;
 #[cfg(test)]
 mod tests;
+#[cfg(test)]
+mod tree_tests;
 
 use opt_io::{ReadSource, WriteSink};
 use opt_memdisk::MemBay;
+use program::ROOM;
 pub use program::optfs;
 pub use status::Status;
 use std::env;
-use std::io::{self, BufWriter};
+use std::io::{self, BufWriter, ErrorKind, IsTerminal, LineWriter, Write};
 use std::process::ExitCode;
 
-/// Gives the program the words, the standard input and a buffer before the standard output, and exits
-/// with its status. What the buffer holds back is written at the end; where that fails, the sink failed.
+/// Gives the program the words, the standard input and the standard output, and exits with its status.
 fn main(rt: HostRuntime) -> ExitCode {
     ExitCode::from(run(&rt).unwrap_or(Status::NoMemory).number())
 }
 
+/// A terminal shows each line when it is made. A file or a pipe gets them from a buffer.
 fn run(rt: &HostRuntime) -> io::Result<Status> {
-    let mut words = Vec::new(rt.alloc());
-    for word in env::args(rt)?.skip(1) {
-        words.push(word)?;
+    let out = rt.stdout();
+    if out.is_terminal() {
+        run_into(rt, LineWriter::new(rt.alloc(), out)?)
+    } else {
+        run_into(rt, BufWriter::new(rt.alloc(), out)?)
     }
+}
+
+/// Runs the program. What the writer holds back is written at the end; where that fails, the sink failed.
+fn run_into<W: Write + Drop>(rt: &HostRuntime, writer: W) -> io::Result<Status> {
+    let words = words_of(rt)?;
     let mut input = ReadSource::new(rt.stdin());
-    let mut out = WriteSink::new(BufWriter::new(rt.alloc(), rt.stdout())?);
+    let mut out = WriteSink::new(writer);
     let mut bay = MemBay::new(rt.alloc(), ROOM);
     let status = optfs(rt.alloc(), words.as_slice(), &mut input, &mut out, &mut bay);
     if out.flush().is_err() {
@@ -41,5 +51,18 @@ fn run(rt: &HostRuntime) -> io::Result<Status> {
     Ok(status)
 }
 
-/// How many writes each disk of the bay takes.
-const ROOM: u32 = 4096;
+/// The words behind the program's name. There are none where one of them isn't UTF-8: no request has such
+/// a word, so they ask for nothing, as no words do.
+fn words_of(rt: &HostRuntime) -> io::Result<Vec<String>> {
+    let mut words = Vec::new(rt.alloc());
+    match env::args(rt) {
+        Ok(all) => {
+            for word in all.skip(1) {
+                words.push(word)?;
+            }
+        }
+        Err(why) if why.kind() == ErrorKind::InvalidData => {}
+        Err(why) => return Err(why),
+    }
+    Ok(words)
+}

@@ -1,6 +1,6 @@
 //! The public call of the program: words, a source of the script, a sink of the output and a bay of
-//! disks in, a status out. Its contract is the theorem of the repository, told in docs/PROMISES.md. How
-//! a line is answered stands in the module of the recording, and how the input is read in the module of
+//! disks in, a status out. Its contract is the theorem of the repository, described in docs/PROMISES.md. How
+//! a line is answered is in the module of the recording, and how the input is read in the module of
 //! the reading.
 
 ghost use Rattle.std.specs.Prelude.{◌≡◌, ℕ, ◌≤◌, ◌^◌, true, false, List, [], Option, IfOk, IsOk, ◌↔◌, OnErr, length};
@@ -28,7 +28,7 @@ use std::alloc::Global;
 /// Runs the program with these words.
 ///
 /// The words `record N J I` read a script from `input` and write its trace to `out`. Each command is
-/// answered as the tree of names and byte files answers it, or refused for want of memory; and a crash
+/// answered as the tree of names and byte files answers it, or refused for out of memory; and a crash
 /// after any of the events that the trace tells leaves the tree of one sync point, no older than the
 /// last one promised. No command writes to the disk yet, so the trace tells no event. The bay is for
 /// words that name an image; none of these is built yet.
@@ -140,8 +140,8 @@ fn tell<K: Sink>(out: &mut K, line: &[u8], status: Status) -> Status
 /// How many bytes are asked for at once.
 const CHUNK: usize = 65_536;
 
-/// How many writes the disk in memory takes.
-const ROOM: u32 = 4096;
+/// How many writes a disk in memory takes.
+pub(crate) const ROOM: u32 = 4096;
 
 /// The last line of a whole trace, and of each status that has one.
 const END: &[u8] = b"end\n";

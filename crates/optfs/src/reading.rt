@@ -1,5 +1,5 @@
 //! The reading of an input: pull after pull, up to its end, to a fault of the source, or to the most
-//! bytes that an input may have. What the bytes do stands in the module of the recording.
+//! bytes that an input may have. What the bytes do is in the module of the recording.
 
 ghost use Rattle.std.specs.Prelude.{◌≡◌, ℕ, ◌+◌, ◌^◌, ◌<◌, ◌≤◌, List, length, Option, OnErr, IfOk};
 ghost use Rattle.opt_geom.specs.Geometry.{Geometry};
@@ -67,7 +67,7 @@ fn pull_once<S: Source, K: Sink>(
 /// Reads the input to its end, by pieces of at most the chunk's length.
 ///
 /// # Errors
-/// Want of memory, or a fault of the sink.
+/// Out of memory, or a fault of the sink.
 pub fn read_all<S: Source, K: Sink>(
     alloc: Global,
     recording: &mut Recording,

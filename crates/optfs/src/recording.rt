@@ -1,6 +1,6 @@
 //! A recording on its way: a tree that answers, a disk, and the line that is open. It takes the bytes of
 //! the input one by one, and after each line feed it answers the line and writes its entry of the
-//! trace. Where the bytes come from, and how a recording ends, stands in the module of the program.
+//! trace. Where the bytes come from, and how a recording ends, is in the module of the program.
 //!
 //! Nothing writes to the disk yet: the tree in memory answers all commands. What holds after the bytes
 //! seen is one fact, `Follows`: the commands of the whole lines are answered in turn, the sink has taken
@@ -19,9 +19,10 @@ use opt_base::limits::LONGEST_LINE;
 use opt_disk::Disk;
 use opt_io::{Sink, SinkFault};
 use opt_memdisk::MemDisk;
+use opt_memtree::PlainTree;
 use opt_script::{cmd_text, reply_text};
 use opt_trace::{write_command, write_reply};
-use opt_tree::{Cmd, PlainTree};
+use opt_tree::Cmd;
 use std::alloc::{AllocFailed, Global};
 
 /// Why a recording stops before its input ends.
@@ -119,7 +120,7 @@ impl Recording {
     /// A new tree of so many node numbers, no line, and this disk.
     ///
     /// # Errors
-    /// Want of memory.
+    /// Out of memory.
     pub fn new(alloc: Global, nodes: u32, disk: MemDisk) -> Result<Recording, NoMemory>
         requires { 1 ≤ nodes }
         ensures { IfOk result (λ r. (r.tree ≡ start nodes) × (r.line.items ≡ []) × (r.disk ≡ disk)) }
@@ -142,7 +143,7 @@ impl Recording {
     /// Takes one byte of the input.
     ///
     /// # Errors
-    /// Want of memory, or a fault of the sink, which then has a front of an output.
+    /// Out of memory, or a fault of the sink, which then has a front of an output.
     pub fn take_byte<K: Sink>(&mut self, alloc: Global, out: &mut K, byte: u8) -> Result<(), Stop>
         ensures ok { OnOk result ((geom : Geometry) (seen : List ℕ) (before : Option (List ℕ))
             → Follows geom seen before (K.taken out.old) self.old.tree self.old.line.items self.old.disk.log

@@ -2,6 +2,10 @@
 //! where they are told to. What is expected was worked out by hand from docs/TRACE.md. What commands
 //! answer is tested by the rows of `opt_rows`, and a whole trace by the files `stdin` and `stdout`.
 
+mod disks;
+mod lines;
+mod replies;
+
 use crate::{Status, optfs};
 use opt_io::{MemSink, MemSource};
 use opt_memdisk::MemBay;
