@@ -1,6 +1,6 @@
 //! Rows of a disk in memory: its calls with their answers, its events, and what a crash leaves of it.
 //! Which answers are right is said by the rows, and not here. How answers and choices are written stands
-//! in `disk_text`; the rules are told in docs/DISK.md.
+//! in `disk_text`; the rules are described in docs/DISK.md.
 
 use crate::disk_text::{Answer, choice_of, content_of, fails_of};
 use crate::words::{byte, long_number, number};
@@ -10,7 +10,7 @@ use opt_memdisk::{Image, ImageRefusal, MemDisk, Rule};
 use std::alloc::Global;
 
 /// What a row of a disk asks.
-#[derive(Clone, Copy, Debug)]
+#[derive(Clone, Copy)]
 enum DiskRow<'a> {
     /// How many blocks there are.
     Blocks,
@@ -237,13 +237,16 @@ impl DiskRows {
                 Ok(Some(Answer::Content(content_of(image.block(block)))))
             }
             Ok(_) => Ok(None),
-            Err(ImageRefusal::BadChoice) => Ok(Some(Answer::Bad)),
+            Err(ImageRefusal::PastTheLog { moment, events }) => {
+                Ok(Some(Answer::PastTheLog(moment, events)))
+            }
+            Err(ImageRefusal::NotPending { write }) => Ok(Some(Answer::NotPending(write))),
             Err(ImageRefusal::NoMemory) => Err(NoMemory),
         }
     }
 }
 
-// What stands in a buffer before a block is read into it.
+// What is in a buffer before a block is read into it.
 const UNREAD: u8 = 3;
 
 // Fills the block of an image that a word such as `4=1` names. Whether there is such a block.

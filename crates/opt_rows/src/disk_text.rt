@@ -8,7 +8,7 @@ use std::alloc::Global;
 use std::fmt;
 
 /// What a block has.
-#[derive(Clone, Copy, Debug)]
+#[derive(Clone, Copy)]
 pub enum Content {
     /// This byte alone.
     Full(u8),
@@ -42,7 +42,7 @@ pub(crate) fn content_of(block: &Block) -> Content {
 }
 
 /// What a disk answers.
-#[derive(Clone, Copy, Debug)]
+#[derive(Clone, Copy)]
 pub enum Answer {
     /// The call failed.
     Fault,
@@ -52,8 +52,10 @@ pub enum Answer {
     Done,
     /// There is none.
     Nothing,
-    /// The choice can't be made.
-    Bad,
+    /// The moment that was asked for, and how many events there are.
+    PastTheLog(u64, u64),
+    /// The first named write that isn't pending.
+    NotPending(WriteName),
     Number(u64),
     Content(Content),
     /// Events, failed reads, and other failed calls.
@@ -73,7 +75,11 @@ impl fmt::Display for Answer {
             Answer::SpoilingFault => write!(f, "fault, and other bytes"),
             Answer::Done => write!(f, "ok"),
             Answer::Nothing => write!(f, "none"),
-            Answer::Bad => write!(f, "bad"),
+            Answer::PastTheLog(moment, events) => write!(f, "past the log {moment} of {events}"),
+            Answer::NotPending(WriteName::Accepted { ticket }) => {
+                write!(f, "not pending w{ticket}")
+            }
+            Answer::NotPending(WriteName::Lost { number }) => write!(f, "not pending f{number}"),
             Answer::Number(number) => write!(f, "{number}"),
             Answer::Content(content) => write!(f, "{content}"),
             Answer::Counts(events, reads, others) => write!(f, "{events} {reads} {others}"),

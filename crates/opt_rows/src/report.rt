@@ -8,7 +8,7 @@ use crate::rows::Outcome;
 use std::io::{self, Write};
 
 /// How many rows there were, and how many of them weren't right.
-#[derive(Clone, Copy, Debug)]
+#[derive(Clone, Copy)]
 pub struct Counts {
     rows: u64,
     wrong: u64,

@@ -1,5 +1,5 @@
 //! Rows of a tree in memory: commands as a script has them, with the replies that a trace has, and what
-//! else the tree tells of itself. A row tries `opt_tree` and `opt_script` at once. Which answers are right
+//! else the tree tells of itself. A row tries `opt_memtree` and `opt_script` at once. Which answers are right
 //! is said by the rows, and not here.
 
 ghost use Rattle.std.specs.Prelude.{◌≡◌, ◌≤◌, IfOk};
@@ -11,13 +11,13 @@ ghost use Rattle.opt_tree.specs.declared.command.Reply.{Reply};
 use crate::words::{long_number, number};
 use opt_base::NoMemory;
 use opt_io::MemSink;
+use opt_memtree::PlainTree;
 use opt_script::{cmd_text, parse_line, reply_text};
-use opt_tree::PlainTree;
 use std::alloc::Global;
 use std::mem;
 
 /// What a row of a tree asks.
-#[derive(Clone, Copy, Debug)]
+#[derive(Clone, Copy)]
 enum TreeRow<'a> {
     /// Whether the tree is equal to the one that was kept.
     Equal,
@@ -35,20 +35,28 @@ impl TreeRow<'_> {
         if asked == "equal" {
             return TreeRow::Equal;
         }
-        if let Some(place) = asked.strip_prefix("listing ").and_then(long_number) {
-            return TreeRow::Listing(place);
+        match figure_or_line(asked) {
+            Some(row) => row,
+            None => TreeRow::Command(asked),
         }
-        if let Some((bitmap, line)) = figures_asked(asked) {
-            return TreeRow::Figures(bitmap, line);
-        }
-        TreeRow::Command(asked)
     }
 }
 
-// The number of bitmap blocks and the command of a row that asks for figures.
-fn figures_asked(asked: &str) -> Option<(u32, &str)> {
-    let (bitmap, line) = asked.strip_prefix("figures ")?.split_once(": ")?;
-    Some((number(bitmap)?, line))
+// The row that asks for figures or for a line of the listing, by its first word.
+fn figure_or_line(asked: &str) -> Option<TreeRow<'_>> {
+    let (word, rest) = asked.split_once(' ')?;
+    match word {
+        "listing" => Some(TreeRow::Listing(long_number(rest)?)),
+        "figures" => figures_asked(rest),
+        _ => None,
+    }
+}
+
+// The number of bitmap blocks and the command of a row that asks for figures, as `4: osync`.
+fn figures_asked(asked: &str) -> Option<TreeRow<'_>> {
+    let (bitmap, rest) = asked.split_once(':')?;
+    let line = rest.strip_prefix(' ')?;
+    Some(TreeRow::Figures(number(bitmap)?, line))
 }
 
 /// A tree that answers rows, and one that is kept to be compared with it.
@@ -76,14 +84,12 @@ impl TreeRows {
     /// # Errors
     /// Out of memory.
     pub(crate) fn act(&mut self, alloc: Global, words: &[&str]) -> Result<bool, NoMemory> {
-        match words {
-            ["copy"] => {
-                let copy = self.tree.copy(alloc)?;
-                self.kept = mem::replace(&mut self.tree, copy);
-                Ok(true)
-            }
-            _ => Ok(false),
-        }
+        let ["copy"] = words else {
+            return Ok(false);
+        };
+        let copy = self.tree.copy(alloc)?;
+        self.kept = mem::replace(&mut self.tree, copy);
+        Ok(true)
     }
 
     /// The text of the answer to a row.

@@ -1,5 +1,5 @@
 //! The words of a row: how numbers are read, and how
-//! a line is parted. Which words a row may have is told by the modules of the sections.
+//! a line is parted. Which words a row may have is described by the modules of the sections.
 
 use std::alloc::{AllocError, Global};
 
