@@ -6,7 +6,7 @@ ghost use Rattle.std.specs.Io.KnownBytes.{Appends};
 ghost use Rattle.opt_base.specs.Counts.{HasCause};
 ghost use Rattle.opt_tree.specs.Tree.{IsSound, HasSmallFiles};
 ghost use Rattle.opt_tree.specs.Step.{start};
-ghost use Rattle.opt_tree.specs.Run.{Answers};
+ghost use Rattle.opt_tree.specs.Run.{Answers, is_of_memory};
 ghost use Rattle.opt_tree.specs.Figures.{figures};
 ghost use Rattle.opt_tree.specs.Listing.{listing};
 
@@ -57,7 +57,7 @@ impl PlainTree {
 
     /// Answers the command; where no memory is found it refuses it and stays as it was.
     pub fn apply(&mut self, alloc: Global, cmd: &Cmd) -> Reply
-        ensures answer { Answers self.old cmd.now result self.new }
+        ensures answer { Answers is_of_memory self.old cmd.now result self.new }
         ensures sound { IsSound self.new.limit self.new.tree }
         ensures small { HasSmallFiles self.new.tree.nodes }
     {

@@ -5,7 +5,7 @@
 ghost use Rattle.std.specs.Prelude.{◌≡◌, ◌≤◌, IfOk};
 ghost use Rattle.opt_script.specs.Grammar.{command_of};
 ghost use Rattle.opt_script.specs.Text.{command_text, text_of_reply};
-ghost use Rattle.opt_tree.specs.Run.{Answers};
+ghost use Rattle.opt_tree.specs.Run.{Answers, is_of_memory};
 ghost use Rattle.opt_tree.specs.declared.command.Reply.{Reply};
 
 use crate::words::{long_number, number};
@@ -155,7 +155,7 @@ fn line_at(text: &[u8], place: u64) -> &[u8] {
 /// # Errors
 /// Out of memory.
 pub fn answer_line(alloc: Global, tree: &mut PlainTree, line: &[u8]) -> Result<Vec<u8>, NoMemory>
-    ensures { IfOk result (λ text. (reply : Reply) × Answers tree.old (command_of line.now) reply tree.new × (text.items ≡ text_of_reply reply)) }
+    ensures { IfOk result (λ text. (reply : Reply) × Answers is_of_memory tree.old (command_of line.now) reply tree.new × (text.items ≡ text_of_reply reply)) }
 {
     let cmd = parse_line(alloc, line)?;
     let reply = tree.apply(alloc, &cmd);

@@ -1,2 +1,4 @@
 pub mod Points
+pub mod Outside
+pub mod Bounds
 pub mod Examples

@@ -1,9 +1,10 @@
 -- The sync points of a run of commands, and which of them a crash may leave. They are described in docs/CRASHES.md.
-use Rattle.std.specs.Prelude.{ℕ, ◌+◌, max, nat_le, Bool, true, false, if◌then◌else◌, List, [], ◌∷◌, ◌++◌}
+use Rattle.std.specs.Prelude.{ℕ, ◌+◌, max, nat_le, Bool, true, false, if◌then◌else◌, ◌&&◌, List, [], ◌∷◌, ◌++◌}
 use Rattle.opt_tree.specs.declared.command.Cmd.{Cmd}
 use Rattle.opt_tree.specs.declared.command.Cmd.TheVariants.{Osync}
 use Rattle.opt_tree.specs.declared.command.Reply.{Reply}
 use Rattle.opt_tree.specs.declared.command.Reply.TheVariants.{Refused}
+use Rattle.opt_tree.specs.declared.command.Refusal.TheVariants.{DiskFault}
 use Rattle.opt_tree.specs.Tree.{Tree}
 use Rattle.opt_tree.specs.Step.{Session, step}
 
@@ -24,10 +25,15 @@ is_sync _ = false
 abbrev pub after_reply : Session → Cmd → Reply → Session
 after_reply s cmd reply = if is_refusal reply then s else (step s cmd).0
 
--- the point that a command makes: a sync that isn't refused makes one where something changed since the last one
+-- whether a sync that was answered so may have written its tree: it is done, or the disk failed on the way
+abbrev pub may_have_written : Reply → Bool
+may_have_written (Refused DiskFault) = true
+may_have_written (Refused why) = false
+may_have_written _ = true
+
+-- the point that a command makes: a sync that may have written its tree makes one where something changed since the last one
 abbrev pub made_by : Session → Cmd → Reply → ℕ → List Point
-made_by s cmd reply mark =
-    if is_sync cmd then (if is_refusal reply then [] else (if s.changed then record { tree = s.tree; begun = mark } ∷ [] else [])) else []
+made_by s cmd reply mark = if is_sync cmd && (s.changed && may_have_written reply) then record { tree = s.tree; begun = mark } ∷ [] else []
 
 -- The points that commands make, in order. A mark is the number of events when a reply comes, and a command begins at the mark before it.
 abbrev pub points_after : Session → ℕ → List Cmd → List Reply → List ℕ → List Point

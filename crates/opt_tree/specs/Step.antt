@@ -143,11 +143,10 @@ answered s cmd None = accepted s cmd
 abbrev pub step : Session → Cmd → Session × Reply
 step s cmd = answered s cmd (refusal s.limit s.tree cmd)
 
--- the root alone, on which nothing was done yet
+-- a session that begins with this tree: point 0, and nothing was done since
+abbrev pub session_on : ℕ → Tree → Session
+session_on limit t = record { tree = t; limit = limit; points = 0; changed = false }
+
+-- the session that begins with the root alone
 abbrev pub start : ℕ → Session
-start limit = record {
-  tree = record { names = insert empty [] 1; nodes = insert empty 1 Dir };
-  limit = limit;
-  points = 0;
-  changed = false;
-}
+start limit = session_on limit (record { names = insert empty [] 1; nodes = insert empty 1 Dir })

@@ -1,21 +1,22 @@
 //! Laws of the definitions: what commands leave of a tree, where they change it and what that costs, what a
 //! reply says of the session after it, and short runs worked out. They run nothing.
 
-ghost use Rattle.std.specs.Prelude.{◌≡◌, ◌≤◌, ◌||◌, ◌+◌, ◌++◌, ℕ, true, false, nat_lt, List, [], ◌∷◌, length, codes, None, Some};
+ghost use Rattle.std.specs.Prelude.{◌≡◌, ◌≤◌, ◌||◌, ◌+◌, ◌++◌, ◌⊎◌, ℕ, Bool, true, false, nat_lt, List, [], ◌∷◌, length, codes, None, Some};
 ghost use Rattle.std.specs.FinMap.{get, insert, empty};
 ghost use Rattle.opt_tree.specs.declared.command.Cmd.{Cmd};
 ghost use Rattle.opt_tree.specs.declared.command.Cmd.TheVariants.{Mkdir, Create, Write, Link, Rmdir, Rename, Osync};
 ghost use Rattle.opt_tree.specs.declared.command.Reply.{Reply};
 ghost use Rattle.opt_tree.specs.declared.command.Reply.TheVariants.{Ok as Done, Synced, Refused};
-ghost use Rattle.opt_tree.specs.declared.command.Refusal.TheVariants.{NotFound, NotDir, NotEmpty, NoMemory};
+ghost use Rattle.opt_tree.specs.declared.command.Refusal.{Refusal};
+ghost use Rattle.opt_tree.specs.declared.command.Refusal.TheVariants.{NotFound, NotDir, NotEmpty, DiskFault, Stopped, NoMemory};
 ghost use Rattle.opt_tree.specs.Tree.{Tree, Dir, File, IsSound, HasSmallFiles};
 ghost use Rattle.opt_tree.specs.Paths.{is_within};
 ghost use Rattle.opt_tree.specs.Names.{path_count};
 ghost use Rattle.opt_tree.specs.Walk.{is_same_node};
 ghost use Rattle.opt_tree.specs.Conditions.{refusal};
 ghost use Rattle.opt_tree.specs.Step.{Session, step, start};
-ghost use Rattle.opt_tree.specs.Run.{Answers, Run};
-ghost use Rattle.opt_tree.specs.Points.{after_reply, is_sync, points_after, top};
+ghost use Rattle.opt_tree.specs.Run.{Answers, Run, is_of_memory, is_of_disk};
+ghost use Rattle.opt_tree.specs.Points.{after_reply, is_sync, points_after, top, floor};
 ghost use Rattle.opt_tree.specs.Figures.{blocks, growth, release, figures, write_figures, truncate_figures};
 
 /// The empty root is sound, and a sound tree is sound after every command: each path lies in a directory,
@@ -70,18 +71,18 @@ pub fn the_figures_are_the_blocks()
 /// A file moves onto another one, whose number serves again.
 pub fn short_runs_are_answered_so()
     ensures one_node { (end : Session)
-        × Run (start 16) (Create (codes "a" ∷ []) ∷ Link (codes "a" ∷ []) (codes "b" ∷ []) ∷ Rename (codes "a" ∷ []) (codes "b" ∷ []) ∷ []) (Done ∷ Done ∷ Done ∷ []) end
+        × Run (λ why. false) (start 16) (Create (codes "a" ∷ []) ∷ Link (codes "a" ∷ []) (codes "b" ∷ []) ∷ Rename (codes "a" ∷ []) (codes "b" ∷ []) ∷ []) (Done ∷ Done ∷ Done ∷ []) end
         × (get end.tree.names (codes "a" ∷ []) ≡ Some 2) × (get end.tree.names (codes "b" ∷ []) ≡ Some 2) × (path_count end.tree.names 2 ≡ 2) }
     ensures reasons { (end : Session)
-        × Run (start 16)
+        × Run (λ why. false) (start 16)
         (Create (codes "a" ∷ []) ∷ Rmdir [] ∷ Rename [] (codes "a" ∷ []) ∷ Write (codes "a" ∷ codes "b" ∷ []) 0 (120 ∷ []) ∷ Link (codes "b" ∷ []) (codes "a" ∷ []) ∷ [])
         (Done ∷ Refused NotEmpty ∷ Refused NotDir ∷ Refused NotDir ∷ Refused NotFound ∷ []) end }
     ensures directory { (end : Session)
-        × Run (start 16) (Mkdir (codes "a" ∷ []) ∷ Create (codes "a" ∷ codes "c" ∷ []) ∷ Rename (codes "a" ∷ []) (codes "b" ∷ []) ∷ []) (Done ∷ Done ∷ Done ∷ []) end
+        × Run (λ why. false) (start 16) (Mkdir (codes "a" ∷ []) ∷ Create (codes "a" ∷ codes "c" ∷ []) ∷ Rename (codes "a" ∷ []) (codes "b" ∷ []) ∷ []) (Done ∷ Done ∷ Done ∷ []) end
         × (get end.tree.names (codes "b" ∷ []) ≡ Some 2) × (get end.tree.names (codes "b" ∷ codes "c" ∷ []) ≡ Some 3)
         × (get end.tree.names (codes "a" ∷ []) ≡ None) × (get end.tree.names (codes "a" ∷ codes "c" ∷ []) ≡ None) }
     ensures onto { (end : Session)
-        × Run (start 16) (Create (codes "a" ∷ []) ∷ Create (codes "b" ∷ []) ∷ Rename (codes "a" ∷ []) (codes "b" ∷ []) ∷ Mkdir (codes "c" ∷ []) ∷ [])
+        × Run (λ why. false) (start 16) (Create (codes "a" ∷ []) ∷ Create (codes "b" ∷ []) ∷ Rename (codes "a" ∷ []) (codes "b" ∷ []) ∷ Mkdir (codes "c" ∷ []) ∷ [])
         (Done ∷ Done ∷ Done ∷ Done ∷ []) end
         × (get end.tree.names (codes "a" ∷ []) ≡ None) × (get end.tree.names (codes "b" ∷ []) ≡ Some 2) × (get end.tree.names (codes "c" ∷ []) ≡ Some 3) }
 {}
@@ -102,16 +103,32 @@ pub fn small_changes_cost_so()
 {}
 
 /// The sync points of a run are those of the sessions that it goes through: the session after a
-/// command is the one that its reply says.
+/// command is the one that its reply says, whichever reasons may come from outside the tree.
 #[tactic(auto, using(crate::proofs::runs::Points::answer_tells))]
 pub fn a_reply_tells_the_session()
-    ensures { (old new : Session) (cmd : Cmd) (reply : Reply) → Answers old cmd reply new → new ≡ after_reply old cmd reply }
+    ensures { (outside : Refusal → Bool) (old new : Session) (cmd : Cmd) (reply : Reply) → Answers outside old cmd reply new → new ≡ after_reply old cmd reply }
+{}
+
+/// A tree in memory refuses by its own reasons, 1 to 9, or as it is out of memory. What it answers, a file
+/// system over a disk may answer too, and so with whole runs.
+#[tactic(auto, using(crate::proofs::runs::Outside::run_more))]
+pub fn a_tree_in_memory_refuses_for_no_disk()
+    ensures alone { (old new : Session) (cmd : Cmd) (why : Refusal) → Answers is_of_memory old cmd (Refused why) new → (is_of_disk why ≡ false) ⊎ (why ≡ NoMemory) }
+    ensures wider { (s end : Session) (cmds : List Cmd) (replies : List Reply) → Run is_of_memory s cmds replies end → Run is_of_disk s cmds replies end }
+{}
+
+/// From moment to moment neither the top nor the floor of a run falls, whatever its replies promise.
+#[tactic(auto, using(crate::proofs::runs::Bounds::top_rises, crate::proofs::runs::Bounds::floor_rises))]
+pub fn bounds_never_fall()
+    ensures top { (k later mounted : ℕ) (s : Session) (cmds : List Cmd) (replies : List Reply) (marks : List ℕ) → k ≤ later → top k s mounted cmds replies marks ≤ top later s mounted cmds replies marks }
+    ensures floor { (k later : ℕ) (replies : List Reply) (marks : List ℕ) → k ≤ later → floor k replies marks ≤ floor later replies marks }
 {}
 
 /// A session that something changed, whose mount took two events, and two syncs. Where the first one is
 /// answered at mark 5, it makes a point that began at 2, and the second one makes none; a crash leaves
-/// the point from moment 2 on at the earliest. Where the first one is refused at mark 3, the second one
-/// makes the point, which began at 3.
+/// the point from moment 2 on at the earliest. Where the first one is refused at mark 3 as it is out of
+/// memory, the second one makes the point, which began at 3. Where a disk fault refuses the first one, it
+/// makes the point all the same, and the second one, which the end of the session refuses, makes none.
 pub fn two_syncs_make_one_point()
     ensures first { (t : Tree) (limit points : ℕ)
         → points_after (record { tree = t; limit = limit; points = points; changed = true }) 2 (Osync ∷ Osync ∷ []) (Synced 1 ∷ Synced 1 ∷ []) (5 ∷ 9 ∷ [])
@@ -119,6 +136,9 @@ pub fn two_syncs_make_one_point()
     ensures second { (t : Tree) (limit points : ℕ)
         → points_after (record { tree = t; limit = limit; points = points; changed = true }) 2 (Osync ∷ Osync ∷ []) (Refused NoMemory ∷ Synced 1 ∷ []) (3 ∷ 9 ∷ [])
         ≡ record { tree = t; begun = 3 } ∷ [] }
+    ensures fault { (t : Tree) (limit points : ℕ)
+        → points_after (record { tree = t; limit = limit; points = points; changed = true }) 2 (Osync ∷ Osync ∷ []) (Refused DiskFault ∷ Refused Stopped ∷ []) (4 ∷ 4 ∷ [])
+        ≡ record { tree = t; begun = 2 } ∷ [] }
     ensures before { (t : Tree) (limit points : ℕ)
         → top 1 (record { tree = t; limit = limit; points = points; changed = true }) 2 (Osync ∷ Osync ∷ []) (Synced 1 ∷ Synced 1 ∷ []) (5 ∷ 9 ∷ []) ≡ 0 }
     ensures since { (t : Tree) (limit points : ℕ)

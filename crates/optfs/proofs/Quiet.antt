@@ -4,18 +4,19 @@ use Rattle.opt_base.specs.Seal.{Blocks}
 use Rattle.opt_disk.specs.declared.event.Event.{Event}
 use Rattle.opt_disk.specs.Crash.{IsHonest, MayHold}
 use Rattle.opt_disk.specs.Cell.{cell_of}
-use Rattle.opt_geom.specs.Geometry.{Geometry}
+use Rattle.opt_geom.specs.Geometry.{Geometry, geometry_fits}
 use Rattle.opt_journal.specs.Formatted.{formatted}
 use Rattle.opt_stands.specs.Stands.{StandsFor}
 use Rattle.opt_script.specs.Text.{command_text, text_of_reply}
 use Rattle.opt_trace.specs.Line.{geometry_line, command_line, reply_line}
-use Rattle.opt_trace.specs.Trace.{entries}
+use Rattle.opt_trace.specs.Trace.{Ascend, entries}
 use Rattle.opt_tree.specs.declared.command.Cmd.{Cmd}
 use Rattle.opt_tree.specs.declared.command.Reply.{Reply}
-use Rattle.opt_tree.specs.Step.{start}
+use Rattle.opt_tree.specs.Tree.{Tree}
+use Rattle.opt_tree.specs.Step.{start, session_on}
 use Rattle.opt_tree.specs.Points.{promised_by, floor}
-use Rattle.optfs.specs.Crashes.{IsCrashConsistent}
-use Rattle.optfs.specs.Output.{Ascend, Serves, IsTrace, IsFront}
+use Rattle.optfs.specs.Crashes.{LeavesPoints, IsCrashConsistent}
+use Rattle.optfs.specs.Output.{Serves, IsTrace, IsFront}
 use Rattle.optfs.specs.Follows.{entry, quiet_entries, ServesQuietly}
 
 -- no event yet at each reply
@@ -38,9 +39,18 @@ same_entries (cmd ∷ cmds) [] = refl
 same_entries (cmd ∷ cmds) (reply ∷ replies) = ap (λ l. entry 0 cmd reply ++ l) (same_entries cmds replies)
     ∙ ap (λ l. (l ++ reply_line 0 (text_of_reply reply)) ++ entries [] 0 cmds replies (no_marks replies)) (sym (append-nil (command_line (command_text cmd))))
 
--- an image that is like the formatted disk stands for the root alone
-abbrev pub BeginsEmpty : Geometry → Type 0
-BeginsEmpty g = (img : Blocks) → ((b : ℕ) → b < g.n → img b ≡ formatted g b) → StandsFor g.n img (start g.i).tree
+-- The formatted disk, and each image that is like it, stands for the root alone, and the disk for no other tree.
+pub record BeginsEmpty (g : Geometry) : Type 0 where
+  pub alike : (img : Blocks) → ((b : ℕ) → b < g.n → img b ≡ formatted g b) → StandsFor g.n img (start g.i).tree
+  pub one : (t : Tree) → StandsFor g.n (formatted g) t → t ≡ (start g.i).tree
+
+-- by the laws on the formatted disk and on images
+pub begins_empty : ((g : Geometry) (img : Blocks) → geometry_fits g ≡ true → ((b : ℕ) → b < g.n → img b ≡ formatted g b) → StandsFor g.n img (start g.i).tree)
+    → ((n : ℕ) (img : Blocks) (t u : Tree) → StandsFor n img t → StandsFor n img u → t ≡ u) → (g : Geometry) → geometry_fits g ≡ true → BeginsEmpty g
+begins_empty alike one g fits = record {
+  alike = λ img. alike g img fits;
+  one = λ t stands. one g.n (formatted g) t (start g.i).tree stands (alike g (formatted g) fits (λ b below. refl));
+}
 
 -- Nothing is promised.
 
@@ -62,8 +72,11 @@ untouched g base img honest b below = left (honest.leaves b below)
     left (inr (inl none)) = absurd none
     left (inr (inr torn)) = absurd (omega (arith, torn.0))
 
-pub consistent : (g : Geometry) → BeginsEmpty g → (cmds : List Cmd) (replies : List Reply) (marks : List ℕ) → IsCrashConsistent g [] 0 cmds replies marks
-consistent g begins cmds replies marks = record {
+formatted_stands : (g : Geometry) → BeginsEmpty g → StandsFor g.n (formatted g) (start g.i).tree
+formatted_stands g begins = begins.alike (formatted g) (λ b below. refl)
+
+leaves_root : (g : Geometry) → BeginsEmpty g → (cmds : List Cmd) (replies : List Reply) (marks : List ℕ) → LeavesPoints g.n (formatted g) (start g.i) [] 0 cmds replies marks
+leaves_root g begins cmds replies marks = record {
   each = λ k img within honest.
       let P : List Event → Type 0 = λ l. IsHonest g.n (formatted g) l img in
       let calm : IsHonest g.n (formatted g) [] img = subst P (take_all k [] (omega arith)) honest in
@@ -74,8 +87,16 @@ consistent g begins cmds replies marks = record {
         from = omega (arith, floor_is);
         upto = omega arith;
         is = refl;
-        stands = begins img (untouched g (formatted g) img calm);
+        stands = begins.alike img (untouched g (formatted g) img calm);
       } ∣₁;
+}
+
+pub consistent : (g : Geometry) → BeginsEmpty g → (cmds : List Cmd) (replies : List Reply) (marks : List ℕ) → IsCrashConsistent g.n g.i (formatted g) [] 0 cmds replies marks
+consistent g begins cmds replies marks = record {
+  points = λ t stands.
+      let P : Tree → Type 0 = λ u. LeavesPoints g.n (formatted g) (session_on g.i u) [] 0 cmds replies marks in
+      subst P (sym (begins.one t stands)) (leaves_root g begins cmds replies marks);
+  none = λ no_tree. absurd (no_tree (start g.i).tree (formatted_stands g begins));
 }
 
 -- the text of a quiet run begins a trace
@@ -90,6 +111,7 @@ in_whole g begins cmds text s = record {
   run = s.run;
   each_marked = length-no_marks s.replies;
   ascend = no_marks-ascend s.replies;
+  begins = formatted_stands g begins;
   consistent = consistent g begins cmds s.replies (no_marks s.replies);
   is = s.is ∙ ap (λ l. geometry_line g ++ l) (same_entries cmds s.replies)
       ∙ ap (λ l. l ++ entries [] 0 cmds s.replies (no_marks s.replies)) (sym (append-nil (geometry_line g)));

@@ -11,7 +11,7 @@ use Rattle.std.proofs.KnownBytes.{Appends-nil, Appends-trans}
 use Rattle.opt_tree.specs.declared.command.Cmd.{Cmd}
 use Rattle.opt_tree.specs.declared.command.Reply.{Reply}
 use Rattle.opt_tree.specs.Step.{Session, start, step}
-use Rattle.opt_tree.specs.Run.{Answers, Run}
+use Rattle.opt_tree.specs.Run.{Answers, Run, is_of_memory}
 use Rattle.optfs.specs.Lines.{open_line, whole_commands, commands_of, commands_of_line}
 use Rattle.opt_disk.specs.declared.event.Event.{Event}
 use Rattle.opt_geom.specs.Geometry.{Geometry}
@@ -53,7 +53,7 @@ line_tried cmd s before after n told =
     }
 
 -- the sink has the command's line, and a front of the reply's
-reply_tried : (cmd : Cmd) (s next : Session) (reply : Reply) (before mid after : Option (List ℕ)) (n : ℕ) → Answers s cmd reply next
+reply_tried : (cmd : Cmd) (s next : Session) (reply : Reply) (before mid after : Option (List ℕ)) (n : ℕ) → Answers is_of_memory s cmd reply next
     → Appends before mid (command_line (command_text cmd)) → Appends mid after (take n (reply_line 0 (text_of_reply reply))) → Tried (cmd ∷ []) s before after
 reply_tried cmd s next reply before mid after n answer asked told =
     let line = command_line (command_text cmd) in
@@ -69,7 +69,7 @@ reply_tried cmd s next reply before mid after n answer asked told =
     }
 
 -- the sink has the whole entry
-reply_served : (cmd : Cmd) (s next : Session) (reply : Reply) (before mid after : Option (List ℕ)) → Answers s cmd reply next
+reply_served : (cmd : Cmd) (s next : Session) (reply : Reply) (before mid after : Option (List ℕ)) → Answers is_of_memory s cmd reply next
     → Appends before mid (command_line (command_text cmd)) → Appends mid after (reply_line 0 (text_of_reply reply)) → Served (cmd ∷ []) s next before after
 reply_served cmd s next reply before mid after answer asked told =
     let P : List ℕ → Type 0 = λ l. Appends before after l in
@@ -99,7 +99,7 @@ line_told r moment cmd s before after text is told =
     line_cut r moment cmd s before after text (length (command_line text)) is (subst P (sym (take_all (length (command_line text)) (command_line text) (omega arith))) told)
 
 pub reply_cut : {T E : Type 0} (r : Result T E) (moment : ℕ) (cmd : Cmd) (s next : Session) (reply : Reply) (before mid after : Option (List ℕ)) (asked answered : List ℕ) (n : ℕ)
-    → Answers s cmd reply next → asked ≡ command_text cmd → Appends before mid (command_line asked) → answered ≡ text_of_reply reply
+    → Answers is_of_memory s cmd reply next → asked ≡ command_text cmd → Appends before mid (command_line asked) → answered ≡ text_of_reply reply
     → Appends mid after (take n (reply_line moment answered)) → OnErr r (moment ≡ 0 → Tried (cmd ∷ []) s before after)
 reply_cut (Ok x) moment cmd s next reply before mid after asked answered n answer asked_is line answered_is told = tt
 reply_cut (Err e) moment cmd s next reply before mid after asked answered n answer asked_is line answered_is told = λ first.
@@ -109,7 +109,7 @@ reply_cut (Err e) moment cmd s next reply before mid after asked answered n answ
     reply_tried cmd s next reply before mid after n answer (subst P asked_is line) (subst Q first (subst R answered_is told))
 
 pub one_served : (moment : ℕ) (cmd : Cmd) (s next : Session) (reply : Reply) (before mid after : Option (List ℕ)) (asked answered : List ℕ)
-    → Answers s cmd reply next → asked ≡ command_text cmd → Appends before mid (command_line asked) → answered ≡ text_of_reply reply
+    → Answers is_of_memory s cmd reply next → asked ≡ command_text cmd → Appends before mid (command_line asked) → answered ≡ text_of_reply reply
     → Appends mid after (reply_line moment answered) → moment ≡ 0 → Served (cmd ∷ []) s next before after
 one_served moment cmd s next reply before mid after asked answered answer asked_is line answered_is told first =
     let P : List ℕ → Type 0 = λ l. Appends before mid (command_line l) in
@@ -205,7 +205,7 @@ follows_byte geom seen b before after tree line grown log no_feed f kept =
       served = record {
         replies = f.served.replies;
         after = f.served.after;
-        run = (let Q : List Cmd → Type 0 = λ l. Run (start geom.i) l f.served.replies f.served.after in subst Q (sym (commands-byte longest seen b no_feed)) f.served.run);
+        run = (let Q : List Cmd → Type 0 = λ l. Run is_of_memory (start geom.i) l f.served.replies f.served.after in subst Q (sym (commands-byte longest seen b no_feed)) f.served.run);
         is = f.served.is ∙ ap (λ l. geometry_line geom ++ quiet_entries l f.served.replies) (sym (commands-byte longest seen b no_feed));
       };
       tree_is = f.tree_is;

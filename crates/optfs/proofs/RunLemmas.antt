@@ -3,7 +3,7 @@ use Rattle.std.proofs.Common.{◌≡◌, ℕ, List, [], ◌∷◌, ◌++◌, ref
 use Rattle.opt_tree.specs.declared.command.Cmd.{Cmd}
 use Rattle.opt_tree.specs.declared.command.Reply.{Reply}
 use Rattle.opt_tree.specs.Step.{Session, start, step}
-use Rattle.opt_tree.specs.Run.{Run}
+use Rattle.opt_tree.specs.Run.{Run, is_of_memory}
 use Rattle.opt_geom.specs.Geometry.{Geometry}
 use Rattle.opt_trace.specs.Line.{geometry_line, end_line}
 use Rattle.optfs.specs.Lines.{whole_commands}
@@ -12,16 +12,16 @@ use Rattle.optfs.specs.Follows.{entry, quiet_entries, ServesQuietly}
 use Rattle.optfs.proofs.LineLemmas.{commands-more}
 
 pub run_append : (s t u : Session) (cmds : List Cmd) (replies : List Reply) (more : List Cmd) (later : List Reply)
-    → Run s cmds replies t → Run t more later u → Run s (cmds ++ more) (replies ++ later) u
+    → Run is_of_memory s cmds replies t → Run is_of_memory t more later u → Run is_of_memory s (cmds ++ more) (replies ++ later) u
 run_append s t u [] [] more later run next =
-    let P : Session → Type 0 = λ x. Run x more later u in
+    let P : Session → Type 0 = λ x. Run is_of_memory x more later u in
     subst P run next
 run_append s t u [] (r ∷ replies) more later run next = absurd run
 run_append s t u (c ∷ cmds) [] more later run next = absurd run
 run_append s t u (c ∷ cmds) (r ∷ replies) more later run next =
     (run.0, run.1, run_append run.0 t u cmds replies more later run.2 next)
 
-pub entries_append : (s t : Session) (cmds : List Cmd) (replies : List Reply) (more : List Cmd) (later : List Reply) → Run s cmds replies t
+pub entries_append : (s t : Session) (cmds : List Cmd) (replies : List Reply) (more : List Cmd) (later : List Reply) → Run is_of_memory s cmds replies t
     → quiet_entries (cmds ++ more) (replies ++ later) ≡ quiet_entries cmds replies ++ quiet_entries more later
 entries_append s t [] [] more later run = refl
 entries_append s t [] (r ∷ replies) more later run = absurd run
@@ -31,10 +31,10 @@ entries_append s t (c ∷ cmds) (r ∷ replies) more later run =
 
 -- more commands behind those that are served
 abbrev pub joined : (geom : Geometry) (cmds more all : List Cmd) (body : List ℕ) (s : ServesQuietly geom cmds body) (tree next : Session) (later : List Reply)
-    → s.after ≡ tree → Run tree more later next → cmds ++ more ≡ all → ServesQuietly geom all (body ++ quiet_entries more later)
+    → s.after ≡ tree → Run is_of_memory tree more later next → cmds ++ more ≡ all → ServesQuietly geom all (body ++ quiet_entries more later)
 joined geom cmds more all body s tree next later is run whole =
-    let P : Session → Type 0 = λ x. Run x more later next in
-    let Q : List Cmd → Type 0 = λ l. Run (start geom.i) l (s.replies ++ later) next in
+    let P : Session → Type 0 = λ x. Run is_of_memory x more later next in
+    let Q : List Cmd → Type 0 = λ l. Run is_of_memory (start geom.i) l (s.replies ++ later) next in
     record {
       replies = s.replies ++ later;
       after = next;
@@ -44,7 +44,7 @@ joined geom cmds more all body s tree next later is run whole =
     }
 
 -- Every list of commands is answered somehow.
-pub any_run : (s : Session) (cmds : List Cmd) → (replies : List Reply) × (end : Session) × Run s cmds replies end
+pub any_run : (s : Session) (cmds : List Cmd) → (replies : List Reply) × (end : Session) × Run is_of_memory s cmds replies end
 any_run s [] = ([], s, refl)
 any_run s (c ∷ cmds) =
     let answer = step s c in

@@ -9,7 +9,7 @@ use Rattle.opt_trace.specs.Line.{geometry_line, command_line, reply_line}
 use Rattle.opt_tree.specs.declared.command.Cmd.{Cmd}
 use Rattle.opt_tree.specs.declared.command.Reply.{Reply}
 use Rattle.opt_tree.specs.Step.{Session, start}
-use Rattle.opt_tree.specs.Run.{Run}
+use Rattle.opt_tree.specs.Run.{Run, is_of_memory}
 use Rattle.optfs.specs.Lines.{open_line, whole_commands}
 use Rattle.optfs.specs.Output.{IsTrace, IsFront, longest}
 use Rattle.optfs.specs.declared.recording.Stop.{Stop}
@@ -29,20 +29,20 @@ quiet_entries (cmd ∷ cmds) (reply ∷ replies) = entry 0 cmd reply ++ quiet_en
 pub record ServesQuietly (g : Geometry) (cmds : List Cmd) (text : List ℕ) : Type 0 where
   pub replies : List Reply
   pub after : Session
-  pub run : Run (start g.i) cmds replies after
+  pub run : Run is_of_memory (start g.i) cmds replies after
   pub is : text ≡ geometry_line g ++ quiet_entries cmds replies
 
 -- These commands were answered, and the sink took their entries.
 pub record Served (cmds : List Cmd) (old new : Session) (before after : Option (List ℕ)) : Type 0 where
   pub replies : List Reply
-  pub run : Run old cmds replies new
+  pub run : Run is_of_memory old cmds replies new
   pub told : Appends before after (quiet_entries cmds replies)
 
 -- These commands are answered somehow, and the sink took a front of their entries.
 pub record Tried (cmds : List Cmd) (old : Session) (before after : Option (List ℕ)) : Type 0 where
   pub replies : List Reply
   pub new : Session
-  pub run : Run old cmds replies new
+  pub run : Run is_of_memory old cmds replies new
   pub taken : ℕ
   pub told : Appends before after (take taken (quiet_entries cmds replies))
 

@@ -3,23 +3,20 @@ use Rattle.std.specs.Prelude.{◌≡◌, ℕ, ◌^◌, ◌≤◌, ◌⊎◌, Lis
 use Rattle.opt_disk.specs.declared.event.Event.{Event}
 use Rattle.opt_disk.specs.Lawful.{IsLogOf}
 use Rattle.opt_geom.specs.Geometry.{Geometry}
+use Rattle.opt_journal.specs.Formatted.{formatted}
+use Rattle.opt_stands.specs.Stands.{StandsFor}
 use Rattle.opt_trace.specs.Line.{end_line}
-use Rattle.opt_trace.specs.Trace.{trace_front}
+use Rattle.opt_trace.specs.Trace.{Ascend, trace_front}
 use Rattle.opt_tree.specs.declared.command.Cmd.{Cmd}
 use Rattle.opt_tree.specs.declared.command.Reply.{Reply}
 use Rattle.opt_tree.specs.Step.{Session, start}
-use Rattle.opt_tree.specs.Run.{Run}
+use Rattle.opt_tree.specs.Run.{Run, is_of_memory}
 use Rattle.optfs.specs.Lines.{whole_commands, commands_of}
 use Rattle.optfs.specs.Crashes.{IsCrashConsistent}
 use Rattle.optfs.specs.declared.status.Status.{Status}
 use Rattle.optfs.specs.declared.status.Status.TheVariants.{Done, Usage, NoMemory, SourceFault, SinkFault, BadShape, LongInput}
 
--- the marks ascend, from the end of the mount to the last event
-abbrev pub Ascend : ℕ → List ℕ → ℕ → Type 0
-Ascend from [] events = from ≡ events
-Ascend from (mark ∷ marks) events = (from ≤ mark) × Ascend mark marks events
-
--- The text begins the trace of a run of these commands on a disk that was formatted with this geometry: each command is answered in turn by the tree, and every crash leaves a sync point.
+-- The text begins the trace of a run of these commands on a disk that was formatted with this geometry: each command is answered in turn by the tree, or it is out of memory, and every crash leaves a sync point.
 pub record Serves (g : Geometry) (cmds : List Cmd) (text : List ℕ) : Type 0 where
   -- all events of the disk, and how many of them are the mount's
   pub log : List Event
@@ -29,10 +26,11 @@ pub record Serves (g : Geometry) (cmds : List Cmd) (text : List ℕ) : Type 0 wh
   -- for each reply, how many events there were when it came
   pub marks : List ℕ
   pub after : Session
-  pub run : Run (start g.i) cmds replies after
+  pub run : Run is_of_memory (start g.i) cmds replies after
   pub each_marked : length marks ≡ length replies
   pub ascend : Ascend mounted marks (length log)
-  pub consistent : IsCrashConsistent g log mounted cmds replies marks
+  pub begins : StandsFor g.n (formatted g) (start g.i).tree
+  pub consistent : IsCrashConsistent g.n g.i (formatted g) log mounted cmds replies marks
   pub is : text ≡ trace_front g log mounted cmds replies marks
 
 -- the longest line, in bytes

@@ -20,7 +20,7 @@ use opt_disk::Bay;
 use opt_geom::{BadShape, Geom};
 use opt_io::{Sink, SinkFault, Source, push_all};
 use opt_memdisk::MemDisk;
-use opt_stands::the_formatted_disk_stands_for_the_root;
+use opt_stands::{an_image_stands_for_one_tree, the_formatted_disk_stands_for_the_root};
 use opt_trace::{write_end, write_geom};
 use opt_words::{Request, read_words};
 use std::alloc::Global;
@@ -50,6 +50,7 @@ pub fn optfs<S: Source, K: Sink, Y: Bay>(
     ensures bay { bay.new ≡ bay.old }
 {
     the_formatted_disk_stands_for_the_root();
+    an_image_stands_for_one_tree();
     match read_words(alloc, words) {
         Err(NoMemory) => Status::NoMemory,
         Ok(None) => tell(out, USAGE, Status::Usage),
@@ -86,6 +87,7 @@ fn record<S: Source, K: Sink>(alloc: Global, geom: &Geom, input: &mut S, out: &m
 {
     geom.lawful();
     the_formatted_disk_stands_for_the_root();
+    an_image_stands_for_one_tree();
     match record_lines(alloc, geom, input, out) {
         Err(Stop::NoMemory) => Status::NoMemory,
         Err(Stop::SinkFault) => Status::SinkFault,

@@ -1,5 +1,5 @@
 -- Short runs from an empty tree, and small trees, worked out.
-use Rattle.std.proofs.Common.{◌≡◌, ℕ, true, List, [], ◌∷◌, ◌++◌, Some, None, cond, refl, sym, ◌∙◌, inl, length, codes}
+use Rattle.std.proofs.Common.{◌≡◌, ℕ, true, false, List, [], ◌∷◌, ◌++◌, Some, None, cond, refl, sym, ◌∙◌, inl, length, codes}
 use Rattle.std.specs.Cmp.{nat_cmp_total}
 use Rattle.std.specs.Ordering.{eq_by_cmp, nat_cmp}
 use Rattle.std.specs.FinMap.{nat_cmp-IsAntisymmetric, get, insert, remove, empty, entries, put, get-insert, get-empty, entries-insert, len-empty, len-entries}
@@ -68,7 +68,7 @@ link_b = simp (name_at, node_at, no_name, all_names, none_in)
 rename_b : step with_link (Rename a b) ≡ (with_link, Done)
 rename_b = simp (name_at, node_at)
 
-pub one_node : (end : Session) × Run (start 16) (Create a ∷ Link a b ∷ Rename a b ∷ []) (Done ∷ Done ∷ Done ∷ []) end
+pub one_node : (end : Session) × Run (λ why. false) (start 16) (Create a ∷ Link a b ∷ Rename a b ∷ []) (Done ∷ Done ∷ Done ∷ []) end
     × (get end.tree.names a ≡ Some 2) × (get end.tree.names b ≡ Some 2) × (path_count end.tree.names 2 ≡ 2)
 one_node = (with_link, (with_a, inl create_a, (with_link, inl link_b, (with_link, inl rename_b, refl))), simp name_at, simp name_at, simp (all_names, none_in))
 
@@ -86,7 +86,7 @@ write_past = simp (name_at, node_at)
 link_lost : step with_a (Link b a) ≡ (with_a, Refused NotFound)
 link_lost = simp (name_at, node_at, no_name, no_node)
 
-pub first_reasons : (end : Session) × Run (start 16) (Create a ∷ Rmdir [] ∷ Rename [] a ∷ Write (a ++ b) 0 (120 ∷ []) ∷ Link b a ∷ [])
+pub first_reasons : (end : Session) × Run (λ why. false) (start 16) (Create a ∷ Rmdir [] ∷ Rename [] a ∷ Write (a ++ b) 0 (120 ∷ []) ∷ Link b a ∷ [])
     (Done ∷ Refused NotEmpty ∷ Refused NotDir ∷ Refused NotDir ∷ Refused NotFound ∷ []) end
 first_reasons = (with_a, (with_a, inl create_a, (with_a, inl rmdir_root, (with_a, inl rename_root, (with_a, inl write_past, (with_a, inl link_lost, refl))))))
 
@@ -112,7 +112,7 @@ with_moved = changed_to_tree (insert (insert (insert empty (b ++ c) 3) b 2) [] 1
 rename_dir : step with_inner (Rename a b) ≡ (with_moved, Done)
 rename_dir = simp (name_at, node_at, no_name, all_names, none_in)
 
-pub dir_moves : (end : Session) × Run (start 16) (Mkdir a ∷ Create (a ++ c) ∷ Rename a b ∷ []) (Done ∷ Done ∷ Done ∷ []) end
+pub dir_moves : (end : Session) × Run (λ why. false) (start 16) (Mkdir a ∷ Create (a ++ c) ∷ Rename a b ∷ []) (Done ∷ Done ∷ Done ∷ []) end
     × (get end.tree.names b ≡ Some 2) × (get end.tree.names (b ++ c) ≡ Some 3) × (get end.tree.names a ≡ None) × (get end.tree.names (a ++ c) ≡ None)
 dir_moves = (with_moved, (with_dir, inl make_a, (with_inner, inl create_inner, (with_moved, inl rename_dir, refl))), simp name_at, simp name_at, simp (name_at, no_name), simp (name_at, no_name))
 
@@ -144,7 +144,7 @@ make_c : step with_one (Mkdir c) ≡ (with_next, Done)
 unfolding least_unused
 make_c = simp (name_at, node_at, no_name, no_node)
 
-pub onto_file : (end : Session) × Run (start 16) (Create a ∷ Create b ∷ Rename a b ∷ Mkdir c ∷ []) (Done ∷ Done ∷ Done ∷ Done ∷ []) end
+pub onto_file : (end : Session) × Run (λ why. false) (start 16) (Create a ∷ Create b ∷ Rename a b ∷ Mkdir c ∷ []) (Done ∷ Done ∷ Done ∷ Done ∷ []) end
     × (get end.tree.names a ≡ None) × (get end.tree.names b ≡ Some 2) × (get end.tree.names c ≡ Some 3)
 onto_file = (with_next, (with_a, inl create_a, (with_two, inl create_b, (with_one, inl rename_onto, (with_next, inl make_c, refl)))), simp (name_at, no_name), simp name_at, simp name_at)
 

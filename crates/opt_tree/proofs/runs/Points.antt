@@ -49,9 +49,9 @@ told : (old new : Session) (cmd : Cmd) (t : Bool) → (step old cmd).0 ≡ new �
 told old new cmd true p left = sym p ∙ left refl
 told old new cmd false p left = sym p
 
-pub answer_tells : (old new : Session) (cmd : Cmd) (reply : Reply) → Answers old cmd reply new → new ≡ after_reply old cmd reply
-answer_tells old new cmd reply (inl is) =
+pub answer_tells : (outside : Refusal → Bool) (old new : Session) (cmd : Cmd) (reply : Reply) → Answers outside old cmd reply new → new ≡ after_reply old cmd reply
+answer_tells outside old new cmd reply (inl is) =
     told old new cmd (is_refusal reply) (ap (λ a. a.0) is) (λ e. step_left old cmd (ap (λ a. is_refusal a.1) is ∙ e))
-answer_tells old new cmd reply (inr h) =
+answer_tells outside old new cmd reply (inr h) =
     let P : Reply → Type 0 = λ r. new ≡ after_reply old cmd r in
-    subst P (sym h.0) h.1
+    subst P (sym h.2) h.3

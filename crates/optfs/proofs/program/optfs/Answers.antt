@@ -1,10 +1,11 @@
 -- Each request is done, or refused by its line.
 use Rattle.std.proofs.Common.{refl, sym, ◌∙◌}
+use Rattle.optfs.proofs.Quiet.{begins_empty}
 use Rattle.optfs.proofs.Requests.{does_memory, does_usage, does_shape, not_fitting}
 use Rattle.optfs.proofs.program.optfs.Goals as goal
 
 pub returns-in-Err-clause-does : goal.returns-in-Err-clause-does
-returns-in-Err-clause-does g c = does_memory _ _ _ _ _ (λ geom fits img. c.the_formatted_disk_stands_for_the_root.ensures.alike geom img fits)
+returns-in-Err-clause-does g c = does_memory _ _ _ _ _ (begins_empty c.the_formatted_disk_stands_for_the_root.ensures.alike c.an_image_stands_for_one_tree.ensures.image)
 
 pub returns-in-Ok-None-clause-does : goal.returns-in-Ok-None-clause-does
 returns-in-Ok-None-clause-does g c =
