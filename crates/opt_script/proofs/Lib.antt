@@ -1,3 +1,4 @@
 pub mod Steps
 pub mod RoundTrip
 pub mod Lawful
+pub mod OneText

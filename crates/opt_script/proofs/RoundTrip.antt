@@ -38,19 +38,19 @@ split_at c xs ys h = slice_split_at (λ b. b == c) xs c ys (lacks c xs h) (searc
 split_none : (c : ℕ) (xs : List ℕ) → list_all (other c) xs ≡ true → slice_split (λ b. b == c) xs ≡ xs ∷ []
 split_none c xs h = slice_split_none (λ b. b == c) xs (lacks c xs h)
 
-weaker : (p q : ℕ → Bool) → ((b : ℕ) → p b ≡ true → q b ≡ true) → (xs : List ℕ) → list_all p xs ≡ true → list_all q xs ≡ true
+pub weaker : (p q : ℕ → Bool) → ((b : ℕ) → p b ≡ true → q b ≡ true) → (xs : List ℕ) → list_all p xs ≡ true → list_all q xs ≡ true
 weaker p q more [] h = refl
 weaker p q more (x ∷ xs) h =
     let parts = and_parts (p x) (list_all p xs) h in
     rw (more x parts.0) (weaker p q more xs parts.1)
 
-both : (p : ℕ → Bool) (xs ys : List ℕ) → list_all p xs ≡ true → list_all p ys ≡ true → list_all p (xs ++ ys) ≡ true
+pub both : (p : ℕ → Bool) (xs ys : List ℕ) → list_all p xs ≡ true → list_all p ys ≡ true → list_all p (xs ++ ys) ≡ true
 both p [] ys h k = k
 both p (x ∷ xs) ys h k =
     let parts = and_parts (p x) (list_all p xs) h in
     rw parts.0 (both p xs ys parts.1 k)
 
-at : (p : ℕ → Bool) (xs : List ℕ) (i : ℕ) → p 0 ≡ true → list_all p xs ≡ true → p (slice_index xs i) ≡ true
+pub at : (p : ℕ → Bool) (xs : List ℕ) (i : ℕ) → p 0 ≡ true → list_all p xs ≡ true → p (slice_index xs i) ≡ true
 at p [] i h k = h
 at p (x ∷ xs) zero h k = (and_parts (p x) (list_all p xs) k).0
 at p (x ∷ xs) (suc i) h k = at p xs i h (and_parts (p x) (list_all p xs) k).1
@@ -77,7 +77,7 @@ digits_lack [] = refl
 digits_lack (b ∷ bytes) =
     rw (at (other 32) lower_digits (b / 16) refl refl) (rw (at (other 32) lower_digits (b % 16) refl refl) (digits_lack bytes))
 
-bytes_of-encode_lower : (b : ℕ) (bytes : List ℕ) → list_all (λ b. nat_lt b 256) (b ∷ bytes) ≡ true
+pub bytes_of-encode_lower : (b : ℕ) (bytes : List ℕ) → list_all (λ b. nat_lt b 256) (b ∷ bytes) ≡ true
     → bytes_of (encode_lower (b ∷ bytes)) ≡ Some (b ∷ bytes)
 bytes_of-encode_lower b bytes h =
     ap some_bytes (decode_of-encode_lower (b ∷ bytes) (λ i. (Decides-ltb (slice_index (b ∷ bytes) i) 256).0 (at (λ b. nat_lt b 256) (b ∷ bytes) i refl h)))
@@ -90,7 +90,7 @@ no_slash b h = grind (arith, tests)
 no_blank : (b : ℕ) → is_name_byte b ≡ true → other 32 b ≡ true
 no_blank b h = grind (arith, tests)
 
-name_bytes : (name : List ℕ) → is_name name ≡ true → list_all is_name_byte name ≡ true
+pub name_bytes : (name : List ℕ) → is_name name ≡ true → list_all is_name_byte name ≡ true
 name_bytes name h =
     let first = and_parts (nat_lt 0 (length name)) _ h in
     let second = and_parts (nat_le (length name) 59) _ first.1 in

@@ -4,11 +4,13 @@
 #![tactic(auto)]
 
 mod arguments;
+mod laws;
 mod parse;
 mod pieces;
 mod replies;
 mod text;
 
+pub use laws::a_text_is_of_one_value;
 pub use parse::parse_line;
 pub use replies::reply_text;
 pub use text::cmd_text;

@@ -1,5 +1,5 @@
 -- The text of a whole trace. It is described in docs/TRACE.md.
-use Rattle.std.specs.Prelude.{ℕ, ◌-◌, List, [], ◌∷◌, ◌++◌, take, drop}
+use Rattle.std.specs.Prelude.{◌≡◌, ℕ, ◌-◌, ◌≤◌, List, [], ◌∷◌, ◌++◌, take, drop}
 use Rattle.opt_geom.specs.Geometry.{Geometry}
 use Rattle.opt_disk.specs.declared.event.Event.{Event}
 use Rattle.opt_tree.specs.declared.command.Cmd.{Cmd}
@@ -26,6 +26,11 @@ entries log before (cmd ∷ cmds) (reply ∷ replies) (mark ∷ marks) =
 -- the geometry, the mount's events, and the entries: all but the end
 abbrev pub trace_front : Geometry → List Event → ℕ → List Cmd → List Reply → List ℕ → List ℕ
 trace_front g log mounted cmds replies marks = geometry_line g ++ event_lines (take mounted log) ++ entries log mounted cmds replies marks
+
+-- the marks ascend, from the end of the mount to the last event
+abbrev pub Ascend : ℕ → List ℕ → ℕ → Type 0
+Ascend from [] events = from ≡ events
+Ascend from (mark ∷ marks) events = (from ≤ mark) × Ascend mark marks events
 
 -- the whole trace of a run
 abbrev pub trace_text : Geometry → List Event → ℕ → List Cmd → List Reply → List ℕ → List ℕ

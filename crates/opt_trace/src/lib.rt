@@ -3,9 +3,11 @@
 //! the lines come but by the definition of a whole trace. The rules are described in docs/TRACE.md.
 #![tactic(auto)]
 
+mod laws;
 mod line;
 #[cfg(test)]
 mod tests;
 mod write;
 
+pub use laws::a_text_has_one_contents;
 pub use write::{write_command, write_end, write_event, write_geom, write_reply};

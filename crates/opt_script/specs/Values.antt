@@ -1,0 +1,35 @@
+-- Which commands a script may have, and which replies their types allow. Each of them is written in a text of its own.
+use Rattle.std.specs.Prelude.{◌≡◌, ◌⊎◌, ℕ, ◌<◌, ◌^◌, Bool, true, nat_lt, List}
+use Rattle.std.specs.List.{list_all}
+use Rattle.opt_base.specs.Name.{is_name}
+use Rattle.opt_tree.specs.declared.command.Cmd.{Cmd}
+use Rattle.opt_tree.specs.declared.command.Cmd.TheVariants.{Bad}
+use Rattle.opt_tree.specs.declared.command.Reply.{Reply}
+use Rattle.opt_tree.specs.declared.command.Reply.TheVariants.{Bytes, Stat as StatReply, Names, Synced, Refused}
+use Rattle.opt_tree.specs.declared.command.Refusal.{Refusal}
+use Rattle.opt_tree.specs.declared.command.Refusal.TheVariants.{Full, TooBig, Scattered}
+use Rattle.opt_script.specs.Grammar.{is_in_grammar}
+
+-- a command that a line may be
+abbrev pub IsCommand : Cmd → Type 0
+IsCommand cmd = (cmd ≡ Bad) ⊎ (is_in_grammar cmd ≡ true)
+
+-- the figures of a refusal have 64 bits
+abbrev pub HasFigures : Refusal → Type 0
+HasFigures (Full need left) = (need < 2 ^ 64) × (left < 2 ^ 64)
+HasFigures (TooBig weight cost room) = (weight < 2 ^ 64) × (cost < 2 ^ 64) × (room < 2 ^ 64)
+HasFigures (Scattered runs) = runs < 2 ^ 64
+HasFigures _ = Unit {0}
+
+-- a reply whose numbers have 64 bits, whose bytes are below 256 and whose names are lawful
+abbrev pub IsReply : Reply → Type 0
+IsReply (Bytes bytes) = list_all (λ b. nat_lt b 256) bytes ≡ true
+IsReply (StatReply stat) = (stat.number < 2 ^ 64) × (stat.size < 2 ^ 64) × (stat.links < 2 ^ 64)
+IsReply (Names names) = list_all is_name names ≡ true
+IsReply (Synced point) = point < 2 ^ 64
+IsReply (Refused why) = HasFigures why
+IsReply _ = Unit {0}
+
+-- a text without a line feed: each of its bytes is above it
+abbrev pub has_no_feed : List ℕ → Bool
+has_no_feed text = list_all (λ b. nat_lt 10 b) text

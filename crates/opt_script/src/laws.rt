@@ -1,0 +1,16 @@
+//! Laws of the texts: one text is that of one command or reply, and a line feed is in none. They run nothing.
+
+ghost use Rattle.std.specs.Prelude.{◌≡◌, true};
+ghost use Rattle.opt_tree.specs.declared.command.Cmd.{Cmd};
+ghost use Rattle.opt_tree.specs.declared.command.Reply.{Reply};
+ghost use Rattle.opt_script.specs.Text.{command_text, text_of_reply};
+ghost use Rattle.opt_script.specs.Values.{IsCommand, IsReply, has_no_feed};
+
+/// Two commands of a script that have one text are the same, and so are two replies. None of these texts
+/// has a line feed.
+pub fn a_text_is_of_one_value()
+    ensures command { (cmd other : Cmd) → IsCommand cmd → IsCommand other → command_text cmd ≡ command_text other → cmd ≡ other }
+    ensures reply { (reply other : Reply) → IsReply reply → IsReply other → text_of_reply reply ≡ text_of_reply other → reply ≡ other }
+    ensures command_line { (cmd : Cmd) → IsCommand cmd → has_no_feed (command_text cmd) ≡ true }
+    ensures reply_line { (reply : Reply) → IsReply reply → has_no_feed (text_of_reply reply) ≡ true }
+{}
