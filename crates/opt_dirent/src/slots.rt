@@ -49,7 +49,8 @@ impl Slots {
 
     /// How many slots.
     pub fn len(&self) -> usize
-        ensures { result ≡ length self.now }
+        ensures count { result ≡ length self.now }
+        ensures few { result ≤ 16 }
     {
         self.slots.len()
     }
