@@ -1,7 +1,7 @@
 //! Lists of block numbers: `Places` one by one, and `RunList` as at most 28 runs of neighbours. Which
 //! blocks a list may have is described by the crates that keep them.
 
-ghost use Rattle.std.specs.Prelude.{◌≡◌, ◌<◌, ◌++◌, ℕ, [], ◌∷◌, List, length, IfNone, OnOk, OnErr};
+ghost use Rattle.std.specs.Prelude.{◌≡◌, ◌<◌, ◌≤◌, ◌==◌, ◌++◌, ℕ, [], ◌∷◌, List, length, IfNone, OnOk, OnErr};
 ghost use Rattle.std.specs.Option.{option_to_list};
 ghost use Rattle.opt_base.specs.declared.places.Run.{Run};
 
@@ -59,6 +59,20 @@ impl Places {
         self.numbers.clear();
     }
 
+    /// How many numbers.
+    pub fn len(&self) -> usize
+        ensures { result ≡ length self.now }
+    {
+        self.numbers.len()
+    }
+
+    /// Whether there are none.
+    pub fn is_empty(&self) -> bool
+        ensures { result ≡ (length self.now == 0) }
+    {
+        self.numbers.is_empty()
+    }
+
     /// The numbers in order.
     pub fn as_slice(&self) -> &[u32]
         ensures { result.now ≡ self.now }
@@ -76,7 +90,7 @@ pub struct Run {
 
 /// At most 28 runs, as a node has them, which contracts see as their list. It lies in the value itself,
 /// so it takes no memory.
-#[derive(Debug, PartialEq, Eq, Drop)]
+#[derive(Clone, Debug, PartialEq, Eq, Drop)]
 pub struct RunList {
     runs: ArrayVec<Run, MOST_RUNS>,
 }
@@ -121,10 +135,24 @@ impl RunList {
         self.runs.pop()
     }
 
+    /// How many runs.
+    pub fn len(&self) -> usize
+        ensures { result ≡ length self.now }
+    {
+        self.runs.len()
+    }
+
+    /// Whether there are none.
+    pub fn is_empty(&self) -> bool
+        ensures { result ≡ (length self.now == 0) }
+    {
+        self.runs.is_empty()
+    }
+
     /// The runs in order.
     pub fn as_slice(&self) -> &[Run]
         ensures value { result.now ≡ self.now }
-        ensures short { length result.now < 29 }
+        ensures few { length result.now ≤ 28 }
     {
         self.runs.as_slice()
     }

@@ -87,13 +87,16 @@ fn a_flipped_bit_breaks_the_seal(rt: HostRuntime) {
 #[test]
 fn places_are_kept_in_order(rt: HostRuntime) -> Result<(), Fail> {
     let mut places = Places::new(rt.alloc());
-    assert!(rt; places.as_slice().is_empty());
+    assert!(rt; places.is_empty());
     places.push(5)?;
     places.push(0)?;
     places.push(4_294_967_295)?;
+    assert_eq!(rt; places.len(), 3);
+    assert!(rt; !places.is_empty());
     assert_eq!(rt; places.as_slice(), [5, 0, 4_294_967_295].as_slice());
     places.clear();
-    assert!(rt; places.as_slice().is_empty());
+    assert!(rt; places.is_empty());
+    assert_eq!(rt; places.len(), 0);
     places.push(9)?;
     assert_eq!(rt; places.as_slice(), [9].as_slice());
     Ok(())
@@ -102,11 +105,11 @@ fn places_are_kept_in_order(rt: HostRuntime) -> Result<(), Fail> {
 #[test]
 fn a_list_has_room_for_28_runs(rt: HostRuntime) {
     let mut runs = RunList::new();
-    assert!(rt; runs.as_slice().is_empty());
+    assert!(rt; runs.is_empty());
     for first in 0u32..28 {
         runs.push(Run { first, count: 1 });
     }
-    assert_eq!(rt; runs.as_slice().len(), 28);
+    assert_eq!(rt; runs.len(), 28);
     assert!(rt; runs.as_slice()[0] == Run { first: 0, count: 1 });
     assert!(rt;
         runs.as_slice()[27]
@@ -124,9 +127,23 @@ fn the_last_run_is_taken_out(rt: HostRuntime) {
     runs.push(Run { first: 3, count: 2 });
     runs.push(Run { first: 9, count: 1 });
     assert!(rt; runs.pop() == Some(Run { first: 9, count: 1 }));
-    assert_eq!(rt; runs.as_slice().len(), 1);
+    assert_eq!(rt; runs.len(), 1);
+    assert!(rt; !runs.is_empty());
     assert!(rt; runs.pop() == Some(Run { first: 3, count: 2 }));
-    assert!(rt; runs.as_slice().is_empty());
+    assert!(rt; runs.is_empty());
+}
+
+#[test]
+fn a_clone_of_runs_goes_its_own_way(rt: HostRuntime) -> Result<(), Fail> {
+    let mut runs = RunList::new();
+    runs.push(Run { first: 3, count: 2 });
+    let clone = runs.clone()?;
+    assert!(rt; clone == runs);
+    runs.push(Run { first: 9, count: 1 });
+    assert!(rt; clone != runs);
+    assert_eq!(rt; clone.len(), 1);
+    assert!(rt; clone.as_slice()[0] == Run { first: 3, count: 2 });
+    Ok(())
 }
 
 #[test]

@@ -8,6 +8,7 @@ use Rattle.opt_disk.specs.declared.bay.BayFault.TheVariants.{Fault, NoMemory}
 use Rattle.opt_disk.specs.Cell.{accepted}
 use Rattle.opt_base.specs.Counts.{next_count}
 use Rattle.opt_disk.specs.Disk.{State}
+use Rattle.opt_disk.specs.Lawful.{IsBlock, IsLogOf}
 
 -- what is under one name: the image that its next disk begins with; and of the disk that was handed back last its base, log and counts of faults, with the marks that came along
 pub record Kept : Type 0 where
@@ -25,6 +26,12 @@ pub record BayState : Type 0 where
   pub handed : ℕ
   pub closed : ℕ
   pub kept : List ℕ → Option Kept
+
+-- what is kept is sound: each block of the image and of the base has the bytes of a block, and the log is one of a disk of so many blocks
+pub record IsSoundKept (kept : Kept) : Type 0 where
+  pub image : (b : ℕ) → b < length kept.image → IsBlock (blocks_of kept.image b)
+  pub base : (b : ℕ) → b < length kept.image → IsBlock (kept.base b)
+  pub log : IsLogOf (length kept.image) kept.log
 
 -- so many blocks of zeros
 abbrev pub zero_blocks : ℕ → List (List ℕ)

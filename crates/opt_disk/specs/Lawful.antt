@@ -4,7 +4,7 @@ use Rattle.std.specs.Prelude.{◌≡◌, ◌⊎◌, ℕ, ◌<◌, ◌≤◌, ◌
 use Rattle.opt_disk.specs.declared.event.Event.{Event}
 use Rattle.opt_disk.specs.declared.event.Event.TheVariants.{Wrote, Lost, Noticed}
 use Rattle.opt_disk.specs.Cell.{Write, greatest_ticket, IsNoticed}
-use Rattle.opt_disk.specs.Disk.{IsOpen}
+use Rattle.opt_disk.specs.Disk.{State, IsOpen}
 
 -- an event that may come behind these: an accepted write has a ticket above all earlier ones, and a notification is of an open ticket
 abbrev pub MayCome : List Event → Event → Type 0
@@ -41,6 +41,11 @@ AreEventsOf n (e ∷ es) = IsEventOf n e × AreEventsOf n es
 pub record IsLogOf (n : ℕ) (log : List Event) : Type 0 where
   pub lawful : IsLawful log
   pub events : AreEventsOf n log
+
+-- a sound disk: each block had the bytes of a block when the disk began, and the log is one of a disk of so many blocks
+pub record IsSoundDisk (s : State) : Type 0 where
+  pub blocks : (b : ℕ) → b < s.blocks → IsBlock (s.base b)
+  pub log : IsLogOf s.blocks s.log
 
 -- the writes to a block, accepted and lost, the oldest first
 abbrev pub writes_to : ℕ → List Event → List Write

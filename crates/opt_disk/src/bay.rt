@@ -1,8 +1,8 @@
 //! Where disks come from and where they go back to: a bay hands them out and takes them back, each
 //! under a name, and keeps what they leave. It reads and writes no block.
 
-ghost use Rattle.std.specs.Prelude.{ℕ, Bool, IsTrue};
-ghost use Rattle.opt_disk.specs.Bay.{BayState, Makes, Opens, Closes};
+ghost use Rattle.std.specs.Prelude.{ℕ, List, Bool, IsTrue, IfSome};
+ghost use Rattle.opt_disk.specs.Bay.{BayState, IsSoundKept, Makes, Opens, Closes};
 
 use crate::Disk;
 use std::error::Error;
@@ -52,6 +52,11 @@ pub trait Bay {
 
     /// What is known of the bay.
     ghost state: { Self → BayState };
+
+    /// Does nothing. A proof learns from the call that what is kept has blocks of 1,024 bytes, and
+    /// lawful logs.
+    fn lawful(&self)
+        ensures { IsTrue tells → (name : List ℕ) → IfSome ((state self.now).kept name) (λ kept. IsSoundKept kept) };
 
     /// A disk of so many blocks of zeros, which replace what stood under the name.
     ///

@@ -4,6 +4,7 @@
 
 ghost use Rattle.std.specs.Prelude.{◌≡◌, ◌<◌, ℕ, Bool, length, IsTrue, OnOk, is_err};
 ghost use Rattle.opt_disk.specs.Cell.{IsNoticed};
+ghost use Rattle.opt_disk.specs.Lawful.{IsSoundDisk};
 ghost use Rattle.opt_disk.specs.Disk.{State, Reads, AddsWrite, AddsPoll, AddsNotices, OnlyReads, OnlyWrites, OnlyPolls, OnlyWaits};
 
 use opt_base::Block;
@@ -33,6 +34,11 @@ pub trait Disk {
 
     /// What is known of the disk.
     ghost state: { Self → State };
+
+    /// Does nothing. A proof learns from the call that blocks have 1,024 bytes, in the base and in each
+    /// write, and that the log is a lawful one of so many blocks.
+    fn lawful(&self)
+        ensures { IsTrue tells → IsSoundDisk (state self.now) };
 
     /// The number of blocks, which never changes.
     fn blocks(&self) -> u32

@@ -11,7 +11,7 @@ mod laws;
 mod ordered;
 
 pub use bay::{Bay, BayFault, Mark};
-pub use boxed::BoxedBlock;
+pub use boxed::{BoxedBlock, a_block_has_its_bytes};
 pub use disk::{Disk, DiskFault};
 pub use event::Event;
 pub use laws::{

@@ -1,10 +1,10 @@
 -- What the log of a disk in memory is as a list of events, and what its rows keep of that list.
-use Rattle.std.specs.Prelude.{◌≡◌, ℕ, ◌+◌, ◌*◌, ◌≤◌, ◌<◌, Bool, not, if◌then◌else◌, List, [], ◌∷◌, length}
+use Rattle.std.specs.Prelude.{◌≡◌, ℕ, ◌+◌, ◌*◌, ◌^◌, ◌≤◌, ◌<◌, Bool, not, if◌then◌else◌, List, [], ◌∷◌, length}
 use Rattle.std.specs.List.{filter}
 use Rattle.opt_disk.specs.declared.event.Event.{Event}
 use Rattle.opt_disk.specs.declared.event.Event.TheVariants.{Wrote, Lost, Noticed}
 use Rattle.opt_disk.specs.Cell.{greatest_ticket, is_noticed}
-use Rattle.opt_disk.specs.Lawful.{IsLawful}
+use Rattle.opt_disk.specs.Lawful.{IsLawful, AreEventsOf}
 use Rattle.opt_ranks.specs.Ranks.{RanksState}
 
 -- a log: its events, how many writes it has room for, accepted and lost, and how many boxes are ready for their bytes
@@ -63,9 +63,10 @@ AreWithin n (Wrote ticket block bytes ∷ es) = block < n × AreWithin n es
 AreWithin n (Lost block bytes ∷ es) = block < n × AreWithin n es
 AreWithin n (Noticed ticket ∷ es) = AreWithin n es
 
--- the rows fit one another and the events, and each has room for what may come
+-- each event is one of some disk, the rows fit one another and the events, and each has room for what may come
 pub record IsKept (events : List Event) (row places lost : List ℕ) (ranks : RanksState) (room boxes most_events most_tickets most_places most_lost : ℕ) : Type 0 where
   pub lawful : IsLawful events
+  pub whole : AreEventsOf (2 ^ 32) events
   pub next : 0 < boxes → greatest_ticket events ≡ length row
   pub few : write_count events + boxes ≤ room
   pub short : room < 4294967296

@@ -54,6 +54,8 @@ impl Bay for MemBay {
 
     ghost state = { λ m. bay_of m };
 
+    fn lawful(&self) {}
+
     fn make(&mut self, name: &str, blocks: u32) -> Result<MemDisk, BayFault>
         ensures makes { Makes true (λ disk. state_of disk) name.now blocks result (bay_of self.old) (bay_of self.new) }
         ensures exact { result ≡ Err Fault }

@@ -282,6 +282,12 @@ impl Disk for MemDisk {
 
     ghost state = { λ d. state_of d };
 
+    fn lawful(&self) {
+        // calls for their clauses alone: what the events are, and what the blocks are
+        let _ = self.log.events();
+        let _ = self.base.as_slice();
+    }
+
     fn blocks(&self) -> u32
         ensures { result ≡ length self.now.base }
     {

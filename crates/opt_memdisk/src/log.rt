@@ -3,13 +3,13 @@
 //! events that may come, are made ready at the start: no event takes memory. What blocks there are is not
 //! its matter.
 
-ghost use Rattle.std.specs.Prelude.{◌≡◌, ◌<◌, ◌≤◌, ◌+◌, ◌-◌, ◌++◌, ℕ, [], ◌∷◌, false, length, nat_lt, Option, Some, IfSome, IfNone, IfOk};
+ghost use Rattle.std.specs.Prelude.{◌≡◌, ◌<◌, ◌≤◌, ◌+◌, ◌-◌, ◌^◌, ◌++◌, ℕ, [], ◌∷◌, false, length, nat_lt, Option, Some, IfSome, IfNone, IfOk};
 ghost use Rattle.std.specs.List.{slice_get};
 ghost use Rattle.std.specs.List.Sorted.{IsNonDecreasing};
 ghost use Rattle.opt_disk.specs.declared.event.Event.TheVariants.{Wrote, Lost, Noticed};
 ghost use Rattle.opt_disk.specs.Cell.{greatest_ticket, is_accepted, is_noticed, IsAccepted};
 ghost use Rattle.opt_disk.specs.Disk.{IsOpen};
-ghost use Rattle.opt_disk.specs.Lawful.{MayCome, IsLawful};
+ghost use Rattle.opt_disk.specs.Lawful.{MayCome, IsLawful, AreEventsOf};
 ghost use Rattle.opt_memdisk.specs.Log.{tickets, open_tickets, write_count, writes_in};
 ghost use Rattle.opt_memdisk.specs.Settled.{name_at};
 
@@ -122,6 +122,7 @@ impl Log {
     pub(crate) fn events(&self) -> &[Event]
         ensures value { result.now ≡ self.now.events }
         ensures lawful { IsLawful self.now.events }
+        ensures whole { AreEventsOf (2 ^ 32) self.now.events }
     {
         self.events.as_slice()
     }
@@ -273,6 +274,8 @@ impl Log {
         requires room { write_count self.old.events + 1 + self.old.boxes ≤ self.old.room }
         ensures { self.new ≡ record self.old { events = self.old.events ++ Wrote ticket block bytes ∷ [] } }
     {
+        // a call for its clause alone: the box has the bytes of a block
+        bytes.lawful();
         self.tickets.push(ticket).unwrap();
         self.places.push(self.events.len()).unwrap();
         self.unnoticed.join();
@@ -289,6 +292,8 @@ impl Log {
         requires { write_count self.old.events + 1 + self.old.boxes ≤ self.old.room }
         ensures { self.new ≡ record self.old { events = self.old.events ++ Lost block bytes ∷ [] } }
     {
+        // a call for its clause alone: the box has the bytes of a block
+        bytes.lawful();
         self.lost.push(self.events.len()).unwrap();
         self.events.push(Event::Lost { block, bytes }).unwrap();
     }

@@ -7,7 +7,7 @@ ghost use Rattle.opt_journal.specs.Run.{heads, places};
 use opt_base::NoMemory;
 use opt_geom::Geom;
 use opt_journal::{Entry, MOST_ENTRIES};
-use std::alloc::Global;
+use std::alloc::{AllocError, Global};
 use std::marker::Model;
 
 /// A record of the journal: its number, the ring place at which it begins, and its entries.
@@ -104,6 +104,53 @@ impl Record {
     }
 }
 
+/// Equal records have the same number, place and entries.
+impl PartialEq for Record {
+    ghost use Rattle.std.specs.Prelude.{◌==◌};
+    ghost use Rattle.std.specs.Ordering.{on, eq_of_both};
+    ghost use Rattle.std.specs.Cmp.{partial_equiv_from_equiv, and_equiv, on_equiv, nat_eq_equiv};
+    ghost use Rattle.std.specs.Cmp.Lexicographic.{pointwise, lists_equiv};
+    ghost use Rattle.opt_journal.specs.contracts.entry.EntryPartialEq.TheImpl as entry;
+    ghost use Rattle.opt_journal.specs.contracts.entry.EntryEq.TheImpl.Laws as entry_laws;
+
+    ghost eq = { eq_of_both (eq_of_both (eq_of_both (on (λ r. r.number) ◌==◌) (on (λ r. r.place) ◌==◌)) (on (λ r. r.payloads) (pointwise entry.ghosts.eq))) (on (λ r. r.fresh) (pointwise entry.ghosts.eq)) };
+
+    ghost laws = { partial_equiv_from_equiv (and_equiv (and_equiv (and_equiv (on_equiv (λ r. r.number) nat_eq_equiv) (on_equiv (λ r. r.place) nat_eq_equiv)) (on_equiv (λ r. r.payloads) (lists_equiv entry_laws.laws-law))) (on_equiv (λ r. r.fresh) (lists_equiv entry_laws.laws-law))) };
+
+    fn eq(&self, other: &Record) -> bool {
+        self.number == other.number
+            && self.place == other.place
+            && self.payloads.as_slice() == other.payloads.as_slice()
+            && self.fresh.as_slice() == other.fresh.as_slice()
+    }
+}
+
+impl Eq for Record {
+    ghost use Rattle.std.specs.Cmp.{and_equiv, on_equiv, nat_eq_equiv};
+    ghost use Rattle.std.specs.Cmp.Lexicographic.{lists_equiv};
+    ghost use Rattle.opt_journal.specs.contracts.entry.EntryEq.TheImpl.Laws as entry_laws;
+
+    ghost laws = { and_equiv (and_equiv (and_equiv (on_equiv (λ r. r.number) nat_eq_equiv) (on_equiv (λ r. r.place) nat_eq_equiv)) (on_equiv (λ r. r.payloads) (lists_equiv entry_laws.laws-law))) (on_equiv (λ r. r.fresh) (lists_equiv entry_laws.laws-law)) };
+}
+
+/// A clone is the same record.
+impl Clone for Record {
+    ghost use Rattle.std.specs.Prelude.{◌≡◌};
+
+    ghost is_clone = { λ found clone. clone ≡ found };
+
+    fn clone(&self) -> Result<Record, AllocError> {
+        let payloads = self.payloads.clone()?;
+        let fresh = self.fresh.clone()?;
+        Ok(Record {
+            number: self.number,
+            place: self.place,
+            payloads,
+            fresh,
+        })
+    }
+}
+
 /// Records in the order of their numbers.
 #[derive(Debug, Drop)]
 pub struct RecordList {
@@ -159,5 +206,40 @@ impl RecordList {
         ensures { result ≡ (length self.now == 0) }
     {
         self.records.is_empty()
+    }
+}
+
+/// Equal lists have the same records.
+impl PartialEq for RecordList {
+    ghost use Rattle.std.specs.Cmp.{partial_equiv_from_equiv};
+    ghost use Rattle.std.specs.Cmp.Lexicographic.{pointwise, lists_equiv};
+    ghost use Rattle.opt_record.specs.contracts.record.RecordPartialEq.TheImpl as one;
+    ghost use Rattle.opt_record.specs.contracts.record.RecordEq.TheImpl.Laws as one_laws;
+
+    ghost eq = { λ left right. pointwise one.ghosts.eq left right };
+
+    ghost laws = { partial_equiv_from_equiv (lists_equiv one_laws.laws-law) };
+
+    fn eq(&self, other: &RecordList) -> bool {
+        self.records.as_slice() == other.records.as_slice()
+    }
+}
+
+impl Eq for RecordList {
+    ghost use Rattle.std.specs.Cmp.Lexicographic.{lists_equiv};
+    ghost use Rattle.opt_record.specs.contracts.record.RecordEq.TheImpl.Laws as one_laws;
+
+    ghost laws = { lists_equiv one_laws.laws-law };
+}
+
+/// A clone has the same records.
+impl Clone for RecordList {
+    ghost use Rattle.std.specs.Prelude.{◌≡◌};
+
+    ghost is_clone = { λ list clone. clone ≡ list };
+
+    fn clone(&self) -> Result<RecordList, AllocError> {
+        let records = self.records.clone()?;
+        Ok(RecordList { records })
     }
 }

@@ -34,4 +34,4 @@ pub left_is_image : ((base : Blocks) (log : List Event) (b : ℕ) → IsLawful l
     → IsImage n base (take moment log) (blocks_of image)
 left_is_image cells n base log moment c image lawful left blocks =
     let first : IsLawful (take moment log) = lawful_taken log moment lawful in
-    chosen_is_image n base (take moment log) c (blocks_of image) (λ b. cells base (take moment log) b first) left.each (λ b within. blocks.whole b (omega (arith, within, left.count)))
+    chosen_is_image n base (take moment log) c (blocks_of image) (λ b. cells base (take moment log) b first) left.each (λ b within. (blocks.whole b (omega (arith, within, left.count))).length)

@@ -1,5 +1,5 @@
 -- The rows of a log fit it after one more event, and have room for it.
-use Rattle.std.proofs.Common.{◌≡◌, ℕ, ◌+◌, ◌-◌, ◌<◌, ◌≤◌, ◌==◌, ◌||◌, Bool, true, false, not, List, [], ◌∷◌, ◌++◌, length, Some, refl, sym, ap, ap₂, ◌∙◌, arith, append-nil, length-append}
+use Rattle.std.proofs.Common.{◌≡◌, ℕ, ◌+◌, ◌-◌, ◌^◌, ◌<◌, ◌≤◌, ◌==◌, ◌||◌, Bool, true, false, not, List, [], ◌∷◌, ◌++◌, length, Some, refl, sym, ap, ap₂, ◌∙◌, arith, append-nil, length-append}
 use Rattle.std.proofs.Math.Bool.{or-false}
 use Rattle.std.proofs.lemmas.Bool.{false_from_ne_true, ne_eqb}
 use Rattle.std.specs.List.{filter, slice_get}
@@ -7,11 +7,12 @@ use Rattle.opt_disk.specs.declared.event.Event.{Event}
 use Rattle.opt_disk.specs.declared.event.Event.TheVariants.{Wrote, Lost, Noticed}
 use Rattle.opt_disk.specs.Cell.{greatest_ticket, is_noticed}
 use Rattle.opt_disk.specs.Disk.{IsOpen}
+use Rattle.opt_disk.specs.Lawful.{IsEventOf}
 use Rattle.opt_ranks.specs.Ranks.{RanksState, with_next, without}
 use Rattle.opt_memdisk.specs.Log.{IsKept, tickets, write_count, accepted_places, lost_places, numbers_of}
 use Rattle.opt_memdisk.proofs.log_rows.AddNumbers.{numbers_of_more, numbers_of_same, numbers_without, one_less}
 use Rattle.opt_memdisk.proofs.log_rows.AddRows.{accepted_places-append, lost_places-append, write_count_of_more, places_count}
-use Rattle.opt_memdisk.proofs.log_rows.Events.{tickets-append, greatest_wrote, greatest_lost, greatest_noticed, noticed-append, noticed_last, lawful_more, unnoticed_above}
+use Rattle.opt_memdisk.proofs.log_rows.Events.{tickets-append, greatest_wrote, greatest_lost, greatest_noticed, noticed-append, noticed_last, lawful_more, events_more, unnoticed_above}
 use Rattle.opt_memdisk.proofs.log_rows.RowTickets.{tickets_ascend}
 
 -- whether a ticket has no notice
@@ -75,8 +76,9 @@ module _ {events : List Event} {row places lost : List ℕ} {ranks : RanksState}
   -- the rows with one more accepted write
   pub kept_wrote : (t b : ℕ) (x : List ℕ) (more_events more_tickets more_places : ℕ) → greatest_ticket events < t → (0 < boxes → t ≡ length (tickets events) + 1) → write_count events + 1 + boxes ≤ room
       → most_events ≤ more_events → most_tickets ≤ more_tickets → most_places ≤ more_places
+      → IsEventOf (2 ^ 32) (Wrote t b x)
       → IsKept (events ++ Wrote t b x ∷ []) (row ++ t ∷ []) (places ++ length events ∷ []) lost (with_next ranks) room boxes more_events more_tickets more_places most_lost
-  kept_wrote t b x more_events more_tickets more_places above next more events_fit tickets_fit places_fit =
+  kept_wrote t b x more_events more_tickets more_places above next more events_fit tickets_fit places_fit event =
       let long = ap length kept.row_is in
       let all = length-append row (t ∷ []) in
       let events_long = length-append events (Wrote t b x ∷ []) in
@@ -86,6 +88,7 @@ module _ {events : List Event} {row places lost : List ℕ} {ranks : RanksState}
       let passes : not (is_noticed t events) ≡ true = ap not (unnoticed_above events t kept.lawful above) in
       record {
         lawful = lawful_more events (Wrote t b x) kept.lawful above;
+        whole = events_more (2 ^ 32) events (Wrote t b x) kept.whole event;
         next = λ some. greatest_wrote events t b x above ∙ omega (arith, next some);
         few = omega arith;
         short = kept.short;
@@ -108,13 +111,15 @@ module _ {events : List Event} {row places lost : List ℕ} {ranks : RanksState}
 
   -- the rows with one more write that was lost
   pub kept_lost : (b : ℕ) (x : List ℕ) (more_events more_lost : ℕ) → write_count events + 1 + boxes ≤ room → most_events ≤ more_events → most_lost ≤ more_lost
+      → IsEventOf (2 ^ 32) (Lost b x)
       → IsKept (events ++ Lost b x ∷ []) row places (lost ++ length events ∷ []) ranks room boxes more_events most_tickets most_places more_lost
-  kept_lost b x more_events more_lost more events_fit lost_fit =
+  kept_lost b x more_events more_lost more events_fit lost_fit event =
       let events_long = length-append events (Lost b x ∷ []) in
       let writes = write_count_of_more events (Lost b x) in
       let same_tickets : tickets events ≡ tickets (events ++ Lost b x ∷ []) = sym (append-nil (tickets events)) ∙ sym (tickets-append events (Lost b x ∷ [])) in
       record {
         lawful = lawful_more events (Lost b x) kept.lawful tt;
+        whole = events_more (2 ^ 32) events (Lost b x) kept.whole event;
         next = λ some. greatest_lost events b x ∙ kept.next some;
         few = omega arith;
         short = kept.short;
@@ -133,8 +138,9 @@ module _ {events : List Event} {row places lost : List ℕ} {ranks : RanksState}
 
   -- the rows with the notice of an open ticket, whose number is none of the open ones any more
   pub kept_notice : (t number more_events : ℕ) → IsOpen t events → 0 < number → slice_get (tickets events) (number - 1) ≡ Some t → most_events ≤ more_events
+      → IsEventOf (2 ^ 32) (Noticed t)
       → IsKept (events ++ Noticed t ∷ []) row places lost (without number ranks) room boxes more_events most_tickets most_places most_lost
-  kept_notice t number more_events is_open some at events_fit =
+  kept_notice t number more_events is_open some at events_fit event =
       let events_long = length-append events (Noticed t ∷ []) in
       let writes = write_count_of_more events (Noticed t) in
       let same_tickets : tickets events ≡ tickets (events ++ Noticed t ∷ []) = sym (append-nil (tickets events)) ∙ sym (tickets-append events (Noticed t ∷ [])) in
@@ -142,6 +148,7 @@ module _ {events : List Event} {row places lost : List ℕ} {ranks : RanksState}
       let fewer = one_less_open t number is_open at in
       record {
         lawful = lawful_more events (Noticed t) kept.lawful is_open;
+        whole = events_more (2 ^ 32) events (Noticed t) kept.whole event;
         next = λ any. greatest_noticed events t ∙ kept.next any;
         few = omega (arith, kept.few);
         short = kept.short;

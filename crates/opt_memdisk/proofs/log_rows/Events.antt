@@ -9,7 +9,7 @@ use Rattle.std.proofs.lemmas.Option.{none-some, slice_get_within, get_or_from_sl
 use Rattle.opt_disk.specs.declared.event.Event.{Event}
 use Rattle.opt_disk.specs.declared.event.Event.TheVariants.{Wrote, Lost, Noticed}
 use Rattle.opt_disk.specs.Cell.{greatest_ticket, is_accepted, is_noticed, IsAccepted, IsNoticed}
-use Rattle.opt_disk.specs.Lawful.{MayCome, AreLawfulAfter, IsLawful}
+use Rattle.opt_disk.specs.Lawful.{MayCome, AreLawfulAfter, IsLawful, IsEventOf, AreEventsOf}
 use Rattle.opt_memdisk.specs.Log.{tickets, write_count, AreWithin}
 
 -- the tickets of two logs, one behind the other, are those of the first and those of the second
@@ -199,3 +199,15 @@ write_within n log p t b x within at = (one_within n log p (Wrote t b x) within 
 -- and so is a lost one
 pub lost_within : (n : ℕ) (log : List Event) (p b : ℕ) (x : List ℕ) → AreWithin n log → slice_get log p ≡ Some (Lost b x) → b < n
 lost_within n log p b x within at = (one_within n log p (Lost b x) within at).0
+
+-- one event more of a disk of n blocks
+pub events_more : (n : ℕ) (log : List Event) (e : Event) → AreEventsOf n log → IsEventOf n e → AreEventsOf n (log ++ e ∷ [])
+events_more n [] e all one = (one, tt)
+events_more n (d ∷ log) e all one = (all.0, events_more n log e all.1 one)
+
+-- events of some disk whose writes are to n blocks are events of a disk of n blocks
+pub events_within : (m n : ℕ) (log : List Event) → AreEventsOf m log → AreWithin n log → AreEventsOf n log
+events_within m n [] all within = tt
+events_within m n (Wrote t b x ∷ log) all within = ((all.0.0, within.0, all.0.2), events_within m n log all.1 within.1)
+events_within m n (Lost b x ∷ log) all within = ((within.0, all.0.1), events_within m n log all.1 within.1)
+events_within m n (Noticed t ∷ log) all within = (all.0, events_within m n log all.1 within)

@@ -38,6 +38,8 @@ impl Disk for StillDisk {
 
     ghost state = { λ s. record { blocks = 64; base = λ b. []; log = []; faults = s.faults; read_faults = s.read_faults; waits = s.waits; polls = s.polls } };
 
+    fn lawful(&self) {}
+
     fn blocks(&self) -> u32 {
         64
     }

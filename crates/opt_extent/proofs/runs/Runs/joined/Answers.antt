@@ -10,7 +10,7 @@ pub loop-number-init : goal.loop-number-init
 loop-number-init c = (
   ap length c.as_slice.ensures.value ∙ tidy_count c.self.inside.list c.self.invariant.0 ∙ ap stretches (c.self.view_is ∙ sym (append-nil c.args.self.now)),
   c.next-next.ensures ∙ ap next_number (sym (append-nil c.args.self.now)),
-  omega (arith, c.as_slice.ensures.short),
+  omega (arith, c.as_slice.ensures.few),
 )
 
 pub loop-number-preserved : goal.loop-number-preserved

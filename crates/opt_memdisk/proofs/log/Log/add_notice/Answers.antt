@@ -21,4 +21,4 @@ invariant_of-self c =
     let at = subst (λ (s : LogState). slice_get (tickets s.events) (number - 1) ≡ Some c.args.ticket) (sym c.self.view_is) c.number_of-number.ensures.ticket in
     let events : c.push.new.self.items ≡ c.self.inside.events.items ++ Noticed c.args.ticket ∷ [] = pushed _ _ _ _ _ c.unwrap.ensures c.push.ensures.items in
     rw (events, c.take_out.ensures.state)
-    (kept_notice c.self.invariant c.args.ticket number _ is_open c.number_of-number.ensures.above at c.push.ensures.capacity)
+    (kept_notice c.self.invariant c.args.ticket number _ is_open c.number_of-number.ensures.above at c.push.ensures.capacity (omega arith))

@@ -16,4 +16,4 @@ invariant_of-self c =
     let place : c.len.result ≡ length c.self.inside.events.items = omega (arith, c.len.ensures, c.self.inside.events.ok) in
     let lost : c.push.new.self.items ≡ c.self.inside.lost.items ++ c.len.result ∷ [] = pushed _ _ _ _ _ c.unwrap.ensures c.push.ensures.items in
     let events : c.push-2.new.self.items ≡ c.self.inside.events.items ++ Lost c.args.block c.args.bytes ∷ [] = pushed _ _ _ _ _ c.unwrap-2.ensures c.push-2.ensures.items in
-    rw (lost, events, place) (kept_lost c.self.invariant c.args.block c.args.bytes _ _ more c.push-2.ensures.capacity c.push.ensures.capacity)
+    rw (lost, events, place) (kept_lost c.self.invariant c.args.block c.args.bytes _ _ more c.push-2.ensures.capacity c.push.ensures.capacity (omega arith, c.lawful.ensures))

@@ -31,4 +31,4 @@ invariant_of-self c =
     let places : c.push-2.new.self.items ≡ c.self.inside.places.items ++ c.len.result ∷ [] = pushed _ _ _ _ _ c.unwrap-2.ensures c.push-2.ensures.items in
     let events : c.push-3.new.self.items ≡ c.self.inside.events.items ++ Wrote c.args.ticket c.args.block c.args.bytes ∷ [] = pushed _ _ _ _ _ c.unwrap-3.ensures c.push-3.ensures.items in
     rw (row, places, events, place, c.join.ensures.state)
-    (kept_wrote c.self.invariant c.args.ticket c.args.block c.args.bytes _ _ _ above next more c.push-3.ensures.capacity c.push.ensures.capacity c.push-2.ensures.capacity)
+    (kept_wrote c.self.invariant c.args.ticket c.args.block c.args.bytes _ _ _ above next more c.push-3.ensures.capacity c.push.ensures.capacity c.push-2.ensures.capacity (omega arith, omega arith, c.lawful.ensures))

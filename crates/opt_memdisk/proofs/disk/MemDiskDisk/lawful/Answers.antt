@@ -1,0 +1,11 @@
+use Rattle.std.proofs.Common.{◌^◌, subst}
+use Rattle.opt_disk.specs.Lawful.{IsSoundDisk}
+use Rattle.opt_memdisk.specs.MemDisk.{MemDiskState, state_of}
+use Rattle.opt_memdisk.proofs.log_rows.Events.{events_within}
+use Rattle.opt_memdisk.proofs.disk.MemDiskDisk.lawful.Goals as goal
+
+pub returns : goal.returns
+returns c = λ tells. subst (λ (d : MemDiskState). IsSoundDisk (state_of d)) c.self.view_is (record {
+  blocks = c.as_slice.ensures.blocks.whole;
+  log = record { lawful = c.events.ensures.lawful; events = events_within (2 ^ 32) _ _ c.events.ensures.whole c.self.invariant.within };
+})
