@@ -3,7 +3,7 @@ use Rattle.std.specs.Prelude.{◌≡◌, ◌≢◌, ℕ, ◌-◌, ◌==◌, Bool
 use Rattle.opt_layout.specs.declared.slot.Slot.{Slot}
 use Rattle.opt_dirent.specs.Directory.{place_of, without_at}
 use Rattle.opt_tree.specs.declared.command.Cmd.{Cmd}
-use Rattle.opt_tree.specs.declared.command.Cmd.TheVariants.{Read, Stat, List as ListNames, Osync, Bad}
+use Rattle.opt_tree.specs.declared.command.Cmd.TheVariants.{Read, Stat, List as ListNames, Osync, Dsync, Durable, Poll, Bad}
 use Rattle.opt_tree.specs.Tree.{Thing, Dir, File}
 use Rattle.opt_stands.specs.Files.{FileNode}
 use Rattle.opt_stands.specs.Inodes.{Inode, Inodes, ADir, AFile}
@@ -31,12 +31,15 @@ abbrev pub one_link_less : Inode → Option Inode
 one_link_less (ADir slots) = None
 one_link_less (AFile links bytes) = if links == 1 then None else Some (AFile (links - 1) bytes)
 
--- whether the command only looks, or is a sync, or none
+-- whether the command leaves each tree as it is: it looks, is about sync points, or is none
 abbrev pub looks_alone : Cmd → Bool
 looks_alone (Read path offset count) = true
 looks_alone (Stat path) = true
 looks_alone (ListNames path) = true
 looks_alone Osync = true
+looks_alone Dsync = true
+looks_alone Durable = true
+looks_alone Poll = true
 looks_alone Bad = true
 looks_alone _ = false
 

@@ -1,7 +1,7 @@
 -- Why a command is refused, from inodes alone: the conditions of opt_tree in their order, each looked up in the inode map.
 use Rattle.std.specs.Prelude.{ℕ, ◌+◌, ◌==◌, ◌&&◌, if◌then◌else◌, List, [], ◌∷◌, length, nat_lt, nat_le, is_some, is_none, Option, None, Some, Result, Ok, Err}
 use Rattle.opt_tree.specs.declared.command.Cmd.{Cmd}
-use Rattle.opt_tree.specs.declared.command.Cmd.TheVariants.{Mkdir, Create, Write, Fill, Read, Truncate, Link, Unlink, Rmdir, Rename, Stat, List as ListNames, Osync, Bad}
+use Rattle.opt_tree.specs.declared.command.Cmd.TheVariants.{Mkdir, Create, Write, Fill, Read, Truncate, Link, Unlink, Rmdir, Rename, Stat, List as ListNames, Osync, Dsync, Durable, Poll, Bad}
 use Rattle.opt_tree.specs.declared.command.Refusal.{Refusal}
 use Rattle.opt_tree.specs.declared.command.Refusal.TheVariants.{Exists, NotDir, IsDir, NotEmpty, BelowItself, TooLarge, TooManyLinks, NoNode}
 use Rattle.opt_tree.specs.Paths.{parent, is_below}
@@ -73,4 +73,7 @@ reason limit m (Rename from to) = rename_reason m from to
 reason limit m (Stat path) = walk_reason m path
 reason limit m (ListNames path) = list_reason m path
 reason limit m Osync = None
+reason limit m Dsync = None
+reason limit m Durable = None
+reason limit m Poll = None
 reason limit m Bad = None

@@ -1,4 +1,4 @@
--- What each command but a sync answers, from inodes.
+-- What each command that answers no sync point answers, from inodes.
 use Rattle.std.specs.Prelude.{ℕ, take, drop, Option, None, Some}
 use Rattle.opt_tree.specs.declared.command.Cmd.{Cmd}
 use Rattle.opt_tree.specs.declared.command.Cmd.TheVariants.{Read, Stat, List as ListNames, Bad}

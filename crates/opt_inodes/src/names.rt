@@ -9,7 +9,7 @@ ghost use Rattle.opt_layout.specs.declared.slot.Slot.{Slot};
 ghost use Rattle.opt_tree.specs.declared.command.Cmd.{Cmd};
 ghost use Rattle.opt_tree.specs.Tree.{Tree};
 ghost use Rattle.opt_tree.specs.Names.{names_in};
-ghost use Rattle.opt_tree.specs.Points.{is_sync};
+ghost use Rattle.opt_tree.specs.Points.{answers_point};
 ghost use Rattle.opt_tree.specs.Step.{Session, step, stat};
 ghost use Rattle.opt_stands.specs.Inodes.{Inodes, ADir};
 ghost use Rattle.opt_stands.specs.Maps.{IsMapOf};
@@ -31,11 +31,11 @@ pub fn the_map_gives_the_names()
     the_tree_is_lawful();
 }
 
-/// A stat answers what the inode at the path is; and each command but a sync answers what inodes give:
+/// A stat answers what the inode at the path is; and each command that answers no sync point answers what inodes give:
 /// that it is refused and why, or its bytes, names or numbers, or that it is done.
 pub fn the_map_gives_the_reply()
     ensures stat { (limit : ℕ) (m : Inodes) (t : Tree) (path : List (List ℕ)) → IsMapOf limit m t → stat t path ≡ stat_in m path }
-    ensures reply { (s : Session) (m : Inodes) (cmd : Cmd) → IsMapOf s.limit m s.tree → is_sync cmd ≡ false → (step s cmd).1 ≡ reply_of s.limit m cmd }
+    ensures reply { (s : Session) (m : Inodes) (cmd : Cmd) → IsMapOf s.limit m s.tree → answers_point cmd ≡ false → (step s cmd).1 ≡ reply_of s.limit m cmd }
 {
     the_tree_is_lawful();
 }

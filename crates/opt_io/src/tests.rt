@@ -31,6 +31,51 @@ impl Read for Broken {
     }
 }
 
+// A reader and a writer one of whose calls fails, which count their calls.
+#[derive(Drop)]
+struct FailsOnce {
+    calls: u64,
+    failing: u64,
+}
+
+impl FailsOnce {
+    // One that fails at this call, the first of which is 1.
+    fn at(failing: u64) -> FailsOnce {
+        FailsOnce { calls: 0, failing }
+    }
+
+    // Counts a call, which fails where it is the one.
+    fn call(&mut self) -> io::Result<()> {
+        self.calls = self.calls.saturating_add(1);
+        if self.calls == self.failing {
+            return Err(io::Error::from(io::ErrorKind::Interrupted));
+        }
+        Ok(())
+    }
+}
+
+impl Read for FailsOnce {
+    fn read(&mut self, buf: &mut [u8]) -> io::Result<usize> {
+        self.call()?;
+        if buf.is_empty() {
+            return Ok(0);
+        }
+        buf[0] = b'x';
+        Ok(1)
+    }
+}
+
+impl Write for FailsOnce {
+    fn write(&mut self, buf: &[u8]) -> io::Result<usize> {
+        self.call()?;
+        Ok(buf.len())
+    }
+
+    fn flush(&mut self) -> io::Result<()> {
+        self.call()
+    }
+}
+
 #[test]
 fn a_source_fails_at_its_second_call_and_goes_on(rt: HostRuntime) {
     let mut source = MemSource::new(rt.alloc(), b"abcde", &[2]).expect(&rt, "memory");
@@ -104,6 +149,35 @@ fn adapters_pass_faults_on(rt: HostRuntime) {
     assert_eq!(rt; sink.push(b"abc"), Err(SinkFault));
     assert_eq!(rt; push_all(&mut sink, b"abc"), Err(SinkFault));
     assert_eq!(rt; sink.flush(), Err(SinkFault));
+}
+
+// Each call of an adapter is one call of its reader or writer, whose fault it answers. It makes no second
+// one, also where the fault is an interrupted call.
+#[test]
+fn a_fault_is_answered_once_and_not_tried_again(rt: HostRuntime) {
+    for failing in 1..=3u64 {
+        let mut source = ReadSource::new(FailsOnce::at(failing));
+        let mut sink = WriteSink::new(FailsOnce::at(failing));
+        let mut flushed = WriteSink::new(FailsOnce::at(failing));
+        for call in 1..=3u64 {
+            let fails = call == failing;
+            assert_eq!(rt; source.pull(&mut [0; 2]).is_err(), fails);
+            assert_eq!(rt; sink.push(b"ab").is_err(), fails);
+            assert_eq!(rt; flushed.flush().is_err(), fails);
+        }
+        assert_eq!(rt; source.into_inner().calls, 3);
+        assert_eq!(rt; sink.into_inner().calls, 3);
+        assert_eq!(rt; flushed.into_inner().calls, 3);
+    }
+}
+
+// Pushing a whole piece ends at the writer's first fault: the rest isn't pushed.
+#[test]
+fn a_piece_ends_at_the_first_fault_of_its_writer(rt: HostRuntime) {
+    let mut sink = WriteSink::new(FailsOnce::at(1));
+    assert_eq!(rt; push_all(&mut sink, b"abc"), Err(SinkFault));
+    assert_eq!(rt; push_all(&mut sink, b"abc"), Ok(()));
+    assert_eq!(rt; sink.into_inner().calls, 2);
 }
 
 #[test]

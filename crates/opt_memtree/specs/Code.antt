@@ -26,7 +26,7 @@ coded_tree = code_by (Names × Nodes) (coded× (map.code (coded_list (coded_list
     (λ t. (t.names, t.nodes)) (λ p. record { names = p.0; nodes = p.1 }) (λ _. refl)
 
 pub coded_session : Coded Session
-coded_session = code_by (Tree × (ℕ × (ℕ × Bool))) (coded× coded_tree (coded× coded_ℕ (coded× coded_ℕ coded_bool)))
-    (λ s. (s.tree, (s.limit, (s.points, s.changed))))
-    (λ p. record { tree = p.0; limit = p.1.0; points = p.1.1.0; changed = p.1.1.1 })
+coded_session = code_by (Tree × (ℕ × (ℕ × (Bool × ℕ)))) (coded× coded_tree (coded× coded_ℕ (coded× coded_ℕ (coded× coded_bool coded_ℕ))))
+    (λ s. (s.tree, (s.limit, (s.points, (s.changed, s.durable)))))
+    (λ p. record { tree = p.0; limit = p.1.0; points = p.1.1.0; changed = p.1.1.1.0; durable = p.1.1.1.1 })
     (λ _. refl)

@@ -33,6 +33,9 @@ impl TreeMaps {
             Cmd::Stat(path) => self.walk_refusal(path),
             Cmd::List(path) => self.list_refusal(path),
             Cmd::Osync => None,
+            Cmd::Dsync => None,
+            Cmd::Durable => None,
+            Cmd::Poll => None,
             Cmd::Bad => None,
         }
     }

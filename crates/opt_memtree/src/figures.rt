@@ -126,7 +126,14 @@ impl TreeMaps {
                 let old = self.size_at(path);
                 Ok(truncate_figures(bitmap, old, *size))
             }
-            Cmd::Read(..) | Cmd::Stat(_) | Cmd::List(_) | Cmd::Osync | Cmd::Bad => Ok(NOTHING),
+            Cmd::Read(..)
+            | Cmd::Stat(_)
+            | Cmd::List(_)
+            | Cmd::Osync
+            | Cmd::Dsync
+            | Cmd::Durable
+            | Cmd::Poll
+            | Cmd::Bad => Ok(NOTHING),
         }
     }
 

@@ -104,7 +104,7 @@ impl PlainTree {
         Ok(())
     }
 
-    /// A copy of this tree, with the same limit, the same last sync point, and changed since where this
+    /// A copy of this tree, with the same limit and the same sync points, and changed since where this
     /// one is. What one of them does later doesn't touch the other.
     ///
     /// # Errors

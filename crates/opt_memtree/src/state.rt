@@ -5,7 +5,7 @@
 ghost use Rattle.std.specs.Prelude.{◌≡◌, ◌≤◌, ◌↔◌, None, IsTrue, IfOk, OnErr};
 ghost use Rattle.opt_tree.specs.Tree.{IsSound};
 ghost use Rattle.opt_tree.specs.Conditions.{refusal};
-ghost use Rattle.opt_tree.specs.Step.{start, step, accepted, osync};
+ghost use Rattle.opt_tree.specs.Step.{start, step, accepted, osync, dsync};
 
 use crate::maps::TreeMaps;
 use crate::nodes::Node;
@@ -21,6 +21,7 @@ pub(crate) struct State {
     pub(crate) limit: u32,
     pub(crate) points: u64,
     pub(crate) changed: bool,
+    pub(crate) durable: u64,
 }
 
 impl Model for State {
@@ -31,7 +32,7 @@ impl Model for State {
 
     ghost coded = { coded_session };
 
-    ghost view = { λ t. record { tree = t.tree; limit = t.limit; points = t.points; changed = t.changed } };
+    ghost view = { λ t. record { tree = t.tree; limit = t.limit; points = t.points; changed = t.changed; durable = t.durable } };
 }
 
 impl State {
@@ -49,6 +50,7 @@ impl State {
             limit: nodes,
             points: 0,
             changed: false,
+            durable: 0,
         })
     }
 
@@ -65,6 +67,7 @@ impl State {
             limit: self.limit,
             points: self.points,
             changed: self.changed,
+            durable: self.durable,
         })
     }
 
@@ -120,6 +123,9 @@ impl State {
             Cmd::Stat(path) => Ok(self.stat(path)),
             Cmd::List(path) => self.list(alloc, path),
             Cmd::Osync => Ok(self.osync()),
+            Cmd::Dsync => Ok(self.dsync()),
+            Cmd::Durable => Ok(Reply::Known(self.durable)),
+            Cmd::Poll => Ok(Reply::Ok),
             Cmd::Bad => Ok(Reply::Bad),
         }
     }
@@ -133,5 +139,14 @@ impl State {
             self.changed = false;
         }
         Reply::Synced(self.points)
+    }
+
+    /// Makes a sync point too, where something changed, and promises the last one: memory has it at once.
+    fn dsync(&mut self) -> Reply
+        ensures { dsync self.old self.old.changed ≡ (self.new, result) }
+    {
+        self.osync();
+        self.durable = self.points;
+        Reply::DurableAt(self.points)
     }
 }

@@ -1,6 +1,7 @@
 -- What a line reads as is `Bad` or in the grammar.
-use Rattle.std.proofs.Common.{◌≡◌, refl, arith, tests, ℕ, ◌+◌, ◌*◌, ◌<◌, ◌==◌, Bool, true, false, ◌&&◌, ◌⊎◌, inl, inr, List, [], ◌∷◌, length, Result, Ok, Err, Option, Some, None, decimal, nat_lt, nat_le, bytes_eq, codes}
+use Rattle.std.proofs.Common.{◌≡◌, refl, sym, subst, arith, tests, ℕ, suc, get_or, ◌+◌, ◌*◌, ◌<◌, ◌==◌, Bool, true, false, ◌&&◌, ◌⊎◌, inl, inr, List, [], ◌∷◌, length, Result, Ok, Err, Option, Some, None, decimal, nat_lt, nat_le, bytes_eq, codes}
 use Rattle.std.specs.Prelude.{IfSome, IfOk, if◌then◌else◌}
+use Rattle.std.proofs.lemmas.Bool.{and_parts, false≢true}
 use Rattle.std.proofs.lemmas.Bool.Decides.{Decides-ltb}
 use Rattle.std.specs.Char.{is_ascii_digit}
 use Rattle.std.specs.List.{list_all, slice_split}
@@ -9,8 +10,10 @@ use Rattle.hex.specs.Hex.{decode_of, decode_pairs, digit_or_error, hex_digit_val
 use Rattle.hex.specs.declared.error.FromHexError.{FromHexError}
 use Rattle.opt_base.specs.Name.{is_name}
 use Rattle.opt_tree.specs.declared.command.Cmd.{Cmd}
-use Rattle.opt_tree.specs.declared.command.Cmd.TheVariants.{Mkdir, Create, Fill, Read, Link, Unlink, Rmdir, Rename, Stat, List as ListNames, Osync, Bad}
-use Rattle.opt_script.specs.Grammar.{command_of, command_of_parts, path_of, names_of, number_of, bytes_of, some_bytes, path_command, paths_command, truncate_of, write_of, read_of, fill_of, is_in_grammar}
+use Rattle.opt_tree.specs.declared.command.Cmd.TheVariants.{Mkdir, Create, Write, Fill, Read, Truncate, Link, Unlink, Rmdir, Rename, Stat, List as ListNames, Osync, Dsync, Durable, Poll, Bad}
+use Rattle.opt_tree.specs.Points.{asks_for_durability}
+use Rattle.opt_script.specs.Values.{IsCommand}
+use Rattle.opt_script.specs.Grammar.{has_line, has_lawful_arguments, command_of, command_of_parts, path_of, names_of, number_of, bytes_of, some_bytes, path_command, paths_command, truncate_of, write_of, read_of, fill_of, is_in_grammar}
 
 abbrev Lawful : Cmd → Type 0
 Lawful cmd = (cmd ≡ Bad) ⊎ (is_in_grammar cmd ≡ true)
@@ -89,6 +92,11 @@ odd_or false e r h = h
 
 decoded_small : (part : List ℕ) → IfOk (decode_of part) are_bytes
 decoded_small part = odd_or _ _ (decode_pairs 0 part) (pairs_small 0 part)
+
+-- numbers that are each below 256 are bytes
+pub bytes_small : (bytes : List ℕ) → ((i : ℕ) → get_or bytes i 0 < 256) → are_bytes bytes
+bytes_small [] h = refl
+bytes_small (b ∷ bytes) h = rw ((Decides-ltb b 256).1 (h 0)) (bytes_small bytes (λ i. h (suc i)))
 
 abbrev some_of_them : List ℕ → Type 0
 some_of_them bytes = (nat_lt 0 (length bytes) && list_all (λ b. nat_lt b 256) bytes) ≡ true
@@ -181,3 +189,38 @@ parts_lawful (word ∷ path ∷ offset ∷ count ∷ byte ∷ one ∷ more) = in
 -- what a line reads as is `Bad` or in the grammar
 pub line_lawful : (line : List ℕ) → (command_of line ≡ Bad) ⊎ (is_in_grammar (command_of line) ≡ true)
 line_lawful line = parts_lawful (slice_split (λ b. b == 32) line)
+
+-- its arguments are lawful in either case
+pub line_command : (line : List ℕ) → IsCommand (command_of line)
+line_command line = either_way (command_of line) (line_lawful line)
+  where
+    either_way : (cmd : Cmd) → Lawful cmd → IsCommand cmd
+    either_way cmd (inl bad) = subst IsCommand (sym bad) refl
+    either_way cmd (inr h) = (and_parts (has_line cmd) (has_lawful_arguments cmd) h).1
+
+-- a command that has a line asks for no sync point on the disk
+has_line_quiet : (cmd : Cmd) → has_line cmd ≡ true → asks_for_durability cmd ≡ false
+has_line_quiet (Mkdir path) h = refl
+has_line_quiet (Create path) h = refl
+has_line_quiet (Write path offset bytes) h = refl
+has_line_quiet (Fill path offset count byte) h = refl
+has_line_quiet (Read path offset count) h = refl
+has_line_quiet (Truncate path size) h = refl
+has_line_quiet (Link path other) h = refl
+has_line_quiet (Unlink path) h = refl
+has_line_quiet (Rmdir path) h = refl
+has_line_quiet (Rename path other) h = refl
+has_line_quiet (Stat path) h = refl
+has_line_quiet (ListNames path) h = refl
+has_line_quiet Osync h = refl
+has_line_quiet Dsync h = absurd (false≢true h)
+has_line_quiet Durable h = absurd (false≢true h)
+has_line_quiet Poll h = refl
+has_line_quiet Bad h = refl
+
+pub line_quiet : (line : List ℕ) → asks_for_durability (command_of line) ≡ false
+line_quiet line = either_way (command_of line) (line_lawful line)
+  where
+    either_way : (cmd : Cmd) → Lawful cmd → asks_for_durability cmd ≡ false
+    either_way cmd (inl bad) = subst (λ c. asks_for_durability c ≡ false) (sym bad) refl
+    either_way cmd (inr h) = has_line_quiet cmd (and_parts (has_line cmd) (has_lawful_arguments cmd) h).0

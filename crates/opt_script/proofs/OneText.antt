@@ -1,8 +1,9 @@
 -- A text is that of one command and of one reply, and has no line feed.
-use Rattle.std.proofs.Common.{◌≡◌, sym, ap, refl, ◌∙◌, arith, rules, tests, subst, inl, inr, ℕ, zero, suc, ◌<◌, ◌≤◌, ◌^◌, ◌/◌, ◌%◌, ◌==◌, Bool, true, if◌then◌else◌, List, [], ◌∷◌, ◌++◌, drop, get_or, length, Option, Some, None, decimal, nat_lt, nat_le, bytes_eq, codes, slice_index, append_assoc}
+use Rattle.std.proofs.Common.{◌≡◌, sym, ap, refl, ◌∙◌, arith, rules, tests, subst, inl, inr, ℕ, zero, suc, ◌<◌, ◌≤◌, ◌^◌, ◌/◌, ◌%◌, ◌==◌, Bool, true, false, if◌then◌else◌, List, [], ◌∷◌, ◌++◌, drop, get_or, length, Option, Some, None, decimal, nat_lt, nat_le, bytes_eq, codes, slice_index, append_assoc}
 use Rattle.std.specs.Prelude.{slice_index_or}
-use Rattle.std.proofs.lemmas.Bool.{and_parts}
+use Rattle.std.proofs.lemmas.Bool.{and_parts, cases_Bool, false≢true}
 use Rattle.std.proofs.lemmas.Bool.Decides.{Decides-ltb}
+use Rattle.std.proofs.lemmas.Slice.Eq.{bytes_eq-Decides}
 use Rattle.std.proofs.lemmas.List.{append-nil}
 use Rattle.std.proofs.lemmas.Fmt.{digits_decimal, digits_value-decimal}
 use Rattle.std.specs.Char.{is_ascii_digit}
@@ -11,17 +12,17 @@ use Rattle.std.specs.Str.Parse.{digits_value}
 use Rattle.hex.specs.Hex.{encode_lower, encode_with, lower_digits}
 use Rattle.opt_base.specs.Name.{is_name, is_name_byte}
 use Rattle.opt_tree.specs.declared.command.Cmd.{Cmd}
-use Rattle.opt_tree.specs.declared.command.Cmd.TheVariants.{Mkdir, Create, Write, Fill, Read, Truncate, Link, Unlink, Rmdir, Rename, Stat, List as ListNames, Osync, Bad}
+use Rattle.opt_tree.specs.declared.command.Cmd.TheVariants.{Mkdir, Create, Write, Fill, Read, Truncate, Link, Unlink, Rmdir, Rename, Stat, List as ListNames, Osync, Dsync, Durable, Poll, Bad}
 use Rattle.opt_tree.specs.declared.command.Kind.{Kind}
 use Rattle.opt_tree.specs.declared.command.Kind.TheVariants.{Dir, File}
 use Rattle.opt_tree.specs.declared.command.Reply.{Reply}
-use Rattle.opt_tree.specs.declared.command.Reply.TheVariants.{Ok as Done, Bytes, Stat as StatReply, Names, Synced, Bad as NotUnderstood, Refused}
+use Rattle.opt_tree.specs.declared.command.Reply.TheVariants.{Ok as Done, Bytes, Stat as StatReply, Names, Synced, DurableAt, Known, Bad as NotUnderstood, Refused}
 use Rattle.opt_tree.specs.declared.command.Refusal.{Refusal}
 use Rattle.opt_tree.specs.declared.command.Refusal.TheVariants.{NotFound, Exists, NotDir, IsDir, NotEmpty, BelowItself, TooLarge, TooManyLinks, NoNode, Full, TooBig, Scattered, ReadFault, DiskFault, Stopped, Spent, NoMemory}
 use Rattle.opt_tree.specs.Refusals.{refusal_number, refusal_name}
 use Rattle.opt_tree.specs.Listing.{slashed, path_text, digits_behind_blank}
 use Rattle.opt_script.specs.Text.{command_text, text_of_reply, kind_text, names_behind_blanks, refusal_text}
-use Rattle.opt_script.specs.Grammar.{command_of, bytes_of, is_in_grammar}
+use Rattle.opt_script.specs.Grammar.{command_of, bytes_of, is_in_grammar, has_lawful_arguments}
 use Rattle.opt_script.specs.Values.{IsCommand, IsReply, HasFigures, has_no_feed}
 use Rattle.opt_script.proofs.Steps.{own}
 use Rattle.opt_script.proofs.RoundTrip.{weaker, both, name_bytes, bytes_of-encode_lower, round_trip}
@@ -154,6 +155,8 @@ reply_parts (Bytes bytes) = codes "hex" ∷ bytes_parts bytes
 reply_parts (StatReply stat) = codes "stat" ∷ kind_text stat.kind ∷ decimal stat.number ∷ decimal stat.size ∷ decimal stat.links ∷ []
 reply_parts (Names names) = codes "names" ∷ names
 reply_parts (Synced point) = codes "synced" ∷ decimal point ∷ []
+reply_parts (DurableAt point) = codes "durable" ∷ decimal point ∷ []
+reply_parts (Known point) = codes "known" ∷ decimal point ∷ []
 reply_parts NotUnderstood = codes "bad" ∷ []
 reply_parts (Refused why) = refusal_parts why
 
@@ -217,6 +220,8 @@ reply_joined (Bytes bytes) = bytes_joined bytes
 reply_joined (StatReply stat) = four_text (codes "stat ") (kind_text stat.kind) (decimal stat.number) (decimal stat.size) (decimal stat.links)
 reply_joined (Names names) = refl
 reply_joined (Synced point) = one_text (codes "synced ") (decimal point)
+reply_joined (DurableAt point) = one_text (codes "durable ") (decimal point)
+reply_joined (Known point) = one_text (codes "known ") (decimal point)
 reply_joined NotUnderstood = refl
 reply_joined (Refused why) = refusal_joined why
 
@@ -258,6 +263,8 @@ reply_are_parts (Bytes bytes) h = (refl, bytes_are_parts bytes h)
 reply_are_parts (StatReply stat) h = (refl, (kind_part stat.kind, (number_part stat.number h.0, (number_part stat.size h.1, (number_part stat.links h.2, tt)))))
 reply_are_parts (Names names) h = (refl, names_parts names h)
 reply_are_parts (Synced point) h = (refl, (number_part point h, tt))
+reply_are_parts (DurableAt point) h = (refl, (number_part point h, tt))
+reply_are_parts (Known point) h = (refl, (number_part point h, tt))
 reply_are_parts NotUnderstood h = (refl, tt)
 reply_are_parts (Refused why) h = refusal_are_parts why h
 
@@ -291,6 +298,8 @@ reply_with word parts =
     else if bytes_eq word (codes "stat") then StatReply (record { kind = kind_in (slice_index_or parts 0 []); number = number_at parts 1; size = number_at parts 2; links = number_at parts 3 })
     else if bytes_eq word (codes "names") then Names parts
     else if bytes_eq word (codes "synced") then Synced (number_at parts 0)
+    else if bytes_eq word (codes "durable") then DurableAt (number_at parts 0)
+    else if bytes_eq word (codes "known") then Known (number_at parts 0)
     else if bytes_eq word (codes "bad") then NotUnderstood
     else if bytes_eq word (codes "full") then Refused (Full (number_at parts 0) (number_at parts 1))
     else if bytes_eq word (codes "toobig") then Refused (TooBig (number_at parts 0) (number_at parts 1) (number_at parts 2))
@@ -341,6 +350,8 @@ reply_back (Bytes bytes) h = ap Bytes (bytes_back bytes h)
 reply_back (StatReply stat) h = rw (kind_back stat.kind, value stat.number h.0, value stat.size h.1, value stat.links h.2) refl
 reply_back (Names names) h = refl
 reply_back (Synced point) h = ap Synced (value point h)
+reply_back (DurableAt point) h = ap DurableAt (value point h)
+reply_back (Known point) h = ap Known (value point h)
 reply_back NotUnderstood h = refl
 reply_back (Refused why) h = refusal_back why h
 
@@ -355,6 +366,8 @@ first_part (Bytes bytes) = (codes "hex", bytes_parts bytes, refl)
 first_part (StatReply stat) = (codes "stat", kind_text stat.kind ∷ decimal stat.number ∷ decimal stat.size ∷ decimal stat.links ∷ [], refl)
 first_part (Names names) = (codes "names", names, refl)
 first_part (Synced point) = (codes "synced", decimal point ∷ [], refl)
+first_part (DurableAt point) = (codes "durable", decimal point ∷ [], refl)
+first_part (Known point) = (codes "known", decimal point ∷ [], refl)
 first_part NotUnderstood = (codes "bad", [], refl)
 first_part (Refused why) = first_of why
   where
@@ -390,14 +403,52 @@ reply_no_feed reply h = ap has_no_feed (reply_joined reply) ∙ joined_no_feed (
 
 -- Commands.
 
-read_back : (cmd : Cmd) → IsCommand cmd → command_of (command_text cmd) ≡ cmd
-read_back cmd (inl bad) =
-    let P : Cmd → Type 0 = λ c. command_of (command_text c) ≡ c in
-    subst P (sym bad) refl
-read_back cmd (inr h) = round_trip cmd h
+-- the command of a text, also of one that no line asks for yet
+abbrev command_in : List ℕ → Cmd
+command_in text =
+    if bytes_eq text (codes "dsync") then Dsync
+    else if bytes_eq text (codes "durable") then Durable
+    else if bytes_eq text (codes "poll") then Poll
+    else command_of text
+
+-- a command that has a line isn't written as a text that is read as none
+another_text : (cmd : Cmd) (text : List ℕ) → is_in_grammar cmd ≡ true → command_of text ≡ Bad → bytes_eq (command_text cmd) text ≡ false
+another_text cmd text h none = elim (cases_Bool (bytes_eq (command_text cmd) text)) [
+  | inl same ↦
+      let is : command_text cmd ≡ text = (bytes_eq-Decides (command_text cmd) text).0 same in
+      let bad : cmd ≡ Bad = sym (round_trip cmd h) ∙ ap command_of is ∙ none in
+      absurd (false≢true (sym (ap is_in_grammar bad) ∙ h))
+  | inr differs ↦ differs
+]
+
+with_line : (cmd : Cmd) → is_in_grammar cmd ≡ true → command_in (command_text cmd) ≡ cmd
+with_line cmd h =
+    let dsync = another_text cmd (codes "dsync") h refl in
+    let durable = another_text cmd (codes "durable") h refl in
+    let poll = another_text cmd (codes "poll") h refl in
+    rw (dsync, durable, poll) (round_trip cmd h)
+
+read_back : (cmd : Cmd) → IsCommand cmd → command_in (command_text cmd) ≡ cmd
+read_back (Mkdir path) h = with_line (Mkdir path) h
+read_back (Create path) h = with_line (Create path) h
+read_back (Write path offset bytes) h = with_line (Write path offset bytes) h
+read_back (Fill path offset count byte) h = with_line (Fill path offset count byte) h
+read_back (Read path offset count) h = with_line (Read path offset count) h
+read_back (Truncate path size) h = with_line (Truncate path size) h
+read_back (Link path second) h = with_line (Link path second) h
+read_back (Unlink path) h = with_line (Unlink path) h
+read_back (Rmdir path) h = with_line (Rmdir path) h
+read_back (Rename path second) h = with_line (Rename path second) h
+read_back (Stat path) h = with_line (Stat path) h
+read_back (ListNames path) h = with_line (ListNames path) h
+read_back Osync h = refl
+read_back Dsync h = refl
+read_back Durable h = refl
+read_back Poll h = refl
+read_back Bad h = refl
 
 pub one_command : (cmd other : Cmd) → IsCommand cmd → IsCommand other → command_text cmd ≡ command_text other → cmd ≡ other
-one_command cmd other h k e = sym (read_back cmd h) ∙ ap command_of e ∙ read_back other k
+one_command cmd other h k e = sym (read_back cmd h) ∙ ap command_in e ∙ read_back other k
 
 -- texts without a line feed, one behind the other
 beside : (xs ys : List ℕ) → has_no_feed xs ≡ true → has_no_feed ys ≡ true → has_no_feed (xs ++ ys) ≡ true
@@ -425,17 +476,17 @@ behind_blank text more h k = beside (text ++ codes " ") more (beside text (codes
 fitting : (n : ℕ) → nat_lt n 4294967296 ≡ true → n < 4294967296
 fitting n h = (Decides-ltb n 4294967296).0 h
 
-in_grammar_no_feed : (cmd : Cmd) → is_in_grammar cmd ≡ true → has_no_feed (command_text cmd) ≡ true
-in_grammar_no_feed (Mkdir path) h = behind_word (codes "mkdir ") path refl h
-in_grammar_no_feed (Create path) h = behind_word (codes "create ") path refl h
-in_grammar_no_feed (Write path offset bytes) h =
+pub command_no_feed : (cmd : Cmd) → IsCommand cmd → has_no_feed (command_text cmd) ≡ true
+command_no_feed (Mkdir path) h = behind_word (codes "mkdir ") path refl h
+command_no_feed (Create path) h = behind_word (codes "create ") path refl h
+command_no_feed (Write path offset bytes) h =
     let first = and_parts (list_all is_name path) _ h in
     let second = and_parts (nat_lt offset 4294967296) _ first.1 in
     let third = and_parts (nat_lt 0 (length bytes)) (list_all (λ b. nat_lt b 256) bytes) second.1 in
     behind_blank (codes "write " ++ path_text path ++ codes " " ++ decimal offset) (encode_lower bytes)
     (behind_blank (codes "write " ++ path_text path) (decimal offset) (behind_word (codes "write ") path refl first.0) (number_no_feed offset (fitting offset second.0)))
     (no_feed (encode_lower bytes) (bytes_part bytes third.1))
-in_grammar_no_feed (Fill path offset count byte) h =
+command_no_feed (Fill path offset count byte) h =
     let first = and_parts (list_all is_name path) _ h in
     let second = and_parts (nat_lt offset 4294967296) _ first.1 in
     let third = and_parts (nat_lt count 4294967296) (nat_le byte 255) second.1 in
@@ -445,31 +496,28 @@ in_grammar_no_feed (Fill path offset count byte) h =
     (behind_blank (codes "fill " ++ path_text path) (decimal offset) (behind_word (codes "fill ") path refl first.0) (number_no_feed offset (fitting offset second.0)))
     (number_no_feed count (fitting count third.0)))
     (number_no_feed byte (omega (arith, below)))
-in_grammar_no_feed (Read path offset count) h =
+command_no_feed (Read path offset count) h =
     let first = and_parts (list_all is_name path) _ h in
     let second = and_parts (nat_lt offset 4294967296) (nat_le count 1048576) first.1 in
     let below : count ≤ 1048576 = search (rules, tests, second.1) in
     behind_blank (codes "read " ++ path_text path ++ codes " " ++ decimal offset) (decimal count)
     (behind_blank (codes "read " ++ path_text path) (decimal offset) (behind_word (codes "read ") path refl first.0) (number_no_feed offset (fitting offset second.0)))
     (number_no_feed count (omega (arith, below)))
-in_grammar_no_feed (Truncate path size) h =
+command_no_feed (Truncate path size) h =
     let parts = and_parts (list_all is_name path) (nat_lt size 4294967296) h in
     behind_blank (codes "truncate " ++ path_text path) (decimal size) (behind_word (codes "truncate ") path refl parts.0) (number_no_feed size (fitting size parts.1))
-in_grammar_no_feed (Link path second) h =
+command_no_feed (Link path second) h =
     let parts = and_parts (list_all is_name path) (list_all is_name second) h in
     behind_blank (codes "link " ++ path_text path) (path_text second) (behind_word (codes "link ") path refl parts.0) (path_no_feed second parts.1)
-in_grammar_no_feed (Unlink path) h = behind_word (codes "unlink ") path refl h
-in_grammar_no_feed (Rmdir path) h = behind_word (codes "rmdir ") path refl h
-in_grammar_no_feed (Rename path second) h =
+command_no_feed (Unlink path) h = behind_word (codes "unlink ") path refl h
+command_no_feed (Rmdir path) h = behind_word (codes "rmdir ") path refl h
+command_no_feed (Rename path second) h =
     let parts = and_parts (list_all is_name path) (list_all is_name second) h in
     behind_blank (codes "rename " ++ path_text path) (path_text second) (behind_word (codes "rename ") path refl parts.0) (path_no_feed second parts.1)
-in_grammar_no_feed (Stat path) h = behind_word (codes "stat ") path refl h
-in_grammar_no_feed (ListNames path) h = behind_word (codes "list ") path refl h
-in_grammar_no_feed Osync h = refl
-in_grammar_no_feed Bad h = refl
-
-pub command_no_feed : (cmd : Cmd) → IsCommand cmd → has_no_feed (command_text cmd) ≡ true
-command_no_feed cmd (inl bad) =
-    let P : Cmd → Type 0 = λ c. has_no_feed (command_text c) ≡ true in
-    subst P (sym bad) refl
-command_no_feed cmd (inr h) = in_grammar_no_feed cmd h
+command_no_feed (Stat path) h = behind_word (codes "stat ") path refl h
+command_no_feed (ListNames path) h = behind_word (codes "list ") path refl h
+command_no_feed Osync h = refl
+command_no_feed Dsync h = refl
+command_no_feed Durable h = refl
+command_no_feed Poll h = refl
+command_no_feed Bad h = refl

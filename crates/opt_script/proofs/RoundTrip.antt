@@ -13,7 +13,7 @@ use Rattle.hex.specs.Hex.{encode_lower, encode_with, lower_digits}
 use Rattle.hex.proofs.HexLemmas.{decode_of-encode_lower}
 use Rattle.opt_base.specs.Name.{is_name, is_name_byte, is_dots}
 use Rattle.opt_tree.specs.declared.command.Cmd.{Cmd}
-use Rattle.opt_tree.specs.declared.command.Cmd.TheVariants.{Mkdir, Create, Write, Fill, Read, Truncate, Link, Unlink, Rmdir, Rename, Stat, List as ListNames, Osync, Bad}
+use Rattle.opt_tree.specs.declared.command.Cmd.TheVariants.{Mkdir, Create, Write, Fill, Read, Truncate, Link, Unlink, Rmdir, Rename, Stat, List as ListNames, Osync, Dsync, Durable, Poll, Bad}
 use Rattle.opt_tree.specs.Listing.{slashed, path_text}
 use Rattle.opt_script.specs.Text.{command_text}
 use Rattle.opt_script.specs.Grammar.{command_of, command_of_parts, path_of, number_of, bytes_of, some_bytes, path_command, paths_command, truncate_of, write_of, read_of, fill_of, fits, is_in_grammar}
@@ -265,4 +265,7 @@ round_trip (Rename path second) h =
 round_trip (Stat path) h = path_reads (codes "stat") path refl h
 round_trip (ListNames path) h = path_reads (codes "list") path refl h
 round_trip Osync h = refl
+round_trip Dsync h = absurd (false≢true h)
+round_trip Durable h = absurd (false≢true h)
+round_trip Poll h = absurd (false≢true h)
 round_trip Bad h = absurd (false≢true h)

@@ -8,7 +8,7 @@ use Rattle.hex.specs.Hex.{decode_of}
 use Rattle.hex.specs.declared.error.FromHexError.{FromHexError}
 use Rattle.opt_base.specs.Name.{is_name}
 use Rattle.opt_tree.specs.declared.command.Cmd.{Cmd}
-use Rattle.opt_tree.specs.declared.command.Cmd.TheVariants.{Mkdir, Create, Write, Fill, Read, Truncate, Link, Unlink, Rmdir, Rename, Stat, List as ListNames, Osync, Bad}
+use Rattle.opt_tree.specs.declared.command.Cmd.TheVariants.{Mkdir, Create, Write, Fill, Read, Truncate, Link, Unlink, Rmdir, Rename, Stat, List as ListNames, Osync, Dsync, Durable, Poll, Bad}
 
 -- the names behind the first slash, where what is before it is empty and each is lawful
 abbrev pub names_of : List (List ℕ) → Option (List (List ℕ))
@@ -97,20 +97,31 @@ command_of_parts _ = Bad
 abbrev pub command_of : List ℕ → Cmd
 command_of line = command_of_parts (slice_split (λ b. b == 32) line)
 
--- whether some line asks for the command: its names are lawful, its numbers fit, and a write has bytes
-abbrev pub is_in_grammar : Cmd → Bool
-is_in_grammar (Mkdir path) = list_all is_name path
-is_in_grammar (Create path) = list_all is_name path
-is_in_grammar (Write path offset bytes) =
+-- whether the arguments of a command are lawful: its names are, its numbers fit, and a write has bytes
+abbrev pub has_lawful_arguments : Cmd → Bool
+has_lawful_arguments (Mkdir path) = list_all is_name path
+has_lawful_arguments (Create path) = list_all is_name path
+has_lawful_arguments (Write path offset bytes) =
     list_all is_name path && (fits offset && (nat_lt 0 (length bytes) && list_all (λ b. nat_lt b 256) bytes))
-is_in_grammar (Fill path offset length byte) = list_all is_name path && (fits offset && (fits length && nat_le byte 255))
-is_in_grammar (Read path offset length) = list_all is_name path && (fits offset && nat_le length 1048576)
-is_in_grammar (Truncate path size) = list_all is_name path && fits size
-is_in_grammar (Link path other) = list_all is_name path && list_all is_name other
-is_in_grammar (Unlink path) = list_all is_name path
-is_in_grammar (Rmdir path) = list_all is_name path
-is_in_grammar (Rename path other) = list_all is_name path && list_all is_name other
-is_in_grammar (Stat path) = list_all is_name path
-is_in_grammar (ListNames path) = list_all is_name path
-is_in_grammar Osync = true
-is_in_grammar Bad = false
+has_lawful_arguments (Fill path offset length byte) = list_all is_name path && (fits offset && (fits length && nat_le byte 255))
+has_lawful_arguments (Read path offset length) = list_all is_name path && (fits offset && nat_le length 1048576)
+has_lawful_arguments (Truncate path size) = list_all is_name path && fits size
+has_lawful_arguments (Link path other) = list_all is_name path && list_all is_name other
+has_lawful_arguments (Unlink path) = list_all is_name path
+has_lawful_arguments (Rmdir path) = list_all is_name path
+has_lawful_arguments (Rename path other) = list_all is_name path && list_all is_name other
+has_lawful_arguments (Stat path) = list_all is_name path
+has_lawful_arguments (ListNames path) = list_all is_name path
+has_lawful_arguments _ = true
+
+-- whether a line may have the command's word. No line asks yet for what the disk has, since the program writes nothing to its disk
+abbrev pub has_line : Cmd → Bool
+has_line Dsync = false
+has_line Durable = false
+has_line Poll = false
+has_line Bad = false
+has_line _ = true
+
+-- whether some line asks for the command
+abbrev pub is_in_grammar : Cmd → Bool
+is_in_grammar cmd = has_line cmd && has_lawful_arguments cmd

@@ -4,11 +4,11 @@ use Rattle.std.specs.Prelude.{ℕ, List, ◌∷◌, ◌++◌, codes, decimal}
 use Rattle.std.specs.List.{flat_map}
 use Rattle.hex.specs.Hex.{encode_lower}
 use Rattle.opt_tree.specs.declared.command.Cmd.{Cmd}
-use Rattle.opt_tree.specs.declared.command.Cmd.TheVariants.{Mkdir, Create, Write, Fill, Read, Truncate, Link, Unlink, Rmdir, Rename, Stat, List as ListNames, Osync, Bad}
+use Rattle.opt_tree.specs.declared.command.Cmd.TheVariants.{Mkdir, Create, Write, Fill, Read, Truncate, Link, Unlink, Rmdir, Rename, Stat, List as ListNames, Osync, Dsync, Durable, Poll, Bad}
 use Rattle.opt_tree.specs.declared.command.Kind.{Kind}
 use Rattle.opt_tree.specs.declared.command.Kind.TheVariants.{Dir, File}
 use Rattle.opt_tree.specs.declared.command.Reply.{Reply}
-use Rattle.opt_tree.specs.declared.command.Reply.TheVariants.{Ok as Done, Bytes, Stat as StatReply, Names, Synced, Bad as NotUnderstood, Refused}
+use Rattle.opt_tree.specs.declared.command.Reply.TheVariants.{Ok as Done, Bytes, Stat as StatReply, Names, Synced, DurableAt, Known, Bad as NotUnderstood, Refused}
 use Rattle.opt_tree.specs.declared.command.Refusal.{Refusal}
 use Rattle.opt_tree.specs.declared.command.Refusal.TheVariants.{Full, TooBig, Scattered}
 use Rattle.opt_tree.specs.Listing.{path_text, digits_behind_blank}
@@ -32,6 +32,9 @@ command_text (Rename path other) = codes "rename " ++ path_text path ++ codes " 
 command_text (Stat path) = codes "stat " ++ path_text path
 command_text (ListNames path) = codes "list " ++ path_text path
 command_text Osync = codes "osync"
+command_text Dsync = codes "dsync"
+command_text Durable = codes "durable"
+command_text Poll = codes "poll"
 command_text Bad = codes "?"
 
 -- how a kind is written
@@ -58,5 +61,7 @@ text_of_reply (StatReply stat) =
     codes "stat " ++ kind_text stat.kind ++ codes " " ++ decimal stat.number ++ codes " " ++ decimal stat.size ++ codes " " ++ decimal stat.links
 text_of_reply (Names names) = codes "names" ++ names_behind_blanks names
 text_of_reply (Synced point) = codes "synced " ++ decimal point
+text_of_reply (DurableAt point) = codes "durable " ++ decimal point
+text_of_reply (Known point) = codes "known " ++ decimal point
 text_of_reply NotUnderstood = codes "bad"
 text_of_reply (Refused why) = refusal_text why

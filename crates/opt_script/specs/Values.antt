@@ -1,18 +1,17 @@
--- Which commands a script may have, and which replies their types allow. Each of them is written in a text of its own.
-use Rattle.std.specs.Prelude.{◌≡◌, ◌⊎◌, ℕ, ◌<◌, ◌^◌, Bool, true, nat_lt, List}
+-- Which commands may be asked for, and which replies their types allow. Each of them is written in a text of its own.
+use Rattle.std.specs.Prelude.{◌≡◌, ℕ, ◌<◌, ◌^◌, Bool, true, nat_lt, List}
 use Rattle.std.specs.List.{list_all}
 use Rattle.opt_base.specs.Name.{is_name}
 use Rattle.opt_tree.specs.declared.command.Cmd.{Cmd}
-use Rattle.opt_tree.specs.declared.command.Cmd.TheVariants.{Bad}
 use Rattle.opt_tree.specs.declared.command.Reply.{Reply}
-use Rattle.opt_tree.specs.declared.command.Reply.TheVariants.{Bytes, Stat as StatReply, Names, Synced, Refused}
+use Rattle.opt_tree.specs.declared.command.Reply.TheVariants.{Bytes, Stat as StatReply, Names, Synced, DurableAt, Known, Refused}
 use Rattle.opt_tree.specs.declared.command.Refusal.{Refusal}
 use Rattle.opt_tree.specs.declared.command.Refusal.TheVariants.{Full, TooBig, Scattered}
-use Rattle.opt_script.specs.Grammar.{is_in_grammar}
+use Rattle.opt_script.specs.Grammar.{has_lawful_arguments}
 
--- a command that a line may be
+-- a command whose arguments are lawful, or none
 abbrev pub IsCommand : Cmd → Type 0
-IsCommand cmd = (cmd ≡ Bad) ⊎ (is_in_grammar cmd ≡ true)
+IsCommand cmd = has_lawful_arguments cmd ≡ true
 
 -- the figures of a refusal have 64 bits
 abbrev pub HasFigures : Refusal → Type 0
@@ -27,6 +26,8 @@ IsReply (Bytes bytes) = list_all (λ b. nat_lt b 256) bytes ≡ true
 IsReply (StatReply stat) = (stat.number < 2 ^ 64) × (stat.size < 2 ^ 64) × (stat.links < 2 ^ 64)
 IsReply (Names names) = list_all is_name names ≡ true
 IsReply (Synced point) = point < 2 ^ 64
+IsReply (DurableAt point) = point < 2 ^ 64
+IsReply (Known point) = point < 2 ^ 64
 IsReply (Refused why) = HasFigures why
 IsReply _ = Unit {0}
 

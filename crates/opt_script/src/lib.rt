@@ -10,7 +10,7 @@ mod pieces;
 mod replies;
 mod text;
 
-pub use laws::a_text_is_of_one_value;
+pub use laws::{equal_texts_have_equal_values, lines_are_commands};
 pub use parse::parse_line;
 pub use replies::reply_text;
 pub use text::cmd_text;

@@ -1,47 +1,84 @@
 //! From a reply to its text, built piece by piece: each helper's clause names what it adds.
 
-ghost use Rattle.std.specs.Prelude.{◌≡◌, ◌++◌, OnOk, IfOk, codes, decimal};
+ghost use Rattle.std.specs.Prelude.{◌≡◌, ◌++◌, OnOk, IfOk, true, nat_lt, codes, decimal};
+ghost use Rattle.std.specs.List.{list_all};
+ghost use Rattle.opt_base.specs.Name.{is_name};
 ghost use Rattle.opt_tree.specs.Listing.{digits_behind_blank};
 ghost use Rattle.opt_tree.specs.Refusals.{refusal_number, refusal_name};
 ghost use Rattle.opt_tree.specs.declared.command.Reply.TheVariants.{Stat as StatReply};
 ghost use Rattle.opt_script.specs.Text.{kind_text, names_behind_blanks, refusal_text, text_of_reply};
+ghost use Rattle.opt_script.specs.Values.{IsReply, HasFigures};
 
 use crate::pieces::{push, push_behind_blank, push_digits, push_number};
 use opt_base::{Name, NoMemory};
 use opt_tree::{Kind, Refusal, Reply, Stat};
 use std::alloc::Global;
 
-/// How this reply is written, without a line feed.
+/// How this reply is written, without a line feed. Its type sees to it that the reply is a lawful one.
 ///
 /// # Errors
 /// Out of memory.
 pub fn reply_text(alloc: Global, reply: &Reply) -> Result<Vec<u8>, NoMemory>
-    ensures { IfOk result (λ text. text.items ≡ text_of_reply reply.now) }
+    ensures text { IfOk result (λ text. text.items ≡ text_of_reply reply.now) }
+    ensures lawful { IfOk result (λ text. IsReply reply.now) }
 {
     let mut text = Vec::new(alloc);
-    match reply {
-        Reply::Ok => push(&mut text, b"ok")?,
-        Reply::Bytes(bytes) => {
-            push(&mut text, b"hex")?;
-            push_found(&mut text, bytes.as_slice())?;
-        }
-        Reply::Stat(stat) => push_stat(&mut text, stat)?,
-        Reply::Names(names) => {
-            push(&mut text, b"names")?;
-            push_names(&mut text, names.names())?;
-        }
-        Reply::Synced(point) => {
-            push(&mut text, b"synced")?;
-            push_number(&mut text, *point)?;
-        }
-        Reply::Bad => push(&mut text, b"bad")?,
-        Reply::Refused(why) => push_refusal(&mut text, *why)?,
-    }
+    push_reply(&mut text, reply)?;
     Ok(text)
 }
 
+fn push_reply(text: &mut Vec<u8>, reply: &Reply) -> Result<(), NoMemory>
+    ensures told { OnOk result (text.new.items ≡ text.old.items ++ text_of_reply reply.now) }
+    ensures lawful { OnOk result (IsReply reply.now) }
+{
+    match reply {
+        Reply::Ok => {
+            push(text, b"ok")?;
+            Ok(())
+        }
+        Reply::Bytes(bytes) => {
+            push(text, b"hex")?;
+            push_found(text, bytes.as_slice())?;
+            Ok(())
+        }
+        Reply::Stat(stat) => {
+            push_stat(text, stat)?;
+            Ok(())
+        }
+        Reply::Names(names) => {
+            push(text, b"names")?;
+            push_names(text, names.names())?;
+            Ok(())
+        }
+        Reply::Synced(point) => {
+            push(text, b"synced")?;
+            push_number(text, *point)?;
+            Ok(())
+        }
+        Reply::DurableAt(point) => {
+            push(text, b"durable")?;
+            push_number(text, *point)?;
+            Ok(())
+        }
+        Reply::Known(point) => {
+            push(text, b"known")?;
+            push_number(text, *point)?;
+            Ok(())
+        }
+        Reply::Bad => {
+            push(text, b"bad")?;
+            Ok(())
+        }
+        Reply::Refused(why) => {
+            push_refusal(text, *why)?;
+            Ok(())
+        }
+    }
+}
+
 fn push_found(text: &mut Vec<u8>, bytes: &[u8]) -> Result<(), NoMemory>
-    ensures { OnOk result (text.new.items ≡ text.old.items ++ digits_behind_blank bytes.now) }
+    ensures told { OnOk result (text.new.items ≡ text.old.items ++ digits_behind_blank bytes.now) }
+    ensures lawful { OnOk result (list_all (λ b. nat_lt b 256) bytes.now ≡ true) }
 {
     match bytes {
         [] => {}
@@ -51,7 +88,8 @@ fn push_found(text: &mut Vec<u8>, bytes: &[u8]) -> Result<(), NoMemory>
 }
 
 fn push_stat(text: &mut Vec<u8>, stat: &Stat) -> Result<(), NoMemory>
-    ensures { OnOk result (text.new.items ≡ text.old.items ++ text_of_reply (StatReply stat.now)) }
+    ensures told { OnOk result (text.new.items ≡ text.old.items ++ text_of_reply (StatReply stat.now)) }
+    ensures lawful { OnOk result (IsReply (StatReply stat.now)) }
 {
     push(text, b"stat")?;
     push_behind_blank(text, kind_name(stat.kind))?;
@@ -72,7 +110,8 @@ fn kind_name(kind: Kind) -> &'static [u8]
 
 // A blank and the name, for each name.
 fn push_names(text: &mut Vec<u8>, names: &[Name]) -> Result<(), NoMemory>
-    ensures { OnOk result (text.new.items ≡ text.old.items ++ names_behind_blanks names.now) }
+    ensures told { OnOk result (text.new.items ≡ text.old.items ++ names_behind_blanks names.now) }
+    ensures lawful { OnOk result (list_all is_name names.now ≡ true) }
 {
     for name in names {
         push_behind_blank(text, name.as_bytes())?;
@@ -81,7 +120,8 @@ fn push_names(text: &mut Vec<u8>, names: &[Name]) -> Result<(), NoMemory>
 }
 
 fn push_refusal(text: &mut Vec<u8>, why: Refusal) -> Result<(), NoMemory>
-    ensures { OnOk result (text.new.items ≡ text.old.items ++ refusal_text why) }
+    ensures told { OnOk result (text.new.items ≡ text.old.items ++ refusal_text why) }
+    ensures lawful { OnOk result (HasFigures why) }
 {
     match why {
         Refusal::Full { need, left } => {

@@ -52,6 +52,9 @@ fn text_of_cmd(alloc: Global, cmd: &Cmd) -> Result<Vec<u8>, NoMemory>
         Cmd::Stat(path) => push_word_and_path(&mut text, b"stat ", path)?,
         Cmd::List(path) => push_word_and_path(&mut text, b"list ", path)?,
         Cmd::Osync => push(&mut text, b"osync")?,
+        Cmd::Dsync => push(&mut text, b"dsync")?,
+        Cmd::Durable => push(&mut text, b"durable")?,
+        Cmd::Poll => push(&mut text, b"poll")?,
         Cmd::Bad => push(&mut text, b"?")?,
     }
     Ok(text)

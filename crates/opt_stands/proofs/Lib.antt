@@ -6,3 +6,4 @@ pub mod OneTree
 pub mod FormattedBlocks
 pub mod FormattedTree
 pub mod FormattedHeader
+pub mod Alike

@@ -13,7 +13,8 @@ ghost use Rattle.opt_tree.specs.Tree.{Tree, IsSound};
 use opt_format::the_formatted_disk_is_empty;
 use opt_geom::geometries_are_within_limits;
 use opt_journal::{
-    an_image_holds_one_map, images_alike_below_n_hold_the_same, journal_blocks_read_back,
+    an_image_holds_one_map, images_alike_below_n_hold_the_same,
+    journal_blocks_keep_to_their_bounds, journal_blocks_read_back,
     the_formatted_disk_holds_itself,
 };
 
@@ -28,6 +29,17 @@ pub fn the_formatted_disk_stands_for_the_root()
     journal_blocks_read_back();
     the_formatted_disk_holds_itself();
     the_formatted_disk_is_empty();
+    images_alike_below_n_hold_the_same();
+}
+
+/// What an image stands for rests on the first n blocks alone: images that are alike there stand for the
+/// same tree, if for any.
+pub fn images_alike_below_n_stand_for_the_same()
+    ensures { (n : ℕ) (img other : Blocks) (t : Tree) → ((b : ℕ) → b < n → img b ≡ other b) → StandsFor n img t → StandsFor n other t }
+{
+    geometries_are_within_limits();
+    journal_blocks_keep_to_their_bounds();
+    an_image_holds_one_map();
     images_alike_below_n_hold_the_same();
 }
 

@@ -9,7 +9,7 @@ mod maps;
 
 pub use laws::{
     a_tree_that_stands_is_sound, an_image_stands_for_one_tree,
-    the_formatted_disk_stands_for_the_root,
+    images_alike_below_n_stand_for_the_same, the_formatted_disk_stands_for_the_root,
 };
 pub use maps::{
     a_map_is_of_one_tree, a_walk_goes_on, blocks_have_a_map, files_have_one_map,

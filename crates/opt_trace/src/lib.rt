@@ -9,5 +9,5 @@ mod line;
 mod tests;
 mod write;
 
-pub use laws::a_text_has_one_contents;
+pub use laws::equal_traces_have_equal_contents;
 pub use write::{write_command, write_end, write_event, write_geom, write_reply};

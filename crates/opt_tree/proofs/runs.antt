@@ -2,3 +2,6 @@ pub mod Points
 pub mod Outside
 pub mod Bounds
 pub mod Examples
+pub mod Faults
+pub mod PointExample
+pub mod Promises

@@ -1,9 +1,9 @@
 -- The sync points of a run of commands, and which of them a crash may leave. They are described in docs/CRASHES.md.
-use Rattle.std.specs.Prelude.{ℕ, ◌+◌, max, nat_le, Bool, true, false, if◌then◌else◌, ◌&&◌, List, [], ◌∷◌, ◌++◌}
+use Rattle.std.specs.Prelude.{ℕ, ◌+◌, ◌<◌, ◌≤◌, ◌^◌, max, nat_le, Bool, true, false, if◌then◌else◌, ◌&&◌, List, [], ◌∷◌, ◌++◌}
 use Rattle.opt_tree.specs.declared.command.Cmd.{Cmd}
-use Rattle.opt_tree.specs.declared.command.Cmd.TheVariants.{Osync}
+use Rattle.opt_tree.specs.declared.command.Cmd.TheVariants.{Osync, Dsync, Durable}
 use Rattle.opt_tree.specs.declared.command.Reply.{Reply}
-use Rattle.opt_tree.specs.declared.command.Reply.TheVariants.{Refused}
+use Rattle.opt_tree.specs.declared.command.Reply.TheVariants.{DurableAt, Known, Refused}
 use Rattle.opt_tree.specs.declared.command.Refusal.TheVariants.{DiskFault}
 use Rattle.opt_tree.specs.Tree.{Tree}
 use Rattle.opt_tree.specs.Step.{Session, step}
@@ -17,9 +17,27 @@ abbrev pub is_refusal : Reply → Bool
 is_refusal (Refused why) = true
 is_refusal _ = false
 
+-- whether the command makes a sync point where something changed
 abbrev pub is_sync : Cmd → Bool
 is_sync Osync = true
+is_sync Dsync = true
 is_sync _ = false
+
+-- whether the command asks for a sync point that is on the disk
+abbrev pub asks_for_durability : Cmd → Bool
+asks_for_durability Dsync = true
+asks_for_durability Durable = true
+asks_for_durability _ = false
+
+-- whether the command, where it is done, answers the number of a sync point
+abbrev pub answers_point : Cmd → Bool
+answers_point Osync = true
+answers_point cmd = asks_for_durability cmd
+
+-- The last point that a dsync answered is none past the last point, whose number has 64 bits.
+pub record CountsPoints (s : Session) : Type 0 where
+  pub made : s.durable ≤ s.points
+  pub low : s.points < 2 ^ 64
 
 -- the session after a command with its reply: a refusal leaves all as it was
 abbrev pub after_reply : Session → Cmd → Reply → Session
@@ -56,9 +74,11 @@ begun_by k (p ∷ points) = (if nat_le p.begun k then 1 else 0) + begun_by k poi
 abbrev pub top : ℕ → Session → ℕ → List Cmd → List Reply → List ℕ → ℕ
 top k s mounted cmds replies marks = begun_by k (points_after s mounted cmds replies marks)
 
--- the point that a reply promises to be on the disk from then on. No command that is built waits for the disk, so no reply promises one past point 0
+-- the point that a reply promises to be on the disk from then on: the one that a dsync waited for, or that is known to be there. Any other reply promises none past point 0
 abbrev pub promised_by : Reply → ℕ
-promised_by reply = 0
+promised_by (DurableAt n) = n
+promised_by (Known n) = n
+promised_by _ = 0
 
 -- the oldest point that a crash after k events may leave, by its number: the greatest that was promised by then
 abbrev pub floor : ℕ → List Reply → List ℕ → ℕ

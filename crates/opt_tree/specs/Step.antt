@@ -2,10 +2,10 @@
 use Rattle.std.specs.Prelude.{ℕ, ◌+◌, ◌-◌, ◌*◌, ◌^◌, ◌==◌, min, Bool, true, false, if◌then◌else◌, List, [], ◌++◌, length, take, drop, replicate, Option, None, Some}
 use Rattle.std.specs.FinMap.{get, insert, remove, empty}
 use Rattle.opt_tree.specs.declared.command.Cmd.{Cmd}
-use Rattle.opt_tree.specs.declared.command.Cmd.TheVariants.{Mkdir, Create, Write, Fill, Read, Truncate, Link, Unlink, Rmdir, Rename, Stat, List as ListNames, Osync, Bad}
+use Rattle.opt_tree.specs.declared.command.Cmd.TheVariants.{Mkdir, Create, Write, Fill, Read, Truncate, Link, Unlink, Rmdir, Rename, Stat, List as ListNames, Osync, Dsync, Durable, Poll, Bad}
 use Rattle.opt_tree.specs.declared.command.Kind.TheVariants.{Dir as DirKind, File as FileKind}
 use Rattle.opt_tree.specs.declared.command.Reply.{Reply}
-use Rattle.opt_tree.specs.declared.command.Reply.TheVariants.{Ok as Done, Bytes, Stat as StatReply, Names as NamesReply, Synced, Bad as NotUnderstood, Refused}
+use Rattle.opt_tree.specs.declared.command.Reply.TheVariants.{Ok as Done, Bytes, Stat as StatReply, Names as NamesReply, Synced, DurableAt, Known, Bad as NotUnderstood, Refused}
 use Rattle.opt_tree.specs.declared.command.Refusal.{Refusal}
 use Rattle.opt_tree.specs.declared.command.Refusal.TheVariants.{NotFound}
 use Rattle.opt_tree.specs.Tree.{Tree, Names, Nodes, Thing, Dir, File}
@@ -13,12 +13,13 @@ use Rattle.opt_tree.specs.Names.{path_count, names_in, renamed}
 use Rattle.opt_tree.specs.Walk.{content, is_same_node}
 use Rattle.opt_tree.specs.Conditions.{least_unused, refusal}
 
--- a tree with the greatest node number that it may use, the number of its last sync point, and whether a command changed it since
+-- a tree with the greatest node number that it may use, the number of its last sync point, whether a command changed it since, and the last point that a dsync answered
 pub record Session : Type 0 where
   pub tree : Tree
   pub limit : ℕ
   pub points : ℕ
   pub changed : Bool
+  pub durable : ℕ
 
 -- The bytes of a file.
 
@@ -84,7 +85,7 @@ moved t from to = record { names = renamed t.names from to; nodes = t.nodes }
 
 -- done, with this tree
 abbrev pub changed_to : Session → Tree → Session × Reply
-changed_to s t = (record { tree = t; limit = s.limit; points = s.points; changed = true }, Done)
+changed_to s t = (record s { tree = t; changed = true }, Done)
 
 -- no bytes change nothing
 abbrev pub write : Session → List (List ℕ) → ℕ → List ℕ → Session × Reply
@@ -116,8 +117,16 @@ next_point n = min (n + 1) (2 ^ 64 - 1)
 
 -- the next point where something changed since the last one, and else the last one
 abbrev pub osync : Session → Bool → Session × Reply
-osync s true = (record { tree = s.tree; limit = s.limit; points = next_point s.points; changed = false }, Synced (next_point s.points))
+osync s true = (record s { points = next_point s.points; changed = false }, Synced (next_point s.points))
 osync s false = (s, Synced s.points)
+
+-- the last point is on the disk
+abbrev pub waited : Session → Session × Reply
+waited s = (record s { durable = s.points }, DurableAt s.points)
+
+-- what osync does, and then the last point is on the disk
+abbrev pub dsync : Session → Bool → Session × Reply
+dsync s changed = waited (osync s changed).0
 
 abbrev pub accepted : Session → Cmd → Session × Reply
 accepted s (Mkdir path) = changed_to s (added s.limit s.tree path Dir)
@@ -133,6 +142,9 @@ accepted s (Rename from to) = rename s from to
 accepted s (Stat path) = (s, stat s.tree path)
 accepted s (ListNames path) = (s, NamesReply (names_in s.tree.names path))
 accepted s Osync = osync s s.changed
+accepted s Dsync = dsync s s.changed
+accepted s Durable = (s, Known s.durable)
+accepted s Poll = (s, Done)
 accepted s Bad = (s, NotUnderstood)
 
 abbrev pub answered : Session → Cmd → Option Refusal → Session × Reply
@@ -143,9 +155,9 @@ answered s cmd None = accepted s cmd
 abbrev pub step : Session → Cmd → Session × Reply
 step s cmd = answered s cmd (refusal s.limit s.tree cmd)
 
--- a session that begins with this tree: point 0, and nothing was done since
+-- a session that begins with this tree: point 0, which is on the disk, and nothing was done since
 abbrev pub session_on : ℕ → Tree → Session
-session_on limit t = record { tree = t; limit = limit; points = 0; changed = false }
+session_on limit t = record { tree = t; limit = limit; points = 0; changed = false; durable = 0 }
 
 -- the session that begins with the root alone
 abbrev pub start : ℕ → Session

@@ -38,6 +38,12 @@ pub enum Cmd {
     List(Path),
     /// Makes a sync point, where something changed since the last one.
     Osync,
+    /// Does so too, and answers once the last sync point is on the disk.
+    Dsync,
+    /// Asks up to which sync point all is on the disk.
+    Durable,
+    /// Lets what is under way on the disk move on.
+    Poll,
     /// A line outside the grammar.
     Bad,
 }
@@ -55,6 +61,10 @@ pub enum Reply {
     Names(NameList),
     /// The number of the last sync point.
     Synced(u64),
+    /// The number of the last sync point, which is on the disk.
+    DurableAt(u64),
+    /// The number of a sync point that is known to be on the disk.
+    Known(u64),
     /// The command was `Cmd::Bad`.
     Bad,
     /// Not done, and the tree is as it was.

@@ -1,12 +1,13 @@
 //! Laws of the definitions: what commands leave of a tree, where they change it and what that costs, what a
 //! reply says of the session after it, and short runs worked out. They run nothing.
 
-ghost use Rattle.std.specs.Prelude.{◌≡◌, ◌≤◌, ◌||◌, ◌+◌, ◌++◌, ◌⊎◌, ℕ, Bool, true, false, nat_lt, List, [], ◌∷◌, length, codes, None, Some};
+ghost use Rattle.std.specs.Prelude.{◌≡◌, ◌≢◌, ◌≤◌, ◌||◌, ◌+◌, ◌++◌, ◌⊎◌, ℕ, Bool, true, false, nat_lt, List, [], ◌∷◌, length, map, slice_get, codes, None, Some};
+ghost use Rattle.std.specs.List.{range_with_len};
 ghost use Rattle.std.specs.FinMap.{get, insert, empty};
 ghost use Rattle.opt_tree.specs.declared.command.Cmd.{Cmd};
-ghost use Rattle.opt_tree.specs.declared.command.Cmd.TheVariants.{Mkdir, Create, Write, Link, Rmdir, Rename, Osync};
+ghost use Rattle.opt_tree.specs.declared.command.Cmd.TheVariants.{Mkdir, Create, Write, Link, Rmdir, Rename, Osync, Dsync, Bad};
 ghost use Rattle.opt_tree.specs.declared.command.Reply.{Reply};
-ghost use Rattle.opt_tree.specs.declared.command.Reply.TheVariants.{Ok as Done, Synced, Refused};
+ghost use Rattle.opt_tree.specs.declared.command.Reply.TheVariants.{Ok as Done, Synced, DurableAt, Known, Refused};
 ghost use Rattle.opt_tree.specs.declared.command.Refusal.{Refusal};
 ghost use Rattle.opt_tree.specs.declared.command.Refusal.TheVariants.{NotFound, NotDir, NotEmpty, DiskFault, Stopped, NoMemory};
 ghost use Rattle.opt_tree.specs.Tree.{Tree, Dir, File, IsSound, HasSmallFiles};
@@ -14,9 +15,9 @@ ghost use Rattle.opt_tree.specs.Paths.{is_within};
 ghost use Rattle.opt_tree.specs.Names.{path_count};
 ghost use Rattle.opt_tree.specs.Walk.{is_same_node};
 ghost use Rattle.opt_tree.specs.Conditions.{refusal};
-ghost use Rattle.opt_tree.specs.Step.{Session, step, start};
-ghost use Rattle.opt_tree.specs.Run.{Answers, Run, is_of_memory, is_of_disk};
-ghost use Rattle.opt_tree.specs.Points.{after_reply, is_sync, points_after, top, floor};
+ghost use Rattle.opt_tree.specs.Step.{Session, step, start, session_on};
+ghost use Rattle.opt_tree.specs.Run.{Answers, Run, StopsAfterFault, is_of_memory, is_of_disk};
+ghost use Rattle.opt_tree.specs.Points.{CountsPoints, after_reply, is_sync, asks_for_durability, promised_by, points_after, top, floor};
 ghost use Rattle.opt_tree.specs.Figures.{blocks, growth, release, figures, write_figures, truncate_figures};
 
 /// The empty root is sound, and a sound tree is sound after every command: each path lies in a directory,
@@ -109,12 +110,37 @@ pub fn a_reply_tells_the_session()
     ensures { (outside : Refusal → Bool) (old new : Session) (cmd : Cmd) (reply : Reply) → Answers outside old cmd reply new → new ≡ after_reply old cmd reply }
 {}
 
-/// A tree in memory refuses by its own reasons, 1 to 9, or as it is out of memory. What it answers, a file
-/// system over a disk may answer too, and so with whole runs.
+/// A tree in memory answers as `step` says, or refuses as it is out of memory. So it refuses by its own
+/// reasons, 1 to 9, or by that one. What it answers, a file system over a disk may answer too, and so with
+/// whole runs.
 #[tactic(auto, using(crate::proofs::runs::Outside::run_more))]
 pub fn a_tree_in_memory_refuses_for_no_disk()
+    ensures exact { (old new : Session) (cmd : Cmd) (reply : Reply) → Answers is_of_memory old cmd reply new → (step old cmd ≡ (new, reply)) ⊎ ((reply ≡ Refused NoMemory) × (new ≡ old)) }
     ensures alone { (old new : Session) (cmd : Cmd) (why : Refusal) → Answers is_of_memory old cmd (Refused why) new → (is_of_disk why ≡ false) ⊎ (why ≡ NoMemory) }
     ensures wider { (s end : Session) (cmds : List Cmd) (replies : List Reply) → Run is_of_memory s cmds replies end → Run is_of_disk s cmds replies end }
+{}
+
+/// In a run of a tree in memory no session ends by a disk fault. In any run each command after a disk fault
+/// is refused as the session has ended, where each command that comes is answered so.
+#[tactic(auto, using(crate::proofs::runs::Faults::memory_stops, crate::proofs::runs::Faults::stops_more))]
+pub fn a_fault_ends_the_session()
+    ensures memory { (s end : Session) (cmds : List Cmd) (replies : List Reply) → Run is_of_memory s cmds replies end → StopsAfterFault cmds replies }
+    ensures more { (cmds : List Cmd) (replies : List Reply) (cmd : Cmd) (reply : Reply) → length cmds ≡ length replies → StopsAfterFault cmds replies
+        → ((i : ℕ) → slice_get replies i ≡ Some (Refused DiskFault) → cmd ≢ Bad → reply ≡ Refused Stopped)
+        → StopsAfterFault (cmds ++ cmd ∷ []) (replies ++ reply ∷ []) }
+{}
+
+/// No reply promises a point past point 0, but to a command that asks for one on the disk.
+#[tactic(auto, using(crate::proofs::runs::Promises::promises_nothing))]
+pub fn no_other_command_is_promised_a_point()
+    ensures { (outside : Refusal → Bool) (old new : Session) (cmd : Cmd) (reply : Reply) → Answers outside old cmd reply new → asks_for_durability cmd ≡ false → promised_by reply ≡ 0 }
+{}
+
+/// The last point that a dsync answered is one that was made: at the beginning, and after each command.
+#[tactic(auto, using(crate::proofs::runs::Promises::step_counts))]
+pub fn no_dsync_answers_a_point_to_come()
+    ensures start { (limit : ℕ) (t : Tree) → CountsPoints (session_on limit t) }
+    ensures step { (s : Session) (cmd : Cmd) → CountsPoints s → CountsPoints (step s cmd).0 }
 {}
 
 /// From moment to moment neither the top nor the floor of a run falls, whatever its replies promise.
@@ -131,16 +157,30 @@ pub fn bounds_never_fall()
 /// makes the point all the same, and the second one, which the end of the session refuses, makes none.
 pub fn two_syncs_make_one_point()
     ensures first { (t : Tree) (limit points : ℕ)
-        → points_after (record { tree = t; limit = limit; points = points; changed = true }) 2 (Osync ∷ Osync ∷ []) (Synced 1 ∷ Synced 1 ∷ []) (5 ∷ 9 ∷ [])
+        → points_after (record { tree = t; limit = limit; points = points; changed = true; durable = 0 }) 2 (Osync ∷ Osync ∷ []) (Synced 1 ∷ Synced 1 ∷ []) (5 ∷ 9 ∷ [])
         ≡ record { tree = t; begun = 2 } ∷ [] }
     ensures second { (t : Tree) (limit points : ℕ)
-        → points_after (record { tree = t; limit = limit; points = points; changed = true }) 2 (Osync ∷ Osync ∷ []) (Refused NoMemory ∷ Synced 1 ∷ []) (3 ∷ 9 ∷ [])
+        → points_after (record { tree = t; limit = limit; points = points; changed = true; durable = 0 }) 2 (Osync ∷ Osync ∷ []) (Refused NoMemory ∷ Synced 1 ∷ []) (3 ∷ 9 ∷ [])
         ≡ record { tree = t; begun = 3 } ∷ [] }
     ensures fault { (t : Tree) (limit points : ℕ)
-        → points_after (record { tree = t; limit = limit; points = points; changed = true }) 2 (Osync ∷ Osync ∷ []) (Refused DiskFault ∷ Refused Stopped ∷ []) (4 ∷ 4 ∷ [])
+        → points_after (record { tree = t; limit = limit; points = points; changed = true; durable = 0 }) 2 (Osync ∷ Osync ∷ []) (Refused DiskFault ∷ Refused Stopped ∷ []) (4 ∷ 4 ∷ [])
         ≡ record { tree = t; begun = 2 } ∷ [] }
     ensures before { (t : Tree) (limit points : ℕ)
-        → top 1 (record { tree = t; limit = limit; points = points; changed = true }) 2 (Osync ∷ Osync ∷ []) (Synced 1 ∷ Synced 1 ∷ []) (5 ∷ 9 ∷ []) ≡ 0 }
+        → top 1 (record { tree = t; limit = limit; points = points; changed = true; durable = 0 }) 2 (Osync ∷ Osync ∷ []) (Synced 1 ∷ Synced 1 ∷ []) (5 ∷ 9 ∷ []) ≡ 0 }
     ensures since { (t : Tree) (limit points : ℕ)
-        → top 2 (record { tree = t; limit = limit; points = points; changed = true }) 2 (Osync ∷ Osync ∷ []) (Synced 1 ∷ Synced 1 ∷ []) (5 ∷ 9 ∷ []) ≡ 1 }
+        → top 2 (record { tree = t; limit = limit; points = points; changed = true; durable = 0 }) 2 (Osync ∷ Osync ∷ []) (Synced 1 ∷ Synced 1 ∷ []) (5 ∷ 9 ∷ []) ≡ 1 }
+{}
+
+/// The run that docs/CRASHES.md goes through: `/a` comes to be, a sync, two bytes in it, another sync, and a
+/// dsync. The mount took two events, and the marks are 2, 5, 6, 9 and 13. At each moment from 0 to 13 these
+/// are the top and the floor. The reply to `durable` raises the floor, too.
+#[tactic(auto, using(crate::proofs::runs::PointExample::tops))]
+pub fn a_dsync_raises_the_floor()
+    ensures top { map (λ k. top k (start 16) 2
+        (Create (codes "a" ∷ []) ∷ Osync ∷ Write (codes "a" ∷ []) 0 (104 ∷ 105 ∷ []) ∷ Osync ∷ Dsync ∷ [])
+        (Done ∷ Synced 1 ∷ Done ∷ Synced 2 ∷ DurableAt 2 ∷ []) (2 ∷ 5 ∷ 6 ∷ 9 ∷ 13 ∷ [])) (range_with_len 0 14)
+        ≡ 0 ∷ 0 ∷ 1 ∷ 1 ∷ 1 ∷ 1 ∷ 2 ∷ 2 ∷ 2 ∷ 2 ∷ 2 ∷ 2 ∷ 2 ∷ 2 ∷ [] }
+    ensures floor { map (λ k. floor k (Done ∷ Synced 1 ∷ Done ∷ Synced 2 ∷ DurableAt 2 ∷ []) (2 ∷ 5 ∷ 6 ∷ 9 ∷ 13 ∷ [])) (range_with_len 0 14)
+        ≡ 0 ∷ 0 ∷ 0 ∷ 0 ∷ 0 ∷ 0 ∷ 0 ∷ 0 ∷ 0 ∷ 0 ∷ 0 ∷ 0 ∷ 0 ∷ 2 ∷ [] }
+    ensures known { map (λ k. floor k (DurableAt 1 ∷ Known 3 ∷ []) (4 ∷ 6 ∷ [])) (range_with_len 3 4) ≡ 0 ∷ 1 ∷ 1 ∷ 3 ∷ [] }
 {}

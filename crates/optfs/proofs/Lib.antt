@@ -3,6 +3,6 @@ pub mod RunLemmas
 pub mod RecordingLemmas
 pub mod ReadingLemmas
 pub mod ProgramLemmas
-mod Quiet
+pub mod Quiet
 mod Requests
 mod FormattedImages

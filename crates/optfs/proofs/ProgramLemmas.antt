@@ -7,7 +7,7 @@ use Rattle.opt_geom.specs.Geometry.{Geometry}
 use Rattle.opt_trace.specs.Line.{end_line}
 use Rattle.optfs.specs.Output.{Serves, IsWhole, source_line, long_line}
 use Rattle.optfs.specs.Reading.{AtEnding, Halted, ReadsAll, ReadsSome, ReadsTooMuch}
-use Rattle.optfs.proofs.Quiet.{BeginsEmpty, in_whole, whole_front}
+use Rattle.optfs.proofs.Quiet.{BeginsEmpty, all_read, some_read, in_whole, whole_front}
 use Rattle.optfs.specs.Program.{RecordsTo, Tells}
 use Rattle.optfs.specs.declared.reading.Ending.{Ending}
 use Rattle.optfs.specs.declared.reading.Ending.TheVariants.{End, SourceFault as Broke, LongInput as Longer}
@@ -27,7 +27,7 @@ tells_end geom begins result left now told mid out source source_now sink sink_n
       reads = ((r.read, r.short), r.over);
       text = r.serves.body ++ end_line;
       writes = Appends-trans told mid out r.serves.body end_line r.serves.told (subst Q is t.1);
-      output = record { body = r.serves.body; served = in_whole geom begins _ r.serves.body r.serves.served; is = refl };
+      output = record { body = r.serves.body; served = in_whole geom begins _ r.serves.body (all_read geom begins r.seen) r.serves.served; is = refl };
     })
 tells_end geom begins result left now told mid out source source_now sink sink_now line is r (inr t) =
     let P : Status → Type 0 = λ s. RecordsTo geom s left now told out source source_now in
@@ -38,7 +38,7 @@ tells_end geom begins result left now told mid out source source_now sink sink_n
       reads = inl (r.read, r.short);
       text = r.serves.body ++ take t.1.0 end_line;
       writes = Appends-trans told mid out r.serves.body _ r.serves.told (subst Q is t.1.1);
-      output = (drop t.1.0 end_line, subst R (regroup r.serves.body end_line t.1.0) (inl (record { body = r.serves.body; served = in_whole geom begins _ r.serves.body r.serves.served; is = refl })));
+      output = (drop t.1.0 end_line, subst R (regroup r.serves.body end_line t.1.0) (inl (record { body = r.serves.body; served = in_whole geom begins _ r.serves.body (all_read geom begins r.seen) r.serves.served; is = refl })));
     })
 
 pub tells_source : (geom : Geometry) → BeginsEmpty geom → (result : Status) (left now told mid out : Option (List ℕ)) (source source_now sink sink_now : ℕ) (line : List ℕ) → line ≡ source_line → Rose source source_now
@@ -51,7 +51,7 @@ tells_source geom begins result left now told mid out source source_now sink sin
       reads = (r.read, r.short);
       text = r.serves.body ++ source_line;
       writes = Appends-trans told mid out r.serves.body source_line r.serves.told (subst Q is t.1);
-      output = record { body = r.serves.body; served = in_whole geom begins _ r.serves.body r.serves.served; is = refl };
+      output = record { body = r.serves.body; served = in_whole geom begins _ r.serves.body (some_read geom begins r.seen) r.serves.served; is = refl };
     })
 tells_source geom begins result left now told mid out source source_now sink sink_now line is rose r (inr t) =
     let P : Status → Type 0 = λ s. RecordsTo geom s left now told out source source_now in
@@ -62,7 +62,7 @@ tells_source geom begins result left now told mid out source source_now sink sin
       reads = inl (r.read, r.short);
       text = r.serves.body ++ take t.1.0 source_line;
       writes = Appends-trans told mid out r.serves.body _ r.serves.told (subst Q is t.1.1);
-      output = (drop t.1.0 source_line, subst R (regroup r.serves.body source_line t.1.0) (inr (inl (rose, record { body = r.serves.body; served = in_whole geom begins _ r.serves.body r.serves.served; is = refl }))));
+      output = (drop t.1.0 source_line, subst R (regroup r.serves.body source_line t.1.0) (inr (inl (rose, record { body = r.serves.body; served = in_whole geom begins _ r.serves.body (some_read geom begins r.seen) r.serves.served; is = refl }))));
     })
 
 pub tells_long : (geom : Geometry) → BeginsEmpty geom → (result : Status) (left now told mid out : Option (List ℕ)) (source source_now sink sink_now : ℕ) (line : List ℕ) → line ≡ long_line
@@ -75,7 +75,7 @@ tells_long geom begins result left now told mid out source source_now sink sink_
       reads = (r.next, r.read, r.long);
       text = r.serves.body ++ long_line;
       writes = Appends-trans told mid out r.serves.body long_line r.serves.told (subst Q is t.1);
-      output = record { body = r.serves.body; served = in_whole geom begins _ r.serves.body r.serves.served; is = refl };
+      output = record { body = r.serves.body; served = in_whole geom begins _ r.serves.body (some_read geom begins r.seen) r.serves.served; is = refl };
     })
 tells_long geom begins result left now told mid out source source_now sink sink_now line is r (inr t) =
     let P : Status → Type 0 = λ s. RecordsTo geom s left now told out source source_now in
@@ -86,7 +86,7 @@ tells_long geom begins result left now told mid out source source_now sink sink_
       reads = inr (r.next, r.read, r.long);
       text = r.serves.body ++ take t.1.0 long_line;
       writes = Appends-trans told mid out r.serves.body _ r.serves.told (subst Q is t.1.1);
-      output = (drop t.1.0 long_line, subst R (regroup r.serves.body long_line t.1.0) (inr (inr (r.long, record { body = r.serves.body; served = in_whole geom begins _ r.serves.body r.serves.served; is = refl }))));
+      output = (drop t.1.0 long_line, subst R (regroup r.serves.body long_line t.1.0) (inr (inr (r.long, record { body = r.serves.body; served = in_whole geom begins _ r.serves.body (some_read geom begins r.seen) r.serves.served; is = refl }))));
     })
 
 pub closes_end : (geom : Geometry) → BeginsEmpty geom → (ending : Ending) (result : Status) (source source_now : ℕ) (left now told mid out : Option (List ℕ)) (sink sink_now : ℕ) (line : List ℕ) → ending ≡ End → line ≡ end_line

@@ -1,5 +1,8 @@
--- A run during which nothing happens on the disk: its trace is whole as it stands, and each crash leaves the formatted disk, which stands for point 0.
-use Rattle.std.proofs.Common.{◌≡◌, ℕ, suc, ◌<◌, max, nat_le, Bool, true, false, if◌then◌else◌, List, [], ◌∷◌, ◌++◌, length, refl, sym, ap, ap₂, ◌∙◌, subst, inl, inr, arith, take_all, append-nil}
+-- A run during which nothing happens on the disk: its trace is whole as it stands, and each crash leaves the disk as it was, which stands for point 0.
+use Rattle.std.proofs.Common.{◌≡◌, ℕ, suc, ◌<◌, ◌≤◌, ◌^◌, ◌==◌, max, nat_le, nat_lt, Bool, true, false, if◌then◌else◌, List, [], ◌∷◌, ◌++◌, length, take, refl, sym, ap, ap₂, ◌∙◌, subst, inl, inr, arith, take_all, append-nil}
+use Rattle.std.specs.List.{flat_map}
+use Rattle.std.proofs.lemmas.Bool.{and_parts}
+use Rattle.std.proofs.lemmas.Bool.Decides.{nat_tests}
 use Rattle.opt_base.specs.Seal.{Blocks}
 use Rattle.opt_disk.specs.declared.event.Event.{Event}
 use Rattle.opt_disk.specs.Crash.{IsHonest, MayHold}
@@ -7,17 +10,25 @@ use Rattle.opt_disk.specs.Cell.{cell_of}
 use Rattle.opt_geom.specs.Geometry.{Geometry, geometry_fits}
 use Rattle.opt_journal.specs.Formatted.{formatted}
 use Rattle.opt_stands.specs.Stands.{StandsFor}
+use Rattle.opt_script.specs.Grammar.{command_of}
 use Rattle.opt_script.specs.Text.{command_text, text_of_reply}
+use Rattle.opt_script.specs.Values.{IsCommand}
+use Rattle.opt_trace.specs.Contents.{Each}
 use Rattle.opt_trace.specs.Line.{geometry_line, command_line, reply_line}
 use Rattle.opt_trace.specs.Trace.{Ascend, entries}
 use Rattle.opt_tree.specs.declared.command.Cmd.{Cmd}
+use Rattle.opt_tree.specs.declared.command.Cmd.TheVariants.{Bad}
 use Rattle.opt_tree.specs.declared.command.Reply.{Reply}
+use Rattle.opt_tree.specs.declared.command.Refusal.{Refusal}
 use Rattle.opt_tree.specs.Tree.{Tree}
-use Rattle.opt_tree.specs.Step.{start, session_on}
-use Rattle.opt_tree.specs.Points.{promised_by, floor}
-use Rattle.optfs.specs.Crashes.{LeavesPoints, IsCrashConsistent}
-use Rattle.optfs.specs.Output.{Serves, IsTrace, IsFront}
+use Rattle.opt_tree.specs.Step.{Session, start}
+use Rattle.opt_tree.specs.Run.{Answers, Run, StopsAfterFault, is_of_memory}
+use Rattle.opt_tree.specs.Points.{asks_for_durability, promised_by, floor}
+use Rattle.optfs.specs.Crashes.{IsCrashConsistent}
+use Rattle.optfs.specs.Lines.{parts_of, whole_lines, commands_of_line, whole_commands, commands_of}
+use Rattle.optfs.specs.Output.{Serves, IsTrace, IsFront, longest}
 use Rattle.optfs.specs.Follows.{entry, quiet_entries, ServesQuietly}
+use Rattle.optfs.proofs.RunLemmas.{each_append}
 
 -- no event yet at each reply
 abbrev pub no_marks : List Reply → List ℕ
@@ -39,86 +50,172 @@ same_entries (cmd ∷ cmds) [] = refl
 same_entries (cmd ∷ cmds) (reply ∷ replies) = ap (λ l. entry 0 cmd reply ++ l) (same_entries cmds replies)
     ∙ ap (λ l. (l ++ reply_line 0 (text_of_reply reply)) ++ entries [] 0 cmds replies (no_marks replies)) (sym (append-nil (command_line (command_text cmd))))
 
--- The formatted disk, and each image that is like it, stands for the root alone, and the disk for no other tree.
-pub record BeginsEmpty (g : Geometry) : Type 0 where
-  pub alike : (img : Blocks) → ((b : ℕ) → b < g.n → img b ≡ formatted g b) → StandsFor g.n img (start g.i).tree
-  pub one : (t : Tree) → StandsFor g.n (formatted g) t → t ≡ (start g.i).tree
+-- images with the same first n blocks stand for the same trees
+abbrev pub StandsAlike : Type 0
+StandsAlike = (n : ℕ) (img other : Blocks) (t : Tree) → ((b : ℕ) → b < n → img b ≡ other b) → StandsFor n img t → StandsFor n other t
 
--- by the laws on the formatted disk and on images
-pub begins_empty : ((g : Geometry) (img : Blocks) → geometry_fits g ≡ true → ((b : ℕ) → b < g.n → img b ≡ formatted g b) → StandsFor g.n img (start g.i).tree)
-    → ((n : ℕ) (img : Blocks) (t u : Tree) → StandsFor n img t → StandsFor n img u → t ≡ u) → (g : Geometry) → geometry_fits g ≡ true → BeginsEmpty g
-begins_empty alike one g fits = record {
-  alike = λ img. alike g img fits;
-  one = λ t stands. one g.n (formatted g) t (start g.i).tree stands (alike g (formatted g) fits (λ b below. refl));
+-- what is known of a command that was read from a line
+abbrev pub IsReadCommand : Cmd → Type 0
+IsReadCommand cmd = IsCommand cmd × (asks_for_durability cmd ≡ false)
+
+abbrev pub AreRead : List Cmd → Type 0
+AreRead cmds = Each IsReadCommand cmds
+
+-- What is known of a geometry that fits, by laws of other crates. The formatted disk stands for the root alone, and images that are alike below the number of blocks stand for the same. The numbers are small, each line is a command that no disk is asked for, and a tree in memory meets no disk fault and promises nothing to such a command.
+pub record BeginsEmpty (g : Geometry) : Type 0 where
+  pub root : StandsFor g.n (formatted g) (start g.i).tree
+  pub alike : StandsAlike
+  pub blocks : g.n < 2 ^ 64
+  pub journal : g.j < 2 ^ 64
+  pub nodes : g.i < 2 ^ 64
+  pub lines : (line : List ℕ) → IsReadCommand (command_of line)
+  pub stops : (s end : Session) (cmds : List Cmd) (replies : List Reply) → Run is_of_memory s cmds replies end → StopsAfterFault cmds replies
+  pub quiet : (s new : Session) (cmd : Cmd) (reply : Reply) → Answers is_of_memory s cmd reply new → asks_for_durability cmd ≡ false → promised_by reply ≡ 0
+
+small : (g : Geometry) → geometry_fits g ≡ true → (g.n ≤ 1048576) × (g.j ≤ 65536) × (g.i ≤ 65536)
+unfolding geometry_fits
+small g fits =
+    let n = and_parts (nat_le 64 g.n) _ fits in
+    let low_n = and_parts (nat_le g.n 1048576) _ n.1 in
+    let j = and_parts (nat_le 16 g.j) _ low_n.1 in
+    let low_j = and_parts (nat_le g.j 65536) _ j.1 in
+    let i = and_parts (nat_le 16 g.i) _ low_j.1 in
+    let low_i = and_parts (nat_le g.i 65536) _ i.1 in
+    (below g.n 1048576 low_n.0, below g.j 65536 low_j.0, below g.i 65536 low_i.0)
+  where
+    below : (a b : ℕ) → nat_le a b ≡ true → a ≤ b
+    below a b h = grind (arith, nat_tests)
+
+-- by the laws as their crates state them
+pub begins_empty : ((g : Geometry) → geometry_fits g ≡ true → StandsFor g.n (formatted g) (start g.i).tree) → StandsAlike
+    → ((line : List ℕ) → IsCommand (command_of line)) → ((line : List ℕ) → asks_for_durability (command_of line) ≡ false)
+    → ((s end : Session) (cmds : List Cmd) (replies : List Reply) → Run is_of_memory s cmds replies end → StopsAfterFault cmds replies)
+    → ((outside : Refusal → Bool) (s new : Session) (cmd : Cmd) (reply : Reply) → Answers outside s cmd reply new → asks_for_durability cmd ≡ false → promised_by reply ≡ 0)
+    → (g : Geometry) → geometry_fits g ≡ true → BeginsEmpty g
+begins_empty root alike lawful unasked stops quiet g fits = record {
+  root = root g fits;
+  alike = alike;
+  blocks = omega (arith, (small g fits).0);
+  journal = omega (arith, (small g fits).1);
+  nodes = omega (arith, (small g fits).2);
+  lines = λ line. (lawful line, unasked line);
+  stops = stops;
+  quiet = quiet is_of_memory;
 }
 
--- Nothing is promised.
+-- Nothing is promised: no line asks for it.
 
-none_promised : (t : Bool) (reply : Reply) → (if t then promised_by reply else 0) ≡ 0
-none_promised true reply = refl
-none_promised false reply = refl
+no_floor : (g : Geometry) → BeginsEmpty g → (s end : Session) (cmds : List Cmd) (k : ℕ) (replies : List Reply) (marks : List ℕ) → AreRead cmds → Run is_of_memory s cmds replies end → floor k replies marks ≡ 0
+no_floor g begins s end [] k [] marks read run = refl
+no_floor g begins s end [] k (reply ∷ replies) marks read run = absurd run
+no_floor g begins s end (cmd ∷ cmds) k [] marks read run = refl
+no_floor g begins s end (cmd ∷ cmds) k (reply ∷ replies) [] read run = refl
+no_floor g begins s end (cmd ∷ cmds) k (reply ∷ replies) (mark ∷ marks) read run =
+    ap₂ max (counted (nat_le mark k) (begins.quiet s run.0 cmd reply run.1 read.0.1)) (no_floor g begins run.0 end cmds k replies marks read.1 run.2)
+  where
+    counted : (t : Bool) {n : ℕ} → n ≡ 0 → (if t then n else 0) ≡ 0
+    counted true e = e
+    counted false e = refl
 
-no_floor : (k : ℕ) (replies : List Reply) (marks : List ℕ) → floor k replies marks ≡ 0
-no_floor k [] marks = refl
-no_floor k (reply ∷ replies) [] = refl
-no_floor k (reply ∷ replies) (mark ∷ marks) = ap₂ max (none_promised (nat_le mark k) reply) (no_floor k replies marks)
+-- A disk without events, whatever its blocks are.
 
--- a crash of a disk without events leaves each block as it was
-untouched : (g : Geometry) (base img : Blocks) → IsHonest g.n base [] img → (b : ℕ) → b < g.n → img b ≡ base b
-untouched g base img honest b below = left (honest.leaves b below)
+-- a crash leaves each block as it was
+untouched : (n : ℕ) (base img : Blocks) → IsHonest n base [] img → (b : ℕ) → b < n → img b ≡ base b
+untouched n base img honest b below = left (honest.leaves b below)
   where
     left : MayHold (cell_of base [] b) (img b) → img b ≡ base b
     left (inl is) = is
     left (inr (inl none)) = absurd none
     left (inr (inr torn)) = absurd (omega (arith, torn.0))
 
-formatted_stands : (g : Geometry) → BeginsEmpty g → StandsFor g.n (formatted g) (start g.i).tree
-formatted_stands g begins = begins.alike (formatted g) (λ b below. refl)
+-- after a front of no events the image is one after none
+at_rest : (n k : ℕ) (base img : Blocks) → IsHonest n base (take k []) img → IsHonest n base [] img
+at_rest n k base img honest = subst (λ (l : List Event). IsHonest n base l img) (take_all k [] (omega arith)) honest
 
-leaves_root : (g : Geometry) → BeginsEmpty g → (cmds : List Cmd) (replies : List Reply) (marks : List ℕ) → LeavesPoints g.n (formatted g) (start g.i) [] 0 cmds replies marks
-leaves_root g begins cmds replies marks = record {
-  each = λ k img within honest.
-      let P : List Event → Type 0 = λ l. IsHonest g.n (formatted g) l img in
-      let calm : IsHonest g.n (formatted g) [] img = subst P (take_all k [] (omega arith)) honest in
-      let floor_is = no_floor k replies marks in
-      ∣ record {
-        number = 0;
-        point = record { tree = (start g.i).tree; begun = 0 };
-        from = omega (arith, floor_is);
-        upto = omega arith;
-        is = refl;
-        stands = begins.alike img (untouched g (formatted g) img calm);
-      } ∣₁;
+pub consistent : StandsAlike → (n limit : ℕ) (base : Blocks) (cmds : List Cmd) (replies : List Reply) (marks : List ℕ)
+    → ((k : ℕ) → floor k replies marks ≡ 0) → IsCrashConsistent n limit base [] 0 cmds replies marks
+consistent alike n limit base cmds replies marks low = record {
+  points = λ t stands. record {
+    each = λ k img within honest.
+        let same = untouched n base img (at_rest n k base img honest) in
+        ∣ record {
+          number = 0;
+          point = record { tree = t; begun = 0 };
+          from = omega (arith, low k);
+          upto = omega arith;
+          is = refl;
+          stands = alike n base img t (λ b below. sym (same b below)) stands;
+        } ∣₁;
+  };
+  none = λ no_tree. record {
+    each = λ k img within honest t stands. no_tree t (alike n img base t (untouched n base img (at_rest n k base img honest)) stands);
+  };
 }
 
-pub consistent : (g : Geometry) → BeginsEmpty g → (cmds : List Cmd) (replies : List Reply) (marks : List ℕ) → IsCrashConsistent g.n g.i (formatted g) [] 0 cmds replies marks
-consistent g begins cmds replies marks = record {
-  points = λ t stands.
-      let P : Tree → Type 0 = λ u. LeavesPoints g.n (formatted g) (session_on g.i u) [] 0 cmds replies marks in
-      subst P (sym (begins.one t stands)) (leaves_root g begins cmds replies marks);
-  none = λ no_tree. absurd (no_tree (start g.i).tree (formatted_stands g begins));
-}
+-- Commands that were read.
+
+lawful_commands : (cmds : List Cmd) → AreRead cmds → Each IsCommand cmds
+lawful_commands [] read = tt
+lawful_commands (cmd ∷ cmds) read = (read.0.0, lawful_commands cmds read.1)
+
+line_read : (g : Geometry) → BeginsEmpty g → (n : ℕ) (line : List ℕ) → AreRead (commands_of_line n line)
+line_read g begins n [] = tt
+line_read g begins n (b ∷ line) = unless (b == 35) (nat_lt n (length (b ∷ line)))
+  where
+    unless : (skipped long : Bool) → AreRead (if skipped then [] else ((if long then Bad else command_of (b ∷ line)) ∷ []))
+    unless true long = tt
+    unless false true = ((refl, refl), tt)
+    unless false false = (begins.lines (b ∷ line), tt)
+
+lines_read : (g : Geometry) → BeginsEmpty g → (n : ℕ) (lines : List (List ℕ)) → AreRead (flat_map (commands_of_line n) lines)
+lines_read g begins n [] = tt
+lines_read g begins n (line ∷ lines) =
+    each_append IsReadCommand (commands_of_line n line) (flat_map (commands_of_line n) lines) (line_read g begins n line) (lines_read g begins n lines)
+
+pub all_read : (g : Geometry) → BeginsEmpty g → (seen : List ℕ) → AreRead (commands_of longest seen)
+all_read g begins seen = lines_read g begins longest (parts_of seen)
+
+pub some_read : (g : Geometry) → BeginsEmpty g → (seen : List ℕ) → AreRead (whole_commands longest seen)
+some_read g begins seen = lines_read g begins longest (whole_lines seen)
+
+-- a run has as many replies as commands
+answered_each : (s end : Session) (cmds : List Cmd) (replies : List Reply) → Run is_of_memory s cmds replies end → length cmds ≡ length replies
+answered_each s end [] [] run = refl
+answered_each s end [] (reply ∷ replies) run = absurd run
+answered_each s end (cmd ∷ cmds) [] run = absurd run
+answered_each s end (cmd ∷ cmds) (reply ∷ replies) run = ap suc (answered_each run.0 end cmds replies run.2)
 
 -- the text of a quiet run begins a trace
-pub in_whole : (g : Geometry) → BeginsEmpty g → (cmds : List Cmd) (text : List ℕ) → ServesQuietly g cmds text → Serves g cmds text
-in_whole g begins cmds text s = record {
+pub in_whole : (g : Geometry) → BeginsEmpty g → (cmds : List Cmd) (text : List ℕ) → AreRead cmds → ServesQuietly g cmds text → Serves g cmds text
+in_whole g begins cmds text read s = record {
   log = [];
-  is_log = record { lawful = tt; events = tt };
   mounted = 0;
   replies = s.replies;
   marks = no_marks s.replies;
   after = s.after;
+  lawful = record {
+    blocks = begins.blocks;
+    journal = begins.journal;
+    nodes = begins.nodes;
+    log = record { lawful = tt; events = tt };
+    events = omega arith;
+    cmds = lawful_commands cmds read;
+    replies = s.lawful;
+    each_answered = answered_each (start g.i) s.after cmds s.replies s.run;
+    each_marked = length-no_marks s.replies;
+    ascend = no_marks-ascend s.replies;
+  };
   run = s.run;
-  each_marked = length-no_marks s.replies;
-  ascend = no_marks-ascend s.replies;
-  begins = formatted_stands g begins;
-  consistent = consistent g begins cmds s.replies (no_marks s.replies);
+  stops = begins.stops (start g.i) s.after cmds s.replies s.run;
+  begins = begins.root;
+  consistent = consistent begins.alike g.n g.i (formatted g) cmds s.replies (no_marks s.replies)
+      (λ k. no_floor g begins (start g.i) s.after cmds k s.replies (no_marks s.replies) read s.run);
   is = s.is ∙ ap (λ l. geometry_line g ++ l) (same_entries cmds s.replies)
       ∙ ap (λ l. l ++ entries [] 0 cmds s.replies (no_marks s.replies)) (sym (append-nil (geometry_line g)));
 }
 
 pub whole_trace : (g : Geometry) → BeginsEmpty g → (seen text : List ℕ) → IsTrace (ServesQuietly g) seen text → IsTrace (Serves g) seen text
-whole_trace g begins seen text t = record { body = t.body; served = in_whole g begins _ t.body t.served; is = t.is }
+whole_trace g begins seen text t = record { body = t.body; served = in_whole g begins _ t.body (all_read g begins seen) t.served; is = t.is }
 
 pub whole_front : (g : Geometry) → BeginsEmpty g → (seen text : List ℕ) → IsFront (IsTrace (ServesQuietly g) seen) text → IsFront (IsTrace (Serves g) seen) text
 whole_front g begins seen text f = (f.0, whole_trace g begins seen (text ++ f.0) f.1)

@@ -162,7 +162,7 @@ all_turn count l0 o0 t0 n0 g0 left_now out_old out_new tree line log within so_f
 -- The beginning.
 
 abbrev new_serves : (geom : Geometry) → ServesQuietly geom [] (geometry_line geom)
-new_serves geom = record { replies = []; after = start geom.i; run = refl; is = sym (append-nil (geometry_line geom)) }
+new_serves geom = record { replies = []; after = start geom.i; run = refl; lawful = tt; is = sym (append-nil (geometry_line geom)) }
 
 no_line : [] ≡ take (longest + 1) (open_line [])
 no_line = sym (take_all (longest + 1) [] (omega arith))

@@ -10,7 +10,10 @@ use Rattle.std.specs.Io.KnownBytes.{Appends}
 use Rattle.std.proofs.KnownBytes.{Appends-nil, Appends-trans}
 use Rattle.opt_tree.specs.declared.command.Cmd.{Cmd}
 use Rattle.opt_tree.specs.declared.command.Reply.{Reply}
-use Rattle.opt_tree.specs.Step.{Session, start, step}
+use Rattle.opt_tree.specs.declared.command.Reply.TheVariants.{Refused}
+use Rattle.opt_tree.specs.declared.command.Refusal.TheVariants.{NoMemory}
+use Rattle.opt_tree.specs.Step.{Session, start}
+use Rattle.opt_script.specs.Values.{IsReply}
 use Rattle.opt_tree.specs.Run.{Answers, Run, is_of_memory}
 use Rattle.optfs.specs.Lines.{open_line, whole_commands, commands_of, commands_of_line}
 use Rattle.opt_disk.specs.declared.event.Event.{Event}
@@ -20,14 +23,13 @@ use Rattle.opt_script.specs.Text.{command_text, text_of_reply}
 use Rattle.optfs.specs.Output.{IsTrace, longest}
 use Rattle.optfs.specs.Follows.{entry, quiet_entries, ServesQuietly, Served, Tried, Follows, Stopped, ServesTo}
 use Rattle.optfs.proofs.LineLemmas.{open-byte, open-feed, commands-byte, commands-feed, commands-end}
-use Rattle.optfs.proofs.RunLemmas.{joined, any_run, front_of_trace}
+use Rattle.optfs.proofs.RunLemmas.{joined, no_memory, refused_run, refused_lawful, front_of_trace}
 
 -- One command.
 
 none_tried : (cmds : List Cmd) (s : Session) (told : Option (List ℕ)) → Tried cmds s told told
 none_tried cmds s told =
-    let run = any_run s cmds in
-    record { replies = run.0; new = run.1; run = run.2; taken = 0; told = Appends-nil told }
+    record { replies = no_memory cmds; new = s; run = refused_run s cmds; lawful = refused_lawful cmds; taken = 0; told = Appends-nil told }
 
 -- a front of a text is one of a longer text
 front_of : (n : ℕ) (a b : List ℕ) → take n a ≡ take (min n (length a)) (a ++ b)
@@ -41,21 +43,21 @@ one_entry cmd reply = sym (append-nil (entry 0 cmd reply))
 line_tried : (cmd : Cmd) (s : Session) (before after : Option (List ℕ)) (n : ℕ)
     → Appends before after (take n (command_line (command_text cmd))) → Tried (cmd ∷ []) s before after
 line_tried cmd s before after n told =
-    let answer = step s cmd in
     let P : List ℕ → Type 0 = λ l. Appends before after l in
     let Q : List ℕ → Type 0 = λ l. Appends before after (take (min n (length (command_line (command_text cmd)))) l) in
     record {
-      replies = answer.1 ∷ [];
-      new = answer.0;
-      run = (answer.0, inl refl, refl);
+      replies = no_memory (cmd ∷ []);
+      new = s;
+      run = refused_run s (cmd ∷ []);
+      lawful = refused_lawful (cmd ∷ []);
       taken = min n (length (command_line (command_text cmd)));
-      told = subst Q (one_entry cmd answer.1) (subst P (front_of n (command_line (command_text cmd)) (reply_line 0 (text_of_reply answer.1))) told);
+      told = subst Q (one_entry cmd (Refused NoMemory)) (subst P (front_of n (command_line (command_text cmd)) (reply_line 0 (text_of_reply (Refused NoMemory)))) told);
     }
 
 -- the sink has the command's line, and a front of the reply's
-reply_tried : (cmd : Cmd) (s next : Session) (reply : Reply) (before mid after : Option (List ℕ)) (n : ℕ) → Answers is_of_memory s cmd reply next
+reply_tried : (cmd : Cmd) (s next : Session) (reply : Reply) (before mid after : Option (List ℕ)) (n : ℕ) → Answers is_of_memory s cmd reply next → IsReply reply
     → Appends before mid (command_line (command_text cmd)) → Appends mid after (take n (reply_line 0 (text_of_reply reply))) → Tried (cmd ∷ []) s before after
-reply_tried cmd s next reply before mid after n answer asked told =
+reply_tried cmd s next reply before mid after n answer lawful asked told =
     let line = command_line (command_text cmd) in
     let rest = reply_line 0 (text_of_reply reply) in
     let P : List ℕ → Type 0 = λ l. Appends before after l in
@@ -64,18 +66,20 @@ reply_tried cmd s next reply before mid after n answer asked told =
       replies = reply ∷ [];
       new = next;
       run = (next, answer, refl);
+      lawful = (lawful, tt);
       taken = length line + n;
       told = subst Q (one_entry cmd reply) (subst P (sym (take-append-add line rest n)) (Appends-trans before mid after line (take n rest) asked told));
     }
 
 -- the sink has the whole entry
-reply_served : (cmd : Cmd) (s next : Session) (reply : Reply) (before mid after : Option (List ℕ)) → Answers is_of_memory s cmd reply next
+reply_served : (cmd : Cmd) (s next : Session) (reply : Reply) (before mid after : Option (List ℕ)) → Answers is_of_memory s cmd reply next → IsReply reply
     → Appends before mid (command_line (command_text cmd)) → Appends mid after (reply_line 0 (text_of_reply reply)) → Served (cmd ∷ []) s next before after
-reply_served cmd s next reply before mid after answer asked told =
+reply_served cmd s next reply before mid after answer lawful asked told =
     let P : List ℕ → Type 0 = λ l. Appends before after l in
     record {
       replies = reply ∷ [];
       run = (next, answer, refl);
+      lawful = (lawful, tt);
       told = subst P (one_entry cmd reply) (Appends-trans before mid after _ _ asked told);
     }
 
@@ -99,23 +103,23 @@ line_told r moment cmd s before after text is told =
     line_cut r moment cmd s before after text (length (command_line text)) is (subst P (sym (take_all (length (command_line text)) (command_line text) (omega arith))) told)
 
 pub reply_cut : {T E : Type 0} (r : Result T E) (moment : ℕ) (cmd : Cmd) (s next : Session) (reply : Reply) (before mid after : Option (List ℕ)) (asked answered : List ℕ) (n : ℕ)
-    → Answers is_of_memory s cmd reply next → asked ≡ command_text cmd → Appends before mid (command_line asked) → answered ≡ text_of_reply reply
+    → Answers is_of_memory s cmd reply next → IsReply reply → asked ≡ command_text cmd → Appends before mid (command_line asked) → answered ≡ text_of_reply reply
     → Appends mid after (take n (reply_line moment answered)) → OnErr r (moment ≡ 0 → Tried (cmd ∷ []) s before after)
-reply_cut (Ok x) moment cmd s next reply before mid after asked answered n answer asked_is line answered_is told = tt
-reply_cut (Err e) moment cmd s next reply before mid after asked answered n answer asked_is line answered_is told = λ first.
+reply_cut (Ok x) moment cmd s next reply before mid after asked answered n answer lawful asked_is line answered_is told = tt
+reply_cut (Err e) moment cmd s next reply before mid after asked answered n answer lawful asked_is line answered_is told = λ first.
     let P : List ℕ → Type 0 = λ l. Appends before mid (command_line l) in
     let Q : ℕ → Type 0 = λ m. Appends mid after (take n (reply_line m (text_of_reply reply))) in
     let R : List ℕ → Type 0 = λ l. Appends mid after (take n (reply_line moment l)) in
-    reply_tried cmd s next reply before mid after n answer (subst P asked_is line) (subst Q first (subst R answered_is told))
+    reply_tried cmd s next reply before mid after n answer lawful (subst P asked_is line) (subst Q first (subst R answered_is told))
 
 pub one_served : (moment : ℕ) (cmd : Cmd) (s next : Session) (reply : Reply) (before mid after : Option (List ℕ)) (asked answered : List ℕ)
-    → Answers is_of_memory s cmd reply next → asked ≡ command_text cmd → Appends before mid (command_line asked) → answered ≡ text_of_reply reply
+    → Answers is_of_memory s cmd reply next → IsReply reply → asked ≡ command_text cmd → Appends before mid (command_line asked) → answered ≡ text_of_reply reply
     → Appends mid after (reply_line moment answered) → moment ≡ 0 → Served (cmd ∷ []) s next before after
-one_served moment cmd s next reply before mid after asked answered answer asked_is line answered_is told first =
+one_served moment cmd s next reply before mid after asked answered answer lawful asked_is line answered_is told first =
     let P : List ℕ → Type 0 = λ l. Appends before mid (command_line l) in
     let Q : ℕ → Type 0 = λ m. Appends mid after (reply_line m (text_of_reply reply)) in
     let R : List ℕ → Type 0 = λ l. Appends mid after (reply_line moment l) in
-    reply_served cmd s next reply before mid after answer (subst P asked_is line) (subst Q first (subst R answered_is told))
+    reply_served cmd s next reply before mid after answer lawful (subst P asked_is line) (subst Q first (subst R answered_is told))
 
 -- The line that is kept.
 
@@ -175,7 +179,7 @@ pub follows_feed : (geom : Geometry) (seen : List ℕ) (before mid after : Optio
     → Follows geom seen before mid tree line log → Served (commands_of_line longest line) tree next mid after → Follows geom (seen ++ 10 ∷ []) before after next [] log
 follows_feed geom seen before mid after tree next line log f s = record {
   body = f.body ++ quiet_entries (commands_of_line longest line) s.replies;
-  served = joined geom _ _ _ f.body f.served tree next s.replies f.tree_is s.run (same_commands seen line f.kept ∙ sym (commands-feed longest seen));
+  served = joined geom _ _ _ f.body f.served tree next s.replies f.tree_is s.run s.lawful (same_commands seen line f.kept ∙ sym (commands-feed longest seen));
   tree_is = refl;
   told = Appends-trans before mid after _ _ f.told s.told;
   kept = sym (ap (take (longest + 1)) (open-feed seen) ∙ take_all (longest + 1) [] (omega arith));
@@ -186,7 +190,7 @@ pub stopped_feed : (geom : Geometry) (seen more : List ℕ) (before mid after : 
     → Follows geom seen before mid tree line log → Tried (commands_of_line longest line) tree mid after → Stopped geom (seen ++ 10 ∷ more) before after
 stopped_feed geom seen more before mid after tree line log f s =
     let written = quiet_entries (commands_of_line longest line) s.replies in
-    let served = joined geom (whole_commands longest seen) (commands_of_line longest line) (whole_commands longest (seen ++ 10 ∷ [])) f.body f.served tree s.new s.replies f.tree_is s.run (same_commands seen line f.kept ∙ sym (commands-feed longest seen)) in
+    let served = joined geom (whole_commands longest seen) (commands_of_line longest line) (whole_commands longest (seen ++ 10 ∷ [])) f.body f.served tree s.new s.replies f.tree_is s.run s.lawful (same_commands seen line f.kept ∙ sym (commands-feed longest seen)) in
     let whole = front_of_trace geom (seen ++ 10 ∷ []) more (f.body ++ written) served in
     let P : List ℕ → Type 0 = λ l. IsTrace (ServesQuietly geom) l (f.body ++ take s.taken written ++ (drop s.taken written ++ whole.0)) in
     let Q : List ℕ → Type 0 = λ l. IsTrace (ServesQuietly geom) ((seen ++ 10 ∷ []) ++ more) l in
@@ -205,6 +209,7 @@ follows_byte geom seen b before after tree line grown log no_feed f kept =
       served = record {
         replies = f.served.replies;
         after = f.served.after;
+        lawful = f.served.lawful;
         run = (let Q : List Cmd → Type 0 = λ l. Run is_of_memory (start geom.i) l f.served.replies f.served.after in subst Q (sym (commands-byte longest seen b no_feed)) f.served.run);
         is = f.served.is ∙ ap (λ l. geometry_line geom ++ quiet_entries l f.served.replies) (sym (commands-byte longest seen b no_feed));
       };
@@ -224,7 +229,7 @@ pub serves_end : (geom : Geometry) (seen : List ℕ) (before mid after : Option 
     → Follows geom seen before mid tree line log → Served (commands_of_line longest line) tree next mid after → ServesTo geom (commands_of longest seen) before after
 serves_end geom seen before mid after tree next line log f s = record {
   body = f.body ++ quiet_entries (commands_of_line longest line) s.replies;
-  served = joined geom _ _ _ f.body f.served tree next s.replies f.tree_is s.run (same_commands seen line f.kept);
+  served = joined geom _ _ _ f.body f.served tree next s.replies f.tree_is s.run s.lawful (same_commands seen line f.kept);
   told = Appends-trans before mid after _ _ f.told s.told;
 }
 
@@ -232,7 +237,7 @@ pub stopped_end : (geom : Geometry) (seen : List ℕ) (before mid after : Option
     → Follows geom seen before mid tree line log → Tried (commands_of_line longest line) tree mid after → Stopped geom seen before after
 stopped_end geom seen before mid after tree line log f s =
     let written = quiet_entries (commands_of_line longest line) s.replies in
-    let served = joined geom (whole_commands longest seen) (commands_of_line longest line) (commands_of longest seen) f.body f.served tree s.new s.replies f.tree_is s.run (same_commands seen line f.kept) in
+    let served = joined geom (whole_commands longest seen) (commands_of_line longest line) (commands_of longest seen) f.body f.served tree s.new s.replies f.tree_is s.run s.lawful (same_commands seen line f.kept) in
     let Q : List ℕ → Type 0 = λ l. IsTrace (ServesQuietly geom) seen l in
     record {
       text = f.body ++ take s.taken written;

@@ -5,6 +5,8 @@ use Rattle.opt_base.specs.Counts.{Rose}
 use Rattle.opt_disk.specs.declared.event.Event.{Event}
 use Rattle.opt_geom.specs.Geometry.{Geometry}
 use Rattle.opt_script.specs.Text.{command_text, text_of_reply}
+use Rattle.opt_script.specs.Values.{IsReply}
+use Rattle.opt_trace.specs.Contents.{Each}
 use Rattle.opt_trace.specs.Line.{geometry_line, command_line, reply_line}
 use Rattle.opt_tree.specs.declared.command.Cmd.{Cmd}
 use Rattle.opt_tree.specs.declared.command.Reply.{Reply}
@@ -30,12 +32,14 @@ pub record ServesQuietly (g : Geometry) (cmds : List Cmd) (text : List ℕ) : Ty
   pub replies : List Reply
   pub after : Session
   pub run : Run is_of_memory (start g.i) cmds replies after
+  pub lawful : Each IsReply replies
   pub is : text ≡ geometry_line g ++ quiet_entries cmds replies
 
 -- These commands were answered, and the sink took their entries.
 pub record Served (cmds : List Cmd) (old new : Session) (before after : Option (List ℕ)) : Type 0 where
   pub replies : List Reply
   pub run : Run is_of_memory old cmds replies new
+  pub lawful : Each IsReply replies
   pub told : Appends before after (quiet_entries cmds replies)
 
 -- These commands are answered somehow, and the sink took a front of their entries.
@@ -43,6 +47,7 @@ pub record Tried (cmds : List Cmd) (old : Session) (before after : Option (List 
   pub replies : List Reply
   pub new : Session
   pub run : Run is_of_memory old cmds replies new
+  pub lawful : Each IsReply replies
   pub taken : ℕ
   pub told : Appends before after (take taken (quiet_entries cmds replies))
 

@@ -1,37 +1,43 @@
 -- What the program writes for the bytes that it read, status by status. It is described in docs/TRACE.md.
 use Rattle.std.specs.Prelude.{◌≡◌, ℕ, ◌^◌, ◌≤◌, ◌⊎◌, List, [], ◌∷◌, ◌++◌, codes, length}
 use Rattle.opt_disk.specs.declared.event.Event.{Event}
-use Rattle.opt_disk.specs.Lawful.{IsLogOf}
 use Rattle.opt_geom.specs.Geometry.{Geometry}
 use Rattle.opt_journal.specs.Formatted.{formatted}
 use Rattle.opt_stands.specs.Stands.{StandsFor}
 use Rattle.opt_trace.specs.Line.{end_line}
-use Rattle.opt_trace.specs.Trace.{Ascend, trace_front}
+use Rattle.opt_trace.specs.Contents.{Contents, AreLawful, front_of}
 use Rattle.opt_tree.specs.declared.command.Cmd.{Cmd}
 use Rattle.opt_tree.specs.declared.command.Reply.{Reply}
 use Rattle.opt_tree.specs.Step.{Session, start}
-use Rattle.opt_tree.specs.Run.{Run, is_of_memory}
+use Rattle.opt_tree.specs.Run.{Run, StopsAfterFault, is_of_memory}
 use Rattle.optfs.specs.Lines.{whole_commands, commands_of}
 use Rattle.optfs.specs.Crashes.{IsCrashConsistent}
 use Rattle.optfs.specs.declared.status.Status.{Status}
 use Rattle.optfs.specs.declared.status.Status.TheVariants.{Done, Usage, NoMemory, SourceFault, SinkFault, BadShape, LongInput}
 
+-- what the trace of a run on a disk of this geometry says
+abbrev pub says : Geometry → List Event → ℕ → List Cmd → List Reply → List ℕ → Contents
+says g log mounted cmds replies marks = record { geometry = g; log = log; mounted = mounted; cmds = cmds; replies = replies; marks = marks }
+
 -- The text begins the trace of a run of these commands on a disk that was formatted with this geometry: each command is answered in turn by the tree, or it is out of memory, and every crash leaves a sync point.
 pub record Serves (g : Geometry) (cmds : List Cmd) (text : List ℕ) : Type 0 where
   -- all events of the disk, and how many of them are the mount's
   pub log : List Event
-  pub is_log : IsLogOf g.n log
   pub mounted : ℕ
   pub replies : List Reply
   -- for each reply, how many events there were when it came
   pub marks : List ℕ
   pub after : Session
+  pub lawful : AreLawful (says g log mounted cmds replies marks)
   pub run : Run is_of_memory (start g.i) cmds replies after
-  pub each_marked : length marks ≡ length replies
-  pub ascend : Ascend mounted marks (length log)
+  pub stops : StopsAfterFault cmds replies
   pub begins : StandsFor g.n (formatted g) (start g.i).tree
   pub consistent : IsCrashConsistent g.n g.i (formatted g) log mounted cmds replies marks
-  pub is : text ≡ trace_front g log mounted cmds replies marks
+  pub is : text ≡ front_of (says g log mounted cmds replies marks)
+
+-- what such a text says
+abbrev pub contents : (g : Geometry) (cmds : List Cmd) (text : List ℕ) → Serves g cmds text → Contents
+contents g cmds text s = says g s.log s.mounted cmds s.replies s.marks
 
 -- the longest line, in bytes
 unfoldable pub longest : ℕ

@@ -4,6 +4,7 @@
 #![tactic(auto)]
 
 mod formatting;
+mod laws;
 mod lines;
 mod program;
 mod reading;
@@ -14,6 +15,7 @@ mod tests;
 #[cfg(test)]
 mod tree_tests;
 
+pub use laws::{a_disk_at_rest_is_crash_consistent, a_text_is_served_in_one_way};
 use opt_io::{ReadSource, WriteSink};
 use opt_memdisk::MemBay;
 use program::ROOM;

@@ -20,8 +20,10 @@ use opt_disk::Bay;
 use opt_geom::{BadShape, Geom};
 use opt_io::{Sink, SinkFault, Source, push_all};
 use opt_memdisk::MemDisk;
-use opt_stands::{an_image_stands_for_one_tree, the_formatted_disk_stands_for_the_root};
+use opt_script::lines_are_commands;
+use opt_stands::{images_alike_below_n_stand_for_the_same, the_formatted_disk_stands_for_the_root};
 use opt_trace::{write_end, write_geom};
+use opt_tree::{a_fault_ends_the_session, no_other_command_is_promised_a_point};
 use opt_words::{Request, read_words};
 use std::alloc::Global;
 
@@ -50,7 +52,10 @@ pub fn optfs<S: Source, K: Sink, Y: Bay>(
     ensures bay { bay.new ≡ bay.old }
 {
     the_formatted_disk_stands_for_the_root();
-    an_image_stands_for_one_tree();
+    images_alike_below_n_stand_for_the_same();
+    lines_are_commands();
+    a_fault_ends_the_session();
+    no_other_command_is_promised_a_point();
     match read_words(alloc, words) {
         Err(NoMemory) => Status::NoMemory,
         Ok(None) => tell(out, USAGE, Status::Usage),
@@ -87,7 +92,10 @@ fn record<S: Source, K: Sink>(alloc: Global, geom: &Geom, input: &mut S, out: &m
 {
     geom.lawful();
     the_formatted_disk_stands_for_the_root();
-    an_image_stands_for_one_tree();
+    images_alike_below_n_stand_for_the_same();
+    lines_are_commands();
+    a_fault_ends_the_session();
+    no_other_command_is_promised_a_point();
     match record_lines(alloc, geom, input, out) {
         Err(Stop::NoMemory) => Status::NoMemory,
         Err(Stop::SinkFault) => Status::SinkFault,

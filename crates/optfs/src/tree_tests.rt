@@ -1,6 +1,6 @@
-//! What no row of `opt_rows` and no script can say of the tree in memory: a write of no bytes, a path that
-//! is copied, and a sink that is full before the listing ends. All other tests of the tree are rows, in
-//! crates/opt_rows/stdin.
+//! What no row of `opt_rows` and no script can say of the tree in memory: a write of no bytes, the commands
+//! that no line asks for, and a sink that is full before the listing ends. All other tests of the tree are
+//! rows, in crates/opt_rows/stdin.
 
 use opt_base::{Bytes, Name};
 use opt_io::MemSink;
@@ -31,6 +31,38 @@ fn a_write_of_no_bytes_makes_no_point(rt: HostRuntime) -> Result<(), Fail> {
     let write = Cmd::Write(path, 3, Bytes::new(alloc));
     assert!(rt; matches!(tree.apply(alloc, &write), Reply::Ok));
     assert!(rt; matches!(tree.apply(alloc, &Cmd::Osync), Reply::Synced(1)));
+    Ok(())
+}
+
+// A dsync makes a point as an osync does, and the last point that it answered is the one that is known.
+#[test]
+fn a_dsync_answers_the_last_point_and_makes_it_known(rt: HostRuntime) -> Result<(), Fail> {
+    let alloc = rt.alloc();
+    let path = path(alloc)?;
+    let mut tree = PlainTree::new(alloc, 8)?;
+    for (cmd, reply) in [
+        (Cmd::Durable, Reply::Known(0)),
+        (Cmd::Dsync, Reply::DurableAt(0)),
+        (Cmd::Create(path.copy(alloc)?), Reply::Ok),
+        (Cmd::Osync, Reply::Synced(1)),
+        (Cmd::Osync, Reply::Synced(1)),
+        (Cmd::Durable, Reply::Known(0)),
+        (Cmd::Dsync, Reply::DurableAt(1)),
+        (Cmd::Durable, Reply::Known(1)),
+        (Cmd::Unlink(path.copy(alloc)?), Reply::Ok),
+        (Cmd::Poll, Reply::Ok),
+        (Cmd::Dsync, Reply::DurableAt(2)),
+        (Cmd::Osync, Reply::Synced(2)),
+        (Cmd::Create(path.copy(alloc)?), Reply::Ok),
+        (Cmd::Osync, Reply::Synced(3)),
+        (Cmd::Durable, Reply::Known(2)),
+        (Cmd::Dsync, Reply::DurableAt(3)),
+        (Cmd::Durable, Reply::Known(3)),
+    ] {
+        let figures = tree.figures_of(alloc, &cmd, 1)?;
+        assert!(rt; tree.apply(alloc, &cmd) == reply);
+        assert!(rt; figures == (0, 0, 0) || reply == Reply::Ok);
+    }
     Ok(())
 }
 

@@ -2,7 +2,7 @@
 use Rattle.std.proofs.Common.{◌≡◌, ℕ, Bool, true, false, if◌then◌else◌, List, [], length, Option, Some, None, option_map, option_and_then, refl, sym, ap, ap₂, ◌∙◌, eq-eqb}
 use Rattle.std.specs.FinMap.{get}
 use Rattle.opt_tree.specs.declared.command.Cmd.{Cmd}
-use Rattle.opt_tree.specs.declared.command.Cmd.TheVariants.{Mkdir, Create, Write, Fill, Read, Truncate, Link, Unlink, Rmdir, Rename, Stat, List as ListNames, Osync, Bad}
+use Rattle.opt_tree.specs.declared.command.Cmd.TheVariants.{Mkdir, Create, Write, Fill, Read, Truncate, Link, Unlink, Rmdir, Rename, Stat, List as ListNames, Osync, Dsync, Durable, Poll, Bad}
 use Rattle.opt_tree.specs.declared.command.Reply.TheVariants.{Ok as Done}
 use Rattle.opt_tree.specs.declared.command.Refusal.{Refusal}
 use Rattle.opt_tree.specs.Walk.{bytes_in, content, are_same, is_same_node}
@@ -46,6 +46,9 @@ looked s (Rename from to) e = absurd cc
 looked s (Stat path) e = ap (λ s. s.tree) (left s (Stat path) refl)
 looked s (ListNames path) e = ap (λ s. s.tree) (left s (ListNames path) refl)
 looked s Osync e = synced s s.changed
+looked s Dsync e = synced s s.changed
+looked s Durable e = refl
+looked s Poll e = refl
 looked s Bad e = refl
 
 -- a write of no bytes

@@ -1,7 +1,7 @@
 -- Each command is refused by the tree for the reason that the inode map gives.
 use Rattle.std.proofs.Common.{◌≡◌, ℕ, Bool, ◌&&◌, List, ◌∷◌, length, nat_le, is_none, Option, None, if◌then◌else◌, refl, ap, ap₂}
 use Rattle.opt_tree.specs.declared.command.Cmd.{Cmd}
-use Rattle.opt_tree.specs.declared.command.Cmd.TheVariants.{Mkdir, Create, Write, Fill, Read, Truncate, Link, Unlink, Rmdir, Rename, Stat, List as ListNames, Osync, Bad}
+use Rattle.opt_tree.specs.declared.command.Cmd.TheVariants.{Mkdir, Create, Write, Fill, Read, Truncate, Link, Unlink, Rmdir, Rename, Stat, List as ListNames, Osync, Dsync, Durable, Poll, Bad}
 use Rattle.opt_tree.specs.declared.command.Refusal.{Refusal}
 use Rattle.opt_tree.specs.declared.command.Refusal.TheVariants.{Exists, NotDir, IsDir, NotEmpty, BelowItself, TooManyLinks, NoNode}
 use Rattle.opt_tree.specs.Tree.{Tree}
@@ -97,4 +97,7 @@ module _ (laws : TreeLaws) (limit : ℕ) (m : Inodes) (t : Tree) (a : Agrees lim
   reason_given (Stat path) = walk_given path
   reason_given (ListNames path) = list_given path
   reason_given Osync = refl
+  reason_given Dsync = refl
+  reason_given Durable = refl
+  reason_given Poll = refl
   reason_given Bad = refl

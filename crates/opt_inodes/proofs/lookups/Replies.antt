@@ -1,9 +1,9 @@
--- What each command but a sync answers, from inodes.
+-- What each command that answers no point answers, from inodes.
 use Rattle.std.proofs.Common.{◌≡◌, ℕ, ◌*◌, ◌==◌, Bool, true, false, true≢false, if◌then◌else◌, List, length, take, drop, replicate, Option, Some, None, option_map, option_and_then, refl, sym, ap, ◌∙◌}
 use Rattle.std.specs.FinMap.{get}
 use Rattle.opt_layout.specs.declared.slot.Slot.{Slot}
 use Rattle.opt_tree.specs.declared.command.Cmd.{Cmd}
-use Rattle.opt_tree.specs.declared.command.Cmd.TheVariants.{Mkdir, Create, Write, Fill, Read, Truncate, Link, Unlink, Rmdir, Rename, Stat, List as ListNames, Osync, Bad}
+use Rattle.opt_tree.specs.declared.command.Cmd.TheVariants.{Mkdir, Create, Write, Fill, Read, Truncate, Link, Unlink, Rmdir, Rename, Stat, List as ListNames, Osync, Dsync, Durable, Poll, Bad}
 use Rattle.opt_tree.specs.declared.command.Kind.TheVariants.{Dir as DirKind, File as FileKind}
 use Rattle.opt_tree.specs.declared.command.Reply.TheVariants.{Ok as Done, Bytes, Stat as StatReply, Names as NamesReply}
 use Rattle.opt_tree.specs.declared.command.Refusal.{Refusal}
@@ -11,7 +11,7 @@ use Rattle.opt_tree.specs.Tree.{Tree}
 use Rattle.opt_tree.specs.Names.{names_in}
 use Rattle.opt_tree.specs.Walk.{content, is_same_node}
 use Rattle.opt_tree.specs.Conditions.{refusal}
-use Rattle.opt_tree.specs.Points.{is_sync}
+use Rattle.opt_tree.specs.Points.{answers_point}
 use Rattle.opt_tree.specs.Step.{Session, step, answered, accepted, changed_to, edited, written, resized, moved, removed, stat_of, stat_by as tree_stat, stat}
 use Rattle.opt_stands.specs.Inodes.{Inode, Inodes, ADir, AFile, thing_of}
 use Rattle.opt_inodes.specs.Lookups.{slots_of, inode_at}
@@ -55,7 +55,7 @@ either_done s t false = refl
 
 module _ (laws : TreeLaws) (s : Session) (m : Inodes) (a : Agrees s.limit m s.tree) where
   -- the reply of a command that isn't refused
-  accepted_given : (cmd : Cmd) → is_sync cmd ≡ false → (accepted s cmd).1 ≡ accepted_reply m cmd
+  accepted_given : (cmd : Cmd) → answers_point cmd ≡ false → (accepted s cmd).1 ≡ accepted_reply m cmd
   accepted_given (Mkdir path) e = refl
   accepted_given (Create path) e = refl
   accepted_given (Write path offset bytes) e = either_done s (edited s.tree path (written offset bytes)) (length bytes == 0)
@@ -69,13 +69,16 @@ module _ (laws : TreeLaws) (s : Session) (m : Inodes) (a : Agrees s.limit m s.tr
   accepted_given (Stat path) e = stat_given s.limit m s.tree a path
   accepted_given (ListNames path) e = ap NamesReply (names_are s.limit m s.tree a path)
   accepted_given Osync e = absurd (true≢false e)
+  accepted_given Dsync e = absurd (true≢false e)
+  accepted_given Durable e = absurd (true≢false e)
+  accepted_given Poll e = refl
   accepted_given Bad e = refl
 
   -- refused or not
-  reply_given_by : (cmd : Cmd) → is_sync cmd ≡ false → (r : Option Refusal) → (answered s cmd r).1 ≡ reply_by m cmd r
+  reply_given_by : (cmd : Cmd) → answers_point cmd ≡ false → (r : Option Refusal) → (answered s cmd r).1 ≡ reply_by m cmd r
   reply_given_by cmd e (Some why) = refl
   reply_given_by cmd e None = accepted_given cmd e
 
-  -- the reply of each command but a sync
-  pub reply_given : (cmd : Cmd) → is_sync cmd ≡ false → (step s cmd).1 ≡ reply_of s.limit m cmd
+  -- the reply of each command that answers no point
+  pub reply_given : (cmd : Cmd) → answers_point cmd ≡ false → (step s cmd).1 ≡ reply_of s.limit m cmd
   reply_given cmd e = reply_given_by cmd e (refusal s.limit s.tree cmd) ∙ ap (reply_by m cmd) (reason_given laws s.limit m s.tree a cmd)

@@ -3,7 +3,7 @@ use Rattle.std.proofs.Common.{◌≡◌, ℕ, ◌+◌, ◌-◌, ◌<◌, ◌≤�
 use Rattle.std.proofs.lemmas.Bool.{ltb-true, ltb-false}
 use Rattle.std.proofs.lemmas.List.{length-replicate}
 use Rattle.opt_tree.specs.declared.command.Cmd.{Cmd}
-use Rattle.opt_tree.specs.declared.command.Cmd.TheVariants.{Mkdir, Create, Write, Fill, Read, Truncate, Link, Unlink, Rmdir, Rename, Stat, List as ListNames, Osync, Bad}
+use Rattle.opt_tree.specs.declared.command.Cmd.TheVariants.{Mkdir, Create, Write, Fill, Read, Truncate, Link, Unlink, Rmdir, Rename, Stat, List as ListNames, Osync, Dsync, Durable, Poll, Bad}
 use Rattle.opt_tree.specs.declared.command.Reply.TheVariants.{Ok as Done}
 use Rattle.opt_tree.specs.declared.command.Refusal.{Refusal}
 use Rattle.opt_tree.specs.declared.command.Refusal.TheVariants.{IsDir, TooLarge}
@@ -93,6 +93,9 @@ accepted_tells bitmap s (Rename from to) ok e = choice_tells s (moved (removed s
 accepted_tells bitmap s (Stat path) ok e = refl
 accepted_tells bitmap s (ListNames path) ok e = refl
 accepted_tells bitmap s Osync ok e = osync_tells s s.changed
+accepted_tells bitmap s Dsync ok e = osync_tells s s.changed
+accepted_tells bitmap s Durable ok e = refl
+accepted_tells bitmap s Poll ok e = refl
 accepted_tells bitmap s Bad ok e = refl
 
 pub figures_tell : (bitmap : ℕ) (s : Session) (cmd : Cmd) → IsSound s.limit s.tree → blocks (step s cmd).0.tree + (figures bitmap s cmd).freed ≡ blocks s.tree + (figures bitmap s cmd).need

@@ -3,7 +3,7 @@ use Rattle.std.proofs.Common.{◌≡◌, ℕ, ◌+◌, ◌-◌, ◌<◌, ◌≤�
 use Rattle.std.proofs.lemmas.Bool.{cases_lt, eqb-false}
 use Rattle.std.proofs.lemmas.List.{length-replicate}
 use Rattle.opt_tree.specs.declared.command.Cmd.{Cmd}
-use Rattle.opt_tree.specs.declared.command.Cmd.TheVariants.{Mkdir, Create, Write, Fill, Read, Truncate, Link, Unlink, Rmdir, Rename, Stat, List as ListNames, Osync, Bad}
+use Rattle.opt_tree.specs.declared.command.Cmd.TheVariants.{Mkdir, Create, Write, Fill, Read, Truncate, Link, Unlink, Rmdir, Rename, Stat, List as ListNames, Osync, Dsync, Durable, Poll, Bad}
 use Rattle.opt_tree.specs.declared.command.Reply.TheVariants.{Ok as Done}
 use Rattle.opt_tree.specs.declared.command.Refusal.{Refusal}
 use Rattle.opt_tree.specs.Tree.{Tree}
@@ -84,6 +84,9 @@ answered_costs bitmap s (Rename from to) None e =
 answered_costs bitmap s (Stat path) None e = or_false s.changed
 answered_costs bitmap s (ListNames path) None e = or_false s.changed
 answered_costs bitmap s Osync None e = absurd cc
+answered_costs bitmap s Dsync None e = absurd cc
+answered_costs bitmap s Durable None e = or_false s.changed
+answered_costs bitmap s Poll None e = or_false s.changed
 answered_costs bitmap s Bad None e = or_false s.changed
 
 pub changed_where_it_costs : (bitmap : ℕ) (s : Session) (cmd : Cmd) → is_sync cmd ≡ false → (step s cmd).0.changed ≡ (s.changed || nat_lt 0 (figures bitmap s cmd).cost)

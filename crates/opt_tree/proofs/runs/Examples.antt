@@ -17,10 +17,10 @@ use Rattle.opt_tree.proofs.basics.Order.{path_total, path_same}
 use Rattle.opt_tree.proofs.basics.Finds.{put_out}
 use Rattle.opt_tree.proofs.counting.PathCounts.{none_in}
 
-name_at : (names : Names) (k : List (List ℕ)) (v : ℕ) (q : List (List ℕ)) → get (insert names k v) q ≡ cond (eq_by_cmp path_cmp q k) (Some v) (get names q)
+pub name_at : (names : Names) (k : List (List ℕ)) (v : ℕ) (q : List (List ℕ)) → get (insert names k v) q ≡ cond (eq_by_cmp path_cmp q k) (Some v) (get names q)
 name_at names k v q = get-insert path_total names k v q
 
-node_at : (nodes : Nodes) (k : ℕ) (v : Thing) (q : ℕ) → get (insert nodes k v) q ≡ cond (eq_by_cmp nat_cmp q k) (Some v) (get nodes q)
+pub node_at : (nodes : Nodes) (k : ℕ) (v : Thing) (q : ℕ) → get (insert nodes k v) q ≡ cond (eq_by_cmp nat_cmp q k) (Some v) (get nodes q)
 node_at nodes k v q = get-insert nat_cmp_total nodes k v q
 
 no_name : (q : List (List ℕ)) → get (empty {X = ℕ} {R = path_cmp}) q ≡ None
@@ -38,7 +38,7 @@ all_nodes nodes k v = entries-insert nat_cmp_total nodes k v
 none_of : entries (empty {X = Thing} {R = nat_cmp}) ≡ []
 none_of = nil_from_length (entries (empty {X = Thing} {R = nat_cmp})) (sym (len-entries (empty {X = Thing} {R = nat_cmp})) ∙ len-empty nat_cmp Thing)
 
-abbrev a : List (List ℕ)
+abbrev pub a : List (List ℕ)
 a = codes "a" ∷ []
 
 abbrev b : List (List ℕ)
@@ -48,17 +48,17 @@ abbrev c : List (List ℕ)
 c = codes "c" ∷ []
 
 abbrev changed_to_tree : Names → Nodes → Session
-changed_to_tree names nodes = record { tree = record { names = names; nodes = nodes }; limit = 16; points = 0; changed = true }
+changed_to_tree names nodes = record { tree = record { names = names; nodes = nodes }; limit = 16; points = 0; changed = true; durable = 0 }
 
 -- One file with two paths.
 
-abbrev with_a : Session
+abbrev pub with_a : Session
 with_a = changed_to_tree (insert (insert empty [] 1) a 2) (insert (insert empty 1 Dir) 2 (File []))
 
 abbrev with_link : Session
 with_link = changed_to_tree (insert (insert (insert empty [] 1) a 2) b 2) (insert (insert empty 1 Dir) 2 (File []))
 
-create_a : step (start 16) (Create a) ≡ (with_a, Done)
+pub create_a : step (start 16) (Create a) ≡ (with_a, Done)
 unfolding least_unused
 create_a = simp (name_at, node_at, no_name, no_node)
 

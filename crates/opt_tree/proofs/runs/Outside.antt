@@ -1,8 +1,9 @@
 -- The reasons from outside the tree: none of them is one of the tree's own, and a run with some of them is one with more.
 use Rattle.std.proofs.Common.{◌≡◌, ◌==◌, ◌⊎◌, ℕ, ◌+◌, nat_lt, nat_le, is_none, Bool, true, false, if◌then◌else◌, ◌&&◌, List, [], ◌∷◌, ◌++◌, length, replicate, Option, Some, None, Result, Ok, Err, refl, sym, ap, ◌∙◌, inl, inr, subst}
 use Rattle.std.specs.FinMap.{get}
+use Rattle.std.proofs.lemmas.Bool.{false≢true}
 use Rattle.opt_tree.specs.declared.command.Cmd.{Cmd}
-use Rattle.opt_tree.specs.declared.command.Cmd.TheVariants.{Mkdir, Create, Write, Fill, Read, Truncate, Link, Unlink, Rmdir, Rename, Stat, List as ListNames, Osync, Bad}
+use Rattle.opt_tree.specs.declared.command.Cmd.TheVariants.{Mkdir, Create, Write, Fill, Read, Truncate, Link, Unlink, Rmdir, Rename, Stat, List as ListNames, Osync, Dsync, Durable, Poll, Bad}
 use Rattle.opt_tree.specs.declared.command.Reply.{Reply}
 use Rattle.opt_tree.specs.declared.command.Reply.TheVariants.{Ok as Done, Refused}
 use Rattle.opt_tree.specs.declared.command.Refusal.{Refusal}
@@ -112,6 +113,9 @@ refusal_own limit t (Rename from to) =
 refusal_own limit t (Stat path) = a_walk t path
 refusal_own limit t (ListNames path) = one (walk_refusal t path) (is_file (thing_at t path)) NotDir (a_walk t path) refl
 refusal_own limit t Osync = tt
+refusal_own limit t Dsync = tt
+refusal_own limit t Durable = tt
+refusal_own limit t Poll = tt
 refusal_own limit t Bad = tt
 
 -- a reply that is no refusal, or one of the tree's own
@@ -151,6 +155,9 @@ answered_own s (Rename from to) None own = choice_own s (moved (removed s.tree t
 answered_own s (Stat path) None own = stat_own s.tree path (get s.tree.names path)
 answered_own s (ListNames path) None own = tt
 answered_own s Osync None own = osync_own s s.changed
+answered_own s Dsync None own = tt
+answered_own s Durable None own = tt
+answered_own s Poll None own = tt
 answered_own s Bad None own = tt
 
 step_own : (s : Session) (cmd : Cmd) → OwnReply (step s cmd).1
@@ -181,14 +188,21 @@ reason_of _ = NoMemory
 
 pub memory_alone : (old new : Session) (cmd : Cmd) (why : Refusal) → Answers is_of_memory old cmd (Refused why) new → (is_of_disk why ≡ false) ⊎ (why ≡ NoMemory)
 memory_alone old new cmd why (inl is) = inl (subst OwnReply (ap (λ a. a.1) is) (step_own old cmd))
-memory_alone old new cmd why (inr h) = inr (ap reason_of h.2 ∙ memory_is h.0 h.1)
+memory_alone old new cmd why (inr (inl h)) = inr (ap reason_of h.2 ∙ memory_is h.0 h.1)
+memory_alone old new cmd why (inr (inr h)) = absurd (false≢true h.0)
+
+pub memory_exact : (old new : Session) (cmd : Cmd) (reply : Reply) → Answers is_of_memory old cmd reply new → (step old cmd ≡ (new, reply)) ⊎ ((reply ≡ Refused NoMemory) × (new ≡ old))
+memory_exact old new cmd reply (inl is) = inl is
+memory_exact old new cmd reply (inr (inl h)) = inr (h.2 ∙ ap Refused (memory_is h.0 h.1), h.3)
+memory_exact old new cmd reply (inr (inr h)) = absurd (false≢true h.0)
 
 -- More reasons from outside, and the same runs.
 
 answer_more : (few more : Refusal → Bool) → ((why : Refusal) → few why ≡ true → more why ≡ true) → (old new : Session) (cmd : Cmd) (reply : Reply)
     → Answers few old cmd reply new → Answers more old cmd reply new
 answer_more few more wider old new cmd reply (inl is) = inl is
-answer_more few more wider old new cmd reply (inr h) = inr (h.0, wider h.0 h.1, h.2, h.3)
+answer_more few more wider old new cmd reply (inr (inl h)) = inr (inl (h.0, wider h.0 h.1, h.2, h.3))
+answer_more few more wider old new cmd reply (inr (inr h)) = inr (inr (wider DiskFault h.0, h.1))
 
 run_wider : (few more : Refusal → Bool) → ((why : Refusal) → few why ≡ true → more why ≡ true) → (s : Session) (cmds : List Cmd) (replies : List Reply) (end : Session)
     → Run few s cmds replies end → Run more s cmds replies end

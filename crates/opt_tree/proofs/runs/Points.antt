@@ -1,9 +1,9 @@
 -- A reply says what the session after it is: a refused command leaves all as it was.
 use Rattle.std.proofs.Common.{◌≡◌, ◌==◌, Bool, true, false, if◌then◌else◌, length, replicate, Option, Some, None, refl, sym, ap, ◌∙◌, inl, inr, subst}
 use Rattle.opt_tree.specs.declared.command.Cmd.{Cmd}
-use Rattle.opt_tree.specs.declared.command.Cmd.TheVariants.{Mkdir, Create, Write, Fill, Read, Truncate, Link, Unlink, Rmdir, Rename, Stat, List as ListNames, Osync, Bad}
+use Rattle.opt_tree.specs.declared.command.Cmd.TheVariants.{Mkdir, Create, Write, Fill, Read, Truncate, Link, Unlink, Rmdir, Rename, Stat, List as ListNames, Osync, Dsync, Durable, Poll, Bad}
 use Rattle.opt_tree.specs.declared.command.Reply.{Reply}
-use Rattle.opt_tree.specs.declared.command.Reply.TheVariants.{Ok as Done}
+use Rattle.opt_tree.specs.declared.command.Reply.TheVariants.{Ok as Done, Known}
 use Rattle.opt_tree.specs.declared.command.Refusal.{Refusal}
 use Rattle.opt_tree.specs.Tree.{Tree}
 use Rattle.opt_tree.specs.Walk.{is_same_node, content}
@@ -39,6 +39,9 @@ answered_left s (Rename from to) None e = choice_left s _ (is_same_node s.tree f
 answered_left s (Stat path) None e = refl
 answered_left s (ListNames path) None e = refl
 answered_left s Osync None e = osync_left s s.changed e
+answered_left s Dsync None e = absurd cc
+answered_left s Durable None e = refl
+answered_left s Poll None e = refl
 answered_left s Bad None e = refl
 
 step_left : (s : Session) (cmd : Cmd) → Left s (step s cmd)
@@ -52,6 +55,9 @@ told old new cmd false p left = sym p
 pub answer_tells : (outside : Refusal → Bool) (old new : Session) (cmd : Cmd) (reply : Reply) → Answers outside old cmd reply new → new ≡ after_reply old cmd reply
 answer_tells outside old new cmd reply (inl is) =
     told old new cmd (is_refusal reply) (ap (λ a. a.0) is) (λ e. step_left old cmd (ap (λ a. is_refusal a.1) is ∙ e))
-answer_tells outside old new cmd reply (inr h) =
+answer_tells outside old new cmd reply (inr (inl h)) =
     let P : Reply → Type 0 = λ r. new ≡ after_reply old cmd r in
     subst P (sym h.2) h.3
+answer_tells outside old new cmd reply (inr (inr h)) =
+    let known = h.1 in
+    known.same ∙ ap (λ r. after_reply old Durable r) (sym known.is) ∙ ap (λ c. after_reply old c reply) (sym known.asked)

@@ -4,7 +4,7 @@ use Rattle.std.specs.Cmp.{nat_cmp_total}
 use Rattle.std.specs.FinMap.{nat_cmp-IsAntisymmetric, get, insert, empty, get-empty}
 use Rattle.std.specs.Ordering.{nat_cmp}
 use Rattle.opt_tree.specs.declared.command.Cmd.{Cmd}
-use Rattle.opt_tree.specs.declared.command.Cmd.TheVariants.{Mkdir, Create, Write, Fill, Read, Truncate, Link, Unlink, Rmdir, Rename, Stat, List as ListNames, Osync, Bad}
+use Rattle.opt_tree.specs.declared.command.Cmd.TheVariants.{Mkdir, Create, Write, Fill, Read, Truncate, Link, Unlink, Rmdir, Rename, Stat, List as ListNames, Osync, Dsync, Durable, Poll, Bad}
 use Rattle.opt_tree.specs.declared.command.Reply.{Reply}
 use Rattle.opt_tree.specs.declared.command.Reply.TheVariants.{Ok as Done}
 use Rattle.opt_tree.specs.declared.command.Refusal.{Refusal}
@@ -121,6 +121,9 @@ accepted_stays s (Rename from to) ok e =
 accepted_stays s (Stat path) ok e = (ok, refl)
 accepted_stays s (ListNames path) ok e = (ok, refl)
 accepted_stays s Osync ok e = osync_stays s s.changed ok
+accepted_stays s Dsync ok e = osync_stays s s.changed ok
+accepted_stays s Durable ok e = (ok, refl)
+accepted_stays s Poll ok e = (ok, refl)
 accepted_stays s Bad ok e = (ok, refl)
 
 answered_stays : (s : Session) (cmd : Cmd) (r : Option Refusal) → refusal s.limit s.tree cmd ≡ r → Sound s → Stays s (answered s cmd r)
@@ -155,6 +158,9 @@ answered_limit s (Rename from to) None = choice_limit s _ (is_same_node s.tree f
 answered_limit s (Stat path) None = refl
 answered_limit s (ListNames path) None = refl
 answered_limit s Osync None = osync_limit s s.changed
+answered_limit s Dsync None = osync_limit s s.changed
+answered_limit s Durable None = refl
+answered_limit s Poll None = refl
 answered_limit s Bad None = refl
 
 pub step_limit : (s : Session) (cmd : Cmd) → (step s cmd).0.limit ≡ s.limit

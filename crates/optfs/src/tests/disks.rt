@@ -50,6 +50,19 @@ fn writes_in_order_are_two_writes_and_a_notice(rt: HostRuntime) {
 }
 
 #[test]
+fn the_faults_of_disks_and_bays_have_texts(rt: HostRuntime) -> Result<(), Fail> {
+    assert_eq!(rt;
+        DiskFault.to_string(rt.alloc())?.as_str(),
+        "a call of the disk failed"
+    );
+    let bay = BayFault::Fault.to_string(rt.alloc())?;
+    assert_eq!(rt; bay.as_str(), "a call of the bay failed");
+    let memory = BayFault::NoMemory.to_string(rt.alloc())?;
+    assert_eq!(rt; memory.as_str(), "out of memory");
+    Ok(())
+}
+
+#[test]
 fn a_copy_of_an_image_goes_its_own_way(rt: HostRuntime) {
     let empty = Image::zeros(rt.alloc(), 0).expect(&rt, "memory");
     assert_eq!(rt; empty.blocks(), 0);

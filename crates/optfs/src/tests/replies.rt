@@ -1,8 +1,9 @@
-//! The texts of replies that no tree in memory gives.
+//! The texts of replies that no tree in memory gives, and of the commands and replies of which no line of a
+//! script asks yet.
 
 use opt_base::{Name, NoMemory};
-use opt_script::reply_text;
-use opt_tree::{Kind, NameList, Refusal, Reply, Stat};
+use opt_script::{cmd_text, parse_line, reply_text};
+use opt_tree::{Cmd, Kind, NameList, Refusal, Reply, Stat};
 use std::alloc::Global;
 use std::test::Fail;
 
@@ -67,11 +68,32 @@ fn replies_that_no_tree_gives(rt: HostRuntime) -> Result<(), Fail> {
             Reply::Synced(18446744073709551615),
             "synced 18446744073709551615",
         ),
+        (Reply::DurableAt(0), "durable 0"),
+        (
+            Reply::DurableAt(18446744073709551615),
+            "durable 18446744073709551615",
+        ),
+        (Reply::Known(7), "known 7"),
     ] {
         assert!(rt; is_text(alloc, &reply, text)?, "for {text}");
     }
     for (why, text) in REFUSALS {
         assert!(rt; is_text(alloc, &Reply::Refused(why), text)?, "for {text}");
+    }
+    Ok(())
+}
+
+// They have texts of their own, and a line with such a text is none of them.
+#[test]
+fn commands_that_no_line_asks_for_have_texts(rt: HostRuntime) -> Result<(), Fail> {
+    let alloc = rt.alloc();
+    for (cmd, text) in [
+        (Cmd::Dsync, "dsync"),
+        (Cmd::Durable, "durable"),
+        (Cmd::Poll, "poll"),
+    ] {
+        assert_eq!(rt; cmd_text(alloc, &cmd)?.as_slice(), text.as_bytes());
+        assert!(rt; matches!(parse_line(alloc, text.as_bytes())?, Cmd::Bad));
     }
     Ok(())
 }

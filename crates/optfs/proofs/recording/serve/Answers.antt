@@ -17,10 +17,10 @@ returns-in_err-told-clause-err g c = line_told _ _ _ _ _ _ _ (c.as_slice.ensures
 pub returns-in_err-write_reply-clause-err : goal.returns-in_err-write_reply-clause-err
 returns-in_err-write_reply-clause-err g c =
     let front = c.in_err-write_reply.ensures.front in
-    reply_cut _ _ _ _ _ _ _ _ _ _ _ front.0 c.apply-reply.ensures.answer (c.as_slice.ensures.value ∙ c.in_ok-asked.ensures.text) c.in_ok-write_command.ensures.all
-    (c.as_slice-2.ensures.value ∙ c.in_ok-told.ensures) front.1
+    reply_cut _ _ _ _ _ _ _ _ _ _ _ front.0 c.apply-reply.ensures.answer c.in_ok-told.ensures.lawful (c.as_slice.ensures.value ∙ c.in_ok-asked.ensures.text) c.in_ok-write_command.ensures.all
+    (c.as_slice-2.ensures.value ∙ c.in_ok-told.ensures.text) front.1
 
 pub returns-clause-ok : goal.returns-clause-ok
 returns-clause-ok g c =
-    one_served _ _ _ _ _ _ _ _ _ _ c.apply-reply.ensures.answer (c.as_slice.ensures.value ∙ c.in_ok-asked.ensures.text) c.in_ok-write_command.ensures.all
-    (c.as_slice-2.ensures.value ∙ c.in_ok-told.ensures) c.in_ok-write_reply.ensures.all
+    one_served _ _ _ _ _ _ _ _ _ _ c.apply-reply.ensures.answer c.in_ok-told.ensures.lawful (c.as_slice.ensures.value ∙ c.in_ok-asked.ensures.text) c.in_ok-write_command.ensures.all
+    (c.as_slice-2.ensures.value ∙ c.in_ok-told.ensures.text) c.in_ok-write_reply.ensures.all

@@ -1,5 +1,5 @@
 use Rattle.opt_script.proofs.OneText.{one_command, one_reply, command_no_feed, reply_no_feed}
-use Rattle.opt_script.proofs.laws.a_text_is_of_one_value.Goals as goal
+use Rattle.opt_script.proofs.laws.equal_texts_have_equal_values.Goals as goal
 
 pub returns-clause-command : goal.returns-clause-command
 returns-clause-command c = one_command
