@@ -1,5 +1,5 @@
 -- The sync points of a session, from its disk's base and log.
-use Rattle.std.specs.Prelude.{◌≡◌, ◌⊎◌, ℕ, ◌+◌, ◌-◌, ◌<◌, ◌≤◌, Bool, false, ◌&&◌, ◌==◌, nat_le, nat_lt, if◌then◌else◌, List, [], ◌∷◌, length, take, Option, Some, None, Result, Ok, Err, ◌++◌}
+use Rattle.std.specs.Prelude.{◌≡◌, ◌⊎◌, ℕ, ◌+◌, ◌-◌, ◌<◌, ◌≤◌, Bool, false, ◌&&◌, ◌==◌, nat_le, nat_lt, if◌then◌else◌, List, [], ◌∷◌, length, take, drop, Option, Some, None, Result, Ok, Err, ◌++◌}
 use Rattle.opt_base.specs.Seal.{Blocks}
 use Rattle.opt_disk.specs.declared.event.Event.{Event}
 use Rattle.opt_disk.specs.declared.event.Event.TheVariants.{Wrote, Lost, Noticed}
@@ -39,11 +39,15 @@ pub record MountedSession : Type 0 where
   pub mounted : ℕ
   pub first : ℕ
 
+-- how many points its log has behind point 0: the commit blocks of its epoch since the mount ended, accepted or lost
+abbrev pub points_in : MountedSession → List Event → ℕ
+points_in s log = commits s.geom s.epoch (drop s.mounted log)
+
 -- after k events the commit block of point p has just been written; for point 0 the mount has just ended
 pub record IsMoment (s : MountedSession) (log : List Event) (p k : ℕ) : Type 0 where
   pub within : k ≤ length log
-  pub count : commits s.geom s.epoch (take k log) ≡ p
-  pub just : ((p ≡ 0) × (k ≡ s.mounted)) ⊎ ((s.mounted < k) × (commits s.geom s.epoch (take (k - 1) log) < p))
+  pub count : points_in s (take k log) ≡ p
+  pub just : ((p ≡ 0) × (k ≡ s.mounted)) ⊎ ((s.mounted < k) × (points_in s (take (k - 1) log) < p))
 
 -- m is the map of sync point p: what the disk holds once all that was issued by then stands
 pub record IsPoint (s : MountedSession) (base : Blocks) (log : List Event) (p : ℕ) (m : Blocks) : Type 0 where
@@ -70,7 +74,7 @@ pub record HasPoints (s : MountedSession) (base : Blocks) (log : List Event) (l 
   pub epoch : s.epoch ≡ l.epoch
   pub first : s.first ≤ l.known
   pub late : s.mounted ≤ length log
-  pub count : s.first + commits s.geom s.epoch log ≡ next_number l
+  pub count : s.first + points_in s log ≡ next_number l
   pub each : (n : ℕ) → l.known ≤ n → n ≤ next_number l → IsPoint s base log (n - s.first) (live_part l.geom (l.map_before n))
 
 -- The disk is as the ledger says, and each honest image that a crash since t may leave holds the map of a point from `floor` to the newest.

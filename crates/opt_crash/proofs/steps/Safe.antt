@@ -19,7 +19,7 @@ use Rattle.opt_crash.proofs.steps.Notices.{keeps_notice}
 use Rattle.opt_crash.proofs.theorem.Images.{in_ring}
 use Rattle.opt_crash.proofs.steps.Steps.{write_in_place, write_in_ring, write_commit}
 use Rattle.opt_crash.proofs.steps.HeaderSteps.{with_known_keeps, turned_keeps, write_header, count}
-use Rattle.opt_crash.proofs.steps.PointSteps.{point_stays, point_made, commits-append}
+use Rattle.opt_crash.proofs.steps.PointSteps.{point_stays, point_made, points_in-append}
 use Rattle.opt_crash.proofs.steps.WindowSteps.{between_more, points_stay}
 
 module _ (laws : JournalLaws) (s : MountedSession) (base : Blocks) (log : List Event) (l : Ledger) (t floor : ℕ) (safe : IsSafe s base log l t floor) where
@@ -126,7 +126,7 @@ module _ (laws : JournalLaws) (s : MountedSession) (base : Blocks) (log : List E
         epoch = old.epoch;
         first = old.first;
         late = omega (arith, old.late, length-append log (e ∷ []));
-        count = omega (arith, commits-append s.geom s.epoch log (e ∷ []), one, old.count, grown);
+        count = omega (arith, points_in-append s log (e ∷ []) old.late, one, old.count, grown);
         each = λ n low high. ⊎_elim
             (λ new. subst (λ q. IsPoint s base (log ++ e ∷ []) q (live_part l.geom ((with_record l w m).map_before n))) (omega (arith, new, grown, from_first, high))
             (subst (λ q. IsPoint s base (log ++ e ∷ []) (next_number l - s.first + 1) (live_part l.geom ((with_record l w m).map_before q))) (omega (arith, new, grown, high)) made))
