@@ -12,7 +12,7 @@
 //!   **placed** once its payloads are at their blocks, and **released** once a durable header starts past it.
 //! - A **session** is a geometry, an epoch, and where its mount ended. Its **points** follow from the disk's
 //!   base and log alone: point p is what the disk holds once all is on it that was issued up to the p-th
-//!   commit block.
+//!   commit block since.
 //! - A **window** speaks of every honest image of every moment from one moment on: the image holds a map, and
 //!   that is the map of a point. A disk is **safe** where it is consistent and its window holds.
 //! - The **data** of a pipeline are its tickets, counts and lists. They **agree** where they are right about
@@ -56,13 +56,17 @@ mod pipeline;
 mod points;
 mod record;
 mod replay;
+mod replaying;
+mod windows;
 mod writes;
 
 pub use between::{
     nothing_is_written_between_records, records_stand_in_order, taken_blocks_stay_dead,
 };
 pub use closing::{close_journal, closed_header, replay_block};
-pub use counts::{calls_add_at_most_one_write, writes_keep_within_the_sum};
+pub use counts::{
+    calls_add_at_most_one_write, the_counts_are_of_the_log, writes_keep_within_the_sum,
+};
 pub use guarded::{
     poll_once, wait_for, write_all_in_ring, write_commit, write_header, write_in_place,
     write_in_ring,
@@ -84,9 +88,18 @@ pub use pipeline::{
     more_may_wait, records_become_durable, the_home_test_is_exact, the_next_header_may_be_written,
 };
 pub use points::{
-    a_call_begins_safe, a_crash_leaves_a_point, a_mounted_disk_is_safe, a_point_is_for_ever,
+    a_call_begins_safe, a_crash_leaves_a_point, a_ledger_knows_what_is_noticed,
+    a_mounted_disk_is_safe, a_point_is_for_ever,
     all_issued_is_the_last_point, the_newest_bytes_are_the_map,
 };
 pub use record::{write_fresh, write_last, write_part};
 pub use replay::a_replay_holds_what_was_found;
+pub use replaying::{
+    a_read_gives_what_was_written_last, a_replay_goes_block_by_block,
+    an_idle_disk_holds_what_is_settled,
+};
+pub use windows::{
+    HoldsMap, Statement, a_window_reaches_back, calls_only_add, guarded_calls_carry_a_statement,
+    windows_go_on,
+};
 pub use writes::writes_join_a_log_one_by_one;

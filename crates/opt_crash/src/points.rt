@@ -11,7 +11,7 @@ ghost use Rattle.opt_journal.specs.declared.header.Header.{Header};
 ghost use Rattle.opt_journal.specs.Run.{is_live, live_part, HeldIs};
 ghost use Rattle.opt_crash.specs.Ledger.{Ledger, HoldsUnder, IsConsistentWith, cover, issued, next_number};
 ghost use Rattle.opt_crash.specs.PipelineData.{PipelineData, DataAgree};
-ghost use Rattle.opt_crash.specs.Points.{MountedSession, IsMounted, IsPoint, HoldsPoint, IsSafe, points_in, ledger_at_mount, session_at_mount};
+ghost use Rattle.opt_crash.specs.Points.{MountedSession, IsMounted, IsPoint, IsKnown, HoldsPoint, IsSafe, points_in, ledger_at_mount, session_at_mount};
 
 use crate::journal::the_journal_is_lawful;
 
@@ -54,6 +54,13 @@ pub fn a_call_begins_safe()
 {
     the_journal_is_lawful();
 }
+
+/// A ledger knows no more than the log says: at each moment the points that it knows are at most the greatest
+/// up to which all writes of commits are noticed. That number never falls.
+pub fn a_ledger_knows_what_is_noticed()
+    ensures at_most { (s : MountedSession) (base : Blocks) (log more : List Event) (l : Ledger) (t floor p : ℕ) → IsSafe s base log l t floor → IsKnown s base (log ++ more) (length log) p → l.known - s.first ≤ p }
+    ensures grows { (s : MountedSession) (base : Blocks) (log : List Event) (k i p q : ℕ) → k ≤ i → IsKnown s base log k p → IsKnown s base log i q → p ≤ q }
+{}
 
 /// The newest bytes of a live block are those of its last payload among the records that aren't at their
 /// blocks, or else what was written to it last.

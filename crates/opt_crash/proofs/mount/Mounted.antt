@@ -1,5 +1,5 @@
 -- A mounted disk begins with point 0; and the last point is what has been issued.
-use Rattle.std.proofs.Common.{◌≡◌, inl, ℕ, ◌+◌, ◌-◌, ◌≤◌, List, length, take, refl, sym, ◌∙◌, ap, subst, arith}
+use Rattle.std.proofs.Common.{◌≡◌, inl, ℕ, ◌+◌, ◌-◌, ◌<◌, ◌≤◌, List, length, take, refl, sym, ◌∙◌, ap, subst, arith}
 use Rattle.std.proofs.lemmas.List.{take_all, drop_all}
 use Rattle.opt_base.specs.Seal.{Blocks}
 use Rattle.opt_disk.specs.declared.event.Event.{Event}
@@ -18,7 +18,7 @@ whole : (log : List Event) → take (length log) log ≡ log
 whole log = take_all (length log) log (omega arith)
 
 -- a session begins without points behind it
-no_points : (g : Geometry) (h : Header) (log : List Event) → points_in (session_at_mount g h log) log ≡ 0
+pub no_points : (g : Geometry) (h : Header) (log : List Event) → points_in (session_at_mount g h log) log ≡ 0
 no_points g h log = ap (commits g h.epoch) (drop_all (length log) log (omega arith))
 
 -- point 0 is what the disk holds as its mount ends
@@ -42,6 +42,9 @@ mounted_safe laws base log g slot h mounted = record {
     none_past : (n start : ℕ) → start ≤ n → n ≤ start + 0 → n - start ≡ 0
     none_past n start low high = omega (arith, low, high)
 
+    no_more : (n p : ℕ) → 0 < p → p ≤ n - n → ⊥
+    no_more n p some le = omega arith
+
     same : (n : ℕ) → n - n ≡ 0
     same n = omega arith
 
@@ -59,6 +62,7 @@ mounted_safe laws base log g slot h mounted = record {
       late = omega arith;
       count = omega (arith, no_points g h log);
       each = λ n low high. subst (λ (p : ℕ). IsPoint (session_at_mount g h log) base log p (live_part g (l.map_before n))) (sym (none_past n h.start low high)) (first_point base log g h (live_part g (l.map_before n)) (issued_holds laws base log l keeps));
+      noticed = λ p some le. absurd (no_more h.start p some le);
     }
 
 -- what has been issued to a safe disk holds the newest map

@@ -27,14 +27,15 @@ commits-append g epoch (Wrote t b x ∷ xs) ys = omega (arith, commits-append g 
 commits-append g epoch (Lost b x ∷ xs) ys = omega (arith, commits-append g epoch xs ys)
 commits-append g epoch (Noticed t ∷ xs) ys = commits-append g epoch xs ys
 
+-- what is behind a front of a log that goes on
+pub drop_front : (n : ℕ) (xs ys : List Event) → n ≤ length xs → drop n (xs ++ ys) ≡ drop n xs ++ ys
+drop_front zero xs ys le = refl
+drop_front (suc n) [] ys le = absurd (omega arith)
+drop_front (suc n) (x ∷ xs) ys le = drop_front n xs ys (omega arith)
+
 -- the points of a log that goes on since the mount
 pub points_in-append : (s : MountedSession) (xs ys : List Event) → s.mounted ≤ length xs → points_in s (xs ++ ys) ≡ points_in s xs + commits s.geom s.epoch ys
-points_in-append s xs ys late = ap (commits s.geom s.epoch) (dropped s.mounted xs late) ∙ commits-append s.geom s.epoch (drop s.mounted xs) ys
-  where
-    dropped : (n : ℕ) (zs : List Event) → n ≤ length zs → drop n (zs ++ ys) ≡ drop n zs ++ ys
-    dropped zero zs le = refl
-    dropped (suc n) [] le = absurd (omega arith)
-    dropped (suc n) (z ∷ zs) le = dropped n zs (omega arith)
+points_in-append s xs ys late = ap (commits s.geom s.epoch) (drop_front s.mounted xs ys late) ∙ commits-append s.geom s.epoch (drop s.mounted xs) ys
 
 -- a point is for ever
 pub point_stays : (s : MountedSession) (base : Blocks) (log more : List Event) (p : ℕ) (m : Blocks) → IsPoint s base log p m → IsPoint s base (log ++ more) p m

@@ -14,6 +14,7 @@ use Rattle.opt_crash.specs.Ledger.{Ledger, HoldsUnder, IsConsistentWith, next_nu
 use Rattle.opt_crash.specs.Points.{MountedSession, IsPoint, HoldsPoint, StandsBetween, HasPoints, IsSafe, commits, points_in}
 use Rattle.opt_crash.proofs.theorem.Whole.{stands_for_one}
 use Rattle.opt_crash.proofs.steps.PointSteps.{point_stays, points_in-append}
+use Rattle.opt_crash.proofs.steps.KnownPoints.{noticed_stays}
 
 -- an image of this moment holds the map of a point
 now_holds : JournalLaws → (s : MountedSession) (base : Blocks) (log : List Event) (l : Ledger) (img : Blocks) → IsConsistentWith base log l → HasPoints s base log l → IsHonest s.geom.n base log img → HoldsPoint s base log (l.known - s.first) (next_number l - s.first) img
@@ -61,13 +62,14 @@ points_stay s base log e l none p = record {
   late = omega (arith, p.late, length-append log (e ∷ []));
   count = ap (λ n. s.first + n) (points_in-append s log (e ∷ []) p.late ∙ sum (points_in s log) (commits s.geom s.epoch (e ∷ [])) none) ∙ p.count;
   each = λ n low high. point_stays s base log (e ∷ []) (n - s.first) _ (p.each n low high);
+  noticed = λ q some le. noticed_stays s base log (e ∷ []) q (p.noticed q some le);
 }
   where
     sum : (a b : ℕ) → b ≡ 0 → a + b ≡ a
     sum a b e = omega arith
 
 -- the last point has the number of commit blocks
-last_is : (first made next : ℕ) → first + made ≡ next → next - first ≡ made
+pub last_is : (first made next : ℕ) → first + made ≡ next → next - first ≡ made
 last_is first made next e = omega (arith, e)
 
 -- what a crash at a moment of the window leaves holds a point, up to the last one
