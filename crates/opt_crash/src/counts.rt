@@ -1,7 +1,7 @@
 //! How many writes a session makes, as laws: what the sync points account for bounds them, at each kind of
 //! write. Which write is made when isn't said here.
 
-ghost use Rattle.std.specs.Prelude.{◌≡◌, ◌⊎◌, ℕ, ◌+◌, ◌<◌, ◌≤◌, List, length, Option, Result, Ok, Err};
+ghost use Rattle.std.specs.Prelude.{◌≡◌, ◌⊎◌, ℕ, ◌+◌, ◌<◌, ◌≤◌, ◌++◌, List, length, Option, Result, Ok, Err};
 ghost use Rattle.opt_disk.specs.declared.event.Event.{Event};
 ghost use Rattle.opt_disk.specs.declared.disk.DiskFault.{DiskFault};
 ghost use Rattle.opt_disk.specs.Disk.{AddsWrite, AddsPoll, AddsNotices};
@@ -33,5 +33,6 @@ pub fn the_counts_are_of_the_log()
     ensures failed { (mounted b : ℕ) (x : List ℕ) (e : DiskFault) (old new : List Event) (c now : WriteCounts) → mounted ≤ length old → AddsWrite b x (Err e) old new → now.writes ≡ c.writes + 1 → AreCounted mounted old c → AreCounted mounted new c ⊎ AreCounted mounted new now }
     ensures poll { (mounted : ℕ) (r : Result (Option ℕ) DiskFault) (old new : List Event) (c : WriteCounts) → mounted ≤ length old → AddsPoll r old new → AreCounted mounted old c → AreCounted mounted new c }
     ensures wait { (mounted : ℕ) (old new : List Event) (c : WriteCounts) → mounted ≤ length old → AddsNotices old new → AreCounted mounted old c → AreCounted mounted new c }
+    ensures more { (mounted : ℕ) (old more : List Event) (c now : WriteCounts) → mounted ≤ length old → now.writes ≡ c.writes + writes_in more → AreCounted mounted old c → AreCounted mounted (old ++ more) now }
     ensures within { (mounted : ℕ) (log : List Event) (c : WriteCounts) → AreCounted mounted log c → AreWithinSum c → AreAtMost mounted log c.sum }
 {}

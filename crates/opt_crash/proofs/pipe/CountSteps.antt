@@ -58,7 +58,7 @@ since : (mounted : ℕ) (log more : List Event) → mounted ≤ length log → w
 since mounted log more late = ap writes_in (drop_front mounted log more late) ∙ writes_behind (drop mounted log) more
 
 -- so they go on
-counted_on : (mounted : ℕ) (old new more : List Event) (c now : WriteCounts) → mounted ≤ length old → new ≡ old ++ more → now.writes ≡ c.writes + writes_in more → AreCounted mounted old c → AreCounted mounted new now
+pub counted_on : (mounted : ℕ) (old new more : List Event) (c now : WriteCounts) → mounted ≤ length old → new ≡ old ++ more → now.writes ≡ c.writes + writes_in more → AreCounted mounted old c → AreCounted mounted new now
 counted_on mounted old new more c now late is count k = omega (arith, count, k, ap (λ (l : List Event). writes_in (drop mounted l)) is, since mounted old more late)
 
 pub counted_accepted : (mounted b t : ℕ) (x : List ℕ) (old new : List Event) (c now : WriteCounts) → mounted ≤ length old → new ≡ old ++ Wrote t b x ∷ [] → now.writes ≡ c.writes + 1 → AreCounted mounted old c → AreCounted mounted new now
