@@ -38,7 +38,9 @@
 //! 6. The conditions of 3 follow from a pipeline's data, and the data stay right at each step (`src/pipeline.rt`,
 //!    `src/between.rt`). The guarded calls make such steps on a disk (`src/guarded.rt`, `src/record.rt`).
 //! 7. While a mount closes the run that it found, replays it and opens a new epoch, each honest image holds what
-//!    was found (`a_replay_holds_what_was_found`, `src/closing.rt`, `open_journal`).
+//!    was found (`a_replay_holds_what_was_found`, `src/closing.rt`, `open_journal`). The replay goes from block to
+//!    block (`src/replaying.rt`), and the session behind it begins with what was found.
+//! 8. A caller may carry a statement of its own on images (`src/windows.rt`).
 //!
 //! Apart from these: no block has two writes pending (`src/one_pending.rt`), and writes are counted
 //! (`src/counts.rt`).
@@ -89,8 +91,8 @@ pub use pipeline::{
 };
 pub use points::{
     a_call_begins_safe, a_crash_leaves_a_point, a_ledger_knows_what_is_noticed,
-    a_mounted_disk_is_safe, a_point_is_for_ever,
-    all_issued_is_the_last_point, the_newest_bytes_are_the_map,
+    a_mounted_disk_is_safe, a_point_is_for_ever, all_issued_is_the_last_point,
+    the_newest_bytes_are_the_map,
 };
 pub use record::{write_fresh, write_last, write_part};
 pub use replay::a_replay_holds_what_was_found;

@@ -1,10 +1,10 @@
 -- What a read of a block gives: what was written to it last, where no write behind it was lost.
-use Rattle.std.proofs.Common.{◌≡◌, ◌⊎◌, ⊎_elim, inl, inr, ℕ, ◌==◌, Bool, true, false, if◌then◌else◌, List, [], ◌∷◌, ◌++◌, Some, None, refl, sym, ◌∙◌, ap, subst}
+use Rattle.std.proofs.Common.{◌≡◌, ⊎_elim, ℕ, ◌==◌, Bool, true, false, if◌then◌else◌, List, [], ◌∷◌, ◌++◌, Some, None, refl, sym, ◌∙◌, ap, subst}
 use Rattle.std.proofs.lemmas.Bool.{false≢true, cases_Bool}
 use Rattle.opt_base.specs.Seal.{Blocks}
 use Rattle.opt_disk.specs.declared.event.Event.{Event}
 use Rattle.opt_disk.specs.declared.event.Event.TheVariants.{Wrote, Lost, Noticed}
-use Rattle.opt_disk.specs.Cell.{Write, Cell, is_ticket, from_ticket, settle, with_write, after, after_all, cell_of, accepted, accepted_from, is_lost, is_lost_from}
+use Rattle.opt_disk.specs.Cell.{Write, Cell, is_ticket, from_ticket, settle, with_write, after_all, cell_of, accepted, accepted_from, is_lost, is_lost_from}
 use Rattle.opt_crash.specs.Ledger.{latest, last_of}
 use Rattle.opt_crash.proofs.log.Adds.{last_of-append, settles_notice}
 

@@ -1,11 +1,11 @@
 -- A session begins with what was settled as its journal was opened.
-use Rattle.std.proofs.Common.{◌≡◌, ◌≢◌, inl, ⊎_elim, ℕ, ◌+◌, ◌-◌, ◌<◌, ◌≤◌, List, [], length, refl, sym, ◌∙◌, ap, subst, arith}
+use Rattle.std.proofs.Common.{◌≡◌, ◌≢◌, ℕ, ◌+◌, ◌<◌, ◌≤◌, List, [], length, sym, ◌∙◌, ap, subst, arith}
 use mathlib.Core.Path.{fun_ext}
 use Rattle.opt_base.specs.Seal.{Blocks}
 use Rattle.opt_disk.specs.declared.event.Event.{Event}
-use Rattle.opt_disk.specs.Cell.{Cell, cell_of}
+use Rattle.opt_disk.specs.Cell.{cell_of}
 use Rattle.opt_disk.specs.Disk.{State}
-use Rattle.opt_geom.specs.Geometry.{Geometry, bitmap_start, data_start}
+use Rattle.opt_geom.specs.Geometry.{Geometry, bitmap_start}
 use Rattle.opt_journal.specs.declared.header.Header.{Header}
 use Rattle.opt_journal.specs.Run.{live_part}
 use Rattle.opt_crash.specs.JournalLaws.{JournalLaws}

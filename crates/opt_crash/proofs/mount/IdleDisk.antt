@@ -6,12 +6,10 @@ use Rattle.opt_disk.specs.declared.event.Event.{Event}
 use Rattle.opt_disk.specs.Cell.{cell_of}
 use Rattle.opt_disk.specs.Crash.{IsHonest}
 use Rattle.opt_geom.specs.Geometry.{Geometry}
-use Rattle.opt_journal.specs.declared.header.Header.{Header}
 use Rattle.opt_journal.specs.Layout.{header_of}
 use Rattle.opt_crash.specs.JournalLaws.{JournalLaws}
 use Rattle.opt_crash.specs.Ledger.{HoldsUnder}
 use Rattle.opt_crash.specs.Opening.{closed_header, last_number, settled}
-use Rattle.opt_crash.specs.Replay.{found_map}
 use Rattle.opt_crash.proofs.log.Adds.{stands_settled}
 use Rattle.opt_crash.proofs.mount.ReplayStages.{closing_holds}
 

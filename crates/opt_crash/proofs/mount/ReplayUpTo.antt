@@ -1,25 +1,21 @@
 -- A replay block by block: from the header that closes the run to the journal that may be opened.
-use Rattle.std.proofs.Common.{◌≡◌, ◌≢◌, ◌⊎◌, inl, inr, ⊎_elim, ℕ, ◌+◌, ◌-◌, ◌<◌, ◌≤◌, IsTrue, List, [], ◌∷◌, ◌++◌, length, Option, Some, None, refl, sym, ◌∙◌, ap, subst, arith}
-use Rattle.std.proofs.lemmas.Bool.{cases_lt, cases_eq}
+use Rattle.std.proofs.Common.{◌≡◌, ◌≢◌, ◌⊎◌, inl, inr, ⊎_elim, ℕ, ◌+◌, ◌-◌, ◌<◌, ◌≤◌, List, [], Option, Some, None, refl, sym, ◌∙◌, ap, subst, arith}
+use Rattle.std.proofs.lemmas.Bool.{cases_eq}
 use mathlib.Core.Path.{fun_ext}
 use Rattle.opt_base.specs.Seal.{Blocks}
 use Rattle.opt_disk.specs.declared.event.Event.{Event}
 use Rattle.opt_disk.specs.Cell.{Cell, cell_of, IsNoticed}
-use Rattle.opt_geom.specs.Geometry.{Geometry, ring_block, bitmap_start}
+use Rattle.opt_geom.specs.Geometry.{Geometry, bitmap_start}
 use Rattle.opt_journal.specs.declared.header.Header.{Header}
-use Rattle.opt_journal.specs.declared.record.Commit.{Commit}
-use Rattle.opt_journal.specs.declared.record.Descriptor.{Descriptor}
 use Rattle.opt_journal.specs.Layout.{header_of, commit_of, descriptor_of}
-use Rattle.opt_journal.specs.Run.{Newest, Record, covered_by, otherwise, replayed, is_live, live_part}
+use Rattle.opt_journal.specs.Run.{Newest, Record, covered_by, otherwise, replayed, live_part}
 use Rattle.opt_crash.specs.JournalLaws.{JournalLaws}
-use Rattle.opt_crash.specs.Ledger.{StandsIn}
 use Rattle.opt_crash.specs.Mounting.{IsReplayedUpTo}
 use Rattle.opt_crash.specs.Opening.{HasNoEpochAbove, IsReadyToOpen, settled, AddsWaited}
 use Rattle.opt_crash.specs.PipelineData.{IsSettledIn}
-use Rattle.opt_crash.specs.Replay.{IsFound, Closes, IsOlder, IsReplaying, IsReplayed, found_map}
+use Rattle.opt_crash.specs.Replay.{IsFound, Closes, IsReplaying, IsReplayed, found_map}
 use Rattle.opt_crash.proofs.log.Adds.{stands_settled}
-use Rattle.opt_crash.proofs.log.Lists.{inspect}
-use Rattle.opt_crash.proofs.theorem.Core.{live_part_same, live_from, live_below}
+use Rattle.opt_crash.proofs.theorem.Core.{live_part_same, live_from}
 use Rattle.opt_crash.proofs.mount.HomeWrites.{none_behind}
 use Rattle.opt_crash.proofs.mount.OpeningSteps.{IsLeft, own_settled, other_left}
 use Rattle.opt_crash.proofs.mount.ReplayStages.{IsGeometryOf, header_geometry}

@@ -1,19 +1,17 @@
 -- Points of which all is noticed: they stay so, and what a ledger knows is at most what the log says.
-use Rattle.std.proofs.Common.{◌≡◌, ◌⊎◌, inl, inr, ⊎_elim, ℕ, zero, suc, ◌+◌, ◌-◌, ◌<◌, ◌≤◌, List, [], ◌∷◌, ◌++◌, length, take, drop, slice_get, Some, refl, sym, ◌∙◌, ap, subst, arith, length-append, take-append-drop, take-take}
+use Rattle.std.proofs.Common.{◌≡◌, ◌⊎◌, inl, ⊎_elim, ℕ, zero, suc, ◌+◌, ◌-◌, ◌<◌, ◌≤◌, List, [], ◌∷◌, ◌++◌, length, take, drop, slice_get, Some, refl, sym, ◌∙◌, ap, subst, arith, length-append, take-append-drop, take-take}
 use Rattle.std.proofs.Math.Seq.{take-length}
 use Rattle.std.proofs.lemmas.List.{take-append-le}
 use Rattle.opt_base.specs.Seal.{Blocks}
 use Rattle.opt_disk.specs.declared.event.Event.{Event}
 use Rattle.opt_disk.specs.Cell.{cell_of}
 use Rattle.opt_geom.specs.Geometry.{Geometry, ring_block}
-use Rattle.opt_journal.specs.declared.header.Header.{Header}
-use Rattle.opt_journal.specs.declared.entry.Entry.{Entry}
-use Rattle.opt_journal.specs.Run.{places, IsWhole}
+use Rattle.opt_journal.specs.Run.{IsWhole}
 use Rattle.opt_crash.specs.JournalLaws.{JournalLaws}
-use Rattle.opt_crash.specs.Ledger.{Ledger, WrittenRecord, IsConsistentWith, FitsRecords, issued, next_number, from_start}
-use Rattle.opt_crash.specs.Points.{MountedSession, IsNoticedPoint, IsKnown, HasPoints, IsSafe, session_header}
+use Rattle.opt_crash.specs.Ledger.{Ledger, WrittenRecord, IsConsistentWith, FitsRecords, issued, from_start}
+use Rattle.opt_crash.specs.Points.{MountedSession, IsNoticedPoint, IsKnown, IsSafe, session_header}
 use Rattle.opt_crash.specs.Steps.{AreNoticed}
-use Rattle.opt_crash.proofs.theorem.Core.{Stands, stands_whole}
+use Rattle.opt_crash.proofs.theorem.Core.{stands_whole}
 use Rattle.opt_crash.proofs.theorem.Images.{issued_faithful}
 use Rattle.opt_crash.proofs.steps.HeaderSteps.{whole_list, number_at}
 

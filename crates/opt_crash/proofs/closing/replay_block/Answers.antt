@@ -3,7 +3,6 @@ use Rattle.opt_base.specs.Seal.{Blocks}
 use Rattle.opt_disk.specs.Cell.{cell_of}
 use Rattle.opt_crash.specs.Mounting.{IsReplayedUpTo}
 use Rattle.opt_crash.specs.Replay.{IsReplaying}
-use Rattle.opt_crash.specs.PipelineData.{IsSettledIn}
 use Rattle.opt_crash.proofs.log.Spending.{wait_failed}
 use Rattle.opt_crash.proofs.mount.ReplayUpTo.{upto_waited}
 use Rattle.opt_crash.proofs.mount.ReplaySteps.{replayed_waited, replayed_failed}

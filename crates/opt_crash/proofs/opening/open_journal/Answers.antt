@@ -1,4 +1,4 @@
-use Rattle.std.proofs.Common.{◌-◌, ◌∙◌, sym, ap, subst}
+use Rattle.std.proofs.Common.{◌-◌, ◌∙◌, ap}
 use Rattle.opt_journal.specs.Spelling.{header_block}
 use Rattle.opt_crash.specs.Opening.{opening_header}
 use Rattle.opt_crash.proofs.mount.OpeningMoments.{holds_waited, holds_failed, found_waited, found_failed}
