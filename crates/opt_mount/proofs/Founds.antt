@@ -1,5 +1,5 @@
 -- What is found on an idle disk, and what a refusal says.
-use Rattle.std.proofs.Common.{◌≡◌, inl, inr, ℕ, ◌+◌, ◌-◌, ◌<◌, ◌≤◌, IsTrue, Bool, false, List, [], length, Result, Ok, Err, IfErr, refl, sym, ◌∙◌, ap, subst, arith}
+use Rattle.std.proofs.Common.{◌≡◌, inl, ℕ, ◌<◌, IsTrue, Bool, false, List, [], length, Result, Ok, Err, IfErr, refl, sym, ◌∙◌, subst, arith}
 use Rattle.opt_base.specs.Seal.{Blocks}
 use Rattle.opt_disk.specs.declared.event.Event.{Event}
 use Rattle.opt_disk.specs.Cell.{cell_of, is_lost, accepted}
@@ -17,7 +17,7 @@ use Rattle.opt_crash.specs.Replay.{IsFound, found_map}
 use Rattle.opt_mount.specs.declared.refusal.MountRefusal.{MountRefusal}
 use Rattle.opt_mount.specs.declared.refusal.MountRefusal.TheVariants.{NoHeader, Spent, ReadFault, DiskFault, NoMemory}
 use Rattle.opt_mount.specs.Mount.{IsIdle, settled_on, RefusalSays, IsUsedUp, MountSpends}
-use Rattle.opt_mount.specs.Refusal.{refusal_of, is_faulty, IsFault}
+use Rattle.opt_mount.specs.Refusal.{refusal_of, IsFault}
 use Rattle.opt_mount.proofs.States.{same_settled}
 
 -- an idle disk gives what is settled

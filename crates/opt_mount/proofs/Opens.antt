@@ -1,5 +1,5 @@
 -- From the last block of the replay to the session that begins.
-use Rattle.std.proofs.Common.{◌≡◌, ℕ, ◌+◌, ◌<◌, ◌≤◌, List, [], ◌∷◌, length, Some, refl, sym, ◌∙◌, ap, ap₂, subst, arith}
+use Rattle.std.proofs.Common.{◌≡◌, ℕ, ◌<◌, ◌≤◌, List, [], ◌∷◌, length, Some, refl, sym, ◌∙◌, ap, ap₂, subst, arith}
 use mathlib.Core.Path.{fun_ext}
 use Rattle.opt_base.specs.Seal.{Blocks}
 use Rattle.opt_disk.specs.declared.event.Event.{Event}
@@ -15,10 +15,10 @@ use Rattle.opt_journal.specs.Run.{Newest, Record, IsRun, live_part}
 use Rattle.opt_recover.specs.Epoch.{IsGreatestEpoch}
 use Rattle.opt_recover.specs.Search as finding
 use Rattle.opt_crash.specs.Ledger.{Ledger, HoldsUnder, cells_of}
-use Rattle.opt_crash.specs.Mounting.{IsReplayedUpTo, HasBegun}
+use Rattle.opt_crash.specs.Mounting.{HasBegun}
 use Rattle.opt_crash.specs.Opening.{HasNoEpochAbove, IsReadyToOpen, settled}
 use Rattle.opt_crash.specs.Points.{MountedSession, IsPoint, IsSafe, points_in, ledger_at_mount, session_at_mount}
-use Rattle.opt_crash.specs.Replay.{IsFound, IsReplayed, found_map}
+use Rattle.opt_crash.specs.Replay.{IsFound, found_map}
 use Rattle.opt_mount.specs.Mount.{IsIdle, settled_on}
 use Rattle.opt_mount.proofs.States.{same_settled}
 
@@ -35,7 +35,7 @@ none_above headers commits descriptors g img e some is = record {
 
 -- a session that has begun, and each image of whose mount held the same map
 pub begun_since : ((s : MountedSession) (base : Blocks) (log : List Event) (l : Ledger) (t floor since point : ℕ) (m : Blocks) → IsSafe s base log l t floor → IsPoint s base log point m → floor ≤ point → point ≤ points_in s log
-        → Window s.geom.n base log since (λ img. HoldsUnder s.geom.n s.geom img m) → IsSafe s base log l since floor)
+    → Window s.geom.n base log since (λ img. HoldsUnder s.geom.n s.geom img m) → IsSafe s base log l since floor)
     → (d : State) (g : Geometry) (slot : ℕ) (h : Header) (t since : ℕ) (m : Blocks) → HasBegun d g slot h t m → Window g.n d.base d.log since (λ img. HoldsUnder g.n g img m) → HasBegun d g slot h since m
 begun_since reaches d g slot h t since m b w = record {
   mounted = b.mounted;
@@ -66,7 +66,7 @@ pub empty_holds : (k h : Header) (s slot e : ℕ) (rs : List Record) (d : State)
     → Window h.geom.n d.base log (length d.log) (λ img. HoldsUnder h.geom.n h.geom img (found_map (settled_on d) h rs))
 empty_holds k h s slot e rs d log same on few idle found none opens =
     let all = subst (λ (u : ℕ). IsReadyToOpen (cells_of d) u h e → IsRun (settled_on d) h [] → Window h.geom.n d.base log (length d.log) (λ img. HoldsUnder h.geom.n h.geom img (found_map (settled_on d) h []))) on
-        (subst (λ (f : Header). IsReadyToOpen (cells_of d) s f e → IsRun (settled_on d) f [] → Window f.geom.n d.base log (length d.log) (λ img. HoldsUnder f.geom.n f.geom img (found_map (settled_on d) f []))) same opens) in
+    (subst (λ (f : Header). IsReadyToOpen (cells_of d) s f e → IsRun (settled_on d) f [] → Window f.geom.n d.base log (length d.log) (λ img. HoldsUnder f.geom.n f.geom img (found_map (settled_on d) f []))) same opens) in
     let empty = empty_run (settled_on d) slot h rs few found in
     subst (λ (qs : List Record). Window h.geom.n d.base log (length d.log) (λ img. HoldsUnder h.geom.n h.geom img (found_map (settled_on d) h qs))) (sym empty.0) (all (ready_at_once d slot h rs e idle found none) empty.1)
 
@@ -76,7 +76,7 @@ pub empty_opened : (k h next : Header) (s slot beside e : ℕ) (rs : List Record
     → HasBegun new h.geom beside next (length new.log) (found_map (settled_on d) h rs)
 empty_opened k h next s slot beside e rs d new same on few idle found none opens =
     let all = subst (λ (u : ℕ). IsReadyToOpen (cells_of d) u h e → HasBegun new h.geom beside next (length new.log) (live_part h.geom (settled_on d))) on
-        (subst (λ (f : Header). IsReadyToOpen (cells_of d) s f e → HasBegun new f.geom beside next (length new.log) (live_part f.geom (settled_on d))) same opens) in
+    (subst (λ (f : Header). IsReadyToOpen (cells_of d) s f e → HasBegun new f.geom beside next (length new.log) (live_part f.geom (settled_on d))) same opens) in
     let empty = empty_run (settled_on d) slot h rs few found in
     subst (λ (qs : List Record). HasBegun new h.geom beside next (length new.log) (found_map (settled_on d) h qs)) (sym empty.0)
     (subst (λ (m : Blocks). HasBegun new h.geom beside next (length new.log) m) (fun_ext (λ b. refl)) (all (ready_at_once d slot h rs e idle found none)))

@@ -1,11 +1,10 @@
 -- States of a disk that are the same but for what was read, and what calls in a row spend.
-use Rattle.std.proofs.Common.{◌≡◌, ℕ, zero, suc, ◌+◌, ◌≤◌, Bool, true, false, List, length, refl, sym, ◌∙◌, ap, ap₂, subst, arith}
+use Rattle.std.proofs.Common.{◌≡◌, ℕ, zero, suc, ◌+◌, ◌≤◌, Bool, false, List, refl, ◌∙◌, ap, ap₂, arith}
 use Rattle.opt_base.specs.Counts.{next_count, after_call, after_calls}
 use Rattle.opt_base.specs.Seal.{Blocks}
 use Rattle.opt_disk.specs.declared.event.Event.{Event}
 use Rattle.opt_disk.specs.Cell.{Cell, cell_of}
-use Rattle.opt_disk.specs.Crash.{Window}
-use Rattle.opt_disk.specs.Disk.{State, SameDisk}
+use Rattle.opt_disk.specs.Disk.{State}
 use Rattle.opt_crash.specs.Ledger.{cells_of}
 use Rattle.opt_crash.specs.Opening.{settled}
 use Rattle.opt_mount.specs.Mount.{IsIdle, settled_on, MountSpends}

@@ -1,5 +1,5 @@
 -- What a mount finds on a disk, what it leaves, and what it spends.
-use Rattle.std.specs.Prelude.{◌≡◌, ⊤, ◌⊎◌, ℕ, ◌+◌, ◌<◌, ◌≤◌, Bool, true, List, [], length}
+use Rattle.std.specs.Prelude.{◌≡◌, ⊤, ◌⊎◌, ℕ, ◌+◌, ◌<◌, ◌≤◌, Bool, true, [], length}
 use Rattle.opt_base.specs.Counts.{after_call, after_calls}
 use Rattle.opt_base.specs.Seal.{Blocks}
 use Rattle.opt_disk.specs.Crash.{Window}

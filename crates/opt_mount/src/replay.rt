@@ -23,9 +23,7 @@ use opt_crash::{
 };
 use opt_disk::{Disk, DiskFault};
 use opt_journal::{Header, journal_blocks_keep_to_their_bounds, unescape};
-use opt_recover::{
-    Run, the_last_payload_is_in_the_ring, the_last_payload_is_what_records_leave,
-};
+use opt_recover::{Run, the_last_payload_is_in_the_ring, the_last_payload_is_what_records_leave};
 
 /// The newest header of a disk, which closes its run, and its slot.
 #[derive(Clone, Copy, Debug, PartialEq, Eq)]

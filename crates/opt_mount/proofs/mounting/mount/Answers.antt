@@ -1,6 +1,6 @@
-use Rattle.std.proofs.Common.{rules, ◌≡◌, ◌+◌, false, IfErr, refl, arith, sym, ◌∙◌, subst}
+use Rattle.std.proofs.Common.{rules, ◌≡◌, false, IfErr, refl, arith, ◌∙◌}
 use Rattle.opt_recover.specs.Reading.{Searches}
-use Rattle.opt_mount.specs.Mount.{settled_on, RefusalSays, MountSpends}
+use Rattle.opt_mount.specs.Mount.{settled_on, RefusalSays}
 use Rattle.opt_mount.specs.Refusal.{IsFault, is_unread, is_faulty}
 use Rattle.opt_mount.proofs.Founds.{searches_spend, refused_before, faults_say, if_err}
 use Rattle.opt_mount.proofs.States.{same_idle, spends_on}

@@ -1,5 +1,4 @@
-use Rattle.std.proofs.Common.{rules, ◌≡◌, ℕ, ◌+◌, ◌<◌, ◌≤◌, List, [], length, sym, ◌∙◌, ap, subst, arith}
-use Rattle.opt_base.specs.Seal.{Blocks}
+use Rattle.std.proofs.Common.{rules, ◌≡◌, ℕ, ◌+◌, ◌<◌, length, sym, ◌∙◌, ap, subst, arith}
 use Rattle.opt_disk.specs.Crash.{Window}
 use Rattle.opt_geom.specs.Geometry.{Geometry}
 use Rattle.opt_journal.specs.declared.header.Header.{Header}

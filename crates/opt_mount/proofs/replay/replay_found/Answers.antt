@@ -1,7 +1,7 @@
-use Rattle.std.proofs.Common.{rules, ◌+◌, ◌∙◌, arith}
+use Rattle.std.proofs.Common.{rules, ◌∙◌, arith}
 use Rattle.opt_mount.specs.Mount.{MountSpends, settled_on}
 use Rattle.opt_mount.specs.Refusal.{is_unread, is_faulty}
-use Rattle.opt_mount.proofs.States.{spends_on, spends_less}
+use Rattle.opt_mount.proofs.States.{spends_on}
 use Rattle.opt_mount.proofs.Replays.{stays_on, grows_on}
 use Rattle.opt_mount.proofs.replay.replay_found.Goals as goal
 

@@ -3,7 +3,7 @@ use Rattle.opt_disk.specs.declared.event.Event.{Event}
 use Rattle.opt_disk.specs.Crash.{Window}
 use Rattle.opt_crash.specs.Ledger.{HoldsUnder}
 use Rattle.opt_crash.specs.Replay.{found_map}
-use Rattle.opt_mount.proofs.Replays.{Stays, stays_same, replayed_still}
+use Rattle.opt_mount.proofs.Replays.{stays_same, replayed_still}
 use Rattle.opt_mount.proofs.replay.replay_payload.Goals as goal
 
 pub returns-in-Err-clause-holds : goal.returns-in-Err-clause-holds

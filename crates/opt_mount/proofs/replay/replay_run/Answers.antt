@@ -1,4 +1,4 @@
-use Rattle.std.proofs.Common.{rules, ℕ, ◌+◌, ◌-◌, ◌<◌, ◌≤◌, sym, ◌∙◌, ap, subst, arith}
+use Rattle.std.proofs.Common.{rules, ℕ, ◌-◌, ◌<◌, ◌≤◌, sym, ◌∙◌, ap, subst, arith}
 use Rattle.opt_geom.specs.Geometry.{bitmap_start}
 use Rattle.opt_journal.specs.declared.header.Header.{Header}
 use Rattle.opt_crash.specs.Replay.{found_map}
