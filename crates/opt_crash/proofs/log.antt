@@ -4,5 +4,6 @@ pub mod Adds
 pub mod Places
 pub mod Tickets
 pub mod LastWrites
+pub mod LastReads
 pub mod Rows
 pub mod Spending

@@ -7,3 +7,7 @@ pub mod ReplayStages
 pub mod ReplayMade
 pub mod HomeWrites
 pub mod ReplaySteps
+pub mod ReplayUpTo
+pub mod Begun
+pub mod Windows
+pub mod IdleDisk

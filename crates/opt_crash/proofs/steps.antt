@@ -5,3 +5,4 @@ pub mod Idle
 pub mod PointSteps
 pub mod WindowSteps
 pub mod Safe
+pub mod KnownPoints

@@ -1,5 +1,5 @@
 -- How many writes a session makes: five numbers whose sum stays within what the sync points account for.
-use Rattle.std.specs.Prelude.{◌⊎◌, ℕ, ◌+◌, ◌-◌, ◌*◌, ◌<◌, ◌≤◌, List, [], ◌∷◌}
+use Rattle.std.specs.Prelude.{◌≡◌, ◌⊎◌, ℕ, ◌+◌, ◌-◌, ◌*◌, ◌<◌, ◌≤◌, List, [], ◌∷◌, length, take, drop}
 use Rattle.opt_disk.specs.declared.event.Event.{Event}
 use Rattle.opt_disk.specs.declared.event.Event.TheVariants.{Wrote, Lost, Noticed}
 
@@ -19,6 +19,14 @@ pub record WriteCounts : Type 0 where
   pub sure : ℕ
   pub start : ℕ
   pub sum : ℕ
+
+-- the number of writes is that of the log since the mount, which ended after so many events
+abbrev pub AreCounted : ℕ → List Event → WriteCounts → Type 0
+AreCounted mounted log c = c.writes ≡ writes_in (drop mounted log)
+
+-- at each moment from the mount on, the writes since it number at most this
+pub record AreAtMost (mounted : ℕ) (log : List Event) (most : ℕ) : Type 0 where
+  pub each : (k : ℕ) → mounted ≤ k → k ≤ length log → writes_in (drop mounted (take k log)) ≤ most
 
 -- the writes are within what the points account for
 pub record AreWithinSum (c : WriteCounts) : Type 0 where

@@ -4,6 +4,7 @@ pub mod Formatted
 pub mod JournalLaws
 pub mod LastWrites
 pub mod Ledger
+pub mod Mounting
 pub mod OnePending
 pub mod Opening
 pub mod PipelineData

@@ -1,9 +1,9 @@
 -- The sync points of a session, from its disk's base and log.
-use Rattle.std.specs.Prelude.{◌≡◌, ◌⊎◌, ℕ, ◌+◌, ◌-◌, ◌<◌, ◌≤◌, Bool, false, ◌&&◌, ◌==◌, nat_le, nat_lt, if◌then◌else◌, List, [], ◌∷◌, length, take, Option, Some, None, Result, Ok, Err, ◌++◌}
+use Rattle.std.specs.Prelude.{◌≡◌, ◌⊎◌, ℕ, ◌+◌, ◌-◌, ◌<◌, ◌≤◌, Bool, false, ◌&&◌, ◌==◌, nat_le, nat_lt, if◌then◌else◌, List, [], ◌∷◌, length, take, drop, slice_get, Option, Some, None, Result, Ok, Err}
 use Rattle.opt_base.specs.Seal.{Blocks}
 use Rattle.opt_disk.specs.declared.event.Event.{Event}
 use Rattle.opt_disk.specs.declared.event.Event.TheVariants.{Wrote, Lost, Noticed}
-use Rattle.opt_disk.specs.Cell.{Cell}
+use Rattle.opt_disk.specs.Cell.{Cell, cell_of}
 use Rattle.opt_disk.specs.Crash.{Window}
 use Rattle.opt_disk.specs.Disk.{State}
 use Rattle.opt_geom.specs.Geometry.{Geometry, ring_block, data_start, bitmap_start}
@@ -11,7 +11,8 @@ use Rattle.opt_journal.specs.declared.header.Header.{Header}
 use Rattle.opt_journal.specs.declared.record.Commit.{Commit}
 use Rattle.opt_journal.specs.declared.record.Descriptor.{Descriptor}
 use Rattle.opt_journal.specs.Layout.{commit_of, descriptor_of, header_of}
-use Rattle.opt_journal.specs.Run.{live_part}
+use Rattle.opt_journal.specs.declared.entry.Entry.{Entry}
+use Rattle.opt_journal.specs.Run.{Record, places, IsWhole, live_part}
 use Rattle.opt_crash.specs.Ledger.{WrittenRecord, Ledger, HoldsUnder, issued, latest, next_number, IsConsistentWith}
 use Rattle.opt_crash.specs.Steps.{with_record, with_header}
 
@@ -39,11 +40,15 @@ pub record MountedSession : Type 0 where
   pub mounted : ℕ
   pub first : ℕ
 
+-- how many points its log has behind point 0: the commit blocks of its epoch since the mount ended, accepted or lost
+abbrev pub points_in : MountedSession → List Event → ℕ
+points_in s log = commits s.geom s.epoch (drop s.mounted log)
+
 -- after k events the commit block of point p has just been written; for point 0 the mount has just ended
 pub record IsMoment (s : MountedSession) (log : List Event) (p k : ℕ) : Type 0 where
   pub within : k ≤ length log
-  pub count : commits s.geom s.epoch (take k log) ≡ p
-  pub just : ((p ≡ 0) × (k ≡ s.mounted)) ⊎ ((s.mounted < k) × (commits s.geom s.epoch (take (k - 1) log) < p))
+  pub count : points_in s (take k log) ≡ p
+  pub just : ((p ≡ 0) × (k ≡ s.mounted)) ⊎ ((s.mounted < k) × (points_in s (take (k - 1) log) < p))
 
 -- m is the map of sync point p: what the disk holds once all that was issued by then stands
 pub record IsPoint (s : MountedSession) (base : Blocks) (log : List Event) (p : ℕ) (m : Blocks) : Type 0 where
@@ -64,14 +69,35 @@ pub record HoldsPoint (s : MountedSession) (base : Blocks) (log : List Event) (f
 abbrev pub StandsBetween : MountedSession → Blocks → List Event → ℕ → ℕ → ℕ → Type 0
 StandsBetween s base log t floor top = Window s.geom.n base log t (λ img. ∥ HoldsPoint s base log floor top img ∥₁)
 
--- each map of the ledger is that of a point
+-- a header under which the records of a session count, and all of them are past its `sure`
+abbrev pub session_header : MountedSession → Header
+session_header s = record { epoch = s.epoch; turn = 0; start = s.first; sure = s.first - 1; at = 0; closed = false; geom = s.geom }
+
+-- All writes of the commit of point p are noticed among these events: at a moment since the mount its record is whole in what was issued, and nothing is pending on its blocks.
+pub record IsNoticedPoint (s : MountedSession) (base : Blocks) (log : List Event) (p : ℕ) : Type 0 where
+  pub moment : ℕ
+  pub from : s.mounted ≤ moment
+  pub upto : moment ≤ length log
+  pub says : Record
+  pub number : says.number + 1 ≡ s.first + p
+  pub whole : IsWhole (issued base (take moment log)) (session_header s) says
+  pub ring : (i : ℕ) → i < places says → (cell_of base (take moment log) (ring_block s.geom (says.place + i))).pending ≡ []
+  pub fresh : (i : ℕ) (e : Entry) → slice_get says.fresh i ≡ Some e → (cell_of base (take moment log) e.block).pending ≡ []
+
+-- p is the greatest number such that in the first k events all writes of the commits of points 1 to p are noticed
+pub record IsKnown (s : MountedSession) (base : Blocks) (log : List Event) (k p : ℕ) : Type 0 where
+  pub upto : (q : ℕ) → 0 < q → q ≤ p → IsNoticedPoint s base (take k log) q
+  pub not_next : ¬ IsNoticedPoint s base (take k log) (p + 1)
+
+-- each map of the ledger is that of a point, and each point that it knows is noticed
 pub record HasPoints (s : MountedSession) (base : Blocks) (log : List Event) (l : Ledger) : Type 0 where
   pub geom : s.geom ≡ l.geom
   pub epoch : s.epoch ≡ l.epoch
   pub first : s.first ≤ l.known
   pub late : s.mounted ≤ length log
-  pub count : s.first + commits s.geom s.epoch log ≡ next_number l
+  pub count : s.first + points_in s log ≡ next_number l
   pub each : (n : ℕ) → l.known ≤ n → n ≤ next_number l → IsPoint s base log (n - s.first) (live_part l.geom (l.map_before n))
+  pub noticed : (p : ℕ) → 0 < p → p ≤ l.known - s.first → IsNoticedPoint s base log p
 
 -- The disk is as the ledger says, and each honest image that a crash since t may leave holds the map of a point from `floor` to the newest.
 pub record IsSafe (s : MountedSession) (base : Blocks) (log : List Event) (l : Ledger) (t floor : ℕ) : Type 0 where

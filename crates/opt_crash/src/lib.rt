@@ -12,7 +12,7 @@
 //!   **placed** once its payloads are at their blocks, and **released** once a durable header starts past it.
 //! - A **session** is a geometry, an epoch, and where its mount ended. Its **points** follow from the disk's
 //!   base and log alone: point p is what the disk holds once all is on it that was issued up to the p-th
-//!   commit block.
+//!   commit block since.
 //! - A **window** speaks of every honest image of every moment from one moment on: the image holds a map, and
 //!   that is the map of a point. A disk is **safe** where it is consistent and its window holds.
 //! - The **data** of a pipeline are its tickets, counts and lists. They **agree** where they are right about
@@ -38,7 +38,9 @@
 //! 6. The conditions of 3 follow from a pipeline's data, and the data stay right at each step (`src/pipeline.rt`,
 //!    `src/between.rt`). The guarded calls make such steps on a disk (`src/guarded.rt`, `src/record.rt`).
 //! 7. While a mount closes the run that it found, replays it and opens a new epoch, each honest image holds what
-//!    was found (`a_replay_holds_what_was_found`, `src/closing.rt`, `open_journal`).
+//!    was found (`a_replay_holds_what_was_found`, `src/closing.rt`, `open_journal`). The replay goes from block to
+//!    block (`src/replaying.rt`), and the session behind it begins with what was found.
+//! 8. A caller may carry a statement of its own on images (`src/windows.rt`).
 //!
 //! Apart from these: no block has two writes pending (`src/one_pending.rt`), and writes are counted
 //! (`src/counts.rt`).
@@ -56,13 +58,17 @@ mod pipeline;
 mod points;
 mod record;
 mod replay;
+mod replaying;
+mod windows;
 mod writes;
 
 pub use between::{
     nothing_is_written_between_records, records_stand_in_order, taken_blocks_stay_dead,
 };
 pub use closing::{close_journal, closed_header, replay_block};
-pub use counts::{calls_add_at_most_one_write, writes_keep_within_the_sum};
+pub use counts::{
+    calls_add_at_most_one_write, the_counts_are_of_the_log, writes_keep_within_the_sum,
+};
 pub use guarded::{
     poll_once, wait_for, write_all_in_ring, write_commit, write_header, write_in_place,
     write_in_ring,
@@ -84,9 +90,18 @@ pub use pipeline::{
     more_may_wait, records_become_durable, the_home_test_is_exact, the_next_header_may_be_written,
 };
 pub use points::{
-    a_call_begins_safe, a_crash_leaves_a_point, a_mounted_disk_is_safe, a_point_is_for_ever,
-    all_issued_is_the_last_point, the_newest_bytes_are_the_map,
+    a_call_begins_safe, a_crash_leaves_a_point, a_ledger_knows_what_is_noticed,
+    a_mounted_disk_is_safe, a_point_is_for_ever, all_issued_is_the_last_point,
+    the_newest_bytes_are_the_map,
 };
 pub use record::{write_fresh, write_last, write_part};
 pub use replay::a_replay_holds_what_was_found;
+pub use replaying::{
+    a_read_gives_what_was_written_last, a_replay_goes_block_by_block,
+    an_idle_disk_holds_what_is_settled,
+};
+pub use windows::{
+    HoldsMap, Statement, a_window_reaches_back, calls_only_add, guarded_calls_carry_a_statement,
+    windows_go_on,
+};
 pub use writes::writes_join_a_log_one_by_one;

@@ -11,13 +11,13 @@ ghost use Rattle.opt_journal.specs.declared.header.Header.{Header};
 ghost use Rattle.opt_journal.specs.Run.{is_live, live_part, HeldIs};
 ghost use Rattle.opt_crash.specs.Ledger.{Ledger, HoldsUnder, IsConsistentWith, cover, issued, next_number};
 ghost use Rattle.opt_crash.specs.PipelineData.{PipelineData, DataAgree};
-ghost use Rattle.opt_crash.specs.Points.{MountedSession, IsMounted, IsPoint, HoldsPoint, IsSafe, commits, ledger_at_mount, session_at_mount};
+ghost use Rattle.opt_crash.specs.Points.{MountedSession, IsMounted, IsPoint, IsKnown, HoldsPoint, IsSafe, points_in, ledger_at_mount, session_at_mount};
 
 use crate::journal::the_journal_is_lawful;
 
 /// A mounted disk is safe: what it holds is point 0, and each honest image stands for it.
 pub fn a_mounted_disk_is_safe()
-    ensures { (base : Blocks) (log : List Event) (g : Geometry) (slot : ℕ) (h : Header) → IsMounted (cell_of base log) g slot h → commits g h.epoch log ≡ 0
+    ensures { (base : Blocks) (log : List Event) (g : Geometry) (slot : ℕ) (h : Header) → IsMounted (cell_of base log) g slot h
         → IsSafe (session_at_mount g h log) base log (ledger_at_mount (cell_of base log) g slot h) (length log) 0 }
 {
     the_journal_is_lawful();
@@ -26,9 +26,9 @@ pub fn a_mounted_disk_is_safe()
 /// What a crash at a moment from t on may leave of a safe disk: an honest image holds the map of a point,
 /// from `floor` to the last one, and each map that it holds is such a one.
 pub fn a_crash_leaves_a_point()
-    ensures holds { (s : MountedSession) (base : Blocks) (log : List Event) (l : Ledger) (t floor k : ℕ) (img : Blocks) → IsSafe s base log l t floor → t ≤ k → k ≤ length log → IsHonest s.geom.n base (take k log) img → ∥ HoldsPoint s base log floor (commits s.geom s.epoch log) img ∥₁ }
+    ensures holds { (s : MountedSession) (base : Blocks) (log : List Event) (l : Ledger) (t floor k : ℕ) (img : Blocks) → IsSafe s base log l t floor → t ≤ k → k ≤ length log → IsHonest s.geom.n base (take k log) img → ∥ HoldsPoint s base log floor (points_in s log) img ∥₁ }
     ensures each { (s : MountedSession) (base : Blocks) (log : List Event) (l : Ledger) (t floor k : ℕ) (img m : Blocks) → IsSafe s base log l t floor → t ≤ k → k ≤ length log → IsHonest s.geom.n base (take k log) img → HeldIs s.geom.n img m
-        → ∥ ((point : ℕ) × (floor ≤ point) × (point ≤ commits s.geom s.epoch log) × IsPoint s base log point m) ∥₁ }
+        → ∥ ((point : ℕ) × (floor ≤ point) × (point ≤ points_in s log) × IsPoint s base log point m) ∥₁ }
 {
     the_journal_is_lawful();
 }
@@ -36,7 +36,7 @@ pub fn a_crash_leaves_a_point()
 /// The image in which all that was issued stands is that of the last point.
 pub fn all_issued_is_the_last_point()
     ensures held { (s : MountedSession) (base : Blocks) (log : List Event) (l : Ledger) (t floor : ℕ) → IsSafe s base log l t floor → HoldsUnder l.geom.n l.geom (issued base log) (live_part l.geom (l.map_before (next_number l))) }
-    ensures last { (s : MountedSession) (base : Blocks) (log : List Event) (l : Ledger) (t floor : ℕ) → IsSafe s base log l t floor → IsPoint s base log (commits s.geom s.epoch log) (live_part l.geom (l.map_before (next_number l))) }
+    ensures last { (s : MountedSession) (base : Blocks) (log : List Event) (l : Ledger) (t floor : ℕ) → IsSafe s base log l t floor → IsPoint s base log (points_in s log) (live_part l.geom (l.map_before (next_number l))) }
 {
     the_journal_is_lawful();
 }
@@ -44,7 +44,7 @@ pub fn all_issued_is_the_last_point()
 /// A point stays as it is in every longer log, and a longer log adds none to those that were there.
 pub fn a_point_is_for_ever()
     ensures stays { (s : MountedSession) (base : Blocks) (log more : List Event) (point : ℕ) (m : Blocks) → IsPoint s base log point m → IsPoint s base (log ++ more) point m }
-    ensures was { (s : MountedSession) (base : Blocks) (log more : List Event) (point : ℕ) (m : Blocks) → s.mounted ≤ length log → point ≤ commits s.geom s.epoch log → IsPoint s base (log ++ more) point m → IsPoint s base log point m }
+    ensures was { (s : MountedSession) (base : Blocks) (log more : List Event) (point : ℕ) (m : Blocks) → s.mounted ≤ length log → point ≤ points_in s log → IsPoint s base (log ++ more) point m → IsPoint s base log point m }
 {}
 
 /// A call that begins now begins safe: each image from this moment on stands for a point that is known, or
@@ -54,6 +54,13 @@ pub fn a_call_begins_safe()
 {
     the_journal_is_lawful();
 }
+
+/// A ledger knows no more than the log says: at each moment the points that it knows are at most the greatest
+/// up to which all writes of commits are noticed. That number never falls.
+pub fn a_ledger_knows_what_is_noticed()
+    ensures at_most { (s : MountedSession) (base : Blocks) (log more : List Event) (l : Ledger) (t floor p : ℕ) → IsSafe s base log l t floor → IsKnown s base (log ++ more) (length log) p → l.known - s.first ≤ p }
+    ensures grows { (s : MountedSession) (base : Blocks) (log : List Event) (k i p q : ℕ) → k ≤ i → IsKnown s base log k p → IsKnown s base log i q → p ≤ q }
+{}
 
 /// The newest bytes of a live block are those of its last payload among the records that aren't at their
 /// blocks, or else what was written to it last.

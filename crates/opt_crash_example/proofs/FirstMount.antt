@@ -7,7 +7,6 @@ use Rattle.opt_journal.specs.Formatted.{formatted}
 use Rattle.opt_crash_example.specs.FirstRecord.{least}
 use Rattle.opt_crash.specs.Formatted.{mount_events}
 use Rattle.opt_crash.specs.Ledger.{latest}
-use Rattle.opt_crash.specs.Points.{commits}
 use Rattle.opt_crash_example.proofs.Tests.{if_false}
 
 -- the least geometry is one
@@ -18,7 +17,3 @@ least_fits = refl
 -- the mount wrote the header of slot 1 alone
 pub others_stay : (ticket b : ℕ) → 1 ≢ b → latest (cell_of (formatted least) (mount_events least ticket) b) ≡ formatted least b
 others_stay ticket b apart = ap (λ (c : Cell). latest (settle c (from_ticket ticket c.pending))) (if_false (1 == b) _ _ (ne_eqb 1 b apart))
-
--- and no commit block
-pub no_commits : (ticket : ℕ) → commits least 2 (mount_events least ticket) ≡ 0
-no_commits ticket = refl

@@ -9,3 +9,4 @@ pub mod SettlingSteps
 pub mod Tests
 pub mod Spending
 pub mod Orders
+pub mod Counted

@@ -1,5 +1,6 @@
 -- The life of one record, step by step: what each of its calls leaves is what the next one asks for.
 use Rattle.std.proofs.Common.{◌≡◌, ◌≢◌, ℕ, ◌+◌, ◌-◌, List, [], ◌∷◌, ◌++◌, length, take, drop, Some, Result, Ok, Err, IsErr, sym, ◌∙◌, ap, subst, arith}
+use Rattle.std.proofs.lemmas.Bool.{false≢true}
 use Rattle.opt_base.specs.Seal.{Blocks}
 use Rattle.opt_disk.specs.declared.event.Event.{Event}
 use Rattle.opt_disk.specs.Disk.{State}
@@ -13,7 +14,7 @@ use Rattle.opt_crash_example.specs.OneRecord.{IsSafeSomehow, ReleasedLeaves, wit
 
 -- a call that failed leaves a disk that is safe by some ledger
 pub released_failed : {T E : Type 0} (s : MountedSession) (l : Ledger) (w : WrittenRecord) (m : Blocks) (t floor : ℕ) (r : Result T E) (d : State) → IsErr r → IsSafeSomehow s d.base d.log t floor → ReleasedLeaves s l w m t floor r d
-released_failed s l w m t floor (Ok x) d bad safe = cc
+released_failed s l w m t floor (Ok x) d bad safe = absurd (false≢true bad)
 released_failed s l w m t floor (Err e) d bad safe = safe
 
 -- the record is the ledger's only one once it is sure

@@ -1,5 +1,6 @@
 -- What is left once a header, or a checkpoint write, was written and waited for, or one of the two calls failed.
 use Rattle.std.proofs.Common.{◌≡◌, ◌≢◌, ℕ, zero, suc, ◌+◌, ◌-◌, ◌<◌, List, [], ◌∷◌, ◌++◌, length, take, drop, Some, None, Result, Ok, Err, IsErr, refl, sym, ◌∙◌, ap, subst, arith}
+use Rattle.std.proofs.lemmas.Bool.{false≢true}
 use Rattle.std.proofs.Math.Seq.{take-append_seam, drop-append_seam}
 use Rattle.std.proofs.lemmas.Option.{same_Some}
 use Rattle.opt_base.specs.Seal.{Blocks}
@@ -38,7 +39,7 @@ header_settles laws s base log l p h t floor ticket safe k noticed =
 
 -- a call for a header failed, and some ledger says how the disk is
 pub header_failed : {T E : Type 0} (s : MountedSession) (l : Ledger) (p : PipelineData) (h : Header) (t floor : ℕ) (r : Result T E) (d : State) → IsErr r → IsSafeSomehow s d.base d.log t floor → HeaderLeaves s l p h t floor r d
-header_failed s l p h t floor (Ok done) d err safe = cc
+header_failed s l p h t floor (Ok done) d err safe = absurd (false≢true err)
 header_failed s l p h t floor (Err e) d err safe = safe
 
 -- no batch is under way, and the next one is the records up to the durable `sure`, which need one block at home
@@ -79,5 +80,5 @@ checkpoint_settles laws base log l p count block ticket keeps k noticed = (ticke
 
 -- a call for a checkpoint write failed, and some ledger says how the disk is
 pub checkpoint_failed : {T E : Type 0} (s : MountedSession) (l : Ledger) (p : PipelineData) (count block t floor : ℕ) (r : Result T E) (d : State) → IsErr r → IsSafeSomehow s d.base d.log t floor → CheckpointLeaves s l p count block t floor r d
-checkpoint_failed s l p count block t floor (Ok done) d err safe = cc
+checkpoint_failed s l p count block t floor (Ok done) d err safe = absurd (false≢true err)
 checkpoint_failed s l p count block t floor (Err e) d err safe = safe

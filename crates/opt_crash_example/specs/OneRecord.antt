@@ -15,6 +15,7 @@ use Rattle.opt_crash.specs.Ledger.{Ledger, WrittenRecord, block_at, next_number}
 use Rattle.opt_crash.specs.Steps.{with_record, with_known, with_header, with_durable_header}
 use Rattle.opt_crash.specs.Points.{MountedSession, IsSafe, IsSafeOn}
 use Rattle.opt_crash.specs.PipelineData.{PipelineData, DataAgreeOn, NeedsCheckpoint, next_header, with_committed, with_pending, with_durable, with_batch, with_home, with_sent, with_placed}
+use Rattle.opt_crash.specs.Counts.{WriteCounts, AreWithinSum, AreCounted, AreAtMost, share, with_point, with_part, with_home_write, with_header_write}
 use Rattle.opt_crash.specs.Recording.{IsInLedger}
 
 -- these are the blocks of the record, and where they go
@@ -124,6 +125,16 @@ pub record AddsPrefix (ws : List (ℕ × List ℕ)) (old new : List Event) : Typ
 abbrev pub AddsInOrder : {T E : Type 0} → List (ℕ × List ℕ) → Result T E → List Event → List Event → Type 0
 AddsInOrder ws (Ok done) old new = AddsAmidNotices ws [] old new
 AddsInOrder ws (Err e) old new = AddsPrefix ws old new
+
+-- The counts with that record: its point, its four writes, the header that makes it sure, the write to its payload's block, and the header that releases it.
+abbrev pub counts_after : WriteCounts → WriteCounts
+counts_after c =
+    with_header_write (with_home_write (with_header_write (with_part (with_part (with_part (with_part (with_point c 1 1 1))))) (c.last + 1) c.start) 1) (c.last + 1) (c.last + 2)
+
+-- after the calls for the record: at each moment since the mount the writes number at most what the points account for, this one included; once it is released, so do the five numbers
+abbrev pub KeepsCount : {T E : Type 0} → ℕ → WriteCounts → Result T E → List Event → Type 0
+KeepsCount mounted c (Ok done) log = AreWithinSum (counts_after c) × AreCounted mounted log (counts_after c) × AreAtMost mounted log (c.sum + share 1 1 1)
+KeepsCount mounted c (Err e) log = AreAtMost mounted log (c.sum + share 1 1 1)
 
 -- the writes of a record, and with them those that settle it
 abbrev pub writes_of : OneRecord → List (ℕ × List ℕ)

@@ -2,21 +2,22 @@
 //! made durable by a header, brought to their place, and released by another header. It shows that the
 //! laws fit one another, and that calls in a wrong order are refused; a pipeline is not its matter.
 
-ghost use Rattle.std.specs.Prelude.{◌≡◌, ◌<◌, ◌≤◌, ℕ, List, [], IsTrue, OnOk, is_err};
+ghost use Rattle.std.specs.Prelude.{◌≡◌, ◌<◌, ◌≤◌, ℕ, List, [], length, IsTrue, OnOk, is_err};
 ghost use Rattle.opt_base.specs.Seal.{Blocks};
 ghost use Rattle.opt_disk.specs.Disk.{OnlyWrites, SpendsUpTo};
+ghost use Rattle.opt_crash.specs.Counts.{WriteCounts, AreWithinSum, AreCounted};
 ghost use Rattle.opt_crash.specs.Ledger.{Ledger, WrittenRecord, cells_of};
 ghost use Rattle.opt_crash.specs.PipelineData.{PipelineData, DataAgreeOn, AreRightOn, AreFreed, AllNoticed};
 ghost use Rattle.opt_crash.specs.Points.{MountedSession, IsSafeOn, StaysSafe};
 ghost use Rattle.opt_crash.specs.Recording.{IsNextRecord};
 ghost use Rattle.opt_crash.specs.Steps.{NoneIsBeingWritten};
-ghost use Rattle.opt_crash_example.specs.OneRecord.{HasNoRecord, IsWrittenAs, IsSettledBy, RecordLeaves, KnownLeaves, ReleasedLeaves, AddsInOrder, AddsAmidNotices, writes_of, writes_of_life};
+ghost use Rattle.opt_crash_example.specs.OneRecord.{HasNoRecord, KeepsCount, IsWrittenAs, IsSettledBy, RecordLeaves, KnownLeaves, ReleasedLeaves, AddsInOrder, AddsAmidNotices, writes_of, writes_of_life};
 
 use crate::settling::{checkpoint, make_sure};
 use opt_base::Block;
 use opt_crash::{
-    noticed_records_are_known, records_become_durable, wait_for, write_fresh, write_last,
-    write_part,
+    noticed_records_are_known, records_become_durable, the_counts_are_of_the_log, wait_for,
+    write_fresh, write_last, write_part, writes_keep_within_the_sum,
 };
 use opt_disk::{Disk, DiskFault};
 
@@ -55,6 +56,32 @@ pub struct Settling {
 /// # Errors
 /// The first call of the disk that failed. What a crash leaves then still stands for one sync point.
 pub fn serve_one_record<D: Disk>(
+    disk: &mut D,
+    record: &OneRecord,
+    settling: &Settling,
+) -> Result<(), DiskFault>
+    requires fresh { «record».now.fresh_block < (D.state disk.old).blocks }
+    requires descriptor { «record».now.descriptor_block < (D.state disk.old).blocks }
+    requires payload { «record».now.payload_block < (D.state disk.old).blocks }
+    requires commit { «record».now.commit_block < (D.state disk.old).blocks }
+    requires home { settling.now.home_block < (D.state disk.old).blocks }
+    requires slot { settling.now.slot < 2 }
+    requires slots { 2 ≤ (D.state disk.old).blocks }
+    ensures released { IsTrue D.tells → (s : MountedSession) (l : Ledger) (p : PipelineData) (w : WrittenRecord) (m : Blocks) (t floor : ℕ) (freed : List ℕ) → HasNoRecord l p → IsWrittenAs l w «record».now → IsNextRecord l w m → AreFreed l w m freed → IsSettledBy l w m settling.now
+        → IsSafeOn s (D.state disk.old) l t floor → DataAgreeOn (D.state disk.old) l p → NoneIsBeingWritten (cells_of (D.state disk.old)) l
+        → ReleasedLeaves s l w m t floor result (D.state disk.new) }
+    ensures log { IsTrue D.tells → AddsInOrder (writes_of_life «record».now settling.now) result (D.state disk.old).log (D.state disk.new).log }
+    ensures counts { IsTrue D.tells → (mounted : ℕ) (c : WriteCounts) → mounted ≤ length (D.state disk.old).log → c.coming ≡ 0 → AreWithinSum c → AreCounted mounted (D.state disk.old).log c
+        → KeepsCount mounted c result (D.state disk.new).log }
+    ensures spends { SpendsUpTo (is_err result) 7 (D.state disk.old) (D.state disk.new) }
+{
+    writes_keep_within_the_sum();
+    the_counts_are_of_the_log();
+    settle_one_record(disk, record, settling)
+}
+
+/// The same, without its counts.
+pub(crate) fn settle_one_record<D: Disk>(
     disk: &mut D,
     record: &OneRecord,
     settling: &Settling,

@@ -1,7 +1,7 @@
 //! What a block says of a record: its commit block, one of its descriptors, a payload or a fresh block
 //! of it; and which of two headers is the newer. Where the block was read isn't described here.
 
-ghost use Rattle.std.specs.Prelude.{◌≡◌, ◌+◌, ◌≤◌, ℕ, List, min, None, Option, IfSome, bytes_eq};
+ghost use Rattle.std.specs.Prelude.{◌≡◌, ◌+◌, ◌<◌, ◌≤◌, ℕ, List, min, None, Option, IfSome, bytes_eq};
 ghost use Rattle.opt_base.specs.Seal.{Blocks, sha256};
 ghost use Rattle.opt_geom.specs.Geometry.{ring_block};
 ghost use Rattle.opt_journal.specs.declared.header.Header as headers;
@@ -23,6 +23,7 @@ pub fn newer_header(first: Option<Header>, second: Option<Header>) -> Option<(u3
     ensures found { (n : ℕ) (img : Blocks) → first ≡ header_of n (img 0) → second ≡ header_of n (img 1) → IfSome result (λ p. Newest n img p.0 p.1) }
     ensures missing { (n : ℕ) (img : Blocks) → first ≡ header_of n (img 0) → second ≡ header_of n (img 1) → result ≡ None → (slot : ℕ) (h : headers.Header) → ¬ Newest n img slot h }
     ensures within { (n : ℕ) → IfSome first (IsWithinDisk n) → IfSome second (IsWithinDisk n) → IfSome result (λ p. IsWithinDisk n p.1) }
+    ensures slot { IfSome result (λ p. p.0 < 2) }
 {
     match first {
         None => match second {

@@ -5,3 +5,4 @@ pub mod Puts
 pub mod Finds
 pub mod Covered
 pub mod Epochs
+pub mod InRing

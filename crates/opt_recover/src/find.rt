@@ -119,6 +119,7 @@ pub fn find_run<D: Disk>(alloc: Global, disk: &mut D) -> Result<Run, RecoverRefu
     ensures found { (img : Blocks) → Gives D.tells (D.state disk.old) img → IfOk result (IsFound (D.state disk.old).blocks img) }
     ensures refused { (img : Blocks) → Gives D.tells (D.state disk.old) img → IfErr result (RefusalSays (D.state disk.old).blocks img) }
     ensures going { IfOk result (λ run. is_spent run.header (length run.records) ≡ false) }
+    ensures slot { IfOk result (λ run. run.slot < 2) }
     ensures size { IfOk result (λ run. run.header.geom.n ≡ (D.state disk.old).blocks) }
     ensures reads { Searches D.tells (find_is_unread result) (D.state disk.old) (D.state disk.new) }
 {

@@ -5,6 +5,7 @@ ghost use Rattle.std.specs.Prelude.{◌≡◌, ◌<◌, ◌≤◌, ℕ, List, So
 ghost use Rattle.opt_base.specs.Seal.{Blocks};
 ghost use Rattle.opt_geom.specs.Geometry.{Geometry, ring_block};
 ghost use Rattle.opt_journal.specs.declared.header.Header.{Header};
+ghost use Rattle.opt_journal.specs.declared.entry.EntryKind.{EntryKind};
 ghost use Rattle.opt_journal.specs.declared.record.Commit.{Commit};
 ghost use Rattle.opt_journal.specs.declared.record.Descriptor.{Descriptor};
 ghost use Rattle.opt_journal.specs.Layout.{header_of, commit_of, descriptor_of};
@@ -17,6 +18,11 @@ ghost use Rattle.opt_recover.specs.Payload.{stored_after, bytes_of};
 #[tactic(auto, using(crate::proofs::Covered::covered))]
 pub fn the_last_payload_is_what_records_leave()
     ensures { (g : Geometry) (img : Blocks) (rs : List Record) (b : ℕ) → covered_by g img None rs b ≡ bytes_of img (stored_after g None rs b) }
+{}
+
+/// Where the last payload of a block is, there is a ring place.
+pub fn the_last_payload_is_in_the_ring()
+    ensures { (g : Geometry) (rs : List Record) (b at : ℕ) (kind : EntryKind) → stored_after g None rs b ≡ Some (at, kind) → (place : ℕ) × (at ≡ ring_block g place) }
 {}
 
 /// No header, and no commit block or descriptor in the ring, has an epoch above the greatest one.

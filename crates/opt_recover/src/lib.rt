@@ -16,5 +16,8 @@ mod whole;
 
 pub use epoch::greatest_epoch;
 pub use find::{RecoverRefusal, Run, find_run};
-pub use laws::{no_epoch_is_above_the_greatest, the_last_payload_is_what_records_leave};
+pub use laws::{
+    no_epoch_is_above_the_greatest, the_last_payload_is_in_the_ring,
+    the_last_payload_is_what_records_leave,
+};
 pub use opt_record::{Record, RecordList};

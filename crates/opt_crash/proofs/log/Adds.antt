@@ -33,7 +33,7 @@ pub stands_settled : (c : Cell) (x : List ℕ) → c.pending ≡ [] → StandsIn
 stands_settled c x idle st = ⊎_elim (λ e. e) (λ w. absurd (subst (λ ws. AreBytesOf ws x) idle w)) st
 
 -- what was written last is the last write
-last_of-append : (x : List ℕ) (ws : List Write) (w : Write) → last_of x (ws ++ w ∷ []) ≡ w.bytes
+pub last_of-append : (x : List ℕ) (ws : List Write) (w : Write) → last_of x (ws ++ w ∷ []) ≡ w.bytes
 last_of-append x [] w = refl
 last_of-append x (v ∷ ws) w = last_of-append v.bytes ws w
 

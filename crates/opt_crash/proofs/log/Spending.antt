@@ -1,5 +1,5 @@
 -- What calls in a row spend.
-use Rattle.std.proofs.Common.{◌≡◌, ◌≤◌, Bool, true, false, ◌∙◌, sym, ap, subst, arith}
+use Rattle.std.proofs.Common.{◌≡◌, Bool, true, false, ◌∙◌, sym, ap, subst, arith}
 use Rattle.opt_base.specs.Counts.{after_call, next_count}
 use Rattle.opt_disk.specs.Disk.{State, SameDisk, OnlyWrites, OnlyWaits, SpendsUpTo}
 

@@ -1,6 +1,6 @@
 -- A mounted disk begins with point 0; and the last point is what has been issued.
-use Rattle.std.proofs.Common.{◌≡◌, inl, ℕ, ◌+◌, ◌-◌, ◌≤◌, List, length, take, refl, sym, ◌∙◌, ap, subst, arith}
-use Rattle.std.proofs.lemmas.List.{take_all}
+use Rattle.std.proofs.Common.{◌≡◌, inl, ℕ, ◌+◌, ◌-◌, ◌<◌, ◌≤◌, List, length, take, refl, sym, ◌∙◌, ap, subst, arith}
+use Rattle.std.proofs.lemmas.List.{take_all, drop_all}
 use Rattle.opt_base.specs.Seal.{Blocks}
 use Rattle.opt_disk.specs.declared.event.Event.{Event}
 use Rattle.opt_disk.specs.Cell.{cell_of}
@@ -9,7 +9,7 @@ use Rattle.opt_journal.specs.declared.header.Header.{Header}
 use Rattle.opt_journal.specs.Run.{live_part}
 use Rattle.opt_crash.specs.JournalLaws.{JournalLaws}
 use Rattle.opt_crash.specs.Ledger.{Ledger, HoldsUnder, IsConsistentWith, issued, next_number}
-use Rattle.opt_crash.specs.Points.{MountedSession, IsMounted, IsPoint, HasPoints, StandsBetween, IsSafe, commits, ledger_at_mount, session_at_mount}
+use Rattle.opt_crash.specs.Points.{MountedSession, IsMounted, IsPoint, HasPoints, StandsBetween, IsSafe, commits, points_in, ledger_at_mount, session_at_mount}
 use Rattle.opt_crash.proofs.steps.PointSteps.{begins, issued_holds}
 use Rattle.opt_crash.proofs.steps.WindowSteps.{between_start}
 
@@ -17,18 +17,22 @@ use Rattle.opt_crash.proofs.steps.WindowSteps.{between_start}
 whole : (log : List Event) → take (length log) log ≡ log
 whole log = take_all (length log) log (omega arith)
 
+-- a session begins without points behind it
+pub no_points : (g : Geometry) (h : Header) (log : List Event) → points_in (session_at_mount g h log) log ≡ 0
+no_points g h log = ap (commits g h.epoch) (drop_all (length log) log (omega arith))
+
 -- point 0 is what the disk holds as its mount ends
-first_point : (base : Blocks) (log : List Event) (g : Geometry) (h : Header) (m : Blocks) → commits g h.epoch log ≡ 0 → HoldsUnder g.n g (issued base log) m → IsPoint (session_at_mount g h log) base log 0 m
-first_point base log g h m none held = record {
+first_point : (base : Blocks) (log : List Event) (g : Geometry) (h : Header) (m : Blocks) → HoldsUnder g.n g (issued base log) m → IsPoint (session_at_mount g h log) base log 0 m
+first_point base log g h m held = record {
   moment = length log;
-  at = record { within = omega arith; count = ap (commits g h.epoch) (whole log) ∙ none; just = inl (refl, refl) };
+  at = record { within = omega arith; count = ap (points_in (session_at_mount g h log)) (whole log) ∙ no_points g h log; just = inl (refl, refl) };
   held = subst (λ (l : List Event). HoldsUnder g.n g (issued base l) m) (sym (whole log)) held;
 }
 
--- a mounted disk without commit blocks of its session is safe, with point 0 as its floor
-pub mounted_safe : JournalLaws → (base : Blocks) (log : List Event) (g : Geometry) (slot : ℕ) (h : Header) → IsMounted (cell_of base log) g slot h → commits g h.epoch log ≡ 0
+-- a mounted disk is safe, with point 0 as its floor
+pub mounted_safe : JournalLaws → (base : Blocks) (log : List Event) (g : Geometry) (slot : ℕ) (h : Header) → IsMounted (cell_of base log) g slot h
     → IsSafe (session_at_mount g h log) base log (ledger_at_mount (cell_of base log) g slot h) (length log) 0
-mounted_safe laws base log g slot h mounted none = record {
+mounted_safe laws base log g slot h mounted = record {
   keeps = keeps;
   points = points;
   low = omega arith;
@@ -37,6 +41,9 @@ mounted_safe laws base log g slot h mounted none = record {
   where
     none_past : (n start : ℕ) → start ≤ n → n ≤ start + 0 → n - start ≡ 0
     none_past n start low high = omega (arith, low, high)
+
+    no_more : (n p : ℕ) → 0 < p → p ≤ n - n → ⊥
+    no_more n p some le = omega arith
 
     same : (n : ℕ) → n - n ≡ 0
     same n = omega arith
@@ -53,8 +60,9 @@ mounted_safe laws base log g slot h mounted none = record {
       epoch = refl;
       first = omega arith;
       late = omega arith;
-      count = omega (arith, none);
-      each = λ n low high. subst (λ (p : ℕ). IsPoint (session_at_mount g h log) base log p (live_part g (l.map_before n))) (sym (none_past n h.start low high)) (first_point base log g h (live_part g (l.map_before n)) none (issued_holds laws base log l keeps));
+      count = omega (arith, no_points g h log);
+      each = λ n low high. subst (λ (p : ℕ). IsPoint (session_at_mount g h log) base log p (live_part g (l.map_before n))) (sym (none_past n h.start low high)) (first_point base log g h (live_part g (l.map_before n)) (issued_holds laws base log l keeps));
+      noticed = λ p some le. absurd (no_more h.start p some le);
     }
 
 -- what has been issued to a safe disk holds the newest map
@@ -62,9 +70,9 @@ pub safe_holds : JournalLaws → (s : MountedSession) (base : Blocks) (log : Lis
 safe_holds laws s base log l t floor safe = issued_holds laws base log l safe.keeps
 
 -- the last point counts the commit blocks of the session
-pub safe_last : (s : MountedSession) (base : Blocks) (log : List Event) (l : Ledger) (t floor : ℕ) → IsSafe s base log l t floor → IsPoint s base log (commits s.geom s.epoch log) (live_part l.geom (l.map_before (next_number l)))
+pub safe_last : (s : MountedSession) (base : Blocks) (log : List Event) (l : Ledger) (t floor : ℕ) → IsSafe s base log l t floor → IsPoint s base log (points_in s log) (live_part l.geom (l.map_before (next_number l)))
 safe_last s base log l t floor safe =
-    subst (λ (p : ℕ). IsPoint s base log p (live_part l.geom (l.map_before (next_number l)))) (counted s.first (commits s.geom s.epoch log) (next_number l) safe.points.count)
+    subst (λ (p : ℕ). IsPoint s base log p (live_part l.geom (l.map_before (next_number l)))) (counted s.first (points_in s log) (next_number l) safe.points.count)
     (safe.points.each (next_number l) safe.keeps.known (omega arith))
   where
     counted : (first made next : ℕ) → first + made ≡ next → next - first ≡ made

@@ -1,7 +1,7 @@
 -- While the header that opens a journal without records is written, each honest image holds what was there.
 use Rattle.std.proofs.Common.{◌≡◌, ◌≢◌, ◌⊎◌, inl, inr, ⊎_elim, ℕ, ◌+◌, ◌-◌, ◌^◌, ◌<◌, ◌≤◌, List, [], ◌∷◌, ◌++◌, length, Some, Err, refl, sym, ◌∙◌, ap, subst, arith, append-nil, append_assoc, length-append}
 use Rattle.std.proofs.lemmas.List.{take-append-le, take_all}
-use Rattle.std.proofs.lemmas.Bool.{cases_lt}
+use Rattle.std.proofs.lemmas.Bool.{cases_lt, cases_eq}
 use Rattle.std.proofs.lemmas.Option.{same_Some}
 use Rattle.opt_base.specs.Seal.{Blocks}
 use Rattle.opt_disk.specs.declared.event.Event.{Event}
@@ -10,13 +10,14 @@ use Rattle.opt_disk.specs.declared.disk.DiskFault.{DiskFault}
 use Rattle.opt_disk.specs.Cell.{Cell, cell_of, notices, IsNoticed}
 use Rattle.opt_disk.specs.Crash.{IsHonest, Window}
 use Rattle.opt_disk.specs.Disk.{AddsWrite}
-use Rattle.opt_geom.specs.Geometry.{Geometry, ring_block}
+use Rattle.opt_geom.specs.Geometry.{Geometry, ring_block, bitmap_start}
 use Rattle.opt_journal.specs.declared.header.Header.{Header}
 use Rattle.opt_journal.specs.Layout.{header_of, commit_of}
 use Rattle.opt_journal.specs.Spelling.{IsHeader, header_block}
 use Rattle.opt_journal.specs.Run.{Newest, Record, commit_says, IsRun, replayed}
 use Rattle.opt_crash.specs.JournalLaws.{JournalLaws}
 use Rattle.opt_crash.specs.Ledger.{StandsIn, HoldsUnder}
+use Rattle.opt_crash.specs.Mounting.{IsReplayedUpTo}
 use Rattle.opt_crash.specs.PipelineData.{IsSettledIn}
 use Rattle.opt_crash.specs.Replay.{IsFound, found_map, IsAsFound, IsReplayed, IsOpening, Closes, IsClosing, IsReplaying}
 use Rattle.opt_crash.specs.Opening.{opening_header, closed_header, last_number, settled, IsReadyToOpen, AddsWaited}
@@ -340,3 +341,19 @@ module _ (laws : JournalLaws) (reads : (h : Header) → IsHeader h → header_of
 
       as_it_was : (b : ℕ) → 2 ≤ b → IsAsFound (cell_of base new) (settled (cell_of base log)) b
       as_it_was b high = let k = other_left base log new (1 - slot) b its_block w (not_slot b high) (idle b) in record { settled = k.settled; idle = k.idle }
+
+  -- block by block from the first behind the journal on
+  pub closed_upto : (new : List Event) (w : AddsWaited (1 - slot) its_block log new) → IsNoticed w.ticket new → IsReplayedUpTo h.geom.n (cell_of base new) (settled (cell_of base log)) (1 - slot) h (closed_header h last) run (bitmap_start h.geom)
+  closed_upto new w noticed = record {
+    replaying = closed_done new w noticed;
+    idle = λ b. ⊎_elim (λ same. ap (λ c. (cell_of base new c).pending) (sym same) ∙ own.pending) (λ apart. (left b apart).idle) (cases_eq (1 - slot) b);
+    placed = λ b low high. absurd (omega (arith, low, high));
+    headers = λ s k two is. ⊎_elim (λ same. inl (same_Some _ _ (sym is ∙ ap (λ c. header_of h.geom.n (cell_of base new c).settled) (sym same) ∙ ap (header_of h.geom.n) own.settled ∙ reads_back)))
+        (λ apart. inr (sym (ap (header_of h.geom.n) (left s apart).settled) ∙ is)) (cases_eq (1 - slot) s);
+  }
+    where
+      own : IsSettledIn (cell_of base new (1 - slot)) its_block
+      own = own_settled base log new (1 - slot) its_block w noticed
+
+      left : (b : ℕ) → 1 - slot ≢ b → IsLeft (cell_of base log b) (cell_of base new b)
+      left b apart = other_left base log new (1 - slot) b its_block w apart (idle b)

@@ -1,7 +1,7 @@
--- A header that opens the journal, written beside the newest one and waited for: the disk is mounted then, and the calls make no commit.
-use Rattle.std.proofs.Common.{◌≡◌, ◌≢◌, ◌⊎◌, inl, inr, ⊎_elim, ℕ, ◌+◌, ◌-◌, ◌^◌, ◌<◌, ◌≤◌, Bool, true, false, if◌then◌else◌, List, [], ◌∷◌, ◌++◌, Option, Some, None, Result, Ok, Err, refl, sym, ◌∙◌, ap, subst, arith, append-nil, append_assoc}
+-- A header that opens the journal, written beside the newest one and waited for: the disk is mounted then.
+use Rattle.std.proofs.Common.{◌≡◌, ◌≢◌, ◌⊎◌, inl, inr, ⊎_elim, ℕ, ◌+◌, ◌-◌, ◌^◌, ◌<◌, ◌≤◌, List, [], ◌∷◌, ◌++◌, Some, Result, Ok, Err, refl, sym, ◌∙◌, ap, subst, arith, append-nil, append_assoc}
 use Rattle.std.specs.Result.{IsErr}
-use Rattle.std.proofs.lemmas.Bool.{lt-leb, cases_eq, false≢true}
+use Rattle.std.proofs.lemmas.Bool.{cases_eq, false≢true}
 use Rattle.std.proofs.lemmas.Option.{same_Some}
 use Rattle.opt_base.specs.Seal.{Blocks}
 use Rattle.opt_disk.specs.declared.event.Event.{Event}
@@ -16,12 +16,11 @@ use Rattle.opt_journal.specs.Spelling.{IsHeader, header_block}
 use Rattle.opt_crash.specs.JournalLaws.{JournalLaws}
 use Rattle.opt_crash.specs.LastWrites.{AvoidsBlock, IsLastWrite}
 use Rattle.opt_crash.specs.PipelineData.{IsSettledIn}
-use Rattle.opt_crash.specs.Points.{IsMounted, is_commit, commits}
-use Rattle.opt_crash.specs.Opening.{opening_header, IsReadyToOpen, AddsWaited, AddsDurable}
+use Rattle.opt_crash.specs.Points.{IsMounted}
+use Rattle.opt_crash.specs.Opening.{opening_header, closed_header, IsReadyToOpen, AddsWaited, AddsDurable}
 use Rattle.opt_crash.proofs.log.Adds.{settles_one}
 use Rattle.opt_crash.proofs.log.Events.{other_wrote}
 use Rattle.opt_crash.proofs.log.LastWrites.{last_new, last_stays}
-use Rattle.opt_crash.proofs.steps.PointSteps.{commits-append}
 use Rattle.opt_crash.proofs.log.Tickets.{noticed_done}
 
 -- notices write no block
@@ -74,6 +73,27 @@ opening_is newest last epoch n within low turn sure = record {
     next8 v lt = omega arith
 
     own8 : (v : ℕ) → v < 2 ^ 64 - 1 → Rattle.opt_journal.specs.Spelling.fits_in 8 v
+    own8 v lt = omega arith
+
+-- and so can the one that closes a run
+pub closing_is : (h : Header) (last count n : ℕ) → IsWithinDisk n h → last ≡ h.start + count - 1 → h.epoch < 2 ^ 64 → h.turn < 2 ^ 64 - 1 → h.start < 2 ^ 64 → last < 2 ^ 64 → IsHeader (closed_header h last)
+closing_is h last count n within is epoch turn start sure = record {
+  epoch = own8 h.epoch epoch;
+  turn = next8 h.turn turn;
+  first = own8 h.start start;
+  sure = own8 last sure;
+  epoch_from = within.epoch;
+  turn_from = omega arith;
+  start_from = within.first;
+  start_upto = omega (arith, within.first, is);
+  at = within.at;
+  geom = within.geom;
+}
+  where
+    next8 : (v : ℕ) → v < 2 ^ 64 - 1 → Rattle.opt_journal.specs.Spelling.fits_in 8 (v + 1)
+    next8 v lt = omega arith
+
+    own8 : (v : ℕ) → v < 2 ^ 64 → Rattle.opt_journal.specs.Spelling.fits_in 8 v
     own8 v lt = omega arith
 
 -- what the laws of the journal's blocks say: a header that can be written reads back
@@ -167,23 +187,3 @@ failed_wait block x old new r is w = failed block x old new r is (inr (inr w))
 -- the slot beside this one is before the ring
 pub is_low : (slot : ℕ) → 1 - slot < 2
 is_low slot = omega arith
-
--- what is written before the ring is no commit block
-no_commit_low : (g : Geometry) (epoch block : ℕ) (x : List ℕ) → block < 2 → ◌≡◌ {A = ℕ} (if is_commit g epoch block x then 1 else 0) 0
-no_commit_low g epoch block x low = let e : Rattle.std.proofs.Common.nat_le 2 block ≡ false = lt-leb 2 block low in rw e refl
-
--- notices are no commit blocks
-commits_notices : (g : Geometry) (epoch : ℕ) (ts : List ℕ) → commits g epoch (notices ts) ≡ 0
-commits_notices g epoch [] = refl
-commits_notices g epoch (t ∷ ts) = commits_notices g epoch ts
-
--- so a write before the ring that was waited for adds no commit block
-pub commits_waited : (g : Geometry) (epoch block : ℕ) (x : List ℕ) (log new : List Event) → block < 2 → AddsWaited block x log new → commits g epoch new ≡ commits g epoch log
-commits_waited g epoch block x log new low w =
-    ap (commits g epoch) w.waited.log
-    ∙ omega (arith, commits-append g epoch (log ++ Wrote w.ticket block x ∷ []) (notices w.waited.tickets), commits-append g epoch log (Wrote w.ticket block x ∷ []), no_commit_low g epoch block x low, commits_notices g epoch w.waited.tickets)
-
--- and a write there that failed adds none
-pub commits_failed : (g : Geometry) (epoch block : ℕ) (x : List ℕ) (log new : List Event) (e : DiskFault) → block < 2 → AddsWrite block x (Err e) log new → commits g epoch new ≡ commits g epoch log
-commits_failed g epoch block x log new e low adds =
-    ⊎_elim (ap (commits g epoch)) (λ lost. ap (commits g epoch) lost ∙ omega (arith, commits-append g epoch log (Lost block x ∷ []), no_commit_low g epoch block x low)) adds

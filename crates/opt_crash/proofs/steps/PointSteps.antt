@@ -13,7 +13,7 @@ use Rattle.opt_journal.specs.Layout.{header_of, commit_of}
 use Rattle.opt_journal.specs.Run.{otherwise, is_live, live_part}
 use Rattle.opt_crash.specs.JournalLaws.{JournalLaws}
 use Rattle.opt_crash.specs.Ledger.{Ledger, WrittenRecord, HoldsUnder, IsConsistentWith, IsIssued, IsStanding, IsLaid, StandsIn, issued, latest, cover, next_number, from_start}
-use Rattle.opt_crash.specs.Points.{MountedSession, commits, IsPoint, IsMounted, ledger_at_mount}
+use Rattle.opt_crash.specs.Points.{MountedSession, commits, points_in, IsPoint, IsMounted, ledger_at_mount}
 use Rattle.opt_crash.proofs.log.Adds.{stands_settled}
 use Rattle.opt_crash.proofs.log.Lists.{get_drop, get_behind, empty_parts}
 use Rattle.opt_crash.proofs.theorem.Core.{Stands}
@@ -27,6 +27,16 @@ commits-append g epoch (Wrote t b x ∷ xs) ys = omega (arith, commits-append g 
 commits-append g epoch (Lost b x ∷ xs) ys = omega (arith, commits-append g epoch xs ys)
 commits-append g epoch (Noticed t ∷ xs) ys = commits-append g epoch xs ys
 
+-- what is behind a front of a log that goes on
+pub drop_front : (n : ℕ) (xs ys : List Event) → n ≤ length xs → drop n (xs ++ ys) ≡ drop n xs ++ ys
+drop_front zero xs ys le = refl
+drop_front (suc n) [] ys le = absurd (omega arith)
+drop_front (suc n) (x ∷ xs) ys le = drop_front n xs ys (omega arith)
+
+-- the points of a log that goes on since the mount
+pub points_in-append : (s : MountedSession) (xs ys : List Event) → s.mounted ≤ length xs → points_in s (xs ++ ys) ≡ points_in s xs + commits s.geom s.epoch ys
+points_in-append s xs ys late = ap (commits s.geom s.epoch) (drop_front s.mounted xs ys late) ∙ commits-append s.geom s.epoch (drop s.mounted xs) ys
+
 -- a point is for ever
 pub point_stays : (s : MountedSession) (base : Blocks) (log more : List Event) (p : ℕ) (m : Blocks) → IsPoint s base log p m → IsPoint s base (log ++ more) p m
 point_stays s base log more p m i =
@@ -36,8 +46,8 @@ point_stays s base log more p m i =
       moment = i.moment;
       at = record {
         within = omega (arith, i.at.within, length-append log more);
-        count = ap (commits s.geom s.epoch) same ∙ i.at.count;
-        just = ⊎_elim inl (λ q. inr (q.0, omega (arith, ap (commits s.geom s.epoch) shorter, q.1))) i.at.just;
+        count = ap (points_in s) same ∙ i.at.count;
+        just = ⊎_elim inl (λ q. inr (q.0, omega (arith, ap (points_in s) shorter, q.1))) i.at.just;
       };
       held = subst (λ (l : List Event). HoldsUnder s.geom.n s.geom (issued base l) m) (sym same) i.held;
     }
@@ -67,7 +77,7 @@ issued_holds laws base log l k = last (reached laws base log l (issued base log)
             z n = omega arith
 
 -- a commit block was written just now: the map of its point is the newest
-pub point_made : JournalLaws → (s : MountedSession) (base : Blocks) (log : List Event) (e : Event) (l : Ledger) (p : ℕ) → s.geom ≡ l.geom → s.mounted ≤ length log → commits s.geom s.epoch log ≡ p → commits s.geom s.epoch (e ∷ []) ≡ 1
+pub point_made : JournalLaws → (s : MountedSession) (base : Blocks) (log : List Event) (e : Event) (l : Ledger) (p : ℕ) → s.geom ≡ l.geom → s.mounted ≤ length log → points_in s log ≡ p → commits s.geom s.epoch (e ∷ []) ≡ 1
     → IsConsistentWith base (log ++ e ∷ []) l → IsPoint s base (log ++ e ∷ []) (p + 1) (live_part l.geom (l.map_before (next_number l)))
 point_made laws s base log e l p geom late before one k =
     let len : length (log ++ e ∷ []) ≡ length log + 1 = length-append log (e ∷ []) in
@@ -75,8 +85,8 @@ point_made laws s base log e l p geom late before one k =
       moment = length (log ++ e ∷ []);
       at = record {
         within = omega arith;
-        count = ap (commits s.geom s.epoch) (take-length (log ++ e ∷ [])) ∙ commits-append s.geom s.epoch log (e ∷ []) ∙ sum (commits s.geom s.epoch log) (commits s.geom s.epoch (e ∷ [])) p before one;
-        just = inr (omega (arith, late, len), omega (arith, ap (commits s.geom s.epoch) (shorter log e), before));
+        count = ap (points_in s) (take-length (log ++ e ∷ [])) ∙ points_in-append s log (e ∷ []) late ∙ sum (points_in s log) (commits s.geom s.epoch (e ∷ [])) p before one;
+        just = inr (omega (arith, late, len), omega (arith, ap (points_in s) (shorter log e), before));
       };
       held = subst (λ (lg : List Event). HoldsUnder s.geom.n s.geom (issued base lg) (live_part l.geom (l.map_before (next_number l)))) (sym (take-length (log ++ e ∷ [])))
           (subst (λ (g : Geometry). HoldsUnder g.n g (issued base (log ++ e ∷ [])) (live_part l.geom (l.map_before (next_number l)))) (sym geom) (issued_holds laws base (log ++ e ∷ []) l k));
@@ -142,7 +152,7 @@ begins base log g slot h m = record {
     }
 
 -- no point comes back from a longer log
-pub point_was : (s : MountedSession) (base : Blocks) (log more : List Event) (p : ℕ) (m : Blocks) → s.mounted ≤ length log → p ≤ commits s.geom s.epoch log → IsPoint s base (log ++ more) p m → IsPoint s base log p m
+pub point_was : (s : MountedSession) (base : Blocks) (log more : List Event) (p : ℕ) (m : Blocks) → s.mounted ≤ length log → p ≤ points_in s log → IsPoint s base (log ++ more) p m → IsPoint s base log p m
 point_was s base log more p m late old i = ⊎_elim inside (λ beyond. absurd (outside beyond)) (short i.moment (length log))
   where
     short : (k n : ℕ) → (k ≤ n) ⊎ (n < k)
@@ -156,16 +166,16 @@ point_was s base log more p m late old i = ⊎_elim inside (λ beyond. absurd (o
           moment = i.moment;
           at = record {
             within = le;
-            count = ap (commits s.geom s.epoch) (sym same) ∙ i.at.count;
-            just = ⊎_elim inl (λ q. inr (q.0, omega (arith, ap (commits s.geom s.epoch) shorter, q.1))) i.at.just;
+            count = ap (points_in s) (sym same) ∙ i.at.count;
+            just = ⊎_elim inl (λ q. inr (q.0, omega (arith, ap (points_in s) shorter, q.1))) i.at.just;
           };
           held = subst (λ (l : List Event). HoldsUnder s.geom.n s.geom (issued base l) m) same i.held;
         }
 
-    reach : (k : ℕ) → length log ≤ k → commits s.geom s.epoch log ≤ commits s.geom s.epoch (take k (log ++ more))
+    reach : (k : ℕ) → length log ≤ k → points_in s log ≤ points_in s (take k (log ++ more))
     reach k le =
         let parts : take k (log ++ more) ≡ log ++ take (k - length log) more = ap (λ n. take n (log ++ more)) (sum (length log) k le) ∙ take-append-add log more (k - length log) in
-        omega (arith, ap (commits s.geom s.epoch) parts, commits-append s.geom s.epoch log (take (k - length log) more))
+        omega (arith, ap (points_in s) parts, points_in-append s log (take (k - length log) more) late)
       where
         sum : (n k : ℕ) → n ≤ k → k ≡ n + (k - n)
         sum n k le = omega arith

@@ -19,7 +19,8 @@ use Rattle.opt_crash.proofs.steps.Notices.{keeps_notice}
 use Rattle.opt_crash.proofs.theorem.Images.{in_ring}
 use Rattle.opt_crash.proofs.steps.Steps.{write_in_place, write_in_ring, write_commit}
 use Rattle.opt_crash.proofs.steps.HeaderSteps.{with_known_keeps, turned_keeps, write_header, count}
-use Rattle.opt_crash.proofs.steps.PointSteps.{point_stays, point_made, commits-append}
+use Rattle.opt_crash.proofs.steps.PointSteps.{point_stays, point_made, points_in-append}
+use Rattle.opt_crash.proofs.steps.KnownPoints.{noticed_stays, all_noticed}
 use Rattle.opt_crash.proofs.steps.WindowSteps.{between_more, points_stay}
 
 module _ (laws : JournalLaws) (s : MountedSession) (base : Blocks) (log : List Event) (l : Ledger) (t floor : ℕ) (safe : IsSafe s base log l t floor) where
@@ -79,7 +80,7 @@ module _ (laws : JournalLaws) (s : MountedSession) (base : Blocks) (log : List E
   safe_header e x h none adds may =
       let k = write_header base log (log ++ e ∷ []) l x h adds safe.keeps may in
       let old = points_stay s base log e l none safe.points in
-      let p : HasPoints s base (log ++ e ∷ []) (with_header l h) = record { geom = old.geom; epoch = old.epoch; first = old.first; late = old.late; count = old.count; each = old.each } in
+      let p : HasPoints s base (log ++ e ∷ []) (with_header l h) = record { geom = old.geom; epoch = old.epoch; first = old.first; late = old.late; count = old.count; each = old.each; noticed = old.noticed } in
       record { keeps = k; points = p; low = safe.low; window = between_more laws s base log e (with_header l h) t floor (next_number l - s.first) (next_number l - s.first) safe.window k p safe.low (omega arith) (omega arith) }
 
   -- an accepted header
@@ -96,7 +97,7 @@ module _ (laws : JournalLaws) (s : MountedSession) (base : Blocks) (log : List E
       let old = safe.points in
       record {
         keeps = with_known_keeps base log l safe.keeps number n;
-        points = record { geom = old.geom; epoch = old.epoch; first = omega (arith, old.first, n.from); late = old.late; count = old.count; each = λ m low high. old.each m (omega (arith, low, n.from)) high };
+        points = record { geom = old.geom; epoch = old.epoch; first = omega (arith, old.first, n.from); late = old.late; count = old.count; each = λ m low high. old.each m (omega (arith, low, n.from)) high; noticed = all_noticed laws s base log l number safe.keeps old.geom old.epoch old.late old.first n old.noticed };
         low = omega (arith, safe.low, n.from);
         window = record { each = safe.window.each };
       }
@@ -108,7 +109,7 @@ module _ (laws : JournalLaws) (s : MountedSession) (base : Blocks) (log : List E
       let old = safe.points in
       record {
         keeps = turned_keeps base log l safe.keeps h d;
-        points = record { geom = old.geom; epoch = old.epoch; first = old.first; late = old.late; count = old.count ∙ sym same; each = λ m low high. old.each m low (omega (arith, high, same)) };
+        points = record { geom = old.geom; epoch = old.epoch; first = old.first; late = old.late; count = old.count ∙ sym same; each = λ m low high. old.each m low (omega (arith, high, same)); noticed = old.noticed };
         low = safe.low;
         window = subst (λ n. StandsBetween s base log t floor (n - s.first)) (sym same) safe.window;
       }
@@ -126,13 +127,14 @@ module _ (laws : JournalLaws) (s : MountedSession) (base : Blocks) (log : List E
         epoch = old.epoch;
         first = old.first;
         late = omega (arith, old.late, length-append log (e ∷ []));
-        count = omega (arith, commits-append s.geom s.epoch log (e ∷ []), one, old.count, grown);
+        count = omega (arith, points_in-append s log (e ∷ []) old.late, one, old.count, grown);
         each = λ n low high. ⊎_elim
             (λ new. subst (λ q. IsPoint s base (log ++ e ∷ []) q (live_part l.geom ((with_record l w m).map_before n))) (omega (arith, new, grown, from_first, high))
             (subst (λ q. IsPoint s base (log ++ e ∷ []) (next_number l - s.first + 1) (live_part l.geom ((with_record l w m).map_before q))) (omega (arith, new, grown, high)) made))
             (λ was. subst (λ (q : Blocks). IsPoint s base (log ++ e ∷ []) (n - s.first) (live_part l.geom q)) (sym (if_true (nat_le n (next_number l)) (l.map_before n) m (le-leb n (next_number l) was)))
             (point_stays s base log (e ∷ []) (n - s.first) _ (old.each n low was)))
             (cases_lt (next_number l) n);
+        noticed = λ q some le. noticed_stays s base log (e ∷ []) q (old.noticed q some le);
       } in
       record { keeps = k; points = p; low = safe.low; window = between_more laws s base log e (with_record l w m) t floor (next_number l - s.first) (next_number (with_record l w m) - s.first) safe.window k p safe.low (omega arith) (omega (arith, grown)) }
 

@@ -11,9 +11,10 @@ use Rattle.opt_geom.specs.Geometry.{Geometry}
 use Rattle.opt_journal.specs.Run.{live_part, HeldIs}
 use Rattle.opt_crash.specs.JournalLaws.{JournalLaws}
 use Rattle.opt_crash.specs.Ledger.{Ledger, HoldsUnder, IsConsistentWith, next_number}
-use Rattle.opt_crash.specs.Points.{MountedSession, IsPoint, HoldsPoint, StandsBetween, HasPoints, IsSafe, commits}
+use Rattle.opt_crash.specs.Points.{MountedSession, IsPoint, HoldsPoint, StandsBetween, HasPoints, IsSafe, commits, points_in}
 use Rattle.opt_crash.proofs.theorem.Whole.{stands_for_one}
-use Rattle.opt_crash.proofs.steps.PointSteps.{point_stays, commits-append}
+use Rattle.opt_crash.proofs.steps.PointSteps.{point_stays, points_in-append}
+use Rattle.opt_crash.proofs.steps.KnownPoints.{noticed_stays}
 
 -- an image of this moment holds the map of a point
 now_holds : JournalLaws → (s : MountedSession) (base : Blocks) (log : List Event) (l : Ledger) (img : Blocks) → IsConsistentWith base log l → HasPoints s base log l → IsHonest s.geom.n base log img → HoldsPoint s base log (l.known - s.first) (next_number l - s.first) img
@@ -59,24 +60,25 @@ points_stay s base log e l none p = record {
   epoch = p.epoch;
   first = p.first;
   late = omega (arith, p.late, length-append log (e ∷ []));
-  count = ap (λ n. s.first + n) (commits-append s.geom s.epoch log (e ∷ []) ∙ sum (commits s.geom s.epoch log) (commits s.geom s.epoch (e ∷ [])) none) ∙ p.count;
+  count = ap (λ n. s.first + n) (points_in-append s log (e ∷ []) p.late ∙ sum (points_in s log) (commits s.geom s.epoch (e ∷ [])) none) ∙ p.count;
   each = λ n low high. point_stays s base log (e ∷ []) (n - s.first) _ (p.each n low high);
+  noticed = λ q some le. noticed_stays s base log (e ∷ []) q (p.noticed q some le);
 }
   where
     sum : (a b : ℕ) → b ≡ 0 → a + b ≡ a
     sum a b e = omega arith
 
 -- the last point has the number of commit blocks
-last_is : (first made next : ℕ) → first + made ≡ next → next - first ≡ made
+pub last_is : (first made next : ℕ) → first + made ≡ next → next - first ≡ made
 last_is first made next e = omega (arith, e)
 
 -- what a crash at a moment of the window leaves holds a point, up to the last one
-pub crash_holds : (s : MountedSession) (base : Blocks) (log : List Event) (l : Ledger) (t floor k : ℕ) (img : Blocks) → IsSafe s base log l t floor → t ≤ k → k ≤ length log → IsHonest s.geom.n base (take k log) img → ∥ HoldsPoint s base log floor (commits s.geom s.epoch log) img ∥₁
-crash_holds s base log l t floor k img safe from within honest = subst (λ (top : ℕ). ∥ HoldsPoint s base log floor top img ∥₁) (last_is s.first (commits s.geom s.epoch log) (next_number l) safe.points.count) (safe.window.each k img from within honest)
+pub crash_holds : (s : MountedSession) (base : Blocks) (log : List Event) (l : Ledger) (t floor k : ℕ) (img : Blocks) → IsSafe s base log l t floor → t ≤ k → k ≤ length log → IsHonest s.geom.n base (take k log) img → ∥ HoldsPoint s base log floor (points_in s log) img ∥₁
+crash_holds s base log l t floor k img safe from within honest = subst (λ (top : ℕ). ∥ HoldsPoint s base log floor top img ∥₁) (last_is s.first (points_in s log) (next_number l) safe.points.count) (safe.window.each k img from within honest)
 
 -- and each map that it holds is that of one
 pub crash_each : JournalLaws → (s : MountedSession) (base : Blocks) (log : List Event) (l : Ledger) (t floor k : ℕ) (img m : Blocks) → IsSafe s base log l t floor → t ≤ k → k ≤ length log → IsHonest s.geom.n base (take k log) img → HeldIs s.geom.n img m
-    → ∥ ((p : ℕ) × (floor ≤ p) × (p ≤ commits s.geom s.epoch log) × IsPoint s base log p m) ∥₁
+    → ∥ ((p : ℕ) × (floor ≤ p) × (p ≤ points_in s log) × IsPoint s base log p m) ∥₁
 crash_each laws s base log l t floor k img m safe from within honest held =
     ∥∥₁_map (crash_holds s base log l t floor k img safe from within honest)
     (λ h. (h.point, h.from, h.upto, subst (λ (q : Blocks). IsPoint s base log h.point q) (fun_ext (λ b. laws.one_map s.geom.n img _ _ h.held.held held b)) h.is))

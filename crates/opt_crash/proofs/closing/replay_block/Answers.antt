@@ -1,9 +1,10 @@
-use Rattle.std.proofs.Common.{refl, ◌∙◌, sym, subst}
+use Rattle.std.proofs.Common.{refl, ◌+◌, ◌∙◌, sym, subst}
 use Rattle.opt_base.specs.Seal.{Blocks}
 use Rattle.opt_disk.specs.Cell.{cell_of}
+use Rattle.opt_crash.specs.Mounting.{IsReplayedUpTo}
 use Rattle.opt_crash.specs.Replay.{IsReplaying}
-use Rattle.opt_crash.specs.PipelineData.{IsSettledIn}
 use Rattle.opt_crash.proofs.log.Spending.{wait_failed}
+use Rattle.opt_crash.proofs.mount.ReplayUpTo.{upto_waited}
 use Rattle.opt_crash.proofs.mount.ReplaySteps.{replayed_waited, replayed_failed}
 use Rattle.opt_crash.proofs.mount.OpeningSteps.{own_settled, then_waited, then_noticed, failed_write, failed_wait}
 use Rattle.opt_crash.proofs.closing.replay_block.Goals as goal
@@ -39,3 +40,9 @@ pub returns-clause-placed : goal.returns-clause-placed
 returns-clause-placed g c = λ tells.
     let done = then_noticed c.args.block c.in_ok-ticket.ticket c.args.bytes.now c.args.bytes.now _ _ _ refl (c.in_ok-ticket.ensures.log tells) (c.wait.ensures.log tells) (c.in_ok-wait.ensures.noticed tells) in
     own_settled (g.D.Disk.state c.wait.new.self).base _ _ c.args.block c.args.bytes.now done.0 done.1
+
+pub returns-clause-next : goal.returns-clause-next
+returns-clause-next g c = λ tells n at slot old_slot h closed run found low covered r.
+    let done = then_noticed c.args.block c.in_ok-ticket.ticket c.args.bytes.now c.args.bytes.now _ _ _ refl (c.in_ok-ticket.ensures.log tells) (c.wait.ensures.log tells) (c.in_ok-wait.ensures.noticed tells) in
+    subst (λ (b : Blocks). IsReplayedUpTo n (cell_of b (g.D.Disk.state c.wait.new.self).log) at slot h closed run (c.args.block + 1)) (sym (c.wait.ensures.spends.same.base ∙ c.write.ensures.spends.same.base))
+    (upto_waited c.the_journal_is_lawful.ensures n (g.D.Disk.state c.args.disk.now).base at slot old_slot h closed run found c.args.block c.args.bytes.now low covered _ _ r done.0 done.1)

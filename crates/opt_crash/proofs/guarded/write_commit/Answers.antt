@@ -1,5 +1,4 @@
 use Rattle.std.proofs.Common.{◌≡◌, ⊎_elim, inl, inr, ℕ, List, [], ◌∷◌, ◌++◌, Result, Ok, Err, ◌∙◌, ap}
-use Rattle.opt_disk.specs.declared.event.Event.{Event}
 use Rattle.opt_disk.specs.declared.event.Event.TheVariants.{Wrote, Lost}
 use Rattle.opt_disk.specs.declared.disk.DiskFault.{DiskFault}
 use Rattle.opt_base.specs.Seal.{Blocks}

@@ -1,8 +1,6 @@
 use Rattle.std.proofs.Common.{◌≡◌, ⊎_elim, inl, inr, ℕ, ◌-◌, List, [], ◌∷◌, ◌++◌, Result, Ok, Err, ◌∙◌, ap}
-use Rattle.opt_disk.specs.declared.event.Event.{Event}
 use Rattle.opt_disk.specs.declared.event.Event.TheVariants.{Wrote, Lost}
 use Rattle.opt_disk.specs.declared.disk.DiskFault.{DiskFault}
-use Rattle.opt_base.specs.Seal.{Blocks}
 use Rattle.opt_disk.specs.Cell.{cell_of}
 use Rattle.opt_disk.specs.Disk.{State, AddsWrite}
 use Rattle.opt_journal.specs.declared.header.Header.{Header}

@@ -1,11 +1,10 @@
-use Rattle.std.proofs.Common.{◌-◌, ◌∙◌, sym, ap, subst}
-use Rattle.opt_base.specs.Seal.{Blocks}
-use Rattle.opt_disk.specs.Cell.{cell_of}
+use Rattle.std.proofs.Common.{◌-◌, ◌∙◌, ap}
 use Rattle.opt_journal.specs.Spelling.{header_block}
-use Rattle.opt_crash.specs.Points.{IsMounted}
 use Rattle.opt_crash.specs.Opening.{opening_header}
 use Rattle.opt_crash.proofs.mount.OpeningMoments.{holds_waited, holds_failed, found_waited, found_failed}
-use Rattle.opt_crash.proofs.mount.OpeningSteps.{opened, then_waited, then_noticed, failed_write, failed_wait, commits_failed, commits_waited, is_low}
+use Rattle.opt_crash.proofs.mount.OpeningSteps.{opened, then_waited, then_noticed, failed_write, failed_wait, is_low}
+use Rattle.opt_crash.proofs.mount.Mounted.{mounted_safe}
+use Rattle.opt_crash.proofs.mount.Begun.{begins_with, has_begun}
 use Rattle.opt_crash.proofs.log.Spending.{wait_failed}
 use Rattle.opt_crash.proofs.opening.open_journal.Goals as goal
 
@@ -16,23 +15,18 @@ pub returns-in_err-ticket-clause-log : goal.returns-in_err-ticket-clause-log
 returns-in_err-ticket-clause-log g c = λ tells.
     failed_write _ _ _ _ _ c.in_err-ticket.field-0.0 c.from_residual.result c.from_residual.ensures.0 (c.write_header.ensures ∙ ap header_block c.opening_header-header.ensures) (c.in_err-ticket.ensures.log tells)
 
-pub returns-in_err-ticket-clause-commits : goal.returns-in_err-ticket-clause-commits
-returns-in_err-ticket-clause-commits g c = λ tells geom epoch. commits_failed geom epoch (1 - c.args.slot) _ _ _ c.in_err-ticket.field-0.0 (is_low c.args.slot) (c.in_err-ticket.ensures.log tells)
-
 pub returns-in_err-wait-clause-log : goal.returns-in_err-wait-clause-log
 returns-in_err-wait-clause-log g c = λ tells.
     failed_wait _ _ _ _ c.from_residual-in_err-wait.result c.from_residual-in_err-wait.ensures.0
     (then_waited _ c.in_ok-ticket.ticket _ _ _ _ _ (c.write_header.ensures ∙ ap header_block c.opening_header-header.ensures) (c.in_ok-ticket.ensures.log tells) (c.wait.ensures.log tells))
 
-pub returns-in_err-wait-clause-commits : goal.returns-in_err-wait-clause-commits
-returns-in_err-wait-clause-commits g c = λ tells geom epoch. commits_waited geom epoch (1 - c.args.slot) _ _ _ (is_low c.args.slot)
-    (then_waited _ c.in_ok-ticket.ticket _ _ _ _ _ (c.write_header.ensures ∙ ap header_block c.opening_header-header.ensures) (c.in_ok-ticket.ensures.log tells) (c.wait.ensures.log tells))
-
 pub returns-clause-opened : goal.returns-clause-opened
 returns-clause-opened g c = λ tells ready.
     let done = then_noticed (1 - c.args.slot) c.in_ok-ticket.ticket (header_block (opening_header c.args.newest.now c.args.last c.args.greatest_epoch)) c.write_header.new.into _ _ _ (c.write_header.ensures ∙ ap header_block c.opening_header-header.ensures) (c.in_ok-ticket.ensures.log tells) (c.wait.ensures.log tells) (c.in_ok-wait.ensures.noticed tells) in
-    subst (λ (b : Blocks). IsMounted (cell_of b (g.D.Disk.state c.wait.new.self).log) c.args.newest.now.geom (1 - c.args.slot) (opening_header c.args.newest.now c.args.last c.args.greatest_epoch)) (sym (c.wait.ensures.spends.same.base ∙ c.write.ensures.spends.same.base))
-    (opened c.the_journal_is_lawful.ensures c.journal_blocks_read_back.ensures.headers _ _ _ c.args.slot c.args.newest.now c.args.last c.args.greatest_epoch c.requires.epoch c.requires.turn c.requires.last ready done.0 done.1)
+    let mounted = opened c.the_journal_is_lawful.ensures c.journal_blocks_read_back.ensures.headers _ _ _ c.args.slot c.args.newest.now c.args.last c.args.greatest_epoch c.requires.epoch c.requires.turn c.requires.last ready done.0 done.1 in
+    has_begun (g.D.Disk.state c.wait.new.self) _ c.args.newest.now.geom (1 - c.args.slot) (opening_header c.args.newest.now c.args.last c.args.greatest_epoch) _ (c.wait.ensures.spends.same.base ∙ c.write.ensures.spends.same.base) mounted
+    (mounted_safe c.the_journal_is_lawful.ensures _ _ _ _ _ mounted)
+    (begins_with c.the_journal_is_lawful.ensures _ _ _ c.args.newest.now.geom (1 - c.args.slot) (1 - c.args.slot) _ _ (is_low c.args.slot) ready.idle done.0 mounted)
 
 pub returns-in_err-ticket-clause-holds : goal.returns-in_err-ticket-clause-holds
 returns-in_err-ticket-clause-holds g c = λ tells ready run.
@@ -67,7 +61,3 @@ returns-clause-replayed g c = λ tells was old_slot h run ready found done.
 pub returns-clause-log : goal.returns-clause-log
 returns-clause-log g c = λ tells.
     then_noticed _ c.in_ok-ticket.ticket _ _ _ _ _ (c.write_header.ensures ∙ ap header_block c.opening_header-header.ensures) (c.in_ok-ticket.ensures.log tells) (c.wait.ensures.log tells) (c.in_ok-wait.ensures.noticed tells)
-
-pub returns-clause-commits : goal.returns-clause-commits
-returns-clause-commits g c = λ tells geom epoch. commits_waited geom epoch (1 - c.args.slot) _ _ _ (is_low c.args.slot)
-    (then_waited _ c.in_ok-ticket.ticket _ _ _ _ _ (c.write_header.ensures ∙ ap header_block c.opening_header-header.ensures) (c.in_ok-ticket.ensures.log tells) (c.wait.ensures.log tells))

@@ -3,7 +3,7 @@ use Rattle.opt_disk.specs.Cell.{Cell, cell_of}
 use Rattle.opt_journal.specs.Formatted.{empty_header, formatted}
 use Rattle.opt_crash_example.specs.FirstRecord.{least}
 use Rattle.opt_crash.specs.Formatted.{mount_events}
-use Rattle.opt_crash_example.proofs.FirstMount.{least_fits, others_stay, no_commits}
+use Rattle.opt_crash_example.proofs.FirstMount.{least_fits, others_stay}
 use Rattle.opt_crash_example.proofs.FirstNext.{first_next, first_frees}
 use Rattle.opt_crash_example.proofs.FirstSpelled.{first_spelled}
 use Rattle.opt_crash_example.proofs.examples.a_record_follows_on_the_formatted_disk.Goals as goal
@@ -18,7 +18,7 @@ returns c =
       next = λ ticket x. first_next (cells ticket) (others_stay ticket) x (first_spelled read.commits read.descriptors x);
       freed = λ ticket x. first_frees (cells ticket) (others_stay ticket) x;
       begun = begun;
-      safe = λ ticket. c.a_mounted_disk_is_safe.ensures (formatted least) (mount_events least ticket) least 1 (empty_header least 2 2) (begun ticket) (no_commits ticket);
+      safe = λ ticket. c.a_mounted_disk_is_safe.ensures (formatted least) (mount_events least ticket) least 1 (empty_header least 2 2) (begun ticket);
       knows = λ ticket. c.a_mounted_disk_has_its_data.ensures.begins (formatted least) (mount_events least ticket) least 1 (empty_header least 2 2) (begun ticket);
       idle = λ ticket. c.a_mounted_disk_begins.ensures.idle (formatted least) (mount_events least ticket) least 1 (empty_header least 2 2) (begun ticket);
     }

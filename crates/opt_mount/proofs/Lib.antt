@@ -1,0 +1,4 @@
+pub mod Founds
+pub mod States
+pub mod Replays
+pub mod Opens

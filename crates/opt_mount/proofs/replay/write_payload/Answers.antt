@@ -1,0 +1,7 @@
+use Rattle.opt_mount.proofs.replay.write_payload.Goals as goal
+
+pub returns-in-Err-clause-goes_on : goal.returns-in-Err-clause-goes_on
+returns-in-Err-clause-goes_on g c = λ tells n at slot old_slot h closed run x found low covered r. (c.in-Err.ensures.goes_on tells n at slot old_slot h closed run x found low covered r).1
+
+pub returns-in-Ok-clause-goes_on : goal.returns-in-Ok-clause-goes_on
+returns-in-Ok-clause-goes_on g c = λ tells n at slot old_slot h closed run x found low covered r. (c.in-Ok.ensures.goes_on tells n at slot old_slot h closed run x found low covered r).1
