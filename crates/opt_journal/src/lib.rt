@@ -4,6 +4,7 @@
 #![tactic(auto)]
 
 mod entry;
+mod flaw;
 mod header;
 mod laws;
 mod payload;
@@ -17,6 +18,7 @@ mod write;
 mod write_record;
 
 pub use entry::{Entries, Entry, EntryKind, MOST_ENTRIES};
+pub use flaw::BadRecord;
 pub use header::Header;
 pub use laws::{
     an_image_holds_one_map, descriptors_tell_the_entries, entries_that_fit_keep_to_the_disk,

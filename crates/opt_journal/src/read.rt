@@ -1,28 +1,44 @@
 //! Reading the journal's blocks: headers, commit blocks and descriptors, each refused unless it is
-//! sealed and fits the grammar of its kind. Whether what is read fits its neighbours, as a record's
-//! descriptors fit its commit block, is described by the search for the run.
+//! sealed and fits the grammar of its kind, with the first flaw that it has. Whether what is read fits its
+//! neighbours, as a record's descriptors fit its commit block, is described by the search for the run.
 
-ghost use Rattle.std.specs.Prelude.{◌≡◌, ◌≤◌, ◌+◌, ◌*◌, ◌&&◌, true, false, nat_le, nat_lt, length, Some, None, IfSome};
+ghost use Rattle.std.specs.Prelude.{◌≡◌, ◌≤◌, ◌+◌, ◌*◌, ◌&&◌, true, false, nat_le, nat_lt, length, Some, None, IfSome, IfErr};
+ghost use Rattle.std.specs.Result.{result_ok};
 ghost use Rattle.opt_geom.specs.Geometry.{geometry_fits};
 ghost use Rattle.opt_layout.specs.Bytes.{field};
+ghost use Rattle.opt_journal.specs.Flaws.{header_flaw, commit_flaw, descriptor_flaw};
 ghost use Rattle.opt_journal.specs.Layout.{has_tag, header_fields, header_fits, header_of, descriptor_count, commit_fields, commit_fits, commit_of, kind_of, first_named, entry_of, entries_in, descriptor_fits, descriptor_with, descriptor_of};
 
 use crate::entry::ENTRY_LENGTH;
-use crate::{Commit, Descriptor, Entries, Entry, EntryKind, Header, MOST_ENTRIES};
+use crate::flaw::{commit_flaw, descriptor_flaw, header_flaw};
+use crate::{BadRecord, Commit, Descriptor, Entries, Entry, EntryKind, Header, MOST_ENTRIES};
 use opt_base::{Block, is_sealed};
 use opt_geom::Geom;
 use opt_layout::{has_zeros, number_4, number_8};
 
 /// How many bytes of a block its seal covers.
-const BODY: usize = 992;
+pub(crate) const BODY: usize = 992;
 
 /// The bytes of a descriptor before its entries.
-const DESCRIPTOR_HEAD: usize = 32;
+pub(crate) const DESCRIPTOR_HEAD: usize = 32;
 
-/// The header that is in a block of a disk of `blocks` blocks. `None` says that the block isn't
-/// sealed, or isn't within the grammar of a header, or is one of a disk of another size.
+/// The header that is in a block of a disk of `blocks` blocks.
+///
+/// # Errors
+/// The block isn't sealed, or isn't within the grammar of a header, or is one of a disk of another size. The
+/// first of its flaws is named.
+pub fn read_header(block: &Block, blocks: u32) -> Result<Header, BadRecord>
+    ensures value { result_ok result ≡ header_of blocks block.now }
+    ensures why { IfErr result (λ why. why ≡ header_flaw blocks block.now) }
+{
+    match header_in(block, blocks) {
+        Some(header) => Ok(header),
+        None => Err(header_flaw(block, blocks)),
+    }
+}
+
 #[tactic(auto, unfolding(crate::specs::Layout::header_of))]
-pub fn read_header(block: &Block, blocks: u32) -> Option<Header>
+fn header_in(block: &Block, blocks: u32) -> Option<Header>
     ensures { result ≡ header_of blocks block.now }
 {
     let header = header_fields(block)?;
@@ -32,10 +48,22 @@ pub fn read_header(block: &Block, blocks: u32) -> Option<Header>
     Some(header)
 }
 
-/// The commit block that is in a block of a disk of this geometry. `None` says that the block isn't
-/// sealed, or isn't within the grammar of a commit block.
+/// The commit block that is in a block of a disk of this geometry.
+///
+/// # Errors
+/// The block isn't sealed, or isn't within the grammar of a commit block. The first of its flaws is named.
+pub fn read_commit(block: &Block, geom: &Geom) -> Result<Commit, BadRecord>
+    ensures value { result_ok result ≡ commit_of geom.now block.now }
+    ensures why { IfErr result (λ why. why ≡ commit_flaw geom.now block.now) }
+{
+    match commit_in(block, geom) {
+        Some(commit) => Ok(commit),
+        None => Err(commit_flaw(block, geom)),
+    }
+}
+
 #[tactic(auto, unfolding(crate::specs::Layout::commit_of))]
-pub fn read_commit(block: &Block, geom: &Geom) -> Option<Commit>
+fn commit_in(block: &Block, geom: &Geom) -> Option<Commit>
     ensures { result ≡ commit_of geom.now block.now }
 {
     let commit = commit_fields(block);
@@ -45,11 +73,23 @@ pub fn read_commit(block: &Block, geom: &Geom) -> Option<Commit>
     Some(commit)
 }
 
-/// The descriptor that is in a block of a disk of this geometry. `None` says that the block isn't
-/// sealed, or isn't within the grammar of a descriptor, or has an entry that isn't within the grammar of
-/// entries.
+/// The descriptor that is in a block of a disk of this geometry.
+///
+/// # Errors
+/// The block isn't sealed, or isn't within the grammar of a descriptor, or has an entry that isn't within the
+/// grammar of entries. The first of its flaws is named.
+pub fn read_descriptor(block: &Block, geom: &Geom) -> Result<Descriptor, BadRecord>
+    ensures value { result_ok result ≡ descriptor_of geom.now block.now }
+    ensures why { IfErr result (λ why. why ≡ descriptor_flaw block.now) }
+{
+    match descriptor_in(block, geom) {
+        Some(descriptor) => Ok(descriptor),
+        None => Err(descriptor_flaw(block)),
+    }
+}
+
 #[tactic(auto, unfolding(crate::specs::Layout::descriptor_of))]
-pub fn read_descriptor(block: &Block, geom: &Geom) -> Option<Descriptor>
+fn descriptor_in(block: &Block, geom: &Geom) -> Option<Descriptor>
     ensures { result ≡ descriptor_of geom.now block.now }
 {
     if !is_sealed(block) {
@@ -70,14 +110,14 @@ pub fn descriptor_count(entries: u32) -> u32
     entries.div_ceil(MOST_ENTRIES as u32)
 }
 
-fn has_tag(block: &Block, tag: &[u8]) -> bool
+pub(crate) fn has_tag(block: &Block, tag: &[u8]) -> bool
     ensures { result ≡ has_tag tag.now block.now }
 {
     &block[..8] == tag
 }
 
 /// The fields of a header, or `None` where they hold no geometry.
-fn header_fields(block: &Block) -> Option<Header>
+pub(crate) fn header_fields(block: &Block) -> Option<Header>
     ensures found { IfSome result (λ header. header ≡ header_fields block.now) }
     ensures missing { result ≡ None → geometry_fits (header_fields block.now).geom ≡ false }
 {
@@ -123,7 +163,7 @@ fn header_fits(block: &Block, blocks: u32, header: &Header) -> bool
 
 /// Whether the epoch, the turn and the oldest record are counted from 1, and that record is at most one
 /// past the records that are sure.
-fn numbers_fit(header: &Header) -> bool
+pub(crate) fn numbers_fit(header: &Header) -> bool
     ensures { result ≡ (nat_lt 0 header.now.epoch && (nat_lt 0 header.now.turn && (nat_lt 0 header.now.start && nat_le header.now.start (header.now.sure + 1)))) }
 {
     if header.epoch == 0 {
@@ -138,7 +178,7 @@ fn numbers_fit(header: &Header) -> bool
     header.start - 1 <= header.sure
 }
 
-fn commit_fields(block: &Block) -> Commit
+pub(crate) fn commit_fields(block: &Block) -> Commit
     ensures { result ≡ commit_fields block.now }
 {
     let bytes = block.as_slice();

@@ -4,9 +4,9 @@
 ghost use Rattle.std.specs.Prelude.{◌≤◌, length};
 
 use crate::{
-    Commit, Descriptor, Entries, Entry, EntryKind, Header, RecordWriter, descriptor_count, escape,
-    is_stored, read_commit, read_descriptor, read_header, unescape, write_commit, write_descriptor,
-    write_header,
+    BadRecord, Commit, Descriptor, Entries, Entry, EntryKind, Header, RecordWriter,
+    descriptor_count, escape, is_stored, read_commit, read_descriptor, read_header, unescape,
+    write_commit, write_descriptor, write_header,
 };
 use opt_base::{Block, seal};
 use opt_geom::Geom;
@@ -148,19 +148,19 @@ fn full_descriptor(count: u8) -> Block {
 fn is_header(header: &Header, block: &Block) -> bool {
     let mut into = [7u8; 1024];
     write_header(header, &mut into);
-    into == *block && read_header(block, 64) == Some(*header)
+    into == *block && read_header(block, 64) == Ok(*header)
 }
 
-/// Whether a header with these changes reads on a disk of so many blocks, and then whether it is closed.
-fn closed_with(changes: [Change; 2], blocks: u32) -> Option<bool> {
+/// Whether a header with these changes is closed, where it reads on a disk of so many blocks.
+fn closed_with(changes: [Change; 2], blocks: u32) -> Result<bool, BadRecord> {
     let header = read_header(&with(&header_block(), changes), blocks)?;
-    Some(header.closed)
+    Ok(header.closed)
 }
 
 /// How many entries the descriptor in this block has, if it is one's.
-fn entries_of(block: &Block, geom: &Geom) -> Option<usize> {
+fn entries_of(block: &Block, geom: &Geom) -> Result<usize, BadRecord> {
     let descriptor = read_descriptor(block, geom)?;
-    Some(descriptor.entries.len())
+    Ok(descriptor.entries.len())
 }
 
 /// A block that begins with these three bytes.
@@ -214,9 +214,12 @@ fn blocks_of_a_record_are_read_and_written(rt: HostRuntime) -> Result<(), Fail> 
         payloads: 2,
         fresh: 1,
     };
-    assert_eq!(rt; read_commit(&commit_block(), &geom), Some(commit));
-    assert!(rt; read_header(&commit_block(), 64).is_none());
-    assert!(rt; read_descriptor(&commit_block(), &geom).is_none());
+    assert_eq!(rt; read_commit(&commit_block(), &geom), Ok(commit));
+    assert_eq!(rt; read_header(&commit_block(), 64), Err(BadRecord::OtherTag));
+    assert_eq!(rt;
+        read_descriptor(&commit_block(), &geom),
+        Err(BadRecord::OtherTag)
+    );
     let descriptor = Descriptor {
         epoch: 2,
         number: 5,
@@ -225,10 +228,7 @@ fn blocks_of_a_record_are_read_and_written(rt: HostRuntime) -> Result<(), Fail> 
     };
     write_descriptor(&descriptor, &mut block);
     assert!(rt; block == descriptor_block());
-    assert_eq!(rt;
-        read_descriptor(&descriptor_block(), &geom),
-        Some(descriptor)
-    );
+    assert_eq!(rt; read_descriptor(&descriptor_block(), &geom), Ok(descriptor));
     let wide = Commit {
         epoch: 0x0807_0605_0403_0201,
         number: 0x1817_1615_1413_1211,
@@ -257,35 +257,35 @@ fn a_record_is_written_as_its_entries_come(rt: HostRuntime) {
 fn a_header_is_within_its_grammar(rt: HostRuntime) {
     for (changes, blocks, wanted) in [
         // numbers from 1, eight bytes long
-        ([(8, 0), (8, 0)], 64, None),
-        ([(16, 0), (16, 0)], 64, None),
-        ([(24, 0), (24, 0)], 64, None),
-        ([(8, 0), (15, 1)], 64, Some(false)),
+        ([(8, 0), (8, 0)], 64, Err(BadRecord::OutOfRange)),
+        ([(16, 0), (16, 0)], 64, Err(BadRecord::OutOfRange)),
+        ([(24, 0), (24, 0)], 64, Err(BadRecord::OutOfRange)),
+        ([(8, 0), (15, 1)], 64, Ok(false)),
         // it starts at most one past what is sure
-        ([(24, 2), (24, 2)], 64, None),
-        ([(24, 2), (32, 1)], 64, Some(false)),
-        ([(24, 2), (32, 200)], 64, Some(false)),
+        ([(24, 2), (24, 2)], 64, Err(BadRecord::OutOfRange)),
+        ([(24, 2), (32, 1)], 64, Ok(false)),
+        ([(24, 2), (32, 200)], 64, Ok(false)),
         // it begins within the ring
-        ([(40, 15), (40, 15)], 64, Some(false)),
-        ([(40, 16), (40, 16)], 64, None),
-        ([(43, 1), (43, 1)], 64, None),
+        ([(40, 15), (40, 15)], 64, Ok(false)),
+        ([(40, 16), (40, 16)], 64, Err(BadRecord::OutOfRange)),
+        ([(43, 1), (43, 1)], 64, Err(BadRecord::OutOfRange)),
         // it is closed or not
-        ([(44, 0), (44, 0)], 64, Some(false)),
-        ([(44, 1), (44, 1)], 64, Some(true)),
-        ([(44, 2), (44, 2)], 64, None),
-        ([(47, 1), (47, 1)], 64, None),
+        ([(44, 0), (44, 0)], 64, Ok(false)),
+        ([(44, 1), (44, 1)], 64, Ok(true)),
+        ([(44, 2), (44, 2)], 64, Err(BadRecord::OutOfRange)),
+        ([(47, 1), (47, 1)], 64, Err(BadRecord::OutOfRange)),
         // it is of its disk
-        ([(48, 64), (48, 64)], 65, None),
-        ([(48, 64), (48, 64)], 0, None),
-        ([(48, 65), (48, 65)], 65, Some(false)),
-        ([(48, 63), (48, 63)], 63, None),
-        ([(52, 15), (52, 15)], 64, None),
-        ([(56, 18), (56, 18)], 64, None),
+        ([(48, 64), (48, 64)], 65, Err(BadRecord::OtherDisk)),
+        ([(48, 64), (48, 64)], 0, Err(BadRecord::OtherDisk)),
+        ([(48, 65), (48, 65)], 65, Ok(false)),
+        ([(48, 63), (48, 63)], 63, Err(BadRecord::OtherDisk)),
+        ([(52, 15), (52, 15)], 64, Err(BadRecord::OtherDisk)),
+        ([(56, 18), (56, 18)], 64, Err(BadRecord::OtherDisk)),
         // its tag and its zeros
-        ([(3, b'C'), (3, b'C')], 64, None),
-        ([(7, b'2'), (7, b'2')], 64, None),
-        ([(60, 1), (60, 1)], 64, None),
-        ([(991, 1), (991, 1)], 64, None),
+        ([(3, b'C'), (3, b'C')], 64, Err(BadRecord::OtherTag)),
+        ([(7, b'2'), (7, b'2')], 64, Err(BadRecord::OtherTag)),
+        ([(60, 1), (60, 1)], 64, Err(BadRecord::NotZero)),
+        ([(991, 1), (991, 1)], 64, Err(BadRecord::NotZero)),
     ] {
         let at = changes[1].0;
         assert_eq!(rt;
@@ -296,9 +296,12 @@ fn a_header_is_within_its_grammar(rt: HostRuntime) {
     }
     // its seal
     for (at, byte) in [(1023, 0xcb), (8, 2)] {
-        assert!(rt; read_header(&broken(&header_block(), at, byte), 64).is_none());
+        assert_eq!(rt;
+            read_header(&broken(&header_block(), at, byte), 64),
+            Err(BadRecord::NotSealed)
+        );
     }
-    assert!(rt; read_header(&[0u8; 1024], 64).is_none());
+    assert_eq!(rt; read_header(&[0u8; 1024], 64), Err(BadRecord::NotSealed));
 }
 
 #[test]
@@ -306,33 +309,36 @@ fn a_commit_block_is_within_its_grammar(rt: HostRuntime) -> Result<(), Fail> {
     let geom = Geom::new(64, 16, 16)?;
     for (changes, wanted) in [
         // payloads, and their descriptors
-        ([(28, 0), (28, 0)], false),
-        ([(24, 0), (24, 0)], false),
-        ([(24, 2), (24, 2)], false),
+        ([(28, 0), (28, 0)], Some(BadRecord::OutOfRange)),
+        ([(24, 0), (24, 0)], Some(BadRecord::OutOfRange)),
+        ([(24, 2), (24, 2)], Some(BadRecord::OutOfRange)),
         // 2 and 22 entries have one descriptor, 2 and 23 have two
-        ([(32, 22), (32, 22)], true),
-        ([(32, 23), (32, 23)], false),
-        ([(32, 23), (24, 2)], true),
+        ([(32, 22), (32, 22)], None),
+        ([(32, 23), (32, 23)], Some(BadRecord::OutOfRange)),
+        ([(32, 23), (24, 2)], None),
         // 1 commit block, 1 descriptor and 14 payloads fill the ring of 16
-        ([(28, 14), (28, 14)], true),
-        ([(28, 15), (28, 15)], false),
+        ([(28, 14), (28, 14)], None),
+        ([(28, 15), (28, 15)], Some(BadRecord::OutOfRange)),
         // its tag and its zeros
-        ([(3, b'D'), (3, b'D')], false),
-        ([(36, 1), (36, 1)], false),
-        ([(991, 1), (991, 1)], false),
+        ([(3, b'D'), (3, b'D')], Some(BadRecord::OtherTag)),
+        ([(36, 1), (36, 1)], Some(BadRecord::NotZero)),
+        ([(991, 1), (991, 1)], Some(BadRecord::NotZero)),
     ] {
         let block = with(&commit_block(), changes);
         let at = changes[1];
-        assert_eq!(rt; read_commit(&block, &geom).is_some(), wanted, "{at:?}");
+        assert_eq!(rt; read_commit(&block, &geom).err(), wanted, "{at:?}");
     }
     // its seal
-    assert!(rt; read_commit(&broken(&commit_block(), 992, 0), &geom).is_none());
+    assert_eq!(rt;
+        read_commit(&broken(&commit_block(), 992, 0), &geom),
+        Err(BadRecord::NotSealed)
+    );
     // 2^32 - 1 fresh blocks and 2 payloads don't have 0 descriptors
     let mut many = commit_block();
     many[24] = 0;
     many[32..36].copy_from_slice(b"\xff\xff\xff\xff".as_slice());
     seal(&mut many);
-    assert!(rt; read_commit(&many, &geom).is_none());
+    assert_eq!(rt; read_commit(&many, &geom), Err(BadRecord::OutOfRange));
     for (entries, wanted) in [
         (0, 0),
         (1, 1),
@@ -351,45 +357,48 @@ fn a_descriptor_is_within_its_grammar(rt: HostRuntime) -> Result<(), Fail> {
     let geom = Geom::new(64, 16, 16)?;
     for (at, byte, wanted) in [
         // a kind of entry and three zeros
-        (36, 0, None),
-        (36, 3, Some(3)),
-        (36, 4, None),
-        (37, 1, None),
-        (39, 1, None),
-        (116, 4, None),
-        (119, 1, None),
+        (36, 0, Err(BadRecord::BadEntry)),
+        (36, 3, Ok(3)),
+        (36, 4, Err(BadRecord::BadEntry)),
+        (37, 1, Err(BadRecord::BadEntry)),
+        (39, 1, Err(BadRecord::BadEntry)),
+        (116, 4, Err(BadRecord::BadEntry)),
+        (119, 1, Err(BadRecord::BadEntry)),
         // a block behind the journal, and a fresh one among the data
-        (32, 17, None),
-        (32, 63, Some(3)),
-        (32, 64, None),
-        (35, 1, None),
-        (72, 17, None),
-        (112, 22, None),
-        (112, 63, Some(3)),
-        (112, 64, None),
+        (32, 17, Err(BadRecord::BadEntry)),
+        (32, 63, Ok(3)),
+        (32, 64, Err(BadRecord::BadEntry)),
+        (35, 1, Err(BadRecord::BadEntry)),
+        (72, 17, Err(BadRecord::BadEntry)),
+        (112, 22, Err(BadRecord::BadEntry)),
+        (112, 63, Ok(3)),
+        (112, 64, Err(BadRecord::BadEntry)),
         // entries and then zeros
-        (28, 0, None),
-        (28, 2, None),
-        (28, 3, Some(3)),
-        (28, 4, None),
-        (28, 25, None),
-        (31, 1, None),
-        (152, 1, None),
-        (991, 1, None),
-        (3, b'C', None),
+        (28, 0, Err(BadRecord::OutOfRange)),
+        (28, 2, Err(BadRecord::NotZero)),
+        (28, 3, Ok(3)),
+        (28, 4, Err(BadRecord::BadEntry)),
+        (28, 25, Err(BadRecord::OutOfRange)),
+        (31, 1, Err(BadRecord::OutOfRange)),
+        (152, 1, Err(BadRecord::NotZero)),
+        (991, 1, Err(BadRecord::NotZero)),
+        (3, b'C', Err(BadRecord::OtherTag)),
     ] {
         let block = with(&descriptor_block(), [(at, byte), (at, byte)]);
         assert_eq!(rt; entries_of(&block, &geom), wanted, "byte {at}: {byte}");
     }
     // its seal
-    assert!(rt; entries_of(&broken(&descriptor_block(), 28, 2), &geom).is_none());
+    assert_eq!(rt;
+        entries_of(&broken(&descriptor_block(), 28, 2), &geom),
+        Err(BadRecord::NotSealed)
+    );
     // up to 24 entries
     for (entries, told, wanted) in [
-        (0, 0, None),
-        (1, 1, Some(1)),
-        (24, 24, Some(24)),
-        (24, 25, None),
-        (24, 23, None),
+        (0, 0, Err(BadRecord::OutOfRange)),
+        (1, 1, Ok(1)),
+        (24, 24, Ok(24)),
+        (24, 25, Err(BadRecord::OutOfRange)),
+        (24, 23, Err(BadRecord::NotZero)),
     ] {
         let block = with(&full_descriptor(entries), [(28, told), (28, told)]);
         assert_eq!(rt;

@@ -1,5 +1,5 @@
--- What becomes of the set as a ticket is expected, and as one is noticed. The first note of a ticket decides.
-use Rattle.std.proofs.Common.{◌≡◌, ℕ, zero, suc, ◌+◌, ◌==◌, ◌<◌, ◌&&◌, ◌||◌, Bool, true, false, if◌then◌else◌, List, [], ◌∷◌, ◌++◌, length, take, slice_get, slice_set, slice_index_or, Some, refl, sym, ◌∙◌, ap, arith}
+-- What becomes of the set as a ticket is noticed. The first note of a ticket decides.
+use Rattle.std.proofs.Common.{◌≡◌, ℕ, zero, suc, ◌==◌, ◌<◌, ◌&&◌, ◌||◌, Bool, true, false, if◌then◌else◌, List, [], ◌∷◌, length, take, slice_get, slice_set, slice_index_or, Some, refl, sym, ◌∙◌, ap, arith}
 use Rattle.std.proofs.lemmas.Bool.{eqb-true, eq-eqb, false≢true}
 use Rattle.opt_notes.specs.declared.notes.Note.{Note}
 use Rattle.opt_notes.specs.Notes.{is_expected, is_noticed}
@@ -9,28 +9,6 @@ if_true c x y e = ap (λ (b : Bool). if b then x else y) e
 
 pub if_false : {A : Type 0} (c : Bool) (x y : A) → c ≡ false → (if c then x else y) ≡ y
 if_false c x y e = ap (λ (b : Bool). if b then x else y) e
-
--- one more ticket
-pub expected_more : (t u : ℕ) (ns : List Note) → is_expected u (ns ++ record { ticket = t; noticed = false } ∷ []) ≡ (t == u || is_expected u ns)
-expected_more t u [] = by (t == u)
-  where
-    by : (v : Bool) → (if v then true else false) ≡ (v || false)
-    by true = refl
-    by false = refl
-expected_more t u (n ∷ ns) = by (n.ticket == u) (t == u) (expected_more t u ns)
-  where
-    by : (v w : Bool) → is_expected u (ns ++ record { ticket = t; noticed = false } ∷ []) ≡ (w || is_expected u ns) → (if v then true else is_expected u (ns ++ record { ticket = t; noticed = false } ∷ [])) ≡ (w || (if v then true else is_expected u ns))
-    by true true e = refl
-    by true false e = refl
-    by false w e = e
-
-pub noticed_more : (t u : ℕ) (ns : List Note) → is_noticed u (ns ++ record { ticket = t; noticed = false } ∷ []) ≡ is_noticed u ns
-noticed_more t u [] = by (t == u)
-  where
-    by : (v : Bool) → (if v then false else false) ≡ false
-    by true = refl
-    by false = refl
-noticed_more t u (n ∷ ns) = ap (λ b. if n.ticket == u then n.noticed else b) (noticed_more t u ns)
 
 -- the marked note
 abbrev pub marked : ℕ → Note
@@ -130,19 +108,3 @@ mark_at t (n ∷ ns) (suc at) d lt none own = mark_at t ns at d (omega (arith, l
 pub unmarked : (t : ℕ) (ns : List Note) → is_expected t ns ≡ false → false ≡ is_noticed t ns
 unmarked t [] none = refl
 unmarked t (n ∷ ns) none = unmarked t ns (other_rest t n.ticket (is_expected t ns) none) ∙ sym (if_false (n.ticket == t) n.noticed (is_noticed t ns) (other_first t n.ticket (is_expected t ns) none))
-
--- the front of a list with one more, which isn't the ticket's
-pub front_more : (t : ℕ) (ns : List Note) (k : ℕ) (d : Note) → k < length ns → is_expected t (take k ns) ≡ false → ((slice_index_or ns k d).ticket ≡ t → ⊥) → is_expected t (take (k + 1) ns) ≡ false
-front_more t [] k d lt none other = absurd (below k lt)
-  where
-    below : (k : ℕ) → k < 0 → ⊥
-    below k lt = omega (arith, lt)
-front_more t (n ∷ ns) zero d lt none other = by (n.ticket == t) refl
-  where
-    by : (v : Bool) → (n.ticket == t) ≡ v → (if n.ticket == t then true else false) ≡ false
-    by true e = absurd (other (eqb-true n.ticket t e))
-    by false e = if_false (n.ticket == t) true false e
-front_more t (n ∷ ns) (suc k) d lt none other = ap (λ m. is_expected t (take m (n ∷ ns))) (s k) ∙ if_false (n.ticket == t) true (is_expected t (take (k + 1) ns)) (other_first t n.ticket (is_expected t (take k ns)) none) ∙ front_more t ns k d (omega (arith, lt)) (other_rest t n.ticket (is_expected t (take k ns)) none) other
-  where
-    s : (k : ℕ) → suc k + 1 ≡ suc (k + 1)
-    s k = omega arith

@@ -1,5 +1,5 @@
 -- Tickets that are waited for, and which of them were noticed.
-use Rattle.std.specs.Prelude.{ℕ, ◌==◌, ◌&&◌, Bool, true, false, if◌then◌else◌, List, [], ◌∷◌}
+use Rattle.std.specs.Prelude.{ℕ, ◌==◌, ◌&&◌, nat_lt, Bool, true, false, if◌then◌else◌, List, [], ◌∷◌}
 use Rattle.opt_notes.specs.declared.notes.Note.{Note}
 
 -- a set of tickets, each with a mark: its notes, and for how many more there is room
@@ -26,3 +26,28 @@ are_expected (t ∷ ts) ns = is_expected t ns && are_expected ts ns
 abbrev pub are_noticed : List ℕ → List Note → Bool
 are_noticed [] ns = true
 are_noticed (t ∷ ts) ns = is_noticed t ns && are_noticed ts ns
+
+-- this ticket is one of these
+abbrev pub is_among : ℕ → List ℕ → Bool
+is_among u [] = false
+is_among u (t ∷ ts) = if t == u then true else is_among u ts
+
+-- each ticket is above the one before, the first above s
+abbrev pub are_above : ℕ → List Note → Bool
+are_above s [] = true
+are_above s (n ∷ ns) = nat_lt s n.ticket && are_above n.ticket ns
+
+-- each ticket is above the one before
+abbrev pub are_rising : List Note → Bool
+are_rising [] = true
+are_rising (n ∷ ns) = are_above n.ticket ns
+
+-- with this ticket in its place, unmarked where it is new
+abbrev pub with_ticket : ℕ → List Note → List Note
+with_ticket t [] = record { ticket = t; noticed = false } ∷ []
+with_ticket t (n ∷ ns) = if nat_lt n.ticket t then n ∷ with_ticket t ns else if n.ticket == t then n ∷ ns else record { ticket = t; noticed = false } ∷ n ∷ ns
+
+-- without this ticket
+abbrev pub without_ticket : ℕ → List Note → List Note
+without_ticket t [] = []
+without_ticket t (n ∷ ns) = if n.ticket == t then ns else n ∷ without_ticket t ns

@@ -33,5 +33,5 @@ fn header_in(image: &[Block], slot: u32) -> Option<Header>
     if blocks <= slot {
         return None;
     }
-    read_header(&image[slot as usize], blocks)
+    read_header(&image[slot as usize], blocks).ok()
 }

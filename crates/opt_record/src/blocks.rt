@@ -51,7 +51,7 @@ pub fn commit_in(block: &Block, header: &Header, before: u64) -> Option<Commit>
     ensures within { IfSome result (IsWithinRing header.now.geom) }
 {
     journal_blocks_keep_to_their_bounds();
-    let commit = read_commit(block, &header.geom)?;
+    let commit = read_commit(block, &header.geom).ok()?;
     if commit.epoch != header.epoch {
         return None;
     }
@@ -69,7 +69,7 @@ pub fn descriptor_in(block: &Block, header: &Header, number: u64, index: u32) ->
     ensures found { (img : Blocks) (place : ℕ) → block.now ≡ img (ring_block header.now.geom (place + 1 + index)) → IfSome result (λ d. HasPart img header.now number place index d.entries) }
     ensures missing { (img : Blocks) (place : ℕ) → block.now ≡ img (ring_block header.now.geom (place + 1 + index)) → result ≡ None → (es : List listed.Entry) → ¬ HasPart img header.now number place index es }
 {
-    let descriptor = read_descriptor(block, &header.geom)?;
+    let descriptor = read_descriptor(block, &header.geom).ok()?;
     if descriptor.epoch != header.epoch {
         return None;
     }

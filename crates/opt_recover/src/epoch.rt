@@ -75,8 +75,8 @@ fn header_epoch(block: &Block, blocks: u32) -> u64
     ensures { result ≡ header_epoch blocks block.now }
 {
     match read_header(block, blocks) {
-        Some(header) => header.epoch,
-        None => 0,
+        Ok(header) => header.epoch,
+        Err(_) => 0,
     }
 }
 

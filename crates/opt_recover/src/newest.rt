@@ -43,5 +43,5 @@ fn header_in<D: Disk>(disk: &mut D, slot: u32) -> Result<Option<Header>, DiskFau
     }
     let mut block = [0u8; 1024];
     read_block(disk, slot, &mut block)?;
-    Ok(read_header(&block, blocks))
+    Ok(read_header(&block, blocks).ok())
 }

@@ -1,3 +1,4 @@
+pub mod Begins
 pub mod Forms
 pub mod Spelled
 pub mod Logs

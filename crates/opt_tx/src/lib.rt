@@ -7,6 +7,7 @@ mod commit;
 mod entries;
 mod laws;
 mod put;
+mod readers;
 mod rows;
 mod running;
 mod states;

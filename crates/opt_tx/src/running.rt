@@ -29,7 +29,11 @@ pub struct Running {
 impl Running {
     /// A transaction that changed nothing. It takes no memory.
     pub fn new(alloc: Global) -> Running
-        ensures { IsEmpty result }
+        ensures empty { IsEmpty result }
+        ensures ordered { IsOrdered result }
+        ensures numbers { IsRisingNumbers result.taken.items }
+        ensures rows { HasRowRoom result }
+        ensures small { vec_len result.paid + vec_len result.laid + vec_len result.spare ≡ 0 }
     {
         Running {
             paid: Vec::new(alloc),

@@ -1,9 +1,18 @@
-use Rattle.std.proofs.Common.{◌≡◌, ◌+◌, ap, refl, sym, ◌∙◌}
-use Rattle.opt_notes.proofs.Marks.{front_more}
+-- The lower tickets come first.
+use Rattle.std.proofs.Common.{nat_lt, ap, sym, ◌∙◌, arith, rules}
+use Rattle.std.proofs.lemmas.Bool.{ltb-true, ltb-false}
+use Rattle.std.proofs.lemmas.Option.{get_or_from_slice_get, slice_get_within}
+use Rattle.std.proofs.lemmas.List.Sorted.{IsPartitionPoint-from_clause}
+use Rattle.opt_notes.specs.declared.notes.Note.{Note}
+use Rattle.opt_notes.proofs.Rising.{parted}
 use Rattle.opt_notes.proofs.notes.place_of.Goals as goal
 
-pub loop-note-preserved : goal.loop-note-preserved
-loop-note-preserved c = record {
-  at = ap (λ n. n + 1) c.loop-note.invariant.at;
-  before = front_more c.args.ticket c.args.notes.now c.loop-note.note-index (record { ticket = 0; noticed = Rattle.std.proofs.Common.false }) c.loop-note-test.true c.loop-note.invariant.before c.if-note-ticket.false;
-}
+pub returns-clause-below : goal.returns-clause-below
+returns-clause-below c =
+    let point = IsPartitionPoint-from_clause (λ (n : Note). nat_lt n.ticket c.args.ticket) _ _ c.partition_point.ensures.partitioned (parted c.args.notes.now.items c.args.ticket c.requires) (λ a r q k. search rules) in
+    λ k n is lt. ltb-true _ _ (ap (λ (r : Note). nat_lt r.ticket c.args.ticket) (sym (get_or_from_slice_get c.args.notes.now.items k n n is)) ∙ point.0 k n (omega arith) lt)
+
+pub returns-clause-above : goal.returns-clause-above
+returns-clause-above c =
+    let point = IsPartitionPoint-from_clause (λ (n : Note). nat_lt n.ticket c.args.ticket) _ _ c.partition_point.ensures.partitioned (parted c.args.notes.now.items c.args.ticket c.requires) (λ a r q k. search rules) in
+    λ k n is le. ltb-false _ _ (ap (λ (r : Note). nat_lt r.ticket c.args.ticket) (sym (get_or_from_slice_get c.args.notes.now.items k n n is)) ∙ point.1 k n le (slice_get_within c.args.notes.now.items k n is))

@@ -13,4 +13,4 @@ returns-then-blocks-slot-clause-value c = let few : length c.args.image.now ≤ 
 
 pub returns-clause-within : goal.returns-clause-within
 returns-clause-within c = let same : c.in_ok-blocks.blocks ≡ length c.args.image.now = search (rules, tests) in
-    within_disk c.journal_blocks_keep_to_their_bounds.ensures.headers (length c.args.image.now) c.in_ok-blocks.blocks _ c.read_header.result c.read_header.ensures same
+    within_disk c.journal_blocks_keep_to_their_bounds.ensures.headers (length c.args.image.now) c.in_ok-blocks.blocks _ c.ok-2.result (c.ok-2.ensures.value ∙ c.read_header.ensures.value) same

@@ -11,4 +11,4 @@ pub returns-clause-value : goal.returns-clause-value
 returns-clause-value g c = λ img gives.
     let read = c.in_ok-read_block.ensures.gives img gives in
     let size : c.blocks-blocks.result ≡ (g.D.Disk.state c.args.disk.now).blocks = search (rules, tests) in
-    c.read_header.ensures ∙ ap₂ header_of size read
+    c.ok.ensures.value ∙ c.read_header.ensures.value ∙ ap₂ header_of size read

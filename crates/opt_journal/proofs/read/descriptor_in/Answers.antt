@@ -5,7 +5,7 @@ use Rattle.opt_layout.specs.Bytes.{field}
 use Rattle.opt_base.specs.Seal.{is_sealed}
 use Rattle.opt_journal.specs.Layout.{descriptor_fits, entries_in}
 use Rattle.opt_journal.proofs.ReadEntries.{descriptor_by}
-use Rattle.opt_journal.proofs.read.read_descriptor.Goals as goal
+use Rattle.opt_journal.proofs.read.descriptor_in.Goals as goal
 
 pub entries_in-requires-clause-few : goal.entries_in-requires-clause-few
 entries_in-requires-clause-few c =
