@@ -1,5 +1,5 @@
 -- How the tree in memory has its two finite maps, and how a change of a file's bytes is described.
-use Rattle.std.specs.Prelude.{◌≡◌, ℕ, zero, suc, ◌+◌, ◌<◌, ◌^◌, Vec, Bool, true, false, List, [], ◌∷◌, map, slice_get, length, replicate, Option, None, Some, option_map}
+use Rattle.std.specs.Prelude.{◌≡◌, ◌≢◌, ℕ, zero, suc, ◌+◌, ◌<◌, ◌^◌, Vec, Bool, true, false, List, [], ◌∷◌, map, slice_get, length, replicate, Option, None, Some, option_map}
 use Rattle.std.specs.Ordering.{nat_cmp}
 use Rattle.std.specs.BTreeMap.{BTreeMap, get}
 use Rattle.std.specs.BTreeSet.{BTreeSet, contains}
@@ -23,9 +23,11 @@ names_of es = from_entries (map (λ e. (e.0.items, e.1)) es)
 abbrev pub paired : {Z : Type 0} → List (Vec (List ℕ) Z × ℕ) → List (List (List ℕ) × ℕ)
 paired es = map (λ e. (e.0.items, e.1)) es
 
--- The counts say of each number how many of these paths lead to it, and there are few enough paths for that.
+-- The counts say of each number how many of these paths lead to it, and have no entry for one to which none leads.
+-- There are few enough paths for that.
 pub record AreCounted {Z : Type 0} (es : List (Vec (List ℕ) Z × ℕ)) (counts : BTreeMap ℕ ℕ) : Type 0 where
   pub exact : (n : ℕ) → count_at (get nat_cmp counts) n ≡ path_count (names_of es) n
+  pub no_zero : (n : ℕ) → get nat_cmp counts n ≢ Some 0
   pub few : length es < 2 ^ 57
 
 -- The nodes.

@@ -22,7 +22,7 @@ use std::marker::Model;
 /// The most paths: no machine has memory for more, and every count of paths fits with room to spare.
 const MOST_PATHS: usize = (1 << 57) - 1;
 
-/// The paths of a tree, the number that each leads to, and how many lead to each number.
+/// The paths of a tree, the number that each leads to, and how many lead to each number that has some.
 #[derive(Drop)]
 pub(crate) struct Names {
     entries: BTreeMap<Vec<Name>, u32>,

@@ -36,6 +36,7 @@ module _ {Z : Type 0} where
       → AreCounted us copy
   copy_counted es us counts copy counted same numbers = record {
     exact = λ n. ap (λ rest. unwrap_or (lookup (λ k. is_eq (nat_cmp n k)) rest) 0) numbers ∙ counted.exact n ∙ ap (λ ps. path_count (from_entries ps) n) (sym same);
+    no_zero = λ n is. counted.no_zero n (sym (ap (lookup (λ k. is_eq (nat_cmp n k))) numbers) ∙ is);
     few = omega (
       arith,
       counted.few,

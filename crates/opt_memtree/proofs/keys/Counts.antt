@@ -1,5 +1,5 @@
--- How many paths lead to a number, before and after a path is put in or taken out.
-use Rattle.std.proofs.Common.{◌≡◌, ℕ, suc, ◌+◌, ◌-◌, ◌^◌, ◌≤◌, ◌<◌, Bool, true, false, cond, ◌==◌, if◌then◌else◌, List, [], ◌∷◌, map, length, Vec, Option, None, Some, IsSome, unwrap_or, sym, refl, ap, ◌∙◌, arith, rules, ⊎_elim, eq-eqb, ne_eqb, eqb-true}
+-- How many paths lead to a number, before and after a path is put in or taken out, and which numbers have an entry.
+use Rattle.std.proofs.Common.{◌≡◌, ◌≢◌, ℕ, suc, ◌+◌, ◌-◌, ◌^◌, ◌≤◌, ◌<◌, Bool, true, false, cond, ◌==◌, if◌then◌else◌, List, [], ◌∷◌, map, length, Vec, Option, None, Some, IsSome, unwrap_or, sym, refl, ap, ◌∙◌, arith, rules, true≢false, ⊎_elim, eq-eqb, ne_eqb, eqb-true}
 use Rattle.std.proofs.lemmas.Bool.{cases_eq}
 use Rattle.std.proofs.lemmas.List.{length-map}
 use Rattle.std.specs.Ordering.{nat_cmp, is_eq, eq_by_cmp}
@@ -145,50 +145,107 @@ pub room_from_count : (o : Option ℕ) → 1 ≤ unwrap_or o 0 → IsSome o
 room_from_count None le = absurd (omega arith)
 room_from_count (Some x) le = search rules
 
+-- ---- the entries of the counts
 abbrev count_in : BTreeMap ℕ ℕ → ℕ → ℕ
 count_in counts n = count_at (look_up nat_cmp counts) n
 
+-- an entry of v, which may be 0
+abbrev HasRoom : BTreeMap ℕ ℕ → BTreeMap ℕ ℕ → ℕ → Type 0
+HasRoom old new v = (n : ℕ) → look_up nat_cmp new n ≡ (if n == v then Some (count_in old n) else look_up nat_cmp old n)
+
+-- k as the count of v, where 0 has no entry
+abbrev IsSet : BTreeMap ℕ ℕ → BTreeMap ℕ ℕ → ℕ → ℕ → Type 0
+IsSet old new v k = (n : ℕ) → look_up nat_cmp new n ≡ (if n == v then (if k == 0 then None else Some k) else look_up nat_cmp old n)
+
+-- no entry but that of v is 0
+abbrev NoZeroBut : BTreeMap ℕ ℕ → ℕ → Type 0
+NoZeroBut counts v = (n : ℕ) → n ≢ v → look_up nat_cmp counts n ≢ Some 0
+
+none_is_some : (k : ℕ) → None ≢ Some k
+none_is_some k is = absurd (cc)
+
+room_counts : (b : Bool) (o : Option ℕ) → unwrap_or (cond b (Some (unwrap_or o 0)) o) 0 ≡ unwrap_or o 0
+room_counts true o = refl
+room_counts false o = refl
+
+pub same_counts : (old new : BTreeMap ℕ ℕ) (v : ℕ) → HasRoom old new v → (n : ℕ) → count_in new n ≡ count_in old n
+same_counts old new v room n = ap (λ o. unwrap_or o 0) (room n) ∙ room_counts (n == v) (look_up nat_cmp old n)
+
+counts_set : (b none : Bool) (k : ℕ) (o : Option ℕ) → (none ≡ true → k ≡ 0) → unwrap_or (cond b (cond none None (Some k)) o) 0 ≡ cond b k (unwrap_or o 0)
+counts_set true true k o is = sym (is refl)
+counts_set true false k o is = refl
+counts_set false none k o is = refl
+
+set_counts : (old new : BTreeMap ℕ ℕ) (v k : ℕ) → IsSet old new v k → (n : ℕ) → count_in new n ≡ (if n == v then k else count_in old n)
+set_counts old new v k set n = ap (λ o. unwrap_or o 0) (set n) ∙ counts_set (n == v) (k == 0) k (look_up nat_cmp old n) (eqb-true k 0)
+
+zero_at_most : (counts : BTreeMap ℕ ℕ) (v : ℕ) → ((n : ℕ) → look_up nat_cmp counts n ≢ Some 0) → NoZeroBut counts v
+zero_at_most counts v none n apart = none n
+
+zero_from_room : (old new : BTreeMap ℕ ℕ) (v : ℕ) → ((n : ℕ) → look_up nat_cmp old n ≢ Some 0) → HasRoom old new v → NoZeroBut new v
+zero_from_room old new v none room n apart is =
+    none n (sym (room n ∙ ap (λ b. cond b (Some (count_in old n)) (look_up nat_cmp old n)) (ne_eqb n v apart)) ∙ is)
+
+zero_nowhere : (b none : Bool) (k : ℕ) (o : Option ℕ) → (none ≡ false → k ≢ 0) → (b ≡ false → o ≢ Some 0) → cond b (cond none None (Some k)) o ≢ Some 0
+zero_nowhere true true k o some others is = none_is_some 0 is
+zero_nowhere true false k o some others is = some refl (ap (λ e. unwrap_or e 0) is)
+zero_nowhere false none k o some others is = others refl is
+
+not_equal : (a b : ℕ) → (a == b) ≡ false → a ≢ b
+not_equal a b differ is = true≢false (sym (eq-eqb a b is) ∙ differ)
+
+no_zero_set : (old new : BTreeMap ℕ ℕ) (v k : ℕ) → NoZeroBut old v → IsSet old new v k → (n : ℕ) → look_up nat_cmp new n ≢ Some 0
+no_zero_set old new v k but set n is =
+    zero_nowhere (n == v) (k == 0) k (look_up nat_cmp old n) (not_equal k 0) (λ differ. but n (not_equal n v differ)) (sym (set n) ∙ is)
+
+-- ---- the counts of the paths
 module _ {Z : Type 0} where
   pub none_counted : (es : List (Vec (List ℕ) Z × ℕ)) (counts : BTreeMap ℕ ℕ) → es ≡ [] → counts.entries ≡ [] → AreCounted es counts
   none_counted es counts none zeros = record {
     exact = λ n. ap (λ rest. unwrap_or (lookup (λ k. is_eq (nat_cmp n k)) rest) 0) zeros ∙ sym (ap (times n) no_entries) ∙ ap (λ rest. path_count (names_of rest) n) (sym none);
+    no_zero = λ n is. absurd (none_is_some 0 (sym (ap (lookup (λ k. is_eq (nat_cmp n k))) zeros) ∙ is));
     few = omega (arith, ap length none);
   }
 
   pub insert_counted : (es us : List (Vec (List ℕ) Z × ℕ)) (old middle new : BTreeMap ℕ ℕ) (p : List (List ℕ)) (v k : ℕ) → AreCounted es old
       → get (names_of es) p ≡ None → names_of us ≡ insert (names_of es) p v → length us < 2 ^ 57
-      → ((n : ℕ) → count_in middle n ≡ count_in old n) → k ≡ count_in middle v
-      → ((n : ℕ) → count_in new n ≡ (if n == v then k + 1 else count_in middle n)) → AreCounted us new
-  insert_counted es us old middle new p v k counted none is few same count set = record {
-    exact = λ n. raised (names_of es) p v k (count_in middle) (count_in new) none (λ m. same m ∙ counted.exact m) count set n
+      → HasRoom old middle v → k ≡ count_in middle v → IsSet middle new v (k + 1) → AreCounted us new
+  insert_counted es us old middle new p v k counted none is few room count set = record {
+    exact = λ n. raised (names_of es) p v k (count_in middle) (count_in new) none (λ m. same_counts old middle v room m ∙ counted.exact m) count
+        (set_counts middle new v (k + 1) set) n
         ∙ ap (λ names. path_count names n) (sym is);
+    no_zero = no_zero_set middle new v (k + 1) (zero_from_room old middle v counted.no_zero room) set;
     few = few;
   }
 
   pub remove_counted : (es us : List (Vec (List ℕ) Z × ℕ)) (old new : BTreeMap ℕ ℕ) (p : List (List ℕ)) (v k : ℕ) → AreCounted es old
       → get (names_of es) p ≡ Some v → names_of us ≡ remove (names_of es) p → length us ≤ length es
-      → k ≡ count_in old v → ((n : ℕ) → count_in new n ≡ (if n == v then k - 1 else count_in old n)) → AreCounted us new
+      → k ≡ count_in old v → IsSet old new v (k - 1) → AreCounted us new
   remove_counted es us old new p v k counted here is fewer count set = record {
-    exact = λ n. lowered (names_of es) p v k (count_in old) (count_in new) here counted.exact count set n
+    exact = λ n. lowered (names_of es) p v k (count_in old) (count_in new) here counted.exact count (set_counts old new v (k - 1) set) n
         ∙ ap (λ names. path_count names n) (sym is);
+    no_zero = no_zero_set old new v (k - 1) (zero_at_most old v counted.no_zero) set;
     few = omega (arith, counted.few);
   }
 
+  -- one more at v, then one less at w
   pub exchange_counted : (es us : List (Vec (List ℕ) Z × ℕ)) (first old middle new : BTreeMap ℕ ℕ) (p : List (List ℕ)) (w v j k : ℕ) → AreCounted es first
-      → ((n : ℕ) → count_in old n ≡ count_in first n) → get (names_of es) p ≡ Some w → names_of us ≡ insert (names_of es) p v → length us ≡ length es
-      → k ≡ count_in old v → ((n : ℕ) → count_in middle n ≡ (if n == v then k + 1 else count_in old n))
-      → j ≡ count_in middle w → ((n : ℕ) → count_in new n ≡ (if n == w then j - 1 else count_in middle n)) → AreCounted us new
-  exchange_counted es us first old middle new p w v j k counted same here is long count up left down = record {
-    exact = λ n. exchanged (names_of es) p w v j k (count_in old) (count_in middle) (count_in new) here (λ m. same m ∙ counted.exact m) count up left down n
+      → HasRoom first old v → get (names_of es) p ≡ Some w → names_of us ≡ insert (names_of es) p v → length us ≡ length es
+      → k ≡ count_in old v → IsSet old middle v (k + 1) → j ≡ count_in middle w → IsSet middle new w (j - 1) → AreCounted us new
+  exchange_counted es us first old middle new p w v j k counted room here is long count up left down = record {
+    exact = λ n. exchanged (names_of es) p w v j k (count_in old) (count_in middle) (count_in new) here (λ m. same_counts first old v room m ∙ counted.exact m) count
+        (set_counts old middle v (k + 1) up) left (set_counts middle new w (j - 1) down) n
         ∙ ap (λ names. path_count names n) (sym is);
+    no_zero = no_zero_set middle new w (j - 1)
+        (zero_at_most middle w (no_zero_set old middle v (k + 1) (zero_from_room first old v counted.no_zero room) up)) down;
     few = omega (arith, counted.few);
   }
 
   pub enough_counted : (es : List (Vec (List ℕ) Z × ℕ)) (first old middle : BTreeMap ℕ ℕ) (p : List (List ℕ)) (w v k : ℕ) → AreCounted es first
-      → ((n : ℕ) → count_in old n ≡ count_in first n) → get (names_of es) p ≡ Some w
-      → k ≡ count_in old v → ((n : ℕ) → count_in middle n ≡ (if n == v then k + 1 else count_in old n)) → 1 ≤ count_in middle w
-  enough_counted es first old middle p w v k counted same here count up =
-      enough (names_of es) p w v 0 k (count_in old) (count_in middle) (count_in middle) here (λ m. same m ∙ counted.exact m) count up
+      → HasRoom first old v → get (names_of es) p ≡ Some w → k ≡ count_in old v → IsSet old middle v (k + 1) → 1 ≤ count_in middle w
+  enough_counted es first old middle p w v k counted room here count up =
+      enough (names_of es) p w v 0 k (count_in old) (count_in middle) (count_in middle) here (λ m. same_counts first old v room m ∙ counted.exact m) count
+      (set_counts old middle v (k + 1) up)
 
   pub present_counted : (es : List (Vec (List ℕ) Z × ℕ)) (counts : BTreeMap ℕ ℕ) (p : List (List ℕ)) (v : ℕ) → AreCounted es counts
       → get (names_of es) p ≡ Some v → 1 ≤ count_in counts v

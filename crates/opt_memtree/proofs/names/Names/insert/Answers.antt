@@ -2,12 +2,12 @@ use Rattle.std.proofs.Common.{◌≡◌, ◌<◌, ◌^◌, ◌∙◌, ap, length
 use Rattle.std.specs.FinMap.{get, insert}
 use Rattle.opt_memtree.specs.Stored.{names_of}
 use Rattle.opt_memtree.proofs.keys.Keys.{added}
-use Rattle.opt_memtree.proofs.keys.Counts.{insert_counted, count_bound, one_more_at_most}
+use Rattle.opt_memtree.proofs.keys.Counts.{insert_counted, same_counts, count_bound, one_more_at_most}
 use Rattle.opt_memtree.proofs.names.Names.insert.Goals as goal
 
 pub overflow_add-count : goal.overflow_add-count
 overflow_add-count c =
-    omega (arith, c.count_of-count.ensures, c.keep_room.ensures.same c.args.number, count_bound c.self.inside.entries.entries c.self.inside.counts c.args.number c.self.invariant)
+    omega (arith, c.count_of-count.ensures, same_counts c.self.inside.counts c.keep_room.new.counts c.args.number c.in_ok-keep_room.ensures.ok c.args.number, count_bound c.self.inside.entries.entries c.self.inside.counts c.args.number c.self.invariant)
 
 pub invariant_of-self-2 : goal.invariant_of-self-2
 invariant_of-self-2 c =
@@ -19,7 +19,7 @@ invariant_of-self-2 c =
     let none : get (names_of es) p ≡ None = ap (λ m. get m p) c.self.view_is ∙ c.requires in
     let few : length us < 2 ^ 57 = one_more_at_most (is_some c.in-Ok.field-0) (length us) (length es) (2 ^ 57) c.in-Ok.ensures.len (omega (arith, c.len.ensures.len, c.if-len-ge-MOST_PATHS.false)) in
     insert_counted es us c.self.inside.counts c.keep_room.new.counts c.set_count-2.new.counts p c.args.number c.count_of-count.result c.self.invariant none is few
-    c.keep_room.ensures.same c.count_of-count.ensures c.set_count-2.ensures
+    c.in_ok-keep_room.ensures.ok c.count_of-count.ensures c.set_count-2.ensures
 
 pub returns-clause-ok : goal.returns-clause-ok
 returns-clause-ok c =
