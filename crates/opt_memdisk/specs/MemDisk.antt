@@ -39,6 +39,10 @@ begun image room = record { base = image; log = []; room = room; notices = notic
 abbrev pub with_log : List (List ℕ) → List Event → MemDiskState
 with_log image log = record (begun image (write_count log)) { log = log }
 
+-- the numbers of a disk: its room, its counts of failed calls, and those of all calls
+abbrev pub room_and_counts : MemDiskState → List ℕ
+room_and_counts d = d.room ∷ d.faults ∷ d.read_faults ∷ d.reads ∷ d.writes ∷ d.polls ∷ d.waits ∷ []
+
 -- what the contract of disks says of it
 abbrev pub state_of : MemDiskState → State
 state_of d = record { blocks = length d.base; base = blocks_of d.base; log = d.log; faults = d.faults; read_faults = d.read_faults; waits = d.waits; polls = d.polls }

@@ -15,7 +15,7 @@ ghost use Rattle.opt_disk.specs.declared.event.Event.{Event};
 ghost use Rattle.opt_disk.specs.declared.event.Event.TheVariants.{Wrote, Lost, Noticed};
 ghost use Rattle.opt_memdisk.specs.Choice.{GivesImage};
 ghost use Rattle.opt_memdisk.specs.Log.{AreWithin, write_count};
-ghost use Rattle.opt_memdisk.specs.MemDisk.{begun, with_log, state_of, has_room, next_ticket, next_call, fails_next, with_event, counted, faulted, after_read, after_write, after_poll, after_wait, poll_answer, can_wait, by_rule, AreLast};
+ghost use Rattle.opt_memdisk.specs.MemDisk.{begun, with_log, state_of, has_room, next_ticket, next_call, fails_next, with_event, room_and_counts, counted, faulted, after_read, after_write, after_poll, after_wait, poll_answer, can_wait, by_rule, AreLast};
 ghost use Rattle.opt_memdisk.specs.declared.calls.DiskCall.TheVariants.{Read, Write, Poll, Wait};
 
 use crate::calls::is_listed;
@@ -26,7 +26,7 @@ use crate::rule::Notices;
 use crate::{Choice, DiskCall, Fail, Image, ImageRefusal, Rule};
 use opt_base::{Block, NoMemory};
 use opt_disk::{Disk, DiskFault, Event};
-use std::alloc::Global;
+use std::alloc::{AllocError, Global};
 use std::marker::Model;
 
 /// A disk of the blocks of an image.
@@ -214,6 +214,21 @@ impl MemDisk {
         }
     }
 
+    // The room, the counts of failed calls, and those of all calls.
+    fn room_and_counts(&self) -> [u64; 7]
+        ensures { result ≡ room_and_counts self.now }
+    {
+        [
+            u64::from(self.log.room()),
+            self.faults,
+            self.read_faults,
+            self.reads,
+            self.writes,
+            self.polls,
+            self.waits,
+        ]
+    }
+
     // Counts a failed call that isn't a read.
     fn fault(&mut self) -> DiskFault
         ensures cause { HasCause {T = ℕ} (Err result) self.old.faults self.new.faults }
@@ -260,6 +275,69 @@ impl MemDisk {
         ensures { self.new ≡ with_event (Noticed ticket) self.old }
     {
         self.log.add_notice(ticket);
+    }
+}
+
+/// Equal disks began with the same blocks and have the same events. Polls find their notices alike, the same
+/// calls are listed to fail, and the room and all counts are the same.
+impl PartialEq for MemDisk {
+    ghost use Rattle.std.specs.Prelude.{◌==◌};
+    ghost use Rattle.std.specs.Ordering.{on, eq_of_both};
+    ghost use Rattle.std.specs.Cmp.{partial_equiv_from_equiv, and_equiv, on_equiv, nat_eq_equiv};
+    ghost use Rattle.std.specs.Cmp.Lexicographic.{pointwise, lists_equiv};
+    ghost use Rattle.opt_disk.specs.contracts.event.EventPartialEq.TheImpl as event;
+    ghost use Rattle.opt_disk.specs.contracts.event.EventEq.TheImpl.Laws as event_laws;
+    ghost use Rattle.opt_memdisk.specs.contracts.calls.FailPartialEq.TheImpl as fail;
+    ghost use Rattle.opt_memdisk.specs.contracts.calls.FailEq.TheImpl.Laws as fail_laws;
+    ghost use Rattle.opt_memdisk.specs.contracts.image.ImagePartialEq.TheImpl as image;
+    ghost use Rattle.opt_memdisk.specs.contracts.image.ImageEq.TheImpl.Laws as image_laws;
+    ghost use Rattle.opt_memdisk.specs.contracts.rule.NoticesPartialEq.TheImpl as notices;
+    ghost use Rattle.opt_memdisk.specs.contracts.rule.NoticesEq.TheImpl.Laws as notices_laws;
+
+    ghost eq = { eq_of_both (eq_of_both (eq_of_both (eq_of_both (on (λ d. d.base) image.ghosts.eq) (on (λ d. d.log) (pointwise event.ghosts.eq))) (on (λ d. d.notices) notices.ghosts.eq)) (on (λ d. d.fails) (pointwise fail.ghosts.eq))) (on room_and_counts (pointwise ◌==◌)) };
+
+    ghost laws = { partial_equiv_from_equiv (and_equiv (and_equiv (and_equiv (and_equiv (on_equiv (λ d. d.base) image_laws.laws-law) (on_equiv (λ d. d.log) (lists_equiv event_laws.laws-law))) (on_equiv (λ d. d.notices) notices_laws.laws-law)) (on_equiv (λ d. d.fails) (lists_equiv fail_laws.laws-law))) (on_equiv room_and_counts (lists_equiv nat_eq_equiv))) };
+
+    fn eq(&self, other: &MemDisk) -> bool {
+        self.base == other.base
+            && self.log.events() == other.log.events()
+            && self.notices == other.notices
+            && self.fails.as_slice() == other.fails.as_slice()
+            && self.room_and_counts() == other.room_and_counts()
+    }
+}
+
+impl Eq for MemDisk {
+    ghost use Rattle.std.specs.Cmp.{and_equiv, on_equiv, nat_eq_equiv};
+    ghost use Rattle.std.specs.Cmp.Lexicographic.{lists_equiv};
+    ghost use Rattle.opt_disk.specs.contracts.event.EventEq.TheImpl.Laws as event_laws;
+    ghost use Rattle.opt_memdisk.specs.contracts.calls.FailEq.TheImpl.Laws as fail_laws;
+    ghost use Rattle.opt_memdisk.specs.contracts.image.ImageEq.TheImpl.Laws as image_laws;
+    ghost use Rattle.opt_memdisk.specs.contracts.rule.NoticesEq.TheImpl.Laws as notices_laws;
+
+    ghost laws = { and_equiv (and_equiv (and_equiv (and_equiv (on_equiv (λ d. d.base) image_laws.laws-law) (on_equiv (λ d. d.log) (lists_equiv event_laws.laws-law))) (on_equiv (λ d. d.notices) notices_laws.laws-law)) (on_equiv (λ d. d.fails) (lists_equiv fail_laws.laws-law))) (on_equiv room_and_counts (lists_equiv nat_eq_equiv)) };
+}
+
+/// A clone is the same disk, with the same room. It shares nothing with the disk that it was made from.
+impl Clone for MemDisk {
+    ghost use Rattle.std.specs.Prelude.{◌≡◌};
+
+    ghost is_clone = { λ disk clone. clone ≡ disk };
+
+    fn clone(&self) -> Result<MemDisk, AllocError> {
+        Ok(MemDisk {
+            base: self.base.clone()?,
+            last: self.last.clone()?,
+            log: self.log.clone()?,
+            notices: self.notices,
+            fails: self.fails.clone()?,
+            faults: self.faults,
+            read_faults: self.read_faults,
+            reads: self.reads,
+            writes: self.writes,
+            polls: self.polls,
+            waits: self.waits,
+        })
     }
 }
 

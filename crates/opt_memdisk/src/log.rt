@@ -3,7 +3,7 @@
 //! events that may come, are made ready at the start: no event takes memory. What blocks there are is not
 //! its matter.
 
-ghost use Rattle.std.specs.Prelude.{◌≡◌, ◌<◌, ◌≤◌, ◌+◌, ◌-◌, ◌^◌, ◌++◌, ℕ, [], ◌∷◌, false, length, nat_lt, Option, Some, IfSome, IfNone, IfOk};
+ghost use Rattle.std.specs.Prelude.{◌≡◌, ◌<◌, ◌≤◌, ◌+◌, ◌-◌, ◌^◌, ◌++◌, ℕ, [], ◌∷◌, false, length, nat_lt, Option, Some, IfSome, IfNone, IfOk, vec_capacity};
 ghost use Rattle.std.specs.List.{slice_get};
 ghost use Rattle.std.specs.List.Sorted.{IsNonDecreasing};
 ghost use Rattle.opt_disk.specs.declared.event.Event.TheVariants.{Wrote, Lost, Noticed};
@@ -17,7 +17,7 @@ use crate::WriteName;
 use opt_base::{Block, NoMemory};
 use opt_disk::{BoxedBlock, Event};
 use opt_ranks::Ranks;
-use std::alloc::Global;
+use std::alloc::{AllocError, Global};
 use std::fmt;
 use std::marker::Model;
 
@@ -116,6 +116,13 @@ impl Log {
         ensures { result ≡ length self.now.events }
     {
         self.events.len() as u64
+    }
+
+    /// How many writes there is room for, accepted and lost.
+    pub(crate) fn room(&self) -> u32
+        ensures { result ≡ self.now.room }
+    {
+        self.room
     }
 
     /// All events, in their order.
@@ -297,6 +304,49 @@ impl Log {
         self.lost.push(self.events.len()).unwrap();
         self.events.push(Event::Lost { block, bytes }).unwrap();
     }
+}
+
+/// A clone is the same log, with the same room.
+impl Clone for Log {
+    ghost use Rattle.std.specs.Prelude.{◌≡◌};
+
+    ghost is_clone = { λ log clone. clone ≡ log };
+
+    fn clone(&self) -> Result<Log, AllocError> {
+        let alloc = *self.events.allocator();
+        let most = usize::try_from(u64::from(self.room) * 2).map_err(|_| AllocError)?;
+        let ready = self.boxes.len() as u32;
+        let boxes = boxes(alloc, ready).map_err(|_| AllocError)?;
+        Ok(Log {
+            events: events_with_room(alloc, self.events.as_slice(), most)?,
+            boxes,
+            tickets: with_room(alloc, self.tickets.as_slice(), self.room as usize)?,
+            places: with_room(alloc, self.places.as_slice(), self.room as usize)?,
+            lost: with_room(alloc, self.lost.as_slice(), self.room as usize)?,
+            unnoticed: self.unnoticed.clone()?,
+            room: self.room,
+        })
+    }
+}
+
+// A copy of these events, with room for so many in all.
+fn events_with_room(alloc: Global, events: &[Event], most: usize) -> Result<Vec<Event>, AllocError>
+    ensures events { IfOk result (λ copy. copy.items ≡ events.now) }
+    ensures room { IfOk result (λ copy. most ≤ vec_capacity copy) }
+{
+    let mut copy = Vec::with_capacity(alloc, most)?;
+    copy.extend_with_clones(events)?;
+    Ok(copy)
+}
+
+// A copy of these items, with room for so many in all.
+fn with_room<T: Copy + Drop>(alloc: Global, items: &[T], most: usize) -> Result<Vec<T>, AllocError>
+    ensures items { IfOk result (λ copy. copy.items ≡ items.now) }
+    ensures room { IfOk result (λ copy. most ≤ vec_capacity copy) }
+{
+    let mut copy = Vec::with_capacity(alloc, most)?;
+    copy.extend_from_slice(items)?;
+    Ok(copy)
 }
 
 // So many boxes.

@@ -75,6 +75,24 @@ fn room_for_none_and_for_one(rt: HostRuntime) {
     assert_eq!(rt; one.at(0), None);
 }
 
+#[test]
+fn a_clone_goes_its_own_way(rt: HostRuntime) -> Result<(), Fail> {
+    let mut ranks = none_of(&rt, rt.alloc(), 4);
+    assert_eq!(rt; (ranks.join(), ranks.join(), ranks.join()), (1, 2, 3));
+    assert!(rt; ranks.take_out(1));
+    let mut clone = ranks.clone()?;
+    assert_eq!(rt; clone.len(), 2);
+    assert_eq!(rt; clone.at(0), Some(2));
+    assert_eq!(rt; clone.at(1), Some(3));
+    assert_eq!(rt; clone.join(), 4);
+    assert!(rt; clone.take_out(2));
+    assert_eq!(rt; clone.at(0), Some(3));
+    assert_eq!(rt; clone.at(1), Some(4));
+    assert_eq!(rt; ranks.len(), 2);
+    assert_eq!(rt; ranks.at(0), Some(2));
+    Ok(())
+}
+
 /// The next of a row of numbers without much order.
 fn after(seed: u64) -> u64 {
     seed.wrapping_mul(6_364_136_223_846_793_005)
