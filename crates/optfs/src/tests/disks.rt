@@ -1,5 +1,5 @@
 //! What no row of `opt_rows` can tell of a disk in memory: two writes in order, whose promise asks for
-//! blocks at rest; an image that is copied, or has no blocks; the texts of refusals; a bay.
+//! blocks at rest; an image or a disk that is copied; an image without blocks; the texts of refusals; a bay.
 
 ghost use Rattle.std.specs.Prelude.{◌≡◌, replicate};
 ghost use Rattle.opt_disk.specs.Bay.{zero_blocks};
@@ -77,6 +77,25 @@ fn a_copy_of_an_image_goes_its_own_way(rt: HostRuntime) {
     assert_eq!(rt; copy.as_slice().len(), 2);
     assert!(rt; *copy.block(0) == block_of(0));
     assert!(rt; *copy.block(1) == block_of(9));
+}
+
+// A clone has the events, the open ticket and the room that is left, and what comes later is its own.
+#[test]
+fn a_clone_of_a_disk_goes_its_own_way(rt: HostRuntime) {
+    let mut disk = zero_disk(&rt, rt.alloc(), 2);
+    assert_eq!(rt; disk.write(3, &block_of(5)), Ok(1));
+    let mut clone = disk.clone().expect(&rt, "memory");
+    assert!(rt; clone == disk && disk != zero_disk(&rt, rt.alloc(), 2));
+    assert_eq!(rt; clone.write(3, &block_of(6)), Ok(2));
+    assert!(rt; clone != disk);
+    let mut into = block_of(0);
+    assert_eq!(rt; disk.read(3, &mut into), Ok(()));
+    assert!(rt; into == block_of(5));
+    assert_eq!(rt; clone.write(3, &block_of(7)), Err(DiskFault));
+    assert_eq!(rt; clone.wait(1), Ok(()));
+    assert_eq!(rt; (disk.moment(), clone.moment()), (1, 3));
+    assert_eq!(rt; disk.write(3, &block_of(6)), Ok(2));
+    assert_eq!(rt; (disk.counts(), clone.counts()), ((0, 0), (0, 1)));
 }
 
 #[test]
