@@ -1,0 +1,6 @@
+pub mod drafts
+pub mod bytes
+pub mod frames
+pub mod effects
+pub mod calling
+pub mod finishing

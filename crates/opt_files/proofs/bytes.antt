@@ -1,0 +1,11 @@
+pub mod Overwrites
+pub mod Joins
+pub mod Contents
+pub mod Tails
+pub mod Sizes
+pub mod Looks
+pub mod Pieces
+pub mod Loops
+pub mod Places
+pub mod Calls
+pub mod Known

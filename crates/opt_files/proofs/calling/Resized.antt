@@ -1,0 +1,115 @@
+-- A resize: the node was read, and then it was cut, or grew, or has the size that it had.
+use Rattle.std.proofs.Common.{◌≡◌, ℕ, ◌-◌, ◌<◌, ◌≤◌, Bool, false, IsTrue, List, ◌++◌, length, take, drop, replicate, Option, Some, Result, Ok, Err, refl, sym, ap, subst, ◌∙◌, arith}
+use Rattle.std.specs.Prelude.{IfErr}
+use Rattle.std.specs.Result.{IsErrAnd}
+use Rattle.std.proofs.lemmas.List.{append-nil, take_all}
+use Rattle.opt_base.specs.Runs.{run_places}
+use Rattle.opt_extent.specs.Runs.{runs_of}
+use Rattle.opt_geom.specs.Geometry.{Geometry}
+use Rattle.opt_blocks.specs.State.{Bookkeeping, State, reusable_blocks}
+use Rattle.opt_stands.specs.Files.{FileNode, Files, used_node}
+use Rattle.opt_tree.specs.Step.{resized}
+use Rattle.opt_files.specs.declared.nodes.OpenNode.{OpenNode}
+use Rattle.opt_files.specs.declared.refusal.FileRefusal.{FileRefusal}
+use Rattle.opt_files.specs.Bytes.{blocks_for}
+use Rattle.opt_files.specs.Calls.{IsWithFile, Shrinks, Grows, Resizes, ChangesAmong, GrowthRefused, files_in, places_in, places_or_none, with_bytes, cut_blocks, written_blocks, growth}
+use Rattle.opt_files.specs.Drafts.{DraftState, drafted, marks_of}
+use Rattle.opt_files.specs.Effects.{LooksOnly}
+use Rattle.opt_files.specs.Growing.{more_blocks}
+use Rattle.opt_files.specs.Nodes.{IsOpen, node_of_open}
+use Rattle.opt_files.specs.Sound.{IsDraftOf}
+use Rattle.opt_files.proofs.calling.Nodes.{its_file}
+use Rattle.opt_files.proofs.frames.Carry.{files_look}
+use Rattle.opt_files.proofs.frames.Places.{used_length}
+
+-- a file of the size that it has
+same_bytes : (xs : List ℕ) → resized (length xs) xs ≡ xs
+same_bytes xs = ap (λ n. take (length xs) (xs ++ replicate n 0)) {x = length xs - length xs} {y = 0} (omega arith) ∙ ap (take (length xs)) (append-nil xs) ∙ take_all (length xs) xs (omega arith)
+
+-- the node that was read, and its file
+pub record IsRead (tells : Bool) (s t : State) (number : ℕ) (o : OpenNode) (x : FileNode) (d : DraftState) : Type 0 where
+  pub known : IsTrue tells
+  pub looks : LooksOnly tells false s t
+  pub draft : IsDraftOf tells s d
+  pub fits : IsOpen s.books.geom o
+  pub is : Some (node_of_open o) ≡ used_node s.books.geom (drafted d s.map) number
+  pub at : files_in s d number ≡ Some x
+  pub places : (xs : List ℕ) → run_places (runs_of xs) ≡ xs
+
+module _ (tells : Bool) (s t : State) (number size : ℕ) (o : OpenNode) (x : FileNode) (d : DraftState) (r : IsRead tells s t number o x d) where
+  pub read_size : length x.bytes ≡ o.size
+  read_size = ap (λ (y : FileNode). length y.bytes) (its_file s.books.geom (drafted d s.map) number x (node_of_open o) r.is r.at)
+      ∙ used_length s.books.geom (marks_of d s.books.marked) (drafted d s.map) number (node_of_open o) (r.draft.sound r.known).blocks (sym r.is)
+
+  pub read_places : places_in s d number ≡ o.places
+  read_places = ap places_or_none (sym r.is) ∙ r.places o.places
+
+  pub read_growth : more_blocks size o ≡ growth (length x.bytes) size
+  read_growth = ap (λ n. blocks_for size - n) (r.fits.count ∙ ap blocks_for (sym read_size))
+
+  places_look : places_in t d number ≡ places_in s d number
+  places_look = (λ i. places_or_none (used_node (r.looks.books i).geom (drafted d (r.looks.map r.known i)) number))
+
+  pub read_at : files_in t d number ≡ Some x
+  read_at = files_look tells false s t d r.looks r.known number ∙ r.at
+
+  -- what became of the files that were read became of those before
+  pub since_read : (new : Files) (y : Option FileNode) → IsWithFile (files_in t d) new number y → IsWithFile (files_in s d) new number y
+  since_read new y w = record { own = w.own; others = λ l away. w.others l away ∙ files_look tells false s t d r.looks r.known l }
+
+  -- it has the size that it had
+  pub same_file : size ≡ o.size → IsWithFile (files_in s d) (files_in t d) number (Some (with_bytes x (resized size x.bytes)))
+  same_file same = record {
+    own = read_at ∙ ap (λ xs. Some (with_bytes x xs)) (sym (same_bytes x.bytes) ∙ ap (λ n. resized n x.bytes) (read_size ∙ sym same));
+    others = λ l away. files_look tells false s t d r.looks r.known l;
+  }
+
+  pub same_resizes : (k : Bookkeeping) (new_places : List ℕ) → size ≡ o.size → Resizes k number x (places_in s d number) new_places size d d
+  same_resizes k new_places same = record {
+    same = λ e. refl;
+    grows = λ more. absurd (omega (arith, more, same, read_size));
+    grows_among = λ more. absurd (omega (arith, more, same, read_size));
+    shrinks = λ less. absurd (omega (arith, less, same, read_size));
+    shrinks_among = λ less. absurd (omega (arith, less, same, read_size));
+  }
+
+  -- it was cut
+  pub cut_resizes : (k : Bookkeeping) (e : DraftState) (new_places : List ℕ) → k ≡ t.books → size < o.size → Shrinks x (places_in t d number) new_places size d e → ChangesAmong (cut_blocks t.books.geom number x (places_in t d number) size) d e
+      → Resizes k number x (places_in s d number) new_places size d e
+  cut_resizes k e new_places books less shrinks among = record {
+    same = λ e. absurd (omega (arith, less, e, read_size));
+    grows = λ more. absurd (omega (arith, more, less, read_size));
+    grows_among = λ more. absurd (omega (arith, more, less, read_size));
+    shrinks = λ l. subst (λ ps. Shrinks x ps new_places size d e) places_look shrinks;
+    shrinks_among = λ l. subst (λ (h : Geometry). ChangesAmong (cut_blocks h number x (places_in s d number) size) d e) (sym (ap (λ (b : Bookkeeping). b.geom) books))
+        (subst (λ ps. ChangesAmong (cut_blocks t.books.geom number x ps size) d e) places_look among);
+  }
+
+  -- it grew
+  pub grown_resizes : (k : Bookkeeping) (e : DraftState) (new_places : List ℕ) → o.size < size → Grows k x (places_in t d number) new_places size d e
+      → ChangesAmong (written_blocks k.geom number x (places_in t d number) (drop (length (places_in t d number)) new_places) (length x.bytes) size) d e
+      → Resizes k number x (places_in s d number) new_places size d e
+  grown_resizes k e new_places more grows among = record {
+    same = λ e. absurd (omega (arith, more, e, read_size));
+    grows = λ m. subst (λ ps. Grows k x ps new_places size d e) places_look grows;
+    grows_among = λ m. subst (λ ps. ChangesAmong (written_blocks k.geom number x ps (drop (length ps) new_places) (length x.bytes) size) d e) places_look among;
+    shrinks = λ less. absurd (omega (arith, more, less, read_size));
+    shrinks_among = λ less. absurd (omega (arith, more, less, read_size));
+  }
+
+  pub grown_refused : (new : Bookkeeping) (why : FileRefusal) → GrowthRefused (more_blocks size o) o.places t.books new why → GrowthRefused (growth (length x.bytes) size) (places_in s d number) s.books new why
+  grown_refused new why refused = subst (λ n. GrowthRefused n (places_in s d number) s.books new why) read_growth
+      (subst (λ ps. GrowthRefused (more_blocks size o) ps s.books new why) (sym read_places) (subst (λ (b : Bookkeeping). GrowthRefused (more_blocks size o) o.places b new why) r.looks.books refused))
+
+  pub few_read : growth (length x.bytes) size ≤ length (reusable_blocks s.books) → more_blocks size o ≤ length (reusable_blocks t.books)
+  few_read few = omega (arith, few, read_growth, ap (λ (b : Bookkeeping). length (reusable_blocks b)) r.looks.books)
+
+-- what follows from why a call was refused
+pub err_more : {T E : Type 0} {P Q : E → Type 0} (r : Result T E) → ((why : E) → P why → Q why) → IfErr r P → IfErr r Q
+err_more (Ok x) f h = h
+err_more (Err why) f h = f why h
+
+-- one error is the other
+pub same_error : {T E : Type 0} (r : Result T E) (w : E) (P : Result T E → Type 0) → IsErrAnd r (λ y. y ≡ w) → P (Err w) → P r
+same_error (Ok x) w P h p = absurd h
+same_error (Err y) w P h p = subst (λ z. P (Err z)) (sym h) p

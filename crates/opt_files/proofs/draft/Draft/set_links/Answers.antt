@@ -1,0 +1,41 @@
+use Rattle.std.proofs.Common.{rules, sym, subst, ap, ◌∙◌, option_map}
+use Rattle.opt_geom.specs.Geometry.{IsGeometry}
+use Rattle.opt_files.specs.Nodes.{node_of_open, IsOpen}
+use Rattle.opt_files.proofs.frames.Carry.{draft_looks}
+use Rattle.opt_files.proofs.calling.Nodes.{links_set, has_table, none_found, put_still_fits, looked_files}
+use Rattle.opt_files.proofs.draft.Draft.set_links.Goals as goal
+
+pub returns-in_default-clause-file : goal.returns-in_default-clause-file
+returns-in_default-clause-file g c = λ tells x at.
+    let s = g.S.Blocks.state c.args.blocks.now in
+    let geom = subst IsGeometry c.geom-geom.ensures c.lawful.ensures.limits in
+    let there = has_table s c.args.self.now c.args.number geom c.requires.above_zero c.requires.in_table (c.requires.draft.sound tells) in
+    none_found s c.args.self.now c.args.number x c.in_ok-node.field-0 c.in_default.is (c.in_ok-node.ensures.node tells there) at
+
+pub returns-clause-file : goal.returns-clause-file
+returns-clause-file g c = λ tells x at.
+    let s = g.S.Blocks.state c.args.blocks.now in
+    let geom = subst IsGeometry c.geom-geom.ensures c.lawful.ensures.limits in
+    let there = has_table s c.args.self.now c.args.number geom c.requires.above_zero c.requires.in_table (c.requires.draft.sound tells) in
+    let opened : IsOpen s.books.geom c.in-Some.node = search rules in
+    looked_files g.S.Blocks.tells _ s (g.S.Blocks.state c.load.new.blocks) c.args.self.now c.store.new.draft c.args.number _ c.load.ensures.looks tells
+    (links_set s.books s.map c.geom-geom.result c.args.number c.args.links c.in-Some.node c.to_node.result x c.load.new.table c.args.self.now c.store.new.draft
+    c.geom-geom.ensures c.lawful.ensures.limits c.requires.above_zero c.requires.in_table c.requires.draft.fits (c.requires.draft.sound tells) opened c.requires.some c.requires.most
+    (ap (option_map node_of_open) (sym c.in-Some.is) ∙ c.in_ok-node.ensures.node tells there) (c.in_ok-node.ensures.table tells there) c.to_node.ensures
+    c.in_ok-store.ensures.ok c.a_node_reads_back.ensures at).1
+
+pub returns-clause-draft : goal.returns-clause-draft
+returns-clause-draft g c =
+    let s = g.S.Blocks.state c.args.blocks.now in
+    draft_looks g.S.Blocks.tells _ s (g.S.Blocks.state c.load.new.blocks) c.store.new.draft c.load.ensures.looks (record {
+      fits = put_still_fits s.books c.geom-geom.result c.args.number _ c.args.self.now c.store.new.draft c.geom-geom.ensures c.lawful.ensures.limits c.requires.above_zero c.requires.in_table c.requires.draft.fits c.in_ok-store.ensures.ok;
+      sound = λ tells.
+          let used = c.requires.used tells in
+          let geom = subst IsGeometry c.geom-geom.ensures c.lawful.ensures.limits in
+          let there = has_table s c.args.self.now c.args.number geom c.requires.above_zero c.requires.in_table (c.requires.draft.sound tells) in
+          let opened : IsOpen s.books.geom c.in-Some.node = search rules in
+          (links_set s.books s.map c.geom-geom.result c.args.number c.args.links c.in-Some.node c.to_node.result used.0 c.load.new.table c.args.self.now c.store.new.draft
+          c.geom-geom.ensures c.lawful.ensures.limits c.requires.above_zero c.requires.in_table c.requires.draft.fits (c.requires.draft.sound tells) opened c.requires.some c.requires.most
+          (ap (option_map node_of_open) (sym c.in-Some.is) ∙ c.in_ok-node.ensures.node tells there) (c.in_ok-node.ensures.table tells there) c.to_node.ensures
+          c.in_ok-store.ensures.ok c.a_node_reads_back.ensures used.1).0;
+    })

@@ -1,0 +1,5 @@
+pub mod Lists
+pub mod Listed
+pub mod Opened
+pub mod Opening
+pub mod Refused

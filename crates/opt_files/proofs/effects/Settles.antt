@@ -1,0 +1,74 @@
+-- Calls that look, or settle, one behind the other.
+use Rattle.std.proofs.Common.{◌≡◌, ℕ, ◌+◌, ◌<◌, ◌≤◌, Bool, false, IsTrue, ap, ◌∙◌, arith}
+use Rattle.opt_base.specs.Counts.{after_call}
+use Rattle.opt_geom.specs.Geometry.{Geometry, data_start}
+use Rattle.opt_blocks.specs.State.{Bookkeeping, State}
+use Rattle.opt_blocks.specs.Calls.{MovesPipeline}
+use Rattle.opt_blocks.specs.Crashes.{Advances}
+use Rattle.opt_files.specs.Effects.{LooksOnly, LooksAndSettles}
+
+-- bookkeeping that is the same moves nothing
+same_moves : (old new : Bookkeeping) → new ≡ old → MovesPipeline old new
+same_moves old new e = record {
+  geom = ap (λ (k : Bookkeeping). k.geom) e;
+  running = ap (λ (k : Bookkeeping). k.running) e;
+  spare = ap (λ (k : Bookkeeping). k.spare) e;
+  marked = ap (λ (k : Bookkeeping). k.marked) e;
+  reusable = λ b r. ap (λ (k : Bookkeeping). k.reusable b) e ∙ r.free;
+  waiting = omega (arith, ap (λ (k : Bookkeeping). k.waiting) e);
+  area = ap (λ (k : Bookkeeping). k.area) e;
+  room = ap (λ (k : Bookkeeping). k.room) e;
+  free_places = omega (arith, ap (λ (k : Bookkeeping). k.free_places) e);
+  turns = omega (arith, ap (λ (k : Bookkeeping). k.turns) e);
+  point = ap (λ (k : Bookkeeping). k.point) e;
+  floor = omega (arith, ap (λ (k : Bookkeeping). k.floor) e);
+}
+
+-- a call that only looks may be one that settles
+pub looks_settle : (tells failed : Bool) (old new : State) → old.books.stopped ≡ false → LooksOnly tells failed old new → (IsTrue tells → Advances old new) → LooksAndSettles tells failed false old new
+looks_settle tells failed old new going k later = record {
+  pipeline = same_moves old.books new.books k.books;
+  read_faults = k.counts.read_faults;
+  faults = k.counts.faults;
+  stopped = ap (λ (b : Bookkeeping). b.stopped) k.books ∙ going;
+  waits = omega (arith, k.counts.waits);
+  ticks = k.counts.ticks;
+  map = k.map;
+  crash = later;
+  writes = λ told. omega (arith, (k.crash told).writes, ap (λ (b : Bookkeeping). b.owed) k.books);
+}
+
+-- two such calls, of which the first failed nowhere
+pub settles_more : (tells read_failed failed : Bool) (a b c : State) → a.books.geom ≡ b.books.geom → LooksAndSettles tells false false a b → LooksAndSettles tells read_failed failed b c
+    → (IsTrue tells → Advances a b → Advances b c → Advances a c) → c.books.turns ≤ a.books.turns + 262144
+    → LooksAndSettles tells read_failed failed a c
+settles_more tells read_failed failed a b c geom h k compose turns = record {
+  pipeline = record {
+    geom = k.pipeline.geom ∙ h.pipeline.geom;
+    running = k.pipeline.running ∙ h.pipeline.running;
+    spare = k.pipeline.spare ∙ h.pipeline.spare;
+    marked = k.pipeline.marked ∙ h.pipeline.marked;
+    reusable = λ x r. k.pipeline.reusable x (record { from = ap_from x r.from; below = ap_below x r.below; free = h.pipeline.reusable x r });
+    waiting = omega (arith, h.pipeline.waiting, k.pipeline.waiting);
+    area = k.pipeline.area ∙ h.pipeline.area;
+    room = k.pipeline.room ∙ h.pipeline.room;
+    free_places = omega (arith, h.pipeline.free_places, k.pipeline.free_places);
+    turns = turns;
+    point = k.pipeline.point ∙ h.pipeline.point;
+    floor = omega (arith, h.pipeline.floor, k.pipeline.floor);
+  };
+  read_faults = k.read_faults ∙ ap (after_call read_failed) h.read_faults;
+  faults = k.faults ∙ ap (after_call failed) h.faults;
+  stopped = k.stopped;
+  waits = omega (arith, h.waits, k.waits);
+  ticks = k.ticks ∙ h.ticks;
+  map = λ told. k.map told ∙ h.map told;
+  crash = λ told. compose told (h.crash told) (k.crash told);
+  writes = λ told. omega (arith, h.writes told, k.writes told);
+}
+  where
+    ap_from : (x : ℕ) → data_start a.books.geom ≤ x → data_start b.books.geom ≤ x
+    ap_from x low = omega (arith, low, ap data_start geom)
+
+    ap_below : (x : ℕ) → x < a.books.geom.n → x < b.books.geom.n
+    ap_below x low = omega (arith, low, ap (λ (g : Geometry). g.n) geom)

@@ -1,0 +1,13 @@
+pub mod Basics
+pub mod Few
+pub mod Puts
+pub mod Frees
+pub mod Books
+pub mod Made
+pub mod Counts
+pub mod Sync
+pub mod Nodes
+pub mod Sound
+pub mod Finished
+pub mod GoingOn
+pub mod Prices

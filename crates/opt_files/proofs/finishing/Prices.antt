@@ -1,0 +1,23 @@
+-- The blocks that a draft changes are those of its entries.
+use Rattle.std.proofs.Common.{◌≡◌, ℕ, ◌==◌, ◌||◌, Bool, true, false, List, [], ◌∷◌, length, Some, suc, is_some, refl, sym, ap, ◌∙◌}
+use Rattle.std.proofs.lemmas.Bool.{false≢true, or_left, or_right, cond-false}
+use Rattle.std.specs.Map.{keys_of}
+use Rattle.std.specs.Ordering.{nat_cmp}
+use Rattle.std.specs.BTreeMap.{is_at}
+use Rattle.opt_blocks.specs.Running.{has}
+use Rattle.opt_files.specs.declared.changes.Changed.{Changed}
+use Rattle.opt_files.specs.Drafts.{change_of}
+use Rattle.opt_files.proofs.finishing.Books.{key_is}
+
+pub keys_have : (cs : List (ℕ × Changed)) (b : ℕ) → is_some (change_of cs b) ≡ true → has (keys_of cs) b ≡ true
+keys_have [] b is = absurd (false≢true is)
+keys_have (c ∷ cs) b is = by (b == c.0) refl (keys_have cs b)
+  where
+    by : (t : Bool) → (b == c.0) ≡ t → (is_some (change_of cs b) ≡ true → has (keys_of cs) b ≡ true) → ((b == c.0) || has (keys_of cs) b) ≡ true
+    by true e rest = or_left (b == c.0) (has (keys_of cs) b) e
+    by false e rest = or_right (b == c.0) (has (keys_of cs) b)
+        (rest (ap is_some (sym (cond-false (is_at (nat_cmp b) c.0) (Some c.1) (change_of cs b) (key_is b c.0 ∙ e))) ∙ is))
+
+pub as_many_keys : (cs : List (ℕ × Changed)) → length (keys_of cs) ≡ length cs
+as_many_keys [] = refl
+as_many_keys (c ∷ cs) = ap suc (as_many_keys cs)

@@ -1,0 +1,15 @@
+pub mod Cells
+pub mod Places
+pub mod Frames
+pub mod Steps
+pub mod Spelled
+pub mod Met
+pub mod Fits
+pub mod Carry
+pub mod Rules
+pub mod Puts
+pub mod Stored
+pub mod Dropped
+pub mod After
+pub mod Written
+pub mod Begins

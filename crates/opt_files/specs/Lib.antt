@@ -1,0 +1,14 @@
+pub mod Drafts
+pub mod Bytes
+pub mod Sound
+pub mod Effects
+pub mod Nodes
+pub mod Content
+pub mod Calls
+pub mod Finish
+pub mod Frames
+pub mod Zeros
+pub mod Growing
+pub mod Making
+pub mod Resizing
+pub mod Writing

@@ -1,0 +1,57 @@
+-- A node as the calls on files work on it, and where it is in the node table.
+use Rattle.std.specs.Prelude.{◌≡◌, ℕ, ◌+◌, ◌-◌, ◌*◌, ◌/◌, ◌%◌, ◌^◌, ◌≤◌, true, length}
+use Rattle.std.specs.List.{All}
+use Rattle.opt_base.specs.Seal.{Blocks}
+use Rattle.opt_geom.specs.Geometry.{Geometry, table_start, nodes_in_block, node_size}
+use Rattle.opt_extent.specs.Runs.{runs_of, stretches}
+use Rattle.opt_layout.specs.declared.node.Node.{Node}
+use Rattle.opt_layout.specs.declared.node.NodeKind.{NodeKind}
+use Rattle.opt_layout.specs.declared.node.NodeKind.TheVariants.{Free, Dir, File}
+use Rattle.opt_base.specs.declared.words.Class.{Class}
+use Rattle.opt_base.specs.declared.words.Class.TheVariants.{Meta, Content}
+use Rattle.opt_layout.specs.Node.{node_fits, node_spelling}
+use Rattle.opt_blocks.specs.Puts.{IsData}
+use Rattle.opt_blocks.specs.State.{State}
+use Rattle.opt_blocks.specs.Calls.{IsWithBlock}
+use Rattle.opt_files.specs.declared.nodes.OpenNode.{OpenNode}
+use Rattle.opt_files.specs.Drafts.{DraftState, drafted}
+use Rattle.opt_files.specs.Bytes.{overwrite, blocks_for}
+
+-- the node with its places as runs
+abbrev pub node_of_open : OpenNode → Node
+node_of_open node = record { kind = node.kind; links = node.links; size = node.size; runs = runs_of node.places }
+
+-- the class of a node's blocks
+abbrev pub class_of : NodeKind → Class
+class_of Free = Meta
+class_of Dir = Meta
+class_of File = Content
+
+-- the block of the node table in which node k is, and its first byte there
+abbrev pub node_block : Geometry → ℕ → ℕ
+node_block g k = table_start g + (k - 1) / nodes_in_block
+
+abbrev pub node_byte : ℕ → ℕ
+node_byte k = node_size * ((k - 1) % nodes_in_block)
+
+-- the draft has the block of node k's, so it isn't freed
+abbrev pub HasTable : State → DraftState → ℕ → Type 0
+HasTable s d k = length (drafted d s.map (node_block s.books.geom k)) ≡ 1024
+
+-- the most bytes of a node: those of 28 runs of 1,048,576 blocks
+abbrev pub largest_node : ℕ
+largest_node = 28 * 2 ^ 30
+
+-- A node in use that fits the disk: it has the blocks that its bytes need, all of them data blocks, in at most 28 runs.
+pub record IsOpen (g : Geometry) (node : OpenNode) : Type 0 where
+  pub used : node.kind ≡ Free → ⊥
+  pub fits : node_fits g (node_of_open node) ≡ true
+  pub «data» : All (IsData g) node.places
+  pub count : length node.places ≡ blocks_for node.size
+  pub runs : stretches node.places ≤ 28
+  pub most : node.size ≤ largest_node
+  pub file : node.kind ≡ File → node.size ≤ 2 ^ 30
+
+-- Node k has these bytes now, and nothing else is new.
+abbrev pub IsWithNode : Geometry → Blocks → Blocks → ℕ → Node → Type 0
+IsWithNode g old new k node = IsWithBlock old new (node_block g k) (overwrite (node_byte k) (node_spelling node) (old (node_block g k)))

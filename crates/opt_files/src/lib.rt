@@ -1,0 +1,23 @@
+//! Files over a map of blocks: numbered nodes, each a list of bytes in blocks of its own. A draft
+//! collects what one command changes, and leaves the map as it is until it is finished. No journal and
+//! no disk is known here, and no names. The rules are described in docs/FILES.md.
+#![tactic(auto)]
+
+mod calls;
+mod changes;
+mod content;
+mod draft;
+mod finish;
+mod grow;
+mod laws;
+mod nodes;
+mod price;
+mod refusal;
+mod resize;
+mod write;
+
+pub use changes::Changed;
+pub use draft::Draft;
+pub use finish::a_sync_may_follow;
+pub use laws::{a_draft_begins, a_file_has_its_blocks, bytes_lie_in_blocks};
+pub use refusal::FileRefusal;
