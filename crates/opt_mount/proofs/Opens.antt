@@ -19,7 +19,7 @@ use Rattle.opt_crash.specs.Mounting.{HasBegun}
 use Rattle.opt_crash.specs.Opening.{HasNoEpochAbove, IsReadyToOpen, settled}
 use Rattle.opt_crash.specs.Points.{MountedSession, IsPoint, IsSafe, points_in, ledger_at_mount, session_at_mount}
 use Rattle.opt_crash.specs.Replay.{IsFound, found_map}
-use Rattle.opt_mount.specs.Mount.{IsIdle, settled_on}
+use Rattle.opt_mount.specs.Mount.{FoundDisk, IsFoundOn, GoesOn, IsIdle, settled_on}
 use Rattle.opt_mount.proofs.States.{same_settled}
 
 -- no epoch is above the greatest one
@@ -137,3 +137,52 @@ greatest_there old now g e base log is = subst (λ (at : Blocks). IsGreatestEpoc
 -- what was found is so still after a read
 pub found_still : (old now : State) (r : finding.FoundRun) → now.blocks ≡ old.blocks → now.base ≡ old.base → now.log ≡ old.log → finding.IsFound old.blocks (settled_on old) r → finding.IsFound now.blocks (settled_on now) r
 found_still old now r size base log found = subst (λ (n : ℕ). finding.IsFound n (settled_on now) r) (sym size) (subst (λ (at : Blocks). finding.IsFound old.blocks at r) (sym (same_settled old now base log)) found)
+
+-- All of it, and the map, are so still after reads.
+pub found_on_still : (old now : State) (f : FoundDisk) → now.blocks ≡ old.blocks → now.base ≡ old.base → now.log ≡ old.log → IsFoundOn old f → IsFoundOn now f
+found_on_still old now f size base log is = record {
+  is_found = found_still old now f.run size base log is.is_found;
+  is_greatest = greatest_there old now f.run.header.geom f.epoch base log is.is_greatest;
+}
+
+pub held_still : (old now : State) (g : Geometry) (m : Blocks) → now.blocks ≡ old.blocks → now.base ≡ old.base → now.log ≡ old.log → HoldsUnder old.blocks g (settled_on old) m → HoldsUnder now.blocks g (settled_on now) m
+held_still old now g m size base log held = subst (λ (n : ℕ). HoldsUnder n g (settled_on now) m) (sym size) (subst (λ (at : Blocks). HoldsUnder old.blocks g at m) (sym (same_settled old now base log)) held)
+
+-- A window, a session and a header that go on from there go on from the disk before those reads.
+pub window_before : (old now new : State) (g : Geometry) (m : Blocks) → now.blocks ≡ old.blocks → now.base ≡ old.base → now.log ≡ old.log
+    → Window now.blocks now.base new.log (length now.log) (λ img. HoldsUnder now.blocks g img m) → Window old.blocks old.base new.log (length old.log) (λ img. HoldsUnder old.blocks g img m)
+window_before old now new g m size base log w =
+    subst (λ (n : ℕ). Window n old.base new.log (length old.log) (λ img. HoldsUnder n g img m)) size
+    (subst (λ (b : Blocks). Window now.blocks b new.log (length old.log) (λ img. HoldsUnder now.blocks g img m)) base
+    (subst (λ (lg : List Event). Window now.blocks now.base new.log (length lg) (λ img. HoldsUnder now.blocks g img m)) log w))
+
+pub begun_before : (old now new : State) (g : Geometry) (slot : ℕ) (h : Header) (m : Blocks) → now.log ≡ old.log → HasBegun new g slot h (length now.log) m → HasBegun new g slot h (length old.log) m
+begun_before old now new g slot h m log b = subst (λ (lg : List Event). HasBegun new g slot h (length lg) m) log b
+
+pub goes_before : (old now : State) (h : Header) → now.blocks ≡ old.blocks → now.base ≡ old.base → now.log ≡ old.log → GoesOn now.blocks (settled_on now) h → GoesOn old.blocks (settled_on old) h
+goes_before old now h size base log goes = subst (λ (n : ℕ). GoesOn n (settled_on old) h) size (subst (λ (at : Blocks). GoesOn now.blocks at h) (same_settled old now base log) goes)
+
+-- a run and an epoch that are those that were found
+pub found_of : (d : State) (f : FoundDisk) (r : finding.FoundRun) (e : ℕ) → r ≡ f.run → e ≡ f.epoch → IsFoundOn d f → finding.IsFound d.blocks (settled_on d) r × IsGreatestEpoch r.header.geom (settled_on d) e
+found_of d f r e run epoch is =
+    (subst (λ (q : finding.FoundRun). finding.IsFound d.blocks (settled_on d) q) (sym run) is.is_found,
+     subst (λ (k : ℕ). IsGreatestEpoch r.header.geom (settled_on d) k) (sym epoch) (subst (λ (q : finding.FoundRun). IsGreatestEpoch q.header.geom (settled_on d) f.epoch) (sym run) is.is_greatest))
+
+-- what keeps the map that was found keeps what the disk held
+pub window_on : ((n : ℕ) (img : Blocks) (s t : ℕ) (h k : Header) → Newest n img s h → Newest n img t k → (s ≡ t) × (h ≡ k)) → ((img : Blocks) (h : Header) (rs qs : List Record) → IsRun img h rs → IsRun img h qs → rs ≡ qs)
+    → (old new : State) (f : FoundDisk) (r : finding.FoundRun) (e : ℕ) (g : Geometry) (m : Blocks) → r ≡ f.run → e ≡ f.epoch → old.blocks ≡ f.run.header.geom.n → IsFoundOn old f → HoldsUnder old.blocks g (settled_on old) m
+    → (IsFound r.header.geom.n (settled_on old) r.slot r.header r.records → IsGreatestEpoch r.header.geom (settled_on old) e → Window r.header.geom.n old.base new.log (length old.log) (λ img. HoldsUnder r.header.geom.n r.header.geom img (found_map (settled_on old) r.header r.records)))
+    → Window old.blocks old.base new.log (length old.log) (λ img. HoldsUnder old.blocks g img m)
+window_on one runs old new f r e g m run epoch size is held w =
+    let there = found_of old f r e run epoch is in
+    let n : r.header.geom.n ≡ old.blocks = ap (λ (q : finding.FoundRun). q.header.geom.n) run ∙ sym size in
+    window_held old old new r g m refl refl n (held_is_found one runs old.blocks g (settled_on old) m r held there.0) (w (found_there old old r refl refl n there.0) there.1)
+
+pub begun_on : ((n : ℕ) (img : Blocks) (s t : ℕ) (h k : Header) → Newest n img s h → Newest n img t k → (s ≡ t) × (h ≡ k)) → ((img : Blocks) (h : Header) (rs qs : List Record) → IsRun img h rs → IsRun img h qs → rs ≡ qs)
+    → (old new : State) (f : FoundDisk) (r : finding.FoundRun) (e : ℕ) (g : Geometry) (m : Blocks) (slot : ℕ) (h : Header) → r ≡ f.run → e ≡ f.epoch → old.blocks ≡ f.run.header.geom.n → IsFoundOn old f → HoldsUnder old.blocks g (settled_on old) m
+    → (IsFound r.header.geom.n (settled_on old) r.slot r.header r.records → IsGreatestEpoch r.header.geom (settled_on old) e → HasBegun new r.header.geom slot h (length old.log) (found_map (settled_on old) r.header r.records))
+    → HasBegun new g slot h (length old.log) m
+begun_on one runs old new f r e g m slot h run epoch size is held begins =
+    let there = found_of old f r e run epoch is in
+    let n : r.header.geom.n ≡ old.blocks = ap (λ (q : finding.FoundRun). q.header.geom.n) run ∙ sym size in
+    begun_held old old new r g m slot h refl refl (held_is_found one runs old.blocks g (settled_on old) m r held there.0) (begins (found_there old old r refl refl n there.0) there.1)

@@ -14,6 +14,11 @@ use Rattle.opt_crash.specs.Replay.{found_map}
 use Rattle.opt_mount.specs.declared.refusal.MountRefusal.{MountRefusal}
 use Rattle.opt_mount.specs.declared.refusal.MountRefusal.TheVariants.{NoHeader, Spent, ReadFault, DiskFault, NoMemory}
 
+-- what a search finds on a disk that is to be mounted: the newest header with its slot and its run, and the greatest epoch
+pub record FoundDisk : Type 0 where
+  pub run : FoundRun
+  pub epoch : ℕ
+
 -- nothing is pending on the disk
 abbrev pub IsIdle : State → Type 0
 IsIdle d = (b : ℕ) → (cells_of d b).pending ≡ []
@@ -21,6 +26,11 @@ IsIdle d = (b : ℕ) → (cells_of d b).pending ≡ []
 -- what is settled on it
 abbrev pub settled_on : State → Blocks
 settled_on d = settled (cells_of d)
+
+-- that was found in what is settled on the disk
+pub record IsFoundOn (d : State) (f : FoundDisk) : Type 0 where
+  pub is_found : IsFound d.blocks (settled_on d) f.run
+  pub is_greatest : IsGreatestEpoch f.run.header.geom (settled_on d) f.epoch
 
 -- each honest image of each moment from t on holds the map of this run, which was found in these blocks
 abbrev pub StaysFound : State → ℕ → Blocks → FoundRun → Type 0

@@ -13,10 +13,10 @@ ghost use Rattle.opt_crash.specs.Opening.{opening_header, IsReadyToOpen};
 ghost use Rattle.opt_recover.specs.Epoch.{IsGreatestEpoch};
 ghost use Rattle.opt_recover.specs.Search.{last_number};
 ghost use Rattle.opt_crash.specs.Replay.{IsFound, IsReplayed, found_map};
-ghost use Rattle.opt_mount.specs.Mount.{IsIdle, settled_on, GoesOn, RefusalSays, MountSpends};
+ghost use Rattle.opt_mount.specs.Mount.{IsIdle, IsFoundOn, settled_on, GoesOn, RefusalSays, MountSpends};
 ghost use Rattle.opt_mount.specs.Refusal.{IsFault, is_unread, is_faulty};
 
-use crate::found::{epoch_on, run_on};
+use crate::found::{Found, find};
 use crate::refusal::MountRefusal;
 use crate::replay::replay_found;
 use opt_crash::{
@@ -57,9 +57,29 @@ pub fn mount<D: Disk>(alloc: Global, disk: &mut D) -> Result<Mounted, MountRefus
     journal_blocks_keep_to_their_bounds();
     an_idle_disk_holds_what_is_settled();
     windows_go_on::<HoldsMap>();
-    let run = run_on(alloc, disk)?;
-    let epoch = epoch_on(disk, &run)?;
-    let mounted = open_found(disk, &run, epoch)?;
+    let found = find(alloc, disk)?;
+    let mounted = open(disk, &found)?;
+    Ok(mounted)
+}
+
+/// Mounts a disk on which that was found and nothing is pending: closes and replays the run, where there is
+/// one, and opens the journal under a new epoch. A session begins with the map that the disk held, and each
+/// honest image since the call began holds it, whatever comes of the call.
+///
+/// # Errors
+/// `ReadFault` and `DiskFault` come of a call that failed, which the disk has counted.
+pub fn open<D: Disk>(disk: &mut D, found: &Found) -> Result<Mounted, MountRefusal>
+    requires { (D.state disk.old).blocks ≡ found.now.run.header.geom.n }
+    ensures begins { IsTrue D.tells → IsIdle (D.state disk.old) → IsFoundOn (D.state disk.old) found.now → (g : Geometry) (m : Blocks) → HoldsUnder (D.state disk.old).blocks g (settled_on (D.state disk.old)) m
+        → IfOk result (λ q. HasBegun (D.state disk.new) g q.slot q.header (length (D.state disk.old).log) m) }
+    ensures goes_on { IsTrue D.tells → IsIdle (D.state disk.old) → IsFoundOn (D.state disk.old) found.now → IfOk result (λ q. GoesOn (D.state disk.old).blocks (settled_on (D.state disk.old)) q.header) }
+    ensures holds { IsTrue D.tells → IsIdle (D.state disk.old) → IsFoundOn (D.state disk.old) found.now → (g : Geometry) (m : Blocks) → HoldsUnder (D.state disk.old).blocks g (settled_on (D.state disk.old)) m
+        → Window (D.state disk.old).blocks (D.state disk.old).base (D.state disk.new).log (length (D.state disk.old).log) (λ img. HoldsUnder (D.state disk.old).blocks g img m) }
+    ensures fault { IfErr result IsFault }
+    ensures spends { MountSpends (is_unread result) (is_faulty result) ((D.state disk.old).blocks + 2) (D.state disk.old) (D.state disk.new) }
+{
+    an_image_holds_one_map();
+    let mounted = open_found(disk, found.run(), found.epoch())?;
     Ok(mounted)
 }
 

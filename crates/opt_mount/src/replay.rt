@@ -162,7 +162,11 @@ fn write_payload<D: Disk>(disk: &mut D, b: u32, bytes: &Block) -> Result<(), Mou
 }
 
 /// The bytes that the run leaves in block `b`, if it covers it, read in the ring.
-fn payload_of<D: Disk>(disk: &mut D, run: &Run, b: u32) -> Result<Option<Block>, DiskFault>
+pub(crate) fn payload_of<D: Disk>(
+    disk: &mut D,
+    run: &Run,
+    b: u32,
+) -> Result<Option<Block>, DiskFault>
     requires { (D.state disk.old).blocks ≡ run.now.header.geom.n }
     ensures value { IsTrue D.tells → (at : Blocks) → ((place : ℕ) → IsAsFound (cells_of (D.state disk.old)) at (ring_block run.now.header.geom place)) → IfOk result (λ o. o ≡ covered_by run.now.header.geom at None run.now.records b) }
     ensures log { IsTrue D.tells → (D.state disk.new).log ≡ (D.state disk.old).log }
