@@ -6,7 +6,7 @@ ghost use Rattle.opt_layout.specs.declared.node.NodeKind.TheVariants.{Free, Dir}
 ghost use Rattle.opt_stands.specs.Files.{FileNode, joined};
 ghost use Rattle.opt_layout.specs.Node.{free_node};
 ghost use Rattle.opt_files.specs.Bytes.{met, overwrite};
-ghost use Rattle.opt_files.specs.Drafts.{drafted};
+ghost use Rattle.opt_files.specs.Drafts.{drafted, ChangesSome};
 ghost use Rattle.opt_files.specs.Nodes.{class_of, node_block, HasTable, IsOpen};
 ghost use Rattle.opt_files.specs.Sound.{IsDraftOf};
 ghost use Rattle.opt_files.specs.Content.{HasContent, WritesContent, fails_reading};
@@ -86,6 +86,7 @@ impl Draft {
         ensures number { IfOk result (λ found. IfSome found (λ number. (1 ≤ number) × (number ≤ (S.state blocks.old).books.geom.i))) }
         ensures draft { OnOk result (IsDraftOf S.tells (S.state blocks.new) self.new) }
         ensures among { IfOk result (λ found. IfSome found (λ number. SetsNode (S.state blocks.old).books.geom number [] self.old self.new)) }
+        ensures changes { IfOk result (λ found. IfSome found (λ number. ChangesSome self.new)) }
         ensures refused { IfErr result LookRefused }
         ensures looks { LooksOnly S.tells (fails_reading result) (S.state blocks.old) (S.state blocks.new) }
     {
@@ -125,6 +126,7 @@ impl Draft {
         ensures file { IsTrue S.tells → OnOk result (IsWithFile (files_in (S.state blocks.old) self.old) (files_in (S.state blocks.new) self.new) number None) }
         ensures draft { OnOk result (IsDraftOf S.tells (S.state blocks.new) self.new) }
         ensures among { IsTrue S.tells → OnOk result (SetsNode (S.state blocks.old).books.geom number (places_in (S.state blocks.old) self.old number) self.old self.new) }
+        ensures changes { IsTrue S.tells → OnOk result (ChangesSome self.new) }
         ensures refused { IfErr result LookRefused }
         ensures looks { LooksOnly S.tells (fails_reading result) (S.state blocks.old) (S.state blocks.new) }
     {
@@ -164,6 +166,7 @@ impl Draft {
             → IsWithFile (files_in (S.state blocks.old) self.old) (files_in (S.state blocks.new) self.new) number (Some (with_links x links))) }
         ensures draft { OnOk result (IsDraftOf S.tells (S.state blocks.new) self.new) }
         ensures among { IsTrue S.tells → OnOk result (SetsNode (S.state blocks.old).books.geom number [] self.old self.new) }
+        ensures changes { IsTrue S.tells → OnOk result (ChangesSome self.new) }
         ensures refused { IfErr result LookRefused }
         ensures looks { LooksOnly S.tells (fails_reading result) (S.state blocks.old) (S.state blocks.new) }
     {

@@ -1,7 +1,7 @@
 //! Laws of drafts and of the nodes in them, each a function that changes nothing: what a draft is before
 //! anything was done, and that a node that is written is read again.
 
-ghost use Rattle.std.specs.Prelude.{◌≡◌, ◌<◌, ◌≤◌, ◌-◌, ◌*◌, ◌/◌, ◌^◌, ℕ, IsTrue, true, List, All, length, Some};
+ghost use Rattle.std.specs.Prelude.{◌≡◌, ◌<◌, ◌≤◌, ◌-◌, ◌*◌, ◌/◌, ◌%◌, ◌^◌, ℕ, IsTrue, true, List, All, length, Some};
 ghost use Rattle.opt_blocks.specs.Puts.{IsData};
 ghost use Rattle.opt_blocks.specs.Running.{HasNoBare};
 ghost use Rattle.opt_extent.specs.Runs.{runs_of, stretches};
@@ -13,6 +13,7 @@ ghost use Rattle.opt_files.specs.Sound.{IsDraftOf};
 ghost use Rattle.opt_geom.specs.Geometry.{Geometry};
 ghost use Rattle.opt_layout.specs.declared.node.Node.{Node};
 ghost use Rattle.opt_layout.specs.declared.node.NodeKind.{NodeKind};
+ghost use Rattle.opt_layout.specs.declared.node.NodeKind.TheVariants.{Dir};
 ghost use Rattle.opt_layout.specs.Node.{FitsAs, kind_fits, node_fits};
 ghost use Rattle.opt_stands.specs.Files.{FileNode, files_of};
 ghost use Rattle.opt_stands.specs.Stands.{AreSound};
@@ -38,6 +39,12 @@ pub fn a_draft_begins<S: Blocks>(blocks: &S)
 pub fn a_file_has_its_blocks<S: Blocks>()
     ensures { (s : S) (d : DraftState) (k : ℕ) (x : FileNode) → IsTrue S.tells → IsDraftOf S.tells (S.state s) d → files_in (S.state s) d k ≡ Some x
         → length (places_in (S.state s) d k) ≡ blocks_for (length x.bytes) }
+{}
+
+/// A directory's bytes are whole slots.
+pub fn a_directory_has_whole_slots<S: Blocks>()
+    ensures { (s : S) (d : DraftState) (k : ℕ) (x : FileNode) → IsTrue S.tells → IsDraftOf S.tells (S.state s) d → files_in (S.state s) d k ≡ Some x → x.kind ≡ Dir
+        → length x.bytes % 64 ≡ 0 }
 {}
 
 /// In how many blocks of a list bytes lie: those from the block of the first one to that of the last one.

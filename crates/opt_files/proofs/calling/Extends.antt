@@ -24,7 +24,7 @@ use Rattle.opt_files.specs.declared.nodes.OpenNode.{OpenNode}
 use Rattle.opt_files.specs.Bytes.{overwrite, blocks_for, met}
 use Rattle.opt_files.specs.Calls.{IsWithFile, Grows, ChangesAmong, files_in, places_in, places_or_none, with_bytes, is_dir, growth, written_blocks}
 use Rattle.opt_files.specs.Content.{HasContent, WritesContent}
-use Rattle.opt_files.specs.Drafts.{DraftState, change_of, drafted, marks_of, is_meta, zeros_of, PutsBlock}
+use Rattle.opt_files.specs.Drafts.{DraftState, ChangesSome, change_of, drafted, marks_of, is_meta, zeros_of, PutsBlock}
 use Rattle.opt_files.specs.Effects.{LooksAndSettles}
 use Rattle.opt_files.specs.Frames.{used_of, ReadsBack}
 use Rattle.opt_files.specs.Growing.{more_blocks}
@@ -44,7 +44,7 @@ use Rattle.opt_files.proofs.frames.Carry.{draft_settles, files_settle}
 use Rattle.opt_files.proofs.frames.Cells.{block_from, block_below}
 use Rattle.opt_files.proofs.frames.Fits.{fits_with}
 use Rattle.opt_files.proofs.frames.Places.{has_append, used_length}
-use Rattle.opt_files.proofs.frames.Puts.{put_fits, put_changed}
+use Rattle.opt_files.proofs.frames.Puts.{put_fits, put_changed, put_changes}
 use Rattle.opt_files.proofs.frames.Spelled.{used_some, fits_as}
 
 -- no bytes are written
@@ -119,6 +119,7 @@ module _ (tells : Bool) (t : State) (number size : ℕ) (o p : OpenNode) (node :
     gap = is.gap;
     room = subst (λ n. HasRoom k n o p w g) size_is is.room;
     writes = same_written (class_of o.kind) (met size (size + 0) p.places) g;
+    some = λ l. absurd (omega (arith, l));
     content = λ told has. has;
     bytes = λ told has. none_over size (joined (drafted g m) p.places);
   }
@@ -153,6 +154,10 @@ module _ (tells : Bool) (t : State) (number size : ℕ) (o p : OpenNode) (node :
 
   pub extend_fits : FitsBooks k e
   extend_fits = put_fits k g e (node_block k.geom number) c is.geom low high g_fits is.puts
+
+  -- the node's block changed
+  pub extend_some : ChangesSome e
+  extend_some = put_changes k k.geom number c g e refl is.geom is.loaded.from is.loaded.upto extend_fits is.puts
 
   -- what changed
 
@@ -341,6 +346,7 @@ module _ (tells : Bool) (t : State) (number size : ℕ) (o p : OpenNode) (node :
       freed = extend_freed;
       fresh = subst (λ kind. length e.fresh ≤ length d.fresh + (if is_dir kind then 0 else growth (length x.bytes) size)) (x_kind x at)
           (subst (λ n. length e.fresh ≤ length d.fresh + (if is_dir o.kind then 0 else n)) (extra_count ∙ x_growth x at) extend_fresh);
+      changes = extend_some;
     }
 
     -- the new blocks are those behind the ones that it had
@@ -423,6 +429,7 @@ module _ (tells : Bool) (s t : State) (number size : ℕ) (o p : OpenNode) (node
   extended_draft = record {
     fits = extend_fits tells t number size o p node table d w g e is;
     sound = λ known. extend_sound tells t number size o p node table d w g e is known;
+    content = λ b some. extend_some tells t number size o p node table d w g e is;
   }
 
   module _ (settles : LooksAndSettles tells false false s t) (known : IsTrue tells) (x : FileNode) (at : files_in s d number ≡ Some x) where

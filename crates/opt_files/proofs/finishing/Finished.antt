@@ -58,6 +58,7 @@ draft_ready tells s one d draft books map = record {
       let old = draft.sound t in
       let ready : IsSoundDraft (record s.books { spare = one.books.spare }) s.map d = record { blocks = old.blocks; changed = old.changed; fresh = old.fresh; apart = old.apart; freed = old.freed; once = old.once } in
       subst (λ m. IsSoundDraft one.books m d) (sym (map t)) (subst (λ k. IsSoundDraft k s.map d) (sym books) ready);
+  content = draft.content;
 }
 
 after : (tells : Bool) (s one new : State) (d e : DraftState) → e ≡ d → one.books ≡ record s.books { spare = one.books.spare } → HasMade tells e one new → new.books ≡ after_draft (record s.books { spare = one.books.spare }) d

@@ -1,7 +1,11 @@
 use Rattle.std.proofs.Common.{rules, sym, subst, ap, ◌∙◌, option_map}
 use Rattle.opt_geom.specs.Geometry.{IsGeometry}
+use Rattle.opt_blocks.specs.State.{Bookkeeping}
+use Rattle.opt_files.specs.Drafts.{ChangesSome}
 use Rattle.opt_files.specs.Nodes.{node_of_open, IsOpen}
+use Rattle.opt_files.specs.Sound.{FitsBooks}
 use Rattle.opt_files.proofs.frames.Carry.{draft_looks}
+use Rattle.opt_files.proofs.frames.Puts.{put_changes}
 use Rattle.opt_files.proofs.calling.Nodes.{has_table, looked_files}
 use Rattle.opt_files.proofs.calling.Drops.{drops, drop_fits}
 use Rattle.opt_files.proofs.draft.Draft.drop_node.Goals as goal
@@ -9,6 +13,16 @@ use Rattle.opt_files.proofs.draft.Draft.drop_node.Goals as goal
 module _ (g : _) (c : goal.In_ok-store g) where
   opened : IsOpen (g.S.Blocks.state c.args.blocks.now).books.geom c.in-Some.node
   opened = search rules
+
+  abbrev k : Bookkeeping
+  k = (g.S.Blocks.state c.args.blocks.now).books
+
+  fits : FitsBooks k c.store.new.draft
+  fits = drop_fits k c.geom-geom.result c.args.number c.in-Some.node.places _ c.args.self.now c.shrink.new.draft c.store.new.draft c.geom-geom.ensures c.lawful.ensures.limits c.requires.above_zero c.requires.in_table c.requires.draft.fits
+      opened.«data» c.in_ok-shrink.ensures.frees c.in_ok-store.ensures.ok
+
+  changed : ChangesSome c.store.new.draft
+  changed = put_changes k c.geom-geom.result c.args.number _ c.shrink.new.draft c.store.new.draft c.geom-geom.ensures c.lawful.ensures.limits c.requires.above_zero c.requires.in_table fits c.in_ok-store.ensures.ok
 
 pub returns-clause-file : goal.returns-clause-file
 returns-clause-file g c = λ tells.
@@ -25,8 +39,7 @@ pub returns-clause-draft : goal.returns-clause-draft
 returns-clause-draft g c =
     let s = g.S.Blocks.state c.args.blocks.now in
     draft_looks g.S.Blocks.tells _ s (g.S.Blocks.state c.load.new.blocks) c.store.new.draft c.load.ensures.looks (record {
-      fits = drop_fits s.books c.geom-geom.result c.args.number c.in-Some.node.places _ c.args.self.now c.shrink.new.draft c.store.new.draft c.geom-geom.ensures c.lawful.ensures.limits c.requires.above_zero c.requires.in_table c.requires.draft.fits
-          (opened g c).«data» c.in_ok-shrink.ensures.frees c.in_ok-store.ensures.ok;
+      fits = fits g c;
       sound = λ tells.
           let geom = subst IsGeometry c.geom-geom.ensures c.lawful.ensures.limits in
           let there = has_table s c.args.self.now c.args.number geom c.requires.above_zero c.requires.in_table (c.requires.draft.sound tells) in
@@ -34,7 +47,11 @@ returns-clause-draft g c =
           c.geom-geom.ensures c.lawful.ensures.limits c.requires.above_zero c.requires.in_table c.requires.draft.fits (c.requires.draft.sound tells) (opened g c).«data» (c.a_list_has_its_runs.ensures.places c.in-Some.node.places)
           (ap (option_map node_of_open) (sym c.in-Some.is) ∙ c.in_ok-node.ensures.node tells there) (c.in_ok-node.ensures.table tells there)
           c.in_ok-shrink.ensures.frees c.free_node.ensures c.in_ok-store.ensures.ok c.a_node_reads_back.ensures).0;
+      content = λ b some. changed g c;
     })
+
+pub returns-clause-changes : goal.returns-clause-changes
+returns-clause-changes g c = λ tells. changed g c
 
 pub returns-clause-among : goal.returns-clause-among
 returns-clause-among g c = λ tells.

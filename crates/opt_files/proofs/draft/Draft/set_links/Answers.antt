@@ -1,9 +1,31 @@
 use Rattle.std.proofs.Common.{rules, sym, subst, ap, ◌∙◌, option_map}
 use Rattle.opt_geom.specs.Geometry.{IsGeometry}
+use Rattle.opt_blocks.specs.State.{Bookkeeping}
+use Rattle.opt_files.specs.Drafts.{ChangesSome}
 use Rattle.opt_files.specs.Nodes.{node_of_open, IsOpen}
+use Rattle.opt_files.specs.Sound.{FitsBooks}
 use Rattle.opt_files.proofs.frames.Carry.{draft_looks}
+use Rattle.opt_files.proofs.frames.Puts.{put_changes}
 use Rattle.opt_files.proofs.calling.Nodes.{links_set, has_table, none_found, put_still_fits, looked_files}
 use Rattle.opt_files.proofs.draft.Draft.set_links.Goals as goal
+
+module _ (g : _) (c : goal.In_ok-store g) where
+  abbrev k : Bookkeeping
+  k = (g.S.Blocks.state c.args.blocks.now).books
+
+  fits : FitsBooks k c.store.new.draft
+  fits = put_still_fits k c.geom-geom.result c.args.number _ c.args.self.now c.store.new.draft c.geom-geom.ensures c.lawful.ensures.limits c.requires.above_zero c.requires.in_table c.requires.draft.fits c.in_ok-store.ensures.ok
+
+  changed : ChangesSome c.store.new.draft
+  changed = put_changes k c.geom-geom.result c.args.number _ c.args.self.now c.store.new.draft c.geom-geom.ensures c.lawful.ensures.limits c.requires.above_zero c.requires.in_table fits c.in_ok-store.ensures.ok
+
+pub returns-in_default-clause-changes : goal.returns-in_default-clause-changes
+returns-in_default-clause-changes g c = λ tells.
+    let s = g.S.Blocks.state c.args.blocks.now in
+    let used = c.requires.used tells in
+    let geom = subst IsGeometry c.geom-geom.ensures c.lawful.ensures.limits in
+    let there = has_table s c.args.self.now c.args.number geom c.requires.above_zero c.requires.in_table (c.requires.draft.sound tells) in
+    none_found s c.args.self.now c.args.number used.0 c.in_ok-node.field-0 c.in_default.is (c.in_ok-node.ensures.node tells there) used.1
 
 pub returns-in_default-clause-file : goal.returns-in_default-clause-file
 returns-in_default-clause-file g c = λ tells x at.
@@ -28,7 +50,7 @@ pub returns-clause-draft : goal.returns-clause-draft
 returns-clause-draft g c =
     let s = g.S.Blocks.state c.args.blocks.now in
     draft_looks g.S.Blocks.tells _ s (g.S.Blocks.state c.load.new.blocks) c.store.new.draft c.load.ensures.looks (record {
-      fits = put_still_fits s.books c.geom-geom.result c.args.number _ c.args.self.now c.store.new.draft c.geom-geom.ensures c.lawful.ensures.limits c.requires.above_zero c.requires.in_table c.requires.draft.fits c.in_ok-store.ensures.ok;
+      fits = fits g c;
       sound = λ tells.
           let used = c.requires.used tells in
           let geom = subst IsGeometry c.geom-geom.ensures c.lawful.ensures.limits in
@@ -38,4 +60,8 @@ returns-clause-draft g c =
           c.geom-geom.ensures c.lawful.ensures.limits c.requires.above_zero c.requires.in_table c.requires.draft.fits (c.requires.draft.sound tells) opened c.requires.some c.requires.most
           (ap (option_map node_of_open) (sym c.in-Some.is) ∙ c.in_ok-node.ensures.node tells there) (c.in_ok-node.ensures.table tells there) c.to_node.ensures
           c.in_ok-store.ensures.ok c.a_node_reads_back.ensures used.1).0;
+      content = λ b some. changed g c;
     })
+
+pub returns-clause-changes : goal.returns-clause-changes
+returns-clause-changes g c = λ tells. changed g c

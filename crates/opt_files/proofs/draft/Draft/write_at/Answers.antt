@@ -58,6 +58,15 @@ returns-clause-among g c = λ told.
     let geom : u.books.geom ≡ s.books.geom = c.write_loaded.ensures.settles.pipeline.geom ∙ ap (λ (k : Bookkeeping). k.geom) c.in_ok-node.ensures.looks.books in
     ok_maps c.write_loaded.result (λ w. among_then s t u c.args.number c.args.offset c.args.bytes.now c.args.self.now c.write_loaded.new.draft geom (c.in_ok-node.ensures.looks.map told) (sym (c.write_loaded.ensures.settles.map told)) w) (c.write_loaded.ensures.file told)
 
+pub returns-clause-changes : goal.returns-clause-changes
+returns-clause-changes g c = λ told.
+    let s = g.S.Blocks.state c.args.blocks.now in
+    let t = g.S.Blocks.state c.load.new.blocks in
+    let u = g.S.Blocks.state c.write_loaded.new.blocks in
+    let geom : u.books.geom ≡ s.books.geom = c.write_loaded.ensures.settles.pipeline.geom ∙ ap (λ (k : Bookkeeping). k.geom) c.in_ok-node.ensures.looks.books in
+    let there = c.requires.used told in
+    ok_maps c.write_loaded.result (λ w some. (grows_then s t u c.args.number c.args.offset c.args.bytes.now c.args.self.now c.write_loaded.new.draft geom (c.in_ok-node.ensures.looks.map told) (sym (c.write_loaded.ensures.settles.map told)) w there.0 there.1).changes) (c.write_loaded.ensures.file told)
+
 pub returns-clause-refused : goal.returns-clause-refused
 returns-clause-refused g c = λ told.
     let s = g.S.Blocks.state c.args.blocks.now in
