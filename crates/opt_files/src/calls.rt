@@ -17,7 +17,6 @@ use crate::FileRefusal;
 use crate::content::{read_content, write_content};
 use crate::draft::{Draft, ZEROS};
 use crate::grow::{class_of, shrink};
-use crate::laws::a_node_reads_back;
 use crate::nodes::{OpenNode, load, store};
 use opt_base::limits::BLOCK_LENGTH;
 use opt_base::{Block, Bytes, RunList};
@@ -92,7 +91,6 @@ impl Draft {
     {
         let geom = blocks.geom();
         geom.lawful();
-        a_node_reads_back(&geom);
         let mut table = ZEROS;
         let Some(number) = least_unused(self, blocks, from, &mut table)? else {
             return Ok(None);
@@ -132,7 +130,6 @@ impl Draft {
     {
         let geom = blocks.geom();
         geom.lawful();
-        a_node_reads_back(&geom);
         a_list_has_its_runs();
         let mut table = ZEROS;
         let Some(mut node) = load(self, blocks, number, &mut table)? else {
@@ -172,7 +169,6 @@ impl Draft {
     {
         let geom = blocks.geom();
         geom.lawful();
-        a_node_reads_back(&geom);
         let mut table = ZEROS;
         let Some(mut node) = load(self, blocks, number, &mut table)? else {
             return Ok(());

@@ -12,20 +12,9 @@ use Rattle.opt_files.specs.declared.changes.Changed.{Changed}
 use Rattle.opt_files.specs.Drafts.{DraftState, change_of, drafted, marks_of, bytes_or, PutsBlock}
 use Rattle.opt_files.specs.Content.{HasContent, HasNewBytes, WritesContent}
 use Rattle.opt_files.specs.Sound.{FitsBooks}
+use Rattle.std.proofs.lemmas.Bool.{or_left, or_right, or_cases}
 
 -- Tests.
-
-or_left : (a b : Bool) → a ≡ true → (a || b) ≡ true
-or_left true b e = refl
-or_left false b e = absurd cc
-
-or_right : (a b : Bool) → b ≡ true → (a || b) ≡ true
-or_right true b e = refl
-or_right false b e = e
-
-or_cases : (a b : Bool) → (a || b) ≡ true → (a ≡ true) ⊎ (b ≡ true)
-or_cases true b e = inl refl
-or_cases false b e = inr e
 
 -- a number is one of a list of one number only where it is that
 pub has_one : (b q : ℕ) → has (b ∷ []) q ≡ true → q ≡ b

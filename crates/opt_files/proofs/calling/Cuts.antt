@@ -35,13 +35,13 @@ use Rattle.opt_files.proofs.bytes.Calls.{cut_bytes, cut_filled}
 use Rattle.opt_files.proofs.bytes.Places.{content_cut, rest_apart}
 use Rattle.opt_files.proofs.bytes.Sizes.{blocks_hold, blocks_rise}
 use Rattle.opt_files.proofs.calling.Nodes.{its_file}
-use Rattle.opt_files.proofs.calling.Resizes.{in_rest, in_front, in_cleared, pairs_drop, none_of_table}
-use Rattle.opt_files.proofs.drafts.Lists.{turned}
+use Rattle.opt_files.proofs.calling.Resizes.{in_cleared, pairs_drop}
+use Rattle.opt_files.proofs.drafts.Lists.{turned, in_rest, in_front, none_of_table, has_append, each_of}
 use Rattle.opt_files.proofs.frames.After.{IsStored, stored_after, stored_content, stored_cut}
 use Rattle.opt_files.proofs.frames.Carry.{draft_looks, files_look}
 use Rattle.opt_files.proofs.frames.Cells.{block_from, block_below}
 use Rattle.opt_files.proofs.frames.Fits.{fits_with}
-use Rattle.opt_files.proofs.frames.Places.{has_append, each_of, used_marked, used_whole}
+use Rattle.opt_files.proofs.frames.Places.{used_marked, used_whole}
 use Rattle.opt_files.proofs.frames.Puts.{put_fits, put_changed, put_changes}
 use Rattle.opt_files.proofs.frames.Rules.{HasRules, rules_of, frees_others, frees_marks, frees_fits, frees_rules, writes_others, writes_marks, writes_fits, writes_rules}
 use Rattle.opt_files.proofs.frames.Spelled.{used_some, fits_as}

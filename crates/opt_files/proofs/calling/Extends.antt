@@ -36,14 +36,13 @@ use Rattle.opt_files.proofs.bytes.Sizes.{blocks_rise}
 use Rattle.opt_files.proofs.calling.Came.{Came, news}
 use Rattle.opt_files.proofs.calling.Cuts.{sized_kind, links_some, kind_of}
 use Rattle.opt_files.proofs.calling.Nodes.{its_file}
-use Rattle.opt_files.proofs.calling.Resizes.{none_of_table}
 use Rattle.opt_files.proofs.calling.Writes.{its, all_inside, wrote_fits, wrote_rules, wrote_marks, came_unmarked, wrote_others, content_after, bytes_written, tail_written}
-use Rattle.opt_files.proofs.drafts.Lists.{turned}
+use Rattle.opt_files.proofs.drafts.Lists.{turned, none_of_table, has_append}
 use Rattle.opt_files.proofs.frames.After.{IsStored, stored_after, stored_content, stored_grown}
 use Rattle.opt_files.proofs.frames.Carry.{draft_settles, files_settle}
 use Rattle.opt_files.proofs.frames.Cells.{block_from, block_below}
 use Rattle.opt_files.proofs.frames.Fits.{fits_with}
-use Rattle.opt_files.proofs.frames.Places.{has_append, used_length}
+use Rattle.opt_files.proofs.frames.Places.{used_length}
 use Rattle.opt_files.proofs.frames.Puts.{put_fits, put_changed, put_changes}
 use Rattle.opt_files.proofs.frames.Spelled.{used_some, fits_as}
 

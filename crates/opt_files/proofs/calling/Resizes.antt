@@ -16,7 +16,7 @@ use Rattle.opt_files.specs.Calls.{is_dir}
 use Rattle.opt_files.specs.Content.{HasContent, WritesContent}
 use Rattle.opt_files.specs.Drafts.{DraftState, drafted}
 use Rattle.opt_files.specs.Resizing.{ClearsRest, IsCleared}
-use Rattle.opt_files.proofs.frames.Places.{has_append, each_of}
+use Rattle.opt_files.proofs.drafts.Lists.{in_rest, has_append, each_of}
 
 -- what follows from a call that answered follows where it did
 pub on_more : {T E A B : Type 0} (r : Result T E) → (A → B) → OnOk r A → OnOk r B
@@ -75,12 +75,6 @@ cleared_dir m kind size places d e dir content bytes = record {
 
 -- parts of a list
 
-pub in_rest : (n : ℕ) (xs : List ℕ) (b : ℕ) → has (drop n xs) b ≡ true → has xs b ≡ true
-in_rest n xs b is = ap (λ ys. has ys b) (sym (take-append-drop n xs)) ∙ has_append (take n xs) (drop n xs) b ∙ or_right (has (take n xs) b) (has (drop n xs) b) is
-
-pub in_front : (n : ℕ) (xs : List ℕ) (b : ℕ) → has (take n xs) b ≡ true → has xs b ≡ true
-in_front n xs b is = ap (λ ys. has ys b) (sym (take-append-drop n xs)) ∙ has_append (take n xs) (drop n xs) b ∙ or_left (has (take n xs) b) (has (drop n xs) b) is
-
 pub in_cleared : (t : Bool) (n : ℕ) (xs : List ℕ) (b : ℕ) → has (if t then drop n xs else []) b ≡ true → has xs b ≡ true
 in_cleared true n xs b is = in_rest n xs b is
 in_cleared false n xs b is = absurd (false≢true is)
@@ -89,11 +83,3 @@ pub pairs_drop : (n : ℕ) (xs : List ℕ) → AllPairs (λ a b. a ≢ b) xs →
 pairs_drop zero xs once = once
 pairs_drop (suc n) [] once = once
 pairs_drop (suc n) (x ∷ xs) once = pairs_drop n xs (λ i j d l h. once (suc i) (suc j) d (omega (arith, l)) (omega (arith, h)))
-
--- a block of the table is no data block
-pub none_of_table : (g : Geometry) (xs : List ℕ) (b : ℕ) → All (IsData g) xs → b < data_start g → has xs b ≡ false
-none_of_table g xs b inside low = by (cases_Bool (has xs b))
-  where
-    by : (has xs b ≡ true) ⊎ (has xs b ≡ false) → has xs b ≡ false
-    by (inl is) = absurd (omega (arith, (each_of (IsData g) xs inside b is).from, low))
-    by (inr isnt) = isnt

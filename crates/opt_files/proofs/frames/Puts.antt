@@ -16,8 +16,8 @@ use Rattle.opt_files.specs.Frames.{used_of, ReadsBack, HasNewNode}
 use Rattle.opt_files.specs.Nodes.{node_block, node_byte}
 use Rattle.opt_files.specs.Sound.{AreSoundBy, FitsBooks, IsSoundDraft, is_filled}
 use Rattle.opt_files.proofs.frames.Cells.{block_from, block_below, node_stored}
-use Rattle.opt_files.proofs.frames.Places.{each_of}
 use Rattle.opt_files.proofs.frames.Rules.{HasRules, rules_of, sound_from}
+use Rattle.opt_files.proofs.drafts.Lists.{each_of}
 
 module _ (k : Bookkeeping) (d e : DraftState) (at : ℕ) (c : Changed) (geom : IsGeometry k.geom) (low : table_start k.geom ≤ at) (high : at < data_start k.geom) (fits : FitsBooks k d) (puts : PutsBlock at c d e) where
   -- a block of the table isn't freed

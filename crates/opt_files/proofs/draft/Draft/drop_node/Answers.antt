@@ -33,7 +33,7 @@ returns-clause-file g c = λ tells.
     (drops s.books s.map c.geom-geom.result c.args.number c.in-Some.node c.free_node.result c.load.new.table c.args.self.now c.shrink.new.draft c.store.new.draft
     c.geom-geom.ensures c.lawful.ensures.limits c.requires.above_zero c.requires.in_table c.requires.draft.fits (c.requires.draft.sound tells) (opened g c).«data» (c.a_list_has_its_runs.ensures.places c.in-Some.node.places)
     (ap (option_map node_of_open) (sym c.in-Some.is) ∙ c.in_ok-node.ensures.node tells there) (c.in_ok-node.ensures.table tells there)
-    c.in_ok-shrink.ensures.frees c.free_node.ensures c.in_ok-store.ensures.ok c.a_node_reads_back.ensures).1
+    c.in_ok-shrink.ensures.frees c.free_node.ensures c.in_ok-store.ensures.ok c.in_ok-store.ensures.back).1
 
 pub returns-clause-draft : goal.returns-clause-draft
 returns-clause-draft g c =
@@ -46,7 +46,7 @@ returns-clause-draft g c =
           (drops s.books s.map c.geom-geom.result c.args.number c.in-Some.node c.free_node.result c.load.new.table c.args.self.now c.shrink.new.draft c.store.new.draft
           c.geom-geom.ensures c.lawful.ensures.limits c.requires.above_zero c.requires.in_table c.requires.draft.fits (c.requires.draft.sound tells) (opened g c).«data» (c.a_list_has_its_runs.ensures.places c.in-Some.node.places)
           (ap (option_map node_of_open) (sym c.in-Some.is) ∙ c.in_ok-node.ensures.node tells there) (c.in_ok-node.ensures.table tells there)
-          c.in_ok-shrink.ensures.frees c.free_node.ensures c.in_ok-store.ensures.ok c.a_node_reads_back.ensures).0;
+          c.in_ok-shrink.ensures.frees c.free_node.ensures c.in_ok-store.ensures.ok c.in_ok-store.ensures.back).0;
       content = λ b some. changed g c;
     })
 
@@ -61,4 +61,4 @@ returns-clause-among g c = λ tells.
     (drops s.books s.map c.geom-geom.result c.args.number c.in-Some.node c.free_node.result c.load.new.table c.args.self.now c.shrink.new.draft c.store.new.draft
     c.geom-geom.ensures c.lawful.ensures.limits c.requires.above_zero c.requires.in_table c.requires.draft.fits (c.requires.draft.sound tells) (opened g c).«data» (c.a_list_has_its_runs.ensures.places c.in-Some.node.places)
     (ap (option_map node_of_open) (sym c.in-Some.is) ∙ c.in_ok-node.ensures.node tells there) (c.in_ok-node.ensures.table tells there)
-    c.in_ok-shrink.ensures.frees c.free_node.ensures c.in_ok-store.ensures.ok c.a_node_reads_back.ensures).2
+    c.in_ok-shrink.ensures.frees c.free_node.ensures c.in_ok-store.ensures.ok c.in_ok-store.ensures.back).2

@@ -39,7 +39,7 @@ returns-clause-node g c = λ tells.
     let found : first g c = search rules in
     let made = news s.books s.map c.geom-geom.result c.args.from c.in-Some.number c.args.kind (record { kind = c.args.kind; links = 1; size = 0; runs = c.new.result }) c.least_unused.new.table c.args.self.now c.store.new.draft
     c.geom-geom.ensures c.lawful.ensures.limits (range g c).0 (range g c).1 c.requires.draft.fits (c.requires.draft.sound tells) c.requires.kind (c.requires.below tells) found.0 found.1
-    (ap (λ rs. record { kind = c.args.kind; links = 1; size = 0; runs = rs }) c.new.ensures) c.in_ok-store.ensures.ok c.a_node_reads_back.ensures in
+    (ap (λ rs. record { kind = c.args.kind; links = 1; size = 0; runs = rs }) c.new.ensures) c.in_ok-store.ensures.ok c.in_ok-store.ensures.back in
     (made.2, looked_files g.S.Blocks.tells _ s (g.S.Blocks.state c.least_unused.new.blocks) c.args.self.now c.store.new.draft c.in-Some.number _ c.least_unused.ensures.looks tells made.1)
 
 pub returns-clause-draft : goal.returns-clause-draft
@@ -51,7 +51,7 @@ returns-clause-draft g c =
           let found : first g c = search rules in
           (news s.books s.map c.geom-geom.result c.args.from c.in-Some.number c.args.kind (record { kind = c.args.kind; links = 1; size = 0; runs = c.new.result }) c.least_unused.new.table c.args.self.now c.store.new.draft
           c.geom-geom.ensures c.lawful.ensures.limits (range g c).0 (range g c).1 c.requires.draft.fits (c.requires.draft.sound tells) c.requires.kind (c.requires.below tells) found.0 found.1
-          (ap (λ rs. record { kind = c.args.kind; links = 1; size = 0; runs = rs }) c.new.ensures) c.in_ok-store.ensures.ok c.a_node_reads_back.ensures).0;
+          (ap (λ rs. record { kind = c.args.kind; links = 1; size = 0; runs = rs }) c.new.ensures) c.in_ok-store.ensures.ok c.in_ok-store.ensures.back).0;
       content = λ b some. changed g c;
     })
 

@@ -44,7 +44,7 @@ returns-clause-file g c = λ tells x at.
     (links_set s.books s.map c.geom-geom.result c.args.number c.args.links c.in-Some.node c.to_node.result x c.load.new.table c.args.self.now c.store.new.draft
     c.geom-geom.ensures c.lawful.ensures.limits c.requires.above_zero c.requires.in_table c.requires.draft.fits (c.requires.draft.sound tells) opened c.requires.some c.requires.most
     (ap (option_map node_of_open) (sym c.in-Some.is) ∙ c.in_ok-node.ensures.node tells there) (c.in_ok-node.ensures.table tells there) c.to_node.ensures
-    c.in_ok-store.ensures.ok c.a_node_reads_back.ensures at).1
+    c.in_ok-store.ensures.ok c.in_ok-store.ensures.back at).1
 
 pub returns-clause-draft : goal.returns-clause-draft
 returns-clause-draft g c =
@@ -59,7 +59,7 @@ returns-clause-draft g c =
           (links_set s.books s.map c.geom-geom.result c.args.number c.args.links c.in-Some.node c.to_node.result used.0 c.load.new.table c.args.self.now c.store.new.draft
           c.geom-geom.ensures c.lawful.ensures.limits c.requires.above_zero c.requires.in_table c.requires.draft.fits (c.requires.draft.sound tells) opened c.requires.some c.requires.most
           (ap (option_map node_of_open) (sym c.in-Some.is) ∙ c.in_ok-node.ensures.node tells there) (c.in_ok-node.ensures.table tells there) c.to_node.ensures
-          c.in_ok-store.ensures.ok c.a_node_reads_back.ensures used.1).0;
+          c.in_ok-store.ensures.ok c.in_ok-store.ensures.back used.1).0;
       content = λ b some. changed g c;
     })
 
