@@ -45,23 +45,9 @@ use Rattle.opt_files.proofs.frames.Fits.{fits_with}
 use Rattle.opt_files.proofs.frames.Places.{used_length}
 use Rattle.opt_files.proofs.frames.Puts.{put_fits, put_changed, put_changes}
 use Rattle.opt_files.proofs.frames.Spelled.{used_some, fits_as}
+use Rattle.opt_files.proofs.bytes.Pieces.{writes_none}
 
 -- no bytes are written
-
-same_written : (class : Class) (bs : List ℕ) (d : DraftState) → WritesContent class bs d d
-same_written class bs d = record {
-  others = λ b out. refl;
-  other_fresh = λ b out. refl;
-  keys = λ b some. or_right (has bs b) (is_some (change_of d.changed b)) some;
-  stays = λ b some. some;
-  fresh_keys = λ b. refl;
-  fresh_len = refl;
-  taken = refl;
-  freed = refl;
-  apart = λ b some. refl;
-  class_changed = λ b c is. inr is;
-  class_fresh = λ b c is. inr is;
-}
 
 none_over : (n : ℕ) (xs : List ℕ) → xs ≡ overwrite n [] xs
 none_over n xs = sym (take-append-drop n xs) ∙ ap (λ j. take n xs ++ drop j xs) {x = n} {y = n + 0} (omega arith)
@@ -117,7 +103,7 @@ module _ (tells : Bool) (t : State) (number size : ℕ) (o p : OpenNode) (node :
     grown = g;
     gap = is.gap;
     room = subst (λ n. HasRoom k n o p w g) size_is is.room;
-    writes = same_written (class_of o.kind) (met size (size + 0) p.places) g;
+    writes = writes_none (class_of o.kind) (met size (size + 0) p.places) g;
     some = λ l. absurd (omega (arith, l));
     content = λ told has. has;
     bytes = λ told has. none_over size (joined (drafted g m) p.places);

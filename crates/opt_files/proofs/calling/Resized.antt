@@ -106,13 +106,3 @@ module _ (tells : Bool) (s t : State) (number size : ℕ) (o : OpenNode) (x : Fi
 
   pub few_read : growth (length x.bytes) size ≤ length (reusable_blocks s.books) → more_blocks size o ≤ length (reusable_blocks t.books)
   few_read few = omega (arith, few, read_growth, ap (λ (b : Bookkeeping). length (reusable_blocks b)) r.looks.books)
-
--- what follows from why a call was refused
-pub err_more : {T E : Type 0} {P Q : E → Type 0} (r : Result T E) → ((why : E) → P why → Q why) → IfErr r P → IfErr r Q
-err_more (Ok x) f h = h
-err_more (Err why) f h = f why h
-
--- one error is the other
-pub same_error : {T E : Type 0} (r : Result T E) (w : E) (P : Result T E → Type 0) → IsErrAnd r (λ y. y ≡ w) → P (Err w) → P r
-same_error (Ok x) w P h p = absurd h
-same_error (Err y) w P h p = subst (λ z. P (Err z)) (sym h) p

@@ -17,40 +17,15 @@ use Rattle.opt_files.specs.Content.{HasContent, WritesContent}
 use Rattle.opt_files.specs.Drafts.{DraftState, drafted}
 use Rattle.opt_files.specs.Resizing.{ClearsRest, IsCleared}
 use Rattle.opt_files.proofs.drafts.Lists.{in_rest, has_append, each_of}
-
--- what follows from a call that answered follows where it did
-pub on_more : {T E A B : Type 0} (r : Result T E) → (A → B) → OnOk r A → OnOk r B
-on_more (Ok x) f a = f a
-on_more (Err e) f a = a
-
-pub on_both : {T E A B C : Type 0} (r : Result T E) → (A → B → C) → OnOk r A → OnOk r B → OnOk r C
-on_both (Ok x) f a b = f a b
-on_both (Err e) f a b = a
+use Rattle.opt_files.proofs.bytes.Pieces.{writes_none}
 
 -- a part of a block of zeros
 pub zero_part : (n k : ℕ) → n ≤ 1024 → n ≡ k → take n (replicate {A = ℕ} 1024 0) ≡ replicate k 0
 zero_part n k fits is = take-replicate n 1024 0 fits ∙ ap (λ j. replicate j 0) is
 
--- nothing is written
-
-writes_nothing : (d : DraftState) → WritesContent Meta [] d d
-writes_nothing d = record {
-  others = λ b out. refl;
-  other_fresh = λ b out. refl;
-  keys = λ b some. some;
-  stays = λ b some. some;
-  fresh_keys = λ b. refl;
-  fresh_len = refl;
-  taken = refl;
-  freed = refl;
-  apart = λ b some. refl;
-  class_changed = λ b c is. inr is;
-  class_fresh = λ b c is. inr is;
-}
-
 pub clears_none : (kind : NodeKind) (size : ℕ) (places : List ℕ) (d : DraftState) → is_dir kind ≡ false → ClearsRest kind size places d d
 clears_none kind size places d not_dir = record {
-  writes = subst (λ t. WritesContent Meta (if t then drop (size / 1024) places else []) d d) (sym not_dir) (writes_nothing d);
+  writes = subst (λ t. WritesContent Meta (if t then drop (size / 1024) places else []) d d) (sym not_dir) (writes_none Meta [] d);
 }
 
 pub cleared_none : (m : Blocks) (kind : NodeKind) (size : ℕ) (places : List ℕ) (d : DraftState) → is_dir kind ≡ false → HasContent m d places → IsCleared m kind size places d d

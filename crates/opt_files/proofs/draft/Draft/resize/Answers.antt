@@ -7,10 +7,10 @@ use Rattle.opt_files.specs.Calls.{files_in}
 use Rattle.opt_files.specs.Nodes.{IsOpen, node_of_open}
 use Rattle.opt_files.proofs.bytes.Looks.{looks_more}
 use Rattle.opt_files.proofs.calling.Nodes.{has_table}
-use Rattle.opt_files.proofs.calling.Resizes.{on_more, on_both}
-use Rattle.opt_files.proofs.calling.Resized.{IsRead, read_at, read_growth, since_read, same_file, same_resizes, cut_resizes, grown_resizes, grown_refused, few_read, err_more}
+use Rattle.opt_files.proofs.calling.Resized.{IsRead, read_at, read_growth, since_read, same_file, same_resizes, cut_resizes, grown_resizes, grown_refused, few_read}
 use Rattle.opt_files.proofs.draft.Draft.resize.Goals as goal
 use Rattle.opt_files.proofs.draft.Draft.resize.Goals.{In-Some}
+use Rattle.opt_files.proofs.drafts.Refused.{ok_maps, ok_both, err_maps}
 
 -- the node that was read, and its file
 module _ (g : _) (c : goal.In-Some g) where
@@ -45,14 +45,14 @@ returns-then-size-node-clause-resizes g c = λ known x at.
 pub returns-then-size-node-2-clause-file : goal.returns-then-size-node-2-clause-file
 returns-then-size-node-2-clause-file g c = λ known.
     let b = (goal.at.returns-then-size-node-2-clause-file g c).In-Some in
-    on_more c.cut.result (λ made x at.
+    ok_maps c.cut.result (λ made x at.
     let r = read g b x known at in
     since_read g.S.Blocks.tells (s g b) (t g b) c.args.number c.args.size c.in-Some.node x c.args.self.now r _ _ (made x (read_at g.S.Blocks.tells (s g b) (t g b) c.args.number c.args.size c.in-Some.node x c.args.self.now r))) (c.cut.ensures.file known)
 
 pub returns-then-size-node-2-clause-resizes : goal.returns-then-size-node-2-clause-resizes
 returns-then-size-node-2-clause-resizes g c = λ known.
     let b = (goal.at.returns-then-size-node-2-clause-resizes g c).In-Some in
-    on_both c.cut.result (λ shrinks among x at.
+    ok_both c.cut.result (λ shrinks among x at.
     let r = read g b x known at in
     let now = read_at g.S.Blocks.tells (s g b) (t g b) c.args.number c.args.size c.in-Some.node x c.args.self.now r in
     cut_resizes g.S.Blocks.tells (s g b) (t g b) c.args.number c.args.size c.in-Some.node x c.args.self.now r (g.S.Blocks.state c.cut.new.blocks).books c.cut.new.draft _ c.cut.ensures.looks.books
@@ -73,14 +73,14 @@ returns-then-not-may_grow-clause-resizes g c = λ known x at.
 pub returns-clause-file : goal.returns-clause-file
 returns-clause-file g c = λ known.
     let b = (goal.at.returns-clause-file g c).In-Some in
-    on_more c.extend.result (λ made x at.
+    ok_maps c.extend.result (λ made x at.
     let r = read g b x known at in
     since_read g.S.Blocks.tells (s g b) (t g b) c.args.number c.args.size c.in-Some.node x c.args.self.now r _ _ (made x (read_at g.S.Blocks.tells (s g b) (t g b) c.args.number c.args.size c.in-Some.node x c.args.self.now r))) (c.extend.ensures.file known)
 
 pub returns-clause-resizes : goal.returns-clause-resizes
 returns-clause-resizes g c = λ known.
     let b = (goal.at.returns-clause-resizes g c).In-Some in
-    on_both c.extend.result (λ grows among x at.
+    ok_both c.extend.result (λ grows among x at.
     let r = read g b x known at in
     let now = read_at g.S.Blocks.tells (s g b) (t g b) c.args.number c.args.size c.in-Some.node x c.args.self.now r in
     grown_resizes g.S.Blocks.tells (s g b) (t g b) c.args.number c.args.size c.in-Some.node x c.args.self.now r (g.S.Blocks.state c.extend.new.blocks).books c.extend.new.draft _
@@ -89,7 +89,7 @@ returns-clause-resizes g c = λ known.
 pub returns-clause-refused : goal.returns-clause-refused
 returns-clause-refused g c = λ known.
     let b = (goal.at.returns-clause-refused g c).In-Some in
-    err_more c.extend.result (λ why refused x at.
+    err_maps c.extend.result (λ why refused x at.
     grown_refused g.S.Blocks.tells (s g b) (t g b) c.args.number c.args.size c.in-Some.node x c.args.self.now (read g b x known at) (g.S.Blocks.state c.extend.new.blocks).books why refused) c.extend.ensures.refused
 
 pub returns-clause-looks : goal.returns-clause-looks
