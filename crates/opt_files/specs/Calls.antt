@@ -10,11 +10,16 @@ use Rattle.opt_layout.specs.declared.node.NodeKind.TheVariants.{Free, Dir, File}
 use Rattle.opt_blocks.specs.Running.{has}
 use Rattle.opt_blocks.specs.State.{Bookkeeping, State, reusable_blocks}
 use Rattle.opt_stands.specs.Files.{FileNode, Files, files_of, used_node}
+use Rattle.opt_files.specs.declared.look.FileFacts.{FileFacts}
 use Rattle.opt_files.specs.declared.refusal.FileRefusal.{FileRefusal}
 use Rattle.opt_files.specs.declared.refusal.FileRefusal.TheVariants as refusal
 use Rattle.opt_files.specs.Bytes.{blocks_for, met}
-use Rattle.opt_files.specs.Drafts.{DraftState, change_of, drafted}
+use Rattle.opt_files.specs.Drafts.{DraftState, ChangesSome, change_of, drafted}
 use Rattle.opt_files.specs.Nodes.{node_block}
+
+-- what is looked up of a file: all but its bytes
+abbrev pub facts_of : FileNode → FileFacts
+facts_of x = record { kind = x.kind; links = x.links; size = length x.bytes }
 
 -- the files as a draft has them
 abbrev pub files_in : State → DraftState → Files
@@ -56,7 +61,7 @@ ChangesAmong bs d e = (b : ℕ) → is_some (change_of e.changed b) ≡ true →
 abbrev pub growth : ℕ → ℕ → ℕ
 growth old new = blocks_for new - blocks_for old
 
--- The node got bytes up to `size`: it takes the least blocks that may be taken, and they come behind its own.
+-- The node got bytes up to `size`: it takes the least blocks that may be taken, they come behind its own, and some block changes.
 pub record Grows (k : Bookkeeping) (x : FileNode) (places new_places : List ℕ) (size : ℕ) (d e : DraftState) : Type 0 where
   pub enough : growth (length x.bytes) size ≤ length (reusable_blocks k)
   pub taken : e.taken ≡ d.taken ++ take (growth (length x.bytes) size) (reusable_blocks k)
@@ -64,6 +69,7 @@ pub record Grows (k : Bookkeeping) (x : FileNode) (places new_places : List ℕ)
   pub runs : stretches new_places ≤ 28
   pub freed : e.freed ≡ d.freed
   pub fresh : length e.fresh ≤ length d.fresh + (if is_dir x.kind then 0 else growth (length x.bytes) size)
+  pub changes : ChangesSome e
 
 -- the blocks that a write of bytes `lo` to `hi` changes, new content aside: those that it meets, a directory's new ones, and the node's where it grows
 abbrev pub written_blocks : Geometry → ℕ → FileNode → List ℕ → List ℕ → ℕ → ℕ → List ℕ
@@ -76,12 +82,13 @@ pub record SetsNode (g : Geometry) (number : ℕ) (gone : List ℕ) (d e : Draft
   pub freed : e.freed ≡ d.freed ++ gone
   pub fresh : length e.fresh ≤ length d.fresh
 
--- The node kept its first bytes: its blocks past them are to be freed. The last block that it keeps changes where it is a directory.
+-- The node kept its first bytes: its blocks past them are to be freed, and some block changes.
 pub record Shrinks (x : FileNode) (places new_places : List ℕ) (size : ℕ) (d e : DraftState) : Type 0 where
   pub kept : new_places ≡ take (blocks_for size) places
   pub taken : e.taken ≡ d.taken
   pub freed : e.freed ≡ d.freed ++ drop (blocks_for size) places
   pub fresh : length e.fresh ≤ length d.fresh
+  pub changes : ChangesSome e
 
 -- the blocks that a cut to `size` bytes changes: the node's, and a directory's last one where bytes of it are cut off
 abbrev pub cut_blocks : Geometry → ℕ → FileNode → List ℕ → ℕ → List ℕ
@@ -90,6 +97,7 @@ cut_blocks g number x places size = (if is_dir x.kind then drop (size / 1024) (t
 -- The node has another size: it grew, shrank, or has the one that it had.
 pub record Resizes (k : Bookkeeping) (number : ℕ) (x : FileNode) (places new_places : List ℕ) (size : ℕ) (d e : DraftState) : Type 0 where
   pub same : size ≡ length x.bytes → e ≡ d
+  pub changes : size ≢ length x.bytes → ChangesSome e
   pub grows : length x.bytes < size → Grows k x places new_places size d e
   pub grows_among : length x.bytes < size → ChangesAmong (written_blocks k.geom number x places (drop (length places) new_places) (length x.bytes) size) d e
   pub shrinks : size < length x.bytes → Shrinks x places new_places size d e

@@ -33,6 +33,10 @@ pub record HasContent (m : Blocks) (d : DraftState) (places : List ℕ) : Type 0
   pub once : AllPairs (λ a b. a ≢ b) places
   pub apart : All (λ b. is_some (change_of d.fresh b) ≡ true → change_of d.changed b ≡ None) places
 
+-- some block has new bytes, be they new content or not
+abbrev pub HasNewBytes : DraftState → Type 0
+HasNewBytes d = (b : ℕ) × ((is_some (change_of d.changed b) || is_some (change_of d.fresh b)) ≡ true)
+
 -- These blocks got new bytes of this class, and nothing else of the draft changed.
 pub record WritesContent (class : Class) (bs : List ℕ) (d e : DraftState) : Type 0 where
   pub others : (b : ℕ) → has bs b ≡ false → change_of e.changed b ≡ change_of d.changed b

@@ -24,6 +24,10 @@ pub record DraftState : Type 0 where
 abbrev pub nothing_drafted : DraftState
 nothing_drafted = record { changed = []; fresh = []; taken = []; freed = [] }
 
+-- some block has new bytes that aren't new content
+abbrev pub ChangesSome : DraftState → Type 0
+ChangesSome d = (b : ℕ) × (is_some (change_of d.changed b) ≡ true)
+
 -- these bytes, where nothing else is there
 abbrev pub bytes_or : List ℕ → Option Changed → List ℕ
 bytes_or bytes None = bytes

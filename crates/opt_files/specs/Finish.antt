@@ -7,7 +7,7 @@ use Rattle.opt_blocks.specs.declared.role.Role.TheVariants.{Changed}
 use Rattle.opt_blocks.specs.Running.{has, HasNoBare}
 use Rattle.opt_blocks.specs.State.{Bookkeeping, State, live_blocks, after_weigh}
 use Rattle.opt_blocks.specs.Calls.{MaySync}
-use Rattle.opt_files.specs.Drafts.{DraftState, change_of, drafted, marks_of}
+use Rattle.opt_files.specs.Drafts.{DraftState, ChangesSome, change_of, drafted, marks_of}
 
 -- each block that has new bytes, those of new content aside, is one of these
 abbrev pub ChangesOnly : List ℕ → DraftState → Type 0
@@ -32,7 +32,7 @@ pub record BooksFinished (d : DraftState) (old new : Bookkeeping) : Type 0 where
   pub reusable : (b : ℕ) → new.reusable b ≡ (not (has d.taken b) && old.reusable b)
   -- a sync may follow once the cost is weighed, if the draft's price is within it, and the draft changed something where there is a cost
   pub sync : MayGoOn old → (bs : List ℕ) (cost : ℕ) → ChangesOnly bs d → price old.geom bs d ≤ cost
-      → (0 < cost → (b : ℕ) × (is_some (change_of d.changed b) ≡ true)) → MayGoOn (after_weigh new cost)
+      → (0 < cost → ChangesSome d) → MayGoOn (after_weigh new cost)
 
 -- The same of the blocks, where they are known: they are those of the draft, and sound if they were.
 pub record MapFinished (d : DraftState) (old new : State) : Type 0 where

@@ -13,7 +13,7 @@ use Rattle.opt_blocks.specs.Puts.{IsData}
 use Rattle.opt_stands.specs.Files.{used_node, past_content}
 use Rattle.opt_stands.specs.Stands.{HasBlock}
 use Rattle.opt_files.specs.declared.changes.Changed.{Changed}
-use Rattle.opt_files.specs.Drafts.{DraftState, change_of, drafted, marks_of}
+use Rattle.opt_files.specs.Drafts.{DraftState, ChangesSome, change_of, drafted, marks_of}
 
 -- Blocks with these marks are sound: each node has its blocks to itself, of the data just these are marked, and what carries nothing is zeros.
 pub record AreSoundBy (g : Geometry) (marks : ℕ → Bool) (m : Blocks) : Type 0 where
@@ -46,7 +46,8 @@ pub record IsSoundDraft (k : Bookkeeping) (m : Blocks) (d : DraftState) : Type 0
   pub freed : All (λ b. (has d.taken b || k.marked b) ≡ true) d.freed
   pub once : AllPairs (λ a b. a ≢ b) d.freed
 
--- The draft is one of these blocks: it fits their bookkeeping, and where they are known they are sound with it.
+-- The draft is one of these blocks: it fits their bookkeeping, where they are known they are sound with it, and where it has new content it changes a block too.
 pub record IsDraftOf (tells : Bool) (s : State) (d : DraftState) : Type 0 where
   pub fits : FitsBooks s.books d
   pub sound : IsTrue tells → IsSoundDraft s.books s.map d
+  pub content : (b : ℕ) → is_some (change_of d.fresh b) ≡ true → ChangesSome d

@@ -5,7 +5,7 @@ use Rattle.opt_stands.specs.Files.{FileNode, joined, used_node, files_of}
 use Rattle.opt_blocks.specs.State.{Bookkeeping}
 use Rattle.opt_files.specs.declared.nodes.OpenNode.{OpenNode}
 use Rattle.opt_files.specs.Bytes.{blocks_for, met, overwrite, overwritten}
-use Rattle.opt_files.specs.Content.{HasContent, WritesContent}
+use Rattle.opt_files.specs.Content.{HasContent, HasNewBytes, WritesContent}
 use Rattle.opt_files.specs.Drafts.{DraftState, drafted, PutsBlock}
 use Rattle.opt_files.specs.Growing.{more_blocks, GrowsPlaces}
 use Rattle.opt_files.specs.Nodes.{class_of, node_of_open, node_block, node_byte}
@@ -41,6 +41,7 @@ pub record WritesOpen (tells : Bool) (k : Bookkeeping) (m : Blocks) (off : ℕ) 
   pub gap : FillsGap tells m off old d filled
   pub room : HasRoom k (max old.size (off + length ys)) old new filled grown
   pub writes : WritesContent (class_of old.kind) (met off (off + length ys) new.places) grown f
+  pub some : 0 < length ys → HasNewBytes f
   pub content : IsTrue tells → HasContent m grown new.places → HasContent m f new.places
   pub bytes : IsTrue tells → HasContent m grown new.places → joined (drafted f m) new.places ≡ overwrite off ys (joined (drafted grown m) new.places)
 

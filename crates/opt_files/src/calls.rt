@@ -6,7 +6,7 @@ ghost use Rattle.opt_layout.specs.declared.node.NodeKind.TheVariants.{Free, Dir}
 ghost use Rattle.opt_stands.specs.Files.{FileNode, joined};
 ghost use Rattle.opt_layout.specs.Node.{free_node};
 ghost use Rattle.opt_files.specs.Bytes.{met, overwrite};
-ghost use Rattle.opt_files.specs.Drafts.{drafted};
+ghost use Rattle.opt_files.specs.Drafts.{drafted, ChangesSome};
 ghost use Rattle.opt_files.specs.Nodes.{class_of, node_block, HasTable, IsOpen};
 ghost use Rattle.opt_files.specs.Sound.{IsDraftOf};
 ghost use Rattle.opt_files.specs.Content.{HasContent, WritesContent, fails_reading};
@@ -17,7 +17,6 @@ use crate::FileRefusal;
 use crate::content::{read_content, write_content};
 use crate::draft::{Draft, ZEROS};
 use crate::grow::{class_of, shrink};
-use crate::laws::a_node_reads_back;
 use crate::nodes::{OpenNode, load, store};
 use opt_base::limits::BLOCK_LENGTH;
 use opt_base::{Block, Bytes, RunList};
@@ -86,12 +85,12 @@ impl Draft {
         ensures number { IfOk result (λ found. IfSome found (λ number. (1 ≤ number) × (number ≤ (S.state blocks.old).books.geom.i))) }
         ensures draft { OnOk result (IsDraftOf S.tells (S.state blocks.new) self.new) }
         ensures among { IfOk result (λ found. IfSome found (λ number. SetsNode (S.state blocks.old).books.geom number [] self.old self.new)) }
+        ensures changes { IfOk result (λ found. IfSome found (λ number. ChangesSome self.new)) }
         ensures refused { IfErr result LookRefused }
         ensures looks { LooksOnly S.tells (fails_reading result) (S.state blocks.old) (S.state blocks.new) }
     {
         let geom = blocks.geom();
         geom.lawful();
-        a_node_reads_back(&geom);
         let mut table = ZEROS;
         let Some(number) = least_unused(self, blocks, from, &mut table)? else {
             return Ok(None);
@@ -125,12 +124,12 @@ impl Draft {
         ensures file { IsTrue S.tells → OnOk result (IsWithFile (files_in (S.state blocks.old) self.old) (files_in (S.state blocks.new) self.new) number None) }
         ensures draft { OnOk result (IsDraftOf S.tells (S.state blocks.new) self.new) }
         ensures among { IsTrue S.tells → OnOk result (SetsNode (S.state blocks.old).books.geom number (places_in (S.state blocks.old) self.old number) self.old self.new) }
+        ensures changes { IsTrue S.tells → OnOk result (ChangesSome self.new) }
         ensures refused { IfErr result LookRefused }
         ensures looks { LooksOnly S.tells (fails_reading result) (S.state blocks.old) (S.state blocks.new) }
     {
         let geom = blocks.geom();
         geom.lawful();
-        a_node_reads_back(&geom);
         a_list_has_its_runs();
         let mut table = ZEROS;
         let Some(mut node) = load(self, blocks, number, &mut table)? else {
@@ -164,12 +163,12 @@ impl Draft {
             → IsWithFile (files_in (S.state blocks.old) self.old) (files_in (S.state blocks.new) self.new) number (Some (with_links x links))) }
         ensures draft { OnOk result (IsDraftOf S.tells (S.state blocks.new) self.new) }
         ensures among { IsTrue S.tells → OnOk result (SetsNode (S.state blocks.old).books.geom number [] self.old self.new) }
+        ensures changes { IsTrue S.tells → OnOk result (ChangesSome self.new) }
         ensures refused { IfErr result LookRefused }
         ensures looks { LooksOnly S.tells (fails_reading result) (S.state blocks.old) (S.state blocks.new) }
     {
         let geom = blocks.geom();
         geom.lawful();
-        a_node_reads_back(&geom);
         let mut table = ZEROS;
         let Some(mut node) = load(self, blocks, number, &mut table)? else {
             return Ok(());

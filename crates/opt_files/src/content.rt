@@ -7,7 +7,7 @@ ghost use Rattle.opt_blocks.specs.Puts.{IsData};
 ghost use Rattle.opt_stands.specs.Files.{joined};
 ghost use Rattle.opt_files.specs.Bytes.{met, overwrite};
 ghost use Rattle.opt_files.specs.Calls.{LookRefused};
-ghost use Rattle.opt_files.specs.Content.{HasContent, WritesContent, fails_reading};
+ghost use Rattle.opt_files.specs.Content.{HasContent, HasNewBytes, WritesContent, fails_reading};
 ghost use Rattle.opt_files.specs.Drafts.{drafted};
 ghost use Rattle.opt_files.specs.Effects.{LooksOnly};
 
@@ -106,6 +106,7 @@ pub(crate) fn write_content<S: Blocks>(
     requires data { All (IsData (S.state blocks.old).books.geom) places.now }
     requires within { from + length bytes.now ≤ 1024 * length places.now }
     ensures writes { OnOk result (WritesContent class (met from (from + length bytes.now) places.now) draft.old draft.new) }
+    ensures some { OnOk result (0 < length bytes.now → HasNewBytes draft.new) }
     ensures content { IsTrue S.tells → HasContent (S.state blocks.old).map draft.old places.now → OnOk result (HasContent (S.state blocks.old).map draft.new places.now) }
     ensures bytes { IsTrue S.tells → HasContent (S.state blocks.old).map draft.old places.now → OnOk result (joined (drafted draft.new (S.state blocks.old).map) places.now ≡ overwrite from bytes.now (joined (drafted draft.old (S.state blocks.old).map) places.now)) }
     ensures refused { IfErr result LookRefused }
@@ -147,6 +148,7 @@ fn write_piece<S: Blocks>(
     requires place { IsData (S.state blocks.old).books.geom b }
     requires within { start + length piece.now ≤ 1024 }
     ensures writes { OnOk result (WritesContent class (b ∷ []) draft.old draft.new) }
+    ensures some { OnOk result (HasNewBytes draft.new) }
     ensures bytes { IsTrue S.tells → HasContent (S.state blocks.old).map draft.old (b ∷ []) → OnOk result (drafted draft.new (S.state blocks.old).map b ≡ overwrite start piece.now (drafted draft.old (S.state blocks.old).map b)) }
     ensures refused { IfErr result LookRefused }
     ensures unread { length piece.now ≡ 1024 → fails_reading result ≡ false }

@@ -1,9 +1,9 @@
 //! The draft of a command: which blocks it changes, takes and frees, and reading a block with its
 //! changes. It knows no nodes; and of the map of blocks it only reads.
 
-ghost use Rattle.std.specs.Prelude.{◌≡◌, ◌≤◌, ◌<◌, ◌==◌, ◌∷◌, [], false, IsTrue, length, is_err, OnOk, OnErr};
+ghost use Rattle.std.specs.Prelude.{◌≡◌, ◌↔◌, ◌≤◌, ◌<◌, ◌==◌, ◌∷◌, [], false, IsTrue, length, is_err, OnOk, OnErr};
 ghost use Rattle.opt_geom.specs.Geometry.{table_start};
-ghost use Rattle.opt_files.specs.Drafts.{drafted, nothing_drafted, PutsBlock, TakesBlocks, FreesBlocks};
+ghost use Rattle.opt_files.specs.Drafts.{drafted, nothing_drafted, ChangesSome, PutsBlock, TakesBlocks, FreesBlocks};
 ghost use Rattle.opt_files.specs.Zeros.{HaveZeros};
 ghost use Rattle.opt_files.specs.Effects.{LooksOnly};
 
@@ -126,6 +126,13 @@ impl Draft {
         ensures { result ≡ (length self.now.taken == 0) }
     {
         self.taken.is_empty()
+    }
+
+    /// Whether some block has new bytes that aren't new content.
+    pub fn changes_a_block(&self) -> bool
+        ensures { IsTrue result ↔ ChangesSome self.now }
+    {
+        self.changed.len() != 0
     }
 
     /// How many blocks it changes, how many get new content, and how many it takes and frees.

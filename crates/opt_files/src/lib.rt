@@ -10,6 +10,7 @@ mod draft;
 mod finish;
 mod grow;
 mod laws;
+mod look;
 mod nodes;
 mod price;
 mod refusal;
@@ -19,5 +20,8 @@ mod write;
 pub use changes::Changed;
 pub use draft::Draft;
 pub use finish::a_sync_may_follow;
-pub use laws::{a_draft_begins, a_file_has_its_blocks, bytes_lie_in_blocks};
+pub use laws::{
+    a_directory_has_whole_slots, a_draft_begins, a_file_has_its_blocks, bytes_lie_in_blocks,
+};
+pub use look::FileFacts;
 pub use refusal::FileRefusal;

@@ -9,7 +9,7 @@ ghost use Rattle.opt_files.specs.Bytes.{overwritten};
 ghost use Rattle.opt_files.specs.Calls.{files_in, places_in, IsUsed, IsWithFile, with_bytes, ChangesAmong, Grows, growth, written_blocks, GrowthRefused, LookRefused};
 ghost use Rattle.opt_files.specs.Content.{fails_reading, fails_settling};
 ghost use Rattle.opt_files.specs.Effects.{LooksOnly, LooksAndSettles};
-ghost use Rattle.opt_files.specs.Drafts.{drafted};
+ghost use Rattle.opt_files.specs.Drafts.{drafted, ChangesSome};
 ghost use Rattle.opt_files.specs.Growing.{more_blocks};
 ghost use Rattle.opt_files.specs.Nodes.{largest_node, node_block, node_of_open, IsOpen};
 ghost use Rattle.opt_files.specs.Sound.{IsDraftOf};
@@ -60,6 +60,7 @@ impl Draft {
             → Grows (S.state blocks.new).books x (places_in (S.state blocks.old) self.old number) (places_in (S.state blocks.new) self.new number) (offset + length bytes.now) self.old self.new) }
         ensures among { IsTrue S.tells → OnOk result ((x : FileNode) → files_in (S.state blocks.old) self.old number ≡ Some x
             → ChangesAmong (written_blocks (S.state blocks.old).books.geom number x (places_in (S.state blocks.old) self.old number) (drop (length (places_in (S.state blocks.old) self.old number)) (places_in (S.state blocks.new) self.new number)) (min offset (length x.bytes)) (offset + length bytes.now)) self.old self.new) }
+        ensures changes { IsTrue S.tells → OnOk result (0 < length bytes.now → ChangesSome self.new) }
         ensures refused { IsTrue S.tells → IfErr result (λ why. (x : FileNode) → files_in (S.state blocks.old) self.old number ≡ Some x
             → GrowthRefused (growth (length x.bytes) (offset + length bytes.now)) (places_in (S.state blocks.old) self.old number) (S.state blocks.old).books (S.state blocks.new).books why) }
         ensures settles { LooksAndSettles S.tells (fails_reading result) (fails_settling result) (S.state blocks.old) (S.state blocks.new) }

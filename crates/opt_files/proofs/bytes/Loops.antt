@@ -10,7 +10,7 @@ use Rattle.opt_blocks.specs.Running.{has}
 use Rattle.opt_blocks.specs.State.{State}
 use Rattle.opt_stands.specs.Files.{joined}
 use Rattle.opt_files.specs.Bytes.{overwrite, met, blocks_for}
-use Rattle.opt_files.specs.Content.{HasContent, WritesContent}
+use Rattle.opt_files.specs.Content.{HasContent, HasNewBytes, WritesContent}
 use Rattle.opt_files.specs.Drafts.{DraftState, change_of, drafted}
 use Rattle.opt_files.specs.Effects.{LooksOnly}
 use Rattle.opt_files.proofs.bytes.Overwrites.{overwrite_nothing, overwrite_more, length-overwrite}
@@ -111,6 +111,7 @@ pub record WritesUpTo (tells : Bool) (s t : State) (class : Class) (bs : List �
   pub aligned : from % 1024 ≡ 0 → length ys % 1024 ≡ 0 → done % 1024 ≡ 0
   pub looks : LooksOnly tells false s t
   pub writes : WritesContent class bs d e
+  pub some : 0 < done → HasNewBytes e
   pub content : IsTrue tells → HasContent s.map d ps → HasContent s.map e ps
   pub bytes : IsTrue tells → HasContent s.map d ps → joined (drafted e s.map) ps ≡ overwrite from (take done ys) (joined (drafted d s.map) ps)
 
@@ -120,6 +121,7 @@ writes_begin tells s class bs d ps from bytes = record {
   aligned = λ e f. omega arith;
   looks = looks_none tells s;
   writes = writes_none class bs d;
+  some = λ l. absurd (omega (arith, l));
   content = λ told content. content;
   bytes = λ told content. sym (overwrite_nothing from (joined (drafted d s.map) ps));
 }
@@ -144,14 +146,15 @@ not_has b q differs = by (has (b ∷ []) q) refl
 pub writes_on : (tells : Bool) (s t u : State) (class : Class) (d e f : DraftState) (ps : List ℕ) (from done count b : ℕ) (bytes : List ℕ)
     → WritesUpTo tells s t class (met from (from + length bytes) ps) d e ps from done bytes → done < length bytes → count ≡ min (1024 - (from + done) % 1024) (length bytes - done)
     → from + length bytes ≤ 1024 * length ps → slice_get ps ((from + done) / 1024) ≡ Some b
-    → WritesContent class (b ∷ []) e f
+    → WritesContent class (b ∷ []) e f → HasNewBytes f
     → (IsTrue tells → HasContent t.map e (b ∷ []) → drafted f t.map b ≡ overwrite ((from + done) % 1024) (take count (drop done bytes)) (drafted e t.map b))
     → LooksOnly tells false t u → WritesUpTo tells s u class (met from (from + length bytes) ps) d f ps from (done + count) bytes
-writes_on tells s t u class d e f ps from done count b bytes so_far before size within place writes put looks = record {
+writes_on tells s t u class d e f ps from done count b bytes so_far before size within place writes some put looks = record {
   below = omega (arith, size);
   aligned = λ e g. let whole : done % 1024 ≡ 0 = so_far.aligned e g in omega (arith, size, whole);
   looks = looks_more tells false s t u so_far.looks looks;
   writes = writes_more class (met from (from + length bytes) ps) b d e f so_far.writes writes (met_has from (from + length bytes) (from + done) b ps (omega arith) (omega arith) place);
+  some = λ l. some;
   content = λ told content.
       let now : HasContent s.map e ps = so_far.content told content in
       let big : length (drafted e s.map b) ≡ 1024 = of_place (λ q. length (drafted e s.map q) ≡ 1024) ps ((from + done) / 1024) b now.whole place in

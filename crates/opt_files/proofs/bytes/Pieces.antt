@@ -10,22 +10,11 @@ use Rattle.opt_blocks.specs.State.{Bookkeeping, MayBeTaken}
 use Rattle.opt_blocks.specs.Puts.{IsData}
 use Rattle.opt_files.specs.declared.changes.Changed.{Changed}
 use Rattle.opt_files.specs.Drafts.{DraftState, change_of, drafted, marks_of, bytes_or, PutsBlock}
-use Rattle.opt_files.specs.Content.{HasContent, WritesContent}
+use Rattle.opt_files.specs.Content.{HasContent, HasNewBytes, WritesContent}
 use Rattle.opt_files.specs.Sound.{FitsBooks}
+use Rattle.std.proofs.lemmas.Bool.{or_left, or_right, or_cases}
 
 -- Tests.
-
-or_left : (a b : Bool) → a ≡ true → (a || b) ≡ true
-or_left true b e = refl
-or_left false b e = absurd cc
-
-or_right : (a b : Bool) → b ≡ true → (a || b) ≡ true
-or_right true b e = refl
-or_right false b e = e
-
-or_cases : (a b : Bool) → (a || b) ≡ true → (a ≡ true) ⊎ (b ≡ true)
-or_cases true b e = inl refl
-or_cases false b e = inr e
 
 -- a number is one of a list of one number only where it is that
 pub has_one : (b q : ℕ) → has (b ∷ []) q ≡ true → q ≡ b
@@ -114,6 +103,14 @@ one_put class b c d e puts is = record {
     apart_at : (q : ℕ) → is_some (change_of d.fresh q) ≡ true → (t : Bool) → (b == q) ≡ t → change_of e.changed q ≡ change_of d.changed q
     apart_at q some true same = puts.changed q ∙ put_apart (is_some (change_of d.fresh b)) (b == q) (change_of d.changed q) c (ap (λ x. is_some (change_of d.fresh x)) (sym (flipped b q same)) ∙ some)
     apart_at q some false other = puts.changed q ∙ other_put (is_some (change_of d.fresh b)) (b == q) (change_of d.changed q) c other
+
+-- it has new bytes then
+pub put_new : (b : ℕ) (c : Changed) (d e : DraftState) → PutsBlock b c d e → HasNewBytes e
+put_new b c d e puts = (b, by (is_some (change_of d.fresh b)) refl)
+  where
+    by : (f : Bool) → is_some (change_of d.fresh b) ≡ f → (is_some (change_of e.changed b) || is_some (change_of e.fresh b)) ≡ true
+    by true some = or_right (is_some (change_of e.changed b)) (is_some (change_of e.fresh b)) (ap is_some (puts.fresh b ∙ ap₂ (λ s t. if s && t then Some c else change_of d.fresh b) some (has_same b)))
+    by false none = or_left (is_some (change_of e.changed b)) (is_some (change_of e.fresh b)) (ap is_some (puts.changed b ∙ ap₂ (λ s t. if s then change_of d.changed b else if t then Some c else change_of d.changed b) none (has_same b)))
 
 -- Several.
 

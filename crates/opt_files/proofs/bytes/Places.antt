@@ -12,36 +12,19 @@ use Rattle.opt_files.specs.declared.changes.Changed.{Changed}
 use Rattle.opt_files.specs.Bytes.{met, blocks_for}
 use Rattle.opt_files.specs.Content.{HasContent}
 use Rattle.opt_files.specs.Drafts.{DraftState, change_of, drafted, bytes_or, is_meta, zeros_of, TakesBlocks, FreesBlocks}
-use Rattle.opt_files.proofs.drafts.Lists.{among, has_append}
+use Rattle.opt_files.proofs.drafts.Lists.{has_append, each_of, in_front, in_rest}
 use Rattle.opt_files.proofs.bytes.Joins.{joined_grown, joined_same, joined_take}
 use Rattle.opt_files.proofs.bytes.Loops.{has_at}
+use Rattle.std.proofs.lemmas.Bool.{or_right}
 
 -- Which places bytes meet.
 
 same_number : (a b : ℕ) → (a == b) ≡ true → a ≡ b
 same_number a b e = grind (arith, nat_tests)
 
-or_right : (a b : Bool) → b ≡ true → (a || b) ≡ true
-or_right true b e = refl
-or_right false b e = e
-
-has_in_rest : (n : ℕ) (xs : List ℕ) (q : ℕ) → has (drop n xs) q ≡ true → has xs q ≡ true
-has_in_rest zero xs q e = e
-has_in_rest (suc n) [] q e = e
-has_in_rest (suc n) (x ∷ xs) q e = or_right (q == x) (has xs q) (has_in_rest n xs q e)
-
-has_in_front : (n : ℕ) (xs : List ℕ) (q : ℕ) → has (take n xs) q ≡ true → has xs q ≡ true
-has_in_front zero xs q e = absurd cc
-has_in_front (suc n) [] q e = e
-has_in_front (suc n) (x ∷ xs) q e = by (q == x) (has (take n xs) q) (has xs q) (has_in_front n xs q) e
-  where
-    by : (t h g : Bool) → (h ≡ true → g ≡ true) → (t || h) ≡ true → (t || g) ≡ true
-    by true h g go e = refl
-    by false h g go e = go e
-
 -- they are places
 pub met_in : (lo hi : ℕ) (ps : List ℕ) (q : ℕ) → has (met lo hi ps) q ≡ true → has ps q ≡ true
-met_in lo hi ps q e = has_in_front (blocks_for hi) ps q (has_in_rest (lo / 1024) (take (blocks_for hi) ps) q e)
+met_in lo hi ps q e = in_front (blocks_for hi) ps q (in_rest (lo / 1024) (take (blocks_for hi) ps) q e)
 
 -- what isn't a place isn't met
 pub met_out : (lo hi : ℕ) (ps : List ℕ) (q : ℕ) → has ps q ≡ false → has (met lo hi ps) q ≡ false
@@ -53,7 +36,7 @@ met_out lo hi ps q out = by (has (met lo hi ps) q) refl
 
 -- what holds of each place holds of each that is met
 pub met_all : (P : ℕ → Type 0) (lo hi : ℕ) (ps : List ℕ) → All P ps → (q : ℕ) → has (met lo hi ps) q ≡ true → P q
-met_all P lo hi ps all q e = among P ps all q (met_in lo hi ps q e)
+met_all P lo hi ps all q e = each_of P ps all q (met_in lo hi ps q e)
 
 -- Lists of places.
 
@@ -119,10 +102,10 @@ of_each P ps each = λ k d l. each (get_or ps k d) (subst (λ x. has ps x ≡ tr
 
 pub content_still : (m : Blocks) (ps : List ℕ) (d e : DraftState) → IsSameAt ps d e → HasContent m d ps → HasContent m e ps
 content_still m ps d e same content = record {
-  whole = of_each (λ b. length (drafted e m b) ≡ 1024) ps (λ q in_it. ap length (drafted_same m ps d e q same in_it) ∙ among (λ b. length (drafted d m b) ≡ 1024) ps content.whole q in_it);
+  whole = of_each (λ b. length (drafted e m b) ≡ 1024) ps (λ q in_it. ap length (drafted_same m ps d e q same in_it) ∙ each_of (λ b. length (drafted d m b) ≡ 1024) ps content.whole q in_it);
   once = content.once;
   apart = of_each (λ b. is_some (change_of e.fresh b) ≡ true → change_of e.changed b ≡ None) ps (λ q in_it some.
-      same.changed q in_it ∙ among (λ b. is_some (change_of d.fresh b) ≡ true → change_of d.changed b ≡ None) ps content.apart q in_it (sym (ap is_some (same.fresh q in_it)) ∙ some));
+      same.changed q in_it ∙ each_of (λ b. is_some (change_of d.fresh b) ≡ true → change_of d.changed b ≡ None) ps content.apart q in_it (sym (ap is_some (same.fresh q in_it)) ∙ some));
 }
 
 -- Growth.
@@ -187,7 +170,7 @@ rest_apart (suc n) (x ∷ xs) q once in_it = by (q == x) refl (rest_apart n xs q
   where
     gone : q ≡ x → (t : Bool) → has (drop n xs) q ≡ t → has (drop n xs) q ≡ false
     gone is false e = e
-    gone is true e = absurd (among (λ b. x ≢ b) xs (λ k d l. once zero (suc k) d (omega arith) (omega arith)) q (has_in_rest n xs q e) (sym is))
+    gone is true e = absurd (each_of (λ b. x ≢ b) xs (λ k d l. once zero (suc k) d (omega arith) (omega arith)) q (in_rest n xs q e) (sym is))
 
     by : (t : Bool) → (q == x) ≡ t → (has (take n xs) q ≡ true → has (drop n xs) q ≡ false) → (t || has (take n xs) q) ≡ true → has (drop n xs) q ≡ false
     by true is go e = gone (same_number q x is) (has (drop n xs) q) refl

@@ -16,28 +16,14 @@ use Rattle.opt_files.specs.Calls.{is_dir}
 use Rattle.opt_files.specs.Drafts.{DraftState, change_of, is_meta, zeros_of, TakesBlocks}
 use Rattle.opt_files.specs.Nodes.{class_of, node_block, node_byte}
 use Rattle.opt_files.specs.Writing.{KeepsSize, WritesOpen, with_size}
-use Rattle.opt_files.proofs.frames.Places.{has_append}
+use Rattle.opt_files.proofs.drafts.Lists.{in_front, in_rest, has_append}
 
 -- Blocks that bytes meet.
 
-in_drop : (a : ℕ) (xs : List ℕ) (b : ℕ) → has (drop a xs) b ≡ true → has xs b ≡ true
-in_drop zero xs b e = e
-in_drop (suc a) [] b e = e
-in_drop (suc a) (x ∷ xs) b e = or_right (b == x) (has xs b) (in_drop a xs b e)
-
-in_take : (c : ℕ) (xs : List ℕ) (b : ℕ) → has (take c xs) b ≡ true → has xs b ≡ true
-in_take zero xs b e = absurd (false≢true e)
-in_take (suc c) [] b e = e
-in_take (suc c) (x ∷ xs) b e = by (in_take c xs b) (or_cases (b == x) (has (take c xs) b) e)
-  where
-    by : (has (take c xs) b ≡ true → has xs b ≡ true) → ((b == x) ≡ true) ⊎ (has (take c xs) b ≡ true) → ((b == x) || has xs b) ≡ true
-    by further (inl same) = or_left (b == x) (has xs b) same
-    by further (inr rest) = or_right (b == x) (has xs b) (further rest)
-
 -- of two lists, one behind the other
 part : (a c : ℕ) (xs ys : List ℕ) (b : ℕ) → has (drop a (take c (xs ++ ys))) b ≡ true → (has (drop a (take c xs)) b ≡ true) ⊎ (has ys b ≡ true)
-part a c [] ys b e = inr (in_take c ys b (in_drop a (take c ys) b e))
-part a zero (x ∷ xs) ys b e = absurd (false≢true (in_drop a [] b e))
+part a c [] ys b e = inr (in_front c ys b (in_rest a (take c ys) b e))
+part a zero (x ∷ xs) ys b e = absurd (false≢true (in_rest a [] b e))
 part zero (suc c) (x ∷ xs) ys b e = by (part zero c xs ys b) (or_cases (b == x) (has (take c (xs ++ ys)) b) e)
   where
     by : (has (take c (xs ++ ys)) b ≡ true → (has (take c xs) b ≡ true) ⊎ (has ys b ≡ true)) → ((b == x) ≡ true) ⊎ (has (take c (xs ++ ys)) b ≡ true) → (((b == x) || has (take c xs) b) ≡ true) ⊎ (has ys b ≡ true)
@@ -51,8 +37,8 @@ part (suc a) (suc c) (x ∷ xs) ys b e = part a c xs ys b e
 
 -- of more bytes
 wider : (a s c t : ℕ) (xs : List ℕ) (b : ℕ) → s ≤ a → c ≤ t → has (drop a (take c xs)) b ≡ true → has (drop s (take t xs)) b ≡ true
-wider a s zero t xs b low high e = absurd (false≢true (in_drop a [] b e))
-wider a s (suc c) t [] b low high e = absurd (false≢true (in_drop a [] b e))
+wider a s zero t xs b low high e = absurd (false≢true (in_rest a [] b e))
+wider a s (suc c) t [] b low high e = absurd (false≢true (in_rest a [] b e))
 wider a s (suc c) zero (x ∷ xs) b low high e = absurd (omega (arith, high))
 wider zero s (suc c) (suc t) (x ∷ xs) b low high e =
     subst (λ n. has (drop n (x ∷ take t xs)) b ≡ true) {x = 0} {y = s} (omega (arith, low)) (by (wider zero zero c t xs b (omega arith) (omega (arith, high))) (or_cases (b == x) (has (take c xs) b) e))

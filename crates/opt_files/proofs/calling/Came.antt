@@ -18,9 +18,9 @@ use Rattle.opt_files.specs.Nodes.{class_of}
 use Rattle.opt_files.specs.Sound.{FitsBooks}
 use Rattle.opt_files.specs.Writing.{HasRoom}
 use Rattle.opt_files.proofs.bytes.Places.{AreNew}
-use Rattle.opt_files.proofs.frames.Places.{each_of}
 use Rattle.opt_files.proofs.frames.Steps.{all_of}
 use Rattle.opt_files.proofs.frames.Rules.{HasRules, no_fresh, none_of, takes_others, takes_fits, takes_unmarked, takes_marks, takes_rules, taken_not_freed}
+use Rattle.opt_files.proofs.drafts.Lists.{each_of}
 
 -- the blocks that come
 abbrev pub news : Bookkeeping → ℕ → OpenNode → List ℕ

@@ -24,7 +24,7 @@ use Rattle.opt_files.specs.declared.nodes.OpenNode.{OpenNode}
 use Rattle.opt_files.specs.Bytes.{overwrite, blocks_for}
 use Rattle.opt_files.specs.Calls.{IsWithFile, Shrinks, ChangesAmong, files_in, places_in, places_or_none, with_bytes, is_dir, cut_blocks}
 use Rattle.opt_files.specs.Content.{HasContent}
-use Rattle.opt_files.specs.Drafts.{DraftState, change_of, drafted, marks_of, PutsBlock, FreesBlocks}
+use Rattle.opt_files.specs.Drafts.{DraftState, ChangesSome, change_of, drafted, marks_of, PutsBlock, FreesBlocks}
 use Rattle.opt_files.specs.Effects.{LooksOnly}
 use Rattle.opt_files.specs.Growing.{ShrinksPlaces}
 use Rattle.opt_files.specs.Frames.{used_of, ReadsBack}
@@ -35,14 +35,14 @@ use Rattle.opt_files.proofs.bytes.Calls.{cut_bytes, cut_filled}
 use Rattle.opt_files.proofs.bytes.Places.{content_cut, rest_apart}
 use Rattle.opt_files.proofs.bytes.Sizes.{blocks_hold, blocks_rise}
 use Rattle.opt_files.proofs.calling.Nodes.{its_file}
-use Rattle.opt_files.proofs.calling.Resizes.{in_rest, in_front, in_cleared, pairs_drop, none_of_table}
-use Rattle.opt_files.proofs.drafts.Lists.{turned}
+use Rattle.opt_files.proofs.calling.Resizes.{in_cleared, pairs_drop}
+use Rattle.opt_files.proofs.drafts.Lists.{turned, in_rest, in_front, none_of_table, has_append, each_of}
 use Rattle.opt_files.proofs.frames.After.{IsStored, stored_after, stored_content, stored_cut}
 use Rattle.opt_files.proofs.frames.Carry.{draft_looks, files_look}
 use Rattle.opt_files.proofs.frames.Cells.{block_from, block_below}
 use Rattle.opt_files.proofs.frames.Fits.{fits_with}
-use Rattle.opt_files.proofs.frames.Places.{has_append, each_of, used_marked, used_whole}
-use Rattle.opt_files.proofs.frames.Puts.{put_fits, put_changed}
+use Rattle.opt_files.proofs.frames.Places.{used_marked, used_whole}
+use Rattle.opt_files.proofs.frames.Puts.{put_fits, put_changed, put_changes}
 use Rattle.opt_files.proofs.frames.Rules.{HasRules, rules_of, frees_others, frees_marks, frees_fits, frees_rules, writes_others, writes_marks, writes_fits, writes_rules}
 use Rattle.opt_files.proofs.frames.Spelled.{used_some, fits_as}
 use Rattle.opt_files.proofs.frames.Steps.{all_of, used_once}
@@ -145,6 +145,10 @@ module _ (tells : Bool) (s : State) (number size : ℕ) (o : OpenNode) (node : N
 
   pub cut_fits : FitsBooks k e
   cut_fits = put_fits k g e (node_block k.geom number) c is.geom low high g_fits is.puts
+
+  -- the node's block changed
+  pub cut_some : ChangesSome e
+  cut_some = put_changes k k.geom number c g e refl is.geom is.loaded.from is.loaded.upto cut_fits is.puts
 
   -- what changed
   pub cut_among : ChangesAmong (rest ++ node_block k.geom number ∷ []) d e
@@ -309,6 +313,7 @@ module _ (tells : Bool) (s : State) (number size : ℕ) (o : OpenNode) (node : N
         taken = cut_taken;
         freed = cut_freed ∙ ap (λ xs. d.freed ++ drop (blocks_for size) xs) (sym places_d);
         fresh = cut_fresh;
+        changes = cut_some;
       }
 
     pub cut_changes : (x : FileNode) → files_of k.geom (drafted d m) number ≡ Some x → ChangesAmong (cut_blocks k.geom number x (places_in s d number) size) d e
@@ -358,4 +363,5 @@ pub cut_draft : (tells : Bool) (s t : State) (number size : ℕ) (o : OpenNode) 
 cut_draft tells s t number size o node table d f g e is looks = draft_looks tells false s t e looks (record {
   fits = cut_fits tells s number size o node table d f g e is;
   sound = λ known. cut_sound tells s number size o node table d f g e is known;
+  content = λ b some. cut_some tells s number size o node table d f g e is;
 })

@@ -65,7 +65,7 @@ pub drops : (k : Bookkeeping) (m : Blocks) (g : Geometry) (number : ℕ) (o : Op
     → option_map node_of_open (Some o) ≡ used_node k.geom (drafted d m) number → table ≡ drafted d m (node_block k.geom number)
     → FreesBlocks o.places d f → n ≡ free_node
     → PutsBlock (node_block g number) (record { class = Meta; bytes = overwrite (node_byte number) (node_spelling n) table }) f e
-    → ((x : Node) → FitsAs g x x.kind → x.links < 256 ^ 4 → ReadsBack g x)
+    → (FitsAs g n n.kind → ReadsBack g n)
     → IsSoundDraft k m e × IsWithFile (files_of k.geom (drafted d m)) (files_of k.geom (drafted e m)) number None × SetsNode k.geom number (places_or_none (used_node k.geom (drafted d m) number)) d e
 drops k m g number o n table d f e same geom from upto fits sound inside runs used bytes frees is puts back =
     let right : IsGeometry k.geom = subst IsGeometry same geom in
@@ -75,7 +75,7 @@ drops k m g number o n table d f e same geom from upto fits sound inside runs us
     let text : c.bytes ≡ overwrite (node_byte number) (node_spelling free_node) (drafted d m (node_block k.geom number)) =
     ap (λ x. overwrite (node_byte number) (node_spelling x) table) is ∙ ap (overwrite (node_byte number) (node_spelling free_node)) bytes in
     let put : PutsBlock (node_block k.geom number) c f e = subst (λ h. PutsBlock (node_block h number) c f e) same puts in
-    let reads : ReadsBack k.geom free_node = subst (λ h. ReadsBack h free_node) same (back free_node refl (omega arith)) in (
+    let reads : ReadsBack k.geom free_node = subst (λ h. ReadsBack h free_node) same (subst (λ x. FitsAs g x x.kind → ReadsBack g x) is back refl) in (
       dropped_sound k m number old c d f e right fits sound (sym used) all_freed text put reads,
       dropped_file k m number old c d f e right fits sound (sym used) all_freed text put reads,
       subst (λ ps. SetsNode k.geom number ps d e) (sym runs ∙ ap places_or_none used) (drop_sets k number o.places c d f e right from upto (frees_fits k o.places d f frees inside fits) frees put),

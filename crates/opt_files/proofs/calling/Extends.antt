@@ -24,7 +24,7 @@ use Rattle.opt_files.specs.declared.nodes.OpenNode.{OpenNode}
 use Rattle.opt_files.specs.Bytes.{overwrite, blocks_for, met}
 use Rattle.opt_files.specs.Calls.{IsWithFile, Grows, ChangesAmong, files_in, places_in, places_or_none, with_bytes, is_dir, growth, written_blocks}
 use Rattle.opt_files.specs.Content.{HasContent, WritesContent}
-use Rattle.opt_files.specs.Drafts.{DraftState, change_of, drafted, marks_of, is_meta, zeros_of, PutsBlock}
+use Rattle.opt_files.specs.Drafts.{DraftState, ChangesSome, change_of, drafted, marks_of, is_meta, zeros_of, PutsBlock}
 use Rattle.opt_files.specs.Effects.{LooksAndSettles}
 use Rattle.opt_files.specs.Frames.{used_of, ReadsBack}
 use Rattle.opt_files.specs.Growing.{more_blocks}
@@ -36,33 +36,18 @@ use Rattle.opt_files.proofs.bytes.Sizes.{blocks_rise}
 use Rattle.opt_files.proofs.calling.Came.{Came, news}
 use Rattle.opt_files.proofs.calling.Cuts.{sized_kind, links_some, kind_of}
 use Rattle.opt_files.proofs.calling.Nodes.{its_file}
-use Rattle.opt_files.proofs.calling.Resizes.{none_of_table}
 use Rattle.opt_files.proofs.calling.Writes.{its, all_inside, wrote_fits, wrote_rules, wrote_marks, came_unmarked, wrote_others, content_after, bytes_written, tail_written}
-use Rattle.opt_files.proofs.drafts.Lists.{turned}
+use Rattle.opt_files.proofs.drafts.Lists.{turned, none_of_table, has_append}
 use Rattle.opt_files.proofs.frames.After.{IsStored, stored_after, stored_content, stored_grown}
 use Rattle.opt_files.proofs.frames.Carry.{draft_settles, files_settle}
 use Rattle.opt_files.proofs.frames.Cells.{block_from, block_below}
 use Rattle.opt_files.proofs.frames.Fits.{fits_with}
-use Rattle.opt_files.proofs.frames.Places.{has_append, used_length}
-use Rattle.opt_files.proofs.frames.Puts.{put_fits, put_changed}
+use Rattle.opt_files.proofs.frames.Places.{used_length}
+use Rattle.opt_files.proofs.frames.Puts.{put_fits, put_changed, put_changes}
 use Rattle.opt_files.proofs.frames.Spelled.{used_some, fits_as}
+use Rattle.opt_files.proofs.bytes.Pieces.{writes_none}
 
 -- no bytes are written
-
-same_written : (class : Class) (bs : List ℕ) (d : DraftState) → WritesContent class bs d d
-same_written class bs d = record {
-  others = λ b out. refl;
-  other_fresh = λ b out. refl;
-  keys = λ b some. or_right (has bs b) (is_some (change_of d.changed b)) some;
-  stays = λ b some. some;
-  fresh_keys = λ b. refl;
-  fresh_len = refl;
-  taken = refl;
-  freed = refl;
-  apart = λ b some. refl;
-  class_changed = λ b c is. inr is;
-  class_fresh = λ b c is. inr is;
-}
 
 none_over : (n : ℕ) (xs : List ℕ) → xs ≡ overwrite n [] xs
 none_over n xs = sym (take-append-drop n xs) ∙ ap (λ j. take n xs ++ drop j xs) {x = n} {y = n + 0} (omega arith)
@@ -118,7 +103,8 @@ module _ (tells : Bool) (t : State) (number size : ℕ) (o p : OpenNode) (node :
     grown = g;
     gap = is.gap;
     room = subst (λ n. HasRoom k n o p w g) size_is is.room;
-    writes = same_written (class_of o.kind) (met size (size + 0) p.places) g;
+    writes = writes_none (class_of o.kind) (met size (size + 0) p.places) g;
+    some = λ l. absurd (omega (arith, l));
     content = λ told has. has;
     bytes = λ told has. none_over size (joined (drafted g m) p.places);
   }
@@ -153,6 +139,10 @@ module _ (tells : Bool) (t : State) (number size : ℕ) (o p : OpenNode) (node :
 
   pub extend_fits : FitsBooks k e
   extend_fits = put_fits k g e (node_block k.geom number) c is.geom low high g_fits is.puts
+
+  -- the node's block changed
+  pub extend_some : ChangesSome e
+  extend_some = put_changes k k.geom number c g e refl is.geom is.loaded.from is.loaded.upto extend_fits is.puts
 
   -- what changed
 
@@ -341,6 +331,7 @@ module _ (tells : Bool) (t : State) (number size : ℕ) (o p : OpenNode) (node :
       freed = extend_freed;
       fresh = subst (λ kind. length e.fresh ≤ length d.fresh + (if is_dir kind then 0 else growth (length x.bytes) size)) (x_kind x at)
           (subst (λ n. length e.fresh ≤ length d.fresh + (if is_dir o.kind then 0 else n)) (extra_count ∙ x_growth x at) extend_fresh);
+      changes = extend_some;
     }
 
     -- the new blocks are those behind the ones that it had
@@ -423,6 +414,7 @@ module _ (tells : Bool) (s t : State) (number size : ℕ) (o p : OpenNode) (node
   extended_draft = record {
     fits = extend_fits tells t number size o p node table d w g e is;
     sound = λ known. extend_sound tells t number size o p node table d w g e is known;
+    content = λ b some. extend_some tells t number size o p node table d w g e is;
   }
 
   module _ (settles : LooksAndSettles tells false false s t) (known : IsTrue tells) (x : FileNode) (at : files_in s d number ≡ Some x) where

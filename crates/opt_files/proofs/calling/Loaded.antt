@@ -1,6 +1,6 @@
 -- A write into a node that was loaded, from the state before it to the one after it.
-use Rattle.std.proofs.Common.{◌≡◌, ◌⊎◌, inl, inr, ℕ, ◌+◌, ◌%◌, ◌^◌, ◌<◌, ◌≤◌, if◌then◌else◌, Bool, false, IsTrue, List, [], ◌∷◌, ◌++◌, length, take, drop, max, min, Some, refl, sym, ap, subst, ◌∙◌, arith}
-use Rattle.std.proofs.lemmas.Bool.{cases_lt}
+use Rattle.std.proofs.Common.{◌≡◌, ◌⊎◌, inl, inr, ℕ, ◌+◌, ◌%◌, ◌^◌, ◌<◌, ◌≤◌, ◌||◌, if◌then◌else◌, Bool, true, false, IsTrue, List, [], ◌∷◌, ◌++◌, length, take, drop, max, min, Some, is_some, refl, sym, ap, subst, ◌∙◌, arith}
+use Rattle.std.proofs.lemmas.Bool.{cases_lt, or_cases}
 use Rattle.std.proofs.lemmas.List.{length-take-le}
 use Rattle.opt_base.specs.Seal.{Blocks}
 use Rattle.opt_base.specs.Runs.{run_places}
@@ -12,13 +12,15 @@ use Rattle.opt_stands.specs.Files.{FileNode, files_of, used_node}
 use Rattle.opt_files.specs.declared.nodes.OpenNode.{OpenNode}
 use Rattle.opt_files.specs.Bytes.{blocks_for}
 use Rattle.opt_files.specs.Calls.{places_or_none, is_dir, growth, written_blocks, ChangesAmong, Grows}
-use Rattle.opt_files.specs.Drafts.{DraftState, drafted, TakesBlocks}
+use Rattle.opt_files.specs.Content.{HasNewBytes}
+use Rattle.opt_files.specs.Drafts.{DraftState, ChangesSome, change_of, drafted, TakesBlocks}
 use Rattle.opt_files.specs.Effects.{LooksAndSettles}
 use Rattle.opt_files.specs.Growing.{more_blocks}
 use Rattle.opt_files.specs.Nodes.{class_of, node_block, node_of_open, IsOpen}
 use Rattle.opt_files.specs.Sound.{FitsBooks, IsSoundDraft, IsDraftOf}
 use Rattle.opt_files.specs.Writing.{FillsGap, KeepsSize, WritesFile, WritesOpen}
 use Rattle.opt_files.proofs.frames.Carry.{draft_settles}
+use Rattle.opt_files.proofs.frames.Puts.{put_changes}
 use Rattle.opt_files.proofs.calling.Among.{fresh_of, may_change, kept_known}
 use Rattle.opt_files.proofs.calling.Opens.{gap_taken}
 use Rattle.opt_files.proofs.calling.Stores as stores
@@ -53,7 +55,7 @@ module _ (tells : Bool) (k : Bookkeeping) (m : Blocks) (number off : ℕ) (ys : 
     (from : 1 ≤ number) (upto : number ≤ k.geom.i) (keeps : KeepsSize k.geom number (max o.size (off + length ys)) p table f e)
     (told : IsTrue tells) (sound : IsSoundDraft k m d) (free : (b : ℕ) → IsReusable k.geom k.reusable b → k.marked b ≡ false)
     (used : used_node k.geom (drafted d m) number ≡ Some (node_of_open o)) (back : (xs : List ℕ) → run_places (runs_of xs) ≡ xs) (count : (xs : List ℕ) → length (runs_of xs) ≡ stretches xs) (tidy : (xs : List ℕ) → AreTidy (runs_of xs))
-    (at_table : table ≡ drafted d m (node_block k.geom number)) (few : off + length ys ≤ 2 ^ 30) (some : 0 < length ys) (slots : o.kind ≡ Dir → max o.size (off + length ys) % 64 ≡ 0) where
+    (at_table : table ≡ drafted d m (node_block k.geom number)) (few : off + length ys ≤ 2 ^ 30) (some : 0 < length ys) (slots : o.kind ≡ Dir → max o.size (off + length ys) % 64 ≡ 0) (changes : ChangesSome e) where
   abbrev wide : ℕ
   wide = max o.size (off + length ys)
 
@@ -97,6 +99,7 @@ module _ (tells : Bool) (k : Bookkeeping) (m : Blocks) (number off : ℕ) (ys : 
         runs = subst (λ xs. stretches xs ≤ 28) (sym after_is) (stores.stretched_after tells k m number off ys o p d f e table geom opened fits w from upto keeps told sound free used back count tidy at_table few some slots);
         freed = only.freed ∙ w.writes.freed ∙ takes.freed ∙ gap.0;
         fresh = subst (λ kind. length e.fresh ≤ length d.fresh + (if is_dir kind then 0 else growth (length x.bytes) (off + length ys))) (sym is.1) (subst (λ c. length e.fresh ≤ length d.fresh + (if is_dir o.kind then 0 else c)) long step);
+        changes = changes;
       }
 
   among : (x : FileNode) → files_of k.geom (drafted d m) number ≡ Some x → ChangesAmong (written_blocks k.geom number x before (drop (length before) after) (min off (length x.bytes)) (off + length ys)) d e
@@ -115,6 +118,29 @@ module _ (tells : Bool) (k : Bookkeeping) (m : Blocks) (number off : ℕ) (ys : 
     grows = grew;
     among = among;
   }
+
+-- Some block changed: the node's, where the node grew, else one in which bytes were written; where they are new content some other had changed before.
+module _ (tells : Bool) (k : Bookkeeping) (m : Blocks) (number off : ℕ) (ys : List ℕ) (o p : OpenNode) (d f e : DraftState) (table : List ℕ) (geom : IsGeometry k.geom) (opened : IsOpen k.geom o) (fits : FitsBooks k d) (w : WritesOpen tells k m off ys o p d f)
+    (from : 1 ≤ number) (upto : number ≤ k.geom.i) (keeps : KeepsSize k.geom number (max o.size (off + length ys)) p table f e) (some : 0 < length ys) (was : (b : ℕ) → is_some (change_of d.fresh b) ≡ true → ChangesSome d) where
+  new_changes : w.grown ≡ d → HasNewBytes f → ChangesSome f
+  new_changes same (b, new) = by (or_cases (is_some (change_of f.changed b)) (is_some (change_of f.fresh b)) new)
+    where
+      by : (is_some (change_of f.changed b) ≡ true) ⊎ (is_some (change_of f.fresh b) ≡ true) → ChangesSome f
+      by (inl is) = (b, is)
+      by (inr is) =
+          let old = was b (ap (λ (x : DraftState). is_some (change_of x.fresh b)) (sym same) ∙ sym (w.writes.fresh_keys b) ∙ is) in
+          (old.0, w.writes.stays old.0 (ap (λ (x : DraftState). is_some (change_of x.changed old.0)) same ∙ old.1))
+
+  size_same : p.size ≡ o.size
+  size_same = ap (λ (q : OpenNode). q.size) (writes.its tells k m number off ys o p d f geom opened fits w).node
+
+  pub kept_changes : ChangesSome e
+  kept_changes = by (cases_lt p.size (max o.size (off + length ys)))
+    where
+      by : (p.size < max o.size (off + length ys)) ⊎ (max o.size (off + length ys) ≤ p.size) → ChangesSome e
+      by (inl more) = put_changes k k.geom number _ f e refl geom from upto (stores.kept_fits tells k m number off ys o p d f e table geom opened fits w from upto keeps) (keeps.puts more)
+      by (inr enough) = subst ChangesSome (sym (keeps.same enough))
+          (new_changes (w.room.kept (omega (arith, opened.count, size_same, enough)) ∙ w.gap.none (omega (arith, size_same, enough))) (w.some some))
 
 -- From one state to the next.
 
@@ -150,12 +176,16 @@ module _ (tells : Bool) (s t : State) (g : Geometry) (number off : ℕ) (ys : Li
   table_t : IsTrue tells → table ≡ drafted d s.map (node_block t.books.geom number)
   table_t told = subst (λ (h : Geometry). table ≡ drafted d s.map (node_block h number)) to (at_table told)
 
+  loaded_changes : ChangesSome e
+  loaded_changes = kept_changes tells t.books s.map number off ys o p d f e table geom_t opened_t moved.fits w from upto_t keeps_t some is.content
+
   pub loaded_draft : IsDraftOf tells t e
   loaded_draft = record {
     fits = stores.kept_fits tells t.books s.map number off ys o p d f e table geom_t opened_t moved.fits w from upto_t keeps_t;
     sound = λ told. subst (λ (m : Blocks). IsSoundDraft t.books m e) (sym (settles.map told))
         (stores.kept_sound tells t.books s.map number off ys o p d f e table geom_t opened_t moved.fits w from upto_t keeps_t told (sound_t told) free (used_t told) back count tidy (table_t told) few some (slots told)).0;
+    content = λ b is. loaded_changes;
   }
 
   pub loaded_file : IsTrue tells → WritesFile t.books s.map number off ys d e
-  loaded_file told = file_written tells t.books s.map number off ys o p d f e table geom_t opened_t moved.fits w from upto_t keeps_t told (sound_t told) free (used_t told) back count tidy (table_t told) few some (slots told)
+  loaded_file told = file_written tells t.books s.map number off ys o p d f e table geom_t opened_t moved.fits w from upto_t keeps_t told (sound_t told) free (used_t told) back count tidy (table_t told) few some (slots told) loaded_changes

@@ -43,7 +43,7 @@ pub news : (k : Bookkeeping) (m : Blocks) (g : Geometry) (from number : ℕ) (ki
     → IsFirstUnused k.geom (drafted d m) from number → table ≡ drafted d m (node_block k.geom number)
     → node ≡ record { kind = kind; links = 1; size = 0; runs = [] }
     → PutsBlock (node_block g number) (record { class = Meta; bytes = overwrite (node_byte number) (node_spelling node) table }) d e
-    → ((n : Node) → FitsAs g n n.kind → n.links < 256 ^ 4 → ReadsBack g n)
+    → (FitsAs g node node.kind → ReadsBack g node)
     → IsSoundDraft k m e × IsWithFile (files_of k.geom (drafted d m)) (files_of k.geom (drafted e m)) number (Some (record { kind = kind; links = 1; bytes = [] })) × IsLeastUnused k.geom.i (files_of k.geom (drafted d m)) number
 news k m g from number kind node table d e same geom low high fits sound used below first bytes is puts back =
     let new : Node = record { kind = kind; links = 1; size = 0; runs = [] } in
@@ -56,7 +56,7 @@ news k m g from number kind node table d e same geom low high fits sound used be
       sound = sound;
       bytes = ap (λ n. overwrite (node_byte number) (node_spelling n) table) is ∙ ap (overwrite (node_byte number) (node_spelling new)) bytes;
       puts = subst (λ h. PutsBlock (node_block h number) c d e) same puts;
-      back = subst (λ h. ReadsBack h new) same (back new (fits_as g new used (new_fits g kind)) (omega arith));
+      back = subst (λ h. ReadsBack h new) same (subst (λ n. FitsAs g n n.kind → ReadsBack g n) is back (fits_as g new used (new_fits g kind)));
     } in
     let made = new_stored k m number new c d e put used refl first.unused in
     (made.0, made.1, record { from = low; upto = high; unused = ap (option_map (file_of (drafted d m))) first.unused; below = all_used k.geom (drafted d m) from number below first.below })

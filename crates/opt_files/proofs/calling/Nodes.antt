@@ -67,7 +67,7 @@ pub links_set : (k : Bookkeeping) (m : Blocks) (g : Geometry) (number links : �
     → option_map node_of_open (Some o) ≡ used_node k.geom (drafted d m) number → table ≡ drafted d m (node_block k.geom number)
     → node ≡ record (node_of_open o) { links = links }
     → PutsBlock (node_block g number) (record { class = Meta; bytes = overwrite (node_byte number) (node_spelling node) table }) d e
-    → ((n : Node) → FitsAs g n n.kind → n.links < 256 ^ 4 → ReadsBack g n)
+    → (FitsAs g node node.kind → ReadsBack g node)
     → files_of k.geom (drafted d m) number ≡ Some x
     → IsSoundDraft k m e × IsWithFile (files_of k.geom (drafted d m)) (files_of k.geom (drafted e m)) number (Some (with_links x links))
 links_set k m g number links o node x table d e same geom from upto fits sound opened some few used bytes is puts back at =
@@ -83,7 +83,7 @@ links_set k m g number links o node x table d e same geom from upto fits sound o
       sound = sound;
       bytes = ap (λ n. overwrite (node_byte number) (node_spelling n) table) is ∙ ap (overwrite (node_byte number) (node_spelling new)) bytes;
       puts = subst (λ h. PutsBlock (node_block h number) c d e) same puts;
-      back = subst (λ h. ReadsBack h new) same (back new (subst (λ h. FitsAs h new new.kind) (sym same) (fits_as k.geom new opened.used (links_fit k.geom was links some few opened.fits))) (omega (arith, few)));
+      back = subst (λ h. ReadsBack h new) same (subst (λ n. FitsAs g n n.kind → ReadsBack g n) is back (subst (λ h. FitsAs h new new.kind) (sym same) (fits_as k.geom new opened.used (links_fit k.geom was links some few opened.fits))));
     })
     (sym used) (its_file k.geom (drafted d m) number x was used at)
 

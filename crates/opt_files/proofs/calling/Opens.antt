@@ -9,7 +9,7 @@ use Rattle.opt_blocks.specs.State.{Bookkeeping, reusable_blocks}
 use Rattle.opt_stands.specs.Files.{joined}
 use Rattle.opt_files.specs.declared.nodes.OpenNode.{OpenNode}
 use Rattle.opt_files.specs.Bytes.{blocks_for, met, overwrite}
-use Rattle.opt_files.specs.Content.{HasContent, WritesContent}
+use Rattle.opt_files.specs.Content.{HasContent, HasNewBytes, WritesContent}
 use Rattle.opt_files.specs.Drafts.{DraftState, drafted}
 use Rattle.opt_files.specs.Growing.{more_blocks}
 use Rattle.opt_files.specs.Nodes.{class_of}
@@ -60,16 +60,17 @@ room_kind k size o p d e room = by (cases_lt (length o.places) (blocks_for size)
 -- all three steps; the blocks of later states are those of the first where contents are known, and their bookkeeping is that of the growth
 pub wrote : (tells : Bool) (k l : Bookkeeping) (m n : Blocks) (off : ℕ) (ys : List ℕ) (o p : OpenNode) (d filled grown f : DraftState) → l ≡ k → (IsTrue tells → n ≡ m)
     → FillsGap tells m off o d filled → HasRoom k (max o.size (off + length ys)) o p filled grown
-    → WritesContent (class_of p.kind) (met off (off + length ys) p.places) grown f
+    → WritesContent (class_of p.kind) (met off (off + length ys) p.places) grown f → (0 < length ys → HasNewBytes f)
     → (IsTrue tells → HasContent n grown p.places → HasContent n f p.places)
     → (IsTrue tells → HasContent n grown p.places → joined (drafted f n) p.places ≡ overwrite off ys (joined (drafted grown n) p.places))
     → WritesOpen tells l m off ys o p d f
-wrote tells k l m n off ys o p d filled grown f books map gap room writes content bytes = record {
+wrote tells k l m n off ys o p d filled grown f books map gap room writes some content bytes = record {
   filled = filled;
   grown = grown;
   gap = gap;
   room = subst (λ (x : Bookkeeping). HasRoom x (max o.size (off + length ys)) o p filled grown) (sym books) room;
   writes = subst (λ kind. WritesContent (class_of kind) (met off (off + length ys) p.places) grown f) (room_kind k (max o.size (off + length ys)) o p filled grown room) writes;
+  some = some;
   content = λ told. subst (λ (x : Blocks). HasContent x grown p.places → HasContent x f p.places) (map told) (content told);
   bytes = λ told. subst (λ (x : Blocks). HasContent x grown p.places → joined (drafted f x) p.places ≡ overwrite off ys (joined (drafted grown x) p.places)) (map told) (bytes told);
 }

@@ -67,6 +67,7 @@ module _ (tells : Bool) (s t : State) (number size : ℕ) (o : OpenNode) (x : Fi
   pub same_resizes : (k : Bookkeeping) (new_places : List ℕ) → size ≡ o.size → Resizes k number x (places_in s d number) new_places size d d
   same_resizes k new_places same = record {
     same = λ e. refl;
+    changes = λ other. absurd (other (omega (arith, same, read_size)));
     grows = λ more. absurd (omega (arith, more, same, read_size));
     grows_among = λ more. absurd (omega (arith, more, same, read_size));
     shrinks = λ less. absurd (omega (arith, less, same, read_size));
@@ -78,6 +79,7 @@ module _ (tells : Bool) (s t : State) (number size : ℕ) (o : OpenNode) (x : Fi
       → Resizes k number x (places_in s d number) new_places size d e
   cut_resizes k e new_places books less shrinks among = record {
     same = λ e. absurd (omega (arith, less, e, read_size));
+    changes = λ other. shrinks.changes;
     grows = λ more. absurd (omega (arith, more, less, read_size));
     grows_among = λ more. absurd (omega (arith, more, less, read_size));
     shrinks = λ l. subst (λ ps. Shrinks x ps new_places size d e) places_look shrinks;
@@ -91,6 +93,7 @@ module _ (tells : Bool) (s t : State) (number size : ℕ) (o : OpenNode) (x : Fi
       → Resizes k number x (places_in s d number) new_places size d e
   grown_resizes k e new_places more grows among = record {
     same = λ e. absurd (omega (arith, more, e, read_size));
+    changes = λ other. grows.changes;
     grows = λ m. subst (λ ps. Grows k x ps new_places size d e) places_look grows;
     grows_among = λ m. subst (λ ps. ChangesAmong (written_blocks k.geom number x ps (drop (length ps) new_places) (length x.bytes) size) d e) places_look among;
     shrinks = λ less. absurd (omega (arith, more, less, read_size));
@@ -103,13 +106,3 @@ module _ (tells : Bool) (s t : State) (number size : ℕ) (o : OpenNode) (x : Fi
 
   pub few_read : growth (length x.bytes) size ≤ length (reusable_blocks s.books) → more_blocks size o ≤ length (reusable_blocks t.books)
   few_read few = omega (arith, few, read_growth, ap (λ (b : Bookkeeping). length (reusable_blocks b)) r.looks.books)
-
--- what follows from why a call was refused
-pub err_more : {T E : Type 0} {P Q : E → Type 0} (r : Result T E) → ((why : E) → P why → Q why) → IfErr r P → IfErr r Q
-err_more (Ok x) f h = h
-err_more (Err why) f h = f why h
-
--- one error is the other
-pub same_error : {T E : Type 0} (r : Result T E) (w : E) (P : Result T E → Type 0) → IsErrAnd r (λ y. y ≡ w) → P (Err w) → P r
-same_error (Ok x) w P h p = absurd h
-same_error (Err y) w P h p = subst (λ z. P (Err z)) (sym h) p

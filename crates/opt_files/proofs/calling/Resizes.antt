@@ -16,41 +16,16 @@ use Rattle.opt_files.specs.Calls.{is_dir}
 use Rattle.opt_files.specs.Content.{HasContent, WritesContent}
 use Rattle.opt_files.specs.Drafts.{DraftState, drafted}
 use Rattle.opt_files.specs.Resizing.{ClearsRest, IsCleared}
-use Rattle.opt_files.proofs.frames.Places.{has_append, each_of}
-
--- what follows from a call that answered follows where it did
-pub on_more : {T E A B : Type 0} (r : Result T E) → (A → B) → OnOk r A → OnOk r B
-on_more (Ok x) f a = f a
-on_more (Err e) f a = a
-
-pub on_both : {T E A B C : Type 0} (r : Result T E) → (A → B → C) → OnOk r A → OnOk r B → OnOk r C
-on_both (Ok x) f a b = f a b
-on_both (Err e) f a b = a
+use Rattle.opt_files.proofs.drafts.Lists.{in_rest, has_append, each_of}
+use Rattle.opt_files.proofs.bytes.Pieces.{writes_none}
 
 -- a part of a block of zeros
 pub zero_part : (n k : ℕ) → n ≤ 1024 → n ≡ k → take n (replicate {A = ℕ} 1024 0) ≡ replicate k 0
 zero_part n k fits is = take-replicate n 1024 0 fits ∙ ap (λ j. replicate j 0) is
 
--- nothing is written
-
-writes_nothing : (d : DraftState) → WritesContent Meta [] d d
-writes_nothing d = record {
-  others = λ b out. refl;
-  other_fresh = λ b out. refl;
-  keys = λ b some. some;
-  stays = λ b some. some;
-  fresh_keys = λ b. refl;
-  fresh_len = refl;
-  taken = refl;
-  freed = refl;
-  apart = λ b some. refl;
-  class_changed = λ b c is. inr is;
-  class_fresh = λ b c is. inr is;
-}
-
 pub clears_none : (kind : NodeKind) (size : ℕ) (places : List ℕ) (d : DraftState) → is_dir kind ≡ false → ClearsRest kind size places d d
 clears_none kind size places d not_dir = record {
-  writes = subst (λ t. WritesContent Meta (if t then drop (size / 1024) places else []) d d) (sym not_dir) (writes_nothing d);
+  writes = subst (λ t. WritesContent Meta (if t then drop (size / 1024) places else []) d d) (sym not_dir) (writes_none Meta [] d);
 }
 
 pub cleared_none : (m : Blocks) (kind : NodeKind) (size : ℕ) (places : List ℕ) (d : DraftState) → is_dir kind ≡ false → HasContent m d places → IsCleared m kind size places d d
@@ -75,12 +50,6 @@ cleared_dir m kind size places d e dir content bytes = record {
 
 -- parts of a list
 
-pub in_rest : (n : ℕ) (xs : List ℕ) (b : ℕ) → has (drop n xs) b ≡ true → has xs b ≡ true
-in_rest n xs b is = ap (λ ys. has ys b) (sym (take-append-drop n xs)) ∙ has_append (take n xs) (drop n xs) b ∙ or_right (has (take n xs) b) (has (drop n xs) b) is
-
-pub in_front : (n : ℕ) (xs : List ℕ) (b : ℕ) → has (take n xs) b ≡ true → has xs b ≡ true
-in_front n xs b is = ap (λ ys. has ys b) (sym (take-append-drop n xs)) ∙ has_append (take n xs) (drop n xs) b ∙ or_left (has (take n xs) b) (has (drop n xs) b) is
-
 pub in_cleared : (t : Bool) (n : ℕ) (xs : List ℕ) (b : ℕ) → has (if t then drop n xs else []) b ≡ true → has xs b ≡ true
 in_cleared true n xs b is = in_rest n xs b is
 in_cleared false n xs b is = absurd (false≢true is)
@@ -89,11 +58,3 @@ pub pairs_drop : (n : ℕ) (xs : List ℕ) → AllPairs (λ a b. a ≢ b) xs →
 pairs_drop zero xs once = once
 pairs_drop (suc n) [] once = once
 pairs_drop (suc n) (x ∷ xs) once = pairs_drop n xs (λ i j d l h. once (suc i) (suc j) d (omega (arith, l)) (omega (arith, h)))
-
--- a block of the table is no data block
-pub none_of_table : (g : Geometry) (xs : List ℕ) (b : ℕ) → All (IsData g) xs → b < data_start g → has xs b ≡ false
-none_of_table g xs b inside low = by (cases_Bool (has xs b))
-  where
-    by : (has xs b ≡ true) ⊎ (has xs b ≡ false) → has xs b ≡ false
-    by (inl is) = absurd (omega (arith, (each_of (IsData g) xs inside b is).from, low))
-    by (inr isnt) = isnt

@@ -33,13 +33,14 @@ use Rattle.opt_files.proofs.bytes.Places.{met_in}
 use Rattle.opt_files.proofs.frames.After.{IsStored, stored_after, stored_grown, stored_content}
 use Rattle.opt_files.proofs.frames.Cells.{block_from, block_below}
 use Rattle.opt_files.proofs.frames.Fits.{fits_with}
-use Rattle.opt_files.proofs.frames.Places.{each_of, used_length}
+use Rattle.opt_files.proofs.frames.Places.{used_length}
 use Rattle.opt_files.proofs.frames.Puts.{put_fits}
 use Rattle.opt_files.proofs.frames.Spelled.{fits_as, used_some}
 use Rattle.opt_files.proofs.frames.Steps.{file_is, file_bytes, node_kept}
 use Rattle.opt_files.proofs.frames.Written.{written_sound}
 use Rattle.opt_files.proofs.calling.Nodes.{its_file}
 use Rattle.opt_files.proofs.calling.Writes as writes
+use Rattle.opt_files.proofs.drafts.Lists.{each_of}
 
 -- the rules of a kind with another size
 size_kind : (node : Node) (kind : NodeKind) (size : ℕ) → size ≤ 2 ^ 30 ⊎ (kind ≢ File) → (kind ≡ Dir → size % 64 ≡ 0) → kind_fits node kind ≡ true → kind_fits (record node { size = size }) kind ≡ true

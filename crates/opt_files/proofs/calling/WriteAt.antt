@@ -21,16 +21,6 @@ use Rattle.opt_files.specs.Writing.{WritesFile}
 use Rattle.opt_files.proofs.frames.Places.{node_file, used_length}
 use Rattle.opt_files.proofs.calling.Nodes.{its_file}
 
--- what a refusal says, another way
-pub err_maps : {T E : Type 0} {P Q : E → Type 0} (r : Result T E) → ((w : E) → P w → Q w) → IfErr r P → IfErr r Q
-err_maps (Ok x) to h = tt
-err_maps (Err w) to h = to w h
-
--- what an answer says, another way
-pub ok_maps : {T E P Q : Type 0} (r : Result T E) → (P → Q) → OnOk r P → OnOk r Q
-ok_maps (Ok x) to h = to h
-ok_maps (Err w) to h = tt
-
 -- The node that was loaded, in the state after it.
 module _ (tells : Bool) (s t : State) (number : ℕ) (d : DraftState) (o : OpenNode) (looks : LooksOnly tells false s t) (told : IsTrue tells) (sound : IsSoundDraft s.books s.map d) (opened : IsOpen s.books.geom o)
     (used : Some (node_of_open o) ≡ used_node s.books.geom (drafted d s.map) number) where

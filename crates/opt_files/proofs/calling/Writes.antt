@@ -24,11 +24,12 @@ use Rattle.opt_files.specs.Writing.{WritesOpen}
 use Rattle.opt_files.proofs.bytes.Calls.{TakesBehind, within_bytes, within_tail, past_bytes, past_tail}
 use Rattle.opt_files.proofs.bytes.Places.{met_out, content_grown, all_append}
 use Rattle.opt_files.proofs.frames.Met.{met_all}
-use Rattle.opt_files.proofs.frames.Places.{each_of, has_append, used_marked, used_whole}
+use Rattle.opt_files.proofs.frames.Places.{used_marked, used_whole}
 use Rattle.opt_files.proofs.frames.Rules.{HasRules, rules_of, writes_fits, writes_rules, writes_others, writes_marks}
 use Rattle.opt_files.proofs.frames.Steps.{all_of, used_once}
 use Rattle.opt_files.proofs.calling.Came.{Came, CameSound, news, came, came_sound}
 use Rattle.opt_files.proofs.calling.Opens.{room_within}
+use Rattle.opt_files.proofs.drafts.Lists.{each_of, has_append}
 
 module _ (tells : Bool) (k : Bookkeeping) (m : Blocks) (number off : ℕ) (ys : List ℕ) (o p : OpenNode) (d f : DraftState) (geom : IsGeometry k.geom) (opened : IsOpen k.geom o) (fits : FitsBooks k d) (w : WritesOpen tells k m off ys o p d f) where
   -- its size then, and the blocks that come

@@ -1,6 +1,8 @@
 -- Which numbers a list has.
-use Rattle.std.proofs.Common.{◌≡◌, ℕ, suc, ◌==◌, Bool, true, false, cond, ◌||◌, List, [], ◌∷◌, ◌++◌, All, refl, sym, ap, subst, ◌∙◌, arith, ◌⊎◌, inl, inr}
-use Rattle.std.proofs.lemmas.Bool.{cases_Bool, eqb-true, eq-eqb, false≢true}
+use Rattle.std.proofs.Common.{◌≡◌, ℕ, zero, suc, ◌<◌, ◌==◌, Bool, true, false, cond, ◌||◌, List, [], ◌∷◌, ◌++◌, take, drop, All, refl, sym, ap, subst, ◌∙◌, arith, ◌⊎◌, inl, inr}
+use Rattle.std.proofs.lemmas.Bool.{cases_Bool, eqb-true, eq-eqb, false≢true, or_left, or_right, or_cases}
+use Rattle.opt_geom.specs.Geometry.{Geometry, data_start}
+use Rattle.opt_blocks.specs.Puts.{IsData}
 use Rattle.opt_blocks.specs.Running.{has}
 
 or_none : (a : Bool) → (a || false) ≡ a
@@ -32,13 +34,36 @@ turned a b = by (cases_Bool (a == b)) (cases_Bool (b == a))
     by (inr e) (inl f) = absurd (false≢true (sym e ∙ eq-eqb a b (sym (eqb-true b a f))))
 
 -- what holds of all numbers of a list holds of each that it has
-pub among : (P : ℕ → Type 0) (bs : List ℕ) → All P bs → (c : ℕ) → has bs c ≡ true → P c
-among P [] all c is = absurd (false≢true is)
-among P (x ∷ xs) all c is = by (cases_Bool (c == x)) (among P xs (λ i d low. all (suc i) d (omega (arith, low))) c)
+pub each_of : (P : ℕ → Type 0) (bs : List ℕ) → All P bs → (c : ℕ) → has bs c ≡ true → P c
+each_of P [] all c is = absurd (false≢true is)
+each_of P (x ∷ xs) all c is = by (cases_Bool (c == x)) (each_of P xs (λ i d low. all (suc i) d (omega (arith, low))) c)
   where
     by : ((c == x) ≡ true) ⊎ ((c == x) ≡ false) → (has xs c ≡ true → P c) → P c
     by (inl e) rest = subst P (sym (eqb-true c x e)) (all 0 0 (omega arith))
     by (inr f) rest = rest (sym (ap (λ t. t || has xs c) f) ∙ is)
+
+-- what is behind a place of a list, or before it, is of the list
+pub in_rest : (n : ℕ) (xs : List ℕ) (c : ℕ) → has (drop n xs) c ≡ true → has xs c ≡ true
+in_rest zero xs c e = e
+in_rest (suc n) [] c e = e
+in_rest (suc n) (x ∷ xs) c e = or_right (c == x) (has xs c) (in_rest n xs c e)
+
+pub in_front : (n : ℕ) (xs : List ℕ) (c : ℕ) → has (take n xs) c ≡ true → has xs c ≡ true
+in_front zero xs c e = absurd (false≢true e)
+in_front (suc n) [] c e = e
+in_front (suc n) (x ∷ xs) c e = by (in_front n xs c) (or_cases (c == x) (has (take n xs) c) e)
+  where
+    by : (has (take n xs) c ≡ true → has xs c ≡ true) → ((c == x) ≡ true) ⊎ (has (take n xs) c ≡ true) → ((c == x) || has xs c) ≡ true
+    by further (inl same) = or_left (c == x) (has xs c) same
+    by further (inr rest) = or_right (c == x) (has xs c) (further rest)
+
+-- a block of the table is no data block
+pub none_of_table : (g : Geometry) (bs : List ℕ) (c : ℕ) → All (IsData g) bs → c < data_start g → has bs c ≡ false
+none_of_table g bs c all low = by (cases_Bool (has bs c))
+  where
+    by : (has bs c ≡ true) ⊎ (has bs c ≡ false) → has bs c ≡ false
+    by (inl is) = absurd (omega (arith, (each_of (IsData g) bs all c is).from, low))
+    by (inr out) = out
 
 -- one value for these and then for those is one value for both
 pub merged : {A : Type 0} (h t : Bool) (z o : A) → cond t z (cond h z o) ≡ cond (h || t) z o

@@ -54,13 +54,13 @@ most_blocks_of g end (r ∷ rs) most e =
     omega (arith, f.upto, most, most_blocks_of g (r.first + r.count) rs most f.rest)
 
 -- what the test of a node says of its parts
-record PartsFit (g : Geometry) (node : Node) : Type 0 where
-  few : length node.runs ≤ 28
-  runs : runs_fit g 0 node.runs ≡ true
-  blocks : run_blocks node.runs ≡ (node.size + 1023) / 1024
-  kind : kind_fits node node.kind ≡ true
+pub record PartsFit (g : Geometry) (node : Node) : Type 0 where
+  pub few : length node.runs ≤ 28
+  pub runs : runs_fit g 0 node.runs ≡ true
+  pub blocks : run_blocks node.runs ≡ (node.size + 1023) / 1024
+  pub kind : kind_fits node node.kind ≡ true
 
-parts_fit : (g : Geometry) (node : Node) → node_fits g node ≡ true → PartsFit g node
+pub parts_fit : (g : Geometry) (node : Node) → node_fits g node ≡ true → PartsFit g node
 parts_fit g node e =
     let a = (and_parts (nat_lt 0 node.links) (nat_le (length node.runs) most_runs && (runs_fit g 0 node.runs && ((run_blocks node.runs == (node.size + 1023) / 1024) && kind_fits node node.kind))) e).1 in
     let b = and_parts (nat_le (length node.runs) most_runs) (runs_fit g 0 node.runs && ((run_blocks node.runs == (node.size + 1023) / 1024) && kind_fits node node.kind)) a in

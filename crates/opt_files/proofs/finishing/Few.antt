@@ -1,6 +1,6 @@
 -- How many entries and numbers there are at most, where no two are the same.
 use Rattle.std.proofs.Common.{◌≡◌, ◌≢◌, ℕ, zero, suc, ◌+◌, ◌<◌, ◌≤◌, ◌==◌, true, false, cond, ◌||◌, List, [], ◌∷◌, length, get_or, All, AllPairs, refl, sym, ap, ◌∙◌, arith, ◌⊎◌, inl, inr}
-use Rattle.std.proofs.lemmas.Bool.{cases_Bool, cases_eq, eq-eqb, ne_eqb, eqb-true, false≢true}
+use Rattle.std.proofs.lemmas.Bool.{cases_Bool, cases_eq, eq-eqb, ne_eqb, eqb-true, false≢true, or_right}
 use Rattle.std.proofs.lemmas.List.{length-map, get_or-map}
 use Rattle.std.proofs.lemmas.Map.Keys.{below_from_sorted}
 use Rattle.std.specs.List.Sorted.{IsStrictlySortedBy}
@@ -8,7 +8,6 @@ use Rattle.std.specs.Ordering.{nat_cmp}
 use Rattle.std.specs.Map.{keys_of}
 use Rattle.opt_blocks.specs.Running.{has}
 use Rattle.opt_files.specs.declared.changes.Changed.{Changed}
-use Rattle.opt_files.proofs.finishing.Basics.{or_true}
 
 -- entries whose keys ascend have keys that differ
 pub keys_apart : (cs : List (ℕ × Changed)) → IsStrictlySortedBy nat_cmp (keys_of cs) → AllPairs (λ (a b : ℕ × Changed). a.0 ≢ b.0) cs
@@ -29,7 +28,7 @@ has_without x (b ∷ bs) c is d = by (cases_Bool (b == x)) (cases_Bool (c == b))
     by (inl e) (inl f) rec = absurd (d (eqb-true c b f ∙ eqb-true b x e))
     by (inl e) (inr f) rec = ap (λ t. has (cond t bs (b ∷ without x bs)) c) e ∙ sym (ap (λ t. t || has bs c) f) ∙ is
     by (inr e) (inl f) rec = ap (λ t. has (cond t bs (b ∷ without x bs)) c) e ∙ ap (λ t. t || has (without x bs) c) f
-    by (inr e) (inr f) rec = ap (λ t. has (cond t bs (b ∷ without x bs)) c) e ∙ or_true (c == b) (has (without x bs) c) (rec (sym (ap (λ t. t || has bs c) f) ∙ is))
+    by (inr e) (inr f) rec = ap (λ t. has (cond t bs (b ∷ without x bs)) c) e ∙ or_right (c == b) (has (without x bs) c) (rec (sym (ap (λ t. t || has bs c) f) ∙ is))
 
 less_without : (x : ℕ) (bs : List ℕ) → has bs x ≡ true → length (without x bs) + 1 ≤ length bs
 less_without x [] is = absurd (false≢true is)
@@ -60,7 +59,7 @@ has_upto (suc n) c low = by (cases_eq c n) (has_upto n c)
   where
     by : (c ≡ n) ⊎ (c ≢ n) → (c < n → has (upto n) c ≡ true) → has (upto (suc n)) c ≡ true
     by (inl e) rec = ap (λ t. t || has (upto n) c) (eq-eqb c n e)
-    by (inr d) rec = or_true (c == n) (has (upto n) c) (rec (omega (arith, low, d)))
+    by (inr d) rec = or_right (c == n) (has (upto n) c) (rec (omega (arith, low, d)))
 
 length_upto : (n : ℕ) → length (upto n) ≡ n
 length_upto zero = refl

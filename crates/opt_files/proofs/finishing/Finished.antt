@@ -10,11 +10,11 @@ use Rattle.opt_files.specs.Drafts.{DraftState}
 use Rattle.opt_files.specs.Sound.{FitsBooks, IsSoundDraft, IsDraftOf}
 use Rattle.opt_files.specs.Finish.{MayGoOn, BooksFinished, MapFinished}
 use Rattle.opt_files.specs.Making.{after_draft, AreDrafted, HasMade}
-use Rattle.opt_files.proofs.finishing.Basics.{among}
 use Rattle.opt_files.proofs.finishing.Few.{few_below}
 use Rattle.opt_files.proofs.finishing.Books.{by_keys, draft_keeps, draft_same, draft_marked, draft_reusable, draft_bare}
 use Rattle.opt_files.proofs.finishing.Sync.{Grows, may_sync}
 use Rattle.opt_files.proofs.finishing.Sound.{map_finished}
+use Rattle.opt_files.proofs.drafts.Lists.{each_of}
 
 -- what is ready doesn't matter
 pub fits_ready : (k : Bookkeeping) (spare : Spare) (d : DraftState) → FitsBooks k d → FitsBooks (record k { spare = spare }) d
@@ -58,6 +58,7 @@ draft_ready tells s one d draft books map = record {
       let old = draft.sound t in
       let ready : IsSoundDraft (record s.books { spare = one.books.spare }) s.map d = record { blocks = old.blocks; changed = old.changed; fresh = old.fresh; apart = old.apart; freed = old.freed; once = old.once } in
       subst (λ m. IsSoundDraft one.books m d) (sym (map t)) (subst (λ k. IsSoundDraft k s.map d) (sym books) ready);
+  content = draft.content;
 }
 
 after : (tells : Bool) (s one new : State) (d e : DraftState) → e ≡ d → one.books ≡ record s.books { spare = one.books.spare } → HasMade tells e one new → new.books ≡ after_draft (record s.books { spare = one.books.spare }) d
@@ -78,7 +79,7 @@ pub few_changes : (k : Bookkeeping) (d : DraftState) → FitsBooks k d → AllPa
 few_changes k d fits once = few_below (λ (e : ℕ × Changed). e.0) d.changed k.geom.n once (by_keys (λ b. b < k.geom.n) d.changed (λ b c is. (fits.changed b c is).1))
 
 pub few_contents : (k : Bookkeeping) (d : DraftState) → FitsBooks k d → AllPairs (λ (a b : ℕ × Changed). a.0 ≢ b.0) d.fresh → length d.fresh ≤ k.geom.n
-few_contents k d fits once = few_below (λ (e : ℕ × Changed). e.0) d.fresh k.geom.n once (by_keys (λ b. b < k.geom.n) d.fresh (λ b c is. (among (IsReusable k.geom k.reusable) d.taken fits.taken.each b (fits.fresh b c is)).below))
+few_contents k d fits once = few_below (λ (e : ℕ × Changed). e.0) d.fresh k.geom.n once (by_keys (λ b. b < k.geom.n) d.fresh (λ b c is. (each_of (IsReusable k.geom k.reusable) d.taken fits.taken.each b (fits.fresh b c is)).below))
 
 pub few_taken : (k : Bookkeeping) (d : DraftState) → FitsBooks k d → length d.taken ≤ k.geom.n
 few_taken k d fits = few_below (λ b. b) d.taken k.geom.n fits.taken.distinct (λ i e low. (fits.taken.each i e low).below)

@@ -11,7 +11,8 @@ use Rattle.opt_blocks.specs.Calls.{IsWithFreed}
 use Rattle.opt_blocks.specs.Effects.{LeavesDisk}
 use Rattle.opt_blocks.specs.Puts.{after_frees}
 use Rattle.opt_files.specs.Making.{AreFreed, HasFreed}
-use Rattle.opt_files.proofs.finishing.Basics.{by_both, has_push, not_before, leaves_on, leaves_not}
+use Rattle.opt_files.proofs.finishing.Basics.{not_before, leaves_on, leaves_not}
+use Rattle.opt_files.proofs.drafts.Lists.{has_push, merged}
 
 -- after the first i of a list: what is still to come makes the whole
 pub record AreFreedUpTo (tells : Bool) (start now : State) (list : List ℕ) (i : ℕ) : Type 0 where
@@ -41,8 +42,8 @@ still_set tells start now list i b h low is below once t set =
 
 freed_more : (g : Geometry) (start mid new : Blocks) (xs : List ℕ) (b : ℕ) → AreFreed g start mid xs → IsWithFreed g mid new b → b < g.n → AreFreed g start new (xs ++ b ∷ [])
 freed_more g start mid new xs b h w low = record {
-  lies = λ c from. one c from (cases_eq c b) ∙ ap (λ x. cond (c == b) [] x) (h.lies c from) ∙ by_both (c == b) (has xs c) [] (start c) ∙ sym (ap (λ t. cond t [] (start c)) (has_push xs b c));
-  bits = λ c l. w.bits c l ∙ ap (λ x. cond (c == b) false x) (h.bits c l) ∙ by_both (c == b) (has xs c) false (is_set g start c) ∙ sym (ap (λ t. cond t false (is_set g start c)) (has_push xs b c));
+  lies = λ c from. one c from (cases_eq c b) ∙ ap (λ x. cond (c == b) [] x) (h.lies c from) ∙ merged (has xs c) (c == b) [] (start c) ∙ sym (ap (λ t. cond t [] (start c)) (has_push xs b c));
+  bits = λ c l. w.bits c l ∙ ap (λ x. cond (c == b) false x) (h.bits c l) ∙ merged (has xs c) (c == b) false (is_set g start c) ∙ sym (ap (λ t. cond t false (is_set g start c)) (has_push xs b c));
 }
   where
     one : (c : ℕ) → table_start g ≤ c → (c ≡ b) ⊎ (c ≢ b) → new c ≡ cond (c == b) [] (mid c)

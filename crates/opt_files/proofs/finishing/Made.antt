@@ -13,8 +13,9 @@ use Rattle.opt_files.specs.declared.changes.Changed.{Changed}
 use Rattle.opt_files.specs.Drafts.{DraftState, change_of, bytes_or}
 use Rattle.opt_files.specs.Sound.{IsDraftOf}
 use Rattle.opt_files.specs.Making.{after_changes, IsTableOrData, HasPut, HasFreed, HasMade}
-use Rattle.opt_files.proofs.finishing.Basics.{among, bits_alike, leaves_on}
+use Rattle.opt_files.proofs.finishing.Basics.{bits_alike, leaves_on}
 use Rattle.opt_files.proofs.finishing.Books.{by_keys, changes_keep}
+use Rattle.opt_files.proofs.drafts.Lists.{each_of}
 
 -- no bit is in the node table or the data
 no_bit : (g : Geometry) (bs : List ℕ) (c : ℕ) → All (λ b. b < g.n) bs → table_start g ≤ c → has_bit g bs c ≡ false
@@ -56,7 +57,7 @@ module _ (tells : Bool) (d : DraftState) (s one : State) (draft : IsDraftOf tell
       ∙ set_by (has d.taken b) (is_set s.books.geom s.map b) (ap (λ x. has d.taken b || x) (sym (told.bits b low)) ∙ is)
 
   taken_data : (b : ℕ) → has d.taken b ≡ true → IsReusable s.books.geom s.books.reusable b
-  taken_data b is = among (IsReusable s.books.geom s.books.reusable) d.taken draft.fits.taken.each b is
+  taken_data b is = each_of (IsReusable s.books.geom s.books.reusable) d.taken draft.fits.taken.each b is
 
   -- the new content may be put
   pub fresh_room : length d.fresh ≤ one.books.spare.puts

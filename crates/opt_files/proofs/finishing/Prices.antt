@@ -1,6 +1,6 @@
--- The blocks that a draft changes are those of its entries.
-use Rattle.std.proofs.Common.{◌≡◌, ℕ, ◌==◌, ◌||◌, Bool, true, false, List, [], ◌∷◌, length, Some, suc, is_some, refl, sym, ap, ◌∙◌}
-use Rattle.std.proofs.lemmas.Bool.{false≢true, or_left, or_right, cond-false}
+-- The blocks that a draft changes are those of its entries, and there are some where there are entries.
+use Rattle.std.proofs.Common.{◌≡◌, ◌↔◌, ℕ, ◌==◌, ◌||◌, not, Bool, true, false, cond, IsTrue, List, [], ◌∷◌, length, Some, suc, is_some, refl, sym, ap, ◌∙◌, arith}
+use Rattle.std.proofs.lemmas.Bool.{false≢true, or_left, or_right, cond-false, eq-eqb, ne_eqb}
 use Rattle.std.specs.Map.{keys_of}
 use Rattle.std.specs.Ordering.{nat_cmp}
 use Rattle.std.specs.BTreeMap.{is_at}
@@ -17,6 +17,12 @@ keys_have (c ∷ cs) b is = by (b == c.0) refl (keys_have cs b)
     by true e rest = or_left (b == c.0) (has (keys_of cs) b) e
     by false e rest = or_right (b == c.0) (has (keys_of cs) b)
         (rest (ap is_some (sym (cond-false (is_at (nat_cmp b) c.0) (Some c.1) (change_of cs b) (key_is b c.0 ∙ e))) ∙ is))
+
+-- some block is changed where there are changes
+pub some_changed : (cs : List (ℕ × Changed)) (n : ℕ) → n ≡ length cs → IsTrue (not (n == 0)) ↔ ((b : ℕ) × (is_some (change_of cs b) ≡ true))
+some_changed [] n e = (λ t. absurd (false≢true (sym (ap not (eq-eqb n 0 e)) ∙ t)), λ some. absurd (false≢true some.1))
+some_changed (c ∷ cs) n e =
+    (λ t. (c.0, ap (λ u. is_some (cond u (Some c.1) (change_of cs c.0))) (key_is c.0 c.0 ∙ eq-eqb c.0 c.0 refl)), λ some. ap not (ne_eqb n 0 (λ z. absurd (omega (arith, z, e)))))
 
 pub as_many_keys : (cs : List (ℕ × Changed)) → length (keys_of cs) ≡ length cs
 as_many_keys [] = refl

@@ -18,6 +18,7 @@ use Rattle.opt_files.specs.Finish.{BooksFinished, MapFinished}
 use Rattle.opt_files.specs.Making.{after_draft, AreDrafted}
 use Rattle.opt_files.proofs.finishing.Nodes.{AreAlike, bytes_alike, used_alike, joined_alike, files_alike, has_block}
 use Rattle.opt_files.proofs.finishing.Counts.{same_count, draft_count, draft_holds}
+use Rattle.opt_files.proofs.drafts.Lists.{none_of_table}
 
 -- Live blocks.
 
@@ -40,12 +41,6 @@ live_whole s told none b live =
     told.whole b low (live_by (nat_le (bitmap_start g) b) (nat_lt b g.n) (nat_lt b (data_start g)) (is_set g s.map b) (s.books.marked b) (is_bare (s.books.running.roles b)) (told.bits b low) (none b) live)
 
 -- Bits.
-
-low_out : (g : Geometry) (bs : List ℕ) (c : ℕ) → All (IsData g) bs → c < data_start g → has bs c ≡ false
-low_out g [] c all low = refl
-low_out g (b ∷ bs) c all low =
-    ap (λ t. t || has bs c) (ne_eqb c b (λ e. omega (arith, e, low, (all 0 0 (omega arith)).from)))
-    ∙ low_out g bs c (λ i d l. all (suc i) d (omega (arith, l))) low
 
 high_out : (g : Geometry) (bs : List ℕ) (c : ℕ) → All (IsData g) bs → g.n ≤ c → has bs c ≡ false
 high_out g [] c all high = refl
@@ -91,7 +86,7 @@ module _ (d : DraftState) (s new : State) (spare : Spare) (geom : IsGeometry s.b
   sound_kept before = record {
     whole = subst (λ h. (b : ℕ) → IsTrue (is_live h new.map b) → length (new.map b) ≡ 1024) same_geom (live_whole new told_new finished.none_bare);
     own = λ k l i j b x y. sound.blocks.own k l i j b (has_block s.books.geom (drafted d s.map) new.map geom back k i b x) (has_block s.books.geom (drafted d s.map) new.map geom back l j b y);
-    fixed = λ b low. made.bits b (omega (arith, low, geom.data_room)) ∙ set_by (has d.freed b) (has d.taken b) (is_set s.books.geom s.map b) (low_out s.books.geom d.freed b fits.freed low) (before.fixed b low);
+    fixed = λ b low. made.bits b (omega (arith, low, geom.data_room)) ∙ set_by (has d.freed b) (has d.taken b) (is_set s.books.geom s.map b) (none_of_table s.books.geom d.freed b fits.freed low) (before.fixed b low);
     marked = λ b from below. (
       (λ is. let found = (sound.blocks.marked b from below).0 (sym (bit_is b below) ∙ is) in (found.0, found.1, has_block s.books.geom new.map (drafted d s.map) geom alike found.0 found.1 b found.2)),
       (λ found. bit_is b below ∙ (sound.blocks.marked b from below).1 (found.0, found.1, has_block s.books.geom (drafted d s.map) new.map geom back found.0 found.1 b found.2)),

@@ -17,6 +17,7 @@ use Rattle.opt_files.specs.Making.{put_class, after_changes, after_draft}
 use Rattle.opt_files.proofs.finishing.Few.{few}
 use Rattle.opt_files.proofs.finishing.Counts.{some_pass}
 use Rattle.opt_files.proofs.finishing.Books.{changes_keep, frees_keep, draft_keeps, key_is, key_there, by_keys, draft_bare}
+use Rattle.opt_files.proofs.drafts.Lists.{none_of_table}
 
 -- How a commit grows.
 
@@ -110,18 +111,12 @@ bit_freed k l b bs geom all =
           ∙ ap (λ t. cond t ChangedRole (l.running.roles c)) (eq-eqb c (bit_block l.geom b) (ap (λ g. bit_block g b) (sym geom)))),
     )
 
-not_among : (g : Geometry) (bs : List ℕ) (c : ℕ) → All (IsData g) bs → c < data_start g → has bs c ≡ false
-not_among g [] c all low = refl
-not_among g (b ∷ bs) c all low =
-    ap (λ t. t || has bs c) (ne_eqb c b (λ e. omega (arith, e, low, (all 0 0 (omega arith)).from)))
-    ∙ not_among g bs c (λ i d l. all (suc i) d (omega (arith, l))) low
-
 -- the block with a taken one's bit
 bit_taken : (k : Bookkeeping) (b : ℕ) (bs : List ℕ) → All (IsData k.geom) (b ∷ bs) → (after_take k (b ∷ bs)).running.roles (bit_block k.geom b) ≡ ChangedRole
 bit_taken k b bs all =
     let one : IsData k.geom b = all 0 0 (omega arith) in
     let c = bit_block k.geom b in
-    ap (λ t. cond t Bare (cond (has_bit k.geom (b ∷ bs) c) ChangedRole (k.running.roles c))) (not_among k.geom (b ∷ bs) c all (omega (arith, one.from, one.below)))
+    ap (λ t. cond t Bare (cond (has_bit k.geom (b ∷ bs) c) ChangedRole (k.running.roles c))) (none_of_table k.geom (b ∷ bs) c all (omega (arith, one.from, one.below)))
     ∙ ap (λ t. cond (t || has_bit k.geom bs c) ChangedRole (k.running.roles c)) (eq-eqb c c refl)
 
 -- the block of a change that wasn't taken

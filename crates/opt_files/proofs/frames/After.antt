@@ -20,10 +20,11 @@ use Rattle.opt_files.specs.Frames.{used_of, ReadsBack, HasNewNode, ChangesNode}
 use Rattle.opt_files.specs.Nodes.{node_block, node_byte}
 use Rattle.opt_files.specs.Sound.{AreSoundBy, FitsBooks, IsSoundDraft}
 use Rattle.opt_files.proofs.frames.Cells.{block_from, block_below, node_stored}
-use Rattle.opt_files.proofs.frames.Places.{each_of, joined_same}
+use Rattle.opt_files.proofs.frames.Places.{joined_same}
 use Rattle.opt_files.proofs.frames.Puts.{put_own, put_others, put_marks, put_fits, put_rules}
 use Rattle.opt_files.proofs.frames.Rules.{HasRules, sound_from}
 use Rattle.opt_files.proofs.frames.Steps.{both, all_of, node_grows, node_cut}
+use Rattle.opt_files.proofs.drafts.Lists.{each_of}
 
 -- The node is in its block, the data blocks and the marks are those of draft f, and the draft fits.
 pub record IsStored (k : Bookkeeping) (m : Blocks) (number : ℕ) (node : Node) (d f e : DraftState) : Type 0 where

@@ -50,12 +50,14 @@ pub draft_looks : (tells failed : Bool) (s t : State) (d : DraftState) → Looks
 draft_looks tells failed s t d looks is = record {
   fits = subst (λ (k : Bookkeeping). FitsBooks k d) (sym looks.books) is.fits;
   sound = λ known. subst (λ (k : Bookkeeping). IsSoundDraft k t.map d) (sym looks.books) (subst (λ (m : Blocks). IsSoundDraft s.books m d) (sym (looks.map known)) (is.sound known));
+  content = is.content;
 }
 
 pub draft_settles : (tells read_failed failed : Bool) (s t : State) (d : DraftState) → LooksAndSettles tells read_failed failed s t → IsDraftOf tells s d → IsDraftOf tells t d
 draft_settles tells read_failed failed s t d settles is = record {
   fits = fits_moved s.books t.books d settles.pipeline is.fits;
   sound = λ known. sound_moved s.books t.books t.map d settles.pipeline.geom settles.pipeline.marked (subst (λ (m : Blocks). IsSoundDraft s.books m d) (sym (settles.map known)) (is.sound known));
+  content = is.content;
 }
 
 -- Its files are as before.

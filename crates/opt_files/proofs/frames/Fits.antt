@@ -11,7 +11,8 @@ use Rattle.opt_layout.specs.Node.{node_fits, runs_fit, run_blocks, kind_fits}
 use Rattle.opt_blocks.specs.Running.{has}
 use Rattle.opt_blocks.specs.Puts.{IsData}
 use Rattle.opt_files.specs.Bytes.{blocks_for}
-use Rattle.opt_files.proofs.frames.Places.{has_append, each_of, places_count}
+use Rattle.opt_files.proofs.frames.Places.{places_count}
+use Rattle.opt_files.proofs.drafts.Lists.{has_append, each_of}
 
 -- a number from the first one on is among so many neighbours
 in_blocks : (x c b : ℕ) → x ≤ b → b < x + c → has (blocks_from x c) b ≡ true

@@ -17,7 +17,8 @@ use Rattle.opt_files.specs.Calls.{places_or_none, IsWithFile}
 use Rattle.opt_files.specs.Frames.{ChangesNode}
 use Rattle.opt_files.specs.Sound.{AreSoundBy}
 use Rattle.opt_files.proofs.frames.Cells.{when_true, is_number, same_node}
-use Rattle.opt_files.proofs.frames.Places.{place_of, has_place, each_of, one_place, joined_same, used_data, has_block, used_marked}
+use Rattle.opt_files.proofs.frames.Places.{place_of, has_place, one_place, joined_same, used_data, has_block, used_marked}
+use Rattle.opt_files.proofs.drafts.Lists.{each_of}
 
 -- the places of a node that has a block
 places_have : (g : Geometry) (m : Blocks) (k i b : ℕ) (o : Option Node) → used_node g m k ≡ o → HasBlock g m k i b → slice_get (places_or_none o) i ≡ Some b

@@ -4,8 +4,8 @@ use Rattle.std.proofs.lemmas.Bool.{false≢true, or_left, or_right, or_cases}
 use Rattle.std.proofs.lemmas.List.{length-take-le, length-take, length-drop}
 use Rattle.opt_blocks.specs.Running.{has}
 use Rattle.opt_files.specs.Bytes.{blocks_for, met}
-use Rattle.opt_files.proofs.frames.Places.{each_of}
 use Rattle.opt_files.proofs.frames.Steps.{all_of}
+use Rattle.opt_files.proofs.drafts.Lists.{each_of}
 
 -- bytes within a list of blocks lie in those from the first one's block to the last one's
 pub met_count : (lo hi : ℕ) (places : List ℕ) → hi ≤ 1024 * length places → length (met lo hi places) ≡ blocks_for hi - lo / 1024

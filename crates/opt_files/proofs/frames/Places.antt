@@ -2,7 +2,7 @@
 use Rattle.std.proofs.Common.{◌≡◌, ◌≢◌, ◌⊎◌, inl, inr, ℕ, zero, suc, ◌+◌, ◌*◌, ◌/◌, ◌<◌, ◌≤◌, ◌==◌, ◌||◌, ◌&&◌, not, nat_lt, nat_le, Bool, true, false, List, [], ◌∷◌, ◌++◌, length, get_or, slice_get, slice_index, if◌then◌else◌, Option, Some, None, option_map, All, refl, sym, ap, subst, ◌∙◌, arith}
 use Rattle.std.specs.List.{AllPairs}
 use Rattle.std.proofs.lemmas.List.{length-append, length-take-le}
-use Rattle.std.proofs.lemmas.Bool.{cases_order, and_parts, leb-true, eqb-true, eq-eqb, false≢true, or_right}
+use Rattle.std.proofs.lemmas.Bool.{cases_order, and_parts, leb-true, eqb-true, eq-eqb, false≢true, or_right, or_cases}
 use Rattle.std.proofs.lemmas.Option.{none-some, same_Some, slice_get_within, get_or_from_slice_get}
 use Rattle.opt_base.specs.Seal.{Blocks}
 use Rattle.opt_base.specs.declared.places.Run.{Run}
@@ -20,20 +20,9 @@ use Rattle.opt_stands.specs.Stands.{HasBlock}
 use Rattle.opt_files.specs.Calls.{places_or_none}
 use Rattle.opt_files.specs.Sound.{AreSoundBy}
 use Rattle.opt_files.proofs.frames.Cells.{number_is}
+use Rattle.opt_files.proofs.drafts.Lists.{has_append}
 
 -- Numbers of a list.
-
-or_cases : (a b : Bool) → (a || b) ≡ true → (a ≡ true) ⊎ (b ≡ true)
-or_cases true b e = inl refl
-or_cases false b e = inr e
-
-pub has_append : (xs ys : List ℕ) (b : ℕ) → has (xs ++ ys) b ≡ (has xs b || has ys b)
-has_append [] ys b = refl
-has_append (x ∷ xs) ys b = ap (λ t. (b == x) || t) (has_append xs ys b) ∙ assoc (b == x) (has xs b) (has ys b)
-  where
-    assoc : (p q r : Bool) → (p || (q || r)) ≡ ((p || q) || r)
-    assoc true q r = refl
-    assoc false q r = refl
 
 -- a number of a list has a place in it
 pub place_of : (xs : List ℕ) (b : ℕ) → has xs b ≡ true → (i : ℕ) × (slice_get xs i ≡ Some b)
@@ -49,12 +38,6 @@ pub has_place : (xs : List ℕ) (i b : ℕ) → slice_get xs i ≡ Some b → ha
 has_place [] i b e = absurd (none-some b e)
 has_place (x ∷ xs) zero b e = ap (λ t. t || has xs b) (eq-eqb b x (sym (same_Some x b e)))
 has_place (x ∷ xs) (suc i) b e = or_right (b == x) (has xs b) (has_place xs i b e)
-
--- what holds of all numbers holds of each
-pub each_of : (P : ℕ → Type 0) (xs : List ℕ) → All P xs → (b : ℕ) → has xs b ≡ true → P b
-each_of P xs all b e =
-    let r = place_of xs b e in
-    subst P (get_or_from_slice_get xs r.0 b b r.1) (all r.0 b (slice_get_within xs r.0 b r.1))
 
 -- a number has one place where no number is there twice
 pub one_place : (xs : List ℕ) → AllPairs (λ a b. a ≢ b) xs → (i j b : ℕ) → slice_get xs i ≡ Some b → slice_get xs j ≡ Some b → i ≡ j

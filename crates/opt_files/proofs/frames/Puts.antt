@@ -1,9 +1,9 @@
 -- A block of the node table that was put into a draft: the blocks, the marks, and how the draft still fits.
-use Rattle.std.proofs.Common.{◌≡◌, ◌≢◌, ◌⊎◌, inl, inr, ℕ, ◌<◌, ◌≤◌, ◌==◌, Bool, true, false, not, ◌&&◌, ◌||◌, if◌then◌else◌, [], All, Option, Some, None, is_some, refl, sym, ap, subst, ◌∙◌, arith}
+use Rattle.std.proofs.Common.{◌≡◌, ◌≢◌, ◌⊎◌, inl, inr, ℕ, ◌<◌, ◌≤◌, ◌==◌, Bool, true, false, not, ◌&&◌, ◌||◌, if◌then◌else◌, [], All, Option, Some, None, is_some, refl, sym, ap, ap₂, subst, ◌∙◌, arith}
 use Rattle.std.specs.List.{AllPairs}
 use Rattle.std.proofs.lemmas.Bool.{cases_Bool, cases_eq, eq-eqb, ne_eqb, false≢true, or_left, or_right}
 use Rattle.opt_base.specs.Seal.{Blocks}
-use Rattle.opt_geom.specs.Geometry.{IsGeometry, table_start, data_start}
+use Rattle.opt_geom.specs.Geometry.{Geometry, IsGeometry, table_start, data_start}
 use Rattle.opt_layout.specs.declared.node.Node.{Node}
 use Rattle.opt_layout.specs.Node.{node_spelling}
 use Rattle.opt_blocks.specs.Running.{has}
@@ -11,13 +11,13 @@ use Rattle.opt_blocks.specs.State.{Bookkeeping, IsReusable, MayBeTaken}
 use Rattle.opt_blocks.specs.Puts.{IsData}
 use Rattle.opt_files.specs.declared.changes.Changed.{Changed}
 use Rattle.opt_files.specs.Bytes.{overwrite}
-use Rattle.opt_files.specs.Drafts.{DraftState, change_of, bytes_or, drafted, marks_of, PutsBlock}
+use Rattle.opt_files.specs.Drafts.{DraftState, ChangesSome, change_of, bytes_or, drafted, marks_of, PutsBlock}
 use Rattle.opt_files.specs.Frames.{used_of, ReadsBack, HasNewNode}
 use Rattle.opt_files.specs.Nodes.{node_block, node_byte}
 use Rattle.opt_files.specs.Sound.{AreSoundBy, FitsBooks, IsSoundDraft, is_filled}
 use Rattle.opt_files.proofs.frames.Cells.{block_from, block_below, node_stored}
-use Rattle.opt_files.proofs.frames.Places.{each_of}
 use Rattle.opt_files.proofs.frames.Rules.{HasRules, rules_of, sound_from}
+use Rattle.opt_files.proofs.drafts.Lists.{each_of}
 
 module _ (k : Bookkeeping) (d e : DraftState) (at : ℕ) (c : Changed) (geom : IsGeometry k.geom) (low : table_start k.geom ≤ at) (high : at < data_start k.geom) (fits : FitsBooks k d) (puts : PutsBlock at c d e) where
   -- a block of the table isn't freed
@@ -98,6 +98,23 @@ module _ (k : Bookkeeping) (d e : DraftState) (at : ℕ) (c : Changed) (geom : I
   -- so it is sound where the blocks are
   pub put_sound : (m : Blocks) → IsSoundDraft k m d → AreSoundBy k.geom (marks_of e k.marked) (drafted e m) → IsSoundDraft k m e
   put_sound m sound blocks = sound_from k m e (put_rules (rules_of k m d sound)) blocks
+
+-- A block of the node table that was put changes, since it is no new content.
+pub put_changes : (k : Bookkeeping) (g : Geometry) (number : ℕ) (c : Changed) (d e : DraftState) → g ≡ k.geom → IsGeometry g → 1 ≤ number → number ≤ k.geom.i → FitsBooks k e → PutsBlock (node_block g number) c d e → ChangesSome e
+put_changes k g number c d e same geom from upto fits puts = (at, by (cases_Bool (is_some (change_of d.fresh at))))
+  where
+    at : ℕ
+    at = node_block g number
+
+    high : at < data_start k.geom
+    high = subst (λ (h : Geometry). node_block h number < data_start k.geom) (sym same) (block_below k.geom number (subst IsGeometry same geom).whole_blocks from upto)
+
+    fresh : is_some (change_of d.fresh at) ≡ true → change_of e.fresh at ≡ Some c
+    fresh some = puts.fresh at ∙ ap₂ (λ s t. if s && t then Some c else change_of d.fresh at) some (eq-eqb at at refl)
+
+    by : (is_some (change_of d.fresh at) ≡ true) ⊎ (is_some (change_of d.fresh at) ≡ false) → is_some (change_of e.changed at) ≡ true
+    by (inl some) = absurd (omega (arith, (each_of (IsReusable k.geom k.reusable) e.taken fits.taken.each at (fits.fresh at c (fresh some))).from, high))
+    by (inr none) = ap is_some (puts.changed at ∙ ap₂ (λ s t. if s then change_of d.changed at else if t then Some c else change_of d.changed at) none (eq-eqb at at refl))
 
 -- A node that was put into a draft in its block is there, and the other nodes are as before.
 pub node_put : (k : Bookkeeping) (m : Blocks) (marks : ℕ → Bool) (d e : DraftState) (number : ℕ) (node : Node) (c : Changed) → IsGeometry k.geom → 1 ≤ number → number ≤ k.geom.i → FitsBooks k d

@@ -13,8 +13,8 @@ use Rattle.opt_files.specs.declared.changes.Changed.{Changed}
 use Rattle.opt_files.specs.Content.{WritesContent}
 use Rattle.opt_files.specs.Drafts.{DraftState, change_of, bytes_or, drafted, marks_of, is_meta, zeros_of, TakesBlocks, FreesBlocks}
 use Rattle.opt_files.specs.Sound.{AreSoundBy, FitsBooks, IsSoundDraft, is_filled}
-use Rattle.opt_files.proofs.frames.Places.{has_append, each_of}
 use Rattle.opt_files.proofs.frames.Steps.{all_of, once_append}
+use Rattle.opt_files.proofs.drafts.Lists.{has_append, each_of}
 
 -- A draft's changes lie in marked blocks, no freed block has any, and each freed one was marked or taken, once.
 pub record HasRules (k : Bookkeeping) (d : DraftState) : Type 0 where

@@ -19,8 +19,9 @@ use Rattle.opt_files.specs.Frames.{HasNewNode, ChangesNode}
 use Rattle.opt_files.specs.Nodes.{node_block}
 use Rattle.opt_files.specs.Sound.{AreSoundBy}
 use Rattle.opt_files.proofs.frames.Cells.{when_true, is_number, same_node, block_from, block_below}
-use Rattle.opt_files.proofs.frames.Places.{has_append, place_of, has_place, each_of, used_within, used_data, used_marked, used_whole, joined_same}
+use Rattle.opt_files.proofs.frames.Places.{place_of, has_place, used_within, used_data, used_marked, used_whole, joined_same}
 use Rattle.opt_files.proofs.frames.Frames.{node_changed_sound, node_changed_files}
+use Rattle.opt_files.proofs.drafts.Lists.{has_append, each_of}
 
 -- What follows of a node that changed.
 

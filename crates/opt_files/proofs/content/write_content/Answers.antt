@@ -21,7 +21,7 @@ returns-in_err-write_piece-clause-looks g c =
 pub loop-done-preserved : goal.loop-done-preserved
 loop-done-preserved g c =
     writes_on g.S.Blocks.tells (g.S.Blocks.state c.args.blocks.now) (g.S.Blocks.state c.loop-done.blocks) (g.S.Blocks.state c.write_piece.new.blocks) c.args.class c.args.draft.now c.loop-done.draft c.write_piece.new.draft c.args.places.now c.args.from c.loop-done.done c.piece_length-count.result c.place_of-place.result c.args.bytes.now
-    c.loop-done.invariant c.loop-done-test.true c.piece_length-count.ensures c.requires.within c.place_of-place.ensures c.in_ok-write_piece.ensures.writes
+    c.loop-done.invariant c.loop-done-test.true c.piece_length-count.ensures c.requires.within c.place_of-place.ensures c.in_ok-write_piece.ensures.writes c.in_ok-write_piece.ensures.some
     (λ told content. c.in_ok-write_piece.ensures.bytes told content
     ∙ ap (λ n. overwrite ((c.args.from + c.loop-done.done) % 1024) (take n (drop c.loop-done.done c.args.bytes.now)) (drafted c.loop-done.draft (g.S.Blocks.state c.loop-done.blocks).map c.place_of-place.result)) {x = c.loop-done.done + c.piece_length-count.result - c.loop-done.done} {y = c.piece_length-count.result} (omega arith))
     c.in_ok-write_piece.ensures.looks

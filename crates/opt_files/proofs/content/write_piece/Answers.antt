@@ -2,8 +2,14 @@ use Rattle.std.proofs.Common.{◌∙◌, refl, sym, ap, arith}
 use Rattle.opt_files.specs.Bytes.{overwrite}
 use Rattle.opt_files.specs.Drafts.{drafted}
 use Rattle.opt_files.proofs.bytes.Overwrites.{overwrite_whole}
-use Rattle.opt_files.proofs.bytes.Pieces.{content_put}
+use Rattle.opt_files.proofs.bytes.Pieces.{content_put, put_new}
 use Rattle.opt_files.proofs.content.write_piece.Goals as goal
+
+pub returns-in_ok-put-in-Some-clause-some : goal.returns-in_ok-put-in-Some-clause-some
+returns-in_ok-put-in-Some-clause-some g c = put_new c.args.b (record { class = c.args.class; bytes = c.in-Some.whole.now }) c.args.draft.now c.put.new.self c.in_ok-put-in-Some.ensures.ok
+
+pub returns-in_ok-put-in-None-clause-some : goal.returns-in_ok-put-in-None-clause-some
+returns-in_ok-put-in-None-clause-some g c = put_new c.args.b (record { class = c.args.class; bytes = c.copy_over.new.block }) c.args.draft.now c.put-in-None.new.self c.in_ok-put-in-None.ensures.ok
 
 pub returns-in_ok-put-in-Some-clause-bytes : goal.returns-in_ok-put-in-Some-clause-bytes
 returns-in_ok-put-in-Some-clause-bytes g c = λ told content.

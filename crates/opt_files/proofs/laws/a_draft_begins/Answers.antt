@@ -1,4 +1,5 @@
 use Rattle.std.proofs.Common.{◌≤◌, subst, arith}
+use Rattle.std.proofs.lemmas.Bool.{false≢true}
 use Rattle.opt_geom.specs.Geometry.{Geometry, data_start}
 use Rattle.opt_files.proofs.frames.Begins.{nothing_fits, nothing_sound}
 use Rattle.opt_files.proofs.laws.a_draft_begins.Goals as goal
@@ -9,4 +10,5 @@ returns-clause-draft g c = λ none sound.
     record {
       fits = nothing_fits (g.S.Blocks.state c.args.blocks.now).books none;
       sound = λ tells. nothing_sound (g.S.Blocks.state c.args.blocks.now) room (g.met.S.Blocks.is_told c.args.blocks.now tells) (sound tells);
+      content = λ b is. absurd (false≢true is);
     }

@@ -40,5 +40,6 @@ returns-clause-writes g c =
     c.in_ok-close_gap.ensures.gap
     (subst (λ n. HasRoom two.books n c.args.node.now c.make_room.new.node c.close_gap.new.draft c.make_room.new.draft) size c.in_ok-make_room.ensures.room)
     (subst (λ (x : Class). WritesContent x (met c.args.offset end c.make_room.new.node.places) c.make_room.new.draft c.write_content.new.draft) c.class_of-class.ensures c.in_ok-write_content.ensures.writes)
+    c.in_ok-write_content.ensures.some
     c.in_ok-write_content.ensures.content
     c.in_ok-write_content.ensures.bytes

@@ -1,8 +1,11 @@
 use Rattle.std.proofs.Common.{rules, ap, refl, ◌+◌, ◌≡◌, ◌≤◌, arith}
 use Rattle.opt_files.specs.Calls.{AreUsed, IsFirstUnused}
-use Rattle.opt_files.specs.Drafts.{drafted}
+use Rattle.opt_blocks.specs.State.{Bookkeeping}
+use Rattle.opt_files.specs.Drafts.{ChangesSome, drafted}
 use Rattle.opt_files.specs.Nodes.{node_block}
+use Rattle.opt_files.specs.Sound.{FitsBooks}
 use Rattle.opt_files.proofs.frames.Carry.{draft_looks}
+use Rattle.opt_files.proofs.frames.Puts.{put_changes}
 use Rattle.opt_files.proofs.calling.Nodes.{put_still_fits, looked_files}
 use Rattle.opt_files.proofs.calling.News.{news, all_used}
 use Rattle.opt_files.proofs.draft.Draft.new_node.Goals as goal
@@ -21,23 +24,36 @@ module _ (g : _) (c : goal.In_ok-store g) where
   range : (1 ≤ c.in-Some.number) × (c.in-Some.number ≤ (g.S.Blocks.state c.args.blocks.now).books.geom.i)
   range = search rules
 
+  abbrev k : Bookkeeping
+  k = (g.S.Blocks.state c.args.blocks.now).books
+
+  fits : FitsBooks k c.store.new.draft
+  fits = put_still_fits k c.geom-geom.result c.in-Some.number _ c.args.self.now c.store.new.draft c.geom-geom.ensures c.lawful.ensures.limits range.0 range.1 c.requires.draft.fits c.in_ok-store.ensures.ok
+
+  changed : ChangesSome c.store.new.draft
+  changed = put_changes k c.geom-geom.result c.in-Some.number _ c.args.self.now c.store.new.draft c.geom-geom.ensures c.lawful.ensures.limits range.0 range.1 fits c.in_ok-store.ensures.ok
+
 pub returns-clause-node : goal.returns-clause-node
 returns-clause-node g c = λ tells.
     let s = g.S.Blocks.state c.args.blocks.now in
     let found : first g c = search rules in
     let made = news s.books s.map c.geom-geom.result c.args.from c.in-Some.number c.args.kind (record { kind = c.args.kind; links = 1; size = 0; runs = c.new.result }) c.least_unused.new.table c.args.self.now c.store.new.draft
     c.geom-geom.ensures c.lawful.ensures.limits (range g c).0 (range g c).1 c.requires.draft.fits (c.requires.draft.sound tells) c.requires.kind (c.requires.below tells) found.0 found.1
-    (ap (λ rs. record { kind = c.args.kind; links = 1; size = 0; runs = rs }) c.new.ensures) c.in_ok-store.ensures.ok c.a_node_reads_back.ensures in
+    (ap (λ rs. record { kind = c.args.kind; links = 1; size = 0; runs = rs }) c.new.ensures) c.in_ok-store.ensures.ok c.in_ok-store.ensures.back in
     (made.2, looked_files g.S.Blocks.tells _ s (g.S.Blocks.state c.least_unused.new.blocks) c.args.self.now c.store.new.draft c.in-Some.number _ c.least_unused.ensures.looks tells made.1)
 
 pub returns-clause-draft : goal.returns-clause-draft
 returns-clause-draft g c =
     let s = g.S.Blocks.state c.args.blocks.now in
     draft_looks g.S.Blocks.tells _ s (g.S.Blocks.state c.least_unused.new.blocks) c.store.new.draft c.least_unused.ensures.looks (record {
-      fits = put_still_fits s.books c.geom-geom.result c.in-Some.number _ c.args.self.now c.store.new.draft c.geom-geom.ensures c.lawful.ensures.limits (range g c).0 (range g c).1 c.requires.draft.fits c.in_ok-store.ensures.ok;
+      fits = fits g c;
       sound = λ tells.
           let found : first g c = search rules in
           (news s.books s.map c.geom-geom.result c.args.from c.in-Some.number c.args.kind (record { kind = c.args.kind; links = 1; size = 0; runs = c.new.result }) c.least_unused.new.table c.args.self.now c.store.new.draft
           c.geom-geom.ensures c.lawful.ensures.limits (range g c).0 (range g c).1 c.requires.draft.fits (c.requires.draft.sound tells) c.requires.kind (c.requires.below tells) found.0 found.1
-          (ap (λ rs. record { kind = c.args.kind; links = 1; size = 0; runs = rs }) c.new.ensures) c.in_ok-store.ensures.ok c.a_node_reads_back.ensures).0;
+          (ap (λ rs. record { kind = c.args.kind; links = 1; size = 0; runs = rs }) c.new.ensures) c.in_ok-store.ensures.ok c.in_ok-store.ensures.back).0;
+      content = λ b some. changed g c;
     })
+
+pub returns-clause-changes : goal.returns-clause-changes
+returns-clause-changes g c = changed g c
