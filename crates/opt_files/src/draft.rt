@@ -1,8 +1,10 @@
 //! The draft of a command: which blocks it changes, takes and frees, and reading a block with its
 //! changes. It knows no nodes; and of the map of blocks it only reads.
 
-ghost use Rattle.std.specs.Prelude.{◌≡◌, ◌↔◌, ◌≤◌, ◌<◌, ◌==◌, ◌∷◌, [], false, IsTrue, length, is_err, OnOk, OnErr};
+ghost use Rattle.std.specs.Prelude.{◌≡◌, ◌≢◌, ◌↔◌, ℕ, ◌≤◌, ◌<◌, ◌==◌, ◌∷◌, [], false, IsTrue, length, is_err, OnOk, OnErr};
+ghost use Rattle.std.specs.List.{AllPairs};
 ghost use Rattle.opt_geom.specs.Geometry.{table_start};
+ghost use Rattle.opt_files.specs.declared.changes.Changed.{Changed};
 ghost use Rattle.opt_files.specs.Drafts.{drafted, nothing_drafted, ChangesSome, PutsBlock, TakesBlocks, FreesBlocks};
 ghost use Rattle.opt_files.specs.Zeros.{HaveZeros};
 ghost use Rattle.opt_files.specs.Effects.{LooksOnly};
@@ -133,6 +135,13 @@ impl Draft {
         ensures { IsTrue result ↔ ChangesSome self.now }
     {
         self.changed.len() != 0
+    }
+
+    /// Does nothing. A proof learns from the call that no block is changed twice.
+    pub(crate) fn one_change_each(&self)
+        ensures { AllPairs (λ (a b : ℕ × Changed). a.0 ≢ b.0) self.now.changed }
+    {
+        self.changed.lawful();
     }
 
     /// How many blocks it changes, how many get new content, and how many it takes and frees.

@@ -1,6 +1,6 @@
 //! What a draft adds to a commit at most.
 
-ghost use Rattle.std.specs.Prelude.{◌≡◌, ◌-◌, ◌^◌, min};
+ghost use Rattle.std.specs.Prelude.{◌≡◌, ◌≤◌, ◌-◌, ◌^◌, ℕ, List, min};
 ghost use Rattle.std.specs.Map.{keys_of};
 ghost use Rattle.opt_files.specs.Finish.{price, ChangesOnly};
 
@@ -14,7 +14,9 @@ impl Draft {
     pub fn price(&self, geom: &Geom) -> u64
         ensures value { result ≡ min (price geom.now (keys_of self.now.changed) self.now) (2 ^ 64 - 1) }
         ensures all { ChangesOnly (keys_of self.now.changed) self.now }
+        ensures least { (bs : List ℕ) → ChangesOnly bs self.now → result ≤ price geom.now bs self.now }
     {
+        self.one_change_each();
         let (changed, fresh, taken, freed) = self.counts();
         let bitmap = u64::from(geom.bitmap_blocks());
         let bits = 25 * taken.min(bitmap) + 25 * freed.min(bitmap);
