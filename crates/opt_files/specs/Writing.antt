@@ -3,16 +3,16 @@ use Rattle.std.specs.Prelude.{◌≡◌, ℕ, ◌+◌, ◌-◌, ◌*◌, ◌<◌
 use Rattle.opt_base.specs.Seal.{Blocks}
 use Rattle.opt_stands.specs.Files.{FileNode, joined, used_node, files_of}
 use Rattle.opt_blocks.specs.State.{Bookkeeping}
+use Rattle.opt_geom.specs.Geometry.{Geometry}
+use Rattle.opt_base.specs.declared.words.Class.TheVariants.{Meta}
+use Rattle.opt_layout.specs.declared.node.Node.{Node}
+use Rattle.opt_layout.specs.Node.{node_spelling, FitsAs}
 use Rattle.opt_files.specs.declared.nodes.OpenNode.{OpenNode}
 use Rattle.opt_files.specs.Bytes.{blocks_for, met, overwrite, overwritten}
 use Rattle.opt_files.specs.Content.{HasContent, HasNewBytes, WritesContent}
 use Rattle.opt_files.specs.Drafts.{DraftState, drafted, PutsBlock}
 use Rattle.opt_files.specs.Growing.{more_blocks, GrowsPlaces}
 use Rattle.opt_files.specs.Nodes.{class_of, node_of_open, node_block, node_byte}
-use Rattle.opt_geom.specs.Geometry.{Geometry}
-use Rattle.opt_base.specs.declared.words.Class.TheVariants.{Meta}
-use Rattle.opt_layout.specs.declared.node.Node.{Node}
-use Rattle.opt_layout.specs.Node.{node_spelling, FitsAs}
 use Rattle.opt_files.specs.Frames.{ReadsBack}
 use Rattle.opt_files.specs.Calls.{IsWithFile, with_bytes, places_or_none, written_blocks, ChangesAmong, Grows}
 

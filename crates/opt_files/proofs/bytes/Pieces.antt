@@ -2,6 +2,7 @@
 use Rattle.std.proofs.Common.{◌≡◌, ◌⊎◌, ℕ, ◌≤◌, ◌<◌, Bool, true, false, not, ◌&&◌, ◌||◌, ◌==◌, if◌then◌else◌, List, [], ◌∷◌, length, Option, None, Some, is_some, get_or, inl, inr, refl, sym, ap, ap₂, subst, ◌∙◌, arith}
 use Rattle.std.specs.List.{All}
 use Rattle.std.proofs.lemmas.Bool.Decides.{nat_tests}
+use Rattle.std.proofs.lemmas.Bool.{or_left, or_right, or_cases}
 use Rattle.opt_base.specs.Seal.{Blocks}
 use Rattle.opt_base.specs.declared.words.Class.{Class}
 use Rattle.opt_geom.specs.Geometry.{table_start}
@@ -12,7 +13,6 @@ use Rattle.opt_files.specs.declared.changes.Changed.{Changed}
 use Rattle.opt_files.specs.Drafts.{DraftState, change_of, drafted, marks_of, bytes_or, PutsBlock}
 use Rattle.opt_files.specs.Content.{HasContent, HasNewBytes, WritesContent}
 use Rattle.opt_files.specs.Sound.{FitsBooks}
-use Rattle.std.proofs.lemmas.Bool.{or_left, or_right, or_cases}
 
 -- Tests.
 

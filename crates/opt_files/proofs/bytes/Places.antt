@@ -3,6 +3,7 @@ use Rattle.std.proofs.Common.{◌≡◌, ◌≢◌, ℕ, zero, suc, ◌*◌, ◌
 use Rattle.std.specs.List.{All, AllPairs}
 use Rattle.std.proofs.lemmas.List.{length-take, length-replicate, get_or-take, get_or_default}
 use Rattle.std.proofs.lemmas.Bool.Decides.{nat_tests}
+use Rattle.std.proofs.lemmas.Bool.{or_right}
 use Rattle.opt_base.specs.Seal.{Blocks}
 use Rattle.opt_base.specs.declared.words.Class.{Class}
 use Rattle.opt_base.specs.declared.words.Class.TheVariants.{Meta, Content}
@@ -15,7 +16,6 @@ use Rattle.opt_files.specs.Drafts.{DraftState, change_of, drafted, bytes_or, is_
 use Rattle.opt_files.proofs.drafts.Lists.{has_append, each_of, in_front, in_rest}
 use Rattle.opt_files.proofs.bytes.Joins.{joined_grown, joined_same, joined_take}
 use Rattle.opt_files.proofs.bytes.Loops.{has_at}
-use Rattle.std.proofs.lemmas.Bool.{or_right}
 
 -- Which places bytes meet.
 

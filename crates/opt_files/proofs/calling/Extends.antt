@@ -5,7 +5,6 @@ use Rattle.std.proofs.Math.Seq.{drop-append_seam}
 use Rattle.std.proofs.lemmas.List.{take-append-drop, append-nil, length-append, length-take-le, take_all, drop_all}
 use Rattle.opt_base.specs.Seal.{Blocks}
 use Rattle.opt_base.specs.Runs.{run_places}
-use Rattle.opt_base.specs.declared.words.Class.{Class}
 use Rattle.opt_base.specs.declared.words.Class.TheVariants.{Meta}
 use Rattle.opt_extent.specs.Runs.{AreTidy, runs_of, stretches}
 use Rattle.opt_geom.specs.Geometry.{Geometry, IsGeometry, table_start, data_start}

@@ -1,5 +1,5 @@
 -- A call on a file that makes a node.
-use Rattle.std.proofs.Common.{◌≡◌, ◌≢◌, ℕ, ◌^◌, ◌<◌, ◌≤◌, true, List, [], Option, Some, None, is_some, option_map, refl, ap, ◌∙◌, arith, subst, ◌⊎◌, inl, inr}
+use Rattle.std.proofs.Common.{◌≡◌, ◌≢◌, ℕ, ◌<◌, ◌≤◌, true, List, [], Option, Some, None, is_some, option_map, refl, ap, ◌∙◌, subst, ◌⊎◌, inl, inr}
 use Rattle.std.proofs.lemmas.Bool.{cases_lt, false≢true}
 use Rattle.opt_base.specs.Seal.{Blocks}
 use Rattle.opt_base.specs.declared.words.Class.TheVariants.{Meta}

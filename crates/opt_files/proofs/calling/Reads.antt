@@ -1,8 +1,8 @@
 -- A call on a file that reads its bytes, and one that looks up the rest of it.
-use Rattle.std.proofs.Common.{◌≡◌, ℕ, ◌+◌, ◌-◌, ◌%◌, ◌≤◌, Bool, true, min, List, length, take, drop, All, Option, Some, None, option_map, sym, ap, ◌∙◌, arith, subst}
+use Rattle.std.proofs.Common.{◌≡◌, ℕ, ◌+◌, ◌-◌, ◌%◌, ◌≤◌, Bool, true, min, List, length, take, drop, All, Some, None, option_map, sym, ap, ◌∙◌, arith, subst}
+use Rattle.std.proofs.lemmas.Bool.{eqb-true}
 use Rattle.opt_base.specs.Seal.{Blocks}
 use Rattle.opt_base.specs.Runs.{run_places}
-use Rattle.std.proofs.lemmas.Bool.{eqb-true}
 use Rattle.opt_extent.specs.Runs.{runs_of}
 use Rattle.opt_geom.specs.Geometry.{Geometry}
 use Rattle.opt_layout.specs.declared.node.Node.{Node}

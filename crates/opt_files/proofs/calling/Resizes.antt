@@ -1,14 +1,11 @@
 -- What the steps of a resize leave, and lists that are a part of another.
-use Rattle.std.proofs.Common.{◌≡◌, ◌≢◌, ◌⊎◌, inl, inr, ℕ, zero, suc, ◌-◌, ◌*◌, ◌/◌, ◌<◌, ◌≤◌, Bool, true, false, if◌then◌else◌, List, [], ◌∷◌, length, take, drop, replicate, All, Result, Ok, Err, refl, sym, ap, subst, ◌∙◌, arith}
-use Rattle.std.specs.Prelude.{OnOk}
+use Rattle.std.proofs.Common.{◌≡◌, ◌≢◌, ℕ, zero, suc, ◌-◌, ◌*◌, ◌/◌, ◌≤◌, Bool, true, false, if◌then◌else◌, List, [], ◌∷◌, length, take, drop, replicate, sym, ap, subst, ◌∙◌, arith}
 use Rattle.std.specs.List.{AllPairs}
-use Rattle.std.proofs.lemmas.Bool.{cases_Bool, false≢true, or_left, or_right}
-use Rattle.std.proofs.lemmas.List.{take-replicate, take-append-drop}
+use Rattle.std.proofs.lemmas.Bool.{false≢true}
+use Rattle.std.proofs.lemmas.List.{take-replicate}
 use Rattle.opt_base.specs.Seal.{Blocks}
 use Rattle.opt_base.specs.declared.words.Class.TheVariants.{Meta}
-use Rattle.opt_geom.specs.Geometry.{Geometry, data_start}
 use Rattle.opt_layout.specs.declared.node.NodeKind.{NodeKind}
-use Rattle.opt_blocks.specs.Puts.{IsData}
 use Rattle.opt_blocks.specs.Running.{has}
 use Rattle.opt_stands.specs.Files.{joined}
 use Rattle.opt_files.specs.Bytes.{overwrite}
@@ -16,7 +13,7 @@ use Rattle.opt_files.specs.Calls.{is_dir}
 use Rattle.opt_files.specs.Content.{HasContent, WritesContent}
 use Rattle.opt_files.specs.Drafts.{DraftState, drafted}
 use Rattle.opt_files.specs.Resizing.{ClearsRest, IsCleared}
-use Rattle.opt_files.proofs.drafts.Lists.{in_rest, has_append, each_of}
+use Rattle.opt_files.proofs.drafts.Lists.{in_rest}
 use Rattle.opt_files.proofs.bytes.Pieces.{writes_none}
 
 -- a part of a block of zeros

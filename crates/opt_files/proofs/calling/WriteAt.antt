@@ -1,6 +1,5 @@
 -- A write into a file, from the states before and after its node was loaded and written.
-use Rattle.std.proofs.Common.{◌≡◌, ℕ, ◌+◌, ◌%◌, ◌<◌, ◌≤◌, Bool, false, IsTrue, List, [], length, drop, max, min, Some, Result, Ok, Err, sym, ap, subst, ◌∙◌, arith}
-use Rattle.std.specs.Prelude.{IfErr, OnOk}
+use Rattle.std.proofs.Common.{◌≡◌, ℕ, ◌+◌, ◌%◌, ◌<◌, ◌≤◌, Bool, false, IsTrue, List, [], length, drop, max, min, Some, sym, ap, subst, ◌∙◌, arith}
 use Rattle.opt_base.specs.Seal.{Blocks}
 use Rattle.opt_base.specs.Runs.{run_places}
 use Rattle.opt_geom.specs.Geometry.{Geometry}

@@ -3,7 +3,7 @@ use Rattle.std.proofs.Common.{◌≡◌, ◌≢◌, ℕ, zero, suc, ◌+◌, ◌
 use Rattle.std.proofs.lemmas.Bool.{cases_Bool, cases_eq, eq-eqb, ne_eqb, false≢true}
 use Rattle.opt_base.specs.declared.words.Class.{Class}
 use Rattle.opt_base.specs.declared.words.Class.TheVariants.{Content}
-use Rattle.opt_geom.specs.Geometry.{Geometry, bitmap_blocks, data_start}
+use Rattle.opt_geom.specs.Geometry.{bitmap_blocks, data_start}
 use Rattle.opt_blocks.specs.declared.role.Role.{Role}
 use Rattle.opt_blocks.specs.declared.role.Role.TheVariants.{Untouched, Changed as ChangedRole, Bare, NewMeta, Fresh}
 use Rattle.opt_blocks.specs.Running.{is_payload, is_fresh, is_bare, is_taken, has, has_bit, bit_block, put_role, payloads, fresh_blocks, count_roles}

@@ -1,8 +1,8 @@
 use Rattle.std.proofs.Common.{ap}
 use Rattle.opt_files.specs.Calls.{is_dir}
 use Rattle.opt_files.proofs.calling.Resizes.{clears_none, cleared_none, clears_dir, cleared_dir}
-use Rattle.opt_files.proofs.resize.clear_rest.Goals as goal
 use Rattle.opt_files.proofs.drafts.Refused.{ok_maps, ok_both}
+use Rattle.opt_files.proofs.resize.clear_rest.Goals as goal
 
 pub returns-in-Free-clause-clears : goal.returns-in-Free-clause-clears
 returns-in-Free-clause-clears g c = clears_none c.args.kind c.args.size c.args.places.now c.args.draft.now (ap is_dir c.in-Free.is)

@@ -7,8 +7,8 @@ use Rattle.opt_files.specs.Growing.{more_blocks}
 use Rattle.opt_files.proofs.bytes.Looks.{looks_more}
 use Rattle.opt_files.proofs.calling.Extends.{ExtendsNode, extend_steps, extended_draft, extended_file, extended_grows, extended_changes, unread_settles}
 use Rattle.opt_files.proofs.calling.WriteLooks.{looks_then}
-use Rattle.opt_files.proofs.resize.extend.Goals as goal
 use Rattle.opt_files.proofs.drafts.Refused.{same_error}
+use Rattle.opt_files.proofs.resize.extend.Goals as goal
 
 module _ (g : _) (c : goal.In_ok-store g) where
   abbrev s : State

@@ -1,6 +1,6 @@
 use Rattle.std.proofs.Common.{rules, ap, refl, ◌+◌, ◌≡◌, ◌≤◌, arith}
-use Rattle.opt_files.specs.Calls.{AreUsed, IsFirstUnused}
 use Rattle.opt_blocks.specs.State.{Bookkeeping}
+use Rattle.opt_files.specs.Calls.{AreUsed, IsFirstUnused}
 use Rattle.opt_files.specs.Drafts.{ChangesSome, drafted}
 use Rattle.opt_files.specs.Nodes.{node_block}
 use Rattle.opt_files.specs.Sound.{FitsBooks}

@@ -8,9 +8,9 @@ use Rattle.opt_files.specs.Nodes.{IsOpen, node_of_open}
 use Rattle.opt_files.proofs.bytes.Looks.{looks_more}
 use Rattle.opt_files.proofs.calling.Nodes.{has_table}
 use Rattle.opt_files.proofs.calling.Resized.{IsRead, read_at, read_growth, since_read, same_file, same_resizes, cut_resizes, grown_resizes, grown_refused, few_read}
+use Rattle.opt_files.proofs.drafts.Refused.{ok_maps, ok_both, err_maps}
 use Rattle.opt_files.proofs.draft.Draft.resize.Goals as goal
 use Rattle.opt_files.proofs.draft.Draft.resize.Goals.{In-Some}
-use Rattle.opt_files.proofs.drafts.Refused.{ok_maps, ok_both, err_maps}
 
 -- the node that was read, and its file
 module _ (g : _) (c : goal.In-Some g) where

@@ -8,9 +8,9 @@ use Rattle.opt_files.specs.Nodes.{node_of_open, IsOpen}
 use Rattle.opt_files.proofs.bytes.Looks.{looks_more}
 use Rattle.opt_files.proofs.calling.Nodes.{has_table}
 use Rattle.opt_files.proofs.calling.WriteAt.{once_then, slots_then, refused_then, few_then, file_then, grows_then, among_then}
+use Rattle.opt_files.proofs.drafts.Refused.{ok_maps, err_maps}
 use Rattle.opt_files.proofs.draft.Draft.write_at.Goals as goal
 use Rattle.opt_files.proofs.draft.Draft.write_at.Goals.{In-Some, After-write_loaded}
-use Rattle.opt_files.proofs.drafts.Refused.{ok_maps, err_maps}
 
 -- the node that was read
 module _ (g : _) (c : In-Some g) where
