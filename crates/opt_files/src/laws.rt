@@ -1,7 +1,7 @@
 //! Laws of drafts and of the files in them, each a function that changes nothing: what a draft is before
 //! anything was done, how many blocks a file has, and how many bytes a directory.
 
-ghost use Rattle.std.specs.Prelude.{◌≡◌, ◌≤◌, ◌-◌, ◌*◌, ◌/◌, ◌%◌, ℕ, IsTrue, List, length, Some};
+ghost use Rattle.std.specs.Prelude.{◌≡◌, ◌≤◌, ◌+◌, ◌-◌, ◌*◌, ◌/◌, ◌%◌, ◌^◌, ℕ, IsTrue, List, length, Some};
 ghost use Rattle.opt_blocks.specs.Running.{HasNoBare};
 ghost use Rattle.opt_files.specs.Bytes.{blocks_for, met};
 ghost use Rattle.opt_files.specs.Calls.{files_in, places_in};
@@ -27,6 +27,14 @@ pub fn a_file_has_its_blocks<S: Blocks>()
     ensures { (s : S) (d : DraftState) (k : ℕ) (x : FileNode) → IsTrue S.tells → IsDraftOf S.tells (S.state s) d → files_in (S.state s) d k ≡ Some x
         → length (places_in (S.state s) d k) ≡ blocks_for (length x.bytes) }
 {}
+
+/// A file of a draft has fewer than 2^30 bytes, since its blocks are different ones of the data.
+pub fn a_file_fits_the_disk<S: Blocks>(blocks: &S)
+    ensures { (d : DraftState) (k : ℕ) (x : FileNode) → IsTrue S.tells → IsDraftOf S.tells (S.state blocks.now) d → files_in (S.state blocks.now) d k ≡ Some x
+        → length x.bytes + 1024 ≤ 2 ^ 30 }
+{
+    blocks.geom().lawful();
+}
 
 /// A directory's bytes are whole slots.
 pub fn a_directory_has_whole_slots<S: Blocks>()

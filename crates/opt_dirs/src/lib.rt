@@ -1,0 +1,12 @@
+//! Directories over files of a draft: names looked up, paths walked, slots added, changed and taken out. No
+//! command, no cost and no journal is known here. The rules are described in docs/DIRECTORIES.md.
+#![tactic(auto)]
+
+mod block;
+mod listing;
+mod lookup;
+mod walks;
+
+pub use listing::names;
+pub use lookup::{Found, count_slots, find};
+pub use walks::{walk, walk_to_parent};
