@@ -1,0 +1,10 @@
+pub mod Nodes
+pub mod Broken
+pub mod Meets
+pub mod Looks
+pub mod Tails
+pub mod Told
+pub mod NoNodes
+pub mod Bitmap
+pub mod Steps
+pub mod Whole

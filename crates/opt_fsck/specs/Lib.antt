@@ -1,0 +1,3 @@
+pub mod Broken
+pub mod Calls
+pub mod Meeting
