@@ -84,7 +84,7 @@ same_some e = cc
 
 -- a sealed block with one of the tags begins as one of a record does
 tagged : (b : List ℕ) → is_sealed b ≡ true → (has_tag commit_tag b || has_tag descriptor_tag b) ≡ true → is_of_record b ≡ true
-tagged b sealed tag = ap₂ (λ x y. x && y) sealed tag
+tagged b sealed tag = ap₂ (λ x y. x && y) tag sealed
 
 pub commit_epoch : (g : Geometry) (b : List ℕ) (c : Commit) → commit_of g b ≡ Some c → (is_of_record b ≡ true) × (field b 8 8 ≡ c.epoch)
 unfolding commit_of

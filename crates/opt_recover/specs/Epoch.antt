@@ -8,7 +8,7 @@ use Rattle.opt_journal.specs.Layout.{header_of, has_tag, commit_tag, descriptor_
 
 -- a sealed block that begins as a commit block or descriptor does, whether the rest of it fits or not
 abbrev pub is_of_record : List ℕ → Bool
-is_of_record b = is_sealed b && (has_tag commit_tag b || has_tag descriptor_tag b)
+is_of_record b = (has_tag commit_tag b || has_tag descriptor_tag b) && is_sealed b
 
 -- a header in slot 0 or 1 has this epoch
 abbrev pub IsHeaderEpoch : Geometry → Blocks → ℕ → Type 0

@@ -89,16 +89,17 @@ fn record_epoch(block: &Block) -> u64
     number_8(block.as_slice(), 8)
 }
 
+/// The tags are looked at first, so that of other blocks no digest is taken.
 fn is_of_record(block: &Block) -> bool
     ensures { result ≡ is_of_record block.now }
 {
-    if !is_sealed(block) {
-        return false;
-    }
     if is_commit(block) {
-        return true;
+        return is_sealed(block);
     }
-    is_descriptor(block)
+    if is_descriptor(block) {
+        return is_sealed(block);
+    }
+    false
 }
 
 fn is_commit(block: &Block) -> bool
