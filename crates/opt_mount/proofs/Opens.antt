@@ -164,9 +164,10 @@ goes_before old now h size base log goes = subst (λ (n : ℕ). GoesOn n (settle
 
 -- a run and an epoch that are those that were found
 pub found_of : (d : State) (f : FoundDisk) (r : finding.FoundRun) (e : ℕ) → r ≡ f.run → e ≡ f.epoch → IsFoundOn d f → finding.IsFound d.blocks (settled_on d) r × IsGreatestEpoch r.header.geom (settled_on d) e
-found_of d f r e run epoch is =
-    (subst (λ (q : finding.FoundRun). finding.IsFound d.blocks (settled_on d) q) (sym run) is.is_found,
-     subst (λ (k : ℕ). IsGreatestEpoch r.header.geom (settled_on d) k) (sym epoch) (subst (λ (q : finding.FoundRun). IsGreatestEpoch q.header.geom (settled_on d) f.epoch) (sym run) is.is_greatest))
+found_of d f r e run epoch is = (
+  subst (λ (q : finding.FoundRun). finding.IsFound d.blocks (settled_on d) q) (sym run) is.is_found,
+  subst (λ (k : ℕ). IsGreatestEpoch r.header.geom (settled_on d) k) (sym epoch) (subst (λ (q : finding.FoundRun). IsGreatestEpoch q.header.geom (settled_on d) f.epoch) (sym run) is.is_greatest),
+)
 
 -- what keeps the map that was found keeps what the disk held
 pub window_on : ((n : ℕ) (img : Blocks) (s t : ℕ) (h k : Header) → Newest n img s h → Newest n img t k → (s ≡ t) × (h ≡ k)) → ((img : Blocks) (h : Header) (rs qs : List Record) → IsRun img h rs → IsRun img h qs → rs ≡ qs)
