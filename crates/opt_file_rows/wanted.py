@@ -70,6 +70,15 @@ class Disk:
                 return str(k)
         return "none"
 
+    def make_many(self, kind, count):
+        """the least numbers that aren't in use, in one draft"""
+        free = [k for k in range(1, self.nodes + 1) if k not in self.files][:count]
+        if len(free) < count:
+            return "none"
+        self.pay(len({table(k) for k in free}))
+        self.files.update((k, File(kind)) for k in free)
+        return str(free[-1]) if free else "0"
+
     def growth(self, file, size):
         """the least blocks that a file of so many bytes needs behind its own"""
         need = max(0, blocks_for(size) - len(file.places))
@@ -170,7 +179,7 @@ class Disk:
         if what in ("sync", "space"):
             return getattr(self, what)()
         if what == "make":
-            return self.make(*words)
+            return self.make_many(words[0], int(words[1])) if words[1:] else self.make(*words)
         k, words = int(words[0]), words[1:]
         if what == "write":
             return self.write(k, int(words[0]), bytes.fromhex(words[1]))

@@ -220,6 +220,37 @@ pub(crate) fn make<S: Blocks>(
     }
 }
 
+/// Makes so many nodes of this kind in one draft. The last one's number, if there are as many, and whether
+/// a sync may follow. No number is looked at twice.
+///
+/// # Errors
+/// As `make`.
+pub(crate) fn make_many<S: Blocks>(
+    alloc: Global,
+    blocks: &mut S,
+    kind: NodeKind,
+    count: u32,
+) -> Result<(Option<u32>, bool), Refusal>
+    requires tells { IsTrue S.tells }
+    requires going { (S.state blocks.old).books.stopped ≡ false }
+    requires kept { IsKept (S.state blocks.old) }
+    requires kind { kind ≢ Free }
+    ensures kept { IfOk result (λ made. IsTrue made.1 → IsKept (S.state blocks.new)) }
+    ensures refused { OnErr result (IsKept (S.state blocks.new)) }
+{
+    let mut draft = begin(alloc, blocks);
+    let mut next = 1;
+    for _ in 0..count {
+        let found = draft.new_node(alloc, blocks, kind, next)?;
+        let Some(number) = found else {
+            return Ok((None, true));
+        };
+        next = number.saturating_add(1);
+    }
+    let sure = finish(alloc, blocks, draft)?;
+    Ok((Some(next - 1), sure))
+}
+
 /// The node isn't in use any more. Whether a sync may follow.
 ///
 /// # Errors

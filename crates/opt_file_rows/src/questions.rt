@@ -127,6 +127,7 @@ fn answered(alloc: Global, volume: &mut Volume, words: &[&str]) -> Result<Option
             Ok(Some(format!(in alloc; "live {live} held {held} left {left}")?))
         }
         ["make", kind] => made(alloc, volume, kind),
+        ["make", kind, count] => made_many(alloc, volume, kind, count),
         [what, node, rest @ ..] => match number(node) {
             Some(node) => asked(alloc, volume, what, node, rest),
             None => Ok(None),
@@ -145,6 +146,24 @@ fn made(alloc: Global, volume: &mut Volume, kind: &str) -> Result<Option<String>
     };
     let found = volume.make(alloc, kind)?;
     let answer = number_or_none(alloc, found)?;
+    Ok(Some(answer))
+}
+
+// Makes so many nodes of the kind that a word is.
+fn made_many(
+    alloc: Global,
+    volume: &mut Volume,
+    kind: &str,
+    count: &str,
+) -> Result<Option<String>, Refusal>
+    requires sure { IsSure volume.old }
+    ensures sure { IsSure volume.new }
+{
+    let (Some(kind), Some(count)) = (kind_of(kind), number(count)) else {
+        return Ok(None);
+    };
+    let last = volume.make_many(alloc, kind, count)?;
+    let answer = number_or_none(alloc, last)?;
     Ok(Some(answer))
 }
 

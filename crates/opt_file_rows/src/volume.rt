@@ -6,7 +6,8 @@ ghost use Rattle.opt_layout.specs.declared.node.NodeKind.TheVariants.{Free};
 ghost use Rattle.opt_file_rows.specs.Sure.{IsSure};
 
 use crate::acts::{
-    Refusal, a_formatted_disk_is_kept, drop_node, make, read, resize, set_links, sync, used, write,
+    Refusal, a_formatted_disk_is_kept, drop_node, make, make_many, read, resize, set_links, sync,
+    used, write,
 };
 use opt_base::{Bytes, NoMemory};
 use opt_blocks::{Blocks, PlainBlocks};
@@ -52,6 +53,26 @@ impl Volume {
         let (number, sure) = make(alloc, &mut self.blocks, kind)?;
         self.sure = sure;
         Ok(number)
+    }
+
+    /// Makes so many nodes of this kind. The last one's number, if there are as many.
+    ///
+    /// # Errors
+    /// As `acts::make_many`.
+    pub(crate) fn make_many(
+        &mut self,
+        alloc: Global,
+        kind: NodeKind,
+        count: u32,
+    ) -> Result<Option<u32>, Refusal>
+        requires kind { kind ≢ Free }
+        requires sure { IsSure self.old }
+        ensures sure { IsSure self.new }
+    {
+        self.goes_on()?;
+        let (last, sure) = make_many(alloc, &mut self.blocks, kind, count)?;
+        self.sure = sure;
+        Ok(last)
     }
 
     /// Writes these bytes into a node from `offset` on.
