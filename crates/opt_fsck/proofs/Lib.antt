@@ -1,0 +1,13 @@
+pub mod Looking
+pub mod Joined
+pub mod Parsed
+pub mod Distinct
+pub mod Counting
+pub mod Seeing
+pub mod Going
+pub mod Marking
+pub mod Wholes
+pub mod Searching
+pub mod FirstLook
+pub mod Ruled
+pub mod Refuted
