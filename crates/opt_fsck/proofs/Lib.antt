@@ -1,1 +1,15 @@
 pub mod sound
+pub mod Looking
+pub mod Joined
+pub mod Parsed
+pub mod Distinct
+pub mod Counting
+pub mod Seeing
+pub mod Going
+pub mod Marking
+pub mod Wholes
+pub mod Searching
+pub mod FirstLook
+pub mod Ruled
+pub mod Refuted
+pub mod Judging

@@ -1,3 +1,11 @@
 pub mod Broken
 pub mod Calls
 pub mod Meeting
+pub mod Damage
+pub mod Reading
+pub mod Looked
+pub mod Slots
+pub mod Marks
+pub mod Judged
+pub mod Rules
+pub mod Whole
