@@ -13,3 +13,6 @@ pub mod WriteText
 pub mod Bounds
 pub mod Stored
 pub mod Fields
+pub mod OneSpelling
+pub mod OneValue
+pub mod RingPlaces

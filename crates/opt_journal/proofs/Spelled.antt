@@ -38,7 +38,7 @@ pub sealed_is : (body : List ℕ) → length body ≡ 992 → is_sealed (body ++
 sealed_is body len = same_bytes _ _ (ap (λ n. drop n (body ++ sha256 body)) (sym len) ∙ drop-append_seam body (sha256 body) ∙ ap sha256 (sym (ap (λ n. take n (body ++ sha256 body)) (sym len) ∙ take-append_seam body (sha256 body))))
 
 -- the bytes before a header's seal are 992
-header_length : (h : Header) → length (header_body h) ≡ 992
+pub header_length : (h : Header) → length (header_body h) ≡ 992
 header_length h = omega (arith, length-replicate {A = ℕ} 932 0)
 
 -- the byte that says whether a header is closed reads back, and is 0 or 1
@@ -56,7 +56,7 @@ header_from : (h : Header) (epoch turn start sure at n j i : ℕ) (closed : Bool
 header_from h epoch turn start sure at n j i closed e t s u a c gn gj gi = rw (e, t, s, u, a, c, gn, gj, gi) refl
 
 -- the fields of a written header are its own
-fields_read : (h : Header) → IsHeader h → header_fields (header_block h) ≡ h
+pub fields_read : (h : Header) → IsHeader h → header_fields (header_block h) ≡ h
 fields_read h is =
     let g = sizes h.geom is.geom in
     header_from h _ _ _ _ _ _ _ _ _ (reads_back 8 h.epoch [] is.epoch) (reads_back 8 h.turn [] is.turn) (reads_back 8 h.start [] is.first) (reads_back 8 h.sure [] is.sure)
@@ -80,7 +80,7 @@ header_reads h is =
     ∙ ap (λ (k : Header). Some k) same
 
 -- the bytes before a commit block's seal are 992
-commit_length : (c : Commit) → length (commit_body c) ≡ 992
+pub commit_length : (c : Commit) → length (commit_body c) ≡ 992
 commit_length c = omega (arith, length-replicate {A = ℕ} 956 0)
 
 -- a commit block of fields that are each another's is that one
@@ -94,13 +94,17 @@ commit_may g c some count room =
     and_from _ _ (same_bytes (take 8 (commit_block c)) (codes "OPTC0001") refl)
     (and_from _ _ (lt-ltb _ _ some) (and_from _ _ (eq-eqb c.descriptors (descriptor_count (c.payloads + c.fresh)) count) (and_from _ _ (le-leb _ _ room) (zeros_first 956 (sha256 (commit_body c))))))
 
+-- the fields of a written commit block are its own
+pub commit_read : (c : Commit) → fits_in 8 c.epoch → fits_in 8 c.number → fits_in 4 c.descriptors → fits_in 4 c.payloads → fits_in 4 c.fresh → commit_fields (commit_block c) ≡ c
+commit_read c fe fn fd fp ff =
+    commit_from c _ _ _ _ _ (reads_back 8 c.epoch [] fe) (reads_back 8 c.number [] fn) (reads_back 4 c.descriptors [] fd) (reads_back 4 c.payloads [] fp) (reads_back 4 c.fresh [] ff)
+
 -- a commit block that was written reads as itself
 pub commit_reads : (g : Geometry) (c : Commit) → fits_in 8 c.epoch → fits_in 8 c.number → fits_in 4 c.descriptors → fits_in 4 c.payloads → fits_in 4 c.fresh
     → 0 < c.payloads → c.descriptors ≡ descriptor_count (c.payloads + c.fresh) → 1 + c.descriptors + c.payloads ≤ g.j → commit_of g (commit_block c) ≡ Some c
 unfolding commit_of
 commit_reads g c fe fn fd fp ff some count room =
-    let same : commit_fields (commit_block c) ≡ c =
-    commit_from c _ _ _ _ _ (reads_back 8 c.epoch [] fe) (reads_back 8 c.number [] fn) (reads_back 4 c.descriptors [] fd) (reads_back 4 c.payloads [] fp) (reads_back 4 c.fresh [] ff) in
+    let same = commit_read c fe fn fd fp ff in
     when_is (is_sealed (commit_block c)) _ (sealed_is (commit_body c) (commit_length c))
     ∙ when_is (commit_fits g (commit_block c) (commit_fields (commit_block c))) _ (ap (commit_fits g (commit_block c)) same ∙ commit_may g c some count room)
     ∙ ap (λ (k : Commit). Some k) same
@@ -110,7 +114,7 @@ entry_length : (e : Entry) → length e.digest ≡ 32 → length (entry_bytes e)
 entry_length e len = omega (arith, len)
 
 -- and entries have 40 each
-all_length : (g : Geometry) (es : List Entry) → AreEntries g es → length (all_entry_bytes es) ≡ 40 * length es
+pub all_length : (g : Geometry) (es : List Entry) → AreEntries g es → length (all_entry_bytes es) ≡ 40 * length es
 all_length g [] are = refl
 all_length g (e ∷ es) are = omega (arith, length-append (entry_bytes e) (all_entry_bytes es), entry_length e are.0.digest, all_length g es are.1)
 
@@ -140,7 +144,7 @@ pub entry_reads : (g : Geometry) (e : Entry) → g.n ≤ 1048576 → IsEntry g e
 entry_reads g e small is = entry_by g e.block e.digest e.kind is.high is.low small is.digest
 
 -- the first part of bytes that are joined
-take_front : (n : ℕ) (xs ys : List ℕ) → length xs ≡ n → take n (xs ++ ys) ≡ xs
+pub take_front : (n : ℕ) (xs ys : List ℕ) → length xs ≡ n → take n (xs ++ ys) ≡ xs
 take_front n xs ys e = ap (λ k. take k (xs ++ ys)) (sym e) ∙ take-append_seam xs ys
 
 -- and the second
@@ -158,7 +162,7 @@ entries_read g (e ∷ es) rest small are =
     (ap (λ l. entries_in g (length es) (drop 40 l)) whole ∙ ap (entries_in g (length es)) (drop_front 40 (entry_bytes e) (all_entry_bytes es ++ rest) len) ∙ entries_read g es rest small are.1)
 
 -- the bytes before a descriptor's seal are 992
-descriptor_length : (d : Descriptor) (g : Geometry) → AreEntries g d.entries → length d.entries ≤ 24 → length (descriptor_body d) ≡ 992
+pub descriptor_length : (d : Descriptor) (g : Geometry) → AreEntries g d.entries → length d.entries ≤ 24 → length (descriptor_body d) ≡ 992
 descriptor_length d g are low =
     omega (arith, length-append (all_entry_bytes d.entries) (replicate (960 - 40 * length d.entries) 0), all_length g d.entries are, length-replicate {A = ℕ} (960 - 40 * length d.entries) 0, low)
 

@@ -9,7 +9,7 @@ use Rattle.opt_journal.specs.declared.record.Descriptor.{Descriptor}
 use Rattle.opt_journal.specs.declared.entry.Entry.{Entry}
 use Rattle.opt_journal.specs.declared.entry.EntryKind.{EntryKind}
 use Rattle.opt_journal.specs.declared.entry.EntryKind.TheVariants.{Payload, Fresh, Escaped}
-use Rattle.opt_journal.specs.Layout.{header_tag, commit_tag, descriptor_tag, first_named}
+use Rattle.opt_journal.specs.Layout.{header_tag, commit_tag, descriptor_tag, IsWithinRing, first_named}
 
 -- n bytes are enough for the number
 abbrev pub fits_in : ℕ → ℕ → Type 0
@@ -50,6 +50,15 @@ commit_body c =
 abbrev pub commit_block : Commit → List ℕ
 commit_block c = commit_body c ++ sha256 (commit_body c)
 
+-- a commit block that can be written, for a ring of this geometry
+pub record IsCommit (g : Geometry) (c : Commit) : Type 0 where
+  pub epoch : fits_in 8 c.epoch
+  pub number : fits_in 8 c.number
+  pub descriptors : fits_in 4 c.descriptors
+  pub payloads : fits_in 4 c.payloads
+  pub fresh : fits_in 4 c.fresh
+  pub within : IsWithinRing g c
+
 abbrev pub kind_number : EntryKind → ℕ
 kind_number Payload = 1
 kind_number Fresh = 2
@@ -81,6 +90,15 @@ pub record IsEntry (g : Geometry) (e : Entry) : Type 0 where
 abbrev pub AreEntries : Geometry → List Entry → Type 0
 AreEntries g [] = Unit {0}
 AreEntries g (e ∷ es) = IsEntry g e × AreEntries g es
+
+-- a descriptor that can be written, for a disk of this geometry
+pub record IsDescriptor (g : Geometry) (d : Descriptor) : Type 0 where
+  pub epoch : fits_in 8 d.epoch
+  pub number : fits_in 8 d.number
+  pub index : fits_in 4 d.index
+  pub some : 0 < length d.entries
+  pub few : length d.entries ≤ 24
+  pub entries : AreEntries g d.entries
 
 -- Payloads as they are stored.
 

@@ -1,6 +1,6 @@
 //! Laws of the journal's definitions, as functions that do nothing: each clause is a law. They are known
 //! in docs/JOURNAL.md.
-ghost use Rattle.std.specs.Prelude.{◌≡◌, ℕ, ◌+◌, ◌*◌, ◌<◌, ◌≤◌, length, take, drop, slice_get, List, Option, Some, None, IsTrue, true, false};
+ghost use Rattle.std.specs.Prelude.{◌≡◌, ◌↔◌, ℕ, ◌+◌, ◌*◌, ◌<◌, ◌≤◌, length, take, drop, slice_get, slice_index, List, Option, Some, None, IsTrue, true, false};
 ghost use Rattle.opt_base.specs.Seal.{Blocks, IsSealed};
 ghost use Rattle.opt_geom.specs.Geometry.{Geometry, geometry_fits, bitmap_start, data_start};
 ghost use Rattle.opt_journal.specs.declared.header.Header.{Header};
@@ -9,9 +9,10 @@ ghost use Rattle.opt_journal.specs.declared.record.Descriptor.{Descriptor};
 ghost use Rattle.opt_journal.specs.declared.entry.Entry.{Entry};
 ghost use Rattle.opt_journal.specs.declared.entry.EntryKind.{EntryKind};
 ghost use Rattle.opt_journal.specs.Layout.{header_of, IsWithinDisk, commit_of, IsWithinRing, descriptor_of, descriptor_count, is_stored, unescaped};
-ghost use Rattle.opt_journal.specs.Spelling.{IsHeader, AreEntries, fits_in, header_block, commit_block, descriptor_block, stored_of, stored_kind};
+ghost use Rattle.opt_journal.specs.Spelling.{IsHeader, IsCommit, IsDescriptor, AreEntries, fits_in, header_block, commit_block, descriptor_block, stored_of, stored_kind};
 ghost use Rattle.opt_journal.specs.Run.{Newest, Record, entries, entries_fit, names_block, IsWhole, IsRun, live_part, HeldIs};
 ghost use Rattle.opt_journal.specs.Formatted.{formatted};
+ghost use Rattle.opt_journal.specs.Ring.{RingPlaces, with_places, without_places, place_ahead, IsTaken};
 
 /// What reads as a header, a commit block or a descriptor is sealed.
 #[tactic(auto, using(crate::proofs::Sealed::header_sealed, crate::proofs::Sealed::commit_sealed, crate::proofs::Sealed::descriptor_sealed))]
@@ -82,6 +83,28 @@ pub fn journal_blocks_read_back()
 pub fn payloads_read_back()
     ensures bytes { (x : List ℕ) → unescaped (stored_kind x) (stored_of x) ≡ x }
     ensures stored { (x : List ℕ) → is_stored (stored_kind x) (stored_of x) ≡ true }
+{}
+
+/// The bytes of a block read as a value exactly where they are its spelling, and it is a value that can be
+/// written. Values that can be written and are spelled alike are one. What is stored as a payload is the
+/// escape of what it stands for.
+pub fn journal_blocks_have_one_spelling()
+    ensures headers { (n : ℕ) (b : List ℕ) (h : Header) → length b ≡ 1024 → ((i : ℕ) → slice_index b i < 256) → (header_of n b ≡ Some h) ↔ (IsHeader h × (h.geom.n ≡ n) × (b ≡ header_block h)) }
+    ensures commits { (g : Geometry) (b : List ℕ) (c : Commit) → length b ≡ 1024 → ((i : ℕ) → slice_index b i < 256) → (commit_of g b ≡ Some c) ↔ (IsCommit g c × (b ≡ commit_block c)) }
+    ensures descriptors { (g : Geometry) (b : List ℕ) (d : Descriptor) → g.n ≤ 1048576 → length b ≡ 1024 → ((i : ℕ) → slice_index b i < 256) → (descriptor_of g b ≡ Some d) ↔ (IsDescriptor g d × (b ≡ descriptor_block d)) }
+    ensures one_header { (h k : Header) → IsHeader h → IsHeader k → header_block h ≡ header_block k → h ≡ k }
+    ensures one_commit { (g k : Geometry) (c d : Commit) → IsCommit g c → IsCommit k d → commit_block c ≡ commit_block d → c ≡ d }
+    ensures one_descriptor { (g : Geometry) (d f : Descriptor) → g.n ≤ 1048576 → IsDescriptor g d → IsDescriptor g f → descriptor_block d ≡ descriptor_block f → d ≡ f }
+    ensures payloads { (k : EntryKind) (stored : List ℕ) → is_stored k stored ≡ true → (stored ≡ stored_of (unescaped k stored)) × (k ≡ stored_kind (unescaped k stored)) }
+{}
+
+/// The places behind the next one, as many as are free, are none of the taken ones. Once they are taken they
+/// are among these, with all that were taken before; and none is taken because others are given back.
+pub fn a_ring_hands_out_free_places()
+    ensures free { (r : RingPlaces) (places k : ℕ) → r.next < r.geom.j → r.taken + places ≤ r.geom.j → k < places → ¬ IsTaken r (place_ahead r k) }
+    ensures handed { (r : RingPlaces) (places k : ℕ) → k < places → IsTaken (with_places r places) (place_ahead r k) }
+    ensures kept { (r : RingPlaces) (places q : ℕ) → IsTaken r q → IsTaken (with_places r places) q }
+    ensures back { (r : RingPlaces) (places q : ℕ) → IsTaken (without_places r places) q → IsTaken r q }
 {}
 
 /// What an image holds rests on the first n blocks alone: images that are alike there hold the same.

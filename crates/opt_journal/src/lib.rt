@@ -21,8 +21,9 @@ pub use entry::{Entries, Entry, EntryKind, MOST_ENTRIES};
 pub use flaw::BadRecord;
 pub use header::Header;
 pub use laws::{
-    an_image_holds_one_map, descriptors_tell_the_entries, entries_that_fit_keep_to_the_disk,
-    images_alike_below_n_hold_the_same, journal_blocks_are_sealed, journal_blocks_are_told_apart,
+    a_ring_hands_out_free_places, an_image_holds_one_map, descriptors_tell_the_entries,
+    entries_that_fit_keep_to_the_disk, images_alike_below_n_hold_the_same,
+    journal_blocks_are_sealed, journal_blocks_are_told_apart, journal_blocks_have_one_spelling,
     journal_blocks_keep_to_their_bounds, journal_blocks_read_back, payloads_read_back,
     the_formatted_disk_holds_itself,
 };
