@@ -1,10 +1,10 @@
 -- A committed transaction joins the pipeline: its record is in the ledger, and is the last one of the committed.
-use Rattle.std.proofs.Common.{◌≡◌, ⊎_elim, ℕ, suc, ◌+◌, ◌%◌, ◌<◌, ◌≤◌, ◌==◌, nat_le, Bool, true, false, IsTrue, List, [], ◌∷◌, ◌++◌, length, map, slice_get, Some, Vec, Global, refl, sym, ◌∙◌, subst, ap, arith, length-append, append_assoc}
+use Rattle.std.proofs.Common.{◌≡◌, ◌⊎◌, ⊎_elim, ℕ, suc, ◌+◌, ◌%◌, ◌<◌, ◌≤◌, ◌==◌, nat_le, Bool, true, false, IsTrue, List, [], ◌∷◌, ◌++◌, length, map, slice_get, Some, Vec, Global, refl, sym, ◌∙◌, subst, ap, arith, length-append, append_assoc}
 use Rattle.std.proofs.lemmas.Bool.{eqb-true, false≢true, le-leb, lt-leb}
 use Rattle.std.proofs.lemmas.Option.{slice_get_within}
 use Rattle.opt_base.specs.Seal.{Blocks}
 use Rattle.opt_disk.specs.declared.event.Event.{Event}
-use Rattle.opt_disk.specs.Cell.{cell_of, IsNoticed}
+use Rattle.opt_disk.specs.Cell.{cell_of, greatest_ticket, IsNoticed}
 use Rattle.opt_geom.specs.Geometry.{data_start}
 use Rattle.opt_journal.specs.Ring.{RingPlaces, with_places}
 use Rattle.opt_journal.specs.Run.{places, is_live}
@@ -16,8 +16,9 @@ use Rattle.opt_crash.specs.PipelineData.{PipelineData, DataAgree, AreFreed, with
 use Rattle.opt_notes.specs.Notes.{Expected, is_noticed, are_expected}
 use Rattle.opt_tx.specs.declared.commit.Committed.{Committed}
 use Rattle.opt_checkpoint.specs.declared.pipeline.Pipeline.{Pipeline}
-use Rattle.opt_checkpoint.specs.Agree.{PipelineAgrees, IsRecordAt, KeepsRecord, HasFreed, data_of, durable_count, no_tickets, tickets_in}
+use Rattle.opt_checkpoint.specs.Agree.{PipelineAgrees, AreApart, AreNewTickets, IsRecordAt, KeepsRecord, HasFreed, data_of, durable_count, no_tickets, tickets_in}
 use Rattle.opt_checkpoint.proofs.Lists.{choose_true, choose_false, map_push, last_or, get_old, get_new}
+use Rattle.opt_checkpoint.proofs.Apart.{none_new}
 use Rattle.opt_checkpoint.proofs.Expected.{ExpectMore, are_more, home_more}
 
 -- what is one of a list has a place there
@@ -40,6 +41,8 @@ module _ (base : Blocks) (old new : List Event) (l : Ledger) (v : Pipeline) (rin
     -- notices stay, no mark is set, what was expected is so still, and so are the record's tickets
     (stays : (t : ℕ) → IsNoticed t old → IsNoticed t new) (quiet : (t : ℕ) → is_noticed t notes.notes ≡ is_noticed t v.notes.notes)
     (expect : ExpectMore v.notes.notes notes.notes) (expected : are_expected c.tickets.items notes.notes ≡ true)
+    -- and they are new
+    (fresh : AreNewTickets old new c.tickets.items)
     -- what the commit left
     (joined : (freed : List ℕ) → AreFreed l w m freed → DataAgree base new (with_record l w m) (with_committed (data_of v ring waiting) l w c.tickets.items freed))
     (idle : NoneIsBeingWritten (cell_of base new) (with_record l w m))
@@ -119,6 +122,20 @@ module _ (base : Blocks) (old new : List Event) (l : Ledger) (v : Pipeline) (rin
       new_freed : (k : ℕ) (f : List ℕ) → k ≡ length l.records → slice_get (a.freed ++ c.freed.items ∷ []) k ≡ Some f → c.freed.items ≡ f
       new_freed k f e at = ⊎_elim (λ x. absurd (too k e (slice_get_within a.freed k f x) a.freed_by.count)) (λ x. x.1) (last_or a.freed c.freed.items k f at)
 
+  -- a committed record is one that was, or the new one
+  of : (k : ℕ) (x : Committed) → slice_get cs.items k ≡ Some x → (slice_get v.committed.items k ≡ Some x) ⊎ ((k ≡ length v.committed.items) × (c ≡ x))
+  of k x is = last_or v.committed.items c k x (ap (λ (xs : List Committed). slice_get xs k) (sym more) ∙ is)
+
+  -- none stands behind the new one
+  past : (i k : ℕ) {y : Committed} → i ≡ length v.committed.items → i < k → slice_get v.committed.items k ≡ Some y → ⊥
+  past i k {y} e lt is = omega (arith, e, lt, slice_get_within v.committed.items k y is)
+
+  twice : (i k : ℕ) → i ≡ length v.committed.items → k ≡ length v.committed.items → i < k → ⊥
+  twice i k e f lt = omega (arith, e, f, lt)
+
+  later : (t : ℕ) → t ≤ greatest_ticket old → t ≤ greatest_ticket new
+  later t upto = omega (arith, upto, fresh.grows)
+
   pub agrees_accepted : PipelineAgrees base new (with_record l w m) next ring_then waiting_then []
   agrees_accepted = record {
     geom = a.geom;
@@ -145,6 +162,13 @@ module _ (base : Blocks) (old new : List Event) (l : Ledger) (v : Pipeline) (rin
           (last_or v.committed.items c k t (ap (λ (xs : List Committed). slice_get xs k) (sym more) ∙ is));
       home = home_more v.home.items v.notes.notes notes.notes expect a.expected.home;
       header = λ q is. expect q.ticket (a.expected.header q is);
+    };
+    apart = record {
+      records = λ i k x y lt is at. ⊎_elim (λ here. ⊎_elim (λ first. a.apart.records i k x y lt first here) (λ last. absurd (past i k last.0 lt here)) (of i x is))
+          (λ there. ⊎_elim (λ first. subst (λ (q : Committed). AreApart x.tickets.items q.tickets.items) there.1 (λ t own. none_new t c.tickets.items old new fresh (a.apart.records_upto i t x first own))) (λ last. absurd (twice i k last.0 there.0 lt)) (of i x is)) (of k y at);
+      beside = λ k t x is held. ⊎_elim (λ here. a.apart.beside k t x here held) (λ there. subst (λ (q : Committed). is_one_of t q.tickets.items ≡ false) there.1 (none_new t c.tickets.items old new fresh (a.apart.beside_upto t held))) (of k x is);
+      records_upto = λ k t x is own. ⊎_elim (λ here. later t (a.apart.records_upto k t x here own)) (λ there. fresh.upto t (subst (λ (q : Committed). is_one_of t q.tickets.items ≡ true) (sym there.1) own)) (of k x is);
+      beside_upto = λ t held. later t (a.apart.beside_upto t held);
     };
     free = λ b none. absurd (false≢true none);
     idle = idle;

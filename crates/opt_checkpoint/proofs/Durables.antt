@@ -1,5 +1,5 @@
 -- The oldest committed transaction becomes durable: all its tickets are noticed.
-use Rattle.std.proofs.Common.{◌≡◌, ◌⊎◌, inl, inr, ⊎_elim, ℕ, zero, suc, ◌+◌, ◌-◌, ◌<◌, ◌≤◌, ◌&&◌, Bool, true, false, IsTrue, List, [], ◌∷◌, ◌++◌, length, map, slice_get, slice_index_or, remove, Option, Some, None, Vec, refl, sym, ◌∙◌, subst, ap, arith, length-append}
+use Rattle.std.proofs.Common.{◌≡◌, ◌⊎◌, inl, inr, ⊎_elim, ℕ, zero, suc, ◌+◌, ◌-◌, ◌<◌, ◌≤◌, ◌&&◌, not, Bool, true, false, IsTrue, List, [], ◌∷◌, ◌++◌, length, map, slice_get, slice_index_or, remove, Option, Some, None, Vec, refl, sym, ◌∙◌, subst, ap, arith, length-append}
 use Rattle.std.proofs.lemmas.List.{length-map}
 use Rattle.std.proofs.lemmas.Bool.{and_parts}
 use Rattle.std.proofs.lemmas.Option.{same_Some}
@@ -12,13 +12,14 @@ use Rattle.opt_crash.specs.HomeTest.{is_one_of}
 use Rattle.opt_crash.specs.OnePending.{HasOnePending, MayWriteAllFresh}
 use Rattle.opt_crash.specs.PipelineData.{PipelineData, DataAgree, AllNoticed, AreNewlyNoticed, SameNewTickets, with_tickets}
 use Rattle.opt_notes.specs.declared.notes.Note.{Note}
-use Rattle.opt_notes.specs.Notes.{is_noticed, are_noticed}
+use Rattle.opt_notes.specs.Notes.{Expected, is_noticed, are_noticed, is_among}
 use Rattle.opt_tx.specs.declared.put.Put.{Put}
 use Rattle.opt_tx.specs.Rows.{put_of}
 use Rattle.opt_tx.specs.declared.commit.Committed.{Committed}
 use Rattle.opt_tx.specs.declared.states.Durable.{Durable}
-use Rattle.opt_tx.specs.States.{IsDurableOf}
+use Rattle.opt_tx.specs.States.{IsDurableOf, Forgets}
 use Rattle.opt_checkpoint.specs.declared.pipeline.Pipeline.{Pipeline}
+use Rattle.opt_checkpoint.proofs.Apart.{still_one, still_all, apart_back}
 use Rattle.opt_checkpoint.proofs.Lists.{last_or}
 use Rattle.opt_checkpoint.specs.Agree.{PipelineAgrees, NotesAreTrue, IsRecordAt, data_of, durable_count, no_tickets, tickets_in}
 
@@ -68,19 +69,23 @@ module _ (base : Blocks) (log : List Event) (l : Ledger) (v : Pipeline) (ring : 
 
   -- the pipeline then
   module _ (d : Durable) (is_of : IsDurableOf c d) (cs : Vec Committed Rattle.std.proofs.Common.Global) (ds : Vec Durable Rattle.std.proofs.Common.Global) (now : cs.items ≡ rest) (more : ds.items ≡ v.durable.items ++ d ∷ [])
+      (ns : Expected) (gone : Forgets c.tickets.items v.notes ns)
       (numbers : (k : ℕ) (w : WrittenRecord) → slice_get l.records k ≡ Some w → w.says.number ≡ l.header.start + k)
       (known_data : DataAgree base log (with_known l (l.known + 1)) (data_of v ring waiting))
       (known_one : HasOnePending base log (with_known l (l.known + 1)) (data_of v ring waiting) [])
       (may_go : (p : PipelineData) (tickets : List (List ℕ)) → DataAgree base log (with_known l (l.known + 1)) p → SameNewTickets (with_known l (l.known + 1)) p.tickets tickets → DataAgree base log (with_known l (l.known + 1)) (with_tickets p tickets))
       (known_free : MayWriteAllFresh log (with_known l (l.known + 1)) (data_of v ring waiting) taken) where
     abbrev next : Pipeline
-    next = record v { committed = cs; durable = ds }
+    next = record v { committed = cs; durable = ds; notes = ns }
 
     counted : durable_count next ≡ durable_count v + 1
     counted = omega (arith, ap (λ (xs : List Durable). length xs) more, length-append v.durable.items (d ∷ []))
 
     sizes : length v.committed.items ≡ 1 + length cs.items
     sizes = omega (arith, ap (λ (xs : List Committed). length xs) first, ap (λ (xs : List Committed). length xs) now)
+
+    first_is : slice_get v.committed.items 0 ≡ Some c
+    first_is = ap (λ (xs : List Committed). slice_get xs 0) first
 
     committed_is : (k : ℕ) (t : Committed) → slice_get cs.items k ≡ Some t → slice_get v.committed.items (suc k) ≡ Some t
     committed_is k t is = ap (λ (xs : List Committed). slice_get xs (suc k)) first ∙ ap (λ (xs : List Committed). slice_get xs k) (sym now) ∙ is
@@ -138,8 +143,18 @@ module _ (base : Blocks) (log : List Event) (l : Ledger) (v : Pipeline) (ring : 
           (last_or v.durable.items d k t (ap (λ (xs : List Durable). slice_get xs k) (sym more) ∙ is));
       committed_at = λ k t is. still_at l (l.known + 1) a.freed _ _ t.number t.place t.count t.payloads.items t.fresh.items t.freed.items (omega (arith, counted)) (a.committed_at (suc k) t (committed_is k t is));
       agree = may_go (data_of v ring waiting) (data_of next ring waiting).tickets known_data tickets;
-      notes = a.notes;
-      expected = record { records = λ k t is. a.expected.records (suc k) t (committed_is k t is); home = a.expected.home; header = a.expected.header };
+      notes = λ t e. a.notes t (and_parts (not (is_among t c.tickets.items)) (is_noticed t v.notes.notes) (sym (gone.noticed t) ∙ e)).1;
+      expected = record {
+        records = λ k t is. still_all t.tickets.items c.tickets.items v.notes.notes ns.notes gone.expected (apart_back c.tickets.items t.tickets.items (a.apart.records 0 (suc k) c t (omega arith) first_is (committed_is k t is))) (a.expected.records (suc k) t (committed_is k t is));
+        home = λ k h is. still_one h.ticket c.tickets.items v.notes.notes ns.notes gone.expected (a.apart.beside 0 h.ticket c first_is (inl (k, h, is, refl))) (a.expected.home k h is);
+        header = λ q is. still_one q.ticket c.tickets.items v.notes.notes ns.notes gone.expected (a.apart.beside 0 q.ticket c first_is (inr (q, is, refl))) (a.expected.header q is);
+      };
+      apart = record {
+        records = λ i k x y lt is at. a.apart.records (suc i) (suc k) x y (omega (arith, lt)) (committed_is i x is) (committed_is k y at);
+        beside = λ k t x is held. a.apart.beside (suc k) t x (committed_is k x is) held;
+        records_upto = λ k t x is own. a.apart.records_upto (suc k) t x (committed_is k x is) own;
+        beside_upto = a.apart.beside_upto;
+      };
       free = known_free;
       idle = record { each = a.idle.each };
       one = record { one = known_one.one; slot = known_one.slot; ring = known_one.ring; block = λ b low e. ⊎_elim inl (λ r. inr (⊎_elim inl (λ w. inr (record { at = w.at; ticket = w.ticket; bytes = w.bytes; listed = w.listed; last = w.last })) r)) (known_one.block b low e); below = known_one.below; none = known_one.none };

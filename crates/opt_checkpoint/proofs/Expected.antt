@@ -12,7 +12,7 @@ use Rattle.opt_checkpoint.specs.Agree.{OpenAreExpected, AreExpectedHome}
 abbrev pub ExpectMore : List Note → List Note → Type 0
 ExpectMore old new = (u : ℕ) → is_expected u old ≡ true → is_expected u new ≡ true
 
-both : (p q : Bool) → p ≡ true → q ≡ true → (p && q) ≡ true
+pub both : (p q : Bool) → p ≡ true → q ≡ true → (p && q) ≡ true
 both true true e f = refl
 both true false e f = f
 both false q e f = e

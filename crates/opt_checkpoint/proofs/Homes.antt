@@ -12,7 +12,7 @@ use Rattle.opt_tx.specs.declared.states.Placed.{Placed}
 use Rattle.opt_tx.specs.States.{IsPlacedOf}
 use Rattle.opt_checkpoint.specs.declared.pipeline.HomeWrite.{HomeWrite}
 use Rattle.opt_checkpoint.specs.declared.pipeline.Pipeline.{Pipeline}
-use Rattle.opt_checkpoint.specs.Agree.{PipelineAgrees, IsRecordAt, data_of, durable_count, no_tickets, tickets_in, home_pair}
+use Rattle.opt_checkpoint.specs.Agree.{PipelineAgrees, IsOpenBeside, IsRecordAt, data_of, durable_count, no_tickets, tickets_in, home_pair}
 use Rattle.opt_checkpoint.proofs.Lists.{get_drop, either}
 
 module _ (base : Blocks) (log : List Event) (l : Ledger) (v : Pipeline) (ring : RingPlaces) (waiting : List (ℕ × ℕ)) (taken : List ℕ) (a : PipelineAgrees base log l v ring waiting taken)
@@ -47,6 +47,10 @@ module _ (base : Blocks) (log : List Event) (l : Ledger) (v : Pipeline) (ring : 
   moved : (i k number place count : ℕ) (payloads : List Rattle.opt_tx.specs.declared.put.Put.Put) (fresh own : List ℕ) → i ≡ k → IsRecordAt l a.freed i number place count payloads fresh own → IsRecordAt l a.freed k number place count payloads fresh own
   moved i k number place count payloads fresh own e r = subst (λ n. IsRecordAt l a.freed n number place count payloads fresh own) e r
 
+  -- what is open beside the records was so before
+  open_before : (t : ℕ) → IsOpenBeside at_home t → IsOpenBeside v t
+  open_before t held = ⊎_elim (λ r. absurd (none-some r.1 (sym (ap (λ (hw : List HomeWrite). slice_get hw r.0) hs_is) ∙ r.2))) inr held
+
   pub agrees_at_home : PipelineAgrees base log l at_home ring waiting taken
   agrees_at_home = record {
     geom = a.geom;
@@ -71,6 +75,12 @@ module _ (base : Blocks) (log : List Event) (l : Ledger) (v : Pipeline) (ring : 
       records = a.expected.records;
       home = λ k h is. absurd (none-some h (sym (ap (λ (hw : List HomeWrite). slice_get hw k) hs_is) ∙ is));
       header = a.expected.header;
+    };
+    apart = record {
+      records = a.apart.records;
+      beside = λ k t c is held. a.apart.beside k t c is (open_before t held);
+      records_upto = a.apart.records_upto;
+      beside_upto = λ t held. a.apart.beside_upto t (open_before t held);
     };
     free = λ b own. ((a.free b own).0, λ k t is. absurd (none-some (b, t) (sym (ap (λ (hw : List HomeWrite). slice_get (map home_pair hw) k) hs_is) ∙ is)));
     idle = a.idle;

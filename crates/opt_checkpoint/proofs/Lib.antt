@@ -10,3 +10,4 @@ pub mod Batches
 pub mod BatchRows
 pub mod Expected
 pub mod NoticeRows
+pub mod Apart

@@ -1,11 +1,11 @@
 -- The next header is written beside the durable one.
-use Rattle.std.proofs.Common.{◌≡◌, ◌≢◌, inl, ⊎_elim, ℕ, ◌+◌, ◌-◌, ◌%◌, ◌==◌, ◌||◌, true, List, [], ◌∷◌, ◌++◌, length, Some, refl, sym, ◌∙◌, ap, arith}
+use Rattle.std.proofs.Common.{◌≡◌, ◌≢◌, inl, ⊎_elim, ℕ, ◌+◌, ◌-◌, ◌<◌, ◌≤◌, ◌%◌, ◌==◌, ◌||◌, true, List, [], ◌∷◌, ◌++◌, length, Some, refl, sym, ◌∙◌, subst, ap, arith}
 use Rattle.std.proofs.lemmas.Bool.{eq-eqb}
 use Rattle.std.proofs.lemmas.Option.{same_Some}
 use Rattle.opt_base.specs.Seal.{Blocks}
 use Rattle.opt_disk.specs.declared.event.Event.{Event}
 use Rattle.opt_disk.specs.declared.event.Event.TheVariants.{Wrote}
-use Rattle.opt_disk.specs.Cell.{cell_of}
+use Rattle.opt_disk.specs.Cell.{cell_of, greatest_ticket}
 use Rattle.opt_geom.specs.Geometry.{ring_block}
 use Rattle.opt_journal.specs.declared.header.Header.{Header}
 use Rattle.opt_journal.specs.Ring.{RingPlaces}
@@ -17,6 +17,7 @@ use Rattle.opt_notes.specs.Notes.{Expected, is_expected, is_noticed}
 use Rattle.opt_checkpoint.specs.declared.pipeline.Pending.{Pending}
 use Rattle.opt_checkpoint.specs.declared.pipeline.Pipeline.{Pipeline}
 use Rattle.opt_checkpoint.specs.Agree.{PipelineAgrees, IsRecordAt, data_of}
+use Rattle.opt_checkpoint.proofs.Apart.{greatest_more, greatest_last, not_old}
 use Rattle.opt_checkpoint.proofs.Expected.{are_more, home_more, with_one, with_old}
 use Rattle.opt_checkpoint.proofs.Notices.{noticed_before}
 
@@ -26,6 +27,7 @@ moved l h freed k number place count payloads fresh own r = record { written = r
 
 module _ (base : Blocks) (log : List Event) (l : Ledger) (v : Pipeline) (ring : RingPlaces) (waiting : List (ℕ × ℕ)) (taken : List ℕ) (a : PipelineAgrees base log l v ring waiting taken) (keeps : IsConsistentWith base log l)
     (t : ℕ) (x : List ℕ) (notes : Expected) (expect : (u : ℕ) → is_expected u notes.notes ≡ (t == u || is_expected u v.notes.notes)) (quiet : (u : ℕ) → is_noticed u notes.notes ≡ is_noticed u v.notes.notes)
+    (above : greatest_ticket log < t)
     (agree : DataAgree base (log ++ Wrote t (1 - l.slot) x ∷ []) (with_header l (next_header l (length v.placed.items))) (with_pending (data_of v ring waiting) t))
     (one : HasOnePending base (log ++ Wrote t (1 - l.slot) x ∷ []) (with_header l (next_header l (length v.placed.items))) (with_pending (data_of v ring waiting) t) [])
     (free : MayWriteAllFresh (log ++ Wrote t (1 - l.slot) x ∷ []) (with_header l (next_header l (length v.placed.items))) (data_of v ring waiting) taken)
@@ -61,11 +63,26 @@ module _ (base : Blocks) (log : List Event) (l : Ledger) (v : Pipeline) (ring : 
       home = home_more v.home.items v.notes.notes notes.notes more a.expected.home;
       header = λ q is. expect q.ticket ∙ with_one t q.ticket (is_expected q.ticket v.notes.notes) (eq-eqb t q.ticket (ap (λ (p : Pending). p.ticket) (same_Some _ _ is)));
     };
+    apart = record {
+      records = a.apart.records;
+      beside = λ k u c is held. ⊎_elim (λ r. a.apart.beside k u c is (inl r)) (λ r. not_old log v a.apart k u c is (subst (λ n. greatest_ticket log < n) (own r.0 r.1 ∙ r.2) above)) held;
+      records_upto = λ k u c is mine. omega (arith, grows, a.apart.records_upto k u c is mine);
+      beside_upto = λ u held. ⊎_elim (λ r. later u (a.apart.beside_upto u (inl r))) (λ r. subst (λ n. n ≤ greatest_ticket (log ++ Wrote t (1 - l.slot) x ∷ [])) (own r.0 r.1 ∙ r.2) (greatest_last log t (1 - l.slot) x)) held;
+    };
     free = free;
     idle = record { each = (idle_wrote (1 - l.slot) (λ place same. slot_apart l.slot (place % l.geom.j) same) a.idle).each };
     one = one;
   }
     where
+      grows : greatest_ticket log ≤ greatest_ticket (log ++ Wrote t (1 - l.slot) x ∷ [])
+      grows = greatest_more log (Wrote t (1 - l.slot) x ∷ [])
+
+      later : (u : ℕ) → u ≤ greatest_ticket log → u ≤ greatest_ticket (log ++ Wrote t (1 - l.slot) x ∷ [])
+      later u upto = omega (arith, upto, grows)
+
+      own : (q : Pending) → next.next ≡ Some q → t ≡ q.ticket
+      own q is = ap (λ (p : Pending). p.ticket) (same_Some _ _ is)
+
       more : (u : ℕ) → is_expected u v.notes.notes ≡ true → is_expected u notes.notes ≡ true
       more u e = expect u ∙ with_old (t == u) (is_expected u v.notes.notes) e
 

@@ -21,7 +21,7 @@ use Rattle.opt_tx.specs.States.{IsSureOf}
 use Rattle.opt_checkpoint.specs.declared.pipeline.Pending.{Pending}
 use Rattle.opt_checkpoint.specs.declared.pipeline.Pipeline.{Pipeline}
 use Rattle.opt_checkpoint.proofs.Lists.{get_drop, either}
-use Rattle.opt_checkpoint.specs.Agree.{PipelineAgrees, IsRecordAt, KeepsRecord, data_of, durable_count, no_tickets, tickets_in}
+use Rattle.opt_checkpoint.specs.Agree.{PipelineAgrees, IsOpenBeside, IsRecordAt, KeepsRecord, data_of, durable_count, no_tickets, tickets_in}
 
 -- forgotten tickets are dropped
 drop_none : (d n : ℕ) (xs : List (List ℕ)) → d ≤ n → drop d (no_tickets n ++ xs) ≡ no_tickets (n - d) ++ xs
@@ -114,6 +114,10 @@ module _ (base : Blocks) (log : List Event) (l : Ledger) (v : Pipeline) (ring : 
     durable_is k t is = shift a.freed (length v.placed.items + length v.sure.items + (grown + k)) (length ps.items + length ss.items + k) t.number t.place t.count t.payloads.items t.fresh.items t.freed.items
         (omega (arith, sizes_placed, sizes_sure, gone_placed)) (a.durable_at (grown + k) t (sym (get_drop grown v.durable.items k) ∙ ap (λ (xs : List Durable). slice_get xs k) (sym ds_is) ∙ is))
 
+    -- what is open beside the records was so before
+    open_before : (t : ℕ) → IsOpenBeside turned t → IsOpenBeside v t
+    open_before t held = ⊎_elim inl (λ r. absurd (none-some r.0 r.1)) held
+
     pub agrees_turned : PipelineAgrees base log (with_durable_header l h) turned (without_places ring released) more taken
     agrees_turned = record {
       geom = a.geom;
@@ -139,6 +143,12 @@ module _ (base : Blocks) (log : List Event) (l : Ledger) (v : Pipeline) (ring : 
       agree = data_is;
       notes = a.notes;
       expected = record { records = a.expected.records; home = a.expected.home; header = λ k none. absurd (none-some k none) };
+      apart = record {
+        records = a.apart.records;
+        beside = λ k t c is held. a.apart.beside k t c is (open_before t held);
+        records_upto = a.apart.records_upto;
+        beside_upto = λ t held. a.apart.beside_upto t (open_before t held);
+      };
       free = known_free;
       idle = known_idle;
       one = record { one = known_one.one; slot = known_one.slot; ring = known_one.ring; block = λ b low e. ⊎_elim inl (λ r. inr (⊎_elim inl (λ w. inr (record { at = w.at; ticket = w.ticket; bytes = w.bytes; listed = w.listed; last = w.last })) r)) (known_one.block b low e); below = known_one.below; none = known_one.none };

@@ -1,8 +1,8 @@
 -- What the pipeline keeps: its own data agree with the ledger, and with what the crash argument asks for. It is described in docs/PIPELINE.md.
-use Rattle.std.specs.Prelude.{◌≡◌, ℕ, zero, suc, ◌+◌, ◌≤◌, nat_lt, true, false, IsTrue, if◌then◌else◌, List, [], ◌∷◌, ◌++◌, length, map, slice_get, Some, option_map}
+use Rattle.std.specs.Prelude.{◌≡◌, ◌⊎◌, ℕ, zero, suc, ◌+◌, ◌<◌, ◌≤◌, nat_lt, true, false, IsTrue, if◌then◌else◌, List, [], ◌∷◌, ◌++◌, length, map, slice_get, Some, option_map}
 use Rattle.opt_base.specs.Seal.{Blocks}
 use Rattle.opt_disk.specs.declared.event.Event.{Event}
-use Rattle.opt_disk.specs.Cell.{cell_of, IsNoticed}
+use Rattle.opt_disk.specs.Cell.{cell_of, greatest_ticket, IsNoticed}
 use Rattle.opt_journal.specs.declared.header.Header.{Header}
 use Rattle.opt_journal.specs.Ring.{RingPlaces}
 use Rattle.opt_geom.specs.Geometry.{data_start}
@@ -100,6 +100,27 @@ pub record OpenAreExpected (v : Pipeline) : Type 0 where
   pub home : AreExpectedHome v.home.items v.notes.notes
   pub header : (q : Pending) → v.next ≡ Some q → is_expected q.ticket v.notes.notes ≡ true
 
+-- no ticket is one of both
+abbrev pub AreApart : List ℕ → List ℕ → Type 0
+AreApart ts us = (t : ℕ) → is_one_of t ts ≡ true → is_one_of t us ≡ false
+
+-- these tickets were given since: they are above the greatest of the old log, and none is above that of the new one
+pub record AreNewTickets (old new : List Event) (ts : List ℕ) : Type 0 where
+  pub above : (t : ℕ) → is_one_of t ts ≡ true → greatest_ticket old < t
+  pub upto : (t : ℕ) → is_one_of t ts ≡ true → t ≤ greatest_ticket new
+  pub grows : greatest_ticket old ≤ greatest_ticket new
+
+-- the ticket is open and no committed record's: it is that of a checkpoint write, or of the header that isn't known to be durable
+abbrev pub IsOpenBeside : Pipeline → ℕ → Type 0
+IsOpenBeside v t = ((k : ℕ) × (h : HomeWrite) × (slice_get v.home.items k ≡ Some h) × (h.ticket ≡ t)) ⊎ ((q : Pending) × (v.next ≡ Some q) × (q.ticket ≡ t))
+
+-- Each committed record has tickets of its own: none is another record's, a checkpoint write's or the pending header's. None that is open is above the greatest of the log.
+pub record OpenAreApart (log : List Event) (v : Pipeline) : Type 0 where
+  pub records : (i k : ℕ) (c d : Committed) → i < k → slice_get v.committed.items i ≡ Some c → slice_get v.committed.items k ≡ Some d → AreApart c.tickets.items d.tickets.items
+  pub beside : (k t : ℕ) (c : Committed) → slice_get v.committed.items k ≡ Some c → IsOpenBeside v t → is_one_of t c.tickets.items ≡ false
+  pub records_upto : (k t : ℕ) (c : Committed) → slice_get v.committed.items k ≡ Some c → is_one_of t c.tickets.items ≡ true → t ≤ greatest_ticket log
+  pub beside_upto : (t : ℕ) → IsOpenBeside v t → t ≤ greatest_ticket log
+
 -- What each step of the pipeline keeps, beside that the disk is safe with this ledger. `waiting` are the freed blocks that wait, and `taken` the blocks that the running transaction took.
 pub record PipelineAgrees (base : Blocks) (log : List Event) (l : Ledger) (v : Pipeline) (ring : RingPlaces) (waiting : List (ℕ × ℕ)) (taken : List ℕ) : Type 0 where
   -- the headers
@@ -124,6 +145,7 @@ pub record PipelineAgrees (base : Blocks) (log : List Event) (l : Ledger) (v : P
   pub agree : DataAgree base log l (data_of v ring waiting)
   pub notes : NotesAreTrue log v.notes.notes
   pub expected : OpenAreExpected v
+  pub apart : OpenAreApart log v
   -- no record is under way, and no block has two writes pending
   pub idle : NoneIsBeingWritten (cell_of base log) l
   pub one : HasOnePending base log l (data_of v ring waiting) []

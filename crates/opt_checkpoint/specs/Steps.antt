@@ -16,7 +16,7 @@ use Rattle.opt_tx.specs.declared.commit.Committed.{Committed}
 use Rattle.opt_tx.specs.declared.commit.CommitRefusal.{CommitRefusal}
 use Rattle.opt_tx.specs.declared.commit.CommitRefusal.TheVariants.{NoMemory, DiskFault}
 use Rattle.opt_tx.specs.declared.states.Durable.{Durable}
-use Rattle.opt_tx.specs.States.{IsDurableOf}
+use Rattle.opt_tx.specs.States.{IsDurableOf, Forgets}
 use Rattle.opt_crash.specs.Writes.{AddsFront}
 use Rattle.opt_checkpoint.specs.declared.pipeline.Pipeline.{Pipeline}
 use Rattle.opt_checkpoint.specs.Agree.{PipelineAgrees}
@@ -50,14 +50,15 @@ abbrev pub is_first_noticed : List Committed → List Note → Bool
 is_first_noticed [] notes = false
 is_first_noticed (c ∷ cs) notes = are_noticed c.tickets.items notes
 
--- the oldest committed record has become the last durable one, and nothing else has changed
+-- the oldest committed record has become the last durable one, its tickets have left the notes, and nothing else has changed
 pub record SettlesFirst (v w : Pipeline) : Type 0 where
   pub first : Committed
   pub settled : Durable
   pub was : v.committed.items ≡ first ∷ w.committed.items
   pub keeps : IsDurableOf first settled
   pub durable : w.durable.items ≡ v.durable.items ++ settled ∷ []
-  pub rest : w ≡ record v { committed = w.committed; durable = w.durable }
+  pub forgets : Forgets first.tickets.items v.notes w.notes
+  pub rest : w ≡ record v { committed = w.committed; durable = w.durable; notes = w.notes }
 
 -- or nothing has changed at all
 abbrev pub SettlesOrStays : Bool → Pipeline → Pipeline → Type 0

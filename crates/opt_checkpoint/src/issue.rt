@@ -38,22 +38,22 @@ pub fn commit_next<D: Disk>(
     epoch: u64,
     number: u64,
 ) -> Result<(), (Running, CommitRefusal)>
-    requires some { 0 < length running.paid.items }
-    requires small { length running.paid.items + length running.laid.items ≤ 2097152 }
+    requires some { 0 < length running.paid }
+    requires small { length running.paid + length running.laid ≤ 2097152 }
     requires on_disk { (D.state disk.old).blocks ≡ ring.old.geom.n }
-    requires free { ring.old.taken + places (record_of 0 0 running.paid.items running.laid.items) ≤ ring.old.geom.j }
-    requires below { AreBelow (D.state disk.old).blocks running.laid.items }
+    requires free { ring.old.taken + places (record_of 0 0 running.paid running.laid) ≤ ring.old.geom.j }
+    requires below { AreBelow (D.state disk.old).blocks running.laid }
     requires room { vec_len pipeline.old.committed < vec_capacity pipeline.old.committed }
-    requires tickets { length running.laid.items + places (record_of 0 0 running.paid.items running.laid.items) ≤ pipeline.old.notes.room }
+    requires tickets { length running.laid + places (record_of 0 0 running.paid running.laid) ≤ pipeline.old.notes.room }
     ensures agrees { IsTrue D.tells → (s : MountedSession) (l : Ledger) (m : Blocks) (t floor : ℕ) (waiting : List (ℕ × ℕ)) (taken : List ℕ) → IsSafe s (D.state disk.old).base (D.state disk.old).log l t floor → PipelineAgrees (D.state disk.old).base (D.state disk.old).log l pipeline.old ring.old waiting taken
-        → IsTransaction l epoch number ring.old.next running.paid.items running.laid.items m → AreTaken running.laid.items taken → HasFreed l m running.freed.items
-        → CommitNextLeaves s l (written_of epoch number ring.old.next running.paid.items running.laid.items) m t floor result (D.state disk.new).base (D.state disk.new).log pipeline.new ring.new (waiting ++ pairs_of number running.freed.items) }
-    ensures joins { OnOk result ((c : Committed) × IsCommitOf running number ring.old.next c × Accepts c pipeline.old pipeline.new × (IsTrue D.tells → AddsWrites (record_writes ring.old.geom epoch number ring.old.next running.paid.items running.laid.items) c.tickets.items (D.state disk.old).log (D.state disk.new).log)) }
+        → IsTransaction l epoch number ring.old.next running.paid running.laid m → AreTaken running.laid taken → HasFreed l m running.freed
+        → CommitNextLeaves s l (written_of epoch number ring.old.next running.paid running.laid) m t floor result (D.state disk.new).base (D.state disk.new).log pipeline.new ring.new (waiting ++ pairs_of number running.freed) }
+    ensures joins { OnOk result ((c : Committed) × IsCommitOf running number ring.old.next c × Accepts c pipeline.old pipeline.new × (IsTrue D.tells → AddsWrites (record_writes ring.old.geom epoch number ring.old.next running.paid running.laid) c.tickets.items (D.state disk.old).log (D.state disk.new).log)) }
     ensures back { IfErr result (λ (back, why). (back ≡ running) × (pipeline.new ≡ pipeline.old)) }
     ensures nothing { IfErr result (λ (back, why). WhereNoMemory why ((disk.new ≡ disk.old) × (ring.new ≡ ring.old))) }
-    ensures ring { OnOk result (ring.new ≡ with_places ring.old (places (record_of 0 0 running.paid.items running.laid.items))) }
-    ensures places { IfErr result (λ (back, why). WhereDiskFault why (ring.new ≡ with_places ring.old (places (record_of 0 0 running.paid.items running.laid.items)))) }
-    ensures front { IsTrue D.tells → IfErr result (λ (back, why). WhereFront why (record_writes ring.old.geom epoch number ring.old.next running.paid.items running.laid.items) (D.state disk.old).log (D.state disk.new).log) }
+    ensures ring { OnOk result (ring.new ≡ with_places ring.old (places (record_of 0 0 running.paid running.laid))) }
+    ensures places { IfErr result (λ (back, why). WhereDiskFault why (ring.new ≡ with_places ring.old (places (record_of 0 0 running.paid running.laid)))) }
+    ensures front { IsTrue D.tells → IfErr result (λ (back, why). WhereFront why (record_writes ring.old.geom epoch number ring.old.next running.paid running.laid) (D.state disk.old).log (D.state disk.new).log) }
     ensures spends { OnlyWrites (is_disk_fault result) (D.state disk.old) (D.state disk.new) }
 {
     noticed_tickets_stay_so();

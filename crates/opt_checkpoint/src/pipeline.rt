@@ -20,8 +20,8 @@ ghost use Rattle.opt_crash.specs.Steps.{with_known, with_record};
 ghost use Rattle.opt_notes.specs.Notes.{is_expected, is_noticed};
 ghost use Rattle.opt_tx.specs.Record.{written_of};
 ghost use Rattle.opt_tx.specs.Commits.{IsCommitOf};
-ghost use Rattle.opt_tx.specs.declared.running.Running.{Running};
-ghost use Rattle.opt_checkpoint.specs.Agree.{PipelineAgrees, HasFreed, data_of};
+ghost use Rattle.opt_tx.specs.Running.{Changes};
+ghost use Rattle.opt_checkpoint.specs.Agree.{PipelineAgrees, AreNewTickets, HasFreed, data_of};
 ghost use Rattle.opt_checkpoint.specs.Steps.{TakesNotices, TakesOne, PollsUpTo, SettlesOrStays, Accepts, is_first_noticed};
 
 use opt_crash::{
@@ -110,7 +110,7 @@ fn take_notice<D: Disk>(disk: &mut D, pipeline: &mut Pipeline) -> Result<bool, D
 }
 
 /// Lets the oldest committed transaction become durable, where all its tickets are noticed, and answers
-/// whether it did.
+/// whether it did. Then the notes drop these tickets.
 pub fn settle_first(pipeline: &mut Pipeline) -> bool
     requires room { vec_len pipeline.old.durable < vec_capacity pipeline.old.durable }
     ensures agrees { (s : MountedSession) (base : Blocks) (log : List Event) (l : Ledger) (t floor : ℕ) (ring : RingPlaces) (waiting : List (ℕ × ℕ)) (taken : List ℕ) → IsSafe s base log l t floor → PipelineAgrees base log l pipeline.old ring waiting taken
@@ -134,7 +134,7 @@ pub fn settle_first(pipeline: &mut Pipeline) -> bool
         return false;
     }
     let first = pipeline.committed.remove(0);
-    let durable = first.settled(&pipeline.notes).unwrap();
+    let durable = first.settled_for_good(&mut pipeline.notes).unwrap();
     pipeline.durable.push(durable).unwrap();
     true
 }
@@ -143,11 +143,11 @@ pub fn settle_first(pipeline: &mut Pipeline) -> bool
 pub fn accept(pipeline: &mut Pipeline, committed: Committed)
     requires room { vec_len pipeline.old.committed < vec_capacity pipeline.old.committed }
     requires tickets { length committed.tickets.items ≤ pipeline.old.notes.room }
-    ensures agrees { (s : MountedSession) (base : Blocks) (old new : List Event) (l : Ledger) (m : Blocks) (t floor epoch : ℕ) (ring : RingPlaces) (waiting : List (ℕ × ℕ)) (taken : List ℕ) (running : Running) → PipelineAgrees base old l pipeline.old ring waiting taken → IsSafe s base old l t floor
-        → IsCommitOf running (next_number l) ring.next committed → ((u : ℕ) → IsNoticed u old → IsNoticed u new) → HasFreed l m committed.freed.items
-        → IsInLedger s base new l (data_of pipeline.old ring waiting) (written_of epoch (next_number l) ring.next running.paid.items running.laid.items) m t floor committed.tickets.items
-        → ((freed : List ℕ) → HasOnePending base new (with_record l (written_of epoch (next_number l) ring.next running.paid.items running.laid.items) m) (with_committed (data_of pipeline.old ring waiting) l (written_of epoch (next_number l) ring.next running.paid.items running.laid.items) committed.tickets.items freed) [])
-        → PipelineAgrees base new (with_record l (written_of epoch (next_number l) ring.next running.paid.items running.laid.items) m) pipeline.new (with_places ring (places (written_of epoch (next_number l) ring.next running.paid.items running.laid.items).says)) (waiting ++ pairs_of (next_number l) committed.freed.items) [] }
+    ensures agrees { (s : MountedSession) (base : Blocks) (old new : List Event) (l : Ledger) (m : Blocks) (t floor epoch : ℕ) (ring : RingPlaces) (waiting : List (ℕ × ℕ)) (taken : List ℕ) (running : Changes) → PipelineAgrees base old l pipeline.old ring waiting taken → IsSafe s base old l t floor
+        → IsCommitOf running (next_number l) ring.next committed → ((u : ℕ) → IsNoticed u old → IsNoticed u new) → AreNewTickets old new committed.tickets.items → HasFreed l m committed.freed.items
+        → IsInLedger s base new l (data_of pipeline.old ring waiting) (written_of epoch (next_number l) ring.next running.paid running.laid) m t floor committed.tickets.items
+        → ((freed : List ℕ) → HasOnePending base new (with_record l (written_of epoch (next_number l) ring.next running.paid running.laid) m) (with_committed (data_of pipeline.old ring waiting) l (written_of epoch (next_number l) ring.next running.paid running.laid) committed.tickets.items freed) [])
+        → PipelineAgrees base new (with_record l (written_of epoch (next_number l) ring.next running.paid running.laid) m) pipeline.new (with_places ring (places (written_of epoch (next_number l) ring.next running.paid running.laid).says)) (waiting ++ pairs_of (next_number l) committed.freed.items) [] }
     ensures accepts { Accepts committed pipeline.old pipeline.new }
 {
     records_stand_in_order();

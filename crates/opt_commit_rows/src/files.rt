@@ -1,8 +1,6 @@
 //! The blocks of a small tree on a disk of 64 blocks, 16 of the journal, 16 nodes: the root, and in it the
 //! file `a`. They are made by the codecs of the file system.
 
-ghost use Rattle.opt_commit_rows.specs.Ready.{IsReady};
-
 use crate::transactions::put_block;
 use opt_base::{Block, Name, NoMemory, Run, RunList};
 use opt_bitmap::set;
@@ -31,18 +29,14 @@ pub(crate) fn make_file(
     running: &mut Running,
     geom: &Geom,
     content: &[u8],
-) -> Result<bool, NoMemory>
-    requires { IsReady running.old }
-    ensures { IsReady running.new }
-{
+) -> Result<(), NoMemory> {
     let mut bitmap = [formatted_block(geom, BITMAP)];
     set(&mut bitmap, ENTRIES);
     set(&mut bitmap, CONTENT);
-    let entered = put_block(alloc, running, ENTRIES, &entries(), false)?;
-    let written = put_block(alloc, running, CONTENT, &content_block(content), true)?;
-    let numbered = put_block(alloc, running, NODES, &nodes(content), false)?;
-    let mapped = put_block(alloc, running, BITMAP, &bitmap[0], false)?;
-    Ok(entered && written && numbered && mapped)
+    put_block(alloc, running, ENTRIES, &entries(), false)?;
+    put_block(alloc, running, CONTENT, &content_block(content), true)?;
+    put_block(alloc, running, NODES, &nodes(content), false)?;
+    put_block(alloc, running, BITMAP, &bitmap[0], false)
 }
 
 /// Puts what writing over the file changes: its node and its block.
@@ -53,13 +47,9 @@ pub(crate) fn write_over(
     alloc: Global,
     running: &mut Running,
     content: &[u8],
-) -> Result<bool, NoMemory>
-    requires { IsReady running.old }
-    ensures { IsReady running.new }
-{
-    let written = put_block(alloc, running, CONTENT, &content_block(content), false)?;
-    let numbered = put_block(alloc, running, NODES, &nodes(content), false)?;
-    Ok(written && numbered)
+) -> Result<(), NoMemory> {
+    put_block(alloc, running, CONTENT, &content_block(content), false)?;
+    put_block(alloc, running, NODES, &nodes(content), false)
 }
 
 /// The root, which has one entry, and the file with this content.

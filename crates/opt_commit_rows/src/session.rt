@@ -1,10 +1,8 @@
 //! A disk that a mount began to write on, and the records that rows commit to it.
 
-ghost use Rattle.opt_commit_rows.specs.Ready.{IsReady};
-
 use crate::events::write_event;
 use crate::files::{make_file, write_over};
-use crate::transactions::{EPOCH, Outcome, commit, put_block, running};
+use crate::transactions::{EPOCH, Outcome, commit, put_block};
 use anyhow::Result;
 use opt_base::NoMemory;
 use opt_disk::Disk;
@@ -77,31 +75,48 @@ impl Session {
         words: &[&str],
         out: &mut W,
     ) -> Result<bool> {
-        let mut changed = running(alloc);
-        let in_full = match words {
+        match words {
             ["header"] => {
                 self.write_events(alloc, out, true)?;
-                return Ok(true);
+                Ok(true)
             }
-            ["finish"] => return self.finish(alloc, out),
-            ["fail", nth] => {
-                let Ok(nth) = nth.parse::<u64>() else {
-                    return Ok(false);
-                };
-                let fail = Fail {
-                    kind: DiskCall::Write,
-                    nth,
-                };
-                self.disk.fail_at(alloc, &[fail])?;
-                return Ok(true);
-            }
+            ["finish"] => self.finish(alloc, out),
+            ["fail", nth] => self.fail(alloc, nth),
+            _ => self.take_changes(alloc, words, out),
+        }
+    }
+
+    /// Lets a write of the disk fail. Whether the word says which.
+    fn fail(&mut self, alloc: Global, nth: &str) -> Result<bool> {
+        let Ok(nth) = nth.parse::<u64>() else {
+            return Ok(false);
+        };
+        let fail = Fail {
+            kind: DiskCall::Write,
+            nth,
+        };
+        self.disk.fail_at(alloc, &[fail])?;
+        Ok(true)
+    }
+
+    /// Commits what these words change. Whether they are a row that changes something.
+    fn take_changes<W: Write>(
+        &mut self,
+        alloc: Global,
+        words: &[&str],
+        out: &mut W,
+    ) -> Result<bool> {
+        let mut changed = Running::new(alloc);
+        let in_full = match words {
             ["file", content] => {
                 let content = hex::decode(alloc, content.as_bytes())?;
-                make_file(alloc, &mut changed, &self.ring.geom(), content.as_slice())?
+                make_file(alloc, &mut changed, &self.ring.geom(), content.as_slice())?;
+                true
             }
             ["over", content] => {
                 let content = hex::decode(alloc, content.as_bytes())?;
-                write_over(alloc, &mut changed, content.as_slice())?
+                write_over(alloc, &mut changed, content.as_slice())?;
+                true
             }
             ["commit", changes @ ..] => {
                 if !put_all(alloc, &mut changed, changes)? {
@@ -217,10 +232,7 @@ fn write_first_header(disk: &mut MemDisk, geom: Geom) {
 }
 
 /// Puts what these words name. Whether each of them is a change.
-fn put_all(alloc: Global, running: &mut Running, words: &[&str]) -> Result<bool, NoMemory>
-    requires { IsReady running.old }
-    ensures { IsReady running.new }
-{
+fn put_all(alloc: Global, running: &mut Running, words: &[&str]) -> Result<bool, NoMemory> {
     for word in words {
         let Some((block, filler, fresh)) = change_of(word) else {
             return Ok(false);

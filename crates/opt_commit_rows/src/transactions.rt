@@ -5,7 +5,6 @@ ghost use Rattle.std.specs.Prelude.{◌≡◌, IsTrue, nat_lt};
 ghost use Rattle.std.specs.List.{list_all};
 ghost use Rattle.opt_tx.specs.declared.put.Put as put;
 ghost use Rattle.opt_tx.specs.Record.{AreBelow};
-ghost use Rattle.opt_commit_rows.specs.Ready.{IsReady};
 
 use opt_base::{Block, NoMemory};
 use opt_disk::Disk;
@@ -17,17 +16,10 @@ use std::alloc::Global;
 /// The epoch of the mount that the rows follow.
 pub(crate) const EPOCH: u64 = 2;
 
-/// The most puts of a row, which no row comes near.
+/// The most payloads or fresh blocks of a row, which no row comes near.
 const MANY: usize = 1_048_576;
 
-/// A transaction that changed nothing.
-pub(crate) fn running(alloc: Global) -> Running
-    ensures { IsReady result }
-{
-    Running::new(alloc)
-}
-
-/// Puts a block. A fresh one is taken, and its bytes are content. Whether there was room.
+/// Puts a block. A fresh one is taken, and its bytes are content.
 ///
 /// # Errors
 /// Out of memory.
@@ -37,19 +29,7 @@ pub(crate) fn put_block(
     block: u32,
     bytes: &Block,
     fresh: bool,
-) -> Result<bool, NoMemory>
-    requires { IsReady running.old }
-    ensures { IsReady running.new }
-{
-    if running.paid.len() > MANY {
-        return Ok(false);
-    }
-    if running.laid.len() > MANY {
-        return Ok(false);
-    }
-    if running.spare.len() > MANY {
-        return Ok(false);
-    }
+) -> Result<(), NoMemory> {
     running.reserve(alloc, 1, 1, 0)?;
     if fresh {
         running.took(block);
@@ -57,7 +37,7 @@ pub(crate) fn put_block(
     } else {
         running.put(block, bytes, Class::Meta);
     }
-    Ok(true)
+    Ok(())
 }
 
 /// Whether each of the puts is of a block of a disk of `n` blocks.
@@ -92,8 +72,8 @@ pub(crate) fn commit(
     ring.lawful();
     let geom = ring.geom();
     geom.lawful();
-    let paid = running.paid.as_slice();
-    let laid = running.laid.as_slice();
+    let paid = running.payloads();
+    let laid = running.fresh();
     if disk.blocks() != geom.n() {
         return Outcome::Unfit;
     }

@@ -1,72 +1,100 @@
--- What a running transaction is.
-use Rattle.std.specs.Prelude.{◌≡◌, ◌⊎◌, ℕ, ◌+◌, ◌<◌, ◌≤◌, ◌==◌, nat_lt, Bool, false, if◌then◌else◌, List, [], ◌∷◌, slice_get, Some, vec_len, vec_capacity}
+-- What a running transaction is, and what its calls change of it. It is described in docs/PIPELINE.md.
+use Rattle.std.specs.Prelude.{◌≡◌, ℕ, ◌+◌, ◌<◌, ◌≤◌, ◌==◌, nat_lt, Bool, false, if◌then◌else◌, List, [], ◌∷◌, ◌++◌, slice_get, Option, Some}
+use Rattle.opt_journal.specs.Run.{or_else}
 use Rattle.opt_crash.specs.HomeTest.{is_one_of}
 use Rattle.opt_tx.specs.declared.put.Put.{Put}
 use Rattle.opt_tx.specs.declared.put.Class.{Class}
 use Rattle.opt_tx.specs.declared.put.Class.TheVariants.{Meta, Content}
-use Rattle.opt_tx.specs.declared.running.Running.{Running}
 use Rattle.opt_tx.specs.Rows.{IsRising, with_put, without_put, put_of, LacksBlock}
 
--- its rows ascend, and no block is in both
-pub record IsOrdered (r : Running) : Type 0 where
-  pub paid : IsRising r.paid.items
-  pub laid : IsRising r.laid.items
-  pub apart : (k : ℕ) (p : Put) → slice_get r.laid.items k ≡ Some p → LacksBlock p.block r.paid.items
+-- the puts that will be payloads, those that will be fresh blocks, the blocks taken, and the blocks freed; and for how many puts, takes and frees more there is room
+pub record Changes : Type 0 where
+  pub paid : List Put
+  pub laid : List Put
+  pub taken : List ℕ
+  pub freed : List ℕ
+  pub puts : ℕ
+  pub takes : ℕ
+  pub frees : ℕ
 
--- the bytes that it put for a block
-abbrev pub PutsBlock : Running → ℕ → List ℕ → Type 0
-PutsBlock r b x = (put_of b r.laid.items ≡ Some x) ⊎ (put_of b r.paid.items ≡ Some x)
-
--- it changed nothing
-pub record IsEmpty (r : Running) : Type 0 where
-  pub paid : r.paid.items ≡ []
-  pub laid : r.laid.items ≡ []
-  pub taken : r.taken.items ≡ []
-  pub freed : r.freed.items ≡ []
-
--- each box that it has, in a row or spare, has room in either row and among the spare ones
-pub record HasRowRoom (r : Running) : Type 0 where
-  pub paid : vec_len r.paid + vec_len r.laid + vec_len r.spare ≤ vec_capacity r.paid
-  pub laid : vec_len r.paid + vec_len r.laid + vec_len r.spare ≤ vec_capacity r.laid
-  pub back : vec_len r.paid + vec_len r.laid + vec_len r.spare ≤ vec_capacity r.spare
-
--- room for so many puts, takes and frees more
-pub record HasRoomFor (r : Running) (puts takes frees : ℕ) : Type 0 where
-  pub rows : HasRowRoom r
-  pub boxes : puts ≤ vec_len r.spare
-  pub taken : vec_len r.taken + takes ≤ vec_capacity r.taken
-  pub freed : vec_len r.freed + frees ≤ vec_capacity r.freed
+-- both rows of puts ascend, and no block is in both
+pub record IsOrdered (payloads fresh : List Put) : Type 0 where
+  pub paid : IsRising payloads
+  pub laid : IsRising fresh
+  pub apart : (k : ℕ) (p : Put) → slice_get fresh k ≡ Some p → LacksBlock p.block payloads
 
 -- the numbers ascend
 abbrev pub IsRisingNumbers : List ℕ → Type 0
 IsRisingNumbers ns = (i k m n : ℕ) → i < k → slice_get ns i ≡ Some m → slice_get ns k ≡ Some n → m < n
+
+-- what the type keeps: rows and taken blocks ascend, and each box that there is, in a row or spare, has room in either row and among the spare ones
+pub record IsKept (payloads fresh : List Put) (taken : List ℕ) (boxes paid_room laid_room spare_room : ℕ) : Type 0 where
+  pub ordered : IsOrdered payloads fresh
+  pub numbers : IsRisingNumbers taken
+  pub paid_has : boxes ≤ paid_room
+  pub laid_has : boxes ≤ laid_room
+  pub spare_has : boxes ≤ spare_room
+
+-- the bytes that it put for a block
+abbrev pub bytes_put : Changes → ℕ → Option (List ℕ)
+bytes_put c b = or_else (put_of b c.laid) (put_of b c.paid)
+
+-- it changed nothing
+pub record IsEmpty (c : Changes) : Type 0 where
+  pub paid : c.paid ≡ []
+  pub laid : c.laid ≡ []
+  pub taken : c.taken ≡ []
+  pub freed : c.freed ≡ []
+
+-- room for so many puts, takes and frees
+pub record HasRoomFor (c : Changes) (puts takes frees : ℕ) : Type 0 where
+  pub for_puts : puts ≤ c.puts
+  pub for_takes : takes ≤ c.takes
+  pub for_frees : frees ≤ c.frees
+
+-- what it changed, took and freed is as it was
+pub record SameChanges (old new : Changes) : Type 0 where
+  pub paid : new.paid ≡ old.paid
+  pub laid : new.laid ≡ old.laid
+  pub taken : new.taken ≡ old.taken
+  pub freed : new.freed ≡ old.freed
 
 -- a put of this class is of a block that will be written in place: content of a block that was taken in this transaction
 abbrev pub is_fresh : Class → List ℕ → ℕ → Bool
 is_fresh Meta taken b = false
 is_fresh Content taken b = is_one_of b taken
 
--- a put: one row has it, and the other has none of its block
-abbrev pub Puts : Bool → Put → Running → Running → Type 0
-Puts fresh p old new =
-    (new.laid.items ≡ (if fresh then with_put p old.laid.items else without_put p.block old.laid.items))
-    × (new.paid.items ≡ (if fresh then without_put p.block old.paid.items else with_put p old.paid.items))
-    × (new.taken.items ≡ old.taken.items) × (new.freed.items ≡ old.freed.items)
-
--- the rows are as they were, and so are the boxes
-pub record SameRows (old new : Running) : Type 0 where
-  pub paid : new.paid ≡ old.paid
-  pub laid : new.laid ≡ old.laid
-  pub spare : new.spare ≡ old.spare
-
--- what it changed, took and freed is as it was
-pub record SameTransaction (old new : Running) : Type 0 where
-  pub paid : new.paid.items ≡ old.paid.items
-  pub laid : new.laid.items ≡ old.laid.items
-  pub taken : new.taken.items ≡ old.taken.items
-  pub freed : new.freed.items ≡ old.freed.items
+-- a put: one row has it, the other has none of its block, and one put less at most has room
+pub record Puts (fresh : Bool) (p : Put) (old new : Changes) : Type 0 where
+  pub laid : new.laid ≡ (if fresh then with_put p old.laid else without_put p.block old.laid)
+  pub paid : new.paid ≡ (if fresh then without_put p.block old.paid else with_put p old.paid)
+  pub taken : new.taken ≡ old.taken
+  pub freed : new.freed ≡ old.freed
+  pub puts : old.puts ≤ new.puts + 1
+  pub takes : new.takes ≡ old.takes
+  pub frees : new.frees ≡ old.frees
 
 -- with this number among those that ascend
 abbrev pub with_number : ℕ → List ℕ → List ℕ
 with_number n [] = n ∷ []
 with_number n (m ∷ ms) = if nat_lt m n then m ∷ with_number n ms else if m == n then m ∷ ms else n ∷ m ∷ ms
+
+-- a block is taken, and one take less at most has room
+pub record Takes (b : ℕ) (old new : Changes) : Type 0 where
+  pub taken : new.taken ≡ with_number b old.taken
+  pub paid : new.paid ≡ old.paid
+  pub laid : new.laid ≡ old.laid
+  pub freed : new.freed ≡ old.freed
+  pub puts : new.puts ≡ old.puts
+  pub takes : old.takes ≤ new.takes + 1
+  pub frees : new.frees ≡ old.frees
+
+-- a block is freed: it leaves both rows, and one free less at most has room
+pub record Frees (b : ℕ) (old new : Changes) : Type 0 where
+  pub freed : new.freed ≡ old.freed ++ b ∷ []
+  pub paid : new.paid ≡ without_put b old.paid
+  pub laid : new.laid ≡ without_put b old.laid
+  pub taken : new.taken ≡ old.taken
+  pub puts : old.puts ≤ new.puts
+  pub takes : new.takes ≡ old.takes
+  pub frees : old.frees ≤ new.frees + 1

@@ -1,5 +1,6 @@
 -- What each state of a transaction keeps of the one before.
-use Rattle.std.specs.Prelude.{◌≡◌}
+use Rattle.std.specs.Prelude.{◌≡◌, ℕ, ◌+◌, ◌&&◌, not, List, length}
+use Rattle.opt_notes.specs.Notes.{Expected, is_expected, is_noticed, is_among}
 use Rattle.opt_tx.specs.declared.commit.Committed.{Committed}
 use Rattle.opt_tx.specs.declared.states.Durable.{Durable}
 use Rattle.opt_tx.specs.declared.states.Sure.{Sure}
@@ -13,6 +14,12 @@ pub record IsDurableOf (c : Committed) (d : Durable) : Type 0 where
   pub payloads : d.payloads ≡ c.payloads
   pub fresh : d.fresh ≡ c.fresh
   pub freed : d.freed ≡ c.freed
+
+-- these tickets have left the notes, with their marks; each note that was dropped gave its room back
+pub record Forgets (tickets : List ℕ) (old new : Expected) : Type 0 where
+  pub expected : (u : ℕ) → is_expected u new.notes ≡ (not (is_among u tickets) && is_expected u old.notes)
+  pub noticed : (u : ℕ) → is_noticed u new.notes ≡ (not (is_among u tickets) && is_noticed u old.notes)
+  pub room : length new.notes + new.room ≡ length old.notes + old.room
 
 pub record IsSureOf (d : Durable) (s : Sure) : Type 0 where
   pub number : s.number ≡ d.number

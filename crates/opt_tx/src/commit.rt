@@ -84,23 +84,23 @@ impl Running {
         epoch: u64,
         number: u64,
     ) -> Result<Committed, (Running, CommitRefusal)>
-        requires some { 0 < length self.paid.items }
-        requires small { length self.paid.items + length self.laid.items ≤ 2097152 }
+        requires some { 0 < length self.paid }
+        requires small { length self.paid + length self.laid ≤ 2097152 }
         requires on_disk { (D.state disk.old).blocks ≡ ring.old.geom.n }
-        requires free { ring.old.taken + places (record_of 0 0 self.paid.items self.laid.items) ≤ ring.old.geom.j }
-        requires below { AreBelow (D.state disk.old).blocks self.laid.items }
-        ensures leaves { IsTrue D.tells → (s : MountedSession) (l : Ledger) (p : PipelineData) (m : Blocks) (t floor : ℕ) → ring.old.geom ≡ l.geom → IsTransaction l epoch number ring.old.next self.paid.items self.laid.items m
+        requires free { ring.old.taken + places (record_of 0 0 self.paid self.laid) ≤ ring.old.geom.j }
+        requires below { AreBelow (D.state disk.old).blocks self.laid }
+        ensures leaves { IsTrue D.tells → (s : MountedSession) (l : Ledger) (p : PipelineData) (m : Blocks) (t floor : ℕ) → ring.old.geom ≡ l.geom → IsTransaction l epoch number ring.old.next self.paid self.laid m
             → NoneIsBeingWritten (cell_of (D.state disk.old).base (D.state disk.old).log) l → DataAgree (D.state disk.old).base (D.state disk.old).log l p → IsSafe s (D.state disk.old).base (D.state disk.old).log l t floor
-            → CommitLeaves s l p (written_of epoch number ring.old.next self.paid.items self.laid.items) m t floor result (D.state disk.new).base (D.state disk.new).log }
-        ensures log { IsTrue D.tells → CommitAdds (record_writes ring.old.geom epoch number ring.old.next self.paid.items self.laid.items) result (D.state disk.old).log (D.state disk.new).log }
-        ensures one { IsTrue D.tells → (s : MountedSession) (l : Ledger) (p : PipelineData) (m : Blocks) (t floor : ℕ) → ring.old.geom ≡ l.geom → IsTransaction l epoch number ring.old.next self.paid.items self.laid.items m
-            → DataAgree (D.state disk.old).base (D.state disk.old).log l p → IsSafe s (D.state disk.old).base (D.state disk.old).log l t floor → HasOnePending (D.state disk.old).base (D.state disk.old).log l p [] → AreNotOnTheirWay (D.state disk.old).log p self.laid.items
-            → CommitKeepsOne l p (written_of epoch number ring.old.next self.paid.items self.laid.items) m result (D.state disk.new).base (D.state disk.new).log }
+            → CommitLeaves s l p (written_of epoch number ring.old.next self.paid self.laid) m t floor result (D.state disk.new).base (D.state disk.new).log }
+        ensures log { IsTrue D.tells → CommitAdds (record_writes ring.old.geom epoch number ring.old.next self.paid self.laid) result (D.state disk.old).log (D.state disk.new).log }
+        ensures one { IsTrue D.tells → (s : MountedSession) (l : Ledger) (p : PipelineData) (m : Blocks) (t floor : ℕ) → ring.old.geom ≡ l.geom → IsTransaction l epoch number ring.old.next self.paid self.laid m
+            → DataAgree (D.state disk.old).base (D.state disk.old).log l p → IsSafe s (D.state disk.old).base (D.state disk.old).log l t floor → HasOnePending (D.state disk.old).base (D.state disk.old).log l p [] → AreNotOnTheirWay (D.state disk.old).log p self.laid
+            → CommitKeepsOne l p (written_of epoch number ring.old.next self.paid self.laid) m result (D.state disk.new).base (D.state disk.new).log }
         ensures made { IfOk result (IsCommitOf self number ring.old.next) }
         ensures back { IfErr result (λ (running, why). running ≡ self) }
         ensures nothing { IfErr result (λ (running, why). WhereNoMemory why ((disk.new ≡ disk.old) × (ring.new ≡ ring.old))) }
-        ensures ring { OnOk result (ring.new ≡ with_places ring.old (places (record_of 0 0 self.paid.items self.laid.items))) }
-        ensures places { IfErr result (λ (running, why). WhereDiskFault why (ring.new ≡ with_places ring.old (places (record_of 0 0 self.paid.items self.laid.items)))) }
+        ensures ring { OnOk result (ring.new ≡ with_places ring.old (places (record_of 0 0 self.paid self.laid))) }
+        ensures places { IfErr result (λ (running, why). WhereDiskFault why (ring.new ≡ with_places ring.old (places (record_of 0 0 self.paid self.laid)))) }
         ensures spends { OnlyWrites (is_disk_fault result) (D.state disk.old) (D.state disk.new) }
     {
         payloads_read_back();
@@ -114,8 +114,8 @@ impl Running {
         ring.lawful();
         let geom = ring.geom();
         geom.lawful();
-        let paid = self.paid.as_slice();
-        let laid = self.laid.as_slice();
+        let paid = self.payloads();
+        let laid = self.fresh();
         let count = places_of(paid.len() as u32, laid.len() as u32);
         let mut tickets = match Vec::with_capacity(alloc, laid.len() + count as usize) {
             Ok(tickets) => tickets,

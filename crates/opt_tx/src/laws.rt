@@ -1,7 +1,7 @@
-//! What a record says of the puts that it was made of, and how many writes it makes, as laws. The functions
-//! do nothing.
+//! What the puts of a transaction are, what its record says of them, and how many writes it makes, as laws.
+//! The functions do nothing.
 
-ghost use Rattle.std.specs.Prelude.{◌≡◌, ◌≤◌, ◌+◌, ℕ, List, length, map};
+ghost use Rattle.std.specs.Prelude.{◌≡◌, ◌≤◌, ◌+◌, ◌==◌, ℕ, Bool, List, length, map, Some, None, if◌then◌else◌};
 ghost use Rattle.opt_disk.specs.declared.event.Event.{Event};
 ghost use Rattle.opt_disk.specs.Cell.{IsNoticed};
 ghost use Rattle.opt_geom.specs.Geometry.{Geometry};
@@ -13,10 +13,19 @@ ghost use Rattle.opt_crash.specs.HomeTest.{is_one_of};
 ghost use Rattle.opt_tx.specs.declared.put.Put.{Put};
 ghost use Rattle.opt_tx.specs.Record.{written_of, fresh_entry, block_of};
 ghost use Rattle.opt_tx.specs.Rows.{put_of};
+ghost use Rattle.opt_tx.specs.Running.{Changes, IsOrdered, Puts, Takes, Frees, bytes_put};
 ghost use Rattle.opt_crash.specs.Writes.{AddsWrites, AddsFront};
 ghost use Rattle.opt_tx.specs.Writes.{record_writes};
 
 use opt_journal::payloads_read_back;
+
+/// A transaction is a map from blocks to the bytes that were put. A put block has its bytes, a freed one has
+/// none, and every other block has what it had.
+pub fn a_transaction_is_a_map_of_its_puts()
+    ensures put { (fresh : Bool) (p : Put) (old new : Changes) → IsOrdered old.paid old.laid → Puts fresh p old new → (b : ℕ) → bytes_put new b ≡ (if p.block == b then Some p.bytes else bytes_put old b) }
+    ensures freed { (c : ℕ) (old new : Changes) → IsOrdered old.paid old.laid → Frees c old new → (b : ℕ) → bytes_put new b ≡ (if c == b then None else bytes_put old b) }
+    ensures took { (c : ℕ) (old new : Changes) → Takes c old new → (b : ℕ) → bytes_put new b ≡ bytes_put old b }
+{}
 
 /// A record has the payloads that were put, and its fresh blocks are those that were laid.
 pub fn a_record_keeps_its_puts()

@@ -15,7 +15,10 @@ mod writes;
 
 pub use commit::{CommitRefusal, Committed, places_of};
 pub use entries::{descriptor_at, entry_at};
-pub use laws::{a_record_keeps_its_puts, a_record_makes_so_many_writes, noticed_tickets_stay_so};
+pub use laws::{
+    a_record_keeps_its_puts, a_record_makes_so_many_writes, a_transaction_is_a_map_of_its_puts,
+    noticed_tickets_stay_so,
+};
 pub use put::{Class, Put};
 pub use running::Running;
 pub use states::{Durable, Placed, Released, Sure};

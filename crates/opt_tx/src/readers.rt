@@ -33,6 +33,20 @@ impl Committed {
     {
         self.payloads.as_slice()
     }
+
+    /// The numbers of its fresh blocks, ascending.
+    pub fn fresh(&self) -> &[u32]
+        ensures { result.now ≡ self.now.fresh.items }
+    {
+        self.fresh.as_slice()
+    }
+
+    /// The blocks that it freed, in the order in which they were freed.
+    pub fn freed(&self) -> &[u32]
+        ensures { result.now ≡ self.now.freed.items }
+    {
+        self.freed.as_slice()
+    }
 }
 
 impl Durable {
@@ -56,6 +70,20 @@ impl Durable {
     {
         self.payloads.as_slice()
     }
+
+    /// The numbers of its fresh blocks, ascending.
+    pub fn fresh(&self) -> &[u32]
+        ensures { result.now ≡ self.now.fresh.items }
+    {
+        self.fresh.as_slice()
+    }
+
+    /// The blocks that it freed, in the order in which they were freed.
+    pub fn freed(&self) -> &[u32]
+        ensures { result.now ≡ self.now.freed.items }
+    {
+        self.freed.as_slice()
+    }
 }
 
 impl Sure {
@@ -78,6 +106,20 @@ impl Sure {
         ensures { result.now ≡ self.now.payloads.items }
     {
         self.payloads.as_slice()
+    }
+
+    /// The numbers of its fresh blocks, ascending.
+    pub fn fresh(&self) -> &[u32]
+        ensures { result.now ≡ self.now.fresh.items }
+    {
+        self.fresh.as_slice()
+    }
+
+    /// The blocks that it freed, in the order in which they were freed.
+    pub fn freed(&self) -> &[u32]
+        ensures { result.now ≡ self.now.freed.items }
+    {
+        self.freed.as_slice()
     }
 }
 

@@ -2,38 +2,45 @@
 //! found by their number, and nothing but `reserve` takes memory. When a transaction is committed, and
 //! which blocks may be taken, isn't its matter.
 
-ghost use Rattle.std.specs.Prelude.{◌≡◌, ◌≤◌, ◌<◌, ◌+◌, ◌++◌, ◌∷◌, [], ℕ, length, slice_get, Some, None, ◌^◌, OnOk, OnErr, IfSome, vec_len, vec_capacity};
+ghost use Rattle.std.specs.Prelude.{◌≡◌, ◌≤◌, ◌<◌, ◌+◌, ℕ, length, slice_get, Some, None, ◌^◌, OnOk, IfSome, vec_len, vec_capacity};
 ghost use Rattle.opt_crash.specs.HomeTest.{is_one_of};
-ghost use Rattle.opt_tx.specs.Rows.{put_of, without_put};
-ghost use Rattle.opt_tx.specs.Running.{IsOrdered, IsRisingNumbers, HasRowRoom, IsEmpty, Puts, PutsBlock, SameRows, SameTransaction, HasRoomFor, is_fresh, with_number};
+ghost use Rattle.opt_tx.specs.Running.{IsOrdered, IsRisingNumbers, IsEmpty, HasRoomFor, SameChanges, Puts, Takes, Frees, bytes_put, is_fresh, with_number};
 
 use crate::rows::{bytes_in, give_back, put_over, take_out};
 use crate::{Class, Put};
 use opt_base::{Block, NoMemory};
 use opt_disk::BoxedBlock;
 use std::alloc::Global;
+use std::marker::Model;
 
 /// The running transaction. Blocks whose bytes will go into the journal and blocks that were taken in it
 /// and will be written in place are kept apart, each ascending by their numbers.
 #[derive(Debug, Drop)]
 pub struct Running {
-    pub paid: Vec<Put>,
-    pub laid: Vec<Put>,
-    /// The blocks taken and not freed since.
-    pub taken: Vec<u32>,
-    pub freed: Vec<u32>,
+    pub(crate) paid: Vec<Put>,
+    pub(crate) laid: Vec<Put>,
+    /// The blocks taken, also those that were freed since, ascending.
+    taken: Vec<u32>,
+    pub(crate) freed: Vec<u32>,
     /// Boxes that were made ready for blocks to be put.
-    pub spare: Vec<BoxedBlock>,
+    spare: Vec<BoxedBlock>,
+}
+
+impl Model for Running {
+    ghost use Rattle.std.specs.Prelude.{◌+◌, ◌-◌, vec_len, vec_capacity};
+    ghost use Rattle.opt_tx.specs.Running.{Changes, IsKept};
+
+    ghost Value = { Changes };
+
+    ghost view = { λ r. record { paid = r.paid.items; laid = r.laid.items; taken = r.taken.items; freed = r.freed.items; puts = vec_len r.spare; takes = vec_capacity r.taken - vec_len r.taken; frees = vec_capacity r.freed - vec_len r.freed } };
+
+    ghost invariant = { λ r. IsKept r.paid.items r.laid.items r.taken.items (vec_len r.paid + vec_len r.laid + vec_len r.spare) (vec_capacity r.paid) (vec_capacity r.laid) (vec_capacity r.spare) };
 }
 
 impl Running {
     /// A transaction that changed nothing. It takes no memory.
     pub fn new(alloc: Global) -> Running
-        ensures empty { IsEmpty result }
-        ensures ordered { IsOrdered result }
-        ensures numbers { IsRisingNumbers result.taken.items }
-        ensures rows { HasRowRoom result }
-        ensures small { vec_len result.paid + vec_len result.laid + vec_len result.spare ≡ 0 }
+        ensures { IsEmpty result }
     {
         Running {
             paid: Vec::new(alloc),
@@ -44,20 +51,42 @@ impl Running {
         }
     }
 
+    /// Does nothing. A proof learns from the call that the rows and the taken blocks ascend, and that no
+    /// block is in both rows.
+    pub fn lawful(&self)
+        ensures rows { IsOrdered self.now.paid self.now.laid }
+        ensures taken { IsRisingNumbers self.now.taken }
+    {
+        let _ = &self.paid;
+    }
+
     /// How many payloads and how many fresh blocks a commit would have now.
     pub fn counts(&self) -> (u32, u32)
-        requires { length self.now.paid.items + length self.now.laid.items ≤ 2097152 }
-        ensures payloads { result.0 ≡ length self.now.paid.items }
-        ensures fresh { result.1 ≡ length self.now.laid.items }
+        requires { length self.now.paid + length self.now.laid ≤ 2097152 }
+        ensures payloads { result.0 ≡ length self.now.paid }
+        ensures fresh { result.1 ≡ length self.now.laid }
     {
         (self.paid.len() as u32, self.laid.len() as u32)
     }
 
+    /// The puts that a commit would have as payloads now, ascending by block.
+    pub fn payloads(&self) -> &[Put]
+        ensures { result.now ≡ self.now.paid }
+    {
+        self.paid.as_slice()
+    }
+
+    /// The puts that a commit would have as fresh blocks now, ascending by block.
+    pub fn fresh(&self) -> &[Put]
+        ensures { result.now ≡ self.now.laid }
+    {
+        self.laid.as_slice()
+    }
+
     /// The bytes that were put for a block, if there are any.
     pub fn block(&self, block: u32) -> Option<&Block>
-        requires { IsOrdered self.now }
-        ensures some { IfSome result (λ bytes. PutsBlock self.now block bytes.now) }
-        ensures none { result ≡ None → (put_of block self.now.laid.items ≡ None) × (put_of block self.now.paid.items ≡ None) }
+        ensures some { IfSome result (λ bytes. bytes_put self.now block ≡ Some bytes.now) }
+        ensures none { result ≡ None → bytes_put self.now block ≡ None }
     {
         match bytes_in(self.laid.as_slice(), block) {
             Some(bytes) => Some(bytes),
@@ -66,16 +95,10 @@ impl Running {
     }
 
     /// Puts a block: its bytes will go into the journal, or, where it is content of a block that was taken
-    /// in this transaction, to the block itself. It takes no memory.
+    /// in this transaction, to the block itself. There must be room for it. It takes no memory.
     pub fn put(&mut self, block: u32, from: &Block, class: Class)
-        requires ordered { IsOrdered self.old }
-        requires numbers { IsRisingNumbers self.old.taken.items }
-        requires room { 0 < vec_len self.old.spare }
-        requires rows { HasRowRoom self.old }
-        ensures puts { Puts (is_fresh class self.old.taken.items block) (record { block = block; bytes = from.now }) self.old self.new }
-        ensures ordered { IsOrdered self.new }
-        ensures rows { HasRowRoom self.new }
-        ensures room { vec_len self.old.spare ≤ vec_len self.new.spare + 1 }
+        requires { 0 < self.old.puts }
+        ensures { Puts (is_fresh class self.old.taken block) (record { block = block; bytes = from.now }) self.old self.new }
     {
         if is_fresh(class, self.taken.as_slice(), block) {
             put_over(&mut self.laid, &mut self.paid, &mut self.spare, block, from);
@@ -85,6 +108,9 @@ impl Running {
     }
 
     /// Makes room for so many puts, takes and frees more.
+    ///
+    /// # Errors
+    /// No memory was found. What was put, taken and freed is as it was, and there is no less room.
     pub fn reserve(
         &mut self,
         alloc: Global,
@@ -92,12 +118,9 @@ impl Running {
         takes: u32,
         frees: u32,
     ) -> Result<(), NoMemory>
-        requires rows { HasRowRoom self.old }
-        requires small { vec_len self.old.paid + vec_len self.old.laid + vec_len self.old.spare ≤ 2 ^ 40 }
-        ensures same { SameTransaction self.old self.new }
-        ensures rows { HasRowRoom self.new }
+        ensures same { SameChanges self.old self.new }
+        ensures no_less { HasRoomFor self.new self.old.puts self.old.takes self.old.frees }
         ensures room { OnOk result (HasRoomFor self.new puts takes frees) }
-        ensures boxes { vec_len self.old.spare ≤ vec_len self.new.spare }
     {
         self.taken.reserve(takes as usize)?;
         self.freed.reserve(frees as usize)?;
@@ -112,30 +135,19 @@ impl Running {
         Ok(())
     }
 
-    /// A block is taken from now on. It takes no memory.
+    /// A block is taken from now on. There must be room for it. It takes no memory.
     pub fn took(&mut self, block: u32)
-        requires numbers { IsRisingNumbers self.old.taken.items }
-        requires room { vec_len self.old.taken < vec_capacity self.old.taken }
-        ensures taken { self.new.taken.items ≡ with_number block self.old.taken.items }
-        ensures numbers { IsRisingNumbers self.new.taken.items }
-        ensures rest { SameRows self.old self.new }
-        ensures freed { self.new.freed.items ≡ self.old.freed.items }
+        requires { 0 < self.old.takes }
+        ensures { Takes block self.old self.new }
     {
         insert_number(&mut self.taken, block);
     }
 
-    /// A block is free from now on, and none of its bytes will be written. It takes no memory.
+    /// A block is free from now on, and none of its bytes will be written. There must be room for it. It
+    /// takes no memory.
     pub fn freed(&mut self, block: u32)
-        requires ordered { IsOrdered self.old }
-        requires rows { HasRowRoom self.old }
-        requires room { vec_len self.old.freed < vec_capacity self.old.freed }
-        ensures paid { self.new.paid.items ≡ without_put block self.old.paid.items }
-        ensures laid { self.new.laid.items ≡ without_put block self.old.laid.items }
-        ensures freed { self.new.freed.items ≡ self.old.freed.items ++ block ∷ [] }
-        ensures ordered { IsOrdered self.new }
-        ensures rows { HasRowRoom self.new }
-        ensures taken { self.new.taken.items ≡ self.old.taken.items }
-        ensures boxes { vec_len self.old.spare ≤ vec_len self.new.spare }
+        requires { 0 < self.old.frees }
+        ensures { Frees block self.old self.new }
     {
         let paid = take_out(&mut self.paid, block);
         give_back(&mut self.spare, paid);
@@ -172,6 +184,8 @@ fn insert_number(numbers: &mut Vec<u32>, number: u32)
     requires room { vec_len numbers.old < vec_capacity numbers.old }
     ensures items { numbers.new.items ≡ with_number number numbers.old.items }
     ensures rising { IsRisingNumbers numbers.new.items }
+    ensures len { vec_len numbers.new ≤ vec_len numbers.old + 1 }
+    ensures capacity { vec_capacity numbers.old ≤ vec_capacity numbers.new }
 {
     if is_in(number, numbers.as_slice()) {
         return;

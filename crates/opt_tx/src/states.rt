@@ -2,9 +2,9 @@
 //! the state up and tests its condition; where the condition isn't met the state comes back as it was.
 //! What the conditions mean for a crash isn't said here.
 
-ghost use Rattle.std.specs.Prelude.{◌≡◌, ◌<◌, ◌≤◌, ◌&&◌, nat_le, nat_lt, is_ok, IfOk, IfErr};
+ghost use Rattle.std.specs.Prelude.{◌≡◌, ◌<◌, ◌≤◌, ◌&&◌, nat_le, nat_lt, is_ok, IfOk, IfErr, OnOk};
 ghost use Rattle.opt_notes.specs.Notes.{are_noticed};
-ghost use Rattle.opt_tx.specs.States.{IsDurableOf, IsSureOf, IsPlacedOf, IsReleasedOf};
+ghost use Rattle.opt_tx.specs.States.{IsDurableOf, Forgets, IsSureOf, IsPlacedOf, IsReleasedOf};
 
 use crate::{Committed, Put};
 use opt_notes::Notes;
@@ -59,6 +59,30 @@ impl Committed {
         if !notes.all_noticed(self.tickets.as_slice()) {
             return Err(self);
         }
+        Ok(self.without_tickets())
+    }
+
+    /// The durable state, where all tickets are noticed, as by `settled`. The notes expect them no longer
+    /// then: what they needed is free for others.
+    ///
+    /// # Errors
+    /// A ticket isn't noticed. The notes are as they were.
+    pub fn settled_for_good(self, notes: &mut Notes) -> Result<Durable, Committed>
+        ensures exact { is_ok result ≡ are_noticed self.tickets.items notes.old.notes }
+        ensures ok { IfOk result (IsDurableOf self) }
+        ensures back { IfErr result (λ tx. (tx ≡ self) × (notes.new ≡ notes.old)) }
+        ensures forgets { OnOk result (Forgets self.tickets.items notes.old notes.new) }
+    {
+        if notes.all_noticed(self.tickets.as_slice()) {
+            notes.forget(self.tickets.as_slice());
+            return Ok(self.without_tickets());
+        }
+        Err(self)
+    }
+
+    fn without_tickets(self) -> Durable
+        ensures { IsDurableOf self result }
+    {
         let Committed {
             number,
             place,
@@ -68,14 +92,14 @@ impl Committed {
             fresh,
             freed,
         } = self;
-        Ok(Durable {
+        Durable {
             number,
             place,
             count,
             payloads,
             fresh,
             freed,
-        })
+        }
     }
 }
 

@@ -12,6 +12,7 @@ use Rattle.opt_crash.specs.Points.{IsSafe}
 use Rattle.opt_tx.specs.Record.{record_of, written_of}
 use Rattle.opt_tx.specs.Commits.{IsCommitOf, AreNotOnTheirWay}
 use Rattle.opt_checkpoint.specs.Agree.{PipelineAgrees, HasFreed, data_of}
+use Rattle.opt_checkpoint.proofs.Apart.{new_tickets}
 use Rattle.opt_checkpoint.proofs.issue.commit_next.Goals as goal
 
 pub returns-clause-agrees : goal.returns-clause-agrees
@@ -26,7 +27,7 @@ returns-clause-agrees g c = λ tells s l m t floor waiting taken safe a may in_t
     let new = (g.D.Disk.state c.commit.new.disk).log in
     let is_next : c.args.number ≡ next_number l = may.is_next in
     let left = c.in-Ok.ensures.leaves tells s l p m t floor a.ring_geom may a.idle a.agree safe in
-    let off : AreNotOnTheirWay old p r.laid.items = λ i q is. (a.free q.block (in_taken i q is)).1 in
+    let off : AreNotOnTheirWay old p r.laid = λ i q is. (a.free q.block (in_taken i q is)).1 in
     let one = c.in-Ok.ensures.one tells s l p m t floor a.ring_geom may a.agree safe a.one off in
     let made = c.in-Ok.ensures.made in
     let there = subst (λ (bs : Blocks). PipelineAgrees bs old l v ring waiting taken) (sym c.commit.ensures.spends.same.base) a in
@@ -34,13 +35,14 @@ returns-clause-agrees g c = λ tells s l m t floor waiting taken safe a may in_t
     let joined = c.accept.ensures.agrees s base old new l m t floor c.args.epoch ring waiting taken r there safe_there
     (subst (λ n. IsCommitOf r n ring.next tx) is_next made)
     (λ u. c.noticed_tickets_stay_so.ensures _ _ old new u (c.in-Ok.ensures.log tells))
+    (new_tickets _ tx.tickets.items old new (c.in-Ok.ensures.log tells))
     (subst (λ (fs : List ℕ). HasFreed l m fs) (sym made.freed) freed)
-    (subst (λ n. IsInLedger s base new l p (written_of c.args.epoch n ring.next r.paid.items r.laid.items) m t floor tx.tickets.items) is_next left)
-    (subst (λ n. (freed : List ℕ) → HasOnePending base new (with_record l (written_of c.args.epoch n ring.next r.paid.items r.laid.items) m) (with_committed p l (written_of c.args.epoch n ring.next r.paid.items r.laid.items) tx.tickets.items freed) []) is_next one) in
-    let numbered = subst (λ n. PipelineAgrees base new (with_record l (written_of c.args.epoch n ring.next r.paid.items r.laid.items) m) c.accept.new.pipeline (with_places ring (places (record_of n ring.next r.paid.items r.laid.items))) (waiting ++ pairs_of n tx.freed.items) []) (sym is_next) joined in (
+    (subst (λ n. IsInLedger s base new l p (written_of c.args.epoch n ring.next r.paid r.laid) m t floor tx.tickets.items) is_next left)
+    (subst (λ n. (freed : List ℕ) → HasOnePending base new (with_record l (written_of c.args.epoch n ring.next r.paid r.laid) m) (with_committed p l (written_of c.args.epoch n ring.next r.paid r.laid) tx.tickets.items freed) []) is_next one) in
+    let numbered = subst (λ n. PipelineAgrees base new (with_record l (written_of c.args.epoch n ring.next r.paid r.laid) m) c.accept.new.pipeline (with_places ring (places (record_of n ring.next r.paid r.laid))) (waiting ++ pairs_of n tx.freed.items) []) (sym is_next) joined in (
       left.safe,
-      subst (λ (q : RingPlaces). PipelineAgrees base new (with_record l (written_of c.args.epoch c.args.number ring.next r.paid.items r.laid.items) m) c.accept.new.pipeline q (waiting ++ pairs_of c.args.number r.freed.items) []) (sym c.in-Ok.ensures.ring)
-          (subst (λ (fs : List ℕ). PipelineAgrees base new (with_record l (written_of c.args.epoch c.args.number ring.next r.paid.items r.laid.items) m) c.accept.new.pipeline (with_places ring (places (record_of 0 0 r.paid.items r.laid.items))) (waiting ++ pairs_of c.args.number fs) []) made.freed numbered),
+      subst (λ (q : RingPlaces). PipelineAgrees base new (with_record l (written_of c.args.epoch c.args.number ring.next r.paid r.laid) m) c.accept.new.pipeline q (waiting ++ pairs_of c.args.number r.freed) []) (sym c.in-Ok.ensures.ring)
+          (subst (λ (fs : List ℕ). PipelineAgrees base new (with_record l (written_of c.args.epoch c.args.number ring.next r.paid r.laid) m) c.accept.new.pipeline (with_places ring (places (record_of 0 0 r.paid r.laid))) (waiting ++ pairs_of c.args.number fs) []) made.freed numbered),
     )
 
 pub returns-clause-joins : goal.returns-clause-joins

@@ -1,6 +1,6 @@
 -- Each of the puts is below.
 use Rattle.std.proofs.Common.{sym, ◌∙◌}
-use Rattle.opt_commit_rows.proofs.Same.{all_at}
+use Rattle.opt_commit_rows.proofs.Below.{all_at}
 use Rattle.opt_commit_rows.proofs.transactions.are_below.Goals as goal
 
 pub returns : goal.returns

@@ -3,7 +3,7 @@ use Rattle.std.proofs.lemmas.List.{take_all}
 use Rattle.std.proofs.lemmas.Option.{slice_get_read}
 use Rattle.opt_tx.specs.declared.put.Put.{Put}
 use Rattle.opt_tx.specs.Record.{block_of}
-use Rattle.opt_tx.proofs.Forms.{push_map}
+use Rattle.opt_tx.proofs.spelling.Forms.{push_map}
 use Rattle.opt_tx.proofs.commit.numbers_of.Goals as goal
 
 pub loop-put-preserved : goal.loop-put-preserved

@@ -4,8 +4,8 @@ use Rattle.std.proofs.lemmas.Bool.{cases_lt}
 use Rattle.opt_journal.specs.declared.entry.Entry.{Entry}
 use Rattle.opt_journal.specs.Run.{entries}
 use Rattle.opt_tx.specs.Record.{record_of}
-use Rattle.opt_tx.proofs.Forms.{take_push, get_drop, take_enough}
-use Rattle.opt_tx.proofs.Spelled.{entries_length}
+use Rattle.opt_tx.proofs.spelling.Forms.{take_push, get_drop, take_enough}
+use Rattle.opt_tx.proofs.spelling.Spelled.{entries_length}
 use Rattle.opt_tx.proofs.entries.descriptor_at.Goals as goal
 
 back : (a b : ℕ) → a ≤ b → a + (b - a) ≡ b

@@ -1,4 +1,4 @@
-use Rattle.opt_tx.proofs.Puts.{record_pays, record_lays}
+use Rattle.opt_tx.proofs.spelling.KeptPuts.{record_pays, record_lays}
 use Rattle.opt_tx.proofs.laws.a_record_keeps_its_puts.Goals as goal
 
 pub returns : goal.returns

@@ -1,4 +1,4 @@
-use Rattle.opt_tx.proofs.Sizes.{record_size, all_counted, front_counted}
+use Rattle.opt_tx.proofs.spelling.Sizes.{record_size, all_counted, front_counted}
 use Rattle.opt_tx.proofs.laws.a_record_makes_so_many_writes.Goals as goal
 
 pub returns : goal.returns

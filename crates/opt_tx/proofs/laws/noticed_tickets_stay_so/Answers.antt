@@ -1,4 +1,4 @@
-use Rattle.opt_tx.proofs.Stays.{notices_stay}
+use Rattle.opt_tx.proofs.logs.Stays.{notices_stay}
 use Rattle.opt_tx.proofs.laws.noticed_tickets_stay_so.Goals as goal
 
 pub returns : goal.returns

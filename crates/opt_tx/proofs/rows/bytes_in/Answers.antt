@@ -2,7 +2,7 @@ use Rattle.std.proofs.Common.{◌∙◌, ap, sym, Some, refl}
 use Rattle.std.proofs.lemmas.Bool.{false≢true}
 use Rattle.std.proofs.lemmas.Option.{slice_get_read}
 use Rattle.opt_tx.specs.declared.put.Put.{Put}
-use Rattle.opt_tx.proofs.RowSteps.{found, lacks_at, none_put}
+use Rattle.opt_tx.proofs.ordering.RowSteps.{found, lacks_at, none_put}
 use Rattle.opt_tx.proofs.rows.bytes_in.Goals as goal
 
 pub returns-clause-some : goal.returns-clause-some

@@ -1,7 +1,7 @@
 -- The put goes where the search says.
 use Rattle.std.proofs.Common.{slice_set, ◌∙◌, ap, refl}
-use Rattle.opt_tx.proofs.Forms.{if_true}
-use Rattle.opt_tx.proofs.RowSteps.{put_there, put_new}
+use Rattle.opt_tx.proofs.spelling.Forms.{if_true}
+use Rattle.opt_tx.proofs.ordering.RowSteps.{put_there, put_new}
 use Rattle.opt_tx.proofs.rows.put_in.Goals as goal
 
 pub returns-then-is_at-clause-items : goal.returns-then-is_at-clause-items

@@ -1,5 +1,5 @@
 -- The put of the block is where the search says, or nowhere.
-use Rattle.opt_tx.proofs.RowSteps.{taken_out, none_there}
+use Rattle.opt_tx.proofs.ordering.RowSteps.{taken_out, none_there}
 use Rattle.std.proofs.Common.{◌∙◌}
 use Rattle.opt_tx.proofs.rows.take_out.Goals as goal
 

@@ -2,8 +2,8 @@
 use Rattle.std.proofs.Common.{◌≡◌, ◌≤◌, ◌<◌, ◌∙◌, ℕ, Some, List, slice_get, sym, subst, arith, length, ap}
 use Rattle.opt_crash.specs.HomeTest.{is_one_of}
 use Rattle.opt_tx.specs.Running.{IsRisingNumbers, with_number}
-use Rattle.opt_tx.proofs.Forms.{if_true}
-use Rattle.opt_tx.proofs.Numbers.{there_number, placed_number, rising_number}
+use Rattle.opt_tx.proofs.spelling.Forms.{if_true}
+use Rattle.opt_tx.proofs.ordering.Numbers.{there_number, placed_number, rising_number}
 use Rattle.opt_tx.proofs.running.insert_number.Goals as goal
 
 pub returns-then-is_in-clause-items : goal.returns-then-is_in-clause-items

@@ -2,7 +2,7 @@
 use Rattle.std.proofs.Common.{◌≢◌, ◌<◌, ℕ, ◌∙◌, sym, arith}
 use Rattle.std.proofs.lemmas.Bool.{le-ltb}
 use Rattle.std.proofs.lemmas.Option.{slice_get_within}
-use Rattle.opt_tx.proofs.Numbers.{not_in, in_at}
+use Rattle.opt_tx.proofs.ordering.Numbers.{not_in, in_at}
 use Rattle.opt_tx.proofs.running.is_in.Goals as goal
 
 pub returns-then-at-numbers : goal.returns-then-at-numbers

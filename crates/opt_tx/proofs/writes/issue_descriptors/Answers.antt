@@ -8,9 +8,9 @@ use Rattle.opt_crash.specs.Recording.{IsPartlyWritten}
 use Rattle.opt_tx.specs.declared.put.Put.{Put}
 use Rattle.opt_tx.specs.Record.{record_of, descriptor_blocks}
 use Rattle.opt_tx.specs.Writes.{ring_writes}
-use Rattle.opt_tx.proofs.Forms.{on_err, if_true}
-use Rattle.opt_tx.proofs.Spelled.{descriptor_block_at, descriptor_block_is, length_descriptor_blocks, entries_length}
-use Rattle.opt_tx.proofs.Logs.{none_written, one_more, all_written, front_written, ring_write_is, length_ring_writes, still, still_more}
+use Rattle.opt_tx.proofs.spelling.Forms.{on_err, if_true}
+use Rattle.opt_tx.proofs.spelling.Spelled.{descriptor_block_at, descriptor_block_is, length_descriptor_blocks, entries_length}
+use Rattle.opt_tx.proofs.logs.Logs.{none_written, one_more, all_written, front_written, ring_write_is, length_ring_writes, still, still_more}
 use Rattle.opt_tx.proofs.writes.issue_descriptors.Goals as goal
 
 -- the index is that of a descriptor of the record

@@ -4,8 +4,8 @@ use Rattle.std.proofs.lemmas.List.{length-map}
 use Rattle.std.proofs.lemmas.Option.{slice_get_read}
 use Rattle.opt_crash.specs.Recording.{IsPartlyWritten}
 use Rattle.opt_tx.specs.Writes.{fresh_write}
-use Rattle.opt_tx.proofs.Forms.{map_get, on_err, if_true}
-use Rattle.opt_tx.proofs.Logs.{none_written, one_more, all_written, front_written, still, still_more}
+use Rattle.opt_tx.proofs.spelling.Forms.{map_get, on_err, if_true}
+use Rattle.opt_tx.proofs.logs.Logs.{none_written, one_more, all_written, front_written, still, still_more}
 use Rattle.opt_tx.proofs.writes.issue_fresh.Goals as goal
 
 pub loop-put-init : goal.loop-put-init

@@ -8,8 +8,8 @@ use Rattle.opt_crash.specs.Recording.{IsPartlyWritten}
 use Rattle.opt_tx.specs.declared.put.Put.{Put}
 use Rattle.opt_tx.specs.Record.{stored_put}
 use Rattle.opt_tx.specs.Writes.{ring_writes}
-use Rattle.opt_tx.proofs.Forms.{map_get, on_err, if_true, index_map}
-use Rattle.opt_tx.proofs.Logs.{none_written, one_more, all_written, front_written, ring_write_is, length_ring_writes, still, still_more}
+use Rattle.opt_tx.proofs.spelling.Forms.{map_get, on_err, if_true, index_map}
+use Rattle.opt_tx.proofs.logs.Logs.{none_written, one_more, all_written, front_written, ring_write_is, length_ring_writes, still, still_more}
 use Rattle.opt_tx.proofs.writes.issue_payloads.Goals as goal
 
 -- the place of a payload is that of the record's part

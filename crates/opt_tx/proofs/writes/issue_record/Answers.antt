@@ -9,9 +9,9 @@ use Rattle.opt_crash.specs.Recording.{IsPartlyWritten, IsInLedger}
 use Rattle.opt_tx.specs.Record.{record_of, written_of, fresh_entry, stored_put, descriptor_blocks}
 use Rattle.opt_crash.specs.Writes.{AddsFront, AddsWrites}
 use Rattle.opt_tx.specs.Writes.{fresh_write, ring_writes}
-use Rattle.opt_tx.proofs.Forms.{if_true}
-use Rattle.opt_tx.proofs.Logs.{then_all, front_first, front_behind, front_one, all_err}
-use Rattle.opt_tx.proofs.Parts.{nothing_issued, are_laid, are_descriptors, are_payloads, heads_is, ends_is, commit_is, first_block, left_safe, left_either, writes_are}
+use Rattle.opt_tx.proofs.spelling.Forms.{if_true}
+use Rattle.opt_tx.proofs.logs.Logs.{then_all, front_first, front_behind, front_one, all_err}
+use Rattle.opt_tx.proofs.spelling.Parts.{nothing_issued, are_laid, are_descriptors, are_payloads, heads_is, ends_is, commit_is, first_block, left_safe, left_either, writes_are}
 use Rattle.opt_tx.proofs.writes.issue_record.Goals as goal
 
 pub returns-in_err-issue_fresh-clause-leaves : goal.returns-in_err-issue_fresh-clause-leaves

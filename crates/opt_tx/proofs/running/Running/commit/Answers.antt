@@ -9,35 +9,36 @@ use Rattle.opt_tx.specs.Record.{record_of, written_of, block_of, IsTransaction}
 use Rattle.opt_crash.specs.Writes.{AddsFront, AddsWrites}
 use Rattle.opt_tx.specs.Writes.{record_writes}
 use Rattle.opt_tx.specs.Commits.{RecordLeaves}
-use Rattle.opt_tx.proofs.Spelled.{is_next}
-use Rattle.opt_tx.proofs.Outcomes.{err_left, ok_left, err_adds, ok_adds, ok_holds, same_size, same_written, same_writes}
+use Rattle.opt_tx.specs.Running.{Changes}
+use Rattle.opt_tx.proofs.spelling.Spelled.{is_next}
+use Rattle.opt_tx.proofs.logs.Outcomes.{err_left, ok_left, err_adds, ok_adds, ok_holds, same_size, same_written, same_writes}
 use Rattle.opt_base.specs.Seal.{Blocks}
 use Rattle.opt_disk.specs.Cell.{cell_of}
 use Rattle.opt_crash.specs.Steps.{with_record}
 use Rattle.opt_crash.specs.OnePending.{HasOnePending}
 use Rattle.opt_crash.specs.PipelineData.{with_committed}
-use Rattle.opt_tx.proofs.KeepsOne.{keeps_one, keeps_one_lost}
+use Rattle.opt_tx.proofs.pending.KeepsOne.{keeps_one, keeps_one_lost}
 use Rattle.opt_tx.proofs.running.Running.commit.Goals as goal
 
 pub take-place-requires : goal.take-place-requires
-take-place-requires g c = omega (arith, c.requires.free, c.places_of-count.ensures 0 0 c.args.self.paid.items c.args.self.laid.items (ap (λ (l : List Put). length l) (sym c.as_slice-paid.ensures.value)) (ap (λ (l : List Put). length l) (sym c.as_slice-laid.ensures.value)))
+take-place-requires g c = omega (arith, c.requires.free, c.places_of-count.ensures 0 0 c.args.self.paid c.args.self.laid (ap (λ (l : List Put). length l) (sym c.payloads-paid.ensures)) (ap (λ (l : List Put). length l) (sym c.fresh-laid.ensures)))
 
 pub issue_record-requires-clause-room : goal.issue_record-requires-clause-room
-issue_record-requires-clause-room g c = let size = c.places_of-count.ensures 0 0 c.as_slice-paid.result.now c.as_slice-laid.result.now refl refl in omega (arith, size, c.in-Ok.ensures.capacity)
+issue_record-requires-clause-room g c = let size = c.places_of-count.ensures 0 0 c.payloads-paid.result.now c.fresh-laid.result.now refl refl in omega (arith, size, c.in-Ok.ensures.capacity)
 
 pub returns-then-is_err-clause-leaves : goal.returns-then-is_err-clause-leaves
 returns-then-is_err-clause-leaves g c = λ tells s l p m t floor geom may idle known safe.
-    let paid = c.as_slice-paid.result.now in
-    let laid = c.as_slice-laid.result.now in
+    let paid = c.payloads-paid.result.now in
+    let laid = c.fresh-laid.result.now in
     let place = c.take-place.result in
     let first = c.take-place.ensures.first in
-    let same = same_written c.args.epoch c.args.number place c.args.ring.now.next paid c.args.self.paid.items laid c.args.self.laid.items first c.as_slice-paid.ensures.value c.as_slice-laid.ensures.value in
-    let may1 = subst (λ (ps : List Put). IsTransaction l c.args.epoch c.args.number c.args.ring.now.next ps c.args.self.laid.items m) (sym c.as_slice-paid.ensures.value) may in
-    let may2 = subst (λ (ls : List Put). IsTransaction l c.args.epoch c.args.number c.args.ring.now.next paid ls m) (sym c.as_slice-laid.ensures.value) may1 in
+    let same = same_written c.args.epoch c.args.number place c.args.ring.now.next paid c.args.self.paid laid c.args.self.laid first c.payloads-paid.ensures c.fresh-laid.ensures in
+    let may1 = subst (λ (ps : List Put). IsTransaction l c.args.epoch c.args.number c.args.ring.now.next ps c.args.self.laid m) (sym c.payloads-paid.ensures) may in
+    let may2 = subst (λ (ls : List Put). IsTransaction l c.args.epoch c.args.number c.args.ring.now.next paid ls m) (sym c.fresh-laid.ensures) may1 in
     let may3 = subst (λ n. IsTransaction l c.args.epoch c.args.number n paid laid m) (sym first) may2 in
     let on = c.geom-geom.ensures ∙ geom in
-    let some : 0 < length paid = omega (arith, c.requires.some, ap (λ (ps : List Put). length ps) c.as_slice-paid.ensures.value) in
-    let few : length paid + length laid ≤ 2097152 = omega (arith, c.requires.small, ap (λ (ps : List Put). length ps) c.as_slice-paid.ensures.value, ap (λ (ps : List Put). length ps) c.as_slice-laid.ensures.value) in
+    let some : 0 < length paid = omega (arith, c.requires.some, ap (λ (ps : List Put). length ps) c.payloads-paid.ensures) in
+    let few : length paid + length laid ≤ 2097152 = omega (arith, c.requires.small, ap (λ (ps : List Put). length ps) c.payloads-paid.ensures, ap (λ (ps : List Put). length ps) c.fresh-laid.ensures) in
     let next = is_next c.payloads_read_back.ensures.bytes c.payloads_read_back.ensures.stored c.journal_blocks_read_back.ensures.commits c.journal_blocks_read_back.ensures.descriptors c.entries_that_fit_keep_to_the_disk.ensures.payloads c.entries_that_fit_keep_to_the_disk.ensures.fresh
     c.geom-geom.result c.args.epoch c.args.number place paid laid (subst (λ (q : Geometry). IsTrue (entries_fit q (record_of c.args.number place paid laid))) (sym on) may3.fit) c.ranges.epoch.fits c.ranges.number.fits c.lawful-2.ensures.limits.most_blocks few
     l m on c.lawful-2.ensures.limits.most_journal some may3 in
@@ -46,17 +47,17 @@ returns-then-is_err-clause-leaves g c = λ tells s l p m t floor geom may idle k
 
 pub returns-clause-leaves : goal.returns-clause-leaves
 returns-clause-leaves g c = λ tells s l p m t floor geom may idle known safe.
-    let paid = c.as_slice-paid.result.now in
-    let laid = c.as_slice-laid.result.now in
+    let paid = c.payloads-paid.result.now in
+    let laid = c.fresh-laid.result.now in
     let place = c.take-place.result in
     let first = c.take-place.ensures.first in
-    let same = same_written c.args.epoch c.args.number place c.args.ring.now.next paid c.args.self.paid.items laid c.args.self.laid.items first c.as_slice-paid.ensures.value c.as_slice-laid.ensures.value in
-    let may1 = subst (λ (ps : List Put). IsTransaction l c.args.epoch c.args.number c.args.ring.now.next ps c.args.self.laid.items m) (sym c.as_slice-paid.ensures.value) may in
-    let may2 = subst (λ (ls : List Put). IsTransaction l c.args.epoch c.args.number c.args.ring.now.next paid ls m) (sym c.as_slice-laid.ensures.value) may1 in
+    let same = same_written c.args.epoch c.args.number place c.args.ring.now.next paid c.args.self.paid laid c.args.self.laid first c.payloads-paid.ensures c.fresh-laid.ensures in
+    let may1 = subst (λ (ps : List Put). IsTransaction l c.args.epoch c.args.number c.args.ring.now.next ps c.args.self.laid m) (sym c.payloads-paid.ensures) may in
+    let may2 = subst (λ (ls : List Put). IsTransaction l c.args.epoch c.args.number c.args.ring.now.next paid ls m) (sym c.fresh-laid.ensures) may1 in
     let may3 = subst (λ n. IsTransaction l c.args.epoch c.args.number n paid laid m) (sym first) may2 in
     let on = c.geom-geom.ensures ∙ geom in
-    let some : 0 < length paid = omega (arith, c.requires.some, ap (λ (ps : List Put). length ps) c.as_slice-paid.ensures.value) in
-    let few : length paid + length laid ≤ 2097152 = omega (arith, c.requires.small, ap (λ (ps : List Put). length ps) c.as_slice-paid.ensures.value, ap (λ (ps : List Put). length ps) c.as_slice-laid.ensures.value) in
+    let some : 0 < length paid = omega (arith, c.requires.some, ap (λ (ps : List Put). length ps) c.payloads-paid.ensures) in
+    let few : length paid + length laid ≤ 2097152 = omega (arith, c.requires.small, ap (λ (ps : List Put). length ps) c.payloads-paid.ensures, ap (λ (ps : List Put). length ps) c.fresh-laid.ensures) in
     let next = is_next c.payloads_read_back.ensures.bytes c.payloads_read_back.ensures.stored c.journal_blocks_read_back.ensures.commits c.journal_blocks_read_back.ensures.descriptors c.entries_that_fit_keep_to_the_disk.ensures.payloads c.entries_that_fit_keep_to_the_disk.ensures.fresh
     c.geom-geom.result c.args.epoch c.args.number place paid laid (subst (λ (q : Geometry). IsTrue (entries_fit q (record_of c.args.number place paid laid))) (sym on) may3.fit) c.ranges.epoch.fits c.ranges.number.fits c.lawful-2.ensures.limits.most_blocks few
     l m on c.lawful-2.ensures.limits.most_journal some may3 in
@@ -65,46 +66,46 @@ returns-clause-leaves g c = λ tells s l p m t floor geom may idle known safe.
 
 pub returns-then-is_err-clause-log : goal.returns-then-is_err-clause-log
 returns-then-is_err-clause-log g c = λ tells.
-    let same = same_writes c.geom-geom.result c.args.ring.now.geom c.args.epoch c.args.number c.take-place.result c.args.ring.now.next c.as_slice-paid.result.now c.args.self.paid.items c.as_slice-laid.result.now c.args.self.laid.items c.geom-geom.ensures c.take-place.ensures.first c.as_slice-paid.ensures.value c.as_slice-laid.ensures.value in
+    let same = same_writes c.geom-geom.result c.args.ring.now.geom c.args.epoch c.args.number c.take-place.result c.args.ring.now.next c.payloads-paid.result.now c.args.self.paid c.fresh-laid.result.now c.args.self.laid c.geom-geom.ensures c.take-place.ensures.first c.payloads-paid.ensures c.fresh-laid.ensures in
     subst (λ (ws : List (ℕ × List ℕ)). AddsFront ws (g.D.Disk.state c.args.disk.now).log (g.D.Disk.state c.issue_record.new.disk).log) same (err_adds _ c.issue_record.result _ _ _ _ (sym c.is_err.ensures.value ∙ c.if-is_err.true) (c.issue_record.ensures.log tells))
 
 pub returns-clause-log : goal.returns-clause-log
 returns-clause-log g c = λ tells.
-    let same = same_writes c.geom-geom.result c.args.ring.now.geom c.args.epoch c.args.number c.take-place.result c.args.ring.now.next c.as_slice-paid.result.now c.args.self.paid.items c.as_slice-laid.result.now c.args.self.laid.items c.geom-geom.ensures c.take-place.ensures.first c.as_slice-paid.ensures.value c.as_slice-laid.ensures.value in
+    let same = same_writes c.geom-geom.result c.args.ring.now.geom c.args.epoch c.args.number c.take-place.result c.args.ring.now.next c.payloads-paid.result.now c.args.self.paid c.fresh-laid.result.now c.args.self.laid c.geom-geom.ensures c.take-place.ensures.first c.payloads-paid.ensures c.fresh-laid.ensures in
     let all = ok_adds _ c.issue_record.result _ _ _ _ (sym c.is_err.ensures.value ∙ c.if-is_err.false) (c.issue_record.ensures.log tells) in
     let tickets = all.1 ∙ ap (λ (ts : List ℕ). ts ++ all.0) c.in-Ok.ensures.items in
-    subst (λ (ts : List ℕ). AddsWrites (record_writes c.args.ring.now.geom c.args.epoch c.args.number c.args.ring.now.next c.args.self.paid.items c.args.self.laid.items) ts (g.D.Disk.state c.args.disk.now).log (g.D.Disk.state c.issue_record.new.disk).log) (sym tickets)
+    subst (λ (ts : List ℕ). AddsWrites (record_writes c.args.ring.now.geom c.args.epoch c.args.number c.args.ring.now.next c.args.self.paid c.args.self.laid) ts (g.D.Disk.state c.args.disk.now).log (g.D.Disk.state c.issue_record.new.disk).log) (sym tickets)
     (subst (λ (ws : List (ℕ × List ℕ)). AddsWrites ws all.0 (g.D.Disk.state c.args.disk.now).log (g.D.Disk.state c.issue_record.new.disk).log) same all.2)
 
 pub returns-clause-made : goal.returns-clause-made
 returns-clause-made g c = record {
   number = refl;
   place = c.take-place.ensures.first;
-  count = c.places_of-count.ensures c.args.number c.args.ring.now.next c.args.self.paid.items c.args.self.laid.items (ap (λ (l : List Put). length l) (sym c.as_slice-paid.ensures.value)) (ap (λ (l : List Put). length l) (sym c.as_slice-laid.ensures.value));
-  payloads = refl;
-  fresh = c.in-Ok-numbers_of.ensures ∙ ap (λ (l : List Put). map block_of l) c.as_slice-laid.ensures.value;
-  freed = refl;
+  count = c.places_of-count.ensures c.args.number c.args.ring.now.next c.args.self.paid c.args.self.laid (ap (λ (l : List Put). length l) (sym c.payloads-paid.ensures)) (ap (λ (l : List Put). length l) (sym c.fresh-laid.ensures));
+  payloads = ap (λ (v : Changes). v.paid) c.self.view_is;
+  fresh = c.in-Ok-numbers_of.ensures ∙ ap (λ (l : List Put). map block_of l) c.fresh-laid.ensures;
+  freed = ap (λ (v : Changes). v.freed) c.self.view_is;
   tickets = ap (λ (ts : List ℕ). length ts) refl ∙ ok_holds c.issue_record.result _ (sym c.is_err.ensures.value ∙ c.if-is_err.false) c.issue_record.ensures.taken
-      ∙ same_size c.as_slice-paid.result.now c.args.self.paid.items c.as_slice-laid.result.now c.args.self.laid.items c.args.number c.args.ring.now.next c.as_slice-paid.ensures.value c.as_slice-laid.ensures.value;
+      ∙ same_size c.payloads-paid.result.now c.args.self.paid c.fresh-laid.result.now c.args.self.laid c.args.number c.args.ring.now.next c.payloads-paid.ensures c.fresh-laid.ensures;
 }
 
 pub returns-then-is_err-clause-places : goal.returns-then-is_err-clause-places
-returns-then-is_err-clause-places g c = c.take-place.ensures.places ∙ ap (with_places c.args.ring.now) (c.places_of-count.ensures 0 0 c.args.self.paid.items c.args.self.laid.items (ap (λ (l : List Put). length l) (sym c.as_slice-paid.ensures.value)) (ap (λ (l : List Put). length l) (sym c.as_slice-laid.ensures.value)))
+returns-then-is_err-clause-places g c = c.take-place.ensures.places ∙ ap (with_places c.args.ring.now) (c.places_of-count.ensures 0 0 c.args.self.paid c.args.self.laid (ap (λ (l : List Put). length l) (sym c.payloads-paid.ensures)) (ap (λ (l : List Put). length l) (sym c.fresh-laid.ensures)))
 
 pub returns-clause-ring : goal.returns-clause-ring
-returns-clause-ring g c = c.take-place.ensures.places ∙ ap (with_places c.args.ring.now) (c.places_of-count.ensures 0 0 c.args.self.paid.items c.args.self.laid.items (ap (λ (l : List Put). length l) (sym c.as_slice-paid.ensures.value)) (ap (λ (l : List Put). length l) (sym c.as_slice-laid.ensures.value)))
+returns-clause-ring g c = c.take-place.ensures.places ∙ ap (with_places c.args.ring.now) (c.places_of-count.ensures 0 0 c.args.self.paid c.args.self.laid (ap (λ (l : List Put). length l) (sym c.payloads-paid.ensures)) (ap (λ (l : List Put). length l) (sym c.fresh-laid.ensures)))
 
 pub returns-then-is_err-clause-one : goal.returns-then-is_err-clause-one
 returns-then-is_err-clause-one g c = λ tells s l p m t floor geom may known safe o off.
-    let adds = subst (λ (q : Geometry). AddsFront (record_writes q c.args.epoch c.args.number c.args.ring.now.next c.args.self.paid.items c.args.self.laid.items) (g.D.Disk.state c.args.disk.now).log (g.D.Disk.state c.issue_record.new.disk).log) geom (returns-then-is_err-clause-log g c tells) in
+    let adds = subst (λ (q : Geometry). AddsFront (record_writes q c.args.epoch c.args.number c.args.ring.now.next c.args.self.paid c.args.self.laid) (g.D.Disk.state c.args.disk.now).log (g.D.Disk.state c.issue_record.new.disk).log) geom (returns-then-is_err-clause-log g c tells) in
     subst (λ (base : Blocks). (b : ℕ) → length (cell_of base (g.D.Disk.state c.issue_record.new.disk).log b).pending ≤ 1) (sym c.issue_record.ensures.spends.same.base)
     (keeps_one_lost c.entries_that_fit_keep_to_the_disk.ensures.fresh c.entries_that_fit_keep_to_the_disk.ensures.ascending c.blocks_to_be_written_are_idle.ensures.fresh c.records_stand_in_order.ensures.behind c.records_stand_in_order.ensures.apart c.a_write_to_an_idle_block_is_the_one.ensures.under_way
-    (g.D.Disk.state c.args.disk.now).base l p c.args.epoch c.args.number c.args.ring.now.next c.args.self.paid.items c.args.self.laid.items m (g.D.Disk.state c.args.disk.now).log may known safe.keeps o off c.one_write_is_pending.ensures.lost (g.D.Disk.state c.issue_record.new.disk).log adds)
+    (g.D.Disk.state c.args.disk.now).base l p c.args.epoch c.args.number c.args.ring.now.next c.args.self.paid c.args.self.laid m (g.D.Disk.state c.args.disk.now).log may known safe.keeps o off c.one_write_is_pending.ensures.lost (g.D.Disk.state c.issue_record.new.disk).log adds)
 
 pub returns-clause-one : goal.returns-clause-one
 returns-clause-one g c = λ tells s l p m t floor geom may known safe o off freed.
-    let adds = subst (λ (q : Geometry). AddsWrites (record_writes q c.args.epoch c.args.number c.args.ring.now.next c.args.self.paid.items c.args.self.laid.items) c.issue_record.new.tickets.items (g.D.Disk.state c.args.disk.now).log (g.D.Disk.state c.issue_record.new.disk).log) geom (returns-clause-log g c tells) in
-    let w = written_of c.args.epoch c.args.number c.args.ring.now.next c.args.self.paid.items c.args.self.laid.items in
+    let adds = subst (λ (q : Geometry). AddsWrites (record_writes q c.args.epoch c.args.number c.args.ring.now.next c.args.self.paid c.args.self.laid) c.issue_record.new.tickets.items (g.D.Disk.state c.args.disk.now).log (g.D.Disk.state c.issue_record.new.disk).log) geom (returns-clause-log g c tells) in
+    let w = written_of c.args.epoch c.args.number c.args.ring.now.next c.args.self.paid c.args.self.laid in
     subst (λ (base : Blocks). HasOnePending base (g.D.Disk.state c.issue_record.new.disk).log (with_record l w m) (with_committed p l w c.issue_record.new.tickets.items freed) []) (sym c.issue_record.ensures.spends.same.base)
     (keeps_one c.entries_that_fit_keep_to_the_disk.ensures.fresh c.entries_that_fit_keep_to_the_disk.ensures.ascending c.blocks_to_be_written_are_idle.ensures.fresh c.records_stand_in_order.ensures.behind c.records_stand_in_order.ensures.apart c.a_write_to_an_idle_block_is_the_one.ensures.under_way
-    (g.D.Disk.state c.args.disk.now).base l p c.args.epoch c.args.number c.args.ring.now.next c.args.self.paid.items c.args.self.laid.items m (g.D.Disk.state c.args.disk.now).log may known safe.keeps o off c.one_write_stays_pending.ensures.joins c.issue_record.new.tickets.items freed (g.D.Disk.state c.issue_record.new.disk).log adds)
+    (g.D.Disk.state c.args.disk.now).base l p c.args.epoch c.args.number c.args.ring.now.next c.args.self.paid c.args.self.laid m (g.D.Disk.state c.args.disk.now).log may known safe.keeps o off c.one_write_stays_pending.ensures.joins c.issue_record.new.tickets.items freed (g.D.Disk.state c.issue_record.new.disk).log adds)

@@ -1,10 +1,13 @@
 -- Nothing is in order.
-use Rattle.std.proofs.Common.{rules}
-use Rattle.opt_tx.proofs.Begins.{begins_ordered, no_numbers}
+use Rattle.std.proofs.Common.{arith}
+use Rattle.opt_tx.proofs.ordering.Begins.{begins_ordered, no_numbers}
 use Rattle.opt_tx.proofs.running.Running.new.Goals as goal
 
-pub returns-clause-ordered : goal.returns-clause-ordered
-returns-clause-ordered c = begins_ordered _ (record { paid = c.new.ensures.items; laid = c.new-2.ensures.items; taken = c.new-3.ensures.items; freed = c.new-4.ensures.items })
-
-pub returns-clause-numbers : goal.returns-clause-numbers
-returns-clause-numbers c = no_numbers _ c.new-3.ensures.items
+pub invariant_of-result : goal.invariant_of-result
+invariant_of-result c = record {
+  ordered = begins_ordered _ _ c.new.ensures.items c.new-2.ensures.items;
+  numbers = no_numbers _ c.new-3.ensures.items;
+  paid_has = omega (arith, c.new.ensures, c.new-2.ensures, c.new-5.ensures);
+  laid_has = omega (arith, c.new.ensures, c.new-2.ensures, c.new-5.ensures);
+  spare_has = omega (arith, c.new.ensures, c.new-2.ensures, c.new-5.ensures);
+}

@@ -1,14 +1,25 @@
-use Rattle.std.proofs.Common.{◌≤◌, ◌+◌, ◌-◌, vec_len, vec_capacity}
-use Rattle.opt_tx.specs.Running.{SameTransaction}
+use Rattle.std.proofs.Common.{◌≡◌, ◌≤◌, ◌+◌, ◌-◌, vec_len, vec_capacity}
+use Rattle.opt_tx.specs.Running.{IsOrdered, IsRisingNumbers}
 use Rattle.opt_tx.proofs.running.Running.reserve.Given as goal
 
+-- the fields as they are, and what of them was so before
 abbrev pub invariant-loop-turn : goal.invariant-loop-turn
-invariant-loop-turn l = record {
-  same : SameTransaction l.fn.self l.self;
-  boxes : vec_len l.fn.self.spare + l.turn ≤ vec_len l.self.spare;
-  paid : vec_len l.self.paid + vec_len l.self.laid + vec_len l.self.spare + (l.puts - l.turn) ≤ vec_capacity l.self.paid;
-  laid : vec_len l.self.paid + vec_len l.self.laid + vec_len l.self.spare + (l.puts - l.turn) ≤ vec_capacity l.self.laid;
-  back : vec_len l.self.paid + vec_len l.self.laid + vec_len l.self.spare + (l.puts - l.turn) ≤ vec_capacity l.self.spare;
-  taken : vec_len l.self.taken + l.takes ≤ vec_capacity l.self.taken;
-  freed : vec_len l.self.freed + l.frees ≤ vec_capacity l.self.freed;
-}
+invariant-loop-turn l =
+    let r = l.self-inside in
+    let old = l.fn.self in
+    record {
+      ordered : IsOrdered r.paid.items r.laid.items;
+      numbers : IsRisingNumbers r.taken.items;
+      same_paid : r.paid.items ≡ old.paid;
+      same_laid : r.laid.items ≡ old.laid;
+      same_taken : r.taken.items ≡ old.taken;
+      same_freed : r.freed.items ≡ old.freed;
+      boxes : old.puts + l.turn ≤ vec_len r.spare;
+      paid : vec_len r.paid + vec_len r.laid + vec_len r.spare + (l.puts - l.turn) ≤ vec_capacity r.paid;
+      laid : vec_len r.paid + vec_len r.laid + vec_len r.spare + (l.puts - l.turn) ≤ vec_capacity r.laid;
+      back : vec_len r.paid + vec_len r.laid + vec_len r.spare + (l.puts - l.turn) ≤ vec_capacity r.spare;
+      old_takes : old.takes ≤ vec_capacity r.taken - vec_len r.taken;
+      old_frees : old.frees ≤ vec_capacity r.freed - vec_len r.freed;
+      takes : l.takes ≤ vec_capacity r.taken - vec_len r.taken;
+      frees : l.frees ≤ vec_capacity r.freed - vec_len r.freed;
+    }

@@ -19,8 +19,8 @@ use Rattle.opt_tx.specs.declared.put.Put.{Put}
 use Rattle.opt_tx.specs.Record.{record_of, written_of, descriptor_blocks, stored_put, bytes_of, fresh_entry, payload_entry, AreLaid, AreParts}
 use Rattle.opt_tx.specs.Writes.{fresh_write, ring_writes, record_writes}
 use Rattle.opt_tx.specs.Commits.{RecordLeaves}
-use Rattle.opt_tx.proofs.Forms.{get_is, map_get, index_map}
-use Rattle.opt_tx.proofs.Spelled.{ring_descriptor, ring_payload, descriptor_block_at, length_descriptor_blocks, same_descriptors, entries_length}
+use Rattle.opt_tx.proofs.spelling.Forms.{get_is, map_get, index_map}
+use Rattle.opt_tx.proofs.spelling.Spelled.{ring_descriptor, ring_payload, descriptor_block_at, length_descriptor_blocks, same_descriptors, entries_length}
 
 -- between records nothing of the next one is issued
 pub nothing_issued : (base : Blocks) (log : List Event) (l : Ledger) (p : PipelineData) (w : WrittenRecord) (tickets : List ℕ) → NoneIsBeingWritten (cell_of base log) l → DataAgree base log l p → IsPartlyWritten base log l p w tickets 0 1

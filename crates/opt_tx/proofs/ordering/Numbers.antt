@@ -4,7 +4,7 @@ use Rattle.std.proofs.lemmas.Bool.{cases_Bool, eqb-true, eq-eqb, false≢true, l
 use Rattle.std.proofs.lemmas.Option.{same_Some, none-some}
 use Rattle.opt_crash.specs.HomeTest.{is_one_of}
 use Rattle.opt_tx.specs.Running.{with_number}
-use Rattle.opt_tx.proofs.Forms.{if_true, if_false}
+use Rattle.opt_tx.proofs.spelling.Forms.{if_true, if_false}
 
 not_eq : (m n : ℕ) → m ≢ n → (m == n) ≡ false
 not_eq m n ne = ⊎_elim (λ e. absurd (ne (eqb-true m n e))) (λ e. e) (cases_Bool (m == n))

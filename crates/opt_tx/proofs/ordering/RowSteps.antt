@@ -4,7 +4,7 @@ use Rattle.std.proofs.lemmas.Bool.{cases_Bool, eqb-true, cases_eq, cases_lt, lt-
 use Rattle.std.proofs.lemmas.Option.{same_Some, slice_get_within}
 use Rattle.opt_tx.specs.declared.put.Put.{Put}
 use Rattle.opt_tx.specs.Rows.{IsRising, with_put, without_put, put_of, LacksBlock}
-use Rattle.opt_tx.proofs.Forms.{if_true, if_false}
+use Rattle.opt_tx.proofs.spelling.Forms.{if_true, if_false}
 
 -- all before this place are of lower blocks
 abbrev Below : List Put → ℕ → ℕ → Type 0

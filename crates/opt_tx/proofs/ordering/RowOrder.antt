@@ -4,7 +4,7 @@ use Rattle.std.proofs.lemmas.Bool.{eqb-true, ltb-true, ltb-false, eq-eqb, false�
 use Rattle.std.proofs.lemmas.Option.{same_Some, none-some}
 use Rattle.opt_tx.specs.declared.put.Put.{Put}
 use Rattle.opt_tx.specs.Rows.{IsRising, with_put, without_put, LacksBlock}
-use Rattle.opt_tx.proofs.Forms.{if_true, if_false}
+use Rattle.opt_tx.proofs.spelling.Forms.{if_true, if_false}
 
 -- each member of a row with one put more is that put, or one of the row
 pub in_with : (p : Put) (row : List Put) (k : ℕ) (q : Put) → slice_get (with_put p row) k ≡ Some q → (q ≡ p) ⊎ ((i : ℕ) × (slice_get row i ≡ Some q))
@@ -48,10 +48,10 @@ rising_cons r rs above rising i zero p q lt is at = absurd (omega arith)
 rising_cons r rs above rising zero (suc k) p q lt is at = subst (λ (s : Put). s.block < q.block) (same_Some _ _ is) (above k q at)
 rising_cons r rs above rising (suc i) (suc k) p q lt is at = rising i k p q (omega arith) is at
 
-rising_tail : (r : Put) (rs : List Put) → IsRising (r ∷ rs) → IsRising rs
+pub rising_tail : (r : Put) (rs : List Put) → IsRising (r ∷ rs) → IsRising rs
 rising_tail r rs rising i k p q lt is at = rising (suc i) (suc k) p q (omega arith) is at
 
-rising_head : (r : Put) (rs : List Put) → IsRising (r ∷ rs) → (k : ℕ) (q : Put) → slice_get rs k ≡ Some q → r.block < q.block
+pub rising_head : (r : Put) (rs : List Put) → IsRising (r ∷ rs) → (k : ℕ) (q : Put) → slice_get rs k ≡ Some q → r.block < q.block
 rising_head r rs rising k q is = rising 0 (suc k) r q (omega arith) refl is
 
 pub rising_with : (p : Put) (row : List Put) → IsRising row → IsRising (with_put p row)

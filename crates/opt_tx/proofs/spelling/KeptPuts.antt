@@ -8,8 +8,8 @@ use Rattle.opt_crash.specs.HomeTest.{is_one_of}
 use Rattle.opt_tx.specs.declared.put.Put.{Put}
 use Rattle.opt_tx.specs.Record.{record_of, written_of, payload_entry, fresh_entry, block_of}
 use Rattle.opt_tx.specs.Rows.{put_of}
-use Rattle.opt_tx.proofs.Forms.{if_true, if_false}
-use Rattle.opt_tx.proofs.Spelled.{ring_payload}
+use Rattle.opt_tx.proofs.spelling.Forms.{if_true, if_false}
+use Rattle.opt_tx.proofs.spelling.Spelled.{ring_payload}
 
 payload_put : ((x : List ℕ) → unescaped (stored_kind x) (stored_of x) ≡ x) → (ring : List (List ℕ)) (es : List Put) (i b : ℕ) → ((k : ℕ) (p : Put) → slice_get es k ≡ Some p → block_at ring (i + k) ≡ stored_of p.bytes) → payload_among ring i (map payload_entry es) b ≡ put_of b es
 payload_put reads ring [] i b at = refl

@@ -1,19 +1,18 @@
 -- A transaction that changed nothing is in order.
-use Rattle.std.proofs.Common.{◌≡◌, ℕ, List, [], slice_get, Some, sym, subst, ap, ◌∙◌}
+use Rattle.std.proofs.Common.{◌≡◌, ℕ, List, [], slice_get, sym, subst, ap, ◌∙◌}
 use Rattle.std.proofs.lemmas.Option.{none-some}
 use Rattle.opt_tx.specs.declared.put.Put.{Put}
-use Rattle.opt_tx.specs.declared.running.Running.{Running}
 use Rattle.opt_tx.specs.Rows.{IsRising}
-use Rattle.opt_tx.specs.Running.{IsOrdered, IsEmpty, IsRisingNumbers}
+use Rattle.opt_tx.specs.Running.{IsOrdered, IsRisingNumbers}
 
 no_puts : (puts : List Put) → puts ≡ [] → IsRising puts
 no_puts puts e = subst IsRising (sym e) (λ i k p q lt is at. absurd (none-some p is))
 
-pub begins_ordered : (r : Running) → IsEmpty r → IsOrdered r
-begins_ordered r e = record {
-  paid = no_puts r.paid.items e.paid;
-  laid = no_puts r.laid.items e.laid;
-  apart = λ k p is. absurd (none-some p (ap (λ (l : List Put). slice_get l k) (sym e.laid) ∙ is));
+pub begins_ordered : (paid laid : List Put) → paid ≡ [] → laid ≡ [] → IsOrdered paid laid
+begins_ordered paid laid p l = record {
+  paid = no_puts paid p;
+  laid = no_puts laid l;
+  apart = λ k q is. absurd (none-some q (ap (λ (row : List Put). slice_get row k) (sym l) ∙ is));
 }
 
 pub no_numbers : (ns : List ℕ) → ns ≡ [] → IsRisingNumbers ns

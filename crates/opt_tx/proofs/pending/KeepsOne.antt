@@ -18,8 +18,8 @@ use Rattle.opt_tx.specs.Record.{record_of, written_of, fresh_entry, IsTransactio
 use Rattle.opt_crash.specs.Writes.{AddsWrites, AddsFront}
 use Rattle.opt_tx.specs.Writes.{record_writes}
 use Rattle.opt_tx.specs.Commits.{AreNotOnTheirWay}
-use Rattle.opt_tx.proofs.Forms.{map_get}
-use Rattle.opt_tx.proofs.OnePending.{AreIdle, AreUnlike, record_idle, record_unlike, record_own, one_all, one_front, under}
+use Rattle.opt_tx.proofs.spelling.Forms.{map_get}
+use Rattle.opt_tx.proofs.pending.OnePending.{AreIdle, AreUnlike, record_idle, record_unlike, record_own, one_all, one_front, under}
 
 abbrev pub FitsFresh : Type 0
 FitsFresh = (g : Geometry) (r : Record) (i : ℕ) (e : Entry) → IsTrue (entries_fit g r) → slice_get r.fresh i ≡ Some e → (data_start g ≤ e.block) × (e.block < g.n)

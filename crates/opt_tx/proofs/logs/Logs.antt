@@ -11,7 +11,7 @@ use Rattle.opt_disk.specs.Disk.{State, OnlyWrites}
 use Rattle.opt_geom.specs.Geometry.{Geometry, ring_block}
 use Rattle.opt_crash.specs.Writes.{AddsWrites, AddsFront, AddsAll, HasWritten}
 use Rattle.opt_tx.specs.Writes.{ring_writes}
-use Rattle.opt_tx.proofs.Forms.{push, drop_get}
+use Rattle.opt_tx.proofs.spelling.Forms.{push, drop_get}
 
 -- writes behind others
 pub adds_then : (vs ws : List (ℕ × List ℕ)) (ts us : List ℕ) (old mid new : List Event) → AddsWrites vs ts old mid → AddsWrites ws us mid new → AddsWrites (vs ++ ws) (ts ++ us) old new

@@ -19,9 +19,9 @@ use Rattle.opt_tx.specs.declared.put.Put.{Put}
 use Rattle.opt_tx.specs.Record.{record_of, written_of, descriptor_blocks, stored_put, fresh_entry}
 use Rattle.opt_crash.specs.Writes.{AddsWrites, AddsFront}
 use Rattle.opt_tx.specs.Writes.{fresh_write, ring_writes, record_writes}
-use Rattle.opt_tx.proofs.Forms.{if_false, get_map, map_get}
-use Rattle.opt_tx.proofs.Logs.{length_ring_writes}
-use Rattle.opt_tx.proofs.Spelled.{length_descriptor_blocks}
+use Rattle.opt_tx.proofs.spelling.Forms.{if_false, get_map, map_get}
+use Rattle.opt_tx.proofs.logs.Logs.{length_ring_writes}
+use Rattle.opt_tx.proofs.spelling.Spelled.{length_descriptor_blocks}
 
 -- events after others
 after_all-append : (b : ℕ) (c : Cell) (xs ys : List Event) → after_all b c (xs ++ ys) ≡ after_all b (after_all b c xs) ys

@@ -12,8 +12,8 @@ use Rattle.opt_tx.specs.declared.put.Put.{Put}
 use Rattle.opt_tx.specs.Record.{record_of, descriptor_blocks, stored_put}
 use Rattle.opt_crash.specs.Writes.{AddsWrites, AddsFront}
 use Rattle.opt_tx.specs.Writes.{fresh_write, ring_writes, record_writes}
-use Rattle.opt_tx.proofs.Logs.{length_ring_writes}
-use Rattle.opt_tx.proofs.Spelled.{length_descriptor_blocks, entries_length}
+use Rattle.opt_tx.proofs.logs.Logs.{length_ring_writes}
+use Rattle.opt_tx.proofs.spelling.Spelled.{length_descriptor_blocks, entries_length}
 
 -- n fresh blocks, d descriptors, m payloads, and the commit block
 pub record_size : (g : Geometry) (epoch number place : ℕ) (paid laid : List Put) → length (record_writes g epoch number place paid laid) ≡ length laid + descriptor_count (length paid + length laid) + length paid + 1

@@ -18,7 +18,7 @@ use Rattle.opt_crash.specs.LastWrites.{IsDead}
 use Rattle.opt_crash.specs.Recording.{IsNextRecord}
 use Rattle.opt_tx.specs.declared.put.Put.{Put}
 use Rattle.opt_tx.specs.Record.{payload_entry, fresh_entry, stored_put, bytes_of, record_of, written_of, descriptors_from, descriptor_blocks, IsTransaction}
-use Rattle.opt_tx.proofs.Forms.{get_is, get_map, index_map, index_behind, index_front, get_drop, if_true, if_false}
+use Rattle.opt_tx.proofs.spelling.Forms.{get_is, get_map, index_map, index_behind, index_front, get_drop, if_true, if_false}
 
 pub entries_length : (number place : ℕ) (paid laid : List Put) → length (entries (record_of number place paid laid)) ≡ length paid + length laid
 entries_length number place paid laid = omega (arith, length-append (map payload_entry paid) (map fresh_entry laid), length-map paid payload_entry, length-map laid fresh_entry)

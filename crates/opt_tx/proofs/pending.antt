@@ -1,0 +1,3 @@
+-- No block has two writes pending through a commit.
+pub mod OnePending
+pub mod KeepsOne
