@@ -10,8 +10,6 @@ pub mod limits;
 mod memory;
 mod name;
 mod places;
-#[cfg(test)]
-mod tests;
 mod words;
 
 pub use block::{Block, digest, is_sealed, seal};

@@ -8,8 +8,6 @@ mod bits;
 mod free;
 mod laws;
 mod scan;
-#[cfg(test)]
-mod tests;
 
 pub use bad::{BadBit, check};
 pub use bits::{clear, is_set, set};

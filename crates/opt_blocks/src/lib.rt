@@ -14,8 +14,6 @@ mod laws;
 mod plain;
 mod refusals;
 mod role;
-#[cfg(test)]
-mod tests;
 
 pub use blocks::Blocks;
 pub use clients::{fill_lowest, put_all, tick_then_sync};

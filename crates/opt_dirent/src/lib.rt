@@ -9,8 +9,6 @@ mod directory;
 mod laws;
 mod slot;
 mod slots;
-#[cfg(test)]
-mod tests;
 
 pub use block::{read_dir_block, write_dir_block};
 pub use directory::{find, insert_at, take_out};

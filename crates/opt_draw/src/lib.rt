@@ -5,8 +5,6 @@
 
 mod draws;
 mod laws;
-#[cfg(test)]
-mod tests;
 
 pub use draws::Draws;
 pub use laws::{draws_have_31_bits, seed_one_gives_these_draws};

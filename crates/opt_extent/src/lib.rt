@@ -5,8 +5,6 @@
 
 mod laws;
 mod runs;
-#[cfg(test)]
-mod tests;
 
 pub use laws::{
     a_list_has_its_runs, four_stretches_and_their_runs, tidy_runs_are_those_of_their_numbers,

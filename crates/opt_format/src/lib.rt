@@ -5,8 +5,6 @@
 
 mod block;
 mod laws;
-#[cfg(test)]
-mod tests;
 
 pub use block::formatted_block;
 pub use laws::the_formatted_disk_is_empty;

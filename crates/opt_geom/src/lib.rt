@@ -5,8 +5,6 @@
 
 mod geom;
 mod laws;
-#[cfg(test)]
-mod tests;
 
 pub use geom::{BITS_IN_BLOCK, BadShape, Geom, NODE_LENGTH};
 pub use laws::{areas_part_the_disk, geometries_are_within_limits};

@@ -8,8 +8,6 @@ mod adapters;
 mod laws;
 mod memory_sink;
 mod memory_source;
-#[cfg(test)]
-mod tests;
 mod traits;
 mod whole;
 

@@ -12,8 +12,6 @@ mod read;
 mod record;
 mod record_writer;
 mod ring;
-#[cfg(test)]
-mod tests;
 mod write;
 mod write_record;
 

@@ -6,8 +6,6 @@
 mod laws;
 mod read;
 mod sizes;
-#[cfg(test)]
-mod tests;
 mod write;
 
 pub use laws::{

@@ -9,8 +9,6 @@ mod newest;
 mod recovered;
 mod replay;
 mod run;
-#[cfg(test)]
-mod tests;
 mod whole;
 
 pub use newest::newest_header;

@@ -5,7 +5,5 @@
 
 mod counts;
 mod ranks;
-#[cfg(test)]
-mod tests;
 
 pub use ranks::Ranks;

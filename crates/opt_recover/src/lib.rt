@@ -10,8 +10,6 @@ mod newest;
 mod reading;
 mod run;
 mod stored;
-#[cfg(test)]
-mod tests;
 mod whole;
 
 pub use epoch::greatest_epoch;

@@ -5,8 +5,6 @@
 
 mod laws;
 mod line;
-#[cfg(test)]
-mod tests;
 mod write;
 
 pub use laws::equal_traces_have_equal_contents;

@@ -4,7 +4,5 @@
 
 mod command;
 mod request;
-#[cfg(test)]
-mod tests;
 
 pub use request::{Request, read_words};

@@ -2,10 +2,10 @@
 //! has its bitmap in block 18, its node table in blocks 19 to 22 and 41 blocks of data from 23 on; a
 //! transaction has room for 24 * 14 = 336. What is expected was worked out by hand from that.
 
-use crate::{
+use opt_base::{Class, Places};
+use opt_blocks::{
     Blocks, Figures, LowestRefusal, PlainBlocks, SyncRefusal, fill_lowest, tick_then_sync,
 };
-use opt_base::{Class, Places};
 use opt_geom::Geom;
 use std::test::Fail;
 

@@ -3,11 +3,11 @@
 
 ghost use Rattle.std.specs.Prelude.{◌<◌};
 
-use crate::{
+use opt_base::{Block, Name};
+use opt_dirent::{
     BadSlot, Slot, Slots, find, insert_at, read_dir_block, read_slot, take_out, write_dir_block,
     write_slot,
 };
-use opt_base::{Block, Name};
 use std::test::Fail;
 
 // The first bytes of some slots. What is behind them up to 64 bytes are zeros.

@@ -1,5 +1,5 @@
 use Rattle.std.proofs.Common.{◌≡◌, ◌≤◌}
-use Rattle.opt_ranks.proofs.tests.a_long_run_agrees_with_a_plain_list.Given as goal
+use Rattle.opt_tests.proofs.ranks.a_long_run_agrees_with_a_plain_list.Given as goal
 
 -- no more numbers joined than there were steps
 abbrev pub invariant-loop-step : goal.invariant-loop-step

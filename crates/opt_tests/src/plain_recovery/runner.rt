@@ -4,9 +4,9 @@ use super::cases::{Case, FORMATTED, Found, MOUNTED, RECORD};
 use super::images::{Act, Change, HeaderText, RecordText, Text, Texts, block_of, image_of};
 use super::records::{ONE_RECORD, ORDERS, RAISED};
 use super::{headers, records, replays, script};
-use crate::{Record, Recovered, newest_header, recover};
 use opt_base::{Block, digest};
 use opt_journal::{Entry, EntryKind, Header};
+use opt_plain_recovery::{Record, Recovered, newest_header, recover};
 use std::alloc::Global;
 use std::test::Fail;
 

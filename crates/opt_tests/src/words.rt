@@ -1,7 +1,7 @@
 //! Lists of words and what they ask for, by the grammar of the README.
 
-use crate::{Request, read_words};
 use opt_base::NoMemory;
+use opt_words::{Request, read_words};
 use std::alloc::Global;
 
 fn read(alloc: Global, words: &[&str]) -> Result<Option<Request>, NoMemory> {

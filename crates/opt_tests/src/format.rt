@@ -1,8 +1,8 @@
 //! The formatted disk block by block. What is expected was worked out by hand from docs/LAYOUT.md and
 //! docs/JOURNAL.md; the header's seal is the SHA-256 of its first 992 bytes by Python's hashlib.
 
-use crate::formatted_block;
 use opt_base::Block;
+use opt_format::formatted_block;
 use opt_geom::Geom;
 use std::test::Fail;
 

@@ -1,7 +1,7 @@
 //! Each public call once, with values worked out by hand: faults in mid-stream, a full sink, one
 //! byte at a time, and the adapters over readers and writers in memory.
 
-use crate::{
+use opt_io::{
     MemSink, MemSource, ReadSource, Sink, SinkFault, Source, SourceFault, WriteSink, push_all,
 };
 use std::collections::VecDeque;

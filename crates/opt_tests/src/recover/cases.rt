@@ -1,8 +1,8 @@
 //! The images, and what is to be found on each, reckoned by hand.
 
 use super::images::{HeaderText, RecordText};
-use crate::RecoverRefusal;
 use opt_journal::EntryKind;
+use opt_recover::RecoverRefusal;
 
 /// An image, and what is expected.
 #[derive(Clone, Copy)]

@@ -1,7 +1,7 @@
 //! The draws of a few seeds. What is expected was worked out in Python, with whole numbers of any
 //! length, by x = (x * 6364136223846793005 + 1442695040888963407) % 2**64 and x // 2**33.
 
-use crate::Draws;
+use opt_draw::Draws;
 
 /// Whether the first draws of the seed are these.
 fn begins_with(seed: u32, wanted: &[u32]) -> bool {

@@ -1,7 +1,7 @@
 //! Lists of numbers as runs. What is expected was worked out by hand.
 
-use crate::{Runs, Scattered};
 use opt_base::{Run, RunList};
+use opt_extent::{Runs, Scattered};
 use std::test::Fail;
 
 /// The number at this place, where the list has it.

@@ -3,8 +3,8 @@
 
 ghost use Rattle.std.specs.Prelude.{◌≡◌, []};
 
-use crate::Ranks;
 use opt_base::NoMemory;
+use opt_ranks::Ranks;
 use std::alloc::Global;
 use std::process::Abort;
 use std::test::Fail;

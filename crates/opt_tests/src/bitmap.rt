@@ -5,9 +5,9 @@
 ghost use Rattle.std.specs.Prelude.{◌≡◌, length};
 ghost use Rattle.opt_geom.specs.Geometry.{bitmap_blocks};
 
-use crate::{BadBit, check, clear, is_set, lowest, set};
 use opt_base::Block;
 use opt_base::limits::MOST_BLOCKS;
+use opt_bitmap::{BadBit, check, clear, is_set, lowest, set};
 use opt_geom::Geom;
 use std::test::Fail;
 

@@ -3,13 +3,13 @@
 
 ghost use Rattle.std.specs.Prelude.{◌≤◌, length};
 
-use crate::{
+use opt_base::{Block, seal};
+use opt_geom::Geom;
+use opt_journal::{
     BadRecord, Commit, Descriptor, Entries, Entry, EntryKind, Header, RecordWriter,
     descriptor_count, escape, is_stored, read_commit, read_descriptor, read_header, unescape,
     write_commit, write_descriptor, write_header,
 };
-use opt_base::{Block, seal};
-use opt_geom::Geom;
 use std::test::Fail;
 
 // The tag OPTH0001, epoch 1, turn 1, start 1, sure 0, at 0, not closed, 64 blocks, 16 of the journal, 16 nodes.

@@ -1,6 +1,6 @@
 //! Digests and seals against values from outside, lists of numbers and of runs, and printed texts.
 
-use crate::{Class, NoMemory, Places, ReadFault, Run, RunList, digest, is_sealed, seal};
+use opt_base::{Class, NoMemory, Places, ReadFault, Run, RunList, digest, is_sealed, seal};
 use sha2::{Digest, Sha256};
 use std::test::Fail;
 

@@ -3,10 +3,10 @@
 use super::cases::{BOTH, CASES, Case, Expected};
 use super::disk::StillDisk;
 use super::images::image_of;
-use crate::{RecoverRefusal, Run, find_run, greatest_epoch};
 use opt_base::ReadFault;
 use opt_disk::Disk;
 use opt_geom::Geom;
+use opt_recover::{RecoverRefusal, Run, find_run, greatest_epoch};
 use std::alloc::Global;
 use std::test::Fail;
 

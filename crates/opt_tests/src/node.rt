@@ -3,11 +3,11 @@
 
 ghost use Rattle.std.specs.Prelude.{◌≤◌, length};
 
-use crate::{BadNode, read_node, write_node};
 use opt_base::{Run, RunList};
 use opt_extent::Runs;
 use opt_geom::Geom;
 use opt_layout::{Node, NodeKind};
+use opt_node::{BadNode, read_node, write_node};
 use std::test::Fail;
 
 const DIR: u8 = 1;

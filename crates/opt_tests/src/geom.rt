@@ -1,7 +1,7 @@
 //! Which numbers are a geometry, and where its areas begin. What is expected was worked out by hand
 //! from the limits.
 
-use crate::{BadShape, Geom};
+use opt_geom::{BadShape, Geom};
 use std::test::Fail;
 
 /// Where a node is stored, if the geometry has it.

@@ -1,10 +1,10 @@
 //! The exact text of each line, worked out by hand, and what a sink has that fails midway.
 
-use crate::{write_command, write_end, write_event, write_geom, write_reply};
 use opt_base::Block;
 use opt_disk::{BoxedBlock, Event};
 use opt_geom::Geom;
 use opt_io::{MemSink, SinkFault};
+use opt_trace::{write_command, write_end, write_event, write_geom, write_reply};
 use std::test::Fail;
 
 // Zeros, but for the bytes 0, 1 and 1023.
