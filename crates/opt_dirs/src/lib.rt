@@ -3,10 +3,12 @@
 #![tactic(auto)]
 
 mod block;
+mod changing;
 mod listing;
 mod lookup;
 mod walks;
 
+pub use changing::{set_slot, take_slot};
 pub use listing::names;
 pub use lookup::{Found, count_slots, find};
 pub use walks::{walk, walk_to_parent};

@@ -16,3 +16,4 @@ pub mod Loaded
 pub mod WriteAt
 pub mod Extends
 pub mod Resized
+pub mod Within

@@ -12,3 +12,4 @@ pub mod Growing
 pub mod Making
 pub mod Resizing
 pub mod Writing
+pub mod Within

@@ -102,7 +102,7 @@ fn may_grow(draft: &Draft, node: &OpenNode, size: u64) -> bool
 /// # Errors
 /// A read of the disk failed, which the disk has counted; or out of memory. The draft isn't to be used
 /// any more then.
-fn cut<S: Blocks>(
+pub(crate) fn cut<S: Blocks>(
     draft: &mut Draft,
     alloc: Global,
     blocks: &mut S,

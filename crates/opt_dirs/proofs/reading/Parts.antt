@@ -1,5 +1,5 @@
 -- Parts of lists: what is at a place of a part, and bytes cut out of other ones.
-use Rattle.std.proofs.Common.{◌≡◌, ℕ, ◌+◌, ◌-◌, ◌<◌, ◌≤◌, min, List, ◌++◌, length, take, drop, slice_get, Some, sym, ap, ◌∙◌, arith}
+use Rattle.std.proofs.Common.{◌≡◌, ℕ, zero, suc, ◌+◌, ◌-◌, ◌<◌, ◌≤◌, min, List, [], ◌∷◌, ◌++◌, length, take, drop, slice_get, Some, refl, sym, ap, ◌∙◌, arith}
 use Rattle.std.proofs.lemmas.List.{length-take, length-drop, take-take, take-append-le, drop-append-le, drop-drop, drop-take, get_or-drop}
 use Rattle.std.proofs.Common.{get_or-take}
 use Rattle.std.proofs.lemmas.Option.{slice_get_within, get_or_from_slice_get, slice_get-get_or}
@@ -24,6 +24,13 @@ module _ {A : Type 0} (n from : ℕ) (xs : List A) where
   part_has i x low at =
       let within = slice_get_within xs (from + i) x at in
       slice_get-get_or (take n (drop from xs)) i x (omega (arith, low, within, part_length)) ∙ ap Some (get_or-take n (drop from xs) i x low ∙ get_or-drop from xs i x ∙ get_or_from_slice_get xs (from + i) x x at)
+
+-- what is first in a part that isn't empty
+pub part_first : {A : Type 0} (n from : ℕ) (xs : List A) → slice_get (take (suc n) (drop from xs)) 0 ≡ slice_get xs from
+part_first n zero [] = refl
+part_first n zero (x ∷ xs) = refl
+part_first n (suc from) [] = refl
+part_first n (suc from) (x ∷ xs) = part_first n from xs
 
 -- bytes cut out of a part of others, with more behind it
 pub cut_out : {A : Type 0} (n at count from : ℕ) (xs more : List A) → at + count ≤ n → from + at + count ≤ length xs → take count (drop at (take n (drop from xs) ++ more)) ≡ take count (drop (from + at) xs)

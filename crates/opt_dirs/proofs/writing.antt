@@ -1,0 +1,4 @@
+pub mod Alterings
+pub mod Nodes
+pub mod Setting
+pub mod Taking

@@ -1,0 +1,46 @@
+-- What calls alter of a draft, one behind the other.
+use Rattle.std.proofs.Common.{◌≡◌, ◌⊎◌, inl, inr, ℕ, ◌+◌, ◌==◌, true, ◌||◌, List, [], ◌∷◌, ◌++◌, is_some, ap, ◌∙◌, arith, append_assoc}
+use Rattle.std.proofs.lemmas.Bool.{or_cases, or_left, or_right}
+use Rattle.std.proofs.lemmas.List.{length-append}
+use Rattle.opt_blocks.specs.Running.{has}
+use Rattle.opt_files.specs.Drafts.{DraftState, change_of}
+use Rattle.opt_dirs.specs.Changing.{Alters, ChangesAtMost}
+
+-- what is in either of two lists is in both together
+
+pub in_first : (xs ys : List ℕ) (b : ℕ) → has xs b ≡ true → has (xs ++ ys) b ≡ true
+in_first [] ys b e = absurd cc
+in_first (x ∷ xs) ys b e = by (in_first xs ys b) (or_cases (b == x) (has xs b) e)
+  where
+    by : (has xs b ≡ true → has (xs ++ ys) b ≡ true) → ((b == x) ≡ true) ⊎ (has xs b ≡ true) → ((b == x) || has (xs ++ ys) b) ≡ true
+    by rest (inl here) = or_left (b == x) (has (xs ++ ys) b) here
+    by rest (inr there) = or_right (b == x) (has (xs ++ ys) b) (rest there)
+
+pub in_second : (xs ys : List ℕ) (b : ℕ) → has ys b ≡ true → has (xs ++ ys) b ≡ true
+in_second [] ys b e = e
+in_second (x ∷ xs) ys b e = or_right (b == x) (has (xs ++ ys) b) (in_second xs ys b e)
+
+-- a few blocks, and then a few more
+few_more : (a b : ℕ) (c d e : DraftState) → ChangesAtMost a c d → ChangesAtMost b d e → ChangesAtMost (a + b) c e
+few_more a b c d e p q = (p.0 ++ q.0, omega (arith, length-append p.0 q.0, p.1, q.1), each)
+  where
+    each : (n : ℕ) → is_some (change_of e.changed n) ≡ true → (has (p.0 ++ q.0) n || is_some (change_of c.changed n)) ≡ true
+    each n is = by (or_cases (has q.0 n) (is_some (change_of d.changed n)) (q.2 n is))
+      where
+        before : (has p.0 n ≡ true) ⊎ (is_some (change_of c.changed n) ≡ true) → (has (p.0 ++ q.0) n || is_some (change_of c.changed n)) ≡ true
+        before (inl mine) = or_left (has (p.0 ++ q.0) n) (is_some (change_of c.changed n)) (in_first p.0 q.0 n mine)
+        before (inr old) = or_right (has (p.0 ++ q.0) n) (is_some (change_of c.changed n)) old
+
+        by : (has q.0 n ≡ true) ⊎ (is_some (change_of d.changed n) ≡ true) → (has (p.0 ++ q.0) n || is_some (change_of c.changed n)) ≡ true
+        by (inl mine) = or_left (has (p.0 ++ q.0) n) (is_some (change_of c.changed n)) (in_second p.0 q.0 n mine)
+        by (inr old) = before (or_cases (has p.0 n) (is_some (change_of c.changed n)) (p.2 n old))
+
+-- what two calls alter adds up
+pub alters_both : (a b freed gone : ℕ) (taken more : List ℕ) (c d e : DraftState) → Alters a taken freed c d → Alters b more gone d e → Alters (a + b) (taken ++ more) (freed + gone) c e
+alters_both a b freed gone taken more c d e p q = record {
+  among = few_more a b c d e p.among q.among;
+  some = q.some;
+  taken = q.taken ∙ ap (λ ts. ts ++ more) p.taken ∙ append_assoc c.taken taken more;
+  freed = omega (arith, p.freed, q.freed);
+  fresh = omega (arith, p.fresh, q.fresh);
+}
