@@ -2,12 +2,14 @@
 //! command, no cost and no journal is known here. The rules are described in docs/DIRECTORIES.md.
 #![tactic(auto)]
 
+mod adding;
 mod block;
 mod changing;
 mod listing;
 mod lookup;
 mod walks;
 
+pub use adding::add_slot;
 pub use changing::{set_slot, take_slot};
 pub use listing::names;
 pub use lookup::{Found, count_slots, find};
