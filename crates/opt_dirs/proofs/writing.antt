@@ -2,3 +2,4 @@ pub mod Alterings
 pub mod Nodes
 pub mod Setting
 pub mod Taking
+pub mod Adding

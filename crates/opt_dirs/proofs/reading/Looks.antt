@@ -3,11 +3,11 @@ use Rattle.std.proofs.Common.{◌≡◌, ◌↔◌, ℕ, Bool, false, IsTrue, re
 use Rattle.opt_base.specs.Counts.{after_call}
 use Rattle.opt_base.specs.Seal.{Blocks}
 use Rattle.opt_blocks.specs.State.{Bookkeeping, State}
-use Rattle.opt_stands.specs.Files.{files_of}
+use Rattle.opt_stands.specs.Files.{files_of, used_node}
 use Rattle.opt_stands.specs.Inodes.{inodes_of}
 use Rattle.opt_stands.specs.Maps.{IsMapOf}
 use Rattle.opt_tree.specs.Tree.{Tree}
-use Rattle.opt_files.specs.Calls.{files_in}
+use Rattle.opt_files.specs.Calls.{files_in, places_in, places_or_none}
 use Rattle.opt_files.specs.Drafts.{DraftState, drafted}
 use Rattle.opt_files.specs.Effects.{LooksOnly}
 use Rattle.opt_files.specs.Sound.{FitsBooks, IsSoundDraft, IsDraftOf}
@@ -56,6 +56,10 @@ module _ (tells failed : Bool) (s t : State) (d : DraftState) (k : LooksOnly tel
   -- and so are the inodes
   pub same_inodes : IsTrue tells → inodes_in t d ≡ inodes_in s d
   same_inodes told = ap inodes_of (same_files told)
+
+  -- and the blocks of each node
+  pub same_places : (n : ℕ) → IsTrue tells → places_in t d n ≡ places_in s d n
+  same_places n told = ap₂ (λ (b : Bookkeeping) (m : Blocks). places_or_none (used_node b.geom (drafted d m) n)) k.books (k.map told)
 
   -- so they are the map of the same tree
   pub same_map : (tree : Tree) → IsTrue tells → IsMapOf s.books.geom.i (inodes_in s d) tree → IsMapOf t.books.geom.i (inodes_in t d) tree

@@ -1,9 +1,13 @@
 -- What calls alter of a draft, one behind the other.
-use Rattle.std.proofs.Common.{◌≡◌, ◌⊎◌, inl, inr, ℕ, ◌+◌, ◌==◌, true, ◌||◌, List, [], ◌∷◌, ◌++◌, is_some, ap, ◌∙◌, arith, append_assoc}
+use Rattle.std.proofs.Common.{◌≡◌, ◌⊎◌, inl, inr, ℕ, ◌+◌, ◌*◌, ◌≤◌, ◌==◌, min, Bool, true, false, ◌||◌, List, [], ◌∷◌, ◌++◌, length, is_some, refl, sym, ap, ◌∙◌, arith, append_assoc, append-nil}
 use Rattle.std.proofs.lemmas.Bool.{or_cases, or_left, or_right}
 use Rattle.std.proofs.lemmas.List.{length-append}
 use Rattle.opt_blocks.specs.Running.{has}
-use Rattle.opt_files.specs.Drafts.{DraftState, change_of}
+use Rattle.opt_geom.specs.Geometry.{Geometry, bitmap_blocks}
+use Rattle.opt_files.specs.Calls.{SetsNode}
+use Rattle.opt_files.specs.Drafts.{DraftState, ChangesSome, change_of, nothing_drafted}
+use Rattle.opt_files.specs.Finish.{ChangesOnly, price}
+use Rattle.opt_files.specs.Nodes.{node_block}
 use Rattle.opt_dirs.specs.Changing.{Alters, ChangesAtMost}
 
 -- what is in either of two lists is in both together
@@ -44,3 +48,26 @@ alters_both a b freed gone taken more c d e p q = record {
   freed = omega (arith, p.freed, q.freed);
   fresh = omega (arith, p.fresh, q.fresh);
 }
+
+-- a node that changed is one block
+pub alters_node : (g : Geometry) (number : ℕ) (gone : List ℕ) (d e : DraftState) → SetsNode g number gone d e → ChangesSome e → Alters 1 [] (length gone) d e
+alters_node g number gone d e sets some = record {
+  among = (node_block g number ∷ [], omega arith, sets.among);
+  some = some;
+  taken = sets.taken ∙ sym (append-nil d.taken);
+  freed = ap length sets.freed ∙ length-append d.freed gone;
+  fresh = sets.fresh;
+}
+
+-- what is altered of an empty draft bounds its price
+pub altered_price : (g : Geometry) (most frees : ℕ) (takes : List ℕ) (e : DraftState) → Alters most takes frees nothing_drafted e
+    → (bs : List ℕ) × ChangesOnly bs e × (price g bs e ≤ 25 * (most + (min (length takes) (bitmap_blocks g) + min frees (bitmap_blocks g))))
+altered_price g most frees takes e alters = (
+  alters.among.0,
+  λ b is. only (has alters.among.0 b) (alters.among.2 b is),
+  omega (arith, alters.among.1, alters.fresh, ap length alters.taken, alters.freed),
+)
+  where
+    only : (t : Bool) → (t || false) ≡ true → t ≡ true
+    only true h = refl
+    only false h = h

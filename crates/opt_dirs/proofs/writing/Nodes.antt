@@ -1,11 +1,12 @@
 -- The node of a directory, and what its slots are once its bytes changed.
-use Rattle.std.proofs.Common.{◌≡◌, ℕ, ◌*◌, ◌%◌, ◌<◌, ◌==◌, if◌then◌else◌, List, length, Option, Some, option_and_then, sym, subst, ap, ap₂, ◌∙◌}
+use Rattle.std.proofs.Common.{◌≡◌, ◌⊎◌, inl, inr, true, false, ℕ, ◌*◌, ◌%◌, ◌<◌, ◌==◌, if◌then◌else◌, List, length, Option, Some, None, option_and_then, refl, sym, subst, ap, ap₂, ◌∙◌}
+use Rattle.std.proofs.lemmas.Bool.{cases_Bool, eqb-true, eqb-false}
 use Rattle.std.proofs.lemmas.Option.{same_Some}
 use Rattle.opt_layout.specs.declared.node.NodeKind.TheVariants.{Dir}
 use Rattle.opt_layout.specs.declared.slot.Slot.{Slot}
 use Rattle.opt_tree.specs.Step.{written}
 use Rattle.opt_stands.specs.Files.{FileNode, Files}
-use Rattle.opt_stands.specs.Inodes.{Inode, ADir, inode_of}
+use Rattle.opt_stands.specs.Inodes.{Inode, ADir, IsInodeOf, AreInodesOf, inode_of, inodes_of}
 use Rattle.opt_files.specs.Bytes.{overwritten}
 use Rattle.opt_files.specs.Calls.{IsWithFile}
 use Rattle.opt_dirs.specs.Changing.{IsWithSlots}
@@ -54,3 +55,16 @@ bytes_over off at text spelling xs here same size = ap (λ n. if n == 0 then xs 
 -- a place that a directory has is one of its slots
 pub place_of_slots : (o : Option Inode) (place : ℕ) (slots : List Slot) → ((xs : List Slot) × (o ≡ Some (ADir xs)) × (place < length xs)) → o ≡ Some (ADir slots) → place < length slots
 place_of_slots o place slots (xs, has, low) is = subst (λ ys. place < length ys) (dir_slots xs slots (sym has ∙ is)) low
+
+-- what has an inode reads as it
+reads_here : (o : Option FileNode) (x : Inode) → option_and_then inode_of o ≡ Some x → IsInodeOf o (option_and_then inode_of o)
+reads_here None x e = refl
+reads_here (Some file) x e = subst (IsInodeOf (Some file)) (sym e) e
+
+-- so each node in use still reads as an inode, where one directory has other slots
+pub still_read : (old new : Files) (k : ℕ) (slots : List Slot) → IsWithSlots old new k slots → AreInodesOf old (inodes_of old) → AreInodesOf new (inodes_of new)
+still_read old new k slots w all l = by (cases_Bool (l == k))
+  where
+    by : ((l == k) ≡ true) ⊎ ((l == k) ≡ false) → IsInodeOf (new l) (option_and_then inode_of (new l))
+    by (inl here) = subst (λ n. IsInodeOf (new n) (option_and_then inode_of (new n))) (sym (eqb-true l k here)) (reads_here (new k) (ADir slots) w.inodes.here)
+    by (inr off) = subst (λ (o : Option FileNode). IsInodeOf o (option_and_then inode_of o)) (sym (w.others l (eqb-false l k off))) (all l)
