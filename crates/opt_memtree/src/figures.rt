@@ -1,6 +1,6 @@
-//! What a command does to the blocks of a tree, counted from names and sizes alone: by how many its file
-//! or its directory grows, what it costs in the journal, and how many it frees. No block is known here,
-//! and no loop goes over blocks or bytes. The rules are described in docs/TREE.md.
+//! What a command does to the blocks of a tree: the sizes on which that depends are looked up here, and
+//! opt_figures counts from them. No block is known, and no loop goes over blocks or bytes. The rules are
+//! described in docs/TREE.md.
 
 ghost use Rattle.std.specs.Prelude.{◌≡◌, ◌==◌, ◌+◌, ◌≤◌, ◌<◌, ℕ, length, IfOk};
 ghost use Rattle.std.specs.FinMap.{get};
@@ -9,41 +9,17 @@ ghost use Rattle.opt_tree.specs.Paths.{parent};
 ghost use Rattle.opt_tree.specs.Walk.{bytes_in, content, links};
 ghost use Rattle.opt_tree.specs.Conditions.{refusal};
 ghost use Rattle.opt_tree.specs.Figures as spec;
+ghost use Rattle.opt_figures.specs.Values.{value_of};
 
 use crate::maps::TreeMaps;
 use crate::nodes::Node;
-use opt_base::limits::BLOCK_LENGTH;
 use opt_base::{Name, NoMemory};
+use opt_figures::{
+    Figures, NOTHING, adding, blocks_for, growth, moving, release, removing, truncate_figures,
+    write_figures,
+};
 use opt_tree::{Cmd, Path, Refusal, copy_names};
 use std::alloc::Global;
-
-/// Bytes of a block.
-const BLOCK: u32 = BLOCK_LENGTH as u32;
-
-/// Names that one block of a directory holds.
-const NAMES_IN_BLOCK: u64 = 16;
-
-/// What one block that is in the journal's record costs.
-const PAYLOAD: u32 = 25;
-
-/// What a command does to the blocks.
-#[derive(Clone, Copy)]
-struct Figures {
-    /// By how many blocks its file or its target directory grows.
-    need: u32,
-    /// The most that it adds to the journal's record: 25 for each block that is there, and 1 for each
-    /// that is only named.
-    cost: u32,
-    /// How many blocks it frees.
-    freed: u32,
-}
-
-/// The figures of a command that leaves the blocks as they are.
-const NOTHING: Figures = Figures {
-    need: 0,
-    cost: 0,
-    freed: 0,
-};
 
 impl TreeMaps {
     /// Need, cost and blocks freed of a command, where `why` is the tree's reason to refuse it.
@@ -92,7 +68,7 @@ impl TreeMaps {
     fn accepted(&self, alloc: Global, cmd: &Cmd, bitmap: u32) -> Result<Figures, NoMemory>
         requires accepted { (limit : ℕ) × (refusal limit self.now cmd.now ≡ None) }
         requires small { HasSmallFiles self.now.nodes }
-        ensures { IfOk result (λ f. spec.accepted_figures bitmap self.now cmd.now ≡ record { need = f.need; cost = f.cost; freed = f.freed }) }
+        ensures { IfOk result (λ f. spec.accepted_figures bitmap self.now cmd.now ≡ value_of f) }
     {
         match cmd {
             Cmd::Mkdir(path) | Cmd::Create(path) | Cmd::Link(_, path) => {
@@ -146,7 +122,7 @@ impl TreeMaps {
         bitmap: u32,
     ) -> Result<Figures, NoMemory>
         requires small { HasSmallFiles self.now.nodes }
-        ensures { IfOk result (λ f. spec.move_figures bitmap self.now from.now to.now ≡ record { need = f.need; cost = f.cost; freed = f.freed }) }
+        ensures { IfOk result (λ f. spec.move_figures bitmap self.now from.now to.now ≡ value_of f) }
     {
         let source = self.siblings(alloc, from)?;
         if self.find(to.names()).is_some() {
@@ -217,131 +193,6 @@ impl TreeMaps {
             None => 0,
         }
     }
-}
-
-/// One name more in a directory.
-fn adding(grown: u32) -> Figures
-    requires { grown ≤ 1 }
-    ensures { spec.adding grown ≡ record { need = result.need; cost = result.cost; freed = result.freed } }
-{
-    Figures {
-        need: grown,
-        cost: PAYLOAD * (3 + grown),
-        freed: 0,
-    }
-}
-
-/// One name less in a directory, with what goes.
-fn removing(bitmap: u32, freed: u32) -> Figures
-    requires { freed ≤ 1048577 }
-    ensures { spec.removing bitmap freed ≡ record { need = result.need; cost = result.cost; freed = result.freed } }
-{
-    Figures {
-        need: 0,
-        cost: PAYLOAD * (4 + freed.min(bitmap)),
-        freed,
-    }
-}
-
-/// A path that moves: its new directory grows, and blocks become free.
-fn moving(bitmap: u32, grown: u32, freed: u32) -> Figures
-    requires grown { grown ≤ 1 }
-    requires freed { freed ≤ 1048577 }
-    ensures { spec.moving bitmap grown freed ≡ record { need = result.need; cost = result.cost; freed = result.freed } }
-{
-    Figures {
-        need: grown,
-        cost: PAYLOAD * (6 + (grown + freed.min(bitmap))),
-        freed,
-    }
-}
-
-/// So many bytes come into a file of this size from `offset` on.
-fn write_figures(bitmap: u32, size: u32, offset: u32, count: u32) -> Figures
-    requires size { size ≤ 1073741824 }
-    requires end { 0 < count → offset + count ≤ 1073741824 }
-    ensures { spec.write_figures bitmap size offset count ≡ record { need = result.need; cost = result.cost; freed = result.freed } }
-{
-    if count == 0 {
-        return NOTHING;
-    }
-    writing(bitmap, size, offset.min(size), offset + count)
-}
-
-/// A file of `old` bytes gets `new` ones.
-fn truncate_figures(bitmap: u32, old: u32, new: u32) -> Figures
-    requires old { old ≤ 1073741824 }
-    requires new { new ≤ 1073741824 }
-    ensures { spec.truncate_figures bitmap old new ≡ record { need = result.need; cost = result.cost; freed = result.freed } }
-{
-    if old < new {
-        return writing(bitmap, old, old, new);
-    }
-    if new < old {
-        return shrinking(bitmap, blocks_for(old) - blocks_for(new));
-    }
-    NOTHING
-}
-
-/// Bytes from `lo` up to `hi` come into a file of this size.
-fn writing(bitmap: u32, size: u32, lo: u32, hi: u32) -> Figures
-    requires size { size ≤ 1073741824 }
-    requires hi { hi ≤ 1073741824 }
-    ensures { spec.writing bitmap size lo hi ≡ record { need = result.need; cost = result.cost; freed = result.freed } }
-{
-    let grown = blocks_for(size.max(hi)) - blocks_for(size);
-    let met = blocks_met(size, lo, hi);
-    Figures {
-        need: grown,
-        cost: PAYLOAD * (met + (1 + grown.min(bitmap))) + grown,
-        freed: 0,
-    }
-}
-
-/// A file loses so many blocks.
-fn shrinking(bitmap: u32, freed: u32) -> Figures
-    requires { freed ≤ 1048576 }
-    ensures { spec.shrinking bitmap freed ≡ record { need = result.need; cost = result.cost; freed = result.freed } }
-{
-    Figures {
-        need: 0,
-        cost: PAYLOAD * (1 + freed.min(bitmap)),
-        freed,
-    }
-}
-
-/// The blocks of so many bytes.
-fn blocks_for(size: u32) -> u32
-    ensures { result ≡ spec.blocks_for size }
-{
-    size.div_ceil(BLOCK)
-}
-
-/// How many blocks of a file of this size touch the bytes from `lo` up to `hi`: those that begin before
-/// `hi`, without those that end at `lo` or before.
-fn blocks_met(size: u32, lo: u32, hi: u32) -> u32
-    ensures value { result ≡ spec.blocks_met size lo hi }
-    ensures bound { result ≤ spec.blocks_for size }
-{
-    blocks_for(size)
-        .min(blocks_for(hi))
-        .saturating_sub(lo / BLOCK)
-}
-
-/// By how many blocks a directory of so many names grows with one more: by one, where its blocks are full.
-fn growth(held: u64) -> u32
-    ensures value { result ≡ spec.growth held }
-    ensures bound { result ≤ 1 }
-{
-    u32::from(held % NAMES_IN_BLOCK == 0)
-}
-
-/// How many blocks a directory of so many names frees with one less: one, where its last block holds one.
-fn release(held: u64) -> u32
-    ensures value { result ≡ spec.release held }
-    ensures bound { result ≤ 1 }
-{
-    u32::from(held % NAMES_IN_BLOCK == 1)
 }
 
 /// The names of the path but the last.
