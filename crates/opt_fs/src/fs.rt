@@ -1,5 +1,5 @@
 //! A file system over a map of blocks: opening it, what is known of its room, and giving the blocks back.
-//! What each command does is told elsewhere.
+//! What commands answer is described elsewhere.
 
 ghost use Rattle.std.specs.Prelude.{◌≡◌, ◌≤◌, IsTrue, false, IfOk, IfErr, OnOk};
 ghost use Rattle.opt_blocks.specs.Calls.{AreFigures};
@@ -33,7 +33,7 @@ impl<S: Blocks> Fs<S> {
     /// memory. The blocks are handed back.
     pub fn open(alloc: Global, mut blocks: S) -> Result<Fs<S>, (S, CheckRefusal)>
         requires begun { IsBegun (S.state blocks) }
-        ensures tree { IsTrue S.tells → IfOk result (λ fs. (t : Tree) × IsSession (state fs) (session_on (S.state blocks).books.geom.i t)) }
+        ensures session { IsTrue S.tells → IfOk result (λ fs. (t : Tree) × IsSession (state fs) (session_on (S.state blocks).books.geom.i t)) }
         ensures damage { IsTrue S.tells → IfErr result (λ e. OnDamage e.1 (IsDamaged (S.state blocks).books.geom (S.state blocks).map)) }
         ensures none { IsTrue S.tells → IfErr result (λ e. OnDamage e.1 (λ _. (t : Tree) → IsTreeOf (S.state blocks).books.geom (S.state blocks).map t → ⊥)) }
         ensures looks { IfOk result (λ fs. LooksOnly S.tells false (S.state blocks) (state fs)) }
