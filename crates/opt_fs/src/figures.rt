@@ -1,0 +1,114 @@
+//! The figures of each kind of command, from what was looked up of inodes: numbers of slots, links and
+//! sizes. Nothing is looked up here. The rules are described in docs/TREE.md.
+
+ghost use Rattle.std.specs.Prelude.{◌≡◌, ◌+◌, ◌<◌, ◌≤◌, ℕ, List, length};
+ghost use Rattle.opt_tree.specs.declared.command.Cmd.{Cmd};
+ghost use Rattle.opt_tree.specs.declared.command.Cmd.TheVariants.{Mkdir, Create, Write, Fill, Truncate, Link, Unlink, Rmdir, Rename};
+ghost use Rattle.opt_tree.specs.Figures.{Figures as FiguresValue};
+ghost use Rattle.opt_stands.specs.Inodes.{Inodes};
+ghost use Rattle.opt_inodes.specs.Lookups.{bytes_of, inode_at};
+ghost use Rattle.opt_inodes.specs.Figures.{accepted_cost, slots_above, blocks_lost};
+ghost use Rattle.opt_figures.specs.Values.{value_of};
+ghost use Rattle.opt_fs.specs.Figures.{AreFiguresOf, HasFacts, HasSmallTarget, RenameFinds};
+
+use opt_figures::{
+    Figures, NOTHING, adding, blocks_for, growth, moving, release, removing, truncate_figures,
+    write_figures,
+};
+use opt_inodes::{the_map_gives_the_figures, the_map_gives_the_refusal};
+
+/// What a rename finds, which decides its figures.
+#[derive(Clone, Copy, Debug, PartialEq, Eq)]
+pub(crate) enum Move {
+    /// Both paths lead to one node.
+    SameNode,
+    /// Something is at the second path, with so many links and bytes. The directory of the first path has
+    /// so many slots.
+    Onto { slots: u64, links: u32, size: u32 },
+    /// Nothing is there, and both paths are in one directory.
+    WithinOne,
+    /// Nothing is there, and the directories of both paths have so many slots.
+    Across { source: u64, target: u64 },
+}
+
+/// The figures of a new name in a directory of so many slots: of mkdir, create and link.
+pub(crate) fn new_name_figures(slots: u64) -> Figures
+    ensures mkdir { (bitmap : ℕ) (m : Inodes) (path : List (List ℕ)) → slots ≡ slots_above m path → AreFiguresOf bitmap m (Mkdir path) (value_of result) }
+    ensures create { (bitmap : ℕ) (m : Inodes) (path : List (List ℕ)) → slots ≡ slots_above m path → AreFiguresOf bitmap m (Create path) (value_of result) }
+    ensures link { (bitmap : ℕ) (m : Inodes) (path other : List (List ℕ)) → slots ≡ slots_above m other → AreFiguresOf bitmap m (Link path other) (value_of result) }
+{
+    figures_come_from_inodes();
+    adding(growth(slots))
+}
+
+/// The figures of an unlink, in a directory of so many slots, of a file with so many links and bytes.
+pub(crate) fn unlink_figures(bitmap: u32, slots: u64, links: u32, size: u32) -> Figures
+    requires { size ≤ 1073741824 }
+    ensures { (m : Inodes) (path : List (List ℕ)) → slots ≡ slots_above m path → HasFacts m path links size → AreFiguresOf bitmap m (Unlink path) (value_of result) }
+{
+    figures_come_from_inodes();
+    removing(bitmap, release(slots) + blocks_gone(links, size))
+}
+
+/// The figures of an rmdir in a directory of so many slots.
+pub(crate) fn rmdir_figures(bitmap: u32, slots: u64) -> Figures
+    ensures { (m : Inodes) (path : List (List ℕ)) → slots ≡ slots_above m path → AreFiguresOf bitmap m (Rmdir path) (value_of result) }
+{
+    figures_come_from_inodes();
+    removing(bitmap, release(slots))
+}
+
+/// The figures of a write or fill of so many bytes from `offset` on, in a file of so many.
+pub(crate) fn overwrite_figures(bitmap: u32, size: u32, offset: u32, count: u32) -> Figures
+    requires size { size ≤ 1073741824 }
+    requires end { 0 < count → offset + count ≤ 1073741824 }
+    ensures write { (m : Inodes) (path : List (List ℕ)) (bytes : List ℕ) → size ≡ length (bytes_of (inode_at m path)) → count ≡ length bytes → AreFiguresOf bitmap m (Write path offset bytes) (value_of result) }
+    ensures fill { (m : Inodes) (path : List (List ℕ)) (byte : ℕ) → size ≡ length (bytes_of (inode_at m path)) → AreFiguresOf bitmap m (Fill path offset count byte) (value_of result) }
+{
+    figures_come_from_inodes();
+    write_figures(bitmap, size, offset, count)
+}
+
+/// The figures of a truncate to `new` bytes of a file of `old`.
+pub(crate) fn resize_figures(bitmap: u32, old: u32, new: u32) -> Figures
+    requires old { old ≤ 1073741824 }
+    requires new { new ≤ 1073741824 }
+    ensures { (m : Inodes) (path : List (List ℕ)) → old ≡ length (bytes_of (inode_at m path)) → AreFiguresOf bitmap m (Truncate path new) (value_of result) }
+{
+    figures_come_from_inodes();
+    truncate_figures(bitmap, old, new)
+}
+
+/// The figures of a rename that finds this.
+pub(crate) fn rename_figures(bitmap: u32, found: &Move) -> Figures
+    requires { HasSmallTarget found.now }
+    ensures { (m : Inodes) (from to : List (List ℕ)) → RenameFinds m from to found.now → AreFiguresOf bitmap m (Rename from to) (value_of result) }
+{
+    figures_come_from_inodes();
+    match *found {
+        Move::SameNode => NOTHING,
+        Move::Onto { slots, links, size } => {
+            moving(bitmap, 0, release(slots) + blocks_gone(links, size))
+        }
+        Move::WithinOne => moving(bitmap, 0, 0),
+        Move::Across { source, target } => moving(bitmap, growth(target), release(source)),
+    }
+}
+
+/// The blocks that go with a path to a node of so many links and bytes: its blocks, where the path is the
+/// last one.
+fn blocks_gone(links: u32, size: u32) -> u32
+    requires { size ≤ 1073741824 }
+    ensures value { (m : Inodes) (path : List (List ℕ)) → HasFacts m path links size → result ≡ blocks_lost m path }
+    ensures bound { result ≤ 1048576 }
+{
+    if links == 1 { blocks_for(size) } else { 0 }
+}
+
+/// The figures of a command come from inodes alone, where no tree with these refuses it.
+fn figures_come_from_inodes()
+    ensures { (bitmap : ℕ) (m : Inodes) (cmd : Cmd) (f : FiguresValue) → f ≡ accepted_cost bitmap m cmd → AreFiguresOf bitmap m cmd f }
+{
+    the_map_gives_the_figures();
+    the_map_gives_the_refusal();
+}
