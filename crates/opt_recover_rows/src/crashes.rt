@@ -209,26 +209,58 @@ pub(crate) fn write_faults<W: Write>(
     let Some(wanted) = recover(alloc, image.as_slice())? else {
         return Ok(false);
     };
+    count_faults(alloc, image, kind, &wanted, out)
+}
+
+fn count_faults<W: Write>(
+    alloc: Global,
+    image: &Image,
+    kind: DiskCall,
+    wanted: &Recovered,
+    out: &mut W,
+) -> Result<bool> {
     let mut tally = Tally::new();
     for nth in 1..MANY {
-        let tried = mount_image(alloc, image, &[Fail { kind, nth }])?;
-        match tried.answer {
-            Ok(_) => {
+        match failed_mount(alloc, image, Fail { kind, nth }, wanted, &mut tally)? {
+            Some(why) => write_unlike(out, kind, nth, why)?,
+            None => {
                 let failed = nth.saturating_sub(1);
                 writeln!(out, "{kind:?}: {failed} calls failed in turn")?;
                 write_tally(out, tally)?;
                 return Ok(true);
             }
-            Err(why) => {
-                if why != refusal_by(kind) {
-                    writeln!(out, "{why:?} where call {nth} fails")?;
-                }
-            }
         }
-        let images = crash_images(alloc, &tried.disk)?;
-        count(alloc, images.as_slice(), &wanted, &mut tally)?;
     }
     Ok(false)
+}
+
+/// Mounts the image with this call failing, and counts what crashes of that leave. The refusal, or `None` where
+/// the mount makes no such call.
+///
+/// # Errors
+/// Out of memory.
+fn failed_mount(
+    alloc: Global,
+    image: &Image,
+    fail: Fail,
+    wanted: &Recovered,
+    tally: &mut Tally,
+) -> Result<Option<MountRefusal>, NoMemory> {
+    let tried = mount_image(alloc, image, &[fail])?;
+    let Err(why) = tried.answer else {
+        return Ok(None);
+    };
+    let images = crash_images(alloc, &tried.disk)?;
+    count(alloc, images.as_slice(), wanted, tally)?;
+    Ok(Some(why))
+}
+
+/// Writes a refusal that isn't the one of a mount of which such a call fails.
+fn write_unlike<W: Write>(out: &mut W, kind: DiskCall, nth: u64, why: MountRefusal) -> Result<()> {
+    if why != refusal_by(kind) {
+        writeln!(out, "{why:?} where call {nth} fails")?;
+    }
+    Ok(())
 }
 
 /// The refusal of a mount of which such a call fails.

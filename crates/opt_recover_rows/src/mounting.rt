@@ -33,11 +33,21 @@ pub(crate) fn all_of(alloc: Global, disk: &MemDisk) -> Option<Image> {
     disk.image(alloc, disk.moment(), &Choice::all(alloc)).ok()
 }
 
-/// Writes what a mount answered, and its events.
+/// Mounts the image, and writes what the mount answered and its events. What it leaves once all is settled.
 ///
 /// # Errors
 /// The writer's, or out of memory.
-pub(crate) fn write_tried<W: Write>(alloc: Global, tried: &Tried, out: &mut W) -> Result<()> {
+pub(crate) fn write_mounted<W: Write>(
+    alloc: Global,
+    image: &Image,
+    out: &mut W,
+) -> Result<Option<Image>> {
+    let tried = mount_image(alloc, image, &[])?;
+    write_tried(alloc, &tried, out)?;
+    Ok(all_of(alloc, &tried.disk))
+}
+
+fn write_tried<W: Write>(alloc: Global, tried: &Tried, out: &mut W) -> Result<()> {
     match &tried.answer {
         Ok(mounted) => write_header_text(out, mounted.slot, &mounted.header)?,
         Err(why) => writeln!(out, "{why:?}")?,

@@ -2,7 +2,7 @@
 
 use crate::crashes::{write_crashes, write_faults};
 use crate::finding::{write_found, write_map};
-use crate::mounting::{all_of, mount_image, write_tried};
+use crate::mounting::{all_of, write_mounted};
 use crate::mutants::{change_byte, write_mutants};
 use crate::timing::{fill, write_digests, write_search};
 use crate::writes::{Spelled, Written, header_block, part_of, record_writes};
@@ -212,13 +212,11 @@ impl Session {
     /// # Errors
     /// The writer's, or out of memory.
     fn mount<W: Write>(&mut self, alloc: Global, out: &mut W) -> Result<bool> {
-        let tried = mount_image(alloc, &self.image, &[])?;
-        write_tried(alloc, &tried, out)?;
-        let Some(image) = all_of(alloc, &tried.disk) else {
+        let Some(image) = write_mounted(alloc, &self.image, out)? else {
             return Ok(false);
         };
-        write_map(alloc, &image, out)?;
         self.image = image;
+        write_map(alloc, &self.image, out)?;
         Ok(self.settle(alloc)?)
     }
 
