@@ -75,6 +75,16 @@ class Disk:
                 print(f"f {block} {text}")
         self.events = []
 
+    def many(self, count, payloads, fresh):
+        places = 1 + (len(payloads) + len(fresh) + 23) // 24 + len(payloads)
+        writes = places + len(fresh)
+        self.number += count
+        self.ticket += count * writes
+        self.calls += count * writes
+        self.next = (self.next + count * places) % self.j
+        self.events = []
+        print(f"record {self.number}, {self.free} free")
+
     def commit(self, payloads, fresh, in_full):
         m, n = len(payloads), len(fresh)
         d = (m + n + 23) // 24
@@ -131,6 +141,16 @@ def block_of(content):
     return content.ljust(1024, b"\0")
 
 
+def changes(words):
+    payloads, fresh = {}, {}
+    for word in words:
+        block, filler = word.lstrip("+").split("=")
+        into, other = (fresh, payloads) if word[0] == "+" else (payloads, fresh)
+        into[int(block)] = bytes([int(filler)]) * 1024
+        other.pop(int(block), None)
+    return payloads, fresh
+
+
 def main():
     disk = None
     for row in sys.stdin.read().splitlines():
@@ -154,13 +174,9 @@ def main():
             content = bytes.fromhex(words[1])
             disk.commit({19: nodes(content), 24: block_of(content)}, {}, True)
         elif words[0] == "commit":
-            payloads, fresh = {}, {}
-            for word in words[1:]:
-                block, filler = word.lstrip("+").split("=")
-                into, other = (fresh, payloads) if word[0] == "+" else (payloads, fresh)
-                into[int(block)] = bytes([int(filler)]) * 1024
-                other.pop(int(block), None)
-            disk.commit(payloads, fresh, False)
+            disk.commit(*changes(words[1:]), False)
+        elif words[0] == "many":
+            disk.many(int(words[1]), *changes(words[2:]))
 
 
 main()

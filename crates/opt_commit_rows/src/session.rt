@@ -82,6 +82,7 @@ impl Session {
             }
             ["finish"] => self.finish(alloc, out),
             ["fail", nth] => self.fail(alloc, nth),
+            ["many", count, changes @ ..] => self.commit_many(alloc, count, changes, out),
             _ => self.take_changes(alloc, words, out),
         }
     }
@@ -143,12 +144,7 @@ impl Session {
             Outcome::Committed(committed) => {
                 let (place, count) = (committed.place, committed.count);
                 writeln!(out, "record {number}, place {place}, {count} places")?;
-                self.number = number;
-                for ticket in committed.tickets.as_slice() {
-                    self.notes.reserve(1)?;
-                    self.notes.expect(*ticket);
-                }
-                self.open.push_back(committed)?;
+                self.keep(committed)?;
             }
             Outcome::Refused(why) => writeln!(out, "{why:?}")?,
             Outcome::Unfit => writeln!(out, "unfit")?,
@@ -156,32 +152,98 @@ impl Session {
         self.write_events(alloc, out, in_full)
     }
 
-    /// Takes the oldest record through its states, as its notices come, and gives its places back.
-    fn finish<W: Write>(&mut self, alloc: Global, out: &mut W) -> Result<bool> {
-        let Some(committed) = self.open.pop_front() else {
+    /// Keeps a record, the last one so far, until it is released.
+    fn keep(&mut self, committed: Committed) -> Result<(), NoMemory> {
+        self.number = committed.number;
+        for ticket in committed.tickets.as_slice() {
+            self.notes.reserve(1)?;
+            self.notes.expect(*ticket);
+        }
+        self.open.push_back(committed)?;
+        Ok(())
+    }
+
+    /// Commits what these words change so many times, and releases each record before the next one. Writes
+    /// the number of the last one, and none of their events.
+    fn commit_many<W: Write>(
+        &mut self,
+        alloc: Global,
+        count: &str,
+        changes: &[&str],
+        out: &mut W,
+    ) -> Result<bool> {
+        let Ok(count) = count.parse::<u32>() else {
             return Ok(false);
         };
-        let Err(committed) = committed.settled(&Notes::new(alloc)) else {
-            return Ok(false);
-        };
-        for turn in 0..ROOM {
-            if let Ok(Some(ticket)) = self.disk.poll() {
-                self.notes.noticed(ticket);
+        for _ in 0..count {
+            if !self.commit_once(alloc, changes)? {
+                return Ok(false);
             }
         }
-        let tickets = Vec::from_slice(alloc, committed.tickets.as_slice())?;
-        let Some(count) = released_places(committed, &self.notes) else {
+        let (number, free) = (self.number, self.ring.free());
+        writeln!(out, "record {number}, {free} free")?;
+        Ok(true)
+    }
+
+    /// Commits what these words change, and releases the oldest record. Whether both could be done.
+    fn commit_once(&mut self, alloc: Global, changes: &[&str]) -> Result<bool, NoMemory> {
+        let mut changed = Running::new(alloc);
+        if !put_all(alloc, &mut changed, changes)? {
+            return Ok(false);
+        }
+        let number = self.number.saturating_add(1);
+        match commit(alloc, &mut self.disk, &mut self.ring, changed, number) {
+            Outcome::Committed(committed) => self.keep(committed)?,
+            Outcome::Refused(_) => return Ok(false),
+            Outcome::Unfit => return Ok(false),
+        }
+        Ok(self.release(alloc)?.is_some())
+    }
+
+    /// Releases the oldest record, and writes how many places it gives back.
+    fn finish<W: Write>(&mut self, alloc: Global, out: &mut W) -> Result<bool> {
+        let Some(count) = self.release(alloc)? else {
             return Ok(false);
         };
+        let free = self.ring.free();
+        writeln!(out, "{count} places back, {free} free")?;
+        Ok(true)
+    }
+
+    /// Takes the oldest record through its states, as its notices come, and gives its places back. How many
+    /// they are, or `None` where a state doesn't let it on.
+    fn release(&mut self, alloc: Global) -> Result<Option<u32>, NoMemory> {
+        let Some(committed) = self.open.pop_front() else {
+            return Ok(None);
+        };
+        let Err(committed) = committed.settled(&Notes::new(alloc)) else {
+            return Ok(None);
+        };
+        self.take_notices();
+        let tickets = Vec::from_slice(alloc, committed.tickets.as_slice())?;
+        let Some(count) = released_places(committed, &self.notes) else {
+            return Ok(None);
+        };
         if self.ring.geom().j() - self.ring.free() < count {
-            return Ok(false);
+            return Ok(None);
         }
         self.ring.release(count);
         self.notes.forget(tickets.as_slice());
-        let free = self.ring.free();
-        writeln!(out, "{count} places back, {free} free")?;
         self.seen = self.disk.moment();
-        Ok(true)
+        Ok(Some(count))
+    }
+
+    /// Takes all notices that the disk has.
+    fn take_notices(&mut self) {
+        for _ in 0..ROOM {
+            match self.disk.poll() {
+                Ok(Some(ticket)) => {
+                    self.notes.noticed(ticket);
+                }
+                Ok(None) => break,
+                Err(_) => break,
+            }
+        }
     }
 
     /// Writes the events that weren't written yet.
