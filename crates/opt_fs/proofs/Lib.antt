@@ -1,3 +1,4 @@
+pub mod Opening
 pub mod Weighing
 pub mod Renames
 pub mod looking

@@ -10,7 +10,6 @@ use Rattle.opt_tree.specs.declared.command.Reply.TheVariants.{Stat as StatReply,
 use Rattle.opt_stands.specs.Files.{Files, FileNode}
 use Rattle.opt_stands.specs.Inodes.{inodes_of}
 use Rattle.opt_inodes.specs.Lookups.{walk_on}
-use Rattle.opt_files.specs.declared.look.FileFacts.{FileFacts}
 use Rattle.opt_files.specs.Calls.{facts_of}
 use Rattle.opt_fs.specs.declared.paths.NodeFound.{NodeFound}
 

@@ -1,5 +1,5 @@
 -- When the state of a map of blocks is that of a session of the tree. It is described in docs/FILE-SYSTEM.md.
-use Rattle.std.specs.Prelude.{◌≡◌, ℕ, ◌≤◌, nat_lt, Bool, false, IsTrue}
+use Rattle.std.specs.Prelude.{◌≡◌, ◌≤◌, nat_lt, Bool, false, IsTrue}
 use Rattle.opt_tree.specs.Step.{Session}
 use Rattle.opt_stands.specs.Files.{files_of}
 use Rattle.opt_stands.specs.Inodes.{Inodes, inodes_of}

@@ -23,7 +23,7 @@ pub struct Fs<S: Blocks> {
 }
 
 impl<S: Blocks> Fs<S> {
-    ghost use Rattle.opt_fs.specs.Opened.{state};
+    ghost use Rattle.opt_fs.specs.Opened.{blocks_in};
 
     /// Opens the file system of these blocks, if a tree stands in them. All of the node table and the
     /// directories is read, and nothing is written.
@@ -33,10 +33,10 @@ impl<S: Blocks> Fs<S> {
     /// memory. The blocks are handed back.
     pub fn open(alloc: Global, mut blocks: S) -> Result<Fs<S>, (S, CheckRefusal)>
         requires begun { IsBegun (S.state blocks) }
-        ensures session { IsTrue S.tells → IfOk result (λ fs. (t : Tree) × IsSession (state fs) (session_on (S.state blocks).books.geom.i t)) }
+        ensures session { IsTrue S.tells → IfOk result (λ fs. (t : Tree) × IsSession (S.state (blocks_in fs)) (session_on (S.state blocks).books.geom.i t)) }
         ensures damage { IsTrue S.tells → IfErr result (λ e. OnDamage e.1 (IsDamaged (S.state blocks).books.geom (S.state blocks).map)) }
         ensures none { IsTrue S.tells → IfErr result (λ e. OnDamage e.1 (λ _. (t : Tree) → IsTreeOf (S.state blocks).books.geom (S.state blocks).map t → ⊥)) }
-        ensures looks { IfOk result (λ fs. LooksOnly S.tells false (S.state blocks) (state fs)) }
+        ensures looks { IfOk result (λ fs. LooksOnly S.tells false (S.state blocks) (S.state (blocks_in fs))) }
         ensures back { IfErr result (λ e. LooksOnly S.tells (fails_by e.1) (S.state blocks) (S.state e.0)) }
     {
         match check(alloc, &mut blocks) {
@@ -50,21 +50,21 @@ impl<S: Blocks> Fs<S> {
 
     /// What is known of the blocks and the room in them.
     pub fn figures(&self) -> Figures
-        ensures { AreFigures (state self.now).books result }
+        ensures { AreFigures (S.state (blocks_in self.now)).books result }
     {
         self.blocks.figures()
     }
 
     /// The blocks.
     pub fn blocks(&self) -> &S
-        ensures { S.state result.now ≡ state self.now }
+        ensures { result.now ≡ blocks_in self.now }
     {
         &self.blocks
     }
 
     /// The blocks, given back. What no sync point has is lost.
     pub fn into_blocks(self) -> S
-        ensures { S.state result ≡ state self }
+        ensures { result ≡ blocks_in self }
     {
         let Fs {
             blocks,

@@ -15,7 +15,9 @@ use crate::paths::{NodeFound, find_node};
 use opt_blocks::{Blocks, calls_compose};
 use opt_dirs::names;
 use opt_files::{Draft, FileRefusal, a_directory_has_whole_slots, a_draft_begins};
-use opt_inodes::{slots_follow_the_bytes, the_map_gives_the_names, the_map_gives_the_reply, walks_are_the_same};
+use opt_inodes::{
+    slots_follow_the_bytes, the_map_gives_the_names, the_map_gives_the_reply, walks_are_the_same,
+};
 use opt_layout::NodeKind;
 use opt_tree::{Kind, Path, Refusal, Reply, Stat};
 use std::alloc::Global;
@@ -24,11 +26,7 @@ use std::alloc::Global;
 ///
 /// # Errors
 /// A read of the disk failed, which the disk has counted; or out of memory.
-pub fn stat<S: Blocks>(
-    alloc: Global,
-    blocks: &mut S,
-    path: &Path,
-) -> Result<Reply, FileRefusal>
+pub fn stat<S: Blocks>(alloc: Global, blocks: &mut S, path: &Path) -> Result<Reply, FileRefusal>
     requires begin { MayBegin S.tells (S.state blocks.old) }
     ensures answer { IsTrue S.tells → IfOk result (λ reply. (f : Session) → IsSession (S.state blocks.old) f → reply ≡ (step f (StatCmd path.now)).1) }
     ensures refused { IfErr result LookRefused }
@@ -102,11 +100,7 @@ pub fn read<S: Blocks>(
 ///
 /// # Errors
 /// As `stat`.
-pub fn list<S: Blocks>(
-    alloc: Global,
-    blocks: &mut S,
-    path: &Path,
-) -> Result<Reply, FileRefusal>
+pub fn list<S: Blocks>(alloc: Global, blocks: &mut S, path: &Path) -> Result<Reply, FileRefusal>
     requires begin { MayBegin S.tells (S.state blocks.old) }
     ensures answer { IsTrue S.tells → IfOk result (λ reply. (f : Session) → IsSession (S.state blocks.old) f → reply ≡ (step f (ListNames path.now)).1) }
     ensures refused { IfErr result LookRefused }

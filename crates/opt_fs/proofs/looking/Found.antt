@@ -1,12 +1,12 @@
 -- What a path leads to, from the number that a walk comes to and what is known of the node. Looks come one behind the other.
-use Rattle.std.proofs.Common.{◌≡◌, ◌↔◌, ℕ, Bool, false, IsTrue, List, Option, None, Some, Result, Ok, Err, option_map, option_and_then, refl, sym, subst, ap, ap₂, ◌∙◌}
+use Rattle.std.proofs.Common.{◌≡◌, ◌↔◌, ℕ, Bool, false, IsTrue, List, Option, None, Some, Result, Ok, option_map, option_and_then, refl, sym, subst, ap, ap₂, ◌∙◌}
 use Rattle.std.proofs.lemmas.Option.{none-some}
 use Rattle.opt_base.specs.Counts.{after_call}
 use Rattle.opt_base.specs.Seal.{Blocks}
 use Rattle.opt_blocks.specs.State.{Bookkeeping, State}
 use Rattle.opt_tree.specs.declared.command.Refusal.{Refusal}
 use Rattle.opt_tree.specs.Tree.{Tree}
-use Rattle.opt_stands.specs.Files.{Files, FileNode, files_of}
+use Rattle.opt_stands.specs.Files.{FileNode, files_of}
 use Rattle.opt_stands.specs.Inodes.{Inode, inode_of, inodes_of}
 use Rattle.opt_stands.specs.Maps.{IsMapOf}
 use Rattle.opt_stands.specs.Walks.{LeadsTo}
@@ -17,7 +17,6 @@ use Rattle.opt_files.specs.Drafts.{DraftState, nothing_drafted, drafted}
 use Rattle.opt_files.specs.Effects.{LooksOnly}
 use Rattle.opt_files.specs.Sound.{FitsBooks, IsSoundDraft, IsDraftOf}
 use Rattle.opt_dirs.specs.Directories.{inodes_in}
-use Rattle.opt_fs.specs.Looks.{LeadsToFound}
 
 iff_on : {A B C : Type 0} → A ↔ B → B ↔ C → A ↔ C
 iff_on p q = (λ a. q.0 (p.0 a), λ c. p.1 (q.1 c))

@@ -1,5 +1,5 @@
 -- What the tree answers a command that only looks, from the node at the path.
-use Rattle.std.proofs.Common.{◌≡◌, ℕ, ◌*◌, Bool, true, false, List, length, ◌∷◌, [], take, drop, Option, None, Some, option_map, option_and_then, Result, Ok, Err, ◌==◌, refl, sym, subst, ap, ◌∙◌}
+use Rattle.std.proofs.Common.{◌≡◌, ℕ, ◌*◌, Bool, true, false, List, length, ◌∷◌, [], take, drop, Option, None, Some, option_map, option_and_then, Ok, Err, ◌==◌, refl, sym, subst, ap, ◌∙◌}
 use Rattle.std.proofs.lemmas.Option.{none-some}
 use Rattle.std.proofs.lemmas.Bool.{true≢false}
 use Rattle.opt_layout.specs.declared.slot.Slot.{Slot}
@@ -15,15 +15,15 @@ use Rattle.opt_tree.specs.Conditions.{first_reason, when as whenever}
 use Rattle.opt_tree.specs.Points.{answers_point}
 use Rattle.opt_tree.specs.Step.{Session, step}
 use Rattle.opt_tree.specs.Walk.{refusal_in}
-use Rattle.opt_stands.specs.Files.{Files, FileNode, files_of}
+use Rattle.opt_stands.specs.Files.{FileNode, files_of}
 use Rattle.opt_stands.specs.Inodes.{Inode, Inodes, ADir, AFile, inode_by, inode_of, inodes_of}
 use Rattle.opt_stands.specs.Maps.{IsMapOf}
 use Rattle.opt_stands.specs.Walks.{LeadsTo}
 use Rattle.opt_blocks.specs.State.{State}
 use Rattle.opt_files.specs.Calls.{is_dir}
-use Rattle.opt_inodes.specs.Lookups.{walk_on, is_dir_inode, is_file_inode, bytes_of, slots_of, number_at, inode_at}
+use Rattle.opt_inodes.specs.Lookups.{walk_on, is_dir_inode, is_file_inode, bytes_of, slots_of, inode_at}
 use Rattle.opt_inodes.specs.Names.{names_of, stat_at, stat_by}
-use Rattle.opt_inodes.specs.Replies.{reply_by, reply_of, accepted_reply}
+use Rattle.opt_inodes.specs.Replies.{reply_by, reply_of}
 use Rattle.opt_fs.specs.Looks.{stat_of_kind}
 use Rattle.opt_fs.specs.Sessions.{IsSession}
 
@@ -130,11 +130,13 @@ module _ (s : State) (f : Session) (h : IsSession s f) (map : IsMapOf s.books.ge
     read_is : (offset count : ℕ) (i : Inode) → inode_of x ≡ Some i → m n ≡ Some i → (is_dir x.kind ≡ true → Refused IsDir ≡ reply_of f.limit m (Read path offset count))
         × (is_dir x.kind ≡ false → Bytes (take count (drop offset x.bytes)) ≡ reply_of f.limit m (Read path offset count))
     read_is offset count (ADir slots) e is = (
-        (λ dir. read_dir m f.limit path n offset count slots walked leads is),
-        (λ file. absurd (true≢false (sym (by_kind x.kind x.links x.bytes (ADir slots) e) ∙ file))))
+      (λ dir. read_dir m f.limit path n offset count slots walked leads is),
+      (λ file. absurd (true≢false (sym (by_kind x.kind x.links x.bytes (ADir slots) e) ∙ file))),
+    )
     read_is offset count (AFile l b) e is = (
-        (λ dir. absurd (true≢false (sym dir ∙ by_kind x.kind x.links x.bytes (AFile l b) e))),
-        (λ file. ap (λ bytes. Bytes (take count (drop offset bytes))) (file_bytes x.kind x.links x.bytes l b e) ∙ read_file m f.limit path n offset count l b walked leads is))
+      (λ dir. absurd (true≢false (sym dir ∙ by_kind x.kind x.links x.bytes (AFile l b) e))),
+      (λ file. ap (λ bytes. Bytes (take count (drop offset bytes))) (file_bytes x.kind x.links x.bytes l b e) ∙ read_file m f.limit path n offset count l b walked leads is),
+    )
 
     pub read_there : (offset count : ℕ) → (is_dir x.kind ≡ true → Refused IsDir ≡ (step f (Read path offset count)).1) × (is_dir x.kind ≡ false → Bytes (take count (drop offset x.bytes)) ≡ (step f (Read path offset count)).1)
     read_there offset count =
@@ -145,11 +147,13 @@ module _ (s : State) (f : Session) (h : IsSession s f) (map : IsMapOf s.books.ge
     list_is : (i : Inode) → inode_of x ≡ Some i → m n ≡ Some i → (is_dir x.kind ≡ false → Refused NotDir ≡ reply_of f.limit m (ListNames path))
         × (is_dir x.kind ≡ true → (slots : List Slot) × (i ≡ ADir slots) × (NamesReply (names_of slots) ≡ reply_of f.limit m (ListNames path)))
     list_is (ADir slots) e is = (
-        (λ file. absurd (true≢false (sym (by_kind x.kind x.links x.bytes (ADir slots) e) ∙ file))),
-        (λ dir. (slots, refl, list_dir m f.limit path n slots walked leads is)))
+      (λ file. absurd (true≢false (sym (by_kind x.kind x.links x.bytes (ADir slots) e) ∙ file))),
+      (λ dir. (slots, refl, list_dir m f.limit path n slots walked leads is)),
+    )
     list_is (AFile l b) e is = (
-        (λ file. list_file m f.limit path n l b walked leads is),
-        (λ dir. absurd (true≢false (sym dir ∙ by_kind x.kind x.links x.bytes (AFile l b) e))))
+      (λ file. list_file m f.limit path n l b walked leads is),
+      (λ dir. absurd (true≢false (sym dir ∙ by_kind x.kind x.links x.bytes (AFile l b) e))),
+    )
 
     pub list_there : (is_dir x.kind ≡ false → Refused NotDir ≡ (step f (ListNames path)).1)
         × (is_dir x.kind ≡ true → (slots : List Slot) × (m n ≡ Some (ADir slots)) × (NamesReply (names_of slots) ≡ (step f (ListNames path)).1))

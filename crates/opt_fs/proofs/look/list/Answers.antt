@@ -48,12 +48,11 @@ returns-in-Ok-names-clause-answer g c = λ told f h.
     let led = subst (λ r. LeadsToFound (files_in s nothing_drafted) c.args.path.now r) c.in-Ok.is (c.in_ok-found.ensures.found told f.tree h.tree) in
     let leads = c.walks_are_the_same.ensures.ends m c.args.path.now c.in-Ok.found.number led.0 in
     let there = (list_there s f h tree_map c.args.path.now (λ cmd e i. c.the_map_gives_the_reply.ensures.reply f m cmd i e) c.in-Ok.found.number led.1.0 led.0 leads led.1.1).1
-        (sym (ap (λ (q : FileFacts). is_dir q.kind) led.1.2) ∙ sym c.is_dir.ensures ∙ c.if-not-is_dir.false) in
+    (sym (ap (λ (q : FileFacts). is_dir q.kind) led.1.2) ∙ sym c.is_dir.ensures ∙ c.if-not-is_dir.false) in
     let here = inode_stays g.S.Blocks.tells s (g.S.Blocks.state c.find_node.new.blocks) c.new-draft.result c.in-Ok.found.number (ADir there.0) c.new-draft.ensures told c.in_ok-found.ensures.looks there.1 in
     ap NamesReply (sym (c.the_map_gives_the_names.ensures.sorted s.books.geom.i m f.tree c.args.path.now c.in-Ok.found.number there.0 c.in-Ok-names.names tree_map leads there.1 ((subst (λ r. IfOk r (λ (names : List (List ℕ)). (slots : List Slot) → inodes_in (g.S.Blocks.state c.find_node.new.blocks) c.new-draft.result c.in-Ok.found.number ≡ Some (ADir slots) → IsPermutation (map (λ (s : Slot). s.name) slots) names)) c.in-Ok-names.is (c.names.ensures.all told)) there.0 here) (subst (λ r. IfOk r (IsSorted (slice_cmp nat_cmp))) c.in-Ok-names.is c.names.ensures.sorted))
-        ∙ c.the_map_gives_the_names.ensures.names s.books.geom.i m f.tree c.args.path.now c.in-Ok.found.number there.0 tree_map leads there.1)
+    ∙ c.the_map_gives_the_names.ensures.names s.books.geom.i m f.tree c.args.path.now c.in-Ok.found.number there.0 tree_map leads there.1)
     ∙ there.2
-
 
 pub returns-in-Ok-names-clause-looks : goal.returns-in-Ok-names-clause-looks
 returns-in-Ok-names-clause-looks g c =

@@ -53,7 +53,6 @@ returns-in-Ok-read_at-clause-answer g c = λ told f h.
     ∙ (read_there s f h map c.args.path.now (λ cmd e i. c.the_map_gives_the_reply.ensures.reply f m cmd i e) c.in-Ok.found.number led.1.0 led.0 (c.walks_are_the_same.ensures.ends m c.args.path.now c.in-Ok.found.number led.0) led.1.1 c.args.offset c.args.len).1
     (sym (ap (λ (q : FileFacts). is_dir q.kind) led.1.2) ∙ sym c.is_dir.ensures ∙ c.if-is_dir.false)
 
-
 pub returns-in-Ok-read_at-clause-looks : goal.returns-in-Ok-read_at-clause-looks
 returns-in-Ok-read_at-clause-looks g c =
     let s = g.S.Blocks.state c.args.blocks.now in

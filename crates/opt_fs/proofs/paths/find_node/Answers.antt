@@ -1,4 +1,4 @@
-use Rattle.std.proofs.Common.{false, sym, subst, ap, ◌∙◌}
+use Rattle.std.proofs.Common.{false, sym, subst, ◌∙◌}
 use Rattle.opt_files.specs.Drafts.{nothing_drafted}
 use Rattle.opt_files.specs.Sound.{IsDraftOf}
 use Rattle.opt_dirs.specs.Directories.{inodes_in}
