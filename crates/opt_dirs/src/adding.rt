@@ -1,7 +1,8 @@
 //! Slots added to a directory of a draft, behind the last one. One slot is written, and never a whole
 //! directory. This is the one call here by which a directory grows.
 
-ghost use Rattle.std.specs.Prelude.{◌≡◌, ◌≤◌, ◌++◌, IsTrue, false, List, [], ◌∷◌, length, take, Some, IfErr, OnOk};
+ghost use Rattle.std.specs.Prelude.{◌≡◌, ◌≤◌, ◌++◌, ℕ, IsTrue, false, List, [], ◌∷◌, length, take, Some, IfErr, OnOk};
+ghost use Rattle.opt_extent.specs.Runs.{stretches};
 ghost use Rattle.opt_layout.specs.declared.slot.Slot.{Slot as SlotValue};
 ghost use Rattle.opt_tree.specs.Figures.{growth};
 ghost use Rattle.opt_stands.specs.Inodes.{ADir};
@@ -10,8 +11,8 @@ ghost use Rattle.opt_blocks.specs.State.{reusable_blocks};
 ghost use Rattle.opt_files.specs.Sound.{IsDraftOf};
 ghost use Rattle.opt_files.specs.Content.{fails_reading, fails_settling};
 ghost use Rattle.opt_files.specs.Effects.{LooksOnly, LooksAndSettles};
-ghost use Rattle.opt_files.specs.Calls.{files_in, places_in, GrowthRefused};
-ghost use Rattle.opt_dirs.specs.Directories.{inodes_in, IsDirectory};
+ghost use Rattle.opt_files.specs.Calls.{files_in, places_in, IsUsed, GrowthRefused};
+ghost use Rattle.opt_dirs.specs.Directories.{inodes_in};
 ghost use Rattle.opt_dirs.specs.Changing.{Alters, IsWithSlots};
 
 use crate::changing::slot_text;
@@ -41,11 +42,13 @@ pub fn add_slot<S: Blocks>(
     requires in_table { dir ≤ (S.state blocks.old).books.geom.i }
     requires draft { IsDraftOf S.tells (S.state blocks.old) draft.old }
     requires once { IsTrue S.tells → draft.old.taken ≡ [] }
-    requires directory { IsTrue S.tells → IsDirectory (S.state blocks.old) draft.old dir }
     ensures slots { IsTrue S.tells → OnOk result ((slots : List SlotValue) → inodes_in (S.state blocks.old) draft.old dir ≡ Some (ADir slots)
         → IsWithSlots (files_in (S.state blocks.old) draft.old) (files_in (S.state blocks.new) draft.new) dir (slots ++ slot.now ∷ [])) }
+    ensures used { IsTrue S.tells → OnOk result ((l : ℕ) → IsUsed (files_in (S.state blocks.old) draft.old) l → IsUsed (files_in (S.state blocks.new) draft.new) l) }
     ensures draft { OnOk result (IsDraftOf S.tells (S.state blocks.new) draft.new) }
     ensures room { IsTrue S.tells → OnOk result ((slots : List SlotValue) → inodes_in (S.state blocks.old) draft.old dir ≡ Some (ADir slots) → growth (length slots) ≤ length (reusable_blocks (S.state blocks.new).books)) }
+    ensures runs { IsTrue S.tells → OnOk result ((slots : List SlotValue) → inodes_in (S.state blocks.old) draft.old dir ≡ Some (ADir slots)
+        → stretches (places_in (S.state blocks.old) draft.old dir ++ take (growth (length slots)) (reusable_blocks (S.state blocks.new).books)) ≤ 28) }
     ensures alters { IsTrue S.tells → OnOk result ((slots : List SlotValue) → inodes_in (S.state blocks.old) draft.old dir ≡ Some (ADir slots)
         → Alters 2 (take (growth (length slots)) (reusable_blocks (S.state blocks.new).books)) 0 draft.old draft.new) }
     ensures refused { IsTrue S.tells → IfErr result (λ why. (slots : List SlotValue) → inodes_in (S.state blocks.old) draft.old dir ≡ Some (ADir slots)

@@ -8,4 +8,4 @@ mod figures;
 mod sizes;
 
 pub use figures::{Figures, NOTHING, adding, moving, removing, truncate_figures, write_figures};
-pub use sizes::{blocks_for, growth, release};
+pub use sizes::{blocks_for, growth, release, touched_blocks_are_counted_by_division};

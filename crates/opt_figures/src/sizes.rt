@@ -1,6 +1,6 @@
 //! In how many blocks the bytes of a file and the names of a directory lie, by divisions.
 
-ghost use Rattle.std.specs.Prelude.{◌≡◌, ◌≤◌};
+ghost use Rattle.std.specs.Prelude.{◌≡◌, ◌≤◌, ◌-◌, ◌/◌, ℕ, min};
 ghost use Rattle.opt_tree.specs.Figures as spec;
 
 use opt_base::limits::BLOCK_LENGTH;
@@ -44,3 +44,9 @@ pub fn release(held: u64) -> u32
 {
     u32::from(held % NAMES_IN_BLOCK == 1)
 }
+
+/// The blocks of a file that bytes touch are those that begin before the end of the bytes, without those that
+/// end where they begin or before.
+pub fn touched_blocks_are_counted_by_division()
+    ensures { (size lo hi : ℕ) → min (spec.blocks_for size) (spec.blocks_for hi) - lo / 1024 ≡ spec.blocks_met size lo hi }
+{}

@@ -1,8 +1,10 @@
 -- A slot written behind the last one of a directory: its inode, and which blocks change.
-use Rattle.std.proofs.Common.{◌≡◌, ℕ, ◌+◌, ◌-◌, ◌*◌, ◌/◌, ◌%◌, ◌≤◌, nat_le, max, min, Bool, true, false, if◌then◌else◌, List, [], ◌∷◌, ◌++◌, length, take, drop, Some, Result, Ok, Err, subst, ap, ap₂, ◌∙◌, arith}
+use Rattle.std.proofs.Common.{◌≡◌, ◌≢◌, ◌⊎◌, inl, inr, ℕ, ◌+◌, ◌-◌, ◌*◌, ◌/◌, ◌%◌, ◌≤◌, nat_le, max, min, Bool, true, false, if◌then◌else◌, List, [], ◌∷◌, ◌++◌, length, take, drop, Some, Result, Ok, Err, subst, ap, ap₂, ◌∙◌, arith}
 use Rattle.std.specs.Prelude.{OnOk}
+use Rattle.std.proofs.lemmas.Bool.{cases_eq}
 use Rattle.std.proofs.Math.Seq.{drop-append_seam}
 use Rattle.std.proofs.lemmas.List.{length-append, length-take, length-drop}
+use Rattle.opt_extent.specs.Runs.{stretches}
 use Rattle.opt_layout.specs.declared.node.NodeKind.TheVariants.{Dir}
 use Rattle.opt_layout.specs.declared.slot.Slot.{Slot}
 use Rattle.opt_layout.specs.Slot.{slot_spelling}
@@ -15,7 +17,7 @@ use Rattle.opt_stands.specs.Inodes.{ADir, inode_of}
 use Rattle.opt_blocks.specs.State.{Bookkeeping, reusable_blocks}
 use Rattle.opt_files.specs.declared.refusal.FileRefusal.{FileRefusal}
 use Rattle.opt_files.specs.Bytes.{blocks_for, met, overwritten}
-use Rattle.opt_files.specs.Calls.{is_dir, IsWithFile, with_bytes, ChangesAmong, Grows, growth, written_blocks, GrowthRefused}
+use Rattle.opt_files.specs.Calls.{is_dir, IsUsed, IsWithFile, with_bytes, ChangesAmong, Grows, growth, written_blocks, GrowthRefused}
 use Rattle.opt_files.specs.Drafts.{DraftState}
 use Rattle.opt_files.specs.Nodes.{node_block}
 use Rattle.opt_dirs.specs.Changing.{Alters, IsWithSlots}
@@ -32,6 +34,14 @@ pub sets_behind : (old new : Files) (k count offset : ℕ) (text : List ℕ) (sl
 sets_behind old new k count offset text slots s r many at size same lawful behind write =
     sets_file old new k (with_bytes r.file (overwritten offset text r.file.bytes)) (slots ++ s ∷ []) (write r.file r.is)
     (ap (λ b. inode_of (with_bytes r.file b)) (bytes_over offset (length r.file.bytes) text (slot_spelling s) r.file.bytes (omega (arith, at, many, r.long)) same size) ∙ behind r.file slots s r.reads r.whole lawful)
+
+-- nodes in use stay so where one became another
+pub still_used : (old new : Files) (k : ℕ) (x : FileNode) → IsWithFile old new k (Some x) → (l : ℕ) → IsUsed old l → IsUsed new l
+still_used old new k x set l used = by (cases_eq l k)
+  where
+    by : (l ≡ k) ⊎ (l ≢ k) → IsUsed new l
+    by (inl e) = (x, ap new e ∙ set.own)
+    by (inr n) = (used.0, set.others l n ∙ used.1)
 
 -- one number or none
 one_at_most : (b : Bool) (n : ℕ) → length (if b then [] else n ∷ []) ≤ 1
@@ -50,6 +60,13 @@ same_growth size n off more e at one = omega (arith, e, at, one)
 pub room_behind : (k : Bookkeeping) (slots : List Slot) (x : FileNode) (hi : ℕ) (places new_places : List ℕ) (d e : DraftState) → Grows k x places new_places hi d e → length x.bytes ≡ 64 * length slots → hi ≡ 64 * length slots + 64
     → figures.growth (length slots) ≤ length (reusable_blocks k)
 room_behind k slots x hi places new_places d e grows long high = omega (arith, grows.enough, long, high)
+
+-- its blocks and those that come behind them lie in few runs
+pub runs_behind : (k : Bookkeeping) (slots : List Slot) (x : FileNode) (hi : ℕ) (places before new_places : List ℕ) (d e : DraftState) → Grows k x places new_places hi d e → length x.bytes ≡ 64 * length slots → hi ≡ 64 * length slots + 64 → places ≡ before
+    → stretches (before ++ take (figures.growth (length slots)) (reusable_blocks k)) ≤ 28
+runs_behind k slots x hi places before new_places d e grows long high same =
+    let grown : growth (length x.bytes) hi ≡ figures.growth (length slots) = omega (arith, long, high) in
+    subst (λ ps. stretches ps ≤ 28) (grows.behind ∙ ap₂ (λ ps n. ps ++ take n (reusable_blocks k)) same grown) grows.runs
 
 -- What a write behind the last slot alters. `lo` is where it begins, and `hi` where it ends.
 module _ (k : Bookkeeping) (g : Geometry) (dir lo hi : ℕ) (slots : List Slot) (x : FileNode) (places new_places : List ℕ) (d e : DraftState) (grows : Grows k x places new_places hi d e) (dir_kind : x.kind ≡ Dir) (long : length x.bytes ≡ 64 * length slots)

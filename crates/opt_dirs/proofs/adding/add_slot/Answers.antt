@@ -1,18 +1,18 @@
-use Rattle.std.proofs.Common.{◌≡◌, ◌+◌, ◌*◌, false, IsTrue, List, [], ◌∷◌, ◌++◌, length, min, Some, sym, subst, ap, ◌∙◌, rules, arith}
+use Rattle.std.proofs.Common.{◌≡◌, ◌+◌, ◌*◌, false, IsTrue, List, [], ◌∷◌, ◌++◌, length, min, Some, IfSome, sym, subst, ap, ◌∙◌, rules, arith}
 use Rattle.std.proofs.lemmas.Option.{none-some, same_Some}
 use Rattle.std.proofs.lemmas.Result.{IfErr-weaker}
 use Rattle.opt_layout.specs.declared.slot.Slot.{Slot}
 use Rattle.opt_stands.specs.Files.{Files}
 use Rattle.opt_stands.specs.Inodes.{ADir}
 use Rattle.opt_blocks.specs.State.{Bookkeeping, State, reusable_blocks}
-use Rattle.opt_files.specs.Calls.{files_in, places_in}
+use Rattle.opt_files.specs.Calls.{files_in, places_in, IsUsed, with_bytes}
 use Rattle.opt_files.specs.Content.{fails_reading}
 use Rattle.opt_files.specs.Sound.{IsDraftOf}
 use Rattle.opt_dirs.specs.Changing.{IsWithSlots}
 use Rattle.opt_dirs.specs.Directories.{inodes_in}
 use Rattle.opt_dirs.proofs.reading.Looks.{looks_more, same_files, same_inodes, same_places, draft_stays}
 use Rattle.opt_dirs.proofs.writing.Nodes.{DirNode, dir_node}
-use Rattle.opt_dirs.proofs.writing.Adding.{still_whole, sets_behind, same_growth, alters_behind, room_behind, refused_behind, ok_maps, ok_both}
+use Rattle.opt_dirs.proofs.writing.Adding.{still_whole, sets_behind, same_growth, still_used, alters_behind, room_behind, runs_behind, refused_behind, ok_maps, ok_both}
 use Rattle.opt_dirs.proofs.adding.add_slot.Goals as goal
 use Rattle.opt_dirs.proofs.adding.add_slot.Goals.{In-Some}
 
@@ -20,8 +20,15 @@ use Rattle.opt_dirs.proofs.adding.add_slot.Goals.{In-Some}
 pub returns-in_default-clause-slots : goal.returns-in_default-clause-slots
 returns-in_default-clause-slots g c = λ told slots is. absurd (none-some _ (sym c.in_default.is ∙ c.in_ok-count.ensures.count told (ADir slots) is))
 
+pub returns-in_default-clause-used : goal.returns-in_default-clause-used
+returns-in_default-clause-used g c = λ told l used.
+    subst (λ (f : Files). IsUsed f l) (sym (same_files g.S.Blocks.tells false (g.S.Blocks.state c.args.blocks.now) (g.S.Blocks.state c.count_slots.new.blocks) c.args.draft.now c.in_ok-count.ensures.looks told)) used
+
 pub returns-in_default-clause-room : goal.returns-in_default-clause-room
 returns-in_default-clause-room g c = λ told slots is. absurd (none-some _ (sym c.in_default.is ∙ c.in_ok-count.ensures.count told (ADir slots) is))
+
+pub returns-in_default-clause-runs : goal.returns-in_default-clause-runs
+returns-in_default-clause-runs g c = λ told slots is. absurd (none-some _ (sym c.in_default.is ∙ c.in_ok-count.ensures.count told (ADir slots) is))
 
 pub returns-in_default-clause-alters : goal.returns-in_default-clause-alters
 returns-in_default-clause-alters g c = λ told slots is. absurd (none-some _ (sym c.in_default.is ∙ c.in_ok-count.ensures.count told (ADir slots) is))
@@ -60,6 +67,15 @@ returns-clause-slots g c = λ told.
     (sets_behind (files_in (mid g b) c.args.draft.now) new c.args.dir c.in-Some.count (64 * c.from.result) c.as_slice.result.now slots c.args.slot.now (node g b told slots is) (many g b told slots is) (omega (arith, c.from.ensures)) (search rules)
     (c.as_slice.ensures ∙ c.slot_text-text.ensures.text) c.slot_text-text.ensures.lawful c.slots_follow_the_bytes.ensures.behind write)) (c.write_at.ensures.file told)
 
+pub returns-clause-used : goal.returns-clause-used
+returns-clause-used g c = λ told.
+    let b = (goal.at.returns-clause-used g c).In-Some in
+    let same = same_files g.S.Blocks.tells false (s g b) (mid g b) c.args.draft.now c.in_ok-count.ensures.looks told in
+    let there = subst (λ o. IfSome o (λ n. IsUsed (files_in (s g b) c.args.draft.now) c.args.dir)) c.in-Some.is (c.in_ok-count.ensures.used told) in
+    let new = files_in (g.S.Blocks.state c.write_at.new.blocks) c.write_at.new.self in
+    ok_maps c.write_at.result (λ write l used.
+    still_used (files_in (mid g b) c.args.draft.now) new c.args.dir (with_bytes there.0 _) (write there.0 (ap (λ (f : Files). f c.args.dir) same ∙ there.1)) l (subst (λ (f : Files). IsUsed f l) (sym same) used)) (c.write_at.ensures.file told)
+
 pub returns-clause-room : goal.returns-clause-room
 returns-clause-room g c = λ told.
     let b = (goal.at.returns-clause-room g c).In-Some in
@@ -69,6 +85,17 @@ returns-clause-room g c = λ told.
     let r = node g b told slots is in
     room_behind new.books slots r.file (64 * c.from.result + length c.as_slice.result.now) (places_in (mid g b) c.args.draft.now c.args.dir) (places_in new c.write_at.new.self c.args.dir) c.args.draft.now c.write_at.new.self
     (grows r.file r.is (omega (arith, size))) r.long (omega (arith, c.from.ensures, many g b told slots is, size))) (c.write_at.ensures.grows told)
+
+pub returns-clause-runs : goal.returns-clause-runs
+returns-clause-runs g c = λ told.
+    let b = (goal.at.returns-clause-runs g c).In-Some in
+    let size : length c.as_slice.result.now ≡ 64 = search rules in
+    let new = g.S.Blocks.state c.write_at.new.blocks in
+    ok_maps c.write_at.result (λ grows slots is.
+    let r = node g b told slots is in
+    runs_behind new.books slots r.file (64 * c.from.result + length c.as_slice.result.now) (places_in (mid g b) c.args.draft.now c.args.dir) (places_in (s g b) c.args.draft.now c.args.dir) (places_in new c.write_at.new.self c.args.dir) c.args.draft.now c.write_at.new.self
+    (grows r.file r.is (omega (arith, size))) r.long (omega (arith, c.from.ensures, many g b told slots is, size))
+    (same_places g.S.Blocks.tells false (s g b) (mid g b) c.args.draft.now c.in_ok-count.ensures.looks c.args.dir told)) (c.write_at.ensures.grows told)
 
 pub returns-clause-alters : goal.returns-clause-alters
 returns-clause-alters g c = λ told.
