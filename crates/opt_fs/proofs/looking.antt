@@ -1,2 +1,5 @@
 pub mod Found
 pub mod Replies
+pub mod Spots
+pub mod Facts
+pub mod Entries

@@ -1,5 +1,5 @@
 -- What making the changes of a command's draft leaves of a map of blocks, and when they aren't made. It is described in docs/SPACE.md.
-use Rattle.std.specs.Prelude.{◌≡◌, ◌⊎◌, ℕ, ◌+◌, ◌<◌, ◌≤◌, Bool, IsTrue, not, ◌&&◌, List}
+use Rattle.std.specs.Prelude.{◌≡◌, ◌⊎◌, ℕ, ◌+◌, ◌<◌, ◌≤◌, Bool, IsTrue, not, ◌&&◌, List, length}
 use Rattle.opt_geom.specs.Geometry.{Geometry}
 use Rattle.opt_tree.specs.declared.command.Refusal.{Refusal}
 use Rattle.opt_tree.specs.declared.command.Refusal.TheVariants.{TooBig, NoMemory}
@@ -36,3 +36,13 @@ pub record IsPastCost (k : Bookkeeping) (d : DraftState) (cost : ℕ) (why : Ref
 -- why the changes weren't made
 abbrev pub ChangeRefused : Bookkeeping → DraftState → ℕ → Refusal → Type 0
 ChangeRefused k d cost why = (why ≡ NoMemory) ⊎ IsPastCost k d cost why
+
+-- The draft changes some block, and no more than so many, puts new content into so many more at most, and takes and frees so many at most.
+pub record ChangesAtMost (d : DraftState) (changed fresh taken freed : ℕ) : Type 0 where
+  pub blocks : List ℕ
+  pub only : ChangesOnly blocks d
+  pub few_changed : length blocks ≤ changed
+  pub few_fresh : length d.fresh ≤ fresh
+  pub few_taken : length d.taken ≤ taken
+  pub few_freed : length d.freed ≤ freed
+  pub some : ChangesSome d

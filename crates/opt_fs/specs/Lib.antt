@@ -4,3 +4,17 @@ pub mod Opened
 pub mod Space
 pub mod Changes
 pub mod Figures
+pub mod Refusals
+pub mod Commands
+pub mod Plans
+pub mod Syncs
+pub mod Applying
+pub mod Making
+pub mod Points
+pub mod Writing
+pub mod Sizing
+pub mod Found
+pub mod Removing
+pub mod Moving
+pub mod Renaming
+pub mod Listing

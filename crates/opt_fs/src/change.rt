@@ -1,7 +1,7 @@
 //! Making the changes of a command's draft, and weighing what the command costs. What a draft has, and
 //! what a command costs, is for the callers to say. The rules are described in docs/SPACE.md.
 
-ghost use Rattle.std.specs.Prelude.{◌≡◌, ◌↔◌, ◌≤◌, ◌+◌, IsTrue, IfErr, OnOk, OnErr};
+ghost use Rattle.std.specs.Prelude.{◌↔◌, ◌≤◌, ◌+◌, IsTrue, IfErr, OnOk, OnErr};
 ghost use Rattle.opt_blocks.specs.Effects.{LeavesDisk};
 ghost use Rattle.opt_files.specs.Finish.{MayGoOn};
 ghost use Rattle.opt_files.specs.Sound.{IsDraftOf};

@@ -3,36 +3,23 @@
 
 ghost use Rattle.std.specs.Prelude.{◌≡◌, ◌+◌, ◌<◌, ◌≤◌, ℕ, List, length};
 ghost use Rattle.opt_tree.specs.declared.command.Cmd.{Cmd};
-ghost use Rattle.opt_tree.specs.declared.command.Cmd.TheVariants.{Mkdir, Create, Write, Fill, Truncate, Link, Unlink, Rmdir, Rename};
+ghost use Rattle.opt_tree.specs.declared.command.Cmd.TheVariants.{Mkdir, Create, Write, Fill, Truncate, Link, Unlink, Rmdir};
+ghost use Rattle.opt_tree.specs.Figures as spec;
 ghost use Rattle.opt_tree.specs.Figures.{Figures as FiguresValue};
 ghost use Rattle.opt_stands.specs.Inodes.{Inodes};
 ghost use Rattle.opt_inodes.specs.Lookups.{bytes_of, inode_at};
 ghost use Rattle.opt_inodes.specs.Figures.{accepted_cost, slots_above, blocks_lost};
 ghost use Rattle.opt_figures.specs.Values.{value_of};
-ghost use Rattle.opt_fs.specs.Figures.{AreFiguresOf, HasFacts, HasSmallTarget, RenameFinds};
+ghost use Rattle.opt_fs.specs.Figures.{AreFiguresOf, HasFacts};
 
 use opt_figures::{
-    Figures, NOTHING, adding, blocks_for, growth, moving, release, removing, truncate_figures,
-    write_figures,
+    Figures, adding, blocks_for, growth, release, removing, truncate_figures, write_figures,
 };
 use opt_inodes::{the_map_gives_the_figures, the_map_gives_the_refusal};
 
-/// What a rename finds, which decides its figures.
-#[derive(Clone, Copy, Debug, PartialEq, Eq)]
-pub(crate) enum Move {
-    /// Both paths lead to one node.
-    SameNode,
-    /// Something is at the second path, with so many links and bytes. The directory of the first path has
-    /// so many slots.
-    Onto { slots: u64, links: u32, size: u32 },
-    /// Nothing is there, and both paths are in one directory.
-    WithinOne,
-    /// Nothing is there, and the directories of both paths have so many slots.
-    Across { source: u64, target: u64 },
-}
-
 /// The figures of a new name in a directory of so many slots: of mkdir, create and link.
 pub(crate) fn new_name_figures(slots: u64) -> Figures
+    ensures value { value_of result ≡ spec.adding (spec.growth slots) }
     ensures mkdir { (bitmap : ℕ) (m : Inodes) (path : List (List ℕ)) → slots ≡ slots_above m path → AreFiguresOf bitmap m (Mkdir path) (value_of result) }
     ensures create { (bitmap : ℕ) (m : Inodes) (path : List (List ℕ)) → slots ≡ slots_above m path → AreFiguresOf bitmap m (Create path) (value_of result) }
     ensures link { (bitmap : ℕ) (m : Inodes) (path other : List (List ℕ)) → slots ≡ slots_above m other → AreFiguresOf bitmap m (Link path other) (value_of result) }
@@ -77,22 +64,6 @@ pub(crate) fn resize_figures(bitmap: u32, old: u32, new: u32) -> Figures
 {
     figures_come_from_inodes();
     truncate_figures(bitmap, old, new)
-}
-
-/// The figures of a rename that finds this.
-pub(crate) fn rename_figures(bitmap: u32, found: &Move) -> Figures
-    requires { HasSmallTarget found.now }
-    ensures { (m : Inodes) (from to : List (List ℕ)) → RenameFinds m from to found.now → AreFiguresOf bitmap m (Rename from to) (value_of result) }
-{
-    figures_come_from_inodes();
-    match *found {
-        Move::SameNode => NOTHING,
-        Move::Onto { slots, links, size } => {
-            moving(bitmap, 0, release(slots) + blocks_gone(links, size))
-        }
-        Move::WithinOne => moving(bitmap, 0, 0),
-        Move::Across { source, target } => moving(bitmap, growth(target), release(source)),
-    }
 }
 
 /// The blocks that go with a path to a node of so many links and bytes: its blocks, where the path is the

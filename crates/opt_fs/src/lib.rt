@@ -1,15 +1,36 @@
-//! The file system over any map of blocks: opened where a tree stands, and the commands that only look,
-//! answered as the tree answers them; and the room for a command that changes something. It knows no
-//! journal and no disk. The rules are described in docs/FILE-SYSTEM.md and docs/SPACE.md.
+//! The file system over any map of blocks: opened where a tree stands, its commands answered as the tree answers
+//! them or refused by a stated cause, and the listing of its tree. It knows no journal and no disk. The rules are described in docs/FILE-SYSTEM.md and
+//! docs/SPACE.md.
 #![tactic(auto)]
 
+mod bytes;
 mod change;
+mod commands;
+mod facts;
 mod figures;
+mod fills;
+mod found;
 mod fs;
 mod laws;
+mod lines;
+mod listing;
+mod live;
 mod look;
+mod making;
+mod moving;
 mod paths;
+mod plan;
+mod points;
+mod prices;
+mod refusals;
+mod removing;
+mod renaming;
+mod sizes;
 mod space;
+mod syncs;
 
 pub use fs::Fs;
+pub use listing::ListRefusal;
+pub use live::as_many_blocks_are_marked_as_the_tree_has;
 pub use look::{list, read, stat};
+pub use points::{a_crash_leaves_the_tree_of_a_point, live_blocks_are_enough, points_stay_known};

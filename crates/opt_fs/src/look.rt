@@ -8,10 +8,13 @@ ghost use Rattle.opt_files.specs.Calls.{LookRefused, is_dir};
 ghost use Rattle.opt_files.specs.Content.{fails_reading};
 ghost use Rattle.opt_files.specs.Effects.{LooksOnly};
 ghost use Rattle.opt_fs.specs.Looks.{stat_of_kind};
-ghost use Rattle.opt_fs.specs.Sessions.{IsSession, MayBegin};
+ghost use Rattle.opt_fs.specs.Plans.{IsAnswer, Plans, answer_of};
+ghost use Rattle.opt_fs.specs.Sessions.{IsSession, MayBegin, MayPlan};
 
 use crate::laws::blocks_have_the_map_of_their_tree;
 use crate::paths::{NodeFound, find_node};
+use crate::plan::Plan;
+use crate::refusals::refusal_of;
 use opt_blocks::{Blocks, calls_compose};
 use opt_dirs::names;
 use opt_files::{Draft, FileRefusal, a_directory_has_whole_slots, a_draft_begins};
@@ -123,6 +126,72 @@ pub fn list<S: Blocks>(alloc: Global, blocks: &mut S, path: &Path) -> Result<Rep
     match names(&draft, alloc, blocks, found.number) {
         Ok(names) => Ok(Reply::Names(names)),
         Err(why) => Err(why),
+    }
+}
+
+/// Plans a stat: its reply.
+///
+/// # Errors
+/// A read of the disk failed; or out of memory.
+pub(crate) fn plan_stat<S: Blocks>(
+    alloc: Global,
+    blocks: &mut S,
+    path: &Path,
+    first_unused: u32,
+) -> Result<Plan, Refusal>
+    requires may { MayPlan S.tells (S.state blocks.old) first_unused }
+    ensures plans { Plans S.tells (StatCmd path.now) result (S.state blocks.old) (S.state blocks.new) }
+    ensures answers { IsAnswer result }
+{
+    calls_compose::<S>();
+    answer(stat(alloc, blocks, path))
+}
+
+/// Plans a read: its reply.
+///
+/// # Errors
+/// As `plan_stat`.
+pub(crate) fn plan_read<S: Blocks>(
+    alloc: Global,
+    blocks: &mut S,
+    path: &Path,
+    offset: u32,
+    len: u32,
+    first_unused: u32,
+) -> Result<Plan, Refusal>
+    requires may { MayPlan S.tells (S.state blocks.old) first_unused }
+    ensures plans { Plans S.tells (Read path.now offset len) result (S.state blocks.old) (S.state blocks.new) }
+    ensures answers { IsAnswer result }
+{
+    calls_compose::<S>();
+    answer(read(alloc, blocks, path, offset, len))
+}
+
+/// Plans a list: its reply.
+///
+/// # Errors
+/// As `plan_stat`.
+pub(crate) fn plan_list<S: Blocks>(
+    alloc: Global,
+    blocks: &mut S,
+    path: &Path,
+    first_unused: u32,
+) -> Result<Plan, Refusal>
+    requires may { MayPlan S.tells (S.state blocks.old) first_unused }
+    ensures plans { Plans S.tells (ListNames path.now) result (S.state blocks.old) (S.state blocks.new) }
+    ensures answers { IsAnswer result }
+{
+    calls_compose::<S>();
+    answer(list(alloc, blocks, path))
+}
+
+/// The plan of a command that only looks.
+fn answer(looked: Result<Reply, FileRefusal>) -> Result<Plan, Refusal>
+    ensures { result ≡ answer_of looked }
+{
+    match looked {
+        Ok(reply) => Ok(Plan::Answer(reply)),
+        Err(why) => Err(refusal_of(why)),
     }
 }
 

@@ -16,3 +16,9 @@ pub returns-in-Ok-clause-looks : goal.returns-in-Ok-clause-looks
 returns-in-Ok-clause-looks g c =
     let s = g.S.Blocks.state c.args.blocks in
     subst (λ r. LooksOnly g.S.Blocks.tells (fails_reading r) s (g.S.Blocks.state c.check.new.blocks)) c.in-Ok.is c.check.ensures.looks
+
+pub returns-in-Ok-clause-stands : goal.returns-in-Ok-clause-stands
+returns-in-Ok-clause-stands g c = λ told.
+    let s = g.S.Blocks.state c.args.blocks in
+    let t = subst (λ r. OnOk r ((t : Tree) × IsTreeOf s.books.geom s.map t)) c.in-Ok.is (c.check.ensures.tree told) in
+    (t.0, (opened g.S.Blocks.tells s (g.S.Blocks.state c.check.new.blocks) t.0 told (subst (λ r. LooksOnly g.S.Blocks.tells (fails_reading r) s (g.S.Blocks.state c.check.new.blocks)) c.in-Ok.is c.check.ensures.looks) c.requires.begun t.1).tree)

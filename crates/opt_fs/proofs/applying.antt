@@ -1,0 +1,3 @@
+pub mod Ticked
+pub mod Answered
+pub mod Passing

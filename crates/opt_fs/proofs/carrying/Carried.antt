@@ -1,0 +1,215 @@
+-- A plan carried out: what becomes of the session, and of the bookkeeping.
+use Rattle.std.proofs.lemmas.Bool.{lt-ltb, ltb-true, ltb-false, cases_Bool}
+use Rattle.std.proofs.Common.{◌≡◌, ◌⊎◌, inl, inr, ℕ, ◌+◌, nat_lt, Bool, true, false, ◌||◌, IsTrue, Ok, Err, sym, subst, ap, ap₂, ◌∙◌, arith}
+use Rattle.opt_geom.specs.Geometry.{Geometry, bitmap_blocks}
+use Rattle.opt_tree.specs.declared.command.Cmd.{Cmd}
+use Rattle.opt_tree.specs.declared.command.Refusal.{Refusal}
+use Rattle.opt_tree.specs.declared.command.Refusal.TheVariants as because
+use Rattle.opt_tree.specs.declared.command.Reply.{Reply}
+use Rattle.opt_tree.specs.declared.command.Reply.TheVariants.{Ok as Done}
+use Rattle.opt_tree.specs.Step.{Session, step}
+use Rattle.opt_tree.specs.Figures.{figures}
+use Rattle.opt_tree.specs.Tree.{Tree}
+use Rattle.opt_tree.specs.Points.{is_sync}
+use Rattle.opt_stands.specs.Files.{files_of}
+use Rattle.opt_stands.specs.Inodes.{IsInodeOf, AreInodesOf}
+use Rattle.opt_stands.specs.Maps.{IsMapOf}
+use Rattle.opt_stands.specs.Stands.{AreSound, IsTreeOf}
+use Rattle.opt_blocks.specs.State.{Bookkeeping, State}
+use Rattle.opt_blocks.specs.Crashes.{Advances}
+use Rattle.opt_blocks.specs.Effects.{LeavesDisk}
+use Rattle.opt_files.specs.Calls.{files_in}
+use Rattle.opt_files.specs.Drafts.{DraftState}
+use Rattle.opt_files.specs.Effects.{LooksAndSettles}
+use Rattle.opt_dirs.specs.Directories.{inodes_in}
+use Rattle.opt_fs.specs.Changes.{IsCarriedOut, KeepsBlocks, ChangeRefused}
+use Rattle.opt_fs.specs.Commands.{RunsCommand, Carries, IsDone, is_read_fault, is_disk_fault}
+use Rattle.opt_fs.specs.Plans.{Plans, MakesTree, MayBeMade, plan_fails_reading, plan_fails_settling}
+use Rattle.opt_files.specs.Finish.{MayGoOn}
+use Rattle.opt_fs.specs.Sessions.{IsSession, IsBetween, AreUsedBelow}
+use Rattle.opt_fs.specs.declared.plan.Plan.{Plan}
+use Rattle.opt_fs.specs.declared.plan.Plan.TheVariants.{Answer, Change}
+use Rattle.opt_fs.proofs.carrying.Points.{points_stay}
+use Rattle.opt_fs.proofs.carrying.Staying.{session_stays, session_settles, between_stays}
+
+-- What a draft that is made leaves of the bookkeeping, and one that isn't.
+pub record LeavesRest (s t : State) : Type 0 where
+  pub geom : t.books.geom ≡ s.books.geom
+  pub room : t.books.room ≡ s.books.room
+  pub area : t.books.area ≡ s.books.area
+  pub point : t.books.point ≡ s.books.point
+  pub floor : t.books.floor ≡ s.books.floor
+  pub turns : t.books.turns ≡ s.books.turns
+  pub stopped : t.books.stopped ≡ s.books.stopped
+  pub owed : t.books.owed ≡ s.books.owed
+
+pub made_rests : (tells : Bool) (d : DraftState) (cost : ℕ) (s t : State) → IsCarriedOut tells d cost s t → LeavesRest s t
+made_rests tells d cost s t h = record {
+  geom = ap (λ (b : Bookkeeping). b.geom) h.same;
+  room = ap (λ (b : Bookkeeping). b.room) h.same;
+  area = ap (λ (b : Bookkeeping). b.area) h.same;
+  point = ap (λ (b : Bookkeeping). b.point) h.same;
+  floor = ap (λ (b : Bookkeeping). b.floor) h.same;
+  turns = ap (λ (b : Bookkeeping). b.turns) h.same;
+  stopped = ap (λ (b : Bookkeeping). b.stopped) h.same;
+  owed = ap (λ (b : Bookkeeping). b.owed) h.same;
+}
+
+pub kept_rests : (tells : Bool) (s t : State) → KeepsBlocks tells s t → LeavesRest s t
+kept_rests tells s t h = record {
+  geom = ap (λ (b : Bookkeeping). b.geom) h.books;
+  room = ap (λ (b : Bookkeeping). b.room) h.books;
+  area = ap (λ (b : Bookkeeping). b.area) h.books;
+  point = ap (λ (b : Bookkeeping). b.point) h.books;
+  floor = ap (λ (b : Bookkeeping). b.floor) h.books;
+  turns = ap (λ (b : Bookkeeping). b.turns) h.books;
+  stopped = ap (λ (b : Bookkeeping). b.stopped) h.books;
+  owed = ap (λ (b : Bookkeeping). b.owed) h.books;
+}
+
+-- a command that only looked, or whose pipeline settled
+pub runs_settled : (tells read_failed failed : Bool) (s t : State) → LooksAndSettles tells read_failed failed s t → RunsCommand tells read_failed failed s t
+runs_settled tells read_failed failed s t h = record {
+  geom = h.pipeline.geom;
+  room = h.pipeline.room;
+  area = h.pipeline.area;
+  point = h.pipeline.point;
+  floor = h.pipeline.floor;
+  turns = h.pipeline.turns;
+  stopped = h.stopped;
+  read_faults = h.read_faults;
+  faults = h.faults;
+  waits = h.waits;
+  ticks = h.ticks;
+  crash = h.crash;
+  writes = h.writes;
+}
+
+-- one whose draft was made or not, behind that
+pub runs_behind : (tells : Bool) (s t u : State) → LooksAndSettles tells false false s t → LeavesRest t u → LeavesDisk tells t u → (IsTrue tells → Advances s u) → RunsCommand tells false false s u
+runs_behind tells s t u h rest disk advances = record {
+  geom = rest.geom ∙ h.pipeline.geom;
+  room = rest.room ∙ h.pipeline.room;
+  area = rest.area ∙ h.pipeline.area;
+  point = rest.point ∙ h.pipeline.point;
+  floor = omega (arith, rest.floor, h.pipeline.floor);
+  turns = omega (arith, rest.turns, h.pipeline.turns);
+  stopped = rest.stopped ∙ h.stopped;
+  read_faults = ap (λ c. c.read_faults) disk.counts ∙ h.read_faults;
+  faults = ap (λ c. c.faults) disk.counts ∙ h.faults;
+  waits = omega (arith, ap (λ c. c.waits) disk.counts, h.waits);
+  ticks = ap (λ c. c.ticks) disk.counts ∙ h.ticks;
+  crash = advances;
+  writes = λ told. omega (arith, (disk.crash told).writes, rest.owed, h.writes told);
+}
+
+-- a weight to which a cost comes
+weighed : (w c : ℕ) → (nat_lt 0 w || nat_lt 0 c) ≡ nat_lt 0 (w + c)
+weighed w c = by (cases_Bool (nat_lt 0 w))
+  where
+    by : (nat_lt 0 w ≡ true) ⊎ (nat_lt 0 w ≡ false) → (nat_lt 0 w || nat_lt 0 c) ≡ nat_lt 0 (w + c)
+    by (inl t) = ap (λ b. b || nat_lt 0 c) t ∙ sym (lt-ltb 0 (w + c) (omega (arith, ltb-true 0 w t)))
+    by (inr n) = ap (λ b. b || nat_lt 0 c) n ∙ ap (λ k. nat_lt 0 k) {x = c} {y = w + c} (omega (arith, ltb-false 0 w n))
+
+-- The blocks of a draft that is made stand for the tree of its inode map.
+pub tree_of_draft : (tells : Bool) (d : DraftState) (cost : ℕ) (s t : State) (tree : Tree) → IsTrue tells → IsCarriedOut tells d cost s t → AreSound s.books.geom s.map
+    → AreInodesOf (files_in s d) (inodes_in s d) → IsMapOf s.books.geom.i (inodes_in s d) tree → IsTreeOf t.books.geom t.map tree
+tree_of_draft tells d cost s t tree told h sound reads map =
+    let finished = h.map told in
+    subst (λ (g : Geometry). IsTreeOf g t.map tree) (sym (made_rests tells d cost s t h).geom)
+    (record {
+      inodes = inodes_in s d;
+      read = λ k. subst (λ o. IsInodeOf o (inodes_in s d k)) (sym (finished.files k)) (reads k);
+      map = map;
+      sound = finished.sound sound;
+    })
+
+module _ (tells : Bool) (cmd : Cmd) (start mid new : State) (costs : (bitmap : ℕ) (s : Session) → (step s cmd).0.changed ≡ (s.changed || nat_lt 0 (figures bitmap s cmd).cost)) (sync : is_sync cmd ≡ false) where
+  -- a draft that is made does the command
+  pub done_so : (d : DraftState) (cost : ℕ) (f : Session) → IsTrue tells → start.books.stopped ≡ false → LooksAndSettles tells false false start mid → IsSession start f
+      → MakesTree cmd d cost start mid f → IsCarriedOut tells d cost mid new → IsDone start new f cmd Done
+  done_so d cost f told going looks h made carried =
+      let at_mid = session_settles tells false false start mid f going told looks h in
+      let rest = made_rests tells d cost mid new carried in
+      let stay = points_stay f cmd sync in
+      record {
+        answer = sym made.answer;
+        session = record {
+          tree = tree_of_draft tells d cost mid new (step f cmd).0.tree told carried at_mid.tree.sound made.reads (subst (λ n. IsMapOf n (inodes_in mid d) (step f cmd).0.tree) at_mid.limit made.map);
+          limit = stay.limit ∙ at_mid.limit ∙ ap (λ (g : Geometry). g.i) (sym rest.geom);
+          points = λ stopped. stay.points ∙ at_mid.points looks.stopped ∙ sym rest.point;
+          changed = λ stopped. costs (bitmap_blocks start.books.geom) f ∙ ap₂ (λ b c. b || nat_lt 0 c) (at_mid.changed looks.stopped) made.costs ∙ weighed mid.books.running.weight cost ∙ ap (λ n. nat_lt 0 n) (sym carried.weight);
+          durable = omega (arith, stay.durable, at_mid.durable, rest.floor);
+        };
+        room = made.room;
+        runs = made.runs;
+      }
+
+  -- so the command is carried out
+  pub carried_change : (d : DraftState) (cost first : ℕ) → Plans tells cmd (Ok (Change d cost first)) start mid → IsCarriedOut tells d cost mid new → LeavesDisk tells mid new → (IsTrue tells → Advances start new)
+      → Carries tells cmd (Ok Done) start new
+  carried_change d cost first plans carried disk advances = record {
+    done = λ told f h. done_so d cost f told plans.going plans.settles h (plans.is told f h) carried;
+    refused = λ told. tt;
+    kept = λ told. tt;
+    runs = runs_behind tells start mid new plans.settles (made_rests tells d cost mid new carried) disk advances;
+  }
+
+-- a reply that was planned is given, and nothing changed
+pub carried_answer : (tells : Bool) (cmd : Cmd) (start mid : State) (reply : Reply) → Plans tells cmd (Ok (Answer reply)) start mid → Carries tells cmd (Ok reply) start mid
+carried_answer tells cmd start mid reply plans = record {
+  done = λ told f h. let p = plans.is told f h in record {
+    answer = p.0;
+    session = subst (λ s. IsSession mid s) (sym p.1) (session_settles tells false false start mid f plans.going told plans.settles h);
+    room = p.2;
+    runs = p.3;
+  };
+  refused = λ told. tt;
+  kept = λ told. tt;
+  runs = runs_settled tells false false start mid plans.settles;
+}
+
+-- a draft that isn't made, since memory ran out: past its cost it never is where the blocks are observed
+pub carried_refusal : (tells : Bool) (cmd : Cmd) (start mid new : State) (d : DraftState) (cost first : ℕ) (why : Refusal) → Plans tells cmd (Ok (Change d cost first)) start mid → ChangeRefused mid.books d cost why → KeepsBlocks tells mid new
+    → LeavesDisk tells mid new → (IsTrue tells → Advances start new) → Carries tells cmd (Err why) start new
+carried_refusal tells cmd start mid new d cost first why plans refused kept disk advances = record {
+  done = λ told. tt;
+  refused = λ told f h. inr (inr (inr (cut (plans.is told f h) refused)));
+  kept = λ told f h. session_stays mid new f plans.settles.stopped rest.geom (kept.map told) rest.point (ap (λ (b : Bookkeeping). b.running.weight) kept.books) (omega (arith, rest.floor))
+      (session_settles tells false false start mid f plans.going told plans.settles h);
+  runs = counted refused (runs_behind tells start mid new plans.settles rest disk advances);
+}
+  where
+    rest : LeavesRest mid new
+    rest = kept_rests tells mid new kept
+
+    cut : {f : Session} → MakesTree cmd d cost start mid f → ChangeRefused mid.books d cost why → (why ≡ because.ReadFault) ⊎ (why ≡ because.NoMemory)
+    cut made (inl none) = inr none
+    cut made (inr past) = absurd (past.past made.within)
+
+    counted : ChangeRefused mid.books d cost why → RunsCommand tells false false start new → RunsCommand tells (is_read_fault (Err why)) (is_disk_fault (Err why)) start new
+    counted (inl none) r = subst (λ w. RunsCommand tells (is_read_fault (Err w)) (is_disk_fault (Err w)) start new) (sym none) r
+    counted (inr past) r = subst (λ w. RunsCommand tells (is_read_fault (Err w)) (is_disk_fault (Err w)) start new) (sym past.is) r
+
+-- a plan that was refused is the answer, and nothing changed
+pub refused_plan : (tells : Bool) (cmd : Cmd) (start mid : State) (why : Refusal) → Plans tells cmd (Err why) start mid → Carries tells cmd (Err why) start mid
+refused_plan tells cmd start mid why plans = record {
+  done = λ told. tt;
+  refused = λ told f h. plans.is told f h;
+  kept = λ told f h. session_settles tells (plan_fails_reading {T = Plan} (Err why)) (plan_fails_settling {T = Plan} (Err why)) start mid f plans.going told plans.settles h;
+  runs = runs_settled tells (plan_fails_reading {T = Plan} (Err why)) (plan_fails_settling {T = Plan} (Err why)) start mid plans.settles;
+}
+
+-- What holds between commands, once a draft is made, and where it isn't.
+pub between_made : (tells : Bool) (d : DraftState) (cost first before : ℕ) (s t : State) → IsCarriedOut tells d cost s t → MayBeMade tells d cost first s → MayGoOn t.books → IsBetween tells s before → IsBetween tells t first
+between_made tells d cost first before s t carried may goes_on h =
+    let geom : t.books.geom ≡ s.books.geom = (made_rests tells d cost s t carried).geom in
+    record {
+      goes_on = goes_on;
+      sound = λ told. subst (λ (g : Geometry). AreSound g t.map) (sym geom) ((carried.map told).sound (h.sound told));
+      above = may.above;
+      used = λ told. subst (λ (g : Geometry). AreUsedBelow (files_of g t.map) first) (sym geom) (λ l from below. let x = may.used told l from below in (x.0, (carried.map told).files l ∙ x.1));
+    }
+
+pub between_kept : (tells : Bool) (s t : State) (first : ℕ) → KeepsBlocks tells s t → MayGoOn t.books → IsBetween tells s first → IsBetween tells t first
+between_kept tells s t first kept goes_on h = between_stays tells s t first (ap (λ (b : Bookkeeping). b.geom) kept.books) kept.map goes_on h

@@ -1,0 +1,47 @@
+-- What stays of a session while blocks are read and the pipeline settles, and while a draft isn't made.
+use Rattle.std.proofs.Common.{◌≡◌, ℕ, ◌≤◌, nat_lt, Bool, false, IsTrue, sym, subst, ap, ◌∙◌, arith}
+use Rattle.opt_base.specs.Seal.{Blocks}
+use Rattle.opt_geom.specs.Geometry.{Geometry}
+use Rattle.opt_tree.specs.Step.{Session}
+use Rattle.opt_stands.specs.Files.{files_of}
+use Rattle.opt_stands.specs.Stands.{AreSound, IsTreeOf}
+use Rattle.opt_blocks.specs.State.{Bookkeeping, State}
+use Rattle.opt_blocks.specs.Running.{Running}
+use Rattle.opt_files.specs.Effects.{LooksAndSettles}
+use Rattle.opt_files.specs.Finish.{MayGoOn}
+use Rattle.opt_fs.specs.Sessions.{IsSession, IsBetween, AreUsedBelow}
+
+-- blocks and geometry that are the same stand for the same tree
+pub tree_stays : (s t : State) (f : Session) → t.books.geom ≡ s.books.geom → t.map ≡ s.map → IsTreeOf s.books.geom s.map f.tree → IsTreeOf t.books.geom t.map f.tree
+tree_stays s t f g m h = subst (λ (k : Geometry). IsTreeOf k t.map f.tree) (sym g) (subst (λ (b : Blocks). IsTreeOf s.books.geom b f.tree) (sym m) h)
+
+-- The session is one of a state in which blocks, geometry, last point and weight are the same, and the floor didn't fall.
+pub session_stays : (s t : State) (f : Session) → s.books.stopped ≡ false → t.books.geom ≡ s.books.geom → t.map ≡ s.map → t.books.point ≡ s.books.point → t.books.running.weight ≡ s.books.running.weight → s.books.floor ≤ t.books.floor
+    → IsSession s f → IsSession t f
+session_stays s t f going g m p w fl h = record {
+  tree = tree_stays s t f g m h.tree;
+  limit = h.limit ∙ ap (λ (k : Geometry). k.i) (sym g);
+  points = λ stopped. h.points going ∙ sym p;
+  changed = λ stopped. h.changed going ∙ ap (λ n. nat_lt 0 n) (sym w);
+  durable = omega (arith, h.durable, fl);
+}
+
+-- so it is after reads and a settling
+pub session_settles : (tells read_failed failed : Bool) (s t : State) (f : Session) → s.books.stopped ≡ false → IsTrue tells → LooksAndSettles tells read_failed failed s t → IsSession s f → IsSession t f
+session_settles tells read_failed failed s t f going told h =
+    session_stays s t f going h.pipeline.geom (h.map told) h.pipeline.point (ap (λ (r : Running). r.weight) h.pipeline.running) h.pipeline.floor
+
+-- What holds between commands holds still where blocks and geometry are the same, and a sync may follow.
+pub between_stays : (tells : Bool) (s t : State) (first : ℕ) → t.books.geom ≡ s.books.geom → (IsTrue tells → t.map ≡ s.map) → MayGoOn t.books → IsBetween tells s first → IsBetween tells t first
+between_stays tells s t first g m goes_on h = record {
+  goes_on = goes_on;
+  sound = λ told. subst (λ (k : Geometry). AreSound k t.map) (sym g) (subst (λ (b : Blocks). AreSound s.books.geom b) (sym (m told)) (h.sound told));
+  above = h.above;
+  used = λ told. subst (λ (k : Geometry). AreUsedBelow (files_of k t.map) first) (sym g) (subst (λ (b : Blocks). AreUsedBelow (files_of s.books.geom b) first) (sym (m told)) (h.used told));
+}
+
+-- so it does after reads and a settling
+pub between_settles : (tells read_failed failed : Bool) (s t : State) (first : ℕ) → ((new : Bookkeeping) → new.geom ≡ s.books.geom → new.running ≡ s.books.running → MayGoOn s.books → MayGoOn new)
+    → LooksAndSettles tells read_failed failed s t → IsBetween tells s first → IsBetween tells t first
+between_settles tells read_failed failed s t first rests h between =
+    between_stays tells s t first h.pipeline.geom h.map (rests t.books h.pipeline.geom h.pipeline.running between.goes_on) between

@@ -1,0 +1,10 @@
+pub mod Texts
+pub mod Contents
+pub mod Walks
+pub mod Children
+pub mod Rooms
+pub mod Reads
+pub mod Steps
+pub mod Shows
+pub mod Turns
+pub mod Whole

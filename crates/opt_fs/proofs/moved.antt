@@ -1,0 +1,5 @@
+pub mod Slots
+pub mod Onto
+pub mod Free
+pub mod Known
+pub mod Planned

@@ -1,0 +1,4 @@
+pub mod Least
+pub mod Drafting
+pub mod Accepting
+pub mod Planning

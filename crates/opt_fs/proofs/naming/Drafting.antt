@@ -1,0 +1,182 @@
+-- A name drafted: first a slot, and then the node that it names.
+use Rattle.std.proofs.Common.{◌≡◌, ◌≢◌, ◌⊎◌, inl, inr, ℕ, ◌+◌, ◌*◌, ◌^◌, ◌≤◌, ◌<◌, min, Bool, false, IsTrue, List, [], ◌∷◌, ◌++◌, length, take, Option, None, Some, option_map, option_and_then, Err, IfSome, sym, refl, subst, ap, ◌∙◌, arith}
+use Rattle.std.specs.Prelude.{IfNone}
+use Rattle.std.proofs.lemmas.Bool.{cases_eq, cases_lt}
+use Rattle.std.proofs.lemmas.Option.{none-some}
+use Rattle.std.proofs.lemmas.List.{length-append, length-take}
+use Rattle.opt_base.specs.Counts.{after_call}
+use Rattle.opt_geom.specs.Geometry.{Geometry, bitmap_blocks}
+use Rattle.opt_extent.specs.Runs.{stretches}
+use Rattle.opt_layout.specs.declared.slot.Slot.{Slot}
+use Rattle.opt_layout.specs.declared.node.Node.{Node}
+use Rattle.opt_layout.specs.declared.node.NodeKind.TheVariants.{Dir as DirNode, File as FileKind}
+use Rattle.opt_tree.specs.declared.command.Kind.{Kind}
+use Rattle.opt_tree.specs.declared.command.Kind.TheVariants.{Dir, File}
+use Rattle.opt_tree.specs.Figures.{adding, growth}
+use Rattle.opt_tree.specs.Tree.{Dir as DirThing, File as FileThing}
+use Rattle.opt_stands.specs.Files.{FileNode, Files, file_of, used_node}
+use Rattle.opt_stands.specs.Inodes.{Inode, ADir, AFile, AreInodesOf, inode_of, inodes_of}
+use Rattle.opt_inodes.specs.Changes.{AddsSlot, new_inode, slot_of}
+use Rattle.opt_blocks.specs.State.{Bookkeeping, State, reusable_blocks}
+use Rattle.opt_blocks.specs.Calls.{MovesPipeline}
+use Rattle.opt_blocks.specs.Crashes.{Advances}
+use Rattle.opt_files.specs.declared.refusal.FileRefusal.{FileRefusal}
+use Rattle.opt_files.specs.declared.refusal.FileRefusal.TheVariants as file
+use Rattle.opt_files.specs.Calls.{files_in, places_or_none, IsUsed, IsLeastUnused, IsWithFile, LookRefused}
+use Rattle.opt_files.specs.Content.{fails_settling}
+use Rattle.opt_files.specs.Bytes.{blocks_for}
+use Rattle.opt_files.specs.Drafts.{DraftState, drafted, nothing_drafted}
+use Rattle.opt_files.specs.Effects.{LooksOnly, LooksAndSettles}
+use Rattle.opt_files.specs.Finish.{ChangesOnly, price}
+use Rattle.opt_dirs.specs.Changing.{Alters, IsWithSlots}
+use Rattle.opt_dirs.specs.Directories.{inodes_in}
+use Rattle.opt_fs.specs.Changes.{IsWithinCost}
+use Rattle.opt_fs.specs.Commands.{places_of}
+use Rattle.opt_fs.specs.Making.{AddsName, first_thing, node_kind}
+use Rattle.opt_fs.specs.Sessions.{AreUsedBelow, inodes}
+
+-- blocks that were read after the pipeline may have settled
+pub settled_before : (tells read_failed : Bool) (s t u : State) → LooksAndSettles tells false false s t → LooksOnly tells read_failed t u → (IsTrue tells → Advances s u) → LooksAndSettles tells read_failed false s u
+settled_before tells read_failed s t u first second advances = record {
+  pipeline = subst (λ k. MovesPipeline s.books k) (sym second.books) first.pipeline;
+  read_faults = second.counts.read_faults ∙ ap (λ n. after_call read_failed n) first.read_faults;
+  faults = second.counts.faults ∙ first.faults;
+  stopped = ap (λ (b : Bookkeeping). b.stopped) second.books ∙ first.stopped;
+  waits = omega (arith, first.waits, second.counts.waits);
+  ticks = second.counts.ticks ∙ first.ticks;
+  map = λ told. second.map told ∙ first.map told;
+  crash = advances;
+  writes = λ told. omega (arith, first.writes told, (second.crash told).writes, ap (λ (b : Bookkeeping). b.owed) second.books);
+}
+
+-- a look that was refused is none by another call of the disk
+pub look_settles : (T : Type 0) (why : FileRefusal) → LookRefused why → fails_settling {T = T} (Err why) ≡ false
+look_settles T file.ReadFault h = refl
+look_settles T (file.Short need reusable) h = absurd h
+look_settles T (file.Scattered runs) h = absurd h
+look_settles T file.DiskFault h = absurd h
+look_settles T file.NoMemory h = refl
+
+-- nodes in use stay so where one became another
+pub still_used : (old new : Files) (k : ℕ) (x : FileNode) → IsWithFile old new k (Some x) → (l : ℕ) → IsUsed old l → IsUsed new l
+still_used old new k x set l used = by (cases_eq l k)
+  where
+    by : (l ≡ k) ⊎ (l ≢ k) → IsUsed new l
+    by (inl e) = (x, ap new e ∙ set.own)
+    by (inr n) = (used.0, set.others l n ∙ used.1)
+
+-- once the least node that wasn't in use is so, all up to the number from which it was sought are
+pub used_upto : (limit n : ℕ) (old new : Files) (x : FileNode) (E : Type 0) (found : Option ℕ) → n ≤ limit → AreUsedBelow old n → (E → (l : ℕ) → new l ≡ old l)
+    → IfSome found (λ k. IsLeastUnused limit old k × IsWithFile old new k (Some x)) → IfNone found (((l : ℕ) → 1 ≤ l → l ≤ limit → IsUsed old l) × E) → AreUsedBelow new (n + 1)
+used_upto limit n old new x E None upto before same some none l above below = let u = none.0 l above (omega (arith, below, upto)) in (u.0, same none.1 l ∙ u.1)
+used_upto limit n old new x E (Some k) upto before same some none l above below = by (cases_eq l k)
+  where
+    later : (k < n) ⊎ (n ≤ k) → n ≤ k
+    later (inl low) = let u = before k some.0.from low in absurd (none-some u.0 (sym some.0.unused ∙ u.1))
+    later (inr h) = h
+
+    by : (l ≡ k) ⊎ (l ≢ k) → IsUsed new l
+    by (inl e) = (x, ap new e ∙ some.1.own)
+    by (inr ne) = let u = some.0.below l above (omega (arith, below, ne, later (cases_lt k n))) in (u.0, some.1.others l ne ∙ u.1)
+
+-- the number from which it was sought is the one that was found, where that wasn't in use
+pub found_is : (limit n : ℕ) (old : Files) (P : ℕ → Type 0) (Q : Type 0) (found : Option ℕ) → 1 ≤ n → n ≤ limit → old n ≡ None → AreUsedBelow old n → IfSome found (λ k. IsLeastUnused limit old k × P k)
+    → IfNone found (((l : ℕ) → 1 ≤ l → l ≤ limit → IsUsed old l) × Q) → (found ≡ Some n) × P n
+found_is limit n old P Q None from upto unused before some none = let u = none.0 n from upto in absurd (none-some u.0 (sym unused ∙ u.1))
+found_is limit n old P Q (Some k) from upto unused before some none = by (cases_eq k n)
+  where
+    by : (k ≡ n) ⊎ (k ≢ n) → (Some k ≡ Some n) × P n
+    by (inl e) = (ap Some e, subst P e some.1)
+    by (inr ne) = other (cases_lt k n)
+      where
+        other : (k < n) ⊎ (n ≤ k) → (Some k ≡ Some n) × P n
+        other (inl low) = let u = before k some.0.from low in absurd (none-some u.0 (sym some.0.unused ∙ u.1))
+        other (inr h) = let u = some.0.below n from (omega (arith, h, ne)) in absurd (none-some u.0 (sym unused ∙ u.1))
+
+-- a number without an inode is that of no node in use
+pub no_node : (files : Files) → ((k : ℕ) (file : FileNode) → files k ≡ Some file → (i : Inode) × (inode_of file ≡ Some i)) → (k : ℕ) → inodes_of files k ≡ None → files k ≡ None
+no_node files reads k none = by (files k) refl
+  where
+    by : (o : Option FileNode) → files k ≡ o → o ≡ None
+    by None is = refl
+    by (Some f) is = let r = reads k f is in absurd (none-some r.0 (sym none ∙ ap (option_and_then inode_of) is ∙ r.1))
+
+-- an inode is that of a node in use
+pub node_there : (o : Option FileNode) (i : Inode) → option_and_then inode_of o ≡ Some i → (x : FileNode) × (o ≡ Some x) × (inode_of x ≡ Some i)
+node_there None i e = absurd (none-some i e)
+node_there (Some x) i e = (x, refl, e)
+
+-- a directory is no file
+pub dir_no_file : (slots : List Slot) (links : ℕ) (bytes : List ℕ) → Some (ADir slots) ≡ Some (AFile links bytes) → ⊥
+dir_no_file slots links bytes e = absurd cc
+
+-- what a new node of each kind reads as
+pub first_read : inode_of (record { kind = DirNode; links = 1; bytes = [] }) ≡ Some (new_inode DirThing) → inode_of (record { kind = FileKind; links = 1; bytes = [] }) ≡ Some (new_inode (FileThing []))
+    → (kind : Kind) → inode_of (record { kind = node_kind kind; links = 1; bytes = [] }) ≡ Some (new_inode (first_thing kind))
+first_read dir file Dir = dir
+first_read dir file File = file
+
+-- A slot was added to a draft in which nothing was, and then the node that it names became y.
+module _ (tells : Bool) (old mid now : State) (d e : DraftState) (dir node : ℕ) (name : List ℕ) (slots : List Slot) (x : Inode) (y : FileNode) (at : inodes old dir ≡ Some (ADir slots)) (apart : dir ≢ node)
+    (reads : (k : ℕ) (file : FileNode) → files_in old nothing_drafted k ≡ Some file → (i : Inode) × (inode_of file ≡ Some i))
+    (slotted : IsWithSlots (files_in old nothing_drafted) (files_in mid d) dir (slots ++ slot_of node name ∷ [])) (set : IsWithFile (files_in mid d) (files_in now e) node (Some y)) (reads_as : inode_of y ≡ Some x) where
+  -- the slot is there
+  pub slot_added : AddsSlot (inodes old) (inodes_in now e) dir node name x
+  slot_added = record {
+    slots = slots;
+    dir = at;
+    added = ap (option_and_then inode_of) (set.others dir apart) ∙ slotted.inodes.here;
+    named = ap (option_and_then inode_of) set.own ∙ reads_as;
+    others = λ k up other. ap (option_and_then inode_of) (set.others k other) ∙ slotted.inodes.others k up;
+  }
+
+  -- each node in use reads as an inode
+  pub all_read : (k : ℕ) (file : FileNode) → files_in now e k ≡ Some file → (i : Inode) × (inode_of file ≡ Some i)
+  all_read k file is = by (cases_eq k node) (cases_eq k dir)
+    where
+      by : (k ≡ node) ⊎ (k ≢ node) → (k ≡ dir) ⊎ (k ≢ dir) → (i : Inode) × (inode_of file ≡ Some i)
+      by (inl same) o = (x, ap (option_and_then inode_of) (sym is ∙ ap (files_in now e) same ∙ set.own) ∙ reads_as)
+      by (inr n) (inl o) = (ADir (slots ++ slot_of node name ∷ []), ap (option_and_then inode_of) (sym is ∙ set.others k n) ∙ ap (inodes_in mid d) o ∙ slotted.inodes.here)
+      by (inr n) (inr o) = reads k file (sym (slotted.others k o) ∙ sym (set.others k n) ∙ is)
+
+  module _ (alters : Alters 2 (take (growth (length slots)) (reusable_blocks mid.books)) 0 nothing_drafted d) (then_alters : Alters 1 [] 0 d e)
+      (settles : LooksAndSettles tells false false old mid) (looks : LooksOnly tells false mid now) (rests : growth (length slots) ≤ length (reusable_blocks old.books) → LooksOnly tells false old mid)
+      (room : growth (length slots) ≤ length (reusable_blocks mid.books)) (runs : stretches (places_of old dir ++ take (growth (length slots)) (reusable_blocks mid.books)) ≤ 28)
+      (both : (a b frees more : ℕ) (takes others : List ℕ) (c d e : DraftState) → Alters a takes frees c d → Alters b others more d e → Alters (a + b) (takes ++ others) (frees + more) c e)
+      (priced : (g : Geometry) (most frees : ℕ) (takes : List ℕ) (e : DraftState) → Alters most takes frees nothing_drafted e → (bs : List ℕ) × ChangesOnly bs e × (price g bs e ≤ 25 * (most + (min (length takes) (bitmap_blocks g) + min frees (bitmap_blocks g)))))
+      (read : (files : Files) → ((k : ℕ) (file : FileNode) → files k ≡ Some file → (x : Inode) × (inode_of file ≡ Some x)) → AreInodesOf files (inodes_of files)) where
+    -- it costs no more than a name more does
+    within : (g : Geometry) → IsWithinCost g e (adding (growth (length slots))).cost
+    within g =
+        let all = both 2 1 0 0 (take (growth (length slots)) (reusable_blocks mid.books)) [] nothing_drafted d e alters then_alters in
+        let p = priced g 3 0 (take (growth (length slots)) (reusable_blocks mid.books) ++ []) e all in
+        record {
+          blocks = p.0;
+          only = p.1;
+          price = omega (arith, p.2, length-append (take (growth (length slots)) (reusable_blocks mid.books)) [], length-take (growth (length slots)) (reusable_blocks mid.books));
+          some = λ costs. all.some;
+        }
+
+    pub name_added : AddsName old now e dir node name x slots
+    name_added = record {
+      adds = slot_added;
+      reads = read (files_in now e) all_read;
+      within = within now.books.geom;
+      runs = record {
+        books = now.books;
+        moves = subst (λ k. MovesPipeline old.books k) (sym looks.books) settles.pipeline;
+        rests = λ few. looks.books ∙ (rests few).books;
+        enough = subst (λ (k : Bookkeeping). growth (length slots) ≤ length (reusable_blocks k)) (sym looks.books) room;
+        runs = subst (λ (k : Bookkeeping). stretches (places_of old dir ++ take (growth (length slots)) (reusable_blocks k)) ≤ 28) (sym looks.books) runs;
+      };
+    }
+
+-- The blocks of a node.
+
+-- a node that isn't in use has none, and one in use as many as its bytes need
+pub few_places : (s : State) (k : ℕ) → ((x : FileNode) → files_in s nothing_drafted k ≡ Some x → (length (places_of s k) ≡ blocks_for (length x.bytes)) × (length x.bytes + 1024 ≤ 2 ^ 30)) → length (places_of s k) ≤ 1048576
+few_places s k h = by (used_node s.books.geom (drafted nothing_drafted s.map) k) refl
+  where
+    by : (o : Option Node) → used_node s.books.geom (drafted nothing_drafted s.map) k ≡ o → length (places_of s k) ≤ 1048576
+    by None e = omega (arith, ap (λ o. length (places_or_none o)) e)
+    by (Some node) e = let r = h (file_of (drafted nothing_drafted s.map) node) (ap (option_map (file_of (drafted nothing_drafted s.map))) e) in omega (arith, r.0, r.1)

@@ -1,0 +1,4 @@
+pub mod Answers
+pub mod Looking
+pub mod Looks
+pub mod Before

@@ -1,0 +1,37 @@
+-- Plans that change nothing: the tree refuses the command, or the command leaves the tree as it is.
+use Rattle.std.proofs.Common.{◌≡◌, ◌≤◌, Some, sym, subst, ap, arith}
+use Rattle.opt_geom.specs.Geometry.{bitmap_blocks}
+use Rattle.opt_tree.specs.declared.command.Cmd.{Cmd}
+use Rattle.opt_tree.specs.declared.command.Refusal.{Refusal}
+use Rattle.opt_tree.specs.declared.command.Reply.TheVariants.{Ok as Done, Refused}
+use Rattle.opt_tree.specs.Conditions.{refusal}
+use Rattle.opt_tree.specs.Figures.{Figures, nothing, figures_by}
+use Rattle.opt_tree.specs.Step.{Session, step, answered}
+use Rattle.opt_blocks.specs.Calls.{IsSound}
+use Rattle.opt_blocks.specs.State.{Bookkeeping, State}
+use Rattle.opt_fs.specs.declared.plan.Plan.TheVariants.{Answer}
+use Rattle.opt_fs.specs.Commands.{figures_on, FindsRuns}
+use Rattle.opt_fs.specs.Plans.{IsRight}
+use Rattle.opt_fs.specs.Space.{HasRoom, left_of}
+
+-- there is room for nothing
+pub room_for_nothing : (k : Bookkeeping) (f : Figures) → IsSound k → f ≡ nothing → HasRoom k f
+room_for_nothing k f sound e = record {
+  blocks = subst (λ n. n ≤ left_of k) (sym (ap (λ (f : Figures). f.need) e)) (omega arith);
+  weight = omega (arith, sound.fits, ap (λ (f : Figures). f.cost) e);
+}
+
+-- and nothing grows
+pub runs_for_nothing : (old : State) (f : Session) (cmd : Cmd) → figures_on old f cmd ≡ nothing → FindsRuns old f cmd
+runs_for_nothing old f cmd e k some grown = absurd (omega (arith, some, ap (λ (f : Figures). f.need) e))
+
+-- the tree refuses the command
+pub tree_refuses : (old now : State) (f : Session) (cmd : Cmd) (why : Refusal) → IsSound old.books → refusal f.limit f.tree cmd ≡ Some why → IsRight cmd (Answer (Refused why)) old now f
+tree_refuses old now f cmd why sound e =
+    let none : figures_on old f cmd ≡ nothing = ap (figures_by (bitmap_blocks old.books.geom) f.tree cmd) e in
+    (sym (ap (λ r. (answered f cmd r).1) e), ap (λ r. (answered f cmd r).0) e, room_for_nothing old.books (figures_on old f cmd) sound none, runs_for_nothing old f cmd none)
+
+-- the tree stays as it is
+pub tree_stays : (old now : State) (f : Session) (cmd : Cmd) → IsSound old.books → step f cmd ≡ (f, Done) → figures_on old f cmd ≡ nothing → IsRight cmd (Answer Done) old now f
+tree_stays old now f cmd sound e none =
+    (sym (ap (λ s. s.1) e), ap (λ s. s.0) e, room_for_nothing old.books (figures_on old f cmd) sound none, runs_for_nothing old f cmd none)

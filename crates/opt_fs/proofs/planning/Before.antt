@@ -1,0 +1,124 @@
+-- A plan that was made behind reads is one from before them: the blocks and the bookkeeping are the same.
+use Rattle.std.proofs.Common.{◌≡◌, inl, inr, ℕ, ◌<◌, ◌≤◌, Bool, false, IsTrue, List, ◌++◌, take, length, Some, Result, Ok, Err, refl, sym, subst, ap, ap₂, ◌∙◌, arith}
+use Rattle.opt_base.specs.Seal.{Blocks}
+use Rattle.opt_extent.specs.Runs.{stretches}
+use Rattle.opt_tree.specs.declared.command.Cmd.{Cmd}
+use Rattle.opt_tree.specs.declared.command.Refusal.{Refusal}
+use Rattle.opt_tree.specs.declared.command.Refusal.TheVariants as because
+use Rattle.opt_tree.specs.Figures.{Figures}
+use Rattle.opt_tree.specs.Step.{Session}
+use Rattle.opt_stands.specs.Files.{files_of}
+use Rattle.opt_stands.specs.Inodes.{Inodes}
+use Rattle.opt_stands.specs.Stands.{AreSound, IsTreeOf}
+use Rattle.opt_blocks.specs.Running.{HasNoBare}
+use Rattle.opt_blocks.specs.Calls.{HasTurns, MovesPipeline}
+use Rattle.opt_blocks.specs.Crashes.{Advances}
+use Rattle.opt_blocks.specs.State.{Bookkeeping, State, reusable_blocks}
+use Rattle.opt_files.specs.Effects.{LooksOnly}
+use Rattle.opt_fs.specs.declared.plan.Plan.{Plan}
+use Rattle.opt_fs.specs.declared.plan.Plan.TheVariants.{Answer, Change}
+use Rattle.opt_fs.specs.Commands.{figures_on, grown_by, places_of, GrowsInRuns, FindsRuns, IsRefusedFor, IsScattered}
+use Rattle.opt_fs.specs.Plans.{Plans, PlanIs, IsRight, plan_fails_reading, plan_fails_settling}
+use Rattle.opt_fs.specs.Sessions.{MayPlan, AreUsedBelow, inodes}
+use Rattle.opt_fs.specs.Space.{HasRoom, LacksRoom}
+use Rattle.opt_fs.proofs.applying.Passing.{nothing_issued}
+use Rattle.opt_fs.proofs.carrying.Staying.{session_stays}
+use Rattle.opt_fs.proofs.planning.Looking.{settled_after}
+
+-- two states with the same bookkeeping and the same blocks
+module _ (s t u : State) (f : Session) (cmd : Cmd) (books : t.books ≡ s.books) (map : t.map ≡ s.map) where
+  figures_same : figures_on t f cmd ≡ figures_on s f cmd
+  figures_same = ap (λ (b : Bookkeeping). figures_on (record s { books = b }) f cmd) books
+
+  places_same : (k : ℕ) → places_of t k ≡ places_of s k
+  places_same k = ap₂ (λ (b : Bookkeeping) (m : Blocks). places_of (record s { books = b; map = m }) k) books map
+
+  inodes_same : inodes t ≡ inodes s
+  inodes_same = ap₂ (λ (b : Bookkeeping) (m : Blocks). inodes (record s { books = b; map = m })) books map
+
+  room_before : HasRoom t.books (figures_on t f cmd) → HasRoom s.books (figures_on s f cmd)
+  room_before h = subst (λ (b : Bookkeeping). HasRoom b (figures_on (record s { books = b }) f cmd)) books h
+
+  lacks_before : (why : Refusal) → LacksRoom t.books (figures_on t f cmd) why → LacksRoom s.books (figures_on s f cmd) why
+  lacks_before why h = subst (λ (b : Bookkeeping). LacksRoom b (figures_on (record s { books = b }) f cmd) why) books h
+
+  grows_before : (k need : ℕ) → GrowsInRuns t k need → GrowsInRuns s k need
+  grows_before k need h = record {
+    books = h.books;
+    moves = subst (λ (b : Bookkeeping). MovesPipeline b h.books) books h.moves;
+    rests = subst (λ (b : Bookkeeping). need ≤ length (reusable_blocks b) → h.books ≡ b) books h.rests;
+    enough = h.enough;
+    runs = subst (λ (places : List ℕ). stretches (places ++ take need (reusable_blocks h.books)) ≤ 28) (places_same k) h.runs;
+  }
+
+  runs_before : FindsRuns t f cmd → FindsRuns s f cmd
+  runs_before h k some grown =
+      let need : (figures_on t f cmd).need ≡ (figures_on s f cmd).need = ap (λ (n : Figures). n.need) figures_same in
+      subst (λ n. GrowsInRuns s k n) need
+      (grows_before k (figures_on t f cmd).need (h k (subst (λ n. 0 < n) (sym need) some) (subst (λ (m : Inodes). grown_by m cmd ≡ Some k) (sym inodes_same) grown)))
+
+  scattered_before : (why : Refusal) → IsScattered t u f cmd why → IsScattered s u f cmd why
+  scattered_before why h = record {
+    accepted = h.accepted;
+    room = room_before h.room;
+    node = h.node;
+    grows = subst (λ (m : Inodes). grown_by m cmd ≡ Some h.node) inodes_same h.grows;
+    enough = subst (λ (n : Figures). n.need ≤ length (reusable_blocks u.books)) figures_same h.enough;
+    is = h.is ∙ ap₂ (λ n (places : List ℕ). because.Scattered (stretches (places ++ take n (reusable_blocks u.books)))) (ap (λ (n : Figures). n.need) figures_same) (places_same h.node);
+    past = subst (λ (places : List ℕ). 28 < stretches (places ++ take (figures_on s f cmd).need (reusable_blocks u.books))) (places_same h.node)
+        (subst (λ (n : Figures). 28 < stretches (places_of t h.node ++ take n.need (reusable_blocks u.books))) figures_same h.past);
+  }
+
+  refused_before : (why : Refusal) → IsRefusedFor t u f cmd why → IsRefusedFor s u f cmd why
+  refused_before why (inl room) = inl (record { accepted = room.accepted; lacks = lacks_before why room.lacks })
+  refused_before why (inr (inl scattered)) = inr (inl (scattered_before why scattered))
+  refused_before why (inr (inr (inl fails))) = inr (inr (inl (record {
+    accepted = fails.accepted;
+    room = room_before fails.room;
+    is = fails.is;
+    short = subst (λ (b : Bookkeeping). length (reusable_blocks b) < (figures_on (record s { books = b }) f cmd).need) books fails.short;
+  })))
+  refused_before why (inr (inr (inr short))) = inr (inr (inr short))
+
+  right_before : (plan : Plan) → IsRight cmd plan t u f → IsRight cmd plan s u f
+  right_before (Answer reply) h = (h.0, h.1, room_before h.2, runs_before h.3)
+  right_before (Change d cost first) h = record {
+    accepted = h.accepted;
+    answer = h.answer;
+    costs = sym (ap (λ (n : Figures). n.cost) figures_same) ∙ h.costs;
+    room = room_before h.room;
+    runs = runs_before h.runs;
+    reads = h.reads;
+    map = h.map;
+    within = h.within;
+  }
+
+  plan_before : (result : Result Plan Refusal) → PlanIs cmd result t u f → PlanIs cmd result s u f
+  plan_before (Ok plan) h = right_before plan h
+  plan_before (Err why) h = refused_before why h
+
+pub plans_behind : (tells : Bool) (cmd : Cmd) (result : Result Plan Refusal) (s t u : State) → s.books.stopped ≡ false → LooksOnly tells false s t → (IsTrue tells → Advances s u) → Plans tells cmd result t u → Plans tells cmd result s u
+plans_behind tells cmd result s t u going looks advances plans = record {
+  is = λ told f h. plan_before s t u f cmd looks.books (looks.map told) result (plans.is told f
+      (session_stays s t f going (ap (λ (b : Bookkeeping). b.geom) looks.books) (looks.map told) (ap (λ (b : Bookkeeping). b.point) looks.books) (ap (λ (b : Bookkeeping). b.running.weight) looks.books) (omega (arith, ap (λ (b : Bookkeeping). b.floor) looks.books)) h));
+  going = going;
+  settles = settled_after tells (plan_fails_reading result) (plan_fails_settling result) s t u looks plans.settles advances;
+}
+
+-- A command that may be planned may be so behind reads.
+pub may_plan_behind : (tells : Bool) (s t : State) (first : ℕ) → LooksOnly tells false s t → MayPlan tells s first → MayPlan tells t first
+may_plan_behind tells s t first looks may = record {
+  begin = record {
+    going = ap (λ (b : Bookkeeping). b.stopped) looks.books ∙ may.begin.going;
+    none_bare = subst (λ (b : Bookkeeping). HasNoBare b.running) (sym looks.books) may.begin.none_bare;
+    sound = λ told. subst (λ (b : Bookkeeping). AreSound b.geom t.map) (sym looks.books) (subst (λ (m : Blocks). AreSound s.books.geom m) (sym (looks.map told)) (may.begin.sound told));
+  };
+  stands = λ told. let tree = may.stands told in (tree.0, subst (λ (b : Bookkeeping). IsTreeOf b.geom t.map tree.0) (sym looks.books) (subst (λ (m : Blocks). IsTreeOf s.books.geom m tree.0) (sym (looks.map told)) tree.1));
+  turns = subst HasTurns (sym looks.books) may.turns;
+  above = may.above;
+  used = λ told. subst (λ (b : Bookkeeping). AreUsedBelow (files_of b.geom t.map) first) (sym looks.books) (subst (λ (m : Blocks). AreUsedBelow (files_of s.books.geom m) first) (sym (looks.map told)) (may.used told));
+}
+
+-- nothing is read where nothing is done
+pub no_look : (tells : Bool) (s : State) → LooksOnly tells false s s
+no_look tells s = record { books = refl; counts = record { read_faults = refl; faults = refl; waits = refl; ticks = refl }; map = λ told. refl; crash = λ told. nothing_issued s }

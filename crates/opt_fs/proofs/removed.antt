@@ -1,0 +1,9 @@
+pub mod Links
+pub mod Slots
+pub mod Names
+pub mod Behind
+pub mod Plain
+pub mod Accepted
+pub mod Planned
+pub mod Refused
+pub mod Decided

@@ -1,0 +1,125 @@
+-- A node that loses a link: how many it has, and what it is then.
+use Rattle.std.proofs.Common.{◌≡◌, ◌≢◌, ℕ, ◌+◌, ◌-◌, ◌/◌, ◌≤◌, ◌==◌, ◌&&◌, nat_lt, nat_le, Bool, true, false, List, length, slice_index, if◌then◌else◌, Option, Some, None, option_map, option_and_then, Result, Ok, Err, OnOk, refl, sym, ap, subst, ◌∙◌, arith}
+use Rattle.std.proofs.lemmas.Bool.{and_parts, leb-true, ltb-true, eqb-true, eq-eqb}
+use Rattle.std.proofs.lemmas.Option.{none-some}
+use Rattle.opt_base.specs.Seal.{Blocks}
+use Rattle.opt_geom.specs.Geometry.{Geometry}
+use Rattle.opt_layout.specs.declared.node.Node.{Node}
+use Rattle.opt_layout.specs.declared.node.NodeKind.{NodeKind}
+use Rattle.opt_layout.specs.declared.node.NodeKind.TheVariants.{Free, Dir, File}
+use Rattle.opt_layout.specs.Bytes.{when}
+use Rattle.opt_layout.specs.Node.{node_of, node_with, node_at, node_bytes, node_fields, node_fits, spare_zeros, used_kind, runs_fit, run_blocks, kind_fits}
+use Rattle.opt_tree.specs.Figures.{blocks_for}
+use Rattle.opt_stands.specs.Files.{FileNode, Files, file_of, files_of, used_node}
+use Rattle.opt_stands.specs.Inodes.{Inode, AFile, IsInodeOf, inode_by, inode_of, inodes_of}
+use Rattle.opt_inodes.specs.Changes.{one_link_less}
+use Rattle.opt_files.specs.declared.look.FileFacts.{FileFacts}
+use Rattle.opt_files.specs.Calls.{IsWithFile, with_links}
+use Rattle.opt_fs.specs.declared.paths.NodeFound.{NodeFound}
+use Rattle.opt_fs.specs.Removing.{IsFound, LosesLink, blocks_gone}
+
+pub some_same : {A : Type 0} (x y : A) → Some x ≡ Some y → x ≡ y
+some_same x y e = cc
+
+pub when_some : {A : Type 0} (t : Bool) (x : Option A) (y : A) → when t x ≡ Some y → (t ≡ true) × (x ≡ Some y)
+when_some true x y e = (refl, e)
+when_some false x y e = absurd (none-some y e)
+
+-- What a node in use fits.
+
+with_fits : (g : Geometry) (b : List ℕ) (o : Option NodeKind) (node : Node) → node_with g b o ≡ Some node → node_fits g node ≡ true
+with_fits g b None node e = absurd (none-some node e)
+with_fits g b (Some kind) node e =
+    let spare = when_some (spare_zeros b) (when (node_fits g (node_fields kind b)) (Some (node_fields kind b))) node e in
+    let fits = when_some (node_fits g (node_fields kind b)) (Some (node_fields kind b)) node spare.1 in
+    subst (λ (m : Node). node_fits g m ≡ true) (some_same (node_fields kind b) node fits.1) fits.0
+
+read_fits : (g : Geometry) (b : List ℕ) (node : Node) → node_of g b ≡ Some node → node_fits g node ≡ true
+unfolding node_of
+read_fits g b node e = with_fits g b (used_kind (slice_index b 0)) node e
+
+-- a node in use has a link, and a file has at most 65,535
+record HasLinks (kind : NodeKind) (links : ℕ) : Type 0 where
+  some : 1 ≤ links
+  most : kind ≡ File → links ≤ 65535
+
+node_links : (g : Geometry) (node : Node) → node_fits g node ≡ true → HasLinks node.kind node.links
+node_links g node fits =
+    let links = and_parts (nat_lt 0 node.links) _ fits in
+    let few = and_parts (nat_le (length node.runs) 28) _ links.1 in
+    let runs = and_parts (runs_fit g 0 node.runs) _ few.1 in
+    let blocks = and_parts (run_blocks node.runs == (node.size + 1023) / 1024) (kind_fits node node.kind) runs.1 in
+    record {
+      some = ltb-true 0 node.links links.0;
+      most = λ is. leb-true node.links 65535 (and_parts (nat_le node.links 65535) (nat_le node.size 1073741824) (subst (λ kind. kind_fits node kind ≡ true) is blocks.1)).0;
+    }
+
+file_links : (g : Geometry) (m : Blocks) (k : ℕ) (x : FileNode) → files_of g m k ≡ Some x → HasLinks x.kind x.links
+file_links g m k x e = by (used_node g m k) refl e
+  where
+    by : (o : Option Node) → used_node g m k ≡ o → option_map (file_of m) o ≡ Some x → HasLinks x.kind x.links
+    by None is none = absurd (none-some x none)
+    by (Some node) is some =
+        subst (λ (f : FileNode). HasLinks f.kind f.links) (some_same (file_of m node) x some)
+        (node_links g node (read_fits g (node_bytes g m k) node (when_some (nat_le 1 k && nat_le k g.i) (node_at g m k) node is).1))
+
+-- what holds where two calls' results do
+pub on_both : {A E P Q R : Type 0} (r : Result A E) → OnOk r P → OnOk r Q → (P → Q → R) → OnOk r R
+on_both (Ok x) p q both = both p q
+on_both (Err e) p q both = tt
+
+pub on_one : {A E P Q : Type 0} (r : Result A E) → OnOk r P → (P → Q) → OnOk r Q
+on_one (Ok x) p on = on p
+on_one (Err e) p on = tt
+
+-- A link that wasn't the last one.
+
+-- what has more links than one is a file, and reads as one with one link less
+less : (kind : NodeKind) (links : ℕ) (bytes : List ℕ) (inode : Inode) → links ≢ 1 → inode_by kind links bytes ≡ Some inode → IsInodeOf (Some (record { kind = kind; links = links - 1; bytes = bytes })) (one_link_less inode)
+less Free links bytes inode more reads = absurd (none-some inode reads)
+less Dir links bytes inode more reads = absurd (more (eqb-true links 1 (when_some (links == 1) _ inode reads).0))
+less File links bytes inode more reads = subst (λ (i : Inode). IsInodeOf (Some (record { kind = File; links = links - 1; bytes = bytes })) (one_link_less i)) (some_same (AFile links bytes) inode reads) (file (links == 1) refl)
+  where
+    file : (b : Bool) → (links == 1) ≡ b → IsInodeOf (Some (record { kind = File; links = links - 1; bytes = bytes })) (if links == 1 then None else Some (AFile (links - 1) bytes))
+    file true e = absurd (more (eqb-true links 1 e))
+    file false e = subst (λ b. IsInodeOf (Some (record { kind = File; links = links - 1; bytes = bytes })) (if b then None else Some (AFile (links - 1) bytes))) (sym e) refl
+
+-- it has as many links as a number on the disk, of those that a node keeps
+kept_links : (kind : NodeKind) (links : ℕ) (bytes : List ℕ) (inode : Inode) → HasLinks kind links → links ≢ 1 → inode_by kind links bytes ≡ Some inode → (2 ≤ links) × (links ≤ 65535)
+kept_links Free links bytes inode has more reads = absurd (none-some inode reads)
+kept_links Dir links bytes inode has more reads = absurd (more (eqb-true links 1 (when_some (links == 1) _ inode reads).0))
+kept_links File links bytes inode has more reads = (omega (arith, has.some, more), has.most refl)
+
+pub keeps_links : (g : Geometry) (m : Blocks) (node : NodeFound) (found : IsFound (files_of g m) node) (inode : Inode) (less : ℕ) → inodes_of (files_of g m) node.number ≡ Some inode → node.facts.links ≢ 1
+    → (2 ≤ node.facts.links → node.facts.links ≤ 65535 → less ≡ node.facts.links - 1) → less ≡ found.file.links - 1
+keeps_links g m node found inode less reads more law =
+    let x = found.file in
+    let links : node.facts.links ≡ x.links = ap (λ (f : FileFacts). f.links) found.facts in
+    let so = kept_links x.kind x.links x.bytes inode (file_links g m node.number x found.is) (λ e. more (links ∙ e)) (sym (ap (option_and_then inode_of) found.is) ∙ reads) in
+    law (omega (arith, links, so.0)) (omega (arith, links, so.1)) ∙ ap (λ n. n - 1) links
+
+pub link_kept : (old new : Files) (node : NodeFound) (found : IsFound old node) (inode : Inode) (less : ℕ) → inodes_of old node.number ≡ Some inode → node.facts.links ≢ 1 → less ≡ found.file.links - 1
+    → IsWithFile old new node.number (Some (with_links found.file less)) → LosesLink old new node.number
+link_kept old new node found inode n reads more is set =
+    let x = found.file in
+    record {
+      own = subst (λ (o : Option FileNode). IsInodeOf o (option_and_then one_link_less (inodes_of old node.number))) (sym (set.own ∙ ap (λ l. Some (with_links x l)) is))
+          (subst (λ (o : Option Inode). IsInodeOf (Some (with_links x (x.links - 1))) (option_and_then one_link_less o)) (sym reads)
+          (less x.kind x.links x.bytes inode (λ e. more (ap (λ (f : FileFacts). f.links) found.facts ∙ e)) (sym (ap (option_and_then inode_of) found.is) ∙ reads)));
+      others = set.others;
+    }
+
+-- What is altered.
+
+-- no block goes where a link stays
+pub none_gone : (f : FileFacts) → f.links ≢ 1 → 0 ≡ blocks_gone f
+none_gone f more = by (f.links == 1) refl
+  where
+    by : (b : Bool) → (f.links == 1) ≡ b → 0 ≡ (if f.links == 1 then blocks_for f.size else 0)
+    by true e = absurd (more (eqb-true f.links 1 e))
+    by false e = sym (ap (λ b. if b then blocks_for f.size else 0) e)
+
+-- and all of its blocks with the last one
+pub all_gone : (files : Files) (node : NodeFound) (found : IsFound files node) (many : ℕ) → node.facts.links ≡ 1 → many ≡ blocks_for (length found.file.bytes) → many ≡ blocks_gone node.facts
+all_gone files node found many last is =
+    is ∙ ap blocks_for (sym (ap (λ (f : FileFacts). f.size) found.facts)) ∙ sym (ap (λ b. if b then blocks_for node.facts.size else 0) (eq-eqb node.facts.links 1 last))

@@ -1,0 +1,64 @@
+-- A name that goes: its slot, and then a link of its node.
+use Rattle.std.proofs.Common.{◌≡◌, ◌≢◌, ℕ, ◌+◌, List, [], ◌++◌, length, Some, option_and_then, sym, ap, subst, ◌∙◌}
+use Rattle.std.proofs.lemmas.Option.{slice_get_within}
+use Rattle.opt_layout.specs.declared.slot.Slot.{Slot}
+use Rattle.opt_dirent.specs.Directory.{without_at}
+use Rattle.opt_tree.specs.Figures.{release}
+use Rattle.opt_stands.specs.Files.{Files}
+use Rattle.opt_stands.specs.Inodes.{Inode, AreInodesOf, inodes_of}
+use Rattle.opt_inodes.specs.Changes.{one_link_less, slot_of, TakesSlot}
+use Rattle.opt_blocks.specs.State.{State}
+use Rattle.opt_files.specs.Calls.{files_in}
+use Rattle.opt_files.specs.Drafts.{DraftState, nothing_drafted}
+use Rattle.opt_dirs.specs.Changing.{Alters, IsWithSlots, HasPlace}
+use Rattle.opt_dirs.specs.Directories.{inodes_in}
+use Rattle.opt_fs.specs.declared.removing.Named.{Named}
+use Rattle.opt_fs.specs.Removing.{IsFound, IsNamed, LosesLink, LosesName, blocks_gone}
+use Rattle.opt_fs.specs.Sessions.{inodes}
+use Rattle.opt_fs.proofs.removed.Slots.{apart, used_inode, slots_used, found_still, lost_inode, lost_others, lost_reads, lost_used}
+
+-- the slot has its place
+pub has_place : (s : State) (d : DraftState) (name : List ℕ) (n : Named) → d ≡ nothing_drafted → IsNamed (files_in s nothing_drafted) name n → HasPlace s d n.dir n.entry.place
+has_place s d name n none named =
+    (named.slots, ap (λ e. inodes_in s e n.dir) none ∙ named.dir, slice_get_within named.slots n.entry.place (slot_of n.entry.node.number name) named.slot)
+
+module _ (old mid : State) (d : DraftState) (name : List ℕ) (n : Named) (named : IsNamed (files_in old nothing_drafted) name n) (taken : IsWithSlots (files_in old nothing_drafted) (files_in mid d) n.dir (without_at n.entry.place named.slots)) where
+  -- the node is another one than the directory
+  node_apart : n.entry.node.number ≢ n.dir
+  node_apart = apart (inodes old) n.dir n.entry.node.number n.entry.place named.slots (slot_of n.entry.node.number name) named.dir named.slot named.bare
+
+  -- and is as it was once the slot went
+  pub node_still : IsFound (files_in mid d) n.entry.node
+  node_still = found_still (files_in old nothing_drafted) (files_in mid d) n.dir (without_at n.entry.place named.slots) taken n.entry.node node_apart named.node
+
+  pub node_reads : AreInodesOf (files_in old nothing_drafted) (inodes old) → (x : Inode) × (inodes_in mid d n.entry.node.number ≡ Some x)
+  node_reads reads =
+      let x = used_inode (files_in old nothing_drafted) reads n.entry.node.number named.node.file named.node.is in
+      (x.0, taken.inodes.others n.entry.node.number node_apart ∙ x.1)
+
+  module _ (now : State) (e : DraftState) (lost : LosesLink (files_in mid d) (files_in now e) n.entry.node.number) where
+    slot_taken : TakesSlot (inodes old) (inodes_in now e) n.dir n.entry.node.number name
+    slot_taken = record {
+      slots = named.slots;
+      place = n.entry.place;
+      dir = named.dir;
+      slot = named.slot;
+      taken = lost_others (files_in mid d) (files_in now e) n.entry.node.number lost n.dir (λ same. node_apart (sym same)) ∙ taken.inodes.here;
+      left = lost_inode (files_in mid d) (files_in now e) n.entry.node.number lost ∙ ap (option_and_then one_link_less) (taken.inodes.others n.entry.node.number node_apart);
+      others = λ k up node. lost_others (files_in mid d) (files_in now e) n.entry.node.number lost k node ∙ taken.inodes.others k up;
+    }
+
+    pub name_lost : AreInodesOf (files_in old nothing_drafted) (inodes old)
+        → ((old new : Files) (k : ℕ) (slots : List Slot) → IsWithSlots old new k slots → AreInodesOf old (inodes_of old) → AreInodesOf new (inodes_of new))
+        → ((a b frees more : ℕ) (takes others : List ℕ) (c d e : DraftState) → Alters a takes frees c d → Alters b others more d e → Alters (a + b) (takes ++ others) (frees + more) c e)
+        → Alters 3 [] (release (length named.slots)) nothing_drafted d → Alters 1 [] (blocks_gone n.entry.node.facts) d e → LosesName old now e name n
+    name_lost reads read both first second =
+        let still = read (files_in old nothing_drafted) (files_in mid d) n.dir (without_at n.entry.place named.slots) taken reads in
+        record {
+          takes = slot_taken;
+          reads = lost_reads (files_in mid d) (files_in now e) n.entry.node.number lost still;
+          alters = subst (λ count. Alters 4 [] (release count + blocks_gone n.entry.node.facts) nothing_drafted e) (sym named.count)
+              (both 3 1 (release (length named.slots)) (blocks_gone n.entry.node.facts) [] [] nothing_drafted d e first second);
+          used = λ first used. lost_used (files_in mid d) (files_in now e) n.entry.node lost node_still still first
+              (λ l above below. slots_used (files_in old nothing_drafted) (files_in mid d) n.dir (without_at n.entry.place named.slots) taken l (used l above below));
+        }

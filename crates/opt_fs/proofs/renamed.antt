@@ -1,0 +1,4 @@
+pub mod Reasons
+pub mod Found
+pub mod Answered
+pub mod Moves

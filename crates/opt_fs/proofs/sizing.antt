@@ -1,0 +1,3 @@
+pub mod Resized
+pub mod Reasons
+pub mod Behind

@@ -1,0 +1,5 @@
+pub mod Lists
+pub mod Nodes
+pub mod Marks
+pub mod Alive
+pub mod Known

@@ -1,0 +1,4 @@
+pub mod Found
+pub mod Puts
+pub mod Written
+pub mod Reasons

@@ -1,0 +1,42 @@
+-- Why a command on a file that was found is refused, or isn't; and what becomes of one that puts no bytes.
+use Rattle.std.proofs.Common.{◌≡◌, ℕ, ◌+◌, ◌==◌, ◌&&◌, nat_lt, Bool, true, false, List, [], ◌∷◌, length, Option, None, Some, Result, Ok, ap, ap₂, ◌∙◌}
+use Rattle.std.proofs.lemmas.Bool.{cond-true}
+use Rattle.std.proofs.lemmas.Option.{none-some}
+use Rattle.opt_tree.specs.declared.command.Cmd.TheVariants.{Write}
+use Rattle.opt_tree.specs.declared.command.Refusal.{Refusal}
+use Rattle.opt_tree.specs.declared.command.Refusal.TheVariants.{IsDir, TooLarge}
+use Rattle.opt_tree.specs.declared.command.Reply.TheVariants.{Ok as Done}
+use Rattle.opt_tree.specs.Conditions.{refusal, when, first_reason, is_too_large}
+use Rattle.opt_tree.specs.Figures.{nothing, figures, figures_by, writing}
+use Rattle.opt_tree.specs.Step.{Session, step, answered, written, changed_to, edited}
+use Rattle.opt_tree.specs.Walk.{content, refusal_in}
+use Rattle.opt_stands.specs.Inodes.{Inodes}
+use Rattle.opt_inodes.specs.Lookups.{is_dir_inode, inode_at, walk_on}
+use Rattle.opt_inodes.specs.Refusals.{file_reason, write_reason}
+use Rattle.std.proofs.Common.{min}
+
+-- bytes into a file that a path leads to
+pub write_reason_is : (m : Inodes) (path : List (List ℕ)) (k offset n : ℕ) (b : Bool) → walk_on m 1 path ≡ Ok k → is_dir_inode (inode_at m path) ≡ false → (nat_lt 0 n && is_too_large (offset + n)) ≡ b
+    → write_reason m path offset n ≡ first_reason (None ∷ when false IsDir ∷ when b TooLarge ∷ [])
+write_reason_is m path k offset n b walk dir large =
+    ap (λ (r : Result ℕ Refusal). first_reason (refusal_in r ∷ when (is_dir_inode (inode_at m path)) IsDir ∷ when (nat_lt 0 n && is_too_large (offset + n)) TooLarge ∷ [])) walk
+    ∙ ap₂ (λ (d l : Bool). first_reason (None ∷ when d IsDir ∷ when l TooLarge ∷ [])) dir large
+
+-- no bytes change nothing, and take nothing
+pub nothing_put : (f : Session) (path : List (List ℕ)) (offset bitmap : ℕ) (bytes : List ℕ) → refusal f.limit f.tree (Write path offset bytes) ≡ None → (length bytes == 0) ≡ true
+    → (step f (Write path offset bytes) ≡ (f, Done)) × (figures bitmap f (Write path offset bytes) ≡ nothing)
+nothing_put f path offset bitmap bytes accepted none = (
+  ap (λ r. answered f (Write path offset bytes) r) accepted ∙ cond-true (length bytes == 0) (f, Done) (changed_to f (edited f.tree path (written offset bytes))) none,
+  ap (λ r. figures_by bitmap f.tree (Write path offset bytes) r) accepted
+      ∙ cond-true (length bytes == 0) nothing (writing bitmap (length (content f.tree path)) (min offset (length (content f.tree path))) (offset + length bytes)) none,
+)
+
+-- a path that leads to no file
+pub first_of_two : (a b c : Option Refusal) (why : Refusal) → first_reason (a ∷ b ∷ []) ≡ Some why → first_reason (a ∷ b ∷ c ∷ []) ≡ Some why
+first_of_two None None c why e = absurd (none-some why e)
+first_of_two None (Some x) c why e = e
+first_of_two (Some x) b c why e = e
+
+pub no_file_to_write : (m : Inodes) (path : List (List ℕ)) (offset n : ℕ) (why : Refusal) → file_reason m path ≡ Some why → write_reason m path offset n ≡ Some why
+no_file_to_write m path offset n why e =
+    first_of_two (refusal_in (walk_on m 1 path)) (when (is_dir_inode (inode_at m path)) IsDir) (when (nat_lt 0 n && is_too_large (offset + n)) TooLarge) why e

@@ -1,0 +1,132 @@
+-- How a command is carried out over a map of blocks: what it answers, what becomes of the session, and what it leaves of the bookkeeping. It is described in docs/FILE-SYSTEM.md.
+use Rattle.std.specs.Prelude.{◌≡◌, ◌⊎◌, ℕ, ◌+◌, ◌^◌, ◌≤◌, ◌<◌, Bool, true, false, IsTrue, List, ◌++◌, length, take, Option, None, Some, IfOk, IfErr, OnErr, Result, Err}
+use Rattle.opt_base.specs.Counts.{after_call}
+use Rattle.opt_geom.specs.Geometry.{bitmap_blocks}
+use Rattle.opt_extent.specs.Runs.{stretches}
+use Rattle.opt_tree.specs.declared.command.Cmd.{Cmd}
+use Rattle.opt_tree.specs.declared.command.Cmd.TheVariants as cmds
+use Rattle.opt_tree.specs.declared.command.Refusal.{Refusal}
+use Rattle.opt_tree.specs.declared.command.Refusal.TheVariants as because
+use Rattle.opt_tree.specs.declared.command.Reply.{Reply}
+use Rattle.opt_tree.specs.Conditions.{refusal}
+use Rattle.opt_tree.specs.Figures.{Figures, figures}
+use Rattle.opt_tree.specs.Paths.{parent}
+use Rattle.opt_tree.specs.Step.{Session, step}
+use Rattle.opt_stands.specs.Inodes.{Inodes}
+use Rattle.opt_inodes.specs.Lookups.{number_at}
+use Rattle.opt_blocks.specs.State.{Bookkeeping, State, reusable_blocks}
+use Rattle.opt_blocks.specs.Calls.{MovesPipeline}
+use Rattle.opt_blocks.specs.Crashes.{Advances, WritesAtMost}
+use Rattle.opt_files.specs.Calls.{places_in}
+use Rattle.opt_files.specs.Drafts.{nothing_drafted}
+use Rattle.opt_fs.specs.Sessions.{IsSession, inodes}
+use Rattle.opt_fs.specs.Space.{HasRoom, LacksRoom}
+
+-- The command ran, and no point was made: blocks were read, the pipeline may have settled, and the transaction may have changed. A failed read is counted once, and so is another failed call of the disk.
+pub record RunsCommand (tells read_failed failed : Bool) (old new : State) : Type 0 where
+  pub geom : new.books.geom ≡ old.books.geom
+  pub room : new.books.room ≡ old.books.room
+  pub area : new.books.area ≡ old.books.area
+  pub point : new.books.point ≡ old.books.point
+  pub floor : old.books.floor ≤ new.books.floor
+  pub turns : new.books.turns ≤ old.books.turns + 2 ^ 18
+  pub stopped : new.books.stopped ≡ failed
+  pub read_faults : new.counts.read_faults ≡ after_call read_failed old.counts.read_faults
+  pub faults : new.counts.faults ≡ after_call failed old.counts.faults
+  pub waits : old.counts.waits ≤ new.counts.waits
+  pub ticks : new.counts.ticks ≡ old.counts.ticks
+  pub crash : IsTrue tells → Advances old new
+  pub writes : IsTrue tells → WritesAtMost 0 old new
+
+-- whether the command is one on the tree: it looks or changes something, and is none about sync points
+abbrev pub is_on_tree : Cmd → Bool
+is_on_tree cmds.Osync = false
+is_on_tree cmds.Dsync = false
+is_on_tree cmds.Durable = false
+is_on_tree cmds.Poll = false
+is_on_tree cmds.Bad = false
+is_on_tree _ = true
+
+-- whether a command was refused by a failed read, or by another failed call of the disk
+abbrev pub is_read_fault : Result Reply Refusal → Bool
+is_read_fault (Err because.ReadFault) = true
+is_read_fault _ = false
+
+abbrev pub is_disk_fault : Result Reply Refusal → Bool
+is_disk_fault (Err because.DiskFault) = true
+is_disk_fault _ = false
+
+-- need, cost and blocks freed of a command in a session over these blocks
+abbrev pub figures_on : State → Session → Cmd → Figures
+figures_on s f cmd = figures (bitmap_blocks s.books.geom) f cmd
+
+-- the number of the node that the command may grow: its file, or the directory in which a name comes to be
+abbrev pub grown_by : Inodes → Cmd → Option ℕ
+grown_by m (cmds.Mkdir path) = number_at m (parent path)
+grown_by m (cmds.Create path) = number_at m (parent path)
+grown_by m (cmds.Link path other) = number_at m (parent other)
+grown_by m (cmds.Rename from to) = number_at m (parent to)
+grown_by m (cmds.Write path offset bytes) = number_at m path
+grown_by m (cmds.Fill path offset count byte) = number_at m path
+grown_by m (cmds.Truncate path size) = number_at m path
+grown_by m _ = None
+
+-- the blocks of node k, in order
+abbrev pub places_of : State → ℕ → List ℕ
+places_of s k = places_in s nothing_drafted k
+
+-- Node k has room for its runs: with the least blocks that may be taken behind its own, once the pipeline has settled where there were fewer, its blocks lie in at most 28 runs.
+pub record GrowsInRuns (old : State) (k need : ℕ) : Type 0 where
+  pub books : Bookkeeping
+  pub moves : MovesPipeline old.books books
+  pub rests : need ≤ length (reusable_blocks old.books) → books ≡ old.books
+  pub enough : need ≤ length (reusable_blocks books)
+  pub runs : stretches (places_of old k ++ take need (reusable_blocks books)) ≤ 28
+
+-- a command that grows a node finds it so
+abbrev pub FindsRuns : State → Session → Cmd → Type 0
+FindsRuns old f cmd = (k : ℕ) → 0 < (figures_on old f cmd).need → grown_by (inodes old) cmd ≡ Some k → GrowsInRuns old k (figures_on old f cmd).need
+
+-- The command is answered as the tree answers it, and has room.
+pub record IsDone (old new : State) (f : Session) (cmd : Cmd) (reply : Reply) : Type 0 where
+  pub answer : reply ≡ (step f cmd).1
+  pub session : IsSession new (step f cmd).0
+  pub room : HasRoom old.books (figures_on old f cmd)
+  pub runs : FindsRuns old f cmd
+
+-- The tree accepts the command, and there is no room for it.
+pub record IsOutOfRoom (old : State) (f : Session) (cmd : Cmd) (why : Refusal) : Type 0 where
+  pub accepted : refusal f.limit f.tree cmd ≡ None
+  pub lacks : LacksRoom old.books (figures_on old f cmd) why
+
+-- There is room, and the blocks of the node that grows would lie in more than 28 runs.
+pub record IsScattered (old new : State) (f : Session) (cmd : Cmd) (why : Refusal) : Type 0 where
+  pub accepted : refusal f.limit f.tree cmd ≡ None
+  pub room : HasRoom old.books (figures_on old f cmd)
+  pub node : ℕ
+  pub grows : grown_by (inodes old) cmd ≡ Some node
+  pub enough : (figures_on old f cmd).need ≤ length (reusable_blocks new.books)
+  pub is : why ≡ because.Scattered (stretches (places_of old node ++ take (figures_on old f cmd).need (reusable_blocks new.books)))
+  pub past : 28 < stretches (places_of old node ++ take (figures_on old f cmd).need (reusable_blocks new.books))
+
+-- There is room, fewer blocks than are needed may be taken, and the disk failed as the pipeline settled.
+pub record FailsToSettle (old : State) (f : Session) (cmd : Cmd) (why : Refusal) : Type 0 where
+  pub accepted : refusal f.limit f.tree cmd ≡ None
+  pub room : HasRoom old.books (figures_on old f cmd)
+  pub is : why ≡ because.DiskFault
+  pub short : length (reusable_blocks old.books) < (figures_on old f cmd).need
+
+-- a read failed, or memory ran out
+abbrev pub IsCutShort : Refusal → Type 0
+IsCutShort why = (why ≡ because.ReadFault) ⊎ (why ≡ because.NoMemory)
+
+-- why a command that isn't a sync is refused, but for the tree's own reasons
+abbrev pub IsRefusedFor : State → State → Session → Cmd → Refusal → Type 0
+IsRefusedFor old new f cmd why = IsOutOfRoom old f cmd why ⊎ (IsScattered old new f cmd why ⊎ (FailsToSettle old f cmd why ⊎ IsCutShort why))
+
+-- How a command that isn't a sync ends over a map of blocks: done as the tree does it, or refused from outside the tree, and then the session is as it was.
+pub record Carries (tells : Bool) (cmd : Cmd) (result : Result Reply Refusal) (old new : State) : Type 0 where
+  pub done : IsTrue tells → IfOk result (λ reply. (f : Session) → IsSession old f → IsDone old new f cmd reply)
+  pub refused : IsTrue tells → IfErr result (λ why. (f : Session) → IsSession old f → IsRefusedFor old new f cmd why)
+  pub kept : IsTrue tells → OnErr result ((f : Session) → IsSession old f → IsSession new f)
+  pub runs : RunsCommand tells (is_read_fault result) (is_disk_fault result) old new

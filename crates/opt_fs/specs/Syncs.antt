@@ -1,0 +1,41 @@
+-- What a sync leaves of a map of blocks and of its session. It is described in docs/FILE-SYSTEM.md.
+use Rattle.std.specs.Prelude.{◌≡◌, ◌⊎◌, ◌+◌, ◌≤◌, Bool, false, IsTrue, IfOk, IfErr, OnErr, Result}
+use Rattle.opt_tree.specs.declared.command.Cmd.{Cmd}
+use Rattle.opt_tree.specs.declared.command.Refusal.{Refusal}
+use Rattle.opt_tree.specs.declared.command.Refusal.TheVariants as because
+use Rattle.opt_tree.specs.declared.command.Reply.{Reply}
+use Rattle.opt_tree.specs.Step.{Session, step}
+use Rattle.opt_blocks.specs.declared.refusals.SyncRefusal.{SyncRefusal}
+use Rattle.opt_blocks.specs.declared.refusals.SyncRefusal.TheVariants as sync
+use Rattle.opt_blocks.specs.State.{Bookkeeping, State}
+use Rattle.opt_blocks.specs.Calls.{HasTurns, UsesDisk, commit_places, commit_writes}
+use Rattle.opt_blocks.specs.Crashes.{Advances, MakesPoint, WritesAtMost}
+use Rattle.opt_files.specs.Finish.{MayGoOn}
+use Rattle.opt_fs.specs.Commands.{is_disk_fault}
+use Rattle.opt_fs.specs.Sessions.{IsSession}
+
+-- a sync may be called
+pub record MaySyncNow (k : Bookkeeping) : Type 0 where
+  pub going : k.stopped ≡ false
+  pub turns : HasTurns k
+  pub goes_on : MayGoOn k
+
+abbrev pub refusal_of_sync : SyncRefusal → Refusal
+refusal_of_sync sync.DiskFault = because.DiskFault
+refusal_of_sync sync.NoMemory = because.NoMemory
+
+-- The sync is done as the session does it, or refused by the disk or out of memory, and then the session is as it was. Time goes on; where a point came, the map is its, and the writes are those of its record.
+-- One that only orders doesn't wait where the record fits the free ring places.
+pub record SyncsSession (tells orders : Bool) (cmd : Cmd) (result : Result Reply Refusal) (old new : State) : Type 0 where
+  pub done : IsTrue tells → IfOk result (λ reply. (f : Session) → IsSession old f → (reply ≡ (step f cmd).1) × IsSession new (step f cmd).0)
+  pub kept : IsTrue tells → OnErr result ((f : Session) → IsSession old f → IsSession new f)
+  pub refused : IfErr result (λ why. (why ≡ because.DiskFault) ⊎ (why ≡ because.NoMemory))
+  pub disk : UsesDisk (is_disk_fault result) old new
+  pub geom : new.books.geom ≡ old.books.geom
+  pub one : new.books.point ≤ old.books.point + 1
+  pub map : IsTrue tells → new.map ≡ old.map
+  pub ticks : new.counts.ticks ≡ old.counts.ticks
+  pub order : IsTrue orders → commit_places old.books ≤ old.books.free_places → new.counts.waits ≡ old.counts.waits
+  pub crash : IsTrue tells → Advances old new
+  pub made : IsTrue tells → MakesPoint old new
+  pub writes : IsTrue tells → WritesAtMost (commit_writes old.books) old new
