@@ -11,7 +11,7 @@ ghost use Rattle.opt_blocks.specs.State.{reusable_blocks};
 ghost use Rattle.opt_files.specs.Sound.{IsDraftOf};
 ghost use Rattle.opt_files.specs.Content.{fails_reading, fails_settling};
 ghost use Rattle.opt_files.specs.Effects.{LooksOnly, LooksAndSettles};
-ghost use Rattle.opt_files.specs.Calls.{files_in, places_in, IsUsed, GrowthRefused};
+ghost use Rattle.opt_files.specs.Calls.{files_in, places_in, IsUsed, IsWithPlaces, GrowthRefused};
 ghost use Rattle.opt_dirs.specs.Directories.{inodes_in};
 ghost use Rattle.opt_dirs.specs.Changing.{Alters, IsWithSlots};
 
@@ -45,6 +45,8 @@ pub fn add_slot<S: Blocks>(
     ensures slots { IsTrue S.tells → OnOk result ((slots : List SlotValue) → inodes_in (S.state blocks.old) draft.old dir ≡ Some (ADir slots)
         → IsWithSlots (files_in (S.state blocks.old) draft.old) (files_in (S.state blocks.new) draft.new) dir (slots ++ slot.now ∷ [])) }
     ensures used { IsTrue S.tells → OnOk result ((l : ℕ) → IsUsed (files_in (S.state blocks.old) draft.old) l → IsUsed (files_in (S.state blocks.new) draft.new) l) }
+    ensures places { IsTrue S.tells → OnOk result ((slots : List SlotValue) → inodes_in (S.state blocks.old) draft.old dir ≡ Some (ADir slots)
+        → IsWithPlaces (places_in (S.state blocks.old) draft.old) (places_in (S.state blocks.new) draft.new) dir (places_in (S.state blocks.old) draft.old dir ++ take (growth (length slots)) (reusable_blocks (S.state blocks.new).books))) }
     ensures draft { OnOk result (IsDraftOf S.tells (S.state blocks.new) draft.new) }
     ensures room { IsTrue S.tells → OnOk result ((slots : List SlotValue) → inodes_in (S.state blocks.old) draft.old dir ≡ Some (ADir slots) → growth (length slots) ≤ length (reusable_blocks (S.state blocks.new).books)) }
     ensures runs { IsTrue S.tells → OnOk result ((slots : List SlotValue) → inodes_in (S.state blocks.old) draft.old dir ≡ Some (ADir slots)

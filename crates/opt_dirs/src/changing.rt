@@ -11,7 +11,7 @@ ghost use Rattle.opt_stands.specs.Inodes.{ADir};
 ghost use Rattle.opt_files.specs.Sound.{IsDraftOf};
 ghost use Rattle.opt_files.specs.Content.{fails_reading};
 ghost use Rattle.opt_files.specs.Effects.{LooksOnly};
-ghost use Rattle.opt_files.specs.Calls.{files_in, LookRefused};
+ghost use Rattle.opt_files.specs.Calls.{files_in, places_in, IsWithPlaces, LookRefused};
 ghost use Rattle.opt_dirs.specs.Directories.{inodes_in};
 ghost use Rattle.opt_dirs.specs.Reading.{MayRead};
 ghost use Rattle.opt_dirs.specs.Changing.{Alters, HasPlace, IsWithSlots};
@@ -48,6 +48,7 @@ pub fn set_slot<S: Blocks>(
     requires there { IsTrue S.tells → HasPlace (S.state blocks.old) draft.old dir place }
     ensures slots { IsTrue S.tells → OnOk result ((slots : List SlotValue) → inodes_in (S.state blocks.old) draft.old dir ≡ Some (ADir slots)
         → IsWithSlots (files_in (S.state blocks.old) draft.old) (files_in (S.state blocks.new) draft.new) dir (set slots place slot.now)) }
+    ensures places { IsTrue S.tells → OnOk result (IsWithPlaces (places_in (S.state blocks.old) draft.old) (places_in (S.state blocks.new) draft.new) dir (places_in (S.state blocks.old) draft.old dir)) }
     ensures draft { OnOk result (IsDraftOf S.tells (S.state blocks.new) draft.new) }
     ensures alters { IsTrue S.tells → OnOk result (Alters 1 [] 0 draft.old draft.new) }
     ensures refused { IfErr result LookRefused }
@@ -82,6 +83,8 @@ pub fn take_slot<S: Blocks>(
     requires there { IsTrue S.tells → HasPlace (S.state blocks.old) draft.old dir place }
     ensures slots { IsTrue S.tells → OnOk result ((slots : List SlotValue) → inodes_in (S.state blocks.old) draft.old dir ≡ Some (ADir slots)
         → IsWithSlots (files_in (S.state blocks.old) draft.old) (files_in (S.state blocks.new) draft.new) dir (without_at place slots)) }
+    ensures places { IsTrue S.tells → OnOk result ((slots : List SlotValue) → inodes_in (S.state blocks.old) draft.old dir ≡ Some (ADir slots)
+        → IsWithPlaces (places_in (S.state blocks.old) draft.old) (places_in (S.state blocks.new) draft.new) dir (take (directory_blocks (length slots - 1)) (places_in (S.state blocks.old) draft.old dir))) }
     ensures draft { OnOk result (IsDraftOf S.tells (S.state blocks.new) draft.new) }
     ensures alters { IsTrue S.tells → OnOk result ((slots : List SlotValue) → inodes_in (S.state blocks.old) draft.old dir ≡ Some (ADir slots) → Alters 3 [] (release (length slots)) draft.old draft.new) }
     ensures refused { IfErr result LookRefused }
@@ -167,6 +170,7 @@ fn cut_slots<S: Blocks>(
     requires there { IsTrue S.tells → HasPlace (S.state blocks.old) draft.old dir count }
     ensures slots { IsTrue S.tells → OnOk result ((slots : List SlotValue) → inodes_in (S.state blocks.old) draft.old dir ≡ Some (ADir slots)
         → IsWithSlots (files_in (S.state blocks.old) draft.old) (files_in (S.state blocks.new) draft.new) dir (take count slots)) }
+    ensures places { IsTrue S.tells → OnOk result (IsWithPlaces (places_in (S.state blocks.old) draft.old) (places_in (S.state blocks.new) draft.new) dir (take (directory_blocks count) (places_in (S.state blocks.old) draft.old dir))) }
     ensures draft { OnOk result (IsDraftOf S.tells (S.state blocks.new) draft.new) }
     ensures alters { IsTrue S.tells → OnOk result ((slots : List SlotValue) → inodes_in (S.state blocks.old) draft.old dir ≡ Some (ADir slots) → Alters 2 [] (directory_blocks (length slots) - directory_blocks count) draft.old draft.new) }
     ensures refused { IfErr result LookRefused }

@@ -29,9 +29,13 @@ abbrev pub places_or_none : Option Node → List ℕ
 places_or_none None = []
 places_or_none (Some node) = run_places node.runs
 
+-- the blocks of node k, in order
+abbrev pub places_of : Geometry → Blocks → ℕ → List ℕ
+places_of g m k = places_or_none (used_node g m k)
+
 -- the blocks of node k, in order, as a draft has them
 abbrev pub places_in : State → DraftState → ℕ → List ℕ
-places_in s d k = places_or_none (used_node s.books.geom (drafted d s.map) k)
+places_in s d k = places_of s.books.geom (drafted d s.map) k
 
 -- a node in use
 abbrev pub IsUsed : Files → ℕ → Type 0
@@ -40,6 +44,11 @@ IsUsed files k = (x : FileNode) × (files k ≡ Some x)
 -- Node k became x, and no other changed.
 pub record IsWithFile (old new : Files) (k : ℕ) (x : Option FileNode) : Type 0 where
   pub own : new k ≡ x
+  pub others : (l : ℕ) → l ≢ k → new l ≡ old l
+
+-- Node k has these blocks now, in order, and every other node has those that it had.
+pub record IsWithPlaces (old new : ℕ → List ℕ) (k : ℕ) (places : List ℕ) : Type 0 where
+  pub own : new k ≡ places
   pub others : (l : ℕ) → l ≢ k → new l ≡ old l
 
 abbrev pub with_bytes : FileNode → List ℕ → FileNode

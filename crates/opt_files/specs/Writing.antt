@@ -1,8 +1,8 @@
 -- What a write makes of a node and a draft, step by step: the gap before its bytes gets zeros, the node gets blocks, and the bytes are written.
-use Rattle.std.specs.Prelude.{◌≡◌, ℕ, ◌+◌, ◌-◌, ◌*◌, ◌<◌, ◌≤◌, Bool, IsTrue, List, [], length, drop, replicate, min, max, Some}
+use Rattle.std.specs.Prelude.{◌≡◌, ℕ, ◌+◌, ◌-◌, ◌*◌, ◌<◌, ◌≤◌, Bool, IsTrue, List, [], ◌++◌, length, take, drop, replicate, min, max, Some}
 use Rattle.opt_base.specs.Seal.{Blocks}
 use Rattle.opt_stands.specs.Files.{FileNode, joined, used_node, files_of}
-use Rattle.opt_blocks.specs.State.{Bookkeeping}
+use Rattle.opt_blocks.specs.State.{Bookkeeping, reusable_blocks}
 use Rattle.opt_geom.specs.Geometry.{Geometry}
 use Rattle.opt_base.specs.declared.words.Class.TheVariants.{Meta}
 use Rattle.opt_layout.specs.declared.node.Node.{Node}
@@ -14,7 +14,7 @@ use Rattle.opt_files.specs.Drafts.{DraftState, drafted, PutsBlock}
 use Rattle.opt_files.specs.Growing.{more_blocks, GrowsPlaces}
 use Rattle.opt_files.specs.Nodes.{class_of, node_of_open, node_block, node_byte}
 use Rattle.opt_files.specs.Frames.{ReadsBack}
-use Rattle.opt_files.specs.Calls.{IsWithFile, with_bytes, places_or_none, written_blocks, ChangesAmong, Grows}
+use Rattle.opt_files.specs.Calls.{IsWithFile, IsWithPlaces, with_bytes, places_of, places_or_none, growth, written_blocks, ChangesAmong, Grows}
 
 -- the open node with another size, as the node table has it
 abbrev pub with_size : OpenNode → ℕ → Node
@@ -55,5 +55,7 @@ pub record KeepsSize (g : Geometry) (number size : ℕ) (node : OpenNode) (table
 pub record WritesFile (k : Bookkeeping) (m : Blocks) (number off : ℕ) (ys : List ℕ) (d e : DraftState) : Type 0 where
   pub file : (x : FileNode) → files_of k.geom (drafted d m) number ≡ Some x → IsWithFile (files_of k.geom (drafted d m)) (files_of k.geom (drafted e m)) number (Some (with_bytes x (overwritten off ys x.bytes)))
   pub grows : (x : FileNode) → files_of k.geom (drafted d m) number ≡ Some x → Grows k x (places_or_none (used_node k.geom (drafted d m) number)) (places_or_none (used_node k.geom (drafted e m) number)) (off + length ys) d e
+  pub places : (x : FileNode) → files_of k.geom (drafted d m) number ≡ Some x
+      → IsWithPlaces (places_of k.geom (drafted d m)) (places_of k.geom (drafted e m)) number (places_of k.geom (drafted d m) number ++ take (growth (length x.bytes) (length (overwritten off ys x.bytes))) (reusable_blocks k))
   pub among : (x : FileNode) → files_of k.geom (drafted d m) number ≡ Some x
       → ChangesAmong (written_blocks k.geom number x (places_or_none (used_node k.geom (drafted d m) number)) (drop (length (places_or_none (used_node k.geom (drafted d m) number))) (places_or_none (used_node k.geom (drafted e m) number))) (min off (length x.bytes)) (off + length ys)) d e

@@ -11,7 +11,7 @@ ghost use Rattle.opt_files.specs.Nodes.{class_of, node_block, HasTable, IsOpen};
 ghost use Rattle.opt_files.specs.Sound.{IsDraftOf};
 ghost use Rattle.opt_files.specs.Content.{HasContent, WritesContent, fails_reading};
 ghost use Rattle.opt_files.specs.Effects.{LooksOnly};
-ghost use Rattle.opt_files.specs.Calls.{files_in, places_in, IsUsed, IsWithFile, with_links, SetsNode, LookRefused, AreUsed, IsFirstUnused, IsLeastUnused};
+ghost use Rattle.opt_files.specs.Calls.{files_in, places_in, IsUsed, IsWithFile, IsWithPlaces, with_links, SetsNode, LookRefused, AreUsed, IsFirstUnused, IsLeastUnused};
 
 use crate::FileRefusal;
 use crate::content::{read_content, write_content};
@@ -81,6 +81,7 @@ impl Draft {
         requires below { IsTrue S.tells → (l : ℕ) → 1 ≤ l → l < from → IsUsed (files_in (S.state blocks.old) self.old) l }
         ensures node { IsTrue S.tells → IfOk result (λ found. IfSome found (λ number. IsLeastUnused (S.state blocks.old).books.geom.i (files_in (S.state blocks.old) self.old) number
             × IsWithFile (files_in (S.state blocks.old) self.old) (files_in (S.state blocks.new) self.new) number (Some (record { kind = kind; links = 1; bytes = [] })))) }
+        ensures places { IsTrue S.tells → IfOk result (λ found. IfSome found (λ number. IsWithPlaces (places_in (S.state blocks.old) self.old) (places_in (S.state blocks.new) self.new) number [])) }
         ensures none { IsTrue S.tells → IfOk result (λ found. IfNone found (((l : ℕ) → 1 ≤ l → l ≤ (S.state blocks.old).books.geom.i → IsUsed (files_in (S.state blocks.old) self.old) l) × (self.new ≡ self.old))) }
         ensures number { IfOk result (λ found. IfSome found (λ number. (1 ≤ number) × (number ≤ (S.state blocks.old).books.geom.i))) }
         ensures draft { OnOk result (IsDraftOf S.tells (S.state blocks.new) self.new) }
@@ -122,6 +123,7 @@ impl Draft {
         requires draft { IsDraftOf S.tells (S.state blocks.old) self.old }
         requires used { IsTrue S.tells → IsUsed (files_in (S.state blocks.old) self.old) number }
         ensures file { IsTrue S.tells → OnOk result (IsWithFile (files_in (S.state blocks.old) self.old) (files_in (S.state blocks.new) self.new) number None) }
+        ensures places { IsTrue S.tells → OnOk result (IsWithPlaces (places_in (S.state blocks.old) self.old) (places_in (S.state blocks.new) self.new) number []) }
         ensures draft { OnOk result (IsDraftOf S.tells (S.state blocks.new) self.new) }
         ensures among { IsTrue S.tells → OnOk result (SetsNode (S.state blocks.old).books.geom number (places_in (S.state blocks.old) self.old number) self.old self.new) }
         ensures changes { IsTrue S.tells → OnOk result (ChangesSome self.new) }
@@ -161,6 +163,7 @@ impl Draft {
         requires used { IsTrue S.tells → IsUsed (files_in (S.state blocks.old) self.old) number }
         ensures file { IsTrue S.tells → OnOk result ((x : FileNode) → files_in (S.state blocks.old) self.old number ≡ Some x
             → IsWithFile (files_in (S.state blocks.old) self.old) (files_in (S.state blocks.new) self.new) number (Some (with_links x links))) }
+        ensures places { IsTrue S.tells → OnOk result (IsWithPlaces (places_in (S.state blocks.old) self.old) (places_in (S.state blocks.new) self.new) number (places_in (S.state blocks.old) self.old number)) }
         ensures draft { OnOk result (IsDraftOf S.tells (S.state blocks.new) self.new) }
         ensures among { IsTrue S.tells → OnOk result (SetsNode (S.state blocks.old).books.geom number [] self.old self.new) }
         ensures changes { IsTrue S.tells → OnOk result (ChangesSome self.new) }

@@ -4,7 +4,7 @@
 ghost use Rattle.std.specs.Prelude.{◌≡◌, ◌≤◌, ◌+◌, ◌-◌, ◌*◌, ◌/◌, ◌%◌, ◌^◌, ℕ, IsTrue, List, length, Some};
 ghost use Rattle.opt_blocks.specs.Running.{HasNoBare};
 ghost use Rattle.opt_files.specs.Bytes.{blocks_for, met};
-ghost use Rattle.opt_files.specs.Calls.{files_in, places_in};
+ghost use Rattle.opt_files.specs.Calls.{files_in, places_in, places_of};
 ghost use Rattle.opt_files.specs.Drafts.{DraftState, nothing_drafted};
 ghost use Rattle.opt_files.specs.Sound.{IsDraftOf};
 ghost use Rattle.opt_layout.specs.declared.node.NodeKind.TheVariants.{Dir};
@@ -14,10 +14,11 @@ ghost use Rattle.opt_stands.specs.Stands.{AreSound};
 use opt_blocks::Blocks;
 
 /// An empty draft is one of each map of blocks that are sound where they are known, while each block that
-/// was taken is filled or freed. Its files are those of the map.
+/// was taken is filled or freed. Its files are those of the map, and so are the blocks of each node.
 pub fn a_draft_begins<S: Blocks>(blocks: &S)
     ensures draft { HasNoBare (S.state blocks.now).books.running → (IsTrue S.tells → AreSound (S.state blocks.now).books.geom (S.state blocks.now).map) → IsDraftOf S.tells (S.state blocks.now) nothing_drafted }
     ensures files { (k : ℕ) → files_in (S.state blocks.now) nothing_drafted k ≡ files_of (S.state blocks.now).books.geom (S.state blocks.now).map k }
+    ensures places { (k : ℕ) → places_in (S.state blocks.now) nothing_drafted k ≡ places_of (S.state blocks.now).books.geom (S.state blocks.now).map k }
 {
     blocks.geom().lawful();
 }

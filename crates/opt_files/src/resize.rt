@@ -1,7 +1,7 @@
 //! Resizing a file of a draft: it is cut to fewer bytes, or grows to more with zeros. Its node and its
 //! blocks are changed by other modules.
 
-ghost use Rattle.std.specs.Prelude.{◌≡◌, ◌≢◌, ◌≤◌, ◌<◌, ◌*◌, ◌-◌, ◌/◌, ◌%◌, ◌^◌, IsTrue, false, [], length, drop, replicate, Some, IfErr, OnOk};
+ghost use Rattle.std.specs.Prelude.{◌≡◌, ◌≢◌, ◌≤◌, ◌<◌, ◌*◌, ◌-◌, ◌/◌, ◌%◌, ◌^◌, IsTrue, false, [], ◌++◌, length, take, drop, replicate, Some, IfErr, OnOk};
 ghost use Rattle.std.specs.List.{All};
 ghost use Rattle.opt_base.specs.declared.words.Class.TheVariants.{Meta};
 ghost use Rattle.opt_extent.specs.Runs.{stretches};
@@ -12,7 +12,7 @@ ghost use Rattle.opt_blocks.specs.Calls.{HasTurns};
 ghost use Rattle.opt_blocks.specs.Puts.{IsData};
 ghost use Rattle.opt_blocks.specs.State.{reusable_blocks};
 ghost use Rattle.opt_files.specs.Bytes.{blocks_for, overwrite};
-ghost use Rattle.opt_files.specs.Calls.{files_in, places_in, IsUsed, IsWithFile, with_bytes, ChangesAmong, Grows, Resizes, Shrinks, cut_blocks, growth, written_blocks, GrowthRefused, LookRefused};
+ghost use Rattle.opt_files.specs.Calls.{files_in, places_in, IsUsed, IsWithFile, IsWithPlaces, with_bytes, ChangesAmong, Grows, Resizes, Shrinks, cut_blocks, growth, written_blocks, GrowthRefused, LookRefused};
 ghost use Rattle.opt_files.specs.Content.{HasContent, WritesContent, fails_reading, fails_settling};
 ghost use Rattle.opt_files.specs.Drafts.{drafted};
 ghost use Rattle.opt_files.specs.Effects.{LooksOnly, LooksAndSettles};
@@ -58,6 +58,8 @@ impl Draft {
         requires slots { IsTrue S.tells → (x : FileNode) → files_in (S.state blocks.old) self.old number ≡ Some x → x.kind ≡ Dir → size % 64 ≡ 0 }
         ensures file { IsTrue S.tells → OnOk result ((x : FileNode) → files_in (S.state blocks.old) self.old number ≡ Some x
             → IsWithFile (files_in (S.state blocks.old) self.old) (files_in (S.state blocks.new) self.new) number (Some (with_bytes x (resized size x.bytes)))) }
+        ensures places { IsTrue S.tells → OnOk result ((x : FileNode) → files_in (S.state blocks.old) self.old number ≡ Some x
+            → IsWithPlaces (places_in (S.state blocks.old) self.old) (places_in (S.state blocks.new) self.new) number (take (blocks_for size) (places_in (S.state blocks.old) self.old number) ++ take (growth (length x.bytes) size) (reusable_blocks (S.state blocks.new).books))) }
         ensures draft { OnOk result (IsDraftOf S.tells (S.state blocks.new) self.new) }
         ensures resizes { IsTrue S.tells → OnOk result ((x : FileNode) → files_in (S.state blocks.old) self.old number ≡ Some x
             → Resizes (S.state blocks.new).books number x (places_in (S.state blocks.old) self.old number) (places_in (S.state blocks.new) self.new number) size self.old self.new) }
@@ -118,6 +120,7 @@ pub(crate) fn cut<S: Blocks>(
     requires slots { IsTrue S.tells → node.old.kind ≡ Dir → size % 64 ≡ 0 }
     ensures file { IsTrue S.tells → OnOk result ((x : FileNode) → files_in (S.state blocks.old) draft.old number ≡ Some x
         → IsWithFile (files_in (S.state blocks.old) draft.old) (files_in (S.state blocks.new) draft.new) number (Some (with_bytes x (resized size x.bytes)))) }
+    ensures places { IsTrue S.tells → OnOk result (IsWithPlaces (places_in (S.state blocks.old) draft.old) (places_in (S.state blocks.new) draft.new) number (take (blocks_for size) (places_in (S.state blocks.old) draft.old number))) }
     ensures draft { OnOk result (IsDraftOf S.tells (S.state blocks.new) draft.new) }
     ensures shrinks { IsTrue S.tells → OnOk result ((x : FileNode) → files_in (S.state blocks.old) draft.old number ≡ Some x
         → Shrinks x (places_in (S.state blocks.old) draft.old number) (places_in (S.state blocks.new) draft.new number) size draft.old draft.new) }
@@ -159,6 +162,8 @@ fn extend<S: Blocks>(
     requires once { 0 < more_blocks size node.old → draft.old.taken ≡ [] }
     ensures file { IsTrue S.tells → OnOk result ((x : FileNode) → files_in (S.state blocks.old) draft.old number ≡ Some x
         → IsWithFile (files_in (S.state blocks.old) draft.old) (files_in (S.state blocks.new) draft.new) number (Some (with_bytes x (resized size x.bytes)))) }
+    ensures places { IsTrue S.tells → OnOk result ((x : FileNode) → files_in (S.state blocks.old) draft.old number ≡ Some x
+        → IsWithPlaces (places_in (S.state blocks.old) draft.old) (places_in (S.state blocks.new) draft.new) number (take (blocks_for size) (places_in (S.state blocks.old) draft.old number) ++ take (growth (length x.bytes) size) (reusable_blocks (S.state blocks.new).books))) }
     ensures draft { OnOk result (IsDraftOf S.tells (S.state blocks.new) draft.new) }
     ensures grows { IsTrue S.tells → OnOk result ((x : FileNode) → files_in (S.state blocks.old) draft.old number ≡ Some x
         → Grows (S.state blocks.new).books x (places_in (S.state blocks.old) draft.old number) (places_in (S.state blocks.new) draft.new number) size draft.old draft.new) }

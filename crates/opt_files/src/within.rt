@@ -1,12 +1,12 @@
 //! Changes of a file of a draft that never grow it: bytes written over those that it has, and a cut to its
 //! first bytes. They only look at the map of blocks, also where it isn't observed.
 
-ghost use Rattle.std.specs.Prelude.{◌≡◌, ◌≤◌, ◌<◌, ◌+◌, ◌%◌, ◌^◌, IsTrue, false, length, Some, IfErr, OnOk};
+ghost use Rattle.std.specs.Prelude.{◌≡◌, ◌≤◌, ◌<◌, ◌+◌, ◌%◌, ◌^◌, IsTrue, false, length, take, Some, IfErr, OnOk};
 ghost use Rattle.opt_layout.specs.declared.node.NodeKind.TheVariants.{Dir};
 ghost use Rattle.opt_tree.specs.Step.{resized};
 ghost use Rattle.opt_stands.specs.Files.{FileNode};
-ghost use Rattle.opt_files.specs.Bytes.{met, overwritten};
-ghost use Rattle.opt_files.specs.Calls.{files_in, places_in, IsUsed, IsWithFile, with_bytes, ChangesAmong, Shrinks, cut_blocks, LookRefused};
+ghost use Rattle.opt_files.specs.Bytes.{blocks_for, met, overwritten};
+ghost use Rattle.opt_files.specs.Calls.{files_in, places_in, IsUsed, IsWithFile, IsWithPlaces, with_bytes, ChangesAmong, Shrinks, cut_blocks, LookRefused};
 ghost use Rattle.opt_files.specs.Content.{fails_reading};
 ghost use Rattle.opt_files.specs.Drafts.{ChangesSome};
 ghost use Rattle.opt_files.specs.Effects.{LooksOnly};
@@ -47,6 +47,7 @@ impl Draft {
         requires within { IsTrue S.tells → (x : FileNode) → files_in (S.state blocks.old) self.old number ≡ Some x → offset + length bytes.now ≤ length x.bytes }
         ensures file { IsTrue S.tells → OnOk result ((x : FileNode) → files_in (S.state blocks.old) self.old number ≡ Some x
             → IsWithFile (files_in (S.state blocks.old) self.old) (files_in (S.state blocks.new) self.new) number (Some (with_bytes x (overwritten offset bytes.now x.bytes)))) }
+        ensures places { IsTrue S.tells → OnOk result (IsWithPlaces (places_in (S.state blocks.old) self.old) (places_in (S.state blocks.new) self.new) number (places_in (S.state blocks.old) self.old number)) }
         ensures draft { OnOk result (IsDraftOf S.tells (S.state blocks.new) self.new) }
         ensures overwrites { IsTrue S.tells → OnOk result (Overwrites (met offset (offset + length bytes.now) (places_in (S.state blocks.old) self.old number)) self.old self.new) }
         ensures changes { IsTrue S.tells → OnOk result (0 < length bytes.now → ChangesSome self.new) }
@@ -91,6 +92,7 @@ impl Draft {
         requires shorter { IsTrue S.tells → (x : FileNode) → files_in (S.state blocks.old) self.old number ≡ Some x → size < length x.bytes }
         ensures file { IsTrue S.tells → OnOk result ((x : FileNode) → files_in (S.state blocks.old) self.old number ≡ Some x
             → IsWithFile (files_in (S.state blocks.old) self.old) (files_in (S.state blocks.new) self.new) number (Some (with_bytes x (resized size x.bytes)))) }
+        ensures places { IsTrue S.tells → OnOk result (IsWithPlaces (places_in (S.state blocks.old) self.old) (places_in (S.state blocks.new) self.new) number (take (blocks_for size) (places_in (S.state blocks.old) self.old number))) }
         ensures draft { OnOk result (IsDraftOf S.tells (S.state blocks.new) self.new) }
         ensures shrinks { IsTrue S.tells → OnOk result ((x : FileNode) → files_in (S.state blocks.old) self.old number ≡ Some x
             → Shrinks x (places_in (S.state blocks.old) self.old number) (places_in (S.state blocks.new) self.new number) size self.old self.new) }

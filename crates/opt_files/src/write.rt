@@ -1,12 +1,12 @@
 //! Writing bytes into a file of a draft: the gap before them, the blocks that they need, and the bytes
 //! themselves. What a draft is then is described by the clauses of `write_at`.
 
-ghost use Rattle.std.specs.Prelude.{◌≡◌, ◌≤◌, ◌<◌, ◌+◌, ◌%◌, ◌^◌, ℕ, IsTrue, false, max, min, [], length, drop, Some, IfErr, OnOk};
+ghost use Rattle.std.specs.Prelude.{◌≡◌, ◌≤◌, ◌<◌, ◌+◌, ◌%◌, ◌^◌, ℕ, IsTrue, false, max, min, [], ◌++◌, length, take, drop, Some, IfErr, OnOk};
 ghost use Rattle.opt_layout.specs.declared.node.NodeKind.TheVariants.{Dir};
 ghost use Rattle.opt_blocks.specs.Calls.{HasTurns};
 ghost use Rattle.opt_blocks.specs.State.{reusable_blocks};
 ghost use Rattle.opt_files.specs.Bytes.{overwritten};
-ghost use Rattle.opt_files.specs.Calls.{files_in, places_in, IsUsed, IsWithFile, with_bytes, ChangesAmong, Grows, growth, written_blocks, GrowthRefused, LookRefused};
+ghost use Rattle.opt_files.specs.Calls.{files_in, places_in, IsUsed, IsWithFile, IsWithPlaces, with_bytes, ChangesAmong, Grows, growth, written_blocks, GrowthRefused, LookRefused};
 ghost use Rattle.opt_files.specs.Content.{fails_reading, fails_settling};
 ghost use Rattle.opt_files.specs.Effects.{LooksOnly, LooksAndSettles};
 ghost use Rattle.opt_files.specs.Drafts.{drafted, ChangesSome};
@@ -55,6 +55,8 @@ impl Draft {
         requires slots { IsTrue S.tells → (x : FileNode) → files_in (S.state blocks.old) self.old number ≡ Some x → x.kind ≡ Dir → (max (length x.bytes) (offset + length bytes.now)) % 64 ≡ 0 }
         ensures file { IsTrue S.tells → OnOk result ((x : FileNode) → files_in (S.state blocks.old) self.old number ≡ Some x
             → IsWithFile (files_in (S.state blocks.old) self.old) (files_in (S.state blocks.new) self.new) number (Some (with_bytes x (overwritten offset bytes.now x.bytes)))) }
+        ensures places { IsTrue S.tells → OnOk result ((x : FileNode) → files_in (S.state blocks.old) self.old number ≡ Some x
+            → IsWithPlaces (places_in (S.state blocks.old) self.old) (places_in (S.state blocks.new) self.new) number (places_in (S.state blocks.old) self.old number ++ take (growth (length x.bytes) (length (overwritten offset bytes.now x.bytes))) (reusable_blocks (S.state blocks.new).books))) }
         ensures draft { OnOk result (IsDraftOf S.tells (S.state blocks.new) self.new) }
         ensures grows { IsTrue S.tells → OnOk result ((x : FileNode) → files_in (S.state blocks.old) self.old number ≡ Some x → 0 < length bytes.now
             → Grows (S.state blocks.new).books x (places_in (S.state blocks.old) self.old number) (places_in (S.state blocks.new) self.new number) (offset + length bytes.now) self.old self.new) }

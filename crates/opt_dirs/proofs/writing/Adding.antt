@@ -17,7 +17,7 @@ use Rattle.opt_stands.specs.Inodes.{ADir, inode_of}
 use Rattle.opt_blocks.specs.State.{Bookkeeping, reusable_blocks}
 use Rattle.opt_files.specs.declared.refusal.FileRefusal.{FileRefusal}
 use Rattle.opt_files.specs.Bytes.{blocks_for, met, overwritten}
-use Rattle.opt_files.specs.Calls.{is_dir, IsUsed, IsWithFile, with_bytes, ChangesAmong, Grows, growth, written_blocks, GrowthRefused}
+use Rattle.opt_files.specs.Calls.{is_dir, IsUsed, IsWithFile, IsWithPlaces, with_bytes, ChangesAmong, Grows, growth, written_blocks, GrowthRefused}
 use Rattle.opt_files.specs.Drafts.{DraftState}
 use Rattle.opt_files.specs.Nodes.{node_block}
 use Rattle.opt_dirs.specs.Changing.{Alters, IsWithSlots}
@@ -117,6 +117,10 @@ module _ (k : Bookkeeping) (g : Geometry) (dir lo hi : ℕ) (slots : List Slot) 
     freed = omega (arith, ap length grows.freed);
     fresh = omega (arith, grows.fresh, ap (λ q. if is_dir q then 0 else growth (length x.bytes) hi) dir_kind);
   }
+
+-- Its places, from those before the look.
+pub placed_behind : (old was new : ℕ → List ℕ) (k n m : ℕ) (more ps : List ℕ) → ((l : ℕ) → old l ≡ was l) → n ≡ m → new k ≡ old k ++ take n more → IsWithPlaces old new k ps → IsWithPlaces was new k (was k ++ take m more)
+placed_behind old was new k n m more ps same count behind w = record { own = behind ∙ (λ i. same k i ++ take (count i) more); others = λ l off. w.others l off ∙ same l }
 
 -- Why it was refused, from the bookkeeping and the draft before the look.
 pub refused_behind : (n m : ℕ) (ps qs : List ℕ) (old mid new : Bookkeeping) (why : FileRefusal) → n ≡ m → ps ≡ qs → mid ≡ old → GrowthRefused n ps mid new why → GrowthRefused m qs old new why

@@ -22,7 +22,7 @@ use Rattle.opt_tree.specs.Step.{resized}
 use Rattle.opt_files.specs.declared.changes.Changed.{Changed}
 use Rattle.opt_files.specs.declared.nodes.OpenNode.{OpenNode}
 use Rattle.opt_files.specs.Bytes.{overwrite, blocks_for}
-use Rattle.opt_files.specs.Calls.{IsWithFile, Shrinks, ChangesAmong, files_in, places_in, places_or_none, with_bytes, is_dir, cut_blocks}
+use Rattle.opt_files.specs.Calls.{IsWithFile, IsWithPlaces, Shrinks, ChangesAmong, files_in, places_in, places_or_none, with_bytes, is_dir, cut_blocks}
 use Rattle.opt_files.specs.Content.{HasContent}
 use Rattle.opt_files.specs.Drafts.{DraftState, ChangesSome, change_of, drafted, marks_of, PutsBlock, FreesBlocks}
 use Rattle.opt_files.specs.Effects.{LooksOnly}
@@ -38,9 +38,10 @@ use Rattle.opt_files.proofs.calling.Nodes.{its_file}
 use Rattle.opt_files.proofs.calling.Resizes.{in_cleared, pairs_drop}
 use Rattle.opt_files.proofs.drafts.Lists.{turned, in_rest, in_front, none_of_table, has_append, each_of}
 use Rattle.opt_files.proofs.frames.After.{IsStored, stored_after, stored_content, stored_cut}
-use Rattle.opt_files.proofs.frames.Carry.{draft_looks, files_look}
+use Rattle.opt_files.proofs.frames.Carry.{draft_looks, files_look, places_look}
 use Rattle.opt_files.proofs.frames.Cells.{block_from, block_below}
 use Rattle.opt_files.proofs.frames.Fits.{fits_with}
+use Rattle.opt_files.proofs.frames.Frames.{node_places}
 use Rattle.opt_files.proofs.frames.Places.{used_marked, used_whole}
 use Rattle.opt_files.proofs.frames.Puts.{put_fits, put_changed, put_changes}
 use Rattle.opt_files.proofs.frames.Rules.{HasRules, rules_of, frees_others, frees_marks, frees_fits, frees_rules, writes_others, writes_marks, writes_fits, writes_rules}
@@ -306,6 +307,12 @@ module _ (tells : Bool) (s : State) (number size : ℕ) (o : OpenNode) (node : N
       places_e = ap (λ (b : Bookkeeping). places_or_none (used_node b.geom (drafted e t.map) number)) looks.books
           ∙ ap (λ (n : Blocks). places_or_none (used_node k.geom (drafted e n) number)) (looks.map known)
           ∙ ap places_or_none cut_node ∙ is.places kept
+
+      pub cut_places : IsWithPlaces (places_in s d) (places_in t e) number (take (blocks_for size) (places_in s d number))
+      cut_places = record {
+        own = places_e ∙ ap (take (blocks_for size)) (sym places_d);
+        others = λ l other. places_look tells false s t e looks known l ∙ (node_places k.geom (drafted d m) (drafted e m) number (used_of new) stored.node_is).others l other;
+      }
 
       pub cut_shrinks : (x : FileNode) → Shrinks x (places_in s d number) (places_in t e number) size d e
       cut_shrinks x = record {

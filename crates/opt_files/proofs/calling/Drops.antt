@@ -15,13 +15,13 @@ use Rattle.opt_stands.specs.Files.{files_of, used_node}
 use Rattle.opt_files.specs.declared.changes.Changed.{Changed}
 use Rattle.opt_files.specs.declared.nodes.OpenNode.{OpenNode}
 use Rattle.opt_files.specs.Bytes.{overwrite}
-use Rattle.opt_files.specs.Calls.{IsWithFile, SetsNode, places_or_none}
+use Rattle.opt_files.specs.Calls.{IsWithFile, IsWithPlaces, SetsNode, places_or_none, places_of}
 use Rattle.opt_files.specs.Drafts.{DraftState, change_of, drafted, PutsBlock, FreesBlocks}
 use Rattle.opt_files.specs.Frames.{ReadsBack}
 use Rattle.opt_files.specs.Nodes.{node_of_open, node_block, node_byte}
 use Rattle.opt_files.specs.Sound.{FitsBooks, IsSoundDraft}
 use Rattle.opt_files.proofs.frames.Cells.{block_from, block_below}
-use Rattle.opt_files.proofs.frames.Dropped.{dropped_sound, dropped_file}
+use Rattle.opt_files.proofs.frames.Dropped.{dropped_sound, dropped_file, dropped_places}
 use Rattle.opt_files.proofs.frames.Puts.{put_changed}
 use Rattle.opt_files.proofs.frames.Rules.{frees_fits}
 use Rattle.opt_files.proofs.calling.Nodes.{put_still_fits}
@@ -67,6 +67,7 @@ pub drops : (k : Bookkeeping) (m : Blocks) (g : Geometry) (number : ℕ) (o : Op
     → PutsBlock (node_block g number) (record { class = Meta; bytes = overwrite (node_byte number) (node_spelling n) table }) f e
     → (FitsAs g n n.kind → ReadsBack g n)
     → IsSoundDraft k m e × IsWithFile (files_of k.geom (drafted d m)) (files_of k.geom (drafted e m)) number None × SetsNode k.geom number (places_or_none (used_node k.geom (drafted d m) number)) d e
+    × IsWithPlaces (places_of k.geom (drafted d m)) (places_of k.geom (drafted e m)) number []
 drops k m g number o n table d f e same geom from upto fits sound inside runs used bytes frees is puts back =
     let right : IsGeometry k.geom = subst IsGeometry same geom in
     let c : Changed = record { class = Meta; bytes = overwrite (node_byte number) (node_spelling n) table } in
@@ -79,4 +80,5 @@ drops k m g number o n table d f e same geom from upto fits sound inside runs us
       dropped_sound k m number old c d f e right fits sound (sym used) all_freed text put reads,
       dropped_file k m number old c d f e right fits sound (sym used) all_freed text put reads,
       subst (λ ps. SetsNode k.geom number ps d e) (sym runs ∙ ap places_or_none used) (drop_sets k number o.places c d f e right from upto (frees_fits k o.places d f frees inside fits) frees put),
+      dropped_places k m number old c d f e right fits sound (sym used) all_freed text put reads,
     )

@@ -21,7 +21,7 @@ use Rattle.opt_tree.specs.Step.{resized, written}
 use Rattle.opt_files.specs.declared.changes.Changed.{Changed}
 use Rattle.opt_files.specs.declared.nodes.OpenNode.{OpenNode}
 use Rattle.opt_files.specs.Bytes.{overwrite, blocks_for, met}
-use Rattle.opt_files.specs.Calls.{IsWithFile, Grows, ChangesAmong, files_in, places_in, places_or_none, with_bytes, is_dir, growth, written_blocks}
+use Rattle.opt_files.specs.Calls.{IsWithFile, IsWithPlaces, Grows, ChangesAmong, files_in, places_in, places_or_none, with_bytes, is_dir, growth, written_blocks}
 use Rattle.opt_files.specs.Content.{HasContent, WritesContent}
 use Rattle.opt_files.specs.Drafts.{DraftState, ChangesSome, change_of, drafted, marks_of, is_meta, zeros_of, PutsBlock}
 use Rattle.opt_files.specs.Effects.{LooksAndSettles}
@@ -38,9 +38,10 @@ use Rattle.opt_files.proofs.calling.Nodes.{its_file}
 use Rattle.opt_files.proofs.calling.Writes.{its, all_inside, wrote_fits, wrote_rules, wrote_marks, came_unmarked, wrote_others, content_after, bytes_written, tail_written}
 use Rattle.opt_files.proofs.drafts.Lists.{turned, none_of_table, has_append}
 use Rattle.opt_files.proofs.frames.After.{IsStored, stored_after, stored_content, stored_grown}
-use Rattle.opt_files.proofs.frames.Carry.{draft_settles, files_settle}
+use Rattle.opt_files.proofs.frames.Carry.{draft_settles, files_settle, places_settle}
 use Rattle.opt_files.proofs.frames.Cells.{block_from, block_below}
 use Rattle.opt_files.proofs.frames.Fits.{fits_with}
+use Rattle.opt_files.proofs.frames.Frames.{node_places, same_places}
 use Rattle.opt_files.proofs.frames.Places.{used_length}
 use Rattle.opt_files.proofs.frames.Puts.{put_fits, put_changed, put_changes}
 use Rattle.opt_files.proofs.frames.Spelled.{used_some, fits_as}
@@ -333,6 +334,15 @@ module _ (tells : Bool) (t : State) (number size : ℕ) (o p : OpenNode) (node :
       changes = extend_some;
     }
 
+    pub extend_places : (x : FileNode) → files_of k.geom (drafted d m) number ≡ Some x → IsWithPlaces (places_in t d) (places_in t e) number (take (blocks_for size) (places_in t d number) ++ take (growth (length x.bytes) size) (reusable_blocks k))
+    extend_places x at = record {
+      own = (extend_grows x at).behind ∙ ap (λ ps. ps ++ take (growth (length x.bytes) size) (reusable_blocks k)) (sym all_kept);
+      others = (node_places k.geom (drafted d m) (drafted e m) number (used_of new) stored.node_is).others;
+    }
+      where
+        all_kept : take (blocks_for size) (places_in t d number) ≡ places_in t d number
+        all_kept = take_all (blocks_for size) (places_in t d number) (omega (arith, ap length places_d, is.loaded.fits.count, blocks_rise o.size size (omega (arith, is.more))))
+
     -- the new blocks are those behind the ones that it had
     behind_is : extra ≡ drop (length (places_in t d number)) (places_in t e number)
     behind_is = sym (drop-append_seam o.places extra) ∙ (λ i. drop (length (sym places_d i)) (sym p_places i)) ∙ ap (drop (length (places_in t d number))) (sym places_e)
@@ -350,9 +360,6 @@ module _ (tells : Bool) (t : State) (number size : ℕ) (o p : OpenNode) (node :
             by (inr past) = past
 
 -- From the state before to the one after.
-
-places_settle : (tells read_failed failed : Bool) (s t : State) (d : DraftState) (number : ℕ) → LooksAndSettles tells read_failed failed s t → IsTrue tells → places_in t d number ≡ places_in s d number
-places_settle tells read_failed failed s t d number settles known = λ i. places_or_none (used_node (settles.pipeline.geom i) (drafted d (settles.map known i)) number)
 
 -- the node is read as before
 pub loaded_settles : (tells read_failed failed : Bool) (s t : State) (number : ℕ) (o : OpenNode) (table : List ℕ) (d : DraftState) → LooksAndSettles tells read_failed failed s t → IsLoaded tells s d number o table → IsLoaded tells t d number o table
@@ -426,10 +433,16 @@ module _ (tells : Bool) (s t : State) (number size : ℕ) (o p : OpenNode) (node
         record { own = f.own; others = λ l away. f.others l away ∙ files_settle tells false false s t d settles known l }
 
     pub extended_grows : Grows t.books x (places_in s d number) (places_in t e number) size d e
-    extended_grows = subst (λ ps. Grows t.books x ps (places_in t e number) size d e) (places_settle tells false false s t d number settles known) (extend_grows tells t number size o p node table d w g e is known x now)
+    extended_grows = subst (λ ps. Grows t.books x ps (places_in t e number) size d e) (places_settle tells false false s t d settles known number) (extend_grows tells t number size o p node table d w g e is known x now)
+
+    pub extended_places : IsWithPlaces (places_in s d) (places_in t e) number (take (blocks_for size) (places_in s d number) ++ take (growth (length x.bytes) size) (reusable_blocks t.books))
+    extended_places =
+        let same = places_settle tells false false s t d settles known in
+        same_places (places_in t d) (places_in t e) (places_in s d) (places_in t e) number _ _ (λ l. sym (same l)) (λ l. refl) (ap (λ ps. take (blocks_for size) ps ++ take (growth (length x.bytes) size) (reusable_blocks t.books)) (same number))
+        (extend_places tells t number size o p node table d w g e is known x now)
 
     pub extended_changes : ChangesAmong (written_blocks t.books.geom number x (places_in s d number) (drop (length (places_in s d number)) (places_in t e number)) (length x.bytes) size) d e
-    extended_changes = subst (λ ps. ChangesAmong (written_blocks t.books.geom number x ps (drop (length ps) (places_in t e number)) (length x.bytes) size) d e) (places_settle tells false false s t d number settles known) (extend_changes tells t number size o p node table d w g e is known x now)
+    extended_changes = subst (λ ps. ChangesAmong (written_blocks t.books.geom number x ps (drop (length ps) (places_in t e number)) (length x.bytes) size) d e) (places_settle tells false false s t d settles known number) (extend_changes tells t number size o p node table d w g e is known x now)
 
 -- what no read failed in
 pub unread_settles : (tells read_failed failed : Bool) (s t : State) → read_failed ≡ false → LooksAndSettles tells false failed s t → LooksAndSettles tells read_failed failed s t

@@ -10,8 +10,8 @@ use Rattle.opt_layout.specs.declared.node.NodeKind.TheVariants.{Dir}
 use Rattle.opt_blocks.specs.State.{Bookkeeping, State, reusable_blocks, IsReusable}
 use Rattle.opt_stands.specs.Files.{FileNode, files_of, used_node}
 use Rattle.opt_files.specs.declared.nodes.OpenNode.{OpenNode}
-use Rattle.opt_files.specs.Bytes.{blocks_for}
-use Rattle.opt_files.specs.Calls.{places_or_none, is_dir, growth, written_blocks, ChangesAmong, Grows}
+use Rattle.opt_files.specs.Bytes.{blocks_for, overwritten}
+use Rattle.opt_files.specs.Calls.{IsWithPlaces, places_of, places_or_none, is_dir, growth, written_blocks, ChangesAmong, Grows}
 use Rattle.opt_files.specs.Content.{HasNewBytes}
 use Rattle.opt_files.specs.Drafts.{DraftState, ChangesSome, change_of, drafted, TakesBlocks}
 use Rattle.opt_files.specs.Effects.{LooksAndSettles}
@@ -19,6 +19,7 @@ use Rattle.opt_files.specs.Growing.{more_blocks}
 use Rattle.opt_files.specs.Nodes.{class_of, node_block, node_of_open, IsOpen}
 use Rattle.opt_files.specs.Sound.{FitsBooks, IsSoundDraft, IsDraftOf}
 use Rattle.opt_files.specs.Writing.{FillsGap, KeepsSize, WritesFile, WritesOpen}
+use Rattle.opt_files.proofs.bytes.Contents.{overwritten_length}
 use Rattle.opt_files.proofs.frames.Carry.{draft_settles}
 use Rattle.opt_files.proofs.frames.Puts.{put_changes}
 use Rattle.opt_files.proofs.calling.Among.{fresh_of, may_change, kept_known}
@@ -102,6 +103,14 @@ module _ (tells : Bool) (k : Bookkeeping) (m : Blocks) (number off : ℕ) (ys : 
         changes = changes;
       }
 
+  has_places : (x : FileNode) → files_of k.geom (drafted d m) number ≡ Some x
+      → IsWithPlaces (places_of k.geom (drafted d m)) (places_of k.geom (drafted e m)) number (before ++ take (growth (length x.bytes) (length (overwritten off ys x.bytes))) (reusable_blocks k))
+  has_places x at =
+      let is = stores.file_size tells k m number off ys o p d f e table geom opened fits w from upto keeps told sound free used back count tidy at_table few some slots x at in
+      let n : more_blocks wide o ≡ growth (length x.bytes) (length (overwritten off ys x.bytes)) = omega (arith, is.0, opened.count, overwritten_length off ys x.bytes some) in
+      let now = stores.kept_places tells k m number off ys o p d f e table geom opened fits w from upto keeps told sound free used back count tidy at_table few some slots in
+      record { own = now.own ∙ (λ i. sym before_is i ++ take (n i) (reusable_blocks k)); others = now.others }
+
   among : (x : FileNode) → files_of k.geom (drafted d m) number ≡ Some x → ChangesAmong (written_blocks k.geom number x before (drop (length before) after) (min off (length x.bytes)) (off + length ys)) d e
   among x at =
       let is = stores.file_size tells k m number off ys o p d f e table geom opened fits w from upto keeps told sound free used back count tidy at_table few some slots x at in
@@ -116,6 +125,7 @@ module _ (tells : Bool) (k : Bookkeeping) (m : Blocks) (number off : ℕ) (ys : 
   file_written = record {
     file = (stores.kept_sound tells k m number off ys o p d f e table geom opened fits w from upto keeps told sound free used back count tidy at_table few some slots).1;
     grows = grew;
+    places = has_places;
     among = among;
   }
 

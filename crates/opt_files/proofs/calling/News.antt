@@ -12,7 +12,7 @@ use Rattle.opt_blocks.specs.State.{Bookkeeping}
 use Rattle.opt_stands.specs.Files.{file_of, files_of, used_node}
 use Rattle.opt_files.specs.declared.changes.Changed.{Changed}
 use Rattle.opt_files.specs.Bytes.{overwrite}
-use Rattle.opt_files.specs.Calls.{IsWithFile, IsUsed, AreUsed, IsFirstUnused, IsLeastUnused}
+use Rattle.opt_files.specs.Calls.{IsWithFile, IsWithPlaces, places_of, IsUsed, AreUsed, IsFirstUnused, IsLeastUnused}
 use Rattle.opt_files.specs.Drafts.{DraftState, drafted, PutsBlock}
 use Rattle.opt_files.specs.Frames.{ReadsBack}
 use Rattle.opt_files.specs.Nodes.{node_block, node_byte}
@@ -45,6 +45,7 @@ pub news : (k : Bookkeeping) (m : Blocks) (g : Geometry) (from number : ℕ) (ki
     → PutsBlock (node_block g number) (record { class = Meta; bytes = overwrite (node_byte number) (node_spelling node) table }) d e
     → (FitsAs g node node.kind → ReadsBack g node)
     → IsSoundDraft k m e × IsWithFile (files_of k.geom (drafted d m)) (files_of k.geom (drafted e m)) number (Some (record { kind = kind; links = 1; bytes = [] })) × IsLeastUnused k.geom.i (files_of k.geom (drafted d m)) number
+    × IsWithPlaces (places_of k.geom (drafted d m)) (places_of k.geom (drafted e m)) number []
 news k m g from number kind node table d e same geom low high fits sound used below first bytes is puts back =
     let new : Node = record { kind = kind; links = 1; size = 0; runs = [] } in
     let c : Changed = record { class = Meta; bytes = overwrite (node_byte number) (node_spelling node) table } in
@@ -59,4 +60,4 @@ news k m g from number kind node table d e same geom low high fits sound used be
       back = subst (λ h. ReadsBack h new) same (subst (λ n. FitsAs g n n.kind → ReadsBack g n) is back (fits_as g new used (new_fits g kind)));
     } in
     let made = new_stored k m number new c d e put used refl first.unused in
-    (made.0, made.1, record { from = low; upto = high; unused = ap (option_map (file_of (drafted d m))) first.unused; below = all_used k.geom (drafted d m) from number below first.below })
+    (made.0, made.1, record { from = low; upto = high; unused = ap (option_map (file_of (drafted d m))) first.unused; below = all_used k.geom (drafted d m) from number below first.below }, made.2)

@@ -18,7 +18,7 @@ use Rattle.opt_files.specs.Drafts.{DraftState, drafted, PutsBlock}
 use Rattle.opt_files.specs.Sound.{FitsBooks, IsSoundDraft}
 use Rattle.opt_files.specs.Nodes.{node_of_open, node_block, node_byte, HasTable, IsOpen}
 use Rattle.opt_files.specs.Frames.{ReadsBack}
-use Rattle.opt_files.specs.Calls.{IsWithFile, with_links, files_in}
+use Rattle.opt_files.specs.Calls.{IsWithFile, IsWithPlaces, with_links, files_in, places_of}
 use Rattle.opt_files.specs.Effects.{LooksOnly}
 use Rattle.opt_files.proofs.frames.Carry.{files_look}
 use Rattle.opt_files.proofs.frames.Puts.{put_fits}
@@ -69,7 +69,7 @@ pub links_set : (k : Bookkeeping) (m : Blocks) (g : Geometry) (number links : �
     → PutsBlock (node_block g number) (record { class = Meta; bytes = overwrite (node_byte number) (node_spelling node) table }) d e
     → (FitsAs g node node.kind → ReadsBack g node)
     → files_of k.geom (drafted d m) number ≡ Some x
-    → IsSoundDraft k m e × IsWithFile (files_of k.geom (drafted d m)) (files_of k.geom (drafted e m)) number (Some (with_links x links))
+    → IsSoundDraft k m e × IsWithFile (files_of k.geom (drafted d m)) (files_of k.geom (drafted e m)) number (Some (with_links x links)) × IsWithPlaces (places_of k.geom (drafted d m)) (places_of k.geom (drafted e m)) number (places_of k.geom (drafted d m) number)
 links_set k m g number links o node x table d e same geom from upto fits sound opened some few used bytes is puts back at =
     let was : Node = node_of_open o in
     let new : Node = record was { links = links } in

@@ -10,14 +10,15 @@ use Rattle.opt_tree.specs.Step.{resized}
 use Rattle.opt_files.specs.declared.nodes.OpenNode.{OpenNode}
 use Rattle.opt_files.specs.declared.refusal.FileRefusal.{FileRefusal}
 use Rattle.opt_files.specs.Bytes.{blocks_for}
-use Rattle.opt_files.specs.Calls.{IsWithFile, Shrinks, Grows, Resizes, ChangesAmong, GrowthRefused, files_in, places_in, places_or_none, with_bytes, cut_blocks, written_blocks, growth}
+use Rattle.opt_files.specs.Calls.{IsWithFile, IsWithPlaces, Shrinks, Grows, Resizes, ChangesAmong, GrowthRefused, files_in, places_in, places_or_none, with_bytes, cut_blocks, written_blocks, growth}
 use Rattle.opt_files.specs.Drafts.{DraftState, drafted, marks_of}
 use Rattle.opt_files.specs.Effects.{LooksOnly}
 use Rattle.opt_files.specs.Growing.{more_blocks}
 use Rattle.opt_files.specs.Nodes.{IsOpen, node_of_open}
 use Rattle.opt_files.specs.Sound.{IsDraftOf}
 use Rattle.opt_files.proofs.calling.Nodes.{its_file}
-use Rattle.opt_files.proofs.frames.Carry.{files_look}
+use Rattle.opt_files.proofs.frames.Carry.{files_look, places_look}
+use Rattle.opt_files.proofs.frames.Frames.{same_places}
 use Rattle.opt_files.proofs.frames.Places.{used_length}
 
 -- a file of the size that it has
@@ -45,8 +46,8 @@ module _ (tells : Bool) (s t : State) (number size : ℕ) (o : OpenNode) (x : Fi
   pub read_growth : more_blocks size o ≡ growth (length x.bytes) size
   read_growth = ap (λ n. blocks_for size - n) (r.fits.count ∙ ap blocks_for (sym read_size))
 
-  places_look : places_in t d number ≡ places_in s d number
-  places_look = (λ i. places_or_none (used_node (r.looks.books i).geom (drafted d (r.looks.map r.known i)) number))
+  still_there : places_in t d number ≡ places_in s d number
+  still_there = places_look tells false s t d r.looks r.known number
 
   pub read_at : files_in t d number ≡ Some x
   read_at = files_look tells false s t d r.looks r.known number ∙ r.at
@@ -61,6 +62,38 @@ module _ (tells : Bool) (s t : State) (number size : ℕ) (o : OpenNode) (x : Fi
     own = read_at ∙ ap (λ xs. Some (with_bytes x xs)) (sym (same_bytes x.bytes) ∙ ap (λ n. resized n x.bytes) (read_size ∙ sym same));
     others = λ l away. files_look tells false s t d r.looks r.known l;
   }
+
+  -- the places that the node comes to have, of these
+  abbrev resized_places : Bookkeeping → List ℕ → List ℕ
+  resized_places k ps = take (blocks_for size) ps ++ take (growth (length x.bytes) size) (reusable_blocks k)
+
+  -- the places that were read are those before
+  since_places : (new : ℕ → List ℕ) (ps qs : List ℕ) → ps ≡ qs → IsWithPlaces (places_in t d) new number ps → IsWithPlaces (places_in s d) new number qs
+  since_places new ps qs same is = same_places (places_in t d) new (places_in s d) new number ps qs (λ l. sym (places_look tells false s t d r.looks r.known l)) (λ l. refl) same is
+
+  -- where it gets no more bytes, none come
+  first_places : (k : Bookkeeping) → size ≤ o.size → take (blocks_for size) (places_in s d number) ≡ resized_places k (places_in s d number)
+  first_places k within =
+      sym (append-nil (take (blocks_for size) (places_in s d number)))
+      ∙ ap (λ n. take (blocks_for size) (places_in s d number) ++ take n (reusable_blocks k)) {x = 0} {y = growth (length x.bytes) size} (omega (arith, within, read_size))
+
+  pub kept_places : (k : Bookkeeping) → size ≡ o.size → IsWithPlaces (places_in s d) (places_in t d) number (resized_places k (places_in s d number))
+  kept_places k same = record {
+    own = still_there
+        ∙ sym (take_all (blocks_for size) (places_in s d number) (omega (arith, same, ap length read_places, r.fits.count)))
+        ∙ first_places k (omega (arith, same));
+    others = λ l other. places_look tells false s t d r.looks r.known l;
+  }
+
+  pub cut_read : (new : ℕ → List ℕ) → IsWithPlaces (places_in t d) new number (take (blocks_for size) (places_in t d number)) → IsWithPlaces (places_in s d) new number (take (blocks_for size) (places_in s d number))
+  cut_read new = since_places new (take (blocks_for size) (places_in t d number)) (take (blocks_for size) (places_in s d number)) (ap (take (blocks_for size)) still_there)
+
+  pub cut_places : (k : Bookkeeping) (new : ℕ → List ℕ) → size < o.size → IsWithPlaces (places_in t d) new number (take (blocks_for size) (places_in t d number)) → IsWithPlaces (places_in s d) new number (resized_places k (places_in s d number))
+  cut_places k new less =
+      since_places new (take (blocks_for size) (places_in t d number)) (resized_places k (places_in s d number)) (ap (take (blocks_for size)) still_there ∙ first_places k (omega (arith, less)))
+
+  pub grown_places : (k : Bookkeeping) (new : ℕ → List ℕ) → IsWithPlaces (places_in t d) new number (resized_places k (places_in t d number)) → IsWithPlaces (places_in s d) new number (resized_places k (places_in s d number))
+  grown_places k new = since_places new (resized_places k (places_in t d number)) (resized_places k (places_in s d number)) (ap (resized_places k) still_there)
 
   pub same_resizes : (k : Bookkeeping) (new_places : List ℕ) → size ≡ o.size → Resizes k number x (places_in s d number) new_places size d d
   same_resizes k new_places same = record {
@@ -80,9 +113,9 @@ module _ (tells : Bool) (s t : State) (number size : ℕ) (o : OpenNode) (x : Fi
     changes = λ other. shrinks.changes;
     grows = λ more. absurd (omega (arith, more, less, read_size));
     grows_among = λ more. absurd (omega (arith, more, less, read_size));
-    shrinks = λ l. subst (λ ps. Shrinks x ps new_places size d e) places_look shrinks;
+    shrinks = λ l. subst (λ ps. Shrinks x ps new_places size d e) still_there shrinks;
     shrinks_among = λ l. subst (λ (h : Geometry). ChangesAmong (cut_blocks h number x (places_in s d number) size) d e) (sym (ap (λ (b : Bookkeeping). b.geom) books))
-        (subst (λ ps. ChangesAmong (cut_blocks t.books.geom number x ps size) d e) places_look among);
+        (subst (λ ps. ChangesAmong (cut_blocks t.books.geom number x ps size) d e) still_there among);
   }
 
   -- it grew
@@ -92,8 +125,8 @@ module _ (tells : Bool) (s t : State) (number size : ℕ) (o : OpenNode) (x : Fi
   grown_resizes k e new_places more grows among = record {
     same = λ e. absurd (omega (arith, more, e, read_size));
     changes = λ other. grows.changes;
-    grows = λ m. subst (λ ps. Grows k x ps new_places size d e) places_look grows;
-    grows_among = λ m. subst (λ ps. ChangesAmong (written_blocks k.geom number x ps (drop (length ps) new_places) (length x.bytes) size) d e) places_look among;
+    grows = λ m. subst (λ ps. Grows k x ps new_places size d e) still_there grows;
+    grows_among = λ m. subst (λ ps. ChangesAmong (written_blocks k.geom number x ps (drop (length ps) new_places) (length x.bytes) size) d e) still_there among;
     shrinks = λ less. absurd (omega (arith, more, less, read_size));
     shrinks_among = λ less. absurd (omega (arith, more, less, read_size));
   }

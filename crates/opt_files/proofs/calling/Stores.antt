@@ -21,9 +21,10 @@ use Rattle.opt_stands.specs.Files.{FileNode, joined, file_of, files_of, used_nod
 use Rattle.opt_files.specs.declared.changes.Changed.{Changed}
 use Rattle.opt_files.specs.declared.nodes.OpenNode.{OpenNode}
 use Rattle.opt_files.specs.Bytes.{blocks_for, met, overwrite, overwritten}
-use Rattle.opt_files.specs.Calls.{IsWithFile, with_bytes, places_or_none}
+use Rattle.opt_files.specs.Calls.{IsWithFile, IsWithPlaces, with_bytes, places_or_none, places_of}
 use Rattle.opt_files.specs.Content.{WritesContent}
 use Rattle.opt_files.specs.Drafts.{DraftState, drafted, marks_of}
+use Rattle.opt_files.specs.Frames.{used_of}
 use Rattle.opt_files.specs.Growing.{more_blocks}
 use Rattle.opt_files.specs.Nodes.{class_of, node_of_open, node_block, node_byte, IsOpen}
 use Rattle.opt_files.specs.Sound.{FitsBooks, IsSoundDraft}
@@ -33,6 +34,7 @@ use Rattle.opt_files.proofs.bytes.Places.{met_in}
 use Rattle.opt_files.proofs.frames.After.{IsStored, stored_after, stored_grown, stored_content}
 use Rattle.opt_files.proofs.frames.Cells.{block_from, block_below}
 use Rattle.opt_files.proofs.frames.Fits.{fits_with}
+use Rattle.opt_files.proofs.frames.Frames.{node_places}
 use Rattle.opt_files.proofs.frames.Places.{used_length}
 use Rattle.opt_files.proofs.frames.Puts.{put_fits}
 use Rattle.opt_files.proofs.frames.Spelled.{fits_as, used_some}
@@ -280,6 +282,16 @@ module _ (tells : Bool) (k : Bookkeeping) (m : Blocks) (number off : ℕ) (ys : 
             ap (λ (y : DraftState). places_or_none (used_node k.geom (drafted y m) number)) (keeps.same enough)
             ∙ ap places_or_none ((node_kept k.geom (marks_of d k.marked) (drafted d m) (drafted f m) number geom.whole_blocks from upto sound.blocks table_same).own ∙ used)
             ∙ sym (old_places enough) ∙ places
+
+    -- and those of the other nodes are as before
+    pub kept_places : IsWithPlaces (places_of k.geom (drafted d m)) (places_of k.geom (drafted e m)) number (o.places ++ writes.extra tells k m number off ys o p d f geom opened fits w)
+    kept_places = record { own = places_after; others = λ l other. by l other (cases_lt p.size wide) }
+      where
+        by : (l : ℕ) → l ≢ number → (p.size < wide) ⊎ (wide ≤ p.size) → places_of k.geom (drafted e m) l ≡ places_of k.geom (drafted d m) l
+        by l other (inl more) = (node_places k.geom (drafted d m) (drafted e m) number (used_of new) (stored more).node_is).others l other
+        by l other (inr enough) =
+            ap (λ (y : DraftState). places_of k.geom (drafted y m) l) (keeps.same enough)
+            ∙ (node_places k.geom (drafted d m) (drafted f m) number (used_node k.geom (drafted d m) number) (node_kept k.geom (marks_of d k.marked) (drafted d m) (drafted f m) number geom.whole_blocks from upto sound.blocks table_same)).others l other
 
     pub stretched_after : stretches (o.places ++ writes.extra tells k m number off ys o p d f geom opened fits w) ≤ 28
     stretched_after = subst (λ xs. stretches xs ≤ 28) places stretched

@@ -1,24 +1,26 @@
 -- A node that was read, and then written within its bytes; or cut.
-use Rattle.std.proofs.Common.{◌≡◌, ◌⊎◌, inl, inr, ℕ, zero, suc, ◌+◌, ◌%◌, ◌^◌, ◌<◌, ◌≤◌, ◌==◌, Bool, true, false, IsTrue, List, length, max, Some, is_some, refl, sym, ap, subst, ◌∙◌, arith}
+use Rattle.std.proofs.Common.{◌≡◌, ◌⊎◌, inl, inr, ℕ, zero, suc, ◌+◌, ◌%◌, ◌^◌, ◌<◌, ◌≤◌, ◌==◌, Bool, true, false, IsTrue, List, ◌++◌, length, take, max, Some, is_some, refl, sym, ap, subst, ◌∙◌, arith}
 use Rattle.std.proofs.lemmas.Bool.{or_cases, eqb-true, false≢true}
+use Rattle.std.proofs.lemmas.List.{append-nil}
 use Rattle.opt_base.specs.Runs.{run_places}
 use Rattle.opt_extent.specs.Runs.{AreTidy, runs_of, stretches}
 use Rattle.opt_geom.specs.Geometry.{IsGeometry}
 use Rattle.opt_layout.specs.declared.node.NodeKind.TheVariants.{Dir}
 use Rattle.opt_layout.specs.Node.{kind_fits}
-use Rattle.opt_blocks.specs.State.{State, IsReusable}
+use Rattle.opt_blocks.specs.State.{State, IsReusable, reusable_blocks}
 use Rattle.opt_stands.specs.Files.{FileNode, joined, used_node, files_of}
 use Rattle.opt_files.specs.declared.nodes.OpenNode.{OpenNode}
 use Rattle.opt_files.specs.Bytes.{met, overwrite, overwritten}
-use Rattle.opt_files.specs.Calls.{IsWithFile, Shrinks, ChangesAmong, files_in, places_in, places_or_none, with_bytes, cut_blocks}
+use Rattle.opt_files.specs.Calls.{IsWithFile, IsWithPlaces, Shrinks, ChangesAmong, files_in, places_in, places_or_none, with_bytes, cut_blocks}
 use Rattle.opt_files.specs.Content.{HasContent, HasNewBytes, WritesContent}
 use Rattle.opt_files.specs.Drafts.{DraftState, ChangesSome, change_of, drafted}
 use Rattle.opt_files.specs.Effects.{LooksOnly}
+use Rattle.opt_files.specs.Growing.{more_blocks}
 use Rattle.opt_files.specs.Nodes.{IsOpen, class_of, node_block, node_of_open}
 use Rattle.opt_files.specs.Sound.{IsDraftOf, IsSoundDraft}
 use Rattle.opt_files.specs.Within.{Overwrites}
 use Rattle.opt_files.specs.Writing.{KeepsSize, WritesOpen}
-use Rattle.opt_files.proofs.frames.Carry.{draft_looks}
+use Rattle.opt_files.proofs.frames.Carry.{draft_looks, looked_places}
 use Rattle.opt_files.proofs.calling.Cuts.{kind_of}
 use Rattle.opt_files.proofs.calling.Nodes.{looked_files}
 use Rattle.opt_files.proofs.calling.Resized.{IsRead, cut_resizes}
@@ -118,6 +120,12 @@ module _ (tells : Bool) (s : State) (number off : ℕ) (ys : List ℕ) (o : Open
 
   pub within_file : (failed : Bool) (t : State) → LooksOnly tells failed s t → IsTrue tells → (x : FileNode) → files_in s d number ≡ Some x → IsWithFile (files_in s d) (files_in t e) number (Some (with_bytes x (overwritten off ys x.bytes)))
   within_file failed t looks told x at = looked_files tells failed s t d e number (Some (with_bytes x (overwritten off ys x.bytes))) looks told ((sound told).1 x at)
+
+  pub within_places : (failed : Bool) (t : State) → LooksOnly tells failed s t → IsTrue tells → IsWithPlaces (places_in s d) (places_in t e) number (places_in s d number)
+  within_places failed t looks told =
+      looked_places tells failed s t d e number (o.places ++ take (more_blocks (max o.size (off + length ys)) o) (reusable_blocks s.books)) (places_in s d number) looks told
+      (ap (λ n. o.places ++ take n (reusable_blocks s.books)) {x = more_blocks (max o.size (off + length ys)) o} {y = 0} (omega (arith, is.opened.count, is.within)) ∙ append-nil o.places ∙ sym (is.places o.places) ∙ ap places_or_none (is.used told))
+      (stores.kept_places tells s.books s.map number off ys o o d e e table is.geom is.opened is.draft.fits w is.from is.upto keeps told (is.draft.sound told) is.free (sym (is.used told)) is.places is.count is.tidy refl is.few is.some slots)
 
   pub within_overwrites : IsTrue tells → Overwrites (met off (off + length ys) (places_in s d number)) d e
   within_overwrites told = record {

@@ -1,16 +1,18 @@
 -- A write into a file, from the states before and after its node was loaded and written.
-use Rattle.std.proofs.Common.{◌≡◌, ℕ, ◌+◌, ◌%◌, ◌<◌, ◌≤◌, Bool, false, IsTrue, List, [], length, drop, max, min, Some, sym, ap, subst, ◌∙◌, arith}
+use Rattle.std.proofs.Common.{◌≡◌, ℕ, ◌+◌, ◌%◌, ◌<◌, ◌≤◌, ◌==◌, if◌then◌else◌, Bool, true, false, IsTrue, List, [], ◌++◌, length, take, drop, max, min, Some, sym, ap, subst, ◌∙◌, arith}
+use Rattle.std.proofs.lemmas.List.{append-nil}
 use Rattle.opt_base.specs.Seal.{Blocks}
 use Rattle.opt_base.specs.Runs.{run_places}
 use Rattle.opt_geom.specs.Geometry.{Geometry}
 use Rattle.opt_extent.specs.Runs.{runs_of}
 use Rattle.opt_layout.specs.declared.node.NodeKind.TheVariants.{Dir}
 use Rattle.opt_blocks.specs.State.{Bookkeeping, State, reusable_blocks}
+use Rattle.opt_tree.specs.Step.{written}
 use Rattle.opt_stands.specs.Files.{FileNode, file_of, files_of, used_node}
 use Rattle.opt_files.specs.declared.nodes.OpenNode.{OpenNode}
 use Rattle.opt_files.specs.declared.refusal.FileRefusal.{FileRefusal}
 use Rattle.opt_files.specs.Bytes.{overwritten}
-use Rattle.opt_files.specs.Calls.{files_in, places_in, places_or_none, IsWithFile, with_bytes, growth, written_blocks, ChangesAmong, Grows, GrowthRefused}
+use Rattle.opt_files.specs.Calls.{files_in, places_in, places_of, places_or_none, IsWithFile, IsWithPlaces, with_bytes, growth, written_blocks, ChangesAmong, Grows, GrowthRefused}
 use Rattle.opt_files.specs.Drafts.{DraftState, drafted, marks_of}
 use Rattle.opt_files.specs.Effects.{LooksOnly}
 use Rattle.opt_files.specs.Growing.{more_blocks}
@@ -75,8 +77,20 @@ module _ (s t u : State) (number off : ℕ) (ys : List ℕ) (d e : DraftState) (
       (subst (λ (m : Blocks). (x : FileNode) → files_of s.books.geom (drafted d m) number ≡ Some x → Grows u.books x (places_or_none (used_node s.books.geom (drafted d m) number)) (places_or_none (used_node u.books.geom (drafted e t.map) number)) (off + length ys) d e) first
       (subst (λ (g : Geometry). (x : FileNode) → files_of g (drafted d t.map) number ≡ Some x → Grows u.books x (places_or_none (used_node g (drafted d t.map) number)) (places_or_none (used_node u.books.geom (drafted e t.map) number)) (off + length ys) d e) geom w.grows))
 
+  pub has_then : (x : FileNode) → files_in s d number ≡ Some x → IsWithPlaces (places_in s d) (places_in u e) number (places_in s d number ++ take (growth (length x.bytes) (length (overwritten off ys x.bytes))) (reusable_blocks u.books))
+  has_then =
+      subst (λ (n : Blocks). (x : FileNode) → files_in s d number ≡ Some x → IsWithPlaces (places_in s d) (places_of u.books.geom (drafted e n)) number (places_in s d number ++ take (growth (length x.bytes) (length (overwritten off ys x.bytes))) (reusable_blocks u.books))) last
+      (subst (λ (m : Blocks). (x : FileNode) → files_of s.books.geom (drafted d m) number ≡ Some x → IsWithPlaces (places_of s.books.geom (drafted d m)) (places_of u.books.geom (drafted e t.map)) number (places_of s.books.geom (drafted d m) number ++ take (growth (length x.bytes) (length (overwritten off ys x.bytes))) (reusable_blocks u.books))) first
+      (subst (λ (g : Geometry). (x : FileNode) → files_of g (drafted d t.map) number ≡ Some x → IsWithPlaces (places_of g (drafted d t.map)) (places_of u.books.geom (drafted e t.map)) number (places_of g (drafted d t.map) number ++ take (growth (length x.bytes) (length (overwritten off ys x.bytes))) (reusable_blocks u.books))) geom w.places))
+
   pub among_then : (x : FileNode) → files_in s d number ≡ Some x → ChangesAmong (written_blocks s.books.geom number x (places_in s d number) (drop (length (places_in s d number)) (places_in u e number)) (min off (length x.bytes)) (off + length ys)) d e
   among_then =
       subst (λ (n : Blocks). (x : FileNode) → files_in s d number ≡ Some x → ChangesAmong (written_blocks s.books.geom number x (places_in s d number) (drop (length (places_in s d number)) (places_or_none (used_node u.books.geom (drafted e n) number))) (min off (length x.bytes)) (off + length ys)) d e) last
       (subst (λ (m : Blocks). (x : FileNode) → files_of s.books.geom (drafted d m) number ≡ Some x → ChangesAmong (written_blocks s.books.geom number x (places_or_none (used_node s.books.geom (drafted d m) number)) (drop (length (places_or_none (used_node s.books.geom (drafted d m) number))) (places_or_none (used_node u.books.geom (drafted e t.map) number))) (min off (length x.bytes)) (off + length ys)) d e) first
       (subst (λ (g : Geometry). (x : FileNode) → files_of g (drafted d t.map) number ≡ Some x → ChangesAmong (written_blocks g number x (places_or_none (used_node g (drafted d t.map) number)) (drop (length (places_or_none (used_node g (drafted d t.map) number))) (places_or_none (used_node u.books.geom (drafted e t.map) number))) (min off (length x.bytes)) (off + length ys)) d e) geom w.among))
+
+-- where no bytes are written, its places are as before
+pub none_come : (ps more ys : List ℕ) (x : FileNode) (off : ℕ) → (length ys == 0) ≡ true → ps ≡ ps ++ take (growth (length x.bytes) (length (overwritten off ys x.bytes))) more
+none_come ps more ys x off none =
+    let same : growth (length x.bytes) (length (overwritten off ys x.bytes)) ≡ 0 = ap (λ t. growth (length x.bytes) (length (if t then x.bytes else written off ys x.bytes))) none ∙ omega arith in
+    sym (append-nil ps) ∙ ap (λ n. ps ++ take n more) (sym same)

@@ -14,6 +14,7 @@ use Rattle.opt_blocks.specs.Puts.{IsData}
 use Rattle.opt_stands.specs.Stands.{AreSound}
 use Rattle.opt_files.specs.Drafts.{DraftState, drafted, marks_of}
 use Rattle.opt_files.specs.Sound.{FitsBooks, IsSoundDraft}
+use Rattle.opt_files.specs.Calls.{places_or_none}
 use Rattle.opt_files.specs.Finish.{BooksFinished, MapFinished}
 use Rattle.opt_files.specs.Making.{after_draft, AreDrafted}
 use Rattle.opt_files.proofs.finishing.Nodes.{AreAlike, bytes_alike, used_alike, joined_alike, files_alike, has_block}
@@ -104,6 +105,7 @@ module _ (d : DraftState) (s new : State) (spare : Spare) (geom : IsGeometry s.b
   map_finished = record {
     blocks = λ b from below. made.lies b from;
     files = files_alike s.books.geom new.map (drafted d s.map) geom alike;
+    places = λ k. ap places_or_none (used_alike s.books.geom new.map (drafted d s.map) geom alike k);
     sound = sound_kept;
     live = omega (
       arith,

@@ -1,5 +1,5 @@
 -- A draft of a map of blocks stays one where the map was looked at, or its pipeline moved.
-use Rattle.std.proofs.Common.{◌≡◌, ℕ, ◌<◌, ◌≤◌, Bool, true, ◌||◌, IsTrue, slice_index_or, All, sym, ap, subst, ◌∙◌}
+use Rattle.std.proofs.Common.{◌≡◌, ℕ, ◌<◌, ◌≤◌, Bool, true, ◌||◌, IsTrue, List, slice_index_or, All, refl, sym, ap, subst, ◌∙◌}
 use Rattle.opt_base.specs.Seal.{Blocks}
 use Rattle.opt_geom.specs.Geometry.{Geometry, table_start, data_start}
 use Rattle.opt_blocks.specs.Running.{has, HasNoBare}
@@ -7,10 +7,11 @@ use Rattle.opt_blocks.specs.State.{Bookkeeping, State}
 use Rattle.opt_blocks.specs.Calls.{MovesPipeline}
 use Rattle.opt_blocks.specs.Puts.{IsData}
 use Rattle.opt_stands.specs.Files.{files_of}
-use Rattle.opt_files.specs.Calls.{files_in}
+use Rattle.opt_files.specs.Calls.{files_in, places_in, places_of, IsWithPlaces}
 use Rattle.opt_files.specs.Drafts.{DraftState, drafted, marks_of}
 use Rattle.opt_files.specs.Effects.{LooksOnly, LooksAndSettles}
 use Rattle.opt_files.specs.Sound.{AreSoundBy, FitsBooks, IsSoundDraft, IsDraftOf}
+use Rattle.opt_files.proofs.frames.Frames.{same_places}
 
 -- it fits a bookkeeping of the same geometry and transaction, where what may be taken still may
 fits_moved : (k l : Bookkeeping) (d : DraftState) → MovesPipeline k l → FitsBooks k d → FitsBooks l d
@@ -69,3 +70,17 @@ files_look tells failed s t d looks known k =
 pub files_settle : (tells read_failed failed : Bool) (s t : State) (d : DraftState) → LooksAndSettles tells read_failed failed s t → IsTrue tells → (k : ℕ) → files_in t d k ≡ files_in s d k
 files_settle tells read_failed failed s t d settles known k =
     ap (λ (g : Geometry). files_of g (drafted d t.map) k) settles.pipeline.geom ∙ ap (λ (m : Blocks). files_of s.books.geom (drafted d m) k) (settles.map known)
+
+-- And so are the places of its nodes.
+
+pub places_look : (tells failed : Bool) (s t : State) (d : DraftState) → LooksOnly tells failed s t → IsTrue tells → (k : ℕ) → places_in t d k ≡ places_in s d k
+places_look tells failed s t d looks known k = λ i. places_of (looks.books i).geom (drafted d (looks.map known i)) k
+
+pub places_settle : (tells read_failed failed : Bool) (s t : State) (d : DraftState) → LooksAndSettles tells read_failed failed s t → IsTrue tells → (k : ℕ) → places_in t d k ≡ places_in s d k
+places_settle tells read_failed failed s t d settles known k = λ i. places_of (settles.pipeline.geom i) (drafted d (settles.map known i)) k
+
+-- what became of the places is so where the blocks were looked at meanwhile
+pub looked_places : (tells failed : Bool) (s t : State) (d e : DraftState) (k : ℕ) (ps qs : List ℕ) → LooksOnly tells failed s t → IsTrue tells → ps ≡ qs
+    → IsWithPlaces (places_in s d) (places_of s.books.geom (drafted e s.map)) k ps → IsWithPlaces (places_in s d) (places_in t e) k qs
+looked_places tells failed s t d e k ps qs looks known same is =
+    same_places (places_in s d) (places_of s.books.geom (drafted e s.map)) (places_in s d) (places_in t e) k ps qs (λ l. refl) (places_look tells failed s t e looks known) same is

@@ -1,5 +1,5 @@
 -- What a draft is after a node was dropped: its blocks were freed, and then a free node was put into its place.
-use Rattle.std.proofs.Common.{◌≡◌, ◌≢◌, ℕ, ◌<◌, ◌≤◌, true, false, All, Some, None, ◌∙◌, arith}
+use Rattle.std.proofs.Common.{◌≡◌, ◌≢◌, ℕ, ◌<◌, ◌≤◌, true, false, [], All, Some, None, ◌∙◌, arith}
 use Rattle.std.proofs.lemmas.Bool.{cases_Bool}
 use Rattle.std.proofs.Common.{◌⊎◌, inl, inr}
 use Rattle.opt_base.specs.Seal.{Blocks}
@@ -13,12 +13,13 @@ use Rattle.opt_blocks.specs.Puts.{IsData}
 use Rattle.opt_stands.specs.Files.{used_node, files_of}
 use Rattle.opt_files.specs.declared.changes.Changed.{Changed}
 use Rattle.opt_files.specs.Bytes.{overwrite}
-use Rattle.opt_files.specs.Calls.{IsWithFile}
+use Rattle.opt_files.specs.Calls.{IsWithFile, IsWithPlaces, places_of}
 use Rattle.opt_files.specs.Drafts.{DraftState, drafted, marks_of, PutsBlock, FreesBlocks}
 use Rattle.opt_files.specs.Frames.{ReadsBack, HasNewNode}
 use Rattle.opt_files.specs.Nodes.{node_block, node_byte}
 use Rattle.opt_files.specs.Sound.{AreSoundBy, FitsBooks, IsSoundDraft}
 use Rattle.opt_files.proofs.frames.Cells.{block_from, block_below, node_stored}
+use Rattle.opt_files.proofs.frames.Frames.{node_places}
 use Rattle.opt_files.proofs.frames.Places.{used_within, used_data, used_marked}
 use Rattle.opt_files.proofs.frames.Puts.{put_own, put_others, put_marks, put_fits, put_rules}
 use Rattle.opt_files.proofs.frames.Rules.{rules_of, sound_from, frees_others, frees_marks, frees_fits, frees_rules}
@@ -77,3 +78,6 @@ module _ (k : Bookkeeping) (m : Blocks) (number : ℕ) (old : Node) (c : Changed
 
   pub dropped_file : IsWithFile (files_of k.geom (drafted d m)) (files_of k.geom (drafted e m)) number None
   dropped_file = all.1
+
+  pub dropped_places : IsWithPlaces (places_of k.geom (drafted d m)) (places_of k.geom (drafted e m)) number []
+  dropped_places = node_places k.geom (drafted d m) (drafted e m) number None gone

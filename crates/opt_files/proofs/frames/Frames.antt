@@ -1,5 +1,5 @@
 -- One node changed, with its blocks, and nothing else: the blocks stay sound, and the files change at that number alone.
-use Rattle.std.proofs.Common.{◌≡◌, ◌≢◌, ◌⊎◌, inl, inr, ℕ, ◌<◌, ◌≤◌, Bool, true, false, not, ◌&&◌, ◌||◌, IsTrue, length, take, drop, replicate, slice_get, Option, Some, None, nat_le, option_map, refl, sym, ap, subst, ◌∙◌}
+use Rattle.std.proofs.Common.{◌≡◌, ◌≢◌, ◌⊎◌, inl, inr, ℕ, ◌<◌, ◌≤◌, Bool, true, false, not, ◌&&◌, ◌||◌, IsTrue, List, length, take, drop, replicate, slice_get, Option, Some, None, nat_le, option_map, refl, sym, ap, subst, ◌∙◌}
 use Rattle.std.proofs.lemmas.Bool.{cases_Bool, cases_eq, false≢true, or_left}
 use Rattle.std.proofs.lemmas.Option.{none-some}
 use Rattle.opt_base.specs.Seal.{Blocks}
@@ -13,8 +13,8 @@ use Rattle.opt_blocks.specs.Running.{has}
 use Rattle.opt_blocks.specs.Puts.{IsData}
 use Rattle.opt_stands.specs.Files.{joined, past_content, used_node, file_of, files_of}
 use Rattle.opt_stands.specs.Stands.{HasBlock}
-use Rattle.opt_files.specs.Calls.{places_or_none, IsWithFile}
-use Rattle.opt_files.specs.Frames.{ChangesNode}
+use Rattle.opt_files.specs.Calls.{places_or_none, places_of, IsWithFile, IsWithPlaces}
+use Rattle.opt_files.specs.Frames.{ChangesNode, HasNewNode}
 use Rattle.opt_files.specs.Sound.{AreSoundBy}
 use Rattle.opt_files.proofs.frames.Cells.{when_true, is_number, same_node}
 use Rattle.opt_files.proofs.frames.Places.{place_of, has_place, one_place, joined_same, used_data, has_block, used_marked}
@@ -188,3 +188,16 @@ module _ (g : Geometry) (marks new_marks : ℕ → Bool) (m n : Blocks) (k : ℕ
         ap (option_map (file_of n)) (other_node l other)
         ∙ map_same (used_node g m l) (λ node e. file_with node (other_joined l node other e));
   }
+
+-- The places.
+
+-- where the node table has a new node, that node has its places, and each other node those that it had
+pub node_places : (g : Geometry) (m n : Blocks) (k : ℕ) (new : Option Node) → HasNewNode g m n k new → IsWithPlaces (places_of g m) (places_of g n) k (places_or_none new)
+node_places g m n k new now = record {
+  own = ap places_or_none now.own;
+  others = λ l other. ap places_or_none (same_node g m n l (λ from upto. now.others l from upto other));
+}
+
+-- the same of places that are as these
+pub same_places : (old new was now : ℕ → List ℕ) (k : ℕ) (ps qs : List ℕ) → ((l : ℕ) → was l ≡ old l) → ((l : ℕ) → now l ≡ new l) → ps ≡ qs → IsWithPlaces old new k ps → IsWithPlaces was now k qs
+same_places old new was now k ps qs first last same is = record { own = last k ∙ is.own ∙ same; others = λ l other. last l ∙ is.others l other ∙ sym (first l) }

@@ -1,5 +1,6 @@
 -- What a draft is after a node was put into it and nothing else was done: its links changed, or it is a new node.
-use Rattle.std.proofs.Common.{◌≡◌, ◌≢◌, ℕ, ◌<◌, ◌≤◌, [], Some, None, option_map, subst, arith}
+use Rattle.std.proofs.Common.{◌≡◌, ◌≢◌, ℕ, ◌<◌, ◌≤◌, List, [], Option, Some, None, option_map, sym, ap, subst, ◌∙◌, arith}
+use Rattle.opt_base.specs.Runs.{run_places}
 use Rattle.opt_base.specs.Seal.{Blocks}
 use Rattle.opt_geom.specs.Geometry.{IsGeometry, table_start, data_start}
 use Rattle.opt_layout.specs.declared.node.Node.{Node}
@@ -9,12 +10,13 @@ use Rattle.opt_blocks.specs.State.{Bookkeeping}
 use Rattle.opt_stands.specs.Files.{FileNode, used_node, file_of, files_of}
 use Rattle.opt_files.specs.declared.changes.Changed.{Changed}
 use Rattle.opt_files.specs.Bytes.{overwrite}
-use Rattle.opt_files.specs.Calls.{IsWithFile, with_links}
+use Rattle.opt_files.specs.Calls.{IsWithFile, IsWithPlaces, with_links, places_of, places_or_none}
 use Rattle.opt_files.specs.Drafts.{DraftState, drafted, marks_of, PutsBlock}
 use Rattle.opt_files.specs.Frames.{used_of, ReadsBack, HasNewNode}
 use Rattle.opt_files.specs.Nodes.{node_block, node_byte}
 use Rattle.opt_files.specs.Sound.{AreSoundBy, FitsBooks, IsSoundDraft}
 use Rattle.opt_files.proofs.frames.Cells.{block_from, block_below}
+use Rattle.opt_files.proofs.frames.Frames.{node_places}
 use Rattle.opt_files.proofs.frames.Places.{used_kind_is}
 use Rattle.opt_files.proofs.frames.Puts.{put_others, put_marks, put_fits, put_sound, node_put}
 use Rattle.opt_files.proofs.frames.Spelled.{used_some}
@@ -53,10 +55,17 @@ module _ (k : Bookkeeping) (m : Blocks) (number : ℕ) (node : Node) (c : Change
   pub stored_sound : AreSoundBy k.geom (marks_of e k.marked) (drafted e m) → IsSoundDraft k m e
   stored_sound blocks = put_sound k d e (node_block k.geom number) c is.geom low high is.fits is.puts m is.sound blocks
 
+-- the node has these places then
+places_now : (k : Bookkeeping) (m : Blocks) (number : ℕ) (d e : DraftState) (new : Option Node) (ps : List ℕ) → HasNewNode k.geom (drafted d m) (drafted e m) number new → places_or_none new ≡ ps
+    → IsWithPlaces (places_of k.geom (drafted d m)) (places_of k.geom (drafted e m)) number ps
+places_now k m number d e new ps now same =
+    let w = node_places k.geom (drafted d m) (drafted e m) number new now in
+    record { own = w.own ∙ same; others = w.others }
+
 -- the links of a node in use were set
 pub links_stored : (k : Bookkeeping) (m : Blocks) (number links : ℕ) (node : Node) (x : FileNode) (c : Changed) (d e : DraftState) → PutsNode k m number (record node { links = links }) c d e
     → used_node k.geom (drafted d m) number ≡ Some node → x ≡ file_of (drafted d m) node
-    → IsSoundDraft k m e × IsWithFile (files_of k.geom (drafted d m)) (files_of k.geom (drafted e m)) number (Some (with_links x links))
+    → IsSoundDraft k m e × IsWithFile (files_of k.geom (drafted d m)) (files_of k.geom (drafted e m)) number (Some (with_links x links)) × IsWithPlaces (places_of k.geom (drafted d m)) (places_of k.geom (drafted e m)) number (places_of k.geom (drafted d m) number)
 links_stored k m number links node x c d e is used file =
     let there = stored_node k m number (record node { links = links }) c d e is in
     let some : used_of (record node { links = links }) ≡ Some (record node { links = links }) = used_some (record node { links = links }) (used_kind_is k.geom (drafted d m) number node used) in
@@ -67,12 +76,14 @@ links_stored k m number links node x c d e is used file =
       stored_sound k m number (record node { links = links }) c d e is all.0,
       file_is (files_of k.geom (drafted d m)) (files_of k.geom (drafted e m)) number (option_map (file_of (drafted e m)) (Some (record node { links = links }))) (Some (with_links x links))
           (links_file k.geom (drafted d m) (drafted e m) number node links x used file same) all.1,
+      places_now k m number d e (Some (record node { links = links })) (places_of k.geom (drafted d m) number) now (sym (ap places_or_none used)),
     )
 
 -- a node that wasn't in use has no blocks, and is in use
 pub new_stored : (k : Bookkeeping) (m : Blocks) (number : ℕ) (node : Node) (c : Changed) (d e : DraftState) → PutsNode k m number node c d e
     → node.kind ≢ Free → node.runs ≡ [] → used_node k.geom (drafted d m) number ≡ None
     → IsSoundDraft k m e × IsWithFile (files_of k.geom (drafted d m)) (files_of k.geom (drafted e m)) number (Some (record { kind = node.kind; links = node.links; bytes = [] }))
+    × IsWithPlaces (places_of k.geom (drafted d m)) (places_of k.geom (drafted e m)) number []
 new_stored k m number node c d e is used empty out =
     let there = stored_node k m number node c d e is in
     let now : HasNewNode k.geom (drafted d m) (drafted e m) number (Some node) = subst (HasNewNode k.geom (drafted d m) (drafted e m) number) (used_some node used) there in
@@ -82,4 +93,5 @@ new_stored k m number node c d e is used empty out =
       stored_sound k m number node c d e is all.0,
       file_is (files_of k.geom (drafted d m)) (files_of k.geom (drafted e m)) number (option_map (file_of (drafted e m)) (Some node)) (Some (record { kind = node.kind; links = node.links; bytes = [] }))
           (made_file (drafted e m) node empty) all.1,
+      places_now k m number d e (Some node) [] now (ap run_places empty),
     )

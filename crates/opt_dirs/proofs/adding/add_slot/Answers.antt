@@ -12,7 +12,7 @@ use Rattle.opt_dirs.specs.Changing.{IsWithSlots}
 use Rattle.opt_dirs.specs.Directories.{inodes_in}
 use Rattle.opt_dirs.proofs.reading.Looks.{looks_more, same_files, same_inodes, same_places, draft_stays}
 use Rattle.opt_dirs.proofs.writing.Nodes.{DirNode, dir_node}
-use Rattle.opt_dirs.proofs.writing.Adding.{still_whole, sets_behind, same_growth, still_used, alters_behind, room_behind, runs_behind, refused_behind, ok_maps, ok_both}
+use Rattle.opt_dirs.proofs.writing.Adding.{still_whole, sets_behind, same_growth, still_used, placed_behind, alters_behind, room_behind, runs_behind, refused_behind, ok_maps, ok_both}
 use Rattle.opt_dirs.proofs.adding.add_slot.Goals as goal
 use Rattle.opt_dirs.proofs.adding.add_slot.Goals.{In-Some}
 
@@ -23,6 +23,9 @@ returns-in_default-clause-slots g c = λ told slots is. absurd (none-some _ (sym
 pub returns-in_default-clause-used : goal.returns-in_default-clause-used
 returns-in_default-clause-used g c = λ told l used.
     subst (λ (f : Files). IsUsed f l) (sym (same_files g.S.Blocks.tells false (g.S.Blocks.state c.args.blocks.now) (g.S.Blocks.state c.count_slots.new.blocks) c.args.draft.now c.in_ok-count.ensures.looks told)) used
+
+pub returns-in_default-clause-places : goal.returns-in_default-clause-places
+returns-in_default-clause-places g c = λ told slots is. absurd (none-some _ (sym c.in_default.is ∙ c.in_ok-count.ensures.count told (ADir slots) is))
 
 pub returns-in_default-clause-room : goal.returns-in_default-clause-room
 returns-in_default-clause-room g c = λ told slots is. absurd (none-some _ (sym c.in_default.is ∙ c.in_ok-count.ensures.count told (ADir slots) is))
@@ -75,6 +78,19 @@ returns-clause-used g c = λ told.
     let new = files_in (g.S.Blocks.state c.write_at.new.blocks) c.write_at.new.self in
     ok_maps c.write_at.result (λ write l used.
     still_used (files_in (mid g b) c.args.draft.now) new c.args.dir (with_bytes there.0 _) (write there.0 (ap (λ (f : Files). f c.args.dir) same ∙ there.1)) l (subst (λ (f : Files). IsUsed f l) (sym same) used)) (c.write_at.ensures.file told)
+
+pub returns-clause-places : goal.returns-clause-places
+returns-clause-places g c = λ told.
+    let b = (goal.at.returns-clause-places g c).In-Some in
+    let size : length c.as_slice.result.now ≡ 64 = search rules in
+    let new = g.S.Blocks.state c.write_at.new.blocks in
+    ok_both c.write_at.result (λ grows places slots is.
+    let r = node g b told slots is in
+    placed_behind (places_in (mid g b) c.args.draft.now) (places_in (s g b) c.args.draft.now) (places_in new c.write_at.new.self) c.args.dir _ _ (reusable_blocks new.books) _
+    (λ l. same_places g.S.Blocks.tells false (s g b) (mid g b) c.args.draft.now c.in_ok-count.ensures.looks l told)
+    (same_growth (length r.file.bytes) (length slots) (64 * c.from.result) (length c.as_slice.result.now) r.long (omega (arith, c.from.ensures, many g b told slots is)) size)
+    (grows r.file r.is (omega (arith, size))).behind (places r.file r.is))
+    (c.write_at.ensures.grows told) (c.write_at.ensures.places told)
 
 pub returns-clause-room : goal.returns-clause-room
 returns-clause-room g c = λ told.

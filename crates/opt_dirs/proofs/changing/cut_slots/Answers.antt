@@ -1,8 +1,9 @@
-use Rattle.std.proofs.Common.{◌≡◌, ◌*◌, IsTrue, List, Some, arith}
+use Rattle.std.proofs.Common.{◌≡◌, ◌*◌, IsTrue, List, Some, take, subst, arith}
 use Rattle.opt_layout.specs.declared.slot.Slot.{Slot}
 use Rattle.opt_stands.specs.Inodes.{ADir}
 use Rattle.opt_blocks.specs.State.{State}
-use Rattle.opt_files.specs.Calls.{files_in, places_in}
+use Rattle.opt_files.specs.Bytes.{blocks_for}
+use Rattle.opt_files.specs.Calls.{files_in, places_in, IsWithPlaces}
 use Rattle.opt_dirs.specs.Directories.{inodes_in}
 use Rattle.opt_dirs.proofs.reading.Kinds.{node_of_inode}
 use Rattle.opt_dirs.proofs.writing.Nodes.{DirNode, dir_node, place_of_slots}
@@ -28,6 +29,13 @@ pub returns-clause-slots : goal.returns-clause-slots
 returns-clause-slots g c = λ told slots is.
     sets_cut _ _ c.args.dir c.args.count (64 * c.from.result) slots (node g c told slots is) (place_of_slots _ c.args.count slots (c.requires.there told) is) (omega (arith, c.from.ensures))
     c.slots_follow_the_bytes.ensures.cut (c.in_ok-cut_to.ensures.file told)
+
+pub returns-clause-places : goal.returns-clause-places
+returns-clause-places g c = λ told.
+    let new = g.S.Blocks.state c.cut_to.new.blocks in
+    let size : 64 * c.from.result ≡ 64 * c.args.count = omega (arith, c.from.ensures) in
+    subst (λ n. IsWithPlaces (places_in (s g c) c.args.draft.now) (places_in new c.cut_to.new.self) c.args.dir (take (blocks_for n) (places_in (s g c) c.args.draft.now c.args.dir))) size
+    (c.in_ok-cut_to.ensures.places told)
 
 pub returns-clause-alters : goal.returns-clause-alters
 returns-clause-alters g c = λ told slots is.

@@ -5,14 +5,15 @@ use Rattle.opt_tree.specs.Figures.{directory_blocks, release}
 use Rattle.opt_stands.specs.Files.{Files}
 use Rattle.opt_stands.specs.Inodes.{ADir}
 use Rattle.opt_blocks.specs.State.{State}
-use Rattle.opt_files.specs.Calls.{files_in}
+use Rattle.opt_files.specs.Calls.{files_in, places_in}
+use Rattle.opt_files.specs.Content.{fails_reading}
 use Rattle.opt_files.specs.Effects.{LooksOnly}
 use Rattle.opt_dirs.specs.Changing.{Alters, IsWithSlots}
 use Rattle.opt_dirs.specs.Directories.{inodes_in}
-use Rattle.opt_dirs.proofs.reading.Looks.{looks_more, same_files, same_inodes}
+use Rattle.opt_dirs.proofs.reading.Looks.{looks_more, same_files, same_inodes, same_places}
 use Rattle.opt_dirs.proofs.writing.Alterings.{alters_both}
 use Rattle.opt_dirs.proofs.writing.Nodes.{place_of_slots}
-use Rattle.opt_dirs.proofs.writing.Taking.{out_is, slots_twice}
+use Rattle.opt_dirs.proofs.writing.Taking.{out_is, slots_twice, places_twice, same_error}
 use Rattle.opt_dirs.proofs.changing.take_slot.Goals as goal
 use Rattle.opt_dirs.proofs.changing.take_slot.Goals.{In-Some, In_ok-set_slot}
 
@@ -56,6 +57,9 @@ module _ (g : _) (c : In_ok-set_slot g) where
   looks : LooksOnly g.S.Blocks.tells false start read
   looks = looks_more g.S.Blocks.tells false start mid read c.in_ok-last.ensures.looks c.in_ok-moved.ensures.looks
 
+  put_looks : LooksOnly g.S.Blocks.tells false start put
+  put_looks = looks_more g.S.Blocks.tells false start read put looks c.in_ok-set_slot.ensures.looks
+
   low : IsTrue g.S.Blocks.tells → (slots : List Slot) → inodes_in start c.args.draft.now c.args.dir ≡ Some (ADir slots) → c.args.place < length slots
   low told slots is = place_of_slots _ c.args.place slots (c.requires.there told) is
 
@@ -87,6 +91,13 @@ returns-clause-slots g c = λ told slots is.
     subst (λ xs. IsWithSlots (files_in (start g b) c.args.draft.now) new c.args.dir xs) (out_is slots c.args.place c.in-Some.last c.in-Some-2.moved (its_last g b told slots is) (moved_is g b told slots is))
     (slots_twice (files_in (start g b) c.args.draft.now) (files_in (put g b) c.set_slot.new.draft) new c.args.dir (set slots c.args.place c.in-Some-2.moved) _ mine (c.in_ok-cut_slots.ensures.slots told (set slots c.args.place c.in-Some-2.moved) mine.inodes.here))
 
+pub returns-clause-places : goal.returns-clause-places
+returns-clause-places g c = λ told slots is.
+    let b = (goal.at.returns-clause-places g c).In_ok-set_slot in
+    places_twice (places_in (read g b) c.args.draft.now) (places_in (start g b) c.args.draft.now) (places_in (put g b) c.set_slot.new.draft) (places_in (g.S.Blocks.state c.cut_slots.new.blocks) c.cut_slots.new.draft) c.args.dir _ _
+    (λ l. same_places g.S.Blocks.tells false (start g b) (read g b) c.args.draft.now (looks g b) l told) (ap directory_blocks (its_last g b told slots is))
+    (c.in_ok-set_slot.ensures.places told) (c.in_ok-cut_slots.ensures.places told)
+
 pub returns-clause-alters : goal.returns-clause-alters
 returns-clause-alters g c = λ told slots is.
     let b = (goal.at.returns-clause-alters g c).In_ok-set_slot in
@@ -96,3 +107,15 @@ returns-clause-alters g c = λ told slots is.
     let fewer : 0 + (directory_blocks (length (set slots c.args.place c.in-Some-2.moved)) - directory_blocks c.in-Some.last) ≡ release (length slots) = omega (arith, long, last) in
     subst (λ n. Alters 3 [] n c.args.draft.now c.cut_slots.new.draft) fewer
     (alters_both 1 2 0 _ [] [] c.args.draft.now c.set_slot.new.draft c.cut_slots.new.draft (c.in_ok-set_slot.ensures.alters told) (c.in_ok-cut_slots.ensures.alters told (set slots c.args.place c.in-Some-2.moved) mine.inodes.here))
+
+pub returns-clause-looks : goal.returns-clause-looks
+returns-clause-looks g c =
+    let b = (goal.at.returns-clause-looks g c).In_ok-set_slot in
+    looks_more g.S.Blocks.tells false (start g b) (put g b) (g.S.Blocks.state c.cut_slots.new.blocks) (put_looks g b) c.in_ok-cut_slots.ensures.looks
+
+pub returns-in_err-cut_slots-clause-looks : goal.returns-in_err-cut_slots-clause-looks
+returns-in_err-cut_slots-clause-looks g c =
+    let b = (goal.at.returns-in_err-cut_slots-clause-looks g c).In_ok-set_slot in
+    let new = g.S.Blocks.state c.cut_slots.new.blocks in
+    same_error c.from_residual-in_err-cut_slots.result c.in_err-cut_slots.field-0.0 (λ r. LooksOnly g.S.Blocks.tells (fails_reading r) (start g b) new) c.from_residual-in_err-cut_slots.ensures.1
+    (looks_more g.S.Blocks.tells _ (start g b) (put g b) new (put_looks g b) c.in_err-cut_slots.ensures.looks)

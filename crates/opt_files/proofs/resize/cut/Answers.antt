@@ -1,5 +1,5 @@
 use Rattle.opt_blocks.specs.State.{State}
-use Rattle.opt_files.proofs.calling.Cuts.{CutsNode, cut_steps, cut_draft, cut_file, cut_shrinks, cut_changes, file_looks}
+use Rattle.opt_files.proofs.calling.Cuts.{CutsNode, cut_steps, cut_draft, cut_file, cut_places, cut_shrinks, cut_changes, file_looks}
 use Rattle.opt_files.proofs.resize.cut.Goals as goal
 
 module _ (g : _) (c : goal.In_ok-store g) where
@@ -23,6 +23,10 @@ pub returns-clause-file : goal.returns-clause-file
 returns-clause-file g c = λ known x at.
     file_looks g.S.Blocks.tells (s g c) (t g c) c.store.new.draft _ c.args.number _ c.in_ok-clear_rest.ensures.looks known
     (cut_file g.S.Blocks.tells (s g c) c.args.number c.args.size c.args.node.now c.to_node.result c.args.table.now c.args.draft.now c.shrink.new.draft c.clear_rest.new.draft c.store.new.draft (steps g c) known x at)
+
+pub returns-clause-places : goal.returns-clause-places
+returns-clause-places g c = λ known.
+    cut_places g.S.Blocks.tells (s g c) c.args.number c.args.size c.args.node.now c.to_node.result c.args.table.now c.args.draft.now c.shrink.new.draft c.clear_rest.new.draft c.store.new.draft (steps g c) known (t g c) c.in_ok-clear_rest.ensures.looks
 
 pub returns-clause-shrinks : goal.returns-clause-shrinks
 returns-clause-shrinks g c = λ known x at.

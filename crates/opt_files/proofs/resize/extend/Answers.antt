@@ -5,7 +5,7 @@ use Rattle.opt_files.specs.Content.{fails_reading, fails_settling}
 use Rattle.opt_files.specs.Effects.{LooksOnly, LooksAndSettles}
 use Rattle.opt_files.specs.Growing.{more_blocks}
 use Rattle.opt_files.proofs.bytes.Looks.{looks_more}
-use Rattle.opt_files.proofs.calling.Extends.{ExtendsNode, extend_steps, extended_draft, extended_file, extended_grows, extended_changes, unread_settles}
+use Rattle.opt_files.proofs.calling.Extends.{ExtendsNode, extend_steps, extended_draft, extended_file, extended_places, extended_grows, extended_changes, unread_settles}
 use Rattle.opt_files.proofs.calling.WriteLooks.{looks_then}
 use Rattle.opt_files.proofs.drafts.Refused.{same_error}
 use Rattle.opt_files.proofs.resize.extend.Goals as goal
@@ -34,6 +34,9 @@ returns-clause-draft g c = extended_draft g.S.Blocks.tells (s g c) (t g c) c.arg
 
 pub returns-clause-file : goal.returns-clause-file
 returns-clause-file g c = λ known x at. extended_file g.S.Blocks.tells (s g c) (t g c) c.args.number c.args.size c.args.node.now c.make_room.new.node c.to_node.result c.args.table.now c.args.draft.now c.fill_gap.new.draft c.make_room.new.draft c.store.new.draft (steps g c) (settles g c) known x at
+
+pub returns-clause-places : goal.returns-clause-places
+returns-clause-places g c = λ known x at. extended_places g.S.Blocks.tells (s g c) (t g c) c.args.number c.args.size c.args.node.now c.make_room.new.node c.to_node.result c.args.table.now c.args.draft.now c.fill_gap.new.draft c.make_room.new.draft c.store.new.draft (steps g c) (settles g c) known x at
 
 pub returns-clause-grows : goal.returns-clause-grows
 returns-clause-grows g c = λ known x at. extended_grows g.S.Blocks.tells (s g c) (t g c) c.args.number c.args.size c.args.node.now c.make_room.new.node c.to_node.result c.args.table.now c.args.draft.now c.fill_gap.new.draft c.make_room.new.draft c.store.new.draft (steps g c) (settles g c) known x at

@@ -1,12 +1,12 @@
-use Rattle.std.proofs.Common.{rules, IsTrue, None, sym, subst, ap, ◌∙◌, option_map}
+use Rattle.std.proofs.Common.{rules, IsTrue, [], None, refl, sym, subst, ap, ◌∙◌, option_map}
 use Rattle.opt_geom.specs.Geometry.{IsGeometry}
 use Rattle.opt_blocks.specs.State.{Bookkeeping, State}
 use Rattle.opt_stands.specs.Files.{files_of}
-use Rattle.opt_files.specs.Calls.{IsWithFile, SetsNode, files_in, places_in}
+use Rattle.opt_files.specs.Calls.{IsWithFile, IsWithPlaces, SetsNode, files_in, places_in, places_of}
 use Rattle.opt_files.specs.Drafts.{ChangesSome, drafted}
 use Rattle.opt_files.specs.Nodes.{node_of_open, IsOpen}
 use Rattle.opt_files.specs.Sound.{FitsBooks, IsSoundDraft}
-use Rattle.opt_files.proofs.frames.Carry.{draft_looks}
+use Rattle.opt_files.proofs.frames.Carry.{draft_looks, looked_places}
 use Rattle.opt_files.proofs.frames.Puts.{put_changes}
 use Rattle.opt_files.proofs.calling.Nodes.{has_table, looked_files}
 use Rattle.opt_files.proofs.calling.Drops.{drops, drop_fits}
@@ -31,6 +31,7 @@ module _ (g : _) (c : goal.In_ok-store g) where
 
   -- what was made of the draft, where the blocks are known
   made : IsTrue g.S.Blocks.tells → IsSoundDraft k s.map c.store.new.draft × IsWithFile (files_in s c.args.self.now) (files_of k.geom (drafted c.store.new.draft s.map)) c.args.number None × SetsNode k.geom c.args.number (places_in s c.args.self.now c.args.number) c.args.self.now c.store.new.draft
+      × IsWithPlaces (places_in s c.args.self.now) (places_of k.geom (drafted c.store.new.draft s.map)) c.args.number []
   made tells =
       let sound = c.requires.draft.sound tells in
       let there = has_table s c.args.self.now c.args.number (subst IsGeometry c.geom-geom.ensures c.lawful.ensures.limits) c.requires.above_zero c.requires.in_table sound in
@@ -42,6 +43,10 @@ module _ (g : _) (c : goal.In_ok-store g) where
 pub returns-clause-file : goal.returns-clause-file
 returns-clause-file g c = λ tells.
     looked_files g.S.Blocks.tells _ (s g c) (g.S.Blocks.state c.load.new.blocks) c.args.self.now c.store.new.draft c.args.number _ c.load.ensures.looks tells (made g c tells).1
+
+pub returns-clause-places : goal.returns-clause-places
+returns-clause-places g c = λ tells.
+    looked_places g.S.Blocks.tells _ (s g c) (g.S.Blocks.state c.load.new.blocks) c.args.self.now c.store.new.draft c.args.number _ _ c.load.ensures.looks tells refl (made g c tells).3
 
 pub returns-clause-draft : goal.returns-clause-draft
 returns-clause-draft g c =

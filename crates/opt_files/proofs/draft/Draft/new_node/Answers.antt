@@ -4,7 +4,7 @@ use Rattle.opt_files.specs.Calls.{AreUsed, IsFirstUnused}
 use Rattle.opt_files.specs.Drafts.{ChangesSome, drafted}
 use Rattle.opt_files.specs.Nodes.{node_block}
 use Rattle.opt_files.specs.Sound.{FitsBooks}
-use Rattle.opt_files.proofs.frames.Carry.{draft_looks}
+use Rattle.opt_files.proofs.frames.Carry.{draft_looks, looked_places}
 use Rattle.opt_files.proofs.frames.Puts.{put_changes}
 use Rattle.opt_files.proofs.calling.Nodes.{put_still_fits, looked_files}
 use Rattle.opt_files.proofs.calling.News.{news, all_used}
@@ -41,6 +41,15 @@ returns-clause-node g c = λ tells.
     c.geom-geom.ensures c.lawful.ensures.limits (range g c).0 (range g c).1 c.requires.draft.fits (c.requires.draft.sound tells) c.requires.kind (c.requires.below tells) found.0 found.1
     (ap (λ rs. record { kind = c.args.kind; links = 1; size = 0; runs = rs }) c.new.ensures) c.in_ok-store.ensures.ok c.in_ok-store.ensures.back in
     (made.2, looked_files g.S.Blocks.tells _ s (g.S.Blocks.state c.least_unused.new.blocks) c.args.self.now c.store.new.draft c.in-Some.number _ c.least_unused.ensures.looks tells made.1)
+
+pub returns-clause-places : goal.returns-clause-places
+returns-clause-places g c = λ tells.
+    let s = g.S.Blocks.state c.args.blocks.now in
+    let found : first g c = search rules in
+    let made = news s.books s.map c.geom-geom.result c.args.from c.in-Some.number c.args.kind (record { kind = c.args.kind; links = 1; size = 0; runs = c.new.result }) c.least_unused.new.table c.args.self.now c.store.new.draft
+    c.geom-geom.ensures c.lawful.ensures.limits (range g c).0 (range g c).1 c.requires.draft.fits (c.requires.draft.sound tells) c.requires.kind (c.requires.below tells) found.0 found.1
+    (ap (λ rs. record { kind = c.args.kind; links = 1; size = 0; runs = rs }) c.new.ensures) c.in_ok-store.ensures.ok c.in_ok-store.ensures.back in
+    looked_places g.S.Blocks.tells _ s (g.S.Blocks.state c.least_unused.new.blocks) c.args.self.now c.store.new.draft c.in-Some.number _ _ c.least_unused.ensures.looks tells refl made.3
 
 pub returns-clause-draft : goal.returns-clause-draft
 returns-clause-draft g c =

@@ -13,7 +13,7 @@ use Rattle.opt_files.specs.Nodes.{node_of_open, IsOpen}
 use Rattle.opt_files.proofs.bytes.Looks.{looks_more}
 use Rattle.opt_files.proofs.calling.Nodes.{has_table}
 use Rattle.opt_files.proofs.calling.WriteAt.{is_long}
-use Rattle.opt_files.proofs.calling.Within.{WritesWithin, some_bytes, within_draft, within_file, within_changes}
+use Rattle.opt_files.proofs.calling.Within.{WritesWithin, some_bytes, within_draft, within_file, within_places, within_changes}
 use Rattle.opt_files.proofs.draft.Draft.overwrite.Goals as goal
 use Rattle.opt_files.proofs.draft.Draft.overwrite.Goals.{In-Some}
 
@@ -82,6 +82,9 @@ module _ (g : _) (c : goal.In_ok-write_content g) where
 
 pub returns-clause-file : goal.returns-clause-file
 returns-clause-file g c = within_file g.S.Blocks.tells (old g c) c.args.number c.args.offset c.args.bytes.now c.in-Some.node c.args.self.now c.write_content.new.draft (written g c) false (new g c) (looks g c)
+
+pub returns-clause-places : goal.returns-clause-places
+returns-clause-places g c = within_places g.S.Blocks.tells (old g c) c.args.number c.args.offset c.args.bytes.now c.in-Some.node c.args.self.now c.write_content.new.draft (written g c) false (new g c) (looks g c)
 
 pub returns-clause-draft : goal.returns-clause-draft
 returns-clause-draft g c = within_draft g.S.Blocks.tells (old g c) c.args.number c.args.offset c.args.bytes.now c.in-Some.node c.args.self.now c.write_content.new.draft (written g c) false (new g c) (looks g c)

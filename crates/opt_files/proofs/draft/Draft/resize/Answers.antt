@@ -7,7 +7,7 @@ use Rattle.opt_files.specs.Calls.{files_in}
 use Rattle.opt_files.specs.Nodes.{IsOpen, node_of_open}
 use Rattle.opt_files.proofs.bytes.Looks.{looks_more}
 use Rattle.opt_files.proofs.calling.Nodes.{has_table}
-use Rattle.opt_files.proofs.calling.Resized.{IsRead, read_at, read_growth, since_read, same_file, same_resizes, cut_resizes, grown_resizes, grown_refused, few_read}
+use Rattle.opt_files.proofs.calling.Resized.{IsRead, read_at, read_growth, since_read, same_file, kept_places, cut_places, grown_places, same_resizes, cut_resizes, grown_resizes, grown_refused, few_read}
 use Rattle.opt_files.proofs.drafts.Refused.{ok_maps, ok_both, err_maps}
 use Rattle.opt_files.proofs.draft.Draft.resize.Goals as goal
 use Rattle.opt_files.proofs.draft.Draft.resize.Goals.{In-Some}
@@ -37,6 +37,11 @@ returns-then-size-node-clause-file g c = λ known x at.
     let b = (goal.at.returns-then-size-node-clause-file g c).In-Some in
     same_file g.S.Blocks.tells (s g b) (t g b) c.args.number c.args.size c.in-Some.node x c.args.self.now (read g b x known at) c.if-size-node.true
 
+pub returns-then-size-node-clause-places : goal.returns-then-size-node-clause-places
+returns-then-size-node-clause-places g c = λ known x at.
+    let b = (goal.at.returns-then-size-node-clause-places g c).In-Some in
+    kept_places g.S.Blocks.tells (s g b) (t g b) c.args.number c.args.size c.in-Some.node x c.args.self.now (read g b x known at) (t g b).books c.if-size-node.true
+
 pub returns-then-size-node-clause-resizes : goal.returns-then-size-node-clause-resizes
 returns-then-size-node-clause-resizes g c = λ known x at.
     let b = (goal.at.returns-then-size-node-clause-resizes g c).In-Some in
@@ -48,6 +53,11 @@ returns-then-size-node-2-clause-file g c = λ known.
     ok_maps c.cut.result (λ made x at.
     let r = read g b x known at in
     since_read g.S.Blocks.tells (s g b) (t g b) c.args.number c.args.size c.in-Some.node x c.args.self.now r _ _ (made x (read_at g.S.Blocks.tells (s g b) (t g b) c.args.number c.args.size c.in-Some.node x c.args.self.now r))) (c.cut.ensures.file known)
+
+pub returns-then-size-node-2-clause-places : goal.returns-then-size-node-2-clause-places
+returns-then-size-node-2-clause-places g c = λ known.
+    let b = (goal.at.returns-then-size-node-2-clause-places g c).In-Some in
+    ok_maps c.cut.result (λ made x at. cut_places g.S.Blocks.tells (s g b) (t g b) c.args.number c.args.size c.in-Some.node x c.args.self.now (read g b x known at) (g.S.Blocks.state c.cut.new.blocks).books _ (omega (arith, c.if-size-node-2.true)) made) (c.cut.ensures.places known)
 
 pub returns-then-size-node-2-clause-resizes : goal.returns-then-size-node-2-clause-resizes
 returns-then-size-node-2-clause-resizes g c = λ known.
@@ -64,6 +74,12 @@ returns-then-not-may_grow-clause-file g c = λ known x at.
     let no = c.if-not-may_grow.ensures.no refl in
     absurd (no.1 (c.requires.once known x at (omega (arith, no.0, read_growth g.S.Blocks.tells (s g b) (t g b) c.args.number c.args.size c.in-Some.node x c.args.self.now (read g b x known at)))))
 
+pub returns-then-not-may_grow-clause-places : goal.returns-then-not-may_grow-clause-places
+returns-then-not-may_grow-clause-places g c = λ known x at.
+    let b = (goal.at.returns-then-not-may_grow-clause-places g c).In-Some in
+    let no = c.if-not-may_grow.ensures.no refl in
+    absurd (no.1 (c.requires.once known x at (omega (arith, no.0, read_growth g.S.Blocks.tells (s g b) (t g b) c.args.number c.args.size c.in-Some.node x c.args.self.now (read g b x known at)))))
+
 pub returns-then-not-may_grow-clause-resizes : goal.returns-then-not-may_grow-clause-resizes
 returns-then-not-may_grow-clause-resizes g c = λ known x at.
     let b = (goal.at.returns-then-not-may_grow-clause-resizes g c).In-Some in
@@ -76,6 +92,13 @@ returns-clause-file g c = λ known.
     ok_maps c.extend.result (λ made x at.
     let r = read g b x known at in
     since_read g.S.Blocks.tells (s g b) (t g b) c.args.number c.args.size c.in-Some.node x c.args.self.now r _ _ (made x (read_at g.S.Blocks.tells (s g b) (t g b) c.args.number c.args.size c.in-Some.node x c.args.self.now r))) (c.extend.ensures.file known)
+
+pub returns-clause-places : goal.returns-clause-places
+returns-clause-places g c = λ known.
+    let b = (goal.at.returns-clause-places g c).In-Some in
+    ok_maps c.extend.result (λ made x at.
+    let r = read g b x known at in
+    grown_places g.S.Blocks.tells (s g b) (t g b) c.args.number c.args.size c.in-Some.node x c.args.self.now r (g.S.Blocks.state c.extend.new.blocks).books _ (made x (read_at g.S.Blocks.tells (s g b) (t g b) c.args.number c.args.size c.in-Some.node x c.args.self.now r))) (c.extend.ensures.places known)
 
 pub returns-clause-resizes : goal.returns-clause-resizes
 returns-clause-resizes g c = λ known.

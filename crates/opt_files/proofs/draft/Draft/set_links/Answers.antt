@@ -1,12 +1,12 @@
-use Rattle.std.proofs.Common.{◌≡◌, rules, IsTrue, Some, sym, subst, ap, ◌∙◌, option_map}
+use Rattle.std.proofs.Common.{◌≡◌, rules, IsTrue, Some, refl, sym, subst, ap, ◌∙◌, option_map}
 use Rattle.opt_geom.specs.Geometry.{IsGeometry}
 use Rattle.opt_blocks.specs.State.{Bookkeeping, State}
 use Rattle.opt_stands.specs.Files.{FileNode, files_of}
-use Rattle.opt_files.specs.Calls.{IsWithFile, files_in, with_links}
+use Rattle.opt_files.specs.Calls.{IsWithFile, IsWithPlaces, files_in, places_in, places_of, with_links}
 use Rattle.opt_files.specs.Drafts.{ChangesSome, drafted}
 use Rattle.opt_files.specs.Nodes.{node_of_open, IsOpen}
 use Rattle.opt_files.specs.Sound.{FitsBooks, IsSoundDraft}
-use Rattle.opt_files.proofs.frames.Carry.{draft_looks}
+use Rattle.opt_files.proofs.frames.Carry.{draft_looks, looked_places}
 use Rattle.opt_files.proofs.frames.Puts.{put_changes}
 use Rattle.opt_files.proofs.calling.Nodes.{links_set, has_table, none_found, put_still_fits, looked_files}
 use Rattle.opt_files.proofs.draft.Draft.set_links.Goals as goal
@@ -27,6 +27,7 @@ module _ (g : _) (c : goal.In_ok-store g) where
   -- what was made of the draft, where the blocks are known
   made : IsTrue g.S.Blocks.tells → (x : FileNode) → files_in s c.args.self.now c.args.number ≡ Some x
       → IsSoundDraft k s.map c.store.new.draft × IsWithFile (files_in s c.args.self.now) (files_of k.geom (drafted c.store.new.draft s.map)) c.args.number (Some (with_links x c.args.links))
+      × IsWithPlaces (places_in s c.args.self.now) (places_of k.geom (drafted c.store.new.draft s.map)) c.args.number (places_in s c.args.self.now c.args.number)
   made tells x at =
       let sound = c.requires.draft.sound tells in
       let there = has_table s c.args.self.now c.args.number (subst IsGeometry c.geom-geom.ensures c.lawful.ensures.limits) c.requires.above_zero c.requires.in_table sound in
@@ -54,6 +55,19 @@ returns-in_default-clause-file g c = λ tells x at.
 pub returns-clause-file : goal.returns-clause-file
 returns-clause-file g c = λ tells x at.
     looked_files g.S.Blocks.tells _ (s g c) (g.S.Blocks.state c.load.new.blocks) c.args.self.now c.store.new.draft c.args.number _ c.load.ensures.looks tells (made g c tells x at).1
+
+pub returns-in_default-clause-places : goal.returns-in_default-clause-places
+returns-in_default-clause-places g c = λ tells.
+    let s = g.S.Blocks.state c.args.blocks.now in
+    let used = c.requires.used tells in
+    let geom = subst IsGeometry c.geom-geom.ensures c.lawful.ensures.limits in
+    let there = has_table s c.args.self.now c.args.number geom c.requires.above_zero c.requires.in_table (c.requires.draft.sound tells) in
+    none_found s c.args.self.now c.args.number used.0 c.in_ok-node.field-0 c.in_default.is (c.in_ok-node.ensures.node tells there) used.1
+
+pub returns-clause-places : goal.returns-clause-places
+returns-clause-places g c = λ tells.
+    let used = c.requires.used tells in
+    looked_places g.S.Blocks.tells _ (s g c) (g.S.Blocks.state c.load.new.blocks) c.args.self.now c.store.new.draft c.args.number _ _ c.load.ensures.looks tells refl (made g c tells used.0 used.1).2
 
 pub returns-clause-draft : goal.returns-clause-draft
 returns-clause-draft g c =

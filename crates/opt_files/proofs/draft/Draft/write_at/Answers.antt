@@ -1,13 +1,14 @@
-use Rattle.std.proofs.Common.{◌≡◌, ◌+◌, IsTrue, length, Some, sym, ap, subst, ◌∙◌, rules}
+use Rattle.std.proofs.Common.{◌≡◌, ◌+◌, ◌==◌, true, IsTrue, length, Some, refl, sym, ap, subst, ◌∙◌, rules}
 use Rattle.opt_geom.specs.Geometry.{IsGeometry}
-use Rattle.opt_blocks.specs.State.{Bookkeeping, State}
+use Rattle.opt_blocks.specs.State.{Bookkeeping, State, reusable_blocks}
 use Rattle.opt_stands.specs.Files.{used_node}
+use Rattle.opt_files.specs.Calls.{places_in}
 use Rattle.opt_files.specs.Content.{fails_reading}
 use Rattle.opt_files.specs.Drafts.{drafted}
 use Rattle.opt_files.specs.Nodes.{node_of_open, IsOpen}
 use Rattle.opt_files.proofs.bytes.Looks.{looks_more}
 use Rattle.opt_files.proofs.calling.Nodes.{has_table}
-use Rattle.opt_files.proofs.calling.WriteAt.{once_then, slots_then, refused_then, few_then, file_then, grows_then, among_then}
+use Rattle.opt_files.proofs.calling.WriteAt.{once_then, slots_then, refused_then, few_then, file_then, grows_then, has_then, among_then, none_come}
 use Rattle.opt_files.proofs.drafts.Refused.{ok_maps, err_maps}
 use Rattle.opt_files.proofs.draft.Draft.write_at.Goals as goal
 use Rattle.opt_files.proofs.draft.Draft.write_at.Goals.{In-Some, After-write_loaded}
@@ -48,6 +49,21 @@ returns-clause-file g c = λ told.
     let u = g.S.Blocks.state c.write_loaded.new.blocks in
     let geom = geom_same g (goal.at.returns-clause-file g c).After-write_loaded in
     ok_maps c.write_loaded.result (λ w. file_then (s g b) (t g b) u c.args.number c.args.offset c.args.bytes.now c.args.self.now c.write_loaded.new.draft geom (c.in_ok-node.ensures.looks.map told) (sym (c.write_loaded.ensures.settles.map told)) w)
+    (c.write_loaded.ensures.file told)
+
+pub returns-then-is_empty-clause-places : goal.returns-then-is_empty-clause-places
+returns-then-is_empty-clause-places g c = λ told x at.
+    let s = g.S.Blocks.state c.args.blocks.now in
+    let ps = places_in s c.args.self.now c.args.number in
+    let none : (length c.args.bytes.now == 0) ≡ true = sym c.is_empty.ensures ∙ c.if-is_empty.true in
+    record { own = none_come ps (reusable_blocks s.books) c.args.bytes.now x c.args.offset none; others = λ l other. refl }
+
+pub returns-clause-places : goal.returns-clause-places
+returns-clause-places g c = λ told.
+    let b = (goal.at.returns-clause-places g c).In-Some in
+    let u = g.S.Blocks.state c.write_loaded.new.blocks in
+    let geom = geom_same g (goal.at.returns-clause-places g c).After-write_loaded in
+    ok_maps c.write_loaded.result (λ w. has_then (s g b) (t g b) u c.args.number c.args.offset c.args.bytes.now c.args.self.now c.write_loaded.new.draft geom (c.in_ok-node.ensures.looks.map told) (sym (c.write_loaded.ensures.settles.map told)) w)
     (c.write_loaded.ensures.file told)
 
 pub returns-clause-grows : goal.returns-clause-grows
