@@ -1,5 +1,5 @@
 -- A node as the calls on files work on it, and where it is in the node table.
-use Rattle.std.specs.Prelude.{◌≡◌, ℕ, ◌+◌, ◌-◌, ◌*◌, ◌/◌, ◌%◌, ◌^◌, ◌≤◌, true, length}
+use Rattle.std.specs.Prelude.{◌≡◌, ℕ, ◌+◌, ◌-◌, ◌*◌, ◌/◌, ◌%◌, ◌^◌, ◌≤◌, true, List, length, slice_index}
 use Rattle.std.specs.List.{All}
 use Rattle.opt_base.specs.Seal.{Blocks}
 use Rattle.opt_geom.specs.Geometry.{Geometry, table_start, nodes_in_block, node_size}
@@ -33,6 +33,14 @@ node_block g k = table_start g + (k - 1) / nodes_in_block
 
 abbrev pub node_byte : ℕ → ℕ
 node_byte k = node_size * ((k - 1) % nodes_in_block)
+
+-- the first number behind those of the nodes in node k's block
+abbrev pub block_end : ℕ → ℕ
+block_end k = k + (nodes_in_block - (k - 1) % nodes_in_block)
+
+-- node k's kind byte, in these bytes of its block
+abbrev pub kind_in : List ℕ → ℕ → ℕ
+kind_in table k = slice_index table (node_byte k)
 
 -- the draft has the block of node k's, so it isn't freed
 abbrev pub HasTable : State → DraftState → ℕ → Type 0

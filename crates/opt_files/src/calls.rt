@@ -7,17 +7,18 @@ ghost use Rattle.opt_stands.specs.Files.{FileNode, joined};
 ghost use Rattle.opt_layout.specs.Node.{free_node};
 ghost use Rattle.opt_files.specs.Bytes.{met, overwrite};
 ghost use Rattle.opt_files.specs.Drafts.{drafted, ChangesSome};
-ghost use Rattle.opt_files.specs.Nodes.{class_of, node_block, HasTable, IsOpen};
+ghost use Rattle.opt_files.specs.Nodes.{class_of, IsOpen};
 ghost use Rattle.opt_files.specs.Sound.{IsDraftOf};
 ghost use Rattle.opt_files.specs.Content.{HasContent, WritesContent, fails_reading};
 ghost use Rattle.opt_files.specs.Effects.{LooksOnly};
-ghost use Rattle.opt_files.specs.Calls.{files_in, places_in, IsUsed, IsWithFile, IsWithPlaces, with_links, SetsNode, LookRefused, AreUsed, IsFirstUnused, IsLeastUnused};
+ghost use Rattle.opt_files.specs.Calls.{files_in, places_in, IsUsed, IsWithFile, IsWithPlaces, with_links, SetsNode, LookRefused, IsLeastUnused};
 
 use crate::FileRefusal;
 use crate::content::{read_content, write_content};
 use crate::draft::{Draft, ZEROS};
 use crate::grow::{class_of, shrink};
 use crate::nodes::{OpenNode, load, store};
+use crate::unused::least_unused;
 use opt_base::limits::BLOCK_LENGTH;
 use opt_base::{Block, Bytes, RunList};
 use opt_blocks::Blocks;
@@ -192,41 +193,6 @@ fn free_node() -> Node
         size: 0,
         runs: RunList::new(),
     }
-}
-
-/// The least number from `from` on of a node that isn't in use, with its block in `table`. `None` where
-/// there is none.
-///
-/// # Errors
-/// A read of the disk failed, which the disk has counted.
-fn least_unused<S: Blocks>(
-    draft: &Draft,
-    blocks: &mut S,
-    from: u32,
-    table: &mut Block,
-) -> Result<Option<u32>, FileRefusal>
-    requires going { (S.state blocks.old).books.stopped ≡ false }
-    requires above_zero { 1 ≤ from }
-    requires tables { IsTrue S.tells → (l : ℕ) → 1 ≤ l → l ≤ (S.state blocks.old).books.geom.i → HasTable (S.state blocks.old) draft.now l }
-    ensures found { IsTrue S.tells → IfOk result (λ found. IfSome found (λ number. IsFirstUnused (S.state blocks.old).books.geom (drafted draft.now (S.state blocks.old).map) from number
-        × (table.new ≡ drafted draft.now (S.state blocks.old).map (node_block (S.state blocks.old).books.geom number)))) }
-    ensures none { IsTrue S.tells → IfOk result (λ found. IfNone found (AreUsed (S.state blocks.old).books.geom (drafted draft.now (S.state blocks.old).map) from ((S.state blocks.old).books.geom.i + 1))) }
-    ensures number { IfOk result (λ found. IfSome found (λ number. (1 ≤ number) × (number ≤ (S.state blocks.old).books.geom.i))) }
-    ensures refused { IfErr result LookRefused }
-    ensures looks { LooksOnly S.tells (fails_reading result) (S.state blocks.old) (S.state blocks.new) }
-{
-    let geom = blocks.geom();
-    geom.lawful();
-    let limit = geom.i();
-    let mut number = from;
-    while number <= limit {
-        let found = load(draft, blocks, number, table)?;
-        match found {
-            None => return Ok(Some(number)),
-            Some(_) => number += 1,
-        }
-    }
-    Ok(None)
 }
 
 /// Zeros from the node's end to byte `end`, or to the end of its last block where that comes before.

@@ -15,6 +15,7 @@ mod nodes;
 mod price;
 mod refusal;
 mod resize;
+mod unused;
 mod within;
 mod write;
 
