@@ -1,0 +1,5 @@
+pub mod Numbers
+pub mod Words
+pub mod Dead
+pub mod Calls
+pub mod Inside
