@@ -1,8 +1,28 @@
--- A draft that changes no more than so much has no greater price than that.
-use Rattle.std.proofs.Common.{◌+◌, ◌*◌, ◌≤◌, ℕ, min, length, arith}
+-- A draft that changes no more than so much, and that it has no greater price than that.
+use Rattle.std.proofs.Common.{◌+◌, ◌*◌, ◌≤◌, ℕ, List, min, length, sym, ap, ◌∙◌, arith}
+use Rattle.std.proofs.Math.Bool.{or-false}
 use Rattle.opt_geom.specs.Geometry.{Geometry, bitmap_blocks}
-use Rattle.opt_files.specs.Drafts.{DraftState}
+use Rattle.opt_blocks.specs.Running.{has}
+use Rattle.opt_files.specs.Calls.{ChangesAmong}
+use Rattle.opt_files.specs.Drafts.{DraftState, nothing_drafted}
+use Rattle.opt_files.specs.Finish.{ChangesOnly}
+use Rattle.opt_dirs.specs.Changing.{Alters}
 use Rattle.opt_fs.specs.Changes.{ChangesAtMost, IsWithinCost}
+
+-- what comes to an empty draft is all that it changes
+pub only_these : (bs : List ℕ) (d : DraftState) → ChangesAmong bs nothing_drafted d → ChangesOnly bs d
+only_these bs d among b some = sym (or-false (has bs b)) ∙ among b some
+
+pub altered_few : (most frees : ℕ) (takes : List ℕ) (d : DraftState) → Alters most takes frees nothing_drafted d → ChangesAtMost d most 0 (length takes) frees
+altered_few most frees takes d alters = record {
+  blocks = alters.among.0;
+  only = only_these alters.among.0 d alters.among.2;
+  few_changed = alters.among.1;
+  few_fresh = alters.fresh;
+  few_taken = omega (arith, ap (λ (bs : List ℕ). length bs) alters.taken);
+  few_freed = omega (arith, alters.freed);
+  some = alters.some;
+}
 
 -- the price in numbers
 at_most : (blocks fresh taken freed bitmap a b c e cost : ℕ) → blocks ≤ a → fresh ≤ b → taken ≤ c → freed ≤ e → 25 * a + b + (25 * min c bitmap + 25 * min e bitmap) ≤ cost

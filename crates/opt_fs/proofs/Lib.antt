@@ -1,6 +1,9 @@
 pub mod Opening
 pub mod Weighing
 pub mod AtMost
+pub mod Placing
+pub mod FirstReason
+pub mod Given
 pub mod looking
 pub mod carrying
 pub mod planning
@@ -17,3 +20,4 @@ pub mod removed
 pub mod moved
 pub mod renamed
 pub mod listed
+pub mod rooms

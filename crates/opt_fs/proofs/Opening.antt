@@ -1,6 +1,5 @@
 -- The state of blocks that were only read since the beginning is that of a session that begins with their tree.
-use Rattle.std.proofs.Common.{nat_lt, false, IsTrue, Bool, sym, subst, ap, ◌∙◌, arith}
-use Rattle.opt_base.specs.Seal.{Blocks}
+use Rattle.std.proofs.Common.{nat_lt, false, IsTrue, Bool, sym, ap, ◌∙◌, arith}
 use Rattle.opt_blocks.specs.Crashes.{IsBegun}
 use Rattle.opt_blocks.specs.State.{Bookkeeping, State}
 use Rattle.opt_tree.specs.Step.{session_on}
@@ -8,10 +7,11 @@ use Rattle.opt_tree.specs.Tree.{Tree}
 use Rattle.opt_stands.specs.Stands.{IsTreeOf}
 use Rattle.opt_files.specs.Effects.{LooksOnly}
 use Rattle.opt_fs.specs.Sessions.{IsSession}
+use Rattle.opt_fs.proofs.carrying.Staying.{tree_stays}
 
 pub opened : (tells : Bool) (s t : State) (tree : Tree) → IsTrue tells → LooksOnly tells false s t → IsBegun s → IsTreeOf s.books.geom s.map tree → IsSession t (session_on s.books.geom.i tree)
 opened tells s t tree told looks begun stands = record {
-  tree = subst (λ (b : Bookkeeping). IsTreeOf b.geom t.map tree) (sym looks.books) (subst (λ (m : Blocks). IsTreeOf s.books.geom m tree) (sym (looks.map told)) stands);
+  tree = tree_stays s t tree (ap (λ (b : Bookkeeping). b.geom) looks.books) (looks.map told) stands;
   limit = ap (λ (b : Bookkeeping). b.geom.i) (sym looks.books);
   points = λ going. sym (ap (λ (b : Bookkeeping). b.point) looks.books ∙ begun.point);
   changed = λ going. sym (ap (λ n. nat_lt 0 n) (ap (λ (b : Bookkeeping). b.running.weight) looks.books ∙ begun.weight));

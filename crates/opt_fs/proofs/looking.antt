@@ -3,3 +3,4 @@ pub mod Replies
 pub mod Spots
 pub mod Facts
 pub mod Entries
+pub mod InUse

@@ -1,4 +1,5 @@
 pub mod Answers
 pub mod Looking
 pub mod Looks
+pub mod Behind
 pub mod Before

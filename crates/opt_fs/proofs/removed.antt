@@ -1,8 +1,6 @@
 pub mod Links
 pub mod Slots
 pub mod Names
-pub mod Behind
-pub mod Plain
 pub mod Accepted
 pub mod Planned
 pub mod Refused

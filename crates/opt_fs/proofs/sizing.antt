@@ -1,3 +1,2 @@
 pub mod Resized
 pub mod Reasons
-pub mod Behind

@@ -1,5 +1,5 @@
 -- What making the changes of a command's draft leaves of a map of blocks, and when they aren't made. It is described in docs/SPACE.md.
-use Rattle.std.specs.Prelude.{◌≡◌, ◌⊎◌, ℕ, ◌+◌, ◌<◌, ◌≤◌, Bool, IsTrue, not, ◌&&◌, List, length}
+use Rattle.std.specs.Prelude.{◌≡◌, ◌⊎◌, ℕ, ◌+◌, ◌<◌, ◌≤◌, Bool, IsTrue, not, ◌&&◌, List, length, take}
 use Rattle.opt_geom.specs.Geometry.{Geometry}
 use Rattle.opt_tree.specs.declared.command.Refusal.{Refusal}
 use Rattle.opt_tree.specs.declared.command.Refusal.TheVariants.{TooBig, NoMemory}
@@ -7,6 +7,7 @@ use Rattle.opt_blocks.specs.Running.{has}
 use Rattle.opt_blocks.specs.State.{Bookkeeping, State}
 use Rattle.opt_files.specs.Drafts.{DraftState, ChangesSome, marks_of}
 use Rattle.opt_files.specs.Finish.{ChangesOnly, MapFinished, price}
+use Rattle.opt_fs.specs.Space.{ArePlaced}
 
 -- The draft's changes are made and the command's cost is weighed. Nothing else of the bookkeeping changed.
 pub record IsCarriedOut (tells : Bool) (d : DraftState) (cost : ℕ) (old new : State) : Type 0 where
@@ -46,3 +47,9 @@ pub record ChangesAtMost (d : DraftState) (changed fresh taken freed : ℕ) : Ty
   pub few_taken : length d.taken ≤ taken
   pub few_freed : length d.freed ≤ freed
   pub some : ChangesSome d
+
+-- The draft takes the first of these blocks, as many as are needed, and frees so many. Of what the nodes had and have, each has the first of its own, or all of its own and behind them those taken.
+pub record Uses (need freed : ℕ) (spare : List ℕ) (old new : ℕ → List ℕ) (d : DraftState) : Type 0 where
+  pub taken : d.taken ≡ take need spare
+  pub freed_are : length d.freed ≡ freed
+  pub placed : ArePlaced old new (take need spare)

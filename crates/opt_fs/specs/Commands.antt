@@ -1,5 +1,5 @@
 -- How a command is carried out over a map of blocks: what it answers, what becomes of the session, and what it leaves of the bookkeeping. It is described in docs/FILE-SYSTEM.md.
-use Rattle.std.specs.Prelude.{◌≡◌, ◌⊎◌, ℕ, ◌+◌, ◌^◌, ◌≤◌, ◌<◌, Bool, true, false, IsTrue, List, ◌++◌, length, take, Option, None, Some, IfOk, IfErr, OnErr, Result, Err}
+use Rattle.std.specs.Prelude.{◌≡◌, ◌⊎◌, ℕ, ◌+◌, ◌^◌, ◌≤◌, ◌<◌, Bool, true, false, IsTrue, not, ◌&&◌, List, ◌++◌, length, take, Option, None, Some, option_and_then, IfOk, IfErr, OnErr, Result, Err}
 use Rattle.opt_base.specs.Counts.{after_call}
 use Rattle.opt_geom.specs.Geometry.{bitmap_blocks}
 use Rattle.opt_extent.specs.Runs.{stretches}
@@ -10,17 +10,17 @@ use Rattle.opt_tree.specs.declared.command.Refusal.TheVariants as because
 use Rattle.opt_tree.specs.declared.command.Reply.{Reply}
 use Rattle.opt_tree.specs.Conditions.{refusal}
 use Rattle.opt_tree.specs.Figures.{Figures, figures}
-use Rattle.opt_tree.specs.Paths.{parent}
 use Rattle.opt_tree.specs.Step.{Session, step}
 use Rattle.opt_stands.specs.Inodes.{Inodes}
 use Rattle.opt_inodes.specs.Lookups.{number_at}
-use Rattle.opt_blocks.specs.State.{Bookkeeping, State, reusable_blocks}
+use Rattle.opt_blocks.specs.Running.{has}
+use Rattle.opt_blocks.specs.State.{Bookkeeping, State, reusable_blocks, IsReusable}
 use Rattle.opt_blocks.specs.Calls.{MovesPipeline}
 use Rattle.opt_blocks.specs.Crashes.{Advances, WritesAtMost}
 use Rattle.opt_files.specs.Calls.{places_in}
 use Rattle.opt_files.specs.Drafts.{nothing_drafted}
 use Rattle.opt_fs.specs.Sessions.{IsSession, inodes}
-use Rattle.opt_fs.specs.Space.{HasRoom, LacksRoom}
+use Rattle.opt_fs.specs.Space.{ArePlaced, HasRoom, LacksRoom, grown_path}
 
 -- The command ran, and no point was made: blocks were read, the pipeline may have settled, and the transaction may have changed. A failed read is counted once, and so is another failed call of the disk.
 pub record RunsCommand (tells read_failed failed : Bool) (old new : State) : Type 0 where
@@ -60,16 +60,9 @@ is_disk_fault _ = false
 abbrev pub figures_on : State → Session → Cmd → Figures
 figures_on s f cmd = figures (bitmap_blocks s.books.geom) f cmd
 
--- the number of the node that the command may grow: its file, or the directory in which a name comes to be
+-- the number of the node that the command may grow
 abbrev pub grown_by : Inodes → Cmd → Option ℕ
-grown_by m (cmds.Mkdir path) = number_at m (parent path)
-grown_by m (cmds.Create path) = number_at m (parent path)
-grown_by m (cmds.Link path other) = number_at m (parent other)
-grown_by m (cmds.Rename from to) = number_at m (parent to)
-grown_by m (cmds.Write path offset bytes) = number_at m path
-grown_by m (cmds.Fill path offset count byte) = number_at m path
-grown_by m (cmds.Truncate path size) = number_at m path
-grown_by m _ = None
+grown_by m cmd = option_and_then (number_at m) (grown_path cmd)
 
 -- the blocks of node k, in order
 abbrev pub places_of : State → ℕ → List ℕ
@@ -87,12 +80,29 @@ pub record GrowsInRuns (old : State) (k need : ℕ) : Type 0 where
 abbrev pub FindsRuns : State → Session → Cmd → Type 0
 FindsRuns old f cmd = (k : ℕ) → 0 < (figures_on old f cmd).need → grown_by (inodes old) cmd ≡ Some k → GrowsInRuns old k (figures_on old f cmd).need
 
--- The command is answered as the tree answers it, and has room.
+-- What a command of these figures spends: its cost is weighed, and what it frees is held. It takes the least blocks that may be taken, as many as it needs, once the pipeline has settled where there were fewer; and each node has the first of its own blocks, or all of its own and behind them the first of those.
+pub record Spends (old new : State) (f : Figures) : Type 0 where
+  pub weight : new.books.running.weight ≡ old.books.running.weight + f.cost
+  pub held : new.books.running.held ≡ old.books.running.held + f.freed
+  pub settled : Bookkeeping
+  pub moves : MovesPipeline old.books settled
+  pub rests : f.need ≤ length (reusable_blocks old.books) → settled ≡ old.books
+  pub takeable : (b : ℕ) → new.books.reusable b ≡ (not (has (take f.need (reusable_blocks settled)) b) && settled.reusable b)
+  pub placed : ArePlaced (places_of old) (places_of new) (take f.need (reusable_blocks settled))
+
+-- Nothing is spent: the transaction and the blocks are as they were, and what might be taken still may.
+pub record SpendsNothing (tells : Bool) (old new : State) : Type 0 where
+  pub running : new.books.running ≡ old.books.running
+  pub takeable : (b : ℕ) → IsReusable old.books.geom old.books.reusable b → new.books.reusable b ≡ true
+  pub map : IsTrue tells → new.map ≡ old.map
+
+-- The command is answered as the tree answers it, has room, and spends what its figures say.
 pub record IsDone (old new : State) (f : Session) (cmd : Cmd) (reply : Reply) : Type 0 where
   pub answer : reply ≡ (step f cmd).1
   pub session : IsSession new (step f cmd).0
   pub room : HasRoom old.books (figures_on old f cmd)
   pub runs : FindsRuns old f cmd
+  pub spends : Spends old new (figures_on old f cmd)
 
 -- The tree accepts the command, and there is no room for it.
 pub record IsOutOfRoom (old : State) (f : Session) (cmd : Cmd) (why : Refusal) : Type 0 where
@@ -124,9 +134,10 @@ IsCutShort why = (why ≡ because.ReadFault) ⊎ (why ≡ because.NoMemory)
 abbrev pub IsRefusedFor : State → State → Session → Cmd → Refusal → Type 0
 IsRefusedFor old new f cmd why = IsOutOfRoom old f cmd why ⊎ (IsScattered old new f cmd why ⊎ (FailsToSettle old f cmd why ⊎ IsCutShort why))
 
--- How a command that isn't a sync ends over a map of blocks: done as the tree does it, or refused from outside the tree, and then the session is as it was.
+-- How a command that isn't a sync ends over a map of blocks: done as the tree does it, or refused from outside the tree, and then the session is as it was and nothing is spent.
 pub record Carries (tells : Bool) (cmd : Cmd) (result : Result Reply Refusal) (old new : State) : Type 0 where
   pub done : IsTrue tells → IfOk result (λ reply. (f : Session) → IsSession old f → IsDone old new f cmd reply)
   pub refused : IsTrue tells → IfErr result (λ why. (f : Session) → IsSession old f → IsRefusedFor old new f cmd why)
   pub kept : IsTrue tells → OnErr result ((f : Session) → IsSession old f → IsSession new f)
+  pub unspent : OnErr result (SpendsNothing tells old new)
   pub runs : RunsCommand tells (is_read_fault result) (is_disk_fault result) old new

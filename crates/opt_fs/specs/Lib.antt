@@ -2,6 +2,8 @@ pub mod Sessions
 pub mod Looks
 pub mod Opened
 pub mod Space
+pub mod Room
+pub mod Memory
 pub mod Changes
 pub mod Figures
 pub mod Refusals

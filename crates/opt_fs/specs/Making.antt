@@ -1,5 +1,5 @@
 -- What commands by which a name comes to be look up first, and what they draft. They are described in docs/FILE-SYSTEM.md.
-use Rattle.std.specs.Prelude.{◌≡◌, ℕ, List, [], ◌∷◌, ◌++◌, length, is_some, Option, None, Some, Result, Ok, Err}
+use Rattle.std.specs.Prelude.{◌≡◌, ◌≤◌, ℕ, List, [], ◌∷◌, ◌++◌, length, is_some, Option, None, Some, Result, Ok, Err}
 use Rattle.opt_layout.specs.declared.slot.Slot.{Slot}
 use Rattle.opt_layout.specs.declared.node.NodeKind.{NodeKind}
 use Rattle.opt_layout.specs.declared.node.NodeKind.TheVariants.{Dir as DirNode, File as FileNode}
@@ -20,14 +20,14 @@ use Rattle.opt_stands.specs.Maps.{IsMapOf}
 use Rattle.opt_inodes.specs.Changes.{AddsSlot}
 use Rattle.opt_inodes.specs.Lookups.{number_at}
 use Rattle.opt_inodes.specs.Refusals.{parent_reason}
-use Rattle.opt_blocks.specs.State.{State}
-use Rattle.opt_files.specs.Calls.{files_in}
+use Rattle.opt_blocks.specs.State.{State, reusable_blocks}
+use Rattle.opt_files.specs.Calls.{files_in, places_in}
 use Rattle.opt_files.specs.Drafts.{DraftState}
 use Rattle.opt_dirs.specs.Directories.{inodes_in}
 use Rattle.opt_fs.specs.declared.making.Vacancy.{Vacancy}
 use Rattle.opt_fs.specs.declared.paths.Spot.TheVariants.{Inside}
-use Rattle.opt_fs.specs.Changes.{IsWithinCost}
-use Rattle.opt_fs.specs.Commands.{GrowsInRuns, figures_on, grown_by}
+use Rattle.opt_fs.specs.Changes.{IsWithinCost, Uses}
+use Rattle.opt_fs.specs.Commands.{GrowsInRuns, figures_on, grown_by, places_of}
 use Rattle.opt_fs.specs.Looks.{ComesTo}
 use Rattle.opt_fs.specs.Sessions.{inodes}
 
@@ -56,12 +56,14 @@ MayAppear files path (Ok v) = ComesTo files path (Ok (Inside v.dir v.count None)
 MayAppear files path (Err why) = name_reason (inodes_of files) path ≡ Some why
 
 -- A name was drafted: directory `dir`, which had these slots, has one more for `node`, which became x. Each node in use reads as an inode, and the draft is within the cost of a name more.
--- The directory grows as its slots do, and its blocks lie in few runs.
+-- The directory grows as its slots do, with the least blocks that may be taken now, and its blocks lie in few runs. The pipeline settled only where there were fewer before.
 pub record AddsName (old now : State) (d : DraftState) (dir node : ℕ) (name : List ℕ) (x : Inode) (slots : List Slot) : Type 0 where
   pub adds : AddsSlot (inodes old) (inodes_in now d) dir node name x
   pub reads : AreInodesOf (files_in now d) (inodes_in now d)
   pub within : IsWithinCost now.books.geom d (adding (growth (length slots))).cost
   pub runs : GrowsInRuns old dir (growth (length slots))
+  pub uses : Uses (growth (length slots)) 0 (reusable_blocks now.books) (places_of old) (places_in now d) d
+  pub rests : growth (length slots) ≤ length (reusable_blocks old.books) → now.books ≡ old.books
 
 -- The tree accepts the command and answers that it is done, and directory `dir`, which has so many slots, gets a name more by it.
 pub record AcceptsName (old : State) (f : Session) (cmd : Cmd) (dir many : ℕ) : Type 0 where

@@ -11,16 +11,18 @@ use Rattle.opt_inodes.specs.Lookups.{number_at}
 use Rattle.opt_inodes.specs.Refusals.{rename_reason}
 use Rattle.opt_tree.specs.Walk.{are_same}
 use Rattle.opt_blocks.specs.State.{State}
-use Rattle.opt_files.specs.Calls.{files_in}
+use Rattle.opt_files.specs.Calls.{files_in, places_in}
 use Rattle.opt_files.specs.Drafts.{DraftState, nothing_drafted}
 use Rattle.opt_dirs.specs.Changing.{Alters}
 use Rattle.opt_dirs.specs.Directories.{inodes_in}
 use Rattle.opt_fs.specs.declared.paths.Entry.{Entry}
 use Rattle.opt_fs.specs.declared.paths.Spot.TheVariants.{Inside}
 use Rattle.opt_fs.specs.declared.removing.Named.{Named}
+use Rattle.opt_fs.specs.Commands.{places_of}
 use Rattle.opt_fs.specs.Looks.{ComesTo, HasEntry}
 use Rattle.opt_fs.specs.Removing.{IsFound}
 use Rattle.opt_fs.specs.Sessions.{AreUsedBelow, inodes}
+use Rattle.opt_fs.specs.Space.{ArePlaced}
 
 -- The slot at the entry's place, the first of its name, names the entry's node, in a directory of so many slots.
 pub record HasNamed (m : Inodes) (name : List ℕ) (n : Named) : Type 0 where
@@ -48,11 +50,12 @@ pub record MayMoveOnto (s : State) (source target : Named) (name other : List �
   pub not_from : target.entry.node.number ≢ source.dir
   pub not_into : target.entry.node.number ≢ target.dir
 
--- The name moved in a draft, from one directory into another one or the same; each node in use reads as an inode; so many blocks are altered, taken and freed; and no node below a number is unused that wasn't below `first`.
+-- The name moved in a draft, from one directory into another one or the same; each node in use reads as an inode; so many blocks are altered, taken and freed; each node has the first of its own blocks, or all and behind them those taken; and no node below a number is unused that wasn't below `first`.
 pub record MovesName (old now : State) (d : DraftState) (from into node : ℕ) (name other : List ℕ) (most : ℕ) (takes : List ℕ) (frees : ℕ) (first_then : ℕ → ℕ) : Type 0 where
   pub moves : MovesSlot (inodes old) (inodes_in now d) from into node name other
   pub reads : AreInodesOf (files_in now d) (inodes_in now d)
   pub alters : Alters most takes frees nothing_drafted d
+  pub placed : ArePlaced (places_of old) (places_in now d) takes
   pub used : (first : ℕ) → AreUsedBelow (files_in old nothing_drafted) first → AreUsedBelow (files_in now d) (first_then first)
 
 -- A name may move to a free one of its directory.

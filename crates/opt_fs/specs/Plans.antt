@@ -1,29 +1,30 @@
 -- What a command has planned before anything is changed: a reply, or a draft with its cost. It is described in docs/FILE-SYSTEM.md.
-use Rattle.std.specs.Prelude.{◌≡◌, ℕ, ◌+◌, ◌≤◌, ⊤, Bool, false, IsTrue, None, Result, Ok, Err}
+use Rattle.std.specs.Prelude.{◌≡◌, ℕ, ◌+◌, ◌≤◌, ⊤, Bool, false, IsTrue, length, None, Result, Ok, Err}
 use Rattle.opt_tree.specs.declared.command.Cmd.{Cmd}
 use Rattle.opt_tree.specs.declared.command.Refusal.{Refusal}
 use Rattle.opt_tree.specs.declared.command.Reply.{Reply}
 use Rattle.opt_tree.specs.declared.command.Reply.TheVariants.{Ok as Done}
 use Rattle.opt_tree.specs.Conditions.{refusal}
+use Rattle.opt_tree.specs.Figures.{nothing}
 use Rattle.opt_tree.specs.Step.{Session, step}
 use Rattle.opt_stands.specs.Inodes.{AreInodesOf}
 use Rattle.opt_stands.specs.Maps.{IsMapOf}
-use Rattle.opt_blocks.specs.State.{State}
+use Rattle.opt_blocks.specs.State.{State, reusable_blocks}
 use Rattle.opt_files.specs.declared.refusal.FileRefusal.{FileRefusal}
-use Rattle.opt_files.specs.Calls.{files_in}
+use Rattle.opt_files.specs.Calls.{files_in, places_in}
 use Rattle.opt_files.specs.Drafts.{DraftState}
 use Rattle.opt_files.specs.Effects.{LooksAndSettles}
 use Rattle.opt_files.specs.Sound.{IsDraftOf}
 use Rattle.opt_dirs.specs.Directories.{inodes_in}
 use Rattle.opt_fs.specs.declared.plan.Plan.{Plan}
 use Rattle.opt_fs.specs.declared.plan.Plan.TheVariants.{Answer, Change}
-use Rattle.opt_fs.specs.Changes.{IsWithinCost}
-use Rattle.opt_fs.specs.Commands.{figures_on, FindsRuns, IsRefusedFor, is_read_fault, is_disk_fault}
+use Rattle.opt_fs.specs.Changes.{IsWithinCost, Uses}
+use Rattle.opt_fs.specs.Commands.{figures_on, places_of, FindsRuns, IsRefusedFor, is_read_fault, is_disk_fault}
 use Rattle.opt_fs.specs.Refusals.{refusal_of}
 use Rattle.opt_fs.specs.Sessions.{IsSession, AreUsedBelow}
 use Rattle.opt_fs.specs.Space.{HasRoom}
 
--- The draft makes the tree of the command, which the tree accepts and there is room for, and it is within the command's cost.
+-- The draft makes the tree of the command, which the tree accepts and there is room for. It is within the command's cost, and uses the blocks that its figures say, of those that may be taken now: the pipeline settled only where there were fewer before.
 pub record MakesTree (cmd : Cmd) (d : DraftState) (cost : ℕ) (old now : State) (f : Session) : Type 0 where
   pub accepted : refusal f.limit f.tree cmd ≡ None
   pub answer : (step f cmd).1 ≡ Done
@@ -33,6 +34,8 @@ pub record MakesTree (cmd : Cmd) (d : DraftState) (cost : ℕ) (old now : State)
   pub reads : AreInodesOf (files_in now d) (inodes_in now d)
   pub map : IsMapOf f.limit (inodes_in now d) (step f cmd).0.tree
   pub within : IsWithinCost now.books.geom d cost
+  pub uses : Uses (figures_on old f cmd).need (figures_on old f cmd).freed (reusable_blocks now.books) (places_of old) (places_in now d) d
+  pub rests : (figures_on old f cmd).need ≤ length (reusable_blocks old.books) → now.books ≡ old.books
 
 -- The draft may be finished now, its cost fits the transaction, and with it no node below the first one that may be unused is so.
 pub record MayBeMade (tells : Bool) (d : DraftState) (cost first : ℕ) (now : State) : Type 0 where
@@ -58,9 +61,18 @@ abbrev pub answer_of : Result Reply FileRefusal → Result Plan Refusal
 answer_of (Ok reply) = Ok (Answer reply)
 answer_of (Err why) = Err (refusal_of why)
 
--- A plan is right: a reply is the tree's, which stays as it was; or a draft makes its tree.
+-- A reply is right that was planned: it is the tree's, which stays as it was; the command takes nothing, for which there is room, and the pipeline didn't settle.
+pub record IsRightAnswer (cmd : Cmd) (reply : Reply) (old now : State) (f : Session) : Type 0 where
+  pub answer : reply ≡ (step f cmd).1
+  pub session : (step f cmd).0 ≡ f
+  pub room : HasRoom old.books (figures_on old f cmd)
+  pub runs : FindsRuns old f cmd
+  pub costs : figures_on old f cmd ≡ nothing
+  pub books : now.books ≡ old.books
+
+-- A plan is right: a reply is, or a draft makes the command's tree.
 abbrev pub IsRight : Cmd → Plan → State → State → Session → Type 0
-IsRight cmd (Answer reply) old now f = (reply ≡ (step f cmd).1) × ((step f cmd).0 ≡ f) × HasRoom old.books (figures_on old f cmd) × FindsRuns old f cmd
+IsRight cmd (Answer reply) old now f = IsRightAnswer cmd reply old now f
 IsRight cmd (Change draft cost first) old now f = MakesTree cmd draft cost old now f
 
 -- whether planning was refused by a failed read, or by another failed call of the disk

@@ -16,7 +16,7 @@ use Rattle.opt_inodes.specs.Lookups.{has_slots}
 use Rattle.opt_inodes.specs.Refusals.{file_reason, rmdir_reason}
 use Rattle.opt_blocks.specs.State.{State}
 use Rattle.opt_files.specs.declared.look.FileFacts.{FileFacts}
-use Rattle.opt_files.specs.Calls.{facts_of, files_in}
+use Rattle.opt_files.specs.Calls.{facts_of, files_in, places_in}
 use Rattle.opt_files.specs.Drafts.{DraftState, nothing_drafted}
 use Rattle.opt_dirs.specs.Changing.{Alters}
 use Rattle.opt_dirs.specs.Directories.{inodes_in}
@@ -24,9 +24,11 @@ use Rattle.opt_fs.specs.declared.paths.Entry.{Entry}
 use Rattle.opt_fs.specs.declared.paths.NodeFound.{NodeFound}
 use Rattle.opt_fs.specs.declared.paths.Spot.TheVariants.{Inside}
 use Rattle.opt_fs.specs.declared.removing.Named.{Named}
+use Rattle.opt_fs.specs.Commands.{places_of}
 use Rattle.opt_fs.specs.Figures.{HasFacts}
 use Rattle.opt_fs.specs.Looks.{ComesTo}
 use Rattle.opt_fs.specs.Sessions.{AreUsedBelow, inodes}
+use Rattle.opt_fs.specs.Space.{ArePlaced}
 
 -- the command that takes the path to a node of this kind away, and why the tree refuses it
 abbrev pub lose_cmd : Kind → List (List ℕ) → Cmd
@@ -70,11 +72,12 @@ pub record IsNamed (files : Files) (name : List ℕ) (n : Named) : Type 0 where
   pub node : IsFound files n.entry.node
   pub bare : has_slots (inodes_of files n.entry.node.number) ≡ false
 
--- The name was taken away in a draft: its slot went, and its node has one link less. Each node in use reads as an inode, so much is altered, and no node below the first one that may be unused is so.
+-- The name was taken away in a draft: its slot went, and its node has one link less. Each node in use reads as an inode and has the first of its own blocks, so much is altered, and no node below the first one that may be unused is so.
 pub record LosesName (old now : State) (d : DraftState) (name : List ℕ) (n : Named) : Type 0 where
   pub takes : TakesSlot (inodes old) (inodes_in now d) n.dir n.entry.node.number name
   pub reads : AreInodesOf (files_in now d) (inodes_in now d)
   pub alters : Alters 4 [] (release n.count + blocks_gone n.entry.node.facts) nothing_drafted d
+  pub placed : ArePlaced (places_of old) (places_in now d) []
   pub used : (first : ℕ) → AreUsedBelow (files_in old nothing_drafted) first → AreUsedBelow (files_in now d) (first_after n.entry.node first)
 
 -- The path leads to what stands under the name, and the tree accepts that the path goes.

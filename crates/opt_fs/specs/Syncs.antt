@@ -1,5 +1,5 @@
 -- What a sync leaves of a map of blocks and of its session. It is described in docs/FILE-SYSTEM.md.
-use Rattle.std.specs.Prelude.{◌≡◌, ◌⊎◌, ◌+◌, ◌≤◌, Bool, false, IsTrue, IfOk, IfErr, OnErr, Result}
+use Rattle.std.specs.Prelude.{◌≡◌, ◌⊎◌, ◌+◌, ◌<◌, ◌≤◌, ℕ, Bool, false, true, IsTrue, IfOk, IfErr, OnOk, OnErr, Result, Err}
 use Rattle.opt_tree.specs.declared.command.Cmd.{Cmd}
 use Rattle.opt_tree.specs.declared.command.Refusal.{Refusal}
 use Rattle.opt_tree.specs.declared.command.Refusal.TheVariants as because
@@ -7,8 +7,9 @@ use Rattle.opt_tree.specs.declared.command.Reply.{Reply}
 use Rattle.opt_tree.specs.Step.{Session, step}
 use Rattle.opt_blocks.specs.declared.refusals.SyncRefusal.{SyncRefusal}
 use Rattle.opt_blocks.specs.declared.refusals.SyncRefusal.TheVariants as sync
-use Rattle.opt_blocks.specs.State.{Bookkeeping, State}
-use Rattle.opt_blocks.specs.Calls.{HasTurns, UsesDisk, commit_places, commit_writes}
+use Rattle.opt_blocks.specs.Running.{nothing_running}
+use Rattle.opt_blocks.specs.State.{Bookkeeping, State, IsReusable}
+use Rattle.opt_blocks.specs.Calls.{HasTurns, UsesDisk, commit_places, commit_writes, if_changed}
 use Rattle.opt_blocks.specs.Crashes.{Advances, MakesPoint, WritesAtMost}
 use Rattle.opt_files.specs.Finish.{MayGoOn}
 use Rattle.opt_fs.specs.Commands.{is_disk_fault}
@@ -30,6 +31,11 @@ pub record SyncsSession (tells orders : Bool) (cmd : Cmd) (result : Result Reply
   pub done : IsTrue tells → IfOk result (λ reply. (f : Session) → IsSession old f → (reply ≡ (step f cmd).1) × IsSession new (step f cmd).0)
   pub kept : IsTrue tells → OnErr result ((f : Session) → IsSession old f → IsSession new f)
   pub refused : IfErr result (λ why. (why ≡ because.DiskFault) ⊎ (why ≡ because.NoMemory))
+  -- out of memory, nothing was done, and there was something to commit
+  pub unspent : result ≡ Err because.NoMemory → (new.books ≡ old.books) × (0 < old.books.running.weight)
+  -- done, nothing is weighed or held any more where anything was weighed; and what might be taken still may
+  pub ends : OnOk result (new.books.running ≡ if_changed old.books.running nothing_running old.books.running)
+  pub takeable : (b : ℕ) → IsReusable old.books.geom old.books.reusable b → new.books.reusable b ≡ true
   pub disk : UsesDisk (is_disk_fault result) old new
   pub geom : new.books.geom ≡ old.books.geom
   pub one : new.books.point ≤ old.books.point + 1

@@ -17,6 +17,7 @@ mod listing;
 mod live;
 mod look;
 mod making;
+mod memory;
 mod moving;
 mod paths;
 mod plan;
@@ -33,4 +34,8 @@ pub use fs::Fs;
 pub use listing::ListRefusal;
 pub use live::as_many_blocks_are_marked_as_the_tree_has;
 pub use look::{list, read, stat};
+pub use memory::{
+    a_command_is_answered_in_its_room, commands_in_memory_are_answered_in_their_room,
+    formatted_in_memory, nothing_is_taken_at_first,
+};
 pub use points::{a_crash_leaves_the_tree_of_a_point, live_blocks_are_enough, points_stay_known};

@@ -1,7 +1,7 @@
 //! The command rename: a name moves, with all that lies below it. It finds its refusal from reads alone, weighs
 //! what it needs, and plans a draft. Nothing of that is made here.
 
-ghost use Rattle.std.specs.Prelude.{◌≡◌, ◌≢◌, ◌≤◌, ◌+◌, [], ℕ, IsTrue, List, take, Option, None, Some, IfSome, IfOk, IfErr};
+ghost use Rattle.std.specs.Prelude.{◌≡◌, ◌≢◌, ◌≤◌, ◌+◌, [], ℕ, IsTrue, List, length, take, Option, None, Some, IfSome, IfOk, IfErr};
 ghost use Rattle.opt_tree.specs.declared.command.Cmd.TheVariants.{Rename};
 ghost use Rattle.opt_tree.specs.Figures.{growth, release};
 ghost use Rattle.opt_tree.specs.Tree.{Tree};
@@ -178,6 +178,8 @@ fn draft_across<S: Blocks>(
     ensures draft { IfOk result (λ draft. IsDraftOf S.tells (S.state blocks.new) draft) }
     ensures moves { IsTrue S.tells → IfOk result (λ draft. (count : ℕ) (name : List ℕ) → MayMoveAway (S.state blocks.old) source.now into count name other.now
         → MovesName (S.state blocks.old) (S.state blocks.new) draft source.now.dir into source.now.entry.node.number name other.now 5 (take (growth count) (reusable_blocks (S.state blocks.new).books)) (release source.now.count) (λ first. first)) }
+    ensures rests { IsTrue S.tells → IfOk result (λ draft. (count : ℕ) (name : List ℕ) → MayMoveAway (S.state blocks.old) source.now into count name other.now
+        → growth count ≤ length (reusable_blocks (S.state blocks.old).books) → (S.state blocks.new).books ≡ (S.state blocks.old).books) }
     ensures grows { IsTrue S.tells → IfOk result (λ draft. (count : ℕ) (name : List ℕ) → MayMoveAway (S.state blocks.old) source.now into count name other.now → GrowsInRuns (S.state blocks.old) into (growth count)) }
     ensures refused { IsTrue S.tells → IfErr result (λ why. (count : ℕ) (name : List ℕ) → MayMoveAway (S.state blocks.old) source.now into count name other.now
         → GrowthRefused (growth count) (places_of (S.state blocks.old) into) (S.state blocks.old).books (S.state blocks.new).books why) }

@@ -10,7 +10,7 @@ ghost use Rattle.opt_inodes.specs.Figures.{slots_above};
 ghost use Rattle.opt_inodes.specs.Lookups.{walk_on};
 ghost use Rattle.opt_inodes.specs.Refusals.{rmdir_reason};
 ghost use Rattle.opt_figures.specs.Values.{value_of};
-ghost use Rattle.opt_files.specs.Calls.{files_in, LookRefused};
+ghost use Rattle.opt_files.specs.Calls.{files_in, places_in, LookRefused};
 ghost use Rattle.opt_files.specs.Content.{fails_reading};
 ghost use Rattle.opt_files.specs.Drafts.{nothing_drafted};
 ghost use Rattle.opt_files.specs.Effects.{LooksOnly};
@@ -24,6 +24,7 @@ ghost use Rattle.opt_fs.specs.Looks.{ComesTo, IsWithin, MayBeEntry, ShowsFacts, 
 ghost use Rattle.opt_fs.specs.Plans.{IsAnswer, MayBeMade, OnChange, Plans};
 ghost use Rattle.opt_fs.specs.Removing.{IsFound, IsLoss, IsNamed, KnowsLoss, LosesLink, LosesName, MayLose, blocks_gone, first_after, lose_cmd, lose_reason};
 ghost use Rattle.opt_fs.specs.Sessions.{MayBegin, MayPlan, Stands, inodes};
+ghost use Rattle.opt_fs.specs.Space.{ArePlaced};
 
 use crate::facts::{the_node_at_a_path_gives_the_inode, what_a_path_comes_to_gives_the_walk};
 use crate::figures::{rmdir_figures, unlink_figures};
@@ -197,6 +198,7 @@ pub(crate) fn lose_link<S: Blocks>(
     requires draft { IsDraftOf S.tells (S.state blocks.old) draft.old }
     requires found { IsTrue S.tells → IsFound (files_in (S.state blocks.old) draft.old) node.now }
     ensures link { IsTrue S.tells → OnOk result ((x : Inode) → inodes_in (S.state blocks.old) draft.old node.now.number ≡ Some x → LosesLink (files_in (S.state blocks.old) draft.old) (files_in (S.state blocks.new) draft.new) node.now.number) }
+    ensures placed { IsTrue S.tells → OnOk result (ArePlaced (places_in (S.state blocks.old) draft.old) (places_in (S.state blocks.new) draft.new) []) }
     ensures draft { OnOk result (IsDraftOf S.tells (S.state blocks.new) draft.new) }
     ensures alters { IsTrue S.tells → OnOk result (Alters 1 [] (blocks_gone node.now.facts) draft.old draft.new) }
     ensures refused { IfErr result LookRefused }

@@ -41,6 +41,14 @@ use opt_inodes::{
 use opt_tree::{Path, Refusal, Reply};
 use std::alloc::Global;
 
+/// What a rename found at its two ends: the entry at the first path, and what is under the last name of the
+/// second one.
+#[derive(Clone, Copy, Debug)]
+struct Ends {
+    pub source: Named,
+    pub goal: Goal,
+}
+
 /// Plans a rename.
 ///
 /// # Errors
@@ -183,17 +191,21 @@ fn plan_entry_rename<S: Blocks>(
             Ok(Plan::Answer(Reply::Refused(onto_root_refusal(&source.entry.node.facts))))
         }
         Spot::Inside { dir, count, entry } => {
-            let spot = Goal {
+            let goal = Goal {
                 dir,
                 count,
                 found: entry,
             };
-            plan_entry_move(alloc, blocks, from, source, to, &spot, name, first_unused)
+            let ends = Ends {
+                source: *source,
+                goal,
+            };
+            plan_entry_move(alloc, blocks, from, to, &ends, name, first_unused)
         }
     }
 }
 
-/// Plans a rename of an entry that was found to what the second path comes to, whose last name this is.
+/// Plans a rename from one end to the other, where `name` is the last name of the second path.
 ///
 /// # Errors
 /// As `plan_rename`.
@@ -201,20 +213,19 @@ fn plan_entry_move<S: Blocks>(
     alloc: Global,
     blocks: &mut S,
     from: &Path,
-    source: &Named,
     to: &Path,
-    spot: &Goal,
+    ends: &Ends,
     name: &Name,
     first_unused: u32,
 ) -> Result<Plan, Refusal>
     requires may { MayPlan S.tells (S.state blocks.old) first_unused }
-    requires dir { IsNumber (S.state blocks.old).books.geom.i source.now.dir }
-    requires entry { MayBeEntry (S.state blocks.old).books.geom.i source.now.entry }
-    requires into { IsNumber (S.state blocks.old).books.geom.i spot.now.dir }
-    requires found { IfSome spot.now.found (MayBeEntry (S.state blocks.old).books.geom.i) }
+    requires dir { IsNumber (S.state blocks.old).books.geom.i ends.now.source.dir }
+    requires entry { MayBeEntry (S.state blocks.old).books.geom.i ends.now.source.entry }
+    requires into { IsNumber (S.state blocks.old).books.geom.i ends.now.goal.dir }
+    requires found { IfSome ends.now.goal.found (MayBeEntry (S.state blocks.old).books.geom.i) }
     requires last { to.now ≡ parent to.now ++ name.now ∷ [] }
-    requires comes { IsTrue S.tells → ComesTo (files_in (S.state blocks.old) nothing_drafted) from.now (Fine (Inside source.now.dir source.now.count (Some source.now.entry))) }
-    requires target { IsTrue S.tells → ComesTo (files_in (S.state blocks.old) nothing_drafted) to.now (Fine (Inside spot.now.dir spot.now.count spot.now.found)) }
+    requires comes { IsTrue S.tells → ComesTo (files_in (S.state blocks.old) nothing_drafted) from.now (Fine (Inside ends.now.source.dir ends.now.source.count (Some ends.now.source.entry))) }
+    requires target { IsTrue S.tells → ComesTo (files_in (S.state blocks.old) nothing_drafted) to.now (Fine (Inside ends.now.goal.dir ends.now.goal.count ends.now.goal.found)) }
     ensures plans { Plans S.tells (Rename from.now to.now) result (S.state blocks.old) (S.state blocks.new) }
     ensures made { OnChange result (λ draft cost first. MayBeMade S.tells draft cost first (S.state blocks.new)) }
 {
@@ -226,12 +237,16 @@ fn plan_entry_move<S: Blocks>(
     what_a_path_comes_to_gives_the_walk();
     what_changes_nothing_keeps_the_map();
     what_is_found_is_shown(blocks);
-    if is_node(source.entry.node.number, &spot.found) {
+    if is_node(ends.source.entry.node.number, &ends.goal.found) {
         return Ok(Plan::Answer(Reply::Ok));
     }
-    match move_refusal(&source.entry.node.facts, &spot.found, to.is_below(from)) {
+    match move_refusal(
+        &ends.source.entry.node.facts,
+        &ends.goal.found,
+        to.is_below(from),
+    ) {
         Some(why) => Ok(Plan::Answer(Reply::Refused(why))),
-        None => plan_move(alloc, blocks, source, spot, name, first_unused),
+        None => plan_move(alloc, blocks, &ends.source, &ends.goal, name, first_unused),
     }
 }
 

@@ -1,6 +1,6 @@
 -- A plan carried out: what becomes of the session, and of the bookkeeping.
 use Rattle.std.proofs.lemmas.Bool.{lt-ltb, ltb-true, ltb-false, cases_Bool}
-use Rattle.std.proofs.Common.{◌≡◌, ◌⊎◌, inl, inr, ℕ, ◌+◌, nat_lt, Bool, true, false, ◌||◌, IsTrue, Ok, Err, sym, subst, ap, ap₂, ◌∙◌, arith}
+use Rattle.std.proofs.Common.{◌≡◌, ◌⊎◌, inl, inr, ℕ, ◌+◌, nat_lt, Bool, true, false, not, ◌&&◌, ◌||◌, IsTrue, List, ◌++◌, take, length, Ok, Err, sym, subst, ap, ap₂, ◌∙◌, arith}
 use Rattle.opt_geom.specs.Geometry.{Geometry, bitmap_blocks}
 use Rattle.opt_tree.specs.declared.command.Cmd.{Cmd}
 use Rattle.opt_tree.specs.declared.command.Refusal.{Refusal}
@@ -8,27 +8,31 @@ use Rattle.opt_tree.specs.declared.command.Refusal.TheVariants as because
 use Rattle.opt_tree.specs.declared.command.Reply.{Reply}
 use Rattle.opt_tree.specs.declared.command.Reply.TheVariants.{Ok as Done}
 use Rattle.opt_tree.specs.Step.{Session, step}
-use Rattle.opt_tree.specs.Figures.{figures}
+use Rattle.opt_tree.specs.Figures.{Figures, figures, nothing}
 use Rattle.opt_tree.specs.Tree.{Tree}
 use Rattle.opt_tree.specs.Points.{is_sync}
 use Rattle.opt_stands.specs.Files.{files_of}
 use Rattle.opt_stands.specs.Inodes.{IsInodeOf, AreInodesOf}
 use Rattle.opt_stands.specs.Maps.{IsMapOf}
 use Rattle.opt_stands.specs.Stands.{AreSound, IsTreeOf}
-use Rattle.opt_blocks.specs.State.{Bookkeeping, State}
+use Rattle.opt_base.specs.Seal.{Blocks}
+use Rattle.opt_blocks.specs.Calls.{MovesPipeline}
+use Rattle.opt_blocks.specs.Running.{Running, has}
+use Rattle.opt_blocks.specs.State.{Bookkeeping, State, reusable_blocks}
 use Rattle.opt_blocks.specs.Crashes.{Advances}
 use Rattle.opt_blocks.specs.Effects.{LeavesDisk}
-use Rattle.opt_files.specs.Calls.{files_in}
+use Rattle.opt_files.specs.Calls.{files_in, places_in, places_of as blocks_of_node}
 use Rattle.opt_files.specs.Drafts.{DraftState}
 use Rattle.opt_files.specs.Effects.{LooksAndSettles}
 use Rattle.opt_dirs.specs.Directories.{inodes_in}
 use Rattle.opt_fs.specs.Changes.{IsCarriedOut, KeepsBlocks, ChangeRefused}
-use Rattle.opt_fs.specs.Commands.{RunsCommand, Carries, IsDone, is_read_fault, is_disk_fault}
+use Rattle.opt_fs.specs.Commands.{RunsCommand, Carries, IsDone, Spends, SpendsNothing, figures_on, places_of, is_read_fault, is_disk_fault}
 use Rattle.opt_fs.specs.Plans.{Plans, MakesTree, MayBeMade, plan_fails_reading, plan_fails_settling}
 use Rattle.opt_files.specs.Finish.{MayGoOn}
 use Rattle.opt_fs.specs.Sessions.{IsSession, IsBetween, AreUsedBelow}
 use Rattle.opt_fs.specs.declared.plan.Plan.{Plan}
 use Rattle.opt_fs.specs.declared.plan.Plan.TheVariants.{Answer, Change}
+use Rattle.opt_fs.proofs.Placing.{placed_same}
 use Rattle.opt_fs.proofs.carrying.Points.{points_stay}
 use Rattle.opt_fs.proofs.carrying.Staying.{session_stays, session_settles, between_stays}
 
@@ -124,7 +128,47 @@ tree_of_draft tells d cost s t tree told h sound reads map =
       sound = finished.sound sound;
     })
 
+-- Nothing is spent where blocks were read and the pipeline may have settled, and by a draft that isn't made behind that.
+pub settled_unspent : (tells read_failed failed : Bool) (s t : State) → LooksAndSettles tells read_failed failed s t → SpendsNothing tells s t
+settled_unspent tells read_failed failed s t h = record { running = h.pipeline.running; takeable = h.pipeline.reusable; map = h.map }
+
+pub kept_unspent : (tells : Bool) (s t u : State) → LooksAndSettles tells false false s t → KeepsBlocks tells t u → SpendsNothing tells s u
+kept_unspent tells s t u h kept = record {
+  running = ap (λ (b : Bookkeeping). b.running) kept.books ∙ h.pipeline.running;
+  takeable = λ b may. ap (λ (k : Bookkeeping). k.reusable b) kept.books ∙ h.pipeline.reusable b may;
+  map = λ told. kept.map told ∙ h.map told;
+}
+
+-- A command that takes nothing spends nothing.
+pub spends_nothing : (s t : State) (n : Figures) → n ≡ nothing → MovesPipeline s.books t.books → t.books ≡ s.books → t.map ≡ s.map → Spends s t n
+spends_nothing s t n none moves books map = record {
+  weight = omega (arith, ap (λ (b : Bookkeeping). b.running.weight) books, ap (λ (f : Figures). f.cost) none);
+  held = omega (arith, ap (λ (b : Bookkeeping). b.running.held) books, ap (λ (f : Figures). f.freed) none);
+  settled = t.books;
+  moves = moves;
+  rests = λ enough. books;
+  takeable = λ b. ap (λ (f : Figures). not (has (take f.need (reusable_blocks t.books)) b) && t.books.reusable b) {x = nothing} {y = n} (sym none);
+  placed = placed_same (places_of s) (places_of t) (take n.need (reusable_blocks t.books)) (λ k. ap₂ (λ (g : Geometry) (m : Blocks). blocks_of_node g m k) (ap (λ (b : Bookkeeping). b.geom) books) map);
+}
+
 module _ (tells : Bool) (cmd : Cmd) (start mid new : State) (costs : (bitmap : ℕ) (s : Session) → (step s cmd).0.changed ≡ (s.changed || nat_lt 0 (figures bitmap s cmd).cost)) (sync : is_sync cmd ≡ false) where
+  -- a draft that is made spends what the command takes
+  spends_so : (d : DraftState) (cost : ℕ) (f : Session) → IsTrue tells → LooksAndSettles tells false false start mid → MakesTree cmd d cost start mid f → IsCarriedOut tells d cost mid new → Spends start new (figures_on start f cmd)
+  spends_so d cost f told looks made carried =
+      let n = figures_on start f cmd in
+      let finished = carried.map told in
+      record {
+        weight = omega (arith, carried.weight, made.costs, ap (λ (r : Running). r.weight) looks.pipeline.running);
+        held = omega (arith, finished.held, made.uses.freed_are, ap (λ (r : Running). r.held) looks.pipeline.running);
+        settled = mid.books;
+        moves = looks.pipeline;
+        rests = made.rests;
+        takeable = λ b. carried.reusable b ∙ ap (λ (bs : List ℕ). not (has bs b) && mid.books.reusable b) made.uses.taken;
+        placed = λ k.
+            let same : places_of new k ≡ places_in mid d k = ap (λ (g : Geometry). blocks_of_node g new.map k) (made_rests tells d cost mid new carried).geom ∙ finished.places k in
+            subst (λ (ps : List ℕ). ps ≡ take (length ps) (places_of start k ++ take n.need (reusable_blocks mid.books))) (sym same) (made.uses.placed k);
+      }
+
   -- a draft that is made does the command
   pub done_so : (d : DraftState) (cost : ℕ) (f : Session) → IsTrue tells → start.books.stopped ≡ false → LooksAndSettles tells false false start mid → IsSession start f
       → MakesTree cmd d cost start mid f → IsCarriedOut tells d cost mid new → IsDone start new f cmd Done
@@ -143,6 +187,7 @@ module _ (tells : Bool) (cmd : Cmd) (start mid new : State) (costs : (bitmap : �
         };
         room = made.room;
         runs = made.runs;
+        spends = spends_so d cost f told looks made carried;
       }
 
   -- so the command is carried out
@@ -152,6 +197,7 @@ module _ (tells : Bool) (cmd : Cmd) (start mid new : State) (costs : (bitmap : �
     done = λ told f h. done_so d cost f told plans.going plans.settles h (plans.is told f h) carried;
     refused = λ told. tt;
     kept = λ told. tt;
+    unspent = tt;
     runs = runs_behind tells start mid new plans.settles (made_rests tells d cost mid new carried) disk advances;
   }
 
@@ -159,13 +205,15 @@ module _ (tells : Bool) (cmd : Cmd) (start mid new : State) (costs : (bitmap : �
 pub carried_answer : (tells : Bool) (cmd : Cmd) (start mid : State) (reply : Reply) → Plans tells cmd (Ok (Answer reply)) start mid → Carries tells cmd (Ok reply) start mid
 carried_answer tells cmd start mid reply plans = record {
   done = λ told f h. let p = plans.is told f h in record {
-    answer = p.0;
-    session = subst (λ s. IsSession mid s) (sym p.1) (session_settles tells false false start mid f plans.going told plans.settles h);
-    room = p.2;
-    runs = p.3;
+    answer = p.answer;
+    session = subst (λ s. IsSession mid s) (sym p.session) (session_settles tells false false start mid f plans.going told plans.settles h);
+    room = p.room;
+    runs = p.runs;
+    spends = spends_nothing start mid (figures_on start f cmd) p.costs plans.settles.pipeline p.books (plans.settles.map told);
   };
   refused = λ told. tt;
   kept = λ told. tt;
+  unspent = tt;
   runs = runs_settled tells false false start mid plans.settles;
 }
 
@@ -177,6 +225,7 @@ carried_refusal tells cmd start mid new d cost first why plans refused kept disk
   refused = λ told f h. inr (inr (inr (cut (plans.is told f h) refused)));
   kept = λ told f h. session_stays mid new f plans.settles.stopped rest.geom (kept.map told) rest.point (ap (λ (b : Bookkeeping). b.running.weight) kept.books) (omega (arith, rest.floor))
       (session_settles tells false false start mid f plans.going told plans.settles h);
+  unspent = kept_unspent tells start mid new plans.settles kept;
   runs = counted refused (runs_behind tells start mid new plans.settles rest disk advances);
 }
   where
@@ -197,6 +246,7 @@ refused_plan tells cmd start mid why plans = record {
   done = λ told. tt;
   refused = λ told f h. plans.is told f h;
   kept = λ told f h. session_settles tells (plan_fails_reading {T = Plan} (Err why)) (plan_fails_settling {T = Plan} (Err why)) start mid f plans.going told plans.settles h;
+  unspent = settled_unspent tells (plan_fails_reading {T = Plan} (Err why)) (plan_fails_settling {T = Plan} (Err why)) start mid plans.settles;
   runs = runs_settled tells (plan_fails_reading {T = Plan} (Err why)) (plan_fails_settling {T = Plan} (Err why)) start mid plans.settles;
 }
 

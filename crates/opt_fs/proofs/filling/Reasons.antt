@@ -1,6 +1,5 @@
 -- Why a fill of a file that was found is refused, or isn't; and what becomes of one that puts no bytes.
 use Rattle.std.proofs.Common.{◌≡◌, ℕ, ◌+◌, ◌&&◌, nat_lt, Bool, false, List, [], ◌∷◌, replicate, length, None, Some, sym, ap, ◌∙◌}
-use Rattle.opt_tree.specs.declared.command.Cmd.{Cmd}
 use Rattle.opt_tree.specs.declared.command.Cmd.TheVariants.{Fill}
 use Rattle.opt_tree.specs.declared.command.Refusal.{Refusal}
 use Rattle.opt_tree.specs.declared.command.Refusal.TheVariants.{IsDir, TooLarge}
@@ -8,20 +7,20 @@ use Rattle.opt_tree.specs.declared.command.Reply.TheVariants.{Ok as Done}
 use Rattle.opt_tree.specs.Conditions.{refusal, when, first_reason, is_too_large}
 use Rattle.opt_tree.specs.Figures.{nothing, figures, figures_by, write_figures}
 use Rattle.opt_tree.specs.Step.{Session, step, answered, write}
-use Rattle.opt_tree.specs.Tree.{Tree}
 use Rattle.opt_tree.specs.Walk.{content}
 use Rattle.opt_stands.specs.Inodes.{Inodes}
 use Rattle.opt_stands.specs.Maps.{IsMapOf}
-use Rattle.opt_inodes.specs.Refusals.{file_reason, reason}
+use Rattle.opt_inodes.specs.Refusals.{file_reason}
 use Rattle.opt_fs.specs.declared.paths.NodeFound.{NodeFound}
 use Rattle.opt_fs.specs.Found.{IsKnownFile}
 use Rattle.opt_fs.proofs.writing.Reasons.{no_file_to_write, write_reason_is}
+use Rattle.opt_fs.proofs.Given.{RefusalLaw}
 
 -- so many bytes, counted in a wider number, end past the most
 pub ends_past : (offset wide count : ℕ) (tested b : Bool) → wide ≡ count → tested ≡ (nat_lt 0 wide && is_too_large (offset + wide)) → tested ≡ b → (nat_lt 0 count && is_too_large (offset + count)) ≡ b
 ends_past offset wide count tested b same is so = ap (λ n. nat_lt 0 n && is_too_large (offset + n)) (sym same) ∙ sym is ∙ so
 
-module _ (m : Inodes) (f : Session) (path : List (List ℕ)) (offset count byte : ℕ) (law : (limit : ℕ) (m : Inodes) (t : Tree) (cmd : Cmd) → IsMapOf limit m t → refusal limit t cmd ≡ reason limit m cmd) where
+module _ (m : Inodes) (f : Session) (path : List (List ℕ)) (offset count byte : ℕ) (law : RefusalLaw) where
   -- one that no file is found for
   pub refused_by : (why : Refusal) → IsMapOf f.limit m f.tree → file_reason m path ≡ Some why → refusal f.limit f.tree (Fill path offset count byte) ≡ Some why
   refused_by why map e = law f.limit m f.tree (Fill path offset count byte) map ∙ no_file_to_write m path offset count why e

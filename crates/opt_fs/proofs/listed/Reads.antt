@@ -1,10 +1,8 @@
 -- What the node at a path reads as, from what is known of its file.
-use Rattle.std.proofs.Common.{◌≡◌, ℕ, ◌==◌, Bool, true, false, IsTrue, List, Option, None, Some, option_map, option_and_then, refl, sym, subst, ap, ◌∙◌}
-use Rattle.std.proofs.lemmas.Option.{none-some}
+use Rattle.std.proofs.Common.{◌≡◌, ℕ, ◌==◌, Bool, true, false, IsTrue, List, Some, option_map, option_and_then, refl, sym, subst, ap, ◌∙◌}
 use Rattle.opt_layout.specs.declared.slot.Slot.{Slot}
 use Rattle.opt_layout.specs.declared.node.NodeKind.{NodeKind}
 use Rattle.opt_layout.specs.declared.node.NodeKind.TheVariants.{Free, Dir, File}
-use Rattle.opt_layout.specs.Bytes.{when}
 use Rattle.opt_tree.specs.Tree.{Tree}
 use Rattle.opt_stands.specs.Files.{FileNode}
 use Rattle.opt_stands.specs.Inodes.{Inode, Inodes, ADir, AFile, inode_by, inode_of}
@@ -17,6 +15,7 @@ use Rattle.opt_files.specs.Drafts.{DraftState}
 use Rattle.opt_files.specs.Effects.{LooksOnly}
 use Rattle.opt_fs.specs.Listing.{MayWalk, IsMapIn}
 use Rattle.opt_fs.proofs.looking.Found.{same_files, draft_stays, facts_are}
+use Rattle.opt_fs.proofs.looking.Facts.{file_told, not_file}
 
 module _ (tells failed : Bool) (s t : State) (d : DraftState) (k : LooksOnly tells failed s t) where
   -- nodes may be looked at still
@@ -30,22 +29,12 @@ module _ (tells failed : Bool) (s t : State) (d : DraftState) (k : LooksOnly tel
     map = subst (λ (b : Bookkeeping). IsMapOf b.geom.i m tree) (sym k.books) h.map;
   }
 
-no_file : (b : Bool) (o : Option (List Slot)) (links : ℕ) (bytes : List ℕ) → when b (option_map ADir o) ≡ Some (AFile links bytes) → ⊥
-no_file false o links bytes e = absurd cc
-no_file true None links bytes e = absurd cc
-no_file true (Some slots) links bytes e = absurd cc
-
--- what reads as a file isn't a directory, and the other way round
+-- what reads as a directory
 dir_by : (kind : NodeKind) (links : ℕ) (bytes : List ℕ) (inode : Inode) → is_dir kind ≡ true → inode_by kind links bytes ≡ Some inode → (slots : List Slot) × (inode ≡ ADir slots)
 dir_by Free links bytes inode dir reads = absurd cc
 dir_by File links bytes inode dir reads = absurd cc
 dir_by Dir links bytes (ADir slots) dir reads = (slots, refl)
-dir_by Dir links bytes (AFile l b) dir reads = absurd (no_file (links == 1) _ l b reads)
-
-file_by : (kind : NodeKind) (links : ℕ) (bytes : List ℕ) (inode : Inode) → is_dir kind ≡ false → inode_by kind links bytes ≡ Some inode → inode ≡ AFile links bytes
-file_by Free links bytes inode file reads = absurd (none-some inode reads)
-file_by File links bytes inode file reads = cc
-file_by Dir links bytes inode file reads = absurd cc
+dir_by Dir links bytes (AFile l b) dir reads = absurd (not_file (links == 1) _ l b reads)
 
 -- The node at a path of the tree, of which something is known or nothing.
 module _ (s : State) (d : DraftState) (m : Inodes) (t : Tree) (h : IsMapIn s d m t) (path : List (List ℕ)) (number : ℕ) (leads : LeadsTo m path number) where
@@ -71,4 +60,4 @@ module _ (s : State) (d : DraftState) (m : Inodes) (t : Tree) (h : IsMapIn s d m
     pub bytes_there : is_dir facts.kind ≡ false → m number ≡ Some (AFile file_there.0.links file_there.0.bytes)
     bytes_there file =
         let x = file_there.0 in
-        here ∙ some_there.1 ∙ ap Some (file_by x.kind x.links x.bytes some_there.0 (sym (ap (λ (f : FileFacts). is_dir f.kind) file_there.2) ∙ file) some_there.1)
+        here ∙ file_told x.kind x.links x.bytes some_there.0 some_there.1 (sym (ap (λ (f : FileFacts). is_dir f.kind) file_there.2) ∙ file)

@@ -26,12 +26,6 @@ pub record Wrote (old now : Option (List ℕ)) (rest whole : List ℕ) : Type 0 
   pub taken : Appends old now done
   pub split : done ++ rest ≡ whole
 
-pub wrote_nothing : (old : Option (List ℕ)) (rest whole : List ℕ) → rest ≡ whole → Wrote old old rest whole
-wrote_nothing old rest whole is = record { done = []; taken = Appends-nil old; split = is }
-
-pub wrote_first : (old now : Option (List ℕ)) (first rest whole : List ℕ) → Appends old now first → first ++ rest ≡ whole → Wrote old now rest whole
-wrote_first old now first rest whole taken is = record { done = first; taken = taken; split = is }
-
 pub wrote_more : (old now new : Option (List ℕ)) (left piece rest whole : List ℕ) → Wrote old now left whole → left ≡ piece ++ rest → Appends now new piece
     → Wrote old new rest whole
 wrote_more old now new left piece rest whole so_far is taken = record {
@@ -63,10 +57,6 @@ took_nothing old whole = (0, Appends-nil old)
 -- the kind with its blank, the path and the number
 abbrev pub head : List ℕ → List (List ℕ) → ℕ → List ℕ
 head kind path n = kind ++ path_text path ++ codes " " ++ decimal n
-
-pub slashed_all : (path : List (List ℕ)) → 0 < length path → slashed path ≡ path_text path
-slashed_all [] some = absurd (omega arith)
-slashed_all (name ∷ path) some = refl
 
 -- the next name of a path, and those behind it
 pub slashed_next : (path : List (List ℕ)) (i : ℕ) (name : List ℕ) → i < length path → name ≡ get_or path i name

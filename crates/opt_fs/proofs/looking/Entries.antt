@@ -1,16 +1,14 @@
 -- What stands under a name in a directory, from what was found there, and what a path comes to then.
 use Rattle.std.proofs.Common.{◌≡◌, ◌⊎◌, inl, inr, ℕ, ◌-◌, Bool, false, IsTrue, List, [], ◌∷◌, ◌++◌, length, slice_get, Option, None, Some, option_map, Result, Ok, refl, sym, subst, ap, ◌∙◌, arith, length-append}
 use Rattle.std.proofs.Math.Seq.{get_or-append_seam}
-use Rattle.std.proofs.lemmas.Option.{none-some, slice_get-get_or}
+use Rattle.std.proofs.lemmas.Option.{none-some, slice_get-get_or, same_Some}
 use Rattle.opt_layout.specs.declared.slot.Slot.{Slot}
-use Rattle.opt_dirent.specs.Directory.{place_of}
 use Rattle.opt_tree.specs.declared.command.Refusal.{Refusal}
 use Rattle.opt_tree.specs.Tree.{Tree}
 use Rattle.opt_tree.specs.Paths.{parent}
 use Rattle.opt_stands.specs.Files.{Files}
 use Rattle.opt_stands.specs.Inodes.{Inode, ADir, inodes_of}
 use Rattle.opt_stands.specs.Maps.{IsMapOf}
-use Rattle.opt_stands.specs.Walks.{node_in}
 use Rattle.opt_inodes.specs.Changes.{slot_of}
 use Rattle.opt_blocks.specs.State.{Bookkeeping, State}
 use Rattle.opt_files.specs.declared.look.FileFacts.{FileFacts}
@@ -22,15 +20,9 @@ use Rattle.opt_dirs.specs.Directories.{inodes_in, slot_count, EndsAtParent, Find
 use Rattle.opt_fs.specs.declared.paths.Entry.{Entry}
 use Rattle.opt_fs.specs.declared.paths.Spot.TheVariants.{Inside}
 use Rattle.opt_fs.specs.Looks.{ComesTo, HasEntry}
-use Rattle.opt_fs.proofs.looking.Found.{facts_are, is_used, same_files}
+use Rattle.opt_fs.proofs.looking.Found.{facts_are, files_stay, is_used}
 use Rattle.opt_fs.proofs.looking.Spots.{from_end, above}
-
-some_same : {A : Type 0} (x y : A) → Some x ≡ Some y → x ≡ y
-some_same x y e = cc
-
--- where a name was found, its slot is there and names the node
-abbrev PlaceLaw : Type 0
-PlaceLaw = (slots : List Slot) (name : List ℕ) (place : ℕ) → place_of name slots ≡ Some place → (node : ℕ) × (slice_get slots place ≡ Some (slot_of node name)) × (node_in slots name ≡ Some node)
+use Rattle.opt_fs.proofs.Given.{PlaceLaw}
 
 module _ (files : Files) (dir : ℕ) (slots : List Slot) (name : List ℕ) (at : inodes_of files dir ≡ Some (ADir slots)) where
   -- nothing was found
@@ -49,7 +41,7 @@ module _ (files : Files) (dir : ℕ) (slots : List Slot) (name : List ℕ) (at :
   no_stray law used found finds unknown =
       let r = law slots name found.place (sym finds.place) in
       let x = used dir found.place slots (slot_of r.0 name) at r.1 in
-      absurd (is_used (files found.node) x.0 (ap (inodes_of files) (some_same found.node r.0 (finds.node ∙ r.2)) ∙ x.1) unknown)
+      absurd (is_used (files found.node) x.0 (ap (inodes_of files) (same_Some found.node r.0 (finds.node ∙ r.2)) ∙ x.1) unknown)
 
 -- what the walk to the directory above a path comes to in an empty draft
 pub above_as : (s : State) (d : DraftState) (path : List (List ℕ)) (end r : Result (Option ℕ) Refusal) → d ≡ nothing_drafted → end ≡ r
@@ -73,7 +65,7 @@ last_name path names name same is = by (from_end path)
     by : (path ≡ []) ⊎ ((up : List (List ℕ)) × (a : List ℕ) × (path ≡ up ++ a ∷ [])) → path ≡ parent path ++ name ∷ []
     by (inl none) = absurd (none-some name (sym (is ∙ ap (λ l. slice_get l (length l - 1)) (same ∙ none) ∙ nothing)))
     by (inr r) =
-        let named : name ≡ r.1 = some_same name r.1 (is ∙ ap (λ l. slice_get l (length l - 1)) (same ∙ r.2) ∙ at_end r.0 r.1) in
+        let named : name ≡ r.1 = same_Some name r.1 (is ∙ ap (λ l. slice_get l (length l - 1)) (same ∙ r.2) ∙ at_end r.0 r.1) in
         r.2 ∙ ap (λ n. r.0 ++ n ∷ []) (sym named) ∙ ap (λ up. up ++ name ∷ []) (sym (ap parent r.2 ∙ above r.0 r.1))
 
 -- a path whose directory was found comes to an entry there, or to none
@@ -82,24 +74,24 @@ pub comes_inside : (files : Files) (path names : List (List ℕ)) (name : List �
     → ComesTo files path (Ok (Inside dir count entry))
 comes_inside files path names name dir count entry same is ends counted has =
     let slots = ends.2.0 in
-    let many : count ≡ length slots = some_same count (length slots) (counted (ADir slots) ends.2.1) in
+    let many : count ≡ length slots = same_Some count (length slots) (counted (ADir slots) ends.2.1) in
     (parent path, name, last_name path names name same is, ends.1, subst (λ n. HasEntry files dir n name entry) (sym many) (has slots ends.2.1))
 
 -- the directory above a path has slots
 pub no_file_above : {A : Type 0} (files : Files) (path : List (List ℕ)) (dir : ℕ) → EndsAtParent (inodes_of files) path (Ok (Some dir)) → ((x : Inode) → inodes_of files dir ≡ Some x → None ≡ slot_count x) → A
 no_file_above files path dir ends counted = absurd (none-some (length ends.2.0) (counted (ADir ends.2.0) ends.2.1))
 
--- after looks an empty draft has the files that it had
+-- after looks an empty draft has the map that it had
 module _ (tells : Bool) (s t : State) (d : DraftState) (none : d ≡ nothing_drafted) (told : IsTrue tells) (looks : LooksOnly tells false s t) where
-  pub files_stay : files_in t d ≡ files_in s nothing_drafted
-  files_stay = same_files tells false s t d looks told ∙ ap (files_in s) none
+  same : files_in t d ≡ files_in s nothing_drafted
+  same = files_stay tells s t d none told looks
 
   pub map_stays : (tree : Tree) → IsMapOf s.books.geom.i (inodes_in s nothing_drafted) tree → IsMapOf t.books.geom.i (inodes_in t d) tree
-  map_stays tree map = subst (λ (b : Bookkeeping). IsMapOf b.geom.i (inodes_in t d) tree) (sym looks.books) (subst (λ files. IsMapOf s.books.geom.i (inodes_of files) tree) (sym files_stay) map)
+  map_stays tree map = subst (λ (b : Bookkeeping). IsMapOf b.geom.i (inodes_in t d) tree) (sym looks.books) (subst (λ files. IsMapOf s.books.geom.i (inodes_of files) tree) (sym same) map)
 
   -- and what stands under a name there stood there before
   pub entry_stays : (dir : ℕ) (name : List ℕ) (entry : Option Entry) (tree : Tree) → IsMapOf s.books.geom.i (inodes_in s nothing_drafted) tree
       → ((u : Tree) (slots : List Slot) → IsMapOf t.books.geom.i (inodes_in t d) u → inodes_in t d dir ≡ Some (ADir slots) → HasEntry (files_in t d) dir (length slots) name entry)
       → (slots : List Slot) → inodes_in s nothing_drafted dir ≡ Some (ADir slots) → HasEntry (files_in s nothing_drafted) dir (length slots) name entry
   entry_stays dir name entry tree map has slots at =
-      subst (λ files. HasEntry files dir (length slots) name entry) files_stay (has tree slots (map_stays tree map) (ap (λ files. inodes_of files dir) files_stay ∙ at))
+      subst (λ files. HasEntry files dir (length slots) name entry) same (has tree slots (map_stays tree map) (ap (λ files. inodes_of files dir) same ∙ at))

@@ -1,7 +1,7 @@
 -- What inodes say of the node at a path, from what is known of the node.
 use Rattle.std.proofs.Common.{◌≡◌, ℕ, ◌*◌, ◌%◌, Bool, true, false, not, nat_lt, List, [], ◌∷◌, length, Option, None, Some, option_map, option_and_then, ◌==◌, refl, sym, subst, ap, ◌∙◌, arith}
 use Rattle.std.proofs.lemmas.Bool.{true≢false, lt-ltb, eqb-true}
-use Rattle.std.proofs.lemmas.Option.{none-some}
+use Rattle.std.proofs.lemmas.Option.{none-some, same_Some}
 use Rattle.opt_layout.specs.declared.slot.Slot.{Slot}
 use Rattle.opt_layout.specs.declared.node.NodeKind.{NodeKind}
 use Rattle.opt_layout.specs.declared.node.NodeKind.TheVariants.{Free, Dir, File}
@@ -13,11 +13,8 @@ use Rattle.opt_inodes.specs.Lookups.{is_dir_inode, is_file_inode, is_list, has_s
 use Rattle.opt_files.specs.Calls.{facts_of, is_dir}
 use Rattle.opt_fs.specs.Looks.{ShowsFacts}
 
-some_same : {A : Type 0} (x y : A) → Some x ≡ Some y → x ≡ y
-some_same x y e = cc
-
 -- what reads as a directory isn't a file
-not_file : (b : Bool) (o : Option (List Slot)) (links : ℕ) (bytes : List ℕ) → when b (option_map ADir o) ≡ Some (AFile links bytes) → ⊥
+pub not_file : (b : Bool) (o : Option (List Slot)) (links : ℕ) (bytes : List ℕ) → when b (option_map ADir o) ≡ Some (AFile links bytes) → ⊥
 not_file false o links bytes e = absurd cc
 not_file true None links bytes e = absurd cc
 not_file true (Some slots) links bytes e = absurd cc
@@ -41,7 +38,7 @@ any_slots (s ∷ slots) size e = sym (lt-ltb 0 size (omega (arith, e)))
 
 tells : (kind : NodeKind) (links : ℕ) (bytes : List ℕ) (inode : Inode) → inode_by kind links bytes ≡ Some inode → ((slots : List Slot) → kind ≡ Dir → inode ≡ ADir slots → length bytes ≡ 64 * length slots) → Tells kind links bytes (Some inode)
 tells Free links bytes inode reads size = absurd (none-some inode reads)
-tells File links bytes inode reads size = subst (λ i. Tells File links bytes (Some i)) (some_same (AFile links bytes) inode reads) (record { dir = refl; file = refl; links_are = refl; bytes_are = λ file. refl; slots_are = λ dir. absurd (true≢false (sym dir)) })
+tells File links bytes inode reads size = subst (λ i. Tells File links bytes (Some i)) (same_Some (AFile links bytes) inode reads) (record { dir = refl; file = refl; links_are = refl; bytes_are = λ file. refl; slots_are = λ dir. absurd (true≢false (sym dir)) })
 tells Dir links bytes (AFile l b) reads size = absurd (not_file (links == 1) _ l b reads)
 tells Dir links bytes (ADir slots) reads size = record {
   dir = refl;
@@ -54,7 +51,7 @@ tells Dir links bytes (ADir slots) reads size = record {
 -- what is told of a node's kind and links, whatever size it has
 pub kind_told : (kind : NodeKind) (links : ℕ) (bytes : List ℕ) (inode : Inode) → inode_by kind links bytes ≡ Some inode → (is_dir_inode (Some inode) ≡ is_dir kind) × (links_in (Some inode) ≡ links)
 kind_told Free links bytes inode reads = absurd (none-some inode reads)
-kind_told File links bytes inode reads = subst (λ i. (is_dir_inode (Some i) ≡ false) × (links_in (Some i) ≡ links)) (some_same (AFile links bytes) inode reads) (refl, refl)
+kind_told File links bytes inode reads = subst (λ i. (is_dir_inode (Some i) ≡ false) × (links_in (Some i) ≡ links)) (same_Some (AFile links bytes) inode reads) (refl, refl)
 kind_told Dir links bytes (AFile l b) reads = absurd (not_file (links == 1) _ l b reads)
 kind_told Dir links bytes (ADir slots) reads = (refl, one_link links (links == 1) _ slots refl reads)
 

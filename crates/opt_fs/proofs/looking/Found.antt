@@ -6,7 +6,7 @@ use Rattle.opt_base.specs.Seal.{Blocks}
 use Rattle.opt_blocks.specs.State.{Bookkeeping, State}
 use Rattle.opt_tree.specs.declared.command.Refusal.{Refusal}
 use Rattle.opt_tree.specs.Tree.{Tree}
-use Rattle.opt_stands.specs.Files.{FileNode, files_of}
+use Rattle.opt_stands.specs.Files.{FileNode, Files, files_of}
 use Rattle.opt_stands.specs.Inodes.{Inode, inode_of, inodes_of}
 use Rattle.opt_stands.specs.Maps.{IsMapOf}
 use Rattle.opt_stands.specs.Walks.{LeadsTo}
@@ -72,34 +72,34 @@ pub is_used : (o : Option FileNode) (x : Inode) → option_and_then inode_of o �
 is_used None x e none = none-some x e
 is_used (Some file) x e none = none-some (facts_of file) none
 
+-- after looks an empty draft has the files that it had
+pub files_stay : (tells : Bool) (s t : State) (d : DraftState) → d ≡ nothing_drafted → IsTrue tells → LooksOnly tells false s t → files_in t d ≡ files_in s nothing_drafted
+files_stay tells s t d none told looks = same_files tells false s t d looks told ∙ ap (files_in s) none
+
 -- a node that something is known of is in use
 pub there_so : (tells : Bool) (s mid : State) (d : DraftState) (number : ℕ) (facts : FileFacts) → d ≡ nothing_drafted → IsTrue tells → LooksOnly tells false s mid → Some facts ≡ option_map facts_of (files_in mid d number)
     → (x : FileNode) × (files_in s nothing_drafted number ≡ Some x) × (facts ≡ facts_of x)
 there_so tells s mid d number facts none told looks known =
-    let same : files_in mid d number ≡ files_in s nothing_drafted number = ap (λ f. f number) (same_files tells false s mid d looks told) ∙ ap (λ e. files_in s e number) none in
-    facts_are (files_in s nothing_drafted number) facts (known ∙ ap (option_map facts_of) same)
+    facts_are (files_in s nothing_drafted number) facts (known ∙ ap (λ (files : Files). option_map facts_of (files number)) (files_stay tells s mid d none told looks))
 
 -- what an empty draft has after a look is what it had before
 pub file_stays : (tells : Bool) (s mid : State) (d : DraftState) (number : ℕ) (x : FileNode) → d ≡ nothing_drafted → IsTrue tells → LooksOnly tells false s mid → files_in s nothing_drafted number ≡ Some x → files_in mid d number ≡ Some x
 file_stays tells s mid d number x none told looks at =
-    ap (λ f. f number) (same_files tells false s mid d looks told) ∙ ap (λ e. files_in s e number) none ∙ at
+    ap (λ (files : Files). files number) (files_stay tells s mid d none told looks) ∙ at
 
 pub inode_stays : (tells : Bool) (s mid : State) (d : DraftState) (number : ℕ) (x : Inode) → d ≡ nothing_drafted → IsTrue tells → LooksOnly tells false s mid → inodes_in s nothing_drafted number ≡ Some x → inodes_in mid d number ≡ Some x
 inode_stays tells s mid d number x none told looks at =
-    ap (option_and_then inode_of) (ap (λ f. f number) (same_files tells false s mid d looks told) ∙ ap (λ e. files_in s e number) none) ∙ at
+    ap (λ (files : Files). inodes_of files number) (files_stay tells s mid d none told looks) ∙ at
 
 -- the node that a path leads to, once it was looked at
 pub found_so : (tells : Bool) (s mid : State) (d : DraftState) (path : List (List ℕ)) (number : ℕ) (facts : FileFacts) → d ≡ nothing_drafted → IsTrue tells → LooksOnly tells false s mid
     → walk_on (inodes_of (files_in s nothing_drafted)) 1 path ≡ Ok number → Some facts ≡ option_map facts_of (files_in mid d number)
     → (walk_on (inodes_of (files_in s nothing_drafted)) 1 path ≡ Ok number) × ((x : FileNode) × (files_in s nothing_drafted number ≡ Some x) × (facts ≡ facts_of x))
-found_so tells s mid d path number facts none told looks walked known =
-    let same : files_in mid d number ≡ files_in s nothing_drafted number = ap (λ f. f number) (same_files tells false s mid d looks told) ∙ ap (λ e. files_in s e number) none in
-    (walked, facts_are (files_in s nothing_drafted number) facts (known ∙ ap (option_map facts_of) same))
+found_so tells s mid d path number facts none told looks walked known = (walked, there_so tells s mid d number facts none told looks known)
 
 -- a path that leads to a number leads to a node in use
 pub found_none : {A : Type 0} (tells : Bool) (s mid : State) (d : DraftState) (path : List (List ℕ)) (number : ℕ) (t : Tree) → d ≡ nothing_drafted → IsTrue tells → LooksOnly tells false s mid
     → IsMapOf s.books.geom.i (inodes_in s nothing_drafted) t → LeadsTo (inodes_in s nothing_drafted) path number → None ≡ option_map facts_of (files_in mid d number) → A
 found_none {A} tells s mid d path number t none told looks map leads unknown =
-    let same : files_in mid d number ≡ files_in s nothing_drafted number = ap (λ f. f number) (same_files tells false s mid d looks told) ∙ ap (λ e. files_in s e number) none in
     let used = map.shows.used path number leads in
-    absurd (is_used (files_in s nothing_drafted number) used.0 used.1 (unknown ∙ ap (option_map facts_of) same))
+    absurd (is_used (files_in s nothing_drafted number) used.0 used.1 (unknown ∙ ap (λ (files : Files). option_map facts_of (files number)) (files_stay tells s mid d none told looks)))

@@ -1,11 +1,10 @@
 -- What the tree answers a command that only looks, from the node at the path.
-use Rattle.std.proofs.Common.{◌≡◌, ℕ, ◌*◌, Bool, true, false, List, length, ◌∷◌, [], take, drop, Option, None, Some, option_map, option_and_then, Ok, Err, ◌==◌, refl, sym, subst, ap, ◌∙◌}
+use Rattle.std.proofs.Common.{◌≡◌, ℕ, ◌*◌, true, false, List, length, ◌∷◌, [], take, drop, None, Some, option_and_then, Ok, Err, ◌==◌, refl, sym, subst, ap, ◌∙◌}
 use Rattle.std.proofs.lemmas.Option.{none-some}
 use Rattle.std.proofs.lemmas.Bool.{true≢false}
 use Rattle.opt_layout.specs.declared.slot.Slot.{Slot}
 use Rattle.opt_layout.specs.declared.node.NodeKind.{NodeKind}
 use Rattle.opt_layout.specs.declared.node.NodeKind.TheVariants.{Free, Dir, File}
-use Rattle.opt_layout.specs.Bytes.{when}
 use Rattle.opt_tree.specs.declared.command.Cmd.{Cmd}
 use Rattle.opt_tree.specs.declared.command.Cmd.TheVariants.{Read, Stat as StatCmd, List as ListNames}
 use Rattle.opt_tree.specs.declared.command.Refusal.{Refusal}
@@ -26,12 +25,7 @@ use Rattle.opt_inodes.specs.Names.{names_of, stat_at, stat_by}
 use Rattle.opt_inodes.specs.Replies.{reply_by, reply_of}
 use Rattle.opt_fs.specs.Looks.{stat_of_kind}
 use Rattle.opt_fs.specs.Sessions.{IsSession}
-
--- what reads as a directory isn't a file
-not_file : (b : Bool) (o : Option (List Slot)) (links : ℕ) (bytes : List ℕ) → when b (option_map ADir o) ≡ Some (AFile links bytes) → ⊥
-not_file false o links bytes e = absurd cc
-not_file true None links bytes e = absurd cc
-not_file true (Some slots) links bytes e = absurd cc
+use Rattle.opt_fs.proofs.looking.Facts.{file_told, kind_told, not_file}
 
 -- what is told of a node that reads as an inode is what the inode gives
 pub stat_told : (kind : NodeKind) (links : ℕ) (bytes : List ℕ) (inode : Inode) (n : ℕ) → inode_by kind links bytes ≡ Some inode
@@ -115,27 +109,18 @@ module _ (s : State) (f : Session) (h : IsSession s f) (map : IsMapOf s.books.ge
     stat_there size = stat_told x.kind x.links x.bytes inode n reads (λ slots dir is. size slots dir (reads ∙ ap Some is)) ∙ sym (stat_is m f.limit path n inode walked leads here) ∙ sym (laws (StatCmd path) refl in_session)
 
     -- a file reads as one, and a directory too
-    by_kind : (k : NodeKind) (links : ℕ) (bytes : List ℕ) (i : Inode) → inode_by k links bytes ≡ Some i → is_dir k ≡ is_dir_inode (Some i)
-    by_kind Free links bytes i e = absurd (none-some i e)
-    by_kind Dir links bytes (ADir slots) e = refl
-    by_kind Dir links bytes (AFile l b) e = absurd (not_file (links == 1) _ l b e)
-    by_kind File links bytes (ADir slots) e = absurd cc
-    by_kind File links bytes (AFile l b) e = refl
-
-    file_bytes : (k : NodeKind) (links : ℕ) (bytes : List ℕ) (l : ℕ) (b : List ℕ) → inode_by k links bytes ≡ Some (AFile l b) → bytes ≡ b
-    file_bytes Free links bytes l b e = absurd (none-some (AFile l b) e)
-    file_bytes Dir links bytes l b e = absurd (not_file (links == 1) _ l b e)
-    file_bytes File links bytes l b e = cc
+    kind_is : (i : Inode) → inode_of x ≡ Some i → is_dir_inode (Some i) ≡ is_dir x.kind
+    kind_is i e = (kind_told x.kind x.links x.bytes i e).0
 
     read_is : (offset count : ℕ) (i : Inode) → inode_of x ≡ Some i → m n ≡ Some i → (is_dir x.kind ≡ true → Refused IsDir ≡ reply_of f.limit m (Read path offset count))
         × (is_dir x.kind ≡ false → Bytes (take count (drop offset x.bytes)) ≡ reply_of f.limit m (Read path offset count))
     read_is offset count (ADir slots) e is = (
       (λ dir. read_dir m f.limit path n offset count slots walked leads is),
-      (λ file. absurd (true≢false (sym (by_kind x.kind x.links x.bytes (ADir slots) e) ∙ file))),
+      (λ file. absurd (true≢false (kind_is (ADir slots) e ∙ file))),
     )
     read_is offset count (AFile l b) e is = (
-      (λ dir. absurd (true≢false (sym dir ∙ by_kind x.kind x.links x.bytes (AFile l b) e))),
-      (λ file. ap (λ bytes. Bytes (take count (drop offset bytes))) (file_bytes x.kind x.links x.bytes l b e) ∙ read_file m f.limit path n offset count l b walked leads is),
+      (λ dir. absurd (true≢false (sym dir ∙ sym (kind_is (AFile l b) e)))),
+      (λ file. ap (λ bytes. Bytes (take count (drop offset bytes))) (ap bytes_of (sym (file_told x.kind x.links x.bytes (AFile l b) e file) ∙ e)) ∙ read_file m f.limit path n offset count l b walked leads is),
     )
 
     pub read_there : (offset count : ℕ) → (is_dir x.kind ≡ true → Refused IsDir ≡ (step f (Read path offset count)).1) × (is_dir x.kind ≡ false → Bytes (take count (drop offset x.bytes)) ≡ (step f (Read path offset count)).1)
@@ -147,12 +132,12 @@ module _ (s : State) (f : Session) (h : IsSession s f) (map : IsMapOf s.books.ge
     list_is : (i : Inode) → inode_of x ≡ Some i → m n ≡ Some i → (is_dir x.kind ≡ false → Refused NotDir ≡ reply_of f.limit m (ListNames path))
         × (is_dir x.kind ≡ true → (slots : List Slot) × (i ≡ ADir slots) × (NamesReply (names_of slots) ≡ reply_of f.limit m (ListNames path)))
     list_is (ADir slots) e is = (
-      (λ file. absurd (true≢false (sym (by_kind x.kind x.links x.bytes (ADir slots) e) ∙ file))),
+      (λ file. absurd (true≢false (kind_is (ADir slots) e ∙ file))),
       (λ dir. (slots, refl, list_dir m f.limit path n slots walked leads is)),
     )
     list_is (AFile l b) e is = (
       (λ file. list_file m f.limit path n l b walked leads is),
-      (λ dir. absurd (true≢false (sym dir ∙ by_kind x.kind x.links x.bytes (AFile l b) e))),
+      (λ dir. absurd (true≢false (sym dir ∙ sym (kind_is (AFile l b) e)))),
     )
 
     pub list_there : (is_dir x.kind ≡ false → Refused NotDir ≡ (step f (ListNames path)).1)

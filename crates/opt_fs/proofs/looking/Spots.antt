@@ -1,6 +1,6 @@
 -- What a path comes to gives the walk along it, the number at it and the slots above it.
 use Rattle.std.proofs.Common.{◌≡◌, ◌⊎◌, inl, inr, ℕ, suc, ◌-◌, Bool, true, false, List, [], ◌∷◌, ◌++◌, length, take, Option, None, Some, option_map, option_and_then, Result, Ok, Err, if◌then◌else◌, refl, sym, ap, ◌∙◌, arith}
-use Rattle.std.proofs.lemmas.Option.{none-some}
+use Rattle.std.proofs.lemmas.Option.{none-some, same_Some}
 use Rattle.opt_layout.specs.declared.slot.Slot.{Slot}
 use Rattle.opt_tree.specs.declared.command.Refusal.{Refusal}
 use Rattle.opt_tree.specs.declared.command.Refusal.TheVariants.{NotDir}
@@ -16,9 +16,7 @@ use Rattle.opt_fs.specs.declared.paths.Entry.{Entry}
 use Rattle.opt_fs.specs.declared.paths.Spot.{Spot}
 use Rattle.opt_fs.specs.declared.paths.Spot.TheVariants.{Root as TheRoot, Inside}
 use Rattle.opt_fs.specs.Looks.{ComesTo, walk_of, number_of}
-
-some_same : {A : Type 0} (x y : A) → Some x ≡ Some y → x ≡ y
-some_same x y e = cc
+use Rattle.opt_fs.proofs.Given.{EndsLaw}
 
 -- one name more behind what a walk came to
 abbrev then_enter : Inodes → List ℕ → Result ℕ Refusal → Result ℕ Refusal
@@ -63,12 +61,12 @@ reason_by m (a ∷ up) name = ap (λ p. dir_reason m (walk_on m 1 p)) (above (a 
 
 -- a walk to a path in whose directory nothing can come to be
 refused_by : (m : Inodes) (name : List ℕ) (r : Result ℕ Refusal) (why : Refusal) → dir_reason m r ≡ Some why → then_enter m name r ≡ Err why
-refused_by m name (Err other) why e = ap Err (some_same other why e)
+refused_by m name (Err other) why e = ap Err (same_Some other why e)
 refused_by m name (Ok n) why e = refused_at (is_dir_inode (m n)) (entry_in (m n) name) why e
   where
     refused_at : (b : Bool) (o : Option ℕ) (why : Refusal) → (if b then None else Some NotDir) ≡ Some why → enter b o Ok ≡ Err why
     refused_at true o why e = absurd (none-some why e)
-    refused_at false o why e = ap Err (some_same NotDir why e)
+    refused_at false o why e = ap Err (same_Some NotDir why e)
 
 pub walk_refused : (m : Inodes) (path : List (List ℕ)) (why : Refusal) → parent_reason m path ≡ Some why → walk_on m 1 path ≡ Err why
 walk_refused m path why e = by (from_end path)
@@ -97,7 +95,7 @@ none_against files path (Inside dir count entry) (up, name, is, at, h) =
     ap (parent_reason m) is ∙ reason_by m up name ∙ ap (dir_reason m) at ∙ ap (λ o. if is_dir_inode o then None else Some NotDir) h.dir
 
 -- the number at the path
-pub number_is : ((m : Inodes) (path : List (List ℕ)) (k : ℕ) → walk_on m 1 path ≡ Ok k → LeadsTo m path k)
+pub number_is : EndsLaw
     → ((m : Inodes) (up : List (List ℕ)) (name : List ℕ) (dir : ℕ) (slots : List Slot) → LeadsTo m up dir → m dir ≡ Some (ADir slots) → number_at m (up ++ name ∷ []) ≡ node_in slots name)
     → (files : Files) (path : List (List ℕ)) (spot : Spot) → ComesTo files path (Ok spot) → number_at (inodes_of files) path ≡ number_of spot
 number_is ends last files path TheRoot h = ap (number_at (inodes_of files)) h
@@ -106,7 +104,7 @@ number_is ends last files path (Inside dir count entry) (up, name, is, at, h) =
     ap (number_at m) is ∙ last m up name dir h.slots (ends m up dir at) h.dir ∙ sym h.node
 
 -- the slots above the path
-pub slots_are : ((m : Inodes) (path : List (List ℕ)) (k : ℕ) → walk_on m 1 path ≡ Ok k → LeadsTo m path k)
+pub slots_are : EndsLaw
     → (files : Files) (path : List (List ℕ)) (dir count : ℕ) (entry : Option Entry) → ComesTo files path (Ok (Inside dir count entry)) → count ≡ slots_above (inodes_of files) path
 slots_are ends files path dir count entry (up, name, is, at, h) =
     let m = inodes_of files in

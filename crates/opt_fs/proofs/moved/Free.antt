@@ -1,9 +1,9 @@
 -- A name that moves to a free one: of its directory, and of another one.
-use Rattle.std.proofs.Common.{◌≡◌, ◌≢◌, ℕ, ◌<◌, List, [], ◌∷◌, ◌++◌, length, set, None, Some, sym, subst, ◌∙◌}
+use Rattle.std.proofs.Common.{◌≡◌, ◌≢◌, ℕ, ◌<◌, List, [], ◌∷◌, ◌++◌, length, set, None, sym, subst, ◌∙◌}
 use Rattle.opt_layout.specs.declared.slot.Slot.{Slot}
 use Rattle.opt_dirent.specs.Directory.{place_of, without_at}
 use Rattle.opt_stands.specs.Files.{Files}
-use Rattle.opt_stands.specs.Inodes.{ADir, inodes_of}
+use Rattle.opt_stands.specs.Inodes.{inodes_of}
 use Rattle.opt_stands.specs.Walks.{node_in}
 use Rattle.opt_inodes.specs.Changes.{slot_of, with_slot, MovesSlot}
 use Rattle.opt_dirs.specs.Changing.{IsWithSlots}
@@ -11,11 +11,8 @@ use Rattle.opt_fs.specs.declared.removing.Named.{Named}
 use Rattle.opt_fs.specs.Moving.{HasNamed, LacksName}
 use Rattle.opt_fs.specs.Sessions.{AreUsedBelow}
 use Rattle.opt_fs.proofs.moved.Onto.{place_within}
-use Rattle.opt_fs.proofs.moved.Slots.{within, across}
+use Rattle.opt_fs.proofs.moved.Slots.{within, across, slots_same}
 use Rattle.opt_fs.proofs.removed.Slots.{slots_used}
-
-slots_same : (a b : List Slot) → Some (ADir a) ≡ Some (ADir b) → a ≡ b
-slots_same a b e = cc
 
 -- within one directory
 module _ (f0 f1 : Files) (source : Named) (name other : List ℕ) (hs : HasNamed (inodes_of f0) name source) (free : LacksName (inodes_of f0) other source.dir source.count)

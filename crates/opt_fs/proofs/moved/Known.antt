@@ -1,8 +1,7 @@
 -- What a rename that was found, and that the tree accepts, is: the two names, where they stand, and that its draft may begin.
-use Rattle.std.proofs.Common.{◌≡◌, ◌≢◌, ℕ, ◌+◌, ◌^◌, ◌==◌, ◌≤◌, ◌&&◌, if◌then◌else◌, Bool, true, false, not, List, [], ◌∷◌, ◌++◌, length, slice_get, is_some, Option, None, Some, option_map, option_and_then, IfSome, Ok, refl, sym, subst, ap, ap₂, ◌∙◌, arith}
+use Rattle.std.proofs.Common.{◌≡◌, ◌≢◌, ℕ, ◌+◌, ◌^◌, ◌==◌, ◌≤◌, ◌&&◌, if◌then◌else◌, Bool, true, false, not, List, [], ◌∷◌, ◌++◌, length, is_some, Option, None, Some, option_map, option_and_then, IfSome, Ok, refl, sym, subst, ap, ap₂, ◌∙◌, arith}
 use Rattle.std.proofs.lemmas.Bool.{true≢false, ne_eqb}
-use Rattle.opt_layout.specs.declared.slot.Slot.{Slot}
-use Rattle.opt_dirent.specs.Directory.{place_of}
+use Rattle.std.proofs.lemmas.Option.{same_Some}
 use Rattle.opt_tree.specs.declared.command.Refusal.{Refusal}
 use Rattle.opt_tree.specs.declared.command.Refusal.TheVariants.{NotDir, IsDir, NotEmpty, BelowItself}
 use Rattle.opt_tree.specs.Conditions.{when}
@@ -10,11 +9,10 @@ use Rattle.opt_tree.specs.Figures.{blocks_for}
 use Rattle.opt_tree.specs.Paths.{is_below}
 use Rattle.opt_tree.specs.Walk.{are_same}
 use Rattle.opt_stands.specs.Files.{FileNode, Files}
-use Rattle.opt_stands.specs.Inodes.{Inodes, ADir, inodes_of}
-use Rattle.opt_stands.specs.Walks.{LeadsTo, node_in}
+use Rattle.opt_stands.specs.Inodes.{Inodes, inodes_of}
 use Rattle.opt_inodes.specs.Changes.{slot_of}
 use Rattle.opt_inodes.specs.Figures.{blocks_lost, slots_above}
-use Rattle.opt_inodes.specs.Lookups.{walk_on, number_at, inode_at, is_dir_inode, is_file_inode, has_slots}
+use Rattle.opt_inodes.specs.Lookups.{number_at, inode_at, is_dir_inode, is_file_inode, has_slots}
 use Rattle.opt_inodes.specs.Refusals.{rename_reason, onto_reason, walk_reason, parent_reason}
 use Rattle.opt_blocks.specs.State.{State}
 use Rattle.opt_files.specs.declared.look.FileFacts.{FileFacts}
@@ -28,18 +26,14 @@ use Rattle.opt_fs.specs.Looks.{ComesTo, HasEntry, ShowsFacts, number_of}
 use Rattle.opt_fs.specs.Moving.{HasNamed, IsMove, KnowsMove, LacksName, MayMoveOnto}
 use Rattle.opt_fs.specs.Removing.{IsFound, blocks_gone}
 use Rattle.opt_fs.specs.Sessions.{inodes}
-use Rattle.opt_fs.proofs.removed.Accepted.{no_reason, no_when, bare_facts, file_bare}
+use Rattle.opt_fs.proofs.removed.Accepted.{bare_facts, file_bare}
+use Rattle.opt_fs.proofs.moved.Slots.{slots_same}
 use Rattle.opt_fs.proofs.removed.Slots.{apart}
-
-some_as : {A : Type 0} (x y : A) → Some x ≡ Some y → x ≡ y
-some_as x y e = cc
-
--- a name stands at the place of its slot
-abbrev pub AtPlace : Type 0
-AtPlace = (slots : List Slot) (name : List ℕ) (place : ℕ) → place_of name slots ≡ Some place → (node : ℕ) × (slice_get slots place ≡ Some (slot_of node name)) × (node_in slots name ≡ Some node)
+use Rattle.opt_fs.proofs.FirstReason.{no_reason, no_when}
+use Rattle.opt_fs.proofs.Given.{EndsLaw, PlaceLaw}
 
 -- an entry that was found
-pub entry_named : (files : Files) (name : List ℕ) (n : Named) → AtPlace → HasEntry files n.dir n.count name (Some n.entry) → HasNamed (inodes_of files) name n
+pub entry_named : (files : Files) (name : List ℕ) (n : Named) → PlaceLaw → HasEntry files n.dir n.count name (Some n.entry) → HasNamed (inodes_of files) name n
 entry_named files name n law h =
     let at = law h.slots name n.entry.place (sym h.place) in
     record {
@@ -47,7 +41,7 @@ entry_named files name n law h =
       dir = h.dir;
       count = h.count;
       first = sym h.place;
-      slot = at.1 ∙ ap (λ k. Some (slot_of k name)) (some_as at.0 n.entry.node.number (sym at.2 ∙ sym h.node));
+      slot = at.1 ∙ ap (λ k. Some (slot_of k name)) (same_Some at.0 n.entry.node.number (sym at.2 ∙ sym h.node));
       node = sym h.node;
     }
 
@@ -117,7 +111,7 @@ so_there None = refl
 so_there (Some x) = refl
 
 -- what a rename that the tree accepts comes upon
-pub known_move : (files : Files) (from to : List (List ℕ)) (source : Named) (into count : ℕ) (found : Option Entry) (other : List ℕ) → AtPlace → ((m : Inodes) (path : List (List ℕ)) (k : ℕ) → walk_on m 1 path ≡ Ok k → LeadsTo m path k)
+pub known_move : (files : Files) (from to : List (List ℕ)) (source : Named) (into count : ℕ) (found : Option Entry) (other : List ℕ) → PlaceLaw → EndsLaw
     → ((path : List (List ℕ)) (spot : Spot) → ComesTo files path (Ok spot) → number_at (inodes_of files) path ≡ number_of spot)
     → ((path : List (List ℕ)) (dir count : ℕ) (entry : Option Entry) → ComesTo files path (Ok (Inside dir count entry)) → count ≡ slots_above (inodes_of files) path)
     → IsMove files from to source into count found other → KnowsMove files from to source into count found other
@@ -146,7 +140,7 @@ known_move files from to source into count found other place ends number above m
     }
 
 -- it may come onto what is at the second path
-pub known_onto : (s : State) (from to : List (List ℕ)) (source target : Named) (other : List ℕ) → AtPlace → (move : IsMove (files_in s nothing_drafted) from to source target.dir target.count (Some target.entry) other)
+pub known_onto : (s : State) (from to : List (List ℕ)) (source target : Named) (other : List ℕ) → PlaceLaw → (move : IsMove (files_in s nothing_drafted) from to source target.dir target.count (Some target.entry) other)
     → (k : KnowsMove (files_in s nothing_drafted) from to source target.dir target.count (Some target.entry) other)
     → ShowsFacts (inodes s) from source.entry.node.facts → ShowsFacts (inodes s) to target.entry.node.facts → number_at (inodes s) to ≡ Some target.entry.node.number
     → ((x : FileNode) → files_in s nothing_drafted target.entry.node.number ≡ Some x → length x.bytes + 1024 ≤ 2 ^ 30)
@@ -172,9 +166,6 @@ known_onto s from to source target other place move k a b there fits =
 -- to a free name of the source's directory
 same_count : (files : Files) (dir a b : ℕ) (x y : List ℕ) (e f : Option Entry) → HasEntry files dir a x e → HasEntry files dir b y f → a ≡ b
 same_count files dir a b x y e f g h = g.count ∙ ap length (slots_same g.slots h.slots (sym g.dir ∙ h.dir)) ∙ sym h.count
-  where
-    slots_same : (p q : List Slot) → Some (ADir p) ≡ Some (ADir q) → p ≡ q
-    slots_same p q e = cc
 
 pub move_within : (files : Files) (from to : List (List ℕ)) (source : Named) (into count : ℕ) (other : List ℕ) → source.dir ≡ into → IsMove files from to source into count None other → IsMove files from to source source.dir source.count None other
 move_within files from to source into count other same move =

@@ -13,11 +13,9 @@ use Rattle.opt_fs.specs.declared.removing.Named.{Named}
 use Rattle.opt_fs.specs.Moving.{HasNamed}
 use Rattle.opt_fs.specs.Removing.{IsFound, LosesLink, first_after}
 use Rattle.opt_fs.specs.Sessions.{AreUsedBelow}
-use Rattle.opt_fs.proofs.moved.Slots.{onto}
+use Rattle.opt_fs.proofs.moved.Slots.{onto, slots_same}
 use Rattle.opt_fs.proofs.removed.Slots.{found_still, lost_inode, lost_others, lost_reads, lost_used, slots_used, used_inode}
-
-dir_same : (a b : List Slot) → Some (ADir a) ≡ Some (ADir b) → a ≡ b
-dir_same a b e = cc
+use Rattle.opt_fs.proofs.Given.{SlotsReadLaw}
 
 -- the place of a name is one of the directory's
 pub place_within : (m : Inodes) (name : List ℕ) (n : Named) (h : HasNamed m name n) → n.entry.place < length h.slots
@@ -37,7 +35,7 @@ module _ (f0 f1 : Files) (source target : Named) (name other : List ℕ) (s : Sl
       by (inl e) = record {
         slots = set ht.slots target.entry.place s;
         is = ap (inodes_of f1) e ∙ one.inodes.here;
-        many = length-set ht.slots target.entry.place s ∙ ap length (dir_same ht.slots hs.slots (sym ht.dir ∙ sym (ap (inodes_of f0) e) ∙ hs.dir)) ∙ sym hs.count;
+        many = length-set ht.slots target.entry.place s ∙ ap length (slots_same ht.slots hs.slots (sym ht.dir ∙ sym (ap (inodes_of f0) e) ∙ hs.dir)) ∙ sym hs.count;
       }
       by (inr d) = record { slots = hs.slots; is = one.inodes.others source.dir d ∙ hs.dir; many = sym hs.count }
 
@@ -46,7 +44,7 @@ module _ (f0 f1 f2 f3 : Files) (source target : Named) (name other : List ℕ) (
     (not_node : target.entry.node.number ≢ source.entry.node.number) (not_from : target.entry.node.number ≢ source.dir) (not_into : target.entry.node.number ≢ target.dir) (found : IsFound f0 target.entry.node)
     (reads0 : AreInodesOf f0 (inodes_of f0)) (one : IsWithSlots f0 f1 target.dir (set ht.slots target.entry.place (slot_of source.entry.node.number other)))
     (mid : Between (inodes_of f1) source.dir source.count) (two : IsWithSlots f1 f2 source.dir (without_at source.entry.place mid.slots))
-    (still_read : (old new : Files) (k : ℕ) (slots : List Slot) → IsWithSlots old new k slots → AreInodesOf old (inodes_of old) → AreInodesOf new (inodes_of new)) where
+    (still_read : SlotsReadLaw) where
   pub reads2 : AreInodesOf f2 (inodes_of f2)
   reads2 = still_read f1 f2 source.dir (without_at source.entry.place mid.slots) two (still_read f0 f1 target.dir (set ht.slots target.entry.place (slot_of source.entry.node.number other)) one reads0)
 

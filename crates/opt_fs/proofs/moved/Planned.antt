@@ -1,6 +1,7 @@
 -- A draft in which a name moved makes the tree of the rename, and is within its cost.
-use Rattle.std.proofs.Common.{◌≡◌, ◌≢◌, ℕ, ◌+◌, ◌*◌, ◌≤◌, ◌==◌, min, cond, IsTrue, Bool, true, false, List, [], ◌∷◌, ◌++◌, length, None, Some, is_some, refl, sym, subst, ap, ap₂, ◌∙◌, arith}
+use Rattle.std.proofs.Common.{◌≡◌, ◌≢◌, ℕ, ◌+◌, ◌≤◌, ◌==◌, cond, IsTrue, Bool, true, false, List, [], ◌∷◌, ◌++◌, length, take, None, Some, is_some, refl, sym, subst, ap, ap₂, ◌∙◌, arith}
 use Rattle.std.proofs.lemmas.Bool.{cond-true, cond-false, eq-eqb, ne_eqb}
+use Rattle.std.proofs.lemmas.List.{length-take}
 use Rattle.opt_geom.specs.Geometry.{Geometry, bitmap_blocks}
 use Rattle.opt_layout.specs.declared.slot.Slot.{Slot}
 use Rattle.opt_tree.specs.declared.command.Cmd.{Cmd}
@@ -8,7 +9,6 @@ use Rattle.opt_tree.specs.declared.command.Cmd.TheVariants.{Rename}
 use Rattle.opt_tree.specs.Conditions.{refusal}
 use Rattle.opt_tree.specs.Figures.{Figures, figures, nothing, moving, growth, release, are_in_one}
 use Rattle.opt_tree.specs.Paths.{parent}
-use Rattle.opt_tree.specs.Points.{answers_point}
 use Rattle.opt_tree.specs.Step.{Session, step}
 use Rattle.opt_tree.specs.Tree.{Tree}
 use Rattle.opt_tree.specs.Walk.{are_same}
@@ -19,39 +19,35 @@ use Rattle.opt_inodes.specs.Changes.{MovesSlot}
 use Rattle.opt_inodes.specs.Figures.{cost, cost_by, move_cost, slots_above, blocks_lost}
 use Rattle.opt_inodes.specs.Lookups.{number_at}
 use Rattle.opt_inodes.specs.Refusals.{reason, rename_reason}
-use Rattle.opt_inodes.specs.Replies.{reply_of, reply_by}
-use Rattle.opt_blocks.specs.State.{State}
-use Rattle.opt_files.specs.Calls.{files_in}
+use Rattle.opt_inodes.specs.Replies.{reply_by}
+use Rattle.opt_blocks.specs.State.{State, reusable_blocks}
+use Rattle.opt_files.specs.Calls.{files_in, places_in}
 use Rattle.opt_files.specs.Sound.{IsDraftOf}
 use Rattle.opt_files.specs.Drafts.{DraftState, nothing_drafted}
-use Rattle.opt_files.specs.Finish.{ChangesOnly, price}
 use Rattle.opt_dirs.specs.Changing.{Alters}
 use Rattle.opt_dirs.specs.Directories.{inodes_in}
-use Rattle.opt_fs.specs.Changes.{IsWithinCost}
-use Rattle.opt_fs.specs.Commands.{FindsRuns, figures_on, grown_by}
+use Rattle.opt_fs.specs.Changes.{IsWithinCost, Uses}
+use Rattle.opt_fs.specs.Commands.{FindsRuns, figures_on, grown_by, places_of}
 use Rattle.opt_fs.specs.declared.removing.Named.{Named}
 use Rattle.opt_fs.specs.Moving.{KnowsMove, KnowsPaths, MayMoveAway, MayRename, MovesName}
 use Rattle.opt_fs.specs.Plans.{MakesTree, MayBeMade}
 use Rattle.opt_fs.specs.Removing.{blocks_gone}
 use Rattle.opt_fs.specs.Sessions.{AreUsedBelow, IsSession, inodes}
-use Rattle.opt_fs.specs.Space.{HasRoom}
+use Rattle.opt_fs.specs.Space.{ArePlaced, HasRoom}
 use Rattle.opt_fs.specs.Writing.{IsWeighed}
 use Rattle.opt_fs.proofs.looking.Spots.{above}
 use Rattle.opt_fs.proofs.moved.Known.{entry_lacks}
+use Rattle.opt_fs.proofs.Given.{FiguresLaw, PriceLaw, RefusalLaw, ReplyLaw}
 
 -- what is altered bounds the price
-abbrev pub Prices : Type 0
-Prices = (g : Geometry) (most frees : ℕ) (takes : List ℕ) (e : DraftState) → Alters most takes frees nothing_drafted e
-    → (bs : List ℕ) × ChangesOnly bs e × (price g bs e ≤ 25 * (most + (min (length takes) (bitmap_blocks g) + min frees (bitmap_blocks g))))
-
-pub within_move : (g : Geometry) (d : DraftState) (most frees grown : ℕ) (takes : List ℕ) → Prices → Alters most takes frees nothing_drafted d → most ≤ 6 → length takes ≤ grown → IsWithinCost g d (moving (bitmap_blocks g) grown frees).cost
+pub within_move : (g : Geometry) (d : DraftState) (most frees grown : ℕ) (takes : List ℕ) → PriceLaw → Alters most takes frees nothing_drafted d → most ≤ 6 → length takes ≤ grown → IsWithinCost g d (moving (bitmap_blocks g) grown frees).cost
 within_move g d most frees grown takes law alters few less =
     let p = law g most frees takes d alters in
     record { blocks = p.0; only = p.1; price = omega (arith, p.2, few, less); some = λ costs. alters.some }
 
 -- what a rename takes, by what the two paths lead to
 module _ (bitmap : ℕ) (f : Session) (m : Inodes) (from to : List (List ℕ)) (map : IsMapOf f.limit m f.tree) (accepted : rename_reason m from to ≡ None) (apart : are_same (number_at m from) (number_at m to) ≡ false)
-    (law : (bitmap : ℕ) (s : Session) (m : Inodes) (cmd : Cmd) → IsMapOf s.limit m s.tree → figures bitmap s cmd ≡ cost bitmap s.limit m cmd) where
+    (law : FiguresLaw) where
   moves_cost : figures bitmap f (Rename from to) ≡ move_cost bitmap m from to
   moves_cost = law bitmap f m (Rename from to) map ∙ ap (λ r. cost_by bitmap m (Rename from to) r) accepted ∙ cond-false (are_same (number_at m from) (number_at m to)) nothing (move_cost bitmap m from to) apart
 
@@ -69,15 +65,25 @@ module _ (bitmap : ℕ) (f : Session) (m : Inodes) (from to : List (List ℕ)) (
       ∙ cond-false (is_some (number_at m to)) (moving bitmap 0 (release (slots_above m from) + blocks_lost m to)) (cond (are_in_one from to) (moving bitmap 0 0) (moving bitmap (growth (slots_above m to)) (release (slots_above m from)))) free
       ∙ cond-false (are_in_one from to) (moving bitmap 0 0) (moving bitmap (growth (slots_above m to)) (release (slots_above m from))) two
 
+-- the blocks that a rename uses are those taken
+move_uses : (s t : State) (source into node most frees grown : ℕ) (takes : List ℕ) (name other : List ℕ) (d : DraftState) (then : ℕ → ℕ) → MovesName s t d source into node name other most takes frees then
+    → takes ≡ take grown (reusable_blocks t.books) → Uses grown frees (reusable_blocks t.books) (places_of s) (places_in t d) d
+move_uses s t source into node most frees grown takes name other d then made are = record {
+  taken = made.alters.taken ∙ are;
+  freed_are = omega (arith, made.alters.freed);
+  placed = subst (λ (bs : List ℕ). ArePlaced (places_of s) (places_in t d) bs) are made.placed;
+}
+
 -- the tree of a rename
 pub planned_move : (s t : State) (f : Session) (from to : List (List ℕ)) (source into node most frees grown cost : ℕ) (takes : List ℕ) (name other : List ℕ) (d : DraftState) (then : ℕ → ℕ) → IsSession s f
     → IsMapOf s.books.geom.i (inodes s) f.tree → KnowsPaths (inodes s) from to source into name other → MovesName s t d source into node name other most takes frees then → IsWeighed s f (Rename from to) cost
-    → figures_on s f (Rename from to) ≡ moving (bitmap_blocks s.books.geom) grown frees → most ≤ 6 → length takes ≤ grown → t.books.geom ≡ s.books.geom → FindsRuns s f (Rename from to)
+    → figures_on s f (Rename from to) ≡ moving (bitmap_blocks s.books.geom) grown frees → most ≤ 6 → takes ≡ take grown (reusable_blocks t.books) → (grown ≤ length (reusable_blocks s.books) → t.books ≡ s.books) → t.books.geom ≡ s.books.geom
+    → FindsRuns s f (Rename from to)
     → ((s : Session) (m new : Inodes) (up to : List (List ℕ)) (name other : List ℕ) (from into node : ℕ) → IsMapOf s.limit m s.tree → refusal s.limit s.tree (Rename (up ++ name ∷ []) (to ++ other ∷ [])) ≡ None
     → LeadsTo m up from → LeadsTo m to into → MovesSlot m new from into node name other → IsMapOf s.limit new (step s (Rename (up ++ name ∷ []) (to ++ other ∷ []))).0.tree)
-    → ((s : Session) (m : Inodes) (cmd : Cmd) → IsMapOf s.limit m s.tree → answers_point cmd ≡ false → (step s cmd).1 ≡ reply_of s.limit m cmd) → rename_reason (inodes s) from to ≡ None → Prices
+    → ReplyLaw → rename_reason (inodes s) from to ≡ None → PriceLaw
     → MakesTree (Rename from to) d cost s t f
-planned_move s t f from to source into node most frees grown cost takes name other d then h map paths made weighed formula few less geom runs moved replies reason prices =
+planned_move s t f from to source into node most frees grown cost takes name other d then h map paths made weighed formula few are rests geom runs moved replies reason prices =
     let mine = subst (λ n. IsMapOf n (inodes s) f.tree) (sym h.limit) map in
     let same : Rename (paths.up ++ name ∷ []) (paths.above ++ other ∷ []) ≡ Rename from to = ap₂ (λ a b. Rename a b) (sym paths.from_is) (sym paths.to_is) in
     record {
@@ -90,28 +96,23 @@ planned_move s t f from to source into node most frees grown cost takes name oth
       map = subst (λ (cmd : Cmd). IsMapOf f.limit (inodes_in t d) (step f cmd).0.tree) same
           (moved f (inodes s) (inodes_in t d) paths.up paths.above name other source into node mine (subst (λ (cmd : Cmd). refusal f.limit f.tree cmd ≡ None) (sym same) weighed.accepted) paths.source_leads paths.into_leads made.moves);
       within = subst (λ n. IsWithinCost t.books.geom d n) (sym (ap (λ (n : Figures). n.cost) formula) ∙ weighed.costs)
-          (subst (λ (g : Geometry). IsWithinCost t.books.geom d (moving (bitmap_blocks g) grown frees).cost) geom (within_move t.books.geom d most frees grown takes prices made.alters few less));
+          (subst (λ (g : Geometry). IsWithinCost t.books.geom d (moving (bitmap_blocks g) grown frees).cost) geom (within_move t.books.geom d most frees grown takes prices made.alters few (omega (arith, ap (λ (bs : List ℕ). length bs) are, length-take grown (reusable_blocks t.books)))));
+      uses = subst (λ (n : Figures). Uses n.need n.freed (reusable_blocks t.books) (places_of s) (places_in t d) d) (sym formula) (move_uses s t source into node most frees grown takes name other d then made are);
+      rests = λ enough. rests (subst (λ (n : Figures). n.need ≤ length (reusable_blocks s.books)) formula enough);
     }
 
 -- the tree accepts it
-pub move_refusal : (f : Session) (m : Inodes) (from to : List (List ℕ)) → IsMapOf f.limit m f.tree → ((limit : ℕ) (m : Inodes) (t : Tree) (cmd : Cmd) → IsMapOf limit m t → refusal limit t cmd ≡ reason limit m cmd)
+pub move_refusal : (f : Session) (m : Inodes) (from to : List (List ℕ)) → IsMapOf f.limit m f.tree → RefusalLaw
     → rename_reason m from to ≡ None → refusal f.limit f.tree (Rename from to) ≡ None
 move_refusal f m from to map law none = law f.limit m f.tree (Rename from to) map ∙ none
 
--- it is weighed
-pub weighed_move : (s : State) (f : Session) (cmd : Cmd) (fs : Figures) → refusal f.limit f.tree cmd ≡ None → figures_on s f cmd ≡ fs → HasRoom s.books fs → IsWeighed s f cmd fs.cost
-weighed_move s f cmd fs accepted are room = record {
-  accepted = accepted;
-  costs = ap (λ (n : Figures). n.cost) are;
-  room = subst (λ (n : Figures). HasRoom s.books n) (sym are) room;
-}
-
+-- it needs no blocks
 pub no_growth : (s : State) (f : Session) (cmd : Cmd) (bitmap freed : ℕ) → figures_on s f cmd ≡ moving bitmap 0 freed → FindsRuns s f cmd
 no_growth s f cmd bitmap freed are = λ k some grown. absurd (omega (arith, some, ap (λ (n : Figures). n.need) are))
 
 -- its figures are those that were counted
 module _ (s : State) (f : Session) (from to : List (List ℕ)) (source : Named) (other : List ℕ) (map : IsMapOf f.limit (inodes s) f.tree) (accepted : rename_reason (inodes s) from to ≡ None)
-    (law : (bitmap : ℕ) (s : Session) (m : Inodes) (cmd : Cmd) → IsMapOf s.limit m s.tree → figures bitmap s cmd ≡ cost bitmap s.limit m cmd) where
+    (law : FiguresLaw) where
   pub onto_counted : (target : Named) → KnowsMove (files_in s nothing_drafted) from to source target.dir target.count (Some target.entry) other → blocks_lost (inodes s) to ≡ blocks_gone target.entry.node.facts
       → figures_on s f (Rename from to) ≡ moving (bitmap_blocks s.books.geom) 0 (release source.count + blocks_gone target.entry.node.facts)
   onto_counted target k lost = onto_cost (bitmap_blocks s.books.geom) f (inodes s) from to map accepted k.apart law k.there

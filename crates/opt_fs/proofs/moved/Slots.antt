@@ -1,17 +1,15 @@
 -- The three ways in which a slot moves: onto another one, to a free name of its directory, and to a free name of another directory.
 use Rattle.std.proofs.Common.{◌≡◌, ◌≢◌, ℕ, ◌<◌, List, [], ◌∷◌, ◌++◌, length, set, slice_get, None, Some, option_and_then, refl, sym, subst, ap, ◌∙◌}
-use Rattle.std.proofs.lemmas.Option.{none-some}
+use Rattle.std.proofs.lemmas.Option.{none-some, same_Some}
 use Rattle.opt_layout.specs.declared.slot.Slot.{Slot}
 use Rattle.opt_dirent.specs.Directory.{place_of, without_at}
 use Rattle.opt_stands.specs.Inodes.{Inodes, ADir}
 use Rattle.opt_stands.specs.Walks.{node_in}
 use Rattle.opt_inodes.specs.Changes.{slot_of, one_link_less, put_at, with_slot, Sets, MovesSlot}
 
-some_is : {A : Type 0} (x y : A) → Some x ≡ Some y → x ≡ y
-some_is x y e = cc
-
-dir_is : (a b : List Slot) → Some (ADir a) ≡ Some (ADir b) → a ≡ b
-dir_is a b e = cc
+-- a directory has one list of slots
+pub slots_same : (a b : List Slot) → Some (ADir a) ≡ Some (ADir b) → a ≡ b
+slots_same a b e = cc
 
 -- a name that has a place is set there, and one that has none comes behind
 pub set_there : (slots : List Slot) (s : Slot) (place : ℕ) → place_of s.name slots ≡ Some place → with_slot slots s ≡ set slots place s
@@ -33,14 +31,14 @@ onto m m1 m2 m3 from into node old place tplace name other slots target after di
   slot = slot;
   target = target;
   into_dir = tdir;
-  differ = λ e. not_node (some_is old node (sym names ∙ e));
+  differ = λ e. not_node (same_Some old node (sym names ∙ e));
   within = λ same. others from (λ e. not_from (sym e)) ∙ two.here ∙ ap (λ xs. Some (ADir (without_at place xs)))
-      (dir_is after (set target tplace (slot_of node other)) (sym from_after ∙ ap m1 same ∙ one.here) ∙ sym (set_there target (slot_of node other) tplace there));
+      (slots_same after (set target tplace (slot_of node other)) (sym from_after ∙ ap m1 same ∙ one.here) ∙ sym (set_there target (slot_of node other) tplace there));
   across = λ apart. (
-    others from (λ e. not_from (sym e)) ∙ two.here ∙ ap (λ xs. Some (ADir (without_at place xs))) (dir_is after slots (sym from_after ∙ one.others from apart ∙ dir)),
+    others from (λ e. not_from (sym e)) ∙ two.here ∙ ap (λ xs. Some (ADir (without_at place xs))) (slots_same after slots (sym from_after ∙ one.others from apart ∙ dir)),
     others into (λ e. not_into (sym e)) ∙ two.others into (λ e. apart (sym e)) ∙ one.here ∙ ap (λ xs. Some (ADir xs)) (sym (set_there target (slot_of node other) tplace there)),
   );
-  left = λ k e. subst (λ n. m3 n ≡ option_and_then one_link_less (m n)) (some_is old k (sym names ∙ e))
+  left = λ k e. subst (λ n. m3 n ≡ option_and_then one_link_less (m n)) (same_Some old k (sym names ∙ e))
       (less ∙ ap (option_and_then one_link_less) (two.others old not_from ∙ one.others old not_into));
   others = λ k a b c. others k (λ e. c (names ∙ ap Some (sym e))) ∙ two.others k a ∙ one.others k b;
 }

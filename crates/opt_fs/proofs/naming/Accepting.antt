@@ -10,17 +10,17 @@ use Rattle.opt_tree.specs.declared.command.Refusal.{Refusal}
 use Rattle.opt_tree.specs.declared.command.Refusal.TheVariants.{Exists, NoNode, IsDir, TooManyLinks}
 use Rattle.opt_tree.specs.declared.command.Reply.TheVariants.{Ok as Done}
 use Rattle.opt_tree.specs.Conditions.{when, first_reason, refusal}
-use Rattle.opt_tree.specs.Figures.{adding, growth, figures}
+use Rattle.opt_tree.specs.Figures.{adding, growth}
 use Rattle.opt_tree.specs.Paths.{parent}
 use Rattle.opt_tree.specs.Step.{Session, step, answered}
-use Rattle.opt_tree.specs.Tree.{Tree, Dir as DirThing, File as FileThing}
+use Rattle.opt_tree.specs.Tree.{Dir as DirThing, File as FileThing}
 use Rattle.opt_tree.specs.Walk.{refusal_in}
 use Rattle.opt_stands.specs.Files.{Files}
 use Rattle.opt_stands.specs.Inodes.{Inode, Inodes, AFile, inode_of, inodes_of}
 use Rattle.opt_stands.specs.Maps.{IsMapOf}
 use Rattle.opt_stands.specs.Walks.{LeadsTo}
 use Rattle.opt_inodes.specs.Changes.{AddsSlot, new_inode, slot_of}
-use Rattle.opt_inodes.specs.Figures.{cost, cost_by, accepted_cost, slots_above}
+use Rattle.opt_inodes.specs.Figures.{cost_by, accepted_cost, slots_above}
 use Rattle.opt_inodes.specs.Lookups.{least_free, is_dir_inode, links_in, number_at, inode_at, walk_on}
 use Rattle.opt_inodes.specs.Refusals.{reason, make_reason, parent_reason}
 use Rattle.opt_blocks.specs.State.{State}
@@ -38,17 +38,10 @@ use Rattle.opt_fs.specs.Making.{AcceptsName, MayAppear, MayLink, first_thing, ma
 use Rattle.opt_fs.specs.Sessions.{IsSession, inodes}
 use Rattle.opt_fs.proofs.looking.Facts.{inode_is, kind_told, file_told}
 use Rattle.opt_fs.proofs.looking.Spots.{above}
+use Rattle.opt_fs.proofs.FirstReason.{alone, first_more}
+use Rattle.opt_fs.proofs.Given.{RefusalLaw, FiguresLaw, EndsLaw}
 
--- The laws that are used.
-
-abbrev pub RefusalLaw : Type 0
-RefusalLaw = (limit : ℕ) (m : Inodes) (t : Tree) (cmd : Cmd) → IsMapOf limit m t → refusal limit t cmd ≡ reason limit m cmd
-
-abbrev pub FiguresLaw : Type 0
-FiguresLaw = (bitmap : ℕ) (s : Session) (m : Inodes) (cmd : Cmd) → IsMapOf s.limit m s.tree → figures bitmap s cmd ≡ cost bitmap s.limit m cmd
-
-abbrev pub EndsLaw : Type 0
-EndsLaw = (m : Inodes) (path : List (List ℕ)) (k : ℕ) → walk_on m 1 path ≡ Ok k → LeadsTo m path k
+-- What the laws on what a path comes to say.
 
 abbrev pub ParentLaw : Type 0
 ParentLaw = (files : Files) (path : List (List ℕ)) (spot : Spot) → ComesTo files path (Ok spot) → parent_reason (inodes_of files) path ≡ None
@@ -60,12 +53,6 @@ abbrev pub SlotsLaw : Type 0
 SlotsLaw = (files : Files) (path : List (List ℕ)) (dir count : ℕ) (entry : Option Entry) → ComesTo files path (Ok (Inside dir count entry)) → count ≡ slots_above (inodes_of files) path
 
 -- The reasons.
-
--- a reason that is there stays the first one where more come behind
-first_more : (a b : Option Refusal) (later : List (Option Refusal)) (why : Refusal) → first_reason (a ∷ b ∷ []) ≡ Some why → first_reason (a ∷ b ∷ later) ≡ Some why
-first_more (Some r) b later why e = e
-first_more None (Some r) later why e = e
-first_more None None later why e = absurd cc
 
 -- a command is refused for the reason of making
 made_reason : (limit : ℕ) (m : Inodes) (kind : Kind) (path : List (List ℕ)) → reason limit m (make_cmd kind path) ≡ make_reason limit m path
@@ -125,10 +112,6 @@ module _ (old : State) (f : Session) (h : IsSession old f) (map : IsMapOf old.bo
           ap (λ r. first_reason (r ∷ when (is_some (number_at m path)) Exists ∷ when (is_none (least_free f.limit m)) NoNode ∷ [])) (none_against files path (Inside v.dir v.count None) comes.0)
           ∙ ap (λ o. first_reason (when (is_some o) Exists ∷ when (is_none (least_free f.limit m)) NoNode ∷ [])) (at files path (Inside v.dir v.count None) comes.0)
           ∙ ap (λ o. first_reason (when (is_none o) NoNode ∷ [])) (ap (λ n. least_free n m) h.limit ∙ e) ∙ alone (when (is_none least) NoNode)
-        where
-          alone : (r : Option Refusal) → first_reason (r ∷ []) ≡ r
-          alone None = refl
-          alone (Some why) = refl
 
       pub no_node_left : least_free old.books.geom.i m ≡ None → refusal f.limit f.tree (make_cmd kind path) ≡ Some NoNode
       no_node_left e = law f.limit m f.tree (make_cmd kind path) its_map ∙ made_reason f.limit m kind path ∙ reason_is None e

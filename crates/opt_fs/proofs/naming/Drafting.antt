@@ -1,11 +1,10 @@
 -- A name drafted: first a slot, and then the node that it names.
-use Rattle.std.proofs.Common.{◌≡◌, ◌≢◌, ◌⊎◌, inl, inr, ℕ, ◌+◌, ◌*◌, ◌^◌, ◌≤◌, ◌<◌, min, Bool, false, IsTrue, List, [], ◌∷◌, ◌++◌, length, take, Option, None, Some, option_map, option_and_then, Err, IfSome, sym, refl, subst, ap, ◌∙◌, arith}
+use Rattle.std.proofs.Common.{◌≡◌, ◌≢◌, ◌⊎◌, inl, inr, ℕ, ◌+◌, ◌^◌, ◌≤◌, ◌<◌, Bool, false, List, [], ◌∷◌, ◌++◌, length, take, Option, None, Some, option_map, option_and_then, IfSome, sym, refl, subst, ap, ◌∙◌, arith}
 use Rattle.std.specs.Prelude.{IfNone}
 use Rattle.std.proofs.lemmas.Bool.{cases_eq, cases_lt}
 use Rattle.std.proofs.lemmas.Option.{none-some}
-use Rattle.std.proofs.lemmas.List.{length-append, length-take}
-use Rattle.opt_base.specs.Counts.{after_call}
-use Rattle.opt_geom.specs.Geometry.{Geometry, bitmap_blocks}
+use Rattle.std.proofs.lemmas.List.{append-nil, length-append, length-take}
+use Rattle.opt_geom.specs.Geometry.{Geometry}
 use Rattle.opt_extent.specs.Runs.{stretches}
 use Rattle.opt_layout.specs.declared.slot.Slot.{Slot}
 use Rattle.opt_layout.specs.declared.node.Node.{Node}
@@ -19,51 +18,19 @@ use Rattle.opt_stands.specs.Inodes.{Inode, ADir, AFile, AreInodesOf, inode_of, i
 use Rattle.opt_inodes.specs.Changes.{AddsSlot, new_inode, slot_of}
 use Rattle.opt_blocks.specs.State.{Bookkeeping, State, reusable_blocks}
 use Rattle.opt_blocks.specs.Calls.{MovesPipeline}
-use Rattle.opt_blocks.specs.Crashes.{Advances}
-use Rattle.opt_files.specs.declared.refusal.FileRefusal.{FileRefusal}
-use Rattle.opt_files.specs.declared.refusal.FileRefusal.TheVariants as file
-use Rattle.opt_files.specs.Calls.{files_in, places_or_none, IsUsed, IsLeastUnused, IsWithFile, LookRefused}
-use Rattle.opt_files.specs.Content.{fails_settling}
+use Rattle.opt_files.specs.Calls.{files_in, places_in, places_or_none, IsUsed, IsLeastUnused, IsWithFile, IsWithPlaces}
 use Rattle.opt_files.specs.Bytes.{blocks_for}
 use Rattle.opt_files.specs.Drafts.{DraftState, drafted, nothing_drafted}
 use Rattle.opt_files.specs.Effects.{LooksOnly, LooksAndSettles}
-use Rattle.opt_files.specs.Finish.{ChangesOnly, price}
 use Rattle.opt_dirs.specs.Changing.{Alters, IsWithSlots}
 use Rattle.opt_dirs.specs.Directories.{inodes_in}
-use Rattle.opt_fs.specs.Changes.{IsWithinCost}
+use Rattle.opt_fs.specs.Changes.{IsWithinCost, Uses}
 use Rattle.opt_fs.specs.Commands.{places_of}
 use Rattle.opt_fs.specs.Making.{AddsName, first_thing, node_kind}
 use Rattle.opt_fs.specs.Sessions.{AreUsedBelow, inodes}
-
--- blocks that were read after the pipeline may have settled
-pub settled_before : (tells read_failed : Bool) (s t u : State) → LooksAndSettles tells false false s t → LooksOnly tells read_failed t u → (IsTrue tells → Advances s u) → LooksAndSettles tells read_failed false s u
-settled_before tells read_failed s t u first second advances = record {
-  pipeline = subst (λ k. MovesPipeline s.books k) (sym second.books) first.pipeline;
-  read_faults = second.counts.read_faults ∙ ap (λ n. after_call read_failed n) first.read_faults;
-  faults = second.counts.faults ∙ first.faults;
-  stopped = ap (λ (b : Bookkeeping). b.stopped) second.books ∙ first.stopped;
-  waits = omega (arith, first.waits, second.counts.waits);
-  ticks = second.counts.ticks ∙ first.ticks;
-  map = λ told. second.map told ∙ first.map told;
-  crash = advances;
-  writes = λ told. omega (arith, first.writes told, (second.crash told).writes, ap (λ (b : Bookkeeping). b.owed) second.books);
-}
-
--- a look that was refused is none by another call of the disk
-pub look_settles : (T : Type 0) (why : FileRefusal) → LookRefused why → fails_settling {T = T} (Err why) ≡ false
-look_settles T file.ReadFault h = refl
-look_settles T (file.Short need reusable) h = absurd h
-look_settles T (file.Scattered runs) h = absurd h
-look_settles T file.DiskFault h = absurd h
-look_settles T file.NoMemory h = refl
-
--- nodes in use stay so where one became another
-pub still_used : (old new : Files) (k : ℕ) (x : FileNode) → IsWithFile old new k (Some x) → (l : ℕ) → IsUsed old l → IsUsed new l
-still_used old new k x set l used = by (cases_eq l k)
-  where
-    by : (l ≡ k) ⊎ (l ≢ k) → IsUsed new l
-    by (inl e) = (x, ap new e ∙ set.own)
-    by (inr n) = (used.0, set.others l n ∙ used.1)
+use Rattle.opt_fs.specs.Space.{ArePlaced}
+use Rattle.opt_fs.proofs.Placing.{placed_grown, placed_then}
+use Rattle.opt_fs.proofs.Given.{PriceLaw, SumLaw}
 
 -- once the least node that wasn't in use is so, all up to the number from which it was sought are
 pub used_upto : (limit n : ℕ) (old new : Files) (x : FileNode) (E : Type 0) (found : Option ℕ) → n ≤ limit → AreUsedBelow old n → (E → (l : ℕ) → new l ≡ old l)
@@ -101,11 +68,6 @@ no_node files reads k none = by (files k) refl
     by None is = refl
     by (Some f) is = let r = reads k f is in absurd (none-some r.0 (sym none ∙ ap (option_and_then inode_of) is ∙ r.1))
 
--- an inode is that of a node in use
-pub node_there : (o : Option FileNode) (i : Inode) → option_and_then inode_of o ≡ Some i → (x : FileNode) × (o ≡ Some x) × (inode_of x ≡ Some i)
-node_there None i e = absurd (none-some i e)
-node_there (Some x) i e = (x, refl, e)
-
 -- a directory is no file
 pub dir_no_file : (slots : List Slot) (links : ℕ) (bytes : List ℕ) → Some (ADir slots) ≡ Some (AFile links bytes) → ⊥
 dir_no_file slots links bytes e = absurd cc
@@ -141,21 +103,37 @@ module _ (tells : Bool) (old mid now : State) (d e : DraftState) (dir node : ℕ
 
   module _ (alters : Alters 2 (take (growth (length slots)) (reusable_blocks mid.books)) 0 nothing_drafted d) (then_alters : Alters 1 [] 0 d e)
       (settles : LooksAndSettles tells false false old mid) (looks : LooksOnly tells false mid now) (rests : growth (length slots) ≤ length (reusable_blocks old.books) → LooksOnly tells false old mid)
+      (grown : IsWithPlaces (places_of old) (places_in mid d) dir (places_of old dir ++ take (growth (length slots)) (reusable_blocks mid.books))) (then_placed : ArePlaced (places_in mid d) (places_in now e) [])
       (room : growth (length slots) ≤ length (reusable_blocks mid.books)) (runs : stretches (places_of old dir ++ take (growth (length slots)) (reusable_blocks mid.books)) ≤ 28)
-      (both : (a b frees more : ℕ) (takes others : List ℕ) (c d e : DraftState) → Alters a takes frees c d → Alters b others more d e → Alters (a + b) (takes ++ others) (frees + more) c e)
-      (priced : (g : Geometry) (most frees : ℕ) (takes : List ℕ) (e : DraftState) → Alters most takes frees nothing_drafted e → (bs : List ℕ) × ChangesOnly bs e × (price g bs e ≤ 25 * (most + (min (length takes) (bitmap_blocks g) + min frees (bitmap_blocks g)))))
+      (both : SumLaw)
+      (priced : PriceLaw)
       (read : (files : Files) → ((k : ℕ) (file : FileNode) → files k ≡ Some file → (x : Inode) × (inode_of file ≡ Some x)) → AreInodesOf files (inodes_of files)) where
+    -- the blocks by which the directory grows
+    abbrev more : List ℕ
+    more = take (growth (length slots)) (reusable_blocks mid.books)
+
+    -- what both calls altered
+    all : Alters 3 (more ++ []) 0 nothing_drafted e
+    all = both 2 1 0 0 more [] nothing_drafted d e alters then_alters
+
     -- it costs no more than a name more does
     within : (g : Geometry) → IsWithinCost g e (adding (growth (length slots))).cost
     within g =
-        let all = both 2 1 0 0 (take (growth (length slots)) (reusable_blocks mid.books)) [] nothing_drafted d e alters then_alters in
-        let p = priced g 3 0 (take (growth (length slots)) (reusable_blocks mid.books) ++ []) e all in
+        let p = priced g 3 0 (more ++ []) e all in
         record {
           blocks = p.0;
           only = p.1;
-          price = omega (arith, p.2, length-append (take (growth (length slots)) (reusable_blocks mid.books)) [], length-take (growth (length slots)) (reusable_blocks mid.books));
+          price = omega (arith, p.2, length-append more [], length-take (growth (length slots)) (reusable_blocks mid.books));
           some = λ costs. all.some;
         }
+
+    -- it takes what the directory grows by
+    takes : Uses (growth (length slots)) 0 (reusable_blocks mid.books) (places_of old) (places_in now e) e
+    takes = record {
+      taken = all.taken ∙ append-nil more;
+      freed_are = all.freed;
+      placed = placed_then (places_of old) (places_in mid d) (places_in now e) more (placed_grown (places_of old) (places_in mid d) dir more grown) then_placed;
+    }
 
     pub name_added : AddsName old now e dir node name x slots
     name_added = record {
@@ -169,6 +147,8 @@ module _ (tells : Bool) (old mid now : State) (d e : DraftState) (dir node : ℕ
         enough = subst (λ (k : Bookkeeping). growth (length slots) ≤ length (reusable_blocks k)) (sym looks.books) room;
         runs = subst (λ (k : Bookkeeping). stretches (places_of old dir ++ take (growth (length slots)) (reusable_blocks k)) ≤ 28) (sym looks.books) runs;
       };
+      uses = subst (λ (k : Bookkeeping). Uses (growth (length slots)) 0 (reusable_blocks k) (places_of old) (places_in now e) e) (sym looks.books) takes;
+      rests = λ few. looks.books ∙ (rests few).books;
     }
 
 -- The blocks of a node.

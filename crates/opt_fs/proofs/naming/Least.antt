@@ -3,7 +3,7 @@ use Rattle.std.proofs.Common.{◌≡◌, ◌≢◌, ◌⊎◌, inl, inr, ℕ, ze
 use Rattle.std.specs.Prelude.{IfNone}
 use Rattle.std.specs.List.{range_with_len}
 use Rattle.std.proofs.lemmas.Bool.{cases_eq}
-use Rattle.std.proofs.lemmas.Option.{none-some}
+use Rattle.std.proofs.lemmas.Option.{none-some, same_Some}
 use Rattle.opt_stands.specs.Files.{FileNode, Files}
 use Rattle.opt_stands.specs.Inodes.{Inode, Inodes, inode_of, inodes_of}
 use Rattle.opt_inodes.specs.Lookups.{least_free}
@@ -63,16 +63,13 @@ pub ok_given : {A E T : Type 0} (P : T → Type 0) (Q : A → Type 0) (r : Resul
 ok_given P Q (Ok a) h = h
 ok_given P Q (Err why) h = tt
 
-some_same : (k x : ℕ) → Some x ≡ Some k → k ≡ x
-some_same k x e = cc
-
 -- the least number that no node has is none's
 passes : (test : ℕ → Bool) (xs : List ℕ) (k : ℕ) → find test xs ≡ Some k → test k ≡ true
 passes test [] k e = absurd (none-some k e)
 passes test (x ∷ xs) k e = by (test x) refl (passes test xs k) e
   where
     by : (b : Bool) → test x ≡ b → (find test xs ≡ Some k → test k ≡ true) → cond b (Some x) (find test xs) ≡ Some k → test k ≡ true
-    by true is rec e = ap test (some_same k x e) ∙ is
+    by true is rec e = ap test (sym (same_Some x k e)) ∙ is
     by false is rec e = rec e
 
 nothing_there : {A : Type 0} (o : Option A) → is_none o ≡ true → o ≡ None

@@ -26,12 +26,25 @@ pub runs_for_nothing : (old : State) (f : Session) (cmd : Cmd) → figures_on ol
 runs_for_nothing old f cmd e k some grown = absurd (omega (arith, some, ap (λ (f : Figures). f.need) e))
 
 -- the tree refuses the command
-pub tree_refuses : (old now : State) (f : Session) (cmd : Cmd) (why : Refusal) → IsSound old.books → refusal f.limit f.tree cmd ≡ Some why → IsRight cmd (Answer (Refused why)) old now f
-tree_refuses old now f cmd why sound e =
+pub tree_refuses : (old now : State) (f : Session) (cmd : Cmd) (why : Refusal) → IsSound old.books → now.books ≡ old.books → refusal f.limit f.tree cmd ≡ Some why → IsRight cmd (Answer (Refused why)) old now f
+tree_refuses old now f cmd why sound books e =
     let none : figures_on old f cmd ≡ nothing = ap (figures_by (bitmap_blocks old.books.geom) f.tree cmd) e in
-    (sym (ap (λ r. (answered f cmd r).1) e), ap (λ r. (answered f cmd r).0) e, room_for_nothing old.books (figures_on old f cmd) sound none, runs_for_nothing old f cmd none)
+    record {
+      answer = sym (ap (λ r. (answered f cmd r).1) e);
+      session = ap (λ r. (answered f cmd r).0) e;
+      room = room_for_nothing old.books (figures_on old f cmd) sound none;
+      runs = runs_for_nothing old f cmd none;
+      costs = none;
+      books = books;
+    }
 
 -- the tree stays as it is
-pub tree_stays : (old now : State) (f : Session) (cmd : Cmd) → IsSound old.books → step f cmd ≡ (f, Done) → figures_on old f cmd ≡ nothing → IsRight cmd (Answer Done) old now f
-tree_stays old now f cmd sound e none =
-    (sym (ap (λ s. s.1) e), ap (λ s. s.0) e, room_for_nothing old.books (figures_on old f cmd) sound none, runs_for_nothing old f cmd none)
+pub tree_stays : (old now : State) (f : Session) (cmd : Cmd) → IsSound old.books → now.books ≡ old.books → step f cmd ≡ (f, Done) → figures_on old f cmd ≡ nothing → IsRight cmd (Answer Done) old now f
+tree_stays old now f cmd sound books e none = record {
+  answer = sym (ap (λ s. s.1) e);
+  session = ap (λ s. s.0) e;
+  room = room_for_nothing old.books (figures_on old f cmd) sound none;
+  runs = runs_for_nothing old f cmd none;
+  costs = none;
+  books = books;
+}

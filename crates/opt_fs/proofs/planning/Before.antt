@@ -1,5 +1,5 @@
 -- A plan that was made behind reads is one from before them: the blocks and the bookkeeping are the same.
-use Rattle.std.proofs.Common.{◌≡◌, inl, inr, ℕ, ◌<◌, ◌≤◌, Bool, false, IsTrue, List, ◌++◌, take, length, Some, Result, Ok, Err, refl, sym, subst, ap, ap₂, ◌∙◌, arith}
+use Rattle.std.proofs.Common.{◌≡◌, inl, inr, ℕ, ◌<◌, ◌≤◌, Bool, false, IsTrue, List, ◌++◌, take, length, Some, Result, Ok, Err, sym, subst, ap, ap₂, ◌∙◌, arith}
 use Rattle.opt_base.specs.Seal.{Blocks}
 use Rattle.opt_extent.specs.Runs.{stretches}
 use Rattle.opt_tree.specs.declared.command.Cmd.{Cmd}
@@ -7,21 +7,20 @@ use Rattle.opt_tree.specs.declared.command.Refusal.{Refusal}
 use Rattle.opt_tree.specs.declared.command.Refusal.TheVariants as because
 use Rattle.opt_tree.specs.Figures.{Figures}
 use Rattle.opt_tree.specs.Step.{Session}
-use Rattle.opt_stands.specs.Files.{files_of}
 use Rattle.opt_stands.specs.Inodes.{Inodes}
-use Rattle.opt_stands.specs.Stands.{AreSound, IsTreeOf}
-use Rattle.opt_blocks.specs.Running.{HasNoBare}
-use Rattle.opt_blocks.specs.Calls.{HasTurns, MovesPipeline}
+use Rattle.opt_blocks.specs.Calls.{MovesPipeline}
 use Rattle.opt_blocks.specs.Crashes.{Advances}
 use Rattle.opt_blocks.specs.State.{Bookkeeping, State, reusable_blocks}
+use Rattle.opt_files.specs.Calls.{places_in}
+use Rattle.opt_files.specs.Drafts.{DraftState}
 use Rattle.opt_files.specs.Effects.{LooksOnly}
 use Rattle.opt_fs.specs.declared.plan.Plan.{Plan}
 use Rattle.opt_fs.specs.declared.plan.Plan.TheVariants.{Answer, Change}
+use Rattle.opt_fs.specs.Changes.{Uses}
 use Rattle.opt_fs.specs.Commands.{figures_on, grown_by, places_of, GrowsInRuns, FindsRuns, IsRefusedFor, IsScattered}
 use Rattle.opt_fs.specs.Plans.{Plans, PlanIs, IsRight, plan_fails_reading, plan_fails_settling}
-use Rattle.opt_fs.specs.Sessions.{MayPlan, AreUsedBelow, inodes}
+use Rattle.opt_fs.specs.Sessions.{inodes}
 use Rattle.opt_fs.specs.Space.{HasRoom, LacksRoom}
-use Rattle.opt_fs.proofs.applying.Passing.{nothing_issued}
 use Rattle.opt_fs.proofs.carrying.Staying.{session_stays}
 use Rattle.opt_fs.proofs.planning.Looking.{settled_after}
 
@@ -80,8 +79,24 @@ module _ (s t u : State) (f : Session) (cmd : Cmd) (books : t.books ≡ s.books)
   })))
   refused_before why (inr (inr (inr short))) = inr (inr (inr short))
 
+  uses_before : (d : DraftState)
+      → Uses (figures_on t f cmd).need (figures_on t f cmd).freed (reusable_blocks u.books) (places_of t) (places_in u d) d
+      → Uses (figures_on s f cmd).need (figures_on s f cmd).freed (reusable_blocks u.books) (places_of s) (places_in u d) d
+  uses_before d h = subst (λ (n : Figures). Uses n.need n.freed (reusable_blocks u.books) (places_of s) (places_in u d) d) figures_same (record {
+    taken = h.taken;
+    freed_are = h.freed_are;
+    placed = λ k. subst (λ (ps : List ℕ). places_in u d k ≡ take (length (places_in u d k)) (ps ++ take (figures_on t f cmd).need (reusable_blocks u.books))) (places_same k) (h.placed k);
+  })
+
   right_before : (plan : Plan) → IsRight cmd plan t u f → IsRight cmd plan s u f
-  right_before (Answer reply) h = (h.0, h.1, room_before h.2, runs_before h.3)
+  right_before (Answer reply) h = record {
+    answer = h.answer;
+    session = h.session;
+    room = room_before h.room;
+    runs = runs_before h.runs;
+    costs = sym figures_same ∙ h.costs;
+    books = h.books ∙ books;
+  }
   right_before (Change d cost first) h = record {
     accepted = h.accepted;
     answer = h.answer;
@@ -91,6 +106,9 @@ module _ (s t u : State) (f : Session) (cmd : Cmd) (books : t.books ≡ s.books)
     reads = h.reads;
     map = h.map;
     within = h.within;
+    uses = uses_before d h.uses;
+    rests = λ enough. h.rests (subst (λ (n : Figures). n.need ≤ length (reusable_blocks t.books)) (sym figures_same)
+        (subst (λ (b : Bookkeeping). (figures_on s f cmd).need ≤ length (reusable_blocks b)) (sym books) enough)) ∙ books;
   }
 
   plan_before : (result : Result Plan Refusal) → PlanIs cmd result t u f → PlanIs cmd result s u f
@@ -104,21 +122,3 @@ plans_behind tells cmd result s t u going looks advances plans = record {
   going = going;
   settles = settled_after tells (plan_fails_reading result) (plan_fails_settling result) s t u looks plans.settles advances;
 }
-
--- A command that may be planned may be so behind reads.
-pub may_plan_behind : (tells : Bool) (s t : State) (first : ℕ) → LooksOnly tells false s t → MayPlan tells s first → MayPlan tells t first
-may_plan_behind tells s t first looks may = record {
-  begin = record {
-    going = ap (λ (b : Bookkeeping). b.stopped) looks.books ∙ may.begin.going;
-    none_bare = subst (λ (b : Bookkeeping). HasNoBare b.running) (sym looks.books) may.begin.none_bare;
-    sound = λ told. subst (λ (b : Bookkeeping). AreSound b.geom t.map) (sym looks.books) (subst (λ (m : Blocks). AreSound s.books.geom m) (sym (looks.map told)) (may.begin.sound told));
-  };
-  stands = λ told. let tree = may.stands told in (tree.0, subst (λ (b : Bookkeeping). IsTreeOf b.geom t.map tree.0) (sym looks.books) (subst (λ (m : Blocks). IsTreeOf s.books.geom m tree.0) (sym (looks.map told)) tree.1));
-  turns = subst HasTurns (sym looks.books) may.turns;
-  above = may.above;
-  used = λ told. subst (λ (b : Bookkeeping). AreUsedBelow (files_of b.geom t.map) first) (sym looks.books) (subst (λ (m : Blocks). AreUsedBelow (files_of s.books.geom m) first) (sym (looks.map told)) (may.used told));
-}
-
--- nothing is read where nothing is done
-pub no_look : (tells : Bool) (s : State) → LooksOnly tells false s s
-no_look tells s = record { books = refl; counts = record { read_faults = refl; faults = refl; waits = refl; ticks = refl }; map = λ told. refl; crash = λ told. nothing_issued s }

@@ -1,4 +1,4 @@
--- Reads and settlings one behind the other, and plans that end with a reply or are cut short after reads alone.
+-- Reads and settlings one behind the other, and plans that end with a reply, a draft or a refusal after reads alone.
 use Rattle.std.proofs.Common.{◌≡◌, inl, inr, ℕ, Bool, false, IsTrue, List, None, Some, Ok, Err, refl, sym, subst, ap, ◌∙◌, arith}
 use Rattle.opt_base.specs.Counts.{after_call}
 use Rattle.opt_tree.specs.declared.command.Cmd.{Cmd}
@@ -7,6 +7,7 @@ use Rattle.opt_tree.specs.declared.command.Reply.TheVariants.{Ok as Done, Refuse
 use Rattle.opt_tree.specs.Conditions.{refusal}
 use Rattle.opt_tree.specs.Figures.{Figures, nothing}
 use Rattle.opt_tree.specs.Step.{Session, step}
+use Rattle.opt_tree.specs.Tree.{Tree}
 use Rattle.opt_blocks.specs.State.{Bookkeeping, State}
 use Rattle.opt_blocks.specs.Calls.{IsSound, MovesPipeline}
 use Rattle.opt_blocks.specs.Crashes.{Advances}
@@ -14,15 +15,25 @@ use Rattle.opt_files.specs.declared.refusal.FileRefusal.{FileRefusal}
 use Rattle.opt_files.specs.declared.refusal.FileRefusal.TheVariants as file
 use Rattle.opt_files.specs.Calls.{GrowthRefused, LookRefused}
 use Rattle.opt_files.specs.Content.{fails_reading, fails_settling}
+use Rattle.opt_files.specs.Drafts.{DraftState}
 use Rattle.opt_files.specs.Effects.{LooksOnly, LooksAndSettles}
 use Rattle.opt_fs.specs.declared.plan.Plan.{Plan}
-use Rattle.opt_fs.specs.declared.plan.Plan.TheVariants.{Answer}
+use Rattle.opt_fs.specs.declared.plan.Plan.TheVariants.{Answer, Change}
 use Rattle.opt_fs.specs.Commands.{figures_on, IsCutShort, IsRefusedFor, is_read_fault, is_disk_fault}
-use Rattle.opt_fs.specs.Plans.{Plans, plan_fails_reading, plan_fails_settling}
+use Rattle.opt_fs.specs.Plans.{Plans, MakesTree, plan_fails_reading, plan_fails_settling}
 use Rattle.opt_fs.specs.Refusals.{refusal_of}
-use Rattle.opt_fs.specs.Sessions.{IsSession}
+use Rattle.opt_fs.specs.Sessions.{IsSession, inodes}
 use Rattle.opt_fs.specs.Space.{LacksRoom}
+use Rattle.opt_fs.proofs.applying.Passing.{nothing_issued}
 use Rattle.opt_fs.proofs.planning.Answers.{tree_refuses, tree_stays}
+use Rattle.opt_fs.proofs.Given.{RefusalLaw}
+use Rattle.opt_stands.specs.Maps.{IsMapOf}
+use Rattle.opt_stands.specs.Stands.{IsTreeOf}
+use Rattle.opt_inodes.specs.Refusals.{reason}
+
+-- nothing is read where nothing is done
+pub no_look : (tells : Bool) (s : State) → LooksOnly tells false s s
+no_look tells s = record { books = refl; counts = record { read_faults = refl; faults = refl; waits = refl; ticks = refl }; map = λ told. refl; crash = λ told. nothing_issued s }
 
 -- bookkeeping that is as before
 still : (k l : Bookkeeping) → l ≡ k → MovesPipeline k l
@@ -69,115 +80,6 @@ settled_after tells read_failed failed s t u first second advances = record {
   writes = λ told. omega (arith, (first.crash told).writes, ap (λ (b : Bookkeeping). b.owed) first.books, second.writes told);
 }
 
--- a refusal of a call on files fails a plan by a read, or by another call of the disk, where it does so itself
-pub fails_so : (why : FileRefusal) → plan_fails_reading {T = Plan} (Err (refusal_of why)) ≡ fails_reading {T = Plan} (Err why)
-fails_so file.ReadFault = refl
-fails_so (file.Short need reusable) = refl
-fails_so (file.Scattered runs) = refl
-fails_so file.DiskFault = refl
-fails_so file.NoMemory = refl
-
-pub settles_so : (why : FileRefusal) → plan_fails_settling {T = Plan} (Err (refusal_of why)) ≡ fails_settling {T = Plan} (Err why)
-settles_so file.ReadFault = refl
-settles_so (file.Short need reusable) = refl
-settles_so (file.Scattered runs) = refl
-settles_so file.DiskFault = refl
-settles_so file.NoMemory = refl
-
--- a look that was refused cuts a command short
-pub look_cut : (why : FileRefusal) → LookRefused why → IsCutShort (refusal_of why)
-look_cut file.ReadFault h = inl refl
-look_cut (file.Short need reusable) h = absurd h
-look_cut (file.Scattered runs) h = absurd h
-look_cut file.DiskFault h = absurd h
-look_cut file.NoMemory h = inr refl
-
-no_settling : (why : FileRefusal) → LookRefused why → plan_fails_settling {T = Plan} (Err (refusal_of why)) ≡ false
-no_settling file.ReadFault h = refl
-no_settling (file.Short need reusable) h = absurd h
-no_settling (file.Scattered runs) h = absurd h
-no_settling file.DiskFault h = absurd h
-no_settling file.NoMemory h = refl
-
--- a plan that was cut short while blocks were only read
-pub cut_short_plan : (tells : Bool) (cmd : Cmd) (s t : State) (why : FileRefusal) → s.books.stopped ≡ false → LookRefused why → LooksOnly tells (fails_reading {T = Plan} (Err why)) s t → (IsTrue tells → Advances s t)
-    → Plans tells cmd (Err (refusal_of why)) s t
-cut_short_plan tells cmd s t why going refused looks advances = record {
-  is = λ told f h. inr (inr (inr (look_cut why refused)));
-  going = going;
-  settles = subst (λ b. LooksAndSettles tells b (plan_fails_settling {T = Plan} (Err (refusal_of why))) s t) (sym (fails_so why))
-      (subst (λ b. LooksAndSettles tells (fails_reading {T = Plan} (Err why)) b s t) (sym (no_settling why refused)) (looked tells (fails_reading {T = Plan} (Err why)) s t going looks advances));
-}
-
--- a plan that answers the tree's own refusal, found by reads alone
-pub refusal_plan : (tells : Bool) (cmd : Cmd) (s t : State) (why : Refusal) → s.books.stopped ≡ false → IsSound s.books → (IsTrue tells → (f : Session) → IsSession s f → refusal f.limit f.tree cmd ≡ Some why)
-    → LooksOnly tells false s t → (IsTrue tells → Advances s t) → Plans tells cmd (Ok (Answer (Refused why))) s t
-refusal_plan tells cmd s t why going sound refuses looks advances = record {
-  is = λ told f h. tree_refuses s t f cmd why sound (refuses told f h);
-  going = going;
-  settles = looked tells false s t going looks advances;
-}
-
--- a plan that answers that the command is done, where it changes nothing
-pub done_plan : (tells : Bool) (cmd : Cmd) (s t : State) → s.books.stopped ≡ false → IsSound s.books → (IsTrue tells → (f : Session) → IsSession s f → (step f cmd ≡ (f, Done)) × (figures_on s f cmd ≡ nothing))
-    → LooksOnly tells false s t → (IsTrue tells → Advances s t) → Plans tells cmd (Ok (Answer Done)) s t
-done_plan tells cmd s t going sound stays looks advances = record {
-  is = λ told f h. tree_stays s t f cmd sound (stays told f h).0 (stays told f h).1;
-  going = going;
-  settles = looked tells false s t going looks advances;
-}
-
--- a plan that finds no room, after reads alone
-pub room_plan : (tells : Bool) (cmd : Cmd) (s t : State) (why : Refusal) → s.books.stopped ≡ false → is_read_fault (Err why) ≡ false → is_disk_fault (Err why) ≡ false → (IsTrue tells → (f : Session) → IsSession s f → IsRefusedFor s t f cmd why)
-    → LooksOnly tells false s t → (IsTrue tells → Advances s t) → Plans tells cmd (Err why) s t
-room_plan tells cmd s t why going reads disk is looks advances = record {
-  is = is;
-  going = going;
-  settles = subst (λ b. LooksAndSettles tells b (plan_fails_settling {T = Plan} (Err why)) s t) (sym reads) (subst (λ b. LooksAndSettles tells false b s t) (sym disk) (looked tells false s t going looks advances));
-}
-
--- a plan whose file or directory couldn't grow
-fails_as : (T : Type 0) (why : FileRefusal) → plan_fails_reading {T = Plan} (Err (refusal_of why)) ≡ fails_reading {T = T} (Err why)
-fails_as T file.ReadFault = refl
-fails_as T (file.Short need reusable) = refl
-fails_as T (file.Scattered runs) = refl
-fails_as T file.DiskFault = refl
-fails_as T file.NoMemory = refl
-
-settles_as : (T : Type 0) (why : FileRefusal) → plan_fails_settling {T = Plan} (Err (refusal_of why)) ≡ fails_settling {T = T} (Err why)
-settles_as T file.ReadFault = refl
-settles_as T (file.Short need reusable) = refl
-settles_as T (file.Scattered runs) = refl
-settles_as T file.DiskFault = refl
-settles_as T file.NoMemory = refl
-
-pub growth_plan : (T : Type 0) (tells : Bool) (cmd : Cmd) (s t : State) (why : FileRefusal) → s.books.stopped ≡ false → (IsTrue tells → (f : Session) → IsSession s f → IsRefusedFor s t f cmd (refusal_of why))
-    → LooksAndSettles tells (fails_reading {T = T} (Err why)) (fails_settling {T = T} (Err why)) s t → Plans tells cmd (Err (refusal_of why)) s t
-growth_plan T tells cmd s t why going is settles = record {
-  is = is;
-  going = going;
-  settles = subst (λ b. LooksAndSettles tells b (plan_fails_settling {T = Plan} (Err (refusal_of why))) s t) (sym (fails_as T why))
-      (subst (λ b. LooksAndSettles tells (fails_reading {T = T} (Err why)) b s t) (sym (settles_as T why)) settles);
-}
-
--- no room is no fault of the disk
-pub lacks_quietly : (k : Bookkeeping) (n : Figures) (why : Refusal) → LacksRoom k n why → (is_read_fault (Err why) ≡ false) × (is_disk_fault (Err why) ≡ false)
-lacks_quietly k n why (inl full) = (ap (λ (w : Refusal). is_read_fault (Err w)) full.is, ap (λ (w : Refusal). is_disk_fault (Err w)) full.is)
-lacks_quietly k n why (inr big) = (ap (λ (w : Refusal). is_read_fault (Err w)) big.is, ap (λ (w : Refusal). is_disk_fault (Err w)) big.is)
-
--- a plan that finds no room, after reads alone, by the figures of its command
-pub full_plan : (tells : Bool) (cmd : Cmd) (s t : State) (n : Figures) (why : Refusal) → s.books.stopped ≡ false → LacksRoom s.books n why
-    → (IsTrue tells → (f : Session) → IsSession s f → (refusal f.limit f.tree cmd ≡ None) × (figures_on s f cmd ≡ n)) → LooksOnly tells false s t → (IsTrue tells → Advances s t) → Plans tells cmd (Err why) s t
-full_plan tells cmd s t n why going lacks is looks advances =
-    room_plan tells cmd s t why going (lacks_quietly s.books n why lacks).0 (lacks_quietly s.books n why lacks).1
-    (λ told f h. let a = is told f h in inl (record { accepted = a.0; lacks = subst (λ (m : Figures). LacksRoom s.books m why) (sym a.1) lacks })) looks advances
-
--- a plan that was cut short while blocks were only read, whatever the reads were for
-pub cut_plan : (T : Type 0) (tells : Bool) (cmd : Cmd) (s t : State) (why : FileRefusal) → s.books.stopped ≡ false → LookRefused why → LooksOnly tells (fails_reading {T = T} (Err why)) s t → (IsTrue tells → Advances s t)
-    → Plans tells cmd (Err (refusal_of why)) s t
-cut_plan T tells cmd s t why going refused looks advances =
-    cut_short_plan tells cmd s t why going refused (subst (λ b. LooksOnly tells b s t) (sym (fails_as T why) ∙ fails_so why) looks) advances
-
 -- blocks that were read after the pipeline may have settled
 pub looked_after : (tells read_failed : Bool) (s t u : State) → LooksAndSettles tells false false s t → LooksOnly tells read_failed t u → (IsTrue tells → Advances s u) → LooksAndSettles tells read_failed false s u
 looked_after tells read_failed s t u first second advances = record {
@@ -192,17 +94,113 @@ looked_after tells read_failed s t u first second advances = record {
   writes = λ told. omega (arith, (second.crash told).writes, ap (λ (b : Bookkeeping). b.owed) second.books, first.writes told);
 }
 
--- a look that was refused says nothing of growth, and fails no settling
+-- a refusal of a call on files fails a plan by a read, or by another call of the disk, where it does so itself
+fails_so : (why : FileRefusal) → plan_fails_reading {T = Plan} (Err (refusal_of why)) ≡ fails_reading {T = Plan} (Err why)
+fails_so file.ReadFault = refl
+fails_so (file.Short need reusable) = refl
+fails_so (file.Scattered runs) = refl
+fails_so file.DiskFault = refl
+fails_so file.NoMemory = refl
+
+settles_so : (why : FileRefusal) → plan_fails_settling {T = Plan} (Err (refusal_of why)) ≡ fails_settling {T = Plan} (Err why)
+settles_so file.ReadFault = refl
+settles_so (file.Short need reusable) = refl
+settles_so (file.Scattered runs) = refl
+settles_so file.DiskFault = refl
+settles_so file.NoMemory = refl
+
+-- a plan whose file or directory couldn't grow
+pub growth_plan : (tells : Bool) (cmd : Cmd) (s t : State) (why : FileRefusal) → s.books.stopped ≡ false → (IsTrue tells → (f : Session) → IsSession s f → IsRefusedFor s t f cmd (refusal_of why))
+    → LooksAndSettles tells (fails_reading {T = Plan} (Err why)) (fails_settling {T = Plan} (Err why)) s t → Plans tells cmd (Err (refusal_of why)) s t
+growth_plan tells cmd s t why going is settles = record {
+  is = is;
+  going = going;
+  settles = subst (λ b. LooksAndSettles tells b (plan_fails_settling {T = Plan} (Err (refusal_of why))) s t) (sym (fails_so why))
+      (subst (λ b. LooksAndSettles tells (fails_reading {T = Plan} (Err why)) b s t) (sym (settles_so why)) settles);
+}
+
+-- a look that was refused cuts a command short
+pub look_cut : (why : FileRefusal) → LookRefused why → IsCutShort (refusal_of why)
+look_cut file.ReadFault h = inl refl
+look_cut (file.Short need reusable) h = absurd h
+look_cut (file.Scattered runs) h = absurd h
+look_cut file.DiskFault h = absurd h
+look_cut file.NoMemory h = inr refl
+
+-- it fails no settling
+pub quiet_settling : (why : FileRefusal) → LookRefused why → fails_settling {T = Plan} (Err why) ≡ false
+quiet_settling file.ReadFault h = refl
+quiet_settling (file.Short need reusable) h = absurd h
+quiet_settling (file.Scattered runs) h = absurd h
+quiet_settling file.DiskFault h = absurd h
+quiet_settling file.NoMemory h = refl
+
+-- a plan that was cut short while blocks were only read
+pub cut_short_plan : (tells : Bool) (cmd : Cmd) (s t : State) (why : FileRefusal) → s.books.stopped ≡ false → LookRefused why → LooksOnly tells (fails_reading {T = Plan} (Err why)) s t → (IsTrue tells → Advances s t)
+    → Plans tells cmd (Err (refusal_of why)) s t
+cut_short_plan tells cmd s t why going refused looks advances =
+    growth_plan tells cmd s t why going (λ told f h. inr (inr (inr (look_cut why refused))))
+    (subst (λ b. LooksAndSettles tells (fails_reading {T = Plan} (Err why)) b s t) (sym (quiet_settling why refused)) (looked tells (fails_reading {T = Plan} (Err why)) s t going looks advances))
+
+-- a plan that answers the tree's own refusal, found by reads alone
+pub refusal_plan : (tells : Bool) (cmd : Cmd) (s t : State) (why : Refusal) → s.books.stopped ≡ false → IsSound s.books → (IsTrue tells → (f : Session) → IsSession s f → refusal f.limit f.tree cmd ≡ Some why)
+    → LooksOnly tells false s t → (IsTrue tells → Advances s t) → Plans tells cmd (Ok (Answer (Refused why))) s t
+refusal_plan tells cmd s t why going sound refuses looks advances = record {
+  is = λ told f h. tree_refuses s t f cmd why sound looks.books (refuses told f h);
+  going = going;
+  settles = looked tells false s t going looks advances;
+}
+
+-- one that answers the reason that the inode map gives
+pub reason_plan : (tells : Bool) (cmd : Cmd) (s t : State) (why : Refusal) → s.books.stopped ≡ false → IsSound s.books → (IsTrue tells → (u : Tree) → IsTreeOf s.books.geom s.map u → (limit : ℕ) → reason limit (inodes s) cmd ≡ Some why)
+    → ((u : Tree) → IsTreeOf s.books.geom s.map u → IsMapOf s.books.geom.i (inodes s) u) → RefusalLaw → LooksOnly tells false s t → (IsTrue tells → Advances s t) → Plans tells cmd (Ok (Answer (Refused why))) s t
+reason_plan tells cmd s t why going sound refuses map law looks advances =
+    refusal_plan tells cmd s t why going sound
+    (λ told f h. law f.limit (inodes s) f.tree cmd (subst (λ l. IsMapOf l (inodes s) f.tree) (sym h.limit) (map f.tree h.tree)) ∙ refuses told f.tree h.tree f.limit) looks advances
+
+-- a plan that answers that the command is done, where it changes nothing
+pub done_plan : (tells : Bool) (cmd : Cmd) (s t : State) → s.books.stopped ≡ false → IsSound s.books → (IsTrue tells → (f : Session) → IsSession s f → (step f cmd ≡ (f, Done)) × (figures_on s f cmd ≡ nothing))
+    → LooksOnly tells false s t → (IsTrue tells → Advances s t) → Plans tells cmd (Ok (Answer Done)) s t
+done_plan tells cmd s t going sound stays looks advances = record {
+  is = λ told f h. tree_stays s t f cmd sound looks.books (stays told f h).0 (stays told f h).1;
+  going = going;
+  settles = looked tells false s t going looks advances;
+}
+
+-- a plan of a draft, after reads alone
+pub looked_change : (tells : Bool) (cmd : Cmd) (s t : State) (d : DraftState) (cost first : ℕ) → s.books.stopped ≡ false → (IsTrue tells → (f : Session) → IsSession s f → MakesTree cmd d cost s t f)
+    → LooksOnly tells false s t → (IsTrue tells → Advances s t) → Plans tells cmd (Ok (Change d cost first)) s t
+looked_change tells cmd s t d cost first going makes looks advances = record {
+  is = makes;
+  going = going;
+  settles = looked tells false s t going looks advances;
+}
+
+-- a plan that is refused for another reason than a failed call, after reads alone
+pub room_plan : (tells : Bool) (cmd : Cmd) (s t : State) (why : Refusal) → s.books.stopped ≡ false → is_read_fault (Err why) ≡ false → is_disk_fault (Err why) ≡ false → (IsTrue tells → (f : Session) → IsSession s f → IsRefusedFor s t f cmd why)
+    → LooksOnly tells false s t → (IsTrue tells → Advances s t) → Plans tells cmd (Err why) s t
+room_plan tells cmd s t why going reads disk is looks advances = record {
+  is = is;
+  going = going;
+  settles = subst (λ b. LooksAndSettles tells b (plan_fails_settling {T = Plan} (Err why)) s t) (sym reads) (subst (λ b. LooksAndSettles tells false b s t) (sym disk) (looked tells false s t going looks advances));
+}
+
+-- no room is no fault of the disk
+lacks_quietly : (k : Bookkeeping) (n : Figures) (why : Refusal) → LacksRoom k n why → (is_read_fault (Err why) ≡ false) × (is_disk_fault (Err why) ≡ false)
+lacks_quietly k n why (inl full) = (ap (λ (w : Refusal). is_read_fault (Err w)) full.is, ap (λ (w : Refusal). is_disk_fault (Err w)) full.is)
+lacks_quietly k n why (inr big) = (ap (λ (w : Refusal). is_read_fault (Err w)) big.is, ap (λ (w : Refusal). is_disk_fault (Err w)) big.is)
+
+-- a plan that finds no room, after reads alone
+pub full_plan : (tells : Bool) (cmd : Cmd) (s t : State) (n : Figures) (why : Refusal) → s.books.stopped ≡ false → LacksRoom s.books n why
+    → (IsTrue tells → (f : Session) → IsSession s f → (refusal f.limit f.tree cmd ≡ None) × (figures_on s f cmd ≡ n)) → LooksOnly tells false s t → (IsTrue tells → Advances s t) → Plans tells cmd (Err why) s t
+full_plan tells cmd s t n why going lacks is looks advances =
+    room_plan tells cmd s t why going (lacks_quietly s.books n why lacks).0 (lacks_quietly s.books n why lacks).1
+    (λ told f h. let a = is told f h in inl (record { accepted = a.0; lacks = subst (λ (m : Figures). LacksRoom s.books m why) (sym a.1) lacks })) looks advances
+
+-- a look that was refused says nothing of growth
 pub cut_growth : (n : ℕ) (places : List ℕ) (old new : Bookkeeping) (why : FileRefusal) → LookRefused why → GrowthRefused n places old new why
 cut_growth n places old new file.ReadFault h = tt
 cut_growth n places old new (file.Short need reusable) h = absurd h
 cut_growth n places old new (file.Scattered runs) h = absurd h
 cut_growth n places old new file.DiskFault h = absurd h
 cut_growth n places old new file.NoMemory h = tt
-
-pub quiet_settling : (T : Type 0) (why : FileRefusal) → LookRefused why → fails_settling {T = T} (Err why) ≡ false
-quiet_settling T file.ReadFault h = refl
-quiet_settling T (file.Short need reusable) h = absurd h
-quiet_settling T (file.Scattered runs) h = absurd h
-quiet_settling T file.DiskFault h = absurd h
-quiet_settling T file.NoMemory h = refl

@@ -26,44 +26,39 @@ pub record Looks (cmd : Cmd) : Type 0 where
   pub stays : (f : Session) → (step f cmd).0 ≡ f
   pub takes : (bitmap : ℕ) (f : Session) → figures bitmap f cmd ≡ nothing
 
-pub read_looks : (path : List (List ℕ)) (offset count : ℕ) → Looks (Read path offset count)
-read_looks path offset count = record { stays = λ f. stays f (refusal f.limit f.tree (Read path offset count)); takes = λ bitmap f. takes bitmap f (refusal f.limit f.tree (Read path offset count)) }
+-- one that does so where the tree accepts it
+looks_by : (cmd : Cmd) → ((f : Session) → (answered f cmd None).0 ≡ f) → ((bitmap : ℕ) (f : Session) → figures_by bitmap f.tree cmd None ≡ nothing) → Looks cmd
+looks_by cmd accepted costless = record { stays = λ f. stays f (refusal f.limit f.tree cmd); takes = λ bitmap f. takes bitmap f (refusal f.limit f.tree cmd) }
   where
-    stays : (f : Session) (r : Option Refusal) → (answered f (Read path offset count) r).0 ≡ f
-    stays f None = refl
+    stays : (f : Session) (r : Option Refusal) → (answered f cmd r).0 ≡ f
+    stays f None = accepted f
     stays f (Some why) = refl
 
-    takes : (bitmap : ℕ) (f : Session) (r : Option Refusal) → figures_by bitmap f.tree (Read path offset count) r ≡ nothing
-    takes bitmap f None = refl
+    takes : (bitmap : ℕ) (f : Session) (r : Option Refusal) → figures_by bitmap f.tree cmd r ≡ nothing
+    takes bitmap f None = costless bitmap f
     takes bitmap f (Some why) = refl
+
+pub read_looks : (path : List (List ℕ)) (offset count : ℕ) → Looks (Read path offset count)
+read_looks path offset count = looks_by (Read path offset count) (λ f. refl) (λ bitmap f. refl)
 
 pub stat_looks : (path : List (List ℕ)) → Looks (Stat path)
-stat_looks path = record { stays = λ f. stays f (refusal f.limit f.tree (Stat path)); takes = λ bitmap f. takes bitmap f (refusal f.limit f.tree (Stat path)) }
-  where
-    stays : (f : Session) (r : Option Refusal) → (answered f (Stat path) r).0 ≡ f
-    stays f None = refl
-    stays f (Some why) = refl
-
-    takes : (bitmap : ℕ) (f : Session) (r : Option Refusal) → figures_by bitmap f.tree (Stat path) r ≡ nothing
-    takes bitmap f None = refl
-    takes bitmap f (Some why) = refl
+stat_looks path = looks_by (Stat path) (λ f. refl) (λ bitmap f. refl)
 
 pub list_looks : (path : List (List ℕ)) → Looks (ListNames path)
-list_looks path = record { stays = λ f. stays f (refusal f.limit f.tree (ListNames path)); takes = λ bitmap f. takes bitmap f (refusal f.limit f.tree (ListNames path)) }
-  where
-    stays : (f : Session) (r : Option Refusal) → (answered f (ListNames path) r).0 ≡ f
-    stays f None = refl
-    stays f (Some why) = refl
-
-    takes : (bitmap : ℕ) (f : Session) (r : Option Refusal) → figures_by bitmap f.tree (ListNames path) r ≡ nothing
-    takes bitmap f None = refl
-    takes bitmap f (Some why) = refl
+list_looks path = looks_by (ListNames path) (λ f. refl) (λ bitmap f. refl)
 
 -- its plan is what the look answers
 pub look_plan : (tells : Bool) (cmd : Cmd) (s t : State) (result : Result Reply FileRefusal) → Looks cmd → s.books.stopped ≡ false → IsSound s.books
     → (IsTrue tells → IfOk result (λ reply. (f : Session) → IsSession s f → reply ≡ (step f cmd).1)) → IfErr result LookRefused → LooksOnly tells (fails_reading result) s t → (IsTrue tells → Advances s t) → Plans tells cmd (answer_of result) s t
 look_plan tells cmd s t (Ok reply) looks going sound answer refused only advances = record {
-  is = λ told f h. (answer told f h, looks.stays f, room_for_nothing s.books (figures_on s f cmd) sound (looks.takes (bitmap_blocks s.books.geom) f), runs_for_nothing s f cmd (looks.takes (bitmap_blocks s.books.geom) f));
+  is = λ told f h. let none = looks.takes (bitmap_blocks s.books.geom) f in record {
+    answer = answer told f h;
+    session = looks.stays f;
+    room = room_for_nothing s.books (figures_on s f cmd) sound none;
+    runs = runs_for_nothing s f cmd none;
+    costs = none;
+    books = only.books;
+  };
   going = going;
   settles = looked tells false s t going only advances;
 }

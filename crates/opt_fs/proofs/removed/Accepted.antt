@@ -1,9 +1,7 @@
 -- What is known of a name that may go, and what the tree makes of it.
 use Rattle.std.proofs.Common.{◌≡◌, ℕ, zero, suc, ◌+◌, ◌^◌, ◌==◌, ◌≤◌, nat_lt, Bool, true, false, List, [], ◌∷◌, ◌++◌, length, slice_get, if◌then◌else◌, Option, None, Some, option_and_then, Ok, Err, refl, sym, subst, ap, ap₂, ◌∙◌, arith}
 use Rattle.std.proofs.lemmas.Bool.{true≢false, lt-ltb}
-use Rattle.std.proofs.lemmas.Option.{none-some}
-use Rattle.opt_layout.specs.declared.slot.Slot.{Slot}
-use Rattle.opt_dirent.specs.Directory.{place_of}
+use Rattle.std.proofs.lemmas.Option.{same_Some}
 use Rattle.opt_tree.specs.declared.command.Cmd.TheVariants.{Unlink, Rmdir}
 use Rattle.opt_tree.specs.declared.command.Kind.{Kind}
 use Rattle.opt_tree.specs.declared.command.Kind.TheVariants.{Dir, File}
@@ -17,7 +15,7 @@ use Rattle.opt_tree.specs.Walk.{refusal_in}
 use Rattle.opt_stands.specs.Files.{FileNode, Files}
 use Rattle.opt_stands.specs.Inodes.{Inode, Inodes, ADir, AFile, inodes_of}
 use Rattle.opt_stands.specs.Maps.{IsMapOf}
-use Rattle.opt_stands.specs.Walks.{LeadsTo, node_in}
+use Rattle.opt_stands.specs.Walks.{LeadsTo}
 use Rattle.opt_inodes.specs.Changes.{slot_of, TakesSlot}
 use Rattle.opt_inodes.specs.Figures.{accepted_cost, slots_above}
 use Rattle.opt_inodes.specs.Lookups.{is_dir_inode, is_file_inode, has_slots, links_in, bytes_of, walk_on, inode_at}
@@ -30,24 +28,16 @@ use Rattle.opt_fs.specs.declared.removing.Named.{Named}
 use Rattle.opt_fs.specs.Figures.{HasFacts}
 use Rattle.opt_fs.specs.Looks.{ComesTo, HasEntry, ShowsFacts}
 use Rattle.opt_fs.specs.Removing.{IsLoss, IsNamed, KnowsLoss, blocks_gone, lose_cmd, lose_reason}
-use Rattle.opt_fs.proofs.removed.Links.{some_same}
+use Rattle.opt_fs.proofs.FirstReason.{no_reason, no_when}
+use Rattle.opt_fs.proofs.Given.{EndsLaw, PlaceLaw}
 
--- What no reason says.
-
-pub no_reason : (o : Option Refusal) (rest : List (Option Refusal)) → first_reason (o ∷ rest) ≡ None → (o ≡ None) × (first_reason rest ≡ None)
-no_reason None rest e = (refl, e)
-no_reason (Some why) rest e = absurd (none-some why (sym e))
-
-pub no_when : (b : Bool) (why : Refusal) → when b why ≡ None → b ≡ false
-no_when true why e = absurd (none-some why (sym e))
-no_when false why e = refl
+-- What may go holds nothing.
 
 pub file_bare : (i : Option Inode) → is_dir_inode i ≡ false → has_slots i ≡ false
 file_bare None e = refl
 file_bare (Some (ADir slots)) e = absurd (true≢false e)
 file_bare (Some (AFile links bytes)) e = refl
 
--- what may go holds nothing
 pub accepted_bare : (kind : Kind) (m : Inodes) (path : List (List ℕ)) → lose_reason kind m path ≡ None → has_slots (inode_at m path) ≡ false
 accepted_bare File m path e =
     let dir = no_reason (when (is_dir_inode (inode_at m path)) IsDir) [] (no_reason (walk_reason m path) (when (is_dir_inode (inode_at m path)) IsDir ∷ []) e).1 in
@@ -57,15 +47,11 @@ accepted_bare Dir m path e =
     let held = no_reason (when (is_file_inode (inode_at m path)) NotDir) (when (has_slots (inode_at m path)) NotEmpty ∷ when (length path == 0) BelowItself ∷ []) rest.1 in
     no_when (has_slots (inode_at m path)) NotEmpty (no_reason (when (has_slots (inode_at m path)) NotEmpty) (when (length path == 0) BelowItself ∷ []) held.1).0
 
--- where a name was found, its slot is there and names the node
-abbrev PlaceLaw : Type 0
-PlaceLaw = (slots : List Slot) (name : List ℕ) (place : ℕ) → place_of name slots ≡ Some place → (node : ℕ) × (slice_get slots place ≡ Some (slot_of node name)) × (node_in slots name ≡ Some node)
-
 -- what a path comes to in a directory is a slot that names a node
 pub entry_slot : (files : Files) (dir count : ℕ) (name : List ℕ) (e : Entry) (h : HasEntry files dir count name (Some e)) → PlaceLaw → slice_get h.slots e.place ≡ Some (slot_of e.node.number name)
 entry_slot files dir count name e h law =
     let r = law h.slots name e.place (sym h.place) in
-    r.1 ∙ ap (λ n. Some (slot_of n name)) (sym (some_same e.node.number r.0 (h.node ∙ r.2)))
+    r.1 ∙ ap (λ n. Some (slot_of n name)) (sym (same_Some e.node.number r.0 (h.node ∙ r.2)))
 
 pub named_entry : (files : Files) (path : List (List ℕ)) (n : Named) (c : ComesTo files path (Ok (Inside n.dir n.count (Some n.entry)))) → PlaceLaw → LeadsTo (inodes_of files) path n.entry.node.number → has_slots (inode_at (inodes_of files) path) ≡ false → IsNamed files c.1 n
 named_entry files path n c law leads bare =
@@ -150,7 +136,7 @@ loss_mapped kind law f m new path up name dir node is map accepted leads takes =
     (law f m new up name dir node map (ap (λ p. refusal f.limit f.tree (lose_cmd kind p)) (sym is) ∙ accepted) leads takes)
 
 -- What is known of what goes.
-pub known_loss : (kind : Kind) (files : Files) (path : List (List ℕ)) (n : Named) → (loss : IsLoss kind files path n) → PlaceLaw → ((m : Inodes) (path : List (List ℕ)) (k : ℕ) → walk_on m 1 path ≡ Ok k → LeadsTo m path k)
+pub known_loss : (kind : Kind) (files : Files) (path : List (List ℕ)) (n : Named) → (loss : IsLoss kind files path n) → PlaceLaw → EndsLaw
     → n.count ≡ slots_above (inodes_of files) path → (leads : LeadsTo (inodes_of files) path n.entry.node.number) → ((x : FileNode) → files n.entry.node.number ≡ Some x → ShowsFacts (inodes_of files) path (facts_of x))
     → ((x : FileNode) → files n.entry.node.number ≡ Some x → length x.bytes + 1024 ≤ 2 ^ 30) → KnowsLoss kind files path n
 known_loss kind files path n loss place ends above leads shows fits =

@@ -1,14 +1,13 @@
 -- A node that loses a link: how many it has, and what it is then.
-use Rattle.std.proofs.Common.{◌≡◌, ◌≢◌, ℕ, ◌+◌, ◌-◌, ◌/◌, ◌≤◌, ◌==◌, ◌&&◌, nat_lt, nat_le, Bool, true, false, List, length, slice_index, if◌then◌else◌, Option, Some, None, option_map, option_and_then, Result, Ok, Err, OnOk, refl, sym, ap, subst, ◌∙◌, arith}
-use Rattle.std.proofs.lemmas.Bool.{and_parts, leb-true, ltb-true, eqb-true, eq-eqb}
-use Rattle.std.proofs.lemmas.Option.{none-some}
+use Rattle.std.proofs.Common.{◌≡◌, ◌≢◌, ℕ, ◌-◌, ◌≤◌, ◌==◌, nat_le, Bool, true, false, List, length, if◌then◌else◌, Option, Some, None, option_map, option_and_then, Result, Ok, Err, OnOk, refl, sym, ap, subst, ◌∙◌, arith}
+use Rattle.std.proofs.lemmas.Bool.{and_parts, leb-true, eqb-true, eq-eqb}
+use Rattle.std.proofs.lemmas.Option.{none-some, same_Some}
 use Rattle.opt_base.specs.Seal.{Blocks}
 use Rattle.opt_geom.specs.Geometry.{Geometry}
 use Rattle.opt_layout.specs.declared.node.Node.{Node}
 use Rattle.opt_layout.specs.declared.node.NodeKind.{NodeKind}
 use Rattle.opt_layout.specs.declared.node.NodeKind.TheVariants.{Free, Dir, File}
-use Rattle.opt_layout.specs.Bytes.{when}
-use Rattle.opt_layout.specs.Node.{node_of, node_with, node_at, node_bytes, node_fields, node_fits, spare_zeros, used_kind, runs_fit, run_blocks, kind_fits}
+use Rattle.opt_layout.specs.Node.{kind_fits}
 use Rattle.opt_tree.specs.Figures.{blocks_for}
 use Rattle.opt_stands.specs.Files.{FileNode, Files, file_of, files_of, used_node}
 use Rattle.opt_stands.specs.Inodes.{Inode, AFile, IsInodeOf, inode_by, inode_of, inodes_of}
@@ -17,42 +16,18 @@ use Rattle.opt_files.specs.declared.look.FileFacts.{FileFacts}
 use Rattle.opt_files.specs.Calls.{IsWithFile, with_links}
 use Rattle.opt_fs.specs.declared.paths.NodeFound.{NodeFound}
 use Rattle.opt_fs.specs.Removing.{IsFound, LosesLink, blocks_gone}
-
-pub some_same : {A : Type 0} (x y : A) → Some x ≡ Some y → x ≡ y
-some_same x y e = cc
-
-pub when_some : {A : Type 0} (t : Bool) (x : Option A) (y : A) → when t x ≡ Some y → (t ≡ true) × (x ≡ Some y)
-when_some true x y e = (refl, e)
-when_some false x y e = absurd (none-some y e)
-
--- What a node in use fits.
-
-with_fits : (g : Geometry) (b : List ℕ) (o : Option NodeKind) (node : Node) → node_with g b o ≡ Some node → node_fits g node ≡ true
-with_fits g b None node e = absurd (none-some node e)
-with_fits g b (Some kind) node e =
-    let spare = when_some (spare_zeros b) (when (node_fits g (node_fields kind b)) (Some (node_fields kind b))) node e in
-    let fits = when_some (node_fits g (node_fields kind b)) (Some (node_fields kind b)) node spare.1 in
-    subst (λ (m : Node). node_fits g m ≡ true) (some_same (node_fields kind b) node fits.1) fits.0
-
-read_fits : (g : Geometry) (b : List ℕ) (node : Node) → node_of g b ≡ Some node → node_fits g node ≡ true
-unfolding node_of
-read_fits g b node e = with_fits g b (used_kind (slice_index b 0)) node e
+use Rattle.opt_fs.proofs.standing.Nodes.{Fits, fits_parts, used_fits, when_some}
 
 -- a node in use has a link, and a file has at most 65,535
 record HasLinks (kind : NodeKind) (links : ℕ) : Type 0 where
   some : 1 ≤ links
   most : kind ≡ File → links ≤ 65535
 
-node_links : (g : Geometry) (node : Node) → node_fits g node ≡ true → HasLinks node.kind node.links
-node_links g node fits =
-    let links = and_parts (nat_lt 0 node.links) _ fits in
-    let few = and_parts (nat_le (length node.runs) 28) _ links.1 in
-    let runs = and_parts (runs_fit g 0 node.runs) _ few.1 in
-    let blocks = and_parts (run_blocks node.runs == (node.size + 1023) / 1024) (kind_fits node node.kind) runs.1 in
-    record {
-      some = ltb-true 0 node.links links.0;
-      most = λ is. leb-true node.links 65535 (and_parts (nat_le node.links 65535) (nat_le node.size 1073741824) (subst (λ kind. kind_fits node kind ≡ true) is blocks.1)).0;
-    }
+node_links : (g : Geometry) (node : Node) → Fits g node → HasLinks node.kind node.links
+node_links g node fits = record {
+  some = fits.links;
+  most = λ is. leb-true node.links 65535 (and_parts (nat_le node.links 65535) (nat_le node.size 1073741824) (subst (λ kind. kind_fits node kind ≡ true) is fits.kind)).0;
+}
 
 file_links : (g : Geometry) (m : Blocks) (k : ℕ) (x : FileNode) → files_of g m k ≡ Some x → HasLinks x.kind x.links
 file_links g m k x e = by (used_node g m k) refl e
@@ -60,8 +35,8 @@ file_links g m k x e = by (used_node g m k) refl e
     by : (o : Option Node) → used_node g m k ≡ o → option_map (file_of m) o ≡ Some x → HasLinks x.kind x.links
     by None is none = absurd (none-some x none)
     by (Some node) is some =
-        subst (λ (f : FileNode). HasLinks f.kind f.links) (some_same (file_of m node) x some)
-        (node_links g node (read_fits g (node_bytes g m k) node (when_some (nat_le 1 k && nat_le k g.i) (node_at g m k) node is).1))
+        subst (λ (f : FileNode). HasLinks f.kind f.links) (same_Some (file_of m node) x some)
+        (node_links g node (fits_parts g node (used_fits g m k node is)))
 
 -- what holds where two calls' results do
 pub on_both : {A E P Q R : Type 0} (r : Result A E) → OnOk r P → OnOk r Q → (P → Q → R) → OnOk r R
@@ -78,7 +53,7 @@ on_one (Err e) p on = tt
 less : (kind : NodeKind) (links : ℕ) (bytes : List ℕ) (inode : Inode) → links ≢ 1 → inode_by kind links bytes ≡ Some inode → IsInodeOf (Some (record { kind = kind; links = links - 1; bytes = bytes })) (one_link_less inode)
 less Free links bytes inode more reads = absurd (none-some inode reads)
 less Dir links bytes inode more reads = absurd (more (eqb-true links 1 (when_some (links == 1) _ inode reads).0))
-less File links bytes inode more reads = subst (λ (i : Inode). IsInodeOf (Some (record { kind = File; links = links - 1; bytes = bytes })) (one_link_less i)) (some_same (AFile links bytes) inode reads) (file (links == 1) refl)
+less File links bytes inode more reads = subst (λ (i : Inode). IsInodeOf (Some (record { kind = File; links = links - 1; bytes = bytes })) (one_link_less i)) (same_Some (AFile links bytes) inode reads) (file (links == 1) refl)
   where
     file : (b : Bool) → (links == 1) ≡ b → IsInodeOf (Some (record { kind = File; links = links - 1; bytes = bytes })) (if links == 1 then None else Some (AFile (links - 1) bytes))
     file true e = absurd (more (eqb-true links 1 e))

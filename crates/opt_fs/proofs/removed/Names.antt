@@ -1,21 +1,23 @@
 -- A name that goes: its slot, and then a link of its node.
-use Rattle.std.proofs.Common.{◌≡◌, ◌≢◌, ℕ, ◌+◌, List, [], ◌++◌, length, Some, option_and_then, sym, ap, subst, ◌∙◌}
+use Rattle.std.proofs.Common.{◌≡◌, ◌≢◌, ℕ, ◌+◌, List, [], length, take, Some, option_and_then, sym, ap, subst, ◌∙◌}
 use Rattle.std.proofs.lemmas.Option.{slice_get_within}
-use Rattle.opt_layout.specs.declared.slot.Slot.{Slot}
 use Rattle.opt_dirent.specs.Directory.{without_at}
 use Rattle.opt_tree.specs.Figures.{release}
-use Rattle.opt_stands.specs.Files.{Files}
-use Rattle.opt_stands.specs.Inodes.{Inode, AreInodesOf, inodes_of}
+use Rattle.opt_stands.specs.Inodes.{Inode, AreInodesOf}
 use Rattle.opt_inodes.specs.Changes.{one_link_less, slot_of, TakesSlot}
 use Rattle.opt_blocks.specs.State.{State}
-use Rattle.opt_files.specs.Calls.{files_in}
+use Rattle.opt_files.specs.Calls.{files_in, places_in, IsWithPlaces}
 use Rattle.opt_files.specs.Drafts.{DraftState, nothing_drafted}
 use Rattle.opt_dirs.specs.Changing.{Alters, IsWithSlots, HasPlace}
 use Rattle.opt_dirs.specs.Directories.{inodes_in}
 use Rattle.opt_fs.specs.declared.removing.Named.{Named}
+use Rattle.opt_fs.specs.Commands.{places_of}
 use Rattle.opt_fs.specs.Removing.{IsFound, IsNamed, LosesLink, LosesName, blocks_gone}
 use Rattle.opt_fs.specs.Sessions.{inodes}
+use Rattle.opt_fs.specs.Space.{ArePlaced}
+use Rattle.opt_fs.proofs.Placing.{placed_cut, placed_then}
 use Rattle.opt_fs.proofs.removed.Slots.{apart, used_inode, slots_used, found_still, lost_inode, lost_others, lost_reads, lost_used}
+use Rattle.opt_fs.proofs.Given.{SlotsReadLaw, SumLaw}
 
 -- the slot has its place
 pub has_place : (s : State) (d : DraftState) (name : List ℕ) (n : Named) → d ≡ nothing_drafted → IsNamed (files_in s nothing_drafted) name n → HasPlace s d n.dir n.entry.place
@@ -49,16 +51,18 @@ module _ (old mid : State) (d : DraftState) (name : List ℕ) (n : Named) (named
     }
 
     pub name_lost : AreInodesOf (files_in old nothing_drafted) (inodes old)
-        → ((old new : Files) (k : ℕ) (slots : List Slot) → IsWithSlots old new k slots → AreInodesOf old (inodes_of old) → AreInodesOf new (inodes_of new))
-        → ((a b frees more : ℕ) (takes others : List ℕ) (c d e : DraftState) → Alters a takes frees c d → Alters b others more d e → Alters (a + b) (takes ++ others) (frees + more) c e)
-        → Alters 3 [] (release (length named.slots)) nothing_drafted d → Alters 1 [] (blocks_gone n.entry.node.facts) d e → LosesName old now e name n
-    name_lost reads read both first second =
+        → SlotsReadLaw
+        → SumLaw
+        → Alters 3 [] (release (length named.slots)) nothing_drafted d → Alters 1 [] (blocks_gone n.entry.node.facts) d e
+        → (blocks : ℕ) → IsWithPlaces (places_of old) (places_in mid d) n.dir (take blocks (places_of old n.dir)) → ArePlaced (places_in mid d) (places_in now e) [] → LosesName old now e name n
+    name_lost reads read both first second blocks cut left =
         let still = read (files_in old nothing_drafted) (files_in mid d) n.dir (without_at n.entry.place named.slots) taken reads in
         record {
           takes = slot_taken;
           reads = lost_reads (files_in mid d) (files_in now e) n.entry.node.number lost still;
           alters = subst (λ count. Alters 4 [] (release count + blocks_gone n.entry.node.facts) nothing_drafted e) (sym named.count)
               (both 3 1 (release (length named.slots)) (blocks_gone n.entry.node.facts) [] [] nothing_drafted d e first second);
+          placed = placed_then (places_of old) (places_in mid d) (places_in now e) [] (placed_cut (places_of old) (places_in mid d) n.dir blocks [] cut) left;
           used = λ first used. lost_used (files_in mid d) (files_in now e) n.entry.node lost node_still still first
               (λ l above below. slots_used (files_in old nothing_drafted) (files_in mid d) n.dir (without_at n.entry.place named.slots) taken l (used l above below));
         }

@@ -8,22 +8,22 @@ use Rattle.opt_tree.specs.Step.{Session}
 use Rattle.opt_stands.specs.Maps.{IsMapOf}
 use Rattle.opt_inodes.specs.Figures.{cost, cost_by}
 use Rattle.opt_inodes.specs.Refusals.{reason}
-use Rattle.opt_blocks.specs.State.{Bookkeeping, State}
-use Rattle.opt_files.specs.Calls.{files_in}
+use Rattle.opt_blocks.specs.State.{Bookkeeping, State, reusable_blocks}
+use Rattle.opt_files.specs.Calls.{files_in, places_in}
 use Rattle.opt_files.specs.Drafts.{DraftState, nothing_drafted}
 use Rattle.opt_files.specs.Effects.{LooksOnly}
 use Rattle.opt_files.specs.Sound.{IsDraftOf}
 use Rattle.opt_dirs.specs.Directories.{inodes_in}
 use Rattle.opt_fs.specs.declared.removing.Named.{Named}
-use Rattle.opt_fs.specs.Changes.{ChangesAtMost, IsWithinCost}
-use Rattle.opt_fs.specs.Commands.{figures_on, FindsRuns}
+use Rattle.opt_fs.specs.Changes.{ChangesAtMost, IsWithinCost, Uses}
+use Rattle.opt_fs.specs.Commands.{figures_on, places_of, FindsRuns}
 use Rattle.opt_fs.specs.Figures.{AreFiguresOf}
 use Rattle.opt_fs.specs.Plans.{MakesTree, MayBeMade}
 use Rattle.opt_fs.specs.Removing.{KnowsLoss, LosesName, blocks_gone, first_after, lose_cmd}
 use Rattle.opt_fs.specs.Sessions.{AreUsedBelow, inodes}
 use Rattle.opt_fs.specs.Space.{HasRoom}
+use Rattle.opt_fs.proofs.AtMost.{altered_few}
 use Rattle.opt_fs.proofs.removed.Accepted.{LossLaw, accepted_removes, loss_done, loss_mapped, reason_is}
-use Rattle.opt_fs.proofs.removed.Plain.{altered_few}
 
 module _ (kind : Kind) (s : State) (path : List (List ℕ)) (n : Named) (f : Session) (known : KnowsLoss kind (files_in s nothing_drafted) path n) (map : IsMapOf f.limit (inodes s) f.tree)
     (refusals : refusal f.limit f.tree (lose_cmd kind path) ≡ reason f.limit (inodes s) (lose_cmd kind path))
@@ -46,10 +46,16 @@ module _ (kind : Kind) (s : State) (path : List (List ℕ)) (n : Named) (f : Ses
   none_needed : FindsRuns s f (lose_cmd kind path)
   none_needed k some grown = absurd (omega (arith, some, ap (λ (fs : Figures). fs.need) removes))
 
+  -- it takes no block, frees those that they say, and each node keeps the first of its own
+  uses : (now : State) (d : DraftState) → LosesName s now d known.name n
+      → Uses (figures_on s f (lose_cmd kind path)).need (figures_on s f (lose_cmd kind path)).freed (reusable_blocks now.books) (places_of s) (places_in now d) d
+  uses now d loses = subst (λ (fs : Figures). Uses fs.need fs.freed (reusable_blocks now.books) (places_of s) (places_in now d) d) (sym removes)
+      (record { taken = loses.alters.taken; freed_are = omega (arith, loses.alters.freed); placed = loses.placed })
+
   pub makes_loss : (now : State) (d : DraftState) (fs : Figures) → figures_on s f (lose_cmd kind path) ≡ fs → HasRoom s.books fs → LosesName s now d known.name n → LossLaw kind
-      → ((g : Geometry) (d : DraftState) (freed : ℕ) → ChangesAtMost d 4 0 0 freed → IsWithinCost g d (removing (bitmap_blocks g) freed).cost) → now.books.geom ≡ s.books.geom
+      → ((g : Geometry) (d : DraftState) (freed : ℕ) → ChangesAtMost d 4 0 0 freed → IsWithinCost g d (removing (bitmap_blocks g) freed).cost) → now.books ≡ s.books
       → MakesTree (lose_cmd kind path) d fs.cost s now f
-  makes_loss now d fs are room loses law priced geom = record {
+  makes_loss now d fs are room loses law priced books = record {
     accepted = loss_accepted;
     answer = loss_done kind f path loss_accepted;
     costs = ap (λ (fs : Figures). fs.cost) are;
@@ -57,9 +63,11 @@ module _ (kind : Kind) (s : State) (path : List (List ℕ)) (n : Named) (f : Ses
     runs = none_needed;
     reads = loses.reads;
     map = loss_mapped kind law f (inodes s) (inodes_in now d) path known.up known.name n.dir n.entry.node.number known.is map loss_accepted known.leads loses.takes;
-    within = subst (λ (g : Geometry). IsWithinCost g d fs.cost) (sym geom)
+    within = subst (λ (g : Geometry). IsWithinCost g d fs.cost) (sym (ap (λ (k : Bookkeeping). k.geom) books))
         (subst (λ (c : ℕ). IsWithinCost s.books.geom d c) (ap (λ (fs : Figures). fs.cost) (sym removes ∙ are))
         (priced s.books.geom d (release n.count + blocks_gone n.entry.node.facts) (altered_few 4 (release n.count + blocks_gone n.entry.node.facts) [] d loses.alters)));
+    uses = uses now d loses;
+    rests = λ enough. books;
   }
 
 -- The draft may be made.

@@ -15,22 +15,12 @@ use Rattle.opt_dirs.specs.Changing.{IsWithSlots}
 use Rattle.opt_fs.specs.declared.paths.NodeFound.{NodeFound}
 use Rattle.opt_fs.specs.Removing.{IsFound, LosesLink, first_after}
 use Rattle.opt_fs.specs.Sessions.{AreUsedBelow}
-use Rattle.opt_fs.proofs.removed.Links.{when_some}
+use Rattle.opt_fs.proofs.standing.Nodes.{when_some}
+use Rattle.opt_fs.proofs.looking.InUse.{node_there, own_inode, read_still}
 
 -- A node and its inode.
 
--- a node that reads as an inode is in use
-pub reads_used : (o : Option FileNode) (inode : Inode) → option_and_then inode_of o ≡ Some inode → (x : FileNode) × (o ≡ Some x)
-reads_used None inode e = absurd (none-some inode e)
-reads_used (Some x) inode e = (x, refl)
-
--- what a node is to read as is what it reads as
-pub own_inode : (o : Option FileNode) (i : Option Inode) → IsInodeOf o i → i ≡ option_and_then inode_of o
-own_inode None i e = e
-own_inode (Some x) None e = absurd e
-own_inode (Some x) (Some inode) e = sym e
-
--- and a node in use reads as an inode
+-- a node in use reads as an inode
 pub used_inode : (files : Files) → AreInodesOf files (inodes_of files) → (k : ℕ) (x : FileNode) → files k ≡ Some x → (inode : Inode) × (inodes_of files k ≡ Some inode)
 used_inode files reads k x is = by (inodes_of files k) refl (subst (λ (o : Option FileNode). IsInodeOf o (inodes_of files k)) is (reads k))
   where
@@ -54,7 +44,7 @@ module _ (old new : Files) (dir : ℕ) (slots : List Slot) (set : IsWithSlots ol
   slots_used l used = by (cases_eq l dir)
     where
       by : (l ≡ dir) ⊎ (l ≢ dir) → IsUsed new l
-      by (inl e) = reads_used (new l) (ADir slots) (ap (inodes_of new) e ∙ set.inodes.here)
+      by (inl e) = let x = node_there (new l) (ADir slots) (ap (inodes_of new) e ∙ set.inodes.here) in (x.0, x.1)
       by (inr n) = (used.0, set.others l n ∙ used.1)
 
   -- another node is as it was found
@@ -72,11 +62,7 @@ module _ (old new : Files) (k : ℕ) (lost : LosesLink old new k) where
 
   -- each node in use still reads as an inode
   pub lost_reads : AreInodesOf old (inodes_of old) → AreInodesOf new (inodes_of new)
-  lost_reads reads l = by (cases_eq l k)
-    where
-      by : (l ≡ k) ⊎ (l ≢ k) → IsInodeOf (new l) (inodes_of new l)
-      by (inl e) = subst (λ (n : ℕ). IsInodeOf (new n) (inodes_of new n)) (sym e) (subst (λ (i : Option Inode). IsInodeOf (new k) i) (sym lost_inode) lost.own)
-      by (inr n) = subst (λ (o : Option FileNode). IsInodeOf o (option_and_then inode_of o)) (sym (lost.others l n)) (reads l)
+  lost_reads = read_still old new k (subst (λ (i : Option Inode). IsInodeOf (new k) i) (sym lost_inode) lost.own) lost.others
 
 -- a node with more links than one is in use still
 more_left : (kind : NodeKind) (links : ℕ) (bytes : List ℕ) (inode : Inode) → links ≢ 1 → inode_by kind links bytes ≡ Some inode → (left : Inode) × (one_link_less inode ≡ Some left)
@@ -98,7 +84,8 @@ module _ (old new : Files) (node : NodeFound) (lost : LosesLink old new node.num
       let x = found.file in
       let inode = used_inode old reads node.number x found.is in
       let left = more_left x.kind x.links x.bytes inode.0 (λ e. more (ap (λ (f : FileFacts). f.links) found.facts ∙ e)) (sym (ap (option_and_then inode_of) found.is) ∙ inode.1) in
-      reads_used (new node.number) left.0 (lost_inode old new node.number lost ∙ ap (option_and_then one_link_less) inode.1 ∙ left.1)
+      let there = node_there (new node.number) left.0 (lost_inode old new node.number lost ∙ ap (option_and_then one_link_less) inode.1 ∙ left.1) in
+      (there.0, there.1)
 
   -- no number below the first one that may be unused is so
   pub lost_used : (first : ℕ) → AreUsedBelow old first → AreUsedBelow new (first_after node first)

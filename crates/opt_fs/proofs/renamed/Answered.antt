@@ -1,24 +1,21 @@
 -- The plan of a rename that the tree refuses, and of one whose paths lead to one node.
 use Rattle.std.proofs.Common.{◌≡◌, ℕ, Bool, true, false, IsTrue, List, Option, None, Some, Ok, refl, sym, subst, ap, ap₂, ◌∙◌, if◌then◌else◌}
 use Rattle.opt_geom.specs.Geometry.{bitmap_blocks}
-use Rattle.opt_tree.specs.declared.command.Cmd.{Cmd}
 use Rattle.opt_tree.specs.declared.command.Cmd.TheVariants.{Rename}
 use Rattle.opt_tree.specs.declared.command.Refusal.{Refusal}
 use Rattle.opt_tree.specs.declared.command.Reply.TheVariants.{Ok as Done, Refused}
-use Rattle.opt_tree.specs.Conditions.{refusal}
-use Rattle.opt_tree.specs.Figures.{figures, nothing}
+use Rattle.opt_tree.specs.Figures.{nothing}
 use Rattle.opt_tree.specs.Step.{Session, step}
-use Rattle.opt_tree.specs.Points.{answers_point}
 use Rattle.opt_tree.specs.Tree.{Tree}
 use Rattle.opt_tree.specs.Walk.{are_same}
 use Rattle.opt_stands.specs.Inodes.{Inodes}
 use Rattle.opt_stands.specs.Maps.{IsMapOf}
 use Rattle.opt_stands.specs.Stands.{IsTreeOf}
 use Rattle.opt_stands.specs.Walks.{LeadsTo}
-use Rattle.opt_inodes.specs.Figures.{cost, cost_by, move_cost}
+use Rattle.opt_inodes.specs.Figures.{cost_by, move_cost}
 use Rattle.opt_inodes.specs.Lookups.{number_at, walk_on}
-use Rattle.opt_inodes.specs.Refusals.{parent_reason, reason, rename_reason}
-use Rattle.opt_inodes.specs.Replies.{reply_by, reply_of}
+use Rattle.opt_inodes.specs.Refusals.{parent_reason, rename_reason}
+use Rattle.opt_inodes.specs.Replies.{reply_by}
 use Rattle.opt_blocks.specs.Calls.{IsSound}
 use Rattle.opt_blocks.specs.Crashes.{Advances}
 use Rattle.opt_blocks.specs.State.{State}
@@ -27,28 +24,18 @@ use Rattle.opt_fs.specs.declared.plan.Plan.TheVariants.{Answer}
 use Rattle.opt_fs.specs.Commands.{figures_on}
 use Rattle.opt_fs.specs.Plans.{Plans}
 use Rattle.opt_fs.specs.Sessions.{inodes}
-use Rattle.opt_fs.proofs.planning.Looking.{done_plan, refusal_plan}
+use Rattle.opt_fs.proofs.planning.Looking.{done_plan, reason_plan}
 use Rattle.opt_fs.proofs.renamed.Reasons.{same_accepted, same_is}
+use Rattle.opt_fs.proofs.Given.{RefusalLaw, FiguresLaw, ReplyLaw}
 
--- the laws from inode maps to the tree
-abbrev RefusalLaw : Type 0
-RefusalLaw = (limit : ℕ) (m : Inodes) (t : Tree) (cmd : Cmd) → IsMapOf limit m t → refusal limit t cmd ≡ reason limit m cmd
-
-abbrev FiguresLaw : Type 0
-FiguresLaw = (bitmap : ℕ) (s : Session) (m : Inodes) (cmd : Cmd) → IsMapOf s.limit m s.tree → figures bitmap s cmd ≡ cost bitmap s.limit m cmd
-
-abbrev ReplyLaw : Type 0
-ReplyLaw = (s : Session) (m : Inodes) (cmd : Cmd) → IsMapOf s.limit m s.tree → answers_point cmd ≡ false → (step s cmd).1 ≡ reply_of s.limit m cmd
-
+-- a rename of a node to itself leaves the session as it is
 abbrev SameLaw : Type 0
 SameLaw = (s : Session) (m : Inodes) (from to : List (List ℕ)) (node : ℕ) → IsMapOf s.limit m s.tree → LeadsTo m from node → LeadsTo m to node → (step s (Rename from to)).0 ≡ s
 
 -- the tree refuses it
 pub refused_rename : (tells : Bool) (s t : State) (from to : List (List ℕ)) (why : Refusal) → s.books.stopped ≡ false → IsSound s.books → (IsTrue tells → (u : Tree) → IsTreeOf s.books.geom s.map u → rename_reason (inodes s) from to ≡ Some why)
     → ((u : Tree) → IsTreeOf s.books.geom s.map u → IsMapOf s.books.geom.i (inodes s) u) → RefusalLaw → LooksOnly tells false s t → (IsTrue tells → Advances s t) → Plans tells (Rename from to) (Ok (Answer (Refused why))) s t
-refused_rename tells s t from to why going sound refuses map law looks advances =
-    refusal_plan tells (Rename from to) s t why going sound
-    (λ told f h. law f.limit (inodes s) f.tree (Rename from to) (subst (λ l. IsMapOf l (inodes s) f.tree) (sym h.limit) (map f.tree h.tree)) ∙ refuses told f.tree h.tree) looks advances
+refused_rename tells s t from to why going sound refuses = reason_plan tells (Rename from to) s t why going sound (λ told u h limit. refuses told u h)
 
 -- both paths lead to one node
 pub record LeadToOne (m : Inodes) (from to : List (List ℕ)) : Type 0 where

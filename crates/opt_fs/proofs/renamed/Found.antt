@@ -1,11 +1,9 @@
 -- What was found at a path is what inodes say of it, and it isn't the root.
 use Rattle.std.proofs.Common.{◌≡◌, ◌≢◌, ℕ, List, slice_get, Option, None, Some, option_map, Ok, sym, subst, ap, ◌∙◌}
-use Rattle.std.proofs.lemmas.Option.{none-some}
+use Rattle.std.proofs.lemmas.Option.{none-some, same_Some}
 use Rattle.opt_layout.specs.declared.slot.Slot.{Slot}
-use Rattle.opt_dirent.specs.Directory.{place_of}
 use Rattle.opt_stands.specs.Files.{Files}
 use Rattle.opt_stands.specs.Inodes.{Inodes, ADir, inodes_of}
-use Rattle.opt_stands.specs.Walks.{node_in}
 use Rattle.opt_inodes.specs.Changes.{slot_of}
 use Rattle.opt_inodes.specs.Lookups.{number_at}
 use Rattle.opt_fs.specs.declared.paths.Entry.{Entry}
@@ -13,12 +11,12 @@ use Rattle.opt_fs.specs.declared.paths.Spot.TheVariants.{Inside}
 use Rattle.opt_fs.specs.Looks.{ComesTo, ShowsFacts}
 use Rattle.opt_fs.specs.Renaming.{IsBelowRoot, ShowsEntry}
 use Rattle.opt_fs.proofs.removed.Accepted.{entry_slot}
-use Rattle.opt_fs.proofs.removed.Links.{some_same}
 use Rattle.opt_fs.proofs.renamed.Reasons.{root_holds}
+use Rattle.opt_fs.proofs.Given.{PlaceLaw}
 
 pub found_shown : (files : Files) (path : List (List ℕ)) (dir count : ℕ) (found : Option Entry) → ComesTo files path (Ok (Inside dir count found)) → number_at (inodes_of files) path ≡ option_map (λ (e : Entry). e.node.number) found
     → ((e : Entry) → ComesTo files path (Ok (Inside dir count (Some e))) → ShowsFacts (inodes_of files) path e.node.facts)
-    → ((slots : List Slot) (name : List ℕ) (place : ℕ) → place_of name slots ≡ Some place → (node : ℕ) × (slice_get slots place ≡ Some (slot_of node name)) × (node_in slots name ≡ Some node))
+    → PlaceLaw
     → ((i : ℕ) (slots : List Slot) (s : Slot) → inodes_of files dir ≡ Some (ADir slots) → slice_get slots i ≡ Some s → s.node ≢ 1) → ShowsEntry (inodes_of files) path found × IsBelowRoot (inodes_of files) found
 found_shown files path dir count None comes number shows place apart = (number, tt)
 found_shown files path dir count (Some e) comes number shows place apart =
@@ -29,4 +27,4 @@ found_shown files path dir count (Some e) comes number shows place apart =
 -- what was found has another number than the root
 pub number_apart : (m : Inodes) (found : Option Entry) (n : ℕ) → IsBelowRoot m found → option_map (λ (e : Entry). e.node.number) found ≡ Some n → n ≢ 1
 number_apart m None n below is = absurd (none-some n is)
-number_apart m (Some e) n below is = subst (λ k. k ≢ 1) (some_same e.node.number n is) below.0
+number_apart m (Some e) n below is = subst (λ k. k ≢ 1) (same_Some e.node.number n is) below.0

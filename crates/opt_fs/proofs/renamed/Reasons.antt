@@ -1,6 +1,6 @@
 -- Why a rename is refused, from inodes.
 use Rattle.std.proofs.Common.{◌≡◌, ◌≢◌, ℕ, Bool, true, false, List, [], ◌∷◌, ◌++◌, if◌then◌else◌, Option, None, Some, option_and_then, Ok, Err, refl, sym, subst, ap, ap₂, ◌∙◌}
-use Rattle.std.proofs.lemmas.Bool.{eq-eqb, eqb-true, ne_eqb, true≢false}
+use Rattle.std.proofs.lemmas.Bool.{eqb-true, ne_eqb, true≢false}
 use Rattle.std.proofs.lemmas.Option.{none-some}
 use Rattle.opt_tree.specs.declared.command.Refusal.{Refusal}
 use Rattle.opt_tree.specs.declared.command.Refusal.TheVariants.{BelowItself}
@@ -11,10 +11,7 @@ use Rattle.opt_stands.specs.Inodes.{Inode, Inodes, ADir, AFile}
 use Rattle.opt_stands.specs.Walks.{entries_of, entry_in, walk}
 use Rattle.opt_inodes.specs.Lookups.{has_slots, number_at, walk_on}
 use Rattle.opt_inodes.specs.Refusals.{onto_reason, parent_reason, rename_reason}
-
-alone : (o : Option Refusal) → first_reason (o ∷ []) ≡ o
-alone None = refl
-alone (Some why) = refl
+use Rattle.opt_fs.proofs.FirstReason.{alone}
 
 module _ (m : Inodes) (from to : List (List ℕ)) where
   -- a first path that leads nowhere
@@ -40,9 +37,6 @@ module _ (m : Inodes) (from to : List (List ℕ)) where
   onto_refuses k o e p apart is = last_refuses k false e p apart ∙ is
 
 -- whether two numbers are the same
-pub same_numbers : (n : ℕ) (a b : Option ℕ) → a ≡ Some n → b ≡ Some n → are_same a b ≡ true
-same_numbers n a b x y = ap₂ are_same x y ∙ eq-eqb n n refl
-
 pub not_root_apart : (n : ℕ) → n ≢ 1 → (a : Option ℕ) → a ≡ Some n → (are_same a (Some 1) ≡ false)
 not_root_apart n other a x = ap (λ a. are_same a (Some 1)) x ∙ ne_eqb n 1 other
 

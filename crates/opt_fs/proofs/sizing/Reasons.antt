@@ -1,7 +1,6 @@
 -- Why a truncate of a file that was found is refused, or isn't; and what becomes of one to the size that the file has.
 use Rattle.std.proofs.Common.{◌≡◌, ℕ, ◌-◌, ◌==◌, nat_lt, Bool, false, cond, List, [], ◌∷◌, length, None, Some, Result, sym, ap, ap₂, ◌∙◌, arith}
 use Rattle.std.proofs.lemmas.Bool.{cond-true, cond-false, eq-eqb, le-ltb}
-use Rattle.opt_tree.specs.declared.command.Cmd.{Cmd}
 use Rattle.opt_tree.specs.declared.command.Cmd.TheVariants.{Truncate}
 use Rattle.opt_tree.specs.declared.command.Refusal.{Refusal}
 use Rattle.opt_tree.specs.declared.command.Refusal.TheVariants.{IsDir, TooLarge}
@@ -9,15 +8,15 @@ use Rattle.opt_tree.specs.declared.command.Reply.TheVariants.{Ok as Done}
 use Rattle.opt_tree.specs.Conditions.{refusal, when, first_reason, is_too_large}
 use Rattle.opt_tree.specs.Figures.{nothing, figures, figures_by, writing, shrinking, truncate_figures, blocks_for}
 use Rattle.opt_tree.specs.Step.{Session, step, answered, resized, changed_to, edited}
-use Rattle.opt_tree.specs.Tree.{Tree}
 use Rattle.opt_tree.specs.Walk.{content, refusal_in}
 use Rattle.opt_stands.specs.Inodes.{Inodes}
 use Rattle.opt_stands.specs.Maps.{IsMapOf}
 use Rattle.opt_inodes.specs.Lookups.{is_dir_inode, inode_at}
-use Rattle.opt_inodes.specs.Refusals.{file_reason, reason}
+use Rattle.opt_inodes.specs.Refusals.{file_reason}
 use Rattle.opt_fs.specs.declared.paths.NodeFound.{NodeFound}
 use Rattle.opt_fs.specs.Found.{IsKnownFile}
-use Rattle.opt_fs.proofs.writing.Reasons.{first_of_two}
+use Rattle.opt_fs.proofs.FirstReason.{first_more}
+use Rattle.opt_fs.proofs.Given.{RefusalLaw}
 
 -- no change takes nothing
 same_takes_nothing : (bitmap n : ℕ) → truncate_figures bitmap n n ≡ nothing
@@ -25,10 +24,10 @@ same_takes_nothing bitmap n =
     let less : nat_lt n n ≡ false = le-ltb n n (omega arith) in
     cond-false (nat_lt n n) (writing bitmap n n n) (cond (nat_lt n n) (shrinking bitmap (blocks_for n - blocks_for n)) nothing) less ∙ cond-false (nat_lt n n) (shrinking bitmap (blocks_for n - blocks_for n)) nothing less
 
-module _ (m : Inodes) (f : Session) (path : List (List ℕ)) (size : ℕ) (law : (limit : ℕ) (m : Inodes) (t : Tree) (cmd : Cmd) → IsMapOf limit m t → refusal limit t cmd ≡ reason limit m cmd) where
+module _ (m : Inodes) (f : Session) (path : List (List ℕ)) (size : ℕ) (law : RefusalLaw) where
   -- one that no file is found for
   pub refused_by : (why : Refusal) → IsMapOf f.limit m f.tree → file_reason m path ≡ Some why → refusal f.limit f.tree (Truncate path size) ≡ Some why
-  refused_by why map e = law f.limit m f.tree (Truncate path size) map ∙ first_of_two _ _ (when (is_too_large size) TooLarge) why e
+  refused_by why map e = law f.limit m f.tree (Truncate path size) map ∙ first_more _ _ (when (is_too_large size) TooLarge ∷ []) why e
 
   module _ (found : NodeFound) (k : IsKnownFile m f path found) where
     pub refusal_is : (b : Bool) → is_too_large size ≡ b → refusal f.limit f.tree (Truncate path size) ≡ first_reason (None ∷ when false IsDir ∷ when b TooLarge ∷ [])

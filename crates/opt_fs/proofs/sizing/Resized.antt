@@ -1,7 +1,8 @@
 -- A draft that gives a file another size makes the tree of the truncate, and is within its cost.
-use Rattle.std.proofs.Common.{◌≡◌, ◌≢◌, ◌⊎◌, inl, inr, ℕ, ◌+◌, ◌-◌, ◌/◌, ◌<◌, ◌≤◌, ◌==◌, nat_lt, min, max, Bool, true, false, cond, List, [], ◌∷◌, take, drop, length, None, Some, option_and_then, refl, sym, subst, ap, ◌∙◌, arith}
+use Rattle.std.proofs.Common.{◌≡◌, ◌≢◌, ◌⊎◌, inl, inr, ℕ, ◌-◌, ◌/◌, ◌<◌, ◌≤◌, ◌==◌, nat_lt, Bool, true, false, cond, List, [], ◌∷◌, take, drop, length, None, Some, option_and_then, refl, sym, subst, ap, ◌∙◌, arith}
 use Rattle.std.proofs.lemmas.Bool.{lt-ltb, le-ltb, cond-true, cond-false, cases_order}
 use Rattle.std.proofs.lemmas.List.{length-append, length-drop}
+use Rattle.std.proofs.lemmas.Option.{same_Some}
 use Rattle.opt_geom.specs.Geometry.{Geometry, bitmap_blocks}
 use Rattle.opt_extent.specs.Runs.{stretches}
 use Rattle.opt_layout.specs.declared.node.NodeKind.TheVariants.{File}
@@ -10,7 +11,7 @@ use Rattle.opt_tree.specs.declared.command.Cmd.TheVariants.{Truncate}
 use Rattle.opt_tree.specs.declared.command.Reply.{Reply}
 use Rattle.opt_tree.specs.declared.command.Reply.TheVariants.{Ok as Done}
 use Rattle.opt_tree.specs.Conditions.{refusal}
-use Rattle.opt_tree.specs.Figures.{Figures, nothing, figures_by, writing, shrinking, truncate_figures, blocks_met, blocks_for}
+use Rattle.opt_tree.specs.Figures.{Figures, nothing, figures_by, writing, shrinking, truncate_figures, blocks_for}
 use Rattle.opt_tree.specs.Step.{Session, step, answered, resized, changed_to, edited}
 use Rattle.opt_tree.specs.Walk.{content}
 use Rattle.opt_stands.specs.Files.{FileNode}
@@ -24,12 +25,15 @@ use Rattle.opt_files.specs.Drafts.{DraftState, nothing_drafted}
 use Rattle.opt_files.specs.Effects.{LooksAndSettles}
 use Rattle.opt_files.specs.Nodes.{node_block}
 use Rattle.opt_dirs.specs.Directories.{inodes_in}
-use Rattle.opt_fs.specs.Changes.{ChangesAtMost, IsWithinCost}
+use Rattle.opt_fs.specs.Changes.{ChangesAtMost, IsWithinCost, Uses}
 use Rattle.opt_fs.specs.Commands.{FindsRuns, GrowsInRuns, figures_on, places_of}
 use Rattle.opt_fs.specs.Plans.{MakesTree}
 use Rattle.opt_fs.specs.Sessions.{IsSession}
 use Rattle.opt_fs.specs.Writing.{IsWeighed}
-use Rattle.opt_fs.proofs.writing.Written.{at_most, file_reads, only_these, read_with, sets_inode, some_same}
+use Rattle.opt_fs.proofs.AtMost.{only_these}
+use Rattle.opt_fs.proofs.Placing.{placed_cut}
+use Rattle.opt_fs.proofs.writing.Written.{at_most, file_reads, grown_uses, read_with, sets_inode}
+use Rattle.opt_fs.proofs.Given.{DivisionLaw, WritingLaw}
 
 -- two sizes that differ
 larger_or_smaller : (old size : ℕ) → size ≢ old → (old < size) ⊎ (size < old)
@@ -69,6 +73,15 @@ cut_at_most g number x places new_places d size file count shrinks among =
       some = shrinks.changes;
     }
 
+-- It takes no blocks, and keeps its first ones.
+cut_uses : (s t : State) (d : DraftState) (number size need freed : ℕ) (x : FileNode) (spare : List ℕ) → length (places_of s number) ≡ blocks_for (length x.bytes) → need ≡ 0 → freed ≡ blocks_for (length x.bytes) - blocks_for size
+    → Shrinks x (places_of s number) (places_in t d number) size nothing_drafted d → ((l : ℕ) → l ≢ number → places_in t d l ≡ places_of s l) → Uses need freed spare (places_of s) (places_in t d) d
+cut_uses s t d number size need freed x spare count none gone shrinks others = record {
+  taken = shrinks.taken ∙ ap (λ n. take n spare) (sym none);
+  freed_are = omega (arith, ap (λ (xs : List ℕ). length xs) shrinks.freed, length-drop (blocks_for size) (places_of s number), count, gone);
+  placed = placed_cut (places_of s) (places_in t d) number (blocks_for size) (take need spare) (record { own = shrinks.kept; others = others });
+}
+
 -- Another size of a file: the draft makes the tree of the truncate.
 module _ (s t : State) (f : Session) (path : List (List ℕ)) (number size cost : ℕ) (x : FileNode) (weighed : IsWeighed s f (Truncate path size) cost) (holds : content f.tree path ≡ x.bytes) (other : size ≢ length x.bytes) where
   abbrev pub cmd : Cmd
@@ -103,7 +116,7 @@ module _ (s t : State) (f : Session) (path : List (List ℕ)) (number size cost 
       where
         by : (length x.bytes < size) ⊎ (size < length x.bytes) → GrowsInRuns s k (figures_on s f cmd).need
         by (inr less) = absurd (omega (arith, some, need_is, less))
-        by (inl more) = subst (λ n. GrowsInRuns s n (figures_on s f cmd).need) (some_same number k (sym leads ∙ grown))
+        by (inl more) = subst (λ n. GrowsInRuns s n (figures_on s f cmd).need) (same_Some number k (sym leads ∙ grown))
             (subst (λ n. GrowsInRuns s number n) (sym need_is) (record {
               books = t.books;
               moves = settles.pipeline;
@@ -113,8 +126,8 @@ module _ (s t : State) (f : Session) (path : List (List ℕ)) (number size cost 
             }))
 
     -- it is within the cost
-    pub within_cost : ((size lo hi : ℕ) → min (blocks_for size) (blocks_for hi) - lo / 1024 ≡ blocks_met size lo hi)
-        → ((g : Geometry) (d : DraftState) (size lo hi : ℕ) → ChangesAtMost d (blocks_met size lo hi + 1) (blocks_for (max size hi) - blocks_for size) (blocks_for (max size hi) - blocks_for size) 0 → IsWithinCost g d (writing (bitmap_blocks g) size lo hi).cost)
+    pub within_cost : DivisionLaw
+        → WritingLaw
         → ((g : Geometry) (d : DraftState) (freed : ℕ) → ChangesAtMost d 1 0 0 freed → IsWithinCost g d (shrinking (bitmap_blocks g) freed).cost) → IsWithinCost t.books.geom d cost
     within_cost division writes cuts = by (larger_or_smaller (length x.bytes) size other)
       where
@@ -128,12 +141,21 @@ module _ (s t : State) (f : Session) (path : List (List ℕ)) (number size cost 
             (cuts t.books.geom d (blocks_for (length x.bytes) - blocks_for size)
             (cut_at_most t.books.geom number x (places_of s number) (places_in t d number) d size file count (resizes.shrinks less) (resizes.shrinks_among less))))
 
+    -- it uses the blocks that the figures say
+    uses_are : ((l : ℕ) → l ≢ number → places_in t d l ≡ places_of s l) → Uses (figures_on s f cmd).need (figures_on s f cmd).freed (reusable_blocks t.books) (places_of s) (places_in t d) d
+    uses_are others = by (larger_or_smaller (length x.bytes) size other)
+      where
+        by : (length x.bytes < size) ⊎ (size < length x.bytes) → Uses (figures_on s f cmd).need (figures_on s f cmd).freed (reusable_blocks t.books) (places_of s) (places_in t d) d
+        by (inl more) = grown_uses s t d number size (figures_on s f cmd).need (figures_on s f cmd).freed x need_is (ap (λ (n : Figures). n.freed) (figures_growing more)) (resizes.grows more) others
+        by (inr less) = cut_uses s t d number size (figures_on s f cmd).need (figures_on s f cmd).freed x (reusable_blocks t.books) count
+            (ap (λ (n : Figures). n.need) (figures_cutting less)) (ap (λ (n : Figures). n.freed) (figures_cutting less)) (resizes.shrinks less) others
+
     pub resized_tree : IsSession s f → IsMapOf s.books.geom.i (inodes_in s nothing_drafted) f.tree → LeadsTo (inodes_in s nothing_drafted) path number → files_in s nothing_drafted number ≡ Some x
         → AreInodesOf (files_in s nothing_drafted) (inodes_in s nothing_drafted) → IsWithFile (files_in s nothing_drafted) (files_in t d) number (Some (with_bytes x (resized size x.bytes)))
         → ((s : Session) (m new : Inodes) (path : List (List ℕ)) (size node links : ℕ) (old : List ℕ) → IsMapOf s.limit m s.tree → refusal s.limit s.tree (Truncate path size) ≡ None
         → size ≢ length old → LeadsTo m path node → m node ≡ Some (AFile links old) → Sets m new node (Some (AFile links (resized size old))) → IsMapOf s.limit new (step s (Truncate path size)).0.tree)
-        → IsWithinCost t.books.geom d cost → MakesTree cmd d cost s t f
-    resized_tree h map leads is reads with law within =
+        → IsWithinCost t.books.geom d cost → ((l : ℕ) → l ≢ number → places_in t d l ≡ places_of s l) → MakesTree cmd d cost s t f
+    resized_tree h map leads is reads with law within others =
         let new : FileNode = with_bytes x (resized size x.bytes) in
         let becomes : inode_of new ≡ Some (AFile x.links (resized size x.bytes)) = file_reads new file in
         let was : inodes_in s nothing_drafted number ≡ Some (AFile x.links x.bytes) = ap (option_and_then inode_of) is ∙ file_reads x file in
@@ -147,4 +169,6 @@ module _ (s t : State) (f : Session) (path : List (List ℕ)) (number size cost 
           map = law f (inodes_in s nothing_drafted) (inodes_in t d) path size number x.links x.bytes (subst (λ n. IsMapOf n (inodes_in s nothing_drafted) f.tree) (sym h.limit) map) weighed.accepted other leads was
               (sets_inode (files_in s nothing_drafted) (files_in t d) number new (AFile x.links (resized size x.bytes)) becomes with);
           within = within;
+          uses = uses_are others;
+          rests = λ enough. rests (omega (arith, enough, need_is));
         }

@@ -1,9 +1,10 @@
 -- Blocks that have the live blocks of others stand for the same tree.
 use Rattle.std.proofs.Common.{◌≡◌, ℕ, ◌+◌, ◌-◌, ◌*◌, ◌/◌, ◌%◌, ◌<◌, ◌≤◌, nat_le, nat_lt, Bool, true, false, ◌&&◌, ◌||◌, List, drop, take, length, Option, None, Some, option_map, refl, sym, subst, ap, ap₂, ◌∙◌, arith}
-use Rattle.std.proofs.lemmas.Bool.{and_parts, leb-true, ltb-true, lt-ltb, le-leb}
+use Rattle.std.proofs.lemmas.Bool.{and_parts, leb-true, ltb-true}
 use Rattle.opt_base.specs.Seal.{Blocks}
 use Rattle.opt_base.specs.Runs.{run_places}
 use Rattle.opt_geom.specs.Geometry.{Geometry, IsGeometry, bitmap_start, bitmap_blocks, table_start, data_start, nodes_in_block}
+use Rattle.opt_journal.specs.Run.{is_live}
 use Rattle.opt_layout.specs.declared.node.Node.{Node}
 use Rattle.opt_layout.specs.declared.node.NodeKind.TheVariants.{Dir}
 use Rattle.opt_layout.specs.Bitmap.{is_set, bit_in}
@@ -17,7 +18,7 @@ use Rattle.opt_stands.specs.Stands.{HasBlock, AreSound, IsTreeOf}
 use Rattle.opt_tree.specs.Tree.{Tree}
 use Rattle.opt_files.specs.Calls.{places_or_none}
 use Rattle.opt_fs.proofs.standing.Nodes.{node_data, joined_same}
-use Rattle.opt_fs.proofs.standing.Marks.{alive, data_alive, place_marked}
+use Rattle.opt_fs.proofs.standing.Marks.{data_live, low_live, place_marked}
 
 when_same : {A : Type 0} (t : Bool) (x y : Option A) → (t ≡ true → x ≡ y) → when t x ≡ when t y
 when_same true x y e = e refl
@@ -28,13 +29,11 @@ module _ (g : Geometry) (fits : IsGeometry g) (map m : Blocks) (sound : AreSound
 
   -- those of the bitmap and the node table
   low_same : (b : ℕ) → bitmap_start g ≤ b → b < data_start g → m b ≡ map b
-  low_same b from below = same b
-      (ap₂ (λ s t. s && (t && (nat_lt b (data_start g) || is_set g map b))) (le-leb (bitmap_start g) b from) (lt-ltb b g.n (omega (arith, below, fits.data_room)))
-      ∙ ap (λ t. t || is_set g map b) (lt-ltb b (data_start g) below))
+  low_same b from below = same b (low_live g fits map b from below)
 
   -- and the data blocks that are marked
   data_same : (b : ℕ) → data_start g ≤ b → b < g.n → is_set g map b ≡ true → m b ≡ map b
-  data_same b from below set = same b (data_alive g map b (omega (arith, from)) below set)
+  data_same b from below set = same b (data_live g map b (omega (arith, from)) below set)
 
   bits : (b : ℕ) → b < 8192 * bitmap_blocks g → is_set g m b ≡ is_set g map b
   bits b below = ap (λ (xs : List ℕ). bit_in (λ _. xs) b) (low_same (bitmap_start g + b / 8192) (omega arith) (omega (arith, below)))
@@ -42,11 +41,11 @@ module _ (g : Geometry) (fits : IsGeometry g) (map m : Blocks) (sound : AreSound
   bit : (b : ℕ) → b < g.n → is_set g m b ≡ is_set g map b
   bit b below = bits b (omega (arith, below))
 
-  whole : (b : ℕ) → alive g m b ≡ true → length (m b) ≡ 1024
+  whole : (b : ℕ) → is_live g m b ≡ true → length (m b) ≡ 1024
   whole b live =
       let from = and_parts (nat_le (bitmap_start g) b) (nat_lt b g.n && (nat_lt b (data_start g) || is_set g m b)) live in
       let below = and_parts (nat_lt b g.n) (nat_lt b (data_start g) || is_set g m b) from.1 in
-      let there : alive g map b ≡ true = ap₂ (λ s t. s && (t && (nat_lt b (data_start g) || is_set g map b))) from.0 below.0
+      let there : is_live g map b ≡ true = ap₂ (λ s t. s && (t && (nat_lt b (data_start g) || is_set g map b))) from.0 below.0
       ∙ (ap (λ t. nat_lt b (data_start g) || t) (sym (bit b (ltb-true b g.n below.0))) ∙ below.1) in
       ap length (same b there) ∙ sound.whole b there
 

@@ -13,6 +13,7 @@ use Rattle.opt_blocks.specs.Crashes.{HoldsPointBetween, HasMapOfPoint, Advances,
 use Rattle.opt_blocks.specs.Effects.{Syncs, ChangesNothing}
 use Rattle.opt_stands.specs.Stands.{IsTreeOf}
 use Rattle.opt_fs.specs.Points.{KnowsPoints, LeavesTree, with_tree, trees_after}
+use Rattle.opt_fs.proofs.carrying.Staying.{tree_stays}
 use Rattle.opt_fs.proofs.standing.Alive.{tree_alive}
 
 -- What a crash leaves.
@@ -102,4 +103,4 @@ pub known_synced : (tells : Bool) (result : Result ℕ SyncRefusal) (old new : S
 known_synced tells result old new trees t fits known syncs tree points =
     let facts = sync_point tells result old new syncs.after syncs.none in
     known_after old new trees t fits (syncs.crash known) (syncs.made known) facts.0 facts.1
-    (subst (λ (g : Geometry). IsTreeOf g new.map t) (sym facts.0) (subst (λ (m : Blocks). IsTreeOf old.books.geom m t) (sym (syncs.map known)) tree)) points
+    (tree_stays old new t facts.0 (syncs.map known) tree) points

@@ -41,7 +41,7 @@ in_append (x ∷ xs) ys b e = by (in_append xs ys b) (or_cases (b == x) (has (xs
         later (inr second) = inr second
 
 -- and what is in one of them is in both
-in_first : (xs ys : List ℕ) (b : ℕ) → has xs b ≡ true → has (xs ++ ys) b ≡ true
+pub in_first : (xs ys : List ℕ) (b : ℕ) → has xs b ≡ true → has (xs ++ ys) b ≡ true
 in_first [] ys b e = absurd (false≢true e)
 in_first (x ∷ xs) ys b e = by (in_first xs ys b) (or_cases (b == x) (has xs b) e)
   where
@@ -49,7 +49,7 @@ in_first (x ∷ xs) ys b e = by (in_first xs ys b) (or_cases (b == x) (has xs b)
     by further (inl same) = ap (λ t. t || has (xs ++ ys) b) same
     by further (inr rest) = or_right (b == x) (has (xs ++ ys) b) (further rest)
 
-in_second : (xs ys : List ℕ) (b : ℕ) → has ys b ≡ true → has (xs ++ ys) b ≡ true
+pub in_second : (xs ys : List ℕ) (b : ℕ) → has ys b ≡ true → has (xs ++ ys) b ≡ true
 in_second [] ys b e = e
 in_second (x ∷ xs) ys b e = or_right (b == x) (has (xs ++ ys) b) (in_second xs ys b e)
 

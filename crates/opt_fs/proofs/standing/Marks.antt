@@ -1,12 +1,13 @@
 -- As many data blocks are marked as the tree has, where it stands.
-use Rattle.std.proofs.Common.{◌≡◌, ℕ, zero, suc, ◌+◌, ◌-◌, ◌*◌, ◌%◌, ◌<◌, ◌≤◌, ◌==◌, ◌&&◌, ◌||◌, nat_le, nat_lt, Bool, true, false, List, length, filter, Option, Some, None, option_map, refl, sym, ap, ap₂, ◌∙◌, arith}
+use Rattle.std.proofs.Common.{◌≡◌, ℕ, zero, suc, ◌+◌, ◌-◌, ◌*◌, ◌%◌, ◌<◌, ◌≤◌, ◌==◌, ◌&&◌, ◌||◌, nat_lt, Bool, true, false, List, length, filter, Option, Some, None, option_map, refl, sym, ap, ap₂, ◌∙◌, arith}
 use Rattle.std.specs.List.{IsDistinct, range_with_len}
 use Rattle.std.proofs.lemmas.Bool.{eqb-true, false≢true, le-leb, lt-ltb, or_right}
 use Rattle.std.proofs.lemmas.List.{length-append}
 use Rattle.std.proofs.lemmas.Option.{none-some, same_Some}
 use Rattle.opt_base.specs.Seal.{Blocks}
 use Rattle.opt_base.specs.Runs.{run_places}
-use Rattle.opt_geom.specs.Geometry.{Geometry, bitmap_start, data_start}
+use Rattle.opt_geom.specs.Geometry.{Geometry, IsGeometry, bitmap_start, data_start}
+use Rattle.opt_journal.specs.Run.{is_live}
 use Rattle.opt_layout.specs.declared.node.Node.{Node}
 use Rattle.opt_layout.specs.declared.node.NodeKind.{NodeKind}
 use Rattle.opt_layout.specs.declared.node.NodeKind.TheVariants.{Free, Dir, File}
@@ -23,13 +24,15 @@ use Rattle.opt_files.specs.Calls.{places_or_none}
 use Rattle.opt_fs.proofs.standing.Lists.{place_of, has_place, as_long, kept_is, is_kept, distinct_kept, in_turn, turn_of, in_its_turn, distinct_turns}
 use Rattle.opt_fs.proofs.standing.Nodes.{Fits, used_number, used_fits, fits_parts, node_count, content_length, places_at, block_place, place_block, place_data}
 
--- Live blocks, as opt_journal defines them: those of the bitmap and the node table, and the data blocks that are marked.
+-- Which blocks are live: those of the bitmap and the node table, and the data blocks that are marked.
 
-abbrev pub alive : Geometry → Blocks → ℕ → Bool
-alive g m b = nat_le (bitmap_start g) b && (nat_lt b g.n && (nat_lt b (data_start g) || is_set g m b))
+pub low_live : (g : Geometry) → IsGeometry g → (m : Blocks) (b : ℕ) → bitmap_start g ≤ b → b < data_start g → is_live g m b ≡ true
+low_live g limits m b from below =
+    ap₂ (λ s t. s && (t && (nat_lt b (data_start g) || is_set g m b))) (le-leb (bitmap_start g) b from) (lt-ltb b g.n (omega (arith, below, limits.data_room)))
+    ∙ ap (λ t. t || is_set g m b) (lt-ltb b (data_start g) below)
 
-pub data_alive : (g : Geometry) (m : Blocks) (b : ℕ) → bitmap_start g ≤ b → b < g.n → is_set g m b ≡ true → alive g m b ≡ true
-data_alive g m b from below set =
+pub data_live : (g : Geometry) (m : Blocks) (b : ℕ) → bitmap_start g ≤ b → b < g.n → is_set g m b ≡ true → is_live g m b ≡ true
+data_live g m b from below set =
     ap₂ (λ s t. s && (t && (nat_lt b (data_start g) || is_set g m b))) (le-leb (bitmap_start g) b from) (lt-ltb b g.n below) ∙ or_right (nat_lt b (data_start g)) (is_set g m b) set
 
 module _ (g : Geometry) (m : Blocks) (sound : AreSound g m) where
@@ -43,7 +46,7 @@ module _ (g : Geometry) (m : Blocks) (sound : AreSound g m) where
   place_whole : (k b : ℕ) → has (places_at g m k) b ≡ true → length (m b) ≡ 1024
   place_whole k b is =
       let at = place_data g m k b is in
-      sound.whole b (data_alive g m b (omega (arith, at.from)) at.below (place_marked k b is))
+      sound.whole b (data_live g m b (omega (arith, at.from)) at.below (place_marked k b is))
 
   -- The places of all nodes.
 
@@ -109,7 +112,7 @@ module _ (slots_law : HasSlots) (bytes_law : HasItsBytes) (g : Geometry) (m : Bl
       by (AFile links bytes) e =
           ap (λ (xs : List ℕ). blocks_for (length xs)) (sym (bytes_law (file_of m node) links bytes e).1) ∙ (ap blocks_for long ∙ sym (node_count g node fits))
 
-  inode_has : (k : ℕ) (o : Option Node) (y : Option Inode) → used_node g m k ≡ o → IsInodeOf (option_map (file_of m) o) y → inode_blocks y ≡ length (places_or_none o)
+  pub inode_has : (k : ℕ) (o : Option Node) (y : Option Inode) → used_node g m k ≡ o → IsInodeOf (option_map (file_of m) o) y → inode_blocks y ≡ length (places_or_none o)
   inode_has k None y used is = ap inode_blocks is
   inode_has k (Some node) None used is = absurd is
   inode_has k (Some node) (Some x) used is = used_blocks k node x used is

@@ -1,7 +1,7 @@
 -- What a node in use has: data blocks, as many as its bytes need.
-use Rattle.std.proofs.Common.{◌≡◌, ◌⊎◌, inl, inr, ℕ, zero, suc, ◌+◌, ◌*◌, ◌/◌, ◌<◌, ◌≤◌, ◌==◌, ◌||◌, ◌&&◌, not, nat_lt, nat_le, Bool, true, false, List, [], ◌∷◌, ◌++◌, length, slice_get, slice_index, Option, Some, None, refl, sym, ap, subst, ◌∙◌, arith}
+use Rattle.std.proofs.Common.{◌≡◌, ◌≢◌, ◌⊎◌, inl, inr, ℕ, zero, suc, ◌+◌, ◌*◌, ◌/◌, ◌<◌, ◌≤◌, ◌==◌, ◌||◌, ◌&&◌, not, nat_lt, nat_le, Bool, true, false, List, [], ◌∷◌, ◌++◌, length, slice_get, slice_index, Option, Some, None, refl, sym, ap, subst, ◌∙◌, arith}
 use Rattle.std.proofs.lemmas.List.{length-append, length-take-le}
-use Rattle.std.proofs.lemmas.Bool.{and_parts, leb-true, eqb-true, eq-eqb, false≢true, or_right, or_cases}
+use Rattle.std.proofs.lemmas.Bool.{and_parts, leb-true, ltb-true, not-true, eqb-false, eqb-true, eq-eqb, false≢true, or_right, or_cases}
 use Rattle.std.proofs.lemmas.Option.{none-some, same_Some}
 use Rattle.opt_base.specs.Seal.{Blocks}
 use Rattle.opt_base.specs.declared.places.Run.{Run}
@@ -20,7 +20,7 @@ use Rattle.opt_fs.proofs.standing.Lists.{place_of, has_place, in_append}
 
 -- A node that is read fits.
 
-when_some : {A : Type 0} (t : Bool) (x : Option A) (y : A) → when t x ≡ Some y → (t ≡ true) × (x ≡ Some y)
+pub when_some : {A : Type 0} (t : Bool) (x : Option A) (y : A) → when t x ≡ Some y → (t ≡ true) × (x ≡ Some y)
 when_some true x y e = (refl, e)
 when_some false x y e = absurd (none-some y e)
 
@@ -47,6 +47,8 @@ used_fits g m k node e = read_fits g (node_bytes g m k) node (when_some (nat_le 
 -- What it is to fit.
 
 pub record Fits (g : Geometry) (node : Node) : Type 0 where
+  pub links : 0 < node.links
+  pub few : length node.runs ≤ 28
   pub runs : runs_fit g 0 node.runs ≡ true
   pub count : run_blocks node.runs ≡ (node.size + 1023) / 1024
   pub kind : kind_fits node node.kind ≡ true
@@ -57,7 +59,35 @@ fits_parts g node fits =
     let few = and_parts (nat_le (length node.runs) 28) _ some.1 in
     let runs = and_parts (runs_fit g 0 node.runs) _ few.1 in
     let blocks = and_parts (run_blocks node.runs == (node.size + 1023) / 1024) (kind_fits node node.kind) runs.1 in
-    record { runs = runs.0; count = eqb-true (run_blocks node.runs) ((node.size + 1023) / 1024) blocks.0; kind = blocks.1 }
+    record {
+      links = ltb-true 0 node.links some.0;
+      few = leb-true (length node.runs) 28 few.0;
+      runs = runs.0;
+      count = eqb-true (run_blocks node.runs) ((node.size + 1023) / 1024) blocks.0;
+      kind = blocks.1;
+    }
+
+-- what it is that the first of runs fits
+pub record FirstFits (g : Geometry) (end : ℕ) (r : Run) (rs : List Run) : Type 0 where
+  pub some : 0 < r.count
+  pub from : data_start g ≤ r.first
+  pub below : r.first + r.count ≤ g.n
+  pub apart : r.first ≢ end
+  pub rest : runs_fit g (r.first + r.count) rs ≡ true
+
+pub first_fits : (g : Geometry) (end : ℕ) (r : Run) (rs : List Run) → runs_fit g end (r ∷ rs) ≡ true → FirstFits g end r rs
+first_fits g end r rs fits =
+    let some = and_parts (nat_lt 0 r.count) _ fits in
+    let from = and_parts (nat_le (data_start g) r.first) _ some.1 in
+    let last = and_parts (nat_le (r.first + r.count) g.n) _ from.1 in
+    let apart = and_parts (not (r.first == end)) (runs_fit g (r.first + r.count) rs) last.1 in
+    record {
+      some = ltb-true 0 r.count some.0;
+      from = leb-true (data_start g) r.first from.0;
+      below = leb-true (r.first + r.count) g.n last.0;
+      apart = eqb-false r.first end (not-true (r.first == end) apart.0);
+      rest = apart.1;
+    }
 
 -- Its blocks are data blocks.
 
@@ -72,11 +102,8 @@ blocks_within x (suc c) b e = by (blocks_within (x + 1) c b) (or_cases (b == x) 
 runs_data : (g : Geometry) (end : ℕ) (rs : List Run) (b : ℕ) → runs_fit g end rs ≡ true → has (run_places rs) b ≡ true → IsData g b
 runs_data g end [] b fits e = absurd (false≢true e)
 runs_data g end (r ∷ rs) b fits e =
-    let some = and_parts (nat_lt 0 r.count) _ fits in
-    let from = and_parts (nat_le (data_start g) r.first) _ some.1 in
-    let last = and_parts (nat_le (r.first + r.count) g.n) _ from.1 in
-    let apart = and_parts (not (r.first == end)) (runs_fit g (r.first + r.count) rs) last.1 in
-    by (leb-true (data_start g) r.first from.0) (leb-true (r.first + r.count) g.n last.0) (runs_data g (r.first + r.count) rs b apart.1) (in_append (blocks_from r.first r.count) (run_places rs) b e)
+    let first = first_fits g end r rs fits in
+    by first.from first.below (runs_data g (r.first + r.count) rs b first.rest) (in_append (blocks_from r.first r.count) (run_places rs) b e)
   where
     by : data_start g ≤ r.first → r.first + r.count ≤ g.n → (has (run_places rs) b ≡ true → IsData g b) → (has (blocks_from r.first r.count) b ≡ true) ⊎ (has (run_places rs) b ≡ true) → IsData g b
     by low high next (inl here) = let at = blocks_within r.first r.count b here in record { from = omega (arith, at.0, low); below = omega (arith, at.1, high) }

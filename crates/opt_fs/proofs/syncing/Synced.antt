@@ -1,18 +1,22 @@
 -- What a sync makes of the session: a point where something changed, and nothing where nothing did.
 use Rattle.std.proofs.lemmas.Bool.{ltb-true, ltb-false, eq-eqb, ne_eqb, cond-true, cond-false, cases_eq, true≢false, false≢true}
-use Rattle.std.proofs.Common.{◌≡◌, ◌≢◌, ◌⊎◌, inl, inr, ℕ, ◌+◌, ◌^◌, ◌≤◌, ◌<◌, ◌==◌, nat_lt, Bool, true, false, IsTrue, Ok, Err, refl, sym, subst, ap, ◌∙◌, arith}
+use Rattle.std.proofs.Common.{◌≡◌, ◌≢◌, ◌⊎◌, inl, inr, ℕ, ◌+◌, ◌^◌, ◌≤◌, ◌<◌, ◌==◌, nat_lt, Bool, true, false, IsTrue, zero, suc, is_err, Result, Ok, Err, refl, sym, subst, ap, ◌∙◌, arith}
 use Rattle.opt_geom.specs.Geometry.{Geometry}
 use Rattle.opt_tree.specs.declared.command.Cmd.{Cmd}
 use Rattle.opt_tree.specs.declared.command.Cmd.TheVariants.{Osync, Dsync}
+use Rattle.opt_tree.specs.declared.command.Refusal.{Refusal}
+use Rattle.opt_tree.specs.declared.command.Refusal.TheVariants as because
+use Rattle.opt_tree.specs.declared.command.Reply.{Reply}
 use Rattle.opt_tree.specs.declared.command.Reply.TheVariants.{Synced, DurableAt}
 use Rattle.opt_tree.specs.Step.{Session, step, next_point, osync}
 use Rattle.opt_blocks.specs.Running.{Running, nothing_running}
 use Rattle.opt_blocks.specs.State.{Bookkeeping, State}
-use Rattle.opt_blocks.specs.Calls.{if_changed, IsAfterSync, commit_places}
+use Rattle.opt_blocks.specs.Calls.{if_changed, IsAfterSync, OnNoMemory, commit_places}
 use Rattle.opt_blocks.specs.Effects.{Syncs}
 use Rattle.opt_blocks.specs.declared.refusals.SyncRefusal.{SyncRefusal}
 use Rattle.opt_blocks.specs.declared.refusals.SyncRefusal.TheVariants as sync
 use Rattle.opt_files.specs.Finish.{MayGoOn}
+use Rattle.opt_fs.specs.Commands.{is_disk_fault}
 use Rattle.opt_fs.specs.Sessions.{IsSession, IsBetween}
 use Rattle.opt_fs.specs.Syncs.{SyncsSession, refusal_of_sync}
 use Rattle.opt_fs.proofs.carrying.Staying.{tree_stays, session_stays, between_stays}
@@ -40,7 +44,7 @@ module _ (tells : Bool) (old new : State) (f : Session) (p : ℕ) (told : IsTrue
       let next : new.books.point ≡ next_point f.points = omega (arith, point, syncs.point, below, h.points going) in (
         ap (λ n. Synced n) (syncs.point ∙ next),
         record {
-          tree = tree_stays old new f syncs.after.geom (syncs.map told) h.tree;
+          tree = tree_stays old new f.tree syncs.after.geom (syncs.map told) h.tree;
           limit = h.limit ∙ ap (λ (k : Geometry). k.i) (sym syncs.after.geom);
           points = λ stopped. sym next;
           changed = λ stopped. sym (ap (λ (r : Running). nat_lt 0 r.weight) (syncs.ends.running ∙ changed_is old.books.running nothing_running old.books.running some));
@@ -74,7 +78,7 @@ module _ (tells : Bool) (old new : State) (f : Session) (p : ℕ) (told : IsTrue
 -- a sync that was refused: out of memory nothing was done, and where the disk failed the map is as before
 pub sync_refused : (tells : Bool) (old new : State) (f : Session) (why : SyncRefusal) → IsTrue tells → old.books.stopped ≡ false → Syncs tells (Err why) old new → IsSession old f → IsSession new f
 sync_refused tells old new f sync.DiskFault told going syncs h = record {
-  tree = tree_stays old new f syncs.after.geom (syncs.map told) h.tree;
+  tree = tree_stays old new f.tree syncs.after.geom (syncs.map told) h.tree;
   limit = h.limit ∙ ap (λ (k : Geometry). k.i) (sym syncs.after.geom);
   points = λ stopped. absurd (true≢false (sym syncs.disk.stopped ∙ stopped));
   changed = λ stopped. absurd (true≢false (sym syncs.disk.stopped ∙ stopped));
@@ -91,13 +95,28 @@ pub between_refused : (tells : Bool) (s t : State) (first : ℕ) (why : SyncRefu
 between_refused tells s t first sync.DiskFault keeps syncs h = between_stays tells s t first syncs.after.geom syncs.map (keeps s.books t.books syncs.after h.goes_on) h
 between_refused tells s t first sync.NoMemory keeps syncs h = between_stays tells s t first (ap (λ (b : Bookkeeping). b.geom) syncs.none.books) syncs.map (subst MayGoOn (sym syncs.none.books) h.goes_on) h
 
--- A sync that was refused, as its session sees it.
-pub refused_session : (tells orders : Bool) (cmd : Cmd) (s t : State) (why : SyncRefusal) → s.books.stopped ≡ false → Syncs tells (Err why) s t → (IsTrue orders → commit_places s.books ≤ s.books.free_places → t.counts.waits ≡ s.counts.waits)
+-- what is done isn't refused
+pub ok_err : {T E : Type 0} (x : T) (y : E) → Ok x ≡ Err y → ⊥
+ok_err x y e = false≢true (ap is_err e)
+
+-- a fault of the disk isn't out of memory
+no_memory_fault : (r : Result Reply Refusal) → r ≡ Err because.DiskFault → r ≡ Err because.NoMemory → ⊥
+no_memory_fault r fault none = true≢false (sym (ap is_disk_fault fault) ∙ ap is_disk_fault none)
+
+some_weighed : (w : ℕ) → (w ≡ 0 → ⊥) → 0 < w
+some_weighed zero none = absurd (none refl)
+some_weighed (suc w) none = omega arith
+
+-- A sync that was refused, as its session sees it. Of nothing it isn't out of memory.
+pub refused_session : (tells orders : Bool) (cmd : Cmd) (s t : State) (why : SyncRefusal) → s.books.stopped ≡ false → Syncs tells (Err why) s t → (s.books.running.weight ≡ 0 → OnNoMemory {T = ℕ} (Err why) ⊥) → (IsTrue orders → commit_places s.books ≤ s.books.free_places → t.counts.waits ≡ s.counts.waits)
     → SyncsSession tells orders cmd (Err (refusal_of_sync why)) s t
-refused_session tells orders cmd s t sync.DiskFault going syncs order = record {
+refused_session tells orders cmd s t sync.DiskFault going syncs idle order = record {
   done = λ told. tt;
   kept = λ told f h. sync_refused tells s t f sync.DiskFault told going syncs h;
   refused = inl refl;
+  unspent = λ none. absurd (no_memory_fault (Err because.DiskFault) refl none);
+  ends = tt;
+  takeable = syncs.after.reusable;
   disk = syncs.disk;
   geom = syncs.after.geom;
   one = one_more s.books t.books syncs.after;
@@ -108,10 +127,13 @@ refused_session tells orders cmd s t sync.DiskFault going syncs order = record {
   made = syncs.made;
   writes = syncs.writes;
 }
-refused_session tells orders cmd s t sync.NoMemory going syncs order = record {
+refused_session tells orders cmd s t sync.NoMemory going syncs idle order = record {
   done = λ told. tt;
   kept = λ told f h. sync_refused tells s t f sync.NoMemory told going syncs h;
   refused = inr refl;
+  unspent = λ none. (syncs.none.books, some_weighed s.books.running.weight idle);
+  ends = tt;
+  takeable = λ b may. ap (λ (k : Bookkeeping). k.reusable b) syncs.none.books ∙ may.free;
   disk = syncs.disk;
   geom = ap (λ (b : Bookkeeping). b.geom) syncs.none.books;
   one = omega (arith, ap (λ (b : Bookkeeping). b.point) syncs.none.books);
@@ -130,6 +152,9 @@ synced_session tells s t p going syncs low order = record {
   done = λ told f h. synced tells s t f p told going syncs low h;
   kept = λ told. tt;
   refused = tt;
+  unspent = λ none. absurd (ok_err (Synced p) because.NoMemory none);
+  ends = syncs.ends.running;
+  takeable = syncs.after.reusable;
   disk = syncs.disk;
   geom = syncs.after.geom;
   one = one_more s.books t.books syncs.after;
@@ -146,6 +171,9 @@ dsynced_session tells s t p going syncs low floor = record {
   done = λ told f h. dsynced tells s t f p told going syncs low h floor syncs.disk.stopped;
   kept = λ told. tt;
   refused = tt;
+  unspent = λ none. absurd (ok_err (DurableAt p) because.NoMemory none);
+  ends = syncs.ends.running;
+  takeable = syncs.after.reusable;
   disk = syncs.disk;
   geom = syncs.after.geom;
   one = one_more s.books t.books syncs.after;

@@ -1,7 +1,6 @@
 -- Why a command on a file that was found is refused, or isn't; and what becomes of one that puts no bytes.
-use Rattle.std.proofs.Common.{◌≡◌, ℕ, ◌+◌, ◌==◌, ◌&&◌, nat_lt, Bool, true, false, List, [], ◌∷◌, length, Option, None, Some, Result, Ok, ap, ap₂, ◌∙◌}
+use Rattle.std.proofs.Common.{◌≡◌, ℕ, ◌+◌, ◌==◌, ◌&&◌, nat_lt, Bool, true, false, List, [], ◌∷◌, length, None, Some, Result, Ok, ap, ap₂, ◌∙◌}
 use Rattle.std.proofs.lemmas.Bool.{cond-true}
-use Rattle.std.proofs.lemmas.Option.{none-some}
 use Rattle.opt_tree.specs.declared.command.Cmd.TheVariants.{Write}
 use Rattle.opt_tree.specs.declared.command.Refusal.{Refusal}
 use Rattle.opt_tree.specs.declared.command.Refusal.TheVariants.{IsDir, TooLarge}
@@ -14,6 +13,7 @@ use Rattle.opt_stands.specs.Inodes.{Inodes}
 use Rattle.opt_inodes.specs.Lookups.{is_dir_inode, inode_at, walk_on}
 use Rattle.opt_inodes.specs.Refusals.{file_reason, write_reason}
 use Rattle.std.proofs.Common.{min}
+use Rattle.opt_fs.proofs.FirstReason.{first_more}
 
 -- bytes into a file that a path leads to
 pub write_reason_is : (m : Inodes) (path : List (List ℕ)) (k offset n : ℕ) (b : Bool) → walk_on m 1 path ≡ Ok k → is_dir_inode (inode_at m path) ≡ false → (nat_lt 0 n && is_too_large (offset + n)) ≡ b
@@ -32,11 +32,6 @@ nothing_put f path offset bitmap bytes accepted none = (
 )
 
 -- a path that leads to no file
-pub first_of_two : (a b c : Option Refusal) (why : Refusal) → first_reason (a ∷ b ∷ []) ≡ Some why → first_reason (a ∷ b ∷ c ∷ []) ≡ Some why
-first_of_two None None c why e = absurd (none-some why e)
-first_of_two None (Some x) c why e = e
-first_of_two (Some x) b c why e = e
-
 pub no_file_to_write : (m : Inodes) (path : List (List ℕ)) (offset n : ℕ) (why : Refusal) → file_reason m path ≡ Some why → write_reason m path offset n ≡ Some why
 no_file_to_write m path offset n why e =
-    first_of_two (refusal_in (walk_on m 1 path)) (when (is_dir_inode (inode_at m path)) IsDir) (when (nat_lt 0 n && is_too_large (offset + n)) TooLarge) why e
+    first_more (refusal_in (walk_on m 1 path)) (when (is_dir_inode (inode_at m path)) IsDir) (when (nat_lt 0 n && is_too_large (offset + n)) TooLarge ∷ []) why e

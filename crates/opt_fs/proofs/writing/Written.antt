@@ -1,7 +1,8 @@
 -- A draft that puts bytes into a file makes the tree of the command, and is within its cost.
-use Rattle.std.proofs.Common.{◌≡◌, ◌≢◌, ◌⊎◌, inl, inr, ℕ, ◌+◌, ◌-◌, ◌/◌, ◌<◌, ◌≤◌, ◌==◌, nat_le, min, max, Bool, true, false, ◌||◌, cond, List, [], ◌∷◌, ◌++◌, take, drop, length, Option, None, Some, option_and_then, refl, sym, subst, ap, ◌∙◌, arith}
-use Rattle.std.proofs.lemmas.Bool.{ne_eqb, cond-false, cases_eq}
+use Rattle.std.proofs.Common.{◌≡◌, ◌≢◌, ℕ, ◌+◌, ◌-◌, ◌/◌, ◌<◌, ◌≤◌, ◌==◌, nat_le, min, max, Bool, true, false, cond, List, [], ◌∷◌, ◌++◌, take, drop, length, Some, option_and_then, sym, subst, ap, ◌∙◌, arith}
+use Rattle.std.proofs.lemmas.Bool.{ne_eqb, cond-false}
 use Rattle.std.proofs.lemmas.List.{length-append, length-take, length-drop}
+use Rattle.std.proofs.lemmas.Option.{same_Some}
 use Rattle.opt_geom.specs.Geometry.{Geometry, bitmap_blocks}
 use Rattle.opt_extent.specs.Runs.{stretches}
 use Rattle.opt_layout.specs.declared.node.NodeKind.TheVariants.{File}
@@ -12,42 +13,34 @@ use Rattle.opt_tree.specs.Figures.{Figures, nothing, writing, write_figures, blo
 use Rattle.opt_tree.specs.Walk.{content}
 use Rattle.opt_tree.specs.Step.{Session, written, changed_to, edited}
 use Rattle.opt_stands.specs.Files.{FileNode, Files}
-use Rattle.opt_stands.specs.Inodes.{Inode, Inodes, AFile, IsInodeOf, AreInodesOf, inode_of, inodes_of}
+use Rattle.opt_stands.specs.Inodes.{Inode, AFile, IsInodeOf, AreInodesOf, inode_of, inodes_of}
 use Rattle.opt_stands.specs.Maps.{IsMapOf}
 use Rattle.opt_stands.specs.Walks.{LeadsTo}
 use Rattle.opt_inodes.specs.Changes.{Sets}
 use Rattle.opt_inodes.specs.Lookups.{bytes_of}
-use Rattle.opt_blocks.specs.Running.{has}
 use Rattle.opt_blocks.specs.State.{Bookkeeping, State, reusable_blocks}
 use Rattle.opt_files.specs.Bytes.{met, overwritten}
-use Rattle.opt_files.specs.Calls.{IsUsed, IsWithFile, ChangesAmong, Grows, is_dir, files_in, places_in, written_blocks, with_bytes}
+use Rattle.opt_files.specs.Calls.{IsWithFile, ChangesAmong, Grows, is_dir, files_in, places_in, written_blocks, with_bytes}
 use Rattle.opt_files.specs.Drafts.{DraftState, nothing_drafted}
 use Rattle.opt_files.specs.Nodes.{node_block}
 use Rattle.opt_files.specs.Effects.{LooksAndSettles}
-use Rattle.opt_files.specs.Finish.{ChangesOnly}
 use Rattle.opt_dirs.specs.Directories.{inodes_in}
-use Rattle.opt_fs.specs.Changes.{ChangesAtMost, IsWithinCost}
+use Rattle.opt_fs.specs.Changes.{ChangesAtMost, IsWithinCost, Uses}
 use Rattle.opt_fs.specs.Commands.{GrowsInRuns, figures_on, places_of}
 use Rattle.opt_fs.specs.Plans.{MakesTree}
 use Rattle.opt_fs.specs.Sessions.{IsSession, AreUsedBelow, inodes}
 use Rattle.opt_fs.specs.Writing.{IsWeighed}
+use Rattle.opt_fs.proofs.AtMost.{only_these}
+use Rattle.opt_fs.proofs.Placing.{placed_grown}
 use Rattle.opt_fs.proofs.writing.Puts.{PutsSo}
-
-pub some_same : {A : Type 0} (x y : A) → Some x ≡ Some y → x ≡ y
-some_same x y e = cc
+use Rattle.opt_fs.proofs.Given.{DivisionLaw, WritingLaw}
+use Rattle.opt_fs.proofs.looking.InUse.{still_used, read_still}
 
 -- some bytes over others
 pub overwritten_some : (off : ℕ) (ys xs : List ℕ) → 0 < length ys → overwritten off ys xs ≡ written off ys xs
 overwritten_some off ys xs some = cond-false (length ys == 0) xs (written off ys xs) (ne_eqb (length ys) 0 (λ e. absurd (omega (arith, e, some))))
 
--- Each node in use reads as an inode, where those of a tree do and one became a file with a kind.
-reads_as : (o : Option FileNode) (i : Option Inode) → IsInodeOf o i → IsInodeOf o (option_and_then inode_of o)
-reads_as None i h = refl
-reads_as (Some x) None h = absurd h
-reads_as (Some x) (Some i) h = subst (λ o. IsInodeOf (Some x) o) (sym h) h
-
-pub all_read : (files : Files) (m : Inodes) → AreInodesOf files m → AreInodesOf files (inodes_of files)
-all_read files m reads k = reads_as (files k) (m k) (reads k)
+-- One node became a file with other bytes.
 
 pub file_reads : (x : FileNode) → x.kind ≡ File → inode_of x ≡ Some (AFile x.links x.bytes)
 file_reads x e = cc
@@ -56,11 +49,7 @@ pub file_bytes : (x : FileNode) → x.kind ≡ File → bytes_of (inode_of x) �
 file_bytes x e = ap bytes_of (file_reads x e)
 
 pub read_with : (old new : Files) (k : ℕ) (x : FileNode) (i : Inode) → inode_of x ≡ Some i → IsWithFile old new k (Some x) → AreInodesOf old (inodes_of old) → AreInodesOf new (inodes_of new)
-read_with old new k x i is h reads l = by (cases_eq l k)
-  where
-    by : (l ≡ k) ⊎ (l ≢ k) → IsInodeOf (new l) (inodes_of new l)
-    by (inl e) = subst (λ n. IsInodeOf (new n) (inodes_of new n)) (sym e) (subst (λ o. IsInodeOf o (option_and_then inode_of o)) (sym h.own) (subst (λ o. IsInodeOf (Some x) o) (sym is) is))
-    by (inr d) = subst (λ o. IsInodeOf o (option_and_then inode_of o)) (sym (h.others l d)) (reads l)
+read_with old new k x i is h = read_still old new k (subst (λ o. IsInodeOf o (option_and_then inode_of o)) (sym h.own) (subst (λ o. IsInodeOf (Some x) o) (sym is) is)) h.others
 
 -- so one inode is set
 pub sets_inode : (old new : Files) (k : ℕ) (x : FileNode) (i : Inode) → inode_of x ≡ Some i → IsWithFile old new k (Some x) → Sets (inodes_of old) (inodes_of new) k (Some i)
@@ -68,14 +57,6 @@ sets_inode old new k x i is h = record {
   here = ap (option_and_then inode_of) h.own ∙ is;
   others = λ l d. ap (option_and_then inode_of) (h.others l d);
 }
-
--- the places of a draft that changed nothing before
-pub only_these : (bs : List ℕ) (d : DraftState) → ChangesAmong bs nothing_drafted d → ChangesOnly bs d
-only_these bs d among b some = or_false (has bs b) (among b some)
-  where
-    or_false : (x : Bool) → (x || false) ≡ true → x ≡ true
-    or_false true e = refl
-    or_false false e = e
 
 last_one : (b : Bool) (x : ℕ) → length (cond {A = List ℕ} b [] (x ∷ [])) ≤ 1
 last_one true x = omega arith
@@ -85,7 +66,7 @@ met_places : (lo hi : ℕ) (places : List ℕ) → length (met lo hi places) ≡
 met_places lo hi places = omega (arith, length-drop (lo / 1024) (take (blocks_for hi) places), length-take (blocks_for hi) places)
 
 module _ (g : Geometry) (number : ℕ) (x : FileNode) (places new_places : List ℕ) (k : Bookkeeping) (d : DraftState) (lo hi : ℕ) (file : x.kind ≡ File) (count : length places ≡ blocks_for (length x.bytes))
-    (division : (size lo hi : ℕ) → min (blocks_for size) (blocks_for hi) - lo / 1024 ≡ blocks_met size lo hi)
+    (division : DivisionLaw)
     (grows : Grows k x places new_places hi nothing_drafted d) (among : ChangesAmong (written_blocks g number x places (drop (length places) new_places) lo hi) nothing_drafted d) where
   few : length (written_blocks g number x places (drop (length places) new_places) lo hi) ≤ blocks_met (length x.bytes) lo hi + 1
   few =
@@ -107,22 +88,30 @@ module _ (g : Geometry) (number : ℕ) (x : FileNode) (places new_places : List 
 
 -- nodes in use stay so where one has other bytes
 pub used_stays : (old new : Files) (k first : ℕ) (y : FileNode) → IsWithFile old new k (Some y) → AreUsedBelow old first → AreUsedBelow new first
-used_stays old new k first y h used l from below = by (cases_eq l k)
-  where
-    by : (l ≡ k) ⊎ (l ≢ k) → IsUsed new l
-    by (inl e) = (y, ap new e ∙ h.own)
-    by (inr d) = let u = used l from below in (u.0, h.others l d ∙ u.1)
+used_stays old new k first y h used l from below = still_used old new k y h l (used l from below)
 
 -- what holds of a draft and an offset holds of those that are the same
 pub moved_to : (P : DraftState → ℕ → Type 0) (d e : DraftState) (m n : ℕ) → d ≡ e → m ≡ n → P d m → P e n
 moved_to P d e m n p q h = subst (λ i. P e i) q (subst (λ c. P c m) p h)
 
+-- A draft that gives a file bytes up to `hi` uses the blocks by which the file grows.
+pub grown_uses : (s t : State) (d : DraftState) (number hi need freed : ℕ) (x : FileNode) → need ≡ blocks_for hi - blocks_for (length x.bytes) → freed ≡ 0
+    → Grows t.books x (places_of s number) (places_in t d number) hi nothing_drafted d → ((l : ℕ) → l ≢ number → places_in t d l ≡ places_of s l) → Uses need freed (reusable_blocks t.books) (places_of s) (places_in t d) d
+grown_uses s t d number hi need freed x is none grows others =
+    let same = ap (λ n. take n (reusable_blocks t.books)) (sym is) in
+    record {
+      taken = grows.taken ∙ same;
+      freed_are = ap (λ (xs : List ℕ). length xs) grows.freed ∙ sym none;
+      placed = placed_grown (places_of s) (places_in t d) number (take need (reusable_blocks t.books))
+          (record { own = grows.behind ∙ ap (λ (xs : List ℕ). places_of s number ++ xs) same; others = others });
+    }
+
 -- Bytes that a command puts into a file: the draft makes the command's tree.
 module _ (s t : State) (f : Session) (cmd : Cmd) (path : List (List ℕ)) (offset number cost : ℕ) (bytes : List ℕ) (x : FileNode) (d : DraftState) (tells failed settling : Bool)
     (h : IsSession s f) (so : PutsSo cmd path offset bytes) (weighed : IsWeighed s f cmd cost) (map : IsMapOf s.books.geom.i (inodes_in s nothing_drafted) f.tree) (leads : LeadsTo (inodes_in s nothing_drafted) path number)
     (is : files_in s nothing_drafted number ≡ Some x) (file : x.kind ≡ File) (some : 0 < length bytes) (holds : content f.tree path ≡ x.bytes)
-    (count : length (places_of s number) ≡ blocks_for (length x.bytes)) (division : (size lo hi : ℕ) → min (blocks_for size) (blocks_for hi) - lo / 1024 ≡ blocks_met size lo hi)
-    (small : (g : Geometry) (d : DraftState) (size lo hi : ℕ) → ChangesAtMost d (blocks_met size lo hi + 1) (blocks_for (max size hi) - blocks_for size) (blocks_for (max size hi) - blocks_for size) 0 → IsWithinCost g d (writing (bitmap_blocks g) size lo hi).cost) where
+    (count : length (places_of s number) ≡ blocks_for (length x.bytes)) (division : DivisionLaw)
+    (small : WritingLaw) where
   abbrev pub lo : ℕ
   lo = min offset (length x.bytes)
 
@@ -140,8 +129,9 @@ module _ (s t : State) (f : Session) (cmd : Cmd) (path : List (List ℕ)) (offse
   pub puts_tree : LooksAndSettles tells failed settling s t → (blocks_for hi - blocks_for (length x.bytes) ≤ length (reusable_blocks s.books) → t.books ≡ s.books)
       → IsWithFile (files_in s nothing_drafted) (files_in t d) number (Some (with_bytes x (overwritten offset bytes x.bytes))) → AreInodesOf (files_in s nothing_drafted) (inodes_in s nothing_drafted)
       → Grows t.books x (places_of s number) (places_in t d number) hi nothing_drafted d
-      → ChangesAmong (written_blocks s.books.geom number x (places_of s number) (drop (length (places_of s number)) (places_in t d number)) lo hi) nothing_drafted d → MakesTree cmd d cost s t f
-  puts_tree settles rests with reads grows among =
+      → ChangesAmong (written_blocks s.books.geom number x (places_of s number) (drop (length (places_of s number)) (places_in t d number)) lo hi) nothing_drafted d
+      → ((l : ℕ) → l ≢ number → places_in t d l ≡ places_of s l) → MakesTree cmd d cost s t f
+  puts_tree settles rests with reads grows among others =
       let new : FileNode = with_bytes x (overwritten offset bytes x.bytes) in
       let becomes : inode_of new ≡ Some (AFile x.links (written offset bytes x.bytes)) = file_reads new file ∙ ap (λ xs. Some (AFile x.links xs)) (overwritten_some offset bytes x.bytes some) in
       let was : inodes_in s nothing_drafted number ≡ Some (AFile x.links x.bytes) = ap (option_and_then inode_of) is ∙ file_reads x file in
@@ -150,7 +140,7 @@ module _ (s t : State) (f : Session) (cmd : Cmd) (path : List (List ℕ)) (offse
         answer = so.answer f weighed.accepted ∙ ap (λ (p : Session × Reply). p.1) (cond-false (length bytes == 0) (f, Done) (changed_to f (edited f.tree path (written offset bytes))) (ne_eqb (length bytes) 0 (λ e. absurd (omega (arith, e, some)))));
         costs = weighed.costs;
         room = weighed.room;
-        runs = λ k more grown. subst (λ n. GrowsInRuns s n (figures_on s f cmd).need) (some_same number k (sym leads ∙ sym (so.grown (inodes s)) ∙ grown))
+        runs = λ k more grown. subst (λ n. GrowsInRuns s n (figures_on s f cmd).need) (same_Some number k (sym leads ∙ sym (so.grown (inodes s)) ∙ grown))
             (subst (λ n. GrowsInRuns s number n) (sym need_is) (record {
               books = t.books;
               moves = settles.pipeline;
@@ -164,4 +154,6 @@ module _ (s t : State) (f : Session) (cmd : Cmd) (path : List (List ℕ)) (offse
         within = subst (λ n. IsWithinCost t.books.geom d n) (sym (ap (λ (n : Figures). n.cost) figures_are) ∙ weighed.costs)
             (subst (λ (g : Geometry). IsWithinCost t.books.geom d (writing (bitmap_blocks g) (length x.bytes) lo hi).cost) settles.pipeline.geom
             (small t.books.geom d (length x.bytes) lo hi (at_most s.books.geom number x (places_of s number) (places_in t d number) t.books d lo hi file count division grows among)));
+        uses = grown_uses s t d number hi (figures_on s f cmd).need (figures_on s f cmd).freed x need_is (ap (λ (n : Figures). n.freed) figures_are) grows others;
+        rests = λ enough. rests (omega (arith, enough, need_is));
       }

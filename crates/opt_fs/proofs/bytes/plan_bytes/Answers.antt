@@ -1,4 +1,4 @@
-use Rattle.std.proofs.Common.{◌≡◌, ◌+◌, ◌<◌, ◌≤◌, min, false, drop, length, Some, Err, sym, subst, ap, ◌∙◌, arith}
+use Rattle.std.proofs.Common.{◌≡◌, ◌+◌, ◌<◌, ◌≤◌, ◌++◌, min, false, take, drop, length, Some, Err, sym, subst, ap, ◌∙◌, arith}
 use Rattle.opt_geom.specs.Geometry.{Geometry}
 use Rattle.opt_tree.specs.declared.command.Refusal.{Refusal}
 use Rattle.opt_blocks.specs.Running.{Running}
@@ -6,7 +6,7 @@ use Rattle.opt_blocks.specs.State.{reusable_blocks}
 use Rattle.opt_stands.specs.Files.{FileNode}
 use Rattle.opt_inodes.specs.Lookups.{bytes_of}
 use Rattle.opt_files.specs.Bytes.{overwritten}
-use Rattle.opt_files.specs.Calls.{IsWithFile, ChangesAmong, Grows, GrowthRefused, files_in, places_in, growth, with_bytes, written_blocks}
+use Rattle.opt_files.specs.Calls.{IsWithFile, IsWithPlaces, ChangesAmong, Grows, GrowthRefused, files_in, places_in, growth, with_bytes, written_blocks}
 use Rattle.opt_files.specs.Drafts.{nothing_drafted}
 use Rattle.opt_files.specs.Effects.{LooksOnly}
 use Rattle.opt_files.specs.Sound.{IsDraftOf}
@@ -16,7 +16,8 @@ use Rattle.opt_fs.specs.Plans.{Plans}
 use Rattle.opt_fs.proofs.growing.Refused.{growth_refused}
 use Rattle.opt_fs.proofs.planning.Looking.{growth_plan}
 use Rattle.opt_fs.proofs.writing.Puts.{puts_so}
-use Rattle.opt_fs.proofs.writing.Written.{all_read, file_bytes, moved_to, need_is, puts_tree, used_stays}
+use Rattle.opt_fs.proofs.writing.Written.{file_bytes, moved_to, need_is, puts_tree, used_stays}
+use Rattle.opt_fs.proofs.looking.InUse.{all_read}
 use Rattle.opt_fs.proofs.bytes.plan_bytes.Goals as goal
 
 pub write_at-requires-clause-draft : goal.write_at-requires-clause-draft
@@ -62,10 +63,13 @@ returns-in-Ok-clause-plans g c = λ cmd path may. record {
       let among = moved_to (λ d n. (x : FileNode) → files_in s d c.args.number ≡ Some x
       → ChangesAmong (written_blocks s.books.geom c.args.number x (places_in s d c.args.number) (drop (length (places_in s d c.args.number)) (places_in t c.write_at.new.self c.args.number)) (min n (length x.bytes)) (n + length c.args.bytes.now)) d c.write_at.new.self)
       c.new-draft.result nothing_drafted c.from.result c.args.offset c.new-draft.ensures c.from.ensures (c.in-Ok.ensures.among told) x.0 x.1 in
+      let placed = moved_to (λ d n. (x : FileNode) → files_in s d c.args.number ≡ Some x
+      → IsWithPlaces (places_in s d) (places_in t c.write_at.new.self) c.args.number (places_in s d c.args.number ++ take (growth (length x.bytes) (length (overwritten n c.args.bytes.now x.bytes))) (reusable_blocks t.books)))
+      c.new-draft.result nothing_drafted c.from.result c.args.offset c.new-draft.ensures c.from.ensures (c.in-Ok.ensures.places told) x.0 x.1 in
       let rests = moved_to (λ d n. (x : FileNode) → files_in s d c.args.number ≡ Some x → growth (length x.bytes) (n + length c.args.bytes.now) ≤ length (reusable_blocks s.books) → LooksOnly g.S.Blocks.tells false s t)
       c.new-draft.result nothing_drafted c.from.result c.args.offset c.new-draft.ensures c.from.ensures (c.in-Ok.ensures.looks told) x.0 x.1 in
       puts_tree s t f cmd path c.args.offset c.args.number c.args.cost c.args.bytes.now x.0 d g.S.Blocks.tells false false h so weighed map leads x.1 x.2 c.requires.some holds count division small
-      c.in-Ok.ensures.settles (λ enough. (rests enough).books) with (all_read (files_in s nothing_drafted) h.tree.inodes h.tree.read) grows among;
+      c.in-Ok.ensures.settles (λ enough. (rests enough).books) with (all_read (files_in s nothing_drafted) h.tree.inodes h.tree.read) grows among placed.others;
   going = c.requires.may.begin.going;
   settles = c.in-Ok.ensures.settles;
 }
@@ -75,7 +79,7 @@ returns-in-Err-clause-plans g c = λ cmd path may.
     let s = g.S.Blocks.state c.args.blocks.now in
     let t = g.S.Blocks.state c.write_at.new.blocks in
     let why = c.in-Err.why in
-    subst (λ (w : Refusal). Plans g.S.Blocks.tells cmd (Err w) s t) (sym c.refusal_of.ensures) (growth_plan Unit g.S.Blocks.tells cmd s t why c.requires.may.begin.going (λ told f h.
+    subst (λ (w : Refusal). Plans g.S.Blocks.tells cmd (Err w) s t) (sym c.refusal_of.ensures) (growth_plan g.S.Blocks.tells cmd s t why c.requires.may.begin.going (λ told f h.
     let x = c.requires.file told in
     let map = c.blocks_have_the_map_of_their_tree.ensures.map s.books.geom s.map f.tree h.tree in
     let leads = c.walks_are_the_same.ensures.ends (inodes_in s nothing_drafted) path c.args.number (may.walk told) in

@@ -1,34 +1,29 @@
-use Rattle.std.proofs.Common.{◌≡◌, false, length, Result, Ok, Err, sym, subst, ap, ◌∙◌}
+use Rattle.std.proofs.Common.{length, Err, sym, subst, ap, ◌∙◌}
 use Rattle.opt_tree.specs.declared.command.Cmd.TheVariants.{Write}
 use Rattle.opt_tree.specs.declared.command.Refusal.{Refusal}
 use Rattle.opt_blocks.specs.State.{Bookkeeping}
-use Rattle.opt_stands.specs.Files.{Files}
-use Rattle.opt_stands.specs.Inodes.{inodes_of}
 use Rattle.opt_stands.specs.Maps.{IsMapOf}
-use Rattle.opt_inodes.specs.Lookups.{walk_on}
 use Rattle.opt_files.specs.Calls.{files_in}
 use Rattle.opt_files.specs.Drafts.{nothing_drafted}
 use Rattle.opt_dirs.specs.Directories.{inodes_in}
-use Rattle.opt_fs.specs.declared.paths.NodeFound.{NodeFound}
 use Rattle.opt_fs.specs.Looks.{LeadsToFile}
 use Rattle.opt_fs.specs.Plans.{Plans}
-use Rattle.opt_fs.specs.Writing.{IsFile}
-use Rattle.opt_fs.proofs.looking.Found.{same_files}
-use Rattle.opt_fs.proofs.planning.Before.{may_plan_behind, plans_behind}
-use Rattle.opt_fs.proofs.planning.Looking.{cut_plan, refusal_plan}
+use Rattle.opt_fs.proofs.planning.Behind.{may_plan_still, file_still, walk_still}
+use Rattle.opt_fs.proofs.planning.Before.{plans_behind}
+use Rattle.opt_fs.proofs.planning.Looking.{cut_short_plan, refusal_plan}
 use Rattle.opt_fs.proofs.writing.Reasons.{no_file_to_write}
 use Rattle.opt_fs.proofs.bytes.plan_write.Goals as goal
 
 pub write_found-requires-clause-may : goal.write_found-requires-clause-may
 write_found-requires-clause-may g c =
-    may_plan_behind g.S.Blocks.tells (g.S.Blocks.state c.args.blocks.now) (g.S.Blocks.state c.find_file.new.blocks) c.args.first_unused c.in-Ok-Ok.ensures.looks c.requires.may
+    may_plan_still g.S.Blocks.tells (g.S.Blocks.state c.args.blocks.now) (g.S.Blocks.state c.find_file.new.blocks) c.in-Ok-Ok.ensures.looks c.args.first_unused c.requires.may
 
 pub write_found-requires-clause-file : goal.write_found-requires-clause-file
 write_found-requires-clause-file g c = λ told.
     let s = g.S.Blocks.state c.args.blocks.now in
-    let t = g.S.Blocks.state c.find_file.new.blocks in
     let tree = c.requires.may.stands told in
-    subst (λ (files : Files). IsFile files c.in-Ok-Ok.found) (sym (same_files g.S.Blocks.tells false s t nothing_drafted c.in-Ok-Ok.ensures.looks told)) (subst (λ r. LeadsToFile (files_in s nothing_drafted) c.args.path.now r) c.in-Ok-Ok.field-0-is (c.in-Ok-Ok.ensures.file told tree.0 tree.1)).1
+    file_still g.S.Blocks.tells s (g.S.Blocks.state c.find_file.new.blocks) c.in-Ok-Ok.ensures.looks told c.args.path.now c.in-Ok-Ok.found
+    (subst (λ r. LeadsToFile (files_in s nothing_drafted) c.args.path.now r) c.in-Ok-Ok.field-0-is (c.in-Ok-Ok.ensures.file told tree.0 tree.1))
 
 pub returns-in-Ok-Ok-clause-plans : goal.returns-in-Ok-Ok-clause-plans
 returns-in-Ok-Ok-clause-plans g c =
@@ -37,7 +32,8 @@ returns-in-Ok-Ok-clause-plans g c =
     let u = g.S.Blocks.state c.write_found.new.blocks in
     let looks = c.in-Ok-Ok.ensures.looks in
     let plans = c.write_found.ensures.plans c.args.path.now (λ told. let tree = c.requires.may.stands told in
-    subst (λ (files : Files). walk_on (inodes_of files) 1 c.args.path.now ≡ Ok c.in-Ok-Ok.found.number) (sym (same_files g.S.Blocks.tells false s t nothing_drafted looks told)) (subst (λ r. LeadsToFile (files_in s nothing_drafted) c.args.path.now r) c.in-Ok-Ok.field-0-is (c.in-Ok-Ok.ensures.file told tree.0 tree.1)).0) in
+    walk_still g.S.Blocks.tells s t looks told c.args.path.now c.in-Ok-Ok.found
+    (subst (λ r. LeadsToFile (files_in s nothing_drafted) c.args.path.now r) c.in-Ok-Ok.field-0-is (c.in-Ok-Ok.ensures.file told tree.0 tree.1))) in
     plans_behind g.S.Blocks.tells (Write c.args.path.now c.args.offset c.args.bytes.now) c.write_found.result s t u c.requires.may.begin.going looks
     (λ told. c.calls_compose.ensures.advances c.args.blocks.now c.find_file.new.blocks c.write_found.new.blocks
     (c.calls_compose.ensures.rests told c.args.blocks.now c.find_file.new.blocks (ap (λ (b : Bookkeeping). b.point) looks.books) (ap (λ (b : Bookkeeping). b.floor) looks.books) (looks.crash told)) (plans.settles.crash told)) plans
@@ -60,6 +56,6 @@ returns-in-Err-clause-plans g c =
     let t = g.S.Blocks.state c.find_file.new.blocks in
     let looks = c.in-Err.ensures.looks in
     subst (λ (w : Refusal). Plans g.S.Blocks.tells (Write c.args.path.now c.args.offset c.args.bytes.now) (Err w) s t) (sym c.refusal_of.ensures)
-    (cut_plan (Result NodeFound Refusal) g.S.Blocks.tells (Write c.args.path.now c.args.offset c.args.bytes.now) s t c.in-Err.why c.requires.may.begin.going c.in-Err.ensures.refused looks
+    (cut_short_plan g.S.Blocks.tells (Write c.args.path.now c.args.offset c.args.bytes.now) s t c.in-Err.why c.requires.may.begin.going c.in-Err.ensures.refused looks
     (λ told. c.calls_compose.ensures.rests told c.args.blocks.now c.find_file.new.blocks (ap (λ (b : Bookkeeping). b.point) looks.books) (ap (λ (b : Bookkeeping). b.floor) looks.books)
     ((c.find_file.ensures.looks).crash told)))

@@ -2,7 +2,7 @@ use Rattle.std.proofs.Common.{inl, ℕ, true, false, List, length, refl, sym, su
 use Rattle.opt_geom.specs.Geometry.{bitmap_blocks}
 use Rattle.opt_tree.specs.declared.command.Cmd.TheVariants.{Write}
 use Rattle.opt_tree.specs.declared.command.Refusal.TheVariants.{TooLarge}
-use Rattle.opt_tree.specs.Figures.{Figures, figures}
+use Rattle.opt_tree.specs.Figures.{figures}
 use Rattle.opt_figures.specs.Values.{value_of}
 use Rattle.opt_stands.specs.Maps.{IsMapOf}
 use Rattle.opt_inodes.specs.Lookups.{bytes_of}
@@ -10,12 +10,11 @@ use Rattle.opt_files.specs.declared.look.FileFacts.{FileFacts}
 use Rattle.opt_files.specs.Calls.{files_in, is_dir}
 use Rattle.opt_files.specs.Drafts.{nothing_drafted}
 use Rattle.opt_dirs.specs.Directories.{inodes_in}
-use Rattle.opt_fs.specs.Space.{HasRoom}
 use Rattle.opt_fs.proofs.applying.Passing.{nothing_issued}
-use Rattle.opt_fs.proofs.planning.Before.{no_look}
-use Rattle.opt_fs.proofs.planning.Looking.{refusal_plan, done_plan, full_plan}
+use Rattle.opt_fs.proofs.planning.Looking.{no_look, refusal_plan, done_plan, full_plan}
 use Rattle.opt_fs.proofs.writing.Reasons.{write_reason_is, nothing_put}
 use Rattle.opt_fs.proofs.writing.Written.{file_bytes}
+use Rattle.opt_fs.proofs.Weighing.{is_weighed}
 use Rattle.opt_fs.proofs.bytes.write_found.Goals as goal
 
 pub plan_bytes-requires-clause-file : goal.plan_bytes-requires-clause-file
@@ -96,5 +95,5 @@ returns-in-Ok-clause-plans g c = λ path walk.
           let bytes = ap (λ (xs : List ℕ). length xs) (sym (ap bytes_of at ∙ file_bytes x.0 x.3)) in
           let figs = ap (λ n. figures n f (Write path c.args.offset c.args.bytes.now)) (sym (c.bitmap_blocks.ensures ∙ ap bitmap_blocks c.geom.ensures))
           ∙ c.overwrite_figures-figures.ensures.write m path c.args.bytes.now (size ∙ bytes) refl f mine reason in
-          record { accepted = reason; costs = ap (λ (n : Figures). n.cost) figs; room = subst (λ (n : Figures). HasRoom s.books n) (sym figs) c.in-Ok.ensures.room };
+          is_weighed s f (Write path c.args.offset c.args.bytes.now) (value_of c.overwrite_figures-figures.result) reason figs c.in-Ok.ensures.room;
     })

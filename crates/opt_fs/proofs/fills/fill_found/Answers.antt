@@ -1,15 +1,14 @@
-use Rattle.std.proofs.Common.{◌≡◌, inr, true, false, length, replicate, refl, sym, subst, ap, ◌∙◌, arith}
+use Rattle.std.proofs.Common.{◌≡◌, inr, true, false, length, replicate, refl, sym, ap, ◌∙◌, arith}
 use Rattle.opt_geom.specs.Geometry.{bitmap_blocks}
 use Rattle.opt_tree.specs.declared.command.Cmd.TheVariants.{Fill}
 use Rattle.opt_tree.specs.declared.command.Refusal.TheVariants.{TooLarge, NoMemory}
-use Rattle.opt_tree.specs.Figures.{Figures, figures}
+use Rattle.opt_tree.specs.Figures.{figures}
 use Rattle.opt_figures.specs.Values.{value_of}
 use Rattle.opt_fs.specs.Sessions.{inodes}
-use Rattle.opt_fs.specs.Space.{HasRoom}
 use Rattle.opt_fs.proofs.applying.Passing.{nothing_issued}
 use Rattle.opt_fs.proofs.filling.Reasons.{ends_past, refusal_is, nothing_filled}
-use Rattle.opt_fs.proofs.planning.Before.{no_look}
-use Rattle.opt_fs.proofs.planning.Looking.{refusal_plan, done_plan, full_plan, room_plan}
+use Rattle.opt_fs.proofs.planning.Looking.{no_look, refusal_plan, done_plan, full_plan, room_plan}
+use Rattle.opt_fs.proofs.Weighing.{is_weighed}
 use Rattle.opt_fs.proofs.fills.fill_found.Goals as goal
 
 pub plan_bytes-requires-clause-file : goal.plan_bytes-requires-clause-file
@@ -69,5 +68,5 @@ returns-in-Ok-vec-clause-plans g c = λ path walk.
           (ends_past c.args.offset c.from.result c.args.count c.is_too_large.result false c.from.ensures c.is_too_large.ensures c.if-is_too_large.false) in
           let takes = ap (λ n. figures n f (Fill path c.args.offset c.args.count c.args.byte)) (sym (c.bitmap_blocks.ensures ∙ ap bitmap_blocks c.geom.ensures))
           ∙ c.overwrite_figures-figures.ensures.fill (inodes s) path c.args.byte (c.size_of.ensures ∙ omega (arith, k.size, k.most)) f k.map accepted in
-          record { accepted = accepted; costs = ap (λ (n : Figures). n.cost) takes; room = subst (λ (n : Figures). HasRoom s.books n) (sym takes) c.in-Ok.ensures.room };
+          is_weighed s f (Fill path c.args.offset c.args.count c.args.byte) (value_of c.overwrite_figures-figures.result) accepted takes c.in-Ok.ensures.room;
     })

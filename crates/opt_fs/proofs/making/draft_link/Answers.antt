@@ -4,14 +4,17 @@ use Rattle.opt_tree.specs.Figures.{growth}
 use Rattle.opt_stands.specs.Files.{FileNode}
 use Rattle.opt_stands.specs.Inodes.{Inode, ADir, AFile, inode_of}
 use Rattle.opt_blocks.specs.State.{Bookkeeping, reusable_blocks}
-use Rattle.opt_files.specs.Calls.{files_in, places_in, IsUsed, GrowthRefused, with_links}
+use Rattle.opt_files.specs.Calls.{files_in, places_in, IsUsed, IsWithPlaces, GrowthRefused, with_links}
 use Rattle.opt_files.specs.Content.{fails_reading}
 use Rattle.opt_files.specs.Drafts.{DraftState, nothing_drafted}
 use Rattle.opt_files.specs.Effects.{LooksAndSettles}
 use Rattle.opt_dirs.specs.Changing.{Alters, IsWithSlots}
 use Rattle.opt_dirs.specs.Directories.{inodes_in}
 use Rattle.opt_fs.specs.Sessions.{inodes}
-use Rattle.opt_fs.proofs.naming.Drafting.{settled_before, look_settles, still_used, node_there, dir_no_file, name_added}
+use Rattle.opt_fs.proofs.Placing.{placed_kept}
+use Rattle.opt_fs.proofs.naming.Drafting.{dir_no_file, name_added}
+use Rattle.opt_fs.proofs.planning.Looking.{looked_after, quiet_settling}
+use Rattle.opt_fs.proofs.looking.InUse.{node_there, still_used}
 use Rattle.opt_fs.proofs.making.draft_link.Goals as goal
 
 pub returns-in-Err-clause-refused : goal.returns-in-Err-clause-refused
@@ -37,7 +40,7 @@ returns-in-Ok-set_links-clause-used g c = λ told l used.
 pub returns-in-Ok-set_links-clause-settles : goal.returns-in-Ok-set_links-clause-settles
 returns-in-Ok-set_links-clause-settles g c =
     let s = g.S.Blocks.state c.args.blocks.now in
-    settled_before g.S.Blocks.tells false s (g.S.Blocks.state c.add_slot.new.blocks) (g.S.Blocks.state c.set_links.new.blocks) c.in-Ok.ensures.settles c.in-Ok-set_links.ensures.looks
+    looked_after g.S.Blocks.tells false s (g.S.Blocks.state c.add_slot.new.blocks) (g.S.Blocks.state c.set_links.new.blocks) c.in-Ok.ensures.settles c.in-Ok-set_links.ensures.looks
     (λ told. c.calls_compose.ensures.advances c.args.blocks.now c.add_slot.new.blocks c.set_links.new.blocks (c.in-Ok.ensures.settles.crash told)
     (c.calls_compose.ensures.rests told c.add_slot.new.blocks c.set_links.new.blocks (ap (λ (b : Bookkeeping). b.point) c.in-Ok-set_links.ensures.looks.books) (ap (λ (b : Bookkeeping). b.floor) c.in-Ok-set_links.ensures.looks.books) (c.in-Ok-set_links.ensures.looks.crash told)))
 
@@ -45,8 +48,8 @@ pub returns-in-Err-set_links-clause-settles : goal.returns-in-Err-set_links-clau
 returns-in-Err-set_links-clause-settles g c =
     let s = g.S.Blocks.state c.args.blocks.now in
     let new = g.S.Blocks.state c.set_links.new.blocks in
-    subst (λ b. LooksAndSettles g.S.Blocks.tells (fails_reading {T = DraftState} (Err c.in-Err-set_links.why)) b s new) (sym (look_settles DraftState c.in-Err-set_links.why c.in-Err-set_links.ensures.refused))
-    (settled_before g.S.Blocks.tells (fails_reading {T = DraftState} (Err c.in-Err-set_links.why)) s (g.S.Blocks.state c.add_slot.new.blocks) new c.in-Ok.ensures.settles c.in-Err-set_links.ensures.looks
+    subst (λ b. LooksAndSettles g.S.Blocks.tells (fails_reading {T = DraftState} (Err c.in-Err-set_links.why)) b s new) (sym (quiet_settling c.in-Err-set_links.why c.in-Err-set_links.ensures.refused))
+    (looked_after g.S.Blocks.tells (fails_reading {T = DraftState} (Err c.in-Err-set_links.why)) s (g.S.Blocks.state c.add_slot.new.blocks) new c.in-Ok.ensures.settles c.in-Err-set_links.ensures.looks
     (λ told. c.calls_compose.ensures.advances c.args.blocks.now c.add_slot.new.blocks c.set_links.new.blocks (c.in-Ok.ensures.settles.crash told)
     (c.calls_compose.ensures.rests told c.add_slot.new.blocks c.set_links.new.blocks (ap (λ (b : Bookkeeping). b.point) c.in-Err-set_links.ensures.looks.books) (ap (λ (b : Bookkeeping). b.floor) c.in-Err-set_links.ensures.looks.books) (c.in-Err-set_links.ensures.looks.crash told))))
 
@@ -62,6 +65,7 @@ returns-in-Ok-set_links-clause-names g c = λ told t slots before bytes h here a
     let apart : c.args.dir ≢ node = λ same. dir_no_file slots before bytes (sym at ∙ ap (inodes s) same ∙ here) in
     let slotted = subst (λ b. inodes_in s b c.args.dir ≡ Some (ADir slots) → IsWithSlots (files_in s b) (files_in mid d) c.args.dir (slots ++ c.args.slot.now ∷ [])) c.new-draft.ensures (c.in-Ok.ensures.slots told slots) at in
     let altered = subst (λ b. inodes_in s b c.args.dir ≡ Some (ADir slots) → Alters 2 (take (growth (length slots)) (reusable_blocks mid.books)) 0 b d) c.new-draft.ensures (c.in-Ok.ensures.alters told slots) at in
+    let grown = subst (λ b. inodes_in s b c.args.dir ≡ Some (ADir slots) → IsWithPlaces (places_in s b) (places_in mid d) c.args.dir (places_in s b c.args.dir ++ take (growth (length slots)) (reusable_blocks mid.books))) c.new-draft.ensures (c.in-Ok.ensures.places told slots) at in
     let at_first = subst (λ b. inodes_in s b c.args.dir ≡ Some (ADir slots)) (sym c.new-draft.ensures) at in
     let there = node_there (files_in s nothing_drafted node) (AFile before bytes) here in
     name_added g.S.Blocks.tells s mid new d e c.args.dir node c.args.slot.now.name slots (AFile c.args.links bytes) (with_links there.0 c.args.links) at apart reads slotted
@@ -69,6 +73,7 @@ returns-in-Ok-set_links-clause-names g c = λ told t slots before bytes h here a
     (c.a_file_reads_as_itself.ensures.others there.0 before c.args.links bytes there.0.bytes there.2 ∙ ap (λ b. Some (AFile c.args.links b)) (c.a_file_reads_as_itself.ensures.parts there.0 before bytes there.2).1)
     altered
     (c.alterations_add_up.ensures.node mid.books.geom node [] d e (c.in-Ok-set_links.ensures.among told) (c.in-Ok-set_links.ensures.changes told))
-    c.in-Ok.ensures.settles c.in-Ok-set_links.ensures.looks (λ few. c.in-Ok.ensures.looks told slots at_first few) (c.in-Ok.ensures.room told slots at_first)
+    c.in-Ok.ensures.settles c.in-Ok-set_links.ensures.looks (λ few. c.in-Ok.ensures.looks told slots at_first few) grown
+    (placed_kept (places_in mid d) (places_in new e) node [] (c.in-Ok-set_links.ensures.places told)) (c.in-Ok.ensures.room told slots at_first)
     (subst (λ b. inodes_in s b c.args.dir ≡ Some (ADir slots) → stretches (places_in s b c.args.dir ++ take (growth (length slots)) (reusable_blocks mid.books)) ≤ 28) c.new-draft.ensures (c.in-Ok.ensures.runs told slots) at)
     c.alterations_add_up.ensures.both c.alterations_add_up.ensures.price c.files_have_one_map.ensures.read

@@ -1,4 +1,4 @@
-use Rattle.std.proofs.Common.{◌≡◌, ◌≢◌, ◌≤◌, ◌++◌, ◌∷◌, ℕ, false, Some, Err, IfSome, [], sym, subst, ap, ◌∙◌, arith, length, take}
+use Rattle.std.proofs.Common.{◌≡◌, ◌≢◌, ◌≤◌, ◌++◌, ◌∷◌, ℕ, false, Some, Err, IfSome, [], sym, subst, ap, ◌∙◌, arith, length, take, refl}
 use Rattle.std.proofs.lemmas.Option.{none-some}
 use Rattle.opt_geom.specs.Geometry.{Geometry}
 use Rattle.opt_extent.specs.Runs.{stretches}
@@ -7,7 +7,7 @@ use Rattle.opt_stands.specs.Files.{FileNode}
 use Rattle.opt_stands.specs.Inodes.{Inode, ADir, inode_of}
 use Rattle.opt_inodes.specs.Changes.{new_inode}
 use Rattle.opt_blocks.specs.State.{Bookkeeping, reusable_blocks}
-use Rattle.opt_files.specs.Calls.{files_in, places_in, IsUsed, GrowthRefused, SetsNode}
+use Rattle.opt_files.specs.Calls.{files_in, places_in, IsUsed, IsWithPlaces, GrowthRefused, SetsNode}
 use Rattle.opt_files.specs.Content.{fails_reading}
 use Rattle.opt_files.specs.Drafts.{ChangesSome, DraftState, nothing_drafted}
 use Rattle.opt_files.specs.Effects.{LooksAndSettles}
@@ -15,8 +15,10 @@ use Rattle.opt_dirs.specs.Changing.{Alters, IsWithSlots}
 use Rattle.opt_dirs.specs.Directories.{inodes_in}
 use Rattle.opt_fs.specs.Making.{first_thing}
 use Rattle.opt_fs.specs.Sessions.{inodes}
+use Rattle.opt_fs.proofs.Placing.{placed_by}
 use Rattle.opt_fs.proofs.looking.Found.{same_files}
-use Rattle.opt_fs.proofs.naming.Drafting.{settled_before, look_settles, used_upto, found_is, no_node, first_read, name_added}
+use Rattle.opt_fs.proofs.naming.Drafting.{used_upto, found_is, no_node, first_read, name_added}
+use Rattle.opt_fs.proofs.planning.Looking.{looked_after, quiet_settling}
 use Rattle.opt_fs.proofs.making.draft_node.Goals as goal
 
 pub returns-in-Err-clause-refused : goal.returns-in-Err-clause-refused
@@ -53,6 +55,7 @@ returns-in-Ok-new_node-clause-names g c = λ told t slots h unused at.
     let apart : c.args.dir ≢ node = λ same. none-some (ADir slots) (sym unused ∙ ap (inodes s) (sym same) ∙ at) in
     let slotted = subst (λ b. inodes_in s b c.args.dir ≡ Some (ADir slots) → IsWithSlots (files_in s b) (files_in mid d) c.args.dir (slots ++ c.args.slot.now ∷ [])) c.new-draft.ensures (c.in-Ok.ensures.slots told slots) at in
     let altered = subst (λ b. inodes_in s b c.args.dir ≡ Some (ADir slots) → Alters 2 (take (growth (length slots)) (reusable_blocks mid.books)) 0 b d) c.new-draft.ensures (c.in-Ok.ensures.alters told slots) at in
+    let grown = subst (λ b. inodes_in s b c.args.dir ≡ Some (ADir slots) → IsWithPlaces (places_in s b) (places_in mid d) c.args.dir (places_in s b c.args.dir ++ take (growth (length slots)) (reusable_blocks mid.books))) c.new-draft.ensures (c.in-Ok.ensures.places told slots) at in
     let at_first = subst (λ b. inodes_in s b c.args.dir ≡ Some (ADir slots)) (sym c.new-draft.ensures) at in
     let found = found_is mid.books.geom.i node (files_in mid d) _ _ c.in-Ok-new_node.field-0 c.requires.node.from (omega (arith, c.requires.node.upto, ap (λ (h : Geometry). h.i) c.in-Ok.ensures.settles.pipeline.geom))
     (slotted.others node (λ same. apart (sym same)) ∙ no_node (files_in s nothing_drafted) reads node unused)
@@ -62,7 +65,8 @@ returns-in-Ok-new_node-clause-names g c = λ told t slots h unused at.
     (subst (λ q. inode_of (record { kind = q; links = 1; bytes = [] }) ≡ Some (new_inode (first_thing c.args.kind))) (sym c.node_kind.ensures.value) (first_read c.a_file_reads_as_itself.ensures.directory c.a_file_reads_as_itself.ensures.file c.args.kind))
     altered
     (c.alterations_add_up.ensures.node mid.books.geom node [] d e (subst (λ o. IfSome o (λ k. SetsNode mid.books.geom k [] d e)) found.0 c.in-Ok-new_node.ensures.among) (subst (λ o. IfSome o (λ k. ChangesSome e)) found.0 c.in-Ok-new_node.ensures.changes))
-    c.in-Ok.ensures.settles c.in-Ok-new_node.ensures.looks (λ few. c.in-Ok.ensures.looks told slots at_first few) (c.in-Ok.ensures.room told slots at_first)
+    c.in-Ok.ensures.settles c.in-Ok-new_node.ensures.looks (λ few. c.in-Ok.ensures.looks told slots at_first few) grown
+    (placed_by (places_in mid d) (places_in new e) node [] [] (subst (λ o. IfSome o (λ k. IsWithPlaces (places_in mid d) (places_in new e) k [])) found.0 (c.in-Ok-new_node.ensures.places told)) refl) (c.in-Ok.ensures.room told slots at_first)
     (subst (λ b. inodes_in s b c.args.dir ≡ Some (ADir slots) → stretches (places_in s b c.args.dir ++ take (growth (length slots)) (reusable_blocks mid.books)) ≤ 28) c.new-draft.ensures (c.in-Ok.ensures.runs told slots) at)
     c.alterations_add_up.ensures.both c.alterations_add_up.ensures.price c.files_have_one_map.ensures.read
 
@@ -70,7 +74,7 @@ pub returns-in-Ok-new_node-clause-settles : goal.returns-in-Ok-new_node-clause-s
 returns-in-Ok-new_node-clause-settles g c =
     let s = g.S.Blocks.state c.args.blocks.now in
     let looks = c.in-Ok-new_node.ensures.looks in
-    settled_before g.S.Blocks.tells false s (g.S.Blocks.state c.add_slot.new.blocks) (g.S.Blocks.state c.new_node.new.blocks) c.in-Ok.ensures.settles looks
+    looked_after g.S.Blocks.tells false s (g.S.Blocks.state c.add_slot.new.blocks) (g.S.Blocks.state c.new_node.new.blocks) c.in-Ok.ensures.settles looks
     (λ told. c.calls_compose.ensures.advances c.args.blocks.now c.add_slot.new.blocks c.new_node.new.blocks (c.in-Ok.ensures.settles.crash told)
     (c.calls_compose.ensures.rests told c.add_slot.new.blocks c.new_node.new.blocks (ap (λ (b : Bookkeeping). b.point) looks.books) (ap (λ (b : Bookkeeping). b.floor) looks.books) (looks.crash told)))
 
@@ -79,7 +83,7 @@ returns-in-Err-new_node-clause-settles g c =
     let s = g.S.Blocks.state c.args.blocks.now in
     let new = g.S.Blocks.state c.new_node.new.blocks in
     let looks = c.in-Err-new_node.ensures.looks in
-    subst (λ b. LooksAndSettles g.S.Blocks.tells (fails_reading {T = DraftState} (Err c.in-Err-new_node.why)) b s new) (sym (look_settles DraftState c.in-Err-new_node.why c.in-Err-new_node.ensures.refused))
-    (settled_before g.S.Blocks.tells (fails_reading {T = DraftState} (Err c.in-Err-new_node.why)) s (g.S.Blocks.state c.add_slot.new.blocks) new c.in-Ok.ensures.settles looks
+    subst (λ b. LooksAndSettles g.S.Blocks.tells (fails_reading {T = DraftState} (Err c.in-Err-new_node.why)) b s new) (sym (quiet_settling c.in-Err-new_node.why c.in-Err-new_node.ensures.refused))
+    (looked_after g.S.Blocks.tells (fails_reading {T = DraftState} (Err c.in-Err-new_node.why)) s (g.S.Blocks.state c.add_slot.new.blocks) new c.in-Ok.ensures.settles looks
     (λ told. c.calls_compose.ensures.advances c.args.blocks.now c.add_slot.new.blocks c.new_node.new.blocks (c.in-Ok.ensures.settles.crash told)
     (c.calls_compose.ensures.rests told c.add_slot.new.blocks c.new_node.new.blocks (ap (λ (b : Bookkeeping). b.point) looks.books) (ap (λ (b : Bookkeeping). b.floor) looks.books) (looks.crash told))))

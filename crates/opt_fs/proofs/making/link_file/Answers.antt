@@ -5,15 +5,16 @@ use Rattle.opt_figures.specs.Values.{value_of}
 use Rattle.opt_blocks.specs.Running.{Running}
 use Rattle.opt_dirs.specs.Directories.{inodes_in}
 use Rattle.opt_fs.specs.Plans.{Plans}
-use Rattle.opt_fs.proofs.naming.Planning.{looks_none, no_room, named_plan, name_refused}
+use Rattle.opt_fs.proofs.naming.Planning.{named_plan, name_refused}
+use Rattle.opt_fs.proofs.planning.Looking.{full_plan, no_look}
 use Rattle.opt_fs.proofs.making.link_file.Goals as goal
 
 pub returns-in-Err-clause-plans : goal.returns-in-Err-clause-plans
 returns-in-Err-clause-plans g c = λ cmd may.
     let s = g.S.Blocks.state c.args.blocks.now in
-    no_room g.S.Blocks.tells cmd s c.args.vacancy.now.dir c.args.vacancy.now.count (value_of c.new_name_figures-figures.result) c.in-Err.why c.requires.may.begin.going
-    (c.new_name_figures-figures.ensures.value ∙ ap (λ n. adding (growth n)) c.from.ensures) c.in-Err.ensures.refused (λ told f h. (may told f h).accepts)
-    (λ told. c.calls_compose.ensures.rests told c.args.blocks.now c.args.blocks.now refl refl ((looks_none g.S.Blocks.tells s).crash told))
+    full_plan g.S.Blocks.tells cmd s s (value_of c.new_name_figures-figures.result) c.in-Err.why c.requires.may.begin.going c.in-Err.ensures.refused
+    (λ told f h. let a = (may told f h).accepts in (a.accepted, a.figures ∙ sym (c.new_name_figures-figures.ensures.value ∙ ap (λ n. adding (growth n)) c.from.ensures)))
+    (no_look g.S.Blocks.tells s) (λ told. c.calls_compose.ensures.rests told c.args.blocks.now c.args.blocks.now refl refl ((no_look g.S.Blocks.tells s).crash told))
 
 pub returns-in-Ok-draft_link-clause-plans : goal.returns-in-Ok-draft_link-clause-plans
 returns-in-Ok-draft_link-clause-plans g c = λ cmd may.

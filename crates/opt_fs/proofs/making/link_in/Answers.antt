@@ -3,8 +3,7 @@ use Rattle.opt_tree.specs.declared.command.Cmd.TheVariants.{Link}
 use Rattle.opt_tree.specs.declared.command.Refusal.TheVariants.{IsDir, TooManyLinks}
 use Rattle.opt_inodes.specs.Changes.{slot_of}
 use Rattle.opt_fs.specs.Making.{MayLink}
-use Rattle.opt_fs.proofs.naming.Planning.{looks_none}
-use Rattle.opt_fs.proofs.planning.Looking.{refusal_plan}
+use Rattle.opt_fs.proofs.planning.Looking.{refusal_plan, no_look}
 use Rattle.opt_fs.proofs.making.link_in.Goals as goal
 
 pub returns-then-is_dir-clause-plans : goal.returns-then-is_dir-clause-plans
@@ -12,14 +11,14 @@ returns-then-is_dir-clause-plans g c = λ path other walked appears.
     let s = g.S.Blocks.state c.args.blocks.now in
     refusal_plan g.S.Blocks.tells (Link path other) s s IsDir c.requires.may.begin.going (g.met.S.Blocks.is_sound c.args.blocks.now)
     (λ told f h. c.the_tree_links_files.ensures.directory c.args.blocks.now f path other c.args.found.now c.args.vacancy.now h (walked told) (appears told) (sym c.is_dir.ensures ∙ c.if-is_dir.true))
-    (looks_none g.S.Blocks.tells s) (λ told. c.calls_compose.ensures.rests told c.args.blocks.now c.args.blocks.now refl refl ((looks_none g.S.Blocks.tells s).crash told))
+    (no_look g.S.Blocks.tells s) (λ told. c.calls_compose.ensures.rests told c.args.blocks.now c.args.blocks.now refl refl ((no_look g.S.Blocks.tells s).crash told))
 
 pub returns-then-found-ge-MOST_LINKS-clause-plans : goal.returns-then-found-ge-MOST_LINKS-clause-plans
 returns-then-found-ge-MOST_LINKS-clause-plans g c = λ path other walked appears.
     let s = g.S.Blocks.state c.args.blocks.now in
     refusal_plan g.S.Blocks.tells (Link path other) s s TooManyLinks c.requires.may.begin.going (g.met.S.Blocks.is_sound c.args.blocks.now)
     (λ told f h. c.the_tree_links_files.ensures.many c.args.blocks.now f path other c.args.found.now c.args.vacancy.now h (walked told) (appears told) (sym c.is_dir.ensures ∙ c.if-is_dir.false) (omega (arith, c.if-found-ge-MOST_LINKS.true)))
-    (looks_none g.S.Blocks.tells s) (λ told. c.calls_compose.ensures.rests told c.args.blocks.now c.args.blocks.now refl refl ((looks_none g.S.Blocks.tells s).crash told))
+    (no_look g.S.Blocks.tells s) (λ told. c.calls_compose.ensures.rests told c.args.blocks.now c.args.blocks.now refl refl ((no_look g.S.Blocks.tells s).crash told))
 
 pub returns-clause-plans : goal.returns-clause-plans
 returns-clause-plans g c = λ path other walked appears.

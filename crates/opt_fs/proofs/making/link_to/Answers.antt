@@ -5,18 +5,18 @@ use Rattle.opt_files.specs.Calls.{files_in}
 use Rattle.opt_files.specs.Drafts.{nothing_drafted}
 use Rattle.opt_fs.specs.Making.{MayAppear}
 use Rattle.opt_fs.specs.Plans.{Plans}
-use Rattle.opt_fs.proofs.naming.Planning.{may_still, may_appear_still, found_still, used_still}
+use Rattle.opt_fs.proofs.planning.Behind.{may_plan_still, may_appear_still, found_still, used_still}
 use Rattle.opt_fs.proofs.planning.Before.{plans_behind}
 use Rattle.opt_fs.proofs.planning.Looking.{cut_short_plan, refusal_plan}
 use Rattle.opt_fs.proofs.making.link_to.Goals as goal
 
 pub link_in-requires-clause-may : goal.link_in-requires-clause-may
 link_in-requires-clause-may g c =
-    may_still g.S.Blocks.tells (g.S.Blocks.state c.args.blocks.now) (g.S.Blocks.state c.find_vacancy.new.blocks) c.args.first_unused c.in-Ok-Ok.ensures.looks c.requires.may
+    may_plan_still g.S.Blocks.tells (g.S.Blocks.state c.args.blocks.now) (g.S.Blocks.state c.find_vacancy.new.blocks) c.in-Ok-Ok.ensures.looks c.args.first_unused c.requires.may
 
 pub link_in-requires-clause-used : goal.link_in-requires-clause-used
 link_in-requires-clause-used g c = λ told.
-    used_still g.S.Blocks.tells (g.S.Blocks.state c.args.blocks.now) (g.S.Blocks.state c.find_vacancy.new.blocks) told c.in-Ok-Ok.ensures.looks c.args.found.now.number (c.requires.used told)
+    used_still g.S.Blocks.tells (g.S.Blocks.state c.args.blocks.now) (g.S.Blocks.state c.find_vacancy.new.blocks) c.in-Ok-Ok.ensures.looks told c.args.found.now.number (c.requires.used told)
 
 pub returns-in-Ok-Ok-clause-plans : goal.returns-in-Ok-Ok-clause-plans
 returns-in-Ok-Ok-clause-plans g c = λ path walked.
@@ -24,9 +24,9 @@ returns-in-Ok-Ok-clause-plans g c = λ path walked.
     let mid = g.S.Blocks.state c.find_vacancy.new.blocks in
     let other = c.args.other.now in
     let looks = c.in-Ok-Ok.ensures.looks in
-    let plans = c.link_in.ensures.plans path other (λ told. found_still g.S.Blocks.tells s mid told looks path (Ok c.args.found.now) (walked told))
+    let plans = c.link_in.ensures.plans path other (λ told. found_still g.S.Blocks.tells s mid looks told path (Ok c.args.found.now) (walked told))
     (λ told. let t = c.requires.may.stands told in
-    may_appear_still g.S.Blocks.tells s mid told looks other (Ok c.in-Ok-Ok.vacancy) (subst (λ v. MayAppear (files_in s nothing_drafted) other v) c.in-Ok-Ok.field-0-is (c.in-Ok-Ok.ensures.vacancy told t.0 t.1))) in
+    may_appear_still g.S.Blocks.tells s mid looks told other (Ok c.in-Ok-Ok.vacancy) (subst (λ v. MayAppear (files_in s nothing_drafted) other v) c.in-Ok-Ok.field-0-is (c.in-Ok-Ok.ensures.vacancy told t.0 t.1))) in
     plans_behind g.S.Blocks.tells (Link path other) c.link_in.result s mid (g.S.Blocks.state c.link_in.new.blocks) c.requires.may.begin.going looks
     (λ told. c.calls_compose.ensures.advances c.args.blocks.now c.find_vacancy.new.blocks c.link_in.new.blocks
     (c.calls_compose.ensures.rests told c.args.blocks.now c.find_vacancy.new.blocks (ap (λ (b : Bookkeeping). b.point) looks.books) (ap (λ (b : Bookkeeping). b.floor) looks.books) (looks.crash told)) (plans.settles.crash told)) plans

@@ -7,7 +7,7 @@ use Rattle.opt_dirs.specs.Directories.{IsNumber}
 use Rattle.opt_fs.specs.Making.{make_cmd}
 use Rattle.opt_fs.specs.Plans.{Plans}
 use Rattle.opt_fs.specs.Sessions.{AreUsedBelow}
-use Rattle.opt_fs.proofs.naming.Planning.{may_still, may_appear_still, least_still}
+use Rattle.opt_fs.proofs.planning.Behind.{may_plan_still, may_appear_still, least_still}
 use Rattle.opt_fs.proofs.planning.Before.{plans_behind}
 use Rattle.opt_fs.proofs.planning.Looking.{cut_short_plan, refusal_plan}
 use Rattle.opt_fs.proofs.making.make_in.Goals as goal
@@ -16,7 +16,7 @@ pub make_node-requires-clause-may : goal.make_node-requires-clause-may
 make_node-requires-clause-may g c =
     let s = g.S.Blocks.state c.args.blocks.now in
     let number = subst (λ o. IfSome o (IsNumber s.books.geom.i)) c.in-Ok-Some.field-0-is c.in-Ok-Some.ensures.number in
-    may_still g.S.Blocks.tells s (g.S.Blocks.state c.least_unused.new.blocks) c.in-Ok-Some.node c.in-Ok-Some.ensures.looks
+    may_plan_still g.S.Blocks.tells s (g.S.Blocks.state c.least_unused.new.blocks) c.in-Ok-Some.ensures.looks c.in-Ok-Some.node
     (record { begin = c.requires.may.begin; stands = c.requires.may.stands; turns = c.requires.may.turns; above = number.from; used = λ told. subst (λ o. IfSome o (AreUsedBelow (files_in s nothing_drafted))) c.in-Ok-Some.field-0-is (c.in-Ok-Some.ensures.used told) })
 
 pub returns-in-Ok-Some-clause-plans : goal.returns-in-Ok-Some-clause-plans
@@ -24,8 +24,8 @@ returns-in-Ok-Some-clause-plans g c = λ path appears.
     let s = g.S.Blocks.state c.args.blocks.now in
     let mid = g.S.Blocks.state c.least_unused.new.blocks in
     let looks = c.in-Ok-Some.ensures.looks in
-    let plans = c.make_node.ensures.plans path (λ told. may_appear_still g.S.Blocks.tells s mid told looks path (Ok c.args.vacancy.now) (appears told))
-    (λ told. let t = c.requires.may.stands told in least_still g.S.Blocks.tells s mid told looks c.in-Ok-Some.node (sym (c.in-Ok-Some.ensures.least told t.0 t.1) ∙ c.in-Ok-Some.field-0-is)) in
+    let plans = c.make_node.ensures.plans path (λ told. may_appear_still g.S.Blocks.tells s mid looks told path (Ok c.args.vacancy.now) (appears told))
+    (λ told. let t = c.requires.may.stands told in least_still g.S.Blocks.tells s mid looks told c.in-Ok-Some.node (sym (c.in-Ok-Some.ensures.least told t.0 t.1) ∙ c.in-Ok-Some.field-0-is)) in
     plans_behind g.S.Blocks.tells (make_cmd c.args.kind path) c.make_node.result s mid (g.S.Blocks.state c.make_node.new.blocks) c.requires.may.begin.going looks
     (λ told. c.calls_compose.ensures.advances c.args.blocks.now c.least_unused.new.blocks c.make_node.new.blocks
     (c.calls_compose.ensures.rests told c.args.blocks.now c.least_unused.new.blocks (ap (λ (b : Bookkeeping). b.point) looks.books) (ap (λ (b : Bookkeeping). b.floor) looks.books) (looks.crash told)) (plans.settles.crash told)) plans

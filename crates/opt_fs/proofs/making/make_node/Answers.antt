@@ -9,16 +9,17 @@ use Rattle.opt_fs.specs.Making.{AcceptsName, AddsName, first_thing, make_cmd}
 use Rattle.opt_fs.specs.Plans.{Plans}
 use Rattle.opt_fs.specs.Sessions.{IsSession, inodes}
 use Rattle.opt_fs.proofs.naming.Least.{least_unused}
-use Rattle.opt_fs.proofs.naming.Planning.{looks_none, no_room, named_plan, name_refused}
+use Rattle.opt_fs.proofs.naming.Planning.{named_plan, name_refused}
+use Rattle.opt_fs.proofs.planning.Looking.{full_plan, no_look}
 use Rattle.opt_fs.proofs.making.make_node.Goals as goal
 
 pub returns-in-Err-clause-plans : goal.returns-in-Err-clause-plans
 returns-in-Err-clause-plans g c = λ path appears least.
     let s = g.S.Blocks.state c.args.blocks.now in
-    no_room g.S.Blocks.tells (make_cmd c.args.kind path) s c.args.vacancy.now.dir c.args.vacancy.now.count (value_of c.new_name_figures-figures.result) c.in-Err.why c.requires.may.begin.going
-    (c.new_name_figures-figures.ensures.value ∙ ap (λ n. adding (growth n)) c.from.ensures) c.in-Err.ensures.refused
-    (λ told f h. c.the_tree_makes_nodes.ensures.accepted c.args.blocks.now f c.args.kind path c.args.vacancy.now c.args.node h (appears told) (least told))
-    (λ told. c.calls_compose.ensures.rests told c.args.blocks.now c.args.blocks.now refl refl ((looks_none g.S.Blocks.tells s).crash told))
+    full_plan g.S.Blocks.tells (make_cmd c.args.kind path) s s (value_of c.new_name_figures-figures.result) c.in-Err.why c.requires.may.begin.going c.in-Err.ensures.refused
+    (λ told f h. let a = c.the_tree_makes_nodes.ensures.accepted c.args.blocks.now f c.args.kind path c.args.vacancy.now c.args.node h (appears told) (least told) in
+    (a.accepted, a.figures ∙ sym (c.new_name_figures-figures.ensures.value ∙ ap (λ n. adding (growth n)) c.from.ensures)))
+    (no_look g.S.Blocks.tells s) (λ told. c.calls_compose.ensures.rests told c.args.blocks.now c.args.blocks.now refl refl ((no_look g.S.Blocks.tells s).crash told))
 
 pub overflow_add-result : goal.overflow_add-result
 overflow_add-result g c = omega (arith, c.requires.node.upto, c.a_disk_is_small.ensures.table)

@@ -5,14 +5,14 @@ use Rattle.opt_files.specs.Calls.{files_in}
 use Rattle.opt_files.specs.Drafts.{nothing_drafted}
 use Rattle.opt_fs.specs.Looks.{LeadsToFound}
 use Rattle.opt_fs.specs.Plans.{Plans}
-use Rattle.opt_fs.proofs.naming.Planning.{may_still, found_still}
+use Rattle.opt_fs.proofs.planning.Behind.{may_plan_still, found_still}
 use Rattle.opt_fs.proofs.planning.Before.{plans_behind}
 use Rattle.opt_fs.proofs.planning.Looking.{cut_short_plan, refusal_plan}
 use Rattle.opt_fs.proofs.making.plan_link.Goals as goal
 
 pub link_to-requires-clause-may : goal.link_to-requires-clause-may
 link_to-requires-clause-may g c =
-    may_still g.S.Blocks.tells (g.S.Blocks.state c.args.blocks.now) (g.S.Blocks.state c.find_node.new.blocks) c.args.first_unused c.in-Ok-Ok.ensures.looks c.requires.may
+    may_plan_still g.S.Blocks.tells (g.S.Blocks.state c.args.blocks.now) (g.S.Blocks.state c.find_node.new.blocks) c.in-Ok-Ok.ensures.looks c.args.first_unused c.requires.may
 
 pub returns-in-Ok-Ok-clause-plans : goal.returns-in-Ok-Ok-clause-plans
 returns-in-Ok-Ok-clause-plans g c =
@@ -22,7 +22,7 @@ returns-in-Ok-Ok-clause-plans g c =
     let other = c.args.other.now in
     let looks = c.in-Ok-Ok.ensures.looks in
     let plans = c.link_to.ensures.plans path (λ told. let t = c.requires.may.stands told in
-    found_still g.S.Blocks.tells s mid told looks path (Ok c.in-Ok-Ok.found) (subst (λ r. LeadsToFound (files_in s nothing_drafted) path r) c.in-Ok-Ok.field-0-is (c.in-Ok-Ok.ensures.found told t.0 t.1))) in
+    found_still g.S.Blocks.tells s mid looks told path (Ok c.in-Ok-Ok.found) (subst (λ r. LeadsToFound (files_in s nothing_drafted) path r) c.in-Ok-Ok.field-0-is (c.in-Ok-Ok.ensures.found told t.0 t.1))) in
     plans_behind g.S.Blocks.tells (Link path other) c.link_to.result s mid (g.S.Blocks.state c.link_to.new.blocks) c.requires.may.begin.going looks
     (λ told. c.calls_compose.ensures.advances c.args.blocks.now c.find_node.new.blocks c.link_to.new.blocks
     (c.calls_compose.ensures.rests told c.args.blocks.now c.find_node.new.blocks (ap (λ (b : Bookkeeping). b.point) looks.books) (ap (λ (b : Bookkeeping). b.floor) looks.books) (looks.crash told)) (plans.settles.crash told)) plans

@@ -4,14 +4,14 @@ use Rattle.opt_files.specs.Calls.{files_in}
 use Rattle.opt_files.specs.Drafts.{nothing_drafted}
 use Rattle.opt_fs.specs.Making.{MayAppear, make_cmd}
 use Rattle.opt_fs.specs.Plans.{Plans}
-use Rattle.opt_fs.proofs.naming.Planning.{may_still, may_appear_still}
+use Rattle.opt_fs.proofs.planning.Behind.{may_plan_still, may_appear_still}
 use Rattle.opt_fs.proofs.planning.Before.{plans_behind}
 use Rattle.opt_fs.proofs.planning.Looking.{cut_short_plan, refusal_plan}
 use Rattle.opt_fs.proofs.making.plan_node.Goals as goal
 
 pub make_in-requires-clause-may : goal.make_in-requires-clause-may
 make_in-requires-clause-may g c =
-    may_still g.S.Blocks.tells (g.S.Blocks.state c.args.blocks.now) (g.S.Blocks.state c.find_vacancy.new.blocks) c.args.first_unused c.in-Ok-Ok.ensures.looks c.requires.may
+    may_plan_still g.S.Blocks.tells (g.S.Blocks.state c.args.blocks.now) (g.S.Blocks.state c.find_vacancy.new.blocks) c.in-Ok-Ok.ensures.looks c.args.first_unused c.requires.may
 
 pub returns-in-Ok-Ok-clause-plans : goal.returns-in-Ok-Ok-clause-plans
 returns-in-Ok-Ok-clause-plans g c =
@@ -20,7 +20,7 @@ returns-in-Ok-Ok-clause-plans g c =
     let path = c.args.path.now in
     let looks = c.in-Ok-Ok.ensures.looks in
     let plans = c.make_in.ensures.plans path (λ told. let t = c.requires.may.stands told in
-    may_appear_still g.S.Blocks.tells s mid told looks path (Ok c.in-Ok-Ok.vacancy) (subst (λ v. MayAppear (files_in s nothing_drafted) path v) c.in-Ok-Ok.field-0-is (c.in-Ok-Ok.ensures.vacancy told t.0 t.1))) in
+    may_appear_still g.S.Blocks.tells s mid looks told path (Ok c.in-Ok-Ok.vacancy) (subst (λ v. MayAppear (files_in s nothing_drafted) path v) c.in-Ok-Ok.field-0-is (c.in-Ok-Ok.ensures.vacancy told t.0 t.1))) in
     plans_behind g.S.Blocks.tells (make_cmd c.args.kind path) c.make_in.result s mid (g.S.Blocks.state c.make_in.new.blocks) c.requires.may.begin.going looks
     (λ told. c.calls_compose.ensures.advances c.args.blocks.now c.find_vacancy.new.blocks c.make_in.new.blocks
     (c.calls_compose.ensures.rests told c.args.blocks.now c.find_vacancy.new.blocks (ap (λ (b : Bookkeeping). b.point) looks.books) (ap (λ (b : Bookkeeping). b.floor) looks.books) (looks.crash told)) (plans.settles.crash told)) plans

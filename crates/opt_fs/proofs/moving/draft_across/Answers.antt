@@ -1,18 +1,20 @@
-use Rattle.std.proofs.Common.{ℕ, ◌+◌, ◌≤◌, [], ◌∷◌, ◌++◌, false, List, take, length, Err, sym, subst, ap, ◌∙◌, arith}
+use Rattle.std.proofs.Common.{ℕ, ◌+◌, ◌-◌, ◌≤◌, [], ◌∷◌, ◌++◌, false, List, take, length, Err, sym, subst, ap, ◌∙◌, arith}
 use Rattle.std.proofs.lemmas.List.{append-nil}
 use Rattle.opt_extent.specs.Runs.{stretches}
 use Rattle.opt_dirent.specs.Directory.{without_at}
-use Rattle.opt_tree.specs.Figures.{growth, release}
+use Rattle.opt_tree.specs.Figures.{directory_blocks, growth, release}
 use Rattle.opt_stands.specs.Files.{files_of}
 use Rattle.opt_inodes.specs.Changes.{slot_of}
 use Rattle.opt_blocks.specs.State.{Bookkeeping, reusable_blocks}
-use Rattle.opt_files.specs.Calls.{GrowthRefused, files_in, places_in}
+use Rattle.opt_files.specs.Calls.{GrowthRefused, IsWithPlaces, files_in, places_in}
 use Rattle.opt_files.specs.Content.{fails_reading}
 use Rattle.opt_files.specs.Effects.{LooksAndSettles}
 use Rattle.opt_files.specs.Drafts.{nothing_drafted}
 use Rattle.opt_dirs.specs.Changing.{Alters, IsWithSlots}
 use Rattle.opt_dirs.specs.Directories.{inodes_in}
 use Rattle.opt_fs.specs.Commands.{GrowsInRuns, places_of}
+use Rattle.opt_fs.specs.Space.{ArePlaced}
+use Rattle.opt_fs.proofs.Placing.{placed_cut, placed_grown, placed_then}
 use Rattle.opt_fs.proofs.planning.Looking.{looked_after, cut_growth, quiet_settling}
 use Rattle.opt_fs.proofs.moved.Free.{moves_across, used_across}
 use Rattle.opt_fs.proofs.moved.Onto.{place_within}
@@ -46,7 +48,7 @@ returns-in-Ok-take_slot-clause-settles g c =
 pub returns-in-Err-take_slot-clause-settles : goal.returns-in-Err-take_slot-clause-settles
 returns-in-Err-take_slot-clause-settles g c =
     let looks = c.in-Err-take_slot.ensures.looks in
-    subst (λ b. LooksAndSettles g.S.Blocks.tells (fails_reading {T = ℕ} (Err c.in-Err-take_slot.why)) b (g.S.Blocks.state c.args.blocks.now) (g.S.Blocks.state c.take_slot.new.blocks)) (sym (quiet_settling ℕ c.in-Err-take_slot.why c.in-Err-take_slot.ensures.refused))
+    subst (λ b. LooksAndSettles g.S.Blocks.tells (fails_reading {T = ℕ} (Err c.in-Err-take_slot.why)) b (g.S.Blocks.state c.args.blocks.now) (g.S.Blocks.state c.take_slot.new.blocks)) (sym (quiet_settling c.in-Err-take_slot.why c.in-Err-take_slot.ensures.refused))
     (looked_after g.S.Blocks.tells (fails_reading {T = ℕ} (Err c.in-Err-take_slot.why)) (g.S.Blocks.state c.args.blocks.now) (g.S.Blocks.state c.add_slot.new.blocks) (g.S.Blocks.state c.take_slot.new.blocks) c.in-Ok.ensures.settles looks
     (λ told. c.calls_compose.ensures.advances c.args.blocks.now c.add_slot.new.blocks c.take_slot.new.blocks (c.in-Ok.ensures.settles.crash told)
     (c.calls_compose.ensures.rests told c.add_slot.new.blocks c.take_slot.new.blocks (ap (λ (b : Bookkeeping). b.point) looks.books) (ap (λ (b : Bookkeeping). b.floor) looks.books) (looks.crash told))))
@@ -67,6 +69,13 @@ returns-in-Ok-take_slot-clause-grows g c = λ told count name may.
       enough = c.in-Ok.ensures.room told may.into.slots at;
       runs = subst (λ d. stretches (places_in s d c.args.into ++ take (growth (length may.into.slots)) (reusable_blocks t.books)) ≤ 28) c.new-draft.ensures (c.in-Ok.ensures.runs told may.into.slots at);
     })
+
+pub returns-in-Ok-take_slot-clause-rests : goal.returns-in-Ok-take_slot-clause-rests
+returns-in-Ok-take_slot-clause-rests g c = λ told count name may enough.
+    let s = g.S.Blocks.state c.args.blocks.now in
+    let at = ap (λ d. inodes_in s d c.args.into) c.new-draft.ensures ∙ may.into.dir_is in
+    c.in-Ok-take_slot.ensures.looks.books
+    ∙ (c.in-Ok.ensures.looks told may.into.slots at (subst (λ n. growth n ≤ length (reusable_blocks s.books)) may.into.many_are enough)).books
 
 pub returns-in-Ok-take_slot-clause-moves : goal.returns-in-Ok-take_slot-clause-moves
 returns-in-Ok-take_slot-clause-moves g c = λ told count name may.
@@ -91,10 +100,17 @@ returns-in-Ok-take_slot-clause-moves g c = λ told count name may.
     let freed = subst (λ n. Alters 5 takes n nothing_drafted c.take_slot.new.draft) {x = 0 + release (length may.from.slots)} {y = release (length may.from.slots)} (omega arith) flat in
     let many = subst (λ n. Alters 5 takes (release n) nothing_drafted c.take_slot.new.draft) (sym may.from.count) freed in
     let counted = subst (λ n. Alters 5 (take (growth n) (reusable_blocks t.books)) (release c.args.source.now.count) nothing_drafted c.take_slot.new.draft) (sym may.into.many_are) many in
+    let p0 = places_of s in
+    let p1 = places_in t c.add_slot.new.draft in
+    let p2 = places_in u c.take_slot.new.draft in
+    let grown = placed_grown p0 p1 c.args.into takes (subst (λ d. IsWithPlaces (places_in s d) p1 c.args.into (places_in s d c.args.into ++ takes)) c.new-draft.ensures (c.in-Ok.ensures.places told may.into.slots at)) in
+    let cut = placed_cut p1 p2 c.args.source.now.dir (directory_blocks (length may.from.slots - 1)) [] (c.in-Ok-take_slot.ensures.places told may.from.slots from_at) in
+    let placed = subst (λ n. ArePlaced p0 p2 (take (growth n) (reusable_blocks t.books))) (sym may.into.many_are) (placed_then p0 p1 p2 takes grown cut) in
     record {
       moves = moves_across f0 f1 f2 c.args.source.now c.args.into count name c.args.other.now may.from may.into may.apart named two;
       reads = c.directories_are_read.ensures f1 f2 c.args.source.now.dir (without_at c.args.source.now.entry.place may.from.slots) two
           (c.directories_are_read.ensures f0 f1 c.args.into (may.into.slots ++ slot_of c.args.source.now.entry.node.number c.args.other.now ∷ []) named reads);
       alters = subst (λ (k : Bookkeeping). Alters 5 (take (growth count) (reusable_blocks k)) (release c.args.source.now.count) nothing_drafted c.take_slot.new.draft) (sym c.in-Ok-take_slot.ensures.looks.books) counted;
+      placed = subst (λ (k : Bookkeeping). ArePlaced p0 p2 (take (growth count) (reusable_blocks k))) (sym c.in-Ok-take_slot.ensures.looks.books) placed;
       used = used_across f0 f1 f2 c.args.source.now c.args.into count name c.args.other.now may.from may.into may.apart named two;
     }

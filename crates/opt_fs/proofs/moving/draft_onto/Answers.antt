@@ -1,13 +1,15 @@
-use Rattle.std.proofs.Common.{ℕ, ◌+◌, ◌<◌, [], false, List, set, length, Err, sym, subst, ap, ◌∙◌, arith}
-use Rattle.opt_tree.specs.Figures.{release}
+use Rattle.std.proofs.Common.{ℕ, ◌+◌, ◌-◌, ◌<◌, [], false, List, set, length, Err, sym, subst, ap, ◌∙◌, arith}
+use Rattle.opt_tree.specs.Figures.{directory_blocks, release}
 use Rattle.opt_stands.specs.Files.{files_of}
 use Rattle.opt_inodes.specs.Changes.{slot_of}
-use Rattle.opt_files.specs.Calls.{files_in}
+use Rattle.opt_files.specs.Calls.{IsWithPlaces, files_in, places_in}
 use Rattle.opt_files.specs.Content.{fails_reading}
 use Rattle.opt_files.specs.Drafts.{nothing_drafted}
 use Rattle.opt_dirs.specs.Changing.{Alters, IsWithSlots}
 use Rattle.opt_dirs.specs.Directories.{inodes_in}
+use Rattle.opt_fs.specs.Commands.{places_of}
 use Rattle.opt_fs.specs.Removing.{blocks_gone}
+use Rattle.opt_fs.proofs.Placing.{placed_cut, placed_kept, placed_then}
 use Rattle.opt_fs.proofs.looking.Found.{looks_more}
 use Rattle.opt_fs.proofs.moved.Onto.{place_within, between, found2, inode2, moves, reads3, used3}
 use Rattle.opt_fs.proofs.moving.draft_onto.Goals as goal
@@ -73,10 +75,17 @@ returns-in-Ok-lose_link-clause-moves g c = λ told name may.
     let a3 = c.in-Ok-lose_link.ensures.alters told in
     let a12 = subst (λ n. Alters 4 [] n nothing_drafted c.take_slot.new.draft) {x = 0 + release (length mid.slots)} {y = release (length mid.slots)} (omega arith) (both 1 3 0 (release (length mid.slots)) [] [] nothing_drafted c.set_slot.new.draft c.take_slot.new.draft a1 a2) in
     let all = both 4 1 (release (length mid.slots)) (blocks_gone c.args.target.now.entry.node.facts) [] [] nothing_drafted c.take_slot.new.draft c.lose_link.new.draft a12 a3 in
+    let p0 = places_of s in
+    let p1 = places_in t c.set_slot.new.draft in
+    let p2 = places_in u c.take_slot.new.draft in
+    let p3 = places_in v c.lose_link.new.draft in
+    let kept = placed_kept p0 p1 c.args.target.now.dir [] (subst (λ d. IsWithPlaces (places_in s d) p1 c.args.target.now.dir (places_in s d c.args.target.now.dir)) c.new-draft.ensures (c.in-Ok.ensures.places told)) in
+    let cut = placed_cut p1 p2 c.args.source.now.dir (directory_blocks (length mid.slots - 1)) [] (c.in-Ok-take_slot.ensures.places told mid.slots mid.is) in
     record {
       moves = moves f0 f1 f2 f3 c.args.source.now c.args.target.now name c.args.other.now may.from may.onto may.not_node may.not_from may.not_into may.found reads named_one mid two c.directories_are_read.ensures three;
       reads = reads3 f0 f1 f2 f3 c.args.source.now c.args.target.now name c.args.other.now may.from may.onto may.not_node may.not_from may.not_into may.found reads named_one mid two c.directories_are_read.ensures three;
       alters = subst (λ n. Alters 5 [] (release n + blocks_gone c.args.target.now.entry.node.facts) nothing_drafted c.lose_link.new.draft) mid.many all;
+      placed = placed_then p0 p2 p3 [] (placed_then p0 p1 p2 [] kept cut) (c.in-Ok-lose_link.ensures.placed told);
       used = used3 f0 f1 f2 f3 c.args.source.now c.args.target.now name c.args.other.now may.from may.onto may.not_node may.not_from may.not_into may.found reads named_one mid two c.directories_are_read.ensures three;
     }
 

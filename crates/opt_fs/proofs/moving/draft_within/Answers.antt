@@ -1,10 +1,12 @@
 use Rattle.std.proofs.Common.{ℕ, [], List, set, subst, ap, ◌∙◌}
 use Rattle.opt_stands.specs.Files.{files_of}
 use Rattle.opt_inodes.specs.Changes.{slot_of}
-use Rattle.opt_files.specs.Calls.{files_in}
+use Rattle.opt_files.specs.Calls.{IsWithPlaces, files_in, places_in}
 use Rattle.opt_files.specs.Drafts.{nothing_drafted}
 use Rattle.opt_dirs.specs.Changing.{Alters, IsWithSlots}
 use Rattle.opt_dirs.specs.Directories.{inodes_in}
+use Rattle.opt_fs.specs.Commands.{places_of}
+use Rattle.opt_fs.proofs.Placing.{placed_kept}
 use Rattle.opt_fs.proofs.moved.Free.{moves_within, used_within}
 use Rattle.opt_fs.proofs.moved.Onto.{place_within}
 use Rattle.opt_fs.proofs.moving.draft_within.Goals as goal
@@ -31,5 +33,7 @@ returns-in-Ok-clause-moves g c = λ told name may.
       moves = moves_within f0 f1 c.args.source.now name c.args.other.now may.from may.into named c.a_name_stands_at_its_place.ensures.in_place;
       reads = c.directories_are_read.ensures f0 f1 c.args.source.now.dir (set may.from.slots c.args.source.now.entry.place (slot_of c.args.source.now.entry.node.number c.args.other.now)) named reads;
       alters = subst (λ d. Alters 1 [] 0 d c.set_slot.new.draft) c.new-draft.ensures (c.in-Ok.ensures.alters told);
+      placed = placed_kept (places_of s) (places_in t c.set_slot.new.draft) c.args.source.now.dir []
+          (subst (λ d. IsWithPlaces (places_in s d) (places_in t c.set_slot.new.draft) c.args.source.now.dir (places_in s d c.args.source.now.dir)) c.new-draft.ensures (c.in-Ok.ensures.places told));
       used = used_within f0 f1 c.args.source.now name c.args.other.now may.from may.into named c.a_name_stands_at_its_place.ensures.in_place;
     }

@@ -9,10 +9,10 @@ use Rattle.opt_blocks.specs.State.{Bookkeeping}
 use Rattle.opt_fs.specs.Plans.{Plans}
 use Rattle.opt_fs.specs.Removing.{blocks_gone, first_after}
 use Rattle.opt_fs.specs.Sessions.{inodes}
-use Rattle.opt_fs.proofs.moved.Planned.{counted_as, move_refusal, no_growth, onto_counted, planned_move, weighed_move}
-use Rattle.opt_fs.proofs.planning.Looking.{cut_short_plan}
-use Rattle.opt_fs.proofs.removed.Plain.{looks_none, no_room, looked_change}
+use Rattle.opt_fs.proofs.moved.Planned.{counted_as, move_refusal, no_growth, onto_counted, planned_move}
+use Rattle.opt_fs.proofs.planning.Looking.{cut_short_plan, no_look, full_plan, looked_change}
 use Rattle.opt_fs.proofs.removed.Planned.{loss_made}
+use Rattle.opt_fs.proofs.Weighing.{is_weighed}
 use Rattle.opt_fs.proofs.moving.plan_onto.Goals as goal
 
 pub draft_onto-requires-clause-moves : goal.draft_onto-requires-clause-moves
@@ -28,7 +28,7 @@ returns-in-Err-clause-plans g c = λ from to move.
     let source = c.args.source.now in
     let target = c.args.target.now in
     let fs = value_of c.moving-figures.result in
-    no_room g.S.Blocks.tells (Rename from to) s fs c.in-Err.why c.requires.may.begin.going c.in-Err.ensures.refused
+    full_plan g.S.Blocks.tells (Rename from to) s s fs c.in-Err.why c.requires.may.begin.going c.in-Err.ensures.refused
     (λ told f h.
     let known = c.a_move_is_known.ensures.knows told from to source target.dir target.count (Some target.entry) c.args.other.now (move told) in
     let onto = c.a_move_is_known.ensures.onto told f.tree from to source target c.args.other.now h.tree (move told) known in
@@ -39,7 +39,7 @@ returns-in-Err-clause-plans g c = λ from to move.
           ∙ sym (counted_as c.bitmap_blocks-bitmap.result 0 (c.release.result + c.blocks_gone_with.result) (bitmap_blocks s.books.geom) 0 (release source.count + blocks_gone target.entry.node.facts) fs
           c.moving-figures.ensures bitmap refl (ap₂ (λ a b. a + b) (c.release.ensures.value ∙ ap release c.from.ensures) (c.blocks_gone_with.ensures.value onto.2))),
     ))
-    (λ told. c.calls_compose.ensures.rests told c.args.blocks.now c.args.blocks.now refl refl ((looks_none g.S.Blocks.tells s).crash told))
+    (no_look g.S.Blocks.tells s) (λ told. c.calls_compose.ensures.rests told c.args.blocks.now c.args.blocks.now refl refl ((no_look g.S.Blocks.tells s).crash told))
 
 pub returns-in-Ok-draft_onto-clause-plans : goal.returns-in-Ok-draft_onto-clause-plans
 returns-in-Ok-draft_onto-clause-plans g c = λ from to move.
@@ -62,8 +62,8 @@ returns-in-Ok-draft_onto-clause-plans g c = λ from to move.
     c.moving-figures.ensures bitmap refl (ap₂ (λ a b. a + b) (c.release.ensures.value ∙ ap release c.from.ensures) (c.blocks_gone_with.ensures.value onto.2)) in
     planned_move s now f from to source.dir target.dir source.entry.node.number 5 freed 0 fs.cost [] known.name c.args.other.now c.in-Ok-draft_onto.draft (first_after target.entry.node) h plain known.paths
     (c.in-Ok-draft_onto.ensures.moves told known.name onto.0)
-    (weighed_move s f (Rename from to) fs (move_refusal f (inodes s) from to map c.the_map_gives_the_refusal.ensures.refusal (move told).accepted) (counted ∙ sym same) c.in-Ok.ensures.room)
-    counted (omega arith) (omega arith) (ap (λ (k : Bookkeeping). k.geom) looks.books) (no_growth s f (Rename from to) (bitmap_blocks s.books.geom) freed counted)
+    (is_weighed s f (Rename from to) fs (move_refusal f (inodes s) from to map c.the_map_gives_the_refusal.ensures.refusal (move told).accepted) (counted ∙ sym same) c.in-Ok.ensures.room)
+    counted (omega arith) refl (λ enough. looks.books) (ap (λ (k : Bookkeeping). k.geom) looks.books) (no_growth s f (Rename from to) (bitmap_blocks s.books.geom) freed counted)
     c.a_move_is_mapped.ensures.rename c.the_map_gives_the_reply.ensures.reply (move told).accepted c.alterations_add_up.ensures.price)
     looks
     (λ told. c.calls_compose.ensures.rests told c.args.blocks.now c.draft_onto.new.blocks (ap (λ (b : Bookkeeping). b.point) looks.books) (ap (λ (b : Bookkeeping). b.floor) looks.books) (looks.crash told))

@@ -7,9 +7,9 @@ use Rattle.opt_figures.specs.Values.{value_of}
 use Rattle.opt_blocks.specs.State.{Bookkeeping}
 use Rattle.opt_fs.specs.Plans.{Plans}
 use Rattle.opt_fs.specs.Sessions.{inodes}
-use Rattle.opt_fs.proofs.moved.Planned.{counted_as, may_rename, move_made, move_refusal, no_growth, planned_move, weighed_move, within_counted}
-use Rattle.opt_fs.proofs.planning.Looking.{cut_short_plan}
-use Rattle.opt_fs.proofs.removed.Plain.{looks_none, no_room, looked_change}
+use Rattle.opt_fs.proofs.moved.Planned.{counted_as, may_rename, move_made, move_refusal, no_growth, planned_move, within_counted}
+use Rattle.opt_fs.proofs.planning.Looking.{cut_short_plan, no_look, full_plan, looked_change}
+use Rattle.opt_fs.proofs.Weighing.{is_weighed}
 use Rattle.opt_fs.proofs.moving.plan_within.Goals as goal
 
 pub draft_within-requires-clause-moves : goal.draft_within-requires-clause-moves
@@ -24,7 +24,7 @@ returns-in-Err-clause-plans g c = λ from to move.
     let s = g.S.Blocks.state c.args.blocks.now in
     let source = c.args.source.now in
     let fs = value_of c.moving-figures.result in
-    no_room g.S.Blocks.tells (Rename from to) s fs c.in-Err.why c.requires.may.begin.going c.in-Err.ensures.refused
+    full_plan g.S.Blocks.tells (Rename from to) s s fs c.in-Err.why c.requires.may.begin.going c.in-Err.ensures.refused
     (λ told f h.
     let known = c.a_move_is_known.ensures.knows told from to source source.dir source.count None c.args.other.now (move told) in
     let map = subst (λ l. IsMapOf l (inodes s) f.tree) (sym h.limit) (c.blocks_have_the_map_of_their_tree.ensures.map s.books.geom s.map f.tree h.tree) in
@@ -33,7 +33,7 @@ returns-in-Err-clause-plans g c = λ from to move.
       within_counted s f from to source c.args.other.now map (move told).accepted c.the_map_gives_the_figures.ensures.figures source.dir source.count known c.paths_lead_to_inodes.ensures.in_one refl
           ∙ sym (counted_as c.bitmap_blocks.result 0 0 (bitmap_blocks s.books.geom) 0 0 fs c.moving-figures.ensures bitmap refl refl),
     ))
-    (λ told. c.calls_compose.ensures.rests told c.args.blocks.now c.args.blocks.now refl refl ((looks_none g.S.Blocks.tells s).crash told))
+    (no_look g.S.Blocks.tells s) (λ told. c.calls_compose.ensures.rests told c.args.blocks.now c.args.blocks.now refl refl ((no_look g.S.Blocks.tells s).crash told))
 
 pub returns-in-Ok-draft_within-clause-plans : goal.returns-in-Ok-draft_within-clause-plans
 returns-in-Ok-draft_within-clause-plans g c = λ from to move.
@@ -52,8 +52,8 @@ returns-in-Ok-draft_within-clause-plans g c = λ from to move.
     let same = counted_as c.bitmap_blocks.result 0 0 (bitmap_blocks s.books.geom) 0 0 fs c.moving-figures.ensures bitmap refl refl in
     planned_move s now f from to source.dir source.dir source.entry.node.number 1 0 0 fs.cost [] known.name c.args.other.now c.in-Ok-draft_within.draft (λ first. first) h plain known.paths
     (c.in-Ok-draft_within.ensures.moves told known.name (may_rename s from to source c.args.other.now known))
-    (weighed_move s f (Rename from to) fs (move_refusal f (inodes s) from to map c.the_map_gives_the_refusal.ensures.refusal (move told).accepted) (counted ∙ sym same) c.in-Ok.ensures.room)
-    counted (omega arith) (omega arith) (ap (λ (k : Bookkeeping). k.geom) looks.books) (no_growth s f (Rename from to) (bitmap_blocks s.books.geom) 0 counted)
+    (is_weighed s f (Rename from to) fs (move_refusal f (inodes s) from to map c.the_map_gives_the_refusal.ensures.refusal (move told).accepted) (counted ∙ sym same) c.in-Ok.ensures.room)
+    counted (omega arith) refl (λ enough. looks.books) (ap (λ (k : Bookkeeping). k.geom) looks.books) (no_growth s f (Rename from to) (bitmap_blocks s.books.geom) 0 counted)
     c.a_move_is_mapped.ensures.rename c.the_map_gives_the_reply.ensures.reply (move told).accepted c.alterations_add_up.ensures.price)
     looks
     (λ told. c.calls_compose.ensures.rests told c.args.blocks.now c.draft_within.new.blocks (ap (λ (b : Bookkeeping). b.point) looks.books) (ap (λ (b : Bookkeeping). b.floor) looks.books) (looks.crash told))

@@ -4,8 +4,8 @@ use Rattle.opt_files.specs.Calls.{files_in}
 use Rattle.opt_files.specs.Content.{fails_reading}
 use Rattle.opt_files.specs.Drafts.{nothing_drafted}
 use Rattle.opt_files.specs.Sound.{IsDraftOf}
-use Rattle.opt_fs.proofs.looking.Entries.{above_as, comes_inside, no_file_above, files_stay, entry_stays}
-use Rattle.opt_fs.proofs.looking.Found.{looks_more, draft_stays}
+use Rattle.opt_fs.proofs.looking.Entries.{above_as, comes_inside, no_file_above, entry_stays}
+use Rattle.opt_fs.proofs.looking.Found.{looks_more, draft_stays, files_stay}
 use Rattle.opt_fs.proofs.paths.look_up.Goals as goal
 
 pub returns-in-Ok-None-clause-comes : goal.returns-in-Ok-None-clause-comes

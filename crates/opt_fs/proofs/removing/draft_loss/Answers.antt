@@ -1,8 +1,8 @@
-use Rattle.std.proofs.Common.{ℕ, [], false, length, Err, subst, ap, ◌∙◌}
+use Rattle.std.proofs.Common.{ℕ, ◌-◌, [], false, length, take, Err, subst, ap, ◌∙◌}
 use Rattle.opt_dirent.specs.Directory.{without_at}
-use Rattle.opt_tree.specs.Figures.{release}
+use Rattle.opt_tree.specs.Figures.{directory_blocks, release}
 use Rattle.opt_stands.specs.Files.{files_of}
-use Rattle.opt_files.specs.Calls.{files_in}
+use Rattle.opt_files.specs.Calls.{files_in, places_in, IsWithPlaces}
 use Rattle.opt_files.specs.Content.{fails_reading}
 use Rattle.opt_dirs.specs.Changing.{Alters, IsWithSlots}
 use Rattle.opt_dirs.specs.Directories.{inodes_in}
@@ -39,9 +39,12 @@ returns-in-Ok-lose_link-clause-loses g c = λ told name named.
     let at = ap (λ b. inodes_in s b n.dir) c.new-draft.ensures ∙ named.dir in
     let taken = subst (λ b. IsWithSlots (files_in s b) (files_in mid d) n.dir (without_at n.entry.place named.slots)) c.new-draft.ensures (c.in-Ok.ensures.slots told named.slots at) in
     let x = node_reads s mid d name n named taken reads in
+    let blocks = directory_blocks (length named.slots - 1) in
     name_lost s mid d name n named taken now e (c.in-Ok-lose_link.ensures.link told x.0 x.1) reads c.directories_are_read.ensures c.alterations_add_up.ensures.both
     (subst (λ b. Alters 3 [] (release (length named.slots)) b d) c.new-draft.ensures (c.in-Ok.ensures.alters told named.slots at))
-    (c.in-Ok-lose_link.ensures.alters told)
+    (c.in-Ok-lose_link.ensures.alters told) blocks
+    (subst (λ b. IsWithPlaces (places_in s b) (places_in mid d) n.dir (take blocks (places_in s b n.dir))) c.new-draft.ensures (c.in-Ok.ensures.places told named.slots at))
+    (c.in-Ok-lose_link.ensures.placed told)
 
 pub returns-in-Ok-lose_link-clause-looks : goal.returns-in-Ok-lose_link-clause-looks
 returns-in-Ok-lose_link-clause-looks g c =

@@ -1,9 +1,16 @@
-use Rattle.std.proofs.Common.{[], length, subst}
+use Rattle.std.proofs.Common.{[], length, refl, subst}
 use Rattle.opt_files.specs.Calls.{files_in, places_in}
 use Rattle.opt_files.specs.Drafts.{drafted}
 use Rattle.opt_dirs.specs.Changing.{Alters}
+use Rattle.opt_fs.proofs.Placing.{placed_by, placed_kept}
 use Rattle.opt_fs.proofs.removed.Links.{on_one, on_both, keeps_links, link_kept, none_gone, all_gone}
 use Rattle.opt_fs.proofs.removing.lose_link.Goals as goal
+
+pub returns-then-links-eq1-clause-placed : goal.returns-then-links-eq1-clause-placed
+returns-then-links-eq1-clause-placed g c = λ told.
+    let old = places_in (g.S.Blocks.state c.args.blocks.now) c.args.draft.now in
+    let new = places_in (g.S.Blocks.state c.drop_node.new.blocks) c.drop_node.new.self in
+    on_one c.drop_node.result (c.drop_node.ensures.places told) (λ set. placed_by old new c.args.node.now.number [] [] set refl)
 
 pub returns-then-links-eq1-clause-alters : goal.returns-then-links-eq1-clause-alters
 returns-then-links-eq1-clause-alters g c = λ told.
@@ -16,6 +23,12 @@ returns-then-links-eq1-clause-alters g c = λ told.
     subst (λ n. Alters 1 [] n d e)
     (all_gone (files_in s d) node found (length (places_in s d node.number)) c.if-links-eq1.true (c.a_file_has_its_blocks.ensures c.args.blocks.now d node.number found.file told c.requires.draft found.is))
     (c.alterations_add_up.ensures.node s.books.geom node.number (places_in s d node.number) d e sets some))
+
+pub returns-clause-placed : goal.returns-clause-placed
+returns-clause-placed g c = λ told.
+    let old = places_in (g.S.Blocks.state c.args.blocks.now) c.args.draft.now in
+    let new = places_in (g.S.Blocks.state c.set_links.new.blocks) c.set_links.new.self in
+    on_one c.set_links.result (c.set_links.ensures.places told) (λ set. placed_kept old new c.args.node.now.number [] set)
 
 pub returns-clause-link : goal.returns-clause-link
 returns-clause-link g c = λ told.

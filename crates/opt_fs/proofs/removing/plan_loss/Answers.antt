@@ -12,7 +12,7 @@ use Rattle.opt_fs.proofs.planning.Looking.{cut_short_plan}
 use Rattle.opt_fs.specs.Sessions.{inodes}
 use Rattle.opt_fs.proofs.removed.Accepted.{walk_why}
 use Rattle.opt_fs.proofs.removed.Refused.{refused_loss}
-use Rattle.opt_fs.proofs.removed.Behind.{may_plan_still, comes_still}
+use Rattle.opt_fs.proofs.planning.Behind.{may_plan_still, comes_still}
 use Rattle.opt_fs.proofs.removing.plan_loss.Goals as goal
 
 pub returns-in-Err-clause-plans : goal.returns-in-Err-clause-plans
@@ -32,7 +32,7 @@ pub plan_loss_at-requires-clause-comes : goal.plan_loss_at-requires-clause-comes
 plan_loss_at-requires-clause-comes g c = λ told.
     let s = g.S.Blocks.state c.args.blocks.now in
     let tree = c.requires.may.stands told in
-    comes_still g.S.Blocks.tells s (g.S.Blocks.state c.look_up.new.blocks) c.in-Ok.ensures.looks c.args.path.now (Ok c.in-Ok-spot.spot) told
+    comes_still g.S.Blocks.tells s (g.S.Blocks.state c.look_up.new.blocks) c.in-Ok.ensures.looks told c.args.path.now (Ok c.in-Ok-spot.spot)
     (subst (λ (r : Result Spot Refusal). ComesTo (files_in s nothing_drafted) c.args.path.now r) c.in-Ok-spot.is (c.in-Ok.ensures.comes told tree.0 tree.1))
 
 pub returns-in-Ok-spot-clause-plans : goal.returns-in-Ok-spot-clause-plans

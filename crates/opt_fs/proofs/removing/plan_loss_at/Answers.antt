@@ -7,9 +7,9 @@ use Rattle.opt_fs.specs.declared.paths.Spot.TheVariants.{Inside}
 use Rattle.opt_fs.specs.Looks.{ComesTo, walk_of}
 use Rattle.opt_fs.specs.Removing.{lose_cmd}
 use Rattle.opt_fs.proofs.removed.Decided.{may_lose, is_loss, plans_as}
-use Rattle.opt_fs.proofs.removed.Plain.{looks_none}
 use Rattle.opt_fs.proofs.removed.Refused.{refused_loss}
 use Rattle.opt_fs.proofs.removing.plan_loss_at.Goals as goal
+use Rattle.opt_fs.proofs.planning.Looking.{no_look}
 
 pub returns-in-Root-clause-plans : goal.returns-in-Root-clause-plans
 returns-in-Root-clause-plans g c =
@@ -55,5 +55,5 @@ returns-in-Err-clause-plans g c =
     let walked = c.what_a_path_comes_to_gives_the_walk.ensures.walk files path (Ok c.args.spot.now) (c.requires.comes told) ∙ ap (λ (p : Spot). walk_of (Ok p)) here.is in
     let shows = λ (e : Entry) (k : ComesTo files path (Ok (Inside here.dir here.count (Some e)))). c.what_stands_there_is_shown.ensures told t path here.dir here.count e h k in
     may_lose c.args.kind files path here.dir here.count here.entry comes walked shows (Err c.in-Err.why) c.in-Err.ensures.loses)
-    (c.blocks_have_the_map_of_their_tree.ensures.map s.books.geom s.map) c.the_map_gives_the_refusal.ensures.refusal (looks_none g.S.Blocks.tells s)
-    (λ told. c.calls_compose.ensures.rests told c.args.blocks.now c.args.blocks.now refl refl ((looks_none g.S.Blocks.tells s).crash told))
+    (c.blocks_have_the_map_of_their_tree.ensures.map s.books.geom s.map) c.the_map_gives_the_refusal.ensures.refusal (no_look g.S.Blocks.tells s)
+    (λ told. c.calls_compose.ensures.rests told c.args.blocks.now c.args.blocks.now refl refl ((no_look g.S.Blocks.tells s).crash told))

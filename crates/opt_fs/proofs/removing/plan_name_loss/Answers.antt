@@ -7,9 +7,8 @@ use Rattle.opt_blocks.specs.State.{Bookkeeping}
 use Rattle.opt_fs.specs.Plans.{Plans}
 use Rattle.opt_fs.specs.Removing.{lose_cmd}
 use Rattle.opt_fs.specs.Sessions.{inodes}
-use Rattle.opt_fs.proofs.planning.Looking.{cut_short_plan}
+use Rattle.opt_fs.proofs.planning.Looking.{cut_short_plan, no_look, full_plan, looked_change}
 use Rattle.opt_fs.proofs.removed.Accepted.{law_of}
-use Rattle.opt_fs.proofs.removed.Plain.{looks_none, no_room, looked_change}
 use Rattle.opt_fs.proofs.removed.Planned.{loss_accepted, loss_figures_are, makes_loss, loss_made}
 use Rattle.opt_fs.proofs.removing.plan_name_loss.Goals as goal
 
@@ -26,7 +25,7 @@ returns-in-Err-clause-plans g c = λ path loss.
     let kind = c.args.kind in
     let n = c.args.named.now in
     let fs = value_of c.loss_figures-figures.result in
-    no_room g.S.Blocks.tells (lose_cmd kind path) s fs c.in-Err.why c.requires.may.begin.going c.in-Err.ensures.refused
+    full_plan g.S.Blocks.tells (lose_cmd kind path) s s fs c.in-Err.why c.requires.may.begin.going c.in-Err.ensures.refused
     (λ told f h.
     let known = c.what_goes_is_known.ensures told f.tree kind path n h.tree (loss told) in
     let map = subst (λ l. IsMapOf l (inodes s) f.tree) (sym h.limit) (c.blocks_have_the_map_of_their_tree.ensures.map s.books.geom s.map f.tree h.tree) in
@@ -36,7 +35,7 @@ returns-in-Err-clause-plans g c = λ path loss.
       loss_accepted kind s path n f known map refusals counted,
       loss_figures_are kind s path n f known map refusals counted c.bitmap_blocks-bitmap.result fs bitmap (c.loss_figures-figures.ensures (inodes s) path known.above known.facts known.small),
     ))
-    (λ told. c.calls_compose.ensures.rests told c.args.blocks.now c.args.blocks.now refl refl ((looks_none g.S.Blocks.tells s).crash told))
+    (no_look g.S.Blocks.tells s) (λ told. c.calls_compose.ensures.rests told c.args.blocks.now c.args.blocks.now refl refl ((no_look g.S.Blocks.tells s).crash told))
 
 pub returns-in-Ok-draft_loss-clause-plans : goal.returns-in-Ok-draft_loss-clause-plans
 returns-in-Ok-draft_loss-clause-plans g c = λ path loss.
@@ -55,7 +54,7 @@ returns-in-Ok-draft_loss-clause-plans g c = λ path loss.
     let bitmap = c.bitmap_blocks-bitmap.ensures ∙ ap (λ (k : Geometry). bitmap_blocks k) c.geom.ensures in
     let are = loss_figures_are kind s path n f known map refusals counted c.bitmap_blocks-bitmap.result fs bitmap (c.loss_figures-figures.ensures (inodes s) path known.above known.facts known.small) in
     makes_loss kind s path n f known map refusals counted now c.in-Ok-draft_loss.draft fs are c.in-Ok.ensures.room (c.in-Ok-draft_loss.ensures.loses told known.name known.named)
-    (law_of kind c.a_lost_path_is_mapped.ensures.unlink c.a_lost_path_is_mapped.ensures.rmdir) c.small_drafts_are_within_the_cost.ensures.removing (ap (λ (k : Bookkeeping). k.geom) looks.books))
+    (law_of kind c.a_lost_path_is_mapped.ensures.unlink c.a_lost_path_is_mapped.ensures.rmdir) c.small_drafts_are_within_the_cost.ensures.removing looks.books)
     looks
     (λ told. c.calls_compose.ensures.rests told c.args.blocks.now c.draft_loss.new.blocks (ap (λ (b : Bookkeeping). b.point) looks.books) (ap (λ (b : Bookkeeping). b.floor) looks.books) (looks.crash told))
 

@@ -5,7 +5,7 @@ use Rattle.opt_fs.specs.declared.paths.Entry.{Entry}
 use Rattle.opt_fs.specs.declared.paths.Spot.TheVariants.{Inside}
 use Rattle.opt_fs.specs.Sessions.{inodes}
 use Rattle.opt_fs.proofs.applying.Passing.{nothing_issued}
-use Rattle.opt_fs.proofs.planning.Before.{no_look}
+use Rattle.opt_fs.proofs.planning.Looking.{no_look}
 use Rattle.opt_fs.proofs.renamed.Reasons.{moved_reason}
 use Rattle.opt_fs.proofs.renamed.Answered.{lead_to_one, refused_rename, same_rename}
 use Rattle.opt_fs.proofs.renamed.Moves.{is_move}
@@ -17,9 +17,9 @@ returns-then-is_node-clause-plans g c =
     let files = files_in s nothing_drafted in
     same_rename g.S.Blocks.tells s s c.args.from.now c.args.to.now c.requires.may.begin.going (g.met.S.Blocks.is_sound c.args.blocks.now)
     (λ told tree h.
-    let shown = c.what_is_found_is_shown.ensures.entry told tree c.args.from.now c.args.source.now.dir c.args.source.now.count (Some c.args.source.now.entry) h (c.requires.comes told) in
+    let shown = c.what_is_found_is_shown.ensures.entry told tree c.args.from.now c.args.ends.now.source.dir c.args.ends.now.source.count (Some c.args.ends.now.source.entry) h (c.requires.comes told) in
     let law = c.what_a_path_comes_to_gives_the_walk.ensures in
-    lead_to_one (inodes s) c.args.from.now c.args.to.now c.args.source.now.entry.node.number (option_map (λ (e : Entry). e.node.number) c.args.spot.now.found) (c.what_a_path_comes_to_gives_the_walk.ensures.walk files c.args.from.now (Ok (Inside c.args.source.now.dir c.args.source.now.count (Some c.args.source.now.entry))) (c.requires.comes told)) shown.0.0 (law.parent files c.args.to.now (Inside c.args.spot.now.dir c.args.spot.now.count c.args.spot.now.found) (c.requires.target told)) (law.number files c.args.to.now (Inside c.args.spot.now.dir c.args.spot.now.count c.args.spot.now.found) (c.requires.target told))
+    lead_to_one (inodes s) c.args.from.now c.args.to.now c.args.ends.now.source.entry.node.number (option_map (λ (e : Entry). e.node.number) c.args.ends.now.goal.found) (c.what_a_path_comes_to_gives_the_walk.ensures.walk files c.args.from.now (Ok (Inside c.args.ends.now.source.dir c.args.ends.now.source.count (Some c.args.ends.now.source.entry))) (c.requires.comes told)) shown.0.0 (law.parent files c.args.to.now (Inside c.args.ends.now.goal.dir c.args.ends.now.goal.count c.args.ends.now.goal.found) (c.requires.target told)) (law.number files c.args.to.now (Inside c.args.ends.now.goal.dir c.args.ends.now.goal.count c.args.ends.now.goal.found) (c.requires.target told))
     (sym c.is_node.ensures ∙ c.if-is_node.true))
     (c.blocks_have_the_map_of_their_tree.ensures.map s.books.geom s.map) c.the_map_gives_the_reply.ensures.reply c.what_changes_nothing_keeps_the_map.ensures.same_node c.the_map_gives_the_figures.ensures.figures (no_look g.S.Blocks.tells s) (λ told. c.calls_compose.ensures.rests told c.args.blocks.now c.args.blocks.now refl refl (nothing_issued s))
 
@@ -29,13 +29,13 @@ plan_move-requires-clause-known g c = λ told.
     let files = files_in s nothing_drafted in (
       c.args.from.now,
       c.args.to.now,
-      is_move files c.args.from.now c.args.to.now c.args.source.now c.args.spot.now.dir c.args.spot.now.count c.args.spot.now.found c.args.name.now (c.requires.comes told) (c.requires.target told) c.requires.last (sym c.is_node.ensures ∙ c.if-is_node.false) (
+      is_move files c.args.from.now c.args.to.now c.args.ends.now.source c.args.ends.now.goal.dir c.args.ends.now.goal.count c.args.ends.now.goal.found c.args.name.now (c.requires.comes told) (c.requires.target told) c.requires.last (sym c.is_node.ensures ∙ c.if-is_node.false) (
           let tree = (c.requires.may.stands told).0 in
           let h = (c.requires.may.stands told).1 in
-          let shown = c.what_is_found_is_shown.ensures.entry told tree c.args.from.now c.args.source.now.dir c.args.source.now.count (Some c.args.source.now.entry) h (c.requires.comes told) in
-          let target = c.what_is_found_is_shown.ensures.entry told tree c.args.to.now c.args.spot.now.dir c.args.spot.now.count c.args.spot.now.found h (c.requires.target told) in
+          let shown = c.what_is_found_is_shown.ensures.entry told tree c.args.from.now c.args.ends.now.source.dir c.args.ends.now.source.count (Some c.args.ends.now.source.entry) h (c.requires.comes told) in
+          let target = c.what_is_found_is_shown.ensures.entry told tree c.args.to.now c.args.ends.now.goal.dir c.args.ends.now.goal.count c.args.ends.now.goal.found h (c.requires.target told) in
           let law = c.what_a_path_comes_to_gives_the_walk.ensures in
-          moved_reason (inodes s) c.args.from.now c.args.to.now c.args.source.now.entry.node.number (option_map (λ (e : Entry). e.node.number) c.args.spot.now.found) None (c.what_a_path_comes_to_gives_the_walk.ensures.walk files c.args.from.now (Ok (Inside c.args.source.now.dir c.args.source.now.count (Some c.args.source.now.entry))) (c.requires.comes told)) shown.0.0 (law.parent files c.args.to.now (Inside c.args.spot.now.dir c.args.spot.now.count c.args.spot.now.found) (c.requires.target told)) (law.number files c.args.to.now (Inside c.args.spot.now.dir c.args.spot.now.count c.args.spot.now.found) (c.requires.target told))
+          moved_reason (inodes s) c.args.from.now c.args.to.now c.args.ends.now.source.entry.node.number (option_map (λ (e : Entry). e.node.number) c.args.ends.now.goal.found) None (c.what_a_path_comes_to_gives_the_walk.ensures.walk files c.args.from.now (Ok (Inside c.args.ends.now.source.dir c.args.ends.now.source.count (Some c.args.ends.now.source.entry))) (c.requires.comes told)) shown.0.0 (law.parent files c.args.to.now (Inside c.args.ends.now.goal.dir c.args.ends.now.goal.count c.args.ends.now.goal.found) (c.requires.target told)) (law.number files c.args.to.now (Inside c.args.ends.now.goal.dir c.args.ends.now.goal.count c.args.ends.now.goal.found) (c.requires.target told))
           (sym c.is_node.ensures ∙ c.if-is_node.false) (c.move_refusal.ensures (inodes s) c.args.from.now c.args.to.now shown.0.1 target.0 (sym c.is_below.ensures) ∙ c.in-None.is)),
     )
 
@@ -45,10 +45,10 @@ returns-in-Some-clause-plans g c =
     let files = files_in s nothing_drafted in
     refused_rename g.S.Blocks.tells s s c.args.from.now c.args.to.now c.in-Some.why c.requires.may.begin.going (g.met.S.Blocks.is_sound c.args.blocks.now)
     (λ told tree h.
-    let shown = c.what_is_found_is_shown.ensures.entry told tree c.args.from.now c.args.source.now.dir c.args.source.now.count (Some c.args.source.now.entry) h (c.requires.comes told) in
-    let target = c.what_is_found_is_shown.ensures.entry told tree c.args.to.now c.args.spot.now.dir c.args.spot.now.count c.args.spot.now.found h (c.requires.target told) in
+    let shown = c.what_is_found_is_shown.ensures.entry told tree c.args.from.now c.args.ends.now.source.dir c.args.ends.now.source.count (Some c.args.ends.now.source.entry) h (c.requires.comes told) in
+    let target = c.what_is_found_is_shown.ensures.entry told tree c.args.to.now c.args.ends.now.goal.dir c.args.ends.now.goal.count c.args.ends.now.goal.found h (c.requires.target told) in
     let law = c.what_a_path_comes_to_gives_the_walk.ensures in
-    moved_reason (inodes s) c.args.from.now c.args.to.now c.args.source.now.entry.node.number (option_map (λ (e : Entry). e.node.number) c.args.spot.now.found) (Some c.in-Some.why) (c.what_a_path_comes_to_gives_the_walk.ensures.walk files c.args.from.now (Ok (Inside c.args.source.now.dir c.args.source.now.count (Some c.args.source.now.entry))) (c.requires.comes told)) shown.0.0 (law.parent files c.args.to.now (Inside c.args.spot.now.dir c.args.spot.now.count c.args.spot.now.found) (c.requires.target told)) (law.number files c.args.to.now (Inside c.args.spot.now.dir c.args.spot.now.count c.args.spot.now.found) (c.requires.target told))
+    moved_reason (inodes s) c.args.from.now c.args.to.now c.args.ends.now.source.entry.node.number (option_map (λ (e : Entry). e.node.number) c.args.ends.now.goal.found) (Some c.in-Some.why) (c.what_a_path_comes_to_gives_the_walk.ensures.walk files c.args.from.now (Ok (Inside c.args.ends.now.source.dir c.args.ends.now.source.count (Some c.args.ends.now.source.entry))) (c.requires.comes told)) shown.0.0 (law.parent files c.args.to.now (Inside c.args.ends.now.goal.dir c.args.ends.now.goal.count c.args.ends.now.goal.found) (c.requires.target told)) (law.number files c.args.to.now (Inside c.args.ends.now.goal.dir c.args.ends.now.goal.count c.args.ends.now.goal.found) (c.requires.target told))
     (sym c.is_node.ensures ∙ c.if-is_node.false) (c.move_refusal.ensures (inodes s) c.args.from.now c.args.to.now shown.0.1 target.0 (sym c.is_below.ensures) ∙ c.in-Some.is))
     (c.blocks_have_the_map_of_their_tree.ensures.map s.books.geom s.map) c.the_map_gives_the_refusal.ensures.refusal (no_look g.S.Blocks.tells s) (λ told. c.calls_compose.ensures.rests told c.args.blocks.now c.args.blocks.now refl refl (nothing_issued s))
 
@@ -56,11 +56,11 @@ pub returns-in-None-clause-plans : goal.returns-in-None-clause-plans
 returns-in-None-clause-plans g c =
     let s = g.S.Blocks.state c.args.blocks.now in
     let files = files_in s nothing_drafted in
-    c.plan_move.ensures.plans c.args.from.now c.args.to.now (λ told. is_move files c.args.from.now c.args.to.now c.args.source.now c.args.spot.now.dir c.args.spot.now.count c.args.spot.now.found c.args.name.now (c.requires.comes told) (c.requires.target told) c.requires.last (sym c.is_node.ensures ∙ c.if-is_node.false) (
+    c.plan_move.ensures.plans c.args.from.now c.args.to.now (λ told. is_move files c.args.from.now c.args.to.now c.args.ends.now.source c.args.ends.now.goal.dir c.args.ends.now.goal.count c.args.ends.now.goal.found c.args.name.now (c.requires.comes told) (c.requires.target told) c.requires.last (sym c.is_node.ensures ∙ c.if-is_node.false) (
     let tree = (c.requires.may.stands told).0 in
     let h = (c.requires.may.stands told).1 in
-    let shown = c.what_is_found_is_shown.ensures.entry told tree c.args.from.now c.args.source.now.dir c.args.source.now.count (Some c.args.source.now.entry) h (c.requires.comes told) in
-    let target = c.what_is_found_is_shown.ensures.entry told tree c.args.to.now c.args.spot.now.dir c.args.spot.now.count c.args.spot.now.found h (c.requires.target told) in
+    let shown = c.what_is_found_is_shown.ensures.entry told tree c.args.from.now c.args.ends.now.source.dir c.args.ends.now.source.count (Some c.args.ends.now.source.entry) h (c.requires.comes told) in
+    let target = c.what_is_found_is_shown.ensures.entry told tree c.args.to.now c.args.ends.now.goal.dir c.args.ends.now.goal.count c.args.ends.now.goal.found h (c.requires.target told) in
     let law = c.what_a_path_comes_to_gives_the_walk.ensures in
-    moved_reason (inodes s) c.args.from.now c.args.to.now c.args.source.now.entry.node.number (option_map (λ (e : Entry). e.node.number) c.args.spot.now.found) None (c.what_a_path_comes_to_gives_the_walk.ensures.walk files c.args.from.now (Ok (Inside c.args.source.now.dir c.args.source.now.count (Some c.args.source.now.entry))) (c.requires.comes told)) shown.0.0 (law.parent files c.args.to.now (Inside c.args.spot.now.dir c.args.spot.now.count c.args.spot.now.found) (c.requires.target told)) (law.number files c.args.to.now (Inside c.args.spot.now.dir c.args.spot.now.count c.args.spot.now.found) (c.requires.target told))
+    moved_reason (inodes s) c.args.from.now c.args.to.now c.args.ends.now.source.entry.node.number (option_map (λ (e : Entry). e.node.number) c.args.ends.now.goal.found) None (c.what_a_path_comes_to_gives_the_walk.ensures.walk files c.args.from.now (Ok (Inside c.args.ends.now.source.dir c.args.ends.now.source.count (Some c.args.ends.now.source.entry))) (c.requires.comes told)) shown.0.0 (law.parent files c.args.to.now (Inside c.args.ends.now.goal.dir c.args.ends.now.goal.count c.args.ends.now.goal.found) (c.requires.target told)) (law.number files c.args.to.now (Inside c.args.ends.now.goal.dir c.args.ends.now.goal.count c.args.ends.now.goal.found) (c.requires.target told))
     (sym c.is_node.ensures ∙ c.if-is_node.false) (c.move_refusal.ensures (inodes s) c.args.from.now c.args.to.now shown.0.1 target.0 (sym c.is_below.ensures) ∙ c.in-None.is)))

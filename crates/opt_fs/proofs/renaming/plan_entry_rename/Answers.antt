@@ -10,9 +10,9 @@ use Rattle.opt_fs.specs.Looks.{ComesTo}
 use Rattle.opt_fs.specs.Plans.{Plans}
 use Rattle.opt_fs.specs.Sessions.{inodes}
 use Rattle.opt_fs.proofs.applying.Passing.{nothing_issued}
-use Rattle.opt_fs.proofs.planning.Before.{no_look, plans_behind}
-use Rattle.opt_fs.proofs.planning.Looking.{cut_short_plan}
-use Rattle.opt_fs.proofs.removed.Behind.{may_plan_still, comes_still}
+use Rattle.opt_fs.proofs.planning.Before.{plans_behind}
+use Rattle.opt_fs.proofs.planning.Looking.{no_look, cut_short_plan}
+use Rattle.opt_fs.proofs.planning.Behind.{may_plan_still, comes_still}
 use Rattle.opt_fs.proofs.renamed.Reasons.{onto_root_refuses, parent_refuses}
 use Rattle.opt_fs.proofs.renamed.Answered.{refused_rename}
 use Rattle.opt_fs.proofs.renamed.Moves.{no_last}
@@ -49,7 +49,7 @@ plan_entry_move-requires-clause-target g c = λ told.
     let files = files_in s nothing_drafted in
     let here = c.in-Inside in
     let tree = c.requires.may.stands told in
-    comes_still g.S.Blocks.tells s (g.S.Blocks.state c.look_up.new.blocks) c.in-Ok.ensures.looks c.args.to.now (Ok (Inside here.dir here.count here.entry)) told
+    comes_still g.S.Blocks.tells s (g.S.Blocks.state c.look_up.new.blocks) c.in-Ok.ensures.looks told c.args.to.now (Ok (Inside here.dir here.count here.entry))
     (subst (λ (r : Result Spot Refusal). ComesTo files c.args.to.now r) (c.in-Ok-spot.is ∙ ap Ok here.is) (c.in-Ok.ensures.comes told tree.0 tree.1))
 
 pub returns-in-Root-clause-plans : goal.returns-in-Root-clause-plans

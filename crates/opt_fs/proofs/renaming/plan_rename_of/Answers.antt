@@ -8,7 +8,7 @@ use Rattle.opt_fs.specs.declared.paths.Spot.TheVariants.{Inside}
 use Rattle.opt_fs.specs.Looks.{ComesTo, walk_of}
 use Rattle.opt_fs.specs.Sessions.{inodes}
 use Rattle.opt_fs.proofs.applying.Passing.{nothing_issued}
-use Rattle.opt_fs.proofs.planning.Before.{no_look}
+use Rattle.opt_fs.proofs.planning.Looking.{no_look}
 use Rattle.opt_fs.proofs.removed.Decided.{plans_as}
 use Rattle.opt_fs.proofs.renamed.Reasons.{walk_refuses}
 use Rattle.opt_fs.proofs.renamed.Answered.{refused_rename}

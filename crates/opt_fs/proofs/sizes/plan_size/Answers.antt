@@ -1,4 +1,4 @@
-use Rattle.std.proofs.Common.{◌≡◌, ◌≤◌, false, length, Some, Err, sym, subst, ap, ◌∙◌, arith}
+use Rattle.std.proofs.Common.{◌≡◌, ◌≤◌, ◌++◌, false, take, length, Some, Err, sym, subst, ap, ◌∙◌, arith}
 use Rattle.opt_geom.specs.Geometry.{Geometry}
 use Rattle.opt_tree.specs.declared.command.Cmd.TheVariants.{Truncate}
 use Rattle.opt_tree.specs.declared.command.Refusal.{Refusal}
@@ -7,7 +7,8 @@ use Rattle.opt_blocks.specs.Running.{Running}
 use Rattle.opt_blocks.specs.State.{reusable_blocks}
 use Rattle.opt_stands.specs.Files.{FileNode}
 use Rattle.opt_inodes.specs.Lookups.{bytes_of}
-use Rattle.opt_files.specs.Calls.{IsWithFile, IsUsed, Resizes, GrowthRefused, files_in, places_in, growth, with_bytes}
+use Rattle.opt_files.specs.Bytes.{blocks_for}
+use Rattle.opt_files.specs.Calls.{IsWithFile, IsWithPlaces, IsUsed, Resizes, GrowthRefused, files_in, places_in, growth, with_bytes}
 use Rattle.opt_files.specs.Drafts.{nothing_drafted}
 use Rattle.opt_files.specs.Effects.{LooksOnly}
 use Rattle.opt_dirs.specs.Directories.{inodes_in}
@@ -16,7 +17,8 @@ use Rattle.opt_fs.specs.Plans.{Plans}
 use Rattle.opt_fs.proofs.growing.Refused.{growth_refused}
 use Rattle.opt_fs.proofs.planning.Looking.{growth_plan}
 use Rattle.opt_fs.proofs.sizing.Resized.{need_is, resized_tree, within_cost}
-use Rattle.opt_fs.proofs.writing.Written.{all_read, file_bytes, moved_to, used_stays}
+use Rattle.opt_fs.proofs.writing.Written.{file_bytes, moved_to, used_stays}
+use Rattle.opt_fs.proofs.looking.InUse.{all_read}
 use Rattle.opt_fs.proofs.sizes.plan_size.Goals as goal
 
 pub resize-requires-clause-used : goal.resize-requires-clause-used
@@ -56,12 +58,15 @@ returns-in-Ok-clause-plans g c = λ path may. record {
       let resizes = moved_to (λ d n. (x : FileNode) → files_in s d c.args.number ≡ Some x
       → Resizes t.books c.args.number x (places_in s d c.args.number) (places_in t c.resize.new.self c.args.number) n d c.resize.new.self)
       c.new-draft.result nothing_drafted c.from.result c.args.size c.new-draft.ensures c.from.ensures (c.in-Ok.ensures.resizes told) x.0 x.1 in
+      let placed = moved_to (λ d n. (x : FileNode) → files_in s d c.args.number ≡ Some x
+      → IsWithPlaces (places_in s d) (places_in t c.resize.new.self) c.args.number (take (blocks_for n) (places_in s d c.args.number) ++ take (growth (length x.bytes) n) (reusable_blocks t.books)))
+      c.new-draft.result nothing_drafted c.from.result c.args.size c.new-draft.ensures c.from.ensures (c.in-Ok.ensures.places told) x.0 x.1 in
       let rests = moved_to (λ d n. (x : FileNode) → files_in s d c.args.number ≡ Some x → growth (length x.bytes) n ≤ length (reusable_blocks s.books) → LooksOnly g.S.Blocks.tells false s t)
       c.new-draft.result nothing_drafted c.from.result c.args.size c.new-draft.ensures c.from.ensures (c.in-Ok.ensures.looks told) x.0 x.1 in
       let within = within_cost s t f path c.args.number c.args.size c.args.cost x.0 weighed holds other d g.S.Blocks.tells false false c.in-Ok.ensures.settles resizes (λ enough. (rests enough).books) x.2 count
       c.touched_blocks_are_counted_by_division.ensures c.small_drafts_are_within_the_cost.ensures.writing c.small_drafts_are_within_the_cost.ensures.shrinking in
       resized_tree s t f path c.args.number c.args.size c.args.cost x.0 weighed holds other d g.S.Blocks.tells false false c.in-Ok.ensures.settles resizes (λ enough. (rests enough).books) x.2 count
-      h map leads x.1 (all_read (files_in s nothing_drafted) h.tree.inodes h.tree.read) with c.new_bytes_are_mapped.ensures.truncate within;
+      h map leads x.1 (all_read (files_in s nothing_drafted) h.tree.inodes h.tree.read) with c.new_bytes_are_mapped.ensures.truncate within placed.others;
   going = c.requires.may.begin.going;
   settles = c.in-Ok.ensures.settles;
 }
@@ -71,7 +76,7 @@ returns-in-Err-clause-plans g c = λ path may.
     let s = g.S.Blocks.state c.args.blocks.now in
     let t = g.S.Blocks.state c.resize.new.blocks in
     let why = c.in-Err.why in
-    subst (λ (w : Refusal). Plans g.S.Blocks.tells (Truncate path c.args.size) (Err w) s t) (sym c.refusal_of.ensures) (growth_plan Unit g.S.Blocks.tells (Truncate path c.args.size) s t why c.requires.may.begin.going (λ told f h.
+    subst (λ (w : Refusal). Plans g.S.Blocks.tells (Truncate path c.args.size) (Err w) s t) (sym c.refusal_of.ensures) (growth_plan g.S.Blocks.tells (Truncate path c.args.size) s t why c.requires.may.begin.going (λ told f h.
     let x = c.requires.file told in
     let map = c.blocks_have_the_map_of_their_tree.ensures.map s.books.geom s.map f.tree h.tree in
     let leads = c.walks_are_the_same.ensures.ends (inodes_in s nothing_drafted) path c.args.number (may.walk told) in

@@ -8,20 +8,20 @@ use Rattle.opt_files.specs.Drafts.{nothing_drafted}
 use Rattle.opt_fs.specs.Looks.{LeadsToFile}
 use Rattle.opt_fs.specs.Plans.{Plans}
 use Rattle.opt_fs.specs.Sessions.{inodes}
-use Rattle.opt_fs.proofs.planning.Before.{may_plan_behind, plans_behind}
+use Rattle.opt_fs.proofs.planning.Before.{plans_behind}
 use Rattle.opt_fs.proofs.planning.Looking.{cut_short_plan, refusal_plan}
-use Rattle.opt_fs.proofs.sizing.Behind.{file_behind, walk_behind}
+use Rattle.opt_fs.proofs.planning.Behind.{may_plan_still, file_still, walk_still}
 use Rattle.opt_fs.proofs.sizing.Reasons.{refused_by}
 use Rattle.opt_fs.proofs.sizes.plan_truncate.Goals as goal
 
 pub truncate_found-requires-clause-may : goal.truncate_found-requires-clause-may
-truncate_found-requires-clause-may g c = may_plan_behind g.S.Blocks.tells (g.S.Blocks.state c.args.blocks.now) (g.S.Blocks.state c.find_file.new.blocks) c.args.first_unused c.in-Ok-Ok.ensures.looks c.requires.may
+truncate_found-requires-clause-may g c = may_plan_still g.S.Blocks.tells (g.S.Blocks.state c.args.blocks.now) (g.S.Blocks.state c.find_file.new.blocks) c.in-Ok-Ok.ensures.looks c.args.first_unused c.requires.may
 
 pub truncate_found-requires-clause-file : goal.truncate_found-requires-clause-file
 truncate_found-requires-clause-file g c = λ told.
     let s = g.S.Blocks.state c.args.blocks.now in
     let tree = c.requires.may.stands told in
-    file_behind g.S.Blocks.tells s (g.S.Blocks.state c.find_file.new.blocks) c.args.path.now c.in-Ok-Ok.found c.in-Ok-Ok.ensures.looks told
+    file_still g.S.Blocks.tells s (g.S.Blocks.state c.find_file.new.blocks) c.in-Ok-Ok.ensures.looks told c.args.path.now c.in-Ok-Ok.found
     (subst (λ r. LeadsToFile (files_in s nothing_drafted) c.args.path.now r) c.in-Ok-Ok.field-0-is (c.in-Ok-Ok.ensures.file told tree.0 tree.1))
 
 pub returns-in-Ok-Ok-clause-plans : goal.returns-in-Ok-Ok-clause-plans
@@ -31,7 +31,7 @@ returns-in-Ok-Ok-clause-plans g c =
     let looks = c.in-Ok-Ok.ensures.looks in
     let plans = c.truncate_found.ensures.plans c.args.path.now (λ told.
     let tree = c.requires.may.stands told in
-    walk_behind g.S.Blocks.tells s t c.args.path.now c.in-Ok-Ok.found looks told
+    walk_still g.S.Blocks.tells s t looks told c.args.path.now c.in-Ok-Ok.found
     (subst (λ r. LeadsToFile (files_in s nothing_drafted) c.args.path.now r) c.in-Ok-Ok.field-0-is (c.in-Ok-Ok.ensures.file told tree.0 tree.1))) in
     plans_behind g.S.Blocks.tells (Truncate c.args.path.now c.args.size) c.truncate_found.result s t (g.S.Blocks.state c.truncate_found.new.blocks) c.requires.may.begin.going looks
     (λ told. c.calls_compose.ensures.advances c.args.blocks.now c.find_file.new.blocks c.truncate_found.new.blocks

@@ -1,18 +1,17 @@
-use Rattle.std.proofs.Common.{true, false, length, refl, sym, subst, ap, ◌∙◌, arith}
+use Rattle.std.proofs.Common.{true, false, length, refl, sym, ap, ◌∙◌, arith}
+use Rattle.std.proofs.lemmas.Option.{same_Some}
 use Rattle.opt_geom.specs.Geometry.{bitmap_blocks}
 use Rattle.opt_tree.specs.declared.command.Cmd.TheVariants.{Truncate}
 use Rattle.opt_tree.specs.declared.command.Refusal.TheVariants.{TooLarge}
-use Rattle.opt_tree.specs.Figures.{Figures, figures}
+use Rattle.opt_tree.specs.Figures.{figures}
 use Rattle.opt_figures.specs.Values.{value_of}
 use Rattle.opt_stands.specs.Files.{FileNode}
 use Rattle.opt_files.specs.declared.look.FileFacts.{FileFacts}
 use Rattle.opt_fs.specs.Sessions.{inodes}
-use Rattle.opt_fs.specs.Space.{HasRoom}
 use Rattle.opt_fs.proofs.applying.Passing.{nothing_issued}
-use Rattle.opt_fs.proofs.planning.Before.{no_look}
-use Rattle.opt_fs.proofs.planning.Looking.{refusal_plan, done_plan, full_plan}
+use Rattle.opt_fs.proofs.planning.Looking.{no_look, refusal_plan, done_plan, full_plan}
 use Rattle.opt_fs.proofs.sizing.Reasons.{refusal_is, nothing_resized}
-use Rattle.opt_fs.proofs.writing.Written.{some_same}
+use Rattle.opt_fs.proofs.Weighing.{is_weighed}
 use Rattle.opt_fs.proofs.sizes.truncate_found.Goals as goal
 
 pub plan_size-requires-clause-file : goal.plan_size-requires-clause-file
@@ -54,11 +53,11 @@ returns-in-Ok-clause-plans g c = λ path walk.
       walk = walk;
       other = λ told x is same.
           let file = c.requires.file told in
-          c.if-from-found.false (c.from.ensures ∙ same ∙ ap (λ (y : FileNode). length y.bytes) (some_same x file.0 (sym is ∙ file.1)) ∙ sym (ap (λ (q : FileFacts). q.size) file.2));
+          c.if-from-found.false (c.from.ensures ∙ same ∙ ap (λ (y : FileNode). length y.bytes) (same_Some x file.0 (sym is ∙ file.1)) ∙ sym (ap (λ (q : FileFacts). q.size) file.2));
       weighed = λ told f h.
           let k = c.a_file_is_at_its_path.ensures told f path c.args.found.now h (c.requires.file told) (walk told) in
           let accepted = refusal_is (inodes s) f path c.args.size c.the_map_gives_the_refusal.ensures.refusal c.args.found.now k false (sym c.is_past_the_most.ensures ∙ c.if-is_past_the_most.false) in
           let takes = ap (λ n. figures n f (Truncate path c.args.size)) (sym (c.bitmap_blocks.ensures ∙ ap bitmap_blocks c.geom.ensures))
           ∙ c.resize_figures-figures.ensures (inodes s) path (c.size_of.ensures ∙ omega (arith, k.size, k.most)) f k.map accepted in
-          record { accepted = accepted; costs = ap (λ (n : Figures). n.cost) takes; room = subst (λ (n : Figures). HasRoom s.books n) (sym takes) c.in-Ok.ensures.room };
+          is_weighed s f (Truncate path c.args.size) (value_of c.resize_figures-figures.result) accepted takes c.in-Ok.ensures.room;
     })

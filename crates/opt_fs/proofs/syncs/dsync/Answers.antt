@@ -23,7 +23,7 @@ returns-in-Err-clause-syncs g c =
     let s = g.S.Blocks.state c.args.blocks.now in
     let t = g.S.Blocks.state c.dsync.new.self in
     subst (λ (why : Refusal). SyncsSession g.S.Blocks.tells false Dsync (Err why) s t) (sym c.refusal_of_sync.ensures)
-    (refused_session g.S.Blocks.tells false Dsync s t c.in-Err.why c.requires.may.going c.in-Err.ensures.syncs (λ orders. absurd (false≢true orders)))
+    (refused_session g.S.Blocks.tells false Dsync s t c.in-Err.why c.requires.may.going c.in-Err.ensures.syncs c.in-Err.ensures.idle (λ orders. absurd (false≢true orders)))
 
 pub returns-in-Err-clause-between : goal.returns-in-Err-clause-between
 returns-in-Err-clause-between g c =

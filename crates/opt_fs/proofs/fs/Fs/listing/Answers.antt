@@ -1,8 +1,7 @@
 use Rattle.std.proofs.Common.{sym, subst, ap}
 use Rattle.opt_blocks.specs.State.{Bookkeeping}
 use Rattle.opt_files.specs.Finish.{MayGoOn}
-use Rattle.opt_fs.proofs.carrying.Staying.{between_stays}
-use Rattle.opt_fs.proofs.applying.Ticked.{stands_still}
+use Rattle.opt_fs.proofs.carrying.Staying.{between_stays, stands_still}
 use Rattle.opt_fs.proofs.fs.Fs.listing.Goals as goal
 
 pub returns-clause-between : goal.returns-clause-between
