@@ -1,0 +1,2 @@
+pub mod ImageChanges
+pub mod ImageSyncs

@@ -1,16 +1,12 @@
--- What is known of the file system at hand between rows.
-use Rattle.std.specs.Prelude.{Option, IfSome, true}
+-- What is known of what is at hand between rows.
+use Rattle.std.specs.Prelude.{⊤, true}
 use Rattle.opt_blocks.specs.PlainOf.{state_of}
-use Rattle.opt_blocks.specs.declared.plain.PlainBlocks.{PlainBlocks}
-use Rattle.opt_fs.specs.declared.fs.Fs.{Fs}
-use Rattle.opt_fs.specs.Opened.{blocks_in, used_to}
-use Rattle.opt_fs.specs.Sessions.{IsBetween, Stands}
+use Rattle.opt_fs.specs.Opened.{MayFollow}
+use Rattle.opt_fs_rows.specs.declared.at_hand.AtHand.{AtHand}
+use Rattle.opt_fs_rows.specs.declared.at_hand.AtHand.TheVariants.{Nothing, Disk, Image}
 
--- a command may follow, and a tree stands
-pub record IsKept (fs : Fs PlainBlocks) : Type 0 where
-  pub between : IsBetween true (state_of (blocks_in fs)) (used_to fs)
-  pub stands : Stands (state_of (blocks_in fs))
-
--- the same where there is one
-abbrev pub AreKept : Option (Fs PlainBlocks) → Type 0
-AreKept system = IfSome system IsKept
+-- a command may follow, where a file system is at hand
+abbrev pub AreKept : AtHand → Type 0
+AreKept Nothing = ⊤
+AreKept (Disk fs) = MayFollow true state_of fs
+AreKept (Image image) = ⊤

@@ -4,10 +4,16 @@
 //! their forms.
 #![tactic(auto)]
 
+mod acts;
+mod at_hand;
+mod image;
+mod image_blocks;
+mod listing;
 mod questions;
 mod report;
 
 use anyhow::Result;
+use at_hand::AtHand;
 use questions::take;
 use report::{Counts, write_row};
 use std::alloc::Global;
@@ -33,11 +39,11 @@ fn main(rt: HostRuntime) -> Result<ExitCode> {
 /// Takes the rows in turn. Empty lines and comments are none.
 fn run<W: Write>(alloc: Global, input: &str, out: &mut W) -> Result<Counts> {
     let mut counts = Counts::new();
-    let mut system = None;
+    let mut at_hand = AtHand::Nothing;
     for text in input.lines() {
         if !text.is_empty() && !text.starts_with('#') {
-            let (next, outcome) = take(alloc, system, text)?;
-            system = next;
+            let (next, outcome) = take(alloc, at_hand, text)?;
+            at_hand = next;
             counts.add(&outcome);
             write_row(out, text, &outcome)?;
         }

@@ -1,16 +1,19 @@
-//! From a row to what became of it: a line of a script is run on the file system at hand, and the reply
-//! compared. What commands do is not said here, and nothing is printed.
+//! From a row to what became of it: an act is done, or a question is asked and its answer compared. What commands do
+//! is not said here, and nothing is printed.
 
-ghost use Rattle.std.specs.Prelude.{◌≡◌, ◌↔◌, IfOk, IfSome};
-ghost use Rattle.opt_fs_rows.specs.Kept.{IsKept, AreKept};
+ghost use Rattle.std.specs.Prelude.{true, ◌≡◌, ◌↔◌, IfOk};
+ghost use Rattle.opt_blocks.specs.PlainOf.{state_of};
+ghost use Rattle.opt_fs.specs.Opened.{MayFollow};
+ghost use Rattle.opt_fs_rows.specs.Kept.{AreKept};
 ghost use Rattle.opt_fs_rows.specs.declared.questions.Outcome.TheVariants.{Right};
 
+use crate::acts::act;
+use crate::at_hand::{AtHand, System};
+use crate::image::Image;
+use crate::listing::{ROOM, image_listing, listing_text, opening};
 use opt_base::NoMemory;
-use opt_blocks::PlainBlocks;
-use opt_fs::Fs;
-use opt_geom::Geom;
 use opt_script::{parse_line, reply_text};
-use std::alloc::{AllocError, Global};
+use std::alloc::Global;
 
 /// What became of a row.
 #[derive(Drop)]
@@ -23,76 +26,98 @@ pub enum Outcome {
     Unreadable,
 }
 
-/// A file system over blocks in memory.
-type System = Fs<PlainBlocks>;
-
-/// Takes a row: begins with another disk, or asks the file system at hand and compares. The file system at
-/// hand then.
+/// Takes a row: does an act, or asks what is at hand and compares. What is at hand then.
 ///
 /// # Errors
 /// Out of memory.
 pub(crate) fn take(
     alloc: Global,
-    system: Option<System>,
+    at_hand: AtHand,
     text: &str,
-) -> Result<(Option<System>, Outcome), NoMemory>
-    requires kept { AreKept system }
+) -> Result<(AtHand, Outcome), NoMemory>
+    requires kept { AreKept at_hand }
     ensures kept { IfOk result (λ r. AreKept r.0) }
 {
     match text.split_once(" = ") {
-        Some((said, wanted)) => question(alloc, system, said, wanted),
-        None => begin(alloc, system, text),
+        Some((said, wanted)) => question(alloc, at_hand, said, wanted),
+        None => act(alloc, at_hand, text),
     }
 }
 
-// Asks the file system at hand.
+// Asks what is at hand.
 fn question(
     alloc: Global,
-    system: Option<System>,
+    at_hand: AtHand,
     said: &str,
     wanted: &str,
-) -> Result<(Option<System>, Outcome), NoMemory>
-    requires kept { AreKept system }
+) -> Result<(AtHand, Outcome), NoMemory>
+    requires kept { AreKept at_hand }
     ensures kept { IfOk result (λ r. AreKept r.0) }
 {
-    let Some(mut system) = system else {
-        return Ok((None, Outcome::Unreadable));
-    };
-    let answer = if said == "figures" {
-        figures(alloc, &system)?
-    } else {
-        answer_line(alloc, &mut system, said.as_bytes())?
-    };
-    Ok((Some(system), compared(answer, wanted.as_bytes())))
+    match at_hand {
+        AtHand::Nothing => Ok((AtHand::Nothing, Outcome::Unreadable)),
+        AtHand::Disk(mut system) => {
+            let answer = ask_system(alloc, &mut system, said)?;
+            Ok((AtHand::Disk(system), compared(answer, wanted.as_bytes())))
+        }
+        AtHand::Image(image) => {
+            let (image, answer) = ask_image(alloc, image, said)?;
+            Ok((AtHand::Image(image), judged(answer, wanted)))
+        }
+    }
 }
 
-// Begins with a disk that was just formatted.
-fn begin(
-    alloc: Global,
-    system: Option<System>,
-    text: &str,
-) -> Result<(Option<System>, Outcome), NoMemory>
-    requires kept { AreKept system }
-    ensures kept { IfOk result (λ r. AreKept r.0) }
+// What the file system answers.
+fn ask_system(alloc: Global, system: &mut System, said: &str) -> Result<Vec<u8>, NoMemory>
+    requires kept { MayFollow true state_of system.old }
+    ensures kept { MayFollow true state_of system.new }
 {
-    let words = words_of(alloc, text)?;
-    let ["disk", n, j, i] = words.as_slice() else {
-        return Ok((system, Outcome::Unreadable));
-    };
-    let Some(geom) = geometry(n, j, i) else {
-        return Ok((system, Outcome::Unreadable));
-    };
-    let blocks = PlainBlocks::formatted(alloc, geom)?;
-    match Fs::open(alloc, blocks) {
-        Ok(system) => Ok((Some(system), Outcome::Right)),
-        Err((_, _)) => Ok((None, Outcome::Unreadable)),
+    if said == "figures" {
+        return figures(alloc, system);
     }
+    if let Some(room) = room_of(said) {
+        return system_listing(alloc, system, room);
+    }
+    answer_line(alloc, system, said.as_bytes())
+}
+
+// The room of the sink, where a listing is asked for.
+fn room_of(said: &str) -> Option<u64> {
+    if said == "listing" {
+        return Some(ROOM);
+    }
+    said.strip_prefix("listing ")?.parse().ok()
+}
+
+// The listing of the file system.
+fn system_listing(alloc: Global, system: &mut System, room: u64) -> Result<Vec<u8>, NoMemory>
+    requires kept { MayFollow true state_of system.old }
+    ensures kept { MayFollow true state_of system.new }
+{
+    listing_text(alloc, system, room)
+}
+
+// What opening the image answers; `None` where the question is none.
+fn ask_image(
+    alloc: Global,
+    image: Image,
+    said: &str,
+) -> Result<(Image, Option<Vec<u8>>), NoMemory> {
+    if said == "open" {
+        let (image, answer) = opening(alloc, image)?;
+        return Ok((image, Some(answer)));
+    }
+    if said == "listing" {
+        let (image, answer) = image_listing(alloc, image)?;
+        return Ok((image, Some(answer)));
+    }
+    Ok((image, None))
 }
 
 // The reply to the command that a line is, as a trace has it.
 fn answer_line(alloc: Global, system: &mut System, line: &[u8]) -> Result<Vec<u8>, NoMemory>
-    requires kept { IsKept system.old }
-    ensures kept { IsKept system.new }
+    requires kept { MayFollow true state_of system.old }
+    ensures kept { MayFollow true state_of system.new }
 {
     let cmd = parse_line(alloc, line)?;
     let reply = system.apply(alloc, &cmd);
@@ -112,6 +137,14 @@ fn figures(alloc: Global, system: &System) -> Result<Vec<u8>, NoMemory> {
     Ok(text.into_bytes())
 }
 
+// What becomes of a question with this answer, where there is one.
+fn judged(answer: Option<Vec<u8>>, wanted: &str) -> Outcome {
+    match answer {
+        Some(answer) => compared(answer, wanted.as_bytes()),
+        None => Outcome::Unreadable,
+    }
+}
+
 // Right exactly where the answer is the text that was wanted.
 fn compared(answer: Vec<u8>, wanted: &[u8]) -> Outcome
     ensures { (result ≡ Right) ↔ (answer.items ≡ wanted.now) }
@@ -121,14 +154,4 @@ fn compared(answer: Vec<u8>, wanted: &[u8]) -> Outcome
     } else {
         Outcome::Wrong(answer)
     }
-}
-
-// The geometry of these numbers, if they fit together.
-fn geometry(n: &str, j: &str, i: &str) -> Option<Geom> {
-    Geom::new(n.parse().ok()?, j.parse().ok()?, i.parse().ok()?).ok()
-}
-
-// The words of a line, which single blanks part.
-fn words_of(alloc: Global, line: &str) -> Result<Vec<&str>, AllocError> {
-    line.split(' ').collect(alloc)
 }
