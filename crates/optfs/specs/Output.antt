@@ -1,5 +1,5 @@
 -- What the program writes for the bytes that it read, status by status. It is described in docs/TRACE.md.
-use Rattle.std.specs.Prelude.{◌≡◌, ℕ, ◌^◌, ◌≤◌, ◌⊎◌, List, [], ◌∷◌, ◌++◌, codes, length}
+use Rattle.std.specs.Prelude.{◌≡◌, ℕ, ◌^◌, ◌⊎◌, List, ◌++◌, codes, length}
 use Rattle.opt_disk.specs.declared.event.Event.{Event}
 use Rattle.opt_geom.specs.Geometry.{Geometry}
 use Rattle.opt_journal.specs.Formatted.{formatted}
@@ -9,7 +9,8 @@ use Rattle.opt_trace.specs.Contents.{Contents, AreLawful, front_of}
 use Rattle.opt_tree.specs.declared.command.Cmd.{Cmd}
 use Rattle.opt_tree.specs.declared.command.Reply.{Reply}
 use Rattle.opt_tree.specs.Step.{Session, start}
-use Rattle.opt_tree.specs.Run.{Run, StopsAfterFault, is_of_memory}
+use Rattle.opt_tree.specs.Run.{StopsAfterFault}
+use Rattle.opt_fs.specs.Room.{Room, IsFirstRoom, RunsIn}
 use Rattle.optfs.specs.Lines.{whole_commands, commands_of}
 use Rattle.optfs.specs.Crashes.{IsCrashConsistent}
 use Rattle.optfs.specs.declared.status.Status.{Status}
@@ -19,7 +20,7 @@ use Rattle.optfs.specs.declared.status.Status.TheVariants.{Done, Usage, NoMemory
 abbrev pub says : Geometry → List Event → ℕ → List Cmd → List Reply → List ℕ → Contents
 says g log mounted cmds replies marks = record { geometry = g; log = log; mounted = mounted; cmds = cmds; replies = replies; marks = marks }
 
--- The text begins the trace of a run of these commands on a disk that was formatted with this geometry: each command is answered in turn by the tree, or it is out of memory, and every crash leaves a sync point.
+-- The text begins the trace of a run of these commands on a disk that was formatted with this geometry. Each command is answered in turn as the tree answers it, or refused as the room of that disk says, or out of memory; and every crash leaves a sync point.
 pub record Serves (g : Geometry) (cmds : List Cmd) (text : List ℕ) : Type 0 where
   -- all events of the disk, and how many of them are the mount's
   pub log : List Event
@@ -27,9 +28,13 @@ pub record Serves (g : Geometry) (cmds : List Cmd) (text : List ℕ) : Type 0 wh
   pub replies : List Reply
   -- for each reply, how many events there were when it came
   pub marks : List ℕ
+  -- the room at first, and the session and its room at the end
+  pub first : Room
   pub after : Session
+  pub room : Room
   pub lawful : AreLawful (says g log mounted cmds replies marks)
-  pub run : Run is_of_memory (start g.i) cmds replies after
+  pub empty : IsFirstRoom g first
+  pub run : RunsIn g (start g.i) first cmds replies after room
   pub stops : StopsAfterFault cmds replies
   pub begins : StandsFor g.n (formatted g) (start g.i).tree
   pub consistent : IsCrashConsistent g.n g.i (formatted g) log mounted cmds replies marks

@@ -23,17 +23,18 @@ use opt_memdisk::MemDisk;
 use opt_script::lines_are_commands;
 use opt_stands::{images_alike_below_n_stand_for_the_same, the_formatted_disk_stands_for_the_root};
 use opt_trace::{write_end, write_geom};
-use opt_tree::{a_fault_ends_the_session, no_other_command_is_promised_a_point};
+use opt_tree::{a_tree_in_memory_refuses_for_no_disk, no_other_command_is_promised_a_point};
 use opt_words::{Request, read_words};
 use std::alloc::Global;
 
 /// Runs the program with these words.
 ///
 /// The words `record N J I` read a script from `input` and write its trace to `out`. Each command is
-/// answered as the tree of names and byte files answers it, or refused for out of memory; and a crash
-/// after any of the events that the trace tells leaves the tree of one sync point, no older than the
-/// last one promised. No command writes to the disk yet, so the trace tells no event. The bay is for
-/// words that name an image; none of these is built yet.
+/// answered as the tree of names and byte files answers it. Or it is refused: where it needs more blocks
+/// than are left, costs more than a transaction has room for, or would scatter a node over too many runs,
+/// each exactly where that is so; or out of memory. A crash after any of the events that the trace tells
+/// leaves the tree of one sync point, no older than the last one promised. No command writes to the disk
+/// yet, so the trace tells no event. The bay is for words that name an image; none of these is built yet.
 pub fn optfs<S: Source, K: Sink, Y: Bay>(
     alloc: Global,
     words: &[String],
@@ -54,7 +55,7 @@ pub fn optfs<S: Source, K: Sink, Y: Bay>(
     the_formatted_disk_stands_for_the_root();
     images_alike_below_n_stand_for_the_same();
     lines_are_commands();
-    a_fault_ends_the_session();
+    a_tree_in_memory_refuses_for_no_disk();
     no_other_command_is_promised_a_point();
     match read_words(alloc, words) {
         Err(NoMemory) => Status::NoMemory,
@@ -94,7 +95,7 @@ fn record<S: Source, K: Sink>(alloc: Global, geom: &Geom, input: &mut S, out: &m
     the_formatted_disk_stands_for_the_root();
     images_alike_below_n_stand_for_the_same();
     lines_are_commands();
-    a_fault_ends_the_session();
+    a_tree_in_memory_refuses_for_no_disk();
     no_other_command_is_promised_a_point();
     match record_lines(alloc, geom, input, out) {
         Err(Stop::NoMemory) => Status::NoMemory,
@@ -121,7 +122,7 @@ fn record_lines<S: Source, K: Sink>(
     geom.lawful();
     let image = formatted_image(alloc, geom)?;
     let disk = MemDisk::of_image(alloc, image, ROOM)?;
-    let mut recording = Recording::new(alloc, geom.i(), disk)?;
+    let mut recording = Recording::new(alloc, geom, disk)?;
     let mut chunk = zeros(alloc, CHUNK)?;
     write_geom(out, geom)?;
     let ending = read_all(alloc, &mut recording, input, out, chunk.as_mut_slice())?;

@@ -1,7 +1,9 @@
 //! The reading of an input: pull after pull, up to its end, to a fault of the source, or to the most
 //! bytes that an input may have. What the bytes do is in the module of the recording.
 
-ghost use Rattle.std.specs.Prelude.{◌≡◌, ℕ, ◌+◌, ◌^◌, ◌<◌, ◌≤◌, List, length, Option, OnErr, IfOk};
+ghost use Rattle.std.specs.Prelude.{◌≡◌, ℕ, true, ◌+◌, ◌^◌, ◌<◌, ◌≤◌, List, length, Option, OnErr, IfOk};
+ghost use Rattle.opt_blocks.specs.PlainOf.{state_of};
+ghost use Rattle.opt_fs.specs.Opened.{MayFollow};
 ghost use Rattle.opt_geom.specs.Geometry.{Geometry};
 ghost use Rattle.optfs.specs.Follows.{StopsByCause};
 ghost use Rattle.optfs.specs.Reading.{At, Halted, Brings, AfterTurn, AtEnding};
@@ -41,14 +43,16 @@ fn pull_once<S: Source, K: Sink>(
     out: &mut K,
     chunk: &mut [u8],
 ) -> Result<Turn, Stop>
-    requires { 0 < length chunk.old }
+    requires some { 0 < length chunk.old }
+    requires follows { MayFollow true state_of recording.old.system }
+    ensures follows { MayFollow true state_of recording.new.system }
     ensures some { IfOk result (λ turn. Brings turn (length chunk.old)) }
     ensures ok { IfOk result (λ turn. (geom : Geometry) (count : ℕ) (left told : Option (List ℕ))
-        → At geom count left (S.remaining input.old) told (K.taken out.old) recording.old.tree recording.old.line.items recording.old.disk.log
+        → At geom count left (S.remaining input.old) told (K.taken out.old) recording.old.system recording.old.line.items recording.old.disk.log
         → AfterTurn geom turn count (S.faults input.old) (S.faults input.new) left (S.remaining input.new)
-        told (K.taken out.new) recording.new.tree recording.new.line.items recording.new.disk.log) }
+        told (K.taken out.new) recording.new.system recording.new.line.items recording.new.disk.log) }
     ensures err { OnErr result ((geom : Geometry) (count : ℕ) (left told : Option (List ℕ))
-        → At geom count left (S.remaining input.old) told (K.taken out.old) recording.old.tree recording.old.line.items recording.old.disk.log
+        → At geom count left (S.remaining input.old) told (K.taken out.old) recording.old.system recording.old.line.items recording.old.disk.log
         → Halted geom (count + length chunk.old) left (S.remaining input.new) told (K.taken out.new)) }
     ensures source { S.faults input.old ≤ S.faults input.new }
     ensures cause { StopsByCause (K.faults out.old) (K.faults out.new) result }
@@ -75,12 +79,13 @@ pub fn read_all<S: Source, K: Sink>(
     out: &mut K,
     chunk: &mut [u8],
 ) -> Result<Ending, Stop>
-    requires { 0 < length chunk.old }
+    requires some { 0 < length chunk.old }
+    requires follows { MayFollow true state_of recording.old.system }
     ensures ok { IfOk result (λ ending. (geom : Geometry) (left told : Option (List ℕ))
-        → At geom 0 left (S.remaining input.old) told (K.taken out.old) recording.old.tree recording.old.line.items recording.old.disk.log
+        → At geom 0 left (S.remaining input.old) told (K.taken out.old) recording.old.system recording.old.line.items recording.old.disk.log
         → AtEnding geom ending (S.faults input.old) (S.faults input.new) left (S.remaining input.new) told (K.taken out.new)) }
     ensures err { OnErr result ((geom : Geometry) (left told : Option (List ℕ))
-        → At geom 0 left (S.remaining input.old) told (K.taken out.old) recording.old.tree recording.old.line.items recording.old.disk.log
+        → At geom 0 left (S.remaining input.old) told (K.taken out.old) recording.old.system recording.old.line.items recording.old.disk.log
         → Halted geom (2 ^ 30) left (S.remaining input.new) told (K.taken out.new)) }
     ensures source { S.faults input.old ≤ S.faults input.new }
     ensures cause { StopsByCause (K.faults out.old) (K.faults out.new) result }
@@ -107,11 +112,12 @@ fn read_past<S: Source, K: Sink>(
     input: &mut S,
     out: &mut K,
 ) -> Result<Ending, Stop>
+    requires follows { MayFollow true state_of recording.old.system }
     ensures ok { IfOk result (λ ending. (geom : Geometry) (left told : Option (List ℕ))
-        → At geom (2 ^ 30) left (S.remaining input.old) told (K.taken out.old) recording.old.tree recording.old.line.items recording.old.disk.log
+        → At geom (2 ^ 30) left (S.remaining input.old) told (K.taken out.old) recording.old.system recording.old.line.items recording.old.disk.log
         → AtEnding geom ending (S.faults input.old) (S.faults input.new) left (S.remaining input.new) told (K.taken out.new)) }
     ensures err { OnErr result ((geom : Geometry) (left told : Option (List ℕ))
-        → At geom (2 ^ 30) left (S.remaining input.old) told (K.taken out.old) recording.old.tree recording.old.line.items recording.old.disk.log
+        → At geom (2 ^ 30) left (S.remaining input.old) told (K.taken out.old) recording.old.system recording.old.line.items recording.old.disk.log
         → Halted geom (2 ^ 30) left (S.remaining input.new) told (K.taken out.new)) }
     ensures source { S.faults input.old ≤ S.faults input.new }
     ensures cause { StopsByCause (K.faults out.old) (K.faults out.new) result }

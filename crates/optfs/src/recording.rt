@@ -1,28 +1,35 @@
-//! A recording on its way: a tree that answers, a disk, and the line that is open. It takes the bytes of
-//! the input one by one, and after each line feed it answers the line and writes its entry of the
+//! A recording on its way: a file system that answers, a disk, and the line that is open. It takes the bytes
+//! of the input one by one, and after each line feed it answers the line and writes its entry of the
 //! trace. Where the bytes come from, and how a recording ends, is in the module of the program.
 //!
-//! Nothing writes to the disk yet: the tree in memory answers all commands. What holds after the bytes
-//! seen is one fact, `Follows`: the commands of the whole lines are answered in turn, the sink has taken
-//! the trace of them, the open line is kept, and the disk has no event.
+//! Nothing writes to the disk yet: the blocks of the file system lie in memory, and none of its calls fails.
+//! What holds after the bytes seen is one fact, `Follows`: the commands of the whole lines are answered in
+//! turn, the sink has taken the trace of them, the open line is kept, and the disk has no event.
 
-ghost use Rattle.std.specs.Prelude.{◌≡◌, ◌≤◌, ℕ, List, [], ◌∷◌, ◌++◌, length, Option, OnOk, OnErr, IfOk};
+ghost use Rattle.std.specs.Prelude.{◌≡◌, ◌≤◌, ℕ, true, List, [], ◌∷◌, ◌++◌, length, Option, OnOk, OnErr, IfOk};
+ghost use Rattle.opt_blocks.specs.PlainOf.{state_of};
+ghost use Rattle.opt_fs.specs.Opened.{MayFollow, blocks_in};
+ghost use Rattle.opt_fs.specs.Memory.{room_of};
+ghost use Rattle.opt_fs.specs.Room.{IsFirstRoom};
+ghost use Rattle.opt_fs.specs.Sessions.{IsSession};
 ghost use Rattle.opt_geom.specs.Geometry.{Geometry};
-ghost use Rattle.opt_tree.specs.Step.{Session, start};
+ghost use Rattle.opt_tree.specs.Step.{start};
 ghost use Rattle.optfs.specs.Lines.{commands_of_line, commands_of};
 ghost use Rattle.optfs.specs.Output.{longest};
-ghost use Rattle.optfs.specs.Follows.{ServesTo, Served, Tried, Follows, Stopped, StopsByCause};
+ghost use Rattle.optfs.specs.Follows.{ServesTo, ServesFrom, TriesFrom, Follows, Stopped, StopsByCause};
 
 use crate::lines::command_of_line;
 use opt_base::NoMemory;
 use opt_base::limits::LONGEST_LINE;
+use opt_blocks::PlainBlocks;
 use opt_disk::Disk;
+use opt_fs::{Fs, commands_in_memory_are_answered_in_their_room, formatted_in_memory};
+use opt_geom::Geom;
 use opt_io::{Sink, SinkFault};
 use opt_memdisk::MemDisk;
-use opt_memtree::PlainTree;
 use opt_script::{cmd_text, reply_text};
 use opt_trace::{write_command, write_reply};
-use opt_tree::Cmd;
+use opt_tree::{Cmd, no_dsync_answers_a_point_to_come};
 use std::alloc::{AllocFailed, Global};
 
 /// Why a recording stops before its input ends.
@@ -67,21 +74,28 @@ impl From<SinkFault> for Stop {
     }
 }
 
+/// A file system over blocks in memory.
+type System = Fs<PlainBlocks>;
+
 /// Answers one command and writes its entry, with the number of events so far.
 fn serve<K: Sink>(
     alloc: Global,
-    tree: &mut PlainTree,
+    system: &mut System,
     out: &mut K,
     moment: u64,
     cmd: &Cmd,
 ) -> Result<(), Stop>
-    ensures ok { OnOk result (moment ≡ 0 → Served (cmd.now ∷ []) tree.old tree.new (K.taken out.old) (K.taken out.new)) }
-    ensures err { OnErr result (moment ≡ 0 → Tried (cmd.now ∷ []) tree.old (K.taken out.old) (K.taken out.new)) }
+    requires follows { MayFollow true state_of system.old }
+    ensures follows { MayFollow true state_of system.new }
+    ensures ok { OnOk result (moment ≡ 0 → ServesFrom (cmd.now ∷ []) system.old system.new (K.taken out.old) (K.taken out.new)) }
+    ensures err { OnErr result (moment ≡ 0 → TriesFrom (cmd.now ∷ []) system.old (K.taken out.old) (K.taken out.new)) }
     ensures cause { StopsByCause (K.faults out.old) (K.faults out.new) result }
 {
+    commands_in_memory_are_answered_in_their_room();
+    no_dsync_answers_a_point_to_come();
     let asked = cmd_text(alloc, cmd)?;
     write_command(out, asked.as_slice())?;
-    let reply = tree.apply(alloc, cmd);
+    let reply = system.apply(alloc, cmd);
     let told = reply_text(alloc, &reply)?;
     write_reply(out, moment, told.as_slice())?;
     Ok(())
@@ -90,44 +104,49 @@ fn serve<K: Sink>(
 /// Answers the command that a line is, if it is one, and writes its entry.
 fn serve_line<K: Sink>(
     alloc: Global,
-    tree: &mut PlainTree,
+    system: &mut System,
     out: &mut K,
     moment: u64,
     line: &[u8],
 ) -> Result<(), Stop>
-    ensures ok { OnOk result (moment ≡ 0 → Served (commands_of_line longest line.now) tree.old tree.new (K.taken out.old) (K.taken out.new)) }
-    ensures err { OnErr result (moment ≡ 0 → Tried (commands_of_line longest line.now) tree.old (K.taken out.old) (K.taken out.new)) }
+    requires follows { MayFollow true state_of system.old }
+    ensures follows { MayFollow true state_of system.new }
+    ensures ok { OnOk result (moment ≡ 0 → ServesFrom (commands_of_line longest line.now) system.old system.new (K.taken out.old) (K.taken out.new)) }
+    ensures err { OnErr result (moment ≡ 0 → TriesFrom (commands_of_line longest line.now) system.old (K.taken out.old) (K.taken out.new)) }
     ensures cause { StopsByCause (K.faults out.old) (K.faults out.new) result }
 {
     match command_of_line(alloc, line)? {
         None => Ok(()),
         Some(cmd) => {
-            serve(alloc, tree, out, moment, &cmd)?;
+            serve(alloc, system, out, moment, &cmd)?;
             Ok(())
         }
     }
 }
 
-/// A tree, the line whose line feed hasn't come yet, and the disk.
+/// A file system, the line whose line feed hasn't come yet, and the disk.
 #[derive(Drop)]
 pub struct Recording {
-    tree: PlainTree,
+    system: System,
     line: Vec<u8>,
     disk: MemDisk,
 }
 
 impl Recording {
-    /// A new tree of so many node numbers, no line, and this disk.
+    /// A file system that was just formatted with this geometry, no line, and this disk.
     ///
     /// # Errors
     /// Out of memory.
-    pub fn new(alloc: Global, nodes: u32, disk: MemDisk) -> Result<Recording, NoMemory>
-        requires { 1 ≤ nodes }
-        ensures { IfOk result (λ r. (r.tree ≡ start nodes) × (r.line.items ≡ []) × (r.disk ≡ disk)) }
+    pub fn new(alloc: Global, geom: &Geom, disk: MemDisk) -> Result<Recording, NoMemory>
+        ensures geom { IfOk result (λ r. (state_of (blocks_in r.system)).books.geom ≡ geom.now) }
+        ensures session { IfOk result (λ r. IsSession (state_of (blocks_in r.system)) (start geom.now.i)) }
+        ensures room { IfOk result (λ r. IsFirstRoom geom.now (room_of (state_of (blocks_in r.system)))) }
+        ensures follows { IfOk result (λ r. MayFollow true state_of r.system) }
+        ensures rest { IfOk result (λ r. (r.line.items ≡ []) × (r.disk ≡ disk)) }
     {
-        let tree = PlainTree::new(alloc, nodes)?;
+        let system = formatted_in_memory(alloc, geom)?;
         Ok(Recording {
-            tree,
+            system,
             line: Vec::new(alloc),
             disk,
         })
@@ -145,17 +164,19 @@ impl Recording {
     /// # Errors
     /// Out of memory, or a fault of the sink, which then has a front of an output.
     pub fn take_byte<K: Sink>(&mut self, alloc: Global, out: &mut K, byte: u8) -> Result<(), Stop>
+        requires follows { MayFollow true state_of self.old.system }
+        ensures follows { MayFollow true state_of self.new.system }
         ensures ok { OnOk result ((geom : Geometry) (seen : List ℕ) (before : Option (List ℕ))
-            → Follows geom seen before (K.taken out.old) self.old.tree self.old.line.items self.old.disk.log
-            → Follows geom (seen ++ byte ∷ []) before (K.taken out.new) self.new.tree self.new.line.items self.new.disk.log) }
+            → Follows geom seen before (K.taken out.old) self.old.system self.old.line.items self.old.disk.log
+            → Follows geom (seen ++ byte ∷ []) before (K.taken out.new) self.new.system self.new.line.items self.new.disk.log) }
         ensures err { OnErr result ((geom : Geometry) (seen more : List ℕ) (before : Option (List ℕ))
-            → Follows geom seen before (K.taken out.old) self.old.tree self.old.line.items self.old.disk.log
+            → Follows geom seen before (K.taken out.old) self.old.system self.old.line.items self.old.disk.log
             → Stopped geom (seen ++ byte ∷ more) before (K.taken out.new)) }
         ensures cause { StopsByCause (K.faults out.old) (K.faults out.new) result }
     {
         if byte == FEED {
             let moment = self.moment();
-            serve_line(alloc, &mut self.tree, out, moment, self.line.as_slice())?;
+            serve_line(alloc, &mut self.system, out, moment, self.line.as_slice())?;
             self.line.clear();
             return Ok(());
         }
@@ -175,11 +196,13 @@ impl Recording {
         out: &mut K,
         bytes: &[u8],
     ) -> Result<(), Stop>
+        requires follows { MayFollow true state_of self.old.system }
+        ensures follows { MayFollow true state_of self.new.system }
         ensures ok { OnOk result ((geom : Geometry) (seen : List ℕ) (before : Option (List ℕ))
-            → Follows geom seen before (K.taken out.old) self.old.tree self.old.line.items self.old.disk.log
-            → Follows geom (seen ++ bytes.now) before (K.taken out.new) self.new.tree self.new.line.items self.new.disk.log) }
+            → Follows geom seen before (K.taken out.old) self.old.system self.old.line.items self.old.disk.log
+            → Follows geom (seen ++ bytes.now) before (K.taken out.new) self.new.system self.new.line.items self.new.disk.log) }
         ensures err { OnErr result ((geom : Geometry) (seen : List ℕ) (before : Option (List ℕ))
-            → Follows geom seen before (K.taken out.old) self.old.tree self.old.line.items self.old.disk.log
+            → Follows geom seen before (K.taken out.old) self.old.system self.old.line.items self.old.disk.log
             → Stopped geom (seen ++ bytes.now) before (K.taken out.new)) }
         ensures cause { StopsByCause (K.faults out.old) (K.faults out.new) result }
     {
@@ -194,16 +217,18 @@ impl Recording {
     /// # Errors
     /// As `take_byte`.
     pub fn take_end<K: Sink>(&mut self, alloc: Global, out: &mut K) -> Result<(), Stop>
+        requires follows { MayFollow true state_of self.old.system }
+        ensures follows { MayFollow true state_of self.new.system }
         ensures ok { OnOk result ((geom : Geometry) (seen : List ℕ) (before : Option (List ℕ))
-            → Follows geom seen before (K.taken out.old) self.old.tree self.old.line.items self.old.disk.log
+            → Follows geom seen before (K.taken out.old) self.old.system self.old.line.items self.old.disk.log
             → ServesTo geom (commands_of longest seen) before (K.taken out.new)) }
         ensures err { OnErr result ((geom : Geometry) (seen : List ℕ) (before : Option (List ℕ))
-            → Follows geom seen before (K.taken out.old) self.old.tree self.old.line.items self.old.disk.log
+            → Follows geom seen before (K.taken out.old) self.old.system self.old.line.items self.old.disk.log
             → Stopped geom seen before (K.taken out.new)) }
         ensures cause { StopsByCause (K.faults out.old) (K.faults out.new) result }
     {
         let moment = self.moment();
-        serve_line(alloc, &mut self.tree, out, moment, self.line.as_slice())?;
+        serve_line(alloc, &mut self.system, out, moment, self.line.as_slice())?;
         self.line.clear();
         Ok(())
     }

@@ -1,10 +1,12 @@
 //! Scripts through the public call, over a source, a sink and a bay in memory; source and sink fail
 //! where they are told to. What is expected was worked out by hand from docs/TRACE.md. What commands
-//! answer is tested by the rows of `opt_rows`, and a whole trace by the files `stdin` and `stdout`.
+//! answer is tested by the module of the room and by the rows of `opt_fs_rows`, and a whole trace by the
+//! files `stdin` and `stdout`.
 
 mod disks;
 mod lines;
 mod replies;
+mod room;
 
 use crate::{Status, optfs};
 use opt_io::{MemSink, MemSource};
@@ -13,6 +15,9 @@ use std::alloc::Global;
 use std::test::Fail;
 
 const WORDS: [&str; 4] = ["record", "64", "16", "16"];
+
+/// A disk with 233 data blocks, which the longest write has room on.
+const WIDE: [&str; 4] = ["record", "256", "16", "16"];
 
 /// What a run answered and wrote.
 #[derive(Drop)]
@@ -178,18 +183,19 @@ fn one_byte_at_a_time_gives_the_same(rt: HostRuntime) -> Result<(), Fail> {
 
 #[test]
 fn a_line_may_have_262144_bytes(rt: HostRuntime) -> Result<(), Fail> {
-    // `write /a 0 ` has 11 bytes and `write /aa 0 ` has 12, so that pairs of digits fill the rest.
+    // `write /a 0 ` has 11 bytes and `write /aa 0 ` has 12, so that pairs of digits fill the rest. The bytes take
+    // 128 blocks.
     let mut fits = Vec::from_slice(rt.alloc(), b"create /aa\nwrite /aa 0 ")?;
     fits.resize(11 + 262_144, b'0')?;
-    let outcome = run(rt.alloc(), fits.as_slice())?;
+    let outcome = run_words(rt.alloc(), &WIDE, fits.as_slice())?;
     assert!(rt; outcome.text.ends_with(b"00\nr 0 ok\nend\n"));
     let mut over = Vec::from_slice(rt.alloc(), b"create /a\nwrite /a 0 ")?;
     over.resize(10 + 262_145, b'0')?;
     over.extend_from_slice(b"\nosync\n")?;
-    let outcome = run(rt.alloc(), over.as_slice())?;
+    let outcome = run_words(rt.alloc(), &WIDE, over.as_slice())?;
     assert_eq!(rt;
         outcome.text.as_slice(),
-        b"g 64 16 16\nc create /a\nr 0 ok\nc ?\nr 0 bad\nc osync\nr 0 synced 1\nend\n".as_slice()
+        b"g 256 16 16\nc create /a\nr 0 ok\nc ?\nr 0 bad\nc osync\nr 0 synced 1\nend\n".as_slice()
     );
     let mut comment = Vec::from_slice(rt.alloc(), b"#")?;
     comment.resize(262_146, b' ')?;
@@ -199,23 +205,5 @@ fn a_line_may_have_262144_bytes(rt: HostRuntime) -> Result<(), Fail> {
         outcome.text.as_slice(),
         b"g 64 16 16\nc osync\nr 0 synced 0\nend\n".as_slice()
     );
-    Ok(())
-}
-
-#[test]
-fn a_file_has_at_most_65535_paths(rt: HostRuntime) -> Result<(), Fail> {
-    let mut script = Vec::from_slice(rt.alloc(), b"create /1\n")?;
-    for number in 2..=65_536u32 {
-        script.extend_from_slice(b"link /1 /")?;
-        script.extend_from_slice(number.to_string(rt.alloc())?.as_bytes())?;
-        script.push(b'\n')?;
-    }
-    script.extend_from_slice(b"stat /65535\nunlink /1\nlink /2 /1\n")?;
-    let input = MemSource::new(rt.alloc(), script.as_slice(), &[])?;
-    let out = MemSink::new(rt.alloc(), 10_000_000, &[])?;
-    let outcome = run_over(rt.alloc(), &WORDS, input, out)?;
-    let end =
-        b"c link /1 /65535\nr 0 ok\nc link /1 /65536\nr 0 refused 8 TooManyLinks\nc stat /65535\nr 0 stat file 2 0 65535\nc unlink /1\nr 0 ok\nc link /2 /1\nr 0 ok\nend\n";
-    assert!(rt; outcome.text.ends_with(end));
     Ok(())
 }

@@ -1,7 +1,7 @@
 //! Lines that no row of `opt_rows` can tell: bytes that a text file shows badly, and lines as long as a
 //! line may be.
 
-use super::run;
+use super::{WIDE, run, run_words};
 use crate::Status;
 use std::test::Fail;
 
@@ -40,19 +40,19 @@ fn lines_that_are_no_command_are_bad(rt: HostRuntime) -> Result<(), Fail> {
     Ok(())
 }
 
-// 13 bytes, and 262,130 digits of 131,065 bytes.
+// 13 bytes, and 262,130 digits of 131,065 bytes. From offset 10 on they take 129 blocks.
 #[test]
 fn the_longest_write_is_read(rt: HostRuntime) -> Result<(), Fail> {
     let mut script = Vec::from_slice(rt.alloc(), b"create /ab\nwrite /ab 10 ")?;
     script.resize(11 + 13 + 262_130, b'F')?;
     script.extend_from_slice(b"\nstat /ab\nread /ab 131074 9\n")?;
-    let front = b"g 64 16 16\nc create /ab\nr 0 ok\nc write /ab 10 ";
+    let front = b"g 256 16 16\nc create /ab\nr 0 ok\nc write /ab 10 ";
     let mut trace = Vec::from_slice(rt.alloc(), front)?;
     trace.resize(front.len() + 262_130, b'f')?;
     trace.extend_from_slice(
         b"\nr 0 ok\nc stat /ab\nr 0 stat file 2 131075 1\nc read /ab 131074 9\nr 0 hex ff\nend\n",
     )?;
-    let outcome = run(rt.alloc(), script.as_slice())?;
+    let outcome = run_words(rt.alloc(), &WIDE, script.as_slice())?;
     assert!(rt; outcome.text.as_slice() == trace.as_slice());
     Ok(())
 }

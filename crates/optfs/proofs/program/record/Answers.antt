@@ -5,19 +5,19 @@ use Rattle.optfs.proofs.ProgramLemmas.{closes_end, closes_source, closes_long, h
 use Rattle.optfs.proofs.program.record.Goals as goal
 
 pub returns-in-Err-NoMemory-clause-records : goal.returns-in-Err-NoMemory-clause-records
-returns-in-Err-NoMemory-clause-records g c = halts_memory c.args.geom.now (begins_empty c.the_formatted_disk_stands_for_the_root.ensures.image c.images_alike_below_n_stand_for_the_same.ensures c.lines_are_commands.ensures.lawful c.lines_are_commands.ensures.quiet c.a_fault_ends_the_session.ensures.memory c.no_other_command_is_promised_a_point.ensures c.args.geom.now c.lawful.ensures.fits) _ _ _ _ _ _ c.in-Err-NoMemory.ensures.err
+returns-in-Err-NoMemory-clause-records g c = halts_memory c.args.geom.now (begins_empty c.the_formatted_disk_stands_for_the_root.ensures.image c.images_alike_below_n_stand_for_the_same.ensures c.lines_are_commands.ensures.lawful c.lines_are_commands.ensures.quiet c.a_tree_in_memory_refuses_for_no_disk.ensures.alone c.no_other_command_is_promised_a_point.ensures c.args.geom.now c.lawful.ensures.fits) _ _ _ _ _ _ c.in-Err-NoMemory.ensures.err
 
 pub returns-in-Err-SinkFault-clause-records : goal.returns-in-Err-SinkFault-clause-records
-returns-in-Err-SinkFault-clause-records g c = halts_sink c.args.geom.now (begins_empty c.the_formatted_disk_stands_for_the_root.ensures.image c.images_alike_below_n_stand_for_the_same.ensures c.lines_are_commands.ensures.lawful c.lines_are_commands.ensures.quiet c.a_fault_ends_the_session.ensures.memory c.no_other_command_is_promised_a_point.ensures c.args.geom.now c.lawful.ensures.fits) _ _ _ _ _ _ c.in-Err-SinkFault.ensures.err
+returns-in-Err-SinkFault-clause-records g c = halts_sink c.args.geom.now (begins_empty c.the_formatted_disk_stands_for_the_root.ensures.image c.images_alike_below_n_stand_for_the_same.ensures c.lines_are_commands.ensures.lawful c.lines_are_commands.ensures.quiet c.a_tree_in_memory_refuses_for_no_disk.ensures.alone c.no_other_command_is_promised_a_point.ensures c.args.geom.now c.lawful.ensures.fits) _ _ _ _ _ _ c.in-Err-SinkFault.ensures.err
 
 pub returns-in-Ok-End-clause-records : goal.returns-in-Ok-End-clause-records
 returns-in-Ok-End-clause-records g c =
-    closes_end c.args.geom.now (begins_empty c.the_formatted_disk_stands_for_the_root.ensures.image c.images_alike_below_n_stand_for_the_same.ensures c.lines_are_commands.ensures.lawful c.lines_are_commands.ensures.quiet c.a_fault_ends_the_session.ensures.memory c.no_other_command_is_promised_a_point.ensures c.args.geom.now c.lawful.ensures.fits) _ _ _ _ _ _ _ _ _ _ _ _ c.in-Ok-End.field-0-is refl c.in-Ok-End.ensures.ok c.tell.ensures.told
+    closes_end c.args.geom.now (begins_empty c.the_formatted_disk_stands_for_the_root.ensures.image c.images_alike_below_n_stand_for_the_same.ensures c.lines_are_commands.ensures.lawful c.lines_are_commands.ensures.quiet c.a_tree_in_memory_refuses_for_no_disk.ensures.alone c.no_other_command_is_promised_a_point.ensures c.args.geom.now c.lawful.ensures.fits) _ _ _ _ _ _ _ _ _ _ _ _ c.in-Ok-End.field-0-is refl c.in-Ok-End.ensures.ok c.tell.ensures.told
 
 pub returns-in-Ok-SourceFault-clause-records : goal.returns-in-Ok-SourceFault-clause-records
 returns-in-Ok-SourceFault-clause-records g c =
-    closes_source c.args.geom.now (begins_empty c.the_formatted_disk_stands_for_the_root.ensures.image c.images_alike_below_n_stand_for_the_same.ensures c.lines_are_commands.ensures.lawful c.lines_are_commands.ensures.quiet c.a_fault_ends_the_session.ensures.memory c.no_other_command_is_promised_a_point.ensures c.args.geom.now c.lawful.ensures.fits) _ _ _ _ _ _ _ _ _ _ _ _ c.in-Ok-SourceFault.field-0-is refl c.in-Ok-SourceFault.ensures.ok c.tell-in-Ok-SourceFault.ensures.told
+    closes_source c.args.geom.now (begins_empty c.the_formatted_disk_stands_for_the_root.ensures.image c.images_alike_below_n_stand_for_the_same.ensures c.lines_are_commands.ensures.lawful c.lines_are_commands.ensures.quiet c.a_tree_in_memory_refuses_for_no_disk.ensures.alone c.no_other_command_is_promised_a_point.ensures c.args.geom.now c.lawful.ensures.fits) _ _ _ _ _ _ _ _ _ _ _ _ c.in-Ok-SourceFault.field-0-is refl c.in-Ok-SourceFault.ensures.ok c.tell-in-Ok-SourceFault.ensures.told
 
 pub returns-in-Ok-LongInput-clause-records : goal.returns-in-Ok-LongInput-clause-records
 returns-in-Ok-LongInput-clause-records g c =
-    closes_long c.args.geom.now (begins_empty c.the_formatted_disk_stands_for_the_root.ensures.image c.images_alike_below_n_stand_for_the_same.ensures c.lines_are_commands.ensures.lawful c.lines_are_commands.ensures.quiet c.a_fault_ends_the_session.ensures.memory c.no_other_command_is_promised_a_point.ensures c.args.geom.now c.lawful.ensures.fits) _ _ _ _ _ _ _ _ _ _ _ _ c.in-Ok-LongInput.field-0-is refl c.in-Ok-LongInput.ensures.ok c.tell-in-Ok-LongInput.ensures.told
+    closes_long c.args.geom.now (begins_empty c.the_formatted_disk_stands_for_the_root.ensures.image c.images_alike_below_n_stand_for_the_same.ensures c.lines_are_commands.ensures.lawful c.lines_are_commands.ensures.quiet c.a_tree_in_memory_refuses_for_no_disk.ensures.alone c.no_other_command_is_promised_a_point.ensures c.args.geom.now c.lawful.ensures.fits) _ _ _ _ _ _ _ _ _ _ _ _ c.in-Ok-LongInput.field-0-is refl c.in-Ok-LongInput.ensures.ok c.tell-in-Ok-LongInput.ensures.told

@@ -1,6 +1,5 @@
 -- Before the first byte is read, the sink has a front of the first line.
-use Rattle.std.proofs.Common.{◌∙◌, ap, arith}
-use Rattle.opt_tree.specs.Step.{start}
+use Rattle.std.proofs.Common.{◌∙◌, ap}
 use Rattle.optfs.proofs.ReadingLemmas.{head_halts, start_halts, begins, ending_halts}
 use Rattle.optfs.proofs.program.record_lines.Goals as goal
 
@@ -23,13 +22,10 @@ returns-in_err-write_geom-clause-err g c =
 
 pub returns-in_err-ending-clause-err : goal.returns-in_err-ending-clause-err
 returns-in_err-ending-clause-err g c =
-    ending_halts _ c.args.geom.now _ _ _ _ _ _ _ _ (c.in_ok-recording.ensures.0 ∙ ap start c.i.ensures) c.in_ok-recording.ensures.1
-    (ap (λ d. d.log) (c.in_ok-recording.ensures.2 ∙ c.in_ok-disk.ensures)) c.in_ok-write_geom.ensures.all c.in_err-ending.ensures.err
+    ending_halts _ c.args.geom.now _ _ _ _ _ _ _ _ (record { geom_is = c.in_ok-recording.ensures.geom; session = c.in_ok-recording.ensures.session; room = c.in_ok-recording.ensures.room }) c.in_ok-recording.ensures.rest.0
+    (ap (λ d. d.log) (c.in_ok-recording.ensures.rest.1 ∙ c.in_ok-disk.ensures)) c.in_ok-write_geom.ensures.all c.in_err-ending.ensures.err
 
 pub returns-clause-ok : goal.returns-clause-ok
 returns-clause-ok g c =
-    c.in_ok-ending.ensures.ok c.args.geom.now _ _ (begins c.args.geom.now _ _ _ _ _ _ (c.in_ok-recording.ensures.0 ∙ ap start c.i.ensures) c.in_ok-recording.ensures.1
-    (ap (λ d. d.log) (c.in_ok-recording.ensures.2 ∙ c.in_ok-disk.ensures)) c.in_ok-write_geom.ensures.all)
-
-pub new-requires : goal.new-requires
-new-requires g c = omega (arith, c.i.ensures, c.lawful.ensures.limits.least_nodes)
+    c.in_ok-ending.ensures.ok c.args.geom.now _ _ (begins c.args.geom.now _ _ _ _ _ _ (record { geom_is = c.in_ok-recording.ensures.geom; session = c.in_ok-recording.ensures.session; room = c.in_ok-recording.ensures.room }) c.in_ok-recording.ensures.rest.0
+    (ap (λ d. d.log) (c.in_ok-recording.ensures.rest.1 ∙ c.in_ok-disk.ensures)) c.in_ok-write_geom.ensures.all)

@@ -1,7 +1,7 @@
 -- Each turn reads on, and each end is one of the whole reading.
 use Rattle.std.proofs.Common.{arith}
 use Rattle.std.proofs.lemmas.List.{length-take-le}
-use Rattle.optfs.proofs.ReadingLemmas.{all_turn, ended_turn, failed_turn, halted_end, halted_turn, after_loop, halted_loop}
+use Rattle.optfs.proofs.ReadingLemmas.{all_turn, took_turn, took_few, ended_turn, failed_turn, halted_end, halted_turn, after_loop, halted_loop}
 use Rattle.optfs.proofs.reading.read_all.Goals as goal
 
 pub returns-in_err-pull_once-clause-err : goal.returns-in_err-pull_once-clause-err
@@ -30,3 +30,14 @@ returns-clause-ok g c =
 pub returns-clause-err : goal.returns-clause-err
 returns-clause-err g c =
     halted_loop _ c.loop-count.count _ _ _ _ _ _ _ _ _ _ _ _ (omega (arith, c.loop-count.invariant.within)) c.loop-count.invariant.so_far c.read_past.ensures.err
+
+pub loop-count-preserved : goal.loop-count-preserved
+loop-count-preserved g c =
+    let room = length-take-le c.min-room.result c.loop-count.chunk (omega (arith, c.min-room.ensures)) in
+    record {
+      follows = c.in_ok-pull_once.ensures.follows;
+      within = omega (arith, room, c.min-room.ensures, c.loop-count.invariant.within, took_few _ c.in-Took.more _ c.in-Took.is c.in_ok-pull_once.ensures.some);
+      source_rises = omega (arith, c.loop-count.invariant.source_rises, c.in_ok-pull_once.ensures.source);
+      sink_rises = omega (arith, c.loop-count.invariant.sink_rises, c.in_ok-pull_once.ensures.cause);
+      so_far = took_turn _ c.in-Took.more c.loop-count.count _ _ _ _ _ _ _ _ _ _ _ _ _ _ _ _ _ c.in-Took.is c.loop-count.invariant.so_far c.in_ok-pull_once.ensures.ok;
+    }
