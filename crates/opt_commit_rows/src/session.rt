@@ -155,10 +155,7 @@ impl Session {
     /// Keeps a record, the last one so far, until it is released.
     fn keep(&mut self, committed: Committed) -> Result<(), NoMemory> {
         self.number = committed.number;
-        for ticket in committed.tickets.as_slice() {
-            self.notes.reserve(1)?;
-            self.notes.expect(*ticket);
-        }
+        expect_all(&mut self.notes, committed.tickets.as_slice())?;
         self.open.push_back(committed)?;
         Ok(())
     }
@@ -216,11 +213,13 @@ impl Session {
         let Some(committed) = self.open.pop_front() else {
             return Ok(None);
         };
-        let Err(committed) = committed.settled(&Notes::new(alloc)) else {
+        let tickets = Vec::from_slice(alloc, committed.tickets.as_slice())?;
+        let mut unnoticed = Notes::new(alloc);
+        expect_all(&mut unnoticed, tickets.as_slice())?;
+        let Err(committed) = committed.settled(&unnoticed) else {
             return Ok(None);
         };
         self.take_notices();
-        let tickets = Vec::from_slice(alloc, committed.tickets.as_slice())?;
         let Some(count) = released_places(committed, &self.notes) else {
             return Ok(None);
         };
@@ -256,6 +255,15 @@ impl Session {
         self.seen = self.disk.moment();
         Ok(())
     }
+}
+
+/// Expects these tickets.
+fn expect_all(notes: &mut Notes, tickets: &[u64]) -> Result<(), NoMemory> {
+    for ticket in tickets {
+        notes.reserve(1)?;
+        notes.expect(*ticket);
+    }
+    Ok(())
 }
 
 /// The ring places of a record once it is released, where each of its states lets it on at the number that is

@@ -107,6 +107,10 @@ AreNewlyNoticed log l p number = (k : ℕ) (w : WrittenRecord) (ts : List ℕ) �
 pub record WaitMore (few many : List (ℕ × ℕ)) : Type 0 where
   pub each : (k b r : ℕ) → slice_get few k ≡ Some (b, r) → (i : ℕ) × (slice_get many i ≡ Some (b, r))
 
+-- other pairs, among which all those are that wait by these data and whose number is above this `sure`
+pub record WaitAbove (sure : ℕ) (many few : List (ℕ × ℕ)) : Type 0 where
+  pub each : (k b r : ℕ) → slice_get many k ≡ Some (b, r) → sure < r → (i : ℕ) × (slice_get few i ≡ Some (b, r))
+
 -- the data with other pairs that wait
 abbrev pub with_waiting : PipelineData → List (ℕ × ℕ) → PipelineData
 with_waiting p many = record p { waiting = many }

@@ -86,8 +86,9 @@ pub use opening::{open_journal, opening_header, the_formatted_disk_may_be_opened
 pub use pipeline::{
     a_batch_comes_home, a_batch_goes_home, a_header_becomes_durable, a_home_write_may_be_made,
     a_mounted_disk_has_its_data, a_notice_keeps_the_data, a_record_joins_the_data,
-    a_reusable_block_is_dead, counts_tell_the_batch, fewer_may_be_sent, known_tickets_may_go,
-    more_may_wait, records_become_durable, the_home_test_is_exact, the_next_header_may_be_written,
+    a_reusable_block_is_dead, counts_tell_the_batch, fewer_may_be_sent, fewer_may_wait,
+    known_tickets_may_go, more_may_wait, records_become_durable, the_home_test_is_exact,
+    the_next_header_may_be_written,
 };
 pub use points::{
     a_call_begins_safe, a_crash_leaves_a_point, a_ledger_knows_what_is_noticed,

@@ -15,7 +15,7 @@ ghost use Rattle.opt_crash.specs.Steps.{MayWriteInPlace, MayWriteHeader, AreNoti
 ghost use Rattle.opt_crash.specs.Points.{IsMounted, ledger_at_mount};
 ghost use Rattle.opt_crash.specs.HomeTest.{goes_home, AreFreedBy};
 ghost use Rattle.opt_crash.specs.LastWrites.{HasTickets, IsDead, FreshAreNew};
-ghost use Rattle.opt_crash.specs.PipelineData.{PipelineData, DataAgree, AreAllNoticed, AreNewlyNoticed, WaitMore, with_waiting, SameNewTickets, with_tickets, IsHomeNoticed, AreFreed, data_at_mount, with_placed, with_durable, with_pending, with_committed, with_batch, with_home, with_sent, NeedsCheckpoint, next_header};
+ghost use Rattle.opt_crash.specs.PipelineData.{PipelineData, DataAgree, AreAllNoticed, AreNewlyNoticed, WaitMore, WaitAbove, with_waiting, SameNewTickets, with_tickets, IsHomeNoticed, AreFreed, data_at_mount, with_placed, with_durable, with_pending, with_committed, with_batch, with_home, with_sent, NeedsCheckpoint, next_header};
 
 /// A session begins with no data but its ring's place.
 pub fn a_mounted_disk_has_its_data()
@@ -89,6 +89,11 @@ pub fn the_home_test_is_exact()
 /// Pairs that wait longer than they have to change nothing.
 pub fn more_may_wait()
     ensures { (base : Blocks) (log : List Event) (l : Ledger) (p : PipelineData) (many : List (ℕ × ℕ)) → DataAgree base log l p → WaitMore p.waiting many → DataAgree base log l (with_waiting p many) }
+{}
+
+/// Pairs whose number the durable header's `sure` has reached may leave the list that waits.
+pub fn fewer_may_wait()
+    ensures { (base : Blocks) (log : List Event) (l : Ledger) (p : PipelineData) (few : List (ℕ × ℕ)) → DataAgree base log l p → WaitAbove l.header.sure p.waiting few → DataAgree base log l (with_waiting p few) }
 {}
 
 /// The tickets of records that are known may be forgotten.

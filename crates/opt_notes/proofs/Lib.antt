@@ -1,2 +1,4 @@
+pub mod Few
 pub mod Marks
+pub mod Open
 pub mod Rising

@@ -1,8 +1,8 @@
 -- What becomes of the set as a ticket is noticed. The first note of a ticket decides.
-use Rattle.std.proofs.Common.{◌≡◌, ℕ, zero, suc, ◌==◌, ◌<◌, ◌&&◌, ◌||◌, Bool, true, false, if◌then◌else◌, List, [], ◌∷◌, length, take, slice_get, slice_set, slice_index_or, Some, refl, sym, ◌∙◌, ap, arith}
+use Rattle.std.proofs.Common.{◌≡◌, ℕ, zero, suc, ◌==◌, ◌<◌, ◌&&◌, ◌||◌, Bool, true, false, if◌then◌else◌, List, [], ◌∷◌, length, take, map, slice_get, slice_set, slice_index_or, Some, refl, sym, ◌∙◌, ap, arith}
 use Rattle.std.proofs.lemmas.Bool.{eqb-true, eq-eqb, false≢true}
 use Rattle.opt_notes.specs.declared.notes.Note.{Note}
-use Rattle.opt_notes.specs.Notes.{is_expected, is_noticed}
+use Rattle.opt_notes.specs.Notes.{ticket_of, is_expected, is_noticed}
 
 pub if_true : {A : Type 0} (c : Bool) (x y : A) → c ≡ true → (if c then x else y) ≡ x
 if_true c x y e = ap (λ (b : Bool). if b then x else y) e
@@ -18,6 +18,11 @@ pub expected_set : (t u : ℕ) (ns : List Note) (at : ℕ) → ((n : Note) → s
 expected_set t u [] at own = refl
 expected_set t u (n ∷ ns) zero own = ap (λ k. if k == u then true else is_expected u ns) (sym (own n refl))
 expected_set t u (n ∷ ns) (suc at) own = ap (λ b. if n.ticket == u then true else b) (expected_set t u ns at own)
+
+pub tickets_set : (t : ℕ) (ns : List Note) (at : ℕ) → ((n : Note) → slice_get ns at ≡ Some n → n.ticket ≡ t) → map ticket_of (slice_set ns at (marked t)) ≡ map ticket_of ns
+tickets_set t [] at own = refl
+tickets_set t (n ∷ ns) zero own = ap (λ k. k ∷ map ticket_of ns) (sym (own n refl))
+tickets_set t (n ∷ ns) (suc at) own = ap (λ ts. n.ticket ∷ ts) (tickets_set t ns at own)
 
 -- a ticket that isn't expected by a list isn't that of its first note, nor by the rest
 other_first : (t k : ℕ) (rest : Bool) → (if k == t then true else rest) ≡ false → (k == t) ≡ false

@@ -26,7 +26,7 @@ lower : (r s : ℕ) (ns : List Note) → r ≤ s → are_above s ns ≡ true →
 lower r s [] le up = refl
 lower r s (n ∷ ns) le up = above_cons r n ns (omega (arith, le, head_above s n ns up)) (rest_above s n ns up)
 
-rises : (s : ℕ) (ns : List Note) → are_above s ns ≡ true → are_rising ns ≡ true
+pub rises : (s : ℕ) (ns : List Note) → are_above s ns ≡ true → are_rising ns ≡ true
 rises s [] up = refl
 rises s (n ∷ ns) up = rest_above s n ns up
 

@@ -1,11 +1,15 @@
 -- Tickets that are waited for, and which of them were noticed.
-use Rattle.std.specs.Prelude.{ℕ, ◌==◌, ◌&&◌, nat_lt, Bool, true, false, if◌then◌else◌, List, [], ◌∷◌}
+use Rattle.std.specs.Prelude.{ℕ, ◌==◌, ◌&&◌, nat_lt, not, Bool, true, false, if◌then◌else◌, List, [], ◌∷◌}
 use Rattle.opt_notes.specs.declared.notes.Note.{Note}
 
 -- a set of tickets, each with a mark: its notes, and for how many more there is room
 pub record Expected : Type 0 where
   pub notes : List Note
   pub room : ℕ
+
+-- what a note is of
+abbrev pub ticket_of : Note → ℕ
+ticket_of n = n.ticket
 
 -- this ticket is among them
 abbrev pub is_expected : ℕ → List Note → Bool
@@ -26,6 +30,15 @@ are_expected (t ∷ ts) ns = is_expected t ns && are_expected ts ns
 abbrev pub are_noticed : List ℕ → List Note → Bool
 are_noticed [] ns = true
 are_noticed (t ∷ ts) ns = is_noticed t ns && are_noticed ts ns
+
+-- this ticket is expected, and its notice hasn't come
+abbrev pub is_open : ℕ → List Note → Bool
+is_open t ns = is_expected t ns && not (is_noticed t ns)
+
+-- none of these is open
+abbrev pub none_open : List ℕ → List Note → Bool
+none_open [] ns = true
+none_open (t ∷ ts) ns = not (is_open t ns) && none_open ts ns
 
 -- this ticket is one of these
 abbrev pub is_among : ℕ → List ℕ → Bool

@@ -1,11 +1,11 @@
 //! A set of expected tickets, each noticed or not. They are kept in the order of their numbers, and each is
-//! found by halving; a ticket that is needed no longer is dropped. Which write a ticket belongs to isn't the
-//! set's matter.
+//! found by halving; a ticket that is needed no longer is dropped. A ticket is open while it is expected and its
+//! notice hasn't come. Which write a ticket belongs to isn't the set's matter.
 
-ghost use Rattle.std.specs.Prelude.{◌≡◌, ◌<◌, ◌≤◌, ◌+◌, ◌&&◌, ◌||◌, ◌==◌, [], ℕ, not, true, false, take, slice_get, None, Some, IsTrue, IfSome, OnOk, length};
+ghost use Rattle.std.specs.Prelude.{◌≡◌, ◌<◌, ◌≤◌, ◌+◌, ◌&&◌, ◌||◌, ◌==◌, [], ℕ, not, true, false, take, map, slice_get, None, Some, IsTrue, IfSome, OnOk, length};
 ghost use Rattle.std.specs.VecDeque.{deque_len, deque_capacity};
 ghost use Rattle.opt_notes.specs.declared.notes.Note.{Note};
-ghost use Rattle.opt_notes.specs.Notes.{is_expected, is_noticed, are_noticed, is_among, are_rising, with_ticket, without_ticket};
+ghost use Rattle.opt_notes.specs.Notes.{ticket_of, is_expected, is_noticed, are_noticed, is_open, none_open, is_among, are_rising, with_ticket, without_ticket};
 
 use opt_base::NoMemory;
 use std::alloc::Global;
@@ -66,6 +66,7 @@ impl Notes {
         ensures expected { (u : ℕ) → is_expected u self.new.notes ≡ (ticket == u || is_expected u self.old.notes) }
         ensures noticed { (u : ℕ) → is_noticed u self.new.notes ≡ is_noticed u self.old.notes }
         ensures room { self.old.room ≤ self.new.room + 1 }
+        ensures total { length self.old.notes + self.old.room ≤ length self.new.notes + self.new.room }
     {
         put_in(&mut self.notes, ticket);
     }
@@ -92,11 +93,55 @@ impl Notes {
         true
     }
 
+    /// Whether this ticket is expected and its notice hasn't come.
+    pub fn is_open(&self, ticket: u64) -> bool
+        ensures { result ≡ is_open ticket self.now.notes }
+    {
+        match found(&self.notes, ticket) {
+            Some(at) => !self.notes[at].noticed,
+            None => false,
+        }
+    }
+
+    /// Whether none of these tickets is open.
+    pub fn none_open(&self, tickets: &[u64]) -> bool
+        ensures { result ≡ none_open tickets.now self.now.notes }
+    {
+        for ticket in tickets {
+            if self.is_open(*ticket) {
+                return false;
+            }
+        }
+        true
+    }
+
+    /// How many tickets are expected.
+    pub fn len(&self) -> usize
+        ensures { result ≡ length self.now.notes }
+    {
+        self.notes.len()
+    }
+
+    /// The note at this place, counted from 0 in the order of the tickets.
+    pub fn get(&self, at: usize) -> Option<Note>
+        ensures { result ≡ slice_get self.now.notes at }
+    {
+        self.notes.get(at).copied()
+    }
+
+    /// Does nothing. A proof learns from the call that the tickets ascend, each above the one before.
+    pub fn lawful(&self)
+        ensures { are_rising self.now.notes ≡ true }
+    {
+        let _ = &self.notes;
+    }
+
     /// Takes the notice of a ticket, and answers whether it was expected. Otherwise nothing changes.
     pub fn noticed(&mut self, ticket: u64) -> bool
         ensures exact { result ≡ is_expected ticket self.old.notes }
         ensures expected { (u : ℕ) → is_expected u self.new.notes ≡ is_expected u self.old.notes }
         ensures noticed { (u : ℕ) → is_noticed u self.new.notes ≡ (is_noticed u self.old.notes || (ticket == u && is_expected u self.old.notes)) }
+        ensures tickets { map ticket_of self.new.notes ≡ map ticket_of self.old.notes }
         ensures room { self.new.room ≡ self.old.room }
     {
         mark_in(&mut self.notes, ticket)
@@ -176,6 +221,7 @@ fn mark_in(notes: &mut VecDeque<Note>, ticket: u64) -> bool
     ensures rising { are_rising notes.new.items ≡ true }
     ensures expected { (u : ℕ) → is_expected u notes.new.items ≡ is_expected u notes.old.items }
     ensures noticed { (u : ℕ) → is_noticed u notes.new.items ≡ (is_noticed u notes.old.items || (ticket == u && is_expected u notes.old.items)) }
+    ensures tickets { map ticket_of notes.new.items ≡ map ticket_of notes.old.items }
     ensures len { deque_len notes.new ≡ deque_len notes.old }
     ensures capacity { deque_capacity notes.new ≡ deque_capacity notes.old }
 {

@@ -2,7 +2,7 @@
 //! earlier records freed and that wait. The live ones are the bitmap's matter, and what is in a block isn't known
 //! here. Only `new`, `reserve` and `lowest` take memory.
 
-ghost use Rattle.std.specs.Prelude.{◌≡◌, ◌+◌, ◌<◌, ◌≤◌, length, take, max, IfOk, OnOk, OnErr, All};
+ghost use Rattle.std.specs.Prelude.{◌≡◌, ◌+◌, ◌<◌, ◌≤◌, ℕ, true, false, List, length, take, max, slice_get, Some, IfOk, OnOk, OnErr, All};
 ghost use Rattle.opt_base.specs.Seal.{blocks_of};
 ghost use Rattle.opt_geom.specs.Geometry.{bitmap_blocks};
 ghost use Rattle.opt_bitmap.specs.Bits.{free_blocks};
@@ -176,25 +176,34 @@ impl Reuse {
         self.held.clear();
     }
 
+    /// Whether a block waits for one of the records up to `sure`. Where none does, a release would change nothing.
+    /// This looks by halving.
+    pub fn may_release(&self, sure: u64) -> bool
+        ensures some { result ≡ true → (p : ℕ × ℕ) × (slice_get self.now.waiting 0 ≡ Some p) × (freed_by p ≤ sure) }
+        ensures none { result ≡ false → (going_home : List ℕ) → with_released self.now sure going_home ≡ self.now }
+    {
+        reached(&self.waiting, sure) > 0
+    }
+
     /// The records up to `sure` are sure by a durable header, and to the blocks `going_home` a checkpoint write is
     /// open; to no others is one. Each block that waits for one of these records and isn't going home may be taken
     /// from now on, and all others wait on. This looks by halving for the blocks that wait for such a record. Where
     /// there are some, it takes a few steps for each of them, and for each that is going home.
-    pub fn released(&mut self, sure: u64, going_home: &Places)
+    pub fn released(&mut self, sure: u64, going_home: &[u32])
         ensures { self.new ≡ with_released self.old sure going_home.now }
     {
         let count = reached(&self.waiting, sure);
         if count == 0 {
             return;
         }
-        self.going_home.put_all(going_home.as_slice());
+        self.going_home.put_all(going_home);
         give_up(
             &mut self.waiting,
             count,
             &self.going_home,
             &mut self.reusable,
         );
-        self.going_home.take_all_out(going_home.as_slice());
+        self.going_home.take_all_out(going_home);
     }
 }
 

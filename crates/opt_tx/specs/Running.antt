@@ -1,5 +1,5 @@
 -- What a running transaction is, and what its calls change of it. It is described in docs/PIPELINE.md.
-use Rattle.std.specs.Prelude.{◌≡◌, ℕ, ◌+◌, ◌<◌, ◌≤◌, ◌==◌, nat_lt, Bool, false, if◌then◌else◌, List, [], ◌∷◌, ◌++◌, slice_get, Option, Some}
+use Rattle.std.specs.Prelude.{◌≡◌, ℕ, ◌+◌, ◌<◌, ◌≤◌, ◌==◌, nat_lt, Bool, false, if◌then◌else◌, List, [], ◌∷◌, ◌++◌, length, slice_get, Option, Some}
 use Rattle.opt_journal.specs.Run.{or_else}
 use Rattle.opt_crash.specs.HomeTest.{is_one_of}
 use Rattle.opt_tx.specs.declared.put.Put.{Put}
@@ -64,13 +64,18 @@ abbrev pub is_fresh : Class → List ℕ → ℕ → Bool
 is_fresh Meta taken b = false
 is_fresh Content taken b = is_one_of b taken
 
--- a put: one row has it, the other has none of its block, and one put less at most has room
+-- the puts, and those for which there is room, are as many together as before
+abbrev pub KeepsBoxes : Changes → Changes → Type 0
+KeepsBoxes old new = length new.paid + length new.laid + new.puts ≡ length old.paid + length old.laid + old.puts
+
+-- a put: one row has it, the other has none of its block, and one put less at most has room; where the block was put before, none less
 pub record Puts (fresh : Bool) (p : Put) (old new : Changes) : Type 0 where
   pub laid : new.laid ≡ (if fresh then with_put p old.laid else without_put p.block old.laid)
   pub paid : new.paid ≡ (if fresh then without_put p.block old.paid else with_put p old.paid)
   pub taken : new.taken ≡ old.taken
   pub freed : new.freed ≡ old.freed
   pub puts : old.puts ≤ new.puts + 1
+  pub boxes : KeepsBoxes old new
   pub takes : new.takes ≡ old.takes
   pub frees : new.frees ≡ old.frees
 
@@ -89,6 +94,17 @@ pub record Takes (b : ℕ) (old new : Changes) : Type 0 where
   pub takes : old.takes ≤ new.takes + 1
   pub frees : new.frees ≡ old.frees
 
+-- a block's put, if there is one, is given up: it leaves both rows
+pub record Forgets (b : ℕ) (old new : Changes) : Type 0 where
+  pub paid : new.paid ≡ without_put b old.paid
+  pub laid : new.laid ≡ without_put b old.laid
+  pub taken : new.taken ≡ old.taken
+  pub freed : new.freed ≡ old.freed
+  pub puts : old.puts ≤ new.puts
+  pub boxes : KeepsBoxes old new
+  pub takes : new.takes ≡ old.takes
+  pub frees : new.frees ≡ old.frees
+
 -- a block is freed: it leaves both rows, and one free less at most has room
 pub record Frees (b : ℕ) (old new : Changes) : Type 0 where
   pub freed : new.freed ≡ old.freed ++ b ∷ []
@@ -96,5 +112,6 @@ pub record Frees (b : ℕ) (old new : Changes) : Type 0 where
   pub laid : new.laid ≡ without_put b old.laid
   pub taken : new.taken ≡ old.taken
   pub puts : old.puts ≤ new.puts
+  pub boxes : KeepsBoxes old new
   pub takes : new.takes ≡ old.takes
   pub frees : old.frees ≤ new.frees + 1

@@ -4,7 +4,7 @@
 
 ghost use Rattle.std.specs.Prelude.{◌≡◌, ◌≤◌, ◌<◌, ◌+◌, ℕ, length, slice_get, Some, None, ◌^◌, OnOk, IfSome, vec_len, vec_capacity};
 ghost use Rattle.opt_crash.specs.HomeTest.{is_one_of};
-ghost use Rattle.opt_tx.specs.Running.{IsOrdered, IsRisingNumbers, IsEmpty, HasRoomFor, SameChanges, Puts, Takes, Frees, bytes_put, is_fresh, with_number};
+ghost use Rattle.opt_tx.specs.Running.{IsOrdered, IsRisingNumbers, IsEmpty, HasRoomFor, SameChanges, Puts, Takes, Frees, Forgets, bytes_put, is_fresh, with_number};
 
 use crate::rows::{bytes_in, give_back, put_over, take_out};
 use crate::{Class, Put};
@@ -107,7 +107,7 @@ impl Running {
         }
     }
 
-    /// Makes room for so many puts, takes and frees more.
+    /// Makes room for so many puts, takes and frees, where there is less.
     ///
     /// # Errors
     /// No memory was found. What was put, taken and freed is as it was, and there is no less room.
@@ -124,11 +124,12 @@ impl Running {
     {
         self.taken.reserve(takes as usize)?;
         self.freed.reserve(frees as usize)?;
-        let total = self.paid.len() + self.laid.len() + self.spare.len() + puts as usize;
+        let more = (puts as usize).saturating_sub(self.spare.len());
+        let total = self.paid.len() + self.laid.len() + self.spare.len() + more;
         self.paid.reserve(total)?;
         self.laid.reserve(total)?;
         self.spare.reserve(total)?;
-        for turn in 0..puts {
+        for turn in 0..more {
             let bytes = BoxedBlock::new(alloc, &[0; 1024])?;
             self.spare.push(bytes)?;
         }
@@ -149,11 +150,18 @@ impl Running {
         requires { 0 < self.old.frees }
         ensures { Frees block self.old self.new }
     {
+        self.forget(block);
+        self.freed.push(block).unwrap();
+    }
+
+    /// The bytes that were put for a block, if there are any, won't be written. It takes no memory.
+    pub fn forget(&mut self, block: u32)
+        ensures { Forgets block self.old self.new }
+    {
         let paid = take_out(&mut self.paid, block);
         give_back(&mut self.spare, paid);
         let laid = take_out(&mut self.laid, block);
         give_back(&mut self.spare, laid);
-        self.freed.push(block).unwrap();
     }
 }
 

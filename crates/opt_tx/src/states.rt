@@ -1,15 +1,16 @@
 //! What becomes of a committed transaction: durable, sure, placed, released, in this order. Each step uses
 //! the state up and tests its condition; where the condition isn't met the state comes back as it was.
+//! A ticket is open while the notes expect it and its notice hasn't come; one that they dropped isn't open.
 //! What the conditions mean for a crash isn't said here.
 
 ghost use Rattle.std.specs.Prelude.{◌≡◌, ◌<◌, ◌≤◌, ◌&&◌, nat_le, nat_lt, is_ok, IfOk, IfErr, OnOk};
-ghost use Rattle.opt_notes.specs.Notes.{are_noticed};
+ghost use Rattle.opt_notes.specs.Notes.{none_open};
 ghost use Rattle.opt_tx.specs.States.{IsDurableOf, Forgets, IsSureOf, IsPlacedOf, IsReleasedOf};
 
 use crate::{Committed, Put};
 use opt_notes::Notes;
 
-/// All of the record is noticed.
+/// None of the record's tickets is open.
 #[derive(Debug, Drop)]
 pub struct Durable {
     pub number: u64,
@@ -47,33 +48,33 @@ pub struct Released {
 }
 
 impl Committed {
-    /// The durable state, where all tickets are noticed.
+    /// The durable state, where none of its tickets is open.
     ///
     /// # Errors
-    /// A ticket isn't noticed.
+    /// A ticket is open.
     pub fn settled(self, notes: &Notes) -> Result<Durable, Committed>
-        ensures exact { is_ok result ≡ are_noticed self.tickets.items notes.now.notes }
+        ensures exact { is_ok result ≡ none_open self.tickets.items notes.now.notes }
         ensures ok { IfOk result (IsDurableOf self) }
         ensures back { IfErr result (λ tx. tx ≡ self) }
     {
-        if !notes.all_noticed(self.tickets.as_slice()) {
+        if !notes.none_open(self.tickets.as_slice()) {
             return Err(self);
         }
         Ok(self.without_tickets())
     }
 
-    /// The durable state, where all tickets are noticed, as by `settled`. The notes expect them no longer
+    /// The durable state, where none of its tickets is open, as by `settled`. The notes expect them no longer
     /// then: what they needed is free for others.
     ///
     /// # Errors
-    /// A ticket isn't noticed. The notes are as they were.
+    /// A ticket is open. The notes are as they were.
     pub fn settled_for_good(self, notes: &mut Notes) -> Result<Durable, Committed>
-        ensures exact { is_ok result ≡ are_noticed self.tickets.items notes.old.notes }
+        ensures exact { is_ok result ≡ none_open self.tickets.items notes.old.notes }
         ensures ok { IfOk result (IsDurableOf self) }
         ensures back { IfErr result (λ tx. (tx ≡ self) × (notes.new ≡ notes.old)) }
         ensures forgets { OnOk result (Forgets self.tickets.items notes.old notes.new) }
     {
-        if notes.all_noticed(self.tickets.as_slice()) {
+        if notes.none_open(self.tickets.as_slice()) {
             notes.forget(self.tickets.as_slice());
             return Ok(self.without_tickets());
         }
@@ -136,16 +137,16 @@ impl Durable {
 }
 
 impl Sure {
-    /// The placed state, where all checkpoint writes of its batch are noticed.
+    /// The placed state, where none of the checkpoint writes of its batch is open.
     ///
     /// # Errors
-    /// One isn't noticed.
+    /// One is open.
     pub fn placed(self, notes: &Notes, home: &[u64]) -> Result<Placed, Sure>
-        ensures exact { is_ok result ≡ are_noticed home.now notes.now.notes }
+        ensures exact { is_ok result ≡ none_open home.now notes.now.notes }
         ensures ok { IfOk result (IsPlacedOf self) }
         ensures back { IfErr result (λ tx. tx ≡ self) }
     {
-        if !notes.all_noticed(home) {
+        if !notes.none_open(home) {
             return Err(self);
         }
         Ok(Placed {

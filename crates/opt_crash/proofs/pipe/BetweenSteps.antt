@@ -14,7 +14,7 @@ use Rattle.opt_geom.specs.Geometry.{Geometry, ring_block}
 use Rattle.opt_journal.specs.declared.header.Header.{Header}
 use Rattle.opt_crash.specs.Ledger.{Ledger, WrittenRecord, IsConsistentWith, next_number, all_say}
 use Rattle.opt_crash.specs.Steps.{NoneIsBeingWritten, with_known, with_header, with_durable_header}
-use Rattle.opt_crash.specs.PipelineData.{PipelineData, DataAgree, WaitMore, with_waiting, SameNewTickets, with_tickets, with_sent}
+use Rattle.opt_crash.specs.PipelineData.{PipelineData, DataAgree, WaitMore, WaitAbove, with_waiting, SameNewTickets, with_tickets, with_sent}
 use Rattle.opt_crash.proofs.log.Adds.{adds_wrote, adds_lost}
 use Rattle.opt_crash.proofs.steps.Idle.{notice_idle, outside_idle}
 
@@ -59,6 +59,27 @@ knows_more base log l p many k more = record {
   next_place = k.next_place;
   taken = k.taken;
   waiting = record { each = λ b n low late upto on off. let o = k.waiting.each b n low late upto on off in let there = more.each o.0 b o.1 o.2 in (there.0, o.1, there.1, o.3) };
+}
+
+-- pairs that the durable `sure` has reached need not
+pub knows_later : (base : Blocks) (log : List Event) (l : Ledger) (p : PipelineData) (few : List (ℕ × ℕ)) → DataAgree base log l p → WaitAbove l.header.sure p.waiting few → DataAgree base log l (with_waiting p few)
+knows_later base log l p few k above = record {
+  count = k.count;
+  tickets = k.tickets;
+  pending = k.pending;
+  not_pending = k.not_pending;
+  new = k.new;
+  placed = k.placed;
+  batch = k.batch;
+  rest = k.rest;
+  is_batch = k.is_batch;
+  placed_is = k.placed_is;
+  batch_is = k.batch_is;
+  home = k.home;
+  at_home = k.at_home;
+  next_place = k.next_place;
+  taken = k.taken;
+  waiting = record { each = λ b n low late upto on off. let o = k.waiting.each b n low late upto on off in let there = above.each o.0 b o.1 o.2 (omega (arith, late, o.3)) in (there.0, o.1, there.1, o.3) };
 }
 
 -- tickets of known records may go

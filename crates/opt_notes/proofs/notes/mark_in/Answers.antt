@@ -1,6 +1,6 @@
 -- The note of the ticket gets its mark.
 use Rattle.std.proofs.Common.{sym}
-use Rattle.opt_notes.proofs.Marks.{expected_set, noticed_set, expected_at}
+use Rattle.opt_notes.proofs.Marks.{expected_set, noticed_set, tickets_set, expected_at}
 use Rattle.opt_notes.proofs.Rising.{rising_set}
 use Rattle.opt_notes.proofs.notes.mark_in.Goals as goal
 
@@ -15,3 +15,6 @@ returns-in-Some-clause-expected c = λ u. expected_set c.args.ticket u c.args.no
 
 pub returns-in-Some-clause-noticed : goal.returns-in-Some-clause-noticed
 returns-in-Some-clause-noticed c = λ u. noticed_set c.args.ticket u c.args.notes.now.items c.in-Some.at c.in-Some.ensures.there.1 c.in-Some.ensures.there.2 c.in-Some.ensures.there.3
+
+pub returns-in-Some-clause-tickets : goal.returns-in-Some-clause-tickets
+returns-in-Some-clause-tickets c = tickets_set c.args.ticket c.args.notes.now.items c.in-Some.at c.in-Some.ensures.there.3

@@ -25,10 +25,10 @@ invariant_of-self c =
     let was : DeadBlocks = dead_of c.self.inside.geom c.self.inside.reusable c.self.inside.held.items c.self.inside.waiting.items c.self.inside.room in
     let kept : AreKept was c.self.inside.reusable c.self.inside.going_home = c.self.invariant.0 in
     let reach : IsReach c.self.inside.waiting.items c.args.sure c.reached-count.result = record { bound = c.reached-count.ensures.bound; below = c.reached-count.ensures.below; above = c.reached-count.ensures.above } in
-    let marked = c.put_all.ensures ∙ ap (λ (bs : List ℕ). set_of c.self.inside.going_home.limit (λ b. is_among b bs || is_among b c.self.inside.going_home.members)) c.as_slice.ensures in
+    let marked = c.put_all.ensures in
     let done : HasReleased c.self.inside.waiting.items c.give_up.new.waiting.items c.self.inside.reusable c.give_up.new.reusable c.put_all.new.self.members c.reached-count.result = record { waiting = c.give_up.ensures.waiting; served = c.give_up.ensures.reusable } in
     let is = release_is c.self.inside.geom c.self.inside.reusable c.give_up.new.reusable c.self.inside.going_home c.put_all.new.self c.self.inside.held.items c.self.inside.waiting.items c.give_up.new.waiting.items c.self.inside.room c.args.sure c.reached-count.result c.args.going_home.now kept reach marked done in
-    let out = c.take_all_out.ensures ∙ ap (λ (bs : List ℕ). set_of c.put_all.new.self.limit (λ b. not (is_among b bs) && is_among b c.put_all.new.self.members)) c.as_slice-2.ensures in (
+    let out = c.take_all_out.ensures in (
       record {
         sound = subst AreSound (sym is) (sound_released was c.args.sure c.args.going_home.now kept.sound);
         limit = omega (arith, kept.limit, ap (λ (s : NumberSet). s.limit) c.give_up.ensures.reusable);
@@ -45,7 +45,7 @@ returns c =
     let was : DeadBlocks = dead_of c.self.inside.geom c.self.inside.reusable c.self.inside.held.items c.self.inside.waiting.items c.self.inside.room in
     let kept : AreKept was c.self.inside.reusable c.self.inside.going_home = c.self.invariant.0 in
     let reach : IsReach c.self.inside.waiting.items c.args.sure c.reached-count.result = record { bound = c.reached-count.ensures.bound; below = c.reached-count.ensures.below; above = c.reached-count.ensures.above } in
-    let marked = c.put_all.ensures ∙ ap (λ (bs : List ℕ). set_of c.self.inside.going_home.limit (λ b. is_among b bs || is_among b c.self.inside.going_home.members)) c.as_slice.ensures in
+    let marked = c.put_all.ensures in
     let done : HasReleased c.self.inside.waiting.items c.give_up.new.waiting.items c.self.inside.reusable c.give_up.new.reusable c.put_all.new.self.members c.reached-count.result = record { waiting = c.give_up.ensures.waiting; served = c.give_up.ensures.reusable } in
     let is = release_is c.self.inside.geom c.self.inside.reusable c.give_up.new.reusable c.self.inside.going_home c.put_all.new.self c.self.inside.held.items c.self.inside.waiting.items c.give_up.new.waiting.items c.self.inside.room c.args.sure c.reached-count.result c.args.going_home.now kept reach marked done in
     is ∙ ap (λ (v : DeadBlocks). with_released v c.args.sure c.args.going_home.now) c.self.view_is

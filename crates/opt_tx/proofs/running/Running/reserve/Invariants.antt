@@ -15,9 +15,9 @@ invariant-loop-turn l =
       same_taken : r.taken.items ≡ old.taken;
       same_freed : r.freed.items ≡ old.freed;
       boxes : old.puts + l.turn ≤ vec_len r.spare;
-      paid : vec_len r.paid + vec_len r.laid + vec_len r.spare + (l.puts - l.turn) ≤ vec_capacity r.paid;
-      laid : vec_len r.paid + vec_len r.laid + vec_len r.spare + (l.puts - l.turn) ≤ vec_capacity r.laid;
-      back : vec_len r.paid + vec_len r.laid + vec_len r.spare + (l.puts - l.turn) ≤ vec_capacity r.spare;
+      paid : vec_len r.paid + vec_len r.laid + vec_len r.spare + (l.more - l.turn) ≤ vec_capacity r.paid;
+      laid : vec_len r.paid + vec_len r.laid + vec_len r.spare + (l.more - l.turn) ≤ vec_capacity r.laid;
+      back : vec_len r.paid + vec_len r.laid + vec_len r.spare + (l.more - l.turn) ≤ vec_capacity r.spare;
       old_takes : old.takes ≤ vec_capacity r.taken - vec_len r.taken;
       old_frees : old.frees ≤ vec_capacity r.freed - vec_len r.freed;
       takes : l.takes ≤ vec_capacity r.taken - vec_len r.taken;

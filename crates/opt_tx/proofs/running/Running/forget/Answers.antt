@@ -3,7 +3,7 @@ use Rattle.std.proofs.Common.{◌≡◌, ◌+◌, ℕ, List, slice_get, Option, 
 use Rattle.opt_tx.specs.declared.put.Put.{Put}
 use Rattle.opt_tx.specs.Rows.{IsRising, without_put, LacksBlock}
 use Rattle.opt_tx.proofs.ordering.RowOrder.{rising_without, apart_without}
-use Rattle.opt_tx.proofs.running.Running.freed.Goals as goal
+use Rattle.opt_tx.proofs.running.Running.forget.Goals as goal
 
 abbrev AreApart : List Put → List Put → Type 0
 AreApart xs ys = (k : ℕ) (q : Put) → slice_get xs k ≡ Some q → LacksBlock q.block ys
