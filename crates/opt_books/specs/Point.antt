@@ -1,0 +1,21 @@
+-- The books and the last sync point: what the transaction changed of it. It is described in docs/BOOKS.md.
+use Rattle.std.specs.Prelude.{◌≡◌, ℕ, ◌+◌, ◌*◌, ◌<◌, ◌≤◌, true, false, List, length, Some, is_some}
+use Rattle.opt_base.specs.Seal.{Blocks, blocks_of}
+use Rattle.opt_geom.specs.Geometry.{bitmap_blocks, bitmap_start, data_start}
+use Rattle.opt_layout.specs.Bitmap.{is_set}
+use Rattle.opt_crash.specs.HomeTest.{is_one_of}
+use Rattle.opt_tx.specs.Running.{bytes_put}
+use Rattle.opt_books.specs.Books.{TransactionBooks, bit_now, bytes_over}
+
+-- The transaction began at this map: the bitmap now is the map's with the puts; a block is in the list of those taken, or freed, where its bit changed; each put of a data block is of a marked one; and each put is a whole block.
+pub record BeganAt (v : TransactionBooks) (last : Blocks) : Type 0 where
+  pub bitmap : (k : ℕ) → k < bitmap_blocks v.geom → bytes_over v.changes last (bitmap_start v.geom + k) ≡ blocks_of v.bitmap k
+  pub was_dead : (b : ℕ) → is_one_of b v.changes.taken ≡ true → is_set v.geom last b ≡ false
+  pub took : (b : ℕ) → b < 8192 * bitmap_blocks v.geom → bit_now v b ≡ true → is_set v.geom last b ≡ false → is_one_of b v.changes.taken ≡ true
+  pub killed : (b : ℕ) → b < 8192 * bitmap_blocks v.geom → bit_now v b ≡ false → is_set v.geom last b ≡ true → is_one_of b v.changes.freed ≡ true
+  pub marked : (b : ℕ) → data_start v.geom ≤ b → is_some (bytes_put v.changes b) ≡ true → bit_now v b ≡ true
+  pub whole : (b : ℕ) (bytes : List ℕ) → bytes_put v.changes b ≡ Some bytes → length bytes ≡ 1024
+
+-- a map has this bitmap
+abbrev pub HasBitmap : TransactionBooks → Blocks → Type 0
+HasBitmap v m = (k : ℕ) → k < bitmap_blocks v.geom → m (bitmap_start v.geom + k) ≡ blocks_of v.bitmap k

@@ -1,0 +1,48 @@
+//! Laws of the books, each an empty function whose clauses say it: that the bookkeeping by them is sound, what a
+//! commit would have, what the map is by them, and when other dead blocks leave them as sound.
+
+ghost use Rattle.std.specs.Prelude.{◌≡◌, ◌<◌, ◌≤◌, ℕ, true, false, length};
+ghost use Rattle.opt_base.specs.Seal.{Blocks};
+ghost use Rattle.opt_geom.specs.Geometry.{LiesIn};
+ghost use Rattle.opt_geom.specs.Geometry.Area.{Data};
+ghost use Rattle.opt_layout.specs.Bitmap.{is_set};
+ghost use Rattle.opt_crash.specs.HomeTest.{is_one_of};
+ghost use Rattle.opt_reuse.specs.Dead.{DeadBlocks, AreSound};
+ghost use Rattle.opt_blocks.specs.Running.{payloads, fresh_blocks};
+ghost use Rattle.opt_blocks.specs.State.{Bookkeeping, defined_part};
+ghost use Rattle.opt_blocks.specs.Calls.{IsSound};
+ghost use Rattle.opt_books.specs.Books.{TransactionBooks, has_put, bit_now, is_taken_now, is_marked, running_of, with_books, bytes_over, map_of};
+ghost use Rattle.opt_books.specs.Kept.{AreKept};
+ghost use Rattle.opt_books.specs.Point.{BeganAt, HasBitmap};
+ghost use Rattle.opt_books.specs.Sealing.{SameDead};
+
+use opt_reuse::the_accounts_add_up;
+
+/// With these books, a bookkeeping is sound where the store's own part of it is.
+pub fn books_that_are_kept_are_sound()
+    ensures { (k : Bookkeeping) (v : TransactionBooks) → AreKept v → k.floor ≤ k.point → k.free_places ≤ v.geom.j → IsSound (with_books k v) }
+{
+    the_accounts_add_up();
+}
+
+/// A commit would have as payloads and as fresh blocks just what the roles say. What it writes in place was taken
+/// and is marked, and what it frees are data blocks whose bits are clear.
+pub fn a_commit_has_what_the_roles_say()
+    ensures payloads { (v : TransactionBooks) → AreKept v → payloads v.geom (running_of v) ≡ length v.changes.paid }
+    ensures fresh { (v : TransactionBooks) → AreKept v → fresh_blocks v.geom (running_of v) ≡ length v.changes.laid }
+    ensures laid { (v : TransactionBooks) (b : ℕ) → AreKept v → has_put b v.changes.laid ≡ true → LiesIn v.geom Data b × (is_taken_now v b ≡ true) }
+    ensures freed { (v : TransactionBooks) (b : ℕ) → AreKept v → is_one_of b v.changes.freed ≡ true → LiesIn v.geom Data b × (bit_now v b ≡ false) }
+{}
+
+/// The map by the books has their bits and their bitmap. It is the last point's with the puts, where it is defined.
+pub fn the_map_has_the_bits()
+    ensures bits { (v : TransactionBooks) (last : Blocks) (b : ℕ) → BeganAt v last → b < v.geom.n → is_marked v b ≡ is_set v.geom (map_of v last) b }
+    ensures bitmap { (v : TransactionBooks) (last : Blocks) → BeganAt v last → HasBitmap v (map_of v last) }
+    ensures part { (k : Bookkeeping) (v : TransactionBooks) (last : Blocks) → map_of v last ≡ defined_part (with_books k v) (bytes_over v.changes last) }
+{}
+
+/// The books stay as sound where other dead blocks may be taken, and the same blocks are dead and held.
+pub fn a_release_keeps_the_books()
+    ensures kept { (v : TransactionBooks) (dead : DeadBlocks) → AreKept v → AreSound dead → SameDead v.dead dead → AreKept (record v { dead = dead }) }
+    ensures began { (v : TransactionBooks) (dead : DeadBlocks) (last : Blocks) → BeganAt v last → BeganAt (record v { dead = dead }) last }
+{}
