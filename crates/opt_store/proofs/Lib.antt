@@ -1,0 +1,6 @@
+pub mod Logs
+pub mod Spending
+pub mod Rows
+pub mod Settling
+pub mod Formats
+pub mod AnyData

@@ -1,0 +1,11 @@
+use Rattle.std.proofs.Common.{arith}
+use Rattle.opt_store.proofs.Logs.{noticed_below, below_then}
+use Rattle.opt_store.proofs.formatting.make_durable.Goals as goal
+
+pub returns-in_err-wait_for_all-clause-below : goal.returns-in_err-wait_for_all-clause-below
+returns-in_err-wait_for_all-clause-below g c = λ tells.
+    below_then c.args.end c.args.end _ (g.D.Disk.state c.write_row.new.disk).log _ (omega arith) (c.write_row.ensures.below tells) (noticed_below c.args.end _ _ (c.wait_for_all.ensures.log tells))
+
+pub returns-clause-below : goal.returns-clause-below
+returns-clause-below g c = λ tells.
+    below_then c.args.end c.args.end _ (g.D.Disk.state c.write_row.new.disk).log _ (omega arith) (c.write_row.ensures.below tells) (noticed_below c.args.end _ _ (c.wait_for_all.ensures.log tells))
