@@ -1,5 +1,5 @@
 -- A committed transaction joins the pipeline: its record is in the ledger, and is the last one of the committed.
-use Rattle.std.proofs.Common.{◌≡◌, ◌⊎◌, ⊎_elim, ℕ, suc, ◌+◌, ◌%◌, ◌<◌, ◌≤◌, ◌==◌, nat_le, Bool, true, false, IsTrue, List, [], ◌∷◌, ◌++◌, length, map, slice_get, Some, Vec, Global, refl, sym, ◌∙◌, subst, ap, arith, length-append, append_assoc}
+use Rattle.std.proofs.Common.{◌≡◌, ◌⊎◌, ⊎_elim, ℕ, suc, ◌+◌, ◌%◌, ◌<◌, ◌≤◌, ◌==◌, nat_le, Bool, true, false, IsTrue, List, [], ◌∷◌, ◌++◌, length, map, slice_get, Some, refl, sym, ◌∙◌, subst, ap, arith, length-append, append_assoc}
 use Rattle.std.proofs.lemmas.Bool.{eqb-true, false≢true, le-leb, lt-leb}
 use Rattle.std.proofs.lemmas.Option.{slice_get_within}
 use Rattle.opt_base.specs.Seal.{Blocks}
@@ -31,7 +31,7 @@ one_of_get b (c ∷ cs) e = by (one_of_get b cs) (c == b) refl
     by rest false other = let r = rest (sym (choose_false (c == b) true (is_one_of b cs) other) ∙ e) in (suc r.0, r.1)
 
 module _ (base : Blocks) (old new : List Event) (l : Ledger) (v : Pipeline) (ring : RingPlaces) (waiting : List (ℕ × ℕ)) (taken : List ℕ) (a : PipelineAgrees base old l v ring waiting taken)
-    (w : WrittenRecord) (m : Blocks) (c : Committed) (cs : Vec Committed Global) (notes : Expected) (more : cs.items ≡ v.committed.items ++ c ∷ [])
+    (w : WrittenRecord) (m : Blocks) (c : Committed) (out : Pipeline) (notes : Expected) (more : out.committed.items ≡ v.committed.items ++ c ∷ [])
     -- the record is the next one, and the transaction keeps it
     (number_is : w.says.number ≡ next_number l) (keeps : KeepsRecord w c.number c.place c.count c.payloads.items c.fresh.items)
     -- these blocks are those that it freed
@@ -48,7 +48,7 @@ module _ (base : Blocks) (old new : List Event) (l : Ledger) (v : Pipeline) (rin
     (idle : NoneIsBeingWritten (cell_of base new) (with_record l w m))
     (one : (freed : List ℕ) → HasOnePending base new (with_record l w m) (with_committed (data_of v ring waiting) l w c.tickets.items freed) []) where
   abbrev next : Pipeline
-  next = record v { committed = cs; notes = notes }
+  next = record v { committed = out.committed; notes = notes; last = out.last; unplaced = out.unplaced; newest = out.newest; ready = out.ready }
 
   abbrev ring_then : RingPlaces
   ring_then = with_places ring (places w.says)
@@ -123,7 +123,7 @@ module _ (base : Blocks) (old new : List Event) (l : Ledger) (v : Pipeline) (rin
       new_freed k f e at = ⊎_elim (λ x. absurd (too k e (slice_get_within a.freed k f x) a.freed_by.count)) (λ x. x.1) (last_or a.freed c.freed.items k f at)
 
   -- a committed record is one that was, or the new one
-  of : (k : ℕ) (x : Committed) → slice_get cs.items k ≡ Some x → (slice_get v.committed.items k ≡ Some x) ⊎ ((k ≡ length v.committed.items) × (c ≡ x))
+  of : (k : ℕ) (x : Committed) → slice_get out.committed.items k ≡ Some x → (slice_get v.committed.items k ≡ Some x) ⊎ ((k ≡ length v.committed.items) × (c ≡ x))
   of k x is = last_or v.committed.items c k x (ap (λ (xs : List Committed). slice_get xs k) (sym more) ∙ is)
 
   -- none stands behind the new one
@@ -167,6 +167,7 @@ module _ (base : Blocks) (old new : List Event) (l : Ledger) (v : Pipeline) (rin
       records = λ i k x y lt is at. ⊎_elim (λ here. ⊎_elim (λ first. a.apart.records i k x y lt first here) (λ last. absurd (past i k last.0 lt here)) (of i x is))
           (λ there. ⊎_elim (λ first. subst (λ (q : Committed). AreApart x.tickets.items q.tickets.items) there.1 (λ t own. none_new t c.tickets.items old new fresh (a.apart.records_upto i t x first own))) (λ last. absurd (twice i k last.0 there.0 lt)) (of i x is)) (of k y at);
       beside = λ k t x is held. ⊎_elim (λ here. a.apart.beside k t x here held) (λ there. subst (λ (q : Committed). is_one_of t q.tickets.items ≡ false) there.1 (none_new t c.tickets.items old new fresh (a.apart.beside_upto t held))) (of k x is);
+      header_apart = a.apart.header_apart;
       records_upto = λ k t x is own. ⊎_elim (λ here. later t (a.apart.records_upto k t x here own)) (λ there. fresh.upto t (subst (λ (q : Committed). is_one_of t q.tickets.items ≡ true) (sym there.1) own)) (of k x is);
       beside_upto = λ t held. later t (a.apart.beside_upto t held);
     };

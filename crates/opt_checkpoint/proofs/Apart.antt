@@ -30,7 +30,7 @@ greatest_last (Lost c y ∷ log) t b x = greatest_last log t b x
 greatest_last (Noticed u ∷ log) t b x = greatest_last log t b x
 
 -- a ticket that isn't one of a list, by a contradiction
-not_one : (t : ℕ) (ts : List ℕ) → (is_one_of t ts ≡ true → ⊥) → is_one_of t ts ≡ false
+pub not_one : (t : ℕ) (ts : List ℕ) → (is_one_of t ts ≡ true → ⊥) → is_one_of t ts ≡ false
 not_one t ts never = by (is_one_of t ts) refl
   where
     by : (v : Bool) → is_one_of t ts ≡ v → v ≡ false
@@ -60,7 +60,7 @@ new_tickets (w ∷ ws) (u ∷ us) old new adds =
 
 -- Tickets that leave the notes.
 
-one_among : (u : ℕ) (ts : List ℕ) → is_among u ts ≡ is_one_of u ts
+pub one_among : (u : ℕ) (ts : List ℕ) → is_among u ts ≡ is_one_of u ts
 one_among u [] = refl
 one_among u (t ∷ ts) = ap (λ (v : Bool). if t == u then true else v) (one_among u ts)
 
@@ -108,6 +108,7 @@ pub apart_on : (log new : List Event) (v : Pipeline) (notes : Expected) → grea
 apart_on log new v notes grows apart = record {
   records = apart.records;
   beside = apart.beside;
+  header_apart = apart.header_apart;
   records_upto = λ k t c is own. omega (arith, grows, apart.records_upto k t c is own);
   beside_upto = λ t held. omega (arith, grows, apart.beside_upto t held);
 }

@@ -68,7 +68,7 @@ module _ (base : Blocks) (log : List Event) (l : Ledger) (v : Pipeline) (ring : 
       own = ap (slice_get (no_tickets (durable_count v) ++ map tickets_in v.committed.items)) place ∙ behind (durable_count v) 0 (map tickets_in v.committed.items) ∙ ap (λ (cs : List Committed). slice_get (map tickets_in cs) 0) first
 
   -- the pipeline then
-  module _ (d : Durable) (is_of : IsDurableOf c d) (cs : Vec Committed Rattle.std.proofs.Common.Global) (ds : Vec Durable Rattle.std.proofs.Common.Global) (now : cs.items ≡ rest) (more : ds.items ≡ v.durable.items ++ d ∷ [])
+  module _ (d : Durable) (is_of : IsDurableOf c d) (out : Pipeline) (now : out.committed.items ≡ rest) (more : out.durable.items ≡ v.durable.items ++ d ∷ [])
       (ns : Expected) (gone : Forgets c.tickets.items v.notes ns)
       (numbers : (k : ℕ) (w : WrittenRecord) → slice_get l.records k ≡ Some w → w.says.number ≡ l.header.start + k)
       (known_data : DataAgree base log (with_known l (l.known + 1)) (data_of v ring waiting))
@@ -76,29 +76,29 @@ module _ (base : Blocks) (log : List Event) (l : Ledger) (v : Pipeline) (ring : 
       (may_go : (p : PipelineData) (tickets : List (List ℕ)) → DataAgree base log (with_known l (l.known + 1)) p → SameNewTickets (with_known l (l.known + 1)) p.tickets tickets → DataAgree base log (with_known l (l.known + 1)) (with_tickets p tickets))
       (known_free : MayWriteAllFresh log (with_known l (l.known + 1)) (data_of v ring waiting) taken) where
     abbrev next : Pipeline
-    next = record v { committed = cs; durable = ds; notes = ns }
+    next = record v { committed = out.committed; durable = out.durable; notes = ns }
 
     counted : durable_count next ≡ durable_count v + 1
     counted = omega (arith, ap (λ (xs : List Durable). length xs) more, length-append v.durable.items (d ∷ []))
 
-    sizes : length v.committed.items ≡ 1 + length cs.items
+    sizes : length v.committed.items ≡ 1 + length out.committed.items
     sizes = omega (arith, ap (λ (xs : List Committed). length xs) first, ap (λ (xs : List Committed). length xs) now)
 
     first_is : slice_get v.committed.items 0 ≡ Some c
     first_is = ap (λ (xs : List Committed). slice_get xs 0) first
 
-    committed_is : (k : ℕ) (t : Committed) → slice_get cs.items k ≡ Some t → slice_get v.committed.items (suc k) ≡ Some t
+    committed_is : (k : ℕ) (t : Committed) → slice_get out.committed.items k ≡ Some t → slice_get v.committed.items (suc k) ≡ Some t
     committed_is k t is = ap (λ (xs : List Committed). slice_get xs (suc k)) first ∙ ap (λ (xs : List Committed). slice_get xs k) (sym now) ∙ is
 
     tickets : SameNewTickets (with_known l (l.known + 1)) (data_of v ring waiting).tickets (data_of next ring waiting).tickets
     tickets = record {
-      count = omega (arith, length_none (durable_count next) (map tickets_in cs.items), length_none (durable_count v) (map tickets_in v.committed.items), length-map cs.items tickets_in, length-map v.committed.items tickets_in, sizes, counted);
+      count = omega (arith, length_none (durable_count next) (map tickets_in out.committed.items), length_none (durable_count v) (map tickets_in v.committed.items), length-map out.committed.items tickets_in, length-map v.committed.items tickets_in, sizes, counted);
       each = λ k w is late. same k (omega (arith, numbers k w is, late, a.known));
     }
       where
         same : (k : ℕ) → durable_count v + 1 ≤ k → slice_get (data_of next ring waiting).tickets k ≡ slice_get (data_of v ring waiting).tickets k
         same k le =
-            ap (slice_get (data_of next ring waiting).tickets) (to_next k le counted) ∙ behind (durable_count next) (k - (durable_count v + 1)) (map tickets_in cs.items)
+            ap (slice_get (data_of next ring waiting).tickets) (to_next k le counted) ∙ behind (durable_count next) (k - (durable_count v + 1)) (map tickets_in out.committed.items)
             ∙ ap (λ (xs : List Committed). slice_get (map tickets_in xs) (k - (durable_count v + 1))) now ∙ sym (ap (λ (xs : List Committed). slice_get (map tickets_in xs) (suc (k - (durable_count v + 1)))) first)
             ∙ sym (behind (durable_count v) (suc (k - (durable_count v + 1))) (map tickets_in v.committed.items)) ∙ ap (slice_get (data_of v ring waiting).tickets) (from_old k le)
           where
@@ -152,6 +152,7 @@ module _ (base : Blocks) (log : List Event) (l : Ledger) (v : Pipeline) (ring : 
       apart = record {
         records = λ i k x y lt is at. a.apart.records (suc i) (suc k) x y (omega (arith, lt)) (committed_is i x is) (committed_is k y at);
         beside = λ k t x is held. a.apart.beside (suc k) t x (committed_is k x is) held;
+        header_apart = a.apart.header_apart;
         records_upto = λ k t x is own. a.apart.records_upto (suc k) t x (committed_is k x is) own;
         beside_upto = a.apart.beside_upto;
       };

@@ -36,7 +36,7 @@ module _ (base : Blocks) (log : List Event) (l : Ledger) (v : Pipeline) (ring : 
   header = next_header l (length v.placed.items)
 
   abbrev pub next : Pipeline
-  next = record v { next = Some (record { header = header; ticket = t }); notes = notes }
+  next = record v { next = Some (record { header = header; ticket = t }); written = header; notes = notes }
 
   pub agrees_header : PipelineAgrees base (log ++ Wrote t (1 - l.slot) x ∷ []) (with_header l header) next ring waiting taken
   agrees_header = record {
@@ -66,6 +66,7 @@ module _ (base : Blocks) (log : List Event) (l : Ledger) (v : Pipeline) (ring : 
     apart = record {
       records = a.apart.records;
       beside = λ k u c is held. ⊎_elim (λ r. a.apart.beside k u c is (inl r)) (λ r. not_old log v a.apart k u c is (subst (λ n. greatest_ticket log < n) (own r.0 r.1 ∙ r.2) above)) held;
+      header_apart = λ q is k h at same. above_all h.ticket (subst (λ n. greatest_ticket log < n) (own q is ∙ sym same) above) (a.apart.beside_upto h.ticket (inl (k, h, at, refl)));
       records_upto = λ k u c is mine. omega (arith, grows, a.apart.records_upto k u c is mine);
       beside_upto = λ u held. ⊎_elim (λ r. later u (a.apart.beside_upto u (inl r))) (λ r. subst (λ n. n ≤ greatest_ticket (log ++ Wrote t (1 - l.slot) x ∷ [])) (own r.0 r.1 ∙ r.2) (greatest_last log t (1 - l.slot) x)) held;
     };
@@ -85,6 +86,9 @@ module _ (base : Blocks) (log : List Event) (l : Ledger) (v : Pipeline) (ring : 
 
       more : (u : ℕ) → is_expected u v.notes.notes ≡ true → is_expected u notes.notes ≡ true
       more u e = expect u ∙ with_old (t == u) (is_expected u v.notes.notes) e
+
+      above_all : (u : ℕ) → greatest_ticket log < u → u ≤ greatest_ticket log → ⊥
+      above_all u lt le = omega (arith, lt, le)
 
       slot_apart : (s k : ℕ) → 2 + k ≡ 1 - s → ⊥
       slot_apart s k e = omega (arith, e)

@@ -6,11 +6,11 @@ use Rattle.opt_disk.specs.Cell.{notices}
 use Rattle.opt_disk.specs.declared.event.Event.TheVariants.{Noticed}
 use Rattle.opt_crash.specs.HomeTest.{is_one_of}
 use Rattle.opt_notes.specs.declared.notes.Note.{Note}
-use Rattle.opt_notes.specs.Notes.{is_expected, is_noticed, are_expected, are_noticed}
+use Rattle.opt_notes.specs.Notes.{is_expected, is_noticed, are_expected, none_open}
 use Rattle.opt_tx.specs.declared.commit.Committed.{Committed}
 use Rattle.opt_base.specs.Counts.{after_call, after_calls, next_count}
 use Rattle.opt_disk.specs.Disk.{State, Spends, OnlyPolls}
-use Rattle.opt_checkpoint.specs.Steps.{TakesAll, TakesOne, TakesNotices, PollsUpTo, is_first_noticed}
+use Rattle.opt_checkpoint.specs.Steps.{TakesAll, TakesOne, TakesNotices, PollsUpTo, is_first_settled}
 use Rattle.opt_checkpoint.specs.declared.pipeline.Pipeline.{Pipeline}
 use Rattle.opt_checkpoint.proofs.Lists.{below_none}
 
@@ -109,7 +109,7 @@ pub one_longer : (ts : List ℕ) (t n : ℕ) → length ts ≡ n → length (ts 
 one_longer ts t n e = omega (arith, e, length-append ts (t ∷ []))
 
 -- the oldest committed record, where there is one
-pub first_is : (cs : List Committed) (d : Committed) (notes : List Note) → 0 < length cs → is_first_noticed cs notes ≡ are_noticed (slice_index_or cs 0 d).tickets.items notes
+pub first_is : (cs : List Committed) (d : Committed) (notes : List Note) → 0 < length cs → is_first_settled cs notes ≡ none_open (slice_index_or cs 0 d).tickets.items notes
 first_is [] d notes some = absurd (below_none 0 some)
 first_is (c ∷ cs) d notes some = refl
 

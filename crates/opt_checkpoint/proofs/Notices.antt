@@ -59,7 +59,7 @@ abbrev pub with_notes : Pipeline → Expected → Pipeline
 with_notes v notes = record v { notes = notes }
 
 module _ (base : Blocks) (log new : List Event) (l : Ledger) (v : Pipeline) (ring : RingPlaces) (waiting : List (ℕ × ℕ)) (taken : List ℕ) (a : PipelineAgrees base log l v ring waiting taken) where
-  moved : (notes : Expected) → DataAgree base new l (data_of v ring waiting) → NoneIsBeingWritten (cell_of base new) l → HasOnePending base new l (data_of v ring waiting) [] → NotesAreTrue new notes.notes → ((u : ℕ) → is_expected u notes.notes ≡ is_expected u v.notes.notes)
+  pub moved : (notes : Expected) → DataAgree base new l (data_of v ring waiting) → NoneIsBeingWritten (cell_of base new) l → HasOnePending base new l (data_of v ring waiting) [] → NotesAreTrue new notes.notes → ((u : ℕ) → is_expected u notes.notes ≡ is_expected u v.notes.notes)
       → MayWriteAllFresh new l (data_of v ring waiting) taken → greatest_ticket log ≤ greatest_ticket new → PipelineAgrees base new l (with_notes v notes) ring waiting taken
   moved notes agree idle one true_now same free grows = record {
     geom = a.geom;

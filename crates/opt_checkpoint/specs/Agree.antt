@@ -1,5 +1,5 @@
 -- What the pipeline keeps: its own data agree with the ledger, and with what the crash argument asks for. It is described in docs/PIPELINE.md.
-use Rattle.std.specs.Prelude.{◌≡◌, ◌⊎◌, ℕ, zero, suc, ◌+◌, ◌<◌, ◌≤◌, nat_lt, true, false, IsTrue, if◌then◌else◌, List, [], ◌∷◌, ◌++◌, length, map, slice_get, Some, option_map}
+use Rattle.std.specs.Prelude.{◌≡◌, ◌≢◌, ◌⊎◌, ℕ, zero, suc, ◌+◌, ◌<◌, ◌≤◌, nat_lt, true, false, IsTrue, if◌then◌else◌, List, [], ◌∷◌, ◌++◌, length, map, slice_get, Some, option_map}
 use Rattle.opt_base.specs.Seal.{Blocks}
 use Rattle.opt_disk.specs.declared.event.Event.{Event}
 use Rattle.opt_disk.specs.Cell.{cell_of, greatest_ticket, IsNoticed}
@@ -114,10 +114,11 @@ pub record AreNewTickets (old new : List Event) (ts : List ℕ) : Type 0 where
 abbrev pub IsOpenBeside : Pipeline → ℕ → Type 0
 IsOpenBeside v t = ((k : ℕ) × (h : HomeWrite) × (slice_get v.home.items k ≡ Some h) × (h.ticket ≡ t)) ⊎ ((q : Pending) × (v.next ≡ Some q) × (q.ticket ≡ t))
 
--- Each committed record has tickets of its own: none is another record's, a checkpoint write's or the pending header's. None that is open is above the greatest of the log.
+-- Each committed record has tickets of its own: none is another record's, a checkpoint write's or the pending header's. The pending header has one of its own too. None that is open is above the greatest of the log.
 pub record OpenAreApart (log : List Event) (v : Pipeline) : Type 0 where
   pub records : (i k : ℕ) (c d : Committed) → i < k → slice_get v.committed.items i ≡ Some c → slice_get v.committed.items k ≡ Some d → AreApart c.tickets.items d.tickets.items
   pub beside : (k t : ℕ) (c : Committed) → slice_get v.committed.items k ≡ Some c → IsOpenBeside v t → is_one_of t c.tickets.items ≡ false
+  pub header_apart : (q : Pending) → v.next ≡ Some q → (k : ℕ) (h : HomeWrite) → slice_get v.home.items k ≡ Some h → h.ticket ≢ q.ticket
   pub records_upto : (k t : ℕ) (c : Committed) → slice_get v.committed.items k ≡ Some c → is_one_of t c.tickets.items ≡ true → t ≤ greatest_ticket log
   pub beside_upto : (t : ℕ) → IsOpenBeside v t → t ≤ greatest_ticket log
 

@@ -1,3 +1,13 @@
 pub mod Agree
 pub mod HomeState
 pub mod Steps
+pub mod Newest
+pub mod Index
+pub mod Kept
+pub mod Batch
+pub mod Order
+pub mod Room
+pub mod Turns
+pub mod Waits
+pub mod Stages
+pub mod Advance

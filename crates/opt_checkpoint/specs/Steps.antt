@@ -1,17 +1,19 @@
 -- What the pipeline's calls make of it, in terms of its own lists: a commit joins, the oldest record becomes durable, notices are taken. It is described in docs/PIPELINE.md.
-use Rattle.std.specs.Prelude.{◌≡◌, ◌⊎◌, ⊤, ℕ, ◌+◌, ◌≤◌, min, ◌||◌, ◌&&◌, Bool, true, false, List, [], ◌∷◌, ◌++◌, length, Result, Ok, Err, OnOk}
+use Rattle.std.specs.Prelude.{◌≡◌, ◌⊎◌, ⊤, ℕ, ◌+◌, ◌-◌, ◌≤◌, min, max, ◌||◌, ◌&&◌, Bool, true, false, List, [], ◌∷◌, ◌++◌, length, drop, None, Result, Ok, Err, OnOk}
 use Rattle.opt_base.specs.Seal.{Blocks}
 use Rattle.opt_disk.specs.declared.event.Event.{Event}
 use Rattle.opt_disk.specs.Cell.{notices}
 use Rattle.opt_base.specs.Counts.{after_calls}
 use Rattle.opt_disk.specs.Disk.{State, Spends}
+use Rattle.opt_geom.specs.Geometry.{Geometry}
+use Rattle.opt_journal.specs.declared.header.Header.{Header}
 use Rattle.opt_journal.specs.Ring.{RingPlaces}
 use Rattle.opt_crash.specs.Ledger.{Ledger, WrittenRecord}
 use Rattle.opt_crash.specs.Steps.{with_record}
 use Rattle.opt_crash.specs.HomeTest.{is_one_of}
 use Rattle.opt_crash.specs.Points.{MountedSession, IsSafe}
 use Rattle.opt_notes.specs.declared.notes.Note.{Note}
-use Rattle.opt_notes.specs.Notes.{is_expected, is_noticed, are_noticed}
+use Rattle.opt_notes.specs.Notes.{is_expected, is_noticed, none_open}
 use Rattle.opt_tx.specs.declared.commit.Committed.{Committed}
 use Rattle.opt_tx.specs.declared.commit.CommitRefusal.{CommitRefusal}
 use Rattle.opt_tx.specs.declared.commit.CommitRefusal.TheVariants.{NoMemory, DiskFault}
@@ -19,7 +21,11 @@ use Rattle.opt_tx.specs.declared.states.Durable.{Durable}
 use Rattle.opt_tx.specs.States.{IsDurableOf, Forgets}
 use Rattle.opt_crash.specs.Writes.{AddsFront}
 use Rattle.opt_checkpoint.specs.declared.pipeline.Pipeline.{Pipeline}
+use Rattle.opt_checkpoint.specs.declared.pipeline.Ready.{Ready}
+use Rattle.opt_checkpoint.specs.Newest.{spot_of, spot_after}
 use Rattle.opt_checkpoint.specs.Agree.{PipelineAgrees}
+use Rattle.opt_checkpoint.specs.Kept.{kept}
+use Rattle.opt_checkpoint.specs.Waits.{OpensNone, AreAllNoticed}
 
 -- the notes once these notices are taken: nothing more is expected, and those of them that were expected are noticed
 pub record TakesAll (tickets : List ℕ) (old new : List Note) : Type 0 where
@@ -45,10 +51,10 @@ pub record TakesNotices {A E : Type 0} (result : Result A E) (v w : Pipeline) (o
   pub notes : TakesAll tickets v.notes.notes w.notes.notes
   pub polls : OnOk result (new.polls ≡ after_calls (min 64 (length tickets + 1)) old.polls)
 
--- all tickets of the oldest committed record are noticed
-abbrev pub is_first_noticed : List Committed → List Note → Bool
-is_first_noticed [] notes = false
-is_first_noticed (c ∷ cs) notes = are_noticed c.tickets.items notes
+-- there is a committed record, and none of the oldest one's tickets is open
+abbrev pub is_first_settled : List Committed → List Note → Bool
+is_first_settled [] notes = false
+is_first_settled (c ∷ cs) notes = none_open c.tickets.items notes
 
 -- the oldest committed record has become the last durable one, its tickets have left the notes, and nothing else has changed
 pub record SettlesFirst (v w : Pipeline) : Type 0 where
@@ -65,12 +71,26 @@ abbrev pub SettlesOrStays : Bool → Pipeline → Pipeline → Type 0
 SettlesOrStays true v w = SettlesFirst v w
 SettlesOrStays false v w = w ≡ v
 
--- the record has become the last committed one, each of its tickets is expected, and nothing else has changed
+-- So many of the committed records, from the oldest on, have become durable and their tickets have left the notes; the records are the same, and nothing else has changed. No ticket is open that wasn't, and where all were noticed all are.
+pub record SettlesSome (count : ℕ) (v w : Pipeline) : Type 0 where
+  pub kept : kept w ≡ kept v
+  pub committed : w.committed.items ≡ drop count v.committed.items
+  pub durable : length w.durable.items ≡ length v.durable.items + count
+  pub opens : OpensNone v.notes.notes w.notes.notes
+  pub noticed : AreAllNoticed v.notes.notes → AreAllNoticed w.notes.notes
+  pub rest : w ≡ record v { committed = w.committed; durable = w.durable; notes = w.notes }
+
+-- what is ready still once this record has taken its part
+abbrev pub ready_after : Committed → Ready → Ready
+ready_after c r = record { records = r.records - 1; writes = r.writes - length c.tickets.items; payloads = r.payloads - length c.payloads.items }
+
+-- The record has become the last committed one, and each of its tickets is expected. The index has its payloads, the counts have it, what was made ready for it is used up, and nothing else has changed.
 pub record Accepts (c : Committed) (v w : Pipeline) : Type 0 where
   pub committed : w.committed.items ≡ v.committed.items ++ c ∷ []
   pub expected : (u : ℕ) → is_expected u w.notes.notes ≡ (is_one_of u c.tickets.items || is_expected u v.notes.notes)
   pub noticed : (u : ℕ) → is_noticed u w.notes.notes ≡ is_noticed u v.notes.notes
-  pub rest : w ≡ record v { committed = w.committed; notes = w.notes }
+  pub newest : (b : ℕ) → spot_of w.newest b ≡ spot_after (spot_of v.newest b) c.number c.payloads.items c.fresh.items c.freed.items b
+  pub rest : w ≡ record v { committed = w.committed; notes = w.notes; last = c.number; unplaced = v.unplaced + length c.payloads.items; newest = w.newest; ready = ready_after c v.ready }
 
 -- After a commit that goes into the pipeline: the disk is safe with the record, and the pipeline agrees. Refused, the record is in the ledger or isn't, and the disk is safe.
 abbrev pub CommitNextLeaves : {A E : Type 0} → MountedSession → Ledger → WrittenRecord → Blocks → ℕ → ℕ → Result A E → Blocks → List Event → Pipeline → RingPlaces → List (ℕ × ℕ) → Type 0
@@ -81,3 +101,37 @@ CommitNextLeaves s l w m t floor (Err e) base new v ring waiting = IsSafe s base
 abbrev pub WhereFront : CommitRefusal → List (ℕ × List ℕ) → List Event → List Event → Type 0
 WhereFront NoMemory ws old new = ⊤
 WhereFront DiskFault ws old new = AddsFront ws old new
+
+-- there is no record: the header, which is in this slot, releases all, and nothing is made ready
+pub record HasNoRecord (g : Geometry) (h : Header) (slot : ℕ) (v : Pipeline) : Type 0 where
+  pub geom : v.geom ≡ g
+  pub header : v.header ≡ h
+  pub slot_is : v.slot ≡ slot
+  pub next : v.next ≡ None
+  pub written : v.written ≡ h
+  pub notes : v.notes.notes ≡ []
+  pub placed : v.placed.items ≡ []
+  pub sure : v.sure.items ≡ []
+  pub durable : v.durable.items ≡ []
+  pub committed : v.committed.items ≡ []
+  pub last : v.last ≡ h.sure
+  pub batch : v.batch ≡ 0
+  pub home : v.home.items ≡ []
+  pub unplaced : v.unplaced ≡ 0
+  pub newest : (b : ℕ) → spot_of v.newest b ≡ None
+  pub ready : v.ready ≡ record { records = 0; writes = 0; payloads = 0 }
+
+-- Which records there are and what is known of them is as before. For how much more there is room, and what is made ready, may differ.
+pub record SamePipeline (v w : Pipeline) : Type 0 where
+  pub placed : w.placed.items ≡ v.placed.items
+  pub sure : w.sure.items ≡ v.sure.items
+  pub durable : w.durable.items ≡ v.durable.items
+  pub committed : w.committed.items ≡ v.committed.items
+  pub home : w.home.items ≡ v.home.items
+  pub notes : w.notes.notes ≡ v.notes.notes
+  pub newest : (b : ℕ) → spot_of w.newest b ≡ spot_of v.newest b
+  pub rest : w ≡ record v { placed = w.placed; sure = w.sure; durable = w.durable; committed = w.committed; home = w.home; blocks = w.blocks; notes = w.notes; newest = w.newest; batch_newest = w.batch_newest; ready = w.ready }
+
+-- what is ready once a record of so many writes and payloads is made ready: of each the greater number
+abbrev pub ready_upto : ℕ → ℕ → Ready → Ready
+ready_upto writes payloads r = record { records = max r.records 1; writes = max r.writes writes; payloads = max r.payloads payloads }

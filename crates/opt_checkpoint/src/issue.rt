@@ -1,7 +1,7 @@
 //! A commit that goes into the pipeline: the heart of a sync whose record fits the ring. When to commit, and
 //! how places come free, isn't said here.
 
-ghost use Rattle.std.specs.Prelude.{◌≡◌, ◌≤◌, ◌<◌, ◌+◌, ◌++◌, ◌⊎◌, ◌-◌, ◌^◌, ℕ, List, length, IsTrue, OnOk, IfErr, vec_len, vec_capacity};
+ghost use Rattle.std.specs.Prelude.{◌≡◌, ◌≤◌, ◌<◌, ◌+◌, ◌++◌, ◌⊎◌, ◌-◌, ◌^◌, ℕ, List, length, IsTrue, OnOk, IfErr};
 ghost use Rattle.opt_base.specs.Seal.{Blocks};
 ghost use Rattle.opt_disk.specs.Disk.{OnlyWrites};
 ghost use Rattle.opt_journal.specs.Ring.{with_places};
@@ -14,7 +14,11 @@ ghost use Rattle.opt_tx.specs.Record.{record_of, written_of, AreBelow, IsTransac
 ghost use Rattle.opt_tx.specs.Commits.{IsCommitOf, WhereNoMemory, WhereDiskFault, is_disk_fault};
 ghost use Rattle.opt_crash.specs.Writes.{AddsWrites};
 ghost use Rattle.opt_tx.specs.Writes.{record_writes};
+ghost use Rattle.opt_checkpoint.specs.Advance.{writes_owed};
 ghost use Rattle.opt_checkpoint.specs.Agree.{PipelineAgrees, HasFreed, AreTaken};
+ghost use Rattle.opt_checkpoint.specs.Index.{IndexIsRight};
+ghost use Rattle.opt_checkpoint.specs.Kept.{places_taken};
+ghost use Rattle.opt_checkpoint.specs.Order.{IsInOrder, HasRoom};
 ghost use Rattle.opt_checkpoint.specs.Steps.{Accepts, CommitNextLeaves, WhereFront};
 
 use crate::{Pipeline, accept};
@@ -43,8 +47,14 @@ pub fn commit_next<D: Disk>(
     requires on_disk { (D.state disk.old).blocks ≡ ring.old.geom.n }
     requires free { ring.old.taken + places (record_of 0 0 running.paid running.laid) ≤ ring.old.geom.j }
     requires below { AreBelow (D.state disk.old).blocks running.laid }
-    requires room { vec_len pipeline.old.committed < vec_capacity pipeline.old.committed }
-    requires tickets { length running.laid + places (record_of 0 0 running.paid running.laid) ≤ pipeline.old.notes.room }
+    requires paid_below { AreBelow (D.state disk.old).blocks running.paid }
+    requires order { IsInOrder pipeline.old }
+    requires room { HasRoom pipeline.old }
+    requires index { IndexIsRight pipeline.old }
+    requires ready { (0 < pipeline.old.ready.records) × (length running.laid + places (record_of 0 0 running.paid running.laid) ≤ pipeline.old.ready.writes) × (length running.paid ≤ pipeline.old.ready.payloads) }
+    requires next { number ≡ pipeline.old.last + 1 }
+    requires ring { ring.old.geom ≡ pipeline.old.geom }
+    requires taken { ring.old.taken ≡ places_taken pipeline.old }
     ensures agrees { IsTrue D.tells → (s : MountedSession) (l : Ledger) (m : Blocks) (t floor : ℕ) (waiting : List (ℕ × ℕ)) (taken : List ℕ) → IsSafe s (D.state disk.old).base (D.state disk.old).log l t floor → PipelineAgrees (D.state disk.old).base (D.state disk.old).log l pipeline.old ring.old waiting taken
         → IsTransaction l epoch number ring.old.next running.paid running.laid m → AreTaken running.laid taken → HasFreed l m running.freed
         → CommitNextLeaves s l (written_of epoch number ring.old.next running.paid running.laid) m t floor result (D.state disk.new).base (D.state disk.new).log pipeline.new ring.new (waiting ++ pairs_of number running.freed) }
@@ -55,6 +65,12 @@ pub fn commit_next<D: Disk>(
     ensures places { IfErr result (λ (back, why). WhereDiskFault why (ring.new ≡ with_places ring.old (places (record_of 0 0 running.paid running.laid)))) }
     ensures front { IsTrue D.tells → IfErr result (λ (back, why). WhereFront why (record_writes ring.old.geom epoch number ring.old.next running.paid running.laid) (D.state disk.old).log (D.state disk.new).log) }
     ensures spends { OnlyWrites (is_disk_fault result) (D.state disk.old) (D.state disk.new) }
+    ensures order { OnOk result (IsInOrder pipeline.new) }
+    ensures room { OnOk result (HasRoom pipeline.new) }
+    ensures index { OnOk result (IndexIsRight pipeline.new) }
+    ensures taken { OnOk result (ring.new.taken ≡ places_taken pipeline.new) }
+    ensures last { OnOk result (pipeline.new.last ≡ number) }
+    ensures owed { OnOk result (writes_owed pipeline.new ≡ writes_owed pipeline.old + length running.paid + 2) }
 {
     noticed_tickets_stay_so();
     let committed = match running.commit(alloc, disk, ring, epoch, number) {

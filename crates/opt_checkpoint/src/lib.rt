@@ -2,10 +2,21 @@
 //! released, as the disk's notices come. When it is called, and what is committed, isn't its matter.
 #![tactic(auto)]
 
+mod advance;
+mod batch;
+mod header;
 mod home;
 mod issue;
+mod making;
+mod newest;
+mod payload;
 mod pipeline;
+mod waits;
 
-pub use home::{write_batch, write_home};
+pub use batch::{begin_batch, end_batch};
+pub use header::{turn_header, write_next_header};
+pub use home::write_home;
 pub use issue::commit_next;
-pub use pipeline::{HomeWrite, Pending, Pipeline, accept, settle_first, take_notices};
+pub use newest::{Newest, Spot};
+pub use payload::the_newest_payloads_are_the_map;
+pub use pipeline::{HomeWrite, Pending, Pipeline, Ready, accept, settle_first, take_notices};

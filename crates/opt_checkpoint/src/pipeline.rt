@@ -1,9 +1,8 @@
 //! What the pipeline knows of the records in the journal and of its own writes, and the steps that need no
-//! write: notices are taken, the oldest record becomes durable, a commit joins. Its lists are plain vectors
-//! for now, whose front is taken out at the cost of their length; deques are to take their place. Headers,
-//! batches and their ends aren't steps here yet.
+//! write: notices are taken, the oldest record becomes durable, a commit joins. Headers and batches are steps
+//! of other modules.
 
-ghost use Rattle.std.specs.Prelude.{◌≡◌, ◌≤◌, ◌<◌, ◌+◌, ◌||◌, ℕ, List, [], ◌++◌, length, IsTrue, if◌then◌else◌, is_err, vec_len, vec_capacity};
+ghost use Rattle.std.specs.Prelude.{◌≡◌, ◌≤◌, ◌<◌, ◌+◌, ◌||◌, ℕ, List, [], ◌∷◌, ◌++◌, length, IsTrue, if◌then◌else◌, is_err};
 ghost use Rattle.opt_base.specs.Seal.{Blocks};
 ghost use Rattle.opt_disk.specs.declared.event.Event.{Event};
 ghost use Rattle.opt_disk.specs.Cell.{IsNoticed};
@@ -18,12 +17,18 @@ ghost use Rattle.opt_crash.specs.Points.{MountedSession, IsSafe};
 ghost use Rattle.opt_crash.specs.Recording.{IsInLedger};
 ghost use Rattle.opt_crash.specs.Steps.{with_known, with_record};
 ghost use Rattle.opt_notes.specs.Notes.{is_expected, is_noticed};
-ghost use Rattle.opt_tx.specs.Record.{written_of};
+ghost use Rattle.opt_tx.specs.Record.{written_of, AreBelow};
 ghost use Rattle.opt_tx.specs.Commits.{IsCommitOf};
 ghost use Rattle.opt_tx.specs.Running.{Changes};
 ghost use Rattle.opt_checkpoint.specs.Agree.{PipelineAgrees, AreNewTickets, HasFreed, data_of};
-ghost use Rattle.opt_checkpoint.specs.Steps.{TakesNotices, TakesOne, PollsUpTo, SettlesOrStays, Accepts, is_first_noticed};
+ghost use Rattle.opt_checkpoint.specs.Advance.{writes_owed};
+ghost use Rattle.opt_checkpoint.specs.Index.{IndexIsRight};
+ghost use Rattle.opt_checkpoint.specs.Kept.{kept, of_committed, places_taken};
+ghost use Rattle.opt_checkpoint.specs.Order.{IsInOrder, HasRoom, HasPlaces};
+ghost use Rattle.opt_checkpoint.specs.Waits.{HearsMore};
+ghost use Rattle.opt_checkpoint.specs.Steps.{TakesNotices, TakesOne, PollsUpTo, SettlesOrStays, Accepts, is_first_settled, ready_after};
 
+use crate::newest::Newest;
 use opt_crash::{
     known_tickets_may_go, nothing_is_written_between_records, noticed_records_are_known,
     one_write_is_pending, one_write_stays_pending, poll_once, records_become_durable,
@@ -32,8 +37,9 @@ use opt_crash::{
 use opt_disk::{Disk, DiskFault};
 use opt_geom::Geom;
 use opt_journal::Header;
-use opt_notes::Notes;
+use opt_notes::{Notes, expected_tickets_are_noticed_or_open, notes_of_few_tickets_are_few};
 use opt_tx::{Committed, Durable, Placed, Sure, a_record_keeps_its_puts};
+use std::collections::VecDeque;
 
 /// How many notices one call takes at most.
 const MOST_NOTICES: u32 = 64;
@@ -52,22 +58,43 @@ pub struct HomeWrite {
     pub ticket: u64,
 }
 
+/// What was made ready for the next commit: so many records, writes and payloads more.
+#[derive(Clone, Copy, Debug, PartialEq, Eq)]
+pub struct Ready {
+    pub records: u32,
+    pub writes: u32,
+    pub payloads: u32,
+}
+
 /// The records that aren't released, each in its state, oldest first; the headers; the batch.
-#[derive(Debug, Drop)]
+#[derive(Drop)]
 pub struct Pipeline {
     pub geom: Geom,
     /// The durable header, and its slot.
     pub header: Header,
     pub slot: u32,
     pub next: Option<Pending>,
+    /// The header that was written last, also where that write was lost.
+    pub written: Header,
     pub notes: Notes,
-    pub placed: Vec<Placed>,
-    pub sure: Vec<Sure>,
-    pub durable: Vec<Durable>,
-    pub committed: Vec<Committed>,
+    pub placed: VecDeque<Placed>,
+    pub sure: VecDeque<Sure>,
+    pub durable: VecDeque<Durable>,
+    pub committed: VecDeque<Committed>,
+    /// The number of the last record.
+    pub last: u64,
     /// So many of the sure records are the batch, whose checkpoint writes are all issued.
-    pub batch: u32,
+    pub batch: usize,
     pub home: Vec<HomeWrite>,
+    /// How many payloads the records have that aren't placed.
+    pub unplaced: u32,
+    /// Where the newest payload of each block is that one of these records has.
+    pub newest: Newest,
+    /// The same of the batch alone, while it begins. Between calls nothing is looked up here.
+    pub batch_newest: Newest,
+    /// Block numbers, while a batch begins or blocks are given back. Between calls nothing is looked up here.
+    pub blocks: Vec<u32>,
+    pub ready: Ready,
 }
 
 /// Takes the notices that the disk has, 64 at most.
@@ -79,6 +106,7 @@ pub fn take_notices<D: Disk>(disk: &mut D, pipeline: &mut Pipeline) -> Result<()
         → IsSafe s (D.state disk.new).base (D.state disk.new).log l t floor × PipelineAgrees (D.state disk.new).base (D.state disk.new).log l pipeline.new ring waiting taken }
     ensures takes { IsTrue D.tells → TakesNotices result pipeline.old pipeline.new (D.state disk.old) (D.state disk.new) }
     ensures rest { pipeline.new ≡ record pipeline.old { notes = pipeline.new.notes } }
+    ensures hears { HearsMore pipeline.old.notes pipeline.new.notes }
     ensures spends { PollsUpTo (is_err result) 64 (D.state disk.old) (D.state disk.new) }
 {
     for turn in 0..MOST_NOTICES {
@@ -95,6 +123,7 @@ fn take_notice<D: Disk>(disk: &mut D, pipeline: &mut Pipeline) -> Result<bool, D
         → IsSafe s (D.state disk.new).base (D.state disk.new).log l t floor × PipelineAgrees (D.state disk.new).base (D.state disk.new).log l pipeline.new ring waiting taken }
     ensures takes { IsTrue D.tells → TakesOne result pipeline.old pipeline.new (D.state disk.old).log (D.state disk.new).log }
     ensures rest { pipeline.new ≡ record pipeline.old { notes = pipeline.new.notes } }
+    ensures hears { HearsMore pipeline.old.notes pipeline.new.notes }
     ensures spends { OnlyPolls (is_err result) (D.state disk.old) (D.state disk.new) }
 {
     nothing_is_written_between_records();
@@ -109,14 +138,17 @@ fn take_notice<D: Disk>(disk: &mut D, pipeline: &mut Pipeline) -> Result<bool, D
     }
 }
 
-/// Lets the oldest committed transaction become durable, where all its tickets are noticed, and answers
+/// Lets the oldest committed transaction become durable, where none of its tickets is open, and answers
 /// whether it did. Then the notes drop these tickets.
 pub fn settle_first(pipeline: &mut Pipeline) -> bool
-    requires room { vec_len pipeline.old.durable < vec_capacity pipeline.old.durable }
+    requires order { IsInOrder pipeline.old }
+    requires room { HasRoom pipeline.old }
     ensures agrees { (s : MountedSession) (base : Blocks) (log : List Event) (l : Ledger) (t floor : ℕ) (ring : RingPlaces) (waiting : List (ℕ × ℕ)) (taken : List ℕ) → IsSafe s base log l t floor → PipelineAgrees base log l pipeline.old ring waiting taken
         → IsSafe s base log (if result then with_known l (l.known + 1) else l) t floor × PipelineAgrees base log (if result then with_known l (l.known + 1) else l) pipeline.new ring waiting taken }
-    ensures exact { result ≡ is_first_noticed pipeline.old.committed.items pipeline.old.notes.notes }
+    ensures exact { result ≡ is_first_settled pipeline.old.committed.items pipeline.old.notes.notes }
     ensures settles { SettlesOrStays result pipeline.old pipeline.new }
+    ensures order { IsInOrder pipeline.new }
+    ensures room { HasRoom pipeline.new }
 {
     records_become_durable();
     noticed_records_are_known();
@@ -124,36 +156,88 @@ pub fn settle_first(pipeline: &mut Pipeline) -> bool
     one_write_stays_pending();
     records_stand_in_order();
     taken_blocks_stay_dead();
+    expected_tickets_are_noticed_or_open();
+    notes_of_few_tickets_are_few();
+    pipeline.notes.lawful();
     if pipeline.committed.is_empty() {
         return false;
     }
     if !pipeline
         .notes
-        .all_noticed(pipeline.committed[0].tickets.as_slice())
+        .none_open(pipeline.committed[0].tickets.as_slice())
     {
         return false;
     }
-    let first = pipeline.committed.remove(0);
+    let first = pipeline.committed.pop_front().unwrap();
     let durable = first.settled_for_good(&mut pipeline.notes).unwrap();
-    pipeline.durable.push(durable).unwrap();
+    pipeline.notes.lawful();
+    pipeline.durable.push_back(durable).unwrap();
     true
 }
 
-/// Takes a transaction that was committed as the next record. There must be room for it and for its tickets.
+/// Takes a transaction that was committed as the next record. What was made ready must be enough for it.
 pub fn accept(pipeline: &mut Pipeline, committed: Committed)
-    requires room { vec_len pipeline.old.committed < vec_capacity pipeline.old.committed }
-    requires tickets { length committed.tickets.items ≤ pipeline.old.notes.room }
+    requires order { IsInOrder pipeline.old }
+    requires room { HasRoom pipeline.old }
+    requires index { IndexIsRight pipeline.old }
+    requires ready { (0 < pipeline.old.ready.records) × (length committed.tickets.items ≤ pipeline.old.ready.writes) × (length committed.payloads.items ≤ pipeline.old.ready.payloads) }
+    requires next { committed.number ≡ pipeline.old.last + 1 }
+    requires places { places_taken pipeline.old + committed.count ≤ pipeline.old.geom.j }
+    requires has { HasPlaces (of_committed committed) }
+    requires below { AreBelow pipeline.old.geom.n committed.payloads.items }
     ensures agrees { (s : MountedSession) (base : Blocks) (old new : List Event) (l : Ledger) (m : Blocks) (t floor epoch : ℕ) (ring : RingPlaces) (waiting : List (ℕ × ℕ)) (taken : List ℕ) (running : Changes) → PipelineAgrees base old l pipeline.old ring waiting taken → IsSafe s base old l t floor
         → IsCommitOf running (next_number l) ring.next committed → ((u : ℕ) → IsNoticed u old → IsNoticed u new) → AreNewTickets old new committed.tickets.items → HasFreed l m committed.freed.items
         → IsInLedger s base new l (data_of pipeline.old ring waiting) (written_of epoch (next_number l) ring.next running.paid running.laid) m t floor committed.tickets.items
         → ((freed : List ℕ) → HasOnePending base new (with_record l (written_of epoch (next_number l) ring.next running.paid running.laid) m) (with_committed (data_of pipeline.old ring waiting) l (written_of epoch (next_number l) ring.next running.paid running.laid) committed.tickets.items freed) [])
         → PipelineAgrees base new (with_record l (written_of epoch (next_number l) ring.next running.paid running.laid) m) pipeline.new (with_places ring (places (written_of epoch (next_number l) ring.next running.paid running.laid).says)) (waiting ++ pairs_of (next_number l) committed.freed.items) [] }
     ensures accepts { Accepts committed pipeline.old pipeline.new }
+    ensures order { IsInOrder pipeline.new }
+    ensures room { HasRoom pipeline.new }
+    ensures index { IndexIsRight pipeline.new }
+    ensures kept { kept pipeline.new ≡ kept pipeline.old ++ of_committed committed ∷ [] }
+    ensures taken { places_taken pipeline.new ≡ places_taken pipeline.old + committed.count }
+    ensures owed { writes_owed pipeline.new ≡ writes_owed pipeline.old + length committed.payloads.items + 2 }
 {
     records_stand_in_order();
     a_record_keeps_its_puts();
     expect_all(&mut pipeline.notes, committed.tickets.as_slice());
-    pipeline.committed.push(committed).unwrap();
+    pipeline.newest.add(
+        committed.number,
+        committed.payloads.as_slice(),
+        committed.fresh.as_slice(),
+        committed.freed.as_slice(),
+    );
+    pipeline.last = committed.number;
+    pipeline.unplaced += payload_count(&committed);
+    pipeline.ready = ready_after(&committed, &pipeline.ready);
+    pipeline.committed.push_back(committed).unwrap();
+}
+
+/// How many payloads the record has.
+fn payload_count(committed: &Committed) -> u32
+    requires { length committed.now.payloads.items ≤ 4294967295 }
+    ensures { result ≡ length committed.now.payloads.items }
+{
+    committed.payloads.len() as u32
+}
+
+/// What is ready still once the record has taken its part.
+fn ready_after(committed: &Committed, ready: &Ready) -> Ready
+    requires one { 0 < ready.now.records }
+    requires writes { length committed.now.tickets.items ≤ ready.now.writes }
+    requires payloads { length committed.now.payloads.items ≤ ready.now.payloads }
+    ensures { result ≡ ready_after committed.now ready.now }
+{
+    let Ready {
+        records,
+        writes,
+        payloads,
+    } = *ready;
+    Ready {
+        records: records - 1,
+        writes: writes - committed.tickets.len() as u32,
+        payloads: payloads - payload_count(committed),
+    }
 }
 
 /// Expects all these tickets. There must be room for them.
@@ -161,6 +245,7 @@ fn expect_all(notes: &mut Notes, tickets: &[u64])
     requires room { length tickets.now ≤ notes.old.room }
     ensures expected { (u : ℕ) → is_expected u notes.new.notes ≡ (is_one_of u tickets.now || is_expected u notes.old.notes) }
     ensures noticed { (u : ℕ) → is_noticed u notes.new.notes ≡ is_noticed u notes.old.notes }
+    ensures left { notes.old.room ≤ notes.new.room + length tickets.now }
 {
     for ticket in tickets {
         notes.expect(*ticket);

@@ -2,6 +2,7 @@
 use Rattle.std.proofs.Common.{Ok, true, false, refl, ◌∙◌, ap, arith}
 use Rattle.opt_base.specs.Counts.{next_count}
 use Rattle.opt_checkpoint.specs.declared.pipeline.Pipeline.{Pipeline}
+use Rattle.opt_checkpoint.proofs.Hears.{hears_on, hears_same}
 use Rattle.opt_checkpoint.proofs.NoticeRows.{none_taken, one_taken, last_taken, polls_step, polls_on, polls_few}
 use Rattle.opt_checkpoint.proofs.pipeline.take_notices.Goals as goal
 
@@ -9,6 +10,7 @@ pub loop-turn-init : goal.loop-turn-init
 loop-turn-init g c = record {
   spends = record { same = record { blocks = refl; base = refl }; faults = refl; read_faults = refl; waits = refl; polls = refl };
   rest = refl;
+  hears = hears_same _;
   takes = λ tells. none_taken c.args.pipeline.now (g.D.Disk.state c.args.disk.now).log;
   agrees = λ tells s l t floor ring waiting taken safe a. (safe, a);
 }
@@ -22,6 +24,7 @@ returns-then-not-branch-clause-agrees g c = λ tells s l t floor ring waiting ta
 pub loop-turn-preserved : goal.loop-turn-preserved
 loop-turn-preserved g c = record {
   spends = polls_on false c.loop-turn.turn _ _ _ c.loop-turn.invariant.spends c.in_ok-take_notice.ensures.spends;
+  hears = hears_on _ _ _ c.loop-turn.invariant.hears c.take_notice.ensures.hears;
   rest = c.take_notice.ensures.rest ∙ ap (λ (v : Pipeline). record v { notes = c.take_notice.new.pipeline.notes }) c.loop-turn.invariant.rest;
   takes = λ tells. one_taken c.take_notice.result c.loop-turn.turn c.args.pipeline.now c.loop-turn.pipeline c.take_notice.new.pipeline _ _ _ (c.in_ok-take_notice.was ∙ ap Ok c.if-not-branch.false) (c.loop-turn.invariant.takes tells) (c.take_notice.ensures.takes tells);
   agrees = λ tells s l t floor ring waiting taken safe a. let was = c.loop-turn.invariant.agrees tells s l t floor ring waiting taken safe a in c.take_notice.ensures.agrees tells s l t floor ring waiting taken was.0 was.1;
@@ -39,3 +42,9 @@ returns-then-not-branch-clause-spends g c = polls_few _ false c.loop-turn.turn 6
 
 pub returns-clause-spends : goal.returns-clause-spends
 returns-clause-spends g c = record { asked = c.loop-turn.turn; upto = omega (arith, c.loop-turn.auto.turn-end); spends = c.loop-turn.invariant.spends }
+
+pub returns-in_err-take_notice-clause-hears : goal.returns-in_err-take_notice-clause-hears
+returns-in_err-take_notice-clause-hears g c = hears_on _ _ _ c.loop-turn.invariant.hears c.take_notice.ensures.hears
+
+pub returns-then-not-branch-clause-hears : goal.returns-then-not-branch-clause-hears
+returns-then-not-branch-clause-hears g c = hears_on _ _ _ c.loop-turn.invariant.hears c.take_notice.ensures.hears

@@ -6,12 +6,14 @@ use Rattle.opt_crash.specs.Points.{MountedSession, IsSafe}
 use Rattle.opt_disk.specs.Cell.{notices}
 use Rattle.opt_checkpoint.specs.Agree.{PipelineAgrees}
 use Rattle.opt_checkpoint.specs.Steps.{TakesAll}
+use Rattle.opt_checkpoint.specs.Waits.{HearsMore}
 use Rattle.opt_checkpoint.proofs.pipeline.take_notices.Given as goal
 
 abbrev pub invariant-loop-turn : goal.invariant-loop-turn
 invariant-loop-turn g l = record {
   spends : Spends false 0 l.turn (g.D.Disk.state l.fn.disk) (g.D.Disk.state l.disk);
   rest : l.pipeline ≡ record l.fn.pipeline { notes = l.pipeline.notes };
+  hears : HearsMore l.fn.pipeline.notes l.pipeline.notes;
   takes : IsTrue g.D.Disk.tells → (ts : List ℕ) × (length ts ≡ l.turn) × ((g.D.Disk.state l.disk).log ≡ (g.D.Disk.state l.fn.disk).log ++ notices ts) × TakesAll ts l.fn.pipeline.notes.notes l.pipeline.notes.notes;
   agrees : IsTrue g.D.Disk.tells → (s : MountedSession) (k : Ledger) (t floor : ℕ) (ring : RingPlaces) (waiting : List (ℕ × ℕ)) (taken : List ℕ) → IsSafe s (g.D.Disk.state l.fn.disk).base (g.D.Disk.state l.fn.disk).log k t floor → PipelineAgrees (g.D.Disk.state l.fn.disk).base (g.D.Disk.state l.fn.disk).log k l.fn.pipeline ring waiting taken
       → IsSafe s (g.D.Disk.state l.disk).base (g.D.Disk.state l.disk).log k t floor × PipelineAgrees (g.D.Disk.state l.disk).base (g.D.Disk.state l.disk).log k l.pipeline ring waiting taken;

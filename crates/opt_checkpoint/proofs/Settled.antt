@@ -1,0 +1,83 @@
+-- Several records that become durable one after the other.
+use Rattle.std.proofs.Common.{◌≡◌, ℕ, ◌+◌, ◌≤◌, ◌&&◌, not, Bool, true, false, if◌then◌else◌, List, [], ◌∷◌, length, drop, refl, sym, ◌∙◌, ap, subst, arith, length-append}
+use Rattle.std.proofs.lemmas.Bool.{false≢true, and_parts}
+use Rattle.opt_base.specs.Seal.{Blocks}
+use Rattle.opt_disk.specs.declared.event.Event.{Event}
+use Rattle.opt_journal.specs.Ring.{RingPlaces}
+use Rattle.opt_crash.specs.Ledger.{Ledger}
+use Rattle.opt_crash.specs.Points.{MountedSession, IsSafe}
+use Rattle.opt_crash.specs.Steps.{with_known}
+use Rattle.opt_notes.specs.declared.notes.Note.{Note}
+use Rattle.opt_notes.specs.Notes.{Expected, is_expected, is_noticed, is_among}
+use Rattle.opt_tx.specs.declared.commit.Committed.{Committed}
+use Rattle.opt_tx.specs.declared.states.Durable.{Durable}
+use Rattle.opt_tx.specs.States.{Forgets}
+use Rattle.opt_checkpoint.specs.declared.pipeline.Pipeline.{Pipeline}
+use Rattle.opt_checkpoint.specs.Agree.{PipelineAgrees}
+use Rattle.opt_checkpoint.specs.Steps.{SettlesFirst, SettlesSome, SettlesOrStays, is_first_settled}
+use Rattle.opt_checkpoint.specs.Waits.{OpensNone, AreAllNoticed}
+use Rattle.opt_checkpoint.specs.Advance.{AgreesOn, Turned}
+use Rattle.opt_checkpoint.proofs.KeptRows.{drop_rest}
+use Rattle.opt_checkpoint.proofs.Orders.{kept_settled}
+
+-- tickets that are dropped aren't open any more, and others are as they were
+pub forgets_opens : (ts : List ℕ) (old new : Expected) → Forgets ts old new → OpensNone old.notes new.notes
+forgets_opens ts old new f u e = by (is_among u ts) (is_expected u old.notes) (is_noticed u old.notes) (is_expected u new.notes) (is_noticed u new.notes) (f.expected u) (f.noticed u) e
+  where
+    by : (a x n y m : Bool) → y ≡ (not a && x) → m ≡ (not a && n) → (y && not m) ≡ true → (x && not n) ≡ true
+    by true x n y m ey em e = absurd (false≢true (sym (ap (λ b. b && not m) ey) ∙ e))
+    by false x n y m ey em e = sym (ap (λ b. b && not m) ey ∙ ap (λ b. x && not b) em) ∙ e
+
+pub forgets_noticed : (ts : List ℕ) (old new : Expected) → Forgets ts old new → AreAllNoticed old.notes → AreAllNoticed new.notes
+forgets_noticed ts old new f all u e = let p = and_parts (not (is_among u ts)) (is_expected u old.notes) (sym (f.expected u) ∙ e) in f.noticed u ∙ both (not (is_among u ts)) (is_noticed u old.notes) p.0 (all u p.1)
+  where
+    both : (p q : Bool) → p ≡ true → q ≡ true → (p && q) ≡ true
+    both true q e h = h
+    both false q e h = absurd (false≢true e)
+
+-- none yet
+pub settles_none : (v : Pipeline) → SettlesSome 0 v v
+settles_none v = record { kept = refl; committed = refl; durable = omega arith; opens = λ u e. e; noticed = λ all. all; rest = refl }
+
+-- one more
+pub settles_more : (n : ℕ) (v w x : Pipeline) → SettlesSome n v w → SettlesFirst w x → SettlesSome (n + 1) v x
+settles_more n v w x s f = record {
+  kept = kept_settled w x f.first f.settled f.rest f.was f.durable f.keeps ∙ s.kept;
+  committed = drop_rest n v.committed.items x.committed.items f.first (sym s.committed ∙ f.was);
+  durable = omega (arith, s.durable, length-append w.durable.items (f.settled ∷ []), ap (λ (ds : List Durable). length ds) f.durable);
+  opens = λ u e. s.opens u (forgets_opens f.first.tickets.items w.notes x.notes f.forgets u e);
+  noticed = λ all. forgets_noticed f.first.tickets.items w.notes x.notes f.forgets (s.noticed all);
+  rest = f.rest ∙ ap (λ (p : Pipeline). record p { committed = x.committed; durable = x.durable; notes = x.notes }) s.rest;
+}
+
+pub turned_same : (l : Ledger) → Turned l l
+turned_same l = record { geom = refl; epoch = refl; map_before = refl; next = refl; known = omega arith }
+
+pub turned_on : (l k m : Ledger) → Turned l k → Turned k m → Turned l m
+turned_on l k m one two = record { geom = two.geom ∙ one.geom; epoch = two.epoch ∙ one.epoch; map_before = two.map_before ∙ one.map_before; next = two.next ∙ one.next; known = omega (arith, one.known, two.known) }
+
+-- one record more is known
+pub known_more : (l : Ledger) → Turned l (with_known l (l.known + 1))
+known_more l = record { geom = refl; epoch = refl; map_before = refl; next = refl; known = omega arith }
+
+module _ (s : MountedSession) (base : Blocks) (log : List Event) (l : Ledger) (t floor : ℕ) (ring : RingPlaces) (waiting : List (ℕ × ℕ)) (taken : List ℕ) where
+  pub agrees_more : (r : Bool) (v w : Pipeline) → r ≡ true → AgreesOn s base log l t floor v ring waiting taken
+      → ((k : Ledger) → IsSafe s base log k t floor → PipelineAgrees base log k v ring waiting taken → IsSafe s base log (if r then with_known k (k.known + 1) else k) t floor × PipelineAgrees base log (if r then with_known k (k.known + 1) else k) w ring waiting taken)
+      → AgreesOn s base log l t floor w ring waiting taken
+  agrees_more true v w e a step = let next = step a.now a.safe a.agrees in record { now = with_known a.now (a.now.known + 1); turned = turned_on l a.now (with_known a.now (a.now.known + 1)) a.turned (known_more a.now); safe = next.0; agrees = next.1 }
+  agrees_more false v w e a step = absurd (false≢true e)
+
+  pub agrees_as : (v w : Pipeline) → w ≡ v → AgreesOn s base log l t floor v ring waiting taken → AgreesOn s base log l t floor w ring waiting taken
+  agrees_as v w same a = subst (λ (p : Pipeline). AgreesOn s base log l t floor p ring waiting taken) (sym same) a
+
+pub settled_first : (r : Bool) (v w : Pipeline) → r ≡ true → SettlesOrStays r v w → SettlesFirst v w
+settled_first true v w e s = s
+settled_first false v w e s = absurd (false≢true e)
+
+pub stayed : (r : Bool) (v w : Pipeline) → r ≡ false → SettlesOrStays r v w → w ≡ v
+stayed false v w e s = s
+stayed true v w e s = absurd (false≢true (sym e))
+
+-- with no committed record left none is settled
+pub none_left : (cs : List Committed) (all : List Committed) (n : ℕ) (notes : List Note) → cs ≡ drop n all → length all ≤ n → is_first_settled cs notes ≡ false
+none_left cs all n notes is le = ap (λ (xs : List Committed). is_first_settled xs notes) (is ∙ Rattle.std.proofs.lemmas.List.drop_all n all le)

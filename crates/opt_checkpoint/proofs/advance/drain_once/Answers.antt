@@ -1,0 +1,34 @@
+-- Where there is no record nothing is done; else a wait for all tickets, and the steps that are due then.
+use Rattle.std.proofs.Common.{ap, arith}
+use Rattle.opt_crash.specs.Counts.{writes_in}
+use Rattle.opt_checkpoint.proofs.Heard.{sound_heard, serves_heard, owed_heard, writes_noticed}
+use Rattle.opt_checkpoint.proofs.Settled.{turned_same}
+use Rattle.opt_checkpoint.proofs.StageRows.{empty_is_on}
+use Rattle.opt_checkpoint.proofs.StepsRight.{leaves_failed}
+use Rattle.opt_checkpoint.proofs.advance.drain_once.Goals as goal
+
+pub returns-then-is_empty-clause-stage : goal.returns-then-is_empty-clause-stage
+returns-then-is_empty-clause-stage g c = empty_is_on c.args.pipeline.now c.requires.sound.order c.is_empty.result c.if-is_empty.true c.is_empty.ensures
+
+pub returns-in_err-wait_for_all-clause-right : goal.returns-in_err-wait_for_all-clause-right
+returns-in_err-wait_for_all-clause-right g c = λ tells s l t floor taken right.
+    let waited = c.wait_for_all.ensures.agrees tells s l t floor c.args.ring.now c.args.reuse.now.waiting taken right.safe right.agrees in
+    leaves_failed c.from_residual.result s (g.D.Disk.state c.wait_for_all.new.disk) l t floor c.wait_for_all.new.pipeline c.args.ring.now c.args.reuse.now taken c.from_residual.ensures.0 (record { now = l; turned = turned_same l; safe = waited.0 })
+
+pub returns-in_err-wait_for_all-clause-owed : goal.returns-in_err-wait_for_all-clause-owed
+returns-in_err-wait_for_all-clause-owed g c = λ tells.
+    let heard = c.wait_for_all.ensures.log tells in
+    omega (arith, ap writes_in heard.log, writes_noticed (g.D.Disk.state c.args.disk.now).log heard.tickets, owed_heard c.args.pipeline.now c.wait_for_all.new.pipeline c.wait_for_all.ensures.rest)
+
+pub go_on-requires-clause-sound : goal.go_on-requires-clause-sound
+go_on-requires-clause-sound g c = sound_heard c.args.pipeline.now c.wait_for_all.new.pipeline c.args.ring.now c.args.reuse.now c.wait_for_all.ensures.rest c.wait_for_all.ensures.hears c.requires.sound
+
+pub returns-clause-right : goal.returns-clause-right
+returns-clause-right g c = λ tells s l t floor taken right.
+    let waited = c.wait_for_all.ensures.agrees tells s l t floor c.args.ring.now c.args.reuse.now.waiting taken right.safe right.agrees in
+    c.go_on.ensures.right tells s l t floor taken (record { safe = waited.0; agrees = waited.1; serves = serves_heard l c.args.pipeline.now c.wait_for_all.new.pipeline c.args.reuse.now c.wait_for_all.ensures.rest c.wait_for_all.ensures.hears right.serves })
+
+pub returns-clause-owed : goal.returns-clause-owed
+returns-clause-owed g c = λ tells.
+    let heard = c.wait_for_all.ensures.log tells in
+    omega (arith, c.go_on.ensures.owed tells, ap writes_in heard.log, writes_noticed (g.D.Disk.state c.args.disk.now).log heard.tickets, owed_heard c.args.pipeline.now c.wait_for_all.new.pipeline c.wait_for_all.ensures.rest)

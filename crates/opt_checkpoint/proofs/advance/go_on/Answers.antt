@@ -1,0 +1,91 @@
+-- One step after the other: all stays right, and each write was owed.
+use Rattle.std.proofs.Common.{refl, arith}
+use Rattle.opt_checkpoint.specs.Advance.{MayServe}
+use Rattle.opt_checkpoint.specs.Turns.{is_batch_due, is_header_due, due_header, header_made}
+use Rattle.opt_checkpoint.proofs.MovesRows.{turns_left, moves_upto_batch, moves_whole, sound_batch, sound_header}
+use Rattle.opt_checkpoint.proofs.StageRows.{stage_on}
+use Rattle.opt_checkpoint.proofs.DueRows.{nothing_due}
+use Rattle.opt_checkpoint.proofs.Serves.{serves_batch}
+use Rattle.opt_checkpoint.proofs.StepsRight.{leaves_failed, header_failed, serves_header, right_header, owed_header}
+use Rattle.opt_checkpoint.proofs.advance.go_on.Goals as goal
+
+pub returns-in_err-begin_batch-clause-right : goal.returns-in_err-begin_batch-clause-right
+returns-in_err-begin_batch-clause-right g c = λ tells s l t floor taken right.
+    let a = c.go_forward.ensures.right s (g.D.Disk.state c.args.disk.now).base (g.D.Disk.state c.args.disk.now).log l t floor taken right in
+    let safe = (c.begin_batch.ensures.agrees tells s a.now t floor c.go_forward.new.ring c.go_forward.new.reuse.waiting taken a.right.safe a.right.agrees).0 in
+    leaves_failed c.from_residual.result s (g.D.Disk.state c.begin_batch.new.disk) l t floor c.begin_batch.new.pipeline c.go_forward.new.ring c.go_forward.new.reuse taken c.from_residual.ensures.0 (record { now = a.now; turned = a.turned; safe = safe })
+
+pub write_next_header-requires-clause-turn : goal.write_next_header-requires-clause-turn
+write_next_header-requires-clause-turn g c =
+    let f = c.go_forward.ensures.forward in
+    let moved = moves_upto_batch (is_batch_due c.go_forward.new.pipeline) c.begin_batch.result c.args.pipeline.now f.0 f.1 f.2 c.go_forward.new.pipeline c.begin_batch.new.pipeline c.args.ring.now c.go_forward.new.ring c.args.reuse.now c.go_forward.new.reuse
+    c.calls_change_what_is_dead.ensures.released c.lawful.ensures c.requires.sound.order f.3 c.begin_batch.ensures.begins in
+    let low = turns_left c.args.pipeline.now c.begin_batch.new.pipeline c.args.ring.now c.go_forward.new.ring c.args.reuse.now c.go_forward.new.reuse 18446744073709551614 (omega (arith, c.requires.turns.turn)) c.begin_batch.ensures.order moved in
+    omega (arith, low)
+
+pub write_next_header-requires-clause-last : goal.write_next_header-requires-clause-last
+write_next_header-requires-clause-last g c =
+    let f = c.go_forward.ensures.forward in
+    let moved = moves_upto_batch (is_batch_due c.go_forward.new.pipeline) c.begin_batch.result c.args.pipeline.now f.0 f.1 f.2 c.go_forward.new.pipeline c.begin_batch.new.pipeline c.args.ring.now c.go_forward.new.ring c.args.reuse.now c.go_forward.new.reuse
+    c.calls_change_what_is_dead.ensures.released c.lawful.ensures c.requires.sound.order f.3 c.begin_batch.ensures.begins in
+    omega (arith, c.requires.turns.last, moved.last)
+
+pub returns-in_err-write_next_header-clause-right : goal.returns-in_err-write_next_header-clause-right
+returns-in_err-write_next_header-clause-right g c = λ tells s l t floor taken right.
+    let a = c.go_forward.ensures.right s (g.D.Disk.state c.args.disk.now).base (g.D.Disk.state c.args.disk.now).log l t floor taken right in
+    let b = c.in_ok-begin_batch.ensures.agrees tells s a.now t floor c.go_forward.new.ring c.go_forward.new.reuse.waiting taken a.right.safe a.right.agrees in
+    let safe = c.in_err-write_next_header.ensures.agrees tells s a.now t floor c.go_forward.new.reuse.waiting taken b.0 b.1 in
+    leaves_failed c.from_residual-in_err-write_next_header.result s (g.D.Disk.state c.write_next_header.new.disk) l t floor c.write_next_header.new.pipeline c.go_forward.new.ring c.go_forward.new.reuse taken c.from_residual-in_err-write_next_header.ensures.0
+    (header_failed s (g.D.Disk.state c.write_next_header.new.disk) l a.now t floor (due_header c.begin_batch.new.pipeline c.go_forward.new.ring) a.turned safe)
+
+pub returns-in_err-write_next_header-clause-owed : goal.returns-in_err-write_next_header-clause-owed
+returns-in_err-write_next_header-clause-owed g c = λ tells.
+    let one = owed_header c.begin_batch.new.pipeline c.write_next_header.new.pipeline c.go_forward.new.ring (is_header_due c.begin_batch.new.pipeline) c.write_next_header.result _ _ c.calls_add_at_most_one_write.ensures.write c.write_next_header.ensures.adds (c.write_next_header.ensures.log tells) c.write_next_header.ensures.owed in
+    omega (arith, one, c.begin_batch.ensures.owed tells, c.go_forward.ensures.owed)
+
+pub returns-clause-right : goal.returns-clause-right
+returns-clause-right g c = λ tells s l t floor taken right.
+    let ring = c.go_forward.new.ring in
+    let dead = c.go_forward.new.reuse in
+    let w = c.go_forward.new.pipeline in
+    let x = c.begin_batch.new.pipeline in
+    let y = c.write_next_header.new.pipeline in
+    let a = c.go_forward.ensures.right s (g.D.Disk.state c.args.disk.now).base (g.D.Disk.state c.args.disk.now).log l t floor taken right in
+    let b = c.in_ok-begin_batch.ensures.agrees tells s a.now t floor ring dead.waiting taken a.right.safe a.right.agrees in
+    let h = c.in_ok-write_next_header.ensures.agrees tells s a.now t floor dead.waiting taken b.0 b.1 in
+    let begun : MayServe a.now x dead = serves_batch (g.D.Disk.state c.args.disk.now).base (g.D.Disk.state c.args.disk.now).log a.now w x ring dead taken a.right.agrees a.right.safe.keeps c.lawful-2.ensures c.go_forward.ensures.sound.goes_with.dead_geom a.right.serves
+    c.a_batch_goes_home.ensures.taken c.counts_tell_the_batch.ensures.batch c.the_home_test_is_exact.ensures.needs c.a_freed_block_waits.ensures.waits (is_batch_due w) refl c.in_ok-begin_batch.ensures.begins in
+    let made : MayServe (header_made x ring a.now) y dead = serves_header (g.D.Disk.state c.begin_batch.new.disk).base (g.D.Disk.state c.begin_batch.new.disk).log (g.D.Disk.state c.write_next_header.new.disk).log a.now x y ring dead.waiting taken dead (is_header_due x) refl b.1 c.in_ok-write_next_header.ensures.adds (c.in_ok-write_next_header.ensures.log tells) begun in
+    right_header s (g.D.Disk.state c.write_next_header.new.disk) l a.now t floor x y ring dead taken a.turned h.0 h.1 made
+
+pub returns-clause-sound : goal.returns-clause-sound
+returns-clause-sound g c =
+    sound_header _ _ (is_header_due c.begin_batch.new.pipeline) c.in_ok-write_next_header.field-0 c.begin_batch.new.pipeline c.write_next_header.new.pipeline c.go_forward.new.ring c.go_forward.new.reuse c.in_ok-write_next_header.ensures.adds c.in_ok-write_next_header.ensures.order c.in_ok-write_next_header.ensures.room
+    (sound_batch (is_batch_due c.go_forward.new.pipeline) c.begin_batch.result c.go_forward.new.pipeline c.begin_batch.new.pipeline c.go_forward.new.ring c.go_forward.new.reuse c.begin_batch.ensures.begins c.begin_batch.ensures.order c.begin_batch.ensures.room c.go_forward.ensures.sound)
+
+pub returns-clause-moves : goal.returns-clause-moves
+returns-clause-moves g c =
+    let f = c.go_forward.ensures.forward in
+    moves_whole (is_batch_due c.go_forward.new.pipeline) (is_header_due c.begin_batch.new.pipeline) c.begin_batch.result c.write_next_header.result c.args.pipeline.now f.0 f.1 f.2 c.go_forward.new.pipeline c.begin_batch.new.pipeline c.write_next_header.new.pipeline
+    c.args.ring.now c.go_forward.new.ring c.args.reuse.now c.go_forward.new.reuse c.calls_change_what_is_dead.ensures.released c.lawful.ensures c.requires.sound.order c.begin_batch.ensures.order f.3 c.begin_batch.ensures.begins c.write_next_header.ensures.adds
+
+pub returns-clause-due : goal.returns-clause-due
+returns-clause-due g c = λ tells s l t floor taken right.
+    let old = g.D.Disk.state c.args.disk.now in
+    let middle = g.D.Disk.state c.begin_batch.new.disk in
+    let new = g.D.Disk.state c.write_next_header.new.disk in
+    let f = c.go_forward.ensures.forward in
+    let on = c.go_forward.ensures.right s old.base old.log l t floor taken right in
+    let begun = c.in_ok-begin_batch.ensures.agrees tells s on.now t floor c.go_forward.new.ring c.go_forward.new.reuse.waiting taken on.right.safe on.right.agrees in
+    nothing_due _ _ _ _ c.in_ok-begin_batch.field-0 c.in_ok-write_next_header.field-0 c.args.pipeline.now f.0 f.1 f.2 c.go_forward.new.pipeline c.begin_batch.new.pipeline c.write_next_header.new.pipeline c.args.ring.now c.go_forward.new.ring c.args.reuse.now c.go_forward.new.reuse old.log middle.log new.log
+    c.requires.sound.order right.agrees.apart f.3 c.in_ok-begin_batch.ensures.begins c.in_ok-write_next_header.ensures.adds (c.in_ok-write_next_header.ensures.log tells) begun.1.notes
+
+pub returns-clause-stage : goal.returns-clause-stage
+returns-clause-stage g c =
+    let f = c.go_forward.ensures.forward in
+    stage_on _ _ c.args.pipeline.now f.0 f.1 f.2 c.go_forward.new.pipeline c.begin_batch.new.pipeline c.write_next_header.new.pipeline c.args.ring.now c.go_forward.new.ring c.args.reuse.now c.go_forward.new.reuse c.requires.sound.order f.3 c.in_ok-begin_batch.ensures.begins c.in_ok-write_next_header.ensures.adds
+
+pub returns-clause-owed : goal.returns-clause-owed
+returns-clause-owed g c = λ tells.
+    let one = owed_header c.begin_batch.new.pipeline c.write_next_header.new.pipeline c.go_forward.new.ring (is_header_due c.begin_batch.new.pipeline) c.write_next_header.result _ _ c.calls_add_at_most_one_write.ensures.write c.write_next_header.ensures.adds (c.write_next_header.ensures.log tells) c.write_next_header.ensures.owed in
+    omega (arith, one, c.begin_batch.ensures.owed tells, c.go_forward.ensures.owed)

@@ -1,0 +1,40 @@
+-- The notices are taken, and then the steps that are due are made.
+use Rattle.std.proofs.Common.{ap, arith}
+use Rattle.opt_crash.specs.Counts.{writes_in}
+use Rattle.opt_checkpoint.proofs.Heard.{sound_heard, turns_heard, has_turns, serves_heard, owed_heard, due_heard, writes_noticed}
+use Rattle.opt_checkpoint.proofs.Settled.{turned_same}
+use Rattle.opt_checkpoint.proofs.Spent.{on_ok}
+use Rattle.opt_checkpoint.proofs.StepsRight.{leaves_failed}
+use Rattle.opt_checkpoint.proofs.pipeline.Pipeline.advance.Goals as goal
+
+pub returns-in_err-take_notices-clause-right : goal.returns-in_err-take_notices-clause-right
+returns-in_err-take_notices-clause-right g c = λ tells s l t floor taken right.
+    let heard = c.take_notices.ensures.agrees tells s l t floor c.args.ring.now c.args.reuse.now.waiting taken right.safe right.agrees in
+    leaves_failed c.from_residual.result s (g.D.Disk.state c.take_notices.new.disk) l t floor c.take_notices.new.pipeline c.args.ring.now c.args.reuse.now taken c.from_residual.ensures.0 (record { now = l; turned = turned_same l; safe = heard.0 })
+
+pub returns-in_err-take_notices-clause-owed : goal.returns-in_err-take_notices-clause-owed
+returns-in_err-take_notices-clause-owed g c = λ tells.
+    let heard = c.take_notices.ensures.takes tells in
+    omega (arith, ap writes_in heard.log, writes_noticed (g.D.Disk.state c.args.disk.now).log heard.tickets, owed_heard c.args.self.now c.take_notices.new.pipeline c.take_notices.ensures.rest)
+
+pub go_on-requires-clause-sound : goal.go_on-requires-clause-sound
+go_on-requires-clause-sound g c = sound_heard c.args.self.now c.take_notices.new.pipeline c.args.ring.now c.args.reuse.now c.take_notices.ensures.rest c.take_notices.ensures.hears c.requires.sound
+
+pub go_on-requires-clause-turns : goal.go_on-requires-clause-turns
+go_on-requires-clause-turns g c = turns_heard 1 c.args.self.now c.take_notices.new.pipeline c.take_notices.ensures.rest (has_turns 1 c.args.self.now (omega arith) c.requires.turns)
+
+pub returns-clause-right : goal.returns-clause-right
+returns-clause-right g c = λ tells s l t floor taken right.
+    let heard = c.take_notices.ensures.agrees tells s l t floor c.args.ring.now c.args.reuse.now.waiting taken right.safe right.agrees in
+    c.go_on.ensures.right tells s l t floor taken (record { safe = heard.0; agrees = heard.1; serves = serves_heard l c.args.self.now c.take_notices.new.pipeline c.args.reuse.now c.take_notices.ensures.rest c.take_notices.ensures.hears right.serves })
+
+pub returns-clause-due : goal.returns-clause-due
+returns-clause-due g c = λ tells s l t floor taken right.
+    let heard = c.take_notices.ensures.agrees tells s l t floor c.args.ring.now c.args.reuse.now.waiting taken right.safe right.agrees in
+    on_ok c.go_on.result (c.go_on.ensures.due tells s l t floor taken (record { safe = heard.0; agrees = heard.1; serves = serves_heard l c.args.self.now c.take_notices.new.pipeline c.args.reuse.now c.take_notices.ensures.rest c.take_notices.ensures.hears right.serves }))
+    (due_heard c.args.self.now c.take_notices.new.pipeline c.go_on.new.pipeline c.take_notices.ensures.rest)
+
+pub returns-clause-owed : goal.returns-clause-owed
+returns-clause-owed g c = λ tells.
+    let heard = c.take_notices.ensures.takes tells in
+    omega (arith, c.go_on.ensures.owed tells, ap writes_in heard.log, writes_noticed (g.D.Disk.state c.args.disk.now).log heard.tickets, owed_heard c.args.self.now c.take_notices.new.pipeline c.take_notices.ensures.rest)

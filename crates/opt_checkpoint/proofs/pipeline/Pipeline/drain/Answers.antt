@@ -1,0 +1,45 @@
+-- Round after round, and then blocks serve again.
+use Rattle.std.proofs.Common.{true, false, is_err, subst, arith}
+use Rattle.opt_checkpoint.specs.Waits.{WaitsSome}
+use Rattle.opt_checkpoint.proofs.MovesRows.{moves_on}
+use Rattle.opt_checkpoint.proofs.Rounds.{leaves_on, stays_on, served_sound, served_moves, served_drained, served_stays}
+use Rattle.opt_checkpoint.proofs.Spent.{failed_waits, waits_on}
+use Rattle.opt_checkpoint.proofs.StepsRight.{leaves_failed}
+use Rattle.opt_checkpoint.proofs.pipeline.Pipeline.drain.Goals as goal
+
+pub returns-in_err-drain_once-clause-right : goal.returns-in_err-drain_once-clause-right
+returns-in_err-drain_once-clause-right g c = λ tells s l t floor taken right.
+    let was = c.loop-round.invariant.right tells s l t floor taken right in
+    leaves_on c.from_residual.result s (g.D.Disk.state c.drain_once.new.disk) l t floor c.drain_once.new.pipeline c.drain_once.new.ring c.drain_once.new.reuse taken was.now was.turned
+    (leaves_failed c.from_residual.result s (g.D.Disk.state c.drain_once.new.disk) was.now t floor c.drain_once.new.pipeline c.drain_once.new.ring c.drain_once.new.reuse taken c.from_residual.ensures.0 (c.in_err-drain_once.ensures.right tells s was.now t floor taken was.right))
+
+pub returns-in_err-drain_once-clause-spends : goal.returns-in_err-drain_once-clause-spends
+returns-in_err-drain_once-clause-spends g c = failed_waits _ _ _ c.from_residual.ensures.0 (waits_on true _ _ _ c.loop-round.invariant.spends (subst (λ r. WaitsSome (is_err r) (g.D.Disk.state c.loop-round.disk) (g.D.Disk.state c.drain_once.new.disk)) c.in_err-drain_once.was c.drain_once.ensures.spends))
+
+pub loop-round-preserved : goal.loop-round-preserved
+loop-round-preserved g c =
+    let was = c.loop-round.invariant in
+    record {
+      sound = c.in_ok-drain_once.ensures.sound;
+      moves = moves_on c.loop-round.round 1 c.args.self.now c.loop-round.self c.drain_once.new.pipeline c.args.ring.now c.loop-round.ring c.drain_once.new.ring c.args.reuse.now c.loop-round.reuse c.drain_once.new.reuse was.moves c.in_ok-drain_once.ensures.moves;
+      stage = c.in_ok-drain_once.ensures.stage c.loop-round.round was.stage;
+      right = λ tells s l t floor taken right.
+          let one = was.right tells s l t floor taken right in
+          stays_on s (g.D.Disk.state c.drain_once.new.disk).base (g.D.Disk.state c.drain_once.new.disk).log l t floor c.drain_once.new.pipeline c.drain_once.new.ring c.drain_once.new.reuse taken one.now one.turned (c.in_ok-drain_once.ensures.right tells s one.now t floor taken one.right);
+      owed = λ tells. omega (arith, was.owed tells, c.drain_once.ensures.owed tells);
+      spends = waits_on false _ _ _ was.spends c.in_ok-drain_once.ensures.spends;
+    }
+
+pub returns-clause-right : goal.returns-clause-right
+returns-clause-right g c = λ tells s l t floor taken right.
+    served_stays c.loop-round.self c.serve_blocks.new.pipeline c.loop-round.ring c.loop-round.reuse c.serve_blocks.new.reuse c.serve_blocks.ensures.serves c.serve_blocks.ensures.rest s (g.D.Disk.state c.loop-round.disk).base (g.D.Disk.state c.loop-round.disk).log l t floor taken
+    c.a_freed_block_waits.ensures.stays c.fewer_may_wait.ensures (c.loop-round.invariant.right tells s l t floor taken right)
+
+pub returns-clause-sound : goal.returns-clause-sound
+returns-clause-sound g c = served_sound c.loop-round.self c.serve_blocks.new.pipeline c.loop-round.ring c.loop-round.reuse c.serve_blocks.new.reuse c.serve_blocks.ensures.serves c.serve_blocks.ensures.rest c.loop-round.invariant.sound c.serve_blocks.ensures.order c.serve_blocks.ensures.room
+
+pub returns-clause-moves : goal.returns-clause-moves
+returns-clause-moves g c = served_moves c.loop-round.self c.serve_blocks.new.pipeline c.loop-round.ring c.loop-round.reuse c.serve_blocks.new.reuse c.serve_blocks.ensures.serves c.serve_blocks.ensures.rest c.loop-round.round c.args.self.now c.args.ring.now c.args.reuse.now (omega (arith, c.loop-round.auto.round-end)) c.calls_change_what_is_dead.ensures.released c.lawful.ensures c.loop-round.invariant.moves
+
+pub returns-clause-drained : goal.returns-clause-drained
+returns-clause-drained g c = served_drained c.loop-round.self c.serve_blocks.new.pipeline c.loop-round.ring c.loop-round.reuse c.serve_blocks.new.reuse c.serve_blocks.ensures.serves c.serve_blocks.ensures.rest c.loop-round.round (omega (arith, c.loop-round.auto.round-end, c.loop-round-test.false)) c.loop-round.invariant.stage c.loop-round.invariant.sound

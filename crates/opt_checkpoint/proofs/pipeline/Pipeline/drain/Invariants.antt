@@ -1,0 +1,18 @@
+use Rattle.std.proofs.Common.{◌+◌, ◌≤◌, ℕ, List, IsTrue, false}
+use Rattle.opt_crash.specs.Counts.{writes_in}
+use Rattle.opt_crash.specs.Ledger.{Ledger}
+use Rattle.opt_crash.specs.Points.{MountedSession}
+use Rattle.opt_checkpoint.specs.Advance.{IsSound, IsRightOn, StaysRight, Moves, writes_owed}
+use Rattle.opt_checkpoint.specs.Stages.{IsAtStage}
+use Rattle.opt_checkpoint.specs.Waits.{WaitsSome}
+use Rattle.opt_checkpoint.proofs.pipeline.Pipeline.drain.Given as goal
+
+abbrev pub invariant-loop-round : goal.invariant-loop-round
+invariant-loop-round g l = record {
+  sound : IsSound l.self l.ring l.reuse;
+  moves : Moves l.round l.fn.self l.self l.fn.ring l.ring l.fn.reuse l.reuse;
+  stage : IsAtStage l.round l.self;
+  right : IsTrue g.D.Disk.tells → (s : MountedSession) (k : Ledger) (t floor : ℕ) (taken : List ℕ) → IsRightOn s (g.D.Disk.state l.fn.disk) k t floor l.fn.self l.fn.ring l.fn.reuse taken → StaysRight s (g.D.Disk.state l.disk).base (g.D.Disk.state l.disk).log k t floor l.self l.ring l.reuse taken;
+  owed : IsTrue g.D.Disk.tells → writes_in (g.D.Disk.state l.disk).log + writes_owed l.self ≤ writes_in (g.D.Disk.state l.fn.disk).log + writes_owed l.fn.self;
+  spends : WaitsSome false (g.D.Disk.state l.fn.disk) (g.D.Disk.state l.disk);
+}

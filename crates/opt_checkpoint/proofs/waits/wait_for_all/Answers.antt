@@ -1,0 +1,43 @@
+-- Each turn has one ticket more noticed.
+use Rattle.std.proofs.Common.{◌∙◌, true, false, is_err, refl, ap, subst, arith}
+use Rattle.opt_checkpoint.specs.Waits.{WaitsSome}
+use Rattle.opt_checkpoint.specs.declared.pipeline.Pipeline.{Pipeline}
+use Rattle.opt_checkpoint.proofs.Hears.{here, hears_on, all_noticed, upto_more}
+use Rattle.opt_checkpoint.proofs.Spent.{failed_waits, waits_on, no_waits, notices_on, no_notices}
+use Rattle.opt_checkpoint.proofs.waits.wait_for_all.Goals as goal
+
+pub returns-in_err-wait_for_note-clause-agrees : goal.returns-in_err-wait_for_note-clause-agrees
+returns-in_err-wait_for_note-clause-agrees g c = λ tells s l t floor ring waiting taken safe a. let was = c.loop-at.invariant.agrees tells s l t floor ring waiting taken safe a in c.wait_for_note.ensures.agrees tells s l t floor ring waiting taken was.0 was.1
+
+pub returns-in_err-wait_for_note-clause-log : goal.returns-in_err-wait_for_note-clause-log
+returns-in_err-wait_for_note-clause-log g c = λ tells. notices_on _ _ _ (c.loop-at.invariant.log tells) (c.wait_for_note.ensures.log tells)
+
+pub returns-in_err-wait_for_note-clause-spends : goal.returns-in_err-wait_for_note-clause-spends
+returns-in_err-wait_for_note-clause-spends g c = failed_waits _ _ _ c.from_residual.ensures.0 (waits_on true _ _ _ c.loop-at.invariant.spends (subst (λ r. WaitsSome (is_err r) (g.D.Disk.state c.loop-at.disk) (g.D.Disk.state c.wait_for_note.new.disk)) c.in_err-wait_for_note.was c.wait_for_note.ensures.spends))
+
+pub loop-at-init : goal.loop-at-init
+loop-at-init g c = record {
+  hears = record { tickets = refl; room = refl; noticed = λ u e. e };
+  rest = refl;
+  upto = λ k n lt. absurd (omega (arith, lt));
+  log = λ tells. no_notices _;
+  spends = no_waits _;
+  agrees = λ tells s l t floor ring waiting taken safe a. (safe, a);
+}
+
+pub loop-at-preserved : goal.loop-at-preserved
+loop-at-preserved g c =
+    let v = c.loop-at.pipeline in
+    let w = c.wait_for_note.new.pipeline in
+    record {
+      hears = hears_on c.args.pipeline.now.notes v.notes w.notes c.loop-at.invariant.hears c.wait_for_note.ensures.hears;
+      rest = c.wait_for_note.ensures.rest ∙ ap (λ (p : Pipeline). record p { notes = w.notes }) c.loop-at.invariant.rest;
+      upto = upto_more c.args.pipeline.now.notes.notes v.notes w.notes c.loop-at.at c.loop-at.invariant.upto c.wait_for_note.ensures.hears.noticed
+          (λ n is. here c.args.pipeline.now.notes.notes v.notes.notes w.notes.notes c.loop-at.at n c.loop-at.invariant.hears.tickets is c.in_ok-wait_for_note.ensures.noticed);
+      log = λ tells. notices_on _ _ _ (c.loop-at.invariant.log tells) (c.wait_for_note.ensures.log tells);
+      spends = waits_on false _ _ _ c.loop-at.invariant.spends c.in_ok-wait_for_note.ensures.spends;
+      agrees = λ tells s l t floor ring waiting taken safe a. let was = c.loop-at.invariant.agrees tells s l t floor ring waiting taken safe a in c.wait_for_note.ensures.agrees tells s l t floor ring waiting taken was.0 was.1;
+    }
+
+pub returns-clause-noticed : goal.returns-clause-noticed
+returns-clause-noticed g c = all_noticed c.args.pipeline.now.notes.notes c.loop-at.pipeline.notes.notes c.loop-at.at c.loop-at.invariant.hears.tickets (omega (arith, c.loop-at-test.false, c.len-at-end.ensures)) c.loop-at.invariant.upto

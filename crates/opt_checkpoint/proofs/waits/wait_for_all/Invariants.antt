@@ -1,0 +1,19 @@
+use Rattle.std.proofs.Common.{◌≡◌, ℕ, List, IsTrue, false}
+use Rattle.opt_journal.specs.Ring.{RingPlaces}
+use Rattle.opt_crash.specs.Ledger.{Ledger}
+use Rattle.opt_crash.specs.Points.{MountedSession, IsSafe}
+use Rattle.opt_checkpoint.specs.Agree.{PipelineAgrees}
+use Rattle.opt_checkpoint.specs.Waits.{HearsMore, OnlyNotices, WaitsSome}
+use Rattle.opt_checkpoint.proofs.Hears.{AreNoticedUpto}
+use Rattle.opt_checkpoint.proofs.waits.wait_for_all.Given as goal
+
+abbrev pub invariant-loop-at : goal.invariant-loop-at
+invariant-loop-at g l = record {
+  hears : HearsMore l.fn.pipeline.notes l.pipeline.notes;
+  rest : l.pipeline ≡ record l.fn.pipeline { notes = l.pipeline.notes };
+  upto : AreNoticedUpto l.at l.fn.pipeline.notes.notes l.pipeline.notes.notes;
+  log : IsTrue g.D.Disk.tells → OnlyNotices (g.D.Disk.state l.fn.disk).log (g.D.Disk.state l.disk).log;
+  spends : WaitsSome false (g.D.Disk.state l.fn.disk) (g.D.Disk.state l.disk);
+  agrees : IsTrue g.D.Disk.tells → (s : MountedSession) (k : Ledger) (t floor : ℕ) (ring : RingPlaces) (waiting : List (ℕ × ℕ)) (taken : List ℕ) → IsSafe s (g.D.Disk.state l.fn.disk).base (g.D.Disk.state l.fn.disk).log k t floor → PipelineAgrees (g.D.Disk.state l.fn.disk).base (g.D.Disk.state l.fn.disk).log k l.fn.pipeline ring waiting taken
+      → IsSafe s (g.D.Disk.state l.disk).base (g.D.Disk.state l.disk).log k t floor × PipelineAgrees (g.D.Disk.state l.disk).base (g.D.Disk.state l.disk).log k l.pipeline ring waiting taken;
+}

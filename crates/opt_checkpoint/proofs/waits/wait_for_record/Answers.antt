@@ -1,0 +1,48 @@
+-- Each turn has one ticket more that isn't open.
+use Rattle.std.proofs.Common.{rules, ◌<◌, get_or, deque_len, ◌≡◌, ◌∙◌, length, true, false, is_err, refl, sym, ap, subst, arith}
+use Rattle.opt_notes.specs.Notes.{is_open}
+use Rattle.opt_checkpoint.specs.Waits.{WaitsSome}
+use Rattle.opt_checkpoint.specs.declared.pipeline.Pipeline.{Pipeline}
+use Rattle.opt_checkpoint.proofs.Hears.{hears_on, closed_more, none_open_of, ticket_at, ends}
+use Rattle.opt_checkpoint.proofs.Spent.{failed_waits, waits_on, no_waits, notices_on, no_notices}
+use Rattle.opt_checkpoint.proofs.waits.wait_for_record.Goals as goal
+
+pub returns-in_err-wait_where_open-clause-agrees : goal.returns-in_err-wait_where_open-clause-agrees
+returns-in_err-wait_where_open-clause-agrees g c = λ tells s l t floor ring waiting taken safe a. let was = c.loop-k.invariant.agrees tells s l t floor ring waiting taken safe a in c.wait_where_open.ensures.agrees tells s l t floor ring waiting taken was.0 was.1
+
+pub returns-in_err-wait_where_open-clause-log : goal.returns-in_err-wait_where_open-clause-log
+returns-in_err-wait_where_open-clause-log g c = λ tells. notices_on _ _ _ (c.loop-k.invariant.log tells) (c.wait_where_open.ensures.log tells)
+
+pub returns-in_err-wait_where_open-clause-spends : goal.returns-in_err-wait_where_open-clause-spends
+returns-in_err-wait_where_open-clause-spends g c = failed_waits _ _ _ c.from_residual.ensures.0 (waits_on true _ _ _ c.loop-k.invariant.spends (subst (λ r. WaitsSome (is_err r) (g.D.Disk.state c.loop-k.disk) (g.D.Disk.state c.wait_where_open.new.disk)) c.in_err-wait_where_open.was c.wait_where_open.ensures.spends))
+
+pub loop-k-init : goal.loop-k-init
+loop-k-init g c = record {
+  hears = record { tickets = refl; room = refl; noticed = λ u e. e };
+  rest = refl;
+  upto = λ c2 is k t lt. absurd (omega (arith, lt));
+  log = λ tells. no_notices _;
+  spends = no_waits _;
+  agrees = λ tells s l t floor ring waiting taken safe a. (safe, a);
+}
+
+pub loop-k-preserved : goal.loop-k-preserved
+loop-k-preserved g c =
+    let v = c.loop-k.pipeline in
+    let w = c.wait_where_open.new.pipeline in
+    record {
+      hears = hears_on c.args.pipeline.now.notes v.notes w.notes c.loop-k.invariant.hears c.wait_where_open.ensures.hears;
+      rest = c.wait_where_open.ensures.rest ∙ ap (λ (p : Pipeline). record p { notes = w.notes }) c.loop-k.invariant.rest;
+      upto = λ c2 is. closed_more c2.tickets.items v.notes w.notes c.loop-k.k (c.loop-k.invariant.upto c2 is) c.wait_where_open.ensures.hears (λ t at. subst (λ n. is_open n w.notes.notes ≡ false) (sym (ticket_at c.args.pipeline.now.committed.items c.args.at c.loop-k.k c.index-in-loop-k.result.now c2 t c.index-ticket.result.now c.requires (c.index-in-loop-k.ensures ∙ ap (λ (p : Pipeline). get_or p.committed.items c.args.at c.index-in-loop-k.result.now) c.loop-k.invariant.rest) c.index-ticket.ensures is at)) c.in_ok-wait_where_open.ensures.closed);
+      log = λ tells. notices_on _ _ _ (c.loop-k.invariant.log tells) (c.wait_where_open.ensures.log tells);
+      spends = waits_on false _ _ _ c.loop-k.invariant.spends c.in_ok-wait_where_open.ensures.spends;
+      agrees = λ tells s l t floor ring waiting taken safe a. let was = c.loop-k.invariant.agrees tells s l t floor ring waiting taken safe a in c.wait_where_open.ensures.agrees tells s l t floor ring waiting taken was.0 was.1;
+    }
+
+pub returns-clause-noticed : goal.returns-clause-noticed
+returns-clause-noticed g c = λ c2 is.
+    let size : c.len-k-end.result ≡ length c.index.result.now.tickets.items = search rules in
+    none_open_of c2.tickets.items c.loop-k.pipeline.notes.notes c.loop-k.k (ends c.args.pipeline.now.committed.items c.args.at c.index.result.now c2 c.loop-k.k c.requires c.index.ensures is (omega (arith, c.loop-k-test.false, size))) (c.loop-k.invariant.upto c2 is)
+
+pub index-requires-in-loop-k : goal.index-requires-in-loop-k
+index-requires-in-loop-k g c = subst (λ (p : Pipeline). c.args.at < deque_len p.committed) (sym c.loop-k.invariant.rest) (search rules)

@@ -1,0 +1,58 @@
+-- Each turn has one record more of which no ticket is open.
+use Rattle.std.proofs.Common.{rules, ⊎_elim, ◌<◌, get_or, ◌≡◌, ◌∙◌, length, slice_get, Some, true, false, is_err, refl, sym, ap, subst, arith}
+use Rattle.opt_checkpoint.specs.Waits.{WaitsSome}
+use Rattle.opt_checkpoint.specs.declared.pipeline.Pipeline.{Pipeline}
+use Rattle.opt_checkpoint.proofs.Hears.{hears_on, records_more, record_at}
+use Rattle.opt_checkpoint.proofs.Numbers.{committed_rise}
+use Rattle.std.proofs.lemmas.Bool.{cases_lt}
+use Rattle.std.proofs.lemmas.Option.{slice_get_within}
+use Rattle.opt_checkpoint.proofs.Spent.{failed_waits, waits_on, no_waits, notices_on, no_notices}
+use Rattle.opt_checkpoint.proofs.waits.wait_upto.Goals as goal
+
+pub returns-in_err-wait_for_record-clause-agrees : goal.returns-in_err-wait_for_record-clause-agrees
+returns-in_err-wait_for_record-clause-agrees g c = λ tells s l t floor ring waiting taken safe a. let was = c.loop-at.invariant.agrees tells s l t floor ring waiting taken safe a in c.wait_for_record.ensures.agrees tells s l t floor ring waiting taken was.0 was.1
+
+pub returns-in_err-wait_for_record-clause-log : goal.returns-in_err-wait_for_record-clause-log
+returns-in_err-wait_for_record-clause-log g c = λ tells. notices_on _ _ _ (c.loop-at.invariant.log tells) (c.wait_for_record.ensures.log tells)
+
+pub returns-in_err-wait_for_record-clause-spends : goal.returns-in_err-wait_for_record-clause-spends
+returns-in_err-wait_for_record-clause-spends g c = failed_waits _ _ _ c.from_residual.ensures.0 (waits_on true _ _ _ c.loop-at.invariant.spends (subst (λ r. WaitsSome (is_err r) (g.D.Disk.state c.loop-at.disk) (g.D.Disk.state c.wait_for_record.new.disk)) c.in_err-wait_for_record.was c.wait_for_record.ensures.spends))
+
+pub loop-at-init : goal.loop-at-init
+loop-at-init g c = record {
+  hears = record { tickets = refl; room = refl; noticed = λ u e. e };
+  rest = refl;
+  upto = λ k c2 lt. absurd (omega (arith, lt));
+  log = λ tells. no_notices _;
+  spends = no_waits _;
+  agrees = λ tells s l t floor ring waiting taken safe a. (safe, a);
+}
+
+pub loop-at-preserved : goal.loop-at-preserved
+loop-at-preserved g c =
+    let v = c.loop-at.pipeline in
+    let w = c.wait_for_record.new.pipeline in
+    record {
+      hears = hears_on c.args.pipeline.now.notes v.notes w.notes c.loop-at.invariant.hears c.wait_for_record.ensures.hears;
+      rest = c.wait_for_record.ensures.rest ∙ ap (λ (p : Pipeline). record p { notes = w.notes }) c.loop-at.invariant.rest;
+      upto = records_more c.args.pipeline.now.committed.items v.notes w.notes c.loop-at.at c.loop-at.invariant.upto c.wait_for_record.ensures.hears
+          (λ c2 is. c.in_ok-wait_for_record.ensures.noticed c2 (ap (λ (p : Pipeline). slice_get p.committed.items c.loop-at.at) c.loop-at.invariant.rest ∙ is));
+      log = λ tells. notices_on _ _ _ (c.loop-at.invariant.log tells) (c.wait_for_record.ensures.log tells);
+      spends = waits_on false _ _ _ c.loop-at.invariant.spends c.in_ok-wait_for_record.ensures.spends;
+      agrees = λ tells s l t floor ring waiting taken safe a. let was = c.loop-at.invariant.agrees tells s l t floor ring waiting taken safe a in c.wait_for_record.ensures.agrees tells s l t floor ring waiting taken was.0 was.1;
+    }
+
+pub returns-then-upto-index-clause-noticed : goal.returns-then-upto-index-clause-noticed
+returns-then-upto-index-clause-noticed g c = λ k c2 is upto.
+    let v = c.args.pipeline.now in
+    let there : slice_get v.committed.items k ≡ Some c2 = sym (ap (λ (p : Pipeline). slice_get p.committed.items k) c.loop-at.invariant.rest) ∙ is in
+    let low : c.loop-at.at < length v.committed.items = search rules in
+    let first : slice_get v.committed.items c.loop-at.at ≡ Some c.index.result.now = record_at v.committed.items c.loop-at.at c.index.result.now low (c.index.ensures ∙ ap (λ (p : Pipeline). get_or p.committed.items c.loop-at.at c.index.result.now) c.loop-at.invariant.rest) in
+    ⊎_elim (λ less. c.loop-at.invariant.upto k c2 less there) (λ not_less. absurd (omega (arith, upto, c.if-upto-index.true, committed_rise v c.requires.order c.loop-at.at k c.index.result.now c2 first there not_less))) (cases_lt k c.loop-at.at)
+
+pub returns-clause-noticed : goal.returns-clause-noticed
+returns-clause-noticed g c = λ k c2 is upto.
+    let v = c.args.pipeline.now in
+    let there : slice_get v.committed.items k ≡ Some c2 = sym (ap (λ (p : Pipeline). slice_get p.committed.items k) c.loop-at.invariant.rest) ∙ is in
+    let all : c.len-at-end.result ≡ length v.committed.items = search rules in
+    c.loop-at.invariant.upto k c2 (omega (arith, c.loop-at-test.false, all, slice_get_within v.committed.items k c2 there)) there
