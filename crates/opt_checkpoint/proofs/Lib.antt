@@ -48,3 +48,4 @@ pub mod ForwardRight
 pub mod ForwardSound
 pub mod DueRows
 pub mod MovesRows
+pub mod Taking

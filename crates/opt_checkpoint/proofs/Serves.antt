@@ -23,14 +23,14 @@ use Rattle.opt_checkpoint.specs.Turns.{BeginsBatch, BatchAdds, is_batch_due}
 use Rattle.opt_checkpoint.proofs.Lists.{choose_true}
 use Rattle.opt_checkpoint.proofs.HomeBytes.{home_is_newest}
 
-among_left : (b : ℕ) (xs ys : List ℕ) → is_among b xs ≡ true → is_among b (xs ++ ys) ≡ true
+pub among_left : (b : ℕ) (xs ys : List ℕ) → is_among b xs ≡ true → is_among b (xs ++ ys) ≡ true
 among_left b xs ys e = list_any-append (λ x. x == b) xs ys ∙ ap (λ v. v || is_among b ys) e
 
 or_right : (p q : Bool) → q ≡ true → (p || q) ≡ true
 or_right true q e = refl
 or_right false q e = e
 
-pair_among : (b r k : ℕ) (ps : List (ℕ × ℕ)) → slice_get ps k ≡ Some (b, r) → is_among b (map block_of ps) ≡ true
+pub pair_among : (b r k : ℕ) (ps : List (ℕ × ℕ)) → slice_get ps k ≡ Some (b, r) → is_among b (map block_of ps) ≡ true
 pair_among b r k [] is = absurd (none-some (b, r) is)
 pair_among b r zero (p ∷ ps) is = ap (λ v. v || is_among b (map block_of ps)) (eq-eqb (block_of p) b (ap block_of (same_Some p (b, r) is)))
 pair_among b r (suc k) (p ∷ ps) is = or_right (block_of p == b) (is_among b (map block_of ps)) (pair_among b r k ps is)
