@@ -16,3 +16,6 @@ pub mod Begun
 pub mod Sound
 pub mod Dead
 pub mod Releases
+pub mod NextRows
+pub mod NextMap
+pub mod Next

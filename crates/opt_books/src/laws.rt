@@ -1,14 +1,21 @@
 //! Laws of the books, each an empty function whose clauses say it: that the bookkeeping by them is sound, what a
-//! commit would have, what the map is by them, and when other dead blocks leave them as sound.
+//! commit would have, what the map is by them, that it may be committed, and when other dead blocks leave them as
+//! sound.
 
-ghost use Rattle.std.specs.Prelude.{◌≡◌, ◌<◌, ◌≤◌, ℕ, true, false, length};
+ghost use Rattle.std.specs.Prelude.{◌≡◌, ◌+◌, ◌<◌, ◌≤◌, ℕ, true, false, IsTrue, Some, length, slice_get};
 ghost use Rattle.opt_base.specs.Seal.{Blocks};
-ghost use Rattle.opt_geom.specs.Geometry.{LiesIn};
+ghost use Rattle.opt_geom.specs.Geometry.{LiesIn, data_start};
 ghost use Rattle.opt_geom.specs.Geometry.Area.{Data};
 ghost use Rattle.opt_layout.specs.Bitmap.{is_set};
+ghost use Rattle.opt_journal.specs.declared.header.Header.{Header};
+ghost use Rattle.opt_journal.specs.Run.{places, all_places, place_after, is_live};
+ghost use Rattle.opt_crash.specs.Ledger.{Ledger, IsStanding, next_number, all_say};
+ghost use Rattle.opt_crash.specs.LastWrites.{IsDead};
 ghost use Rattle.opt_crash.specs.HomeTest.{is_one_of};
+ghost use Rattle.opt_tx.specs.declared.put.Put.{Put};
+ghost use Rattle.opt_tx.specs.Record.{record_of, AreBelow, IsTransaction};
 ghost use Rattle.opt_reuse.specs.Dead.{DeadBlocks, AreSound};
-ghost use Rattle.opt_blocks.specs.Running.{payloads, fresh_blocks};
+ghost use Rattle.opt_blocks.specs.Running.{payloads, fresh_blocks, HasNoBare};
 ghost use Rattle.opt_blocks.specs.State.{Bookkeeping, defined_part};
 ghost use Rattle.opt_blocks.specs.Calls.{IsSound};
 ghost use Rattle.opt_books.specs.Books.{TransactionBooks, has_put, bit_now, is_taken_now, is_marked, running_of, with_books, bytes_over, map_of};
@@ -39,6 +46,20 @@ pub fn the_map_has_the_bits()
     ensures bits { (v : TransactionBooks) (last : Blocks) (b : ℕ) → BeganAt v last → b < v.geom.n → is_marked v b ≡ is_set v.geom (map_of v last) b }
     ensures bitmap { (v : TransactionBooks) (last : Blocks) → BeganAt v last → HasBitmap v (map_of v last) }
     ensures part { (k : Bookkeeping) (v : TransactionBooks) (last : Blocks) → map_of v last ≡ defined_part (with_books k v) (bytes_over v.changes last) }
+{}
+
+/// Where the transaction began at the map of the last sync point, each block that it took was put or freed, and there
+/// is room, it may be committed as the next record, and the map after that is the map now. It freed each data block
+/// that lived before and doesn't live then, and none that lives then. Its puts are of blocks of the disk, those in
+/// place of blocks that it took, and they are few enough. Where it writes one in place it has a payload too.
+pub fn a_running_transaction_may_be_the_next_record()
+    ensures is { (v : TransactionBooks) (l : Ledger) (place : ℕ) → AreKept v → BeganAt v (l.map_before (next_number l)) → l.geom ≡ v.geom → HasNoBare (running_of v) → ((h : Header) → IsStanding l h → h.closed ≡ false) → place ≡ place_after l.geom.j l.header.at (all_say l.records) → all_places (all_say l.records) + places (record_of (next_number l) place v.changes.paid v.changes.laid) ≤ l.geom.j → ((b : ℕ) → is_one_of b v.changes.taken ≡ true → IsDead l b) → IsTransaction l l.epoch (next_number l) place v.changes.paid v.changes.laid (map_of v (l.map_before (next_number l))) }
+    ensures killed { (v : TransactionBooks) (l : Ledger) → BeganAt v (l.map_before (next_number l)) → l.geom ≡ v.geom → (b : ℕ) → data_start l.geom ≤ b → IsTrue (is_live l.geom (l.map_before (next_number l)) b) → is_live l.geom (map_of v (l.map_before (next_number l))) b ≡ false → is_one_of b v.changes.freed ≡ true }
+    ensures dead { (v : TransactionBooks) (l : Ledger) → AreKept v → BeganAt v (l.map_before (next_number l)) → l.geom ≡ v.geom → (b : ℕ) → is_one_of b v.changes.freed ≡ true → is_live l.geom (map_of v (l.map_before (next_number l))) b ≡ false }
+    ensures taken { (v : TransactionBooks) → AreKept v → (i : ℕ) (p : Put) → slice_get v.changes.laid i ≡ Some p → is_one_of p.block v.changes.taken ≡ true }
+    ensures below { (v : TransactionBooks) → AreKept v → AreBelow v.geom.n v.changes.paid × AreBelow v.geom.n v.changes.laid }
+    ensures small { (v : TransactionBooks) → AreKept v → length v.changes.paid + length v.changes.laid ≤ 2097152 }
+    ensures some { (v : TransactionBooks) (last : Blocks) → AreKept v → BeganAt v last → 0 < length v.changes.laid → 0 < length v.changes.paid }
 {}
 
 /// The books stay as sound where other dead blocks may be taken, and the same blocks are dead and held.

@@ -9,6 +9,7 @@ mod laws;
 
 pub use books::Books;
 pub use laws::{
-    a_commit_has_what_the_roles_say, a_release_keeps_the_books, books_that_are_kept_are_sound,
+    a_commit_has_what_the_roles_say, a_release_keeps_the_books,
+    a_running_transaction_may_be_the_next_record, books_that_are_kept_are_sound,
     the_map_has_the_bits,
 };
