@@ -4,3 +4,5 @@ pub mod Rows
 pub mod Settling
 pub mod Formats
 pub mod AnyData
+pub mod Windows
+pub mod OnePoint
