@@ -53,7 +53,7 @@ impl Pipeline {
         requires turns { HasTurns self.old }
         ensures right { IsTrue D.tells → (s : MountedSession) (l : Ledger) (t floor : ℕ) (taken : List ℕ) → IsRightOn s (D.state disk.old) l t floor self.old ring.old reuse.old taken → Leaves result s (D.state disk.new) l t floor self.new ring.new reuse.new taken }
         ensures sound { OnOk result (IsSound self.new ring.new reuse.new) }
-        ensures moves { OnOk result (Moves 1 self.old self.new ring.old ring.new reuse.old reuse.new) }
+        ensures moves { Moves 1 self.old self.new ring.old ring.new reuse.old reuse.new }
         ensures due { IsTrue D.tells → (s : MountedSession) (l : Ledger) (t floor : ℕ) (taken : List ℕ) → IsRightOn s (D.state disk.old) l t floor self.old ring.old reuse.old taken → OnOk result (NothingIsDue self.old self.new) }
         ensures owed { IsTrue D.tells → writes_in (D.state disk.new).log + writes_owed self.new ≤ writes_in (D.state disk.old).log + writes_owed self.old }
         ensures spends { AdvanceSpends result (D.state disk.old) (D.state disk.new) }
@@ -79,7 +79,7 @@ impl Pipeline {
         requires turns { HasTurns self.old }
         ensures right { IsTrue D.tells → (s : MountedSession) (l : Ledger) (t floor : ℕ) (taken : List ℕ) → IsRightOn s (D.state disk.old) l t floor self.old ring.old reuse.old taken → Leaves result s (D.state disk.new) l t floor self.new ring.new reuse.new taken }
         ensures sound { OnOk result (IsSound self.new ring.new reuse.new) }
-        ensures moves { OnOk result (Moves 4 self.old self.new ring.old ring.new reuse.old reuse.new) }
+        ensures moves { Moves 4 self.old self.new ring.old ring.new reuse.old reuse.new }
         ensures drained { OnOk result (IsDrained self.new reuse.new) }
         ensures owed { IsTrue D.tells → writes_in (D.state disk.new).log + writes_owed self.new ≤ writes_in (D.state disk.old).log + writes_owed self.old }
         ensures spends { WaitsSome (is_err result) (D.state disk.old) (D.state disk.new) }
@@ -105,7 +105,7 @@ impl Pipeline {
         requires room { HasRoom self.old }
         ensures right { IsTrue D.tells → (s : MountedSession) (l : Ledger) (t floor : ℕ) (ring : RingPlaces) (dead : DeadBlocks) (taken : List ℕ) → IsRightOn s (D.state disk.old) l t floor self.old ring dead taken → Leaves result s (D.state disk.new) l t floor self.new ring dead taken }
         ensures sound { (ring : RingPlaces) (dead : DeadBlocks) → IsSound self.old ring dead → IsSound self.new ring dead }
-        ensures moves { OnOk result ((ring : RingPlaces) (dead : DeadBlocks) → Moves 0 self.old self.new ring ring dead dead) }
+        ensures moves { (ring : RingPlaces) (dead : DeadBlocks) → Moves 0 self.old self.new ring ring dead dead }
         ensures durable { OnOk result (upto ≤ self.old.last → upto < self.new.header.start + durable_count self.new) }
         ensures owed { writes_owed self.new ≡ writes_owed self.old }
         ensures log { IsTrue D.tells → OnlyNotices (D.state disk.old).log (D.state disk.new).log }
@@ -129,7 +129,7 @@ fn drain_once<D: Disk>(
     requires turns { LeavesTurns 1 pipeline.old }
     ensures right { IsTrue D.tells → (s : MountedSession) (l : Ledger) (t floor : ℕ) (taken : List ℕ) → IsRightOn s (D.state disk.old) l t floor pipeline.old ring.old reuse.old taken → Leaves result s (D.state disk.new) l t floor pipeline.new ring.new reuse.new taken }
     ensures sound { OnOk result (IsSound pipeline.new ring.new reuse.new) }
-    ensures moves { OnOk result (Moves 1 pipeline.old pipeline.new ring.old ring.new reuse.old reuse.new) }
+    ensures moves { Moves 1 pipeline.old pipeline.new ring.old ring.new reuse.old reuse.new }
     ensures stage { OnOk result ((k : ℕ) → IsAtStage k pipeline.old → IsAtStage (k + 1) pipeline.new) }
     ensures owed { IsTrue D.tells → writes_in (D.state disk.new).log + writes_owed pipeline.new ≤ writes_in (D.state disk.old).log + writes_owed pipeline.old }
     ensures spends { WaitsSome (is_err result) (D.state disk.old) (D.state disk.new) }
@@ -153,7 +153,7 @@ fn go_on<D: Disk>(
     requires turns { LeavesTurns 1 pipeline.old }
     ensures right { IsTrue D.tells → (s : MountedSession) (l : Ledger) (t floor : ℕ) (taken : List ℕ) → IsRightOn s (D.state disk.old) l t floor pipeline.old ring.old reuse.old taken → Leaves result s (D.state disk.new) l t floor pipeline.new ring.new reuse.new taken }
     ensures sound { OnOk result (IsSound pipeline.new ring.new reuse.new) }
-    ensures moves { OnOk result (Moves 1 pipeline.old pipeline.new ring.old ring.new reuse.old reuse.new) }
+    ensures moves { Moves 1 pipeline.old pipeline.new ring.old ring.new reuse.old reuse.new }
     ensures due { IsTrue D.tells → (s : MountedSession) (l : Ledger) (t floor : ℕ) (taken : List ℕ) → IsRightOn s (D.state disk.old) l t floor pipeline.old ring.old reuse.old taken → OnOk result (NothingIsDue pipeline.old pipeline.new) }
     ensures stage { AreAllNoticed pipeline.old.notes.notes → OnOk result ((k : ℕ) → IsAtStage k pipeline.old → IsAtStage (k + 1) pipeline.new) }
     ensures owed { IsTrue D.tells → writes_in (D.state disk.new).log + writes_owed pipeline.new ≤ writes_in (D.state disk.old).log + writes_owed pipeline.old }

@@ -2,6 +2,7 @@
 use Rattle.std.proofs.Common.{ap, arith}
 use Rattle.opt_crash.specs.Counts.{writes_in}
 use Rattle.opt_checkpoint.proofs.Heard.{sound_heard, serves_heard, owed_heard, writes_noticed}
+use Rattle.opt_checkpoint.proofs.MovesRows.{moves_more, moves_heard}
 use Rattle.opt_checkpoint.proofs.Settled.{turned_same}
 use Rattle.opt_checkpoint.proofs.StageRows.{empty_is_on}
 use Rattle.opt_checkpoint.proofs.StepsRight.{leaves_failed}
@@ -14,6 +15,9 @@ pub returns-in_err-wait_for_all-clause-right : goal.returns-in_err-wait_for_all-
 returns-in_err-wait_for_all-clause-right g c = λ tells s l t floor taken right.
     let waited = c.wait_for_all.ensures.agrees tells s l t floor c.args.ring.now c.args.reuse.now.waiting taken right.safe right.agrees in
     leaves_failed c.from_residual.result s (g.D.Disk.state c.wait_for_all.new.disk) l t floor c.wait_for_all.new.pipeline c.args.ring.now c.args.reuse.now taken c.from_residual.ensures.0 (record { now = l; turned = turned_same l; safe = waited.0 })
+
+pub returns-in_err-wait_for_all-clause-moves : goal.returns-in_err-wait_for_all-clause-moves
+returns-in_err-wait_for_all-clause-moves g c = moves_more 0 1 c.args.pipeline.now c.wait_for_all.new.pipeline c.args.ring.now c.args.ring.now c.args.reuse.now c.args.reuse.now (omega arith) (moves_heard c.args.pipeline.now c.wait_for_all.new.pipeline c.args.ring.now c.args.reuse.now c.wait_for_all.ensures.rest)
 
 pub returns-in_err-wait_for_all-clause-owed : goal.returns-in_err-wait_for_all-clause-owed
 returns-in_err-wait_for_all-clause-owed g c = λ tells.

@@ -2,7 +2,7 @@
 use Rattle.std.proofs.Common.{refl, arith}
 use Rattle.opt_checkpoint.specs.Advance.{MayServe}
 use Rattle.opt_checkpoint.specs.Turns.{is_batch_due, is_header_due, due_header, header_made}
-use Rattle.opt_checkpoint.proofs.MovesRows.{turns_left, moves_upto_batch, moves_whole, sound_batch, sound_header}
+use Rattle.opt_checkpoint.proofs.MovesRows.{turns_left, moves_more, moves_upto_batch, moves_whole, sound_batch, sound_header}
 use Rattle.opt_checkpoint.proofs.StageRows.{stage_on}
 use Rattle.opt_checkpoint.proofs.DueRows.{nothing_due}
 use Rattle.opt_checkpoint.proofs.Serves.{serves_batch}
@@ -62,6 +62,19 @@ pub returns-clause-sound : goal.returns-clause-sound
 returns-clause-sound g c =
     sound_header _ _ (is_header_due c.begin_batch.new.pipeline) c.in_ok-write_next_header.field-0 c.begin_batch.new.pipeline c.write_next_header.new.pipeline c.go_forward.new.ring c.go_forward.new.reuse c.in_ok-write_next_header.ensures.adds c.in_ok-write_next_header.ensures.order c.in_ok-write_next_header.ensures.room
     (sound_batch (is_batch_due c.go_forward.new.pipeline) c.begin_batch.result c.go_forward.new.pipeline c.begin_batch.new.pipeline c.go_forward.new.ring c.go_forward.new.reuse c.begin_batch.ensures.begins c.begin_batch.ensures.order c.begin_batch.ensures.room c.go_forward.ensures.sound)
+
+pub returns-in_err-begin_batch-clause-moves : goal.returns-in_err-begin_batch-clause-moves
+returns-in_err-begin_batch-clause-moves g c =
+    let f = c.go_forward.ensures.forward in
+    moves_more 0 1 c.args.pipeline.now c.begin_batch.new.pipeline c.args.ring.now c.go_forward.new.ring c.args.reuse.now c.go_forward.new.reuse (omega arith)
+    (moves_upto_batch (is_batch_due c.go_forward.new.pipeline) c.begin_batch.result c.args.pipeline.now f.0 f.1 f.2 c.go_forward.new.pipeline c.begin_batch.new.pipeline c.args.ring.now c.go_forward.new.ring c.args.reuse.now c.go_forward.new.reuse
+    c.calls_change_what_is_dead.ensures.released c.lawful.ensures c.requires.sound.order f.3 c.begin_batch.ensures.begins)
+
+pub returns-in_err-write_next_header-clause-moves : goal.returns-in_err-write_next_header-clause-moves
+returns-in_err-write_next_header-clause-moves g c =
+    let f = c.go_forward.ensures.forward in
+    moves_whole (is_batch_due c.go_forward.new.pipeline) (is_header_due c.begin_batch.new.pipeline) c.begin_batch.result c.write_next_header.result c.args.pipeline.now f.0 f.1 f.2 c.go_forward.new.pipeline c.begin_batch.new.pipeline c.write_next_header.new.pipeline
+    c.args.ring.now c.go_forward.new.ring c.args.reuse.now c.go_forward.new.reuse c.calls_change_what_is_dead.ensures.released c.lawful.ensures c.requires.sound.order c.begin_batch.ensures.order f.3 c.begin_batch.ensures.begins c.write_next_header.ensures.adds
 
 pub returns-clause-moves : goal.returns-clause-moves
 returns-clause-moves g c =

@@ -2,6 +2,7 @@
 use Rattle.std.proofs.Common.{ap, arith}
 use Rattle.opt_crash.specs.Counts.{writes_in}
 use Rattle.opt_checkpoint.proofs.Heard.{sound_heard, turns_heard, has_turns, serves_heard, owed_heard, due_heard, writes_noticed}
+use Rattle.opt_checkpoint.proofs.MovesRows.{moves_more, moves_heard}
 use Rattle.opt_checkpoint.proofs.Settled.{turned_same}
 use Rattle.opt_checkpoint.proofs.Spent.{on_ok}
 use Rattle.opt_checkpoint.proofs.StepsRight.{leaves_failed}
@@ -11,6 +12,9 @@ pub returns-in_err-take_notices-clause-right : goal.returns-in_err-take_notices-
 returns-in_err-take_notices-clause-right g c = λ tells s l t floor taken right.
     let heard = c.take_notices.ensures.agrees tells s l t floor c.args.ring.now c.args.reuse.now.waiting taken right.safe right.agrees in
     leaves_failed c.from_residual.result s (g.D.Disk.state c.take_notices.new.disk) l t floor c.take_notices.new.pipeline c.args.ring.now c.args.reuse.now taken c.from_residual.ensures.0 (record { now = l; turned = turned_same l; safe = heard.0 })
+
+pub returns-in_err-take_notices-clause-moves : goal.returns-in_err-take_notices-clause-moves
+returns-in_err-take_notices-clause-moves g c = moves_more 0 1 c.args.self.now c.take_notices.new.pipeline c.args.ring.now c.args.ring.now c.args.reuse.now c.args.reuse.now (omega arith) (moves_heard c.args.self.now c.take_notices.new.pipeline c.args.ring.now c.args.reuse.now c.take_notices.ensures.rest)
 
 pub returns-in_err-take_notices-clause-owed : goal.returns-in_err-take_notices-clause-owed
 returns-in_err-take_notices-clause-owed g c = λ tells.

@@ -1,7 +1,7 @@
 -- Round after round, and then blocks serve again.
-use Rattle.std.proofs.Common.{true, false, is_err, subst, arith}
+use Rattle.std.proofs.Common.{◌+◌, true, false, is_err, subst, arith}
 use Rattle.opt_checkpoint.specs.Waits.{WaitsSome}
-use Rattle.opt_checkpoint.proofs.MovesRows.{moves_on}
+use Rattle.opt_checkpoint.proofs.MovesRows.{moves_more, moves_on}
 use Rattle.opt_checkpoint.proofs.Rounds.{leaves_on, stays_on, served_sound, served_moves, served_drained, served_stays}
 use Rattle.opt_checkpoint.proofs.Spent.{failed_waits, waits_on}
 use Rattle.opt_checkpoint.proofs.StepsRight.{leaves_failed}
@@ -12,6 +12,10 @@ returns-in_err-drain_once-clause-right g c = λ tells s l t floor taken right.
     let was = c.loop-round.invariant.right tells s l t floor taken right in
     leaves_on c.from_residual.result s (g.D.Disk.state c.drain_once.new.disk) l t floor c.drain_once.new.pipeline c.drain_once.new.ring c.drain_once.new.reuse taken was.now was.turned
     (leaves_failed c.from_residual.result s (g.D.Disk.state c.drain_once.new.disk) was.now t floor c.drain_once.new.pipeline c.drain_once.new.ring c.drain_once.new.reuse taken c.from_residual.ensures.0 (c.in_err-drain_once.ensures.right tells s was.now t floor taken was.right))
+
+pub returns-in_err-drain_once-clause-moves : goal.returns-in_err-drain_once-clause-moves
+returns-in_err-drain_once-clause-moves g c = moves_more (c.loop-round.round + 1) 4 c.args.self.now c.drain_once.new.pipeline c.args.ring.now c.drain_once.new.ring c.args.reuse.now c.drain_once.new.reuse (omega (arith, c.loop-round-test.true))
+    (moves_on c.loop-round.round 1 c.args.self.now c.loop-round.self c.drain_once.new.pipeline c.args.ring.now c.loop-round.ring c.drain_once.new.ring c.args.reuse.now c.loop-round.reuse c.drain_once.new.reuse c.loop-round.invariant.moves c.drain_once.ensures.moves)
 
 pub returns-in_err-drain_once-clause-spends : goal.returns-in_err-drain_once-clause-spends
 returns-in_err-drain_once-clause-spends g c = failed_waits _ _ _ c.from_residual.ensures.0 (waits_on true _ _ _ c.loop-round.invariant.spends (subst (λ r. WaitsSome (is_err r) (g.D.Disk.state c.loop-round.disk) (g.D.Disk.state c.drain_once.new.disk)) c.in_err-drain_once.was c.drain_once.ensures.spends))

@@ -18,6 +18,9 @@ returns-in_err-wait_upto-clause-right g c = λ tells s l t floor ring dead taken
 pub returns-in_err-wait_upto-clause-sound : goal.returns-in_err-wait_upto-clause-sound
 returns-in_err-wait_upto-clause-sound g c = λ ring dead sound. sound_heard c.args.self.now c.wait_upto.new.pipeline ring dead c.wait_upto.ensures.rest c.wait_upto.ensures.hears sound
 
+pub returns-in_err-wait_upto-clause-moves : goal.returns-in_err-wait_upto-clause-moves
+returns-in_err-wait_upto-clause-moves g c = λ ring dead. moves_heard c.args.self.now c.wait_upto.new.pipeline ring dead c.wait_upto.ensures.rest
+
 pub returns-in_err-wait_upto-clause-owed : goal.returns-in_err-wait_upto-clause-owed
 returns-in_err-wait_upto-clause-owed g c = owed_heard c.args.self.now c.wait_upto.new.pipeline c.wait_upto.ensures.rest
 
