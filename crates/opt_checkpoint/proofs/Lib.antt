@@ -49,3 +49,4 @@ pub mod ForwardSound
 pub mod DueRows
 pub mod MovesRows
 pub mod Taking
+pub mod Added

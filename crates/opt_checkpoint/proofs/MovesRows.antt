@@ -38,10 +38,10 @@ turn_is_written v o = by v.next refl
 -- Steps after one another.
 
 pub moves_none : (v : Pipeline) (ring : RingPlaces) (dead : DeadBlocks) → Moves 0 v v ring ring dead dead
-moves_none v ring dead = record { geom = refl; epoch = refl; last = refl; ready = refl; turn = omega arith; durable = omega arith; next_place = refl; taken = omega arith; held = refl; room = refl; dead_geom = refl; reusable = λ b is. is; waiting = omega arith; all_dead = λ b. refl }
+moves_none v ring dead = record { geom = refl; epoch = refl; last = refl; ready = refl; turn = omega arith; durable = omega arith; ring_geom = refl; next_place = refl; taken = omega arith; held = refl; room = refl; dead_geom = refl; reusable = λ b is. is; waiting = omega arith; all_dead = λ b. refl }
 
 pub moves_more : (n m : ℕ) (v w : Pipeline) (ring next_ring : RingPlaces) (dead next_dead : DeadBlocks) → n ≤ m → Moves n v w ring next_ring dead next_dead → Moves m v w ring next_ring dead next_dead
-moves_more n m v w ring next_ring dead next_dead le s = record { geom = s.geom; epoch = s.epoch; last = s.last; ready = s.ready; turn = omega (arith, s.turn, le); durable = s.durable; next_place = s.next_place; taken = s.taken; held = s.held; room = s.room; dead_geom = s.dead_geom; reusable = s.reusable; waiting = s.waiting; all_dead = s.all_dead }
+moves_more n m v w ring next_ring dead next_dead le s = record { geom = s.geom; epoch = s.epoch; last = s.last; ready = s.ready; turn = omega (arith, s.turn, le); durable = s.durable; ring_geom = s.ring_geom; next_place = s.next_place; taken = s.taken; held = s.held; room = s.room; dead_geom = s.dead_geom; reusable = s.reusable; waiting = s.waiting; all_dead = s.all_dead }
 
 pub moves_on : (m n : ℕ) (v w x : Pipeline) (r0 r1 r2 : RingPlaces) (d0 d1 d2 : DeadBlocks) → Moves m v w r0 r1 d0 d1 → Moves n w x r1 r2 d1 d2 → Moves (m + n) v x r0 r2 d0 d2
 moves_on m n v w x r0 r1 r2 d0 d1 d2 s t = record {
@@ -51,6 +51,7 @@ moves_on m n v w x r0 r1 r2 d0 d1 d2 s t = record {
   ready = t.ready ∙ s.ready;
   turn = omega (arith, s.turn, t.turn);
   durable = omega (arith, s.durable, t.durable);
+  ring_geom = t.ring_geom ∙ s.ring_geom;
   next_place = t.next_place ∙ s.next_place;
   taken = omega (arith, s.taken, t.taken);
   held = t.held ∙ s.held;
@@ -73,6 +74,7 @@ moves_heard v w ring dead rest = record {
   ready = ap (λ (p : Pipeline). p.ready) rest;
   turn = omega (arith, ap (λ (p : Pipeline). p.written.turn) rest);
   durable = omega (arith, ap (λ (p : Pipeline). p.header.start) rest, ap (λ (p : Pipeline). durable_count p) rest);
+  ring_geom = refl;
   next_place = refl;
   taken = omega arith;
   held = refl;
@@ -93,6 +95,7 @@ moves_settled count v w ring dead s = record {
   ready = ap (λ (p : Pipeline). p.ready) s.rest;
   turn = omega (arith, ap (λ (p : Pipeline). p.written.turn) s.rest);
   durable = omega (arith, ap (λ (p : Pipeline). p.header.start) s.rest, ap (λ (p : Pipeline). length p.placed.items) s.rest, ap (λ (p : Pipeline). length p.sure.items) s.rest, s.durable);
+  ring_geom = refl;
   next_place = refl;
   taken = omega arith;
   held = refl;
@@ -135,6 +138,7 @@ moves_turned true v w ring next_ring dead t o = by (o.next t.pending t.was)
         m.sure_upto,
         o.sure,
       );
+      ring_geom = ap (λ (r : RingPlaces). r.geom) t.ring;
       next_place = ap (λ (r : RingPlaces). r.next) t.ring;
       taken = omega (arith, ap (λ (r : RingPlaces). r.taken) t.ring);
       held = refl;
@@ -166,6 +170,7 @@ moves_ended true v w ring dead e = record {
     ap (λ (xs : List Sure). length xs) (take-append-drop v.batch v.sure.items),
     ap (λ (p : Pipeline). length p.durable.items) e.rest,
   );
+  ring_geom = refl;
   next_place = refl;
   taken = omega arith;
   held = refl;
@@ -221,6 +226,7 @@ moves_served v w ring dead next_dead law sound is rest = record {
   ready = ap (λ (p : Pipeline). p.ready) rest;
   turn = omega (arith, ap (λ (p : Pipeline). p.written.turn) rest);
   durable = omega (arith, ap (λ (p : Pipeline). p.header.start) rest, ap (λ (p : Pipeline). durable_count p) rest);
+  ring_geom = refl;
   next_place = refl;
   taken = omega arith;
   held = ap (λ (d : DeadBlocks). d.held) is;
@@ -257,6 +263,7 @@ moves_begun v w ring dead e = record {
   ready = ap (λ (p : Pipeline). p.ready) e.rest;
   turn = omega (arith, ap (λ (p : Pipeline). p.written.turn) e.rest);
   durable = omega (arith, ap (λ (p : Pipeline). p.header.start) e.rest, ap (λ (p : Pipeline). durable_count p) e.rest);
+  ring_geom = refl;
   next_place = refl;
   taken = omega arith;
   held = refl;
@@ -300,6 +307,7 @@ moves_header true (Ok a) v w ring dead o adds = record {
   ready = ap (λ (p : Pipeline). p.ready) adds.rest;
   turn = omega (arith, ap (λ (p : Pipeline). p.written.turn) adds.rest, turn_is_written v o);
   durable = omega (arith, ap (λ (p : Pipeline). p.header.start) adds.rest, ap (λ (p : Pipeline). durable_count p) adds.rest);
+  ring_geom = refl;
   next_place = refl;
   taken = omega arith;
   held = refl;
@@ -316,6 +324,7 @@ moves_header true (Err e) v w ring dead o is = record {
   ready = ap (λ (p : Pipeline). p.ready) is;
   turn = omega (arith, ap (λ (p : Pipeline). p.written.turn) is, turn_is_written v o);
   durable = omega (arith, ap (λ (p : Pipeline). p.header.start) is, ap (λ (p : Pipeline). durable_count p) is);
+  ring_geom = refl;
   next_place = refl;
   taken = omega arith;
   held = refl;

@@ -96,6 +96,7 @@ pub record Moves (headers : ℕ) (v w : Pipeline) (ring next_ring : RingPlaces) 
   pub ready : w.ready ≡ v.ready
   pub turn : w.written.turn ≤ v.written.turn + headers
   pub durable : v.header.start + durable_count v ≤ w.header.start + durable_count w
+  pub ring_geom : next_ring.geom ≡ ring.geom
   pub next_place : next_ring.next ≡ ring.next
   pub taken : next_ring.taken ≤ ring.taken
   pub held : next_dead.held ≡ dead.held

@@ -11,3 +11,4 @@ pub mod Turns
 pub mod Waits
 pub mod Stages
 pub mod Advance
+pub mod Adds

@@ -9,8 +9,10 @@ ghost use Rattle.opt_journal.specs.Ring.{RingPlaces};
 ghost use Rattle.opt_crash.specs.Counts.{writes_in};
 ghost use Rattle.opt_crash.specs.Ledger.{Ledger};
 ghost use Rattle.opt_crash.specs.Points.{MountedSession, IsSafe};
+ghost use Rattle.opt_checkpoint.specs.Adds.{AddsHome, LosesFront};
 ghost use Rattle.opt_checkpoint.specs.Agree.{PipelineAgrees, durable_count};
 ghost use Rattle.opt_reuse.specs.Dead.{DeadBlocks};
+ghost use Rattle.opt_checkpoint.specs.Kept.{kept};
 ghost use Rattle.opt_checkpoint.specs.Order.{IsInOrder, HasRoom};
 ghost use Rattle.opt_checkpoint.specs.Steps.{is_first_settled, SettlesSome};
 ghost use Rattle.opt_checkpoint.specs.Stages.{IsAtStage};
@@ -56,6 +58,8 @@ impl Pipeline {
         ensures moves { Moves 1 self.old self.new ring.old ring.new reuse.old reuse.new }
         ensures due { IsTrue D.tells → (s : MountedSession) (l : Ledger) (t floor : ℕ) (taken : List ℕ) → IsRightOn s (D.state disk.old) l t floor self.old ring.old reuse.old taken → OnOk result (NothingIsDue self.old self.new) }
         ensures owed { IsTrue D.tells → writes_in (D.state disk.new).log + writes_owed self.new ≤ writes_in (D.state disk.old).log + writes_owed self.old }
+        ensures adds { IsTrue D.tells → AddsHome result (kept self.old) (D.state disk.old).log (D.state disk.new).log }
+        ensures front { LosesFront (kept self.old) (kept self.new) }
         ensures spends { AdvanceSpends result (D.state disk.old) (D.state disk.new) }
     {
         calls_add_at_most_one_write();
@@ -82,6 +86,8 @@ impl Pipeline {
         ensures moves { Moves 4 self.old self.new ring.old ring.new reuse.old reuse.new }
         ensures drained { OnOk result (IsDrained self.new reuse.new) }
         ensures owed { IsTrue D.tells → writes_in (D.state disk.new).log + writes_owed self.new ≤ writes_in (D.state disk.old).log + writes_owed self.old }
+        ensures adds { IsTrue D.tells → AddsHome result (kept self.old) (D.state disk.old).log (D.state disk.new).log }
+        ensures front { LosesFront (kept self.old) (kept self.new) }
         ensures spends { WaitsSome (is_err result) (D.state disk.old) (D.state disk.new) }
     {
         calls_change_what_is_dead();
@@ -132,6 +138,8 @@ fn drain_once<D: Disk>(
     ensures moves { Moves 1 pipeline.old pipeline.new ring.old ring.new reuse.old reuse.new }
     ensures stage { OnOk result ((k : ℕ) → IsAtStage k pipeline.old → IsAtStage (k + 1) pipeline.new) }
     ensures owed { IsTrue D.tells → writes_in (D.state disk.new).log + writes_owed pipeline.new ≤ writes_in (D.state disk.old).log + writes_owed pipeline.old }
+    ensures adds { IsTrue D.tells → AddsHome result (kept pipeline.old) (D.state disk.old).log (D.state disk.new).log }
+    ensures front { LosesFront (kept pipeline.old) (kept pipeline.new) }
     ensures spends { WaitsSome (is_err result) (D.state disk.old) (D.state disk.new) }
 {
     if pipeline.is_empty() {
@@ -157,6 +165,8 @@ fn go_on<D: Disk>(
     ensures due { IsTrue D.tells → (s : MountedSession) (l : Ledger) (t floor : ℕ) (taken : List ℕ) → IsRightOn s (D.state disk.old) l t floor pipeline.old ring.old reuse.old taken → OnOk result (NothingIsDue pipeline.old pipeline.new) }
     ensures stage { AreAllNoticed pipeline.old.notes.notes → OnOk result ((k : ℕ) → IsAtStage k pipeline.old → IsAtStage (k + 1) pipeline.new) }
     ensures owed { IsTrue D.tells → writes_in (D.state disk.new).log + writes_owed pipeline.new ≤ writes_in (D.state disk.old).log + writes_owed pipeline.old }
+    ensures adds { IsTrue D.tells → AddsHome result (kept pipeline.old) (D.state disk.old).log (D.state disk.new).log }
+    ensures front { LosesFront (kept pipeline.old) (kept pipeline.new) }
     ensures spends { OnlyWrites (is_err result) (D.state disk.old) (D.state disk.new) }
 {
     calls_add_at_most_one_write();
@@ -180,6 +190,7 @@ fn go_forward(pipeline: &mut Pipeline, ring: &mut Ring, reuse: &mut Reuse)
     ensures right { (s : MountedSession) (base : Blocks) (log : List Event) (l : Ledger) (t floor : ℕ) (taken : List ℕ) → IsRight s base log l t floor pipeline.old ring.old reuse.old taken → StaysRight s base log l t floor pipeline.new ring.new reuse.new taken }
     ensures sound { IsSound pipeline.new ring.new reuse.new }
     ensures forward { (a b c : Pipeline) × GoesForward pipeline.old a b c pipeline.new ring.old ring.new reuse.old reuse.new }
+    ensures front { LosesFront (kept pipeline.old) (kept pipeline.new) }
     ensures owed { writes_owed pipeline.new ≡ writes_owed pipeline.old }
 {
     a_freed_block_waits();

@@ -6,3 +6,5 @@ pub mod Formats
 pub mod AnyData
 pub mod Windows
 pub mod OnePoint
+pub mod Moving
+pub mod NextRecord

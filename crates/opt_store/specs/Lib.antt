@@ -1,2 +1,3 @@
 pub mod Formatting
 pub mod SessionView
+pub mod Store

@@ -1,6 +1,8 @@
 -- Where there is no record nothing is done; else a wait for all tickets, and the steps that are due then.
-use Rattle.std.proofs.Common.{ap, arith}
+use Rattle.std.proofs.Common.{refl, ap, arith}
 use Rattle.opt_crash.specs.Counts.{writes_in}
+use Rattle.opt_checkpoint.specs.Kept.{kept}
+use Rattle.opt_checkpoint.proofs.Added.{home_none, home_noticed, home_heard, loses_none, loses_on, loses_heard}
 use Rattle.opt_checkpoint.proofs.Heard.{sound_heard, serves_heard, owed_heard, writes_noticed}
 use Rattle.opt_checkpoint.proofs.MovesRows.{moves_more, moves_heard}
 use Rattle.opt_checkpoint.proofs.Settled.{turned_same}
@@ -36,3 +38,28 @@ pub returns-clause-owed : goal.returns-clause-owed
 returns-clause-owed g c = λ tells.
     let heard = c.wait_for_all.ensures.log tells in
     omega (arith, c.go_on.ensures.owed tells, ap writes_in heard.log, writes_noticed (g.D.Disk.state c.args.disk.now).log heard.tickets, owed_heard c.args.pipeline.now c.wait_for_all.new.pipeline c.wait_for_all.ensures.rest)
+
+pub returns-then-is_empty-clause-front : goal.returns-then-is_empty-clause-front
+returns-then-is_empty-clause-front g c = loses_none (kept c.args.pipeline.now) (kept c.args.pipeline.now) refl
+
+pub returns-then-is_empty-clause-adds : goal.returns-then-is_empty-clause-adds
+returns-then-is_empty-clause-adds g c = λ tells. home_none _ (kept c.args.pipeline.now) (g.D.Disk.state c.args.disk.now).log (g.D.Disk.state c.args.disk.now).log refl
+
+pub returns-in_err-wait_for_all-clause-front : goal.returns-in_err-wait_for_all-clause-front
+returns-in_err-wait_for_all-clause-front g c = loses_heard c.args.pipeline.now c.wait_for_all.new.pipeline c.wait_for_all.ensures.rest
+
+pub returns-in_err-wait_for_all-clause-adds : goal.returns-in_err-wait_for_all-clause-adds
+returns-in_err-wait_for_all-clause-adds g c = λ tells.
+    let heard = c.wait_for_all.ensures.log tells in
+    home_noticed _ (kept c.args.pipeline.now) heard.tickets (g.D.Disk.state c.args.disk.now).log (g.D.Disk.state c.wait_for_all.new.disk).log heard.log
+
+pub returns-clause-front : goal.returns-clause-front
+returns-clause-front g c = loses_on (kept c.args.pipeline.now) (kept c.wait_for_all.new.pipeline) (kept c.go_on.new.pipeline) (loses_heard c.args.pipeline.now c.wait_for_all.new.pipeline c.wait_for_all.ensures.rest) c.go_on.ensures.front
+
+pub returns-clause-adds : goal.returns-clause-adds
+returns-clause-adds g c = λ tells.
+    let heard = c.wait_for_all.ensures.log tells in
+    let ks = kept c.args.pipeline.now in
+    let old = (g.D.Disk.state c.args.disk.now).log in
+    let middle = (g.D.Disk.state c.wait_for_all.new.disk).log in
+    home_heard c.go_on.result ks (kept c.wait_for_all.new.pipeline) heard.tickets old middle (g.D.Disk.state c.go_on.new.disk).log (loses_heard c.args.pipeline.now c.wait_for_all.new.pipeline c.wait_for_all.ensures.rest) heard.log (c.go_on.ensures.adds tells)

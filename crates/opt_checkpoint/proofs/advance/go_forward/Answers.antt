@@ -1,5 +1,6 @@
 -- Records become durable, the pending header turns, the batch is placed, and blocks serve again: each clause by the clauses of the four steps.
 use Rattle.std.proofs.Common.{◌∙◌, sym}
+use Rattle.opt_checkpoint.proofs.Added.{loses_forward}
 use Rattle.opt_checkpoint.proofs.ForwardRight.{forward_right}
 use Rattle.opt_checkpoint.proofs.ForwardSound.{places_settled, forward_sound, forward_goes, forward_owed}
 use Rattle.opt_checkpoint.proofs.advance.go_forward.Goals as goal
@@ -38,3 +39,7 @@ returns-clause-owed c =
     forward_owed c.args.pipeline.now c.settle_all.new.pipeline c.turn_header.new.pipeline c.end_batch.new.pipeline c.serve_blocks.new.pipeline c.args.ring.now c.turn_header.new.ring c.args.reuse.now c.serve_blocks.new.reuse
     c.settle_all.ensures.settles.0 c.turn_header.result c.end_batch.result c.settle_all.ensures.settles.1 c.turn_header.ensures.turns c.end_batch.ensures.ends c.serve_blocks.ensures.serves c.serve_blocks.ensures.rest
     c.turn_header.ensures.owed c.end_batch.ensures.owed
+
+pub returns-clause-front : goal.returns-clause-front
+returns-clause-front c = loses_forward c.args.pipeline.now c.settle_all.new.pipeline c.turn_header.new.pipeline c.end_batch.new.pipeline c.serve_blocks.new.pipeline c.turn_header.result c.end_batch.result c.args.ring.now c.turn_header.new.ring
+    c.settle_all.ensures.settles.1.kept c.turn_header.ensures.turns c.turn_header.ensures.order.batch c.end_batch.ensures.ends c.serve_blocks.ensures.rest

@@ -1,7 +1,9 @@
 -- One step after the other: all stays right, and each write was owed.
-use Rattle.std.proofs.Common.{refl, arith}
+use Rattle.std.proofs.Common.{Ok, refl, arith}
 use Rattle.opt_checkpoint.specs.Advance.{MayServe}
+use Rattle.opt_checkpoint.specs.Kept.{kept}
 use Rattle.opt_checkpoint.specs.Turns.{is_batch_due, is_header_due, due_header, header_made}
+use Rattle.opt_checkpoint.proofs.Added.{home_before, home_failed, home_went, home_batch, home_stepped, loses_on, loses_batch, loses_header}
 use Rattle.opt_checkpoint.proofs.MovesRows.{turns_left, moves_more, moves_upto_batch, moves_whole, sound_batch, sound_header}
 use Rattle.opt_checkpoint.proofs.StageRows.{stage_on}
 use Rattle.opt_checkpoint.proofs.DueRows.{nothing_due}
@@ -102,3 +104,49 @@ pub returns-clause-owed : goal.returns-clause-owed
 returns-clause-owed g c = λ tells.
     let one = owed_header c.begin_batch.new.pipeline c.write_next_header.new.pipeline c.go_forward.new.ring (is_header_due c.begin_batch.new.pipeline) c.write_next_header.result _ _ c.calls_add_at_most_one_write.ensures.write c.write_next_header.ensures.adds (c.write_next_header.ensures.log tells) c.write_next_header.ensures.owed in
     omega (arith, one, c.begin_batch.ensures.owed tells, c.go_forward.ensures.owed)
+
+pub returns-in_err-begin_batch-clause-front : goal.returns-in_err-begin_batch-clause-front
+returns-in_err-begin_batch-clause-front g c = loses_on (kept c.args.pipeline.now) (kept c.go_forward.new.pipeline) (kept c.begin_batch.new.pipeline) c.go_forward.ensures.front (loses_batch (is_batch_due c.go_forward.new.pipeline) c.begin_batch.result c.go_forward.new.pipeline c.begin_batch.new.pipeline c.begin_batch.ensures.begins)
+
+pub returns-in_err-write_next_header-clause-front : goal.returns-in_err-write_next_header-clause-front
+returns-in_err-write_next_header-clause-front g c = loses_on (kept c.args.pipeline.now) (kept c.go_forward.new.pipeline) (kept c.write_next_header.new.pipeline) c.go_forward.ensures.front
+    (loses_on (kept c.go_forward.new.pipeline) (kept c.begin_batch.new.pipeline) (kept c.write_next_header.new.pipeline)
+    (loses_batch (is_batch_due c.go_forward.new.pipeline) c.begin_batch.result c.go_forward.new.pipeline c.begin_batch.new.pipeline c.begin_batch.ensures.begins)
+    (loses_header (is_header_due c.begin_batch.new.pipeline) c.write_next_header.result c.begin_batch.new.pipeline c.write_next_header.new.pipeline c.go_forward.new.ring c.write_next_header.ensures.adds))
+
+pub returns-clause-front : goal.returns-clause-front
+returns-clause-front g c = loses_on (kept c.args.pipeline.now) (kept c.go_forward.new.pipeline) (kept c.write_next_header.new.pipeline) c.go_forward.ensures.front
+    (loses_on (kept c.go_forward.new.pipeline) (kept c.begin_batch.new.pipeline) (kept c.write_next_header.new.pipeline)
+    (loses_batch (is_batch_due c.go_forward.new.pipeline) c.begin_batch.result c.go_forward.new.pipeline c.begin_batch.new.pipeline c.begin_batch.ensures.begins)
+    (loses_header (is_header_due c.begin_batch.new.pipeline) c.write_next_header.result c.begin_batch.new.pipeline c.write_next_header.new.pipeline c.go_forward.new.ring c.write_next_header.ensures.adds))
+
+pub returns-in_err-begin_batch-clause-adds : goal.returns-in_err-begin_batch-clause-adds
+returns-in_err-begin_batch-clause-adds g c = λ tells.
+    let v = c.args.pipeline.now in
+    let w = c.go_forward.new.pipeline in
+    let log = (g.D.Disk.state c.args.disk.now).log in
+    let new = (g.D.Disk.state c.begin_batch.new.disk).log in
+    home_failed c.begin_batch.result c.from_residual.result (kept v) log new c.from_residual.ensures.0
+    (home_before c.begin_batch.result (kept v) (kept w) log new c.go_forward.ensures.front (home_batch (is_batch_due w) c.begin_batch.result w c.begin_batch.new.pipeline log new (c.begin_batch.ensures.log tells)))
+
+pub returns-in_err-write_next_header-clause-adds : goal.returns-in_err-write_next_header-clause-adds
+returns-in_err-write_next_header-clause-adds g c = λ tells.
+    let v = c.args.pipeline.now in
+    let w = c.go_forward.new.pipeline in
+    let x = c.begin_batch.new.pipeline in
+    let old = (g.D.Disk.state c.args.disk.now).log in
+    let middle = (g.D.Disk.state c.begin_batch.new.disk).log in
+    let new = (g.D.Disk.state c.write_next_header.new.disk).log in
+    home_failed c.write_next_header.result c.from_residual-in_err-write_next_header.result (kept v) old new c.from_residual-in_err-write_next_header.ensures.0
+    (home_stepped _ c.in_ok-begin_batch.field-0 c.write_next_header.result (is_batch_due w) (is_header_due x) v w x c.write_next_header.new.pipeline c.go_forward.new.ring old middle new c.go_forward.ensures.front (c.in_ok-begin_batch.ensures.log tells) (c.write_next_header.ensures.log tells))
+
+pub returns-clause-adds : goal.returns-clause-adds
+returns-clause-adds g c = λ tells.
+    let v = c.args.pipeline.now in
+    let w = c.go_forward.new.pipeline in
+    let x = c.begin_batch.new.pipeline in
+    let old = (g.D.Disk.state c.args.disk.now).log in
+    let middle = (g.D.Disk.state c.begin_batch.new.disk).log in
+    let new = (g.D.Disk.state c.write_next_header.new.disk).log in
+    home_went c.in_ok-write_next_header.field-0 _ (kept v) old new
+    (home_stepped _ c.in_ok-begin_batch.field-0 (Ok c.in_ok-write_next_header.field-0) (is_batch_due w) (is_header_due x) v w x c.write_next_header.new.pipeline c.go_forward.new.ring old middle new c.go_forward.ensures.front (c.in_ok-begin_batch.ensures.log tells) (c.in_ok-write_next_header.ensures.log tells))

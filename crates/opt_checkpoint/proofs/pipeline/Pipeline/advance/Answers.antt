@@ -1,6 +1,8 @@
 -- The notices are taken, and then the steps that are due are made.
 use Rattle.std.proofs.Common.{ap, arith}
 use Rattle.opt_crash.specs.Counts.{writes_in}
+use Rattle.opt_checkpoint.specs.Kept.{kept}
+use Rattle.opt_checkpoint.proofs.Added.{home_noticed, home_heard, loses_on, loses_heard}
 use Rattle.opt_checkpoint.proofs.Heard.{sound_heard, turns_heard, has_turns, serves_heard, owed_heard, due_heard, writes_noticed}
 use Rattle.opt_checkpoint.proofs.MovesRows.{moves_more, moves_heard}
 use Rattle.opt_checkpoint.proofs.Settled.{turned_same}
@@ -42,3 +44,22 @@ pub returns-clause-owed : goal.returns-clause-owed
 returns-clause-owed g c = λ tells.
     let heard = c.take_notices.ensures.takes tells in
     omega (arith, c.go_on.ensures.owed tells, ap writes_in heard.log, writes_noticed (g.D.Disk.state c.args.disk.now).log heard.tickets, owed_heard c.args.self.now c.take_notices.new.pipeline c.take_notices.ensures.rest)
+
+pub returns-in_err-take_notices-clause-front : goal.returns-in_err-take_notices-clause-front
+returns-in_err-take_notices-clause-front g c = loses_heard c.args.self.now c.take_notices.new.pipeline c.take_notices.ensures.rest
+
+pub returns-in_err-take_notices-clause-adds : goal.returns-in_err-take_notices-clause-adds
+returns-in_err-take_notices-clause-adds g c = λ tells.
+    let heard = c.take_notices.ensures.takes tells in
+    home_noticed _ (kept c.args.self.now) heard.tickets (g.D.Disk.state c.args.disk.now).log (g.D.Disk.state c.take_notices.new.disk).log heard.log
+
+pub returns-clause-front : goal.returns-clause-front
+returns-clause-front g c = loses_on (kept c.args.self.now) (kept c.take_notices.new.pipeline) (kept c.go_on.new.pipeline) (loses_heard c.args.self.now c.take_notices.new.pipeline c.take_notices.ensures.rest) c.go_on.ensures.front
+
+pub returns-clause-adds : goal.returns-clause-adds
+returns-clause-adds g c = λ tells.
+    let heard = c.take_notices.ensures.takes tells in
+    let ks = kept c.args.self.now in
+    let old = (g.D.Disk.state c.args.disk.now).log in
+    let middle = (g.D.Disk.state c.take_notices.new.disk).log in
+    home_heard c.go_on.result ks (kept c.take_notices.new.pipeline) heard.tickets old middle (g.D.Disk.state c.go_on.new.disk).log (loses_heard c.args.self.now c.take_notices.new.pipeline c.take_notices.ensures.rest) heard.log (c.go_on.ensures.adds tells)

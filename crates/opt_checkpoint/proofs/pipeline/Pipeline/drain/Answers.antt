@@ -1,6 +1,8 @@
 -- Round after round, and then blocks serve again.
-use Rattle.std.proofs.Common.{◌+◌, true, false, is_err, subst, arith}
+use Rattle.std.proofs.Common.{◌+◌, true, false, Ok, is_err, subst, arith}
+use Rattle.opt_checkpoint.specs.Kept.{kept}
 use Rattle.opt_checkpoint.specs.Waits.{WaitsSome}
+use Rattle.opt_checkpoint.proofs.Added.{home_then, home_failed, home_went, loses_on, loses_served}
 use Rattle.opt_checkpoint.proofs.MovesRows.{moves_more, moves_on}
 use Rattle.opt_checkpoint.proofs.Rounds.{leaves_on, stays_on, served_sound, served_moves, served_drained, served_stays}
 use Rattle.opt_checkpoint.proofs.Spent.{failed_waits, waits_on}
@@ -20,6 +22,16 @@ returns-in_err-drain_once-clause-moves g c = moves_more (c.loop-round.round + 1)
 pub returns-in_err-drain_once-clause-spends : goal.returns-in_err-drain_once-clause-spends
 returns-in_err-drain_once-clause-spends g c = failed_waits _ _ _ c.from_residual.ensures.0 (waits_on true _ _ _ c.loop-round.invariant.spends (subst (λ r. WaitsSome (is_err r) (g.D.Disk.state c.loop-round.disk) (g.D.Disk.state c.drain_once.new.disk)) c.in_err-drain_once.was c.drain_once.ensures.spends))
 
+pub returns-in_err-drain_once-clause-adds : goal.returns-in_err-drain_once-clause-adds
+returns-in_err-drain_once-clause-adds g c = λ tells.
+    let old = (g.D.Disk.state c.args.disk.now).log in
+    let new = (g.D.Disk.state c.drain_once.new.disk).log in
+    home_failed c.drain_once.result c.from_residual.result (kept c.args.self.now) old new c.from_residual.ensures.0
+    (home_then tt c.drain_once.result (kept c.args.self.now) (kept c.loop-round.self) old (g.D.Disk.state c.loop-round.disk).log new c.loop-round.invariant.front (c.loop-round.invariant.adds tells) (c.drain_once.ensures.adds tells))
+
+pub returns-in_err-drain_once-clause-front : goal.returns-in_err-drain_once-clause-front
+returns-in_err-drain_once-clause-front g c = loses_on (kept c.args.self.now) (kept c.loop-round.self) (kept c.drain_once.new.pipeline) c.loop-round.invariant.front c.drain_once.ensures.front
+
 pub loop-round-preserved : goal.loop-round-preserved
 loop-round-preserved g c =
     let was = c.loop-round.invariant in
@@ -31,6 +43,9 @@ loop-round-preserved g c =
           let one = was.right tells s l t floor taken right in
           stays_on s (g.D.Disk.state c.drain_once.new.disk).base (g.D.Disk.state c.drain_once.new.disk).log l t floor c.drain_once.new.pipeline c.drain_once.new.ring c.drain_once.new.reuse taken one.now one.turned (c.in_ok-drain_once.ensures.right tells s one.now t floor taken one.right);
       owed = λ tells. omega (arith, was.owed tells, c.drain_once.ensures.owed tells);
+      adds = λ tells. home_went c.in_ok-drain_once.field-0 (Ok tt) (kept c.args.self.now) (g.D.Disk.state c.args.disk.now).log (g.D.Disk.state c.drain_once.new.disk).log
+          (home_then tt (Ok c.in_ok-drain_once.field-0) (kept c.args.self.now) (kept c.loop-round.self) (g.D.Disk.state c.args.disk.now).log (g.D.Disk.state c.loop-round.disk).log (g.D.Disk.state c.drain_once.new.disk).log was.front (was.adds tells) (c.in_ok-drain_once.ensures.adds tells));
+      front = loses_on (kept c.args.self.now) (kept c.loop-round.self) (kept c.drain_once.new.pipeline) was.front c.drain_once.ensures.front;
       spends = waits_on false _ _ _ was.spends c.in_ok-drain_once.ensures.spends;
     }
 
@@ -47,3 +62,9 @@ returns-clause-moves g c = served_moves c.loop-round.self c.serve_blocks.new.pip
 
 pub returns-clause-drained : goal.returns-clause-drained
 returns-clause-drained g c = served_drained c.loop-round.self c.serve_blocks.new.pipeline c.loop-round.ring c.loop-round.reuse c.serve_blocks.new.reuse c.serve_blocks.ensures.serves c.serve_blocks.ensures.rest c.loop-round.round (omega (arith, c.loop-round.auto.round-end, c.loop-round-test.false)) c.loop-round.invariant.stage c.loop-round.invariant.sound
+
+pub returns-clause-adds : goal.returns-clause-adds
+returns-clause-adds g c = λ tells. home_went tt _ (kept c.args.self.now) (g.D.Disk.state c.args.disk.now).log (g.D.Disk.state c.loop-round.disk).log (c.loop-round.invariant.adds tells)
+
+pub returns-clause-front : goal.returns-clause-front
+returns-clause-front g c = loses_on (kept c.args.self.now) (kept c.loop-round.self) (kept c.serve_blocks.new.pipeline) c.loop-round.invariant.front (loses_served c.loop-round.self c.serve_blocks.new.pipeline c.serve_blocks.ensures.rest)

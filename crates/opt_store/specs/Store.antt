@@ -1,0 +1,71 @@
+-- The store's parts, its bookkeeping by them, and what is kept of their numbers over any disk. It is described in docs/STORE.md.
+use Rattle.std.specs.Prelude.{◌≡◌, ℕ, ◌+◌, ◌-◌, ◌≤◌, max, Bool, false}
+use Rattle.opt_journal.specs.Ring.{RingPlaces}
+use Rattle.opt_reuse.specs.Dead.{AreSound}
+use Rattle.opt_checkpoint.specs.declared.pipeline.Pipeline.{Pipeline}
+use Rattle.opt_checkpoint.specs.Agree.{durable_count}
+use Rattle.opt_checkpoint.specs.Advance.{IsSound, Moves, writes_owed}
+use Rattle.opt_blocks.specs.Running.{nothing_running}
+use Rattle.opt_blocks.specs.State.{Bookkeeping}
+use Rattle.opt_books.specs.Books.{TransactionBooks, with_books}
+use Rattle.opt_books.specs.Kept.{AreKept}
+use Rattle.opt_books.specs.Sealing.{nothing_spare}
+
+-- The ring, the pipeline and the books; the number of the session's first record, the last sync point, and the first to which a crash may go back; and whether a call of the disk failed. Point p was made by record `first + p - 1`.
+pub record StoreParts : Type 0 where
+  pub ring : RingPlaces
+  pub pipeline : Pipeline
+  pub books : TransactionBooks
+  pub first : ℕ
+  pub point : ℕ
+  pub floor : ℕ
+  pub stopped : Bool
+
+-- the bookkeeping but for what the books have of it: of that it has nothing
+abbrev pub beside_books : StoreParts → Bookkeeping
+beside_books v = record {
+  geom = v.ring.geom;
+  running = nothing_running;
+  spare = nothing_spare;
+  marked = λ b. false;
+  reusable = λ b. false;
+  waiting = 0;
+  area = 0;
+  room = 0;
+  free_places = v.ring.geom.j - v.ring.taken;
+  turns = max v.pipeline.written.turn (v.pipeline.last + 1);
+  owed = writes_owed v.pipeline;
+  point = v.point;
+  floor = v.floor;
+  stopped = v.stopped;
+}
+
+-- the bookkeeping by all parts
+abbrev pub bookkeeping_of : StoreParts → Bookkeeping
+bookkeeping_of v = with_books (beside_books v) v.books
+
+-- the last point whose record is known to be durable, or 0
+abbrev pub durable_point : StoreParts → ℕ
+durable_point v = v.pipeline.header.start + durable_count v.pipeline - 1 + 1 - v.first
+
+-- While no call of the disk failed, pipeline, ring and dead blocks are sound, the next record's number is the next point's, and the floor is the last point that is known to be durable.
+pub record IsGoing (v : StoreParts) : Type 0 where
+  pub sound : IsSound v.pipeline v.ring v.books.dead
+  pub number : v.first + v.point ≡ v.pipeline.last + 1
+  pub floor : v.first + v.floor ≡ v.pipeline.header.start + durable_count v.pipeline
+
+-- Always the books are kept, the parts have one geometry, and the floor isn't above the last point.
+pub record StoreIsSound (v : StoreParts) : Type 0 where
+  pub kept : AreKept v.books
+  pub ring_geom : v.ring.geom ≡ v.books.geom
+  pub pipeline_geom : v.pipeline.geom ≡ v.books.geom
+  pub floor : v.floor ≤ v.point
+  pub going : v.stopped ≡ false → IsGoing v
+
+-- A call moved the pipeline on, by so many headers at most: of the books only the dead blocks may be new, which are sound, and no point has come.
+pub record PartsMove (headers : ℕ) (v w : StoreParts) : Type 0 where
+  pub moves : Moves headers v.pipeline w.pipeline v.ring w.ring v.books.dead w.books.dead
+  pub books : w.books ≡ record v.books { dead = w.books.dead }
+  pub dead : AreSound w.books.dead
+  pub first : w.first ≡ v.first
+  pub point : w.point ≡ v.point
