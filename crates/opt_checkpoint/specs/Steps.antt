@@ -15,8 +15,6 @@ use Rattle.opt_crash.specs.Points.{MountedSession, IsSafe}
 use Rattle.opt_notes.specs.declared.notes.Note.{Note}
 use Rattle.opt_notes.specs.Notes.{is_expected, is_noticed, none_open}
 use Rattle.opt_tx.specs.declared.commit.Committed.{Committed}
-use Rattle.opt_tx.specs.declared.commit.CommitRefusal.{CommitRefusal}
-use Rattle.opt_tx.specs.declared.commit.CommitRefusal.TheVariants.{NoMemory, DiskFault}
 use Rattle.opt_tx.specs.declared.states.Durable.{Durable}
 use Rattle.opt_tx.specs.States.{IsDurableOf, Forgets}
 use Rattle.opt_crash.specs.Writes.{AddsFront}
@@ -96,11 +94,6 @@ pub record Accepts (c : Committed) (v w : Pipeline) : Type 0 where
 abbrev pub CommitNextLeaves : {A E : Type 0} → MountedSession → Ledger → WrittenRecord → Blocks → ℕ → ℕ → Result A E → Blocks → List Event → Pipeline → RingPlaces → List (ℕ × ℕ) → Type 0
 CommitNextLeaves s l w m t floor (Ok a) base new v ring waiting = IsSafe s base new (with_record l w m) t floor × PipelineAgrees base new (with_record l w m) v ring waiting []
 CommitNextLeaves s l w m t floor (Err e) base new v ring waiting = IsSafe s base new l t floor ⊎ IsSafe s base new (with_record l w m) t floor
-
--- what a commit has done to the log where the disk failed: a front of the record's writes, and at most one that was lost
-abbrev pub WhereFront : CommitRefusal → List (ℕ × List ℕ) → List Event → List Event → Type 0
-WhereFront NoMemory ws old new = ⊤
-WhereFront DiskFault ws old new = AddsFront ws old new
 
 -- there is no record: the header, which is in this slot, releases all, and nothing is made ready
 pub record HasNoRecord (g : Geometry) (h : Header) (slot : ℕ) (v : Pipeline) : Type 0 where

@@ -1,7 +1,7 @@
 //! A commit that goes into the pipeline: the heart of a sync whose record fits the ring. When to commit, and
 //! how places come free, isn't said here.
 
-ghost use Rattle.std.specs.Prelude.{◌≡◌, ◌≤◌, ◌<◌, ◌+◌, ◌++◌, ◌⊎◌, ◌-◌, ◌^◌, ℕ, List, length, IsTrue, OnOk, IfErr};
+ghost use Rattle.std.specs.Prelude.{◌≡◌, ◌≤◌, ◌<◌, ◌+◌, ◌++◌, ◌⊎◌, ◌-◌, ◌^◌, ℕ, List, length, IsTrue, OnOk, OnErr, IfErr, is_err};
 ghost use Rattle.opt_base.specs.Seal.{Blocks};
 ghost use Rattle.opt_disk.specs.Disk.{OnlyWrites};
 ghost use Rattle.opt_journal.specs.Ring.{with_places};
@@ -11,38 +11,38 @@ ghost use Rattle.opt_crash.specs.PipelineData.{pairs_of};
 ghost use Rattle.opt_crash.specs.Points.{MountedSession, IsSafe};
 ghost use Rattle.opt_tx.specs.declared.commit.Committed.{Committed};
 ghost use Rattle.opt_tx.specs.Record.{record_of, written_of, AreBelow, IsTransaction};
-ghost use Rattle.opt_tx.specs.Commits.{IsCommitOf, WhereNoMemory, WhereDiskFault, is_disk_fault};
-ghost use Rattle.opt_crash.specs.Writes.{AddsWrites};
+ghost use Rattle.opt_tx.specs.Commits.{HasRoomForCommit, IsCommitOf};
+ghost use Rattle.opt_crash.specs.Writes.{AddsFront, AddsWrites};
 ghost use Rattle.opt_tx.specs.Writes.{record_writes};
 ghost use Rattle.opt_checkpoint.specs.Advance.{writes_owed};
 ghost use Rattle.opt_checkpoint.specs.Agree.{PipelineAgrees, HasFreed, AreTaken};
 ghost use Rattle.opt_checkpoint.specs.Index.{IndexIsRight};
 ghost use Rattle.opt_checkpoint.specs.Kept.{places_taken};
 ghost use Rattle.opt_checkpoint.specs.Order.{IsInOrder, HasRoom};
-ghost use Rattle.opt_checkpoint.specs.Steps.{Accepts, CommitNextLeaves, WhereFront};
+ghost use Rattle.opt_checkpoint.specs.Steps.{Accepts, CommitNextLeaves};
 
 use crate::{Pipeline, accept};
 use opt_disk::Disk;
 use opt_journal::Ring;
-use opt_tx::{CommitRefusal, Running, noticed_tickets_stay_so};
-use std::alloc::Global;
+use opt_tx::{CommitRoom, Running, noticed_tickets_stay_so};
 
-/// Commits the running transaction as the next record, and takes it into the pipeline. Nothing is waited for.
+/// Commits the running transaction as the next record, and takes it into the pipeline. Nothing is waited for,
+/// and it takes no memory but the room given and what was made ready.
 ///
 /// # Errors
-/// The transaction comes back, with why, and the pipeline is as it was. Where memory was wanted, nothing was
-/// written. Where the disk failed, what a crash leaves is still one sync point, and the ring's places stay
-/// taken.
+/// A write failed, which the disk has counted. The transaction comes back, the pipeline is as it was, and the ring's
+/// places stay taken. What a crash leaves is still one sync point.
 pub fn commit_next<D: Disk>(
-    alloc: Global,
     disk: &mut D,
     ring: &mut Ring,
     pipeline: &mut Pipeline,
     running: Running,
+    room: CommitRoom,
     epoch: u64,
     number: u64,
-) -> Result<(), (Running, CommitRefusal)>
+) -> Result<(), Running>
     requires some { 0 < length running.paid }
+    requires room_for { HasRoomForCommit running room }
     requires small { length running.paid + length running.laid ≤ 2097152 }
     requires on_disk { (D.state disk.old).blocks ≡ ring.old.geom.n }
     requires free { ring.old.taken + places (record_of 0 0 running.paid running.laid) ≤ ring.old.geom.j }
@@ -59,12 +59,10 @@ pub fn commit_next<D: Disk>(
         → IsTransaction l epoch number ring.old.next running.paid running.laid m → AreTaken running.laid taken → HasFreed l m running.freed
         → CommitNextLeaves s l (written_of epoch number ring.old.next running.paid running.laid) m t floor result (D.state disk.new).base (D.state disk.new).log pipeline.new ring.new (waiting ++ pairs_of number running.freed) }
     ensures joins { OnOk result ((c : Committed) × IsCommitOf running number ring.old.next c × Accepts c pipeline.old pipeline.new × (IsTrue D.tells → AddsWrites (record_writes ring.old.geom epoch number ring.old.next running.paid running.laid) c.tickets.items (D.state disk.old).log (D.state disk.new).log)) }
-    ensures back { IfErr result (λ (back, why). (back ≡ running) × (pipeline.new ≡ pipeline.old)) }
-    ensures nothing { IfErr result (λ (back, why). WhereNoMemory why ((disk.new ≡ disk.old) × (ring.new ≡ ring.old))) }
-    ensures ring { OnOk result (ring.new ≡ with_places ring.old (places (record_of 0 0 running.paid running.laid))) }
-    ensures places { IfErr result (λ (back, why). WhereDiskFault why (ring.new ≡ with_places ring.old (places (record_of 0 0 running.paid running.laid)))) }
-    ensures front { IsTrue D.tells → IfErr result (λ (back, why). WhereFront why (record_writes ring.old.geom epoch number ring.old.next running.paid running.laid) (D.state disk.old).log (D.state disk.new).log) }
-    ensures spends { OnlyWrites (is_disk_fault result) (D.state disk.old) (D.state disk.new) }
+    ensures back { IfErr result (λ back. (back ≡ running) × (pipeline.new ≡ pipeline.old)) }
+    ensures ring { ring.new ≡ with_places ring.old (places (record_of 0 0 running.paid running.laid)) }
+    ensures front { IsTrue D.tells → OnErr result (AddsFront (record_writes ring.old.geom epoch number ring.old.next running.paid running.laid) (D.state disk.old).log (D.state disk.new).log) }
+    ensures spends { OnlyWrites (is_err result) (D.state disk.old) (D.state disk.new) }
     ensures order { OnOk result (IsInOrder pipeline.new) }
     ensures room { OnOk result (HasRoom pipeline.new) }
     ensures index { OnOk result (IndexIsRight pipeline.new) }
@@ -73,9 +71,9 @@ pub fn commit_next<D: Disk>(
     ensures owed { OnOk result (writes_owed pipeline.new ≡ writes_owed pipeline.old + length running.paid + 2) }
 {
     noticed_tickets_stay_so();
-    let committed = match running.commit(alloc, disk, ring, epoch, number) {
+    let committed = match running.commit(room, disk, ring, epoch, number) {
         Ok(committed) => committed,
-        Err(refused) => return Err(refused),
+        Err(running) => return Err(running),
     };
     accept(pipeline, committed);
     Ok(())

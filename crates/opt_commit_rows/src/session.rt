@@ -146,7 +146,8 @@ impl Session {
                 writeln!(out, "record {number}, place {place}, {count} places")?;
                 self.keep(committed)?;
             }
-            Outcome::Refused(why) => writeln!(out, "{why:?}")?,
+            Outcome::NoMemory => writeln!(out, "NoMemory")?,
+            Outcome::Failed => writeln!(out, "DiskFault")?,
             Outcome::Unfit => writeln!(out, "unfit")?,
         }
         self.write_events(alloc, out, in_full)
@@ -191,7 +192,8 @@ impl Session {
         let number = self.number.saturating_add(1);
         match commit(alloc, &mut self.disk, &mut self.ring, changed, number) {
             Outcome::Committed(committed) => self.keep(committed)?,
-            Outcome::Refused(_) => return Ok(false),
+            Outcome::NoMemory => return Ok(false),
+            Outcome::Failed => return Ok(false),
             Outcome::Unfit => return Ok(false),
         }
         Ok(self.release(alloc)?.is_some())

@@ -10,7 +10,7 @@ use opt_base::{Block, NoMemory};
 use opt_disk::Disk;
 use opt_journal::Ring;
 use opt_memdisk::MemDisk;
-use opt_tx::{Class, CommitRefusal, Committed, Put, Running, places_of};
+use opt_tx::{Class, Committed, Put, Running, places_of};
 use std::alloc::Global;
 
 /// The epoch of the mount that the rows follow.
@@ -56,7 +56,10 @@ fn all_below(puts: &[Put], n: u32) -> bool
 /// How a commit ended.
 pub(crate) enum Outcome {
     Committed(Committed),
-    Refused(CommitRefusal),
+    /// Out of memory.
+    NoMemory,
+    /// A write failed.
+    Failed,
     /// The transaction has no payload, or doesn't fit the disk or the free places.
     Unfit,
 }
@@ -94,8 +97,12 @@ pub(crate) fn commit(
     if !are_below(laid, geom.n()) {
         return Outcome::Unfit;
     }
-    match running.commit(alloc, disk, ring, EPOCH, number) {
+    let room = match running.room_for_commit(alloc) {
+        Ok(room) => room,
+        Err(NoMemory) => return Outcome::NoMemory,
+    };
+    match running.commit(room, disk, ring, EPOCH, number) {
         Ok(committed) => Outcome::Committed(committed),
-        Err((_, why)) => Outcome::Refused(why),
+        Err(_) => Outcome::Failed,
     }
 }

@@ -11,7 +11,6 @@ ghost use Rattle.opt_crash.specs.PipelineData.{pairs_of};
 ghost use Rattle.opt_crash.specs.Points.{MountedSession};
 ghost use Rattle.opt_crash.specs.Steps.{with_record};
 ghost use Rattle.opt_tx.specs.declared.commit.Committed.{Committed};
-ghost use Rattle.opt_tx.specs.declared.commit.CommitRefusal.{CommitRefusal};
 ghost use Rattle.opt_tx.specs.Record.{record_of, IsTransaction};
 ghost use Rattle.opt_tx.specs.Running.{Changes, IsEmpty};
 ghost use Rattle.opt_reuse.specs.Calls.{with_sealed};
@@ -50,7 +49,7 @@ pub fn a_running_transaction_may_be_committed()
 /// record. The next transaction begins at that map, which is the map by the books then.
 pub fn a_commit_stays_right()
     ensures right { (s : MountedSession) (base then_base : Blocks) (log then_log : List Event) (l : Ledger) (w : WrittenRecord) (t floor number : ℕ) (p then_p : Pipeline) (ring then_ring : RingPlaces) (v : TransactionBooks) (c : Committed) → AreKept v → BeganAt v (l.map_before (next_number l)) → p.geom ≡ v.geom → IsRight s base log l t floor p ring v.dead v.changes.taken → Accepts c p then_p
-        → CommitNextLeaves {A = Unit {0}} {E = Changes × CommitRefusal} s l w (map_of v (l.map_before (next_number l))) t floor (Ok tt) then_base then_log then_p then_ring (v.dead.waiting ++ pairs_of number v.changes.freed) → IsRight s then_base then_log (with_record l w (map_of v (l.map_before (next_number l)))) t floor then_p then_ring (sealed_books v number).dead [] }
+        → CommitNextLeaves {A = Unit {0}} {E = Changes} s l w (map_of v (l.map_before (next_number l))) t floor (Ok tt) then_base then_log then_p then_ring (v.dead.waiting ++ pairs_of number v.changes.freed) → IsRight s then_base then_log (with_record l w (map_of v (l.map_before (next_number l)))) t floor then_p then_ring (sealed_books v number).dead [] }
     ensures newest { (l : Ledger) (w : WrittenRecord) (m : Blocks) → (with_record l w m).map_before (next_number (with_record l w m)) ≡ m }
     ensures next { (l : Ledger) (w : WrittenRecord) (m : Blocks) → next_number (with_record l w m) ≡ next_number l + 1 }
     ensures bitmap { (l : Ledger) (w : WrittenRecord) (v : TransactionBooks) (c : Changes) (last : Blocks) → BeganAt v last → HasBitmap (record v { changes = c }) ((with_record l w (map_of v last)).map_before (next_number (with_record l w (map_of v last)))) }

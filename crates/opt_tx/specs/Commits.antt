@@ -1,5 +1,5 @@
 -- What a commit leaves.
-use Rattle.std.specs.Prelude.{◌≡◌, ◌⊎◌, ⊤, ℕ, Bool, true, false, ◌+◌, ◌≤◌, List, [], length, map, slice_get, Some, Result, Ok, Err}
+use Rattle.std.specs.Prelude.{◌≡◌, ◌⊎◌, ⊤, ℕ, Bool, true, false, ◌+◌, ◌≤◌, List, [], length, map, slice_get, Some, Result, Ok, Err, vec_capacity}
 use Rattle.opt_base.specs.Seal.{Blocks}
 use Rattle.opt_disk.specs.declared.event.Event.{Event}
 use Rattle.opt_journal.specs.Run.{places}
@@ -12,8 +12,7 @@ use Rattle.opt_disk.specs.Cell.{cell_of}
 use Rattle.opt_tx.specs.declared.put.Put.{Put}
 use Rattle.opt_crash.specs.Recording.{IsInLedger}
 use Rattle.opt_tx.specs.declared.commit.Committed.{Committed}
-use Rattle.opt_tx.specs.declared.commit.CommitRefusal.{CommitRefusal}
-use Rattle.opt_tx.specs.declared.commit.CommitRefusal.TheVariants.{NoMemory, DiskFault}
+use Rattle.opt_tx.specs.declared.commit.CommitRoom.{CommitRoom}
 use Rattle.opt_tx.specs.Record.{record_of, block_of}
 use Rattle.opt_tx.specs.Running.{Changes}
 use Rattle.opt_crash.specs.Writes.{AddsWrites, AddsFront}
@@ -24,15 +23,20 @@ RecordLeaves s l p w m t floor (Ok a) tickets base new = IsInLedger s base new l
 RecordLeaves s l p w m t floor (Err e) tickets base new = IsSafe s base new l t floor ⊎ IsSafe s base new (with_record l w m) t floor
 
 -- After a commit: the record is in the ledger, with the tickets of the answer. Refused, it is there or not, and the disk is safe.
-abbrev pub CommitLeaves : MountedSession → Ledger → PipelineData → WrittenRecord → Blocks → ℕ → ℕ → Result Committed (Changes × CommitRefusal) → Blocks → List Event → Type 0
+abbrev pub CommitLeaves : MountedSession → Ledger → PipelineData → WrittenRecord → Blocks → ℕ → ℕ → Result Committed Changes → Blocks → List Event → Type 0
 CommitLeaves s l p w m t floor (Ok c) base new = IsInLedger s base new l p w m t floor c.tickets.items
 CommitLeaves s l p w m t floor (Err e) base new = IsSafe s base new l t floor ⊎ IsSafe s base new (with_record l w m) t floor
 
--- What a commit adds to the log: all of these writes, with the tickets of the answer; or a front of them; or nothing.
-abbrev pub CommitAdds : List (ℕ × List ℕ) → Result Committed (Changes × CommitRefusal) → List Event → List Event → Type 0
+-- What a commit adds to the log: all of these writes, with the tickets of the answer, or a front of them.
+abbrev pub CommitAdds : List (ℕ × List ℕ) → Result Committed Changes → List Event → List Event → Type 0
 CommitAdds ws (Ok c) old new = AddsWrites ws c.tickets.items old new
-CommitAdds ws (Err (r, NoMemory)) old new = new ≡ old
-CommitAdds ws (Err (r, DiskFault)) old new = AddsFront ws old new
+CommitAdds ws (Err r) old new = AddsFront ws old new
+
+-- there is memory for a commit of this transaction: room for the tickets of its writes, of which there is none yet, and the numbers of its fresh blocks
+pub record HasRoomForCommit (r : Changes) (room : CommitRoom) : Type 0 where
+  pub tickets : length r.laid + places (record_of 0 0 r.paid r.laid) ≤ vec_capacity room.tickets
+  pub empty : room.tickets.items ≡ []
+  pub fresh : room.fresh.items ≡ map block_of r.laid
 
 -- what a committed transaction keeps of the running one
 pub record IsCommitOf (r : Changes) (n p : ℕ) (c : Committed) : Type 0 where
@@ -44,24 +48,8 @@ pub record IsCommitOf (r : Changes) (n p : ℕ) (c : Committed) : Type 0 where
   pub freed : c.freed.items ≡ r.freed
   pub tickets : length c.tickets.items ≡ length r.laid + places (record_of n p r.paid r.laid)
 
--- what holds where memory was wanted
-abbrev pub WhereNoMemory : CommitRefusal → Type 0 → Type 0
-WhereNoMemory NoMemory P = P
-WhereNoMemory DiskFault P = ⊤
-
--- what holds where the disk failed
-abbrev pub WhereDiskFault : CommitRefusal → Type 0 → Type 0
-WhereDiskFault NoMemory P = ⊤
-WhereDiskFault DiskFault P = P
-
--- it was refused because the disk failed
-abbrev pub is_disk_fault : {A B : Type 0} → Result A (B × CommitRefusal) → Bool
-is_disk_fault (Ok a) = false
-is_disk_fault (Err (b, NoMemory)) = false
-is_disk_fault (Err (b, DiskFault)) = true
-
 -- No block has two writes pending after a commit: the record joins the ledger, and nothing is under way; or a write of it failed, or nothing was written.
-abbrev pub CommitKeepsOne : Ledger → PipelineData → WrittenRecord → Blocks → Result Committed (Changes × CommitRefusal) → Blocks → List Event → Type 0
+abbrev pub CommitKeepsOne : Ledger → PipelineData → WrittenRecord → Blocks → Result Committed Changes → Blocks → List Event → Type 0
 CommitKeepsOne l p w m (Ok c) base new = (freed : List ℕ) → HasOnePending base new (with_record l w m) (with_committed p l w c.tickets.items freed) []
 CommitKeepsOne l p w m (Err e) base new = (b : ℕ) → length (cell_of base new b).pending ≤ 1
 

@@ -1,6 +1,6 @@
 //! The commit of the running transaction, as one record of the journal. Nothing is waited for.
 
-ghost use Rattle.std.specs.Prelude.{◌≡◌, ◌≤◌, ◌<◌, ◌+◌, ◌-◌, ◌^◌, ◌⊎◌, ℕ, List, [], length, map, IsTrue, IfErr, IfOk, OnOk};
+ghost use Rattle.std.specs.Prelude.{◌≡◌, ◌≤◌, ◌<◌, ◌+◌, ◌-◌, ◌^◌, ◌⊎◌, ℕ, List, [], length, map, IsTrue, IfErr, IfOk, is_err};
 ghost use Rattle.opt_base.specs.Seal.{Blocks};
 ghost use Rattle.opt_disk.specs.Cell.{cell_of};
 ghost use Rattle.opt_disk.specs.Disk.{OnlyWrites};
@@ -14,7 +14,7 @@ ghost use Rattle.opt_crash.specs.PipelineData.{PipelineData, DataAgree};
 ghost use Rattle.opt_tx.specs.declared.put.Put.{Put};
 ghost use Rattle.opt_tx.specs.Record.{record_of, written_of, block_of, AreBelow, IsTransaction};
 ghost use Rattle.opt_tx.specs.Writes.{record_writes};
-ghost use Rattle.opt_tx.specs.Commits.{CommitLeaves, CommitAdds, IsCommitOf, WhereNoMemory, WhereDiskFault, is_disk_fault, CommitKeepsOne, AreNotOnTheirWay};
+ghost use Rattle.opt_tx.specs.Commits.{HasRoomForCommit, CommitLeaves, CommitAdds, IsCommitOf, CommitKeepsOne, AreNotOnTheirWay};
 
 use crate::{Put, Running, issue_record};
 use opt_base::NoMemory;
@@ -28,15 +28,6 @@ use opt_journal::{
     payloads_read_back,
 };
 use std::alloc::Global;
-
-/// Why a transaction wasn't committed.
-#[derive(Clone, Copy, Debug, PartialEq, Eq)]
-pub enum CommitRefusal {
-    /// No memory was found. Nothing was written.
-    NoMemory,
-    /// A write failed, which the disk has counted. What a crash leaves is still one sync point.
-    DiskFault,
-}
 
 /// A transaction that is issued as a record: its number, its ring places, the tickets of its writes, its
 /// payloads ascending by block, and its fresh and freed blocks.
@@ -59,6 +50,13 @@ pub fn places_of(payloads: u32, fresh: u32) -> u32
     1 + descriptor_count(payloads + fresh) + payloads
 }
 
+/// The memory of a commit: room for the tickets of its writes, and the numbers of its fresh blocks.
+#[derive(Debug, Drop)]
+pub struct CommitRoom {
+    tickets: Vec<u64>,
+    fresh: Vec<u32>,
+}
+
 /// The numbers of these puts' blocks.
 fn numbers_of(alloc: Global, puts: &[Put]) -> Result<Vec<u32>, NoMemory>
     ensures { IfOk result (λ numbers. numbers.items ≡ map block_of puts.now) }
@@ -71,21 +69,38 @@ fn numbers_of(alloc: Global, puts: &[Put]) -> Result<Vec<u32>, NoMemory>
 }
 
 impl Running {
-    /// Issues the transaction as the record of this number. All memory is taken before the first write,
-    /// and no write is waited for.
+    /// The memory for a commit of the transaction as it is now.
     ///
     /// # Errors
-    /// The transaction comes back, with why. After a fault of the disk the ring's places stay taken.
+    /// Out of memory.
+    pub fn room_for_commit(&self, alloc: Global) -> Result<CommitRoom, NoMemory>
+        requires { length self.now.paid + length self.now.laid ≤ 2097152 }
+        ensures { IfOk result (HasRoomForCommit self.now) }
+    {
+        let laid = self.fresh();
+        let count = places_of(self.payloads().len() as u32, laid.len() as u32);
+        let tickets = Vec::with_capacity(alloc, laid.len() + count as usize)?;
+        let fresh = numbers_of(alloc, laid)?;
+        Ok(CommitRoom { tickets, fresh })
+    }
+
+    /// Issues the transaction as the record of this number. It takes no memory but this, and no write is
+    /// waited for.
+    ///
+    /// # Errors
+    /// A write failed, which the disk has counted. The transaction comes back, and the ring's places stay taken.
+    /// What a crash leaves is still one sync point.
     pub fn commit<D: Disk>(
         self,
-        alloc: Global,
+        room: CommitRoom,
         disk: &mut D,
         ring: &mut Ring,
         epoch: u64,
         number: u64,
-    ) -> Result<Committed, (Running, CommitRefusal)>
+    ) -> Result<Committed, Running>
         requires some { 0 < length self.paid }
         requires small { length self.paid + length self.laid ≤ 2097152 }
+        requires room { HasRoomForCommit self room }
         requires on_disk { (D.state disk.old).blocks ≡ ring.old.geom.n }
         requires free { ring.old.taken + places (record_of 0 0 self.paid self.laid) ≤ ring.old.geom.j }
         requires below { AreBelow (D.state disk.old).blocks self.laid }
@@ -97,11 +112,9 @@ impl Running {
             → DataAgree (D.state disk.old).base (D.state disk.old).log l p → IsSafe s (D.state disk.old).base (D.state disk.old).log l t floor → HasOnePending (D.state disk.old).base (D.state disk.old).log l p [] → AreNotOnTheirWay (D.state disk.old).log p self.laid
             → CommitKeepsOne l p (written_of epoch number ring.old.next self.paid self.laid) m result (D.state disk.new).base (D.state disk.new).log }
         ensures made { IfOk result (IsCommitOf self number ring.old.next) }
-        ensures back { IfErr result (λ (running, why). running ≡ self) }
-        ensures nothing { IfErr result (λ (running, why). WhereNoMemory why ((disk.new ≡ disk.old) × (ring.new ≡ ring.old))) }
-        ensures ring { OnOk result (ring.new ≡ with_places ring.old (places (record_of 0 0 self.paid self.laid))) }
-        ensures places { IfErr result (λ (running, why). WhereDiskFault why (ring.new ≡ with_places ring.old (places (record_of 0 0 self.paid self.laid)))) }
-        ensures spends { OnlyWrites (is_disk_fault result) (D.state disk.old) (D.state disk.new) }
+        ensures back { IfErr result (λ running. running ≡ self) }
+        ensures ring { ring.new ≡ with_places ring.old (places (record_of 0 0 self.paid self.laid)) }
+        ensures spends { OnlyWrites (is_err result) (D.state disk.old) (D.state disk.new) }
     {
         payloads_read_back();
         journal_blocks_read_back();
@@ -116,18 +129,11 @@ impl Running {
         geom.lawful();
         let paid = self.payloads();
         let laid = self.fresh();
+        let CommitRoom { mut tickets, fresh } = room;
         let count = places_of(paid.len() as u32, laid.len() as u32);
-        let mut tickets = match Vec::with_capacity(alloc, laid.len() + count as usize) {
-            Ok(tickets) => tickets,
-            Err(_) => return Err((self, CommitRefusal::NoMemory)),
-        };
-        let fresh = match numbers_of(alloc, laid) {
-            Ok(fresh) => fresh,
-            Err(_) => return Err((self, CommitRefusal::NoMemory)),
-        };
         let place = ring.take(count);
         if issue_record(disk, &geom, epoch, number, place, paid, laid, &mut tickets).is_err() {
-            return Err((self, CommitRefusal::DiskFault));
+            return Err(self);
         }
         Ok(Committed {
             number,

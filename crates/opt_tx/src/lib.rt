@@ -13,7 +13,7 @@ mod running;
 mod states;
 mod writes;
 
-pub use commit::{CommitRefusal, Committed, places_of};
+pub use commit::{CommitRoom, Committed, places_of};
 pub use entries::{descriptor_at, entry_at};
 pub use laws::{
     a_record_keeps_its_puts, a_record_makes_so_many_writes, a_transaction_is_a_map_of_its_puts,

@@ -1,8 +1,8 @@
 -- The record of the transaction is the next one, and its parts are issued.
-use Rattle.std.proofs.Common.{◌<◌, ◌≤◌, ◌+◌, ◌++◌, IsTrue, ℕ, [], List, map, length, refl, ◌∙◌, ap, sym, subst, arith}
+use Rattle.std.proofs.Common.{◌<◌, ◌≤◌, ◌+◌, ◌++◌, IsTrue, ℕ, [], List, map, length, vec_capacity, refl, ◌∙◌, ap, sym, subst, arith}
 use Rattle.opt_geom.specs.Geometry.{Geometry}
 use Rattle.opt_journal.specs.Ring.{with_places}
-use Rattle.opt_journal.specs.Run.{entries_fit}
+use Rattle.opt_journal.specs.Run.{entries_fit, places}
 use Rattle.opt_crash.specs.Ledger.{WrittenRecord}
 use Rattle.opt_tx.specs.declared.put.Put.{Put}
 use Rattle.opt_tx.specs.Record.{record_of, written_of, block_of, IsTransaction}
@@ -24,7 +24,8 @@ pub take-place-requires : goal.take-place-requires
 take-place-requires g c = omega (arith, c.requires.free, c.places_of-count.ensures 0 0 c.args.self.paid c.args.self.laid (ap (λ (l : List Put). length l) (sym c.payloads-paid.ensures)) (ap (λ (l : List Put). length l) (sym c.fresh-laid.ensures)))
 
 pub issue_record-requires-clause-room : goal.issue_record-requires-clause-room
-issue_record-requires-clause-room g c = let size = c.places_of-count.ensures 0 0 c.payloads-paid.result.now c.fresh-laid.result.now refl refl in omega (arith, size, c.in-Ok.ensures.capacity)
+issue_record-requires-clause-room g c = subst (λ (ls : List Put). length ls + places (record_of 0 0 c.payloads-paid.result.now ls) ≤ vec_capacity c.args.room.tickets) (sym c.fresh-laid.ensures)
+    (subst (λ (ps : List Put). length c.args.self.laid + places (record_of 0 0 ps c.args.self.laid) ≤ vec_capacity c.args.room.tickets) (sym c.payloads-paid.ensures) c.requires.room.tickets)
 
 pub returns-then-is_err-clause-leaves : goal.returns-then-is_err-clause-leaves
 returns-then-is_err-clause-leaves g c = λ tells s l p m t floor geom may idle known safe.
@@ -73,7 +74,7 @@ pub returns-clause-log : goal.returns-clause-log
 returns-clause-log g c = λ tells.
     let same = same_writes c.geom-geom.result c.args.ring.now.geom c.args.epoch c.args.number c.take-place.result c.args.ring.now.next c.payloads-paid.result.now c.args.self.paid c.fresh-laid.result.now c.args.self.laid c.geom-geom.ensures c.take-place.ensures.first c.payloads-paid.ensures c.fresh-laid.ensures in
     let all = ok_adds _ c.issue_record.result _ _ _ _ (sym c.is_err.ensures.value ∙ c.if-is_err.false) (c.issue_record.ensures.log tells) in
-    let tickets = all.1 ∙ ap (λ (ts : List ℕ). ts ++ all.0) c.in-Ok.ensures.items in
+    let tickets = all.1 ∙ ap (λ (ts : List ℕ). ts ++ all.0) c.requires.room.empty in
     subst (λ (ts : List ℕ). AddsWrites (record_writes c.args.ring.now.geom c.args.epoch c.args.number c.args.ring.now.next c.args.self.paid c.args.self.laid) ts (g.D.Disk.state c.args.disk.now).log (g.D.Disk.state c.issue_record.new.disk).log) (sym tickets)
     (subst (λ (ws : List (ℕ × List ℕ)). AddsWrites ws all.0 (g.D.Disk.state c.args.disk.now).log (g.D.Disk.state c.issue_record.new.disk).log) same all.2)
 
@@ -83,14 +84,14 @@ returns-clause-made g c = record {
   place = c.take-place.ensures.first;
   count = c.places_of-count.ensures c.args.number c.args.ring.now.next c.args.self.paid c.args.self.laid (ap (λ (l : List Put). length l) (sym c.payloads-paid.ensures)) (ap (λ (l : List Put). length l) (sym c.fresh-laid.ensures));
   payloads = ap (λ (v : Changes). v.paid) c.self.view_is;
-  fresh = c.in-Ok-numbers_of.ensures ∙ ap (λ (l : List Put). map block_of l) c.fresh-laid.ensures;
+  fresh = c.requires.room.fresh;
   freed = ap (λ (v : Changes). v.freed) c.self.view_is;
   tickets = ap (λ (ts : List ℕ). length ts) refl ∙ ok_holds c.issue_record.result _ (sym c.is_err.ensures.value ∙ c.if-is_err.false) c.issue_record.ensures.taken
       ∙ same_size c.payloads-paid.result.now c.args.self.paid c.fresh-laid.result.now c.args.self.laid c.args.number c.args.ring.now.next c.payloads-paid.ensures c.fresh-laid.ensures;
 }
 
-pub returns-then-is_err-clause-places : goal.returns-then-is_err-clause-places
-returns-then-is_err-clause-places g c = c.take-place.ensures.places ∙ ap (with_places c.args.ring.now) (c.places_of-count.ensures 0 0 c.args.self.paid c.args.self.laid (ap (λ (l : List Put). length l) (sym c.payloads-paid.ensures)) (ap (λ (l : List Put). length l) (sym c.fresh-laid.ensures)))
+pub returns-then-is_err-clause-ring : goal.returns-then-is_err-clause-ring
+returns-then-is_err-clause-ring g c = c.take-place.ensures.places ∙ ap (with_places c.args.ring.now) (c.places_of-count.ensures 0 0 c.args.self.paid c.args.self.laid (ap (λ (l : List Put). length l) (sym c.payloads-paid.ensures)) (ap (λ (l : List Put). length l) (sym c.fresh-laid.ensures)))
 
 pub returns-clause-ring : goal.returns-clause-ring
 returns-clause-ring g c = c.take-place.ensures.places ∙ ap (with_places c.args.ring.now) (c.places_of-count.ensures 0 0 c.args.self.paid c.args.self.laid (ap (λ (l : List Put). length l) (sym c.payloads-paid.ensures)) (ap (λ (l : List Put). length l) (sym c.fresh-laid.ensures)))
