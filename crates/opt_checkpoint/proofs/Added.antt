@@ -1,10 +1,9 @@
 -- What the steps add to the log, one after the other: notices, a batch's checkpoint writes, a header; and which records leave.
-use Rattle.std.proofs.Common.{◌≡◌, ◌⊎◌, inl, inr, ⊎_elim, ℕ, zero, suc, ◌+◌, ◌-◌, ◌<◌, ◌≤◌, Bool, true, false, if◌then◌else◌, List, [], ◌∷◌, ◌++◌, length, take, drop, map, slice_get, Option, Some, None, Result, Ok, Err, IsErr, OnOk, Contains, refl, sym, ◌∙◌, ap, subst, arith, append_assoc, append-nil}
+use Rattle.std.proofs.Common.{◌≡◌, ◌⊎◌, inl, inr, ⊎_elim, ℕ, zero, suc, ◌+◌, ◌-◌, ◌<◌, ◌≤◌, Bool, true, false, if◌then◌else◌, List, [], ◌∷◌, ◌++◌, length, take, drop, map, slice_get, Option, Some, None, Result, Ok, Err, IsErr, OnOk, Contains, refl, sym, ◌∙◌, ap, subst, arith}
 use Rattle.std.specs.Bool.{⊤}
 use Rattle.std.proofs.Math.Seq.{take-length}
 use Rattle.std.proofs.lemmas.Bool.{false≢true}
 use Rattle.std.proofs.lemmas.Option.{same_Some, none-some}
-use Rattle.std.proofs.lemmas.List.Elements.{Contains-push_cases, Contains-append_cases}
 use Rattle.opt_journal.specs.Run.{or_else}
 use Rattle.opt_journal.specs.Ring.{RingPlaces}
 use Rattle.opt_journal.specs.Spelling.{header_block}
@@ -12,7 +11,7 @@ use Rattle.opt_disk.specs.declared.event.Event.{Event}
 use Rattle.opt_disk.specs.declared.event.Event.TheVariants.{Wrote, Lost, Noticed}
 use Rattle.opt_disk.specs.Cell.{notices}
 use Rattle.opt_crash.specs.HomeTest.{is_one_of}
-use Rattle.opt_crash.specs.Writes.{AddsWrites, AddsFront, AddsAll}
+use Rattle.opt_crash.specs.Writes.{AddsAll}
 use Rattle.opt_tx.specs.declared.put.Put.{Put}
 use Rattle.opt_tx.specs.Rows.{put_of}
 use Rattle.opt_tx.specs.Writes.{fresh_write}
@@ -24,9 +23,8 @@ use Rattle.opt_checkpoint.specs.Kept.{Kept, kept, newest_after, newest_in, of_su
 use Rattle.opt_checkpoint.specs.Turns.{BatchAdds, AddsBatch, HeaderAdds, AddsHeader, TurnsOrStays, EndsOrStays, due_header}
 use Rattle.opt_checkpoint.proofs.BatchEnds.{take_front}
 use Rattle.opt_checkpoint.proofs.BatchRows.{put_at}
+use Rattle.opt_checkpoint.proofs.EventRows.{Adds, adds_none, adds_one, adds_on, adds_as, adds_notices, adds_writes, adds_front}
 use Rattle.opt_checkpoint.proofs.Index.{kept_turned, kept_ended}
-use Rattle.opt_checkpoint.proofs.KeptRows.{get_behind}
-use Rattle.opt_checkpoint.proofs.Lists.{get_old}
 
 -- The newest payload in a row of records, of which some before it have left.
 
@@ -42,6 +40,12 @@ newest_step before k b = by (is_one_of b k.freed) (put_of b k.payloads) (is_one_
 newest_more : (before : Option (List ℕ)) (ks : List Kept) (b : ℕ) (x : List ℕ) → newest_in None ks b ≡ Some x → newest_in before ks b ≡ Some x
 newest_more before [] b x is = absurd (none-some x is)
 newest_more before (k ∷ ks) b x is = ⊎_elim (λ same. ap (λ o. newest_in o ks b) (sym same) ∙ is) (λ none. newest_more (newest_after before k b) ks b x (ap (λ o. newest_in o ks b) (sym none) ∙ is)) (newest_step before k b)
+
+-- records that have left don't take away the newest payload of those behind them
+pub newest_before : (n : ℕ) (ks : List Kept) (b : ℕ) (x : List ℕ) → newest_in None (drop n ks) b ≡ Some x → newest_in None ks b ≡ Some x
+newest_before zero ks b x is = is
+newest_before (suc n) [] b x is = is
+newest_before (suc n) (k ∷ ks) b x is = newest_more (newest_after None k b) ks b x (newest_before n ks b x is)
 
 has_before : (n : ℕ) (ks : List Kept) (b : ℕ) (x : List ℕ) → HasPayload (drop n ks) b x → HasPayload ks b x
 has_before zero ks b x has = has
@@ -61,31 +65,6 @@ abbrev CalmlyAdd : List Kept → Event → Type 0
 CalmlyAdd ks (Wrote t b x) = (b < 2) ⊎ HasPayload ks b x
 CalmlyAdd ks (Lost b x) = ⊥
 CalmlyAdd ks (Noticed t) = ⊤
-
-record Adds (P : Event → Type 0) (old new : List Event) : Type 0 where
-  pub more : List Event
-  pub log : new ≡ old ++ more
-  pub each : (e : Event) → Contains more e → P e
-
-none_in : (e : Event) → Contains [] e → ⊥
-none_in e there = let lt = there.1 in omega (arith, lt)
-
-adds_none : (P : Event → Type 0) (old new : List Event) → new ≡ old → Adds P old new
-adds_none P old new same = record { more = []; log = same ∙ sym (append-nil old); each = λ e there. absurd (none_in e there) }
-
-adds_one : (P : Event → Type 0) (old new : List Event) (f : Event) → new ≡ old ++ f ∷ [] → P f → Adds P old new
-adds_one P old new f log p = record { more = f ∷ []; log = log; each = λ e there. ⊎_elim (λ none. absurd (none_in e none)) (λ same. subst P same p) (Contains-push_cases [] f e there) }
-
-adds_on : (P : Event → Type 0) (a b c : List Event) → Adds P a b → Adds P b c → Adds P a c
-adds_on P a b c one two = record { more = one.more ++ two.more; log = two.log ∙ ap (λ xs. xs ++ two.more) one.log ∙ append_assoc a one.more two.more; each = λ e there. ⊎_elim (λ h. one.each e h) (λ h. two.each e h) (Contains-append_cases one.more two.more e there) }
-
-adds_as : (P Q : Event → Type 0) (old new : List Event) → ((e : Event) → P e → Q e) → Adds P old new → Adds Q old new
-adds_as P Q old new turn one = record { more = one.more; log = one.log; each = λ e there. turn e (one.each e there) }
-
-calm_may : (ks : List Kept) (e : Event) → CalmlyAdd ks e → MayAdd ks e
-calm_may ks (Wrote t b x) h = h
-calm_may ks (Lost b x) h = absurd h
-calm_may ks (Noticed t) h = h
 
 may_before : (n : ℕ) (ks : List Kept) (e : Event) → MayAdd (drop n ks) e → MayAdd ks e
 may_before n ks (Wrote t b x) h = ⊎_elim inl (λ has. inr (has_before n ks b x has)) h
@@ -163,35 +142,16 @@ home_went a r ks old new h = home_of_calm r ks old new (calm_of a ks old new h)
 
 -- Notices.
 
-notices_calm : (ks : List Kept) (ts : List ℕ) (e : Event) → Contains (notices ts) e → CalmlyAdd ks e
-notices_calm ks [] e there = absurd (none_in e there)
-notices_calm ks (t ∷ ts) e there = ⊎_elim (λ first. ⊎_elim (λ none. absurd (none_in e none)) (λ same. subst (CalmlyAdd ks) same tt) (Contains-push_cases [] (Noticed t) e first)) (λ rest. notices_calm ks ts e rest) (Contains-append_cases (Noticed t ∷ []) (notices ts) e there)
-
 pub home_noticed : {A E : Type 0} (r : Result A E) (ks : List Kept) (ts : List ℕ) (old new : List Event) → new ≡ old ++ notices ts → AddsHome r ks old new
-home_noticed r ks ts old new log = home_of_calm r ks old new (record { more = notices ts; log = log; each = notices_calm ks ts })
+home_noticed r ks ts old new log = home_of_calm r ks old new (adds_notices (CalmlyAdd ks) (λ t. tt) ts old new log)
 
 -- The batch.
 
-writes_add : (ks : List Kept) (ws : List (ℕ × List ℕ)) (ts : List ℕ) (old new : List Event) → ((k : ℕ) (w : ℕ × List ℕ) → slice_get ws k ≡ Some w → HasPayload ks w.0 w.1) → AddsWrites ws ts old new → Adds (CalmlyAdd ks) old new
-writes_add ks [] [] old new each same = adds_none (CalmlyAdd ks) old new same
-writes_add ks [] (t ∷ ts) old new each bad = absurd bad
-writes_add ks (w ∷ ws) [] old new each bad = absurd bad
-writes_add ks (w ∷ ws) (t ∷ ts) old new each adds =
-    adds_on (CalmlyAdd ks) old (old ++ Wrote t w.0 w.1 ∷ []) new (adds_one (CalmlyAdd ks) old (old ++ Wrote t w.0 w.1 ∷ []) (Wrote t w.0 w.1) refl (inr (each 0 w refl)))
-    (writes_add ks ws ts (old ++ Wrote t w.0 w.1 ∷ []) new (λ k u is. each (suc k) u is) adds.2)
-
-front_adds : (ks : List Kept) (ws : List (ℕ × List ℕ)) (old new : List Event) → ((k : ℕ) (w : ℕ × List ℕ) → slice_get ws k ≡ Some w → HasPayload ks w.0 w.1) → AddsFront ws old new → Adds (MayAdd ks) old new
-front_adds ks ws old new each f =
-    adds_on (MayAdd ks) old f.middle new
-    (adds_as (CalmlyAdd ks) (MayAdd ks) old f.middle (calm_may ks) (writes_add ks f.front f.tickets old f.middle (λ k w is. each k w (ap (λ us. slice_get us k) f.split ∙ get_old f.front f.rest k w is)) f.accepted))
-    (⊎_elim (λ same. adds_none (MayAdd ks) f.middle new same) (λ (b, x, later, next, log). adds_one (MayAdd ks) f.middle new (Lost b x) log
-    (inr (each (length f.front) (b, x) (ap (λ us. slice_get us (length f.front)) (f.split ∙ ap (λ us. f.front ++ us) next) ∙ get_behind f.front ((b, x) ∷ later) (length f.front) 0 (b, x) (omega arith) refl)))) f.ends)
-
 all_add : {A E : Type 0} (r : Result A E) (ks : List Kept) (ws : List (ℕ × List ℕ)) (now : List ℕ) (old new : List Event) → ((k : ℕ) (w : ℕ × List ℕ) → slice_get ws k ≡ Some w → HasPayload ks w.0 w.1) → AddsAll ws r [] now old new → AddsHome r ks old new
-all_add (Ok a) ks ws now old new each adds = home_of_calm (Ok a) ks old new (writes_add ks ws adds.0 old new each adds.2)
-all_add (Err e) ks ws now old new each adds = home_of_err e ks old new (front_adds ks ws old new each adds)
+all_add (Ok a) ks ws now old new each adds = home_of_calm (Ok a) ks old new (adds_writes (CalmlyAdd ks) ws adds.0 old new (λ t k w is. inr (each k w is)) adds.2)
+all_add (Err e) ks ws now old new each adds = home_of_err e ks old new (adds_front (MayAdd ks) ws old new (λ t k w is. inr (each k w is)) (λ k w is. inr (each k w is)) adds)
 
-get_write : (row : List Put) (k : ℕ) (w : ℕ × List ℕ) → slice_get (map fresh_write row) k ≡ Some w → (q : Put) × (slice_get row k ≡ Some q) × (fresh_write q ≡ w)
+pub get_write : (row : List Put) (k : ℕ) (w : ℕ × List ℕ) → slice_get (map fresh_write row) k ≡ Some w → (q : Put) × (slice_get row k ≡ Some q) × (fresh_write q ≡ w)
 get_write [] k w is = absurd (none-some w is)
 get_write (q ∷ row) zero w is = (q, refl, same_Some _ _ is)
 get_write (q ∷ row) (suc k) w is = get_write row k w is
@@ -250,17 +210,24 @@ pub loses_ended : (r : Bool) (b c : Pipeline) → b.batch ≤ length b.sure.item
 loses_ended true b c le ends = record { count = b.batch; rest = kept_ended b c ends le }
 loses_ended false b c le same = loses_none (kept b) (kept c) (ap kept same)
 
+-- a batch that begins and a header that is written leave the records as they are
+pub kept_begun : {A E : Type 0} (due : Bool) (r : Result A E) (w x : Pipeline) → BatchAdds due r w x → kept x ≡ kept w
+kept_begun true (Ok a) w x begins = ap kept begins.0.rest
+kept_begun true (Err e) w x begins = ap kept begins.rest
+kept_begun false (Ok a) w x same = ap kept same
+kept_begun false (Err e) w x bad = absurd bad
+
+pub kept_made : {A E : Type 0} (due : Bool) (r : Result A E) (x y : Pipeline) (ring : RingPlaces) → HeaderAdds due r x y ring → kept y ≡ kept x
+kept_made true (Ok a) x y ring writes = ap kept writes.rest
+kept_made true (Err e) x y ring same = ap kept same
+kept_made false (Ok a) x y ring same = ap kept same
+kept_made false (Err e) x y ring bad = absurd bad
+
 pub loses_batch : {A E : Type 0} (due : Bool) (r : Result A E) (w x : Pipeline) → BatchAdds due r w x → LosesFront (kept w) (kept x)
-loses_batch true (Ok a) w x begins = loses_none (kept w) (kept x) (ap kept begins.0.rest)
-loses_batch true (Err e) w x begins = loses_none (kept w) (kept x) (ap kept begins.rest)
-loses_batch false (Ok a) w x same = loses_none (kept w) (kept x) (ap kept same)
-loses_batch false (Err e) w x bad = absurd bad
+loses_batch due r w x begins = loses_none (kept w) (kept x) (kept_begun due r w x begins)
 
 pub loses_header : {A E : Type 0} (due : Bool) (r : Result A E) (x y : Pipeline) (ring : RingPlaces) → HeaderAdds due r x y ring → LosesFront (kept x) (kept y)
-loses_header true (Ok a) x y ring writes = loses_none (kept x) (kept y) (ap kept writes.rest)
-loses_header true (Err e) x y ring same = loses_none (kept x) (kept y) (ap kept same)
-loses_header false (Ok a) x y ring same = loses_none (kept x) (kept y) (ap kept same)
-loses_header false (Err e) x y ring bad = absurd bad
+loses_header due r x y ring adds = loses_none (kept x) (kept y) (kept_made due r x y ring adds)
 
 -- the steps that make no write, one after the other
 pub loses_forward : (v a b c w : Pipeline) (turned ended : Bool) (ring next_ring : RingPlaces) → kept a ≡ kept v → TurnsOrStays turned a b ring next_ring → b.batch ≤ length b.sure.items → EndsOrStays ended b c → w ≡ record c { blocks = w.blocks } → LosesFront (kept v) (kept w)

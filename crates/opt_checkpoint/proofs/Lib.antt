@@ -49,4 +49,8 @@ pub mod ForwardSound
 pub mod DueRows
 pub mod MovesRows
 pub mod Taking
+pub mod EventRows
 pub mod Added
+pub mod HomeLives
+pub mod CalmBlocks
+pub mod LiveBytes

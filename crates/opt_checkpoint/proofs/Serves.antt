@@ -8,20 +8,20 @@ use Rattle.opt_disk.specs.declared.event.Event.{Event}
 use Rattle.opt_disk.specs.declared.disk.DiskFault.{DiskFault}
 use Rattle.opt_geom.specs.Geometry.{data_start}
 use Rattle.opt_journal.specs.Ring.{RingPlaces}
-use Rattle.opt_crash.specs.Ledger.{Ledger, WrittenRecord, IsConsistentWith}
+use Rattle.opt_crash.specs.Ledger.{Ledger, IsConsistentWith}
 use Rattle.opt_crash.specs.HomeTest.{AreFreedBy, goes_home, is_one_of}
 use Rattle.opt_crash.specs.PipelineData.{PipelineData, DataAgree, NeedsCheckpoint, with_batch}
 use Rattle.opt_reuse.specs.Numbers.{is_among}
 use Rattle.opt_reuse.specs.Dead.{DeadBlocks, AreSound, block_of}
 use Rattle.opt_checkpoint.specs.declared.pipeline.HomeWrite.{HomeWrite}
 use Rattle.opt_checkpoint.specs.declared.pipeline.Pipeline.{Pipeline}
-use Rattle.opt_checkpoint.specs.Agree.{PipelineAgrees, data_of}
+use Rattle.opt_checkpoint.specs.Agree.{PipelineAgrees}
 use Rattle.opt_checkpoint.specs.Advance.{MayServe}
 use Rattle.opt_checkpoint.specs.Batch.{AreHomeBlocks, home_block}
 use Rattle.opt_checkpoint.specs.Kept.{of_sure, newest_in}
 use Rattle.opt_checkpoint.specs.Turns.{BeginsBatch, BatchAdds, is_batch_due}
 use Rattle.opt_checkpoint.proofs.Lists.{choose_true}
-use Rattle.opt_checkpoint.proofs.HomeBytes.{home_is_newest}
+use Rattle.opt_checkpoint.proofs.HomeLives.{live_then}
 
 pub among_left : (b : ℕ) (xs ys : List ℕ) → is_among b xs ≡ true → is_among b (xs ++ ys) ≡ true
 among_left b xs ys e = list_any-append (λ x. x == b) xs ys ∙ ap (λ v. v || is_among b ys) e
@@ -48,10 +48,6 @@ the_some : {A : Type 0} (o : Option A) → is_some o ≡ true → (x : A) × (o 
 the_some None e = absurd (false≢true e)
 the_some (Some x) e = (x, refl)
 
--- the batch that begins, as the crash argument has it
-abbrev begun_data : Pipeline → RingPlaces → List (ℕ × ℕ) → PipelineData
-begun_data v ring waiting = with_batch (data_of v ring waiting) (length v.sure.items)
-
 module _ (base : Blocks) (log : List Event) (l : Ledger) (v w : Pipeline) (ring : RingPlaces) (dead : DeadBlocks) (taken : List ℕ) (a : PipelineAgrees base log l v ring dead.waiting taken) (keeps : IsConsistentWith base log l)
     (sound : AreSound dead) (dead_geom : dead.geom ≡ v.geom) (serves : MayServe l v dead)
     (begins : (base : Blocks) (log : List Event) (l : Ledger) (p : PipelineData) (count : ℕ) → IsConsistentWith base log l → DataAgree base log l p → p.batch ≡ 0 → l.header.start + p.placed + count ≡ l.header.sure + 1 → DataAgree base log l (with_batch p count))
@@ -62,14 +58,11 @@ module _ (base : Blocks) (log : List Event) (l : Ledger) (v w : Pipeline) (ring 
   -- a block that goes home isn't one that may be taken
   goes_home_apart : v.batch ≡ 0 → (b : ℕ) (x : List ℕ) → newest_in None (map of_sure v.sure.items) b ≡ Some x → is_among b dead.reusable ≡ true → ⊥
   goes_home_apart none b x newest may =
-      let p = begun_data v ring dead.waiting in
-      let agree = begins base log l (data_of v ring dead.waiting) (length v.sure.items) keeps a.agree none a.sure in
-      let test = ap (λ (ws : List WrittenRecord). goes_home None ws (take p.batch (drop p.placed a.freed)) b) (tells base log l p agree) ∙ home_is_newest base log l v ring dead.waiting taken a b ∙ newest in
-      let need = needs base log l p a.freed b x keeps agree a.freed_by a.sure test in
+      let then = live_then base log l v ring dead.waiting taken a keeps begins tells needs none b x newest in
       let dead_now = serves.dead_now b (among_left b dead.reusable (map block_of dead.waiting) may) in
       let lies = sound.lie b (among_left b dead.reusable (dead.held ++ map block_of dead.waiting) may) in
       let from : data_start l.geom ≤ b = subst (λ g. data_start g ≤ b) (dead_geom ∙ a.geom) lies.from in
-      let wait = a.agree.waiting.each b (l.header.sure + 1) from (omega arith) (omega (arith, a.count, a.sure)) need.live dead_now in
+      let wait = a.agree.waiting.each b (l.header.sure + 1) from (omega arith) (omega (arith, a.count, a.sure)) then dead_now in
       false≢true (sym (waits dead b sound (pair_among b wait.1 wait.0 dead.waiting wait.2)) ∙ may)
 
   pub serves_begun : v.batch ≡ 0 → BeginsBatch v w → AreHomeBlocks (map of_sure v.sure.items) (map home_block w.home.items) → MayServe l w dead

@@ -12,3 +12,4 @@ pub mod Waits
 pub mod Stages
 pub mod Advance
 pub mod Adds
+pub mod Bytes

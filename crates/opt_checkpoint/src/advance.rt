@@ -4,13 +4,14 @@
 ghost use Rattle.std.specs.Prelude.{◌≡◌, ◌≤◌, ◌<◌, ◌+◌, ◌++◌, ◌∷◌, ◌^◌, [], ℕ, List, length, false, vec_len, vec_capacity, IsTrue, OnOk, is_err};
 ghost use Rattle.opt_base.specs.Seal.{Blocks};
 ghost use Rattle.opt_disk.specs.declared.event.Event.{Event};
-ghost use Rattle.opt_disk.specs.Disk.{OnlyWrites};
+ghost use Rattle.opt_disk.specs.Disk.{State, OnlyWrites};
 ghost use Rattle.opt_journal.specs.Ring.{RingPlaces};
 ghost use Rattle.opt_crash.specs.Counts.{writes_in};
 ghost use Rattle.opt_crash.specs.Ledger.{Ledger};
 ghost use Rattle.opt_crash.specs.Points.{MountedSession, IsSafe};
 ghost use Rattle.opt_checkpoint.specs.Adds.{AddsHome, LosesFront};
 ghost use Rattle.opt_checkpoint.specs.Agree.{PipelineAgrees, durable_count};
+ghost use Rattle.opt_checkpoint.specs.Bytes.{LeavesBytes};
 ghost use Rattle.opt_reuse.specs.Dead.{DeadBlocks};
 ghost use Rattle.opt_checkpoint.specs.Kept.{kept};
 ghost use Rattle.opt_checkpoint.specs.Order.{IsInOrder, HasRoom};
@@ -23,10 +24,10 @@ ghost use Rattle.opt_checkpoint.specs.Turns.{with_served, going_home};
 use crate::batch::{begin_batch, end_batch};
 use crate::header::{turn_header, write_next_header};
 use crate::waits::{wait_for_all, wait_upto};
-use crate::{HomeWrite, Pipeline, settle_first, take_notices};
+use crate::{HomeWrite, Pipeline, settle_first, take_notices, the_newest_payloads_are_the_map};
 use opt_crash::{
-    a_batch_goes_home, calls_add_at_most_one_write, counts_tell_the_batch, fewer_may_wait,
-    the_home_test_is_exact,
+    a_batch_goes_home, a_read_gives_what_was_written_last, calls_add_at_most_one_write,
+    counts_tell_the_batch, fewer_may_wait, records_stand_in_order, the_home_test_is_exact,
 };
 use opt_disk::{Disk, DiskFault};
 use opt_journal::Ring;
@@ -60,9 +61,11 @@ impl Pipeline {
         ensures owed { IsTrue D.tells → writes_in (D.state disk.new).log + writes_owed self.new ≤ writes_in (D.state disk.old).log + writes_owed self.old }
         ensures adds { IsTrue D.tells → AddsHome result (kept self.old) (D.state disk.old).log (D.state disk.new).log }
         ensures front { LosesFront (kept self.old) (kept self.new) }
+        ensures bytes { IsTrue D.tells → (s : MountedSession) (l : Ledger) (t floor : ℕ) (taken : List ℕ) → IsRightOn s (D.state disk.old) l t floor self.old ring.old reuse.old taken → LeavesBytes l self.old self.new (D.state disk.old) (D.state disk.new) }
         ensures spends { AdvanceSpends result (D.state disk.old) (D.state disk.new) }
     {
         calls_add_at_most_one_write();
+        the_newest_payloads_are_the_map();
         take_notices(disk, self)?;
         go_on(disk, self, ring, reuse)
     }
@@ -88,11 +91,13 @@ impl Pipeline {
         ensures owed { IsTrue D.tells → writes_in (D.state disk.new).log + writes_owed self.new ≤ writes_in (D.state disk.old).log + writes_owed self.old }
         ensures adds { IsTrue D.tells → AddsHome result (kept self.old) (D.state disk.old).log (D.state disk.new).log }
         ensures front { LosesFront (kept self.old) (kept self.new) }
+        ensures bytes { IsTrue D.tells → (s : MountedSession) (l : Ledger) (t floor : ℕ) (taken : List ℕ) → IsRightOn s (D.state disk.old) l t floor self.old ring.old reuse.old taken → LeavesBytes l self.old self.new (D.state disk.old) (D.state disk.new) }
         ensures spends { WaitsSome (is_err result) (D.state disk.old) (D.state disk.new) }
     {
         calls_change_what_is_dead();
         a_freed_block_waits();
         fewer_may_wait();
+        the_newest_payloads_are_the_map();
         for round in 0..ROUNDS {
             drain_once(disk, self, ring, reuse)?;
         }
@@ -113,6 +118,7 @@ impl Pipeline {
         ensures sound { (ring : RingPlaces) (dead : DeadBlocks) → IsSound self.old ring dead → IsSound self.new ring dead }
         ensures moves { (ring : RingPlaces) (dead : DeadBlocks) → Moves 0 self.old self.new ring ring dead dead }
         ensures durable { OnOk result (upto ≤ self.old.last → upto < self.new.header.start + durable_count self.new) }
+        ensures kept { kept self.new ≡ kept self.old }
         ensures owed { writes_owed self.new ≡ writes_owed self.old }
         ensures log { IsTrue D.tells → OnlyNotices (D.state disk.old).log (D.state disk.new).log }
         ensures spends { WaitsSome (is_err result) (D.state disk.old) (D.state disk.new) }
@@ -140,8 +146,10 @@ fn drain_once<D: Disk>(
     ensures owed { IsTrue D.tells → writes_in (D.state disk.new).log + writes_owed pipeline.new ≤ writes_in (D.state disk.old).log + writes_owed pipeline.old }
     ensures adds { IsTrue D.tells → AddsHome result (kept pipeline.old) (D.state disk.old).log (D.state disk.new).log }
     ensures front { LosesFront (kept pipeline.old) (kept pipeline.new) }
+    ensures bytes { IsTrue D.tells → (s : MountedSession) (l : Ledger) (t floor : ℕ) (taken : List ℕ) → IsRightOn s (D.state disk.old) l t floor pipeline.old ring.old reuse.old taken → LeavesBytes l pipeline.old pipeline.new (D.state disk.old) (D.state disk.new) }
     ensures spends { WaitsSome (is_err result) (D.state disk.old) (D.state disk.new) }
 {
+    the_newest_payloads_are_the_map();
     if pipeline.is_empty() {
         return Ok(());
     }
@@ -167,12 +175,14 @@ fn go_on<D: Disk>(
     ensures owed { IsTrue D.tells → writes_in (D.state disk.new).log + writes_owed pipeline.new ≤ writes_in (D.state disk.old).log + writes_owed pipeline.old }
     ensures adds { IsTrue D.tells → AddsHome result (kept pipeline.old) (D.state disk.old).log (D.state disk.new).log }
     ensures front { LosesFront (kept pipeline.old) (kept pipeline.new) }
+    ensures bytes { IsTrue D.tells → (s : MountedSession) (l : Ledger) (t floor : ℕ) (taken : List ℕ) → IsRightOn s (D.state disk.old) l t floor pipeline.old ring.old reuse.old taken → LeavesBytes l pipeline.old pipeline.new (D.state disk.old) (D.state disk.new) }
     ensures spends { OnlyWrites (is_err result) (D.state disk.old) (D.state disk.new) }
 {
     calls_add_at_most_one_write();
     a_batch_goes_home();
     counts_tell_the_batch();
     the_home_test_is_exact();
+    records_stand_in_order();
     a_freed_block_waits();
     calls_change_what_is_dead();
     reuse.lawful();
@@ -191,10 +201,13 @@ fn go_forward(pipeline: &mut Pipeline, ring: &mut Ring, reuse: &mut Reuse)
     ensures sound { IsSound pipeline.new ring.new reuse.new }
     ensures forward { (a b c : Pipeline) × GoesForward pipeline.old a b c pipeline.new ring.old ring.new reuse.old reuse.new }
     ensures front { LosesFront (kept pipeline.old) (kept pipeline.new) }
+    ensures bytes { (s : MountedSession) (d : State) (l : Ledger) (t floor : ℕ) (taken : List ℕ) → IsRightOn s d l t floor pipeline.old ring.old reuse.old taken → LeavesBytes l pipeline.old pipeline.new d d }
     ensures owed { writes_owed pipeline.new ≡ writes_owed pipeline.old }
 {
     a_freed_block_waits();
     fewer_may_wait();
+    the_newest_payloads_are_the_map();
+    a_read_gives_what_was_written_last();
     reuse.lawful();
     settle_all(pipeline);
     turn_header(pipeline, ring);

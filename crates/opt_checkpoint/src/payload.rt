@@ -1,13 +1,15 @@
 //! The newest payload of a block, in the records that aren't placed: where a read of the block finds its bytes
 //! before they are at the block. What a record is, and when one is placed, isn't said here.
 
-ghost use Rattle.std.specs.Prelude.{◌≡◌, ◌<◌, ℕ, List, length, slice_get, IsTrue, Some, None, IfSome};
+ghost use Rattle.std.specs.Prelude.{◌≡◌, ◌<◌, ℕ, List, length, slice_get, IsTrue, Some, None, IfSome, false};
 ghost use Rattle.opt_base.specs.Seal.{Blocks};
 ghost use Rattle.opt_disk.specs.declared.event.Event.{Event};
+ghost use Rattle.opt_disk.specs.Cell.{is_lost};
 ghost use Rattle.opt_journal.specs.Ring.{RingPlaces};
 ghost use Rattle.opt_journal.specs.Run.{is_live};
 ghost use Rattle.opt_crash.specs.Ledger.{Ledger, IsConsistentWith, issued, next_number};
 ghost use Rattle.opt_checkpoint.specs.Agree.{PipelineAgrees};
+ghost use Rattle.opt_checkpoint.specs.Bytes.{IsLiveNow};
 ghost use Rattle.opt_checkpoint.specs.Index.{IndexIsRight};
 ghost use Rattle.opt_checkpoint.specs.Kept.{Kept, kept, newest_in};
 ghost use Rattle.opt_checkpoint.specs.Order.{IsInOrder};
@@ -15,7 +17,10 @@ ghost use Rattle.opt_checkpoint.specs.declared.pipeline.Pipeline.{Pipeline};
 
 use crate::Pipeline;
 use opt_base::Block;
-use opt_crash::{counts_tell_the_batch, records_stand_in_order, the_newest_bytes_are_the_map};
+use opt_crash::{
+    a_read_gives_what_was_written_last, counts_tell_the_batch, records_stand_in_order,
+    the_newest_bytes_are_the_map,
+};
 use opt_tx::Put;
 
 impl Pipeline {
@@ -52,13 +57,15 @@ impl Pipeline {
 }
 
 /// The newest payload of a live block is what the map after all records has there. Where there is none, the map
-/// has what was written to the block last. It does nothing.
+/// has what was written to the block last. And no write to a live block is lost. It does nothing.
 pub fn the_newest_payloads_are_the_map()
     ensures payload { (base : Blocks) (log : List Event) (l : Ledger) (v : Pipeline) (ring : RingPlaces) (waiting : List (ℕ × ℕ)) (taken : List ℕ) (b : ℕ) (x : List ℕ) → IsConsistentWith base log l → PipelineAgrees base log l v ring waiting taken → IsTrue (is_live l.geom (l.map_before (next_number l)) b)
         → newest_in None (kept v) b ≡ Some x → l.map_before (next_number l) b ≡ x }
     ensures written { (base : Blocks) (log : List Event) (l : Ledger) (v : Pipeline) (ring : RingPlaces) (waiting : List (ℕ × ℕ)) (taken : List ℕ) (b : ℕ) → IsConsistentWith base log l → PipelineAgrees base log l v ring waiting taken → IsTrue (is_live l.geom (l.map_before (next_number l)) b)
         → newest_in None (kept v) b ≡ None → l.map_before (next_number l) b ≡ issued base log b }
+    ensures calm { (base : Blocks) (log : List Event) (l : Ledger) (v : Pipeline) (ring : RingPlaces) (waiting : List (ℕ × ℕ)) (taken : List ℕ) (b : ℕ) → IsConsistentWith base log l → PipelineAgrees base log l v ring waiting taken → IsLiveNow l b → is_lost b log ≡ false }
 {
+    a_read_gives_what_was_written_last();
     the_newest_bytes_are_the_map();
     counts_tell_the_batch();
     records_stand_in_order();

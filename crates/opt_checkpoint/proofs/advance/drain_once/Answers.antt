@@ -4,6 +4,7 @@ use Rattle.opt_crash.specs.Counts.{writes_in}
 use Rattle.opt_checkpoint.specs.Kept.{kept}
 use Rattle.opt_checkpoint.proofs.Added.{home_none, home_noticed, home_heard, loses_none, loses_on, loses_heard}
 use Rattle.opt_checkpoint.proofs.Heard.{sound_heard, serves_heard, owed_heard, writes_noticed}
+use Rattle.opt_checkpoint.proofs.LiveBytes.{leaves_none, leaves_noticed, leaves_then}
 use Rattle.opt_checkpoint.proofs.MovesRows.{moves_more, moves_heard}
 use Rattle.opt_checkpoint.proofs.Settled.{turned_same}
 use Rattle.opt_checkpoint.proofs.StageRows.{empty_is_on}
@@ -63,3 +64,26 @@ returns-clause-adds g c = λ tells.
     let old = (g.D.Disk.state c.args.disk.now).log in
     let middle = (g.D.Disk.state c.wait_for_all.new.disk).log in
     home_heard c.go_on.result ks (kept c.wait_for_all.new.pipeline) heard.tickets old middle (g.D.Disk.state c.go_on.new.disk).log (loses_heard c.args.pipeline.now c.wait_for_all.new.pipeline c.wait_for_all.ensures.rest) heard.log (c.go_on.ensures.adds tells)
+
+pub returns-then-is_empty-clause-bytes : goal.returns-then-is_empty-clause-bytes
+returns-then-is_empty-clause-bytes g c = λ tells s l t floor taken right. leaves_none l c.args.pipeline.now (g.D.Disk.state c.args.disk.now)
+    (λ b lives. c.the_newest_payloads_are_the_map.ensures.calm (g.D.Disk.state c.args.disk.now).base (g.D.Disk.state c.args.disk.now).log l c.args.pipeline.now c.args.ring.now c.args.reuse.now.waiting taken b right.safe.keeps right.agrees lives)
+
+pub returns-in_err-wait_for_all-clause-bytes : goal.returns-in_err-wait_for_all-clause-bytes
+returns-in_err-wait_for_all-clause-bytes g c = λ tells s l t floor taken right.
+    let heard = c.wait_for_all.ensures.log tells in
+    leaves_noticed l c.args.pipeline.now c.wait_for_all.new.pipeline (g.D.Disk.state c.args.disk.now) (g.D.Disk.state c.wait_for_all.new.disk) heard.tickets
+    (λ b lives. c.the_newest_payloads_are_the_map.ensures.calm (g.D.Disk.state c.args.disk.now).base (g.D.Disk.state c.args.disk.now).log l c.args.pipeline.now c.args.ring.now c.args.reuse.now.waiting taken b right.safe.keeps right.agrees lives)
+    c.wait_for_all.ensures.rest c.wait_for_all.ensures.spends.spends.same.base heard.log
+
+pub returns-clause-bytes : goal.returns-clause-bytes
+returns-clause-bytes g c = λ tells s l t floor taken right.
+    let v = c.args.pipeline.now in
+    let w = c.wait_for_all.new.pipeline in
+    let old = g.D.Disk.state c.args.disk.now in
+    let middle = g.D.Disk.state c.wait_for_all.new.disk in
+    let heard = c.wait_for_all.ensures.log tells in
+    let waited = c.wait_for_all.ensures.agrees tells s l t floor c.args.ring.now c.args.reuse.now.waiting taken right.safe right.agrees in
+    leaves_then l l (turned_same l) v w c.go_on.new.pipeline old middle (g.D.Disk.state c.go_on.new.disk) (loses_heard v w c.wait_for_all.ensures.rest)
+    (leaves_noticed l v w old middle heard.tickets (λ b lives. c.the_newest_payloads_are_the_map.ensures.calm old.base old.log l v c.args.ring.now c.args.reuse.now.waiting taken b right.safe.keeps right.agrees lives) c.wait_for_all.ensures.rest c.wait_for_all.ensures.spends.spends.same.base heard.log)
+    (c.go_on.ensures.bytes tells s l t floor taken (record { safe = waited.0; agrees = waited.1; serves = serves_heard l v w c.args.reuse.now c.wait_for_all.ensures.rest c.wait_for_all.ensures.hears right.serves }))

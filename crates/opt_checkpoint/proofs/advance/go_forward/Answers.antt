@@ -3,6 +3,7 @@ use Rattle.std.proofs.Common.{◌∙◌, sym}
 use Rattle.opt_checkpoint.proofs.Added.{loses_forward}
 use Rattle.opt_checkpoint.proofs.ForwardRight.{forward_right}
 use Rattle.opt_checkpoint.proofs.ForwardSound.{places_settled, forward_sound, forward_goes, forward_owed}
+use Rattle.opt_checkpoint.proofs.LiveBytes.{leaves_forward}
 use Rattle.opt_checkpoint.proofs.advance.go_forward.Goals as goal
 
 pub turn_header-requires-clause-taken : goal.turn_header-requires-clause-taken
@@ -43,3 +44,15 @@ returns-clause-owed c =
 pub returns-clause-front : goal.returns-clause-front
 returns-clause-front c = loses_forward c.args.pipeline.now c.settle_all.new.pipeline c.turn_header.new.pipeline c.end_batch.new.pipeline c.serve_blocks.new.pipeline c.turn_header.result c.end_batch.result c.args.ring.now c.turn_header.new.ring
     c.settle_all.ensures.settles.1.kept c.turn_header.ensures.turns c.turn_header.ensures.order.batch c.end_batch.ensures.ends c.serve_blocks.ensures.rest
+
+pub returns-clause-bytes : goal.returns-clause-bytes
+returns-clause-bytes c = λ s d l t floor taken right.
+    let on = returns-clause-right c s d.base d.log l t floor taken right in
+    let v = c.args.pipeline.now in
+    let w = c.serve_blocks.new.pipeline in
+    leaves_forward d l on.now on.turned v w (returns-clause-front c)
+    (λ b x lives is. c.the_newest_payloads_are_the_map.ensures.payload d.base d.log l v c.args.ring.now c.args.reuse.now.waiting taken b x right.safe.keeps right.agrees lives is)
+    (λ b x lives is. c.the_newest_payloads_are_the_map.ensures.payload d.base d.log on.now w c.turn_header.new.ring c.serve_blocks.new.reuse.waiting taken b x on.right.safe.keeps on.right.agrees lives is)
+    (λ b lives is. c.the_newest_payloads_are_the_map.ensures.written d.base d.log on.now w c.turn_header.new.ring c.serve_blocks.new.reuse.waiting taken b on.right.safe.keeps on.right.agrees lives is)
+    (λ b lives. c.the_newest_payloads_are_the_map.ensures.calm d.base d.log l v c.args.ring.now c.args.reuse.now.waiting taken b right.safe.keeps right.agrees lives)
+    (λ b calm. c.a_read_gives_what_was_written_last.ensures.last d.base d.log b calm)

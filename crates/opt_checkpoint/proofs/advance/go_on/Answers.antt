@@ -1,9 +1,12 @@
 -- One step after the other: all stays right, and each write was owed.
-use Rattle.std.proofs.Common.{Ok, refl, arith}
+use Rattle.std.proofs.Common.{◌∙◌, Ok, refl, arith}
 use Rattle.opt_checkpoint.specs.Advance.{MayServe}
 use Rattle.opt_checkpoint.specs.Kept.{kept}
 use Rattle.opt_checkpoint.specs.Turns.{is_batch_due, is_header_due, due_header, header_made}
-use Rattle.opt_checkpoint.proofs.Added.{home_before, home_failed, home_went, home_batch, home_stepped, loses_on, loses_batch, loses_header}
+use Rattle.opt_checkpoint.proofs.Added.{home_before, home_failed, home_went, home_batch, home_stepped, loses_on, loses_batch, loses_header, kept_begun, kept_made}
+use Rattle.opt_checkpoint.proofs.EventRows.{adds_on}
+use Rattle.opt_checkpoint.proofs.HomeLives.{home_lives}
+use Rattle.opt_checkpoint.proofs.LiveBytes.{Covered, leaves_on, batch_covered, header_covered}
 use Rattle.opt_checkpoint.proofs.MovesRows.{turns_left, moves_more, moves_upto_batch, moves_whole, sound_batch, sound_header}
 use Rattle.opt_checkpoint.proofs.StageRows.{stage_on}
 use Rattle.opt_checkpoint.proofs.DueRows.{nothing_due}
@@ -150,3 +153,49 @@ returns-clause-adds g c = λ tells.
     let new = (g.D.Disk.state c.write_next_header.new.disk).log in
     home_went c.in_ok-write_next_header.field-0 _ (kept v) old new
     (home_stepped _ c.in_ok-begin_batch.field-0 (Ok c.in_ok-write_next_header.field-0) (is_batch_due w) (is_header_due x) v w x c.write_next_header.new.pipeline c.go_forward.new.ring old middle new c.go_forward.ensures.front (c.in_ok-begin_batch.ensures.log tells) (c.in_ok-write_next_header.ensures.log tells))
+
+pub returns-in_err-begin_batch-clause-bytes : goal.returns-in_err-begin_batch-clause-bytes
+returns-in_err-begin_batch-clause-bytes g c = λ tells s l t floor taken right.
+    let v = c.args.pipeline.now in
+    let w = c.go_forward.new.pipeline in
+    let x = c.begin_batch.new.pipeline in
+    let old = g.D.Disk.state c.args.disk.now in
+    let middle = g.D.Disk.state c.begin_batch.new.disk in
+    let on = c.go_forward.ensures.right s old.base old.log l t floor taken right in
+    let batch = batch_covered (is_batch_due w) c.begin_batch.result on.now w x old.log middle.log (c.begin_batch.ensures.log tells)
+    (home_lives old.base old.log on.now w c.go_forward.new.ring c.go_forward.new.reuse.waiting taken on.right.agrees on.right.safe.keeps c.a_batch_goes_home.ensures.taken c.counts_tell_the_batch.ensures.batch c.the_home_test_is_exact.ensures.needs (λ n u is. c.records_stand_in_order.ensures.numbers old.base old.log on.now n u on.right.safe.keeps is)) in
+    leaves_on l on.now on.turned v w x old old middle c.go_forward.ensures.front c.begin_batch.ensures.spends.same.base (kept_begun (is_batch_due w) c.begin_batch.result w x c.begin_batch.ensures.begins) batch (c.go_forward.ensures.bytes s old l t floor taken right)
+
+pub returns-in_err-write_next_header-clause-bytes : goal.returns-in_err-write_next_header-clause-bytes
+returns-in_err-write_next_header-clause-bytes g c = λ tells s l t floor taken right.
+    let v = c.args.pipeline.now in
+    let w = c.go_forward.new.pipeline in
+    let x = c.begin_batch.new.pipeline in
+    let old = g.D.Disk.state c.args.disk.now in
+    let middle = g.D.Disk.state c.begin_batch.new.disk in
+    let on = c.go_forward.ensures.right s old.base old.log l t floor taken right in
+    let batch = batch_covered (is_batch_due w) c.begin_batch.result on.now w x old.log middle.log (c.begin_batch.ensures.log tells)
+    (home_lives old.base old.log on.now w c.go_forward.new.ring c.go_forward.new.reuse.waiting taken on.right.agrees on.right.safe.keeps c.a_batch_goes_home.ensures.taken c.counts_tell_the_batch.ensures.batch c.the_home_test_is_exact.ensures.needs (λ n u is. c.records_stand_in_order.ensures.numbers old.base old.log on.now n u on.right.safe.keeps is)) in
+    let y = c.write_next_header.new.pipeline in
+    let new = g.D.Disk.state c.write_next_header.new.disk in
+    let header = header_covered (is_header_due x) c.write_next_header.result on.now w x y c.go_forward.new.ring middle.log new.log (c.write_next_header.ensures.log tells) in
+    leaves_on l on.now on.turned v w y old old new c.go_forward.ensures.front (c.write_next_header.ensures.spends.same.base ∙ c.begin_batch.ensures.spends.same.base)
+    (kept_made (is_header_due x) c.write_next_header.result x y c.go_forward.new.ring c.write_next_header.ensures.adds ∙ kept_begun (is_batch_due w) c.begin_batch.result w x c.begin_batch.ensures.begins)
+    (adds_on (Covered on.now w) old.log middle.log new.log batch header) (c.go_forward.ensures.bytes s old l t floor taken right)
+
+pub returns-clause-bytes : goal.returns-clause-bytes
+returns-clause-bytes g c = λ tells s l t floor taken right.
+    let v = c.args.pipeline.now in
+    let w = c.go_forward.new.pipeline in
+    let x = c.begin_batch.new.pipeline in
+    let old = g.D.Disk.state c.args.disk.now in
+    let middle = g.D.Disk.state c.begin_batch.new.disk in
+    let on = c.go_forward.ensures.right s old.base old.log l t floor taken right in
+    let batch = batch_covered (is_batch_due w) c.begin_batch.result on.now w x old.log middle.log (c.begin_batch.ensures.log tells)
+    (home_lives old.base old.log on.now w c.go_forward.new.ring c.go_forward.new.reuse.waiting taken on.right.agrees on.right.safe.keeps c.a_batch_goes_home.ensures.taken c.counts_tell_the_batch.ensures.batch c.the_home_test_is_exact.ensures.needs (λ n u is. c.records_stand_in_order.ensures.numbers old.base old.log on.now n u on.right.safe.keeps is)) in
+    let y = c.write_next_header.new.pipeline in
+    let new = g.D.Disk.state c.write_next_header.new.disk in
+    let header = header_covered (is_header_due x) c.write_next_header.result on.now w x y c.go_forward.new.ring middle.log new.log (c.write_next_header.ensures.log tells) in
+    leaves_on l on.now on.turned v w y old old new c.go_forward.ensures.front (c.write_next_header.ensures.spends.same.base ∙ c.begin_batch.ensures.spends.same.base)
+    (kept_made (is_header_due x) c.write_next_header.result x y c.go_forward.new.ring c.write_next_header.ensures.adds ∙ kept_begun (is_batch_due w) c.begin_batch.result w x c.begin_batch.ensures.begins)
+    (adds_on (Covered on.now w) old.log middle.log new.log batch header) (c.go_forward.ensures.bytes s old l t floor taken right)

@@ -4,6 +4,7 @@ use Rattle.opt_crash.specs.Counts.{writes_in}
 use Rattle.opt_checkpoint.specs.Kept.{kept}
 use Rattle.opt_checkpoint.proofs.Added.{home_noticed, home_heard, loses_on, loses_heard}
 use Rattle.opt_checkpoint.proofs.Heard.{sound_heard, turns_heard, has_turns, serves_heard, owed_heard, due_heard, writes_noticed}
+use Rattle.opt_checkpoint.proofs.LiveBytes.{leaves_noticed, leaves_then}
 use Rattle.opt_checkpoint.proofs.MovesRows.{moves_more, moves_heard}
 use Rattle.opt_checkpoint.proofs.Settled.{turned_same}
 use Rattle.opt_checkpoint.proofs.Spent.{on_ok}
@@ -63,3 +64,22 @@ returns-clause-adds g c = λ tells.
     let old = (g.D.Disk.state c.args.disk.now).log in
     let middle = (g.D.Disk.state c.take_notices.new.disk).log in
     home_heard c.go_on.result ks (kept c.take_notices.new.pipeline) heard.tickets old middle (g.D.Disk.state c.go_on.new.disk).log (loses_heard c.args.self.now c.take_notices.new.pipeline c.take_notices.ensures.rest) heard.log (c.go_on.ensures.adds tells)
+
+pub returns-in_err-take_notices-clause-bytes : goal.returns-in_err-take_notices-clause-bytes
+returns-in_err-take_notices-clause-bytes g c = λ tells s l t floor taken right.
+    let heard = c.take_notices.ensures.takes tells in
+    leaves_noticed l c.args.self.now c.take_notices.new.pipeline (g.D.Disk.state c.args.disk.now) (g.D.Disk.state c.take_notices.new.disk) heard.tickets
+    (λ b lives. c.the_newest_payloads_are_the_map.ensures.calm (g.D.Disk.state c.args.disk.now).base (g.D.Disk.state c.args.disk.now).log l c.args.self.now c.args.ring.now c.args.reuse.now.waiting taken b right.safe.keeps right.agrees lives)
+    c.take_notices.ensures.rest c.take_notices.ensures.spends.spends.same.base heard.log
+
+pub returns-clause-bytes : goal.returns-clause-bytes
+returns-clause-bytes g c = λ tells s l t floor taken right.
+    let v = c.args.self.now in
+    let w = c.take_notices.new.pipeline in
+    let old = g.D.Disk.state c.args.disk.now in
+    let middle = g.D.Disk.state c.take_notices.new.disk in
+    let taken_in = c.take_notices.ensures.takes tells in
+    let heard = c.take_notices.ensures.agrees tells s l t floor c.args.ring.now c.args.reuse.now.waiting taken right.safe right.agrees in
+    leaves_then l l (turned_same l) v w c.go_on.new.pipeline old middle (g.D.Disk.state c.go_on.new.disk) (loses_heard v w c.take_notices.ensures.rest)
+    (leaves_noticed l v w old middle taken_in.tickets (λ b lives. c.the_newest_payloads_are_the_map.ensures.calm old.base old.log l v c.args.ring.now c.args.reuse.now.waiting taken b right.safe.keeps right.agrees lives) c.take_notices.ensures.rest c.take_notices.ensures.spends.spends.same.base taken_in.log)
+    (c.go_on.ensures.bytes tells s l t floor taken (record { safe = heard.0; agrees = heard.1; serves = serves_heard l v w c.args.reuse.now c.take_notices.ensures.rest c.take_notices.ensures.hears right.serves }))

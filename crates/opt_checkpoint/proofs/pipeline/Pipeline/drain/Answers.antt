@@ -1,10 +1,12 @@
 -- Round after round, and then blocks serve again.
-use Rattle.std.proofs.Common.{◌+◌, true, false, Ok, is_err, subst, arith}
+use Rattle.std.proofs.Common.{rules, ◌+◌, true, false, Ok, is_err, subst, ap, arith}
 use Rattle.opt_checkpoint.specs.Kept.{kept}
 use Rattle.opt_checkpoint.specs.Waits.{WaitsSome}
 use Rattle.opt_checkpoint.proofs.Added.{home_then, home_failed, home_went, loses_on, loses_served}
+use Rattle.opt_checkpoint.proofs.LiveBytes.{leaves_none, leaves_same, leaves_then}
 use Rattle.opt_checkpoint.proofs.MovesRows.{moves_more, moves_on}
 use Rattle.opt_checkpoint.proofs.Rounds.{leaves_on, stays_on, served_sound, served_moves, served_drained, served_stays}
+use Rattle.opt_checkpoint.proofs.Settled.{turned_same}
 use Rattle.opt_checkpoint.proofs.Spent.{failed_waits, waits_on}
 use Rattle.opt_checkpoint.proofs.StepsRight.{leaves_failed}
 use Rattle.opt_checkpoint.proofs.pipeline.Pipeline.drain.Goals as goal
@@ -32,6 +34,20 @@ returns-in_err-drain_once-clause-adds g c = λ tells.
 pub returns-in_err-drain_once-clause-front : goal.returns-in_err-drain_once-clause-front
 returns-in_err-drain_once-clause-front g c = loses_on (kept c.args.self.now) (kept c.loop-round.self) (kept c.drain_once.new.pipeline) c.loop-round.invariant.front c.drain_once.ensures.front
 
+pub loop-round-init : goal.loop-round-init
+loop-round-init g c = record {
+  sound = c.requires.sound;
+  moves = search rules;
+  stage = tt;
+  right = λ tells s k t floor taken right. record { now = k; turned = turned_same k; right = right };
+  owed = search rules;
+  adds = search rules;
+  bytes = λ tells s k t floor taken right. leaves_none k c.args.self.now (g.D.Disk.state c.args.disk.now)
+      (λ b lives. c.the_newest_payloads_are_the_map.ensures.calm (g.D.Disk.state c.args.disk.now).base (g.D.Disk.state c.args.disk.now).log k c.args.self.now c.args.ring.now c.args.reuse.now.waiting taken b right.safe.keeps right.agrees lives);
+  front = search rules;
+  spends = search rules;
+}
+
 pub loop-round-preserved : goal.loop-round-preserved
 loop-round-preserved g c =
     let was = c.loop-round.invariant in
@@ -45,6 +61,10 @@ loop-round-preserved g c =
       owed = λ tells. omega (arith, was.owed tells, c.drain_once.ensures.owed tells);
       adds = λ tells. home_went c.in_ok-drain_once.field-0 (Ok tt) (kept c.args.self.now) (g.D.Disk.state c.args.disk.now).log (g.D.Disk.state c.drain_once.new.disk).log
           (home_then tt (Ok c.in_ok-drain_once.field-0) (kept c.args.self.now) (kept c.loop-round.self) (g.D.Disk.state c.args.disk.now).log (g.D.Disk.state c.loop-round.disk).log (g.D.Disk.state c.drain_once.new.disk).log was.front (was.adds tells) (c.in_ok-drain_once.ensures.adds tells));
+      bytes = λ tells s l t floor taken right.
+          let one = was.right tells s l t floor taken right in
+          leaves_then l one.now one.turned c.args.self.now c.loop-round.self c.drain_once.new.pipeline (g.D.Disk.state c.args.disk.now) (g.D.Disk.state c.loop-round.disk) (g.D.Disk.state c.drain_once.new.disk) was.front (was.bytes tells s l t floor taken right)
+          (c.in_ok-drain_once.ensures.bytes tells s one.now t floor taken one.right);
       front = loses_on (kept c.args.self.now) (kept c.loop-round.self) (kept c.drain_once.new.pipeline) was.front c.drain_once.ensures.front;
       spends = waits_on false _ _ _ was.spends c.in_ok-drain_once.ensures.spends;
     }
@@ -68,3 +88,16 @@ returns-clause-adds g c = λ tells. home_went tt _ (kept c.args.self.now) (g.D.D
 
 pub returns-clause-front : goal.returns-clause-front
 returns-clause-front g c = loses_on (kept c.args.self.now) (kept c.loop-round.self) (kept c.serve_blocks.new.pipeline) c.loop-round.invariant.front (loses_served c.loop-round.self c.serve_blocks.new.pipeline c.serve_blocks.ensures.rest)
+
+pub returns-in_err-drain_once-clause-bytes : goal.returns-in_err-drain_once-clause-bytes
+returns-in_err-drain_once-clause-bytes g c = λ tells s l t floor taken right.
+    let was = c.loop-round.invariant in
+    let one = was.right tells s l t floor taken right in
+    leaves_then l one.now one.turned c.args.self.now c.loop-round.self c.drain_once.new.pipeline (g.D.Disk.state c.args.disk.now) (g.D.Disk.state c.loop-round.disk) (g.D.Disk.state c.drain_once.new.disk) was.front (was.bytes tells s l t floor taken right)
+    (c.drain_once.ensures.bytes tells s one.now t floor taken one.right)
+
+pub returns-clause-bytes : goal.returns-clause-bytes
+returns-clause-bytes g c = λ tells s l t floor taken right.
+    let was = c.loop-round.invariant in
+    let d = g.D.Disk.state c.loop-round.disk in
+    leaves_same l c.args.self.now c.loop-round.self c.serve_blocks.new.pipeline (g.D.Disk.state c.args.disk.now) d was.front (ap kept c.serve_blocks.ensures.rest) (was.bytes tells s l t floor taken right)

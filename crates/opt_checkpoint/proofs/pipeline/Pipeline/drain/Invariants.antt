@@ -4,6 +4,7 @@ use Rattle.opt_crash.specs.Ledger.{Ledger}
 use Rattle.opt_crash.specs.Points.{MountedSession}
 use Rattle.opt_checkpoint.specs.Adds.{AddsHome, LosesFront}
 use Rattle.opt_checkpoint.specs.Advance.{IsSound, IsRightOn, StaysRight, Moves, writes_owed}
+use Rattle.opt_checkpoint.specs.Bytes.{LeavesBytes}
 use Rattle.opt_checkpoint.specs.Kept.{kept}
 use Rattle.opt_checkpoint.specs.Stages.{IsAtStage}
 use Rattle.opt_checkpoint.specs.Waits.{WaitsSome}
@@ -17,6 +18,7 @@ invariant-loop-round g l = record {
   right : IsTrue g.D.Disk.tells → (s : MountedSession) (k : Ledger) (t floor : ℕ) (taken : List ℕ) → IsRightOn s (g.D.Disk.state l.fn.disk) k t floor l.fn.self l.fn.ring l.fn.reuse taken → StaysRight s (g.D.Disk.state l.disk).base (g.D.Disk.state l.disk).log k t floor l.self l.ring l.reuse taken;
   owed : IsTrue g.D.Disk.tells → writes_in (g.D.Disk.state l.disk).log + writes_owed l.self ≤ writes_in (g.D.Disk.state l.fn.disk).log + writes_owed l.fn.self;
   adds : IsTrue g.D.Disk.tells → AddsHome {A = Unit {0}} {E = Unit {0}} (Ok tt) (kept l.fn.self) (g.D.Disk.state l.fn.disk).log (g.D.Disk.state l.disk).log;
+  bytes : IsTrue g.D.Disk.tells → (s : MountedSession) (k : Ledger) (t floor : ℕ) (taken : List ℕ) → IsRightOn s (g.D.Disk.state l.fn.disk) k t floor l.fn.self l.fn.ring l.fn.reuse taken → LeavesBytes k l.fn.self l.self (g.D.Disk.state l.fn.disk) (g.D.Disk.state l.disk);
   front : LosesFront (kept l.fn.self) (kept l.self);
   spends : WaitsSome false (g.D.Disk.state l.fn.disk) (g.D.Disk.state l.disk);
 }

@@ -1,5 +1,6 @@
 -- The tickets are waited for, and then records become durable.
 use Rattle.std.proofs.Common.{◌∙◌, sym, ap, subst, arith}
+use Rattle.opt_checkpoint.specs.Kept.{kept}
 use Rattle.opt_checkpoint.specs.Order.{HasRoom}
 use Rattle.opt_checkpoint.specs.declared.pipeline.Pipeline.{Pipeline}
 use Rattle.opt_checkpoint.proofs.ForwardSound.{owed_settled}
@@ -48,3 +49,9 @@ returns-clause-durable g c = λ le. durable_upto c.settle_all.ensures.settles.0 
 
 pub returns-clause-owed : goal.returns-clause-owed
 returns-clause-owed g c = owed_settled c.settle_all.ensures.settles.0 c.wait_upto.new.pipeline c.settle_all.new.pipeline c.settle_all.ensures.settles.1 ∙ owed_heard c.args.self.now c.wait_upto.new.pipeline c.wait_upto.ensures.rest
+
+pub returns-in_err-wait_upto-clause-kept : goal.returns-in_err-wait_upto-clause-kept
+returns-in_err-wait_upto-clause-kept g c = ap kept c.wait_upto.ensures.rest
+
+pub returns-clause-kept : goal.returns-clause-kept
+returns-clause-kept g c = c.settle_all.ensures.settles.1.kept ∙ ap kept c.wait_upto.ensures.rest
