@@ -19,3 +19,4 @@ pub mod Releases
 pub mod NextRows
 pub mod NextMap
 pub mod Next
+pub mod LiveBlocks

@@ -1,8 +1,9 @@
 -- The books and the last sync point: what the transaction changed of it. It is described in docs/BOOKS.md.
-use Rattle.std.specs.Prelude.{◌≡◌, ℕ, ◌+◌, ◌*◌, ◌<◌, ◌≤◌, true, false, List, length, Some, is_some}
+use Rattle.std.specs.Prelude.{◌≡◌, ℕ, ◌+◌, ◌*◌, ◌<◌, ◌≤◌, true, false, List, length, Some, is_some, IsTrue}
 use Rattle.opt_base.specs.Seal.{Blocks, blocks_of}
 use Rattle.opt_geom.specs.Geometry.{bitmap_blocks, bitmap_start, data_start}
 use Rattle.opt_layout.specs.Bitmap.{is_set}
+use Rattle.opt_journal.specs.Run.{is_live}
 use Rattle.opt_crash.specs.HomeTest.{is_one_of}
 use Rattle.opt_tx.specs.Running.{bytes_put}
 use Rattle.opt_books.specs.Books.{TransactionBooks, bit_now, bytes_over}
@@ -19,3 +20,7 @@ pub record BeganAt (v : TransactionBooks) (last : Blocks) : Type 0 where
 -- a map has this bitmap
 abbrev pub HasBitmap : TransactionBooks → Blocks → Type 0
 HasBitmap v m = (k : ℕ) → k < bitmap_blocks v.geom → m (bitmap_start v.geom + k) ≡ blocks_of v.bitmap k
+
+-- another map has the bytes of this one on its live blocks
+abbrev pub HasSameLive : TransactionBooks → Blocks → Blocks → Type 0
+HasSameLive v last next = (b : ℕ) → IsTrue (is_live v.geom last b) → next b ≡ last b

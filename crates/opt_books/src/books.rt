@@ -1,5 +1,6 @@
 //! The books of a running transaction: each call of a map of blocks that changes it, and what a commit takes
-//! of it. All calls but `new`, `prepare` and `lowest` take no memory. No disk is read or written here.
+//! of it. All calls but `new`, `prepare`, `lowest` and `room_for_commit` take no memory. No disk is read or written
+//! here.
 
 ghost use Rattle.std.specs.Prelude.{◌≡◌, ◌≢◌, ◌+◌, ◌-◌, ◌*◌, ◌/◌, ◌<◌, ◌≤◌, ◌||◌, ℕ, if◌then◌else◌, true, false, Some, None, length, take, IfOk, OnOk, OnErr, IfSome, All};
 ghost use Rattle.opt_base.specs.Seal.{Blocks, blocks_of};
@@ -8,6 +9,7 @@ ghost use Rattle.opt_geom.specs.Geometry.Area.{Data};
 ghost use Rattle.opt_geom.specs.Geometry.{LiesIn, bitmap_blocks, table_start, data_start};
 ghost use Rattle.opt_bitmap.specs.Bits.{is_bad_bit, BitBecomes};
 ghost use Rattle.opt_crash.specs.HomeTest.{is_one_of};
+ghost use Rattle.opt_tx.specs.Commits.{HasRoomForCommit};
 ghost use Rattle.opt_tx.specs.Running.{Changes, IsEmpty, Puts, SameChanges, bytes_put};
 ghost use Rattle.opt_reuse.specs.Dead.{freed_by};
 ghost use Rattle.opt_reuse.specs.Calls.{with_bitmap, with_freed, with_released, with_taken};
@@ -20,11 +22,12 @@ ghost use Rattle.opt_books.specs.Point.{BeganAt, HasBitmap};
 ghost use Rattle.opt_books.specs.Taking.{TakesOne, GivesUp, bits_put};
 ghost use Rattle.opt_books.specs.Sealing.{with_record};
 
+use crate::a_running_transaction_may_be_the_next_record;
 use opt_base::{Block, Class, NoMemory, Places};
 use opt_bitmap::{clear, is_set, set};
 use opt_geom::{BITS_IN_BLOCK, Geom};
 use opt_reuse::{Reuse, a_freed_block_waits, calls_change_what_is_dead, the_accounts_add_up};
-use opt_tx::Running;
+use opt_tx::{CommitRoom, Running};
 use std::alloc::Global;
 use std::marker::Model;
 
@@ -303,6 +306,18 @@ impl Books {
         ensures err { OnErr result (into.new ≡ into.old) }
     {
         self.reuse.lowest(alloc, n, into)
+    }
+
+    /// The memory for a commit of the transaction as it is now.
+    ///
+    /// # Errors
+    /// Out of memory.
+    pub fn room_for_commit(&self, alloc: Global) -> Result<CommitRoom, NoMemory>
+        requires { AreKept self.now }
+        ensures { IfOk result (HasRoomForCommit self.now.changes) }
+    {
+        a_running_transaction_may_be_the_next_record();
+        self.running.room_for_commit(alloc)
     }
 
     /// Takes the running transaction out, for its commit. An empty one is in its place until `sealed` or

@@ -2,7 +2,7 @@
 //! commit would have, what the map is by them, that it may be committed, and when other dead blocks leave them as
 //! sound.
 
-ghost use Rattle.std.specs.Prelude.{◌≡◌, ◌+◌, ◌<◌, ◌≤◌, ℕ, true, false, IsTrue, Some, length, slice_get};
+ghost use Rattle.std.specs.Prelude.{◌≡◌, ◌+◌, ◌<◌, ◌≤◌, ℕ, true, false, IsTrue, Some, None, length, slice_get};
 ghost use Rattle.opt_base.specs.Seal.{Blocks};
 ghost use Rattle.opt_geom.specs.Geometry.{LiesIn, data_start};
 ghost use Rattle.opt_geom.specs.Geometry.Area.{Data};
@@ -14,13 +14,14 @@ ghost use Rattle.opt_crash.specs.LastWrites.{IsDead};
 ghost use Rattle.opt_crash.specs.HomeTest.{is_one_of};
 ghost use Rattle.opt_tx.specs.declared.put.Put.{Put};
 ghost use Rattle.opt_tx.specs.Record.{record_of, AreBelow, IsTransaction};
+ghost use Rattle.opt_tx.specs.Running.{bytes_put};
 ghost use Rattle.opt_reuse.specs.Dead.{DeadBlocks, AreSound};
-ghost use Rattle.opt_blocks.specs.Running.{payloads, fresh_blocks, HasNoBare};
-ghost use Rattle.opt_blocks.specs.State.{Bookkeeping, defined_part};
+ghost use Rattle.opt_blocks.specs.Running.{payloads, fresh_blocks, is_bare, HasNoBare};
+ghost use Rattle.opt_blocks.specs.State.{Bookkeeping, defined_by, defined_part};
 ghost use Rattle.opt_blocks.specs.Calls.{IsSound};
 ghost use Rattle.opt_books.specs.Books.{TransactionBooks, has_put, bit_now, is_taken_now, is_marked, running_of, with_books, bytes_over, map_of};
 ghost use Rattle.opt_books.specs.Kept.{AreKept};
-ghost use Rattle.opt_books.specs.Point.{BeganAt, HasBitmap};
+ghost use Rattle.opt_books.specs.Point.{BeganAt, HasBitmap, HasSameLive};
 ghost use Rattle.opt_books.specs.Sealing.{SameDead};
 
 use opt_reuse::the_accounts_add_up;
@@ -66,4 +67,14 @@ pub fn a_running_transaction_may_be_the_next_record()
 pub fn a_release_keeps_the_books()
     ensures kept { (v : TransactionBooks) (dead : DeadBlocks) → AreKept v → AreSound dead → SameDead v.dead dead → AreKept (record v { dead = dead }) }
     ensures began { (v : TransactionBooks) (dead : DeadBlocks) (last : Blocks) → BeganAt v last → BeganAt (record v { dead = dead }) last }
+{}
+
+/// The map by the books needs only the live blocks of the last point's map. Where another map has the same bytes on
+/// them, the same blocks are live in it, the map by the books is the same, and the transaction began at it too. A
+/// block on which the map is defined and into which nothing was put is one of them.
+pub fn the_map_needs_only_live_blocks()
+    ensures live { (v : TransactionBooks) (last next : Blocks) (b : ℕ) → AreKept v → HasSameLive v last next → is_live v.geom next b ≡ is_live v.geom last b }
+    ensures map { (v : TransactionBooks) (last next : Blocks) → AreKept v → BeganAt v last → HasSameLive v last next → map_of v next ≡ map_of v last }
+    ensures began { (v : TransactionBooks) (last next : Blocks) → AreKept v → BeganAt v last → HasSameLive v last next → BeganAt v next }
+    ensures unput { (v : TransactionBooks) (last : Blocks) (b : ℕ) → AreKept v → BeganAt v last → defined_by v.geom (is_marked v b) (is_bare ((running_of v).roles b)) b ≡ true → bytes_put v.changes b ≡ None → IsTrue (is_live v.geom last b) }
 {}

@@ -11,5 +11,5 @@ pub use books::Books;
 pub use laws::{
     a_commit_has_what_the_roles_say, a_release_keeps_the_books,
     a_running_transaction_may_be_the_next_record, books_that_are_kept_are_sound,
-    the_map_has_the_bits,
+    the_map_has_the_bits, the_map_needs_only_live_blocks,
 };
