@@ -5,9 +5,10 @@ use Rattle.opt_base.specs.Seal.{Blocks}
 use Rattle.opt_disk.specs.declared.event.Event.{Event}
 use Rattle.opt_disk.specs.Cell.{Cell, cell_of}
 use Rattle.opt_disk.specs.Disk.{State}
+use Rattle.opt_journal.specs.declared.header.Header.{Header}
 use Rattle.opt_crash.specs.Ledger.{cells_of}
 use Rattle.opt_crash.specs.Opening.{settled}
-use Rattle.opt_mount.specs.Mount.{IsIdle, settled_on, MountSpends}
+use Rattle.opt_mount.specs.Mount.{IsIdle, settled_on, MountSpends, OpensAnew}
 
 -- the same cells
 pub same_cells : (old new : State) → new.base ≡ old.base → new.log ≡ old.log → cells_of new ≡ cells_of old
@@ -49,3 +50,10 @@ same_settled old new base log = ap (λ cells. settled cells) (same_cells old new
 -- nothing is pending there either
 pub same_idle : (old new : State) → new.base ≡ old.base → new.log ≡ old.log → IsIdle old → IsIdle new
 same_idle old new base log idle b = ap (λ (cells : ℕ → Cell). (cells b).pending) (same_cells old new base log) ∙ idle b
+
+-- what a mount leaves over any disk, from before the calls in front of it on
+pub anew_on : (a : ℕ) (h : Header) (old mid new : State) → MountSpends false false a old mid → OpensAnew h mid new → OpensAnew h old new
+anew_on a h old mid new one two = record {
+  released = two.released;
+  waited = (two.waited.0 + one.waits.0, omega (arith, two.waited.1), two.waited.2 ∙ ap (after_calls two.waited.0) one.waits.2 ∙ more_calls two.waited.0 one.waits.0 old.waits);
+}

@@ -69,3 +69,12 @@ pub record MountSpends (unread faulty : Bool) (most : ℕ) (old new : State) : T
   pub faults : new.faults ≡ after_call faulty old.faults
   pub waits : (made : ℕ) × (made ≤ most) × (new.waits ≡ after_calls made old.waits)
   pub polls : new.polls ≡ old.polls
+
+-- the disk was waited for at least once, so that its count of waits was counted anew
+abbrev pub HasWaited : State → State → Type 0
+HasWaited old new = (made : ℕ) × (0 < made) × (new.waits ≡ after_calls made old.waits)
+
+-- What a mount leaves over any disk: the header releases all records, and the disk was waited for.
+pub record OpensAnew (h : Header) (old new : State) : Type 0 where
+  pub released : h.start ≡ h.sure + 1
+  pub waited : HasWaited old new

@@ -13,7 +13,7 @@ ghost use Rattle.opt_crash.specs.Opening.{opening_header, IsReadyToOpen};
 ghost use Rattle.opt_recover.specs.Epoch.{IsGreatestEpoch};
 ghost use Rattle.opt_recover.specs.Search.{last_number};
 ghost use Rattle.opt_crash.specs.Replay.{IsFound, IsReplayed, found_map};
-ghost use Rattle.opt_mount.specs.Mount.{IsIdle, IsFoundOn, settled_on, GoesOn, RefusalSays, MountSpends};
+ghost use Rattle.opt_mount.specs.Mount.{IsIdle, IsFoundOn, settled_on, GoesOn, RefusalSays, MountSpends, OpensAnew};
 ghost use Rattle.opt_mount.specs.Refusal.{IsFault, is_unread, is_faulty};
 
 use crate::found::{Found, find};
@@ -52,6 +52,7 @@ pub fn mount<D: Disk>(alloc: Global, disk: &mut D) -> Result<Mounted, MountRefus
         → Window (D.state disk.old).blocks (D.state disk.old).base (D.state disk.new).log (length (D.state disk.old).log) (λ img. HoldsUnder (D.state disk.old).blocks g img m) }
     ensures refused { IsTrue D.tells → IsIdle (D.state disk.old) → IfErr result (RefusalSays (D.state disk.old) (D.state disk.new)) }
     ensures spends { MountSpends (is_unread result) (is_faulty result) ((D.state disk.old).blocks + 2) (D.state disk.old) (D.state disk.new) }
+    ensures anew { IfOk result (λ q. OpensAnew q.header (D.state disk.old) (D.state disk.new)) }
 {
     an_image_holds_one_map();
     journal_blocks_keep_to_their_bounds();
@@ -77,6 +78,7 @@ pub fn open<D: Disk>(disk: &mut D, found: &Found) -> Result<Mounted, MountRefusa
         → Window (D.state disk.old).blocks (D.state disk.old).base (D.state disk.new).log (length (D.state disk.old).log) (λ img. HoldsUnder (D.state disk.old).blocks g img m) }
     ensures fault { IfErr result IsFault }
     ensures spends { MountSpends (is_unread result) (is_faulty result) ((D.state disk.old).blocks + 2) (D.state disk.old) (D.state disk.new) }
+    ensures anew { IfOk result (λ q. OpensAnew q.header (D.state disk.old) (D.state disk.new)) }
 {
     an_image_holds_one_map();
     let mounted = open_found(disk, found.run(), found.epoch())?;
@@ -97,6 +99,7 @@ fn open_found<D: Disk>(disk: &mut D, run: &Run, epoch: u64) -> Result<Mounted, M
         → Window run.now.header.geom.n (D.state disk.old).base (D.state disk.new).log (length (D.state disk.old).log) (λ img. HoldsUnder run.now.header.geom.n run.now.header.geom img (found_map (settled_on (D.state disk.old)) run.now.header run.now.records)) }
     ensures fault { IfErr result IsFault }
     ensures spends { MountSpends (is_unread result) (is_faulty result) (run.now.header.geom.n + 2) (D.state disk.old) (D.state disk.new) }
+    ensures anew { IfOk result (λ q. OpensAnew q.header (D.state disk.old) (D.state disk.new)) }
 {
     no_epoch_is_above_the_greatest();
     a_replay_goes_block_by_block();
@@ -135,6 +138,7 @@ fn open_after<D: Disk>(
     ensures grows { IsTrue D.tells → Grows (D.state disk.old).log (D.state disk.new).log }
     ensures fault { IfErr result IsFault }
     ensures spends { MountSpends (is_unread result) (is_faulty result) 1 (D.state disk.old) (D.state disk.new) }
+    ensures anew { IfOk result (λ q. OpensAnew q.header (D.state disk.old) (D.state disk.new)) }
 {
     calls_only_add();
     match open_journal(disk, slot, newest, last, epoch) {

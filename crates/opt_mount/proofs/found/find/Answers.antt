@@ -1,4 +1,4 @@
-use Rattle.std.proofs.Common.{rules, ◌≡◌, false, sym, ◌∙◌}
+use Rattle.std.proofs.Common.{rules, sym}
 use Rattle.opt_mount.specs.Mount.{RefusalSays}
 use Rattle.opt_mount.proofs.Founds.{refused_before}
 use Rattle.opt_mount.proofs.States.{same_idle}

@@ -1,9 +1,9 @@
-use Rattle.std.proofs.Common.{rules, ◌≡◌, false, IfErr, refl, arith}
+use Rattle.std.proofs.Common.{rules, ◌≡◌, false, IfErr}
 use Rattle.opt_recover.specs.Reading.{Searches}
 use Rattle.opt_mount.specs.Mount.{RefusalSays}
 use Rattle.opt_mount.specs.Refusal.{IsFault, is_unread, is_faulty}
 use Rattle.opt_mount.proofs.Founds.{searches_spend, faults_say, if_err}
-use Rattle.opt_mount.proofs.States.{same_idle, spends_on}
+use Rattle.opt_mount.proofs.States.{same_idle}
 use Rattle.opt_mount.proofs.Opens.{idle_stays, found_on_still, held_still, window_before, begun_before, goes_before}
 use Rattle.opt_mount.proofs.mounting.mount.Goals as goal
 

@@ -6,7 +6,7 @@ use Rattle.opt_crash.specs.Ledger.{HoldsUnder, cells_of}
 use Rattle.opt_crash.specs.Replay.{IsFound, found_map}
 use Rattle.opt_mount.specs.Mount.{MountSpends, settled_on}
 use Rattle.opt_mount.specs.Refusal.{is_unread, is_faulty}
-use Rattle.opt_mount.proofs.States.{spends_on}
+use Rattle.opt_mount.proofs.States.{spends_on, anew_on}
 use Rattle.opt_mount.proofs.Replays.{stays_on}
 use Rattle.opt_mount.proofs.Opens.{none_above, begun_since, empty_holds, empty_opened, window_from, begun_as}
 use Rattle.opt_mount.proofs.mounting.open_found.Goals as goal
@@ -103,3 +103,6 @@ returns-clause-holds g c = λ tells idle found greatest.
 
 pub returns-clause-spends : goal.returns-clause-spends
 returns-clause-spends g c = spends_on _ _ (c.args.run.now.header.geom.n + 1) 1 _ _ _ _ (omega arith) c.in_ok-closed.ensures.spends c.in_ok-opened.ensures.spends
+
+pub returns-clause-anew : goal.returns-clause-anew
+returns-clause-anew g c = anew_on (c.args.run.now.header.geom.n + 1) c.in_ok-opened.opened.header (g.D.Disk.state c.args.disk.now) (g.D.Disk.state c.replay_found.new.disk) (g.D.Disk.state c.open_after-2.new.disk) c.in_ok-closed.ensures.spends c.in_ok-opened.ensures.anew
