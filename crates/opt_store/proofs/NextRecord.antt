@@ -63,7 +63,7 @@ SealedLaw = (v : DeadBlocks) (number c : ℕ) → is_among c (dead_blocks (with_
 -- The ledger's next number.
 
 -- the pipeline has as many numbers as records
-numbers_len : (p : Pipeline) → length (numbers p) ≡ length p.placed.items + (length p.sure.items + (length p.durable.items + length p.committed.items))
+pub numbers_len : (p : Pipeline) → length (numbers p) ≡ length p.placed.items + (length p.sure.items + (length p.durable.items + length p.committed.items))
 numbers_len p = omega (
   arith,
   length-append (map placed_number p.placed.items) (map number_of (kept p)),
@@ -157,7 +157,7 @@ pairs_are number [] = refl
 pairs_are number (b ∷ bs) = ap (λ (ps : List (ℕ × ℕ)). (b, number) ∷ ps) (pairs_are number bs)
 
 -- a data block whose bit is clear isn't live in the map now
-dead_in : BitsLaw → (v : TransactionBooks) (last : Blocks) (b : ℕ) → BeganAt v last → LiesIn v.geom Data b → bit_now v b ≡ false → is_live v.geom (map_of v last) b ≡ false
+pub dead_in : BitsLaw → (v : TransactionBooks) (last : Blocks) (b : ℕ) → BeganAt v last → LiesIn v.geom Data b → bit_now v b ≡ false → is_live v.geom (map_of v last) b ≡ false
 dead_in law v last b began lies clear =
     ap₂ (λ x y. nat_le (bitmap_start v.geom) b && (nat_lt b v.geom.n && (x || y))) (le-ltb b (data_start v.geom) lies.from) (sym (law v last b began lies.below) ∙ ap (λ x. nat_lt b v.geom.n && x) clear)
     ∙ by (nat_le (bitmap_start v.geom) b) (nat_lt b v.geom.n)

@@ -1,5 +1,7 @@
 -- A point has one moment and one map, and the newest is the ledger's.
 use Rattle.std.proofs.Common.{◌≡◌, ⊎_elim, ℕ, ◌+◌, ◌-◌, ◌/◌, ◌%◌, ◌<◌, ◌≤◌, ◌&&◌, ◌||◌, nat_le, nat_lt, slice_index, ◌==◌, if◌then◌else◌, IsTrue, true, List, [], length, take, drop, take_all, refl, sym, ap, ap₂, ◌∙◌, subst, arith}
+use Rattle.std.proofs.Props.{props}
+use Rattle.std.proofs.Math.Logic.{∥∥₁_elim}
 use Rattle.std.proofs.lemmas.Bool.{cases_lt, and_parts, ltb-true, le-leb, lt-ltb}
 use Rattle.std.proofs.lemmas.List.{take-append-drop, take-take, length-take-le}
 use Rattle.std.specs.Int.{bit_at}
@@ -37,7 +39,7 @@ one_moment s log p i k first second = ⊎_elim (λ lt. absurd (not_before s log 
     (λ ge. ⊎_elim (λ gt. absurd (not_before s log p k i second first gt)) (λ le. omega (arith, ge, le)) (cases_lt k i)) (cases_lt i k)
 
 -- and one map
-one_point : OneMap → (s : MountedSession) (base : Blocks) (log : List Event) (p : ℕ) (m q : Blocks) → IsPoint s base log p m → IsPoint s base log p q → (b : ℕ) → m b ≡ q b
+pub one_point : OneMap → (s : MountedSession) (base : Blocks) (log : List Event) (p : ℕ) (m q : Blocks) → IsPoint s base log p m → IsPoint s base log p q → (b : ℕ) → m b ≡ q b
 one_point one_map s base log p m q first second = one_map s.geom.n (issued base (take first.moment log)) m q first.held.held
     (subst (λ (k : ℕ). HeldIs s.geom.n (issued base (take k log)) q) (one_moment s log p second.moment first.moment second.at first.at) second.held.held)
 
@@ -49,13 +51,13 @@ in_bitmap g b below = omega (arith, part g.n b below)
     part n b lt = omega arith
 
 -- what lies between the journal and the data is live
-low_live : (g : Geometry) (map : Blocks) (b : ℕ) → data_start g ≤ g.n → bitmap_start g ≤ b → b < data_start g → IsTrue (is_live g map b)
+pub low_live : (g : Geometry) (map : Blocks) (b : ℕ) → data_start g ≤ g.n → bitmap_start g ≤ b → b < data_start g → IsTrue (is_live g map b)
 low_live g map b shape from below =
     ap₂ (λ x y. x && (y && (nat_lt b (data_start g) || is_set g map b))) (le-leb (bitmap_start g) b from) (lt-ltb b g.n (omega (arith, below, shape)))
     ∙ ap (λ x. x || is_set g map b) (lt-ltb b (data_start g) below)
 
 -- live blocks lie within the disk
-live_below : (g : Geometry) (map : Blocks) (b : ℕ) → IsTrue (is_live g map b) → b < g.n
+pub live_below : (g : Geometry) (map : Blocks) (b : ℕ) → IsTrue (is_live g map b) → b < g.n
 live_below g map b live = ltb-true _ _ (and_parts _ _ (and_parts _ _ live).1).0
 
 -- a block that is live by one map is live by one that has its live blocks
@@ -74,12 +76,12 @@ upto_last s base log p m is = omega (arith, is.at.count, points_grow s log is.mo
 
 -- the map of the newest point has the live blocks of each map whose live blocks the ledger's has
 pub made_of : LastIs → OneMap → (s : MountedSession) (base : Blocks) (log : List Event) (l : Ledger) (k : Bookkeeping) (c : Counts) (m : Blocks) (t floor : ℕ) → IsSafe s base log l t floor → k.geom ≡ s.geom → next_number l - s.first ≤ k.point
-    → HasLiveBlocks k.geom m (l.map_before (next_number l)) → HasMapOfPoint (state_of s k c m base log) k.point
-made_of last_is one_map s base log l k c m t floor safe geom least has q is b live =
+    → (k.point ≡ next_number l - s.first → HasLiveBlocks k.geom m (l.map_before (next_number l))) → HasMapOfPoint (state_of s k c m base log) k.point
+made_of last_is one_map s base log l k c m t floor safe geom least has q point b live = ∥∥₁_elim point (search props) (λ (is : IsPoint s base log k.point q).
     let last : k.point ≡ next_number l - s.first = omega (arith, least, upto_last s base log k.point q is, points_are s base log l t floor (next_number l - s.first) safe refl) in
     one_point one_map s base log k.point q newest is (subst (λ (p : ℕ). IsPoint s base log p newest) (points_are s base log l t floor k.point safe last) (last_is s base log l t floor safe)) b
-    ∙ ap (λ t. if t then l.map_before (next_number l) b else []) (subst (λ (g : Geometry). is_live g (l.map_before (next_number l)) b ≡ true) same (stays_live k.geom m (l.map_before (next_number l)) b (subst (λ (g : Geometry). data_start g ≤ g.n) (sym same) safe.keeps.shape) has live))
-    ∙ has b live
+    ∙ ap (λ t. if t then l.map_before (next_number l) b else []) (subst (λ (g : Geometry). is_live g (l.map_before (next_number l)) b ≡ true) same (stays_live k.geom m (l.map_before (next_number l)) b (subst (λ (g : Geometry). data_start g ≤ g.n) (sym same) safe.keeps.shape) (has last) live))
+    ∙ has last b live)
   where
     newest : Blocks
     newest = live_part l.geom (l.map_before (next_number l))

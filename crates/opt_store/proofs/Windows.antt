@@ -56,7 +56,7 @@ pub points_are : (s : MountedSession) (base : Blocks) (log : List Event) (l : Le
 points_are s base log l t floor p safe is = omega (arith, safe.points.count, is)
 
 -- what was left by a moment of the old log, or since
-by_moment : (s : MountedSession) (base : Blocks) (log more : List Event) (t : ℕ) (img : Blocks) → LeftImage s base (log ++ more) t img → LeftImage s base log t img ⊎ LeftImage s base (log ++ more) (length log) img
+pub by_moment : (s : MountedSession) (base : Blocks) (log more : List Event) (t : ℕ) (img : Blocks) → LeftImage s base (log ++ more) t img → LeftImage s base log t img ⊎ LeftImage s base (log ++ more) (length log) img
 by_moment s base log more t img left = ⊎_elim
     (λ high. inr (record { moment = left.moment; from = omega (arith, high); within = left.within; honest = left.honest }))
     (λ low. inl (record {
@@ -71,7 +71,7 @@ by_moment s base log more t img left = ⊎_elim
 pub in_window : (s : MountedSession) (base : Blocks) (log : List Event) (l : Ledger) (t floor u low : ℕ) (k : Bookkeeping) (c : Counts) (m img : Blocks) → IsSafe s base log l t floor → t ≤ u → low ≤ floor → next_number l - s.first ≤ k.point → LeftImage s base log u img → ∥ HoldsPointBetween (state_of s k c m base log) low k.point img ∥₁
 in_window s base log l t floor u low k c m img safe early lower last left =
     ∥∥₁_map (safe.window.each left.moment img (omega (arith, early, left.from)) left.within left.honest)
-    (λ (h : HoldsPoint s base log floor (next_number l - s.first) img). record { point = h.point; from = omega (arith, h.from, lower); upto = omega (arith, h.upto, last); map = h.map; holds = h.held; is = h.is })
+    (λ (h : HoldsPoint s base log floor (next_number l - s.first) img). record { point = h.point; from = omega (arith, h.from, lower); upto = omega (arith, h.upto, last); map = h.map; holds = h.held; is = ∣ h.is ∣₁ })
 
 -- a crash now leaves a point from the floor on
 pub told_of : BeginsSafe → (s : MountedSession) (base : Blocks) (log : List Event) (l : Ledger) (k : Bookkeeping) (c : Counts) (m : Blocks) (t floor : ℕ) (img : Blocks) → IsSafe s base log l t floor → k.floor ≤ l.known - s.first → next_number l - s.first ≤ k.point → LeftImage s base log (length log) img → ∥ HoldsPointBetween (state_of s k c m base log) k.floor k.point img ∥₁
@@ -84,7 +84,7 @@ goes_on stays was s base log more l n j k c d a b t floor since low before after
   window = window;
   earlier = λ u img from left. ⊎_elim (λ old. inl old) (λ new. inr (window img new)) (by_moment s base log more u img left);
   holds = λ img m. (λ is. is, λ is. is);
-  point = λ p m le. (was s base log more p m before.points.late (omega (arith, le, count)), stays s base log more p m);
+  point = λ p m le. (λ is. ∥∥₁_map is (was s base log more p m before.points.late (omega (arith, le, count))), λ is. ∥∥₁_map is (stays s base log more p m));
   later = omega (arith, length-append log more);
   last = omega (arith, count, points_are s base (log ++ more) n since low (next_number n - s.first) after refl, last, points_more s log more before.points.late);
   floor = floors;
@@ -106,8 +106,8 @@ advances_of stays was s base old new l n j k c d a b t floor since low before gr
 pub last_of : IssuedHolds → LastIs → OneMap → (s : MountedSession) (base : Blocks) (log : List Event) (l : Ledger) (k : Bookkeeping) (c : Counts) (m : Blocks) (t floor : ℕ) → IsSafe s base log l t floor → k.point ≡ next_number l - s.first → StandsForLast (state_of s k c m base log)
 last_of issued_holds last_is one_map s base log l k c m t floor safe last = record {
   some = ∣ (newest, held) ∣₁;
-  each = λ q is. subst (λ (x : Blocks). IsPoint s base log k.point x) (fun_ext (λ b. one_map s.geom.n (issued base log) newest q held is b))
-      (subst (λ (p : ℕ). IsPoint s base log p newest) (points_are s base log l t floor k.point safe last) (last_is s base log l t floor safe));
+  each = λ q is. ∣ subst (λ (x : Blocks). IsPoint s base log k.point x) (fun_ext (λ b. one_map s.geom.n (issued base log) newest q held is b))
+      (subst (λ (p : ℕ). IsPoint s base log p newest) (points_are s base log l t floor k.point safe last) (last_is s base log l t floor safe)) ∣₁;
 }
   where
     newest : Blocks

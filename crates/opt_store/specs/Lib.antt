@@ -1,3 +1,11 @@
 pub mod Formatting
 pub mod SessionView
 pub mod Store
+pub mod Committing
+pub mod Told
+pub mod Choosing
+pub mod PipelineCall
+pub mod Opening
+pub mod Refusal
+pub mod Mounting
+pub mod Syncing

@@ -16,11 +16,11 @@ pub record LeftImage (s : MountedSession) (base : Blocks) (log : List Event) (t 
   pub within : moment ≤ length log
   pub honest : IsHonest s.geom.n base (take moment log) img
 
--- The moment is the number of events, and the points are the session's. An image holds a map under a header of the session's geometry. Where all that was issued stands, that is what the journal makes of it; and the writes are those of the log, accepted or lost.
+-- The moment is the number of events, and the points are the session's: of each, some moment has it. An image holds a map under a header of the session's geometry. Where all that was issued stands, that is what the journal makes of it; and the writes are those of the log, accepted or lost.
 abbrev pub crash_of : MountedSession → Blocks → List Event → CrashView
 crash_of s base log = record {
   moment = length log;
-  is_point = λ p m. IsPoint s base log p m;
+  is_point = λ p m. ∥ IsPoint s base log p m ∥₁;
   left_since = λ t img. LeftImage s base log t img;
   holds = λ img m. HoldsUnder s.geom.n s.geom img m;
   issued = λ m. HeldIs s.geom.n (issued base log) m;

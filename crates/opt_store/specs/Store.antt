@@ -1,25 +1,14 @@
 -- The store's parts, its bookkeeping by them, and what is kept of their numbers over any disk. It is described in docs/STORE.md.
-use Rattle.std.specs.Prelude.{◌≡◌, ℕ, ◌+◌, ◌-◌, ◌≤◌, max, Bool, false}
-use Rattle.opt_journal.specs.Ring.{RingPlaces}
+use Rattle.std.specs.Prelude.{◌≡◌, ℕ, ◌+◌, ◌-◌, ◌≤◌, max, false}
 use Rattle.opt_reuse.specs.Dead.{AreSound}
-use Rattle.opt_checkpoint.specs.declared.pipeline.Pipeline.{Pipeline}
 use Rattle.opt_checkpoint.specs.Agree.{durable_count}
 use Rattle.opt_checkpoint.specs.Advance.{IsSound, Moves, writes_owed}
 use Rattle.opt_blocks.specs.Running.{nothing_running}
 use Rattle.opt_blocks.specs.State.{Bookkeeping}
-use Rattle.opt_books.specs.Books.{TransactionBooks, with_books}
+use Rattle.opt_books.specs.Books.{with_books}
 use Rattle.opt_books.specs.Kept.{AreKept}
 use Rattle.opt_books.specs.Sealing.{nothing_spare}
-
--- The ring, the pipeline and the books; the number of the session's first record, the last sync point, and the first to which a crash may go back; and whether a call of the disk failed. Point p was made by record `first + p - 1`.
-pub record StoreParts : Type 0 where
-  pub ring : RingPlaces
-  pub pipeline : Pipeline
-  pub books : TransactionBooks
-  pub first : ℕ
-  pub point : ℕ
-  pub floor : ℕ
-  pub stopped : Bool
+use Rattle.opt_store.specs.declared.parts.StoreParts.{StoreParts}
 
 -- the bookkeeping but for what the books have of it: of that it has nothing
 abbrev pub beside_books : StoreParts → Bookkeeping
@@ -67,5 +56,7 @@ pub record PartsMove (headers : ℕ) (v w : StoreParts) : Type 0 where
   pub moves : Moves headers v.pipeline w.pipeline v.ring w.ring v.books.dead w.books.dead
   pub books : w.books ≡ record v.books { dead = w.books.dead }
   pub dead : AreSound w.books.dead
+  pub cache : w.cache ≡ v.cache
+  pub mounted : w.mounted ≡ v.mounted
   pub first : w.first ≡ v.first
   pub point : w.point ≡ v.point

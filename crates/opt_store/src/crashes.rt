@@ -24,8 +24,8 @@ use opt_journal::an_image_holds_one_map;
 /// that failed the last point may be one that wasn't made. A call that
 /// leaves it safe, with a window that reaches back to where the call began, is one in which time goes on. A crash
 /// now leaves a point from the floor on. All that was issued is the last point; where no write was lost, that is
-/// all that was accepted. The last point's map has the live blocks of each map that the ledger's newest agrees with
-/// there. A call that leaves the log has issued nothing. The writes grow as those of the log do.
+/// all that was accepted. The last point's map, if the log has it, has the live blocks of each map that the ledger's
+/// newest agrees with there. A call that leaves the log has issued nothing. The writes grow as those of the log do.
 pub fn a_call_that_stays_safe_advances()
     ensures advances { (s : MountedSession) (base : Blocks) (old new : List Event) (l n : Ledger) (j k : Bookkeeping) (c d : Counts) (a b : Blocks) (t floor since low : ℕ) → IsSafe s base old l t floor → Grows old new → IsSafe s base new n since low → since ≤ length old → j.floor ≤ low
         → j.point ≡ next_number l - s.first → next_number n - s.first ≤ k.point → j.floor ≤ k.floor → Advances (state_of s j c a base old) (state_of s k d b base new) }
@@ -33,7 +33,7 @@ pub fn a_call_that_stays_safe_advances()
         → (state_of s k c m base log).crash.left_since (state_of s k c m base log).crash.moment img → ∥ HoldsPointBetween (state_of s k c m base log) k.floor k.point img ∥₁ }
     ensures last { (s : MountedSession) (base : Blocks) (log : List Event) (l : Ledger) (k : Bookkeeping) (c : Counts) (m : Blocks) (t floor : ℕ) → IsSafe s base log l t floor → k.point ≡ next_number l - s.first → StandsForLast (state_of s k c m base log) }
     ensures made { (s : MountedSession) (base : Blocks) (log : List Event) (l : Ledger) (k : Bookkeeping) (c : Counts) (m : Blocks) (t floor : ℕ) → IsSafe s base log l t floor → k.geom ≡ s.geom → next_number l - s.first ≤ k.point
-        → HasLiveBlocks k.geom m (l.map_before (next_number l)) → HasMapOfPoint (state_of s k c m base log) k.point }
+        → (k.point ≡ next_number l - s.first → HasLiveBlocks k.geom m (l.map_before (next_number l))) → HasMapOfPoint (state_of s k c m base log) k.point }
     ensures accepted { (s : MountedSession) (base : Blocks) (log : List Event) (m : Blocks) → ((b : ℕ) → is_lost b log ≡ false) → (crash_of s base log).issued m ↔ HeldIs s.geom.n (accepted base log) m }
     ensures nothing { (s : MountedSession) (base : Blocks) (old new : List Event) (j k : Bookkeeping) (c d : Counts) (a b : Blocks) → new ≡ old → IssuesNothing (state_of s j c a base old) (state_of s k d b base new) }
     ensures writes { (s : MountedSession) (base : Blocks) (old new : List Event) (j k : Bookkeeping) (c d : Counts) (a b : Blocks) (more : ℕ) → writes_in new + k.owed ≤ writes_in old + j.owed + more → WritesAtMost more (state_of s j c a base old) (state_of s k d b base new) }

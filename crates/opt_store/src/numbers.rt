@@ -6,7 +6,8 @@ ghost use Rattle.std.specs.Prelude.{◌≡◌, ◌≤◌, ℕ, true, false};
 ghost use Rattle.opt_blocks.specs.Calls.{HasTurns, IsSound, MovesPipeline};
 ghost use Rattle.opt_books.specs.Kept.{AreKept};
 ghost use Rattle.opt_checkpoint.specs.Advance as pipeline;
-ghost use Rattle.opt_store.specs.Store.{StoreParts, StoreIsSound, PartsMove, bookkeeping_of, durable_point};
+ghost use Rattle.opt_store.specs.declared.parts.StoreParts.{StoreParts};
+ghost use Rattle.opt_store.specs.Store.{StoreIsSound, PartsMove, bookkeeping_of, durable_point};
 
 use opt_books::{a_release_keeps_the_books, books_that_are_kept_are_sound};
 

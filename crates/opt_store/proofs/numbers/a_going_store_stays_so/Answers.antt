@@ -1,4 +1,4 @@
-use Rattle.opt_store.proofs.Moving.{goes_on, floor_rises, stops}
+use Rattle.opt_store.proofs.Going.{goes_on, floor_rises, stops}
 use Rattle.opt_store.proofs.numbers.a_going_store_stays_so.Goals as goal
 
 pub returns : goal.returns

@@ -1,4 +1,4 @@
-use Rattle.opt_store.proofs.Moving.{books_move, kept_moved}
+use Rattle.opt_store.proofs.Going.{books_move, kept_moved}
 use Rattle.opt_store.proofs.numbers.a_pipeline_that_moves_moves_the_books.Goals as goal
 
 pub returns : goal.returns

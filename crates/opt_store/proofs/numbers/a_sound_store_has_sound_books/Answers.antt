@@ -1,4 +1,4 @@
-use Rattle.opt_store.proofs.Moving.{books_sound, turns_enough}
+use Rattle.opt_store.proofs.Going.{books_sound, turns_enough}
 use Rattle.opt_store.proofs.numbers.a_sound_store_has_sound_books.Goals as goal
 
 pub returns : goal.returns

@@ -14,7 +14,8 @@ use Rattle.opt_blocks.specs.Calls.{HasTurns, IsSound, MovesPipeline}
 use Rattle.opt_books.specs.Books.{TransactionBooks, running_of, is_marked, with_books}
 use Rattle.opt_books.specs.Kept.{AreKept}
 use Rattle.opt_books.specs.Sealing.{SameDead}
-use Rattle.opt_store.specs.Store.{StoreParts, StoreIsSound, IsGoing, PartsMove, beside_books, bookkeeping_of, durable_point}
+use Rattle.opt_store.specs.declared.parts.StoreParts.{StoreParts}
+use Rattle.opt_store.specs.Store.{StoreIsSound, IsGoing, PartsMove, beside_books, bookkeeping_of, durable_point}
 
 -- The bookkeeping.
 
@@ -65,7 +66,7 @@ pub floor_rises : (v w : StoreParts) (headers : ℕ) → StoreIsSound v → v.st
 floor_rises v w headers s going m is = omega (arith, (s.going going).floor, floor_is v w headers (s.going going) m is (s.going going).sound.order, m.moves.durable, m.first)
 
 -- no more records are durable than there are
-durable_few : (v : Pipeline) → IsInOrder v → v.header.start + durable_count v ≤ v.last + 1
+pub durable_few : (v : Pipeline) → IsInOrder v → v.header.start + durable_count v ≤ v.last + 1
 durable_few v o = omega (
   arith,
   o.last,

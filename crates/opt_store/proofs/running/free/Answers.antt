@@ -1,0 +1,20 @@
+use Rattle.std.proofs.Props.{props}
+use Rattle.std.proofs.Common.{◌≡◌, ap}
+use Rattle.opt_blocks.specs.State.{Bookkeeping}
+use Rattle.opt_store.specs.Store.{beside_books}
+use Rattle.opt_store.specs.Told.{last_map}
+use Rattle.opt_store.proofs.Changing.{parts_kept, free_on, began_gives}
+use Rattle.opt_store.proofs.running.free.Goals as goal
+
+pub returns-clause-books : goal.returns-clause-books
+returns-clause-books c = c.free.ensures.books (beside_books c.args.parts.now)
+
+pub returns-clause-keeps : goal.returns-clause-keeps
+returns-clause-keeps c = λ tells d k.
+    let geom : c.free.new.self.geom ≡ c.args.parts.now.books.geom = ap (λ (b : Bookkeeping). b.geom) (c.free.ensures.books (beside_books c.args.parts.now)) in
+    parts_kept tells c.args.parts.now c.free.new.self d
+    (free_on c.taken_blocks_stay_sound.ensures.frees c.taken_blocks_stay_right.ensures.frees c.args.parts.now c.free.new.self c.args.b geom c.free.ensures.kept c.free.ensures.dead c.free.ensures.taken)
+    (λ t began. c.free.ensures.began (last_map c.args.parts.now d) began) k
+
+pub returns-clause-map : goal.returns-clause-map
+returns-clause-map c = λ tells d k t. began_gives (hlevel props) tells c.args.parts.now d k t (c.free.ensures.map (last_map c.args.parts.now d))

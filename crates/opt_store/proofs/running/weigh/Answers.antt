@@ -1,0 +1,11 @@
+use Rattle.std.proofs.Common.{ap}
+use Rattle.opt_books.specs.Books.{TransactionBooks}
+use Rattle.opt_store.specs.Told.{last_map}
+use Rattle.opt_store.proofs.Changing.{parts_kept, same_on}
+use Rattle.opt_store.proofs.running.weigh.Goals as goal
+
+pub returns-clause-keeps : goal.returns-clause-keeps
+returns-clause-keeps c = λ tells d k.
+    let value = c.weigh.ensures.value in
+    parts_kept tells c.args.parts.now c.weigh.new.self d (same_on c.args.parts.now c.weigh.new.self (ap (λ (x : TransactionBooks). x.geom) value) c.weigh.ensures.kept (ap (λ (x : TransactionBooks). x.dead) value) (ap (λ (x : TransactionBooks). x.changes.taken) value))
+    (λ t began. c.weigh.ensures.began (last_map c.args.parts.now d) began) k

@@ -1,0 +1,14 @@
+use Rattle.opt_store.proofs.store.Store.mount_with.Goals as goal
+
+pub invariant_of-result : goal.invariant_of-result
+invariant_of-result g c = record {
+  kept = c.in-Ok.ensures.kept;
+  sound = c.a_store_that_is_kept_is_told.ensures.sound g.D.Disk.tells c.in-Ok.parts (g.D.Disk.state c.open_parts.new.disk) c.in-Ok.ensures.kept;
+  told = λ on ticks. c.a_store_that_is_kept_is_told.ensures.told g.D.Disk.tells c.in-Ok.parts ticks (g.D.Disk.state c.open_parts.new.disk) c.in-Ok.ensures.kept on;
+}
+
+pub returns-in-Ok-clause-begun : goal.returns-in-Ok-clause-begun
+returns-in-Ok-clause-begun g c = c.in-Ok.ensures.begun 0
+
+pub returns-in-Ok-clause-begins : goal.returns-in-Ok-clause-begins
+returns-in-Ok-clause-begins g c = λ tells k m held. c.in-Ok.ensures.begins tells k m held 0

@@ -1,0 +1,11 @@
+use Rattle.opt_store.proofs.store.StoreBlocks.dsync.Goals as goal
+
+pub invariant_of-self : goal.invariant_of-self
+invariant_of-self g c = record {
+  kept = c.sync_durably.ensures.kept;
+  sound = c.a_store_that_is_kept_is_told.ensures.sound g.D.Disk.tells c.sync_durably.new.parts (g.D.Disk.state c.sync_durably.new.disk) (c.sync_durably.ensures.kept);
+  told = λ on ticks. c.a_store_that_is_kept_is_told.ensures.told g.D.Disk.tells c.sync_durably.new.parts ticks (g.D.Disk.state c.sync_durably.new.disk) (c.sync_durably.ensures.kept) on;
+}
+
+pub returns-clause-syncs : goal.returns-clause-syncs
+returns-clause-syncs g c = c.sync_durably.ensures.syncs c.args.self.now.ticks

@@ -1,0 +1,15 @@
+use Rattle.std.proofs.Common.{ap}
+use Rattle.opt_store.specs.declared.parts.StoreParts.{StoreParts}
+use Rattle.opt_store.proofs.store.StoreBlocks.get.Goals as goal
+
+pub invariant_of-self : goal.invariant_of-self
+invariant_of-self g c = record {
+  kept = c.read_block.ensures.kept;
+  sound = c.a_store_that_is_kept_is_told.ensures.sound g.D.Disk.tells c.read_block.new.parts (g.D.Disk.state c.read_block.new.disk) (c.read_block.ensures.kept);
+  told = λ on ticks. c.a_store_that_is_kept_is_told.ensures.told g.D.Disk.tells c.read_block.new.parts ticks (g.D.Disk.state c.read_block.new.disk) (c.read_block.ensures.kept) on;
+}
+
+pub returns-clause-crash : goal.returns-clause-crash
+returns-clause-crash g c = λ on. c.a_store_that_is_kept_is_told.ensures.nothing c.args.self.now.parts c.read_block.new.parts _ _ (g.D.Disk.state c.args.self.now.disk) (g.D.Disk.state c.read_block.new.disk)
+    (record { geom = ap (λ (x : StoreParts). x.books.geom) c.read_block.ensures.parts; epoch = ap (λ (x : StoreParts). x.pipeline.header.epoch) c.read_block.ensures.parts; mounted = ap (λ (x : StoreParts). x.mounted) c.read_block.ensures.parts; first = ap (λ (x : StoreParts). x.first) c.read_block.ensures.parts })
+    c.read_block.ensures.spends.same.base (c.read_block.ensures.log on)

@@ -1,0 +1,14 @@
+use Rattle.opt_store.proofs.store.StoreBlocks.osync.Goals as goal
+
+pub invariant_of-self : goal.invariant_of-self
+invariant_of-self g c = record {
+  kept = c.sync.ensures.kept;
+  sound = c.a_store_that_is_kept_is_told.ensures.sound g.D.Disk.tells c.sync.new.parts (g.D.Disk.state c.sync.new.disk) (c.sync.ensures.kept);
+  told = λ on ticks. c.a_store_that_is_kept_is_told.ensures.told g.D.Disk.tells c.sync.new.parts ticks (g.D.Disk.state c.sync.new.disk) (c.sync.ensures.kept) on;
+}
+
+pub returns-clause-syncs : goal.returns-clause-syncs
+returns-clause-syncs g c = c.sync.ensures.syncs c.args.self.now.ticks
+
+pub returns-clause-idles : goal.returns-clause-idles
+returns-clause-idles g c = c.sync.ensures.idles c.args.self.now.ticks

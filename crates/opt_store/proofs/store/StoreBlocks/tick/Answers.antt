@@ -1,0 +1,11 @@
+use Rattle.opt_store.proofs.store.StoreBlocks.tick.Goals as goal
+
+pub invariant_of-self : goal.invariant_of-self
+invariant_of-self g c = record {
+  kept = c.advance.ensures.kept;
+  sound = c.a_store_that_is_kept_is_told.ensures.sound g.D.Disk.tells c.advance.new.parts (g.D.Disk.state c.advance.new.disk) c.advance.ensures.kept;
+  told = λ on ticks. c.a_store_that_is_kept_is_told.ensures.told g.D.Disk.tells c.advance.new.parts ticks (g.D.Disk.state c.advance.new.disk) c.advance.ensures.kept on;
+}
+
+pub returns-clause-moves : goal.returns-clause-moves
+returns-clause-moves g c = c.advance.ensures.runs c.args.self.now.ticks _

@@ -1,0 +1,39 @@
+use Rattle.std.proofs.Common.{refl, arith}
+use Rattle.opt_store.specs.Told.{store_state}
+use Rattle.opt_store.proofs.CommitSyncs.{places_needed}
+use Rattle.opt_store.proofs.SyncSteps.{fits_then, kept_fault, may_then, run_then_sync, syncs_fault}
+use Rattle.opt_store.proofs.syncing.commit_in_ring.Goals as goal
+
+pub commit-requires-in-Ok-clause-going : goal.commit-requires-in-Ok-clause-going
+commit-requires-in-Ok-clause-going g c = (c.in-Ok.ensures.runs 0 0).disk.stopped
+
+pub commit-requires-in-Ok-clause-may : goal.commit-requires-in-Ok-clause-may
+commit-requires-in-Ok-clause-may g c = may_then c.args.parts.now c.drain.new.parts c.args.room c.in-Ok.ensures.moves c.requires.may (c.in-Ok.ensures.runs 0 0).pipeline.geom (c.in-Ok.ensures.runs 0 0).pipeline.running
+
+pub commit-requires-in-Ok-clause-free : goal.commit-requires-in-Ok-clause-free
+commit-requires-in-Ok-clause-free g c =
+    let w = c.drain.new.parts in
+    let may = may_then c.args.parts.now w c.args.room c.in-Ok.ensures.moves c.requires.may (c.in-Ok.ensures.runs 0 0).pipeline.geom (c.in-Ok.ensures.runs 0 0).pipeline.running in
+    let kept = c.in-Ok.ensures.kept.sound.kept in
+    fits_then w c.args.room may c.in-Ok.ensures.kept.sound (c.a_commit_has_what_the_roles_say.ensures.payloads w.books kept) (c.a_commit_has_what_the_roles_say.ensures.fresh w.books kept) c.in-Ok.ensures.places
+
+pub returns-in-Ok-clause-syncs : goal.returns-in-Ok-clause-syncs
+returns-in-Ok-clause-syncs g c = λ ticks.
+    run_then_sync g.D.Disk.tells (store_state c.args.parts.now ticks (g.D.Disk.state c.args.disk.now)) (store_state c.drain.new.parts ticks (g.D.Disk.state c.drain.new.disk)) (store_state c.commit-in-Ok.new.parts ticks (g.D.Disk.state c.commit-in-Ok.new.disk))
+    (c.in-Ok.ensures.runs ticks ticks) (omega (arith, c.commit-in-Ok.ensures.turns, c.in-Ok.ensures.moves.moves.turn, c.in-Ok.ensures.moves.moves.last)) c.commit-in-Ok.result refl c.commit-in-Ok.ensures.memory (c.commit-in-Ok.ensures.syncs ticks)
+
+pub returns-in-Ok-clause-order : goal.returns-in-Ok-clause-order
+returns-in-Ok-clause-order g c = λ few.
+    let kept = c.requires.kept.sound.kept in
+    absurd (omega (arith, few, places_needed c.args.parts.now (c.a_commit_has_what_the_roles_say.ensures.payloads c.args.parts.now.books kept) (c.a_commit_has_what_the_roles_say.ensures.fresh c.args.parts.now.books kept), c.places_needed.ensures.places, c.free.ensures, c.if-places_needed-free.false))
+
+pub returns-in-Err-clause-kept : goal.returns-in-Err-clause-kept
+returns-in-Err-clause-kept g c = kept_fault c.a_call_that_stays_safe_advances.ensures.made g.D.Disk.tells c.args.parts.now c.drain.new.parts (g.D.Disk.state c.args.disk.now) (g.D.Disk.state c.drain.new.disk) c.args.room c.requires.may c.in-Err.ensures.kept c.in-Err.ensures.runs
+
+pub returns-in-Err-clause-syncs : goal.returns-in-Err-clause-syncs
+returns-in-Err-clause-syncs g c = syncs_fault c.a_call_that_stays_safe_advances.ensures.made g.D.Disk.tells c.args.parts.now c.drain.new.parts (g.D.Disk.state c.args.disk.now) (g.D.Disk.state c.drain.new.disk) c.args.room c.requires.may c.in-Err.ensures.kept c.in-Err.ensures.runs
+
+pub returns-in-Err-clause-order : goal.returns-in-Err-clause-order
+returns-in-Err-clause-order g c = λ few.
+    let kept = c.requires.kept.sound.kept in
+    absurd (omega (arith, few, places_needed c.args.parts.now (c.a_commit_has_what_the_roles_say.ensures.payloads c.args.parts.now.books kept) (c.a_commit_has_what_the_roles_say.ensures.fresh c.args.parts.now.books kept), c.places_needed.ensures.places, c.free.ensures, c.if-places_needed-free.false))

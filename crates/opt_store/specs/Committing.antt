@@ -1,0 +1,79 @@
+-- A commit of the books' transaction into the pipeline: what it leaves where it succeeded and where the disk failed, and what it writes. It is described in docs/STORE.md.
+use Rattle.std.specs.Prelude.{◌≡◌, ◌⊎◌, ℕ, ◌+◌, ◌≤◌, false, List, [], ◌∷◌, ◌++◌, length, map, None, Result, Ok, Err, OnOk}
+use Rattle.opt_disk.specs.declared.event.Event.{Event}
+use Rattle.opt_disk.specs.Cell.{accepted, is_lost}
+use Rattle.opt_disk.specs.Disk.{State, Grows}
+use Rattle.opt_geom.specs.Geometry.{bitmap_start}
+use Rattle.opt_journal.specs.Ring.{RingPlaces}
+use Rattle.opt_journal.specs.Run.{places}
+use Rattle.opt_crash.specs.Counts.{writes_in}
+use Rattle.opt_crash.specs.HomeTest.{is_one_of}
+use Rattle.opt_crash.specs.Ledger.{Ledger, next_number}
+use Rattle.opt_crash.specs.Points.{MountedSession, IsSafe}
+use Rattle.opt_crash.specs.Steps.{with_record}
+use Rattle.opt_crash.specs.Writes.{AddsWrites, AddsFront}
+use Rattle.opt_tx.specs.Record.{record_of, written_of, block_of}
+use Rattle.opt_tx.specs.Rows.{put_of}
+use Rattle.opt_tx.specs.Running.{Changes, IsEmpty}
+use Rattle.opt_tx.specs.Writes.{record_writes}
+use Rattle.opt_checkpoint.specs.declared.pipeline.Pipeline.{Pipeline}
+use Rattle.opt_checkpoint.specs.Advance.{IsRightOn, IsSound, writes_owed}
+use Rattle.opt_checkpoint.specs.Agree.{durable_count}
+use Rattle.opt_checkpoint.specs.Bytes.{bytes_now}
+use Rattle.opt_checkpoint.specs.Kept.{Kept, kept}
+use Rattle.opt_blocks.specs.Running.{record_writes as writes_for}
+use Rattle.opt_books.specs.Books.{TransactionBooks, bytes_over, map_of}
+use Rattle.opt_books.specs.Sealing.{with_record as sealed_books}
+
+-- the ring places that the record of these changes takes
+abbrev pub places_for : Changes → ℕ
+places_for q = places (record_of 0 0 q.paid q.laid)
+
+-- what the pipeline keeps of the record of these changes
+abbrev pub kept_of : ℕ → Changes → Kept
+kept_of number q = record { number = number; count = places_for q; payloads = q.paid; fresh = map block_of q.laid; freed = q.freed }
+
+-- the writes of the record of these changes, in their order
+abbrev pub writes_of : RingPlaces → ℕ → ℕ → Changes → List (ℕ × List ℕ)
+writes_of ring epoch number q = record_writes ring.geom epoch number ring.next q.paid q.laid
+
+-- the ledger with the transaction's record, where the map after it is the map now
+abbrev pub ledger_with : Ledger → RingPlaces → ℕ → ℕ → TransactionBooks → Ledger
+ledger_with l ring epoch number v = with_record l (written_of epoch number ring.next v.changes.paid v.changes.laid) (map_of v (l.map_before (next_number l)))
+
+-- After a commit, by the ledger with the record: where it succeeded all is right. Where the disk failed it is safe by the ledger as it was, or by the one with the record.
+abbrev pub CommitLeaves : {A E : Type 0} → Result A E → MountedSession → State → Ledger → Ledger → ℕ → ℕ → Pipeline → RingPlaces → TransactionBooks → Type 0
+CommitLeaves (Ok a) s d l with_it t floor p ring v = IsRightOn s d with_it t floor p ring v.dead v.changes.taken
+CommitLeaves (Err e) s d l with_it t floor p ring v = IsSafe s d.base d.log l t floor ⊎ IsSafe s d.base d.log with_it t floor
+
+-- The transaction became the record of this number, which is the pipeline's last one. The next transaction is empty, and pipeline, ring and dead blocks are sound. Which headers there are, and how many records are durable, is as before.
+pub record BecomesRecord (number : ℕ) (v w : TransactionBooks) (p q : Pipeline) (next_ring : RingPlaces) : Type 0 where
+  pub books : w ≡ record (sealed_books v number) { changes = w.changes }
+  pub empty : IsEmpty w.changes
+  pub sound : IsSound q next_ring w.dead
+  pub kept : kept q ≡ kept p ++ kept_of number v.changes ∷ []
+  pub last : q.last ≡ number
+  pub owed : writes_owed q ≡ writes_owed p + length v.changes.paid + 2
+  pub geom : q.geom ≡ p.geom
+  pub header : q.header ≡ p.header
+  pub written : q.written ≡ p.written
+  pub durable : durable_count q ≡ durable_count p
+
+-- all of these writes join the log, or where the disk failed a front of them
+abbrev pub AddsRecord : {A E : Type 0} → Result A E → List (ℕ × List ℕ) → List Event → List Event → Type 0
+AddsRecord (Ok a) ws old new = (tickets : List ℕ) × AddsWrites ws tickets old new
+AddsRecord (Err e) ws old new = AddsFront ws old new
+
+-- the block's last accepted bytes are the same, and so is whether a write was lost behind them
+pub record IsLeftAlone (b : ℕ) (old new : State) : Type 0 where
+  pub bytes : accepted new.base new.log b ≡ accepted old.base old.log b
+  pub lost : is_lost b new.log ≡ is_lost b old.log
+
+-- What a commit does to a disk that tells. From the bitmap on it writes no blocks but the transaction's fresh ones. Where it succeeded no write was lost, and what stands for each block that wasn't freed is what the transaction put, or what stood for it. So many writes were made, or are owed now.
+pub record WritesRecord {A E : Type 0} (result : Result A E) (ws : List (ℕ × List ℕ)) (v : TransactionBooks) (p q : Pipeline) (old new : State) : Type 0 where
+  pub adds : AddsRecord result ws old.log new.log
+  pub grows : Grows old.log new.log
+  pub elsewhere : (b : ℕ) → bitmap_start v.geom ≤ b → put_of b v.changes.laid ≡ None → IsLeftAlone b old new
+  pub none_lost : OnOk result (((b : ℕ) → is_lost b old.log ≡ false) → (b : ℕ) → is_lost b new.log ≡ false)
+  pub bytes : OnOk result ((b : ℕ) → bitmap_start v.geom ≤ b → is_one_of b v.changes.freed ≡ false → bytes_now q new.base new.log b ≡ bytes_over v.changes (bytes_now p old.base old.log) b)
+  pub writes : writes_in new.log + writes_owed q ≤ writes_in old.log + writes_owed p + writes_for (length v.changes.paid) (length v.changes.laid)

@@ -1,0 +1,43 @@
+-- The parts with which a store begins, with which map it begins, and what a mount leaves of the disk. It is described in docs/STORE.md.
+use Rattle.std.specs.Prelude.{◌≡◌, ℕ, ◌+◌, Bool, false, IsTrue, length}
+use Rattle.opt_base.specs.Seal.{Blocks}
+use Rattle.opt_cache.specs.Cache.{empty_cache}
+use Rattle.opt_disk.specs.Crash.{Window}
+use Rattle.opt_disk.specs.Disk as disk
+use Rattle.opt_geom.specs.Geometry.{Geometry}
+use Rattle.opt_journal.specs.declared.header.Header.{Header}
+use Rattle.opt_journal.specs.Run.{HeldIs}
+use Rattle.opt_crash.specs.Ledger.{HoldsUnder}
+use Rattle.opt_mount.specs.Mount.{MountSpends, settled_on}
+use Rattle.opt_blocks.specs.State.{State}
+use Rattle.opt_store.specs.declared.parts.StoreParts.{StoreParts}
+use Rattle.opt_store.specs.Opening.{AreNewBooks, IsNewPipeline, empty_ring}
+
+-- the parts with which a store begins under this header, after so many events of the disk: no record, no block in the cache, an empty transaction without a weight, and no point behind the first
+pub record AreNewParts (g : Geometry) (slot : ℕ) (h : Header) (moment : ℕ) (v : StoreParts) : Type 0 where
+  pub ring : v.ring ≡ empty_ring g
+  pub pipeline : IsNewPipeline g slot h v.pipeline
+  pub books : AreNewBooks g v.books
+  pub weight : v.books.weight ≡ 0
+  pub cache : v.cache ≡ empty_cache v.cache.capacity
+  pub mounted : v.mounted ≡ moment
+  pub first : v.first ≡ h.start
+  pub point : v.point ≡ 0
+  pub floor : v.floor ≡ 0
+  pub going : v.stopped ≡ false
+
+-- a map of blocks begins with this one, which is its map now and that of point 0
+pub record BeginsWith (g : Geometry) (m : Blocks) (s : State) : Type 0 where
+  pub geom : s.books.geom ≡ g
+  pub map : s.map ≡ m
+  pub point : s.crash.is_point 0 m
+
+-- What a mount leaves of the disk, whatever comes of it: where the disk tells, each honest image since the call began holds the map that the disk held; and so much was spent.
+pub record LeavesDisk (tells unread faulty : Bool) (old new : disk.State) : Type 0 where
+  pub holds : IsTrue tells → (g : Geometry) (m : Blocks) → HoldsUnder old.blocks g (settled_on old) m → Window old.blocks old.base new.log (length old.log) (λ img. HoldsUnder old.blocks g img m)
+  pub spends : MountSpends unread faulty (old.blocks + 2) old new
+
+-- what is settled on the disk holds some map, and each that it holds is that of the last point
+pub record HoldsLast (d : disk.State) (s : State) : Type 0 where
+  pub some : ∥ ((m : Blocks) × HeldIs d.blocks (settled_on d) m) ∥₁
+  pub each : (m : Blocks) → HeldIs d.blocks (settled_on d) m → s.crash.is_point s.books.point m

@@ -1,0 +1,34 @@
+-- When a commit may be made of the running transaction by a store, and what a cache forgets of it. It is described in docs/STORE.md.
+use Rattle.std.specs.Prelude.{◌≡◌, ℕ, ◌+◌, ◌<◌, ◌≤◌, ◌||◌, is_some, if◌then◌else◌, List, length, None}
+use Rattle.std.specs.FinMap.{get}
+use Rattle.opt_disk.specs.Disk.{State}
+use Rattle.opt_cache.specs.Cache.{Cache}
+use Rattle.opt_crash.specs.HomeTest.{is_one_of}
+use Rattle.opt_tx.specs.declared.commit.CommitRoom.{CommitRoom}
+use Rattle.opt_tx.specs.declared.put.Put.{Put}
+use Rattle.opt_tx.specs.Commits.{HasRoomForCommit}
+use Rattle.opt_tx.specs.Rows.{put_of}
+use Rattle.opt_blocks.specs.Calls.{MaySync}
+use Rattle.opt_store.specs.declared.parts.StoreParts.{StoreParts}
+use Rattle.opt_store.specs.Committing.{places_for}
+use Rattle.opt_store.specs.Store.{bookkeeping_of}
+use Rattle.opt_store.specs.Told.{map_now, session_of}
+
+-- The running transaction has a weight and may be synced, and memory is ready for its commit.
+pub record MayCommit (v : StoreParts) (r : CommitRoom) : Type 0 where
+  pub sync : MaySync (bookkeeping_of v)
+  pub weight : 0 < v.books.weight
+  pub records : 0 < v.pipeline.ready.records
+  pub writes : length v.books.changes.laid + places_for v.books.changes ≤ v.pipeline.ready.writes
+  pub payloads : length v.books.changes.paid ≤ v.pipeline.ready.payloads
+  pub room : HasRoomForCommit v.books.changes r
+
+-- of a record's payloads and fresh blocks nothing is kept, and of the others what was kept
+abbrev pub Forgets : List Put → List ℕ → Cache → Cache → Type 0
+Forgets payloads fresh old new = (b : ℕ) → get new.kept b ≡ (if is_some (put_of b payloads) || is_one_of b fresh then None else get old.kept b)
+
+-- What is known of the store as a map of blocks is the same over each disk.
+pub record IsSameStore (v w : StoreParts) : Type 0 where
+  pub books : bookkeeping_of w ≡ bookkeeping_of v
+  pub session : session_of w ≡ session_of v
+  pub map : (d : State) → map_now w d ≡ map_now v d

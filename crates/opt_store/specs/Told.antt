@@ -1,0 +1,76 @@
+-- What is known of a store where its disk tells, and what is kept of that. It is described in docs/STORE.md.
+use Rattle.std.specs.Prelude.{◌≡◌, ℕ, ◌+◌, ◌^◌, ◌<◌, ◌≤◌, Bool, false, IsTrue, length, None}
+use Rattle.opt_base.specs.Seal.{Blocks}
+use Rattle.opt_disk.specs.Disk as disk
+use Rattle.opt_journal.specs.Run.{is_live}
+use Rattle.opt_cache.specs.Cache.{IsKept, IsTheDisks}
+use Rattle.opt_crash.specs.Ledger.{Ledger, next_number}
+use Rattle.opt_crash.specs.Points.{MountedSession, IsSafe}
+use Rattle.opt_checkpoint.specs.Advance.{MayServe}
+use Rattle.opt_checkpoint.specs.Agree.{PipelineAgrees}
+use Rattle.opt_checkpoint.specs.Bytes.{bytes_now}
+use Rattle.opt_checkpoint.specs.Kept.{kept, newest_in}
+use Rattle.opt_blocks.specs.State.{Counts, State}
+use Rattle.opt_books.specs.Books.{map_of}
+use Rattle.opt_books.specs.Point.{BeganAt}
+use Rattle.opt_store.specs.declared.parts.StoreParts.{StoreParts}
+use Rattle.opt_store.specs.SessionView.{state_of}
+use Rattle.opt_store.specs.Store.{StoreIsSound, bookkeeping_of}
+
+-- the map of the last sync point
+abbrev pub last_map : StoreParts → disk.State → Blocks
+last_map v d = bytes_now v.pipeline d.base d.log
+
+-- the map now
+abbrev pub map_now : StoreParts → disk.State → Blocks
+map_now v d = map_of v.books (last_map v d)
+
+-- the session, as crashes are told of
+abbrev pub session_of : StoreParts → MountedSession
+session_of v = record { geom = v.books.geom; epoch = v.pipeline.header.epoch; mounted = v.mounted; first = v.first }
+
+-- the session is the same
+pub record IsSameSession (v w : StoreParts) : Type 0 where
+  pub geom : w.books.geom ≡ v.books.geom
+  pub epoch : w.pipeline.header.epoch ≡ v.pipeline.header.epoch
+  pub mounted : w.mounted ≡ v.mounted
+  pub first : w.first ≡ v.first
+
+-- the counts: those of the disk, and how often the store ticked
+abbrev pub counts_of : ℕ → disk.State → Counts
+counts_of ticks d = record { ticks = ticks; read_faults = d.read_faults; faults = d.faults; waits = d.waits }
+
+-- what is known of the store as a map of blocks
+abbrev pub store_state : StoreParts → ℕ → disk.State → State
+store_state v ticks d = state_of (session_of v) (bookkeeping_of v) (counts_of ticks d) (map_now v d) d.base d.log
+
+-- Each live block of the map that the cache keeps has no newer payload in a record, and is kept as the disk has it.
+pub record CacheAgrees (v : StoreParts) (d : disk.State) : Type 0 where
+  pub newest : (b : ℕ) → IsTrue (is_live v.books.geom (last_map v d) b) → IsKept b v.cache → newest_in None (kept v.pipeline) b ≡ None
+  pub same : (b : ℕ) → IsTrue (is_live v.books.geom (last_map v d) b) → IsTheDisks b v.cache d
+
+-- While no call of the disk failed, pipeline, ring and dead blocks agree with the ledger, whose last record made the last point, and the cache agrees with the disk.
+pub record GoesBy (v : StoreParts) (d : disk.State) (l : Ledger) : Type 0 where
+  pub agrees : PipelineAgrees d.base d.log l v.pipeline v.ring v.books.dead.waiting v.books.changes.taken
+  pub serves : MayServe l v.pipeline v.books.dead
+  pub next : next_number l ≡ v.first + v.point
+  pub cache : CacheAgrees v d
+
+-- Always the disk is safe by the ledger, from now on and from the floor on; the ledger has no point behind the last; the running transaction began at the map of the last point; and each live block of that map is whole.
+pub record IsToldBy (v : StoreParts) (d : disk.State) (l : Ledger) : Type 0 where
+  pub safe : IsSafe (session_of v) d.base d.log l (length d.log) v.floor
+  pub made : next_number l ≤ v.first + v.point
+  pub began : BeganAt v.books (last_map v d)
+  pub whole : (b : ℕ) → IsTrue (is_live v.books.geom (last_map v d) b) → length (last_map v d b) ≡ 1024
+  pub going : v.stopped ≡ false → GoesBy v d l
+
+-- where the disk tells, some ledger tells it
+abbrev pub IsToldBySome : Bool → StoreParts → disk.State → Type 0
+IsToldBySome tells v d = IsTrue tells → ∥ ((l : Ledger) × IsToldBy v d l) ∥₁
+
+-- what a store keeps: the disk has the geometry's blocks, its count of waits is one of 64 bits, the parts are sound, and where the disk tells they are told
+pub record IsKeptOn (tells : Bool) (v : StoreParts) (d : disk.State) : Type 0 where
+  pub size : d.blocks ≡ v.books.geom.n
+  pub waits : d.waits < 2 ^ 64
+  pub sound : StoreIsSound v
+  pub told : IsToldBySome tells v d

@@ -1,0 +1,106 @@
+//! The parts of a store on a disk that is mounted: what is found is checked, all memory is taken, and then the
+//! journal is opened under a new epoch. What a mount writes is described by `opt_mount`.
+
+ghost use Rattle.std.specs.Prelude.{◌≡◌, ◌<◌, ◌≤◌, ◌+◌, ℕ, IsTrue, IfOk, IfErr, length};
+ghost use Rattle.opt_base.specs.Seal.{Blocks};
+ghost use Rattle.opt_disk.specs.Crash.{Window};
+ghost use Rattle.opt_cache.specs.Cache.{empty_cache};
+ghost use Rattle.opt_geom.specs.Geometry.{Geometry};
+ghost use Rattle.opt_crash.specs.Ledger.{HoldsUnder};
+ghost use Rattle.opt_mount.specs.Mount.{IsIdle, MountSpends, settled_on};
+ghost use Rattle.opt_blocks.specs.Crashes.{IsBegun};
+ghost use Rattle.opt_store.specs.Mounting.{AreNewParts, BeginsWith};
+ghost use Rattle.opt_store.specs.Opening.{AreNewBooks};
+ghost use Rattle.opt_store.specs.Refusal.{RefusalSays, is_faulty, is_unread};
+ghost use Rattle.opt_store.specs.Told.{IsKeptOn, store_state};
+
+use crate::opening::{
+    FoundStore, a_new_store_is_right, a_session_begins_with_its_map, find_store,
+    the_bitmap_that_is_found_is_the_maps,
+};
+use crate::parts::StoreParts;
+use crate::refusal::{StoreRefusal, refusal_of};
+use opt_books::Books;
+use opt_cache::{BlockCache, a_new_cache_agrees};
+use opt_checkpoint::Pipeline;
+use opt_crash::{a_call_begins_safe, an_idle_disk_holds_what_is_settled};
+use opt_disk::Disk;
+use opt_geom::Geom;
+use opt_journal::Ring;
+use opt_mount::{Mounted, open};
+use std::alloc::Global;
+
+/// Mounts a disk on which nothing is pending, with a cache of at most so many blocks: the session begins with the map
+/// that the disk held, and each honest image since the call began holds it, whatever comes of the call.
+///
+/// # Errors
+/// `NoHeader`, `Spent` and `BadBit` come of what is on the disk, in this order, and `NoMemory` of want of memory:
+/// nothing is written then. `ReadFault` and `DiskFault` come of a call that failed, which the disk has counted.
+pub(crate) fn open_parts<D: Disk>(
+    alloc: Global,
+    disk: &mut D,
+    capacity: u32,
+) -> Result<StoreParts, StoreRefusal>
+    requires some { 0 < capacity }
+    requires most { capacity ≤ 65536 }
+    requires idle { IsTrue D.tells → IsIdle (D.state disk.old) }
+    ensures kept { IfOk result (λ v. IsKeptOn D.tells v (D.state disk.new)) }
+    ensures begun { IfOk result (λ v. (ticks : ℕ) → IsBegun (store_state v ticks (D.state disk.new))) }
+    ensures begins { IsTrue D.tells → (g : Geometry) (m : Blocks) → HoldsUnder (D.state disk.old).blocks g (settled_on (D.state disk.old)) m → IfOk result (λ v. (ticks : ℕ) → BeginsWith g m (store_state v ticks (D.state disk.new))) }
+    ensures holds { IsTrue D.tells → (g : Geometry) (m : Blocks) → HoldsUnder (D.state disk.old).blocks g (settled_on (D.state disk.old)) m
+        → Window (D.state disk.old).blocks (D.state disk.old).base (D.state disk.new).log (length (D.state disk.old).log) (λ img. HoldsUnder (D.state disk.old).blocks g img m) }
+    ensures refused { IsTrue D.tells → IfErr result (RefusalSays (D.state disk.old) (D.state disk.new)) }
+    ensures spends { MountSpends (is_unread result) (is_faulty result) ((D.state disk.old).blocks + 2) (D.state disk.old) (D.state disk.new) }
+{
+    a_session_begins_with_its_map();
+    a_new_store_is_right();
+    the_bitmap_that_is_found_is_the_maps();
+    an_idle_disk_holds_what_is_settled();
+    a_call_begins_safe();
+    a_new_cache_agrees();
+    let FoundStore { found, bitmap } = find_store(alloc, disk)?;
+    let geom = found.run().header().geom;
+    let Ok(books) = Books::new(alloc, &geom, bitmap) else {
+        return Err(StoreRefusal::NoMemory);
+    };
+    let Ok(cache) = BlockCache::new(alloc, capacity) else {
+        return Err(StoreRefusal::NoMemory);
+    };
+    let mounted = match open(disk, &found) {
+        Ok(mounted) => mounted,
+        Err(why) => return Err(refusal_of(why)),
+    };
+    disk.lawful();
+    let moment = disk.moment();
+    Ok(new_parts(alloc, &geom, &mounted, books, cache, moment))
+}
+
+/// The parts of a store under the header of a mount, after so many events of the disk, with new books and an empty
+/// cache.
+fn new_parts(
+    alloc: Global,
+    geom: &Geom,
+    mounted: &Mounted,
+    books: Books,
+    cache: BlockCache,
+    moment: u64,
+) -> StoreParts
+    requires released { mounted.now.header.start ≡ mounted.now.header.sure + 1 }
+    requires books { AreNewBooks geom.now books }
+    requires weight { books.weight ≡ 0 }
+    requires cache { cache ≡ empty_cache cache.capacity }
+    ensures parts { AreNewParts geom.now mounted.now.slot mounted.now.header moment result }
+    ensures books { result.books ≡ books }
+{
+    StoreParts {
+        ring: Ring::new(geom),
+        pipeline: Pipeline::new(alloc, geom, &mounted.header, mounted.slot),
+        books,
+        cache,
+        mounted: moment,
+        first: mounted.header.start,
+        point: 0,
+        floor: 0,
+        stopped: false,
+    }
+}
