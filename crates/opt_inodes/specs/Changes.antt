@@ -1,13 +1,13 @@
 -- What the commands make of an inode map: which slots come, change and go, and which inodes. `m` is the map before, `new` the one after.
-use Rattle.std.specs.Prelude.{◌≡◌, ◌≢◌, ℕ, ◌-◌, ◌==◌, Bool, true, false, if◌then◌else◌, List, [], ◌∷◌, ◌++◌, set, slice_get, Option, None, Some, option_and_then}
+use Rattle.std.specs.Prelude.{◌≡◌, ◌≢◌, ◌⊎◌, ℕ, ◌-◌, ◌==◌, Bool, true, false, if◌then◌else◌, List, [], ◌∷◌, ◌++◌, set, slice_get, Option, None, Some, option_and_then}
 use Rattle.opt_layout.specs.declared.slot.Slot.{Slot}
 use Rattle.opt_dirent.specs.Directory.{place_of, without_at}
 use Rattle.opt_tree.specs.declared.command.Cmd.{Cmd}
 use Rattle.opt_tree.specs.declared.command.Cmd.TheVariants.{Read, Stat, List as ListNames, Osync, Dsync, Durable, Poll, Bad}
 use Rattle.opt_tree.specs.Tree.{Thing, Dir, File}
 use Rattle.opt_stands.specs.Files.{FileNode}
-use Rattle.opt_stands.specs.Inodes.{Inode, Inodes, ADir, AFile}
-use Rattle.opt_stands.specs.Walks.{node_in}
+use Rattle.opt_stands.specs.Inodes.{Inode, Inodes, ADir, AFile, AreDistinct}
+use Rattle.opt_stands.specs.Walks.{entries_of, node_in}
 use Rattle.opt_inodes.specs.Lookups.{slots_of}
 
 abbrev pub slot_of : ℕ → List ℕ → Slot
@@ -82,6 +82,48 @@ pub record MovesSlot (m new : Inodes) (from into node : ℕ) (name other : List 
   -- within one directory the slot goes from those with the new one; a slot that only changes its name so keeps its place
   pub within : from ≡ into → new from ≡ Some (ADir (without_at place (with_slot target (slot_of node other))))
   pub across : from ≢ into → (new from ≡ Some (ADir (without_at place slots))) × (new into ≡ Some (ADir (with_slot target (slot_of node other))))
+  pub left : (old : ℕ) → node_in target other ≡ Some old → new old ≡ option_and_then one_link_less (m old)
+  pub others : (k : ℕ) → k ≢ from → k ≢ into → node_in target other ≢ Some k → new k ≡ m k
+
+-- The same changes where names stand in any order: what is under each name is all that counts then.
+
+-- Directory k is one still, and no name comes twice there: x is under this name, and under each other one what was.
+pub record HasUnder (m new : Inodes) (k : ℕ) (name : List ℕ) (x : Option ℕ) : Type 0 where
+  pub slots : List Slot
+  pub dir : m k ≡ Some (ADir slots)
+  pub after : List Slot
+  pub now : new k ≡ Some (ADir after)
+  pub here : node_in after name ≡ x
+  pub others : (b : List ℕ) → b ≢ name → node_in after b ≡ node_in slots b
+  pub distinct : AreDistinct after
+
+-- A name came to directory `up` for a node, which became x.
+pub record AddsName (m new : Inodes) (up node : ℕ) (name : List ℕ) (x : Inode) : Type 0 where
+  pub under : HasUnder m new up name (Some node)
+  pub named : new node ≡ Some x
+  pub others : (k : ℕ) → k ≢ up → k ≢ node → new k ≡ m k
+
+-- A name of directory `up` went, and the node that was under it has one link less.
+pub record TakesName (m new : Inodes) (up node : ℕ) (name : List ℕ) : Type 0 where
+  pub under : HasUnder m new up name None
+  pub there : node_in under.slots name ≡ Some node
+  pub left : new node ≡ option_and_then one_link_less (m node)
+  pub others : (k : ℕ) → k ≢ up → k ≢ node → new k ≡ m k
+
+-- The name of a node in directory `from` went, and it is under a name of directory `into`, which may be the same directory. The node that was there has one link less.
+pub record MovesName (m new : Inodes) (from into node : ℕ) (name other : List ℕ) : Type 0 where
+  pub slots : List Slot
+  pub from_dir : m from ≡ Some (ADir slots)
+  pub there : node_in slots name ≡ Some node
+  pub target : List Slot
+  pub into_dir : m into ≡ Some (ADir target)
+  pub differ : node_in target other ≢ Some node
+  pub from_stays : (after : List Slot) × (new from ≡ Some (ADir after))
+  pub into_stays : (after : List Slot) × (new into ≡ Some (ADir after))
+  pub gone : entries_of new from name ≡ None
+  pub come : entries_of new into other ≡ Some node
+  pub same : (k : ℕ) (b : List ℕ) → (k ≡ from) ⊎ (k ≡ into) → ((k ≡ from) × (b ≡ name) → ⊥) → ((k ≡ into) × (b ≡ other) → ⊥) → entries_of new k b ≡ entries_of m k b
+  pub distinct : (k : ℕ) (after : List Slot) → (k ≡ from) ⊎ (k ≡ into) → new k ≡ Some (ADir after) → AreDistinct after
   pub left : (old : ℕ) → node_in target other ≡ Some old → new old ≡ option_and_then one_link_less (m old)
   pub others : (k : ℕ) → k ≢ from → k ≢ into → node_in target other ≢ Some k → new k ≡ m k
 

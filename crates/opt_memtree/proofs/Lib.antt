@@ -1,6 +1,6 @@
 pub mod keys
-pub mod fronts
-pub mod moving
 pub mod rows
-pub mod trees
+pub mod fronts
+pub mod maps
 pub mod outputs
+pub mod serving

@@ -1,5 +1,1 @@
-pub mod Fronts
-pub mod Stripping
-pub mod Prefixes
-pub mod Neighbours
 pub mod OneName

@@ -1,5 +1,3 @@
 pub mod Keys
 pub mod InOrder
 pub mod Copies
-pub mod Undo
-pub mod Counts

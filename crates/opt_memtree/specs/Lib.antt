@@ -1,2 +1,7 @@
 pub mod Code
+pub mod Kept
 pub mod Stored
+pub mod Changes
+pub mod Serving
+pub mod Trails
+pub mod Laws

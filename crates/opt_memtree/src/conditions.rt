@@ -1,19 +1,20 @@
 //! Why a command is refused: first the walks, and then the other conditions in the order of their
-//! numbers, one small function for each family of commands. Nothing here changes a tree or takes memory.
+//! numbers, one small function for each family of commands. Nothing here changes a node or takes memory.
 
-ghost use Rattle.std.specs.Prelude.{◌≡◌, ◌+◌, ◌&&◌, nat_lt};
-ghost use Rattle.opt_tree.specs.Names.{holds_names};
-ghost use Rattle.opt_tree.specs.Walk.{is_dir, thing_at};
-ghost use Rattle.opt_tree.specs.Conditions.{refusal, make_refusal, write_refusal, file_refusal, truncate_refusal, link_refusal, rmdir_refusal, onto_refusal, rename_refusal, list_refusal, is_too_large};
+ghost use Rattle.std.specs.Prelude.{◌≡◌, ◌+◌, ◌&&◌, nat_lt, Some, is_none, Option};
+ghost use Rattle.opt_tree.specs.Conditions.{is_too_large};
+ghost use Rattle.opt_inodes.specs.Lookups.{number_at};
+ghost use Rattle.opt_inodes.specs.Refusals.{reason, make_reason, write_reason, file_reason, truncate_reason, link_reason, rmdir_reason, onto_reason, rename_reason, walk_reason, list_reason};
+ghost use Rattle.opt_memtree.specs.Kept.{map_of};
 
-use crate::maps::TreeMaps;
+use crate::nodes::Nodes;
 use opt_base::limits::{LARGEST_FILE, MOST_LINKS};
 use opt_tree::{Cmd, Path, Refusal};
 
-impl TreeMaps {
-    /// Why the tree, with so many numbers at most, refuses the command.
+impl Nodes {
+    /// Why the command is refused, with so many numbers at most.
     pub(crate) fn refusal(&self, limit: u32, cmd: &Cmd) -> Option<Refusal>
-        ensures { result ≡ refusal limit self.now cmd.now }
+        ensures { result ≡ reason limit (map_of self.now) cmd.now }
     {
         match cmd {
             Cmd::Mkdir(path) => self.make_refusal(limit, path),
@@ -42,13 +43,12 @@ impl TreeMaps {
 
     /// A new node: the path isn't there, and a number is unused.
     fn make_refusal(&self, limit: u32, path: &Path) -> Option<Refusal>
-        ensures { result ≡ make_refusal limit self.now path.now }
+        ensures { result ≡ make_reason limit (map_of self.now) path.now }
     {
-        if let Some(why) = self.parent_refusal(path) {
-            return Some(why);
-        }
-        if self.is_there(path) {
-            return Some(Refusal::Exists);
+        match self.look(path.names()) {
+            Err(why) => return Some(why),
+            Ok(Some(_)) => return Some(Refusal::Exists),
+            Ok(None) => {}
         }
         if self.unused(limit).is_none() {
             return Some(Refusal::NoNode);
@@ -58,12 +58,13 @@ impl TreeMaps {
 
     /// So many bytes from `offset` on come into a file.
     fn write_refusal(&self, path: &Path, offset: u32, count: u64) -> Option<Refusal>
-        ensures { result ≡ write_refusal self.now path.now offset count }
+        ensures { result ≡ write_reason (map_of self.now) path.now offset count }
     {
-        if let Some(why) = self.walk_refusal(path) {
-            return Some(why);
-        }
-        if self.is_dir(path) {
+        let number = match self.walk(path.names()) {
+            Err(why) => return Some(why),
+            Ok(number) => number,
+        };
+        if self.is_dir(number) {
             return Some(Refusal::IsDir);
         }
         if grows_too_large(offset, count) {
@@ -74,12 +75,13 @@ impl TreeMaps {
 
     /// A file alone.
     fn file_refusal(&self, path: &Path) -> Option<Refusal>
-        ensures { result ≡ file_refusal self.now path.now }
+        ensures { result ≡ file_reason (map_of self.now) path.now }
     {
-        if let Some(why) = self.walk_refusal(path) {
-            return Some(why);
-        }
-        if self.is_dir(path) {
+        let number = match self.walk(path.names()) {
+            Err(why) => return Some(why),
+            Ok(number) => number,
+        };
+        if self.is_dir(number) {
             return Some(Refusal::IsDir);
         }
         None
@@ -87,12 +89,13 @@ impl TreeMaps {
 
     /// A file alone that may have this size.
     fn truncate_refusal(&self, path: &Path, size: u32) -> Option<Refusal>
-        ensures { result ≡ truncate_refusal self.now path.now size }
+        ensures { result ≡ truncate_reason (map_of self.now) path.now size }
     {
-        if let Some(why) = self.walk_refusal(path) {
-            return Some(why);
-        }
-        if self.is_dir(path) {
+        let number = match self.walk(path.names()) {
+            Err(why) => return Some(why),
+            Ok(number) => number,
+        };
+        if self.is_dir(number) {
             return Some(Refusal::IsDir);
         }
         if u64::from(size) > LARGEST_FILE {
@@ -103,21 +106,21 @@ impl TreeMaps {
 
     /// Another path of a file, which has so many paths at most.
     fn link_refusal(&self, path: &Path, other: &Path) -> Option<Refusal>
-        ensures { result ≡ link_refusal self.now path.now other.now }
+        ensures { result ≡ link_reason (map_of self.now) path.now other.now }
     {
-        if let Some(why) = self.walk_refusal(path) {
-            return Some(why);
+        let number = match self.walk(path.names()) {
+            Err(why) => return Some(why),
+            Ok(number) => number,
+        };
+        match self.look(other.names()) {
+            Err(why) => return Some(why),
+            Ok(Some(_)) => return Some(Refusal::Exists),
+            Ok(None) => {}
         }
-        if let Some(why) = self.parent_refusal(other) {
-            return Some(why);
-        }
-        if self.is_there(other) {
-            return Some(Refusal::Exists);
-        }
-        if self.is_dir(path) {
+        if self.is_dir(number) {
             return Some(Refusal::IsDir);
         }
-        if self.links(path) >= u64::from(MOST_LINKS) {
+        if self.links(number) >= u64::from(MOST_LINKS) {
             return Some(Refusal::TooManyLinks);
         }
         None
@@ -125,15 +128,16 @@ impl TreeMaps {
 
     /// An empty directory that isn't the root.
     fn rmdir_refusal(&self, path: &Path) -> Option<Refusal>
-        ensures { result ≡ rmdir_refusal self.now path.now }
+        ensures { result ≡ rmdir_reason (map_of self.now) path.now }
     {
-        if let Some(why) = self.walk_refusal(path) {
-            return Some(why);
-        }
-        if self.is_file(path) {
+        let number = match self.walk(path.names()) {
+            Err(why) => return Some(why),
+            Ok(number) => number,
+        };
+        if self.is_file(number) {
             return Some(Refusal::NotDir);
         }
-        if self.holds_names(path) {
+        if self.holds_names(number) {
             return Some(Refusal::NotEmpty);
         }
         if path.names().is_empty() {
@@ -142,56 +146,81 @@ impl TreeMaps {
         None
     }
 
-    /// Why what is at one path can't take the other one, which leads to another node or to none.
-    fn onto_refusal(&self, from: &Path, to: &Path) -> Option<Refusal>
-        ensures { result ≡ onto_refusal self.now from.now to.now }
+    /// A move; where both paths lead to one node, the walks alone can refuse it.
+    fn rename_refusal(&self, from: &Path, to: &Path) -> Option<Refusal>
+        ensures { result ≡ rename_reason (map_of self.now) from.now to.now }
     {
-        if self.is_dir(from) && self.is_file(to) {
-            return Some(Refusal::NotDir);
+        let number = match self.walk(from.names()) {
+            Err(why) => return Some(why),
+            Ok(number) => number,
+        };
+        let old = match self.look(to.names()) {
+            Err(why) => return Some(why),
+            Ok(old) => old,
+        };
+        match old {
+            None => self.below_refusal(from, to, number),
+            Some(old) => {
+                if number == old {
+                    return None;
+                }
+                self.onto_refusal(from, to, number, old)
+            }
         }
-        if self.is_file(from) && self.is_dir(to) {
-            return Some(Refusal::IsDir);
-        }
-        if self.is_dir(from) && self.is_full(to) {
-            return Some(Refusal::NotEmpty);
-        }
-        if self.is_dir(from) && to.is_below(from) {
+    }
+
+    /// Why the node at the first path can't come to the second one, which is free.
+    fn below_refusal(&self, from: &Path, to: &Path, number: u32) -> Option<Refusal>
+        requires first { number_at (map_of self.now) from.now ≡ Some number }
+        requires second { number_at (map_of self.now) to.now ≡ None }
+        ensures { result ≡ onto_reason (map_of self.now) from.now to.now }
+    {
+        if self.is_dir(number) && to.is_below(from) {
             return Some(Refusal::BelowItself);
         }
         None
     }
 
-    /// Whether a directory is at the path and holds names.
-    fn is_full(&self, path: &Path) -> bool
-        ensures { result ≡ (is_dir (thing_at self.now path.now) && holds_names self.now.names path.now) }
+    /// Why the node at the first path can't take the place of another one at the second path.
+    fn onto_refusal(&self, from: &Path, to: &Path, number: u32, old: u32) -> Option<Refusal>
+        requires first { number_at (map_of self.now) from.now ≡ Some number }
+        requires second { number_at (map_of self.now) to.now ≡ Some old }
+        ensures { result ≡ onto_reason (map_of self.now) from.now to.now }
     {
-        self.is_dir(path) && self.holds_names(path)
+        if self.is_dir(number) && self.is_file(old) {
+            return Some(Refusal::NotDir);
+        }
+        if self.is_file(number) && self.is_dir(old) {
+            return Some(Refusal::IsDir);
+        }
+        if self.is_dir(number) && self.is_dir(old) && self.holds_names(old) {
+            return Some(Refusal::NotEmpty);
+        }
+        if self.is_dir(number) && to.is_below(from) {
+            return Some(Refusal::BelowItself);
+        }
+        None
     }
 
-    /// A move; where both paths lead to one node, the walks alone can refuse it.
-    fn rename_refusal(&self, from: &Path, to: &Path) -> Option<Refusal>
-        ensures { result ≡ rename_refusal self.now from.now to.now }
+    /// A path that is there.
+    fn walk_refusal(&self, path: &Path) -> Option<Refusal>
+        ensures { result ≡ walk_reason (map_of self.now) path.now }
     {
-        if let Some(why) = self.walk_refusal(from) {
-            return Some(why);
+        match self.walk(path.names()) {
+            Err(why) => Some(why),
+            Ok(_) => None,
         }
-        if let Some(why) = self.parent_refusal(to) {
-            return Some(why);
-        }
-        if self.is_same_node(from, to) {
-            return None;
-        }
-        self.onto_refusal(from, to)
     }
 
     /// The names of a directory.
     fn list_refusal(&self, path: &Path) -> Option<Refusal>
-        ensures { result ≡ list_refusal self.now path.now }
+        ensures { result ≡ list_reason (map_of self.now) path.now }
     {
-        if let Some(why) = self.walk_refusal(path) {
-            return Some(why);
-        }
-        if self.is_file(path) {
+        let number = match self.walk(path.names()) {
+            Err(why) => return Some(why),
+            Ok(number) => number,
+        };
+        if self.is_file(number) {
             return Some(Refusal::NotDir);
         }
         None

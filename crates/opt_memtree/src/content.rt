@@ -2,37 +2,8 @@
 
 ghost use Rattle.std.specs.Prelude.{◌≡◌, ◌+◌, ◌^◌, ◌<◌, ◌≤◌, length, take, drop, replicate, vec_len, vec_capacity, OnOk, OnErr};
 ghost use Rattle.opt_tree.specs.Step.{written, resized};
-ghost use Rattle.opt_memtree.specs.Stored.{changed, end_of};
 
 use opt_base::NoMemory;
-
-/// A change of the bytes of a file.
-#[derive(Clone, Copy)]
-pub(crate) enum Edit<'a> {
-    /// Puts the bytes in from this offset on.
-    Write(usize, &'a [u8]),
-    /// Puts so many bytes of this value in: offset, count, byte.
-    Fill(usize, usize, u8),
-    /// Makes it so many bytes.
-    Resize(usize),
-}
-
-/// Changes the bytes. What a change doesn't put in and doesn't cut off is not touched.
-///
-/// # Errors
-/// Out of memory; then the bytes are as before.
-pub(crate) fn apply(bytes: &mut Vec<u8>, edit: Edit<'_>) -> Result<(), NoMemory>
-    requires { end_of edit < 2 ^ 62 }
-    ensures ok { OnOk result (bytes.new.items ≡ changed edit.entry bytes.old.items) }
-    ensures err { OnErr result (bytes.new.items ≡ bytes.old.items) }
-{
-    match edit {
-        Edit::Write(off, piece) => overwrite(bytes, off, piece)?,
-        Edit::Fill(off, count, byte) => fill(bytes, off, count, byte)?,
-        Edit::Resize(size) => resize(bytes, size)?,
-    }
-    Ok(())
-}
 
 /// The bytes from the offset on, as many as there are but no more than `count`.
 pub(crate) fn part(bytes: &[u8], off: usize, count: usize) -> &[u8]
@@ -48,8 +19,12 @@ pub(crate) fn part(bytes: &[u8], off: usize, count: usize) -> &[u8]
     &rest[..count]
 }
 
-/// Puts the piece into the bytes from the offset on, and zeros into a gap before it.
-fn overwrite(bytes: &mut Vec<u8>, off: usize, piece: &[u8]) -> Result<(), NoMemory>
+/// Puts the piece into the bytes from the offset on, and zeros into a gap before it. Other bytes are not
+/// touched.
+///
+/// # Errors
+/// Out of memory; then the bytes are as before.
+pub(crate) fn overwrite(bytes: &mut Vec<u8>, off: usize, piece: &[u8]) -> Result<(), NoMemory>
     requires { off + length piece.now < 2 ^ 62 }
     ensures ok { OnOk result (bytes.new.items ≡ written off piece.now bytes.old.items) }
     ensures err { OnErr result (bytes.new.items ≡ bytes.old.items) }
@@ -64,8 +39,12 @@ fn overwrite(bytes: &mut Vec<u8>, off: usize, piece: &[u8]) -> Result<(), NoMemo
     Ok(())
 }
 
-/// Puts so many bytes of one value in from the offset on, and zeros into a gap before them.
-fn fill(bytes: &mut Vec<u8>, off: usize, count: usize, byte: u8) -> Result<(), NoMemory>
+/// Puts so many bytes of one value in from the offset on, and zeros into a gap before them. Other bytes are
+/// not touched.
+///
+/// # Errors
+/// Out of memory; then the bytes are as before.
+pub(crate) fn fill(bytes: &mut Vec<u8>, off: usize, count: usize, byte: u8) -> Result<(), NoMemory>
     requires { off + count < 2 ^ 62 }
     ensures ok { OnOk result (bytes.new.items ≡ written off (replicate count byte) bytes.old.items) }
     ensures err { OnErr result (bytes.new.items ≡ bytes.old.items) }
@@ -93,11 +72,18 @@ fn end_at(bytes: &mut Vec<u8>, off: usize, end: usize) -> Result<(), NoMemory>
     Ok(())
 }
 
-/// Cuts the bytes off behind this size, or puts zeros behind them up to it.
-fn resize(bytes: &mut Vec<u8>, size: usize) -> Result<(), NoMemory>
+/// Cuts the bytes off behind this size, or puts zeros behind them up to it. Where most of them go, their
+/// memory goes back too.
+///
+/// # Errors
+/// Out of memory; then the bytes are as before.
+pub(crate) fn resize(bytes: &mut Vec<u8>, size: usize) -> Result<(), NoMemory>
     ensures ok { OnOk result (bytes.new.items ≡ resized size bytes.old.items) }
     ensures err { OnErr result (bytes.new.items ≡ bytes.old.items) }
 {
     bytes.resize(size, 0)?;
+    if size < bytes.capacity() / 2 {
+        bytes.shrink_to_fit();
+    }
     Ok(())
 }

@@ -2,106 +2,60 @@
 //! opt_figures counts from them. No block is known, and no loop goes over blocks or bytes. The rules are
 //! described in docs/TREE.md.
 
-ghost use Rattle.std.specs.Prelude.{◌≡◌, ◌==◌, ◌+◌, ◌≤◌, ◌<◌, ℕ, length, IfOk};
-ghost use Rattle.std.specs.FinMap.{get};
-ghost use Rattle.opt_tree.specs.Tree.{HasSmallFiles};
+ghost use Rattle.std.specs.Prelude.{◌≡◌, ◌==◌, ◌+◌, ◌≤◌, ◌<◌, ◌^◌, ℕ, None, length, if◌then◌else◌};
 ghost use Rattle.opt_tree.specs.Paths.{parent};
-ghost use Rattle.opt_tree.specs.Walk.{bytes_in, content, links};
-ghost use Rattle.opt_tree.specs.Conditions.{refusal};
+ghost use Rattle.opt_tree.specs.Walk.{are_same};
 ghost use Rattle.opt_tree.specs.Figures as spec;
+ghost use Rattle.opt_inodes.specs.Figures as from_inodes;
+ghost use Rattle.opt_inodes.specs.Lookups.{bytes_of, inode_at, number_at};
+ghost use Rattle.opt_inodes.specs.Refusals.{reason};
 ghost use Rattle.opt_figures.specs.Values.{value_of};
+ghost use Rattle.opt_memtree.specs.Kept.{map_of, AreSmall};
 
-use crate::maps::TreeMaps;
-use crate::nodes::Node;
-use opt_base::{Name, NoMemory};
+use crate::nodes::Nodes;
+use opt_base::Name;
 use opt_figures::{
     Figures, NOTHING, adding, blocks_for, growth, moving, release, removing, truncate_figures,
     write_figures,
 };
-use opt_tree::{Cmd, Path, Refusal, copy_names};
-use std::alloc::Global;
+use opt_tree::{Cmd, Path, Refusal};
 
-impl TreeMaps {
-    /// Need, cost and blocks freed of a command, where `why` is the tree's reason to refuse it.
-    ///
-    /// # Errors
-    /// Out of memory.
-    pub(crate) fn figures_by(
-        &self,
-        alloc: Global,
-        cmd: &Cmd,
-        bitmap: u32,
-        why: Option<Refusal>,
-    ) -> Result<(u32, u32, u32), NoMemory>
-        requires refusal { (limit : ℕ) × (refusal limit self.now cmd.now ≡ why) }
-        requires small { HasSmallFiles self.now.nodes }
-        ensures { IfOk result (λ f. spec.figures_by bitmap self.now cmd.now why ≡ record { need = f.0; cost = f.1; freed = f.2 }) }
+impl Nodes {
+    /// Need, cost and blocks freed of a command, where `why` is the reason to refuse it.
+    pub(crate) fn figures_by(&self, cmd: &Cmd, bitmap: u32, why: Option<Refusal>) -> Figures
+        requires refusal { (limit : ℕ) × (reason limit (map_of self.now) cmd.now ≡ why) }
+        requires small { AreSmall (map_of self.now) }
+        ensures { from_inodes.cost_by bitmap (map_of self.now) cmd.now why ≡ value_of result }
     {
         match why {
-            Some(_) => Ok((0, 0, 0)),
-            None => {
-                let figures = self.accepted_figures(alloc, cmd, bitmap)?;
-                Ok(figures)
-            }
+            Some(_) => NOTHING,
+            None => self.accepted_figures(cmd, bitmap),
         }
     }
 
-    /// Need, cost and blocks freed of a command that the tree doesn't refuse.
-    ///
-    /// # Errors
-    /// Out of memory.
-    fn accepted_figures(
-        &self,
-        alloc: Global,
-        cmd: &Cmd,
-        bitmap: u32,
-    ) -> Result<(u32, u32, u32), NoMemory>
-        requires accepted { (limit : ℕ) × (refusal limit self.now cmd.now ≡ None) }
-        requires small { HasSmallFiles self.now.nodes }
-        ensures { IfOk result (λ f. spec.accepted_figures bitmap self.now cmd.now ≡ record { need = f.0; cost = f.1; freed = f.2 }) }
-    {
-        let figures = self.accepted(alloc, cmd, bitmap)?;
-        Ok((figures.need, figures.cost, figures.freed))
-    }
-
-    /// The figures of a command that the tree doesn't refuse.
-    fn accepted(&self, alloc: Global, cmd: &Cmd, bitmap: u32) -> Result<Figures, NoMemory>
-        requires accepted { (limit : ℕ) × (refusal limit self.now cmd.now ≡ None) }
-        requires small { HasSmallFiles self.now.nodes }
-        ensures { IfOk result (λ f. spec.accepted_figures bitmap self.now cmd.now ≡ value_of f) }
+    /// The figures of a command that nothing refuses.
+    fn accepted_figures(&self, cmd: &Cmd, bitmap: u32) -> Figures
+        requires accepted { (limit : ℕ) × (reason limit (map_of self.now) cmd.now ≡ None) }
+        requires small { AreSmall (map_of self.now) }
+        ensures { from_inodes.accepted_cost bitmap (map_of self.now) cmd.now ≡ value_of result }
     {
         match cmd {
             Cmd::Mkdir(path) | Cmd::Create(path) | Cmd::Link(_, path) => {
-                let held = self.siblings(alloc, path)?;
-                Ok(adding(growth(held)))
+                adding(growth(self.siblings(path)))
             }
-            Cmd::Unlink(path) => {
-                let held = self.siblings(alloc, path)?;
-                Ok(removing(bitmap, release(held) + self.blocks_gone(path)))
-            }
-            Cmd::Rmdir(path) => {
-                let held = self.siblings(alloc, path)?;
-                Ok(removing(bitmap, release(held)))
-            }
-            Cmd::Rename(from, to) => {
-                if self.is_same_node(from, to) {
-                    return Ok(NOTHING);
-                }
-                let figures = self.move_figures(alloc, from, to, bitmap)?;
-                Ok(figures)
-            }
+            Cmd::Unlink(path) => removing(
+                bitmap,
+                release(self.siblings(path)) + self.blocks_lost(path),
+            ),
+            Cmd::Rmdir(path) => removing(bitmap, release(self.siblings(path))),
+            Cmd::Rename(from, to) => self.rename_figures(from, to, bitmap),
             Cmd::Write(path, offset, bytes) => {
-                let size = self.size_at(path);
-                Ok(write_figures(bitmap, size, *offset, bytes.len() as u32))
+                write_figures(bitmap, self.size_at(path), *offset, bytes.len() as u32)
             }
             Cmd::Fill(path, offset, count, _) => {
-                let size = self.size_at(path);
-                Ok(write_figures(bitmap, size, *offset, *count))
+                write_figures(bitmap, self.size_at(path), *offset, *count)
             }
-            Cmd::Truncate(path, size) => {
-                let old = self.size_at(path);
-                Ok(truncate_figures(bitmap, old, *size))
-            }
+            Cmd::Truncate(path, size) => truncate_figures(bitmap, self.size_at(path), *size),
             Cmd::Read(..)
             | Cmd::Stat(_)
             | Cmd::List(_)
@@ -109,70 +63,60 @@ impl TreeMaps {
             | Cmd::Dsync
             | Cmd::Durable
             | Cmd::Poll
-            | Cmd::Bad => Ok(NOTHING),
+            | Cmd::Bad => NOTHING,
         }
     }
 
-    /// The figures of a move that isn't within one node.
-    fn move_figures(
-        &self,
-        alloc: Global,
-        from: &Path,
-        to: &Path,
-        bitmap: u32,
-    ) -> Result<Figures, NoMemory>
-        requires small { HasSmallFiles self.now.nodes }
-        ensures { IfOk result (λ f. spec.move_figures bitmap self.now from.now to.now ≡ value_of f) }
+    /// The figures of a move.
+    fn rename_figures(&self, from: &Path, to: &Path, bitmap: u32) -> Figures
+        requires small { AreSmall (map_of self.now) }
+        ensures { (if are_same (number_at (map_of self.now) from.now) (number_at (map_of self.now) to.now) then spec.nothing else from_inodes.move_cost bitmap (map_of self.now) from.now to.now) ≡ value_of result }
     {
-        let source = self.siblings(alloc, from)?;
-        if self.find(to.names()).is_some() {
-            let freed = release(source) + self.blocks_gone(to);
-            return Ok(moving(bitmap, 0, freed));
+        let old = self.find(to.names());
+        if old.is_some() && old == self.find(from.names()) {
+            return NOTHING;
+        }
+        let source = self.siblings(from);
+        if old.is_some() {
+            return moving(bitmap, 0, release(source) + self.blocks_lost(to));
         }
         if are_in_one(from, to) {
-            return Ok(moving(bitmap, 0, 0));
+            return moving(bitmap, 0, 0);
         }
-        let target = self.siblings(alloc, to)?;
-        Ok(moving(bitmap, growth(target), release(source)))
+        moving(bitmap, growth(self.siblings(to)), release(source))
     }
 
     /// How many names the directory above the path holds.
-    ///
-    /// # Errors
-    /// Out of memory.
-    fn siblings(&self, alloc: Global, path: &Path) -> Result<u64, NoMemory>
-        ensures { IfOk result (λ held. held ≡ spec.siblings self.now.names path.now) }
+    fn siblings(&self, path: &Path) -> u64
+        ensures { result ≡ from_inodes.slots_above (map_of self.now) path.now }
     {
-        let directory = Path::from_names(copy_names(alloc, above(path))?);
-        Ok(self.name_count(&directory))
+        match self.find(above(path)) {
+            None => 0,
+            Some(directory) => self.held(directory),
+        }
     }
 
     /// The blocks that go with the path, where it is the last one of a file.
-    fn blocks_gone(&self, path: &Path) -> u32
-        requires small { HasSmallFiles self.now.nodes }
-        ensures value { result ≡ spec.blocks_gone self.now path.now }
+    fn blocks_lost(&self, path: &Path) -> u32
+        requires small { AreSmall (map_of self.now) }
+        ensures value { result ≡ from_inodes.blocks_lost (map_of self.now) path.now }
         ensures bound { result ≤ 1048576 }
     {
-        if self.is_last(path) {
-            return blocks_for(self.size_at(path));
-        }
-        0
-    }
-
-    /// Whether the path is there and no other one leads to its node.
-    fn is_last(&self, path: &Path) -> bool
-        ensures { result ≡ (links self.now path.now == 1) }
-    {
         match self.find(path.names()) {
-            Some(number) => self.count(number) == 1,
-            None => false,
+            None => 0,
+            Some(number) => {
+                if self.links(number) == 1 {
+                    return blocks_for(self.size_of(number));
+                }
+                0
+            }
         }
     }
 
     /// How many bytes the file at the path has; none where no file is there.
     fn size_at(&self, path: &Path) -> u32
-        requires small { HasSmallFiles self.now.nodes }
-        ensures value { result ≡ length (content self.now path.now) }
+        requires small { AreSmall (map_of self.now) }
+        ensures value { result ≡ length (bytes_of (inode_at (map_of self.now) path.now)) }
         ensures bound { result ≤ 1073741824 }
     {
         match self.find(path.names()) {
@@ -183,15 +127,11 @@ impl TreeMaps {
 
     /// How many bytes the file with this number has; none where it is no file.
     fn size_of(&self, number: u32) -> u32
-        requires small { HasSmallFiles self.now.nodes }
-        ensures value { result ≡ length (bytes_in (get self.now.nodes number)) }
+        requires small { AreSmall (map_of self.now) }
+        ensures value { result ≡ length (bytes_of (map_of self.now number)) }
         ensures bound { result ≤ 1073741824 }
     {
-        match self.at(number) {
-            Some(Node::File(bytes)) => bytes.len() as u32,
-            Some(Node::Dir) => 0,
-            None => 0,
-        }
+        self.bytes(number).len() as u32
     }
 }
 

@@ -2,16 +2,14 @@
 //! writes its listing, and is copied and compared. It knows no block, no disk and no text of a script.
 #![tactic(auto)]
 
-mod below;
 mod conditions;
 mod content;
-mod counts;
+mod directory;
 mod effects;
 mod figures;
+mod laws;
 mod listing;
-mod maps;
-mod moves;
-mod names;
+mod node;
 mod nodes;
 mod plain;
 mod replies;

@@ -2,63 +2,106 @@
 //! memory. It neither buffers over pieces of a line nor tries again after a fault: what was taken by then
 //! stays taken. How the line of a path reads is the definition `line_of`.
 
-ghost use Rattle.std.specs.Prelude.{ℕ, ◌≤◌, ◌∷◌, ◌++◌, length, take, codes, decimal, Some, OnErr, OnOk, option_map};
+ghost use Rattle.std.specs.Prelude.{◌≡◌, ℕ, ◌≤◌, ◌∷◌, ◌++◌, length, take, codes, decimal, Some, OnErr, OnOk, option_map};
 ghost use Rattle.std.specs.Io.KnownBytes.{Appends};
 ghost use Rattle.hex.specs.Hex.{encode_lower};
 ghost use Rattle.opt_base.specs.Counts.{HasCause};
 ghost use Rattle.opt_tree.specs.Tree.{Dir, File};
-ghost use Rattle.opt_tree.specs.Listing.{path_text, digits_behind_blank, line_of, listing};
-ghost use Rattle.opt_memtree.specs.Stored.{thing};
+ghost use Rattle.opt_tree.specs.Listing.{slashed, path_text, digits_behind_blank, line_of, listing};
+ghost use Rattle.opt_stands.specs.Inodes.{thing_of};
+ghost use Rattle.opt_stands.specs.Maps.{IsMapOf};
+ghost use Rattle.opt_stands.specs.Walks.{LeadsTo};
+ghost use Rattle.opt_inodes.specs.Listing.{lines_below};
+ghost use Rattle.opt_memtree.specs.Kept.{map_of, tree_of, inode_of};
+ghost use Rattle.opt_memtree.specs.Stored.{kept};
+ghost use Rattle.opt_memtree.specs.Trails.{path_on};
 
-use crate::maps::TreeMaps;
-use crate::nodes::Node;
+use crate::node::Node;
+use crate::nodes::Nodes;
 use itoa::Buffer;
 use opt_base::Name;
+use opt_base::limits::ROOT;
+use opt_inodes::a_listing_goes_down;
 use opt_io::{Sink, SinkFault, prefixes_join, push_all};
 
 /// How many bytes of a file are written as digits at a time.
 const CHUNK: usize = 512;
 
-impl TreeMaps {
+impl Nodes {
     /// Writes the listing of the tree.
     ///
     /// # Errors
     /// The first fault of the sink, which by then took a prefix of the listing and nothing else.
     pub(crate) fn write_listing<K: Sink>(&self, out: &mut K) -> Result<(), SinkFault>
-        ensures all { OnOk result (Appends (K.taken out.old) (K.taken out.new) (listing self.now)) }
-        ensures front { OnErr result ((n : ℕ) × Appends (K.taken out.old) (K.taken out.new) (take n (listing self.now))) }
+        requires { (limit : ℕ) × IsMapOf limit (map_of self.now) (tree_of self.now) }
+        ensures all { OnOk result (Appends (K.taken out.old) (K.taken out.new) (listing (tree_of self.now))) }
+        ensures front { OnErr result ((n : ℕ) × Appends (K.taken out.old) (K.taken out.new) (take n (listing (tree_of self.now)))) }
         ensures cause { HasCause result (K.faults out.old) (K.faults out.new) }
     {
-        prefixes_join();
-        for (path, number) in self.entries() {
-            write_line(out, path.as_slice(), *number, self.at(*number))?;
-        }
+        a_listing_goes_down();
+        write_below(out, self, &Trail::Root, ROOT)?;
         Ok(())
+    }
+}
+
+/// The names from the root down to a path, each behind the ones before it.
+#[derive(Drop)]
+enum Trail<'a> {
+    Root,
+    Below(&'a Trail<'a>, &'a Name),
+}
+
+// Writes the lines at and below the path, where the number is.
+fn write_below<'x, K: Sink>(
+    out: &mut K,
+    nodes: &'x Nodes,
+    path: &'x Trail<'x>,
+    number: u32,
+) -> Result<(), SinkFault>
+    requires map { (limit : ℕ) × IsMapOf limit (map_of nodes.now) (tree_of nodes.now) }
+    requires leads { LeadsTo (map_of nodes.now) (path_on path.now) number }
+    ensures all { OnOk result (Appends (K.taken out.old) (K.taken out.new) (lines_below (tree_of nodes.now) (path_on path.now))) }
+    ensures front { OnErr result ((n : ℕ) × Appends (K.taken out.old) (K.taken out.new) (take n (lines_below (tree_of nodes.now) (path_on path.now)))) }
+    ensures cause { HasCause result (K.faults out.old) (K.faults out.new) }
+{
+    prefixes_join();
+    a_listing_goes_down();
+    let node = nodes.at(number);
+    write_line(out, path, number, node)?;
+    match node {
+        None => Ok(()),
+        Some(Node::File(_, _)) => Ok(()),
+        Some(Node::Dir(names)) => {
+            for (name, below) in names.entries() {
+                write_below(out, nodes, &Trail::Below(path, name), *below)?;
+            }
+            Ok(())
+        }
     }
 }
 
 // Writes the line of a path, and nothing where no node has its number.
 fn write_line<K: Sink>(
     out: &mut K,
-    path: &[Name],
+    path: &Trail<'_>,
     number: u32,
     node: Option<&Node>,
 ) -> Result<(), SinkFault>
-    ensures all { OnOk result (Appends (K.taken out.old) (K.taken out.new) (line_of path.now number (option_map (λ node. thing node.now) node.entry))) }
-    ensures front { OnErr result ((n : ℕ) × Appends (K.taken out.old) (K.taken out.new) (take n (line_of path.now number (option_map (λ node. thing node.now) node.entry)))) }
+    ensures all { OnOk result (Appends (K.taken out.old) (K.taken out.new) (line_of (path_on path.now) number (option_map (λ node. thing_of (inode_of (kept node.now))) node.entry))) }
+    ensures front { OnErr result ((n : ℕ) × Appends (K.taken out.old) (K.taken out.new) (take n (line_of (path_on path.now) number (option_map (λ node. thing_of (inode_of (kept node.now))) node.entry)))) }
     ensures cause { HasCause result (K.faults out.old) (K.faults out.new) }
 {
     match node {
         None => {}
-        Some(Node::Dir) => write_dir(out, path, number)?,
-        Some(Node::File(bytes)) => write_file(out, path, number, bytes.as_slice())?,
+        Some(Node::Dir(_)) => write_dir(out, path, number)?,
+        Some(Node::File(_, bytes)) => write_file(out, path, number, bytes.as_slice())?,
     }
     Ok(())
 }
 
-fn write_dir<K: Sink>(out: &mut K, path: &[Name], number: u32) -> Result<(), SinkFault>
-    ensures all { OnOk result (Appends (K.taken out.old) (K.taken out.new) (line_of path.now number (Some Dir))) }
-    ensures front { OnErr result ((n : ℕ) × Appends (K.taken out.old) (K.taken out.new) (take n (line_of path.now number (Some Dir)))) }
+fn write_dir<K: Sink>(out: &mut K, path: &Trail<'_>, number: u32) -> Result<(), SinkFault>
+    ensures all { OnOk result (Appends (K.taken out.old) (K.taken out.new) (line_of (path_on path.now) number (Some Dir))) }
+    ensures front { OnErr result ((n : ℕ) × Appends (K.taken out.old) (K.taken out.new) (take n (line_of (path_on path.now) number (Some Dir)))) }
     ensures cause { HasCause result (K.faults out.old) (K.faults out.new) }
 {
     prefixes_join();
@@ -69,12 +112,12 @@ fn write_dir<K: Sink>(out: &mut K, path: &[Name], number: u32) -> Result<(), Sin
 
 fn write_file<K: Sink>(
     out: &mut K,
-    path: &[Name],
+    path: &Trail<'_>,
     number: u32,
     bytes: &[u8],
 ) -> Result<(), SinkFault>
-    ensures all { OnOk result (Appends (K.taken out.old) (K.taken out.new) (line_of path.now number (Some (File bytes.now)))) }
-    ensures front { OnErr result ((n : ℕ) × Appends (K.taken out.old) (K.taken out.new) (take n (line_of path.now number (Some (File bytes.now))))) }
+    ensures all { OnOk result (Appends (K.taken out.old) (K.taken out.new) (line_of (path_on path.now) number (Some (File bytes.now)))) }
+    ensures front { OnErr result ((n : ℕ) × Appends (K.taken out.old) (K.taken out.new) (take n (line_of (path_on path.now) number (Some (File bytes.now))))) }
     ensures cause { HasCause result (K.faults out.old) (K.faults out.new) }
 {
     prefixes_join();
@@ -90,11 +133,11 @@ fn write_file<K: Sink>(
 fn write_head<K: Sink>(
     out: &mut K,
     kind: &[u8],
-    path: &[Name],
+    path: &Trail<'_>,
     number: u32,
 ) -> Result<(), SinkFault>
-    ensures all { OnOk result (Appends (K.taken out.old) (K.taken out.new) (kind.now ++ path_text path.now ++ codes " " ++ decimal number)) }
-    ensures front { OnErr result ((n : ℕ) × Appends (K.taken out.old) (K.taken out.new) (take n (kind.now ++ path_text path.now ++ codes " " ++ decimal number))) }
+    ensures all { OnOk result (Appends (K.taken out.old) (K.taken out.new) (kind.now ++ path_text (path_on path.now) ++ codes " " ++ decimal number)) }
+    ensures front { OnErr result ((n : ℕ) × Appends (K.taken out.old) (K.taken out.new) (take n (kind.now ++ path_text (path_on path.now) ++ codes " " ++ decimal number))) }
     ensures cause { HasCause result (K.faults out.old) (K.faults out.new) }
 {
     prefixes_join();
@@ -114,18 +157,30 @@ fn write_number<K: Sink>(out: &mut K, number: u64) -> Result<(), SinkFault>
     Ok(())
 }
 
-fn write_path<K: Sink>(out: &mut K, path: &[Name]) -> Result<(), SinkFault>
-    ensures all { OnOk result (Appends (K.taken out.old) (K.taken out.new) (path_text path.now)) }
-    ensures front { OnErr result ((n : ℕ) × Appends (K.taken out.old) (K.taken out.new) (take n (path_text path.now))) }
+fn write_path<K: Sink>(out: &mut K, path: &Trail<'_>) -> Result<(), SinkFault>
+    ensures all { OnOk result (Appends (K.taken out.old) (K.taken out.new) (path_text (path_on path.now))) }
+    ensures front { OnErr result ((n : ℕ) × Appends (K.taken out.old) (K.taken out.new) (take n (path_text (path_on path.now)))) }
     ensures cause { HasCause result (K.faults out.old) (K.faults out.new) }
 {
-    if path.is_empty() {
-        push_all(out, b"/")?;
-        return Ok(());
+    match path {
+        Trail::Root => push_all(out, b"/"),
+        Trail::Below(_, _) => write_names(out, path),
     }
+}
+
+// Writes a slash and the name for each name from the root down.
+fn write_names<K: Sink>(out: &mut K, path: &Trail<'_>) -> Result<(), SinkFault>
+    ensures all { OnOk result (Appends (K.taken out.old) (K.taken out.new) (slashed (path_on path.now))) }
+    ensures front { OnErr result ((n : ℕ) × Appends (K.taken out.old) (K.taken out.new) (take n (slashed (path_on path.now)))) }
+    ensures cause { HasCause result (K.faults out.old) (K.faults out.new) }
+{
     prefixes_join();
-    for name in path {
-        write_name(out, name)?;
+    match path {
+        Trail::Root => {}
+        Trail::Below(up, name) => {
+            write_names(out, up)?;
+            write_name(out, name)?;
+        }
     }
     Ok(())
 }

@@ -1,33 +1,20 @@
-//! The nodes of a tree, the directories and the files with their bytes, and which numbers are unused.
-//! They lie in a row by their numbers, so that a number is found at once. Contracts see them as a finite
-//! map from numbers to nodes. Paths are changed together with nodes only where being out of
-//! memory would else leave half a change.
+//! The nodes of a tree, the directories with their names and the files with their links and bytes, and which
+//! numbers are unused. They lie in a row by their numbers, so that a number is found at once. Contracts see
+//! them as a finite map from numbers to nodes. Which of them make a tree is not said here.
 
 ghost use Rattle.std.specs.Prelude.{◌≡◌, ℕ, ◌+◌, ◌^◌, ◌<◌, ◌≤◌, ◌↔◌, false, true, None, Some, length, replicate, is_some, IsTrue, IfSome, IfNone, IfOk, OnOk, OnErr, option_map, nat_le, if◌then◌else◌};
 ghost use Rattle.std.specs.FinMap.{get, insert, remove, empty};
-ghost use Rattle.opt_tree.specs.Tree.{Dir};
-ghost use Rattle.opt_tree.specs.Paths.{is_within};
-ghost use Rattle.opt_tree.specs.Names.{holds_names, renamed};
-ghost use Rattle.opt_tree.specs.Walk.{is_dir};
-ghost use Rattle.opt_tree.specs.Conditions.{least_unused};
-ghost use Rattle.opt_tree.specs.Step.{written, resized, edited_node};
-ghost use Rattle.opt_memtree.specs.Stored.{thing, things, nodes_of, place, thing_in, is_gap, changed, end_of, with_change};
+ghost use Rattle.opt_inodes.specs.Lookups.{least_free};
+ghost use Rattle.opt_memtree.specs.Kept.{KeptDir, map_of, changed_at, without_link};
+ghost use Rattle.opt_memtree.specs.Stored.{kept, things, nodes_of, place, thing_in, is_gap, grown, settled, end_of};
 
-use crate::content::{self, Edit};
-use crate::names::Names;
+use crate::directory::Directory;
+use crate::node::{Growth, Node, Settling, copied, grow, is_same, settle};
 use opt_base::NoMemory;
-use opt_tree::Path;
 use std::alloc::Global;
 use std::cmp;
 use std::collections::BTreeSet;
 use std::marker::Model;
-
-/// A node.
-#[derive(Drop)]
-pub(crate) enum Node {
-    Dir,
-    File(Vec<u8>),
-}
 
 /// The nodes by their numbers, from 1 on, and the numbers of the empty places.
 #[derive(Drop)]
@@ -42,13 +29,12 @@ impl Model for Nodes {
     ghost use Rattle.std.specs.FinMap.{FinMap};
     ghost use Rattle.std.specs.Coded.{coded_ℕ};
     ghost use Rattle.std.specs.Ordering.{nat_cmp};
-    ghost use Rattle.opt_tree.specs.Tree.{Thing};
-    ghost use Rattle.opt_memtree.specs.Code.{coded_thing};
+    ghost use Rattle.opt_memtree.specs.Kept.{Kept, coded_kept};
     ghost use Rattle.opt_memtree.specs.Stored.{nodes_of, things, AreUnused};
 
-    ghost Value = { FinMap nat_cmp Thing };
+    ghost Value = { FinMap nat_cmp Kept };
 
-    ghost coded = { finite.code coded_ℕ coded_thing };
+    ghost coded = { finite.code coded_ℕ coded_kept };
 
     ghost view = { λ n. nodes_of n.row.items };
 
@@ -56,22 +42,22 @@ impl Model for Nodes {
 }
 
 impl Nodes {
-    /// The root directory alone, with number 1.
+    /// The root directory alone, without names and with number 1.
     ///
     /// # Errors
     /// Out of memory.
     pub(crate) fn new(alloc: Global) -> Result<Nodes, NoMemory>
-        ensures { IfOk result (λ nodes. nodes ≡ insert empty 1 Dir) }
+        ensures { IfOk result (λ nodes. nodes ≡ insert empty 1 (KeptDir empty)) }
     {
         let mut row = Vec::new(alloc);
-        row.push(Some(Node::Dir))?;
+        row.push(Some(Node::Dir(Directory::new(alloc))))?;
         let unused = BTreeSet::new(alloc);
         Ok(Nodes { row, unused })
     }
 
     /// The least number up to the limit that no node has.
     pub(crate) fn unused(&self, limit: u32) -> Option<u32>
-        ensures { result ≡ least_unused limit self.now }
+        ensures { result ≡ least_free limit (map_of self.now) }
     {
         if let Some(number) = self.unused.first() {
             return up_to(limit, *number);
@@ -81,20 +67,9 @@ impl Nodes {
 
     /// The node with the number.
     pub(crate) fn at(&self, number: u32) -> Option<&Node>
-        ensures { option_map (λ node. thing node.now) result ≡ get self.now number }
+        ensures { option_map (λ node. kept node.now) result ≡ get self.now number }
     {
         node_at(self.row.as_slice(), number)
-    }
-
-    /// Whether the number is that of a directory.
-    pub(crate) fn is_dir(&self, number: u32) -> bool
-        ensures { result ≡ is_dir (get self.now number) }
-    {
-        match self.at(number) {
-            Some(Node::Dir) => true,
-            Some(Node::File(_)) => false,
-            None => false,
-        }
     }
 
     /// Puts a node under the least unused number.
@@ -102,8 +77,8 @@ impl Nodes {
     /// # Errors
     /// Out of memory; then all is as before.
     pub(crate) fn add(&mut self, number: u32, limit: u32, node: Node) -> Result<(), NoMemory>
-        requires { least_unused limit self.old ≡ Some number }
-        ensures ok { OnOk result (self.new ≡ insert self.old number (thing node)) }
+        requires { least_free limit (map_of self.old) ≡ Some number }
+        ensures ok { OnOk result (self.new ≡ insert self.old number (kept node)) }
         ensures err { OnErr result (self.new ≡ self.old) }
     {
         let index = (number - 1) as usize;
@@ -132,49 +107,41 @@ impl Nodes {
         Ok(())
     }
 
-    /// Puts the bytes into the file from this offset on; a directory stays as it is.
+    /// Takes a link from the node, where there is one; with its last link it goes, and a directory has one.
     ///
     /// # Errors
     /// Out of memory; then all is as before.
-    pub(crate) fn write(&mut self, number: u32, off: usize, piece: &[u8]) -> Result<(), NoMemory>
-        requires { off + length piece.now < 2 ^ 62 }
-        ensures ok { OnOk result (self.new ≡ edited_node self.old number (written off piece.now)) }
+    pub(crate) fn unlink(&mut self, number: u32) -> Result<(), NoMemory>
+        ensures ok { OnOk result (self.new ≡ without_link self.old number) }
         ensures err { OnErr result (self.new ≡ self.old) }
     {
-        edit_at(&mut self.row, number, Edit::Write(off, piece))?;
+        match self.at(number) {
+            None => {}
+            Some(Node::Dir(_)) => self.remove(number)?,
+            Some(Node::File(1, _)) => self.remove(number)?,
+            Some(Node::File(_, _)) => self.settle(number, Settling::Unlink),
+        }
         Ok(())
     }
 
-    /// Puts so many bytes of this value into the file from this offset on; a directory stays as it is.
+    /// Makes the change of the node.
     ///
     /// # Errors
     /// Out of memory; then all is as before.
-    pub(crate) fn fill(
-        &mut self,
-        number: u32,
-        off: usize,
-        count: usize,
-        byte: u8,
-    ) -> Result<(), NoMemory>
-        requires { off + count < 2 ^ 62 }
-        ensures ok { OnOk result (self.new ≡ edited_node self.old number (written off (replicate count byte))) }
+    pub(crate) fn grow(&mut self, number: u32, change: Growth<'_>) -> Result<(), NoMemory>
+        requires { end_of change < 2 ^ 62 }
+        ensures ok { OnOk result (self.new ≡ changed_at self.old number (grown change.entry)) }
         ensures err { OnErr result (self.new ≡ self.old) }
     {
-        edit_at(&mut self.row, number, Edit::Fill(off, count, byte))?;
+        grow_at(&mut self.row, number, change)?;
         Ok(())
     }
 
-    /// Makes the file so many bytes long; a directory stays as it is.
-    ///
-    /// # Errors
-    /// Out of memory; then all is as before.
-    pub(crate) fn resize(&mut self, number: u32, size: usize) -> Result<(), NoMemory>
-        requires { size < 2 ^ 62 }
-        ensures ok { OnOk result (self.new ≡ edited_node self.old number (resized size)) }
-        ensures err { OnErr result (self.new ≡ self.old) }
+    /// Makes the change of the node. This takes no memory.
+    pub(crate) fn settle(&mut self, number: u32, change: Settling<'_>)
+        ensures { self.new ≡ changed_at self.old number (settled change.entry) }
     {
-        edit_at(&mut self.row, number, Edit::Resize(size))?;
-        Ok(())
+        settle_at(&mut self.row, number, change);
     }
 
     /// The same nodes once more.
@@ -184,7 +151,7 @@ impl Nodes {
     pub(crate) fn copy(&self, alloc: Global) -> Result<Nodes, NoMemory>
         ensures { IfOk result (λ copy. copy ≡ self.now) }
     {
-        let row = copied(alloc, self.row.as_slice())?;
+        let row = copied_row(alloc, self.row.as_slice())?;
         let unused = self.unused.clone()?;
         Ok(Nodes { row, unused })
     }
@@ -195,38 +162,6 @@ impl Nodes {
     {
         are_same(self.row.as_slice(), other.row.as_slice())
     }
-}
-
-/// Moves the paths, and takes out the node that was at the second path, which no path leads to then.
-///
-/// # Errors
-/// Out of memory; then all is as before.
-pub(crate) fn move_onto(
-    alloc: Global,
-    names: &mut Names,
-    nodes: &mut Nodes,
-    from: &Path,
-    to: &Path,
-    number: u32,
-) -> Result<(), NoMemory>
-    requires there { is_some (get names.old from.now) ≡ true }
-    requires free { holds_names names.old to.now ≡ false }
-    requires apart { is_within from.now to.now ≡ false }
-    ensures names { OnOk result (names.new ≡ renamed (remove names.old to.now) from.now to.now) }
-    ensures nodes { OnOk result (nodes.new ≡ remove nodes.old number) }
-    ensures err { OnErr result ((names.new ≡ names.old) × (nodes.new ≡ nodes.old)) }
-{
-    let Some(index) = used_index(nodes.row.as_slice(), number) else {
-        names.rename(alloc, from, to)?;
-        return Ok(());
-    };
-    nodes.unused.insert(number)?;
-    if let Err(error) = names.rename(alloc, from, to) {
-        nodes.unused.remove(&number);
-        return Err(error);
-    }
-    nodes.row[index] = None;
-    Ok(())
 }
 
 /// The number, where it is no greater than the limit.
@@ -246,7 +181,7 @@ fn next_number(row: &[Option<Node>]) -> Option<u32>
 
 /// The node with this number in a row whose first place has number 1.
 fn node_at(row: &[Option<Node>], number: u32) -> Option<&Node>
-    ensures { option_map (λ node. thing node.now) result ≡ thing_in (things row.now) number }
+    ensures { option_map (λ node. kept node.now) result ≡ thing_in (things row.now) number }
 {
     let index = number.checked_sub(1)?;
     stands_at(row, index as usize)
@@ -254,7 +189,7 @@ fn node_at(row: &[Option<Node>], number: u32) -> Option<&Node>
 
 /// The node at this index.
 fn stands_at(row: &[Option<Node>], index: usize) -> Option<&Node>
-    ensures { option_map (λ node. thing node.now) result ≡ thing_in (things row.now) (index + 1) }
+    ensures { option_map (λ node. kept node.now) result ≡ thing_in (things row.now) (index + 1) }
 {
     row.get(index)?.as_ref()
 }
@@ -268,36 +203,54 @@ fn used_index(row: &[Option<Node>], number: u32) -> Option<usize>
     Some((number - 1) as usize)
 }
 
-/// Changes the bytes of the file with this number, in a row whose first place has number 1.
-fn edit_at(row: &mut Vec<Option<Node>>, number: u32, edit: Edit<'_>) -> Result<(), NoMemory>
-    requires { end_of edit < 2 ^ 62 }
-    ensures ok { OnOk result (nodes_of row.new.items ≡ edited_node (nodes_of row.old.items) number (changed edit.entry)) }
+/// Changes the node with this number, in a row whose first place has number 1.
+fn grow_at(row: &mut Vec<Option<Node>>, number: u32, change: Growth<'_>) -> Result<(), NoMemory>
+    requires { end_of change < 2 ^ 62 }
+    ensures ok { OnOk result (nodes_of row.new.items ≡ changed_at (nodes_of row.old.items) number (grown change.entry)) }
     ensures unused { OnOk result ((n : ℕ) → is_gap (place (things row.new.items) n) ≡ is_gap (place (things row.old.items) n)) }
     ensures err { OnErr result (things row.new.items ≡ things row.old.items) }
 {
     let Some(index) = used_index(row.as_slice(), number) else {
         return Ok(());
     };
-    edit_in(&mut row[index], edit)?;
+    grow_in(&mut row[index], change)?;
     Ok(())
 }
 
-/// Changes the bytes, where it is a file.
-fn edit_in(place: &mut Option<Node>, edit: Edit<'_>) -> Result<(), NoMemory>
-    requires { end_of edit < 2 ^ 62 }
-    ensures ok { OnOk result (option_map thing place.new ≡ option_map (with_change (changed edit.entry)) (option_map thing place.old)) }
-    ensures err { OnErr result (option_map thing place.new ≡ option_map thing place.old) }
+/// Changes what is at a place of the row.
+fn grow_in(place: &mut Option<Node>, change: Growth<'_>) -> Result<(), NoMemory>
+    requires { end_of change < 2 ^ 62 }
+    ensures ok { OnOk result (option_map kept place.new ≡ option_map (grown change.entry) (option_map kept place.old)) }
+    ensures err { OnErr result (option_map kept place.new ≡ option_map kept place.old) }
 {
-    match place {
-        Some(Node::File(bytes)) => content::apply(bytes, edit)?,
-        Some(Node::Dir) => {}
-        None => {}
+    if let Some(node) = place {
+        grow(node, change)?;
     }
     Ok(())
 }
 
+/// Changes the node with this number, in a row whose first place has number 1.
+fn settle_at(row: &mut Vec<Option<Node>>, number: u32, change: Settling<'_>)
+    ensures nodes { nodes_of row.new.items ≡ changed_at (nodes_of row.old.items) number (settled change.entry) }
+    ensures unused { (n : ℕ) → is_gap (place (things row.new.items) n) ≡ is_gap (place (things row.old.items) n) }
+{
+    let Some(index) = used_index(row.as_slice(), number) else {
+        return;
+    };
+    settle_in(&mut row[index], change);
+}
+
+/// Changes what is at a place of the row.
+fn settle_in(place: &mut Option<Node>, change: Settling<'_>)
+    ensures { option_map kept place.new ≡ option_map (settled change.entry) (option_map kept place.old) }
+{
+    if let Some(node) = place {
+        settle(node, change);
+    }
+}
+
 /// The same row once more.
-fn copied(alloc: Global, row: &[Option<Node>]) -> Result<Vec<Option<Node>>, NoMemory>
+fn copied_row(alloc: Global, row: &[Option<Node>]) -> Result<Vec<Option<Node>>, NoMemory>
     ensures { IfOk result (λ copy. things copy.items ≡ things row.now) }
 {
     let mut copy = Vec::with_capacity(alloc, row.len())?;
@@ -308,13 +261,12 @@ fn copied(alloc: Global, row: &[Option<Node>]) -> Result<Vec<Option<Node>>, NoMe
 }
 
 fn copied_place(alloc: Global, place: &Option<Node>) -> Result<Option<Node>, NoMemory>
-    ensures { IfOk result (λ copy. option_map thing copy ≡ option_map thing place.now) }
+    ensures { IfOk result (λ copy. option_map kept copy ≡ option_map kept place.now) }
 {
     match place {
-        Some(Node::Dir) => Ok(Some(Node::Dir)),
-        Some(Node::File(bytes)) => {
-            let bytes = Vec::from_slice(alloc, bytes.as_slice())?;
-            Ok(Some(Node::File(bytes)))
+        Some(node) => {
+            let node = copied(alloc, node)?;
+            Ok(Some(node))
         }
         None => Ok(None),
     }
@@ -325,22 +277,19 @@ fn are_same(left: &[Option<Node>], right: &[Option<Node>]) -> bool
     ensures { IsTrue result ↔ (nodes_of left.now ≡ nodes_of right.now) }
 {
     for index in 0..cmp::max(left.len(), right.len()) {
-        if !is_same(stands_at(left, index), stands_at(right, index)) {
+        if !stand_same(stands_at(left, index), stands_at(right, index)) {
             return false;
         }
     }
     true
 }
 
-fn is_same(left: Option<&Node>, right: Option<&Node>) -> bool
-    ensures { IsTrue result ↔ (option_map (λ node. thing node.now) left.entry ≡ option_map (λ node. thing node.now) right.entry) }
+fn stand_same(left: Option<&Node>, right: Option<&Node>) -> bool
+    ensures { IsTrue result ↔ (option_map (λ node. kept node.now) left.entry ≡ option_map (λ node. kept node.now) right.entry) }
 {
     match (left, right) {
-        (Some(Node::Dir), Some(Node::Dir)) => true,
-        (Some(Node::File(left)), Some(Node::File(right))) => left.as_slice() == right.as_slice(),
+        (Some(left), Some(right)) => is_same(left, right),
         (None, None) => true,
-        (Some(Node::Dir), Some(Node::File(_))) => false,
-        (Some(Node::File(_)), Some(Node::Dir)) => false,
         (Some(_), None) => false,
         (None, Some(_)) => false,
     }

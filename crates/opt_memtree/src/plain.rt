@@ -10,10 +10,12 @@ ghost use Rattle.opt_tree.specs.Run.{Answers, is_of_memory};
 ghost use Rattle.opt_tree.specs.Figures.{figures};
 ghost use Rattle.opt_tree.specs.Listing.{listing};
 
+use crate::laws::the_maps_are_lawful;
 use crate::state::State;
 use opt_base::NoMemory;
+use opt_inodes::the_map_gives_the_figures;
 use opt_io::{Sink, SinkFault};
-use opt_tree::{Cmd, Refusal, Reply, commands_keep_a_tree_sound, files_stay_small};
+use opt_tree::{Cmd, Refusal, Reply};
 use std::alloc::Global;
 use std::marker::Model;
 
@@ -25,17 +27,17 @@ pub struct PlainTree {
 }
 
 impl Model for PlainTree {
-    ghost use Rattle.opt_tree.specs.Tree.{IsSound, HasSmallFiles};
     ghost use Rattle.opt_tree.specs.Step.{Session};
     ghost use Rattle.opt_memtree.specs.Code.{coded_session};
+    ghost use Rattle.opt_memtree.specs.Serving.{session_of, IsKept};
 
     ghost Value = { Session };
 
     ghost coded = { coded_session };
 
-    ghost view = { λ t. t.state };
+    ghost view = { λ t. session_of t.state };
 
-    ghost invariant = { λ t. IsSound t.state.limit t.state.tree × HasSmallFiles t.state.tree.nodes };
+    ghost invariant = { λ t. IsKept t.state };
 }
 
 impl PlainTree {
@@ -49,8 +51,7 @@ impl PlainTree {
         ensures sound { IfOk result (λ tree. IsSound tree.limit tree.tree) }
         ensures small { IfOk result (λ tree. HasSmallFiles tree.tree.nodes) }
     {
-        commands_keep_a_tree_sound();
-        files_stay_small();
+        the_maps_are_lawful();
         let state = State::new(alloc, nodes)?;
         Ok(PlainTree { state })
     }
@@ -61,8 +62,7 @@ impl PlainTree {
         ensures sound { IsSound self.new.limit self.new.tree }
         ensures small { HasSmallFiles self.new.tree.nodes }
     {
-        commands_keep_a_tree_sound();
-        files_stay_small();
+        the_maps_are_lawful();
         match self.state.answer(alloc, cmd) {
             Ok(reply) => reply,
             Err(NoMemory) => Reply::Refused(Refusal::NoMemory),
@@ -78,16 +78,17 @@ impl PlainTree {
     /// Out of memory.
     pub fn figures_of(
         &self,
-        alloc: Global,
+        _alloc: Global,
         cmd: &Cmd,
         bitmap_blocks: u32,
     ) -> Result<(u32, u32, u32), NoMemory>
         ensures { IfOk result (λ f. figures bitmap_blocks self.now cmd.now ≡ record { need = f.0; cost = f.1; freed = f.2 }) }
     {
-        let why = self.state.refusal(cmd);
-        let tree = &self.state.tree;
-        let figures = tree.figures_by(alloc, cmd, bitmap_blocks, why)?;
-        Ok(figures)
+        the_map_gives_the_figures();
+        let nodes = &self.state.nodes;
+        let why = nodes.refusal(self.state.limit, cmd);
+        let figures = nodes.figures_by(cmd, bitmap_blocks, why);
+        Ok((figures.need, figures.cost, figures.freed))
     }
 
     /// Writes a line for each path, the paths ascending: its kind, its number, and of a file its size and
@@ -100,8 +101,7 @@ impl PlainTree {
         ensures front { OnErr result ((n : ℕ) × Appends (K.taken out.old) (K.taken out.new) (take n (listing self.now.tree))) }
         ensures cause { HasCause result (K.faults out.old) (K.faults out.new) }
     {
-        self.state.tree.write_listing(out)?;
-        Ok(())
+        self.state.nodes.write_listing(out)
     }
 
     /// A copy of this tree, with the same limit and the same sync points, and changed since where this
@@ -122,6 +122,6 @@ impl PlainTree {
     pub fn equal(&self, other: &PlainTree) -> bool
         ensures { IsTrue result ↔ (self.now.tree ≡ other.now.tree) }
     {
-        self.state.is_same_tree(&other.state)
+        self.state.nodes.is_same(&other.state.nodes)
     }
 }

@@ -1,53 +1,46 @@
-//! The tree in memory behind its public type: it answers each command as the definition `step` says,
-//! and where no memory is found it stays as it was. What single commands do is in the modules
-//! `effects` and `replies`, and why they are refused in `conditions`.
+//! The nodes with what belongs to a session, behind the public type: each command is answered, and where no
+//! memory is found all stays as it was. What single commands do to the nodes is in the module `effects`, what
+//! they reply in `replies`, and why they are refused in `conditions`.
 
-ghost use Rattle.std.specs.Prelude.{◌≡◌, ◌≤◌, ◌↔◌, None, IsTrue, IfOk, OnErr};
-ghost use Rattle.opt_tree.specs.Tree.{IsSound};
-ghost use Rattle.opt_tree.specs.Conditions.{refusal};
-ghost use Rattle.opt_tree.specs.Step.{start, step, accepted, osync, dsync};
+ghost use Rattle.std.specs.Prelude.{◌≡◌, ◌<◌, ◌+◌, ◌^◌, None, IfOk, OnErr, length, replicate};
+ghost use Rattle.opt_tree.specs.declared.command.Reply.TheVariants.{Synced, DurableAt};
+ghost use Rattle.opt_inodes.specs.Lookups.{number_at};
+ghost use Rattle.opt_inodes.specs.Refusals.{reason};
+ghost use Rattle.opt_memtree.specs.Changes.{made, linked, removed, moved};
+ghost use Rattle.opt_memtree.specs.Kept.{map_of};
+ghost use Rattle.opt_memtree.specs.Serving.{served, accepted, changed_to, write, truncate, rename_by, synced, waited, first_state};
+ghost use Rattle.opt_memtree.specs.Stored.{kept};
 
-use crate::maps::TreeMaps;
-use crate::nodes::Node;
+use crate::directory::Directory;
+use crate::node::{Growth, Node};
+use crate::nodes::Nodes;
 use opt_base::NoMemory;
-use opt_tree::{Cmd, Refusal, Reply};
+use opt_tree::{Cmd, Path, Refusal, Reply};
 use std::alloc::Global;
-use std::marker::Model;
 
-/// The tree with what belongs to it, of which no contract says yet that it is sound.
+/// The nodes of a tree with the greatest number that they may have, and the session's sync points.
 #[derive(Drop)]
 pub(crate) struct State {
-    pub(crate) tree: TreeMaps,
+    pub(crate) nodes: Nodes,
     pub(crate) limit: u32,
     pub(crate) points: u64,
     pub(crate) changed: bool,
     pub(crate) durable: u64,
 }
 
-impl Model for State {
-    ghost use Rattle.opt_tree.specs.Step.{Session};
-    ghost use Rattle.opt_memtree.specs.Code.{coded_session};
-
-    ghost Value = { Session };
-
-    ghost coded = { coded_session };
-
-    ghost view = { λ t. record { tree = t.tree; limit = t.limit; points = t.points; changed = t.changed; durable = t.durable } };
-}
-
 impl State {
-    /// The tree of the root alone, with at most so many nodes.
+    /// The root alone, with at most so many nodes.
     ///
     /// # Errors
     /// Out of memory.
     pub(crate) fn new(alloc: Global, nodes: u32) -> Result<State, NoMemory>
-        requires { 1 ≤ nodes }
-        ensures { IfOk result (λ state. state ≡ start nodes) }
+        ensures { IfOk result (λ state. state ≡ first_state nodes) }
     {
-        let tree = TreeMaps::new(alloc)?;
+        let limit = nodes;
+        let nodes = Nodes::new(alloc)?;
         Ok(State {
-            tree,
-            limit: nodes,
+            nodes,
+            limit,
             points: 0,
             changed: false,
             durable: 0,
@@ -61,9 +54,9 @@ impl State {
     pub(crate) fn copy(&self, alloc: Global) -> Result<State, NoMemory>
         ensures { IfOk result (λ copy. copy ≡ self.now) }
     {
-        let tree = self.tree.copy(alloc)?;
+        let nodes = self.nodes.copy(alloc)?;
         Ok(State {
-            tree,
+            nodes,
             limit: self.limit,
             points: self.points,
             changed: self.changed,
@@ -71,57 +64,39 @@ impl State {
         })
     }
 
-    /// Whether both have the same paths with the same numbers, and the same nodes. It stops at the first
-    /// difference.
-    pub(crate) fn is_same_tree(&self, other: &State) -> bool
-        ensures { IsTrue result ↔ (self.now.tree ≡ other.now.tree) }
-    {
-        self.tree.is_same(&other.tree)
-    }
-
     /// Answers the command.
     ///
     /// # Errors
     /// Out of memory; then all is as before.
     pub(crate) fn answer(&mut self, alloc: Global, cmd: &Cmd) -> Result<Reply, NoMemory>
-        requires { IsSound self.old.limit self.old.tree }
-        ensures ok { IfOk result (λ reply. step self.old cmd.now ≡ (self.new, reply)) }
+        ensures ok { IfOk result (λ reply. served self.old cmd.now ≡ (self.new, reply)) }
         ensures err { OnErr result (self.new ≡ self.old) }
     {
-        if let Some(why) = self.refusal(cmd) {
+        if let Some(why) = self.nodes.refusal(self.limit, cmd) {
             return Ok(Reply::Refused(why));
         }
-        let reply = self.accept(alloc, cmd)?;
-        Ok(reply)
-    }
-
-    /// Why the command is refused.
-    pub(crate) fn refusal(&self, cmd: &Cmd) -> Option<Refusal>
-        ensures { result ≡ refusal self.now.limit self.now.tree cmd.now }
-    {
-        self.tree.refusal(self.limit, cmd)
+        self.accept(alloc, cmd)
     }
 
     /// Does a command that nothing refuses.
     fn accept(&mut self, alloc: Global, cmd: &Cmd) -> Result<Reply, NoMemory>
-        requires sound { IsSound self.old.limit self.old.tree }
-        requires free { refusal self.old.limit self.old.tree cmd.now ≡ None }
+        requires { reason self.old.limit (map_of self.old.nodes) cmd.now ≡ None }
         ensures ok { IfOk result (λ reply. accepted self.old cmd.now ≡ (self.new, reply)) }
         ensures err { OnErr result (self.new ≡ self.old) }
     {
         match cmd {
-            Cmd::Mkdir(path) => self.make(alloc, path, Node::Dir),
-            Cmd::Create(path) => self.make(alloc, path, Node::File(Vec::new(alloc))),
+            Cmd::Mkdir(path) => self.make(path, Node::Dir(Directory::new(alloc))),
+            Cmd::Create(path) => self.make(path, Node::File(1, Vec::new(alloc))),
             Cmd::Write(path, offset, bytes) => self.write(path, *offset, bytes.as_slice()),
             Cmd::Fill(path, offset, count, byte) => self.fill(path, *offset, *count, *byte),
-            Cmd::Read(path, offset, count) => self.read(alloc, path, *offset, *count),
+            Cmd::Read(path, offset, count) => self.nodes.read(alloc, path, *offset, *count),
             Cmd::Truncate(path, size) => self.truncate(path, *size),
-            Cmd::Link(path, other) => self.link(alloc, path, other),
+            Cmd::Link(path, other) => self.link(path, other),
             Cmd::Unlink(path) => self.remove(path),
             Cmd::Rmdir(path) => self.remove(path),
-            Cmd::Rename(from, to) => self.rename(alloc, from, to),
-            Cmd::Stat(path) => Ok(self.stat(path)),
-            Cmd::List(path) => self.list(alloc, path),
+            Cmd::Rename(from, to) => self.rename(from, to),
+            Cmd::Stat(path) => Ok(self.nodes.stat(path)),
+            Cmd::List(path) => self.nodes.list(alloc, path),
             Cmd::Osync => Ok(self.osync()),
             Cmd::Dsync => Ok(self.dsync()),
             Cmd::Durable => Ok(Reply::Known(self.durable)),
@@ -130,9 +105,94 @@ impl State {
         }
     }
 
+    /// Mkdir and create: a new node at the path.
+    fn make(&mut self, path: &Path, node: Node) -> Result<Reply, NoMemory>
+        requires { number_at (map_of self.old.nodes) path.now ≡ None }
+        ensures ok { IfOk result (λ reply. changed_to self.old (made self.old.limit self.old.nodes path.now (kept node)) ≡ (self.new, reply)) }
+        ensures err { OnErr result (self.new ≡ self.old) }
+    {
+        self.nodes.make(self.limit, path, node)?;
+        self.changed = true;
+        Ok(Reply::Ok)
+    }
+
+    /// Write: the bytes are in the file from `offset` on.
+    fn write(&mut self, path: &Path, offset: u32, bytes: &[u8]) -> Result<Reply, NoMemory>
+        requires { offset + length bytes.now < 2 ^ 62 }
+        ensures ok { IfOk result (λ reply. write self.old path.now offset bytes.now ≡ (self.new, reply)) }
+        ensures err { OnErr result (self.new ≡ self.old) }
+    {
+        if bytes.is_empty() {
+            return Ok(Reply::Ok);
+        }
+        self.nodes
+            .edit(path, Growth::Write(offset as usize, bytes))?;
+        self.changed = true;
+        Ok(Reply::Ok)
+    }
+
+    /// Fill: so many bytes of this value are in the file from `offset` on.
+    fn fill(&mut self, path: &Path, offset: u32, count: u32, byte: u8) -> Result<Reply, NoMemory>
+        ensures ok { IfOk result (λ reply. write self.old path.now offset (replicate count byte) ≡ (self.new, reply)) }
+        ensures err { OnErr result (self.new ≡ self.old) }
+    {
+        if count == 0 {
+            return Ok(Reply::Ok);
+        }
+        let fill = Growth::Fill(offset as usize, count as usize, byte);
+        self.nodes.edit(path, fill)?;
+        self.changed = true;
+        Ok(Reply::Ok)
+    }
+
+    /// Truncate: the file is so many bytes long.
+    fn truncate(&mut self, path: &Path, size: u32) -> Result<Reply, NoMemory>
+        ensures ok { IfOk result (λ reply. truncate self.old path.now size ≡ (self.new, reply)) }
+        ensures err { OnErr result (self.new ≡ self.old) }
+    {
+        if size as usize == self.nodes.content(path).len() {
+            return Ok(Reply::Ok);
+        }
+        self.nodes.edit(path, Growth::Resize(size as usize))?;
+        self.changed = true;
+        Ok(Reply::Ok)
+    }
+
+    /// Link: the second path leads to the node at the first one too.
+    fn link(&mut self, path: &Path, other: &Path) -> Result<Reply, NoMemory>
+        ensures ok { IfOk result (λ reply. changed_to self.old (linked self.old.nodes path.now other.now) ≡ (self.new, reply)) }
+        ensures err { OnErr result (self.new ≡ self.old) }
+    {
+        self.nodes.link(path, other)?;
+        self.changed = true;
+        Ok(Reply::Ok)
+    }
+
+    /// Unlink and rmdir: the path is gone, and its node too where it was the last one.
+    fn remove(&mut self, path: &Path) -> Result<Reply, NoMemory>
+        ensures ok { IfOk result (λ reply. changed_to self.old (removed self.old.nodes path.now) ≡ (self.new, reply)) }
+        ensures err { OnErr result (self.new ≡ self.old) }
+    {
+        self.nodes.remove_path(path)?;
+        self.changed = true;
+        Ok(Reply::Ok)
+    }
+
+    /// Rename: what was at `to` goes, and what is at `from` comes there with all below it.
+    fn rename(&mut self, from: &Path, to: &Path) -> Result<Reply, NoMemory>
+        ensures ok { IfOk result (λ reply. rename_by self.old (moved self.old.nodes from.now to.now) ≡ (self.new, reply)) }
+        ensures err { OnErr result (self.new ≡ self.old) }
+    {
+        if self.nodes.rename(from, to)? {
+            self.changed = true;
+        }
+        Ok(Reply::Ok)
+    }
+
     /// Makes a sync point, where something changed since the last one.
     fn osync(&mut self) -> Reply
-        ensures { osync self.old self.old.changed ≡ (self.new, result) }
+        ensures state { self.new ≡ synced self.old self.old.changed }
+        ensures reply { result ≡ Synced self.new.points }
     {
         if self.changed {
             self.points = self.points.saturating_add(1);
@@ -143,7 +203,8 @@ impl State {
 
     /// Makes a sync point too, where something changed, and promises the last one: memory has it at once.
     fn dsync(&mut self) -> Reply
-        ensures { dsync self.old self.old.changed ≡ (self.new, result) }
+        ensures state { self.new ≡ waited (synced self.old self.old.changed) }
+        ensures reply { result ≡ DurableAt self.new.points }
     {
         self.osync();
         self.durable = self.points;

@@ -1,27 +1,115 @@
-//! The walk from the root, name by name, and what is at a path. Nothing here changes a tree or takes
-//! memory. Why commands are refused is in the module `conditions`.
+//! The walk from the root, name by name, and what is under a number or at a path. Nothing here changes a
+//! node or takes memory. Why commands are refused is in the module `conditions`.
 
-ghost use Rattle.std.specs.Prelude.{◌≡◌, option_map};
-ghost use Rattle.opt_memtree.specs.Stored.{thing};
-ghost use Rattle.opt_tree.specs.Walk.{walk, walk_refusal, parent_refusal, thing_at, is_there, is_dir, is_file, content, is_same_node, links};
+ghost use Rattle.std.specs.Prelude.{◌≡◌, ◌<◌, ◌^◌, ℕ, length, IfOk, IfErr, OnErr, Some, None, option_map};
+ghost use Rattle.opt_tree.specs.Paths.{parent};
+ghost use Rattle.opt_inodes.specs.Lookups.{walk_on, number_at, is_dir_inode, is_file_inode, has_slots, links_in, bytes_of, slots_of, inode_at};
+ghost use Rattle.opt_inodes.specs.Names.{names_of};
+ghost use Rattle.opt_inodes.specs.Refusals.{parent_reason};
+ghost use Rattle.opt_stands.specs.Walks.{entry_in};
+ghost use Rattle.opt_memtree.specs.Kept.{map_of, split, spot_at};
 
-use crate::maps::TreeMaps;
-use crate::nodes::Node;
-use opt_base::Name;
+use crate::node::Node;
+use crate::nodes::Nodes;
 use opt_base::limits::ROOT;
+use opt_base::{Name, NoMemory};
 use opt_tree::{Path, Refusal};
+use std::alloc::Global;
 
-impl TreeMaps {
+impl Nodes {
+    /// The number under a name of a directory; none where the number is that of no directory.
+    pub(crate) fn entry(&self, directory: u32, name: &Name) -> Option<u32>
+        ensures { result ≡ entry_in (map_of self.now directory) name.now }
+    {
+        match self.at(directory) {
+            Some(Node::Dir(names)) => names.get(name),
+            Some(Node::File(_, _)) => None,
+            None => None,
+        }
+    }
+
+    /// Whether the number is that of a directory.
+    pub(crate) fn is_dir(&self, number: u32) -> bool
+        ensures { result ≡ is_dir_inode (map_of self.now number) }
+    {
+        match self.at(number) {
+            Some(Node::Dir(_)) => true,
+            Some(Node::File(_, _)) => false,
+            None => false,
+        }
+    }
+
+    /// Whether the number is that of a file.
+    pub(crate) fn is_file(&self, number: u32) -> bool
+        ensures { result ≡ is_file_inode (map_of self.now number) }
+    {
+        match self.at(number) {
+            Some(Node::Dir(_)) => false,
+            Some(Node::File(_, _)) => true,
+            None => false,
+        }
+    }
+
+    /// Whether the number is that of a directory that holds names.
+    pub(crate) fn holds_names(&self, number: u32) -> bool
+        ensures { result ≡ has_slots (map_of self.now number) }
+    {
+        self.held(number) > 0
+    }
+
+    /// How many names the directory with this number holds; none where it is no directory.
+    pub(crate) fn held(&self, number: u32) -> u64
+        ensures value { result ≡ length (slots_of (map_of self.now number)) }
+        ensures bound { result < 2 ^ 57 }
+    {
+        match self.at(number) {
+            Some(Node::Dir(names)) => names.len(),
+            Some(Node::File(_, _)) => 0,
+            None => 0,
+        }
+    }
+
+    /// How many names lead to the number: one to a directory, and none to a number that isn't used.
+    pub(crate) fn links(&self, number: u32) -> u64
+        ensures { result ≡ links_in (map_of self.now number) }
+    {
+        match self.at(number) {
+            Some(Node::Dir(_)) => 1,
+            Some(Node::File(links, _)) => *links,
+            None => 0,
+        }
+    }
+
+    /// The bytes of the file with this number; none where it is no file.
+    pub(crate) fn bytes(&self, number: u32) -> &[u8]
+        ensures { result.now ≡ bytes_of (map_of self.now number) }
+    {
+        match self.at(number) {
+            Some(Node::Dir(_)) => &[],
+            Some(Node::File(_, bytes)) => bytes.as_slice(),
+            None => &[],
+        }
+    }
+
     /// The number that the path leads to, or what the walk meets in its way.
-    fn walk(&self, path: &[Name]) -> Result<u32, Refusal>
-        ensures { result ≡ walk self.now path.now }
+    pub(crate) fn walk(&self, path: &[Name]) -> Result<u32, Refusal>
+        ensures walk { result ≡ walk_on (map_of self.now) 1 path.now }
+        ensures ok { IfOk result (λ number. number_at (map_of self.now) path.now ≡ Some number) }
+        ensures err { OnErr result (number_at (map_of self.now) path.now ≡ None) }
+    {
+        self.follow(path)
+    }
+
+    /// The walk by the names of the path, one after the other.
+    fn follow(&self, path: &[Name]) -> Result<u32, Refusal>
+        ensures { result ≡ walk_on (map_of self.now) 1 path.now }
     {
         let mut number = ROOT;
-        for depth in 0..path.len() {
-            if !self.has_dir(number) {
+        for name in path {
+            if !self.is_dir(number) {
                 return Err(Refusal::NotDir);
             }
-            match self.find(&path[..depth + 1]) {
+            match self.entry(number, name) {
                 None => return Err(Refusal::NotFound),
                 Some(next) => number = next,
             }
@@ -29,105 +117,79 @@ impl TreeMaps {
         Ok(number)
     }
 
-    /// Why the walk doesn't come to its end.
-    pub(crate) fn walk_refusal(&self, path: &Path) -> Option<Refusal>
-        ensures { result ≡ walk_refusal self.now path.now }
+    /// The number at the path, where it is there.
+    pub(crate) fn find(&self, path: &[Name]) -> Option<u32>
+        ensures { result ≡ number_at (map_of self.now) path.now }
     {
-        match self.walk(path.names()) {
-            Err(why) => Some(why),
-            Ok(_) => None,
-        }
+        self.walk(path).ok()
     }
 
-    /// Why the path can't come to be there.
-    pub(crate) fn parent_refusal(&self, path: &Path) -> Option<Refusal>
-        ensures { result ≡ parent_refusal self.now path.now }
-    {
-        let path = path.names();
-        if path.is_empty() {
-            return None;
-        }
-        let number = match self.walk(&path[..path.len() - 1]) {
-            Err(why) => return Some(why),
-            Ok(number) => number,
-        };
-        if self.has_dir(number) {
-            None
-        } else {
-            Some(Refusal::NotDir)
-        }
-    }
-
-    /// The node at the path.
-    fn thing_at(&self, path: &Path) -> Option<&Node>
-        ensures { option_map (λ node. thing node.now) result ≡ thing_at self.now path.now }
-    {
-        match self.find(path.names()) {
-            None => None,
-            Some(number) => self.at(number),
-        }
-    }
-
-    /// Whether something is there at the path.
-    pub(crate) fn is_there(&self, path: &Path) -> bool
-        ensures { result ≡ is_there self.now path.now }
-    {
-        self.find(path.names()).is_some()
-    }
-
-    /// Whether a directory is at the path.
-    pub(crate) fn is_dir(&self, path: &Path) -> bool
-        ensures { result ≡ is_dir (thing_at self.now path.now) }
-    {
-        match self.thing_at(path) {
-            Some(Node::Dir) => true,
-            Some(Node::File(_)) => false,
-            None => false,
-        }
-    }
-
-    /// Whether a file is at the path.
-    pub(crate) fn is_file(&self, path: &Path) -> bool
-        ensures { result ≡ is_file (thing_at self.now path.now) }
-    {
-        match self.thing_at(path) {
-            Some(Node::Dir) => false,
-            Some(Node::File(_)) => true,
-            None => false,
-        }
-    }
-
-    /// The bytes of the file at the path; none where there is no file.
+    /// The bytes of the file at the path; none where no file is there.
     pub(crate) fn content(&self, path: &Path) -> &[u8]
-        ensures { result.now ≡ content self.now path.now }
+        ensures { result.now ≡ bytes_of (inode_at (map_of self.now) path.now) }
     {
-        match self.thing_at(path) {
-            Some(Node::Dir) => &[],
-            Some(Node::File(bytes)) => bytes.as_slice(),
+        match self.find(path.names()) {
             None => &[],
+            Some(number) => self.bytes(number),
         }
     }
 
-    /// Whether both paths are there and lead to one node.
-    pub(crate) fn is_same_node(&self, path: &Path, other: &Path) -> bool
-        ensures { result ≡ is_same_node self.now path.now other.now }
+    /// The names of the directory with this number, in order; none where it is no directory.
+    ///
+    /// # Errors
+    /// Out of memory.
+    pub(crate) fn names(&self, alloc: Global, number: u32) -> Result<Vec<Name>, NoMemory>
+        ensures { IfOk result (λ names. names.items ≡ names_of (slots_of (map_of self.now number))) }
     {
-        match self.find(path.names()) {
-            None => false,
-            Some(number) => match self.find(other.names()) {
-                None => false,
-                Some(second) => number == second,
-            },
+        match self.at(number) {
+            Some(Node::Dir(names)) => {
+                let names = names.names(alloc)?;
+                Ok(names)
+            }
+            Some(Node::File(_, _)) => Ok(Vec::new(alloc)),
+            None => Ok(Vec::new(alloc)),
         }
     }
 
-    /// How many paths lead to the node at the path.
-    pub(crate) fn links(&self, path: &Path) -> u64
-        ensures { result ≡ links self.now path.now }
+    /// The names of the directory at the path, in order; none where no directory is there.
+    ///
+    /// # Errors
+    /// Out of memory.
+    pub(crate) fn names_at(&self, alloc: Global, path: &Path) -> Result<Vec<Name>, NoMemory>
+        ensures { IfOk result (λ names. names.items ≡ names_of (slots_of (inode_at (map_of self.now) path.now))) }
     {
         match self.find(path.names()) {
-            None => 0,
-            Some(number) => self.count(number),
+            None => Ok(Vec::new(alloc)),
+            Some(number) => {
+                let names = self.names(alloc, number)?;
+                Ok(names)
+            }
         }
+    }
+
+    /// The number at the path, where it is there; or why the path can't come to be there. The root has no
+    /// walk.
+    pub(crate) fn look(&self, path: &[Name]) -> Result<Option<u32>, Refusal>
+        ensures ok { IfOk result (λ found. (parent_reason (map_of self.now) path.now ≡ None) × (number_at (map_of self.now) path.now ≡ found)) }
+        ensures err { IfErr result (λ why. parent_reason (map_of self.now) path.now ≡ Some why) }
+    {
+        let Some((name, up)) = path.split_last() else {
+            return Ok(Some(ROOT));
+        };
+        let directory = self.walk(up)?;
+        if !self.is_dir(directory) {
+            return Err(Refusal::NotDir);
+        }
+        Ok(self.entry(directory, name))
+    }
+
+    /// The number of what is above the path, and the path's last name; none for the root, and where nothing
+    /// is above.
+    pub(crate) fn spot<'a>(&self, path: &'a Path) -> Option<(u32, &'a Name)>
+        ensures { option_map (λ spot. (spot.0, spot.1.now)) result ≡ spot_at (map_of self.now) path.now }
+    {
+        let (name, up) = path.names().split_last()?;
+        let directory = self.find(up)?;
+        Some((directory, name))
     }
 }

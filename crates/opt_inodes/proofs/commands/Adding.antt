@@ -1,4 +1,4 @@
--- A slot comes behind the last one of a directory: of a new node, or of a file that is there already.
+-- A name comes to a directory: of a new node, or of a file that is there already. A slot behind the last one is such a name.
 use Rattle.std.proofs.Common.{◌≡◌, ℕ, zero, suc, ◌+◌, ◌≤◌, ◌==◌, if◌then◌else◌, List, [], ◌∷◌, ◌++◌, slice_get, Option, Some, None, option_map, sym, refl, ap, ◌∙◌, ◌⊎◌, inl, inr, arith, eq-eqb, ne_eqb}
 use Rattle.std.proofs.lemmas.Bool.{cases_eq}
 use Rattle.std.specs.FinMap.{get, insert}
@@ -8,7 +8,7 @@ use Rattle.opt_tree.specs.Paths.{parent}
 use Rattle.opt_tree.specs.Names.{path_count}
 use Rattle.opt_stands.specs.Inodes.{Inode, Inodes, ADir, AFile, AreDistinct, thing_of}
 use Rattle.opt_stands.specs.Walks.{entries_of, entry_in, node_in}
-use Rattle.opt_inodes.specs.Changes.{slot_of, new_inode, AddsSlot}
+use Rattle.opt_inodes.specs.Changes.{slot_of, new_inode, AddsSlot, AddsName}
 use Rattle.opt_inodes.specs.TreeLaws.{TreeLaws}
 use Rattle.opt_inodes.proofs.basics.Paths.{Path, none_some, some_same, parent_end}
 use Rattle.opt_inodes.proofs.basics.FinMaps.{name_here, name_look, node_here, node_other}
@@ -40,11 +40,38 @@ counts_one m n e = ap (λ b. if b then 1 else 0) (eq-eqb m n e)
 pub counts_none : (m n : ℕ) → (m ≡ n → ⊥) → one_if m n ≡ 0
 counts_none m n off = ap (λ b. if b then 1 else 0) (ne_eqb m n off)
 
-module _ (laws : TreeLaws) (limit : ℕ) (m new : Inodes) (t : Tree) (a : Agrees limit m t) (up : Path) (name : List ℕ) (d n : ℕ) (x : Inode)
+-- A slot behind the last one.
+module _ (limit : ℕ) (m new : Inodes) (t : Tree) (a : Agrees limit m t) (up : Path) (name : List ℕ) (d n : ℕ) (x : Inode)
     (at_up : get t.names up ≡ Some d) (free : get t.names (up ++ name ∷ []) ≡ None) (ch : AddsSlot m new d n name x) where
+  -- no slot has the new name
+  slots_free : node_in ch.slots name ≡ None
+  slots_free = sym (step_at (entries_of m) (get t.names) a.goes up name d at_up ∙ ap (λ o. entry_in o name) ch.dir) ∙ free
+
+  -- no two slots have one name
+  slots_distinct : AreDistinct ch.slots
+  slots_distinct = a.distinct d ch.slots ch.dir
+
+  -- it is a name that comes
+  pub adds_name : AddsName m new d n name x
+  adds_name = record {
+    under = record {
+      slots = ch.slots;
+      dir = ch.dir;
+      after = ch.slots ++ slot_of n name ∷ [];
+      now = ch.added;
+      here = added_here ch.slots (slot_of n name) slots_distinct slots_free;
+      others = added_other ch.slots (slot_of n name) slots_distinct slots_free;
+      distinct = added_distinct ch.slots (slot_of n name) slots_distinct slots_free;
+    };
+    named = ch.named;
+    others = ch.others;
+  }
+
+module _ (laws : TreeLaws) (limit : ℕ) (m new : Inodes) (t : Tree) (a : Agrees limit m t) (up : Path) (name : List ℕ) (d n : ℕ) (x : Inode)
+    (at_up : get t.names up ≡ Some d) (free : get t.names (up ++ name ∷ []) ≡ None) (ch : AddsName m new d n name x) where
   -- the directory is one of the tree
   pub up_dir : get t.nodes d ≡ Some Dir
-  up_dir = a.nodes d ∙ ap (option_map thing_of) ch.dir
+  up_dir = a.nodes d ∙ ap (option_map thing_of) ch.under.dir
 
   -- its path is its only one
   pub up_only : (q : Path) → get t.names q ≡ Some d → q ≡ up
@@ -54,27 +81,19 @@ module _ (laws : TreeLaws) (limit : ℕ) (m new : Inodes) (t : Tree) (a : Agrees
   pub up_at : get t.names (parent (up ++ name ∷ [])) ≡ Some d
   up_at = ap (get t.names) (parent_end up name) ∙ at_up
 
-  -- no slot has the new name
-  slots_free : node_in ch.slots name ≡ None
-  slots_free = sym (step_at (entries_of m) (get t.names) a.goes up name d at_up ∙ ap (λ o. entry_in o name) ch.dir) ∙ free
-
-  -- no two slots have one name
-  slots_distinct : AreDistinct ch.slots
-  slots_distinct = a.distinct d ch.slots ch.dir
-
   module _ (empty_new : (b : List ℕ) → entry_in (Some x) b ≡ None) (empty_old : (b : List ℕ) → entry_in (m n) b ≡ None) where
     -- the entry under the new name is the new one, and no other changed
     entry : EntryIs (entries_of m) (entries_of new) d name (Some n)
     entry = record {
-      here = ap (λ o. entry_in o name) ch.added ∙ added_here ch.slots (slot_of n name) slots_distinct slots_free;
+      here = ap (λ o. entry_in o name) ch.under.now ∙ ch.under.here;
       others = λ k b off. by k b off (cases_eq k d) (cases_eq k n);
     }
       where
         by : (k : ℕ) (b : List ℕ) → ((k ≡ d) × (b ≡ name) → ⊥) → (k ≡ d) ⊎ (k ≡ d → ⊥) → (k ≡ n) ⊎ (k ≡ n → ⊥) → entries_of new k b ≡ entries_of m k b
         by k b off (inl e) side =
-            ap (λ k. entry_in (new k) b) e ∙ ap (λ o. entry_in o b) ch.added
-            ∙ added_other ch.slots (slot_of n name) slots_distinct slots_free b (λ f. off (e, f))
-            ∙ sym (ap (λ k. entry_in (m k) b) e ∙ ap (λ o. entry_in o b) ch.dir)
+            ap (λ k. entry_in (new k) b) e ∙ ap (λ o. entry_in o b) ch.under.now
+            ∙ ch.under.others b (λ f. off (e, f))
+            ∙ sym (ap (λ k. entry_in (m k) b) e ∙ ap (λ o. entry_in o b) ch.under.dir)
         by k b off (inr away) (inl e) = ap (λ k. entry_in (new k) b) e ∙ ap (λ o. entry_in o b) ch.named ∙ empty_new b ∙ sym (ap (λ k. entry_in (m k) b) e ∙ empty_old b)
         by k b off (inr away) (inr far) = ap (λ o. entry_in o b) (ch.others k away far)
 
@@ -87,12 +106,12 @@ module _ (laws : TreeLaws) (limit : ℕ) (m new : Inodes) (t : Tree) (a : Agrees
   pub added_slots_distinct : ((slots : List Slot) → x ≡ ADir slots → AreDistinct slots) → (k : ℕ) (slots : List Slot) → new k ≡ Some (ADir slots) → AreDistinct slots
   added_slots_distinct own k slots is = by (cases_eq k d) (cases_eq k n)
     where
-      as_added : (others : List Slot) → others ≡ ch.slots ++ slot_of n name ∷ [] → AreDistinct others
-      as_added others e i j s u at_i at_j same = added_distinct ch.slots (slot_of n name) slots_distinct slots_free i j s u
+      as_added : (others : List Slot) → others ≡ ch.under.after → AreDistinct others
+      as_added others e i j s u at_i at_j same = ch.under.distinct i j s u
           (ap (λ l. slice_get l i) (sym e) ∙ at_i) (ap (λ l. slice_get l j) (sym e) ∙ at_j) same
 
       by : (k ≡ d) ⊎ (k ≡ d → ⊥) → (k ≡ n) ⊎ (k ≡ n → ⊥) → AreDistinct slots
-      by (inl e) side = as_added slots (one_dir slots (ch.slots ++ slot_of n name ∷ []) (ap new (sym e) ∙ is) ch.added)
+      by (inl e) side = as_added slots (one_dir slots ch.under.after (ap new (sym e) ∙ is) ch.under.now)
       by (inr away) (inl e) = own slots (some_same x (ADir slots) (sym ch.named ∙ ap new (sym e) ∙ is))
       by (inr away) (inr far) = a.distinct k slots (sym (ch.others k away far) ∙ is)
 
@@ -138,7 +157,7 @@ module _ (laws : TreeLaws) (limit : ℕ) (m new : Inodes) (t : Tree) (a : Agrees
       where
         by : (k ≡ n) ⊎ (k ≡ n → ⊥) → (k ≡ d) ⊎ (k ≡ d → ⊥) → get (insert t.nodes n thing) k ≡ option_map thing_of (new k)
         by (inl e) side = node_here t.nodes n thing k e ∙ sym (ap (λ k. option_map thing_of (new k)) e ∙ ap (option_map thing_of) (ch.named ∙ ap Some is_new) ∙ ap Some (thing_is thing))
-        by (inr off) (inl e) = node_other t.nodes n thing k off ∙ ap (get t.nodes) e ∙ up_dir ∙ sym (ap (λ k. option_map thing_of (new k)) e ∙ ap (option_map thing_of) ch.added)
+        by (inr off) (inl e) = node_other t.nodes n thing k off ∙ ap (get t.nodes) e ∙ up_dir ∙ sym (ap (λ k. option_map thing_of (new k)) e ∙ ap (option_map thing_of) ch.under.now)
         by (inr off) (inr away) = node_other t.nodes n thing k off ∙ a.nodes k ∙ ap (option_map thing_of) (sym (ch.others k away off))
 
     -- each file has as many paths as links: the new one has one
@@ -149,7 +168,7 @@ module _ (laws : TreeLaws) (limit : ℕ) (m new : Inodes) (t : Tree) (a : Agrees
         count = laws.count_put t.names (up ++ name ∷ []) n k free
 
         by : (k ≡ d) ⊎ (k ≡ d → ⊥) → (k ≡ n) ⊎ (k ≡ n → ⊥) → path_count (insert t.names (up ++ name ∷ []) n) k ≡ links
-        by (inl e) side = absurd (dir_file (ch.slots ++ slot_of n name ∷ []) links bytes (ap new e ∙ ch.added) is)
+        by (inl e) side = absurd (dir_file ch.under.after links bytes (ap new e ∙ ch.under.now) is)
         by (inr away) (inl e) =
             let one = one_link thing links bytes (some_same _ (AFile links bytes) (sym (ch.named ∙ ap Some is_new) ∙ ap new (sym e) ∙ is)) in
             let none : path_count t.names k ≡ 0 = ap (path_count t.names) e ∙ no_paths unused in
@@ -173,7 +192,7 @@ module _ (laws : TreeLaws) (limit : ℕ) (m new : Inodes) (t : Tree) (a : Agrees
     link_nodes k = a.nodes k ∙ by (cases_eq k d) (cases_eq k n)
       where
         by : (k ≡ d) ⊎ (k ≡ d → ⊥) → (k ≡ n) ⊎ (k ≡ n → ⊥) → option_map thing_of (m k) ≡ option_map thing_of (new k)
-        by (inl e) side = ap (λ k. option_map thing_of (m k)) e ∙ ap (option_map thing_of) ch.dir ∙ sym (ap (λ k. option_map thing_of (new k)) e ∙ ap (option_map thing_of) ch.added)
+        by (inl e) side = ap (λ k. option_map thing_of (m k)) e ∙ ap (option_map thing_of) ch.under.dir ∙ sym (ap (λ k. option_map thing_of (new k)) e ∙ ap (option_map thing_of) ch.under.now)
         by (inr away) (inl e) = ap (λ k. option_map thing_of (m k)) e ∙ ap (option_map thing_of) old ∙ sym (ap (λ k. option_map thing_of (new k)) e ∙ ap (option_map thing_of) (ch.named ∙ ap Some more))
         by (inr away) (inr off) = ap (option_map thing_of) (sym (ch.others k away off))
 
@@ -185,7 +204,7 @@ module _ (laws : TreeLaws) (limit : ℕ) (m new : Inodes) (t : Tree) (a : Agrees
         count = laws.count_put t.names (up ++ name ∷ []) n k free
 
         by : (k ≡ d) ⊎ (k ≡ d → ⊥) → (k ≡ n) ⊎ (k ≡ n → ⊥) → path_count (insert t.names (up ++ name ∷ []) n) k ≡ l
-        by (inl e) side = absurd (dir_file (ch.slots ++ slot_of n name ∷ []) l b (ap new e ∙ ch.added) is)
+        by (inl e) side = absurd (dir_file ch.under.after l b (ap new e ∙ ch.under.now) is)
         by (inr away) (inl e) =
             let now : l ≡ links + 1 = one_file l (links + 1) b bytes is (ap new e ∙ ch.named ∙ ap Some more) in
             omega (arith, count, counts_one n k (sym e), a.links k links bytes (ap m e ∙ old), now)

@@ -16,16 +16,16 @@ use Rattle.opt_stands.specs.Inodes.{Inodes, AFile, thing_of}
 use Rattle.opt_stands.specs.Maps.{IsMapOf}
 use Rattle.opt_stands.specs.Walks.{LeadsTo}
 use Rattle.opt_inodes.specs.Lookups.{least_free}
-use Rattle.opt_inodes.specs.Changes.{new_inode, Sets, AddsSlot, TakesSlot, MovesSlot}
+use Rattle.opt_inodes.specs.Changes.{new_inode, Sets, AddsSlot, AddsName, TakesSlot, TakesName, MovesSlot, MovesName}
 use Rattle.opt_inodes.specs.TreeLaws.{TreeLaws}
 use Rattle.opt_inodes.proofs.basics.Paths.{Path, lacks}
 use Rattle.opt_inodes.proofs.basics.Numbers.{unused_is_free, free_is}
 use Rattle.opt_inodes.proofs.agreement.Agree.{Agrees, agrees, is_map}
-use Rattle.opt_inodes.proofs.commands.Adding.{node_agrees, link_agrees}
-use Rattle.opt_inodes.proofs.commands.Taking.{taken_agrees}
+use Rattle.opt_inodes.proofs.commands.Adding.{adds_name, node_agrees, link_agrees}
+use Rattle.opt_inodes.proofs.commands.Taking.{takes_name, taken_agrees}
 use Rattle.opt_inodes.proofs.commands.Editing.{edited_agrees}
 use Rattle.opt_inodes.proofs.commands.Moving.{empty_at}
-use Rattle.opt_inodes.proofs.commands.Renaming.{slot_path, renamed_agrees}
+use Rattle.opt_inodes.proofs.commands.Renaming.{under, moves_name, renamed_agrees}
 
 -- where no reason comes first, the first one is none, and none of the later ones is
 no_reason : (r : Option Refusal) (rest : List (Option Refusal)) → first_reason (r ∷ rest) ≡ None → (r ≡ None) × (first_reason rest ≡ None)
@@ -59,7 +59,7 @@ module _ (laws : TreeLaws) (s : Session) (m new : Inodes) (is : IsMapOf s.limit 
   at p k leads = is.shows.names p ∙ leads
 
   -- A new node.
-  module _ (up : Path) (name : List ℕ) (d n : ℕ) (leads : LeadsTo m up d) (free : least_free s.limit m ≡ Some n) (thing : Thing) (ch : AddsSlot m new d n name (new_inode thing))
+  module _ (up : Path) (name : List ℕ) (d n : ℕ) (leads : LeadsTo m up d) (free : least_free s.limit m ≡ Some n) (thing : Thing) (ch : AddsName m new d n name (new_inode thing))
       (accepts : make_refusal s.limit s.tree (up ++ name ∷ []) ≡ None) where
     -- a new node comes under the least number that no node has
     made_tree : added s.limit s.tree (up ++ name ∷ []) thing ≡ record { names = insert s.tree.names (up ++ name ∷ []) n; nodes = insert s.tree.nodes n thing }
@@ -75,21 +75,21 @@ module _ (laws : TreeLaws) (s : Session) (m new : Inodes) (is : IsMapOf s.limit 
         thing refl number.0 number.1 number.2
 
   -- a mkdir
-  pub mkdir_shown : (up : Path) (name : List ℕ) (d n : ℕ) → refusal s.limit s.tree (Mkdir (up ++ name ∷ [])) ≡ None → LeadsTo m up d → least_free s.limit m ≡ Some n → AddsSlot m new d n name (new_inode Dir)
+  pub mkdir_named : (up : Path) (name : List ℕ) (d n : ℕ) → refusal s.limit s.tree (Mkdir (up ++ name ∷ [])) ≡ None → LeadsTo m up d → least_free s.limit m ≡ Some n → AddsName m new d n name (new_inode Dir)
       → IsMapOf s.limit new (step s (Mkdir (up ++ name ∷ []))).0.tree
-  mkdir_shown up name d n accepts leads free ch =
+  mkdir_named up name d n accepts leads free ch =
       by_tree s (Mkdir (up ++ name ∷ [])) new _ (done s (Mkdir (up ++ name ∷ [])) accepts ∙ made_tree up name d n leads free Dir ch accepts) (made_agrees up name d n leads free Dir ch accepts)
 
   -- a create
-  pub create_shown : (up : Path) (name : List ℕ) (d n : ℕ) → refusal s.limit s.tree (Create (up ++ name ∷ [])) ≡ None → LeadsTo m up d → least_free s.limit m ≡ Some n → AddsSlot m new d n name (new_inode (File []))
+  pub create_named : (up : Path) (name : List ℕ) (d n : ℕ) → refusal s.limit s.tree (Create (up ++ name ∷ [])) ≡ None → LeadsTo m up d → least_free s.limit m ≡ Some n → AddsName m new d n name (new_inode (File []))
       → IsMapOf s.limit new (step s (Create (up ++ name ∷ []))).0.tree
-  create_shown up name d n accepts leads free ch =
+  create_named up name d n accepts leads free ch =
       by_tree s (Create (up ++ name ∷ [])) new _ (done s (Create (up ++ name ∷ [])) accepts ∙ made_tree up name d n leads free (File []) ch accepts) (made_agrees up name d n leads free (File []) ch accepts)
 
   -- Another path.
-  pub link_shown : (path up : Path) (name : List ℕ) (d n links : ℕ) (bytes : List ℕ) → refusal s.limit s.tree (Link path (up ++ name ∷ [])) ≡ None → LeadsTo m path n → m n ≡ Some (AFile links bytes)
-      → LeadsTo m up d → AddsSlot m new d n name (AFile (links + 1) bytes) → IsMapOf s.limit new (step s (Link path (up ++ name ∷ []))).0.tree
-  link_shown path up name d n l bytes accepts to_file file leads ch =
+  pub link_named : (path up : Path) (name : List ℕ) (d n links : ℕ) (bytes : List ℕ) → refusal s.limit s.tree (Link path (up ++ name ∷ [])) ≡ None → LeadsTo m path n → m n ≡ Some (AFile links bytes)
+      → LeadsTo m up d → AddsName m new d n name (AFile (links + 1) bytes) → IsMapOf s.limit new (step s (Link path (up ++ name ∷ []))).0.tree
+  link_named path up name d n l bytes accepts to_file file leads ch =
       let other = up ++ name ∷ [] in
       let there : Option Refusal = when (is_there s.tree other) Exists in
       let dir : Option Refusal = when (is_dir (thing_at s.tree path)) IsDir in
@@ -101,23 +101,23 @@ module _ (laws : TreeLaws) (s : Session) (m new : Inodes) (is : IsMapOf s.limit 
       (link_agrees laws s.limit m new s.tree a up name d n (AFile (l + 1) bytes) (at up d leads) (lacks (get s.tree.names other) (not_so (is_there s.tree other) Exists three.0)) ch l bytes file refl)
 
   -- A path that goes.
-  taken_shown : (cmd : Cmd) (up : Path) (name : List ℕ) (d n : ℕ) → (step s cmd).0.tree ≡ removed s.tree (up ++ name ∷ []) → holds_names s.tree.names (up ++ name ∷ []) ≡ false
-      → LeadsTo m up d → TakesSlot m new d n name → IsMapOf s.limit new (step s cmd).0.tree
-  taken_shown cmd up name d n tree free leads ch =
-      let is_there = slot_path s.limit m s.tree a up d ch.place n ch.slots name (at up d leads) ch.dir ch.slot in
+  taken_named : (cmd : Cmd) (up : Path) (name : List ℕ) (d n : ℕ) → (step s cmd).0.tree ≡ removed s.tree (up ++ name ∷ []) → holds_names s.tree.names (up ++ name ∷ []) ≡ false
+      → LeadsTo m up d → TakesName m new d n name → IsMapOf s.limit new (step s cmd).0.tree
+  taken_named cmd up name d n tree free leads ch =
+      let is_there = under s.limit m s.tree a up d ch.under.slots name (at up d leads) ch.under.dir ∙ ch.there in
       let same = tree ∙ ap (removed_by s.tree (up ++ name ∷ [])) is_there in
       by_tree s cmd new _ same
       (taken_agrees laws s.limit m new s.tree a up name d n (at up d leads) ch (empty_at laws s.limit m s.tree a (up ++ name ∷ []) n is_there free) (stays_sound cmd _ same))
 
   -- an unlink
-  pub unlink_shown : (up : Path) (name : List ℕ) (d n : ℕ) → refusal s.limit s.tree (Unlink (up ++ name ∷ [])) ≡ None → LeadsTo m up d → TakesSlot m new d n name
+  pub unlink_named : (up : Path) (name : List ℕ) (d n : ℕ) → refusal s.limit s.tree (Unlink (up ++ name ∷ [])) ≡ None → LeadsTo m up d → TakesName m new d n name
       → IsMapOf s.limit new (step s (Unlink (up ++ name ∷ []))).0.tree
-  unlink_shown up name d n accepts leads ch = taken_shown (Unlink (up ++ name ∷ [])) up name d n (done s (Unlink (up ++ name ∷ [])) accepts) (laws.unlinked s.limit s.tree (up ++ name ∷ []) a.sound accepts).0 leads ch
+  unlink_named up name d n accepts leads ch = taken_named (Unlink (up ++ name ∷ [])) up name d n (done s (Unlink (up ++ name ∷ [])) accepts) (laws.unlinked s.limit s.tree (up ++ name ∷ []) a.sound accepts).0 leads ch
 
   -- an rmdir
-  pub rmdir_shown : (up : Path) (name : List ℕ) (d n : ℕ) → refusal s.limit s.tree (Rmdir (up ++ name ∷ [])) ≡ None → LeadsTo m up d → TakesSlot m new d n name
+  pub rmdir_named : (up : Path) (name : List ℕ) (d n : ℕ) → refusal s.limit s.tree (Rmdir (up ++ name ∷ [])) ≡ None → LeadsTo m up d → TakesName m new d n name
       → IsMapOf s.limit new (step s (Rmdir (up ++ name ∷ []))).0.tree
-  rmdir_shown up name d n accepts leads ch = taken_shown (Rmdir (up ++ name ∷ [])) up name d n (done s (Rmdir (up ++ name ∷ [])) accepts) (laws.removed s.limit s.tree (up ++ name ∷ []) a.sound accepts).0 leads ch
+  rmdir_named up name d n accepts leads ch = taken_named (Rmdir (up ++ name ∷ [])) up name d n (done s (Rmdir (up ++ name ∷ [])) accepts) (laws.removed s.limit s.tree (up ++ name ∷ []) a.sound accepts).0 leads ch
 
   -- Other bytes of a file.
   edited_tree : (path : Path) (n : ℕ) (old : List ℕ) (change : List ℕ → List ℕ) → get s.tree.names path ≡ Some n → get s.tree.nodes n ≡ Some (File old)
@@ -163,6 +163,58 @@ module _ (laws : TreeLaws) (s : Session) (m new : Inodes) (is : IsMapOf s.limit 
       ∙ chosen (size == length (content s.tree path)) (edited s.tree path (resized size)) (ap (λ bytes. size == length bytes) (bytes_at path n links old (at path n leads) file) ∙ ne_eqb size (length old) other)) leads file ch
 
   -- A move.
+  pub rename_named : (up to : Path) (name other : List ℕ) (d c n : ℕ) → refusal s.limit s.tree (Rename (up ++ name ∷ []) (to ++ other ∷ [])) ≡ None → LeadsTo m up d → LeadsTo m to c → MovesName m new d c n name other
+      → IsMapOf s.limit new (step s (Rename (up ++ name ∷ []) (to ++ other ∷ []))).0.tree
+  rename_named up to name other d c n accepts leads leads_to ch = is_map s.limit new _ (renamed_agrees laws s m new a up to name other d c n (at up d leads) (at to c leads_to) ch accepts)
+
+  -- Slots are names.
+
+  -- the reasons of a new node leave its path free
+  free_to_make : (p : Path) → make_refusal s.limit s.tree p ≡ None → get s.tree.names p ≡ None
+  free_to_make p accepts =
+      let one = no_reason (parent_refusal s.tree p) (when (is_there s.tree p) Exists ∷ when (is_none (least_unused s.limit s.tree.nodes)) NoNode ∷ []) accepts in
+      let two = no_reason (when (is_there s.tree p) Exists) (when (is_none (least_unused s.limit s.tree.nodes)) NoNode ∷ []) one.1 in
+      lacks (get s.tree.names p) (not_so (is_there s.tree p) Exists two.0)
+
+  -- and so do those of another path
+  free_to_link : (path p : Path) → refusal s.limit s.tree (Link path p) ≡ None → get s.tree.names p ≡ None
+  free_to_link path p accepts =
+      let there : Option Refusal = when (is_there s.tree p) Exists in
+      let rest : List (Option Refusal) = when (is_dir (thing_at s.tree path)) IsDir ∷ _ in
+      let one = no_reason (walk_refusal s.tree path) (parent_refusal s.tree p ∷ there ∷ rest) accepts in
+      let two = no_reason (parent_refusal s.tree p) (there ∷ rest) one.1 in
+      lacks (get s.tree.names p) (not_so (is_there s.tree p) Exists (no_reason there rest two.1).0)
+
+  -- a mkdir
+  pub mkdir_shown : (up : Path) (name : List ℕ) (d n : ℕ) → refusal s.limit s.tree (Mkdir (up ++ name ∷ [])) ≡ None → LeadsTo m up d → least_free s.limit m ≡ Some n → AddsSlot m new d n name (new_inode Dir)
+      → IsMapOf s.limit new (step s (Mkdir (up ++ name ∷ []))).0.tree
+  mkdir_shown up name d n accepts leads free ch =
+      mkdir_named up name d n accepts leads free (adds_name s.limit m new s.tree a up name d n (new_inode Dir) (at up d leads) (free_to_make (up ++ name ∷ []) accepts) ch)
+
+  -- a create
+  pub create_shown : (up : Path) (name : List ℕ) (d n : ℕ) → refusal s.limit s.tree (Create (up ++ name ∷ [])) ≡ None → LeadsTo m up d → least_free s.limit m ≡ Some n → AddsSlot m new d n name (new_inode (File []))
+      → IsMapOf s.limit new (step s (Create (up ++ name ∷ []))).0.tree
+  create_shown up name d n accepts leads free ch =
+      create_named up name d n accepts leads free (adds_name s.limit m new s.tree a up name d n (new_inode (File [])) (at up d leads) (free_to_make (up ++ name ∷ []) accepts) ch)
+
+  -- another path
+  pub link_shown : (path up : Path) (name : List ℕ) (d n links : ℕ) (bytes : List ℕ) → refusal s.limit s.tree (Link path (up ++ name ∷ [])) ≡ None → LeadsTo m path n → m n ≡ Some (AFile links bytes)
+      → LeadsTo m up d → AddsSlot m new d n name (AFile (links + 1) bytes) → IsMapOf s.limit new (step s (Link path (up ++ name ∷ []))).0.tree
+  link_shown path up name d n l bytes accepts to_file file leads ch =
+      link_named path up name d n l bytes accepts to_file file leads
+      (adds_name s.limit m new s.tree a up name d n (AFile (l + 1) bytes) (at up d leads) (free_to_link path (up ++ name ∷ []) accepts) ch)
+
+  -- an unlink
+  pub unlink_shown : (up : Path) (name : List ℕ) (d n : ℕ) → refusal s.limit s.tree (Unlink (up ++ name ∷ [])) ≡ None → LeadsTo m up d → TakesSlot m new d n name
+      → IsMapOf s.limit new (step s (Unlink (up ++ name ∷ []))).0.tree
+  unlink_shown up name d n accepts leads ch = unlink_named up name d n accepts leads (takes_name s.limit m new s.tree a name d n ch)
+
+  -- an rmdir
+  pub rmdir_shown : (up : Path) (name : List ℕ) (d n : ℕ) → refusal s.limit s.tree (Rmdir (up ++ name ∷ [])) ≡ None → LeadsTo m up d → TakesSlot m new d n name
+      → IsMapOf s.limit new (step s (Rmdir (up ++ name ∷ []))).0.tree
+  rmdir_shown up name d n accepts leads ch = rmdir_named up name d n accepts leads (takes_name s.limit m new s.tree a name d n ch)
+
+  -- a move
   pub rename_shown : (up to : Path) (name other : List ℕ) (d c n : ℕ) → refusal s.limit s.tree (Rename (up ++ name ∷ []) (to ++ other ∷ [])) ≡ None → LeadsTo m up d → LeadsTo m to c → MovesSlot m new d c n name other
       → IsMapOf s.limit new (step s (Rename (up ++ name ∷ []) (to ++ other ∷ []))).0.tree
-  rename_shown up to name other d c n accepts leads leads_to ch = is_map s.limit new _ (renamed_agrees laws s m new a up to name other d c n (at up d leads) (at to c leads_to) ch accepts)
+  rename_shown up to name other d c n accepts leads leads_to ch = rename_named up to name other d c n accepts leads leads_to (moves_name s.limit m new s.tree a name other d c n ch)

@@ -12,7 +12,7 @@ use Rattle.opt_tree.specs.Conditions.{refusal}
 use Rattle.opt_tree.specs.Step.{Session, step, removed, removed_by, with_used}
 use Rattle.opt_stands.specs.Inodes.{Inodes, ADir, AFile, AreDistinct, thing_of}
 use Rattle.opt_stands.specs.Walks.{entries_of, entry_in, node_in}
-use Rattle.opt_inodes.specs.Changes.{slot_of, with_slot, one_link_less, MovesSlot}
+use Rattle.opt_inodes.specs.Changes.{slot_of, with_slot, one_link_less, MovesSlot, MovesName}
 use Rattle.opt_inodes.specs.TreeLaws.{TreeLaws}
 use Rattle.opt_inodes.proofs.basics.Paths.{Path, none_some, some_same, which}
 use Rattle.opt_inodes.proofs.slots.Slots.{finds, taken_distinct, taken_here, taken_other}
@@ -30,7 +30,7 @@ module _ (limit : ℕ) (m : Inodes) (t : Tree) (a : Agrees limit m t) where
   dir_of d slots is = a.nodes d ∙ ap (option_map thing_of) is
 
   -- what is under a name is at the path with that name
-  under : (up : Path) (d : ℕ) (slots : List Slot) (b : List ℕ) → get t.names up ≡ Some d → m d ≡ Some (ADir slots) → get t.names (up ++ b ∷ []) ≡ node_in slots b
+  pub under : (up : Path) (d : ℕ) (slots : List Slot) (b : List ℕ) → get t.names up ≡ Some d → m d ≡ Some (ADir slots) → get t.names (up ++ b ∷ []) ≡ node_in slots b
   under up d slots b at is = step_at (entries_of m) (get t.names) a.goes up b d at ∙ ap (λ o. entry_in o b) is
 
   -- a slot's path leads to the node that it names
@@ -76,9 +76,8 @@ module _ (laws : TreeLaws) (limit : ℕ) (m new : Inodes) (t : Tree) (a : Agrees
       by (inl e) = ap (path_count (remove t.names target)) e ∙ lost_links laws limit m t a target w there links bytes (sym left ∙ ap new (sym e) ∙ is)
       by (inr off) = omega (arith, one_less_path laws limit m t a target w there k, counts_none w k (λ e. off (sym e)), a.links k links bytes (same k links bytes off is))
 
-module _ (laws : TreeLaws) (s : Session) (m new : Inodes) (a : Agrees s.limit m s.tree) (up to : Path) (name other : List ℕ) (d c n : ℕ)
-    (at_up : get s.tree.names up ≡ Some d) (at_to : get s.tree.names to ≡ Some c) (ch : MovesSlot m new d c n name other)
-    (accepted : refusal s.limit s.tree (Rename (up ++ name ∷ []) (to ++ other ∷ [])) ≡ None) where
+-- A slot that moves is a name that moves.
+module _ (limit : ℕ) (m new : Inodes) (t : Tree) (a : Agrees limit m t) (name other : List ℕ) (d c n : ℕ) (ch : MovesSlot m new d c n name other) where
   -- no name comes twice in the first directory
   from_distinct : AreDistinct ch.slots
   from_distinct = a.distinct d ch.slots ch.from_dir
@@ -86,22 +85,6 @@ module _ (laws : TreeLaws) (s : Session) (m new : Inodes) (a : Agrees s.limit m 
   -- the second directory with the new slot
   put : Puts ch.target (with_slot ch.target (slot_of n other)) (slot_of n other)
   put = puts ch.target (slot_of n other) (a.distinct c ch.target ch.into_dir)
-
-  -- the first path leads to the node
-  first_path : get s.tree.names (up ++ name ∷ []) ≡ Some n
-  first_path = slot_path s.limit m s.tree a up d ch.place n ch.slots name at_up ch.from_dir ch.slot
-
-  -- the second one leads where the second name does
-  second_path : get s.tree.names (to ++ other ∷ []) ≡ node_in ch.target other
-  second_path = under s.limit m s.tree a to c ch.target other at_to ch.into_dir
-
-  -- and not to that node
-  two_nodes : is_same_node s.tree (up ++ name ∷ []) (to ++ other ∷ []) ≡ false
-  two_nodes = ap₂ are_same first_path second_path ∙ not_same n (node_in ch.target other) ch.differ
-
-  -- nothing stands below what goes
-  old_empty : (w : ℕ) → node_in ch.target other ≡ Some w → (b : List ℕ) → entry_in (m w) b ≡ None
-  old_empty w is = empty_at laws s.limit m s.tree a (to ++ other ∷ []) w (second_path ∙ is) (laws.moved s.limit s.tree (up ++ name ∷ []) (to ++ other ∷ []) a.sound accepted two_nodes).1
 
   -- Within one directory.
 
@@ -148,52 +131,128 @@ module _ (laws : TreeLaws) (s : Session) (m new : Inodes) (a : Agrees s.limit m 
           ∙ taken_other (with_slot ch.target (slot_of n other)) ch.place (slot_of n name) put.distinct (still_there e) other (λ f. two_names e (sym f)) ∙ put.here
       by (inr apart) = ap (λ o. entry_in o other) (ch.across apart).1 ∙ put.here
 
-  -- Each number: the first directory, the second one, what goes, or another one.
-  module _ (k : ℕ) where
+  module _ (k : ℕ) (side : (k ≡ d) ⊎ (k ≡ c)) where
     -- the second directory, where it isn't the first one
     is_target : (k ≡ d → ⊥) → k ≡ c → new k ≡ Some (ADir (with_slot ch.target (slot_of n other)))
     is_target off e = ap new e ∙ (ch.across (λ f. off (e ∙ sym f))).1
 
     -- no other entry changed
-    entry_others : (b : List ℕ) → ((k ≡ d) × (b ≡ name) → ⊥) → ((k ≡ c) × (b ≡ other) → ⊥) → entries_of new k b ≡ entries_of m k b
-    entry_others b off_name off_other = by (cases_eq k d) (cases_eq k c) (holds_number (node_in ch.target other) k)
+    entry_stays : (b : List ℕ) → ((k ≡ d) × (b ≡ name) → ⊥) → ((k ≡ c) × (b ≡ other) → ⊥) → entries_of new k b ≡ entries_of m k b
+    entry_stays b off_name off_other = by (cases_eq k d) side
       where
-        by : (k ≡ d) ⊎ (k ≡ d → ⊥) → (k ≡ c) ⊎ (k ≡ c → ⊥) → (node_in ch.target other ≡ Some k) ⊎ (node_in ch.target other ≡ Some k → ⊥) → entries_of new k b ≡ entries_of m k b
-        by (inl e) two three = ap (λ k. entries_of new k b) e ∙ ap (λ o. entry_in o b) source.taken
+        by : (k ≡ d) ⊎ (k ≡ d → ⊥) → (k ≡ d) ⊎ (k ≡ c) → entries_of new k b ≡ entries_of m k b
+        by (inl e) two = ap (λ k. entries_of new k b) e ∙ ap (λ o. entry_in o b) source.taken
             ∙ taken_other source.list ch.place (slot_of n name) source.distinct source.slot b (λ f. off_name (e, f))
             ∙ source.others b (λ both. off_other (e ∙ both.0, both.1))
             ∙ sym (ap (λ k. entries_of m k b) e ∙ ap (λ o. entry_in o b) ch.from_dir)
-        by (inr off) (inl e) three = ap (λ o. entry_in o b) (is_target off e) ∙ put.others b (λ f. off_other (e, f)) ∙ sym (ap (λ k. entries_of m k b) e ∙ ap (λ o. entry_in o b) ch.into_dir)
-        by (inr off) (inr away) (inl old) = ap (λ o. entry_in o b) (ch.left k old) ∙ left_empty (m k) b ∙ sym (old_empty k old b)
-        by (inr off) (inr away) (inr far) = ap (λ o. entry_in o b) (ch.others k off away far)
+        by (inr off) (inl e) = absurd (off e)
+        by (inr off) (inr e) = ap (λ o. entry_in o b) (is_target off e) ∙ put.others b (λ f. off_other (e, f)) ∙ sym (ap (λ k. entries_of m k b) e ∙ ap (λ o. entry_in o b) ch.into_dir)
+
+    -- no name comes twice
+    names_distinct : (slots : List Slot) → new k ≡ Some (ADir slots) → AreDistinct slots
+    names_distinct slots is = by (cases_eq k d) side
+      where
+        by : (k ≡ d) ⊎ (k ≡ d → ⊥) → (k ≡ d) ⊎ (k ≡ c) → AreDistinct slots
+        by (inl e) two = distinct_as (one_dir slots _ (ap new (sym e) ∙ is) source.taken) (taken_distinct source.list ch.place (slot_of n name) source.distinct source.slot)
+        by (inr off) (inl e) = absurd (off e)
+        by (inr off) (inr e) = distinct_as (one_dir slots _ is (is_target off e)) put.distinct
+
+  -- the second directory stays one
+  into_stays : (d ≡ c) ⊎ (d ≡ c → ⊥) → (after : List Slot) × (new c ≡ Some (ADir after))
+  into_stays (inl e) = (_, ap new (sym e) ∙ source.taken)
+  into_stays (inr apart) = (_, (ch.across apart).1)
+
+  -- so the name moves
+  pub moves_name : MovesName m new d c n name other
+  moves_name = record {
+    slots = ch.slots;
+    from_dir = ch.from_dir;
+    there = finds ch.slots ch.place (slot_of n name) from_distinct ch.slot;
+    target = ch.target;
+    into_dir = ch.into_dir;
+    differ = ch.differ;
+    from_stays = (_, source.taken);
+    into_stays = into_stays (cases_eq d c);
+    gone = ap (λ o. entry_in o name) source.taken ∙ taken_here source.list ch.place (slot_of n name) source.distinct source.slot;
+    come = entry_new;
+    same = λ k b side off_name off_other. entry_stays k side b off_name off_other;
+    distinct = λ k after side is. names_distinct k side after is;
+    left = ch.left;
+    others = ch.others;
+  }
+
+module _ (laws : TreeLaws) (s : Session) (m new : Inodes) (a : Agrees s.limit m s.tree) (up to : Path) (name other : List ℕ) (d c n : ℕ)
+    (at_up : get s.tree.names up ≡ Some d) (at_to : get s.tree.names to ≡ Some c) (ch : MovesName m new d c n name other)
+    (accepted : refusal s.limit s.tree (Rename (up ++ name ∷ []) (to ++ other ∷ [])) ≡ None) where
+  -- the first path leads to the node
+  first_path : get s.tree.names (up ++ name ∷ []) ≡ Some n
+  first_path = under s.limit m s.tree a up d ch.slots name at_up ch.from_dir ∙ ch.there
+
+  -- the second one leads where the second name does
+  second_path : get s.tree.names (to ++ other ∷ []) ≡ node_in ch.target other
+  second_path = under s.limit m s.tree a to c ch.target other at_to ch.into_dir
+
+  -- and not to that node
+  two_nodes : is_same_node s.tree (up ++ name ∷ []) (to ++ other ∷ []) ≡ false
+  two_nodes = ap₂ are_same first_path second_path ∙ not_same n (node_in ch.target other) ch.differ
+
+  -- nothing stands below what goes
+  old_empty : (w : ℕ) → node_in ch.target other ≡ Some w → (b : List ℕ) → entry_in (m w) b ≡ None
+  old_empty w is = empty_at laws s.limit m s.tree a (to ++ other ∷ []) w (second_path ∙ is) (laws.moved s.limit s.tree (up ++ name ∷ []) (to ++ other ∷ []) a.sound accepted two_nodes).1
+
+  -- Each number: one of the two directories, what goes, or another one.
+  module _ (k : ℕ) where
+    -- it is one of the two directories, or none
+    which_side : ((k ≡ d) ⊎ (k ≡ c)) ⊎ ((k ≡ d → ⊥) × (k ≡ c → ⊥))
+    which_side = by (cases_eq k d) (cases_eq k c)
+      where
+        by : (k ≡ d) ⊎ (k ≡ d → ⊥) → (k ≡ c) ⊎ (k ≡ c → ⊥) → ((k ≡ d) ⊎ (k ≡ c)) ⊎ ((k ≡ d → ⊥) × (k ≡ c → ⊥))
+        by (inl e) two = inl (inl e)
+        by (inr off) (inl e) = inl (inr e)
+        by (inr off) (inr away) = inr (off, away)
+
+    -- a directory before and after
+    dir_before : (k ≡ d) ⊎ (k ≡ c) → (slots : List Slot) × (m k ≡ Some (ADir slots))
+    dir_before (inl e) = (ch.slots, ap m e ∙ ch.from_dir)
+    dir_before (inr e) = (ch.target, ap m e ∙ ch.into_dir)
+
+    dir_after : (k ≡ d) ⊎ (k ≡ c) → (slots : List Slot) × (new k ≡ Some (ADir slots))
+    dir_after (inl e) = (ch.from_stays.0, ap new e ∙ ch.from_stays.1)
+    dir_after (inr e) = (ch.into_stays.0, ap new e ∙ ch.into_stays.1)
+
+    -- no other entry changed
+    entry_others : (b : List ℕ) → ((k ≡ d) × (b ≡ name) → ⊥) → ((k ≡ c) × (b ≡ other) → ⊥) → entries_of new k b ≡ entries_of m k b
+    entry_others b off_name off_other = by which_side (holds_number (node_in ch.target other) k)
+      where
+        by : ((k ≡ d) ⊎ (k ≡ c)) ⊎ ((k ≡ d → ⊥) × (k ≡ c → ⊥)) → (node_in ch.target other ≡ Some k) ⊎ (node_in ch.target other ≡ Some k → ⊥) → entries_of new k b ≡ entries_of m k b
+        by (inl side) three = ch.same k b side off_name off_other
+        by (inr off) (inl old) = ap (λ o. entry_in o b) (ch.left k old) ∙ left_empty (m k) b ∙ sym (old_empty k old b)
+        by (inr off) (inr far) = ap (λ o. entry_in o b) (ch.others k off.0 off.1 far)
 
     -- every number but what goes stands for the same
     alike : (node_in ch.target other ≡ Some k → ⊥) → option_map thing_of (m k) ≡ option_map thing_of (new k)
-    alike far = by (cases_eq k d) (cases_eq k c)
+    alike far = by which_side
       where
-        by : (k ≡ d) ⊎ (k ≡ d → ⊥) → (k ≡ c) ⊎ (k ≡ c → ⊥) → option_map thing_of (m k) ≡ option_map thing_of (new k)
-        by (inl e) two = ap (λ k. option_map thing_of (m k)) e ∙ ap (option_map thing_of) ch.from_dir ∙ sym (ap (λ k. option_map thing_of (new k)) e ∙ ap (option_map thing_of) source.taken)
-        by (inr off) (inl e) = ap (λ k. option_map thing_of (m k)) e ∙ ap (option_map thing_of) ch.into_dir ∙ sym (ap (option_map thing_of) (is_target off e))
-        by (inr off) (inr away) = ap (option_map thing_of) (sym (ch.others k off away far))
+        by : ((k ≡ d) ⊎ (k ≡ c)) ⊎ ((k ≡ d → ⊥) × (k ≡ c → ⊥)) → option_map thing_of (m k) ≡ option_map thing_of (new k)
+        by (inl side) = ap (option_map thing_of) (dir_before side).1 ∙ sym (ap (option_map thing_of) (dir_after side).1)
+        by (inr off) = ap (option_map thing_of) (sym (ch.others k off.0 off.1 far))
 
     -- and every file but what goes is the same
     file_same : (links : ℕ) (bytes : List ℕ) → (node_in ch.target other ≡ Some k → ⊥) → new k ≡ Some (AFile links bytes) → m k ≡ Some (AFile links bytes)
-    file_same links bytes far is = by (cases_eq k d) (cases_eq k c)
+    file_same links bytes far is = by which_side
       where
-        by : (k ≡ d) ⊎ (k ≡ d → ⊥) → (k ≡ c) ⊎ (k ≡ c → ⊥) → m k ≡ Some (AFile links bytes)
-        by (inl e) two = absurd (dir_file _ links bytes (ap new e ∙ source.taken) is)
-        by (inr off) (inl e) = absurd (dir_file _ links bytes (is_target off e) is)
-        by (inr off) (inr away) = sym (ch.others k off away far) ∙ is
+        by : ((k ≡ d) ⊎ (k ≡ c)) ⊎ ((k ≡ d → ⊥) × (k ≡ c → ⊥)) → m k ≡ Some (AFile links bytes)
+        by (inl side) = absurd (dir_file _ links bytes (dir_after side).1 is)
+        by (inr off) = sym (ch.others k off.0 off.1 far) ∙ is
 
     -- no directory has a name twice
     slots_distinct : (slots : List Slot) → new k ≡ Some (ADir slots) → AreDistinct slots
-    slots_distinct slots is = by (cases_eq k d) (cases_eq k c) (holds_number (node_in ch.target other) k)
+    slots_distinct slots is = by which_side (holds_number (node_in ch.target other) k)
       where
-        by : (k ≡ d) ⊎ (k ≡ d → ⊥) → (k ≡ c) ⊎ (k ≡ c → ⊥) → (node_in ch.target other ≡ Some k) ⊎ (node_in ch.target other ≡ Some k → ⊥) → AreDistinct slots
-        by (inl e) two three = distinct_as (one_dir slots _ (ap new (sym e) ∙ is) source.taken) (taken_distinct source.list ch.place (slot_of n name) source.distinct source.slot)
-        by (inr off) (inl e) three = distinct_as (one_dir slots _ is (is_target off e)) put.distinct
-        by (inr off) (inr away) (inl old) = absurd (left_no_dir (m k) slots (sym (ch.left k old) ∙ is))
-        by (inr off) (inr away) (inr far) = a.distinct k slots (sym (ch.others k off away far) ∙ is)
+        by : ((k ≡ d) ⊎ (k ≡ c)) ⊎ ((k ≡ d → ⊥) × (k ≡ c → ⊥)) → (node_in ch.target other ≡ Some k) ⊎ (node_in ch.target other ≡ Some k → ⊥) → AreDistinct slots
+        by (inl side) three = ch.distinct k slots side is
+        by (inr off) (inl old) = absurd (left_no_dir (m k) slots (sym (ch.left k old) ∙ is))
+        by (inr off) (inr far) = a.distinct k slots (sym (ch.others k off.0 off.1 far) ∙ is)
 
   -- the nodes once the second path is gone are those of the new map
   nodes_left : (k : ℕ) → get (removed s.tree (to ++ other ∷ [])).nodes k ≡ option_map thing_of (new k)
@@ -216,5 +275,5 @@ module _ (laws : TreeLaws) (s : Session) (m new : Inodes) (a : Agrees s.limit m 
   -- the new map is that of the tree after the move
   pub renamed_agrees : Agrees s.limit new (step s (Rename (up ++ name ∷ []) (to ++ other ∷ []))).0.tree
   renamed_agrees = moved_agrees laws s m new a up to name other d c n at_up (dir_of s.limit m s.tree a d ch.slots ch.from_dir) at_to (dir_of s.limit m s.tree a c ch.target ch.into_dir) first_path accepted two_nodes
-      entry_new (ap (λ o. entry_in o name) source.taken ∙ taken_here source.list ch.place (slot_of n name) source.distinct source.slot) entry_others
+      ch.come ch.gone entry_others
       nodes_left links_left slots_distinct

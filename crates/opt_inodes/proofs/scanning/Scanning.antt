@@ -14,7 +14,7 @@ use Rattle.opt_inodes.proofs.basics.Paths.{Path, none_some, some_same}
 use Rattle.opt_inodes.proofs.basics.Numbers.{everywhere}
 use Rattle.opt_inodes.proofs.agreement.Steps.{step_at}
 use Rattle.opt_inodes.proofs.agreement.Agree.{Agrees, agrees, is_map}
-use Rattle.opt_inodes.proofs.commands.Adding.{one_dir, dir_file, node_agrees, link_agrees}
+use Rattle.opt_inodes.proofs.commands.Adding.{adds_name, one_dir, dir_file, node_agrees, link_agrees}
 
 -- The root alone.
 
@@ -53,14 +53,20 @@ module _ (laws : TreeLaws) (limit : ℕ) (m new : Inodes) (t : Tree) (is : IsMap
   -- a slot of a node that wasn't seen
   pub node_seen : (thing : Thing) (ch : AddsSlot m new d n name (new_inode thing)) → node_in ch.slots name ≡ None → m n ≡ None → 1 ≤ n → n ≤ limit → (u : Tree) × IsMapOf limit new u
   node_seen thing ch free unused low high =
-      let up = path_to limit m t a d (ADir ch.slots) ch.dir in
-      (_, is_map limit new _ (node_agrees laws limit m new t a up.0 name d n (new_inode thing) up.1 (free_at ch.slots up.0 ch.dir up.1 free) ch thing refl unused low high))
+      let up = path_to limit m t a d (ADir ch.slots) ch.dir in (
+        _,
+        is_map limit new _ (node_agrees laws limit m new t a up.0 name d n (new_inode thing) up.1 (free_at ch.slots up.0 ch.dir up.1 free)
+            (adds_name limit m new t a up.0 name d n (new_inode thing) up.1 (free_at ch.slots up.0 ch.dir up.1 free) ch) thing refl unused low high),
+      )
 
   -- a slot of a file that was seen
   pub path_seen : (links : ℕ) (bytes : List ℕ) (ch : AddsSlot m new d n name (AFile (links + 1) bytes)) → node_in ch.slots name ≡ None → m n ≡ Some (AFile links bytes) → (u : Tree) × IsMapOf limit new u
   path_seen links bytes ch free file =
-      let up = path_to limit m t a d (ADir ch.slots) ch.dir in
-      (_, is_map limit new _ (link_agrees laws limit m new t a up.0 name d n (AFile (links + 1) bytes) up.1 (free_at ch.slots up.0 ch.dir up.1 free) ch links bytes file refl))
+      let up = path_to limit m t a d (ADir ch.slots) ch.dir in (
+        _,
+        is_map limit new _ (link_agrees laws limit m new t a up.0 name d n (AFile (links + 1) bytes) up.1 (free_at ch.slots up.0 ch.dir up.1 free)
+            (adds_name limit m new t a up.0 name d n (AFile (links + 1) bytes) up.1 (free_at ch.slots up.0 ch.dir up.1 free) ch) links bytes file refl),
+      )
 
 -- What was seen stays a part of the whole.
 

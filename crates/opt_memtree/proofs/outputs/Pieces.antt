@@ -1,5 +1,6 @@
 -- A text that a sink takes piece by piece: what is left of it, and that a fault leaves a front of it taken.
 use Rattle.std.proofs.Common.{◌≡◌, ℕ, ◌+◌, ◌<◌, List, [], ◌∷◌, ◌++◌, length, drop, get_or, map, flat_map, codes, Option, Result, Ok, Err, OnErr, Vec, sym, refl, ap, ap₂, ◌∙◌, subst, arith, append_assoc, append-nil, drop-cons, suc, slice_index, ◌/◌, ◌%◌, decimal}
+use Rattle.std.proofs.lemmas.Grind.{flat_map-append}
 use Rattle.std.specs.Io.KnownBytes.{Appends}
 use Rattle.std.proofs.KnownBytes.{Appends-trans, Appends-nil}
 use Rattle.std.specs.FinMap.{get}
@@ -7,8 +8,6 @@ use Rattle.hex.specs.Hex.{encode_lower, encode_with, lower_digits}
 use Rattle.opt_io.specs.Prefix.{TakesPrefix}
 use Rattle.opt_tree.specs.Tree.{Names, Nodes, Thing, path_cmp}
 use Rattle.opt_tree.specs.Listing.{slashed, path_text, digits_behind_blank, line_of, listing}
-use Rattle.opt_memtree.specs.Stored.{names_of}
-use Rattle.opt_memtree.proofs.keys.InOrder.{Rise, tree_in_order}
 
 -- what holds anyway holds on an error
 pub on_err : {T E : Type 0} (r : Result T E) (P : Type 0) → P → OnErr r P
@@ -62,6 +61,10 @@ slashed_next path i name within is =
     ap slashed (drop-cons path i name within) ∙ ap (λ x. (47 ∷ x) ++ slashed (drop (suc i) path)) (sym is)
     ∙ ap (λ k. (47 ∷ name) ++ slashed (drop k path)) next
 
+-- a name more at the end of a path
+pub slashed_last : (up : List (List ℕ)) (name : List ℕ) → slashed (up ++ name ∷ []) ≡ slashed up ++ 47 ∷ name
+slashed_last up name = flat_map-append (λ n. 47 ∷ n) up (name ∷ []) ∙ ap (λ xs. slashed up ++ xs) (append-nil (47 ∷ name))
+
 pub digits_all : (bytes : List ℕ) → 0 < length bytes → codes " " ++ encode_lower bytes ≡ digits_behind_blank bytes
 digits_all [] some = absurd (omega arith)
 digits_all (byte ∷ bytes) some = refl
@@ -78,24 +81,3 @@ pub no_digits : (left : List ℕ) → length left ≡ 0 → encode_lower left �
 unfolding encode_with
 no_digits [] none = refl
 no_digits (x ∷ left) none = absurd (omega arith)
-
-module _ {Z : Type 0} (nodes : Nodes) where
-  -- the lines of the search tree's entries
-  abbrev pub lines : List (Vec (List ℕ) Z × ℕ) → List ℕ
-  lines es = flat_map (λ e. line_of e.0.items e.1 (get nodes e.1)) es
-
-  lines_shown : (es : List (Vec (List ℕ) Z × ℕ)) → flat_map (λ (e : List (List ℕ) × ℕ). line_of e.0 e.1 (get nodes e.1)) (map (λ e. (e.0.items, e.1)) es) ≡ lines es
-  lines_shown [] = refl
-  lines_shown (e ∷ es) = ap (λ rest. line_of e.0.items e.1 (get nodes e.1) ++ rest) (lines_shown es)
-
-  pub lines_all : (names : Names) (es range : List (Vec (List ℕ) Z × ℕ)) → names_of es ≡ names → Rise (λ x y. path_cmp x.items y.items) es → range ≡ es
-      → lines range ≡ listing (record { names = names; nodes = nodes })
-  lines_all names es range is rise same =
-      subst (λ m. lines range ≡ listing (record { names = m; nodes = nodes })) is
-      (ap lines same ∙ sym (ap (flat_map (λ (e : List (List ℕ) × ℕ). line_of e.0 e.1 (get nodes e.1))) (tree_in_order es rise) ∙ lines_shown es))
-
-  -- the next line, as the code writes it, and those behind it
-  pub lines_next : (left rest : List (Vec (List ℕ) Z × ℕ)) (key : Vec (List ℕ) Z) (n : ℕ) (path : List (List ℕ)) (thing : Option Thing)
-      → left ≡ (key, n) ∷ rest → path ≡ key.items → thing ≡ get nodes n → lines left ≡ line_of path n thing ++ lines rest
-  lines_next left rest key n path thing is same found =
-      ap lines is ∙ sym (ap₂ (λ p x. line_of p n x ++ lines rest) same found)

@@ -2,19 +2,20 @@ use Rattle.std.proofs.Common.{◌++◌, codes, decimal, length}
 use Rattle.std.proofs.KnownBytes.{Appends-trans}
 use Rattle.opt_tree.specs.Listing.{digits_behind_blank}
 use Rattle.opt_memtree.proofs.outputs.Pieces.{head, on_err}
+use Rattle.opt_memtree.specs.Trails.{path_on}
 use Rattle.opt_memtree.proofs.listing.write_file.Goals as goal
 
 pub returns-in_err-write_head-clause-front : goal.returns-in_err-write_head-clause-front
 returns-in_err-write_head-clause-front g c =
     let join = c.prefixes_join.ensures in
-    let number = head (codes "file ") c.args.path.now c.args.number in
+    let number = head (codes "file ") (path_on c.args.path.now) c.args.number in
     let size = number ++ codes " " ++ decimal (length c.args.bytes.now) in
     on_err _ _ (join.first _ _ (size ++ digits_behind_blank c.args.bytes.now) _ (join.first _ _ size _ (join.first _ _ (number ++ codes " ") _ (join.first _ _ number _ c.in_err-write_head.ensures.front))))
 
 pub returns-in_err-push_all-clause-front : goal.returns-in_err-push_all-clause-front
 returns-in_err-push_all-clause-front g c =
     let join = c.prefixes_join.ensures in
-    let number = head (codes "file ") c.args.path.now c.args.number in
+    let number = head (codes "file ") (path_on c.args.path.now) c.args.number in
     let size = number ++ codes " " ++ decimal (length c.args.bytes.now) in
     on_err _ _ (join.first _ _ (size ++ digits_behind_blank c.args.bytes.now) _ (join.first _ _ size _ (join.first _ _ (number ++ codes " ") _
     (join.second _ _ _ number _ c.in_ok-write_head.ensures.all c.in_err-push_all.ensures.front))))
@@ -22,14 +23,14 @@ returns-in_err-push_all-clause-front g c =
 pub returns-in_err-write_number-clause-front : goal.returns-in_err-write_number-clause-front
 returns-in_err-write_number-clause-front g c =
     let join = c.prefixes_join.ensures in
-    let number = head (codes "file ") c.args.path.now c.args.number in
+    let number = head (codes "file ") (path_on c.args.path.now) c.args.number in
     let size = number ++ codes " " ++ decimal (length c.args.bytes.now) in
     let blank = Appends-trans _ _ _ number _ c.in_ok-write_head.ensures.all c.in_ok-push_all.ensures.all in
     on_err _ _ (join.first _ _ (size ++ digits_behind_blank c.args.bytes.now) _ (join.first _ _ size _ (join.second _ _ _ (number ++ codes " ") _ blank c.in_err-write_number.ensures.front)))
 
 pub returns-in_err-write_digits-clause-front : goal.returns-in_err-write_digits-clause-front
 returns-in_err-write_digits-clause-front g c =
-    let number = head (codes "file ") c.args.path.now c.args.number in
+    let number = head (codes "file ") (path_on c.args.path.now) c.args.number in
     let size = number ++ codes " " ++ decimal (length c.args.bytes.now) in
     let blank = Appends-trans _ _ _ number _ c.in_ok-write_head.ensures.all c.in_ok-push_all.ensures.all in
     let sized = Appends-trans _ _ _ (number ++ codes " ") _ blank c.in_ok-write_number.ensures.all in
@@ -37,7 +38,7 @@ returns-in_err-write_digits-clause-front g c =
 
 pub returns-in_err-push_all-2-clause-front : goal.returns-in_err-push_all-2-clause-front
 returns-in_err-push_all-2-clause-front g c =
-    let number = head (codes "file ") c.args.path.now c.args.number in
+    let number = head (codes "file ") (path_on c.args.path.now) c.args.number in
     let size = number ++ codes " " ++ decimal (length c.args.bytes.now) in
     let blank = Appends-trans _ _ _ number _ c.in_ok-write_head.ensures.all c.in_ok-push_all.ensures.all in
     let sized = Appends-trans _ _ _ (number ++ codes " ") _ blank c.in_ok-write_number.ensures.all in
@@ -46,7 +47,7 @@ returns-in_err-push_all-2-clause-front g c =
 
 pub returns-clause-all : goal.returns-clause-all
 returns-clause-all g c =
-    let number = head (codes "file ") c.args.path.now c.args.number in
+    let number = head (codes "file ") (path_on c.args.path.now) c.args.number in
     let size = number ++ codes " " ++ decimal (length c.args.bytes.now) in
     let blank = Appends-trans _ _ _ number _ c.in_ok-write_head.ensures.all c.in_ok-push_all.ensures.all in
     let sized = Appends-trans _ _ _ (number ++ codes " ") _ blank c.in_ok-write_number.ensures.all in

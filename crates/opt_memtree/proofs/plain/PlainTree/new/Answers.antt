@@ -1,20 +1,28 @@
-use Rattle.std.proofs.Common.{◌≡◌, sym, subst, rules}
+use Rattle.std.proofs.Common.{◌≡◌, ◌∙◌, ap, sym, subst, rules}
 use Rattle.opt_tree.specs.Tree.{IsSound, HasSmallFiles}
-use Rattle.opt_tree.specs.Step.{Session, start}
-use Rattle.opt_memtree.proofs.trees.Answered.{Kept}
+use Rattle.opt_memtree.specs.declared.state.State.{State}
+use Rattle.opt_memtree.specs.Kept.{map_of, tree_of}
+use Rattle.opt_memtree.specs.Serving.{IsKept, first_state, session_of}
+use Rattle.opt_memtree.proofs.serving.Kept.{first_kept, first_session}
+use Rattle.opt_memtree.proofs.serving.Served.{small_tree}
 use Rattle.opt_memtree.proofs.plain.PlainTree.new.Goals as goal
 
 pub invariant_of-result : goal.invariant_of-result
 invariant_of-result c =
-    let is : c.in_ok-state.state ≡ start c.args.nodes = search rules in
-    subst (λ (s : Session). Kept s) (sym is) (c.commands_keep_a_tree_sound.ensures.start c.args.nodes c.requires, c.files_stay_small.ensures.start c.args.nodes)
+    let is : c.in_ok-state.state ≡ first_state c.args.nodes = search rules in
+    subst IsKept (sym is) (first_kept c.the_maps_are_lawful.ensures c.args.nodes c.requires)
+
+pub returns-clause-start : goal.returns-clause-start
+returns-clause-start c =
+    let is : c.in_ok-state.state ≡ first_state c.args.nodes = search rules in
+    ap session_of is ∙ first_session c.the_maps_are_lawful.ensures c.args.nodes c.requires
 
 pub returns-clause-sound : goal.returns-clause-sound
 returns-clause-sound c =
-    let is : c.in_ok-state.state ≡ start c.args.nodes = search rules in
-    subst (λ (s : Session). IsSound s.limit s.tree) (sym is) (c.commands_keep_a_tree_sound.ensures.start c.args.nodes c.requires)
+    let k = invariant_of-result c in
+    c.the_maps_are_lawful.ensures.sound c.in_ok-state.state.limit (map_of c.in_ok-state.state.nodes) (tree_of c.in_ok-state.state.nodes) k.map
 
 pub returns-clause-small : goal.returns-clause-small
 returns-clause-small c =
-    let is : c.in_ok-state.state ≡ start c.args.nodes = search rules in
-    subst (λ (s : Session). HasSmallFiles s.tree.nodes) (sym is) (c.files_stay_small.ensures.start c.args.nodes)
+    let k = invariant_of-result c in
+    small_tree c.in_ok-state.state.limit (map_of c.in_ok-state.state.nodes) (tree_of c.in_ok-state.state.nodes) k.map k.small

@@ -1,0 +1,4 @@
+pub mod Slots
+pub mod Walking
+pub mod Depth
+pub mod TreeOf

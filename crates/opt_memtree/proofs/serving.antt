@@ -1,0 +1,6 @@
+pub mod Changed
+pub mod Reasons
+pub mod Naming
+pub mod Mapped
+pub mod Served
+pub mod Kept

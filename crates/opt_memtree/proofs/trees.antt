@@ -1,3 +1,0 @@
-pub mod Removals
-pub mod WalkSteps
-pub mod Answered
