@@ -1,0 +1,82 @@
+//! Images of disks: formatted ones, and how bytes and headers are put into them. Nothing is mounted here.
+
+use opt_base::{Block, NoMemory};
+use opt_format::formatted_block;
+use opt_geom::Geom;
+use opt_journal::{Header, write_header};
+use opt_memdisk::Image;
+use std::alloc::Global;
+
+/// The image of a formatted disk.
+///
+/// # Errors
+/// Out of memory.
+pub(crate) fn formatted_image(alloc: Global, geom: &Geom) -> Result<Image, NoMemory> {
+    let mut image = Image::zeros(alloc, geom.n())?;
+    for b in 0..geom.n() {
+        if b < image.blocks() {
+            image.set(b, &formatted_block(geom, b));
+        }
+    }
+    Ok(image)
+}
+
+/// The geometry of these numbers, if they fit together.
+pub(crate) fn geometry(n: &str, j: &str, i: &str) -> Option<Geom> {
+    Geom::new(n.parse().ok()?, j.parse().ok()?, i.parse().ok()?).ok()
+}
+
+/// Puts bytes into a block of an image, from an offset on. Whether the block has room for them.
+pub(crate) fn set_bytes(image: &mut Image, block: u32, offset: usize, bytes: &[u8]) -> bool {
+    let Some(old) = image.as_slice().get(block as usize) else {
+        return false;
+    };
+    let mut new: Block = *old;
+    let Some(end) = offset.checked_add(bytes.len()) else {
+        return false;
+    };
+    let Some(into) = new.get_mut(offset..end) else {
+        return false;
+    };
+    into.copy_from_slice(bytes);
+    if block < image.blocks() {
+        image.set(block, &new);
+    }
+    true
+}
+
+/// Puts the header that these words spell into a slot of an image: slot, epoch, turn, start, sure, place, and `open`
+/// or `closed`. Whether they are one.
+pub(crate) fn set_header(image: &mut Image, geom: Geom, words: &[&str]) -> bool {
+    let Some((slot, header)) = header_of(geom, words) else {
+        return false;
+    };
+    if slot >= image.blocks() {
+        return false;
+    }
+    let mut bytes: Block = [0; 1024];
+    write_header(&header, &mut bytes);
+    image.set(slot, &bytes);
+    true
+}
+
+fn header_of(geom: Geom, words: &[&str]) -> Option<(u32, Header)> {
+    let [slot, epoch, turn, start, sure, at, state] = words else {
+        return None;
+    };
+    let closed = match *state {
+        "open" => false,
+        "closed" => true,
+        _ => return None,
+    };
+    let header = Header {
+        epoch: epoch.parse().ok()?,
+        turn: turn.parse().ok()?,
+        start: start.parse().ok()?,
+        sure: sure.parse().ok()?,
+        at: at.parse().ok()?,
+        closed,
+        geom,
+    };
+    Some((slot.parse().ok()?, header))
+}
