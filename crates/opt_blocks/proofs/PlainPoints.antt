@@ -14,12 +14,12 @@ use Rattle.opt_blocks.proofs.DefinedSteps.{kept_live}
 -- the points stay
 pub nothing_issued : (old new : PlainBlocks) → new.history.points ≡ old.history.points → new.floor ≡ old.floor → IssuesNothing (state_of old) (state_of new)
 nothing_issued old new e f = record {
-  moment = refl;
+  base = refl;
+  log = refl;
   point = λ p m. (λ is. subst (λ ps. IsKeptPoint ps p m) e is, λ is. subst (λ ps. IsKeptPoint ps p m) (sym e) is);
   left = λ t m. (λ is. subst (λ ps. IsKeptFrom ps old.floor m) e (subst (λ k. IsKeptFrom new.history.points k m) f is), λ is. subst (λ k. IsKeptFrom new.history.points k m) (sym f) (subst (λ ps. IsKeptFrom ps old.floor m) (sym e) is));
   holds = λ img m. (λ is. is, λ is. is);
   issued = λ m. (λ is. subst (λ ps. IsKeptPoint ps (length ps - 1) m) e is, λ is. subst (λ ps. IsKeptPoint ps (length ps - 1) m) (sym e) is);
-  writes = refl;
 }
 
 -- a point of the first ones is one of them all
@@ -30,6 +30,8 @@ among ps more p low = ap blocks_of (get_or_append_left ps more [] p low)
 advances_parts : (p : PlainBlocks) (s : State) (points more : List (List (List ℕ))) (floor : ℕ) → points ≡ p.history.points ++ more → p.floor ≤ floor
     → Advances (state_of p) (record s { books = record s.books { point = length points - 1; floor = floor }; crash = crash_of points floor })
 advances_parts p s points more floor e rises = record {
+  base = refl;
+  grows = record { more = []; log = refl };
   window = λ m left. ∣ record { point = left.point; from = omega (arith, left.from, rises); upto = omega (arith, left.kept.below); map = m; holds = refl; is = left.kept } ∣₁;
   earlier = λ t m before left. inr ∣ record { point = left.point; from = omega (arith, left.from, rises); upto = omega (arith, left.kept.below); map = m; holds = refl; is = left.kept } ∣₁;
   point = λ k m low.
@@ -38,7 +40,6 @@ advances_parts p s points more floor e rises = record {
         λ is. record { below = omega (arith, below, ap length e, length-append p.history.points more); is = is.is ∙ sym (among p.history.points more k below) ∙ sym (ap (λ ps. blocks_of (get_or ps k [])) e) },
       );
   holds = λ img m. (λ is. is, λ is. is);
-  later = omega arith;
   last = omega (arith, ap length e, length-append p.history.points more);
   floor = rises;
 }

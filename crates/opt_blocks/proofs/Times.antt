@@ -1,8 +1,11 @@
 -- Two calls, one behind the other.
-use Rattle.std.proofs.Common.{◌≡◌, Bool, false, arith, ⊎_elim, inl, inr, ◌∙◌, refl, ap}
+use Rattle.std.proofs.Common.{◌≡◌, ◌≤◌, Bool, false, List, [], ◌++◌, arith, ⊎_elim, inl, inr, ◌∙◌, refl, sym, ap, append_assoc, length, length-append}
 use Rattle.std.proofs.Math.Logic.{∥∥₁_map}
+use Rattle.std.proofs.lemmas.List.{append-nil}
 use Rattle.opt_base.specs.Counts.{after_call}
 use Rattle.opt_base.specs.Seal.{Blocks}
+use Rattle.opt_disk.specs.declared.event.Event.{Event}
+use Rattle.opt_disk.specs.Disk.{Grows}
 use Rattle.opt_blocks.specs.State.{State}
 use Rattle.opt_blocks.specs.Calls.{UsesDisk}
 use Rattle.opt_blocks.specs.Crashes.{HoldsPointBetween, Advances, IssuesNothing, IsTold}
@@ -16,16 +19,25 @@ kept old mid new a b m i = record { point = i.point; from = i.from; upto = omega
 lower : (old mid new : State) → Advances old mid → (m : Blocks) → HoldsPointBetween new mid.books.floor new.books.point m → HoldsPointBetween new old.books.floor new.books.point m
 lower old mid new a m i = record { point = i.point; from = omega (arith, a.floor, i.from); upto = i.upto; map = i.map; holds = i.holds; is = i.is }
 
+-- a log that goes on has no fewer events
+later : (old new : List Event) → Grows old new → length old ≤ length new
+later old new a = omega (arith, ap (λ (es : List Event). length es) a.log, length-append old a.more)
+
+-- a log that goes on goes on from where it had come to
+grows_on : (old mid new : List Event) → Grows old mid → Grows mid new → Grows old new
+grows_on old mid new a b = record { more = a.more ++ b.more; log = b.log ∙ ap (λ (es : List Event). es ++ b.more) a.log ∙ append_assoc old a.more b.more }
+
 pub advances_on : (old mid new : State) → Advances old mid → Advances mid new → Advances old new
 advances_on old mid new a b = record {
-  window = λ m left. ⊎_elim (λ was. ∥∥₁_map (a.window m was) (kept old mid new a b m)) (λ late. ∥∥₁_map late (lower old mid new a m)) (b.earlier old.crash.moment m a.later left);
+  base = b.base ∙ a.base;
+  grows = grows_on old.crash.log mid.crash.log new.crash.log a.grows b.grows;
+  window = λ m left. ⊎_elim (λ was. ∥∥₁_map (a.window m was) (kept old mid new a b m)) (λ late. ∥∥₁_map late (lower old mid new a m)) (b.earlier (length old.crash.log) m (later old.crash.log mid.crash.log a.grows) left);
   earlier = λ t m before left. ⊎_elim
       (λ was. ⊎_elim inl (λ point. inr (∥∥₁_map point (kept old mid new a b m))) (a.earlier t m before was))
       (λ late. inr (∥∥₁_map late (lower old mid new a m)))
-      (b.earlier t m (omega (arith, before, a.later)) left);
+      (b.earlier t m (omega (arith, before, later old.crash.log mid.crash.log a.grows)) left);
   point = λ p m low. (λ is. (a.point p m low).0 ((b.point p m (omega (arith, low, a.last))).0 is), λ is. (b.point p m (omega (arith, low, a.last))).1 ((a.point p m low).1 is));
   holds = λ img m. (λ is. (a.holds img m).0 ((b.holds img m).0 is), λ is. (b.holds img m).1 ((a.holds img m).1 is));
-  later = omega (arith, a.later, b.later);
   last = omega (arith, a.last, b.last);
   floor = omega (arith, a.floor, b.floor);
 }
@@ -33,22 +45,22 @@ advances_on old mid new a b = record {
 -- nothing is issued, twice
 pub nothing_on : (old mid new : State) → IssuesNothing old mid → IssuesNothing mid new → IssuesNothing old new
 nothing_on old mid new a b = record {
-  moment = b.moment ∙ a.moment;
+  base = b.base ∙ a.base;
+  log = b.log ∙ a.log;
   point = λ p m. (λ is. (a.point p m).0 ((b.point p m).0 is), λ is. (b.point p m).1 ((a.point p m).1 is));
   left = λ t m. (λ is. (a.left t m).0 ((b.left t m).0 is), λ is. (b.left t m).1 ((a.left t m).1 is));
   holds = λ img m. (λ is. (a.holds img m).0 ((b.holds img m).0 is), λ is. (b.holds img m).1 ((a.holds img m).1 is));
   issued = λ m. (λ is. (a.issued m).0 ((b.issued m).0 is), λ is. (b.issued m).1 ((a.issued m).1 is));
-  writes = b.writes ∙ a.writes;
 }
 
 pub nothing_not : (s : State) → IssuesNothing s s
 nothing_not s = record {
-  moment = refl;
+  base = refl;
+  log = refl;
   point = λ p m. (λ is. is, λ is. is);
   left = λ t m. (λ is. is, λ is. is);
   holds = λ img m. (λ is. is, λ is. is);
   issued = λ m. (λ is. is, λ is. is);
-  writes = refl;
 }
 
 -- the disk is left alone, twice
@@ -61,11 +73,12 @@ leaves_not tells s = record { counts = refl; crash = λ t. nothing_not s }
 -- a call that issues nothing is one in which time goes on, if the points' numbers stay
 pub nothing_advances : (old new : State) → IsTold old → new.books.point ≡ old.books.point → new.books.floor ≡ old.books.floor → IssuesNothing old new → Advances old new
 nothing_advances old new told e f a = record {
-  window = λ m left. ∥∥₁_map (told.now m ((a.left old.crash.moment m).0 left)) (λ i. record { point = i.point; from = i.from; upto = omega (arith, i.upto, e); map = i.map; holds = (a.holds m i.map).1 i.holds; is = (a.point i.point i.map).1 i.is });
+  base = a.base;
+  grows = record { more = []; log = a.log ∙ sym (append-nil old.crash.log) };
+  window = λ m left. ∥∥₁_map (told.now m ((a.left (length old.crash.log) m).0 left)) (λ i. record { point = i.point; from = i.from; upto = omega (arith, i.upto, e); map = i.map; holds = (a.holds m i.map).1 i.holds; is = (a.point i.point i.map).1 i.is });
   earlier = λ t m before left. inl ((a.left t m).0 left);
   point = λ p m low. a.point p m;
   holds = λ img m. a.holds img m;
-  later = omega (arith, a.moment);
   last = omega (arith, e);
   floor = omega (arith, f);
 }

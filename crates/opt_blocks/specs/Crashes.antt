@@ -1,6 +1,7 @@
 -- What a crash may leave of a map of blocks, before and after a call. It is described in docs/BLOCKS.md.
 use Rattle.std.specs.Prelude.{◌≡◌, ◌↔◌, ◌⊎◌, ℕ, ◌+◌, ◌<◌, ◌≤◌, false, true, IsTrue, [], length}
 use Rattle.opt_base.specs.Seal.{Blocks}
+use Rattle.opt_disk.specs.Disk.{Grows, writes_in}
 use Rattle.opt_geom.specs.Geometry.{Geometry}
 use Rattle.opt_layout.specs.Bitmap.{is_set}
 use Rattle.opt_journal.specs.Run.{is_live}
@@ -22,23 +23,24 @@ HasLiveBlocks g map m = (b : ℕ) → IsTrue (is_live g map b) → m b ≡ map b
 
 -- No event comes, and no point: a crash may leave what it might have left.
 pub record IssuesNothing (old new : State) : Type 0 where
-  pub moment : new.crash.moment ≡ old.crash.moment
+  pub base : new.crash.base ≡ old.crash.base
+  pub log : new.crash.log ≡ old.crash.log
   pub point : (p : ℕ) (m : Blocks) → new.crash.is_point p m ↔ old.crash.is_point p m
   pub left : (t : ℕ) (img : Blocks) → new.crash.left_since t img ↔ old.crash.left_since t img
   pub holds : (img m : Blocks) → new.crash.holds img m ↔ old.crash.holds img m
   pub issued : (m : Blocks) → new.crash.issued m ↔ old.crash.issued m
-  pub writes : new.crash.writes ≡ old.crash.writes
 
--- Time goes on. At each moment of the call a crash leaves an image that holds the map of a point, from the floor as it began to the last one as it ended.
+-- Time goes on: events come behind those that there were. At each moment of the call a crash leaves an image that holds the map of a point, from the floor as it began to the last one as it ended.
 pub record Advances (old new : State) : Type 0 where
-  pub window : (img : Blocks) → new.crash.left_since old.crash.moment img → ∥ HoldsPointBetween new old.books.floor new.books.point img ∥₁
+  pub base : new.crash.base ≡ old.crash.base
+  pub grows : Grows old.crash.log new.crash.log
+  pub window : (img : Blocks) → new.crash.left_since (length old.crash.log) img → ∥ HoldsPointBetween new old.books.floor new.books.point img ∥₁
   -- the same for something that began earlier: what a crash since then may leave it might have left before the call, or it holds such a map
-  pub earlier : (t : ℕ) (img : Blocks) → t ≤ old.crash.moment → new.crash.left_since t img → old.crash.left_since t img ⊎ ∥ HoldsPointBetween new old.books.floor new.books.point img ∥₁
+  pub earlier : (t : ℕ) (img : Blocks) → t ≤ length old.crash.log → new.crash.left_since t img → old.crash.left_since t img ⊎ ∥ HoldsPointBetween new old.books.floor new.books.point img ∥₁
   -- which map an image holds is for ever
   pub holds : (img m : Blocks) → new.crash.holds img m ↔ old.crash.holds img m
   -- a point is for ever
   pub point : (p : ℕ) (m : Blocks) → p ≤ old.books.point → new.crash.is_point p m ↔ old.crash.is_point p m
-  pub later : old.crash.moment ≤ new.crash.moment
   pub last : old.books.point ≤ new.books.point
   pub floor : old.books.floor ≤ new.books.floor
 
@@ -52,7 +54,7 @@ MakesPoint old new = old.books.point < new.books.point → HasMapOfPoint new new
 
 -- The writes so far, and those that are still to come for what was committed, grow by so many at most.
 abbrev pub WritesAtMost : ℕ → State → State → Type 0
-WritesAtMost more old new = new.crash.writes + new.books.owed ≤ old.crash.writes + old.books.owed + more
+WritesAtMost more old new = writes_in new.crash.log + new.books.owed ≤ writes_in old.crash.log + old.books.owed + more
 
 -- Nothing was done yet: no point was made, and the transaction is empty.
 pub record IsBegun (s : State) : Type 0 where
@@ -71,7 +73,7 @@ pub record StandsForLast (s : State) : Type 0 where
 
 -- What is known of each state: a crash now leaves an image that holds the map of a point from the floor on; the bits of the map are those of the bookkeeping; each block on which the map is defined is whole, and elsewhere it has nothing; and while no call of the disk failed, all that was issued is the last point.
 pub record IsTold (s : State) : Type 0 where
-  pub now : (img : Blocks) → s.crash.left_since s.crash.moment img → ∥ HoldsPointBetween s s.books.floor s.books.point img ∥₁
+  pub now : (img : Blocks) → s.crash.left_since (length s.crash.log) img → ∥ HoldsPointBetween s s.books.floor s.books.point img ∥₁
   pub bits : (b : ℕ) → b < s.books.geom.n → s.books.marked b ≡ is_set s.books.geom s.map b
   pub whole : (b : ℕ) → b < s.books.geom.n → is_defined s.books b ≡ true → length (s.map b) ≡ 1024
   pub nothing : (b : ℕ) → is_defined s.books b ≡ false → s.map b ≡ []

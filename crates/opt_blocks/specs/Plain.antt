@@ -43,10 +43,10 @@ pub record IsKeptFrom (points : List (List (List ℕ))) (floor : ℕ) (m : Block
 -- memory has no events: a crash leaves the map itself of any point from the floor on, and all that was issued is the last one
 abbrev pub crash_of : List (List (List ℕ)) → ℕ → CrashView
 crash_of points floor = record {
-  moment = 0;
+  base = λ b. [];
+  log = [];
   is_point = λ p m. IsKeptPoint points p m;
   left_since = λ t m. IsKeptFrom points floor m;
   holds = λ img m. img ≡ m;
   issued = λ m. IsKeptPoint points (length points - 1) m;
-  writes = 0;
 }

@@ -3,6 +3,7 @@ use Rattle.std.specs.Prelude.{◌≡◌, ◌≢◌, ℕ, ◌+◌, ◌-◌, ◌<�
 use Rattle.std.specs.List.{filter, range_with_len, All, AllPairs}
 use Rattle.opt_base.specs.Seal.{Blocks}
 use Rattle.opt_base.specs.declared.words.Class.{Class}
+use Rattle.opt_disk.specs.declared.event.Event.{Event}
 use Rattle.opt_geom.specs.Geometry.{Geometry, bitmap_start, data_start}
 use Rattle.opt_blocks.specs.Running.{Running, Spare, is_bare, with_put, with_takes, with_free, has}
 
@@ -35,14 +36,14 @@ pub record Bookkeeping : Type 0 where
   -- a call of the disk failed in a write, a poll or a wait, and nothing is written any more
   pub stopped : Bool
 
--- What is known of crashes: the moment, which maps are those of a point, which images a crash at some moment from one on may leave, which map an image holds, what stands where all accepted writes stand, and how many writes there were.
+-- What is known of crashes: what the disk's blocks were as it began, and its events since, whose number is the moment; which maps are those of a point, which images a crash at some moment from one on may leave, which map an image holds, and what stands where all accepted writes stand. Of blocks in memory there is no event.
 pub record CrashView : Type 1 where
-  pub moment : ℕ
+  pub base : Blocks
+  pub log : List Event
   pub is_point : ℕ → Blocks → Type 0
   pub left_since : ℕ → Blocks → Type 0
   pub holds : Blocks → Blocks → Type 0
   pub issued : Blocks → Type 0
-  pub writes : ℕ
 
 -- The whole. The map has the bytes of each block on which it is defined, and nothing elsewhere; where contents aren't known, it and `crash` say nothing.
 pub record State : Type 1 where

@@ -5,7 +5,7 @@ use Rattle.std.proofs.lemmas.Bool.{lt-ltb, eq-eqb, eqb-true, false≢true}
 use Rattle.opt_disk.specs.declared.event.Event.{Event}
 use Rattle.opt_disk.specs.declared.event.Event.TheVariants.{Wrote}
 use Rattle.opt_disk.specs.Cell.{IsNoticed}
-use Rattle.opt_crash.specs.Counts.{writes_in}
+use Rattle.opt_disk.specs.Disk.{writes_in}
 use Rattle.opt_crash.specs.Writes.{AddsWrites, AddsFront, AddsAll}
 use Rattle.opt_crash.specs.HomeTest.{is_one_of}
 use Rattle.opt_notes.specs.Notes.{is_expected, is_noticed}

@@ -4,7 +4,7 @@ use Rattle.opt_disk.specs.declared.event.Event.{Event}
 use Rattle.opt_disk.specs.declared.event.Event.TheVariants.{Wrote, Lost, Noticed}
 use Rattle.opt_disk.specs.Cell.{notices}
 use Rattle.opt_journal.specs.Ring.{RingPlaces}
-use Rattle.opt_crash.specs.Counts.{writes_in}
+use Rattle.opt_disk.specs.Disk.{writes_in}
 use Rattle.opt_crash.specs.Ledger.{Ledger}
 use Rattle.opt_notes.specs.declared.notes.Note.{Note}
 use Rattle.opt_notes.specs.Notes.{Expected, is_expected}

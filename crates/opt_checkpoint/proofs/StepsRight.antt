@@ -6,11 +6,10 @@ use Rattle.opt_base.specs.Seal.{Blocks}
 use Rattle.opt_disk.specs.declared.event.Event.{Event}
 use Rattle.opt_disk.specs.declared.disk.DiskFault.{DiskFault}
 use Rattle.opt_disk.specs.Cell.{greatest_ticket}
-use Rattle.opt_disk.specs.Disk.{State, AddsWrite}
+use Rattle.opt_disk.specs.Disk.{State, AddsWrite, writes_in}
 use Rattle.opt_journal.specs.declared.header.Header.{Header}
 use Rattle.opt_journal.specs.Ring.{RingPlaces}
 use Rattle.opt_journal.specs.Spelling.{header_block}
-use Rattle.opt_crash.specs.Counts.{writes_in}
 use Rattle.opt_crash.specs.Ledger.{Ledger}
 use Rattle.opt_crash.specs.Points.{MountedSession, IsSafe}
 use Rattle.opt_crash.specs.Steps.{with_header}

@@ -4,9 +4,8 @@
 ghost use Rattle.std.specs.Prelude.{◌≡◌, ◌≤◌, ◌<◌, ◌+◌, ◌++◌, ◌∷◌, ◌^◌, [], ℕ, List, length, false, vec_len, vec_capacity, IsTrue, OnOk, is_err};
 ghost use Rattle.opt_base.specs.Seal.{Blocks};
 ghost use Rattle.opt_disk.specs.declared.event.Event.{Event};
-ghost use Rattle.opt_disk.specs.Disk.{State, OnlyWrites};
+ghost use Rattle.opt_disk.specs.Disk.{State, OnlyWrites, writes_in};
 ghost use Rattle.opt_journal.specs.Ring.{RingPlaces};
-ghost use Rattle.opt_crash.specs.Counts.{writes_in};
 ghost use Rattle.opt_crash.specs.Ledger.{Ledger};
 ghost use Rattle.opt_crash.specs.Points.{MountedSession, IsSafe};
 ghost use Rattle.opt_checkpoint.specs.Adds.{AddsHome, LosesFront};

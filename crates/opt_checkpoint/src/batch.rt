@@ -5,9 +5,8 @@ ghost use Rattle.std.specs.Prelude.{◌≡◌, ◌≤◌, ◌<◌, ◌+◌, ◌+
 ghost use Rattle.std.specs.VecDeque.{deque_len, deque_capacity};
 ghost use Rattle.opt_base.specs.Seal.{Blocks};
 ghost use Rattle.opt_disk.specs.declared.event.Event.{Event};
-ghost use Rattle.opt_disk.specs.Disk.{OnlyWrites};
+ghost use Rattle.opt_disk.specs.Disk.{OnlyWrites, writes_in};
 ghost use Rattle.opt_journal.specs.Ring.{RingPlaces};
-ghost use Rattle.opt_crash.specs.Counts.{writes_in};
 ghost use Rattle.opt_crash.specs.HomeTest.{is_one_of};
 ghost use Rattle.opt_crash.specs.Ledger.{Ledger};
 ghost use Rattle.opt_crash.specs.PipelineData.{PipelineData};

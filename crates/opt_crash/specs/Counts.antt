@@ -1,14 +1,7 @@
 -- How many writes a session makes: five numbers whose sum stays within what the sync points account for.
 use Rattle.std.specs.Prelude.{◌≡◌, ◌⊎◌, ℕ, ◌+◌, ◌-◌, ◌*◌, ◌<◌, ◌≤◌, List, [], ◌∷◌, length, take, drop}
 use Rattle.opt_disk.specs.declared.event.Event.{Event}
-use Rattle.opt_disk.specs.declared.event.Event.TheVariants.{Wrote, Lost, Noticed}
-
--- how many of these events are writes, accepted or lost
-abbrev pub writes_in : List Event → ℕ
-writes_in [] = 0
-writes_in (Wrote ticket block bytes ∷ es) = 1 + writes_in es
-writes_in (Lost block bytes ∷ es) = 1 + writes_in es
-writes_in (Noticed ticket ∷ es) = writes_in es
+use Rattle.opt_disk.specs.Disk.{writes_in}
 
 -- the numbers of a session: its writes so far; the writes of the commit under way that are still to come; the payloads that aren't at their blocks; the last record's number; `sure` and `start` of the header that was written last; and what the points account for
 pub record WriteCounts : Type 0 where

@@ -4,8 +4,8 @@
 ghost use Rattle.std.specs.Prelude.{◌≡◌, ◌⊎◌, ℕ, ◌+◌, ◌<◌, ◌≤◌, ◌++◌, List, length, Option, Result, Ok, Err};
 ghost use Rattle.opt_disk.specs.declared.event.Event.{Event};
 ghost use Rattle.opt_disk.specs.declared.disk.DiskFault.{DiskFault};
-ghost use Rattle.opt_disk.specs.Disk.{AddsWrite, AddsPoll, AddsNotices};
-ghost use Rattle.opt_crash.specs.Counts.{writes_in, WriteCounts, AreCounted, AreAtMost, AreWithinSum, counts_at_mount, with_point, with_part, with_home_write, without_payloads, with_header_write, MovesOn};
+ghost use Rattle.opt_disk.specs.Disk.{AddsWrite, AddsPoll, AddsNotices, writes_in};
+ghost use Rattle.opt_crash.specs.Counts.{WriteCounts, AreCounted, AreAtMost, AreWithinSum, counts_at_mount, with_point, with_part, with_home_write, without_payloads, with_header_write, MovesOn};
 
 /// The writes are within what the points account for as a mount ends, and after each write.
 pub fn writes_keep_within_the_sum()

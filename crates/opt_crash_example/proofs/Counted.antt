@@ -2,7 +2,8 @@
 use Rattle.std.proofs.Common.{◌≡◌, ◌⊎◌, inl, inr, ⊎_elim, ℕ, ◌+◌, ◌<◌, ◌≤◌, List, [], ◌∷◌, ◌++◌, length, Result, Ok, Err, refl, sym, ◌∙◌, ap, subst, arith, length-append}
 use Rattle.opt_disk.specs.declared.event.Event.{Event}
 use Rattle.opt_disk.specs.declared.event.Event.TheVariants.{Wrote, Lost, Noticed}
-use Rattle.opt_crash.specs.Counts.{writes_in, WriteCounts, AreCounted, AreAtMost, AreWithinSum, MovesOn, share, with_point, with_part, with_home_write, with_header_write}
+use Rattle.opt_disk.specs.Disk.{writes_in}
+use Rattle.opt_crash.specs.Counts.{WriteCounts, AreCounted, AreAtMost, AreWithinSum, MovesOn, share, with_point, with_part, with_home_write, with_header_write}
 use Rattle.opt_crash_example.specs.declared.one_record.OneRecord.{OneRecord}
 use Rattle.opt_crash_example.specs.declared.one_record.Settling.{Settling}
 use Rattle.opt_crash_example.specs.OneRecord.{accepted_in, lost_in, AddsAmidNotices, AddsPrefix, AddsInOrder, writes_of_life, counts_after, KeepsCount}

@@ -93,6 +93,13 @@ pub record OnlyReads (failed : Bool) (old new : State) : Type 0 where
   pub waits : new.waits ≡ old.waits
   pub polls : new.polls ≡ old.polls
 
+-- how many of these events are writes, accepted or lost
+abbrev pub writes_in : List Event → ℕ
+writes_in [] = 0
+writes_in (Wrote ticket block bytes ∷ es) = 1 + writes_in es
+writes_in (Lost block bytes ∷ es) = 1 + writes_in es
+writes_in (Noticed ticket ∷ es) = writes_in es
+
 -- a log that goes on: the old one with more events behind it
 pub record Grows (old new : List Event) : Type 0 where
   pub more : List Event

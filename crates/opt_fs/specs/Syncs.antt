@@ -39,6 +39,8 @@ pub record SyncsSession (tells orders : Bool) (cmd : Cmd) (result : Result Reply
   pub disk : UsesDisk (is_disk_fault result) old new
   pub geom : new.books.geom ≡ old.books.geom
   pub one : new.books.point ≤ old.books.point + 1
+  -- unless out of memory, one point more where anything was weighed, also where the disk failed
+  pub point : (result ≡ Err because.NoMemory → ⊥) → new.books.point ≡ old.books.point + if_changed old.books.running 1 0
   pub map : IsTrue tells → new.map ≡ old.map
   pub ticks : new.counts.ticks ≡ old.counts.ticks
   pub order : IsTrue orders → commit_places old.books ≤ old.books.free_places → new.counts.waits ≡ old.counts.waits

@@ -2,7 +2,7 @@
 //! leaves one of these trees. The functions do nothing; their clauses are laws. What a crash may leave of
 //! blocks is described by opt_blocks, and when blocks stand for a tree by opt_stands.
 
-ghost use Rattle.std.specs.Prelude.{◌≡◌, ◌⊎◌, ◌+◌, ◌≤◌, ℕ, IsTrue, false, Result};
+ghost use Rattle.std.specs.Prelude.{◌≡◌, ◌⊎◌, ◌+◌, ◌≤◌, ℕ, IsTrue, false, Result, length};
 ghost use Rattle.opt_base.specs.Seal.{Blocks as BlockMap};
 ghost use Rattle.opt_geom.specs.Geometry.{Geometry, IsGeometry};
 ghost use Rattle.opt_blocks.specs.declared.refusals.SyncRefusal.{SyncRefusal};
@@ -26,11 +26,11 @@ pub fn live_blocks_are_enough()
 /// Where all accepted writes stand, the blocks stand for the tree of the last point, while no call of the disk
 /// failed.
 pub fn a_crash_leaves_the_tree_of_a_point<S: Blocks>()
-    ensures now { (s : S) (trees : ℕ → Tree) (img : BlockMap) → IsTrue S.tells → KnowsPoints (S.state s) trees → (S.state s).crash.left_since (S.state s).crash.moment img
+    ensures now { (s : S) (trees : ℕ → Tree) (img : BlockMap) → IsTrue S.tells → KnowsPoints (S.state s) trees → (S.state s).crash.left_since (length (S.state s).crash.log) img
         → ∥ LeavesTree (S.state s) trees (S.state s).books.floor (S.state s).books.point img ∥₁ }
-    ensures call { (old new : S) (trees : ℕ → Tree) (img : BlockMap) → Advances (S.state old) (S.state new) → KnowsPoints (S.state new) trees → (S.state new).crash.left_since (S.state old).crash.moment img
+    ensures call { (old new : S) (trees : ℕ → Tree) (img : BlockMap) → Advances (S.state old) (S.state new) → KnowsPoints (S.state new) trees → (S.state new).crash.left_since (length (S.state old).crash.log) img
         → ∥ LeavesTree (S.state new) trees (S.state old).books.floor (S.state new).books.point img ∥₁ }
-    ensures earlier { (old new : S) (trees : ℕ → Tree) (t : ℕ) (img : BlockMap) → Advances (S.state old) (S.state new) → KnowsPoints (S.state new) trees → t ≤ (S.state old).crash.moment → (S.state new).crash.left_since t img
+    ensures earlier { (old new : S) (trees : ℕ → Tree) (t : ℕ) (img : BlockMap) → Advances (S.state old) (S.state new) → KnowsPoints (S.state new) trees → t ≤ length (S.state old).crash.log → (S.state new).crash.left_since t img
         → (S.state old).crash.left_since t img ⊎ ∥ LeavesTree (S.state new) trees (S.state old).books.floor (S.state new).books.point img ∥₁ }
     ensures issued { (s : S) (trees : ℕ → Tree) → IsTrue S.tells → KnowsPoints (S.state s) trees → (S.state s).books.stopped ≡ false
         → ∥ ((m : BlockMap) × (S.state s).crash.issued m) ∥₁ × ((m : BlockMap) → (S.state s).crash.issued m → IsTreeOf (S.state s).books.geom m (trees (S.state s).books.point)) }

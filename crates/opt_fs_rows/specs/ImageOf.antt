@@ -46,12 +46,12 @@ books_of p = record {
 -- nothing is said of crashes
 abbrev pub untold : CrashView
 untold = record {
-  moment = 0;
+  base = λ b. [];
+  log = [];
   is_point = λ p m. ⊤;
   left_since = λ t img. ⊤;
   holds = λ img m. ⊤;
   issued = λ m. ⊤;
-  writes = 0;
 }
 
 -- all that is known of the blocks

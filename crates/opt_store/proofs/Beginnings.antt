@@ -1,7 +1,9 @@
 -- What a store keeps as it begins, and with which map: new parts on a disk on which a session has begun.
-use Rattle.std.proofs.Common.{◌≡◌, ⊎_elim, ℕ, zero, suc, ◌+◌, ◌-◌, ◌^◌, ◌<◌, ◌≤◌, nat_le, nat_lt, ◌&&◌, ◌||◌, not, ◌==◌, if◌then◌else◌, Bool, true, false, IsTrue, List, [], ◌∷◌, ◌++◌, length, map, None, refl, sym, ◌∙◌, ap, ap₂, subst, arith}
+use Rattle.std.proofs.Common.{◌≡◌, ⊎_elim, ℕ, zero, suc, ◌+◌, ◌-◌, ◌^◌, ◌<◌, ◌≤◌, nat_le, nat_lt, ◌&&◌, ◌||◌, not, ◌==◌, if◌then◌else◌, Bool, true, false, IsTrue, List, [], ◌∷◌, ◌++◌, length, map, drop, None, refl, sym, ◌∙◌, ap, ap₂, subst, arith}
 use Rattle.std.proofs.lemmas.Bool.{cases_lt, le-ltb, lt-ltb}
 use Rattle.std.specs.List.{filter, range_with_len}
+use Rattle.std.proofs.Props.{props}
+use Rattle.std.proofs.Math.Logic.{∥∥₁_elim}
 use mathlib.Core.Path.{fun_ext}
 use Rattle.opt_base.specs.Counts.{after_calls}
 use Rattle.opt_base.specs.Seal.{Blocks}
@@ -30,7 +32,7 @@ use Rattle.opt_reuse.specs.Dead.{DeadBlocks}
 use Rattle.opt_checkpoint.specs.declared.pipeline.Pipeline.{Pipeline}
 use Rattle.opt_checkpoint.specs.Advance.{IsRight, IsSound}
 use Rattle.opt_checkpoint.specs.Agree.{PipelineAgrees, durable_count}
-use Rattle.opt_checkpoint.specs.Kept.{kept, newest_in, of_committed, of_durable, of_sure}
+use Rattle.opt_checkpoint.specs.Kept.{behind_batch, kept, newest_in, payloads_in, of_committed, of_durable, of_sure}
 use Rattle.opt_mount.specs.Mount.{OpensAnew}
 use Rattle.opt_blocks.specs.declared.role.Role.{Role}
 use Rattle.opt_blocks.specs.declared.role.Role.TheVariants.{Untouched}
@@ -43,8 +45,9 @@ use Rattle.opt_store.specs.declared.parts.StoreParts.{StoreParts}
 use Rattle.opt_store.specs.Mounting.{AreNewParts, BeginsWith}
 use Rattle.opt_store.specs.Opening.{AreNewBooks, IsNewPipeline, empty_ring, first_ledger, first_map}
 use Rattle.opt_store.specs.Store.{IsGoing, StoreIsSound}
-use Rattle.opt_store.specs.Told.{IsKeptOn, IsToldBy, last_map, session_of, store_state}
-use Rattle.opt_store.proofs.OnePoint.{live_below}
+use Rattle.opt_store.specs.Told.{IsKeptOn, IsToldBy, last_map, map_now, session_of, store_state}
+use Rattle.opt_store.proofs.OnePoint.{live_below, one_point}
+use Rattle.opt_store.proofs.Windows.{OneMap}
 use Rattle.opt_store.proofs.Openings.{same_bit}
 
 -- What the laws say that are put to use.
@@ -78,6 +81,7 @@ pub record BeginLaws : Type 0 where
   pub sound : SoundLaw
   pub began : BeganLaw
   pub cache : CacheLaw
+  pub one : OneMap
 
 -- A session has begun with a map at the first place of the ring, on a sound disk that has so many events; the map has the bitmap of these books.
 pub record Starts (d : State) (g : Geometry) (slot : ℕ) (h : Header) (moment since : ℕ) (books : TransactionBooks) (m : Blocks) : Type 0 where
@@ -251,17 +255,30 @@ module _ (g : Geometry) (slot : ℕ) (h : Header) (moment : ℕ) (v : StoreParts
   }
 
   -- it begins with the map that the disk held
-  pub begins_with : BeginLaws → (d : State) (since : ℕ) (m : Blocks) (ticks : ℕ) → Starts d g slot h moment since v.books m → BeginsWith g m (store_state v ticks d)
-  begins_with laws d since m ticks starts = record {
+  pub begins_with : BeginLaws → h.start ≡ h.sure + 1 → (d : State) (since : ℕ) (m : Blocks) (ticks : ℕ) → Starts d g slot h moment since v.books m → BeginsWith g m (store_state v ticks d)
+  begins_with laws released d since m ticks starts = record {
     geom = new.books.geom;
-    map = fun_ext (λ b. subst (λ (k : Geometry). map_of v.books (last_map v d) b ≡ live_part k (last_map v d) b) new.books.geom (now_live b))
-        ∙ (ap (λ (x : Blocks). live_part g x) (first_is laws d since m starts.begun) ∙ sym (laws.map d g slot h since m starts.begun));
-    point = ∣ subst (λ (s : MountedSession). IsPoint s d.base d.log 0 m) (sym (session_is d.log starts.events)) starts.begun.point ∣₁;
+    map = map_is;
+    point = ∣ first ∣₁;
+    only = λ q is b live. ∥∥₁_elim is (search props) (λ (other : IsPoint (session_of v) d.base d.log 0 q).
+        one_point laws.one (session_of v) d.base d.log 0 q m other first b ∙ sym (ap (λ (x : Blocks). x b) map_is));
+    waiting = ap (λ (x : DeadBlocks). length x.waiting) new.books.dead;
+    owed = omega (arith, none_left, ap (λ (x : Header). x.sure) new.pipeline.none.written, ap (λ (x : Header). x.start) new.pipeline.none.written, new.pipeline.none.last, released);
   }
     where
+      none_left : payloads_in (behind_batch v.pipeline) ≡ 0
+      none_left = ap (λ n. payloads_in (drop n (kept v.pipeline))) new.pipeline.none.batch ∙ ap payloads_in (kept_none g slot h v.pipeline new.pipeline)
+
+      first : IsPoint (session_of v) d.base d.log 0 m
+      first = subst (λ (s : MountedSession). IsPoint s d.base d.log 0 m) (sym (session_is d.log starts.events)) starts.begun.point
+
       bits : HasBitmap v.books (last_map v d)
       bits k low = sym (none_put v.books (last_map v d) new.books.empty (bitmap_start v.books.geom + k))
           ∙ (subst (λ (x : Blocks). BeganAt v.books x) (sym (first_is laws d since m starts.begun)) (laws.began d g slot h since m v.books starts.begun new.books starts.bitmap)).bitmap k low
 
       now_live : (b : ℕ) → map_of v.books (last_map v d) b ≡ live_part v.books.geom (last_map v d) b
       now_live = empty_map v.books (last_map v d) (subst (λ (k : Geometry). data_start k ≤ k.n) (sym new.books.geom) starts.begun.mounted.shape) new.books.empty bits
+
+      map_is : map_now v d ≡ m
+      map_is = fun_ext (λ b. subst (λ (k : Geometry). map_of v.books (last_map v d) b ≡ live_part k (last_map v d) b) new.books.geom (now_live b))
+          ∙ (ap (λ (x : Blocks). live_part g x) (first_is laws d since m starts.begun) ∙ sym (laws.map d g slot h since m starts.begun))

@@ -5,12 +5,11 @@ use Rattle.std.proofs.lemmas.Option.{none-some}
 use Rattle.opt_base.specs.Seal.{Blocks}
 use Rattle.opt_disk.specs.declared.event.Event.{Event}
 use Rattle.opt_disk.specs.Cell.{accepted}
-use Rattle.opt_disk.specs.Disk.{State}
+use Rattle.opt_disk.specs.Disk.{State, writes_in}
 use Rattle.opt_geom.specs.Geometry.{Geometry, bitmap_start}
 use Rattle.opt_journal.specs.Layout.{descriptor_count}
 use Rattle.opt_journal.specs.Ring.{RingPlaces}
 use Rattle.opt_journal.specs.Run.{or_else, otherwise}
-use Rattle.opt_crash.specs.Counts.{writes_in}
 use Rattle.opt_crash.specs.HomeTest.{is_one_of}
 use Rattle.opt_crash.specs.Writes.{AddsWrites, AddsFront}
 use Rattle.opt_tx.specs.declared.commit.Committed.{Committed}

@@ -12,7 +12,6 @@ use Rattle.opt_geom.specs.Geometry.{Geometry}
 use Rattle.opt_journal.specs.declared.header.Header.{Header}
 use Rattle.opt_recover.specs.Reading.{Searches}
 use Rattle.opt_recover.specs.Search.{FoundRun, IsFound}
-use Rattle.opt_journal.specs.Run.{HeldIs}
 use Rattle.opt_crash.specs.Ledger.{HoldsUnder, cells_of, issued, last_of}
 use Rattle.opt_crash.specs.Mounting.{HasBegun}
 use Rattle.opt_crash.specs.Opening.{settled}
@@ -162,6 +161,6 @@ settled_is d idle = fun_ext (λ b. ap (last_of (cells_of d b).settled) (sym (idl
 
 pub holds_last : (v : StoreParts) (d : State) (ticks : ℕ) → d.blocks ≡ v.books.geom.n → IsIdle d → StandsForLast (store_state v ticks d) → HoldsLast d (store_state v ticks d)
 holds_last v d ticks size idle last = record {
-  some = subst (λ (n : ℕ). ∥ ((m : Blocks) × HeldIs n (settled_on d) m) ∥₁) (sym size) (subst (λ (x : Blocks). ∥ ((m : Blocks) × HeldIs v.books.geom.n x m) ∥₁) (sym (settled_is d idle)) last.some);
-  each = λ m held. last.each m (subst (λ (x : Blocks). HeldIs v.books.geom.n x m) (settled_is d idle) (subst (λ (n : ℕ). HeldIs n (settled_on d) m) size held));
+  some = subst (λ (n : ℕ). ∥ ((m : Blocks) × HoldsUnder n v.books.geom (settled_on d) m) ∥₁) (sym size) (subst (λ (x : Blocks). ∥ ((m : Blocks) × HoldsUnder v.books.geom.n v.books.geom x m) ∥₁) (sym (settled_is d idle)) last.some);
+  each = λ m held. last.each m (subst (λ (x : Blocks). HoldsUnder v.books.geom.n v.books.geom x m) (settled_is d idle) (subst (λ (n : ℕ). HoldsUnder n v.books.geom (settled_on d) m) size held));
 }

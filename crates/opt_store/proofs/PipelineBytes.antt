@@ -7,10 +7,9 @@ use Rattle.opt_base.specs.Seal.{Blocks}
 use Rattle.opt_disk.specs.declared.event.Event.{Event}
 use Rattle.opt_disk.specs.declared.event.Event.TheVariants.{Wrote, Lost, Noticed}
 use Rattle.opt_disk.specs.Cell.{accepted, accepted_from, is_lost, is_lost_from, notices}
-use Rattle.opt_disk.specs.Disk.{State, Reads, SameDisk}
+use Rattle.opt_disk.specs.Disk.{State, Reads, SameDisk, writes_in}
 use Rattle.opt_journal.specs.Ring.{RingPlaces}
 use Rattle.opt_journal.specs.Run.{or_else, otherwise}
-use Rattle.opt_crash.specs.Counts.{writes_in}
 use Rattle.opt_crash.specs.HomeTest.{is_one_of}
 use Rattle.opt_crash.specs.Ledger.{Ledger}
 use Rattle.opt_crash.specs.Points.{MountedSession}

@@ -9,12 +9,11 @@ use Rattle.opt_base.specs.Seal.{Blocks}
 use Rattle.opt_disk.specs.declared.disk.DiskFault.{DiskFault}
 use Rattle.opt_disk.specs.declared.event.Event.{Event}
 use Rattle.opt_disk.specs.Cell.{notices}
-use Rattle.opt_disk.specs.Disk.{State, Grows, SameDisk, Spends}
+use Rattle.opt_disk.specs.Disk.{State, Grows, SameDisk, Spends, writes_in}
 use Rattle.opt_geom.specs.Geometry.{Geometry}
 use Rattle.opt_journal.specs.declared.header.Header.{Header}
 use Rattle.opt_journal.specs.Ring.{RingPlaces}
 use Rattle.opt_journal.specs.Run.{is_live}
-use Rattle.opt_crash.specs.Counts.{writes_in}
 use Rattle.opt_crash.specs.Ledger.{Ledger, next_number}
 use Rattle.opt_crash.specs.Points.{MountedSession, HoldsPoint, IsSafe}
 use Rattle.opt_cache.specs.Cache.{Cache, IsKept, IsTheDisks}
@@ -85,11 +84,12 @@ lower_floor s base log l t floor low le safe = record {
 -- Whichever ledgers tell a disk before and after a call, time went on: where the log has grown, the truncation can be dropped.
 some_advances : (s : MountedSession) (base : Blocks) (log more : List Event) (j k : Bookkeeping) (c d : Counts) (a b : Blocks) → ∥ Advances (state_of s j c a base log) (state_of s k d b base (log ++ more)) ∥₁ → Advances (state_of s j c a base log) (state_of s k d b base (log ++ more))
 some_advances s base log more j k c d a b some = record {
+  base = refl;
+  grows = record { more = more; log = refl };
   window = window;
   earlier = λ u img from left. ⊎_elim (λ old. inl old) (λ new. inr (window img new)) (by_moment s base log more u img left);
   holds = λ img m. (λ is. is, λ is. is);
   point = λ p m le. (λ is. ∥∥₁_elim some ∥∥₁_prop (λ go. (go.point p m le).0 is), λ is. ∥∥₁_elim some ∥∥₁_prop (λ go. (go.point p m le).1 is));
-  later = ∥∥₁_elim some (search props) (λ go. go.later);
   last = ∥∥₁_elim some (search props) (λ go. go.last);
   floor = ∥∥₁_elim some (search props) (λ go. go.floor);
 }

@@ -3,6 +3,7 @@ use Rattle.std.proofs.Common.{◌≡◌, inl, ℕ, ◌-◌, ◌<◌, ◌≤◌, 
 use Rattle.std.proofs.Props.{props}
 use Rattle.std.proofs.Math.Logic.{∥∥₁_elim, ∥∥₁_prop}
 use Rattle.std.proofs.lemmas.Bool.{cond-true, cond-false}
+use Rattle.std.proofs.lemmas.List.{append-nil}
 use Rattle.opt_base.specs.Seal.{Blocks}
 use Rattle.opt_disk.specs.declared.event.Event.{Event}
 use Rattle.opt_disk.specs.Disk as disk
@@ -27,7 +28,7 @@ use Rattle.opt_store.specs.Told.{IsKeptOn, IsSameSession, IsToldBy, counts_of, l
 -- What the laws say that are put to use.
 abbrev pub NowLaw : Type 0
 NowLaw = (s : MountedSession) (base : Blocks) (log : List Event) (l : Ledger) (k : Bookkeeping) (c : Counts) (m : Blocks) (t floor : ℕ) (img : Blocks) → IsSafe s base log l t floor → k.floor ≤ l.known - s.first → next_number l - s.first ≤ k.point
-    → (state_of s k c m base log).crash.left_since (state_of s k c m base log).crash.moment img → ∥ HoldsPointBetween (state_of s k c m base log) k.floor k.point img ∥₁
+    → (state_of s k c m base log).crash.left_since (length log) img → ∥ HoldsPointBetween (state_of s k c m base log) k.floor k.point img ∥₁
 
 abbrev pub LastLaw : Type 0
 LastLaw = (s : MountedSession) (base : Blocks) (log : List Event) (l : Ledger) (k : Bookkeeping) (c : Counts) (m : Blocks) (t floor : ℕ) → IsSafe s base log l t floor → k.point ≡ next_number l - s.first → StandsForLast (state_of s k c m base log)
@@ -88,11 +89,12 @@ books_session v w rest geom = record { geom = geom; epoch = ap (λ (x : StorePar
 -- a state goes on from itself
 pub goes_on_itself : (s : State) → IsTold s → Advances s s
 goes_on_itself s told = record {
+  base = refl;
+  grows = record { more = []; log = sym (append-nil s.crash.log) };
   window = told.now;
   earlier = λ t img le left. inl left;
   holds = λ img m. (λ is. is, λ is. is);
   point = λ p m le. (λ is. is, λ is. is);
-  later = omega arith;
   last = omega arith;
   floor = omega arith;
 }

@@ -1,13 +1,15 @@
 -- A sync in its steps: nothing to commit, a drain before the commit, a wait behind it, and a disk that fails in a drain.
-use Rattle.std.proofs.Common.{◌≡◌, inl, inr, ⊎_elim, ℕ, ◌+◌, ◌-◌, List, ◌^◌, ◌<◌, ◌≤◌, ◌==◌, Bool, true, false, IsTrue, length, Result, Ok, Err, refl, sym, ◌∙◌, ap, ap₂, subst, arith}
+use Rattle.std.proofs.Common.{◌≡◌, inl, inr, ⊎_elim, ℕ, ◌+◌, ◌-◌, List, ◌++◌, ◌^◌, ◌<◌, ◌≤◌, ◌==◌, Bool, true, false, IsTrue, length, Result, Ok, Err, refl, sym, ◌∙◌, ap, ap₂, subst, arith}
 use Rattle.std.proofs.Props.{props}
 use Rattle.std.proofs.Math.Logic.{∥∥₁_elim, ∥∥₁_map}
 use Rattle.std.specs.Result.{IsErrAnd}
 use Rattle.std.proofs.lemmas.Bool.{cond-true, eq-eqb, false≢true}
+use Rattle.std.proofs.lemmas.List.{append_assoc, length-append}
 use mathlib.Core.Path.{subst₂}
 use Rattle.opt_base.specs.Counts.{after_call}
 use Rattle.opt_base.specs.Seal.{Blocks}
 use Rattle.opt_disk.specs.Disk as disk
+use Rattle.opt_disk.specs.Disk.{Grows}
 use Rattle.opt_geom.specs.Geometry.{Geometry}
 use Rattle.opt_journal.specs.Run.{is_live}
 use Rattle.opt_crash.specs.Ledger.{Ledger, next_number}
@@ -73,12 +75,12 @@ syncs_without_memory tells s going told = record {
     disk = record {
       counts = refl;
       crash = λ t. record {
-        moment = refl;
+        base = refl;
+        log = refl;
         point = λ p m. (λ is. is, λ is. is);
         left = λ u img. (λ is. is, λ is. is);
         holds = λ img m. (λ is. is, λ is. is);
         issued = λ m. (λ is. is, λ is. is);
-        writes = refl;
       };
     };
   };
@@ -103,16 +105,21 @@ kept_point old mid new b img i = record { point = i.point; from = i.from; upto =
 lower_point : (old mid new : State) → Advances old mid → (img : Blocks) → HoldsPointBetween new mid.books.floor new.books.point img → HoldsPointBetween new old.books.floor new.books.point img
 lower_point old mid new a img i = record { point = i.point; from = omega (arith, a.floor, i.from); upto = i.upto; map = i.map; holds = i.holds; is = i.is }
 
+-- a log that goes on has no fewer events
+later : (old new : List Event) → Grows old new → length old ≤ length new
+later old new a = omega (arith, ap (λ (es : List Event). length es) a.log, length-append old a.more)
+
 advances_on : (old mid new : State) → Advances old mid → Advances mid new → Advances old new
 advances_on old mid new a b = record {
-  window = λ img left. ⊎_elim (λ was. ∥∥₁_map (a.window img was) (kept_point old mid new b img)) (λ late. ∥∥₁_map late (lower_point old mid new a img)) (b.earlier old.crash.moment img a.later left);
+  base = b.base ∙ a.base;
+  grows = record { more = a.grows.more ++ b.grows.more; log = b.grows.log ∙ ap (λ (es : List Event). es ++ b.grows.more) a.grows.log ∙ append_assoc old.crash.log a.grows.more b.grows.more };
+  window = λ img left. ⊎_elim (λ was. ∥∥₁_map (a.window img was) (kept_point old mid new b img)) (λ late. ∥∥₁_map late (lower_point old mid new a img)) (b.earlier (length old.crash.log) img (later old.crash.log mid.crash.log a.grows) left);
   earlier = λ t img before left. ⊎_elim
       (λ was. ⊎_elim inl (λ point. inr (∥∥₁_map point (kept_point old mid new b img))) (a.earlier t img before was))
       (λ late. inr (∥∥₁_map late (lower_point old mid new a img)))
-      (b.earlier t img (omega (arith, before, a.later)) left);
+      (b.earlier t img (omega (arith, before, later old.crash.log mid.crash.log a.grows)) left);
   holds = λ img m. (λ is. (a.holds img m).0 ((b.holds img m).0 is), λ is. (b.holds img m).1 ((a.holds img m).1 is));
   point = λ p m low. (λ is. (a.point p m low).0 ((b.point p m (omega (arith, low, a.last))).0 is), λ is. (b.point p m (omega (arith, low, a.last))).1 ((a.point p m low).1 is));
-  later = omega (arith, a.later, b.later);
   last = omega (arith, a.last, b.last);
   floor = omega (arith, a.floor, b.floor);
 }
@@ -284,11 +291,12 @@ fits_then w r may s paid laid none =
 -- a point more, of which nothing is known
 point_more : (old mid : State) (point : ℕ) → Advances old mid → mid.books.point ≤ point → Advances old (record mid { books = record mid.books { point = point } })
 point_more old mid point a more = record {
+  base = a.base;
+  grows = a.grows;
   window = λ img left. ∥∥₁_map (a.window img left) later_point;
   earlier = λ t img before left. ⊎_elim (λ was. inl was) (λ late. inr (∥∥₁_map late later_point)) (a.earlier t img before left);
   holds = a.holds;
   point = a.point;
-  later = a.later;
   last = omega (arith, a.last, more);
   floor = a.floor;
 }

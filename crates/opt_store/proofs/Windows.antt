@@ -81,11 +81,12 @@ told_of begins s base log l k c m t floor img safe lower last left = in_window s
 goes_on : Stays → Was → (s : MountedSession) (base : Blocks) (log more : List Event) (l n : Ledger) (j k : Bookkeeping) (c d : Counts) (a b : Blocks) (t floor since low : ℕ) → IsSafe s base log l t floor → IsSafe s base (log ++ more) n since low → since ≤ length log → j.floor ≤ low
     → j.point ≡ next_number l - s.first → next_number n - s.first ≤ k.point → j.floor ≤ k.floor → Advances (state_of s j c a base log) (state_of s k d b base (log ++ more))
 goes_on stays was s base log more l n j k c d a b t floor since low before after early lower first last floors = record {
+  base = refl;
+  grows = record { more = more; log = refl };
   window = window;
   earlier = λ u img from left. ⊎_elim (λ old. inl old) (λ new. inr (window img new)) (by_moment s base log more u img left);
   holds = λ img m. (λ is. is, λ is. is);
   point = λ p m le. (λ is. ∥∥₁_map is (was s base log more p m before.points.late (omega (arith, le, count))), λ is. ∥∥₁_map is (stays s base log more p m));
-  later = omega (arith, length-append log more);
   last = omega (arith, count, points_are s base (log ++ more) n since low (next_number n - s.first) after refl, last, points_more s log more before.points.late);
   floor = floors;
 }
@@ -106,29 +107,29 @@ advances_of stays was s base old new l n j k c d a b t floor since low before gr
 pub last_of : IssuedHolds → LastIs → OneMap → (s : MountedSession) (base : Blocks) (log : List Event) (l : Ledger) (k : Bookkeeping) (c : Counts) (m : Blocks) (t floor : ℕ) → IsSafe s base log l t floor → k.point ≡ next_number l - s.first → StandsForLast (state_of s k c m base log)
 last_of issued_holds last_is one_map s base log l k c m t floor safe last = record {
   some = ∣ (newest, held) ∣₁;
-  each = λ q is. ∣ subst (λ (x : Blocks). IsPoint s base log k.point x) (fun_ext (λ b. one_map s.geom.n (issued base log) newest q held is b))
+  each = λ q is. ∣ subst (λ (x : Blocks). IsPoint s base log k.point x) (fun_ext (λ b. one_map s.geom.n (issued base log) newest q held.held is.held b))
       (subst (λ (p : ℕ). IsPoint s base log p newest) (points_are s base log l t floor k.point safe last) (last_is s base log l t floor safe)) ∣₁;
 }
   where
     newest : Blocks
     newest = live_part l.geom (l.map_before (next_number l))
 
-    held : HeldIs s.geom.n (issued base log) newest
-    held = subst (λ (g : Geometry). HeldIs g.n (issued base log) newest) (sym safe.points.geom) (issued_holds s base log l t floor safe).held
+    held : HoldsUnder s.geom.n s.geom (issued base log) newest
+    held = subst (λ (g : Geometry). HoldsUnder g.n g (issued base log) newest) (sym safe.points.geom) (issued_holds s base log l t floor safe)
 
 -- where no write was lost, all that was issued is all that was accepted
-pub accepted_of : ReadsLast → (s : MountedSession) (base : Blocks) (log : List Event) (m : Blocks) → ((b : ℕ) → is_lost b log ≡ false) → HeldIs s.geom.n (issued base log) m ↔ HeldIs s.geom.n (accepted base log) m
+pub accepted_of : ReadsLast → (s : MountedSession) (base : Blocks) (log : List Event) (m : Blocks) → ((b : ℕ) → is_lost b log ≡ false) → HoldsUnder s.geom.n s.geom (issued base log) m ↔ HoldsUnder s.geom.n s.geom (accepted base log) m
 accepted_of reads s base log m none =
     let same : accepted base log ≡ issued base log = fun_ext (λ b. reads base log b (none b)) in
-    (λ is. subst (λ (img : Blocks). HeldIs s.geom.n img m) (sym same) is, λ is. subst (λ (img : Blocks). HeldIs s.geom.n img m) same is)
+    (λ is. subst (λ (img : Blocks). HoldsUnder s.geom.n s.geom img m) (sym same) is, λ is. subst (λ (img : Blocks). HoldsUnder s.geom.n s.geom img m) same is)
 
 -- where the log stays, nothing is issued
 pub nothing_of : (s : MountedSession) (base : Blocks) (old new : List Event) (j k : Bookkeeping) (c d : Counts) (a b : Blocks) → new ≡ old → IssuesNothing (state_of s j c a base old) (state_of s k d b base new)
 nothing_of s base old new j k c d a b same = subst (λ (log : List Event). IssuesNothing (state_of s j c a base old) (state_of s k d b base log)) (sym same) (record {
-  moment = refl;
+  base = refl;
+  log = refl;
   point = λ p m. (λ is. is, λ is. is);
   left = λ t img. (λ is. is, λ is. is);
   holds = λ img m. (λ is. is, λ is. is);
   issued = λ m. (λ is. is, λ is. is);
-  writes = refl;
 })

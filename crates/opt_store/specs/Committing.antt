@@ -2,11 +2,10 @@
 use Rattle.std.specs.Prelude.{◌≡◌, ◌⊎◌, ℕ, ◌+◌, ◌≤◌, false, List, [], ◌∷◌, ◌++◌, length, map, None, Result, Ok, Err, OnOk}
 use Rattle.opt_disk.specs.declared.event.Event.{Event}
 use Rattle.opt_disk.specs.Cell.{accepted, is_lost}
-use Rattle.opt_disk.specs.Disk.{State, Grows}
+use Rattle.opt_disk.specs.Disk.{State, Grows, writes_in}
 use Rattle.opt_geom.specs.Geometry.{bitmap_start}
 use Rattle.opt_journal.specs.Ring.{RingPlaces}
 use Rattle.opt_journal.specs.Run.{places}
-use Rattle.opt_crash.specs.Counts.{writes_in}
 use Rattle.opt_crash.specs.HomeTest.{is_one_of}
 use Rattle.opt_crash.specs.Ledger.{Ledger, next_number}
 use Rattle.opt_crash.specs.Points.{MountedSession, IsSafe}

@@ -8,4 +8,5 @@ pub mod PipelineCall
 pub mod Opening
 pub mod Refusal
 pub mod Mounting
+pub mod StoreOf
 pub mod Syncing

@@ -6,10 +6,10 @@ use Rattle.opt_disk.specs.Crash.{Window}
 use Rattle.opt_disk.specs.Disk as disk
 use Rattle.opt_geom.specs.Geometry.{Geometry}
 use Rattle.opt_journal.specs.declared.header.Header.{Header}
-use Rattle.opt_journal.specs.Run.{HeldIs}
 use Rattle.opt_crash.specs.Ledger.{HoldsUnder}
 use Rattle.opt_mount.specs.Mount.{MountSpends, settled_on}
 use Rattle.opt_blocks.specs.State.{State}
+use Rattle.opt_blocks.specs.Crashes.{HasMapOfPoint}
 use Rattle.opt_store.specs.declared.parts.StoreParts.{StoreParts}
 use Rattle.opt_store.specs.Opening.{AreNewBooks, IsNewPipeline, empty_ring}
 
@@ -26,18 +26,21 @@ pub record AreNewParts (g : Geometry) (slot : ℕ) (h : Header) (moment : ℕ) (
   pub floor : v.floor ≡ 0
   pub going : v.stopped ≡ false
 
--- a map of blocks begins with this one, which is its map now and that of point 0
+-- a map of blocks begins with this one, which is its map now and that of point 0; point 0 has no other; no block waits, and no write is owed
 pub record BeginsWith (g : Geometry) (m : Blocks) (s : State) : Type 0 where
   pub geom : s.books.geom ≡ g
   pub map : s.map ≡ m
   pub point : s.crash.is_point 0 m
+  pub only : HasMapOfPoint s 0
+  pub waiting : s.books.waiting ≡ 0
+  pub owed : s.books.owed ≡ 0
 
 -- What a mount leaves of the disk, whatever comes of it: where the disk tells, each honest image since the call began holds the map that the disk held; and so much was spent.
 pub record LeavesDisk (tells unread faulty : Bool) (old new : disk.State) : Type 0 where
   pub holds : IsTrue tells → (g : Geometry) (m : Blocks) → HoldsUnder old.blocks g (settled_on old) m → Window old.blocks old.base new.log (length old.log) (λ img. HoldsUnder old.blocks g img m)
   pub spends : MountSpends unread faulty (old.blocks + 2) old new
 
--- what is settled on the disk holds some map, and each that it holds is that of the last point
+-- what is settled on the disk holds some map under a header of the geometry, and each that it holds so is that of the last point
 pub record HoldsLast (d : disk.State) (s : State) : Type 0 where
-  pub some : ∥ ((m : Blocks) × HeldIs d.blocks (settled_on d) m) ∥₁
-  pub each : (m : Blocks) → HeldIs d.blocks (settled_on d) m → s.crash.is_point s.books.point m
+  pub some : ∥ ((m : Blocks) × HoldsUnder d.blocks s.books.geom (settled_on d) m) ∥₁
+  pub each : (m : Blocks) → HoldsUnder d.blocks s.books.geom (settled_on d) m → s.crash.is_point s.books.point m

@@ -1,8 +1,7 @@
 -- What a call of the pipeline does over the store's disk, whether it succeeded or not, and what becomes of the store's parts behind it. It is described in docs/STORE.md.
 use Rattle.std.specs.Prelude.{◌≡◌, ℕ, ◌+◌, ◌≤◌, Bool, true, IsTrue, List, Result, Ok, Err, OnOk, is_err}
 use Rattle.opt_disk.specs.declared.disk.DiskFault.{DiskFault}
-use Rattle.opt_disk.specs.Disk.{State, Spends, Grows}
-use Rattle.opt_crash.specs.Counts.{writes_in}
+use Rattle.opt_disk.specs.Disk.{State, Spends, Grows, writes_in}
 use Rattle.opt_crash.specs.Ledger.{Ledger}
 use Rattle.opt_crash.specs.Points.{MountedSession}
 use Rattle.opt_checkpoint.specs.Adds.{LosesFront}

@@ -3,10 +3,8 @@ use Rattle.std.specs.Prelude.{ℕ, ◌≤◌, List, length, take}
 use Rattle.opt_base.specs.Seal.{Blocks}
 use Rattle.opt_disk.specs.declared.event.Event.{Event}
 use Rattle.opt_disk.specs.Crash.{IsHonest}
-use Rattle.opt_journal.specs.Run.{HeldIs}
 use Rattle.opt_crash.specs.Ledger.{HoldsUnder, issued}
 use Rattle.opt_crash.specs.Points.{MountedSession, IsPoint}
-use Rattle.opt_crash.specs.Counts.{writes_in}
 use Rattle.opt_blocks.specs.State.{Bookkeeping, Counts, CrashView, State}
 
 -- a crash at some moment from t on may leave this honest image
@@ -16,15 +14,15 @@ pub record LeftImage (s : MountedSession) (base : Blocks) (log : List Event) (t 
   pub within : moment ≤ length log
   pub honest : IsHonest s.geom.n base (take moment log) img
 
--- The moment is the number of events, and the points are the session's: of each, some moment has it. An image holds a map under a header of the session's geometry. Where all that was issued stands, that is what the journal makes of it; and the writes are those of the log, accepted or lost.
+-- Base and log are the disk's, and the points are the session's: of each, some moment has it. An image holds a map under a header of the session's geometry, that in which all that was issued stands as well.
 abbrev pub crash_of : MountedSession → Blocks → List Event → CrashView
 crash_of s base log = record {
-  moment = length log;
+  base = base;
+  log = log;
   is_point = λ p m. ∥ IsPoint s base log p m ∥₁;
   left_since = λ t img. LeftImage s base log t img;
   holds = λ img m. HoldsUnder s.geom.n s.geom img m;
-  issued = λ m. HeldIs s.geom.n (issued base log) m;
-  writes = writes_in log;
+  issued = λ m. HoldsUnder s.geom.n s.geom (issued base log) m;
 }
 
 -- the whole: a bookkeeping, counts and a map, with this view of crashes

@@ -5,10 +5,8 @@ ghost use Rattle.std.specs.Prelude.{◌≡◌, ◌↔◌, ◌+◌, ◌-◌, ◌�
 ghost use Rattle.opt_base.specs.Seal.{Blocks};
 ghost use Rattle.opt_disk.specs.declared.event.Event.{Event};
 ghost use Rattle.opt_disk.specs.Cell.{accepted, is_lost};
-ghost use Rattle.opt_disk.specs.Disk.{Grows};
-ghost use Rattle.opt_journal.specs.Run.{HeldIs};
-ghost use Rattle.opt_crash.specs.Counts.{writes_in};
-ghost use Rattle.opt_crash.specs.Ledger.{Ledger, next_number};
+ghost use Rattle.opt_disk.specs.Disk.{Grows, writes_in};
+ghost use Rattle.opt_crash.specs.Ledger.{HoldsUnder, Ledger, next_number};
 ghost use Rattle.opt_crash.specs.Points.{MountedSession, IsSafe};
 ghost use Rattle.opt_blocks.specs.State.{Bookkeeping, Counts};
 ghost use Rattle.opt_blocks.specs.Crashes.{Advances, HasLiveBlocks, HasMapOfPoint, HoldsPointBetween, IssuesNothing, StandsForLast, WritesAtMost};
@@ -30,11 +28,11 @@ pub fn a_call_that_stays_safe_advances()
     ensures advances { (s : MountedSession) (base : Blocks) (old new : List Event) (l n : Ledger) (j k : Bookkeeping) (c d : Counts) (a b : Blocks) (t floor since low : ℕ) → IsSafe s base old l t floor → Grows old new → IsSafe s base new n since low → since ≤ length old → j.floor ≤ low
         → j.point ≡ next_number l - s.first → next_number n - s.first ≤ k.point → j.floor ≤ k.floor → Advances (state_of s j c a base old) (state_of s k d b base new) }
     ensures told { (s : MountedSession) (base : Blocks) (log : List Event) (l : Ledger) (k : Bookkeeping) (c : Counts) (m : Blocks) (t floor : ℕ) (img : Blocks) → IsSafe s base log l t floor → k.floor ≤ l.known - s.first → next_number l - s.first ≤ k.point
-        → (state_of s k c m base log).crash.left_since (state_of s k c m base log).crash.moment img → ∥ HoldsPointBetween (state_of s k c m base log) k.floor k.point img ∥₁ }
+        → (state_of s k c m base log).crash.left_since (length log) img → ∥ HoldsPointBetween (state_of s k c m base log) k.floor k.point img ∥₁ }
     ensures last { (s : MountedSession) (base : Blocks) (log : List Event) (l : Ledger) (k : Bookkeeping) (c : Counts) (m : Blocks) (t floor : ℕ) → IsSafe s base log l t floor → k.point ≡ next_number l - s.first → StandsForLast (state_of s k c m base log) }
     ensures made { (s : MountedSession) (base : Blocks) (log : List Event) (l : Ledger) (k : Bookkeeping) (c : Counts) (m : Blocks) (t floor : ℕ) → IsSafe s base log l t floor → k.geom ≡ s.geom → next_number l - s.first ≤ k.point
         → (k.point ≡ next_number l - s.first → HasLiveBlocks k.geom m (l.map_before (next_number l))) → HasMapOfPoint (state_of s k c m base log) k.point }
-    ensures accepted { (s : MountedSession) (base : Blocks) (log : List Event) (m : Blocks) → ((b : ℕ) → is_lost b log ≡ false) → (crash_of s base log).issued m ↔ HeldIs s.geom.n (accepted base log) m }
+    ensures accepted { (s : MountedSession) (base : Blocks) (log : List Event) (m : Blocks) → ((b : ℕ) → is_lost b log ≡ false) → (crash_of s base log).issued m ↔ HoldsUnder s.geom.n s.geom (accepted base log) m }
     ensures nothing { (s : MountedSession) (base : Blocks) (old new : List Event) (j k : Bookkeeping) (c d : Counts) (a b : Blocks) → new ≡ old → IssuesNothing (state_of s j c a base old) (state_of s k d b base new) }
     ensures writes { (s : MountedSession) (base : Blocks) (old new : List Event) (j k : Bookkeeping) (c d : Counts) (a b : Blocks) (more : ℕ) → writes_in new + k.owed ≤ writes_in old + j.owed + more → WritesAtMost more (state_of s j c a base old) (state_of s k d b base new) }
 {

@@ -26,7 +26,7 @@ use opt_checkpoint::Pipeline;
 use opt_crash::{a_call_begins_safe, an_idle_disk_holds_what_is_settled};
 use opt_disk::Disk;
 use opt_geom::Geom;
-use opt_journal::Ring;
+use opt_journal::{Ring, an_image_holds_one_map};
 use opt_mount::{Mounted, open};
 use std::alloc::Global;
 
@@ -58,6 +58,7 @@ pub(crate) fn open_parts<D: Disk>(
     an_idle_disk_holds_what_is_settled();
     a_call_begins_safe();
     a_new_cache_agrees();
+    an_image_holds_one_map();
     let FoundStore { found, bitmap } = find_store(alloc, disk)?;
     let geom = found.run().header().geom;
     let Ok(books) = Books::new(alloc, &geom, bitmap) else {

@@ -39,11 +39,11 @@ pub struct Store<D: Disk> {
 }
 
 impl<D: Disk> Blocks for Store<D> {
-    ghost use Rattle.opt_store.specs.Told.{store_state};
+    ghost use Rattle.opt_store.specs.StoreOf.{state_of};
 
     ghost tells = { D.tells };
 
-    ghost state = { λ s. store_state s.parts s.ticks (D.state s.disk) };
+    ghost state = { λ s. state_of D.state s };
 
     ghost is_sound = { λ s. s.sound };
 
@@ -154,7 +154,7 @@ impl<D: Disk> Store<D> {
     ghost use Rattle.opt_store.specs.Mounting.{BeginsWith, HoldsLast, LeavesDisk};
     ghost use Rattle.opt_store.specs.Refusal.{RefusalSays, is_disk_fault, is_read_fault};
     ghost use Rattle.opt_store.specs.Store.{bookkeeping_of};
-    ghost use Rattle.opt_store.specs.Told.{store_state};
+    ghost use Rattle.opt_store.specs.StoreOf.{disk_in, state_of};
 
     /// Mounts a disk on which nothing is pending, with a cache of 64 blocks.
     ///
@@ -162,9 +162,9 @@ impl<D: Disk> Store<D> {
     /// As of `mount_with`.
     pub fn mount(alloc: Global, disk: D) -> Result<Store<D>, (D, StoreRefusal)>
         requires idle { IsTrue D.tells → IsIdle (D.state disk) }
-        ensures begun { IfOk result (λ s. IsBegun (store_state s.parts s.ticks (D.state s.disk))) }
-        ensures begins { IsTrue D.tells → (g : Geometry) (m : Blocks) → HoldsUnder (D.state disk).blocks g (settled_on (D.state disk)) m → IfOk result (λ s. BeginsWith g m (store_state s.parts s.ticks (D.state s.disk))) }
-        ensures leaves { IfOk result (λ s. LeavesDisk D.tells false false (D.state disk) (D.state s.disk)) }
+        ensures begun { IfOk result (λ s. IsBegun (state_of D.state s)) }
+        ensures begins { IsTrue D.tells → (g : Geometry) (m : Blocks) → HoldsUnder (D.state disk).blocks g (settled_on (D.state disk)) m → IfOk result (λ s. BeginsWith g m (state_of D.state s)) }
+        ensures leaves { IfOk result (λ s. LeavesDisk D.tells false false (D.state disk) (D.state (disk_in s))) }
         ensures refused { IsTrue D.tells → IfErr result (λ e. RefusalSays (D.state disk) (D.state e.0) e.1) }
         ensures back { IfErr result (λ e. LeavesDisk D.tells (is_read_fault e.1) (is_disk_fault e.1) (D.state disk) (D.state e.0)) }
     {
@@ -182,9 +182,9 @@ impl<D: Disk> Store<D> {
         requires some { 0 < capacity }
         requires most { capacity ≤ 65536 }
         requires idle { IsTrue D.tells → IsIdle (D.state disk) }
-        ensures begun { IfOk result (λ s. IsBegun (store_state s.parts s.ticks (D.state s.disk))) }
-        ensures begins { IsTrue D.tells → (g : Geometry) (m : Blocks) → HoldsUnder (D.state disk).blocks g (settled_on (D.state disk)) m → IfOk result (λ s. BeginsWith g m (store_state s.parts s.ticks (D.state s.disk))) }
-        ensures leaves { IfOk result (λ s. LeavesDisk D.tells false false (D.state disk) (D.state s.disk)) }
+        ensures begun { IfOk result (λ s. IsBegun (state_of D.state s)) }
+        ensures begins { IsTrue D.tells → (g : Geometry) (m : Blocks) → HoldsUnder (D.state disk).blocks g (settled_on (D.state disk)) m → IfOk result (λ s. BeginsWith g m (state_of D.state s)) }
+        ensures leaves { IfOk result (λ s. LeavesDisk D.tells false false (D.state disk) (D.state (disk_in s))) }
         ensures refused { IsTrue D.tells → IfErr result (λ e. RefusalSays (D.state disk) (D.state e.0) e.1) }
         ensures back { IfErr result (λ e. LeavesDisk D.tells (is_read_fault e.1) (is_disk_fault e.1) (D.state disk) (D.state e.0)) }
     {
@@ -200,9 +200,10 @@ impl<D: Disk> Store<D> {
         }
     }
 
-    /// The disk.
+    /// The disk, which has as many blocks as the geometry says.
     pub fn disk(&self) -> &D
-        ensures { result.now ≡ self.now.disk }
+        ensures value { result.now ≡ disk_in self.now }
+        ensures size { (D.state (disk_in self.now)).blocks ≡ (state_of D.state self.now).books.geom.n }
     {
         &self.disk
     }
@@ -210,8 +211,8 @@ impl<D: Disk> Store<D> {
     /// The disk, when nothing is done with the store any more. Where the store hasn't stopped and nothing is pending,
     /// what is settled on it holds the map of the last point.
     pub fn into_disk(self) -> D
-        ensures disk { result ≡ self.disk }
-        ensures last { IsTrue D.tells → self.parts.stopped ≡ false → IsIdle (D.state result) → HoldsLast (D.state result) (store_state self.parts self.ticks (D.state self.disk)) }
+        ensures disk { result ≡ disk_in self }
+        ensures last { IsTrue D.tells → (state_of D.state self).books.stopped ≡ false → IsIdle (D.state result) → HoldsLast (D.state result) (state_of D.state self) }
     {
         self.disk
     }

@@ -8,7 +8,7 @@ ghost use Rattle.opt_geom.specs.Geometry.{Geometry};
 ghost use Rattle.opt_journal.specs.Layout.{descriptor_count};
 ghost use Rattle.opt_journal.specs.Run.{names_block};
 ghost use Rattle.opt_crash.specs.Ledger.{payload_in};
-ghost use Rattle.opt_crash.specs.Counts.{writes_in};
+ghost use Rattle.opt_disk.specs.Disk.{writes_in};
 ghost use Rattle.opt_crash.specs.HomeTest.{is_one_of};
 ghost use Rattle.opt_tx.specs.declared.put.Put.{Put};
 ghost use Rattle.opt_tx.specs.Record.{written_of, fresh_entry, block_of};

@@ -4,8 +4,8 @@ use Rattle.std.proofs.lemmas.List.{drop_all}
 use Rattle.opt_disk.specs.declared.event.Event.{Event}
 use Rattle.opt_disk.specs.declared.event.Event.TheVariants.{Wrote, Lost, Noticed}
 use Rattle.opt_disk.specs.Cell.{notices}
-use Rattle.opt_disk.specs.Disk.{AddsWrite, AddsPoll, AddsNotices}
-use Rattle.opt_crash.specs.Counts.{writes_in, WriteCounts, AreCounted, AreAtMost, AreWithinSum, counts_at_mount, with_point, with_part, with_home_write, without_payloads, with_header_write, MovesOn}
+use Rattle.opt_disk.specs.Disk.{AddsWrite, AddsPoll, AddsNotices, writes_in}
+use Rattle.opt_crash.specs.Counts.{WriteCounts, AreCounted, AreAtMost, AreWithinSum, counts_at_mount, with_point, with_part, with_home_write, without_payloads, with_header_write, MovesOn}
 use Rattle.opt_crash.proofs.steps.PointSteps.{drop_front}
 
 pub counts_begin : (last : ℕ) → AreWithinSum (counts_at_mount last)

@@ -1,6 +1,7 @@
 -- Calls that look, or settle, one behind the other.
 use Rattle.std.proofs.Common.{◌≡◌, ℕ, ◌+◌, ◌<◌, ◌≤◌, Bool, false, IsTrue, ap, ◌∙◌, arith}
 use Rattle.opt_base.specs.Counts.{after_call}
+use Rattle.opt_disk.specs.Disk.{writes_in}
 use Rattle.opt_geom.specs.Geometry.{Geometry, data_start}
 use Rattle.opt_blocks.specs.State.{Bookkeeping, State}
 use Rattle.opt_blocks.specs.Calls.{MovesPipeline}
@@ -35,7 +36,7 @@ looks_settle tells failed old new going k later = record {
   ticks = k.counts.ticks;
   map = k.map;
   crash = later;
-  writes = λ told. omega (arith, (k.crash told).writes, ap (λ (b : Bookkeeping). b.owed) k.books);
+  writes = λ told. omega (arith, ap writes_in (k.crash told).log, ap (λ (b : Bookkeeping). b.owed) k.books);
 }
 
 -- two such calls, of which the first failed nowhere

@@ -30,22 +30,22 @@ bits_alike g old new same k low = ap (λ y. bit_at (slice_index y (k % 8192 / 8)
 
 nothing_on : (old mid new : State) → IssuesNothing old mid → IssuesNothing mid new → IssuesNothing old new
 nothing_on old mid new a b = record {
-  moment = b.moment ∙ a.moment;
+  base = b.base ∙ a.base;
+  log = b.log ∙ a.log;
   point = λ p m. (λ is. (a.point p m).0 ((b.point p m).0 is), λ is. (b.point p m).1 ((a.point p m).1 is));
   left = λ t m. (λ is. (a.left t m).0 ((b.left t m).0 is), λ is. (b.left t m).1 ((a.left t m).1 is));
   holds = λ img m. (λ is. (a.holds img m).0 ((b.holds img m).0 is), λ is. (b.holds img m).1 ((a.holds img m).1 is));
   issued = λ m. (λ is. (a.issued m).0 ((b.issued m).0 is), λ is. (b.issued m).1 ((a.issued m).1 is));
-  writes = b.writes ∙ a.writes;
 }
 
 nothing_not : (s : State) → IssuesNothing s s
 nothing_not s = record {
-  moment = refl;
+  base = refl;
+  log = refl;
   point = λ p m. (λ is. is, λ is. is);
   left = λ t m. (λ is. is, λ is. is);
   holds = λ img m. (λ is. is, λ is. is);
   issued = λ m. (λ is. is, λ is. is);
-  writes = refl;
 }
 
 -- the disk is left alone, twice

@@ -14,12 +14,12 @@ use Rattle.opt_fs.specs.Syncs.{SyncsSession}
 -- no event comes where nothing is done
 pub nothing_issued : (s : State) → IssuesNothing s s
 nothing_issued s = record {
-  moment = refl;
+  base = refl;
+  log = refl;
   point = λ p m. (λ x. x, λ x. x);
   left = λ t img. (λ x. x, λ x. x);
   holds = λ img m. (λ x. x, λ x. x);
   issued = λ m. (λ x. x, λ x. x);
-  writes = refl;
 }
 
 -- no point comes where the last one is as before

@@ -1,6 +1,7 @@
 -- A plan carried out: what becomes of the session, and of the bookkeeping.
 use Rattle.std.proofs.lemmas.Bool.{lt-ltb, ltb-true, ltb-false, cases_Bool}
 use Rattle.std.proofs.Common.{◌≡◌, ◌⊎◌, inl, inr, ℕ, ◌+◌, nat_lt, Bool, true, false, not, ◌&&◌, ◌||◌, IsTrue, List, ◌++◌, take, length, Ok, Err, sym, subst, ap, ap₂, ◌∙◌, arith}
+use Rattle.opt_disk.specs.Disk.{writes_in}
 use Rattle.opt_geom.specs.Geometry.{Geometry, bitmap_blocks}
 use Rattle.opt_tree.specs.declared.command.Cmd.{Cmd}
 use Rattle.opt_tree.specs.declared.command.Refusal.{Refusal}
@@ -104,7 +105,7 @@ runs_behind tells s t u h rest disk advances = record {
   waits = omega (arith, ap (λ c. c.waits) disk.counts, h.waits);
   ticks = ap (λ c. c.ticks) disk.counts ∙ h.ticks;
   crash = advances;
-  writes = λ told. omega (arith, (disk.crash told).writes, rest.owed, h.writes told);
+  writes = λ told. omega (arith, ap writes_in (disk.crash told).log, rest.owed, h.writes told);
 }
 
 -- a weight to which a cost comes

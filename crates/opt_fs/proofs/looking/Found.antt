@@ -33,12 +33,12 @@ looks_more tells failed s t u first second = record {
   };
   map = λ told. second.map told ∙ first.map told;
   crash = λ told. let a = first.crash told in let b = second.crash told in record {
-    moment = b.moment ∙ a.moment;
+    base = b.base ∙ a.base;
+    log = b.log ∙ a.log;
     point = λ p m. iff_on (b.point p m) (a.point p m);
     left = λ n img. iff_on (b.left n img) (a.left n img);
     holds = λ img m. iff_on (b.holds img m) (a.holds img m);
     issued = λ m. iff_on (b.issued m) (a.issued m);
-    writes = b.writes ∙ a.writes;
   };
 }
 

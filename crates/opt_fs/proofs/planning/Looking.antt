@@ -1,6 +1,7 @@
 -- Reads and settlings one behind the other, and plans that end with a reply, a draft or a refusal after reads alone.
 use Rattle.std.proofs.Common.{◌≡◌, inl, inr, ℕ, Bool, false, IsTrue, List, None, Some, Ok, Err, refl, sym, subst, ap, ◌∙◌, arith}
 use Rattle.opt_base.specs.Counts.{after_call}
+use Rattle.opt_disk.specs.Disk.{writes_in}
 use Rattle.opt_tree.specs.declared.command.Cmd.{Cmd}
 use Rattle.opt_tree.specs.declared.command.Refusal.{Refusal}
 use Rattle.opt_tree.specs.declared.command.Reply.TheVariants.{Ok as Done, Refused}
@@ -63,7 +64,7 @@ looked tells failed s t going h advances = record {
   ticks = h.counts.ticks;
   map = h.map;
   crash = advances;
-  writes = λ told. omega (arith, (h.crash told).writes, ap (λ (b : Bookkeeping). b.owed) h.books);
+  writes = λ told. omega (arith, ap writes_in (h.crash told).log, ap (λ (b : Bookkeeping). b.owed) h.books);
 }
 
 -- blocks that were read before the pipeline may have settled
@@ -77,7 +78,7 @@ settled_after tells read_failed failed s t u first second advances = record {
   ticks = second.ticks ∙ first.counts.ticks;
   map = λ told. second.map told ∙ first.map told;
   crash = advances;
-  writes = λ told. omega (arith, (first.crash told).writes, ap (λ (b : Bookkeeping). b.owed) first.books, second.writes told);
+  writes = λ told. omega (arith, ap writes_in (first.crash told).log, ap (λ (b : Bookkeeping). b.owed) first.books, second.writes told);
 }
 
 -- blocks that were read after the pipeline may have settled
@@ -91,7 +92,7 @@ looked_after tells read_failed s t u first second advances = record {
   ticks = second.counts.ticks ∙ first.ticks;
   map = λ told. second.map told ∙ first.map told;
   crash = advances;
-  writes = λ told. omega (arith, (second.crash told).writes, ap (λ (b : Bookkeeping). b.owed) second.books, first.writes told);
+  writes = λ told. omega (arith, ap writes_in (second.crash told).log, ap (λ (b : Bookkeeping). b.owed) second.books, first.writes told);
 }
 
 -- a refusal of a call on files fails a plan by a read, or by another call of the disk, where it does so itself

@@ -1,5 +1,5 @@
 -- Which tree each point has stays known from call to call, and a crash leaves one of these trees.
-use Rattle.std.proofs.Common.{◌≡◌, ◌⊎◌, inl, inr, ⊎_elim, ℕ, ◌+◌, ◌≤◌, ◌==◌, nat_lt, Bool, true, false, IsTrue, if◌then◌else◌, Result, Ok, Err, sym, ap, subst, arith}
+use Rattle.std.proofs.Common.{◌≡◌, ◌⊎◌, inl, inr, ⊎_elim, ℕ, ◌+◌, ◌≤◌, ◌==◌, nat_lt, Bool, true, false, IsTrue, if◌then◌else◌, length, Result, Ok, Err, sym, ap, subst, arith}
 use Rattle.std.proofs.Math.Logic.{∥∥₁_map}
 use Rattle.std.proofs.lemmas.Bool.{cases_Bool, cases_eq, eq-eqb, ne_eqb, ltb-false, ltb-true}
 use Rattle.opt_base.specs.Seal.{Blocks}
@@ -22,13 +22,13 @@ use Rattle.opt_fs.proofs.standing.Alive.{tree_alive}
 holds_tree : (s : State) (trees : ℕ → Tree) (floor : ℕ) (img : Blocks) → KnowsPoints s trees → HoldsPointBetween s floor s.books.point img → LeavesTree s trees floor s.books.point img
 holds_tree s trees floor img known h = record { point = h.point; from = h.from; upto = h.upto; map = h.map; holds = h.holds; tree = known.each h.point h.map h.upto h.is }
 
-pub leaves_now : (s : State) (trees : ℕ → Tree) (img : Blocks) → IsTold s → KnowsPoints s trees → s.crash.left_since s.crash.moment img → ∥ LeavesTree s trees s.books.floor s.books.point img ∥₁
+pub leaves_now : (s : State) (trees : ℕ → Tree) (img : Blocks) → IsTold s → KnowsPoints s trees → s.crash.left_since (length s.crash.log) img → ∥ LeavesTree s trees s.books.floor s.books.point img ∥₁
 leaves_now s trees img told known left = ∥∥₁_map (told.now img left) (holds_tree s trees s.books.floor img known)
 
-pub leaves_in_call : (old new : State) (trees : ℕ → Tree) (img : Blocks) → Advances old new → KnowsPoints new trees → new.crash.left_since old.crash.moment img → ∥ LeavesTree new trees old.books.floor new.books.point img ∥₁
+pub leaves_in_call : (old new : State) (trees : ℕ → Tree) (img : Blocks) → Advances old new → KnowsPoints new trees → new.crash.left_since (length old.crash.log) img → ∥ LeavesTree new trees old.books.floor new.books.point img ∥₁
 leaves_in_call old new trees img on known left = ∥∥₁_map (on.window img left) (holds_tree new trees old.books.floor img known)
 
-pub leaves_earlier : (old new : State) (trees : ℕ → Tree) (t : ℕ) (img : Blocks) → Advances old new → KnowsPoints new trees → t ≤ old.crash.moment → new.crash.left_since t img
+pub leaves_earlier : (old new : State) (trees : ℕ → Tree) (t : ℕ) (img : Blocks) → Advances old new → KnowsPoints new trees → t ≤ length old.crash.log → new.crash.left_since t img
     → old.crash.left_since t img ⊎ ∥ LeavesTree new trees old.books.floor new.books.point img ∥₁
 leaves_earlier old new trees t img on known before left =
     ⊎_elim inl (λ late. inr (∥∥₁_map late (holds_tree new trees old.books.floor img known))) (on.earlier t img before left)

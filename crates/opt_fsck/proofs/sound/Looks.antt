@@ -17,7 +17,7 @@ looks_none tells s = record {
   books = refl;
   counts = record { read_faults = refl; faults = refl; waits = refl; ticks = refl };
   map = λ t. refl;
-  crash = λ t. record { moment = refl; point = λ p m. (λ x. x, λ x. x); left = λ t img. (λ x. x, λ x. x); holds = λ img m. (λ x. x, λ x. x); issued = λ m. (λ x. x, λ x. x); writes = refl };
+  crash = λ t. record { base = refl; log = refl; point = λ p m. (λ x. x, λ x. x); left = λ t img. (λ x. x, λ x. x); holds = λ img m. (λ x. x, λ x. x); issued = λ m. (λ x. x, λ x. x) };
 }
 
 -- two looks, of which the first didn't fail
@@ -32,12 +32,12 @@ looks_more tells failed s t u first second = record {
   };
   map = λ told. second.map told ∙ first.map told;
   crash = λ told. let a = first.crash told in let b = second.crash told in record {
-    moment = b.moment ∙ a.moment;
+    base = b.base ∙ a.base;
+    log = b.log ∙ a.log;
     point = λ p m. iff_on (b.point p m) (a.point p m);
     left = λ n img. iff_on (b.left n img) (a.left n img);
     holds = λ img m. iff_on (b.holds img m) (a.holds img m);
     issued = λ m. iff_on (b.issued m) (a.issued m);
-    writes = b.writes ∙ a.writes;
   };
 }
 

@@ -7,7 +7,7 @@ use Rattle.opt_geom.specs.Geometry.{Geometry, ring_block}
 use Rattle.opt_journal.specs.Layout.{descriptor_count}
 use Rattle.opt_journal.specs.Spelling.{commit_block}
 use Rattle.opt_journal.specs.Run.{heads, commit_says}
-use Rattle.opt_crash.specs.Counts.{writes_in}
+use Rattle.opt_disk.specs.Disk.{writes_in}
 use Rattle.opt_tx.specs.declared.put.Put.{Put}
 use Rattle.opt_tx.specs.Record.{record_of, descriptor_blocks, stored_put}
 use Rattle.opt_crash.specs.Writes.{AddsWrites, AddsFront}

@@ -1,6 +1,6 @@
 -- Where there is no record nothing is done; else a wait for all tickets, and the steps that are due then.
 use Rattle.std.proofs.Common.{refl, ap, arith}
-use Rattle.opt_crash.specs.Counts.{writes_in}
+use Rattle.opt_disk.specs.Disk.{writes_in}
 use Rattle.opt_checkpoint.specs.Kept.{kept}
 use Rattle.opt_checkpoint.proofs.Added.{home_none, home_noticed, home_heard, loses_none, loses_on, loses_heard}
 use Rattle.opt_checkpoint.proofs.Heard.{sound_heard, serves_heard, owed_heard, writes_noticed}

@@ -34,6 +34,12 @@ module _ (g : _) (c : In-Some g) where
   still : IsTrue g.S.Blocks.tells → (slots : List Slot) → inodes_in s c.args.draft.now c.args.dir ≡ Some (ADir slots) → inodes_in t c.args.draft.now c.args.dir ≡ Some (ADir slots)
   still told slots is = ap (λ m. m c.args.dir) (same_inodes g.S.Blocks.tells false s t c.args.draft.now c.in_ok-last.ensures.looks told) ∙ is
 
+pub returns-in_default-2-clause-places : goal.returns-in_default-2-clause-places
+returns-in_default-2-clause-places g c = λ told slots is.
+    let b = (goal.at.returns-in_default-2-clause-places g c).In-Some in
+    absurd (none-some _ (sym c.in_default-2.is ∙ c.in_ok-moved.ensures.slot told slots (still g b told slots is) (omega (arith, last_is g b told slots is, place_low g b told slots is))
+    ∙ slice_get-get_or slots c.in-Some.last (record { node = 0; name = [] }) (omega (arith, last_is g b told slots is, place_low g b told slots is))))
+
 pub returns-in_default-2-clause-alters : goal.returns-in_default-2-clause-alters
 returns-in_default-2-clause-alters g c = λ told slots is.
     let b = (goal.at.returns-in_default-2-clause-alters g c).In-Some in

@@ -6,7 +6,7 @@ use Rattle.opt_files.specs.Effects.{LooksOnly, LooksAndSettles}
 use Rattle.opt_files.specs.Growing.{more_blocks}
 use Rattle.opt_files.proofs.bytes.Looks.{looks_more}
 use Rattle.opt_files.proofs.calling.Extends.{ExtendsNode, extend_steps, extended_draft, extended_file, extended_places, extended_grows, extended_changes, unread_settles}
-use Rattle.opt_files.proofs.calling.WriteLooks.{looks_then}
+use Rattle.opt_files.proofs.calling.WriteLooks.{looks_then, looked, look_passed}
 use Rattle.opt_files.proofs.drafts.Refused.{same_error}
 use Rattle.opt_files.proofs.resize.extend.Goals as goal
 
@@ -89,3 +89,12 @@ returns-in_err-store-clause-looks g c = λ few.
     let t = g.S.Blocks.state c.make_room.new.blocks in
     same_error c.from_residual-in_err-store.result refusal.NoMemory (λ r. LooksOnly tells (fails_reading r) s t) c.from_residual-in_err-store.ensures.1
     (looks_more tells false s one t c.in_ok-fill_gap.ensures.looks (c.in_ok-make_room.ensures.looks (subst (λ (k : Bookkeeping). more_blocks c.args.size c.args.node.now ≤ length (reusable_blocks k)) (sym c.in_ok-fill_gap.ensures.looks.books) few)))
+
+pub returns-in_err-fill_gap-clause-settles : goal.returns-in_err-fill_gap-clause-settles
+returns-in_err-fill_gap-clause-settles g c =
+    let tells = g.S.Blocks.tells in
+    let s = g.S.Blocks.state c.args.blocks.now in
+    let one = g.S.Blocks.state c.fill_gap.new.blocks in
+    let w = c.in_err-fill_gap.field-0.0 in
+    look_passed c.fill_gap.result c.from_residual.result w tells s one c.from_residual.ensures.1 c.in_err-fill_gap.ensures.refused
+    (looked g.S.Blocks.state tells c.calls_compose.ensures.advances c.calls_compose.ensures.rests _ c.args.blocks.now c.fill_gap.new.blocks c.requires.going c.in_err-fill_gap.ensures.looks)

@@ -2,10 +2,13 @@ use Rattle.std.proofs.Common.{◌≡◌, ◌+◌, false, length, max, ap, subst,
 use Rattle.opt_base.specs.declared.words.Class.{Class}
 use Rattle.opt_blocks.specs.State.{Bookkeeping}
 use Rattle.opt_files.specs.Bytes.{met}
-use Rattle.opt_files.specs.Content.{WritesContent}
+use Rattle.opt_files.specs.Content.{WritesContent, fails_reading, fails_settling}
 use Rattle.opt_files.specs.Writing.{HasRoom}
 use Rattle.opt_files.proofs.calling.Opens.{room_data, room_within, wrote}
 use Rattle.opt_files.proofs.calling.WriteLooks.{looks_then, then_looks, look_passed}
+use Rattle.opt_files.proofs.calling.Extends.{unread_settles}
+use Rattle.opt_files.proofs.drafts.Refused.{same_error}
+use Rattle.opt_files.specs.Effects.{LooksAndSettles}
 use Rattle.opt_files.proofs.write.write_open.Goals as goal
 
 pub write_content-requires-clause-data : goal.write_content-requires-clause-data
@@ -43,3 +46,18 @@ returns-clause-writes g c =
     c.in_ok-write_content.ensures.some
     c.in_ok-write_content.ensures.content
     c.in_ok-write_content.ensures.bytes
+
+pub returns-in_err-make_room-clause-settles : goal.returns-in_err-make_room-clause-settles
+returns-in_err-make_room-clause-settles g c =
+    let tells = g.S.Blocks.tells in
+    let s = g.S.Blocks.state c.args.blocks.now in
+    let t = g.S.Blocks.state c.make_room.new.blocks in
+    let w = c.in_err-make_room.field-0.0 in
+    same_error c.from_residual-in_err-make_room.result w (λ r. LooksAndSettles tells (fails_reading r) (fails_settling r) s t) c.from_residual-in_err-make_room.ensures.1
+    (unread_settles tells _ _ s t c.in_err-make_room.ensures.unread (looks_then g.S.Blocks.state tells c.calls_compose.ensures.advances c.calls_compose.ensures.rests false _ c.args.blocks.now c.close_gap.new.blocks c.make_room.new.blocks c.requires.going c.in_ok-close_gap.ensures.looks c.in_err-make_room.ensures.settles))
+
+pub returns-clause-settles : goal.returns-clause-settles
+returns-clause-settles g c =
+    let tells = g.S.Blocks.tells in
+    let one = looks_then g.S.Blocks.state tells c.calls_compose.ensures.advances c.calls_compose.ensures.rests false false c.args.blocks.now c.close_gap.new.blocks c.make_room.new.blocks c.requires.going c.in_ok-close_gap.ensures.looks c.in_ok-make_room.ensures.settles in
+    then_looks g.S.Blocks.state tells c.calls_compose.ensures.advances c.calls_compose.ensures.rests false c.args.blocks.now c.make_room.new.blocks c.write_content.new.blocks one c.in_ok-write_content.ensures.looks

@@ -39,7 +39,7 @@ returns-clause-kept g c =
     let old = g.D.Disk.state c.args.disk.now in
     let mid = g.D.Disk.state c.find_store.new.disk in
     let new = g.D.Disk.state c.open.new.disk in
-    let laws : BeginLaws = record { safe = c.a_call_begins_safe.ensures; map = c.a_session_begins_with_its_map.ensures.map; accepted = c.a_session_begins_with_its_map.ensures.accepted; right = c.a_new_store_is_right.ensures.right; sound = c.a_new_store_is_right.ensures.sound; began = c.a_new_store_is_right.ensures.began; cache = c.a_new_cache_agrees.ensures } in
+    let laws : BeginLaws = record { safe = c.a_call_begins_safe.ensures; map = c.a_session_begins_with_its_map.ensures.map; accepted = c.a_session_begins_with_its_map.ensures.accepted; right = c.a_new_store_is_right.ensures.right; sound = c.a_new_store_is_right.ensures.sound; began = c.a_new_store_is_right.ensures.began; cache = c.a_new_cache_agrees.ensures; one = c.an_image_holds_one_map.ensures.maps } in
     let f = c.in_ok-found.field-0.found in
     let books = c.new_parts.result.books in
     let made : books.bitmap ≡ c.in_ok-found.field-0.bitmap.items = ap (λ (v : TransactionBooks). v.bitmap) c.new_parts.ensures.books ∙ c.in-Ok.ensures.bitmap in
@@ -57,14 +57,14 @@ returns-clause-begins g c = λ tells k m held ticks.
     let old = g.D.Disk.state c.args.disk.now in
     let mid = g.D.Disk.state c.find_store.new.disk in
     let new = g.D.Disk.state c.open.new.disk in
-    let laws : BeginLaws = record { safe = c.a_call_begins_safe.ensures; map = c.a_session_begins_with_its_map.ensures.map; accepted = c.a_session_begins_with_its_map.ensures.accepted; right = c.a_new_store_is_right.ensures.right; sound = c.a_new_store_is_right.ensures.sound; began = c.a_new_store_is_right.ensures.began; cache = c.a_new_cache_agrees.ensures } in
+    let laws : BeginLaws = record { safe = c.a_call_begins_safe.ensures; map = c.a_session_begins_with_its_map.ensures.map; accepted = c.a_session_begins_with_its_map.ensures.accepted; right = c.a_new_store_is_right.ensures.right; sound = c.a_new_store_is_right.ensures.sound; began = c.a_new_store_is_right.ensures.began; cache = c.a_new_cache_agrees.ensures; one = c.an_image_holds_one_map.ensures.maps } in
     let f = c.in_ok-found.field-0.found in
     let books = c.new_parts.result.books in
     let made : books.bitmap ≡ c.in_ok-found.field-0.bitmap.items = ap (λ (v : TransactionBooks). v.bitmap) c.new_parts.ensures.books ∙ c.in-Ok.ensures.bitmap in
     let shape : c.header.result.now.geom ≡ f.run.header.geom = ap (λ (h : Header). h.geom) c.header.ensures ∙ ap (λ (r : FoundRun). r.header.geom) c.run.ensures.value in
     let both = found_as old f c.in_ok-found.field-0.bitmap.items books made (c.in_ok-found.ensures.found tells (c.requires.idle tells)) in
     let starts = starts_with g.D.Disk.tells old mid new tells c.in_ok-found.ensures.reads f (c.requires.idle tells) both.0 c.the_bitmap_that_is_found_is_the_maps.ensures.has c.the_bitmap_that_is_found_is_the_maps.ensures.geom c.header.result.now.geom c.in-Ok-open.mounted.slot c.in-Ok-open.mounted.header c.moment-moment.result books shape c.new_parts.ensures.parts.books.geom both.1 (c.moment-moment.ensures tells) (c.lawful.ensures tells) (c.in-Ok-open.ensures.begins tells) (c.in-Ok-open.ensures.goes_on tells) k m held in
-    subst (λ (q : Geometry). BeginsWith q m (store_state c.new_parts.result ticks new)) starts.0 (begins_with _ _ _ _ _ c.new_parts.ensures.parts laws new _ m ticks starts.1)
+    subst (λ (q : Geometry). BeginsWith q m (store_state c.new_parts.result ticks new)) starts.0 (begins_with _ _ _ _ _ c.new_parts.ensures.parts laws c.in-Ok-open.ensures.anew.released new _ m ticks starts.1)
 
 pub returns-clause-holds : goal.returns-clause-holds
 returns-clause-holds g c = λ tells. window_since g.D.Disk.tells (g.D.Disk.state c.args.disk.now) (g.D.Disk.state c.find_store.new.disk) (g.D.Disk.state c.open.new.disk) tells c.in_ok-found.ensures.reads c.in_ok-found.field-0.found (c.requires.idle tells) (c.in_ok-found.ensures.found tells (c.requires.idle tells)).0 (c.open.ensures.holds tells)

@@ -1,6 +1,6 @@
 -- The notices are taken, and then the steps that are due are made.
 use Rattle.std.proofs.Common.{ap, arith}
-use Rattle.opt_crash.specs.Counts.{writes_in}
+use Rattle.opt_disk.specs.Disk.{writes_in}
 use Rattle.opt_checkpoint.specs.Kept.{kept}
 use Rattle.opt_checkpoint.proofs.Added.{home_noticed, home_heard, loses_on, loses_heard}
 use Rattle.opt_checkpoint.proofs.Heard.{sound_heard, turns_heard, has_turns, serves_heard, owed_heard, due_heard, writes_noticed}

@@ -1,5 +1,5 @@
 use Rattle.std.proofs.Common.{◌+◌, ◌≤◌, ℕ, List, IsTrue, Ok, false}
-use Rattle.opt_crash.specs.Counts.{writes_in}
+use Rattle.opt_disk.specs.Disk.{writes_in}
 use Rattle.opt_crash.specs.Ledger.{Ledger}
 use Rattle.opt_crash.specs.Points.{MountedSession}
 use Rattle.opt_checkpoint.specs.Adds.{AddsHome, LosesFront}

@@ -9,6 +9,7 @@ use Rattle.opt_files.proofs.bytes.Looks.{looks_more}
 use Rattle.opt_files.proofs.calling.Nodes.{has_table}
 use Rattle.opt_files.proofs.calling.Resized.{IsRead, read_at, read_growth, since_read, same_file, kept_places, cut_places, grown_places, same_resizes, cut_resizes, grown_resizes, grown_refused, few_read}
 use Rattle.opt_files.proofs.drafts.Refused.{ok_maps, ok_both, err_maps}
+use Rattle.opt_files.proofs.calling.WriteLooks.{looks_then}
 use Rattle.opt_files.proofs.draft.Draft.resize.Goals as goal
 use Rattle.opt_files.proofs.draft.Draft.resize.Goals.{In-Some}
 
@@ -120,3 +121,6 @@ returns-clause-looks g c = λ known x at few.
     let b = (goal.at.returns-clause-looks g c).In-Some in
     looks_more g.S.Blocks.tells _ (s g b) (t g b) (g.S.Blocks.state c.extend.new.blocks) c.in_ok-node.ensures.looks
     (c.extend.ensures.looks (few_read g.S.Blocks.tells (s g b) (t g b) c.args.number c.args.size c.in-Some.node x c.args.self.now (read g b x known at) few))
+
+pub returns-clause-settles : goal.returns-clause-settles
+returns-clause-settles g c = looks_then g.S.Blocks.state g.S.Blocks.tells c.calls_compose.ensures.advances c.calls_compose.ensures.rests _ _ c.args.blocks.now c.load.new.blocks c.extend.new.blocks c.requires.going c.in_ok-node.ensures.looks c.extend.ensures.settles

@@ -10,6 +10,7 @@ use Rattle.opt_files.proofs.bytes.Looks.{looks_more}
 use Rattle.opt_files.proofs.calling.Nodes.{has_table}
 use Rattle.opt_files.proofs.calling.WriteAt.{once_then, slots_then, refused_then, few_then, file_then, grows_then, has_then, among_then, none_come}
 use Rattle.opt_files.proofs.drafts.Refused.{ok_maps, err_maps}
+use Rattle.opt_files.proofs.calling.WriteLooks.{looks_then}
 use Rattle.opt_files.proofs.draft.Draft.write_at.Goals as goal
 use Rattle.opt_files.proofs.draft.Draft.write_at.Goals.{In-Some, After-write_loaded}
 
@@ -102,3 +103,6 @@ returns-clause-looks g c = λ told x at few.
     let b = (goal.at.returns-clause-looks g c).In-Some in
     looks_more g.S.Blocks.tells (fails_reading c.write_loaded.result) (s g b) (t g b) (g.S.Blocks.state c.write_loaded.new.blocks) c.in_ok-node.ensures.looks
     (c.write_loaded.ensures.looks (few_then g.S.Blocks.tells (s g b) (t g b) c.args.number c.args.self.now c.in-Some.node c.in_ok-node.ensures.looks told (c.requires.draft.sound told) (opened g b) (used g b told) (c.args.offset + length c.args.bytes.now) x at few))
+
+pub returns-clause-settles : goal.returns-clause-settles
+returns-clause-settles g c = looks_then g.S.Blocks.state g.S.Blocks.tells c.calls_compose.ensures.advances c.calls_compose.ensures.rests _ _ c.args.blocks.now c.load.new.blocks c.write_loaded.new.blocks c.requires.going c.in_ok-node.ensures.looks c.write_loaded.ensures.settles
