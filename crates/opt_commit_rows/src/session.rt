@@ -49,7 +49,7 @@ impl Session {
         let mut image = Image::zeros(alloc, geom.n())?;
         for b in 0..geom.n() {
             if b < image.blocks() {
-                image.set(b, &formatted_block(&geom, b));
+                image.set(alloc, b, &formatted_block(&geom, b))?;
             }
         }
         let mut disk = MemDisk::of_image(alloc, image, ROOM)?;

@@ -1,6 +1,7 @@
 pub mod Choice
 pub mod Crash
 pub mod Image
+pub mod ImageBlock
 pub mod Log
 pub mod MemBay
 pub mod MemDisk

@@ -47,7 +47,14 @@ pub(crate) fn image_at(
     let places = settled_places(alloc, log, base.blocks(), moment)?;
     let fates = fates(alloc, log, places.as_slice(), moment, choice)?;
     let mut image = settled_image(alloc, base, log, places.as_slice())?;
-    put_pending(&mut image, base, log, places.as_slice(), fates.as_slice());
+    put_pending(
+        alloc,
+        &mut image,
+        base,
+        log,
+        places.as_slice(),
+        fates.as_slice(),
+    )?;
     Ok(image)
 }
 
@@ -161,58 +168,83 @@ fn joined(before: Option<Fate>, fate: Fate) -> Fate
 }
 
 // Puts what the fates leave of the pending writes over the settled contents.
-fn put_pending(image: &mut Image, base: &Image, log: &Log, places: &[usize], fates: &[Option<Fate>])
+fn put_pending(
+    alloc: Global,
+    image: &mut Image,
+    base: &Image,
+    log: &Log,
+    places: &[usize],
+    fates: &[Option<Fate>],
+) -> Result<(), NoMemory>
     requires size { length image.old ≡ length base.now }
     requires lawful { IsLawful log.now.events }
     requires within { AreWithin (length base.now) log.now.events }
     requires there { length fates.now ≤ length log.now.events }
     requires places { AreSettledPlaces (length base.now) (take (length fates.now) log.now.events) places.now }
     requires settled { AreBlocksOf (length base.now) (λ b. (cell_of (blocks_of base.now) (take (length fates.now) log.now.events) b).settled) image.old }
-    ensures { (c : ChoiceState) → AreFates (take (length fates.now) log.now.events) c.all c.named fates.now → AreBlocksOf (length base.now) (chosen c (blocks_of base.now) (take (length fates.now) log.now.events)) image.new }
+    ensures { OnOk result ((c : ChoiceState) → AreFates (take (length fates.now) log.now.events) c.all c.named fates.now → AreBlocksOf (length base.now) (chosen c (blocks_of base.now) (take (length fates.now) log.now.events)) image.new) }
 {
     for place in 0..fates.len() {
         if let Some(fate) = fates[place] {
-            put_event(image, base, log, places, place, fate);
+            put_event(alloc, image, base, log, places, place, fate)?;
         }
     }
+    Ok(())
 }
 
 // Puts what a fate leaves of the write at this place, if it is pending.
-fn put_event(image: &mut Image, base: &Image, log: &Log, places: &[usize], place: usize, fate: Fate)
+fn put_event(
+    alloc: Global,
+    image: &mut Image,
+    base: &Image,
+    log: &Log,
+    places: &[usize],
+    place: usize,
+    fate: Fate,
+) -> Result<(), NoMemory>
     requires size { length image.old ≡ length base.now }
     requires within { AreWithin (length base.now) log.now.events }
     requires there { place < length log.now.events }
     requires places { length places.now ≡ length base.now }
-    ensures { (moment : ℕ) (event : Event) → AreSettledPlaces (length base.now) (take moment log.now.events) places.now → slice_get log.now.events place ≡ Some event → image.new ≡ put_event (λ b. (cell_of (blocks_of base.now) (take moment log.now.events) b).settled) places.now place event fate image.old }
+    ensures { OnOk result ((moment : ℕ) (event : Event) → AreSettledPlaces (length base.now) (take moment log.now.events) places.now → slice_get log.now.events place ≡ Some event → image.new ≡ put_event (λ b. (cell_of (blocks_of base.now) (take moment log.now.events) b).settled) places.now place event fate image.old) }
 {
     match event_at(log, place) {
         Event::Wrote { block, bytes, .. } => {
             let settled = places[*block as usize];
             if settled <= place {
                 let settled = settled_bytes(base, log, *block, settled);
-                put_write(image, *block, bytes.bytes(), settled, fate);
+                put_write(alloc, image, *block, bytes.bytes(), settled, fate)?;
             }
         }
         Event::Lost { block, bytes } => {
             let settled = places[*block as usize];
             if settled <= place {
                 let settled = settled_bytes(base, log, *block, settled);
-                put_write(image, *block, bytes.bytes(), settled, fate);
+                put_write(alloc, image, *block, bytes.bytes(), settled, fate)?;
             }
         }
         Event::Noticed { .. } => {}
     }
+    Ok(())
 }
 
 // Puts what a fate leaves of a write of these bytes to a block of which these are settled.
-fn put_write(image: &mut Image, block: u32, bytes: &Block, settled: &Block, fate: Fate)
+fn put_write(
+    alloc: Global,
+    image: &mut Image,
+    block: u32,
+    bytes: &Block,
+    settled: &Block,
+    fate: Fate,
+) -> Result<(), NoMemory>
     requires { block < length image.old }
-    ensures { image.new ≡ slice_set image.old block (left_by (Some fate) settled.now bytes.now []) }
+    ensures { OnOk result (image.new ≡ slice_set image.old block (left_by (Some fate) settled.now bytes.now [])) }
 {
     match fate {
-        Fate::Stands => image.set(block, bytes),
-        Fate::Torn { bytes: count } => image.set(block, &torn(bytes, count, settled)),
+        Fate::Stands => image.set(alloc, block, bytes)?,
+        Fate::Torn { bytes: count } => image.set(alloc, block, &torn(bytes, count, settled))?,
     }
+    Ok(())
 }
 
 // The first bytes of a write, and then those that are settled.

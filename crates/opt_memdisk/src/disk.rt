@@ -160,7 +160,7 @@ impl MemDisk {
         pending_writes_are_those_of_the_cells();
         let _ = self.log.events();
         let image = image_at(alloc, &self.base, &self.log, moment, choice)?;
-        let _ = image.as_slice();
+        image.lawful();
         Ok(image)
     }
 
@@ -363,7 +363,7 @@ impl Disk for MemDisk {
     fn lawful(&self) {
         // calls for their clauses alone: what the events are, and what the blocks are
         let _ = self.log.events();
-        let _ = self.base.as_slice();
+        self.base.lawful();
     }
 
     fn blocks(&self) -> u32

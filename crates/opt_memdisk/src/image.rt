@@ -1,18 +1,21 @@
-//! The blocks of a whole disk in memory, as one list. It has no events and no faults.
+//! The blocks of a whole disk in memory, as one list. It has no events and no faults. How a block of zeros
+//! is kept isn't its matter.
 
-ghost use Rattle.std.specs.Prelude.{◌≡◌, ◌<◌, length, slice_set, IfOk};
+ghost use Rattle.std.specs.Prelude.{◌≡◌, ◌<◌, length, slice_set, option_map, IfOk, OnOk, OnErr};
+ghost use Rattle.std.specs.List.{slice_get};
 ghost use Rattle.opt_base.specs.Seal.{blocks_of};
 ghost use Rattle.opt_disk.specs.Bay.{zero_blocks};
 ghost use Rattle.opt_memdisk.specs.Image.{AreBlocks};
 
+use crate::image_block::ImageBlock;
 use opt_base::{Block, NoMemory};
 use std::alloc::{AllocError, Global};
 use std::marker::Model;
 
-/// A list of blocks, which contracts see as that list.
+/// A list of blocks, which contracts see as that list. Of blocks of zeros it keeps no bytes.
 #[derive(Debug, Drop)]
 pub struct Image {
-    blocks: Vec<Block>,
+    blocks: Vec<ImageBlock>,
 }
 
 impl Model for Image {
@@ -34,9 +37,9 @@ impl Image {
     pub fn zeros(alloc: Global, n: u32) -> Result<Image, NoMemory>
         ensures { IfOk result (λ image. image ≡ zero_blocks n) }
     {
-        let mut blocks: Vec<Block> = Vec::with_capacity(alloc, n as usize)?;
+        let mut blocks = Vec::with_capacity(alloc, n as usize)?;
         while blocks.len() < n as usize {
-            blocks.push([0; 1024]).unwrap();
+            blocks.push(ImageBlock::zeros()).unwrap();
         }
         Ok(Image { blocks })
     }
@@ -48,7 +51,8 @@ impl Image {
     pub fn copy(&self, alloc: Global) -> Result<Image, NoMemory>
         ensures { IfOk result (λ image. image ≡ self.now) }
     {
-        let blocks = Vec::from_slice(alloc, self.blocks.as_slice())?;
+        let mut blocks = Vec::with_capacity(alloc, self.blocks.len())?;
+        blocks.extend_with_clones(self.blocks.as_slice())?;
         Ok(Image { blocks })
     }
 
@@ -65,23 +69,52 @@ impl Image {
         ensures bytes { result.now ≡ blocks_of self.now b }
         ensures size { length result.now ≡ 1024 }
     {
-        &self.blocks[b as usize]
+        let block = &self.blocks[b as usize];
+        block.bytes()
     }
 
-    /// Makes these the bytes of block `b`, which there must be. The other blocks stay.
-    pub fn set(&mut self, b: u32, from: &Block)
+    /// Block `b`, where there is one.
+    pub fn get(&self, b: u32) -> Option<&Block>
+        ensures { option_map (λ block. block.now) result ≡ slice_get self.now b }
+    {
+        let block = self.blocks.get(b as usize)?;
+        Some(block.bytes())
+    }
+
+    /// Makes these the bytes of block `b`, which there must be. The other blocks stay. It takes memory only
+    /// where the block has zeros.
+    ///
+    /// # Errors
+    /// Out of memory, and the image stays as it was.
+    pub fn set(&mut self, alloc: Global, b: u32, from: &Block) -> Result<(), NoMemory>
         requires { b < length self.old }
-        ensures { self.new ≡ slice_set self.old b from.now }
+        ensures done { OnOk result (self.new ≡ slice_set self.old b from.now) }
+        ensures same { OnErr result (self.new ≡ self.old) }
     {
-        self.blocks[b as usize] = *from;
+        self.blocks[b as usize].set(alloc, from)?;
+        Ok(())
     }
 
-    /// All blocks in order.
-    pub fn as_slice(&self) -> &[Block]
-        ensures value { result.now ≡ self.now }
-        ensures blocks { AreBlocks self.now }
+    /// The bytes of all blocks in order, those of zeros too.
+    ///
+    /// # Errors
+    /// Out of memory.
+    pub fn to_blocks(&self, alloc: Global) -> Result<Vec<Block>, NoMemory>
+        ensures { IfOk result (λ blocks. blocks.items ≡ self.now) }
     {
-        self.blocks.as_slice()
+        let mut blocks = Vec::with_capacity(alloc, self.blocks.len())?;
+        for block in &self.blocks {
+            blocks.push(*block.bytes()).unwrap();
+        }
+        Ok(blocks)
+    }
+
+    /// Does nothing. A proof learns from the call that there are fewer than 2^32 blocks, each with the bytes
+    /// of a block.
+    pub fn lawful(&self)
+        ensures { AreBlocks self.now }
+    {
+        let _ = &self.blocks;
     }
 }
 
@@ -113,8 +146,7 @@ impl Clone for Image {
     ghost is_clone = { λ image clone. clone ≡ image };
 
     fn clone(&self) -> Result<Image, AllocError> {
-        let alloc = *self.blocks.allocator();
-        let blocks = Vec::from_slice(alloc, self.blocks.as_slice())?;
+        let blocks = self.blocks.clone()?;
         Ok(Image { blocks })
     }
 }

@@ -9,6 +9,7 @@ mod choice;
 mod crash;
 mod disk;
 mod image;
+mod image_block;
 mod laws;
 mod log;
 mod rule;

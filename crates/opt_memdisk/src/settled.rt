@@ -104,10 +104,16 @@ pub(crate) fn settled_image(
     requires { length places.now ≡ length base.now }
     ensures { (moment : ℕ) → AreSettledPlaces (length base.now) (take moment log.now.events) places.now → IfOk result (λ image. AreBlocksOf (length base.now) (λ b. (cell_of (blocks_of base.now) (take moment log.now.events) b).settled) image) }
 {
+    // calls for their clauses alone: what is settled where no write was noticed, and that the log is lawful
+    settled_is_the_newest_noticed();
+    let _ = log.events();
     let mut image = base.copy(alloc)?;
     for block in 0..base.blocks() {
-        let bytes = settled_bytes(base, log, block, places[block as usize]);
-        image.set(block, bytes);
+        let place = places[block as usize];
+        if place > 0 {
+            let bytes = settled_bytes(base, log, block, place);
+            image.set(alloc, block, bytes)?;
+        }
     }
     Ok(image)
 }

@@ -170,7 +170,7 @@ pub(crate) fn write_crashes<W: Write>(
     twice: bool,
     out: &mut W,
 ) -> Result<bool> {
-    let Some(wanted) = recover(alloc, image.as_slice())? else {
+    let Some(wanted) = recover(alloc, image.to_blocks(alloc)?.as_slice())? else {
         return Ok(false);
     };
     let mut first = Tally::new();
@@ -206,7 +206,7 @@ pub(crate) fn write_faults<W: Write>(
     kind: DiskCall,
     out: &mut W,
 ) -> Result<bool> {
-    let Some(wanted) = recover(alloc, image.as_slice())? else {
+    let Some(wanted) = recover(alloc, image.to_blocks(alloc)?.as_slice())? else {
         return Ok(false);
     };
     count_faults(alloc, image, kind, &wanted, out)

@@ -37,7 +37,7 @@ pub(crate) fn look(alloc: Global, image: &Image) -> Result<Found, NoMemory> {
         Ok(run) => epoch_of(&mut disk, run),
         Err(_) => None,
     };
-    let plain = recover(alloc, image.as_slice())?;
+    let plain = recover(alloc, image.to_blocks(alloc)?.as_slice())?;
     Ok(Found {
         run,
         epoch,
@@ -101,9 +101,9 @@ fn have_same_bytes(run: &Run, plain: &Recovered, image: &Image) -> bool {
 /// The bytes of a block by the run: its last payload, or what is in the image.
 fn bytes_by(run: &Run, image: &Image, b: u32) -> Option<Block> {
     let Some((at, kind)) = run.payload(b) else {
-        return image.as_slice().get(b as usize).copied();
+        return image.get(b).copied();
     };
-    let stored = image.as_slice().get(at as usize)?;
+    let stored = image.get(at)?;
     let mut bytes = [0u8; 1024];
     unescape(stored, kind, &mut bytes);
     Some(bytes)
@@ -209,7 +209,7 @@ fn read_blocks(found: &Found, first: usize, count: usize) -> usize {
 /// # Errors
 /// The writer's, or out of memory.
 pub(crate) fn write_map<W: Write>(alloc: Global, image: &Image, out: &mut W) -> Result<()> {
-    let Some(plain) = recover(alloc, image.as_slice())? else {
+    let Some(plain) = recover(alloc, image.to_blocks(alloc)?.as_slice())? else {
         return Ok(());
     };
     let text = map_text(alloc, &plain, image.blocks())?;

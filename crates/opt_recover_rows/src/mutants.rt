@@ -51,7 +51,7 @@ pub(crate) fn write_mutants<W: Write>(
     sealed: bool,
     out: &mut W,
 ) -> Result<bool> {
-    let Some(bytes) = image.as_slice().get(block as usize).copied() else {
+    let Some(bytes) = image.get(block).copied() else {
         return Ok(false);
     };
     let mut counts = Counts::new();
@@ -72,23 +72,27 @@ pub(crate) fn write_mutants<W: Write>(
 
 /// Makes this the value of a byte of the image, and seals the block again where that is asked. Whether there is
 /// such a byte.
+///
+/// # Errors
+/// Out of memory.
 pub(crate) fn change_byte(
+    alloc: Global,
     image: &mut Image,
     block: u32,
     at: usize,
     value: u8,
     sealed: bool,
-) -> bool {
-    let Some(bytes) = image.as_slice().get(block as usize).copied() else {
-        return false;
+) -> Result<bool, NoMemory> {
+    let Some(bytes) = image.get(block).copied() else {
+        return Ok(false);
     };
     let Some(old) = bytes.get(at).copied() else {
-        return false;
+        return Ok(false);
     };
     if block < image.blocks() {
-        image.set(block, &mutated(&bytes, at, old ^ value, sealed));
+        image.set(alloc, block, &mutated(&bytes, at, old ^ value, sealed))?;
     }
-    true
+    Ok(true)
 }
 
 /// Counts what is found on the image, and gives it in numbers.
@@ -126,7 +130,7 @@ fn mutated(bytes: &Block, at: usize, change: u8, sealed: bool) -> Block {
 fn changed(alloc: Global, image: &Image, block: u32, bytes: &Block) -> Result<Image, NoMemory> {
     let mut mutant = image.copy(alloc)?;
     if block < mutant.blocks() {
-        mutant.set(block, bytes);
+        mutant.set(alloc, block, bytes)?;
     }
     Ok(mutant)
 }
@@ -205,7 +209,7 @@ fn survives(alloc: Global, image: &Image, found: &Found, tried: &Tried) -> Resul
     let Some(plain) = &found.plain else {
         return Ok(false);
     };
-    match recover(alloc, after.as_slice())? {
+    match recover(alloc, after.to_blocks(alloc)?.as_slice())? {
         Some(kept) => Ok(hold_the_same(&kept, plain, image.blocks())),
         None => Ok(false),
     }

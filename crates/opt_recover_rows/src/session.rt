@@ -39,7 +39,7 @@ impl Session {
         let mut image = Image::zeros(alloc, geom.n())?;
         for b in 0..geom.n() {
             if b < image.blocks() {
-                image.set(b, &formatted_block(&geom, b));
+                image.set(alloc, b, &formatted_block(&geom, b))?;
             }
         }
         let disk = MemDisk::of_image(alloc, image.copy(alloc)?, ROOM)?;
@@ -100,7 +100,9 @@ impl Session {
                 self.choose(alloc, moment, standing, torn)?
             }
             ["settle"] => self.settle(alloc)?,
-            ["change", block, at, value, how] => self.change_byte([block, at, value], how),
+            ["change", block, at, value, how] => {
+                self.change_byte(alloc, [block, at, value], how)?
+            }
             ["cut", count] => self.cut(alloc, count)?,
             _ => return Ok(None),
         };
@@ -184,15 +186,23 @@ impl Session {
     }
 
     /// Changes a byte of the image that is looked at. Whether there is one.
-    fn change_byte(&mut self, words: [&str; 3], how: &str) -> bool {
+    ///
+    /// # Errors
+    /// Out of memory.
+    fn change_byte(
+        &mut self,
+        alloc: Global,
+        words: [&str; 3],
+        how: &str,
+    ) -> Result<bool, NoMemory> {
         let [block, at, value] = words;
         let (Ok(block), Ok(at)) = (block.parse::<u32>(), at.parse::<usize>()) else {
-            return false;
+            return Ok(false);
         };
         let (Ok(value), Some(sealed)) = (value.parse::<u8>(), is_sealed(how)) else {
-            return false;
+            return Ok(false);
         };
-        change_byte(&mut self.image, block, at, value, sealed)
+        change_byte(alloc, &mut self.image, block, at, value, sealed)
     }
 
     /// Looks at so many blocks of the image alone.
@@ -355,9 +365,9 @@ fn is_sealed(how: &str) -> Option<bool> {
 fn front_of(alloc: Global, image: &Image, count: u32) -> Result<Image, NoMemory> {
     let mut front = Image::zeros(alloc, count.min(image.blocks()))?;
     for b in 0..front.blocks() {
-        if let Some(bytes) = image.as_slice().get(b as usize) {
+        if let Some(bytes) = image.get(b) {
             if b < front.blocks() {
-                front.set(b, bytes);
+                front.set(alloc, b, bytes)?;
             }
         }
     }

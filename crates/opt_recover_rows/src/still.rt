@@ -54,7 +54,7 @@ impl Disk for StillDisk {
     }
 
     fn read(&mut self, b: u32, into: &mut Block) -> Result<(), DiskFault> {
-        let Some(block) = self.image.as_slice().get(b as usize) else {
+        let Some(block) = self.image.get(b) else {
             self.read_faults = self.read_faults.saturating_add(1);
             return Err(DiskFault);
         };

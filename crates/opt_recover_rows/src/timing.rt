@@ -36,7 +36,7 @@ pub(crate) fn fill(
         let record = spelled(alloc, geom, payloads, number, place)?;
         for write in record_writes(alloc, geom, &record)?.as_slice() {
             if write.block < image.blocks() {
-                image.set(write.block, &write.bytes);
+                image.set(alloc, write.block, &write.bytes)?;
             }
         }
         place = place.saturating_add(places);
@@ -98,8 +98,10 @@ pub(crate) fn write_digests<W: Write>(
     out: &mut W,
 ) -> Result<()> {
     let mut hasher = Sha256::new();
-    for block in image.as_slice().iter().skip(2).take(geom.j() as usize) {
-        hasher.update(digest(block).as_slice());
+    for b in (0..image.blocks()).skip(2).take(geom.j() as usize) {
+        if let Some(block) = image.get(b) {
+            hasher.update(digest(block).as_slice());
+        }
     }
     let text = short(alloc, hasher.finalize().as_slice())?;
     writeln!(out, "ring {text}")?;

@@ -75,7 +75,7 @@ impl DiskRows {
         }
         let mut image = Image::zeros(alloc, blocks)?;
         for one in full {
-            if !fill(&mut image, one) {
+            if !fill(alloc, &mut image, one)? {
                 return Ok(None);
             }
         }
@@ -250,13 +250,13 @@ impl DiskRows {
 const UNREAD: u8 = 3;
 
 // Fills the block of an image that a word such as `4=1` names. Whether there is such a block.
-fn fill(image: &mut Image, word: &str) -> bool {
+fn fill(alloc: Global, image: &mut Image, word: &str) -> Result<bool, NoMemory> {
     match block_and_byte(word) {
         Some((block, filler)) if block < image.blocks() => {
-            image.set(block, &[filler; 1024]);
-            true
+            image.set(alloc, block, &[filler; 1024])?;
+            Ok(true)
         }
-        Some(_) | None => false,
+        Some(_) | None => Ok(false),
     }
 }
 

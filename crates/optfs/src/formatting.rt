@@ -23,7 +23,7 @@ pub fn formatted_image(alloc: Global, geom: &Geom) -> Result<Image, NoMemory>
     the_formatted_disk_is_empty();
     let mut image = Image::zeros(alloc, geom.n())?;
     for b in 0..geom.data_start() {
-        image.set(b, &formatted_block(geom, b));
+        image.set(alloc, b, &formatted_block(geom, b))?;
     }
     Ok(image)
 }

@@ -67,14 +67,17 @@ fn a_copy_of_an_image_goes_its_own_way(rt: HostRuntime) {
     let empty = Image::zeros(rt.alloc(), 0).expect(&rt, "memory");
     assert_eq!(rt; empty.blocks(), 0);
     let mut image = Image::zeros(rt.alloc(), 2).expect(&rt, "memory");
-    image.set(1, &block_of(9));
+    let set = image.set(rt.alloc(), 1, &block_of(9));
+    assert_eq!(rt; set, Ok(()));
     let copy = image.copy(rt.alloc()).expect(&rt, "memory");
     let clone = image.clone().expect(&rt, "memory");
     assert!(rt; clone == image && copy == image && image != empty);
-    image.set(1, &block_of(8));
+    let set = image.set(rt.alloc(), 1, &block_of(8));
+    assert_eq!(rt; set, Ok(()));
     assert!(rt; clone != image && clone == copy);
     assert_eq!(rt; copy.blocks(), 2);
-    assert_eq!(rt; copy.as_slice().len(), 2);
+    let blocks = copy.to_blocks(rt.alloc()).expect(&rt, "memory");
+    assert!(rt; blocks.as_slice() == [block_of(0), block_of(9)].as_slice());
     assert!(rt; *copy.block(0) == block_of(0));
     assert!(rt; *copy.block(1) == block_of(9));
 }

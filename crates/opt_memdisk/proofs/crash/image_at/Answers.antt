@@ -21,5 +21,5 @@ returns c =
       can c.args.choice.now c.args.moment c.args.log.now.events inside c.in_ok-fates.ensures.pending,
       whole (length c.args.base.now) c.args.choice.now (blocks_of c.args.base.now) c.args.log.now.events c.args.moment c.in_ok-fates.fates.items c.as_slice-4.result.now c.put_pending.new.image
           (fates_count c.args.log.now.events c.args.moment _ _ c.in_ok-fates.fates.items c.as_slice-4.result.now inside c.as_slice-4.ensures.value c.in_ok-fates.ensures.fates)
-          c.as_slice-4.ensures.value c.in_ok-fates.ensures.fates c.put_pending.ensures,
+          c.as_slice-4.ensures.value c.in_ok-fates.ensures.fates c.in_ok-put_pending.ensures,
     )

@@ -10,7 +10,7 @@ loop-b-init c =
     none_yet (formatted c.args.geom.now) c.args.geom.now.n c.in_ok-image.image zeros
 
 pub loop-b-preserved : goal.loop-b-preserved
-loop-b-preserved c = one_more (formatted c.args.geom.now) c.args.geom.now.n _ _ c.loop-b.b c.formatted_block.result c.loop-b.invariant (omega (arith, c.loop-b-test.true)) c.formatted_block.ensures c.set.ensures
+loop-b-preserved c = one_more (formatted c.args.geom.now) c.args.geom.now.n _ _ c.loop-b.b c.formatted_block.result c.loop-b.invariant (omega (arith, c.loop-b-test.true)) c.formatted_block.ensures c.in_ok-set.ensures.done
 
 pub returns-clause-blocks : goal.returns-clause-blocks
 returns-clause-blocks c = all_there (formatted c.args.geom.now) c.args.geom.now.n _ c.loop-b.b c.loop-b.invariant (λ k from. c.the_formatted_disk_is_empty.ensures.zeros c.args.geom.now k c.lawful.ensures.fits (omega (arith, from)))

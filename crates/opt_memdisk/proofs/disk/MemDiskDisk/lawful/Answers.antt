@@ -6,6 +6,6 @@ use Rattle.opt_memdisk.proofs.disk.MemDiskDisk.lawful.Goals as goal
 
 pub returns : goal.returns
 returns c = λ tells. subst (λ (d : MemDiskState). IsSoundDisk (state_of d)) c.self.view_is (record {
-  blocks = c.as_slice.ensures.blocks.whole;
+  blocks = c.lawful.ensures.whole;
   log = record { lawful = c.events.ensures.lawful; events = events_within (2 ^ 32) _ _ c.events.ensures.whole c.self.invariant.within };
 })

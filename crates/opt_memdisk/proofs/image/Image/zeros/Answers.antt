@@ -1,4 +1,4 @@
-use Rattle.std.proofs.Common.{◌∙◌, ap, arith, length-append, [], ◌∷◌, length}
+use Rattle.std.proofs.Common.{◌∙◌, ap, arith, length-append, ℕ, List, [], ◌∷◌, ◌++◌, length}
 use Rattle.std.specs.Prelude.{is_ok, replicate}
 use Rattle.std.proofs.lemmas.Bool.{cond-true}
 use Rattle.opt_memdisk.proofs.disk_calls.Zeros.{same_more, zeros_are_blocks}
@@ -8,7 +8,7 @@ pub loop-blocks-preserved : goal.loop-blocks-preserved
 loop-blocks-preserved c =
     let old = c.loop-blocks.blocks in
     let inv = c.loop-blocks.invariant in
-    let items = c.push.ensures.items ∙ cond-true _ _ _ (ap is_ok c.unwrap.ensures) in
+    let items = c.push.ensures.items ∙ cond-true _ _ _ (ap is_ok c.unwrap.ensures) ∙ ap (λ (z : List ℕ). old.items ++ z ∷ []) c.zeros.ensures in
     let long = ap length items ∙ length-append old.items (replicate 1024 0 ∷ []) in
     (same_more (replicate 1024 0) old.items _ inv.0 items, omega (arith, long, c.loop-blocks-test, c.len.ensures, old.ok), omega (arith, inv, c.push.ensures.capacity))
 
