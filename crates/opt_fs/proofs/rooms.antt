@@ -1,8 +1,11 @@
 pub mod Lists
 pub mod Nodes
 pub mod Same
+pub mod Known
 pub mod Begun
 pub mod Formatted
 pub mod Carried
 pub mod Synced
 pub mod Answered
+pub mod Over
+pub mod Quiet

@@ -15,7 +15,7 @@ use Rattle.opt_stands.specs.Inodes.{Inodes}
 use Rattle.opt_inodes.specs.Lookups.{number_at}
 use Rattle.opt_blocks.specs.Running.{has}
 use Rattle.opt_blocks.specs.State.{Bookkeeping, State, reusable_blocks, IsReusable}
-use Rattle.opt_blocks.specs.Calls.{MovesPipeline}
+use Rattle.opt_blocks.specs.Calls.{IsSound, MovesPipeline}
 use Rattle.opt_blocks.specs.Crashes.{Advances, WritesAtMost}
 use Rattle.opt_files.specs.Calls.{places_in}
 use Rattle.opt_files.specs.Drafts.{nothing_drafted}
@@ -68,25 +68,26 @@ grown_by m cmd = option_and_then (number_at m) (grown_path cmd)
 abbrev pub places_of : State → ℕ → List ℕ
 places_of s k = places_in s nothing_drafted k
 
--- Node k has room for its runs: with the least blocks that may be taken behind its own, once the pipeline has settled where there were fewer, its blocks lie in at most 28 runs.
-pub record GrowsInRuns (old : State) (k need : ℕ) : Type 0 where
-  pub books : Bookkeeping
-  pub moves : MovesPipeline old.books books
-  pub rests : need ≤ length (reusable_blocks old.books) → books ≡ old.books
-  pub enough : need ≤ length (reusable_blocks books)
-  pub runs : stretches (places_of old k ++ take need (reusable_blocks books)) ≤ 28
+-- A command finds the blocks that it needs: so many may be taken, once the pipeline has settled where there were fewer.
+pub record FindsBlocks (need : ℕ) (old settled : Bookkeeping) : Type 0 where
+  pub moves : MovesPipeline old settled
+  pub rests : need ≤ length (reusable_blocks old) → settled ≡ old
+  pub enough : need ≤ length (reusable_blocks settled)
+  pub sound : IsSound settled
+
+-- Node k has room for its runs: with the least blocks behind its own that may be taken once it has settled, its blocks lie in at most 28 runs.
+pub record GrowsInRuns (old : State) (settled : Bookkeeping) (k need : ℕ) : Type 0 where
+  pub enough : need ≤ length (reusable_blocks settled)
+  pub runs : stretches (places_of old k ++ take need (reusable_blocks settled)) ≤ 28
 
 -- a command that grows a node finds it so
-abbrev pub FindsRuns : State → Session → Cmd → Type 0
-FindsRuns old f cmd = (k : ℕ) → 0 < (figures_on old f cmd).need → grown_by (inodes old) cmd ≡ Some k → GrowsInRuns old k (figures_on old f cmd).need
+abbrev pub FindsRuns : State → Bookkeeping → Session → Cmd → Type 0
+FindsRuns old settled f cmd = (k : ℕ) → 0 < (figures_on old f cmd).need → grown_by (inodes old) cmd ≡ Some k → GrowsInRuns old settled k (figures_on old f cmd).need
 
--- What a command of these figures spends: its cost is weighed, and what it frees is held. It takes the least blocks that may be taken, as many as it needs, once the pipeline has settled where there were fewer; and each node has the first of its own blocks, or all of its own and behind them the first of those.
-pub record Spends (old new : State) (f : Figures) : Type 0 where
+-- What a command of these figures spends: its cost is weighed, and what it frees is held. It takes the least blocks that may be taken once it has settled, as many as it needs; and each node has the first of its own blocks, or all of its own and behind them the first of those.
+pub record Spends (old : State) (settled : Bookkeeping) (new : State) (f : Figures) : Type 0 where
   pub weight : new.books.running.weight ≡ old.books.running.weight + f.cost
   pub held : new.books.running.held ≡ old.books.running.held + f.freed
-  pub settled : Bookkeeping
-  pub moves : MovesPipeline old.books settled
-  pub rests : f.need ≤ length (reusable_blocks old.books) → settled ≡ old.books
   pub takeable : (b : ℕ) → new.books.reusable b ≡ (not (has (take f.need (reusable_blocks settled)) b) && settled.reusable b)
   pub placed : ArePlaced (places_of old) (places_of new) (take f.need (reusable_blocks settled))
 
@@ -96,13 +97,15 @@ pub record SpendsNothing (tells : Bool) (old new : State) : Type 0 where
   pub takeable : (b : ℕ) → IsReusable old.books.geom old.books.reusable b → new.books.reusable b ≡ true
   pub map : IsTrue tells → new.map ≡ old.map
 
--- The command is answered as the tree answers it, has room, and spends what its figures say.
+-- The command is answered as the tree answers it, has room, finds the blocks that it needs, and spends what its figures say.
 pub record IsDone (old new : State) (f : Session) (cmd : Cmd) (reply : Reply) : Type 0 where
   pub answer : reply ≡ (step f cmd).1
   pub session : IsSession new (step f cmd).0
   pub room : HasRoom old.books (figures_on old f cmd)
-  pub runs : FindsRuns old f cmd
-  pub spends : Spends old new (figures_on old f cmd)
+  pub settled : Bookkeeping
+  pub finds : FindsBlocks (figures_on old f cmd).need old.books settled
+  pub runs : FindsRuns old settled f cmd
+  pub spends : Spends old settled new (figures_on old f cmd)
 
 -- The tree accepts the command, and there is no room for it.
 pub record IsOutOfRoom (old : State) (f : Session) (cmd : Cmd) (why : Refusal) : Type 0 where

@@ -8,6 +8,7 @@ pub mod Changes
 pub mod Figures
 pub mod Refusals
 pub mod Commands
+pub mod DiskRoom
 pub mod Plans
 pub mod Syncs
 pub mod Applying

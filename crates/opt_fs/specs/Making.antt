@@ -61,7 +61,7 @@ pub record AddsName (old now : State) (d : DraftState) (dir node : ℕ) (name : 
   pub adds : AddsSlot (inodes old) (inodes_in now d) dir node name x
   pub reads : AreInodesOf (files_in now d) (inodes_in now d)
   pub within : IsWithinCost now.books.geom d (adding (growth (length slots))).cost
-  pub runs : GrowsInRuns old dir (growth (length slots))
+  pub runs : GrowsInRuns old now.books dir (growth (length slots))
   pub uses : Uses (growth (length slots)) 0 (reusable_blocks now.books) (places_of old) (places_in now d) d
   pub rests : growth (length slots) ≤ length (reusable_blocks old.books) → now.books ≡ old.books
 

@@ -30,11 +30,12 @@ pub record MakesTree (cmd : Cmd) (d : DraftState) (cost : ℕ) (old now : State)
   pub answer : (step f cmd).1 ≡ Done
   pub costs : (figures_on old f cmd).cost ≡ cost
   pub room : HasRoom old.books (figures_on old f cmd)
-  pub runs : FindsRuns old f cmd
+  pub runs : FindsRuns old now.books f cmd
   pub reads : AreInodesOf (files_in now d) (inodes_in now d)
   pub map : IsMapOf f.limit (inodes_in now d) (step f cmd).0.tree
   pub within : IsWithinCost now.books.geom d cost
   pub uses : Uses (figures_on old f cmd).need (figures_on old f cmd).freed (reusable_blocks now.books) (places_of old) (places_in now d) d
+  pub enough : (figures_on old f cmd).need ≤ length (reusable_blocks now.books)
   pub rests : (figures_on old f cmd).need ≤ length (reusable_blocks old.books) → now.books ≡ old.books
 
 -- The draft may be finished now, its cost fits the transaction, and with it no node below the first one that may be unused is so.
@@ -66,7 +67,7 @@ pub record IsRightAnswer (cmd : Cmd) (reply : Reply) (old now : State) (f : Sess
   pub answer : reply ≡ (step f cmd).1
   pub session : (step f cmd).0 ≡ f
   pub room : HasRoom old.books (figures_on old f cmd)
-  pub runs : FindsRuns old f cmd
+  pub runs : FindsRuns old now.books f cmd
   pub costs : figures_on old f cmd ≡ nothing
   pub books : now.books ≡ old.books
 

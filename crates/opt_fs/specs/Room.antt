@@ -1,4 +1,4 @@
--- The room of a session whose blocks lie in memory, and how commands are answered in it. It is described in docs/SPACE.md.
+-- The room of a session, and how commands are answered in it where the blocks lie in memory. It is described in docs/SPACE.md.
 use Rattle.std.specs.Prelude.{◌≡◌, ◌⊎◌, ℕ, zero, suc, ◌+◌, ◌-◌, ◌*◌, ◌<◌, ◌≤◌, not, List, [], ◌∷◌, ◌++◌, length, take, drop, Option, None, Some, option_and_then}
 use Rattle.std.specs.FinMap.{get}
 use Rattle.std.specs.List.{filter}
@@ -66,10 +66,11 @@ runs_with r k need = stretches (r.places k ++ take need r.takeable)
 abbrev pub StaysInRuns : Session → Room → Cmd → ℕ → Type 0
 StaysInRuns f r cmd need = (k : ℕ) → 0 < need → grown_in f cmd ≡ Some k → runs_with r k need ≤ 28
 
--- The command would scatter the node that it grows over more runs.
+-- The command would scatter the node that it grows over more runs, with blocks enough.
 pub record Scatters (f : Session) (r : Room) (cmd : Cmd) (need : ℕ) (why : Refusal) : Type 0 where
   pub node : ℕ
   pub some : 0 < need
+  pub enough : need ≤ length r.takeable
   pub grows : grown_in f cmd ≡ Some node
   pub is : why ≡ Scattered (runs_with r node need)
   pub past : 28 < runs_with r node need
@@ -101,10 +102,11 @@ SyncsRoom g old new = (old.weight ≡ 0 → new ≡ old) × (0 < old.weight → 
 
 -- The answers.
 
--- The command is done as the tree does it: there is room, its node lies in few runs, and it spends what its figures say.
+-- The command is done as the tree does it: there is room, the blocks that it needs may be taken, its node lies in few runs, and it spends what its figures say.
 pub record IsDoneIn (g : Geometry) (f : Session) (r : Room) (cmd : Cmd) (reply : Reply) (next : Session) (room : Room) : Type 0 where
   pub answer : step f cmd ≡ (next, reply)
   pub fits : FitsIn (left_in g f r) r.weight (most_weight g) (figures_in g f cmd)
+  pub enough : (figures_in g f cmd).need ≤ length r.takeable
   pub runs : StaysInRuns f r cmd (figures_in g f cmd).need
   pub spends : SpendsRoom (figures_in g f cmd) r room
   pub holds : HoldsTree next.tree room

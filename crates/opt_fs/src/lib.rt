@@ -6,6 +6,7 @@
 mod bytes;
 mod change;
 mod commands;
+mod disk;
 mod facts;
 mod figures;
 mod fills;
@@ -30,6 +31,7 @@ mod sizes;
 mod space;
 mod syncs;
 
+pub use disk::{a_command_is_answered_in_a_room_that_came_back, any_command_may_be_answered};
 pub use fs::Fs;
 pub use listing::ListRefusal;
 pub use live::as_many_blocks_are_marked_as_the_tree_has;

@@ -46,9 +46,9 @@ pub fn a_command_is_answered_in_its_room<S: Blocks>()
     tidy_runs_are_those_of_their_numbers();
 }
 
-/// Where nothing was done yet, and no data block is set in the bitmap, the room is the first one.
+/// Where nothing was done yet, nothing waits, and no data block is set in the bitmap, the room is the first one.
 pub fn nothing_is_taken_at_first<S: Blocks>()
-    ensures { IsTrue S.tells → LieInMemory S.state → (s : S) (f : Session) → IsSession (S.state s) f → HasNoBlocks (S.state s) → IsBegun (S.state s) → IsFirstRoom (S.state s).books.geom (room_of (S.state s)) }
+    ensures { IsTrue S.tells → (s : S) (f : Session) → (S.state s).books.waiting ≡ 0 → IsSession (S.state s) f → HasNoBlocks (S.state s) → IsBegun (S.state s) → IsFirstRoom (S.state s).books.geom (room_of (S.state s)) }
 {}
 
 /// Over blocks in memory each command is answered in the session's room, and the blocks are then one of the

@@ -180,7 +180,7 @@ fn draft_across<S: Blocks>(
         → MovesName (S.state blocks.old) (S.state blocks.new) draft source.now.dir into source.now.entry.node.number name other.now 5 (take (growth count) (reusable_blocks (S.state blocks.new).books)) (release source.now.count) (λ first. first)) }
     ensures rests { IsTrue S.tells → IfOk result (λ draft. (count : ℕ) (name : List ℕ) → MayMoveAway (S.state blocks.old) source.now into count name other.now
         → growth count ≤ length (reusable_blocks (S.state blocks.old).books) → (S.state blocks.new).books ≡ (S.state blocks.old).books) }
-    ensures grows { IsTrue S.tells → IfOk result (λ draft. (count : ℕ) (name : List ℕ) → MayMoveAway (S.state blocks.old) source.now into count name other.now → GrowsInRuns (S.state blocks.old) into (growth count)) }
+    ensures grows { IsTrue S.tells → IfOk result (λ draft. (count : ℕ) (name : List ℕ) → MayMoveAway (S.state blocks.old) source.now into count name other.now → GrowsInRuns (S.state blocks.old) (S.state blocks.new).books into (growth count)) }
     ensures refused { IsTrue S.tells → IfErr result (λ why. (count : ℕ) (name : List ℕ) → MayMoveAway (S.state blocks.old) source.now into count name other.now
         → GrowthRefused (growth count) (places_of (S.state blocks.old) into) (S.state blocks.old).books (S.state blocks.new).books why) }
     ensures settles { LooksAndSettles S.tells (fails_reading result) (fails_settling result) (S.state blocks.old) (S.state blocks.new) }

@@ -17,7 +17,7 @@ use Rattle.opt_stands.specs.Inodes.{IsInodeOf, AreInodesOf}
 use Rattle.opt_stands.specs.Maps.{IsMapOf}
 use Rattle.opt_stands.specs.Stands.{AreSound, IsTreeOf}
 use Rattle.opt_base.specs.Seal.{Blocks}
-use Rattle.opt_blocks.specs.Calls.{MovesPipeline}
+use Rattle.opt_blocks.specs.Calls.{IsSound, MovesPipeline}
 use Rattle.opt_blocks.specs.Running.{Running, has}
 use Rattle.opt_blocks.specs.State.{Bookkeeping, State, reusable_blocks}
 use Rattle.opt_blocks.specs.Crashes.{Advances}
@@ -27,7 +27,7 @@ use Rattle.opt_files.specs.Drafts.{DraftState}
 use Rattle.opt_files.specs.Effects.{LooksAndSettles}
 use Rattle.opt_dirs.specs.Directories.{inodes_in}
 use Rattle.opt_fs.specs.Changes.{IsCarriedOut, KeepsBlocks, ChangeRefused}
-use Rattle.opt_fs.specs.Commands.{RunsCommand, Carries, IsDone, Spends, SpendsNothing, figures_on, places_of, is_read_fault, is_disk_fault}
+use Rattle.opt_fs.specs.Commands.{RunsCommand, Carries, FindsBlocks, IsDone, Spends, SpendsNothing, figures_on, places_of, is_read_fault, is_disk_fault}
 use Rattle.opt_fs.specs.Plans.{Plans, MakesTree, MayBeMade, plan_fails_reading, plan_fails_settling}
 use Rattle.opt_files.specs.Finish.{MayGoOn}
 use Rattle.opt_fs.specs.Sessions.{IsSession, IsBetween, AreUsedBelow}
@@ -140,30 +140,27 @@ kept_unspent tells s t u h kept = record {
   map = λ told. kept.map told ∙ h.map told;
 }
 
--- A command that takes nothing spends nothing.
-pub spends_nothing : (s t : State) (n : Figures) → n ≡ nothing → MovesPipeline s.books t.books → t.books ≡ s.books → t.map ≡ s.map → Spends s t n
-spends_nothing s t n none moves books map = record {
+-- A command that takes nothing finds it and spends nothing.
+pub finds_nothing : (k l : Bookkeeping) (n : Figures) → n ≡ nothing → MovesPipeline k l → l ≡ k → IsSound l → FindsBlocks n.need k l
+finds_nothing k l n none moves books sound = record { moves = moves; rests = λ enough. books; enough = omega (arith, ap (λ (f : Figures). f.need) none); sound = sound }
+
+pub spends_nothing : (s t : State) (n : Figures) → n ≡ nothing → t.books ≡ s.books → t.map ≡ s.map → Spends s t.books t n
+spends_nothing s t n none books map = record {
   weight = omega (arith, ap (λ (b : Bookkeeping). b.running.weight) books, ap (λ (f : Figures). f.cost) none);
   held = omega (arith, ap (λ (b : Bookkeeping). b.running.held) books, ap (λ (f : Figures). f.freed) none);
-  settled = t.books;
-  moves = moves;
-  rests = λ enough. books;
   takeable = λ b. ap (λ (f : Figures). not (has (take f.need (reusable_blocks t.books)) b) && t.books.reusable b) {x = nothing} {y = n} (sym none);
   placed = placed_same (places_of s) (places_of t) (take n.need (reusable_blocks t.books)) (λ k. ap₂ (λ (g : Geometry) (m : Blocks). blocks_of_node g m k) (ap (λ (b : Bookkeeping). b.geom) books) map);
 }
 
-module _ (tells : Bool) (cmd : Cmd) (start mid new : State) (costs : (bitmap : ℕ) (s : Session) → (step s cmd).0.changed ≡ (s.changed || nat_lt 0 (figures bitmap s cmd).cost)) (sync : is_sync cmd ≡ false) where
+module _ (tells : Bool) (cmd : Cmd) (start mid new : State) (costs : (bitmap : ℕ) (s : Session) → (step s cmd).0.changed ≡ (s.changed || nat_lt 0 (figures bitmap s cmd).cost)) (sync : is_sync cmd ≡ false) (sound : IsSound mid.books) where
   -- a draft that is made spends what the command takes
-  spends_so : (d : DraftState) (cost : ℕ) (f : Session) → IsTrue tells → LooksAndSettles tells false false start mid → MakesTree cmd d cost start mid f → IsCarriedOut tells d cost mid new → Spends start new (figures_on start f cmd)
+  spends_so : (d : DraftState) (cost : ℕ) (f : Session) → IsTrue tells → LooksAndSettles tells false false start mid → MakesTree cmd d cost start mid f → IsCarriedOut tells d cost mid new → Spends start mid.books new (figures_on start f cmd)
   spends_so d cost f told looks made carried =
       let n = figures_on start f cmd in
       let finished = carried.map told in
       record {
         weight = omega (arith, carried.weight, made.costs, ap (λ (r : Running). r.weight) looks.pipeline.running);
         held = omega (arith, finished.held, made.uses.freed_are, ap (λ (r : Running). r.held) looks.pipeline.running);
-        settled = mid.books;
-        moves = looks.pipeline;
-        rests = made.rests;
         takeable = λ b. carried.reusable b ∙ ap (λ (bs : List ℕ). not (has bs b) && mid.books.reusable b) made.uses.taken;
         placed = λ k.
             let same : places_of new k ≡ places_in mid d k = ap (λ (g : Geometry). blocks_of_node g new.map k) (made_rests tells d cost mid new carried).geom ∙ finished.places k in
@@ -187,6 +184,8 @@ module _ (tells : Bool) (cmd : Cmd) (start mid new : State) (costs : (bitmap : �
           durable = omega (arith, stay.durable, at_mid.durable, rest.floor);
         };
         room = made.room;
+        settled = mid.books;
+        finds = record { moves = looks.pipeline; rests = made.rests; enough = made.enough; sound = sound };
         runs = made.runs;
         spends = spends_so d cost f told looks made carried;
       }
@@ -203,14 +202,16 @@ module _ (tells : Bool) (cmd : Cmd) (start mid new : State) (costs : (bitmap : �
   }
 
 -- a reply that was planned is given, and nothing changed
-pub carried_answer : (tells : Bool) (cmd : Cmd) (start mid : State) (reply : Reply) → Plans tells cmd (Ok (Answer reply)) start mid → Carries tells cmd (Ok reply) start mid
-carried_answer tells cmd start mid reply plans = record {
+pub carried_answer : (tells : Bool) (cmd : Cmd) (start mid : State) (reply : Reply) → IsSound mid.books → Plans tells cmd (Ok (Answer reply)) start mid → Carries tells cmd (Ok reply) start mid
+carried_answer tells cmd start mid reply sound plans = record {
   done = λ told f h. let p = plans.is told f h in record {
     answer = p.answer;
     session = subst (λ s. IsSession mid s) (sym p.session) (session_settles tells false false start mid f plans.going told plans.settles h);
     room = p.room;
+    settled = mid.books;
+    finds = finds_nothing start.books mid.books (figures_on start f cmd) p.costs plans.settles.pipeline p.books sound;
     runs = p.runs;
-    spends = spends_nothing start mid (figures_on start f cmd) p.costs plans.settles.pipeline p.books (plans.settles.map told);
+    spends = spends_nothing start mid (figures_on start f cmd) p.costs p.books (plans.settles.map told);
   };
   refused = λ told. tt;
   kept = λ told. tt;

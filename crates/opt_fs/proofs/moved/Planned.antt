@@ -20,7 +20,7 @@ use Rattle.opt_inodes.specs.Figures.{cost, cost_by, move_cost, slots_above, bloc
 use Rattle.opt_inodes.specs.Lookups.{number_at}
 use Rattle.opt_inodes.specs.Refusals.{reason, rename_reason}
 use Rattle.opt_inodes.specs.Replies.{reply_by}
-use Rattle.opt_blocks.specs.State.{State, reusable_blocks}
+use Rattle.opt_blocks.specs.State.{Bookkeeping, State, reusable_blocks}
 use Rattle.opt_files.specs.Calls.{files_in, places_in}
 use Rattle.opt_files.specs.Sound.{IsDraftOf}
 use Rattle.opt_files.specs.Drafts.{DraftState, nothing_drafted}
@@ -77,13 +77,13 @@ move_uses s t source into node most frees grown takes name other d then made are
 -- the tree of a rename
 pub planned_move : (s t : State) (f : Session) (from to : List (List ℕ)) (source into node most frees grown cost : ℕ) (takes : List ℕ) (name other : List ℕ) (d : DraftState) (then : ℕ → ℕ) → IsSession s f
     → IsMapOf s.books.geom.i (inodes s) f.tree → KnowsPaths (inodes s) from to source into name other → MovesName s t d source into node name other most takes frees then → IsWeighed s f (Rename from to) cost
-    → figures_on s f (Rename from to) ≡ moving (bitmap_blocks s.books.geom) grown frees → most ≤ 6 → takes ≡ take grown (reusable_blocks t.books) → (grown ≤ length (reusable_blocks s.books) → t.books ≡ s.books) → t.books.geom ≡ s.books.geom
-    → FindsRuns s f (Rename from to)
+    → figures_on s f (Rename from to) ≡ moving (bitmap_blocks s.books.geom) grown frees → most ≤ 6 → takes ≡ take grown (reusable_blocks t.books) → grown ≤ length (reusable_blocks t.books) → (grown ≤ length (reusable_blocks s.books) → t.books ≡ s.books) → t.books.geom ≡ s.books.geom
+    → FindsRuns s t.books f (Rename from to)
     → ((s : Session) (m new : Inodes) (up to : List (List ℕ)) (name other : List ℕ) (from into node : ℕ) → IsMapOf s.limit m s.tree → refusal s.limit s.tree (Rename (up ++ name ∷ []) (to ++ other ∷ [])) ≡ None
     → LeadsTo m up from → LeadsTo m to into → MovesSlot m new from into node name other → IsMapOf s.limit new (step s (Rename (up ++ name ∷ []) (to ++ other ∷ []))).0.tree)
     → ReplyLaw → rename_reason (inodes s) from to ≡ None → PriceLaw
     → MakesTree (Rename from to) d cost s t f
-planned_move s t f from to source into node most frees grown cost takes name other d then h map paths made weighed formula few are rests geom runs moved replies reason prices =
+planned_move s t f from to source into node most frees grown cost takes name other d then h map paths made weighed formula few are enough rests geom runs moved replies reason prices =
     let mine = subst (λ n. IsMapOf n (inodes s) f.tree) (sym h.limit) map in
     let same : Rename (paths.up ++ name ∷ []) (paths.above ++ other ∷ []) ≡ Rename from to = ap₂ (λ a b. Rename a b) (sym paths.from_is) (sym paths.to_is) in
     record {
@@ -98,6 +98,7 @@ planned_move s t f from to source into node most frees grown cost takes name oth
       within = subst (λ n. IsWithinCost t.books.geom d n) (sym (ap (λ (n : Figures). n.cost) formula) ∙ weighed.costs)
           (subst (λ (g : Geometry). IsWithinCost t.books.geom d (moving (bitmap_blocks g) grown frees).cost) geom (within_move t.books.geom d most frees grown takes prices made.alters few (omega (arith, ap (λ (bs : List ℕ). length bs) are, length-take grown (reusable_blocks t.books)))));
       uses = subst (λ (n : Figures). Uses n.need n.freed (reusable_blocks t.books) (places_of s) (places_in t d) d) (sym formula) (move_uses s t source into node most frees grown takes name other d then made are);
+      enough = subst (λ (n : Figures). n.need ≤ length (reusable_blocks t.books)) (sym formula) enough;
       rests = λ enough. rests (subst (λ (n : Figures). n.need ≤ length (reusable_blocks s.books)) formula enough);
     }
 
@@ -107,8 +108,8 @@ pub move_refusal : (f : Session) (m : Inodes) (from to : List (List ℕ)) → Is
 move_refusal f m from to map law none = law f.limit m f.tree (Rename from to) map ∙ none
 
 -- it needs no blocks
-pub no_growth : (s : State) (f : Session) (cmd : Cmd) (bitmap freed : ℕ) → figures_on s f cmd ≡ moving bitmap 0 freed → FindsRuns s f cmd
-no_growth s f cmd bitmap freed are = λ k some grown. absurd (omega (arith, some, ap (λ (n : Figures). n.need) are))
+pub no_growth : (s : State) (settled : Bookkeeping) (f : Session) (cmd : Cmd) (bitmap freed : ℕ) → figures_on s f cmd ≡ moving bitmap 0 freed → FindsRuns s settled f cmd
+no_growth s settled f cmd bitmap freed are = λ k some grown. absurd (omega (arith, some, ap (λ (n : Figures). n.need) are))
 
 -- its figures are those that were counted
 module _ (s : State) (f : Session) (from to : List (List ℕ)) (source : Named) (other : List ℕ) (map : IsMapOf f.limit (inodes s) f.tree) (accepted : rename_reason (inodes s) from to ≡ None)

@@ -17,7 +17,6 @@ use Rattle.opt_stands.specs.Files.{FileNode, Files, file_of, used_node}
 use Rattle.opt_stands.specs.Inodes.{Inode, ADir, AFile, AreInodesOf, inode_of, inodes_of}
 use Rattle.opt_inodes.specs.Changes.{AddsSlot, new_inode, slot_of}
 use Rattle.opt_blocks.specs.State.{Bookkeeping, State, reusable_blocks}
-use Rattle.opt_blocks.specs.Calls.{MovesPipeline}
 use Rattle.opt_files.specs.Calls.{files_in, places_in, places_or_none, IsUsed, IsLeastUnused, IsWithFile, IsWithPlaces}
 use Rattle.opt_files.specs.Bytes.{blocks_for}
 use Rattle.opt_files.specs.Drafts.{DraftState, drafted, nothing_drafted}
@@ -141,9 +140,6 @@ module _ (tells : Bool) (old mid now : State) (d e : DraftState) (dir node : ℕ
       reads = read (files_in now e) all_read;
       within = within now.books.geom;
       runs = record {
-        books = now.books;
-        moves = subst (λ k. MovesPipeline old.books k) (sym looks.books) settles.pipeline;
-        rests = λ few. looks.books ∙ (rests few).books;
         enough = subst (λ (k : Bookkeeping). growth (length slots) ≤ length (reusable_blocks k)) (sym looks.books) room;
         runs = subst (λ (k : Bookkeeping). stretches (places_of old dir ++ take (growth (length slots)) (reusable_blocks k)) ≤ 28) (sym looks.books) runs;
       };

@@ -43,11 +43,12 @@ module _ (old now : State) (f : Session) (cmd : Cmd) (dir count : ℕ) (h : Acce
     answer = h.answer;
     costs = ap (λ (w : Figures). w.cost) (h.figures ∙ sym value);
     room = room_is;
-    runs = λ k some grows. subst (λ n. GrowsInRuns old k n) (sym need_is) (subst (λ l. GrowsInRuns old l (growth (length h.slots))) (same_Some dir k (sym h.grows ∙ grows)) a.runs);
+    runs = λ k some grows. subst (λ n. GrowsInRuns old now.books k n) (sym need_is) (subst (λ l. GrowsInRuns old now.books l (growth (length h.slots))) (same_Some dir k (sym h.grows ∙ grows)) a.runs);
     reads = a.reads;
     map = map;
     within = subst (λ n. IsWithinCost now.books.geom d n) cost_is a.within;
     uses = subst (λ (w : Figures). Uses w.need w.freed (reusable_blocks now.books) (places_of old) (places_in now d) d) (ap (λ n. adding (growth n)) (sym h.count) ∙ sym h.figures) a.uses;
+    enough = subst (λ n. n ≤ length (reusable_blocks now.books)) (sym need_is) a.runs.enough;
     rests = λ enough. a.rests (subst (λ n. n ≤ length (reusable_blocks old.books)) need_is enough);
   }
 

@@ -22,8 +22,8 @@ room_for_nothing k f sound e = record {
 }
 
 -- and nothing grows
-pub runs_for_nothing : (old : State) (f : Session) (cmd : Cmd) → figures_on old f cmd ≡ nothing → FindsRuns old f cmd
-runs_for_nothing old f cmd e k some grown = absurd (omega (arith, some, ap (λ (f : Figures). f.need) e))
+pub runs_for_nothing : (old : State) (settled : Bookkeeping) (f : Session) (cmd : Cmd) → figures_on old f cmd ≡ nothing → FindsRuns old settled f cmd
+runs_for_nothing old settled f cmd e k some grown = absurd (omega (arith, some, ap (λ (f : Figures). f.need) e))
 
 -- the tree refuses the command
 pub tree_refuses : (old now : State) (f : Session) (cmd : Cmd) (why : Refusal) → IsSound old.books → now.books ≡ old.books → refusal f.limit f.tree cmd ≡ Some why → IsRight cmd (Answer (Refused why)) old now f
@@ -33,7 +33,7 @@ tree_refuses old now f cmd why sound books e =
       answer = sym (ap (λ r. (answered f cmd r).1) e);
       session = ap (λ r. (answered f cmd r).0) e;
       room = room_for_nothing old.books (figures_on old f cmd) sound none;
-      runs = runs_for_nothing old f cmd none;
+      runs = runs_for_nothing old now.books f cmd none;
       costs = none;
       books = books;
     }
@@ -44,7 +44,7 @@ tree_stays old now f cmd sound books e none = record {
   answer = sym (ap (λ s. s.1) e);
   session = ap (λ s. s.0) e;
   room = room_for_nothing old.books (figures_on old f cmd) sound none;
-  runs = runs_for_nothing old f cmd none;
+  runs = runs_for_nothing old now.books f cmd none;
   costs = none;
   books = books;
 }

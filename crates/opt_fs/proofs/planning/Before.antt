@@ -8,7 +8,6 @@ use Rattle.opt_tree.specs.declared.command.Refusal.TheVariants as because
 use Rattle.opt_tree.specs.Figures.{Figures}
 use Rattle.opt_tree.specs.Step.{Session}
 use Rattle.opt_stands.specs.Inodes.{Inodes}
-use Rattle.opt_blocks.specs.Calls.{MovesPipeline}
 use Rattle.opt_blocks.specs.Crashes.{Advances}
 use Rattle.opt_blocks.specs.State.{Bookkeeping, State, reusable_blocks}
 use Rattle.opt_files.specs.Calls.{places_in}
@@ -41,20 +40,17 @@ module _ (s t u : State) (f : Session) (cmd : Cmd) (books : t.books ≡ s.books)
   lacks_before : (why : Refusal) → LacksRoom t.books (figures_on t f cmd) why → LacksRoom s.books (figures_on s f cmd) why
   lacks_before why h = subst (λ (b : Bookkeeping). LacksRoom b (figures_on (record s { books = b }) f cmd) why) books h
 
-  grows_before : (k need : ℕ) → GrowsInRuns t k need → GrowsInRuns s k need
-  grows_before k need h = record {
-    books = h.books;
-    moves = subst (λ (b : Bookkeeping). MovesPipeline b h.books) books h.moves;
-    rests = subst (λ (b : Bookkeeping). need ≤ length (reusable_blocks b) → h.books ≡ b) books h.rests;
+  grows_before : (l : Bookkeeping) (k need : ℕ) → GrowsInRuns t l k need → GrowsInRuns s l k need
+  grows_before l k need h = record {
     enough = h.enough;
-    runs = subst (λ (places : List ℕ). stretches (places ++ take need (reusable_blocks h.books)) ≤ 28) (places_same k) h.runs;
+    runs = subst (λ (places : List ℕ). stretches (places ++ take need (reusable_blocks l)) ≤ 28) (places_same k) h.runs;
   }
 
-  runs_before : FindsRuns t f cmd → FindsRuns s f cmd
-  runs_before h k some grown =
+  runs_before : (l : Bookkeeping) → FindsRuns t l f cmd → FindsRuns s l f cmd
+  runs_before l h k some grown =
       let need : (figures_on t f cmd).need ≡ (figures_on s f cmd).need = ap (λ (n : Figures). n.need) figures_same in
-      subst (λ n. GrowsInRuns s k n) need
-      (grows_before k (figures_on t f cmd).need (h k (subst (λ n. 0 < n) (sym need) some) (subst (λ (m : Inodes). grown_by m cmd ≡ Some k) (sym inodes_same) grown)))
+      subst (λ n. GrowsInRuns s l k n) need
+      (grows_before l k (figures_on t f cmd).need (h k (subst (λ n. 0 < n) (sym need) some) (subst (λ (m : Inodes). grown_by m cmd ≡ Some k) (sym inodes_same) grown)))
 
   scattered_before : (why : Refusal) → IsScattered t u f cmd why → IsScattered s u f cmd why
   scattered_before why h = record {
@@ -93,7 +89,7 @@ module _ (s t u : State) (f : Session) (cmd : Cmd) (books : t.books ≡ s.books)
     answer = h.answer;
     session = h.session;
     room = room_before h.room;
-    runs = runs_before h.runs;
+    runs = runs_before u.books h.runs;
     costs = sym figures_same ∙ h.costs;
     books = h.books ∙ books;
   }
@@ -102,11 +98,12 @@ module _ (s t u : State) (f : Session) (cmd : Cmd) (books : t.books ≡ s.books)
     answer = h.answer;
     costs = sym (ap (λ (n : Figures). n.cost) figures_same) ∙ h.costs;
     room = room_before h.room;
-    runs = runs_before h.runs;
+    runs = runs_before u.books h.runs;
     reads = h.reads;
     map = h.map;
     within = h.within;
     uses = uses_before d h.uses;
+    enough = subst (λ (n : Figures). n.need ≤ length (reusable_blocks u.books)) figures_same h.enough;
     rests = λ enough. h.rests (subst (λ (n : Figures). n.need ≤ length (reusable_blocks t.books)) (sym figures_same)
         (subst (λ (b : Bookkeeping). (figures_on s f cmd).need ≤ length (reusable_blocks b)) (sym books) enough)) ∙ books;
   }

@@ -55,7 +55,7 @@ look_plan tells cmd s t (Ok reply) looks going sound answer refused only advance
     answer = answer told f h;
     session = looks.stays f;
     room = room_for_nothing s.books (figures_on s f cmd) sound none;
-    runs = runs_for_nothing s f cmd none;
+    runs = runs_for_nothing s t.books f cmd none;
     costs = none;
     books = only.books;
   };

@@ -43,8 +43,8 @@ module _ (kind : Kind) (s : State) (path : List (List ℕ)) (n : Named) (f : Ses
       counted ∙ ap (cost_by (bitmap_blocks s.books.geom) (inodes s) (lose_cmd kind path)) no_reason_for
       ∙ accepted_removes kind (bitmap_blocks s.books.geom) (inodes s) path n.count n.entry.node.facts known.accepted known.above known.facts
 
-  none_needed : FindsRuns s f (lose_cmd kind path)
-  none_needed k some grown = absurd (omega (arith, some, ap (λ (fs : Figures). fs.need) removes))
+  none_needed : (settled : Bookkeeping) → FindsRuns s settled f (lose_cmd kind path)
+  none_needed settled k some grown = absurd (omega (arith, some, ap (λ (fs : Figures). fs.need) removes))
 
   -- it takes no block, frees those that they say, and each node keeps the first of its own
   uses : (now : State) (d : DraftState) → LosesName s now d known.name n
@@ -60,13 +60,14 @@ module _ (kind : Kind) (s : State) (path : List (List ℕ)) (n : Named) (f : Ses
     answer = loss_done kind f path loss_accepted;
     costs = ap (λ (fs : Figures). fs.cost) are;
     room = subst (λ (fs : Figures). HasRoom s.books fs) (sym are) room;
-    runs = none_needed;
+    runs = none_needed now.books;
     reads = loses.reads;
     map = loss_mapped kind law f (inodes s) (inodes_in now d) path known.up known.name n.dir n.entry.node.number known.is map loss_accepted known.leads loses.takes;
     within = subst (λ (g : Geometry). IsWithinCost g d fs.cost) (sym (ap (λ (k : Bookkeeping). k.geom) books))
         (subst (λ (c : ℕ). IsWithinCost s.books.geom d c) (ap (λ (fs : Figures). fs.cost) (sym removes ∙ are))
         (priced s.books.geom d (release n.count + blocks_gone n.entry.node.facts) (altered_few 4 (release n.count + blocks_gone n.entry.node.facts) [] d loses.alters)));
     uses = uses now d loses;
+    enough = omega (arith, ap (λ (fs : Figures). fs.need) removes);
     rests = λ enough. books;
   }
 

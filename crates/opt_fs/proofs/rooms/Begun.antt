@@ -36,7 +36,7 @@ module _ (s : State) (told : IsTold s) (sound : AreSound s.books.geom s.map) (un
   no_place k (b ∷ bs) e =
       let is : has (places_of s k) b ≡ true = ap (λ xs. has xs b) e ∙ ap (λ t. t || has bs b) (eq-eqb b b refl) in
       let at = place_data s.books.geom s.map k b is in
-      let live : has (live_blocks s.books) b ≡ true = is_kept s.books.marked (data_start s.books.geom) (s.books.geom.n - data_start s.books.geom) b at.from (omega (arith, at.from, at.below)) (marked_place s told sound k b is) in
+      let live : has (live_blocks s.books) b ≡ true = is_kept s.books.marked (data_start s.books.geom) (s.books.geom.n - data_start s.books.geom) b at.from (omega (arith, at.from, at.below)) (marked_place s told.bits sound k b is) in
       absurd (true≢false (sym live ∙ ap (λ xs. has xs b) (nil_from_length (live_blocks s.books) unmarked)))
 
   pub first_room : IsSound s.books → s.books.waiting ≡ 0 → IsBegun s → IsFirstRoom s.books.geom (room_of s)

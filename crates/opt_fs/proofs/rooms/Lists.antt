@@ -6,7 +6,7 @@ use Rattle.std.specs.List.{range_with_len}
 use Rattle.opt_blocks.specs.Ranges.{counted, same_from, first_passes, first_fails}
 use Rattle.opt_blocks.specs.Running.{has}
 use Rattle.opt_fs.specs.Room.{node_blocks}
-use Rattle.opt_fs.proofs.standing.Lists.{in_append, in_first, in_second}
+use Rattle.opt_fs.proofs.standing.Lists.{in_append, in_first, in_second, is_kept, kept_is}
 
 -- a test keeps fewer than one that passes what it passes, or the same
 fewer_or_same : (p q : ℕ → Bool) (a n : ℕ) → ((b : ℕ) → a ≤ b → b < a + n → p b ≡ true → q b ≡ true) → (counted p a n < counted q a n) ⊎ (filter p (range_with_len a n) ≡ filter q (range_with_len a n))
@@ -46,6 +46,19 @@ all_kept a (suc n) = ap (λ (xs : List ℕ). a ∷ xs) (all_kept (a + 1) n)
 pub none_kept : (a n : ℕ) → filter (λ b. false) (range_with_len a n) ≡ []
 none_kept a zero = refl
 none_kept a (suc n) = none_kept (a + 1) n
+
+-- a number of the range is among those that pass where it passes
+kept_where : (p : ℕ → Bool) (a n b : ℕ) → a ≤ b → b < a + n → has (filter p (range_with_len a n)) b ≡ p b
+kept_where p a n b from below = by (cases_Bool (p b)) (cases_Bool (has (filter p (range_with_len a n)) b))
+  where
+    by : (p b ≡ true) ⊎ (p b ≡ false) → (has (filter p (range_with_len a n)) b ≡ true) ⊎ (has (filter p (range_with_len a n)) b ≡ false) → has (filter p (range_with_len a n)) b ≡ p b
+    by (inl passes) k = is_kept p a n b from below passes ∙ sym passes
+    by (inr fails) (inl there) = absurd (true≢false (sym (kept_is p a n b there).2 ∙ fails))
+    by (inr fails) (inr gone) = gone ∙ sym fails
+
+-- so those that pass are the numbers of the range that are among them
+pub kept_themselves : (p : ℕ → Bool) (a n : ℕ) → filter p (range_with_len a n) ≡ filter (has (filter p (range_with_len a n))) (range_with_len a n)
+kept_themselves p a n = same_from p (has (filter p (range_with_len a n))) a n (λ b from below. sym (kept_where p a n b from below))
 
 -- without the first m of those that pass, the ones behind them are left
 pub kept_behind : (p : ℕ → Bool) (a n m : ℕ) → filter (λ b. not (has (take m (filter p (range_with_len a n))) b) && p b) (range_with_len a n) ≡ drop m (filter p (range_with_len a n))

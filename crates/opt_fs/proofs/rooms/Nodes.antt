@@ -9,13 +9,13 @@ use Rattle.opt_base.specs.declared.places.Run.{Run}
 use Rattle.opt_base.specs.Runs.{run_places}
 use Rattle.opt_geom.specs.Geometry.{Geometry, data_start}
 use Rattle.opt_layout.specs.declared.node.Node.{Node}
+use Rattle.opt_layout.specs.Bitmap.{is_set}
 use Rattle.opt_layout.specs.Node.{runs_fit}
 use Rattle.opt_extent.specs.Runs.{AreTidy, runs_of, stretches}
 use Rattle.opt_tree.specs.Figures.{blocks_for, directory_blocks}
 use Rattle.opt_tree.specs.Names.{names_in}
 use Rattle.opt_tree.specs.Tree.{Tree, Dir as DirThing, File as FileThing}
 use Rattle.opt_tree.specs.Walk.{bytes_in, is_dir}
-use Rattle.opt_blocks.specs.Crashes.{IsTold}
 use Rattle.opt_blocks.specs.Running.{has}
 use Rattle.opt_blocks.specs.State.{State}
 use Rattle.opt_stands.specs.Files.{used_node}
@@ -95,10 +95,10 @@ module _ (slots_law : HasSlots) (bytes_law : HasItsBytes) (names_law : HasSlotsF
 
 -- Which blocks are marked.
 
-module _ (s : State) (told : IsTold s) (sound : AreSound s.books.geom s.map) where
+module _ (s : State) (bits : (b : ℕ) → b < s.books.geom.n → s.books.marked b ≡ is_set s.books.geom s.map b) (sound : AreSound s.books.geom s.map) where
   -- a block of a node is a marked data block
   pub marked_place : (k b : ℕ) → has (places_of s k) b ≡ true → s.books.marked b ≡ true
-  marked_place k b is = told.bits b (place_data s.books.geom s.map k b is).below ∙ place_marked s.books.geom s.map sound k b is
+  marked_place k b is = bits b (place_data s.books.geom s.map k b is).below ∙ place_marked s.books.geom s.map sound k b is
 
   -- a data block is marked exactly where a node has it
   pub marked_is : (b : ℕ) → data_start s.books.geom ≤ b → b < s.books.geom.n → s.books.marked b ≡ has (node_blocks (places_of s) s.books.geom.i) b
@@ -106,7 +106,7 @@ module _ (s : State) (told : IsTold s) (sound : AreSound s.books.geom s.map) whe
     where
       there : s.books.marked b ≡ true → has (node_blocks (places_of s) s.books.geom.i) b ≡ true
       there is =
-          let owner = (sound.marked b from below).0 (sym (told.bits b below) ∙ is) in
+          let owner = (sound.marked b from below).0 (sym (bits b below) ∙ is) in
           let number = used_number s.books.geom s.map owner.0 owner.2.node owner.2.is_node in
           among_nodes (places_of s) s.books.geom.i owner.0 b number.0 number.1 (has_place (places_at s.books.geom s.map owner.0) owner.1 b (block_place s.books.geom s.map owner.0 owner.1 b owner.2))
 

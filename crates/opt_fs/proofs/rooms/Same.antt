@@ -25,10 +25,11 @@ pub never_failed : (failed : Bool) (old new : ℕ) → new ≡ after_call failed
 never_failed true old new counts none = absurd (omega (arith, counts, none))
 never_failed false old new counts none = refl
 
-module _ (s t : State) (before : IsTold s) (after : IsTold t) (geom : t.books.geom ≡ s.books.geom) (map : t.map ≡ s.map) where
-  pub places_same : places_of t ≡ places_of s
-  places_same = let at : Geometry → Blocks → ℕ → List ℕ = λ g m k. places_at g m k in ap₂ at geom map
+-- the nodes have the same blocks in the same map
+pub places_same : (s t : State) → t.books.geom ≡ s.books.geom → t.map ≡ s.map → places_of t ≡ places_of s
+places_same s t geom map = let at : Geometry → Blocks → ℕ → List ℕ = λ g m k. places_at g m k in ap₂ at geom map
 
+module _ (s t : State) (before : IsTold s) (after : IsTold t) (geom : t.books.geom ≡ s.books.geom) (map : t.map ≡ s.map) where
   pub marks_same : (b : ℕ) → b < s.books.geom.n → t.books.marked b ≡ s.books.marked b
   marks_same b below =
       after.bits b (omega (arith, below, ap (λ (g : Geometry). g.n) geom)) ∙ ap₂ (λ (g : Geometry) (m : Blocks). is_set g m b) geom map ∙ sym (before.bits b below)
@@ -56,4 +57,4 @@ module _ (s t : State) (before : IsTold s) (after : IsTold t) (geom : t.books.ge
       → room_of t ≡ room_of s
   room_same sound sound_after none none_after running takeable =
       let held = ap (λ (r : Running). r.held) running in
-      rooms (room_of t) (room_of s) (ap (λ (r : Running). r.weight) running) held (takeable_same sound sound_after none none_after held takeable) places_same
+      rooms (room_of t) (room_of s) (ap (λ (r : Running). r.weight) running) held (takeable_same sound sound_after none none_after held takeable) (places_same s t geom map)

@@ -16,7 +16,8 @@ use Rattle.opt_fs.specs.Memory.{room_of}
 use Rattle.opt_fs.specs.Room.{RefusesIn, RenewsRoom, SyncsRoom, node_blocks}
 use Rattle.opt_fs.specs.Sessions.{IsSession}
 use Rattle.opt_fs.specs.Syncs.{SyncsSession}
-use Rattle.opt_fs.proofs.rooms.Carried.{InMemory, LeavesSession, stays}
+use Rattle.opt_fs.proofs.rooms.Carried.{InMemory, stays}
+use Rattle.opt_fs.proofs.rooms.Known.{LeavesSession}
 use Rattle.opt_fs.proofs.rooms.Lists.{kept_same}
 use Rattle.opt_fs.proofs.rooms.Nodes.{marked_is}
 use Rattle.opt_fs.proofs.rooms.Same.{live_same, marks_same, never_failed, places_same}
@@ -29,8 +30,8 @@ module _ {S : Type 0} (tells : Bool) (state : S → State) (here : InMemory tell
     held = held;
     takeable = moved ∙ kept_same (state t).books.reusable (λ b. not ((state s).books.marked b)) first count unmarked long
         ∙ same_from (λ b. not ((state s).books.marked b)) (λ b. not (has (node_blocks (places_of (state s)) (state s).books.geom.i) b)) first count
-        (λ b from below. ap not (marked_is (state s) (here.agrees s) h.tree.sound b from (omega (arith, from, below))));
-    places = places_same (state s) (state t) (here.agrees s) (here.agrees t) geom map;
+        (λ b from below. ap not (marked_is (state s) (here.known.agrees s).bits h.tree.sound b from (omega (arith, from, below))));
+    places = places_same (state s) (state t) geom map;
   }
     where
       first : ℕ
@@ -49,16 +50,16 @@ module _ {S : Type 0} (tells : Bool) (state : S → State) (here : InMemory tell
       unmarked b from below free =
           let within : b < (state s).books.geom.n = omega (arith, from, below) in
           not_from_false ((state s).books.marked b)
-          (sym (marks_same (state s) (state t) (here.agrees s) (here.agrees t) geom map b within)
-          ∙ (here.sound t).unmarked b (record { from = omega (arith, from, ap (λ (g : Geometry). data_start g) geom); below = omega (arith, within, ap (λ (g : Geometry). g.n) geom); free = free }))
+          (sym (marks_same (state s) (state t) (here.known.agrees s) (here.known.agrees t) geom map b within)
+          ∙ (here.known.sound t).unmarked b (record { from = omega (arith, from, ap (λ (g : Geometry). data_start g) geom); below = omega (arith, within, ap (λ (g : Geometry). g.n) geom); free = free }))
 
       long : counted (state t).books.reusable first count ≡ counted (λ b. not ((state s).books.marked b)) first count
       long = omega (
         arith,
-        (here.sound t).accounts,
-        (here.sound t).area,
+        (here.known.sound t).accounts,
+        (here.known.sound t).area,
         ap (λ (g : Geometry). g.n - data_start g) geom,
-        ap (λ (xs : List ℕ). length xs) (live_same (state s) (state t) (here.agrees s) (here.agrees t) geom map),
+        ap (λ (xs : List ℕ). length xs) (live_same (state s) (state t) (here.known.agrees s) (here.known.agrees t) geom map),
         ap (λ (xs : List ℕ). length xs) moved,
         here.lies.waiting t,
         held,
@@ -67,8 +68,8 @@ module _ {S : Type 0} (tells : Bool) (state : S → State) (here : InMemory tell
 
   syncs_room : (f : Session) (s t : S) → IsSession (state s) f → (orders : Bool) (cmd : Cmd) (reply : Reply) → SyncsSession tells orders cmd (Ok reply) (state s) (state t) → SyncsRoom (state s).books.geom (room_of (state s)) (room_of (state t))
   syncs_room f s t h orders cmd reply syncs = (
-    λ none. stays tells state here s t syncs.geom (syncs.map here.told) (syncs.ends ∙ cond-true (running.weight == 0) running nothing_running (eq-eqb running.weight 0 none)) syncs.takeable,
-    λ some. renewed f s t h syncs.geom (syncs.map here.told) (syncs.ends ∙ cond-false (running.weight == 0) running nothing_running (ne_eqb running.weight 0 (λ e. absurd (omega (arith, e, some))))),
+    λ none. stays tells state here s t syncs.geom (syncs.map here.known.told) (syncs.ends ∙ cond-true (running.weight == 0) running nothing_running (eq-eqb running.weight 0 none)) syncs.takeable,
+    λ some. renewed f s t h syncs.geom (syncs.map here.known.told) (syncs.ends ∙ cond-false (running.weight == 0) running nothing_running (ne_eqb running.weight 0 (λ e. absurd (omega (arith, e, some))))),
   )
     where
       running : Running
@@ -79,9 +80,9 @@ module _ {S : Type 0} (tells : Bool) (state : S → State) (here : InMemory tell
       → LeavesSession state old new (λ next. ((step f cmd ≡ (next, reply_for result)) × SyncsRoom (state old).books.geom (room_of (state old)) (room_of (state new)))
       ⊎ RefusesIn (λ why. (why ≡ because.NoMemory) × (0 < (room_of (state old)).weight)) f (room_of (state old)) (reply_for result) next (room_of (state new)))
   synced_in orders f cmd (Ok reply) old new h syncs =
-      let d = syncs.done here.told f h in
+      let d = syncs.done here.known.told f h in
       ((step f cmd).0, d.1, syncs.geom, inl (ap (λ r. ((step f cmd).0, r)) (sym d.0), syncs_room f old new h orders cmd reply syncs))
-  synced_in orders f cmd (Err why) old new h syncs = (f, syncs.kept here.told f h, syncs.geom, inr (why, (memory, none.1), refl, refl, same))
+  synced_in orders f cmd (Err why) old new h syncs = (f, syncs.kept here.known.told f h, syncs.geom, inr (why, (memory, none.1), refl, refl, same))
     where
       failed : is_disk_fault (Err why) ≡ false
       failed = never_failed (is_disk_fault (Err why)) (state old).counts.faults (state new).counts.faults syncs.disk.faults (here.lies.faults new)
@@ -97,4 +98,4 @@ module _ {S : Type 0} (tells : Bool) (state : S → State) (here : InMemory tell
       none = syncs.unspent (ap (λ w. Err w) memory)
 
       same : room_of (state new) ≡ room_of (state old)
-      same = stays tells state here old new syncs.geom (syncs.map here.told) (ap (λ (k : Bookkeeping). k.running) none.0) syncs.takeable
+      same = stays tells state here old new syncs.geom (syncs.map here.known.told) (ap (λ (k : Bookkeeping). k.running) none.0) syncs.takeable

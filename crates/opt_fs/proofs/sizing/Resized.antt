@@ -111,19 +111,24 @@ module _ (s t : State) (f : Session) (path : List (List ℕ)) (number size cost 
   module _ (d : DraftState) (tells failed settling : Bool) (settles : LooksAndSettles tells failed settling s t) (resizes : Resizes t.books number x (places_of s number) (places_in t d number) size nothing_drafted d)
       (rests : blocks_for size - blocks_for (length x.bytes) ≤ length (reusable_blocks s.books) → t.books ≡ s.books) (file : x.kind ≡ File) (count : length (places_of s number) ≡ blocks_for (length x.bytes)) where
     -- the node's blocks lie in few runs where it grows
-    runs_are : LeadsTo (inodes_in s nothing_drafted) path number → FindsRuns s f cmd
+    runs_are : LeadsTo (inodes_in s nothing_drafted) path number → FindsRuns s t.books f cmd
     runs_are leads k some grown = by (larger_or_smaller (length x.bytes) size other)
       where
-        by : (length x.bytes < size) ⊎ (size < length x.bytes) → GrowsInRuns s k (figures_on s f cmd).need
+        by : (length x.bytes < size) ⊎ (size < length x.bytes) → GrowsInRuns s t.books k (figures_on s f cmd).need
         by (inr less) = absurd (omega (arith, some, need_is, less))
-        by (inl more) = subst (λ n. GrowsInRuns s n (figures_on s f cmd).need) (same_Some number k (sym leads ∙ grown))
-            (subst (λ n. GrowsInRuns s number n) (sym need_is) (record {
-              books = t.books;
-              moves = settles.pipeline;
-              rests = rests;
+        by (inl more) = subst (λ n. GrowsInRuns s t.books n (figures_on s f cmd).need) (same_Some number k (sym leads ∙ grown))
+            (subst (λ n. GrowsInRuns s t.books number n) (sym need_is) (record {
               enough = (resizes.grows more).enough;
               runs = subst (λ (places : List ℕ). stretches places ≤ 28) (resizes.grows more).behind (resizes.grows more).runs;
             }))
+
+    -- and there are enough
+    enough_are : (figures_on s f cmd).need ≤ length (reusable_blocks t.books)
+    enough_are = by (larger_or_smaller (length x.bytes) size other)
+      where
+        by : (length x.bytes < size) ⊎ (size < length x.bytes) → (figures_on s f cmd).need ≤ length (reusable_blocks t.books)
+        by (inl more) = subst (λ n. n ≤ length (reusable_blocks t.books)) (sym need_is) (resizes.grows more).enough
+        by (inr less) = omega (arith, need_is, less)
 
     -- it is within the cost
     pub within_cost : DivisionLaw
@@ -170,5 +175,6 @@ module _ (s t : State) (f : Session) (path : List (List ℕ)) (number size cost 
               (sets_inode (files_in s nothing_drafted) (files_in t d) number new (AFile x.links (resized size x.bytes)) becomes with);
           within = within;
           uses = uses_are others;
+          enough = enough_are;
           rests = λ enough. rests (omega (arith, enough, need_is));
         }

@@ -140,11 +140,8 @@ module _ (s t : State) (f : Session) (cmd : Cmd) (path : List (List ℕ)) (offse
         answer = so.answer f weighed.accepted ∙ ap (λ (p : Session × Reply). p.1) (cond-false (length bytes == 0) (f, Done) (changed_to f (edited f.tree path (written offset bytes))) (ne_eqb (length bytes) 0 (λ e. absurd (omega (arith, e, some)))));
         costs = weighed.costs;
         room = weighed.room;
-        runs = λ k more grown. subst (λ n. GrowsInRuns s n (figures_on s f cmd).need) (same_Some number k (sym leads ∙ sym (so.grown (inodes s)) ∙ grown))
-            (subst (λ n. GrowsInRuns s number n) (sym need_is) (record {
-              books = t.books;
-              moves = settles.pipeline;
-              rests = rests;
+        runs = λ k more grown. subst (λ n. GrowsInRuns s t.books n (figures_on s f cmd).need) (same_Some number k (sym leads ∙ sym (so.grown (inodes s)) ∙ grown))
+            (subst (λ n. GrowsInRuns s t.books number n) (sym need_is) (record {
               enough = grows.enough;
               runs = subst (λ (places : List ℕ). stretches places ≤ 28) grows.behind grows.runs;
             }));
@@ -155,5 +152,6 @@ module _ (s t : State) (f : Session) (cmd : Cmd) (path : List (List ℕ)) (offse
             (subst (λ (g : Geometry). IsWithinCost t.books.geom d (writing (bitmap_blocks g) (length x.bytes) lo hi).cost) settles.pipeline.geom
             (small t.books.geom d (length x.bytes) lo hi (at_most s.books.geom number x (places_of s number) (places_in t d number) t.books d lo hi file count division grows among)));
         uses = grown_uses s t d number hi (figures_on s f cmd).need (figures_on s f cmd).freed x need_is (ap (λ (n : Figures). n.freed) figures_are) grows others;
+        enough = subst (λ n. n ≤ length (reusable_blocks t.books)) (sym need_is) grows.enough;
         rests = λ enough. rests (omega (arith, enough, need_is));
       }

@@ -12,7 +12,7 @@ use Rattle.opt_fs.specs.Opened.{blocks_in}
 use Rattle.opt_fs.specs.Memory.{room_of}
 use Rattle.opt_fs.specs.Room.{IsFirstRoom}
 use Rattle.opt_fs.specs.Sessions.{IsSession}
-use Rattle.opt_fs.proofs.rooms.Formatted.{plain_lie, has_live, no_data, still_begun, still_empty}
+use Rattle.opt_fs.proofs.rooms.Formatted.{has_live, no_data, still_begun, still_empty}
 use Rattle.opt_fs.proofs.memory.formatted_in_memory.Goals as goal
 use Rattle.opt_fs.proofs.memory.formatted_in_memory.Goals.{In_ok-blocks}
 
@@ -45,7 +45,7 @@ returns-in-Ok-clause-room c =
     let t = state_of (blocks_in c.in-Ok.fs) in
     let looks = c.in-Ok.ensures.looks in
     subst (λ (k : Geometry). IsFirstRoom k (room_of t)) (ap (λ (k : Bookkeeping). k.geom) looks.books ∙ c.in_ok-blocks.ensures.geom)
-    (c.nothing_is_taken_at_first.ensures refl plain_lie (blocks_in c.in-Ok.fs) (start g.i) (returns-in-Ok-clause-session c)
+    (c.nothing_is_taken_at_first.ensures refl (blocks_in c.in-Ok.fs) (start g.i) refl (returns-in-Ok-clause-session c)
     (still_empty g (state_of c.in_ok-blocks.blocks) t c.in_ok-blocks.ensures.geom looks.books (looks.map refl) (no_data g c.lawful.ensures.limits (state_of c.in_ok-blocks.blocks).map c.in_ok-blocks.ensures.map (λ b. c.the_formatted_disk_is_empty.ensures.bits g b c.lawful.ensures.fits)))
     (still_begun (state_of c.in_ok-blocks.blocks) t looks.books c.in_ok-blocks.ensures.begun))
 

@@ -62,13 +62,11 @@ returns-in-Ok-take_slot-clause-grows g c = λ told count name may.
     let s = g.S.Blocks.state c.args.blocks.now in
     let t = g.S.Blocks.state c.add_slot.new.blocks in
     let at = ap (λ d. inodes_in s d c.args.into) c.new-draft.ensures ∙ may.into.dir_is in
-    subst (λ n. GrowsInRuns s c.args.into (growth n)) (sym may.into.many_are) (record {
-      books = t.books;
-      moves = c.in-Ok.ensures.settles.pipeline;
-      rests = λ enough. (c.in-Ok.ensures.looks told may.into.slots at enough).books;
+    subst (λ (k : Bookkeeping). GrowsInRuns s k c.args.into (growth count)) (sym c.in-Ok-take_slot.ensures.looks.books)
+    (subst (λ n. GrowsInRuns s t.books c.args.into (growth n)) (sym may.into.many_are) (record {
       enough = c.in-Ok.ensures.room told may.into.slots at;
       runs = subst (λ d. stretches (places_in s d c.args.into ++ take (growth (length may.into.slots)) (reusable_blocks t.books)) ≤ 28) c.new-draft.ensures (c.in-Ok.ensures.runs told may.into.slots at);
-    })
+    }))
 
 pub returns-in-Ok-take_slot-clause-rests : goal.returns-in-Ok-take_slot-clause-rests
 returns-in-Ok-take_slot-clause-rests g c = λ told count name may enough.

@@ -60,12 +60,13 @@ returns-in-Ok-draft_across-clause-plans g c = λ from to move.
           let same = counted_as c.bitmap_blocks-bitmap.result c.growth.result c.release.result (bitmap_blocks s.books.geom) (growth c.args.count) (release source.count) fs
           c.moving-figures.ensures bitmap (c.growth.ensures.value ∙ ap growth c.from.ensures) (c.release.ensures.value ∙ ap release c.from-2.ensures) in
           let takes = take (growth c.args.count) (reusable_blocks now.books) in
+          let grows = c.in-Ok-draft_across.ensures.grows told c.args.count known.name may in
           planned_move s now f from to source.dir c.args.into source.entry.node.number 5 (release source.count) (growth c.args.count) fs.cost takes known.name c.args.other.now c.in-Ok-draft_across.draft (λ first. first) h plain known.paths
           (c.in-Ok-draft_across.ensures.moves told c.args.count known.name may)
           (is_weighed s f (Rename from to) fs (move_refusal f (inodes s) from to map c.the_map_gives_the_refusal.ensures.refusal (move told).accepted) (counted ∙ sym same) c.in-Ok.ensures.room)
-          counted (omega arith) refl (c.in-Ok-draft_across.ensures.rests told c.args.count known.name may) settles.pipeline.geom
-          (λ k some grown. subst (λ n. GrowsInRuns s k n) (sym (ap (λ (n : Figures). n.need) counted))
-          (subst (λ l. GrowsInRuns s l (growth c.args.count)) (same_Some c.args.into k (sym (grown_into (inodes s) from to source.dir c.args.into known.name c.args.other.now known.paths) ∙ grown)) (c.in-Ok-draft_across.ensures.grows told c.args.count known.name may)))
+          counted (omega arith) refl grows.enough (c.in-Ok-draft_across.ensures.rests told c.args.count known.name may) settles.pipeline.geom
+          (λ k some grown. subst (λ n. GrowsInRuns s now.books k n) (sym (ap (λ (n : Figures). n.need) counted))
+          (subst (λ l. GrowsInRuns s now.books l (growth c.args.count)) (same_Some c.args.into k (sym (grown_into (inodes s) from to source.dir c.args.into known.name c.args.other.now known.paths) ∙ grown)) grows))
           c.a_move_is_mapped.ensures.rename c.the_map_gives_the_reply.ensures.reply (move told).accepted c.alterations_add_up.ensures.price;
       going = c.requires.may.begin.going;
       settles = settles;

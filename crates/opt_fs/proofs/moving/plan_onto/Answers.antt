@@ -63,7 +63,7 @@ returns-in-Ok-draft_onto-clause-plans g c = λ from to move.
     planned_move s now f from to source.dir target.dir source.entry.node.number 5 freed 0 fs.cost [] known.name c.args.other.now c.in-Ok-draft_onto.draft (first_after target.entry.node) h plain known.paths
     (c.in-Ok-draft_onto.ensures.moves told known.name onto.0)
     (is_weighed s f (Rename from to) fs (move_refusal f (inodes s) from to map c.the_map_gives_the_refusal.ensures.refusal (move told).accepted) (counted ∙ sym same) c.in-Ok.ensures.room)
-    counted (omega arith) refl (λ enough. looks.books) (ap (λ (k : Bookkeeping). k.geom) looks.books) (no_growth s f (Rename from to) (bitmap_blocks s.books.geom) freed counted)
+    counted (omega arith) refl (omega arith) (λ enough. looks.books) (ap (λ (k : Bookkeeping). k.geom) looks.books) (no_growth s now.books f (Rename from to) (bitmap_blocks s.books.geom) freed counted)
     c.a_move_is_mapped.ensures.rename c.the_map_gives_the_reply.ensures.reply (move told).accepted c.alterations_add_up.ensures.price)
     looks
     (λ told. c.calls_compose.ensures.rests told c.args.blocks.now c.draft_onto.new.blocks (ap (λ (b : Bookkeeping). b.point) looks.books) (ap (λ (b : Bookkeeping). b.floor) looks.books) (looks.crash told))

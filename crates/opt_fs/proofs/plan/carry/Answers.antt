@@ -13,7 +13,7 @@ returns-in-Err-clause-carries g c = λ cmd start sync plans.
 
 pub returns-in-Ok-Answer-clause-carries : goal.returns-in-Ok-Answer-clause-carries
 returns-in-Ok-Answer-clause-carries g c = λ cmd start sync plans.
-    carried_answer g.S.Blocks.tells cmd (g.S.Blocks.state start) (g.S.Blocks.state c.args.blocks.now) c.in-Ok-Answer.reply
+    carried_answer g.S.Blocks.tells cmd (g.S.Blocks.state start) (g.S.Blocks.state c.args.blocks.now) c.in-Ok-Answer.reply (g.met.S.Blocks.is_sound c.args.blocks.now)
     (subst (λ (r : Result Plan Refusal). Plans g.S.Blocks.tells cmd r (g.S.Blocks.state start) (g.S.Blocks.state c.args.blocks.now)) (c.in-Ok-Answer.is ∙ ap (λ (p : Plan). Ok p) c.in-Ok-Answer.field-0-is) plans)
 
 pub returns-in-Ok-clause-carries : goal.returns-in-Ok-clause-carries
@@ -24,7 +24,7 @@ returns-in-Ok-clause-carries g c = λ cmd start sync plans.
     let is : c.args.planned ≡ Ok (Change c.in-Ok-Change.draft c.in-Ok-Change.cost c.in-Ok-Change.first) = c.in-Ok-Change.is ∙ ap (λ (p : Plan). Ok p) c.in-Ok-Change.field-0-is in
     let plan = subst (λ (r : Result Plan Refusal). Plans tells cmd r (g.S.Blocks.state start) mid) is plans in
     let rest = made_rests tells c.in-Ok-Change.draft c.in-Ok-Change.cost mid new c.in-Ok.ensures.made in
-    carried_change tells cmd (g.S.Blocks.state start) mid new (λ bitmap s. c.a_command_changes_where_it_costs.ensures bitmap s cmd sync) sync c.in-Ok-Change.draft c.in-Ok-Change.cost c.in-Ok-Change.first plan c.in-Ok.ensures.made c.in-Ok.ensures.disk
+    carried_change tells cmd (g.S.Blocks.state start) mid new (λ bitmap s. c.a_command_changes_where_it_costs.ensures bitmap s cmd sync) sync (g.met.S.Blocks.is_sound c.args.blocks.now) c.in-Ok-Change.draft c.in-Ok-Change.cost c.in-Ok-Change.first plan c.in-Ok.ensures.made c.in-Ok.ensures.disk
     (λ told. c.calls_compose.ensures.advances start c.args.blocks.now c.carry_out.new.blocks (plan.settles.crash told) (c.calls_compose.ensures.rests told c.args.blocks.now c.carry_out.new.blocks rest.point rest.floor (c.in-Ok.ensures.disk.crash told)))
 
 pub returns-in-Ok-clause-between : goal.returns-in-Ok-clause-between
