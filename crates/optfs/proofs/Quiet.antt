@@ -28,7 +28,7 @@ use Rattle.opt_tree.specs.Tree.{Tree}
 use Rattle.opt_tree.specs.Step.{Session, start, step}
 use Rattle.opt_tree.specs.Run.{Answers, StopsAfterFault, is_of_memory, is_of_disk}
 use Rattle.opt_tree.specs.Points.{asks_for_durability, promised_by, floor}
-use Rattle.optfs.specs.Crashes.{IsCrashConsistent}
+use Rattle.opt_session.specs.Crashes.{IsCrashConsistent}
 use Rattle.optfs.specs.Lines.{parts_of, whole_lines, commands_of_line, whole_commands, commands_of}
 use Rattle.optfs.specs.Output.{Serves, IsTrace, IsFront, longest}
 use Rattle.optfs.specs.Follows.{entry, quiet_entries, ServesQuietly}

@@ -1,5 +1,4 @@
 pub mod Lines
-pub mod Crashes
 pub mod Output
 pub mod Follows
 pub mod Program

@@ -11,8 +11,8 @@ use Rattle.opt_tree.specs.declared.command.Reply.{Reply}
 use Rattle.opt_tree.specs.Step.{Session, start}
 use Rattle.opt_tree.specs.Run.{StopsAfterFault}
 use Rattle.opt_fs.specs.Room.{Room, IsFirstRoom, RunsIn}
+use Rattle.opt_session.specs.Crashes.{IsCrashConsistent}
 use Rattle.optfs.specs.Lines.{whole_commands, commands_of}
-use Rattle.optfs.specs.Crashes.{IsCrashConsistent}
 use Rattle.optfs.specs.declared.status.Status.{Status}
 use Rattle.optfs.specs.declared.status.Status.TheVariants.{Done, Usage, NoMemory, SourceFault, SinkFault, BadShape, LongInput}
 

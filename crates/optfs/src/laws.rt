@@ -6,7 +6,7 @@ ghost use Rattle.opt_geom.specs.Geometry.{Geometry};
 ghost use Rattle.opt_tree.specs.declared.command.Cmd.{Cmd};
 ghost use Rattle.opt_tree.specs.declared.command.Reply.{Reply};
 ghost use Rattle.opt_tree.specs.Points.{floor};
-ghost use Rattle.optfs.specs.Crashes.{IsCrashConsistent};
+ghost use Rattle.opt_session.specs.Crashes.{IsCrashConsistent};
 ghost use Rattle.optfs.specs.Output.{Serves, IsTrace, contents};
 ghost use Rattle.optfs.specs.Lines.{commands_of};
 ghost use Rattle.optfs.specs.Output.{longest};

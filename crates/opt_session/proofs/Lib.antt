@@ -1,0 +1,9 @@
+pub mod Histories
+pub mod Crashes
+pub mod Issuing
+pub mod Counting
+pub mod Serving
+pub mod Opening
+pub mod Weights
+pub mod Spending
+pub mod Moments

@@ -1,0 +1,5 @@
+pub mod Histories
+pub mod Crashes
+pub mod Issued
+pub mod Serving
+pub mod Budget

@@ -1,0 +1,33 @@
+//! Laws of runs, which program code cites. The functions do nothing; their clauses are the laws.
+
+ghost use Rattle.std.specs.Prelude.{◌≡◌, ◌+◌, ℕ, List, take};
+ghost use Rattle.opt_disk.specs.Disk.{writes_in};
+ghost use Rattle.opt_geom.specs.Geometry.{Geometry, bitmap_blocks};
+ghost use Rattle.opt_tree.specs.declared.command.Cmd.{Cmd};
+ghost use Rattle.opt_tree.specs.declared.command.Reply.{Reply};
+ghost use Rattle.opt_tree.specs.Step.{session_on};
+ghost use Rattle.opt_tree.specs.Tree.{Tree};
+ghost use Rattle.opt_stands.specs.Stands.{StandsFor};
+ghost use Rattle.opt_crash.specs.Counts.{AreAtMost};
+ghost use Rattle.opt_session.specs.Budget.{KeepsBudget, budget_of};
+ghost use Rattle.opt_session.specs.Crashes.{IsCrashConsistent};
+ghost use Rattle.opt_session.specs.Serving.{HasServed};
+
+use opt_blocks::Blocks;
+use opt_stands::an_image_stands_for_one_tree;
+
+/// Where the blocks with which the disk began stand for the tree of a run, what crashes leave of the run is as
+/// `IsCrashConsistent` says, which speaks of any disk.
+pub fn a_served_run_is_crash_consistent<S: Blocks>()
+    ensures { (s : S) (g : Geometry) (t : Tree) (mounted : ℕ) (cmds : List Cmd) (replies : List Reply) (marks : List ℕ) → HasServed g t mounted cmds replies marks (S.state s) → StandsFor g.n (S.state s).crash.base t
+        → IsCrashConsistent g.n g.i (S.state s).crash.base (S.state s).crash.log mounted cmds replies marks }
+{
+    an_image_stands_for_one_tree();
+}
+
+/// At each moment since the mount, the writes in the log since then number at most the run's budget and what was owed
+/// as the run began.
+pub fn the_writes_keep_within_the_budget<S: Blocks>()
+    ensures { (s : S) (g : Geometry) (t : Tree) (begun owed mounted : ℕ) (cmds : List Cmd) (replies : List Reply) → KeepsBudget g t begun cmds replies (S.state s)
+        → begun ≡ writes_in (take mounted (S.state s).crash.log) + owed → AreAtMost mounted (S.state s).crash.log (owed + budget_of (bitmap_blocks g) (session_on g.i t) 0 cmds replies) }
+{}
