@@ -107,7 +107,7 @@ fn act_on_image(alloc: Global, at_hand: &mut AtHand, words: &[&str]) -> Result<O
     };
     let done = match words {
         ["set", block, offset, digits] => set(alloc, image, block, offset, digits)?,
-        ["header", rest @ ..] => header(image, rest),
+        ["header", rest @ ..] => header(alloc, image, rest)?,
         _ => false,
     };
     Ok(outcome_of(done))
@@ -191,16 +191,16 @@ fn set(
         return Ok(false);
     };
     match hex::decode(alloc, digits) {
-        Ok(bytes) => Ok(set_bytes(image, block, offset, bytes.as_slice())),
+        Ok(bytes) => set_bytes(alloc, image, block, offset, bytes.as_slice()),
         Err(FromHexError::OutOfMemory) => Err(NoMemory),
         Err(_) => Ok(false),
     }
 }
 
 // Puts a header into a slot of the image, which has one already.
-fn header(image: &mut Image, words: &[&str]) -> bool {
-    match newest_header(image.as_slice()) {
-        Some((_, newest)) => set_header(image, newest.geom, words),
-        None => false,
+fn header(alloc: Global, image: &mut Image, words: &[&str]) -> Result<bool, NoMemory> {
+    match newest_header(image.to_blocks(alloc)?.as_slice()) {
+        Some((_, newest)) => set_header(alloc, image, newest.geom, words),
+        None => Ok(false),
     }
 }

@@ -15,7 +15,7 @@ pub(crate) fn formatted_image(alloc: Global, geom: &Geom) -> Result<Image, NoMem
     let mut image = Image::zeros(alloc, geom.n())?;
     for b in 0..geom.n() {
         if b < image.blocks() {
-            image.set(b, &formatted_block(geom, b));
+            image.set(alloc, b, &formatted_block(geom, b))?;
         }
     }
     Ok(image)
@@ -27,37 +27,55 @@ pub(crate) fn geometry(n: &str, j: &str, i: &str) -> Option<Geom> {
 }
 
 /// Puts bytes into a block of an image, from an offset on. Whether the block has room for them.
-pub(crate) fn set_bytes(image: &mut Image, block: u32, offset: usize, bytes: &[u8]) -> bool {
-    let Some(old) = image.as_slice().get(block as usize) else {
-        return false;
-    };
-    let mut new: Block = *old;
-    let Some(end) = offset.checked_add(bytes.len()) else {
-        return false;
-    };
-    let Some(into) = new.get_mut(offset..end) else {
-        return false;
-    };
-    into.copy_from_slice(bytes);
-    if block < image.blocks() {
-        image.set(block, &new);
+///
+/// # Errors
+/// Out of memory.
+pub(crate) fn set_bytes(
+    alloc: Global,
+    image: &mut Image,
+    block: u32,
+    offset: usize,
+    bytes: &[u8],
+) -> Result<bool, NoMemory> {
+    if block >= image.blocks() {
+        return Ok(false);
     }
-    true
+    let Some(new) = with_bytes(image.block(block), offset, bytes) else {
+        return Ok(false);
+    };
+    image.set(alloc, block, &new)?;
+    Ok(true)
+}
+
+/// The block with these bytes from an offset on. `None` where it has no room for them.
+fn with_bytes(block: &Block, offset: usize, bytes: &[u8]) -> Option<Block> {
+    let end = offset.checked_add(bytes.len())?;
+    let mut new = *block;
+    new.get_mut(offset..end)?.copy_from_slice(bytes);
+    Some(new)
 }
 
 /// Puts the header that these words spell into a slot of an image: slot, epoch, turn, start, sure, place, and `open`
 /// or `closed`. Whether they are one.
-pub(crate) fn set_header(image: &mut Image, geom: Geom, words: &[&str]) -> bool {
+///
+/// # Errors
+/// Out of memory.
+pub(crate) fn set_header(
+    alloc: Global,
+    image: &mut Image,
+    geom: Geom,
+    words: &[&str],
+) -> Result<bool, NoMemory> {
     let Some((slot, header)) = header_of(geom, words) else {
-        return false;
+        return Ok(false);
     };
     if slot >= image.blocks() {
-        return false;
+        return Ok(false);
     }
     let mut bytes: Block = [0; 1024];
     write_header(&header, &mut bytes);
-    image.set(slot, &bytes);
-    true
+    image.set(alloc, slot, &bytes)?;
+    Ok(true)
 }
 
 fn header_of(geom: Geom, words: &[&str]) -> Option<(u32, Header)> {

@@ -92,7 +92,7 @@ fn mount_text(alloc: Global, image: &Image) -> Result<Vec<u8>, NoMemory> {
 /// # Errors
 /// Out of memory.
 pub(crate) fn find(alloc: Global, image: &Image) -> Result<Found, NoMemory> {
-    let Some(plain) = recover(alloc, image.as_slice())? else {
+    let Some(plain) = recover(alloc, image.to_blocks(alloc)?.as_slice())? else {
         let text = format!(in alloc; "no plain recovery")?;
         return Ok(Found::Wrong(text.into_bytes()));
     };
