@@ -72,6 +72,7 @@ fn a_copy_of_an_image_goes_its_own_way(rt: HostRuntime) {
     let copy = image.copy(rt.alloc()).expect(&rt, "memory");
     let clone = image.clone().expect(&rt, "memory");
     assert!(rt; clone == image && copy == image && image != empty);
+    assert_eq!(rt; image.blocks(), 2);
     let set = image.set(rt.alloc(), 1, &block_of(8));
     assert_eq!(rt; set, Ok(()));
     assert!(rt; clone != image && clone == copy);
