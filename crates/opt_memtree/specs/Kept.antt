@@ -1,6 +1,6 @@
 -- What is kept of a tree: for each number a directory with its names, or a file with its links and bytes; and how they change.
 -- What they mean is said by the inode map that they are, and by the tree of that map.
-use Rattle.std.specs.Prelude.{◌≡◌, ℕ, zero, suc, ◌-◌, ◌≤◌, ◌==◌, if◌then◌else◌, List, [], ◌∷◌, map, length, is_some, Option, None, Some, option_map, option_and_then, refl, ◌⊎◌}
+use Rattle.std.specs.Prelude.{◌≡◌, ℕ, zero, suc, ◌-◌, ◌≤◌, ◌==◌, if◌then◌else◌, List, [], ◌∷◌, map, length, is_some, Option, None, Some, option_map, option_and_then, refl}
 use Rattle.std.specs.Coded.{Coded, code_by, coded_list, coded_ℕ, coded×, coded_option}
 use Rattle.std.specs.List.{flat_map}
 use Rattle.std.specs.declared.cmp.Ordering.{Ordering}
@@ -8,9 +8,8 @@ use Rattle.std.specs.Ordering.{nat_cmp}
 use Rattle.std.specs.Cmp.Lexicographic.{slice_cmp}
 use Rattle.std.specs.FinMap.{FinMap, get, insert, remove, empty, entries, from_entries, len}
 use Rattle.std.specs.FinMap as finite
-use Rattle.opt_base.specs.Counts.{next_count}
 use Rattle.opt_layout.specs.declared.slot.Slot.{Slot}
-use Rattle.opt_tree.specs.Tree.{Tree, Names, Nodes}
+use Rattle.opt_tree.specs.Tree.{Tree}
 use Rattle.opt_stands.specs.Inodes.{Inode, Inodes, ADir, AFile, thing_of}
 use Rattle.opt_inodes.specs.Changes.{slot_of}
 use Rattle.opt_inodes.specs.Lookups.{slots_of, number_at}

@@ -1,7 +1,6 @@
 -- The laws of trees and of their inode maps that the proofs of this crate rest on, gathered. Each is a clause of a function of opt_tree, opt_stands or opt_inodes.
-use Rattle.std.specs.Prelude.{◌≡◌, ◌≢◌, ℕ, ◌<◌, ◌≤◌, ◌+◌, Bool, true, false, List, [], ◌∷◌, ◌++◌, length, replicate, None, Some, option_map}
+use Rattle.std.specs.Prelude.{◌≡◌, ◌≢◌, ℕ, ◌<◌, ◌≤◌, ◌+◌, true, false, List, [], ◌∷◌, ◌++◌, length, replicate, None, Some}
 use Rattle.std.specs.FinMap.{get}
-use Rattle.opt_layout.specs.declared.slot.Slot.{Slot}
 use Rattle.opt_tree.specs.declared.command.Cmd.{Cmd}
 use Rattle.opt_tree.specs.declared.command.Cmd.TheVariants.{Mkdir, Create, Write, Fill, Truncate, Link, Unlink, Rmdir, Rename}
 use Rattle.opt_tree.specs.Tree.{Tree, Names, Dir, File, IsSound, HasSmallFiles}

@@ -1,5 +1,5 @@
 -- What a command makes of all that is kept, and what it is answered. That this is what the command means is proved, not defined here.
-use Rattle.std.specs.Prelude.{◌≡◌, ℕ, ◌==◌, ◌≤◌, Bool, true, false, if◌then◌else◌, List, [], length, replicate, Option, None, Some}
+use Rattle.std.specs.Prelude.{ℕ, ◌==◌, Bool, true, false, if◌then◌else◌, List, [], length, replicate, Option, None, Some}
 use Rattle.std.specs.FinMap.{insert, empty}
 use Rattle.opt_base.specs.Counts.{next_count}
 use Rattle.opt_tree.specs.declared.command.Cmd.{Cmd}
@@ -7,14 +7,13 @@ use Rattle.opt_tree.specs.declared.command.Cmd.TheVariants.{Mkdir, Create, Write
 use Rattle.opt_tree.specs.declared.command.Reply.{Reply}
 use Rattle.opt_tree.specs.declared.command.Reply.TheVariants.{Ok as Done, Synced, DurableAt, Known, Refused}
 use Rattle.opt_tree.specs.declared.command.Refusal.{Refusal}
-use Rattle.opt_tree.specs.Tree.{Tree}
 use Rattle.opt_tree.specs.Step.{Session, written, resized}
 use Rattle.opt_stands.specs.Maps.{IsMapOf}
 use Rattle.opt_inodes.specs.Lookups.{bytes_of, inode_at}
 use Rattle.opt_inodes.specs.Refusals.{reason}
 use Rattle.opt_inodes.specs.Replies.{accepted_reply}
 use Rattle.opt_memtree.specs.declared.state.State.{State}
-use Rattle.opt_memtree.specs.Kept.{Kept, KeptDir, KeptFile, KeptNodes, map_of, tree_of, AreSmall, with_bytes}
+use Rattle.opt_memtree.specs.Kept.{KeptDir, KeptFile, KeptNodes, map_of, tree_of, AreSmall, with_bytes}
 use Rattle.opt_memtree.specs.Changes.{made, edited, linked, removed, moved}
 
 -- the root alone, without names

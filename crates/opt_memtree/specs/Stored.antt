@@ -11,7 +11,7 @@ use Rattle.opt_memtree.specs.declared.node.Growth.{Growth}
 use Rattle.opt_memtree.specs.declared.node.Growth.TheVariants.{Write, Fill, Resize, Name}
 use Rattle.opt_memtree.specs.declared.node.Settling.{Settling}
 use Rattle.opt_memtree.specs.declared.node.Settling.TheVariants.{Renumber, Unname, Link, Unlink}
-use Rattle.opt_memtree.specs.Kept.{Kept, KeptDir, KeptFile, KeptNodes, DirNames, with_names, with_bytes, with_links, with_name, without_name, with_number}
+use Rattle.opt_memtree.specs.Kept.{Kept, KeptDir, KeptFile, KeptNodes, with_bytes, with_links, with_name, without_name, with_number}
 
 -- what a node is to contracts
 abbrev pub kept : Node → Kept

@@ -1,5 +1,5 @@
 -- Search trees over names that are clones of each other, or have equal entries, make the same finite map.
-use Rattle.std.proofs.Common.{◌≡◌, ℕ, Bool, true, false, ◌&&◌, List, [], ◌∷◌, length, IsTrue, ◌↔◌, nat_eq, bytes_eq, sym, refl, ap, ap₂, ◌∙◌, true≢false, eqb-true, eq-eqb}
+use Rattle.std.proofs.Common.{◌≡◌, ℕ, Bool, true, false, ◌&&◌, List, length, IsTrue, ◌↔◌, nat_eq, bytes_eq, sym, ap, ap₂, ◌∙◌, true≢false, eqb-true, eq-eqb}
 use Rattle.std.proofs.lemmas.Bool.{and_parts}
 use Rattle.std.specs.Cmp.Lexicographic.{pointwise, pointwise_decides, bytes_decides}
 use Rattle.std.specs.FinMap.{entries, from_entries}

@@ -138,9 +138,6 @@ module _ {X : Type 0} (p : List ℕ) (es us : List (List ℕ × X)) (kept : Keep
 pub there_renumbered : (names : DirNames) (name : List ℕ) (n : ℕ) → IsSome (get names name) → renumbered names name n ≡ insert names name n
 there_renumbered names name n is = ap (λ b. if b then insert names name n else names) is
 
-pub none_renumbered : (names : DirNames) (name : List ℕ) (n : ℕ) → get names name ≡ None → renumbered names name n ≡ names
-none_renumbered names name n none = ap (λ (o : Option ℕ). if is_some o then insert names name n else names) none
-
 pub lent_there : (lent : Option (MutBor ℕ)) {o : Option ℕ} → option_copied_mut lent ≡ o → IsSome o → IsSome lent
 lent_there None is here = subst IsSome (sym is) here
 lent_there (Some x) is here = refl

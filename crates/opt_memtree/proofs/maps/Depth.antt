@@ -1,6 +1,5 @@
 -- No path of a tree has as many names as there are nodes: each of its fronts leads to a node of its own.
-use Rattle.std.proofs.Common.{◌≡◌, ℕ, zero, suc, ◌+◌, ◌<◌, ◌≤◌, Bool, true, false, true≢false, if◌then◌else◌, ◌||◌, List, [], ◌∷◌, ◌++◌, length, Option, None, Some, IsSome, is_some, option_map, option_and_then, refl, sym, ap, subst, ◌∙◌, ◌⊎◌, inl, inr, ⊎_elim, arith, append_assoc, append-nil}
-use Rattle.std.proofs.lemmas.Bool.{cases_Bool}
+use Rattle.std.proofs.Common.{◌≡◌, ℕ, suc, ◌<◌, ◌≤◌, true, false, true≢false, if◌then◌else◌, ◌||◌, List, [], ◌∷◌, ◌++◌, length, Option, None, Some, IsSome, option_map, option_and_then, refl, sym, ap, subst, ◌∙◌, ◌⊎◌, inl, inr, arith, append_assoc}
 use Rattle.std.proofs.lemmas.Map.Steps.{length-le_from_keys}
 use Rattle.std.specs.List.{list_any, IsDistinct, AllByRecursion}
 use Rattle.std.specs.Map.{lookup}
@@ -11,23 +10,13 @@ use Rattle.opt_layout.specs.declared.slot.Slot.{Slot}
 use Rattle.opt_tree.specs.Tree.{Tree}
 use Rattle.opt_stands.specs.Inodes.{Inode, Inodes, ADir, AFile}
 use Rattle.opt_stands.specs.Maps.{IsMapOf}
-use Rattle.opt_stands.specs.Walks.{entries_of, entry_in, walk, LeadsTo, OnlyBy}
+use Rattle.opt_stands.specs.Walks.{entries_of, entry_in, walk, LeadsTo}
 use Rattle.opt_memtree.specs.Kept.{Kept, KeptNodes, map_of, inode_of}
 use Rattle.opt_memtree.proofs.keys.Keys.{which_key, apart}
 use Rattle.opt_memtree.proofs.maps.Walking.{walk_last}
 
 nothing_is : {A : Type 0} {x : A} → None ≡ Some x → ⊥
 nothing_is e = cc
-
--- a walk by two paths, one behind the other
-pub walk_join : (m : Inodes) (k : ℕ) (here rest : List (List ℕ)) → walk (entries_of m) k (here ++ rest) ≡ option_and_then (λ j. walk (entries_of m) j rest) (walk (entries_of m) k here)
-walk_join m k [] rest = refl
-walk_join m k (x ∷ here) rest = by (entries_of m k x) (λ j. walk_join m j here rest)
-  where
-    by : (o : Option ℕ) → ((j : ℕ) → walk (entries_of m) j (here ++ rest) ≡ option_and_then (λ j. walk (entries_of m) j rest) (walk (entries_of m) j here))
-        → option_and_then (λ j. walk (entries_of m) j (here ++ rest)) o ≡ option_and_then (λ j. walk (entries_of m) j rest) (option_and_then (λ j. walk (entries_of m) j here) o)
-    by None on = refl
-    by (Some j) on = on j
 
 -- an item of a list
 all_more : {A : Type 0} {P Q : A → Type 0} → ((x : A) → P x → Q x) → (xs : List A) → AllByRecursion P xs → AllByRecursion Q xs

@@ -1,23 +1,23 @@
 -- The slots that stand for the names of a directory: what is under each name, that none comes twice, how many there are and what they are in order.
-use Rattle.std.proofs.Common.{◌≡◌, ℕ, zero, suc, ◌*◌, Bool, true, false, cond, ◌&&◌, is_lt, if◌then◌else◌, List, [], ◌∷◌, ◌++◌, map, length, slice_get, bytes_eq, Option, None, Some, option_map, refl, sym, ap, subst, ◌∙◌, ◌⊎◌, inl, inr, T}
+use Rattle.std.proofs.Common.{◌≡◌, ℕ, zero, suc, ◌*◌, Bool, true, false, cond, ◌&&◌, is_lt, List, [], ◌∷◌, ◌++◌, map, length, slice_get, bytes_eq, None, Some, option_map, refl, sym, ap, subst, ◌∙◌, ◌⊎◌, inl, inr, T}
 use Rattle.std.proofs.lemmas.Bool.{cases_Bool}
 use Rattle.std.proofs.lemmas.List.{length-map}
 use Rattle.std.proofs.lemmas.Slice.Eq.{bytes_eq-Decides}
 use Rattle.std.specs.Ordering.{eq_by_cmp}
 use Rattle.std.specs.Cmp.{tied_itself}
 use Rattle.std.specs.FinMap.Entries.{below_all}
-use Rattle.std.specs.FinMap.{FinMap, get, entries, from_entries, keys, len, find, is_sorted, get-entries, len-entries, entries_sorted, get-from_entries, same_map}
+use Rattle.std.specs.FinMap.{get, entries, from_entries, keys, len, find, is_sorted, get-entries, len-entries, entries_sorted, get-from_entries, same_map}
 use Rattle.opt_layout.specs.declared.slot.Slot.{Slot}
 use Rattle.opt_tree.specs.declared.command.Kind.TheVariants.{Dir as DirKind}
 use Rattle.opt_tree.specs.declared.command.Reply.TheVariants.{Stat as StatReply}
-use Rattle.opt_stands.specs.Inodes.{Inode, ADir, AFile, AreDistinct}
+use Rattle.opt_stands.specs.Inodes.{AreDistinct}
 use Rattle.opt_stands.specs.Walks.{node_in, entry_in}
 use Rattle.opt_inodes.specs.Changes.{slot_of}
 use Rattle.opt_inodes.specs.Lookups.{slots_of, number_at}
-use Rattle.opt_inodes.specs.Names.{row_in, names_of, stat_in, stat_at, stat_by}
-use Rattle.opt_memtree.specs.Kept.{DirNames, name_cmp, Kept, KeptDir, KeptFile, KeptNodes, inode_of, map_of, slots_for}
+use Rattle.opt_inodes.specs.Names.{names_of, stat_in, stat_at, stat_by}
+use Rattle.opt_memtree.specs.Kept.{DirNames, name_cmp, KeptDir, KeptFile, KeptNodes, inode_of, map_of, slots_for}
 use Rattle.opt_memtree.proofs.keys.InOrder.{entries_empty}
-use Rattle.opt_memtree.proofs.keys.Keys.{name_total, name_same, tied, apart, which_key}
+use Rattle.opt_memtree.proofs.keys.Keys.{name_total, name_same, tied, apart}
 
 -- the two tests of a name agree
 test_same : (a b : List ℕ) → bytes_eq a b ≡ eq_by_cmp name_cmp b a

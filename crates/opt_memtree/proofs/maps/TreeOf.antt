@@ -1,13 +1,13 @@
 -- The tree of the nodes is the one whose inode map they are.
-use Rattle.std.proofs.Common.{◌≡◌, ℕ, zero, suc, ◌+◌, ◌<◌, ◌≤◌, nat_lt, Bool, true, false, cond, if◌then◌else◌, List, [], ◌∷◌, ◌++◌, length, map, flat_map, bytes_eq, slice_get, Option, None, Some, option_map, option_and_then, refl, sym, ap, ap₂, subst, ◌∙◌, ◌⊎◌, inl, inr, ⊎_elim, arith}
+use Rattle.std.proofs.Common.{◌≡◌, ℕ, zero, suc, ◌<◌, ◌≤◌, nat_lt, Bool, true, false, cond, if◌then◌else◌, List, [], ◌∷◌, ◌++◌, length, map, flat_map, bytes_eq, slice_get, Option, None, Some, option_map, option_and_then, refl, sym, ap, ap₂, subst, ◌∙◌, ◌⊎◌, inl, inr, arith}
 use Rattle.std.proofs.lemmas.Bool.{cases_Bool}
 use Rattle.std.proofs.lemmas.Slice.Eq.{bytes_eq-Decides}
 use Rattle.std.specs.Ordering.{nat_cmp, eq_by_cmp}
 use Rattle.std.specs.Cmp.{IsTotalOrder, nat_cmp_total}
 use Rattle.std.specs.Cmp.Lexicographic.{lists_total}
-use Rattle.std.specs.FinMap.{IsAntisymmetric, nat_cmp-IsAntisymmetric, slice_cmp-IsAntisymmetric, get, entries, from_entries, len, find, get-entries, get-from_entries, same_map}
+use Rattle.std.specs.FinMap.{IsAntisymmetric, nat_cmp-IsAntisymmetric, slice_cmp-IsAntisymmetric, entries, from_entries, len, find, get-entries, get-from_entries, same_map}
 use Rattle.opt_layout.specs.declared.slot.Slot.{Slot}
-use Rattle.opt_tree.specs.Tree.{Tree, Names, Nodes, path_cmp}
+use Rattle.opt_tree.specs.Tree.{Tree, path_cmp}
 use Rattle.opt_stands.specs.Inodes.{Inode, Inodes, ADir, AFile, AreDistinct, thing_of}
 use Rattle.opt_stands.specs.Maps.{IsMapOf}
 use Rattle.opt_stands.specs.Walks.{entries_of, entry_in, node_in, walk}

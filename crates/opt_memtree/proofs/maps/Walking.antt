@@ -1,5 +1,5 @@
 -- Walks by names: that one comes to its end where the path leads, what is at a path's last name, and the parts of a path.
-use Rattle.std.proofs.Common.{◌≡◌, ℕ, suc, ◌+◌, ◌-◌, ◌<◌, Bool, true, false, List, [], ◌∷◌, ◌++◌, length, take, drop, get_or, Option, None, Some, Result, Ok, Err, IfOk, OnErr, option_map, option_and_then, refl, sym, ap, ap₂, ◌∙◌, arith, drop-cons, length-append, append_assoc, take_all, ◌⊎◌, inl, inr}
+use Rattle.std.proofs.Common.{◌≡◌, ℕ, suc, ◌+◌, ◌-◌, ◌<◌, true, false, List, [], ◌∷◌, ◌++◌, length, take, drop, get_or, Option, None, Some, Result, Ok, Err, IfOk, OnErr, option_map, option_and_then, refl, sym, ap, ap₂, ◌∙◌, arith, drop-cons, length-append, take_all, ◌⊎◌, inl, inr}
 use Rattle.std.proofs.lemmas.List.{take-append-le}
 use Rattle.opt_tree.specs.declared.command.Refusal.{Refusal}
 use Rattle.opt_tree.specs.Paths.{parent}

@@ -1,9 +1,9 @@
 -- The lines at and below a path: its own, and then those below each name of its directory, as the code goes through them.
-use Rattle.std.proofs.Common.{◌≡◌, ℕ, ◌-◌, ◌<◌, ◌+◌, List, [], ◌∷◌, ◌++◌, length, map, flat_map, Option, Some, None, Bor, option_map, option_and_then, refl, sym, ap, ap₂, subst, ◌∙◌, append-nil, append_assoc, length-append, arith, cond, T}
-use Rattle.std.specs.FinMap.{get, entries, keys, len, find, is_sorted, get-entries, entries_sorted}
+use Rattle.std.proofs.Common.{◌≡◌, ℕ, ◌-◌, ◌<◌, List, [], ◌∷◌, ◌++◌, length, map, flat_map, Option, Some, None, Bor, option_map, option_and_then, refl, sym, ap, subst, ◌∙◌, append-nil, append_assoc, length-append, arith, T}
+use Rattle.std.specs.FinMap.{get, entries, len, find, is_sorted, get-entries, entries_sorted}
 use Rattle.opt_tree.specs.Tree.{Tree, Thing}
 use Rattle.opt_tree.specs.Listing.{line_of}
-use Rattle.opt_stands.specs.Inodes.{Inode, thing_of}
+use Rattle.opt_stands.specs.Inodes.{thing_of}
 use Rattle.opt_stands.specs.Maps.{IsMapOf}
 use Rattle.opt_stands.specs.Walks.{entry_in, LeadsTo}
 use Rattle.opt_inodes.specs.Listing.{lines_below}

@@ -1,13 +1,11 @@
 -- A text that a sink takes piece by piece: what is left of it, and that a fault leaves a front of it taken.
-use Rattle.std.proofs.Common.{◌≡◌, ℕ, ◌+◌, ◌<◌, List, [], ◌∷◌, ◌++◌, length, drop, get_or, map, flat_map, codes, Option, Result, Ok, Err, OnErr, Vec, sym, refl, ap, ap₂, ◌∙◌, subst, arith, append_assoc, append-nil, drop-cons, suc, slice_index, ◌/◌, ◌%◌, decimal}
+use Rattle.std.proofs.Common.{◌≡◌, ℕ, ◌+◌, ◌<◌, List, [], ◌∷◌, ◌++◌, length, drop, get_or, codes, Option, Result, Ok, Err, OnErr, sym, refl, ap, ◌∙◌, subst, arith, append_assoc, append-nil, drop-cons, suc, slice_index, ◌/◌, ◌%◌, decimal}
 use Rattle.std.proofs.lemmas.Grind.{flat_map-append}
 use Rattle.std.specs.Io.KnownBytes.{Appends}
 use Rattle.std.proofs.KnownBytes.{Appends-trans, Appends-nil}
-use Rattle.std.specs.FinMap.{get}
 use Rattle.hex.specs.Hex.{encode_lower, encode_with, lower_digits}
 use Rattle.opt_io.specs.Prefix.{TakesPrefix}
-use Rattle.opt_tree.specs.Tree.{Names, Nodes, Thing, path_cmp}
-use Rattle.opt_tree.specs.Listing.{slashed, path_text, digits_behind_blank, line_of, listing}
+use Rattle.opt_tree.specs.Listing.{slashed, path_text, digits_behind_blank}
 
 -- what holds anyway holds on an error
 pub on_err : {T E : Type 0} (r : Result T E) (P : Type 0) → P → OnErr r P

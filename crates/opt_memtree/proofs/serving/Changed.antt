@@ -1,12 +1,11 @@
 -- The inode map after a node of those that are kept changed, came or went.
-use Rattle.std.proofs.Common.{◌≡◌, ℕ, ◌-◌, ◌==◌, Bool, true, false, if◌then◌else◌, List, [], Option, Some, None, is_none, find, option_map, option_and_then, refl, sym, ap, ap₂, ◌∙◌, ◌⊎◌, inl, inr}
+use Rattle.std.proofs.Common.{◌≡◌, ℕ, ◌-◌, ◌==◌, Bool, true, false, if◌then◌else◌, List, Option, Some, None, is_none, find, option_map, option_and_then, refl, sym, ap, ap₂, ◌∙◌, ◌⊎◌, inl, inr}
 use Rattle.std.proofs.lemmas.Bool.{cases_eq}
 use Rattle.std.specs.List.{range_with_len}
-use Rattle.std.specs.Ordering.{nat_cmp}
 use Rattle.std.specs.Cmp.{nat_cmp_total}
 use Rattle.std.specs.FinMap.{nat_cmp-IsAntisymmetric, get, insert, remove}
 use Rattle.opt_layout.specs.declared.slot.Slot.{Slot}
-use Rattle.opt_stands.specs.Inodes.{Inode, Inodes, ADir, AFile}
+use Rattle.opt_stands.specs.Inodes.{Inodes, ADir, AFile}
 use Rattle.opt_stands.specs.Walks.{entry_in}
 use Rattle.opt_inodes.specs.Lookups.{least_free}
 use Rattle.opt_inodes.specs.Changes.{one_link_less, HasUnder}
@@ -104,10 +103,6 @@ module _ (m new : Inodes) (k : ℕ) (names : DirNames) (name : List ℕ) (dir : 
   }
 
 -- The numbers in use.
-
-in_use : (o : Option Kept) (change : Kept → Kept) → is_none (option_map inode_of (option_map change o)) ≡ is_none (option_map inode_of o)
-in_use None change = refl
-in_use (Some x) change = refl
 
 -- a change of a node leaves the least free number
 pub free_kept : (limit : ℕ) (nodes : KeptNodes) (k : ℕ) (change : Kept → Kept) → least_free limit (map_of (changed_at nodes k change)) ≡ least_free limit (map_of nodes)

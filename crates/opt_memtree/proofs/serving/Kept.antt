@@ -1,10 +1,9 @@
 -- What is kept at first, and that two that have one tree are the same nodes.
-use Rattle.std.proofs.Common.{◌≡◌, ◌≢◌, ℕ, zero, suc, ◌≤◌, List, [], ◌∷◌, ◌++◌, Option, Some, None, Result, Ok, Err, IfOk, OnErr, false, option_map, option_and_then, refl, sym, ap, ap₂, subst, ◌∙◌, arith, inl, inr}
+use Rattle.std.proofs.Common.{◌≡◌, ℕ, zero, suc, ◌≤◌, List, [], ◌∷◌, ◌++◌, Option, Some, None, Result, Ok, Err, IfOk, OnErr, false, option_map, option_and_then, refl, sym, ap, ap₂, subst, ◌∙◌, arith, inl, inr}
 use Rattle.std.specs.Ordering.{nat_cmp}
 use Rattle.std.specs.Cmp.{nat_cmp_total}
-use Rattle.std.specs.FinMap.{nat_cmp-IsAntisymmetric, get, insert, empty, get-empty, same_map}
+use Rattle.std.specs.FinMap.{nat_cmp-IsAntisymmetric, get, empty, get-empty, same_map}
 use Rattle.opt_base.specs.declared.memory.NoMemory.{NoMemory}
-use Rattle.opt_layout.specs.declared.slot.Slot.{Slot}
 use Rattle.opt_tree.specs.declared.command.Cmd.{Cmd}
 use Rattle.opt_tree.specs.declared.command.Reply.{Reply}
 use Rattle.opt_tree.specs.declared.command.Reply.TheVariants.{Refused}
@@ -12,7 +11,7 @@ use Rattle.opt_tree.specs.declared.command.Refusal.TheVariants.{NoMemory as OutO
 use Rattle.opt_tree.specs.Run.{Answers, is_of_memory}
 use Rattle.opt_tree.specs.Tree.{Tree, Thing, Dir, File}
 use Rattle.opt_tree.specs.Step.{Session, start, step}
-use Rattle.opt_stands.specs.Inodes.{Inode, Inodes, ADir, AFile, thing_of, root_alone}
+use Rattle.opt_stands.specs.Inodes.{ADir, thing_of, root_alone}
 use Rattle.opt_stands.specs.Maps.{IsMapOf}
 use Rattle.opt_stands.specs.Walks.{entry_in, LeadsTo}
 use Rattle.opt_inodes.specs.Lookups.{number_at}
@@ -64,9 +63,6 @@ answered laws old new view cmd (Err why) reply is kept done same said_is = inr (
 -- Two that have one tree.
 
 module _ (limit other : ℕ) (one two : KeptNodes) (t : Tree) (first : IsMapOf limit (map_of one) t) (second : IsMapOf other (map_of two) t) where
-  things_same : (k : ℕ) → option_map thing_of (map_of one k) ≡ option_map thing_of (map_of two k)
-  things_same k = sym (first.shows.nodes k) ∙ second.shows.nodes k
-
   in_dir : (nodes : KeptNodes) (p : List (List ℕ)) (k : ℕ) (names : DirNames) (q : List ℕ) → LeadsTo (map_of nodes) p k → get nodes k ≡ Some (KeptDir names) → number_at (map_of nodes) (p ++ q ∷ []) ≡ get names q
   in_dir nodes p k names q leads dir = number_last (map_of nodes) p q ∙ ap (option_and_then (λ j. entry_in (map_of nodes j) q)) leads ∙ ap (λ o. entry_in (option_map inode_of o) q) dir ∙ under_name names q
 

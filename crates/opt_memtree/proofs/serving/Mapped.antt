@@ -1,34 +1,33 @@
 -- After each command that changes the nodes, their inode map is that of the tree after the command.
-use Rattle.std.proofs.Common.{◌≡◌, ◌≢◌, ℕ, ◌+◌, ◌<◌, ◌≤◌, ◌^◌, ◌-◌, ◌==◌, nat_le, min, Bool, true, false, true≢false, if◌then◌else◌, List, [], ◌∷◌, ◌++◌, length, replicate, is_none, is_some, Option, Some, None, option_map, option_and_then, refl, sym, ap, ap₂, subst, ◌∙◌, ◌⊎◌, inl, inr, arith, ne_eqb, eq-eqb}
+use Rattle.std.proofs.Common.{◌≡◌, ◌≢◌, ℕ, ◌+◌, ◌<◌, ◌==◌, nat_le, Bool, true, false, true≢false, if◌then◌else◌, List, [], ◌∷◌, ◌++◌, length, replicate, is_none, is_some, Option, Some, None, option_map, option_and_then, refl, sym, ap, ap₂, subst, ◌∙◌, ◌⊎◌, inl, inr, arith, ne_eqb, eq-eqb}
 use Rattle.std.proofs.Math.Nat.{min-eq_left}
-use Rattle.std.specs.Ordering.{nat_cmp}
 use Rattle.std.specs.FinMap.{get, insert, empty}
 use Rattle.opt_base.specs.Counts.{next_count}
 use Rattle.opt_layout.specs.declared.slot.Slot.{Slot}
 use Rattle.opt_tree.specs.declared.command.Cmd.{Cmd}
 use Rattle.opt_tree.specs.declared.command.Cmd.TheVariants.{Mkdir, Create, Write, Fill, Truncate, Link, Unlink, Rmdir, Rename}
 use Rattle.opt_tree.specs.declared.command.Refusal.{Refusal}
-use Rattle.opt_tree.specs.declared.command.Refusal.TheVariants.{Exists, IsDir, NoNode, TooManyLinks, TooLarge}
-use Rattle.opt_tree.specs.Tree.{Dir, File}
+use Rattle.opt_tree.specs.declared.command.Refusal.TheVariants.{Exists, IsDir, NoNode, TooManyLinks}
+use Rattle.opt_tree.specs.Tree.{Dir}
 use Rattle.opt_tree.specs.Walk.{are_same, is_same_node}
-use Rattle.opt_tree.specs.Conditions.{refusal, when, first_reason}
+use Rattle.opt_tree.specs.Conditions.{refusal, when}
 use Rattle.opt_tree.specs.Step.{Session, step, written, resized}
 use Rattle.opt_stands.specs.Inodes.{Inode, Inodes, ADir, AFile}
 use Rattle.opt_stands.specs.Maps.{IsMapOf}
-use Rattle.opt_stands.specs.Walks.{entries_of, entry_in, walk, LeadsTo}
+use Rattle.opt_stands.specs.Walks.{entry_in, LeadsTo}
 use Rattle.opt_inodes.specs.Changes.{new_inode, Sets, AddsName, TakesName, MovesName}
 use Rattle.opt_inodes.specs.Lookups.{least_free, is_dir_inode, links_in, bytes_of, number_at, inode_at}
-use Rattle.opt_inodes.specs.Refusals.{reason, walk_reason, parent_reason, make_reason, file_reason}
-use Rattle.opt_memtree.specs.Kept.{name_cmp, DirNames, Kept, KeptDir, KeptFile, KeptNodes, map_of, inode_of, slots_for, spot_at, changed_at, with_bytes, with_links, with_name, without_link, without_name}
+use Rattle.opt_inodes.specs.Refusals.{reason, walk_reason, parent_reason, make_reason}
+use Rattle.opt_memtree.specs.Kept.{name_cmp, DirNames, Kept, KeptDir, KeptFile, KeptNodes, map_of, inode_of, slots_for, spot_at, changed_at, with_bytes, with_links, with_name}
 use Rattle.opt_memtree.specs.Changes.{made, made_at, edited, edited_by, linked, linked_at, removed, removed_at, moved, moved_at, is_that, put_and_take}
 use Rattle.opt_memtree.specs.Laws.{MapLaws}
 use Rattle.opt_memtree.proofs.maps.Slots.{as_slots, under_name}
-use Rattle.opt_memtree.proofs.maps.Walking.{number_last, spot_is, parts, walk_last}
+use Rattle.opt_memtree.proofs.maps.Walking.{number_last, spot_is, parts}
 use Rattle.opt_memtree.proofs.keys.InOrder.{entries_empty}
 use Rattle.opt_memtree.proofs.rows.Row.{free_unused}
 use Rattle.opt_memtree.proofs.serving.Changed.{kept_dir, kept_file, mapped, changed_here, changed_other}
 use Rattle.opt_memtree.proofs.serving.Naming.{adds_node, adds_path, takes_path, moves_path}
-use Rattle.opt_memtree.proofs.serving.Reasons.{no_reason, not_so, some_of, none_of, walked, parent_there, file_there}
+use Rattle.opt_memtree.proofs.serving.Reasons.{no_reason, not_so, some_of, walked, parent_there, file_there}
 
 no_slots : inode_of (KeptDir empty) ≡ new_inode Dir
 no_slots = ap (λ es. ADir (as_slots es)) (entries_empty name_cmp)

@@ -1,14 +1,13 @@
 -- The nodes after a name came, went or moved: what that is of their inode map.
-use Rattle.std.proofs.Common.{◌≡◌, ◌≢◌, ℕ, ◌+◌, ◌<◌, ◌==◌, Bool, true, false, if◌then◌else◌, List, [], ◌∷◌, ◌++◌, Option, Some, None, is_some, option_map, option_and_then, refl, sym, ap, subst, ◌∙◌, ◌⊎◌, inl, inr, ⊎_elim}
+use Rattle.std.proofs.Common.{◌≡◌, ◌≢◌, ℕ, List, Option, Some, None, is_some, option_map, option_and_then, refl, sym, ap, subst, ◌∙◌, ◌⊎◌, inl, inr}
 use Rattle.std.proofs.lemmas.Bool.{cases_eq}
-use Rattle.std.specs.Ordering.{nat_cmp}
 use Rattle.std.specs.Cmp.{nat_cmp_total}
 use Rattle.std.specs.FinMap.{nat_cmp-IsAntisymmetric, get, insert, remove}
 use Rattle.opt_layout.specs.declared.slot.Slot.{Slot}
-use Rattle.opt_stands.specs.Inodes.{Inode, Inodes, ADir, AFile, AreDistinct}
-use Rattle.opt_stands.specs.Walks.{entries_of, entry_in, node_in}
+use Rattle.opt_stands.specs.Inodes.{ADir, AreDistinct}
+use Rattle.opt_stands.specs.Walks.{entries_of, entry_in}
 use Rattle.opt_inodes.specs.Changes.{one_link_less, AddsName, TakesName, MovesName}
-use Rattle.opt_memtree.specs.Kept.{DirNames, name_cmp, Kept, KeptDir, KeptFile, KeptNodes, map_of, inode_of, slots_for, renumbered, changed_at, without_link, with_name, without_name, with_number, with_links}
+use Rattle.opt_memtree.specs.Kept.{DirNames, Kept, KeptDir, KeptFile, KeptNodes, map_of, inode_of, slots_for, changed_at, without_link, with_name, without_name, with_number}
 use Rattle.opt_memtree.specs.Changes.{put_over, put_and_take}
 use Rattle.opt_memtree.proofs.keys.Keys.{name_total, name_same, put_here, put_other, gone_here, gone_other, there_renumbered}
 use Rattle.opt_memtree.proofs.maps.Slots.{under_name, slots_distinct}

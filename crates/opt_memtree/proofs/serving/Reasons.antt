@@ -1,16 +1,16 @@
 -- What a command that nothing refuses meets: where its paths lead, and what is there.
-use Rattle.std.proofs.Common.{◌≡◌, ℕ, ◌<◌, ◌≤◌, nat_le, Bool, true, false, true≢false, if◌then◌else◌, List, [], ◌∷◌, ◌++◌, is_none, is_some, Option, Some, None, Result, Ok, Err, option_map, option_and_then, refl, sym, ap, subst, ◌∙◌, ◌⊎◌, inl, inr, arith}
+use Rattle.std.proofs.Common.{◌≡◌, ℕ, Bool, true, false, true≢false, if◌then◌else◌, List, [], ◌∷◌, ◌++◌, is_none, is_some, Option, Some, None, Result, Ok, Err, option_map, option_and_then, refl, sym, ap, ◌∙◌, ◌⊎◌, inl, inr}
 use Rattle.opt_layout.specs.declared.slot.Slot.{Slot}
 use Rattle.opt_tree.specs.declared.command.Refusal.{Refusal}
-use Rattle.opt_tree.specs.declared.command.Refusal.TheVariants.{Exists, NotDir, IsDir, NoNode, TooManyLinks}
+use Rattle.opt_tree.specs.declared.command.Refusal.TheVariants.{NotDir}
 use Rattle.opt_tree.specs.Tree.{Tree}
 use Rattle.opt_tree.specs.Walk.{refusal_in}
 use Rattle.opt_tree.specs.Conditions.{when, first_reason}
 use Rattle.opt_stands.specs.Inodes.{Inode, Inodes, ADir, AFile}
 use Rattle.opt_stands.specs.Maps.{IsMapOf}
-use Rattle.opt_stands.specs.Walks.{entries_of, entry_in, walk, LeadsTo}
-use Rattle.opt_inodes.specs.Lookups.{least_free, is_dir_inode, links_in, walk_on, number_at, inode_at}
-use Rattle.opt_inodes.specs.Refusals.{walk_reason, dir_reason, parent_reason, make_reason, file_reason, link_reason}
+use Rattle.opt_stands.specs.Walks.{entry_in, LeadsTo}
+use Rattle.opt_inodes.specs.Lookups.{is_dir_inode, walk_on, number_at, inode_at}
+use Rattle.opt_inodes.specs.Refusals.{walk_reason, dir_reason, parent_reason}
 use Rattle.opt_memtree.specs.Kept.{spot_at}
 use Rattle.opt_memtree.proofs.maps.Walking.{Fits, fits, parent_is, parts, number_last, spot_is}
 

@@ -1,26 +1,25 @@
 -- A command is answered as the session that is kept answers it, and leaves the session after it.
-use Rattle.std.proofs.Common.{◌≡◌, ◌≢◌, ℕ, zero, suc, ◌<◌, ◌≤◌, ◌==◌, Bool, true, false, true≢false, if◌then◌else◌, List, [], ◌∷◌, length, replicate, Option, Some, None, option_map, refl, sym, ap, ap₂, subst, ◌∙◌, arith, eq-eqb}
+use Rattle.std.proofs.Common.{◌≡◌, ℕ, zero, suc, ◌<◌, ◌≤◌, ◌==◌, Bool, true, false, true≢false, if◌then◌else◌, List, length, replicate, Option, Some, None, option_map, refl, sym, ap, subst, ◌∙◌, arith, eq-eqb}
 use Rattle.std.proofs.lemmas.List.{length-replicate}
-use Rattle.std.specs.FinMap.{get, insert, empty}
 use Rattle.opt_tree.specs.declared.command.Cmd.{Cmd}
 use Rattle.opt_tree.specs.declared.command.Cmd.TheVariants.{Mkdir, Create, Write, Fill, Read, Truncate, Link, Unlink, Rmdir, Rename, Stat, List as ListNames, Osync, Dsync, Durable, Poll, Bad}
 use Rattle.opt_tree.specs.declared.command.Reply.{Reply}
 use Rattle.opt_tree.specs.declared.command.Reply.TheVariants.{Ok as Done, Synced, Refused}
 use Rattle.opt_tree.specs.declared.command.Refusal.{Refusal}
-use Rattle.opt_tree.specs.Tree.{Tree, Nodes, Thing, Dir, File, HasSmallFiles}
-use Rattle.opt_tree.specs.Walk.{content, is_same_node}
+use Rattle.opt_tree.specs.Tree.{Tree, File, HasSmallFiles}
+use Rattle.opt_tree.specs.Walk.{is_same_node}
 use Rattle.opt_tree.specs.Conditions.{refusal}
 use Rattle.opt_tree.specs.Points.{answers_point}
 use Rattle.opt_tree.specs.Step.{Session, step, answered, start, osync, dsync, written, resized}
 use Rattle.opt_tree.specs.Step as tree
-use Rattle.opt_stands.specs.Inodes.{Inode, Inodes, ADir, AFile, thing_of, root_alone}
+use Rattle.opt_stands.specs.Inodes.{Inode, Inodes, ADir, AFile, thing_of}
 use Rattle.opt_stands.specs.Maps.{IsMapOf}
 use Rattle.opt_inodes.specs.Lookups.{bytes_of, inode_at}
 use Rattle.opt_inodes.specs.Refusals.{reason}
 use Rattle.opt_inodes.specs.Replies.{accepted_reply, reply_by}
 use Rattle.opt_memtree.specs.declared.state.State.{State}
-use Rattle.opt_memtree.specs.Kept.{Kept, KeptDir, KeptFile, KeptNodes, map_of, tree_of, AreSmall, with_bytes}
-use Rattle.opt_memtree.specs.Changes.{made, edited, linked, removed, moved}
+use Rattle.opt_memtree.specs.Kept.{KeptNodes, map_of, tree_of, AreSmall, with_bytes}
+use Rattle.opt_memtree.specs.Changes.{edited, moved}
 use Rattle.opt_memtree.specs.Serving.{session_of, IsKept, changed_to, rename_by, synced, waited, accepted, served, served_by}
 use Rattle.opt_memtree.specs.Laws.{MapLaws}
 use Rattle.opt_memtree.proofs.maps.TreeOf.{the_tree, own_tree}

@@ -1,4 +1,4 @@
-use Rattle.std.proofs.Common.{◌≡◌, ◌∙◌, ap, sym}
+use Rattle.std.proofs.Common.{◌∙◌, ap, sym}
 use Rattle.opt_tree.specs.Figures.{figures}
 use Rattle.opt_tree.specs.Step.{Session}
 use Rattle.opt_inodes.specs.Figures.{cost_by}

@@ -1,6 +1,4 @@
 use Rattle.std.proofs.Common.{◌≡◌, ◌∙◌, ap, sym, subst, rules}
-use Rattle.opt_tree.specs.Tree.{IsSound, HasSmallFiles}
-use Rattle.opt_memtree.specs.declared.state.State.{State}
 use Rattle.opt_memtree.specs.Kept.{map_of, tree_of}
 use Rattle.opt_memtree.specs.Serving.{IsKept, first_state, session_of}
 use Rattle.opt_memtree.proofs.serving.Kept.{first_kept, first_session}
