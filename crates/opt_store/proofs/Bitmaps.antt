@@ -14,10 +14,10 @@ use Rattle.opt_journal.specs.Run.{Newest, Record, IsRun, live_part, replayed}
 use Rattle.opt_recover.specs.Reading.{Searches}
 use Rattle.opt_recover.specs.Search.{FoundRun, IsFound}
 use Rattle.opt_crash.specs.Ledger.{HoldsUnder}
-use Rattle.opt_mount.specs.Mount.{IsIdle, settled_on}
+use Rattle.opt_mount.specs.Mount.{FoundDisk, IsIdle, settled_on}
 use Rattle.opt_books.specs.Books.{TransactionBooks}
 use Rattle.opt_books.specs.Point.{HasBitmap}
-use Rattle.opt_store.specs.Refusal.{IsReplayedBitmap, IsLeastBad, NamesBadBit, RefusalSays, replayed_bitmap}
+use Rattle.opt_store.specs.Refusal.{HasNumbersLeft, IsReplayedBitmap, IsLeastBad, NamesBadBit, RefusalSays, replayed_bitmap}
 use Rattle.opt_store.specs.declared.refusal.StoreRefusal.{StoreRefusal}
 use Rattle.opt_store.specs.declared.refusal.StoreRefusal.TheVariants.{NoHeader, BadBit, Spent, ReadFault, DiskFault, NoMemory}
 use Rattle.opt_store.proofs.OnePoint.{low_live}
@@ -149,17 +149,24 @@ same_bad g m q b room same = ⊎_elim
 least_there : (g : Geometry) (m q : Blocks) (b : ℕ) → data_start g ≤ g.n → ((k : ℕ) → k < bitmap_blocks g → m k ≡ q k) → IsLeastBad g m b → IsLeastBad g q b
 least_there g m q b room same is = record { bad = sym (same_bad g m q b room same) ∙ is.bad; least = λ c low. sym (same_bad g m q c room same) ∙ is.least c low }
 
--- so its refusal says what is on the disk
-pub bad_says : (old new : State) (g : Geometry) (r : FoundRun) (bitmap : List (List ℕ)) → IsGeometry g → g ≡ r.header.geom → IsFound old.blocks (settled_on old) r → IsReplayedBitmap r (settled_on old) bitmap → new.log ≡ old.log
-    → (why : StoreRefusal) → NamesBadBit g (blocks_of bitmap) why → RefusalSays old new why
-bad_says old new g r bitmap limits geom found read log NoHeader is = absurd is
-bad_says old new g r bitmap limits geom found read log (BadBit b) is =
+-- a bitmap that was read without a wrong bit is one that the run leaves so
+pub none_bad : (g : Geometry) (r : FoundRun) (at : Blocks) (bitmap : List (List ℕ)) → IsGeometry g → g ≡ r.header.geom → IsReplayedBitmap r at bitmap → ((b : ℕ) → is_bad_bit g (blocks_of bitmap) b ≡ false)
+    → (b : ℕ) → is_bad_bit r.header.geom (replayed_bitmap r at) b ≡ false
+none_bad g r at bitmap limits geom read none b =
     let room : data_start r.header.geom ≤ r.header.geom.n = subst (λ (q : Geometry). data_start q ≤ q.n) geom (omega (arith, limits.data_room)) in
-    (record { found = r; is_found = found; bad = least_there r.header.geom (blocks_of bitmap) (replayed_bitmap r (settled_on old)) b room read.each (subst (λ (q : Geometry). IsLeastBad q (blocks_of bitmap) b) geom is) }, log)
-bad_says old new g r bitmap limits geom found read log Spent is = absurd is
-bad_says old new g r bitmap limits geom found read log ReadFault is = absurd is
-bad_says old new g r bitmap limits geom found read log DiskFault is = absurd is
-bad_says old new g r bitmap limits geom found read log NoMemory is = absurd is
+    sym (same_bad r.header.geom (blocks_of bitmap) (replayed_bitmap r at) b room read.each) ∙ subst (λ (q : Geometry). is_bad_bit q (blocks_of bitmap) b ≡ false) geom (none b)
+
+-- so its refusal says what is on the disk
+pub bad_says : (old new : State) (g : Geometry) (f : FoundDisk) (bitmap : List (List ℕ)) → IsGeometry g → g ≡ f.run.header.geom → HasNumbersLeft old f → IsReplayedBitmap f.run (settled_on old) bitmap → new.log ≡ old.log
+    → (why : StoreRefusal) → NamesBadBit g (blocks_of bitmap) why → RefusalSays old new why
+bad_says old new g f bitmap limits geom left read log NoHeader is = absurd is
+bad_says old new g f bitmap limits geom left read log (BadBit b) is =
+    let room : data_start f.run.header.geom ≤ f.run.header.geom.n = subst (λ (q : Geometry). data_start q ≤ q.n) geom (omega (arith, limits.data_room)) in
+    (record { found = f; left = left; bad = least_there f.run.header.geom (blocks_of bitmap) (replayed_bitmap f.run (settled_on old)) b room read.each (subst (λ (q : Geometry). IsLeastBad q (blocks_of bitmap) b) geom is) }, log)
+bad_says old new g f bitmap limits geom left read log Spent is = absurd is
+bad_says old new g f bitmap limits geom left read log ReadFault is = absurd is
+bad_says old new g f bitmap limits geom left read log DiskFault is = absurd is
+bad_says old new g f bitmap limits geom left read log NoMemory is = absurd is
 
 -- one statement on a refusal for another
 pub if_err : {T E : Type 0} (r : Result T E) (P Q : E → Type 0) → ((e : E) → P e → Q e) → IfErr r P → IfErr r Q

@@ -20,6 +20,7 @@ pub mod PipelineBytes
 pub mod PipelineCalls
 pub mod Openings
 pub mod Bitmaps
+pub mod OneAnswer
 pub mod Beginnings
 pub mod Mounts
 pub mod Forgetting

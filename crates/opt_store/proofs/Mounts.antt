@@ -26,7 +26,7 @@ use Rattle.opt_books.specs.Point.{HasBitmap}
 use Rattle.opt_store.specs.declared.parts.StoreParts.{StoreParts}
 use Rattle.opt_store.specs.declared.refusal.StoreRefusal.{StoreRefusal}
 use Rattle.opt_store.specs.Mounting.{HoldsLast}
-use Rattle.opt_store.specs.Refusal.{IsReplayedBitmap, RefusalSays, is_disk_fault, is_read_fault, refusal_of}
+use Rattle.opt_store.specs.Refusal.{IsReplayedBitmap, MayBeMounted, RefusalSays, is_disk_fault, is_read_fault, refusal_of}
 use Rattle.opt_store.specs.Told.{store_state}
 use Rattle.opt_store.proofs.Beginnings.{Starts}
 
@@ -144,15 +144,15 @@ pub refused_spends : (Q : Type 0) (most : ℕ) (why : MountRefusal) (is : StoreR
 refused_spends Q most why is old new same s = subst (λ (x : StoreRefusal). MountSpends (is_read_fault x) (is_disk_fault x) most old new) (sym same)
     (subst₂ (λ (u f : Bool). MountSpends u f most old new) (sym (unread_of Q why)) (sym (faulty_of Q why)) s)
 
--- a call of the disk that failed says nothing of the disk
-pub faults_say : (old new : State) (why : MountRefusal) (is : StoreRefusal) → is ≡ refusal_of why → mount.IsFault why → RefusalSays old new is
-faults_say old new why is same fault = subst (RefusalSays old new) (sym same) (says why fault)
+-- a call of the disk that failed as the journal was opened says that the disk may be mounted
+pub faults_say : (old new : State) (why : MountRefusal) (is : StoreRefusal) → MayBeMounted old → is ≡ refusal_of why → mount.IsFault why → RefusalSays old new is
+faults_say old new why is may same fault = subst (RefusalSays old new) (sym same) (says why fault)
   where
     says : (x : MountRefusal) → mount.IsFault x → RefusalSays old new (refusal_of x)
     says mounting.NoHeader f = absurd f
     says mounting.Spent f = absurd f
     says mounting.ReadFault f = tt
-    says mounting.DiskFault f = tt
+    says mounting.DiskFault f = may
     says mounting.NoMemory f = absurd f
 
 -- Where nothing is pending, what is settled is what was issued: so it holds the last point's map.

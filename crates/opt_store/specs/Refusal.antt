@@ -6,10 +6,10 @@ use Rattle.opt_geom.specs.Geometry.{Geometry, bitmap_blocks, bitmap_start}
 use Rattle.opt_bitmap.specs.Bits.{is_bad_bit}
 use Rattle.opt_journal.specs.declared.header.Header.{Header}
 use Rattle.opt_journal.specs.Run.{Newest, replayed}
-use Rattle.opt_recover.specs.Search.{FoundRun, IsFound}
+use Rattle.opt_recover.specs.Search.{FoundRun, is_spent}
 use Rattle.opt_mount.specs.declared.refusal.MountRefusal.{MountRefusal}
 use Rattle.opt_mount.specs.declared.refusal.MountRefusal.TheVariants as mounting
-use Rattle.opt_mount.specs.Mount.{IsUsedUp, settled_on}
+use Rattle.opt_mount.specs.Mount.{FoundDisk, IsFoundOn, IsUsedUp, settled_on}
 use Rattle.opt_store.specs.declared.refusal.StoreRefusal.{StoreRefusal}
 use Rattle.opt_store.specs.declared.refusal.StoreRefusal.TheVariants.{NoHeader, BadBit, Spent, ReadFault, DiskFault, NoMemory}
 
@@ -42,19 +42,31 @@ NamesBadBit g m ReadFault = ⊥
 NamesBadBit g m DiskFault = ⊥
 NamesBadBit g m NoMemory = ⊥
 
--- a run was found on the disk, and this is the least block whose bit is wrong in the bitmap that it leaves
-pub record HasBadBit (d : State) (b : ℕ) : Type 0 where
-  pub found : FoundRun
-  pub is_found : IsFound d.blocks (settled_on d) found
-  pub bad : IsLeastBad found.header.geom (replayed_bitmap found (settled_on d)) b
+-- That was found on the disk: a newest header, its run and the greatest epoch, and none of their numbers is at its end.
+pub record HasNumbersLeft (d : State) (f : FoundDisk) : Type 0 where
+  pub is_found : IsFoundOn d f
+  pub going : is_spent f.run.header (length f.run.records) ≡ false
+  pub epoch : f.epoch < 9223372036854775792
 
--- what a refusal says of the disk; where it comes from what is on the disk, or from want of memory, nothing was written
+-- The disk may be mounted: it has a newest header, its numbers aren't at their end, and no bit is wrong in the bitmap that its run leaves.
+pub record MayBeMounted (d : State) : Type 0 where
+  pub found : FoundDisk
+  pub left : HasNumbersLeft d found
+  pub no_bad : (b : ℕ) → is_bad_bit found.run.header.geom (replayed_bitmap found.run (settled_on d)) b ≡ false
+
+-- The disk has a newest header, its numbers aren't at their end, and this is the least block whose bit is wrong in the bitmap that its run leaves.
+pub record HasBadBit (d : State) (b : ℕ) : Type 0 where
+  pub found : FoundDisk
+  pub left : HasNumbersLeft d found
+  pub bad : IsLeastBad found.run.header.geom (replayed_bitmap found.run (settled_on d)) b
+
+-- What a refusal says of the disk; where it comes from what is on the disk, or from want of memory, nothing was written. A write or a wait fails only where the disk may be mounted; a read may fail before that is known.
 abbrev pub RefusalSays : State → State → StoreRefusal → Type 0
 RefusalSays old new NoHeader = ((slot : ℕ) (h : Header) → ¬ Newest old.blocks (settled_on old) slot h) × (new.log ≡ old.log)
 RefusalSays old new (BadBit b) = HasBadBit old b × (new.log ≡ old.log)
 RefusalSays old new Spent = IsUsedUp old.blocks (settled_on old) × (new.log ≡ old.log)
 RefusalSays old new ReadFault = ⊤
-RefusalSays old new DiskFault = ⊤
+RefusalSays old new DiskFault = MayBeMounted old
 RefusalSays old new NoMemory = new.log ≡ old.log
 
 -- the refusal of a mount, as one of a store

@@ -32,8 +32,8 @@ pub use numbers::{
     a_going_store_stays_so, a_pipeline_that_moves_moves_the_books, a_sound_store_has_sound_books,
 };
 pub use opening::{
-    FoundStore, a_new_store_is_right, a_session_begins_with_its_map, check_bitmap, find_store,
-    read_bitmap, the_bitmap_that_is_found_is_the_maps,
+    FoundStore, a_mount_has_one_answer, a_new_store_is_right, a_session_begins_with_its_map,
+    check_bitmap, find_store, read_bitmap, the_bitmap_that_is_found_is_the_maps,
 };
 pub use parts::StoreParts;
 pub use refusal::StoreRefusal;

@@ -11,7 +11,7 @@ ghost use Rattle.opt_mount.specs.Mount.{IsIdle, MountSpends, settled_on};
 ghost use Rattle.opt_blocks.specs.Crashes.{IsBegun};
 ghost use Rattle.opt_store.specs.Mounting.{AreNewParts, BeginsWith};
 ghost use Rattle.opt_store.specs.Opening.{AreNewBooks};
-ghost use Rattle.opt_store.specs.Refusal.{RefusalSays, is_faulty, is_unread};
+ghost use Rattle.opt_store.specs.Refusal.{MayBeMounted, RefusalSays, is_faulty, is_unread};
 ghost use Rattle.opt_store.specs.Told.{IsKeptOn, store_state};
 
 use crate::opening::{
@@ -49,6 +49,7 @@ pub(crate) fn open_parts<D: Disk>(
     ensures begins { IsTrue D.tells → (g : Geometry) (m : Blocks) → HoldsUnder (D.state disk.old).blocks g (settled_on (D.state disk.old)) m → IfOk result (λ v. (ticks : ℕ) → BeginsWith g m (store_state v ticks (D.state disk.new))) }
     ensures holds { IsTrue D.tells → (g : Geometry) (m : Blocks) → HoldsUnder (D.state disk.old).blocks g (settled_on (D.state disk.old)) m
         → Window (D.state disk.old).blocks (D.state disk.old).base (D.state disk.new).log (length (D.state disk.old).log) (λ img. HoldsUnder (D.state disk.old).blocks g img m) }
+    ensures mountable { IsTrue D.tells → IfOk result (λ v. MayBeMounted (D.state disk.old)) }
     ensures refused { IsTrue D.tells → IfErr result (RefusalSays (D.state disk.old) (D.state disk.new)) }
     ensures spends { MountSpends (is_unread result) (is_faulty result) ((D.state disk.old).blocks + 2) (D.state disk.old) (D.state disk.new) }
 {

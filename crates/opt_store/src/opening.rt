@@ -9,19 +9,19 @@ ghost use Rattle.opt_disk.specs.Disk.{State};
 ghost use Rattle.opt_geom.specs.Geometry.{Geometry, bitmap_blocks, bitmap_start};
 ghost use Rattle.opt_bitmap.specs.Bits.{is_bad_bit};
 ghost use Rattle.opt_journal.specs.declared.header.Header.{Header};
-ghost use Rattle.opt_journal.specs.Run.{live_part, replayed};
+ghost use Rattle.opt_journal.specs.Run.{Newest, live_part, replayed};
 ghost use Rattle.opt_recover.specs.Reading.{Searches};
 ghost use Rattle.opt_recover.specs.Search.{FoundRun, IsFound};
 ghost use Rattle.opt_crash.specs.Ledger.{HoldsUnder, next_number};
 ghost use Rattle.opt_crash.specs.Mounting.{HasBegun};
 ghost use Rattle.opt_crash.specs.Points.{MountedSession, IsPoint, IsSafe};
-ghost use Rattle.opt_mount.specs.Mount.{IsIdle, IsFoundOn, settled_on};
+ghost use Rattle.opt_mount.specs.Mount.{FoundDisk, IsIdle, IsFoundOn, IsUsedUp, settled_on};
 ghost use Rattle.opt_checkpoint.specs.declared.pipeline.Pipeline.{Pipeline};
 ghost use Rattle.opt_checkpoint.specs.Advance.{IsRight, IsSound};
 ghost use Rattle.opt_books.specs.Books.{TransactionBooks};
 ghost use Rattle.opt_books.specs.Point.{BeganAt, HasBitmap};
 ghost use Rattle.opt_store.specs.Opening.{AreNewBooks, IsNewPipeline, empty_ring, first_ledger, first_map};
-ghost use Rattle.opt_store.specs.Refusal.{IsReplayedBitmap, IsSoundBitmap, NamesBadBit, RefusalSays, is_faulty, is_unread};
+ghost use Rattle.opt_store.specs.Refusal.{HasBadBit, HasNumbersLeft, IsReplayedBitmap, IsSoundBitmap, MayBeMounted, NamesBadBit, RefusalSays, is_faulty, is_unread};
 ghost use Rattle.opt_store.specs.declared.refusal.StoreRefusal.TheVariants as refused;
 
 use crate::refusal::{StoreRefusal, refusal_of};
@@ -71,6 +71,17 @@ pub fn the_bitmap_that_is_found_is_the_maps()
     journal_blocks_keep_to_their_bounds();
 }
 
+/// Where a disk has numbers left it has a newest header, and they aren't used up; where it may be mounted, no bit is
+/// wrong in the bitmap that its run leaves. So what a mount says of a disk by one of its answers, it can't say by
+/// another. It does nothing.
+pub fn a_mount_has_one_answer()
+    ensures header { (d : State) (f : FoundDisk) → HasNumbersLeft d f → ¬ ((slot : ℕ) (h : Header) → ¬ Newest d.blocks (settled_on d) slot h) }
+    ensures numbers { (d : State) (f : FoundDisk) → HasNumbersLeft d f → ¬ IsUsedUp d.blocks (settled_on d) }
+    ensures bits { (d : State) (b : ℕ) → MayBeMounted d → ¬ HasBadBit d b }
+{
+    an_image_holds_one_map();
+}
+
 /// What was found on a disk before anything is written to it: the run, and the bitmap as it is once the run is
 /// replayed, with no bit that is wrong.
 #[derive(Drop)]
@@ -87,6 +98,7 @@ pub struct FoundStore {
 /// counted, and `NoMemory` of want of memory.
 pub fn find_store<D: Disk>(alloc: Global, disk: &mut D) -> Result<FoundStore, StoreRefusal>
     ensures found { IsTrue D.tells → IsIdle (D.state disk.old) → IfOk result (λ q. IsFoundOn (D.state disk.old) q.found × IsReplayedBitmap q.found.run (settled_on (D.state disk.old)) q.bitmap.items) }
+    ensures mountable { IsTrue D.tells → IsIdle (D.state disk.old) → IfOk result (λ q. MayBeMounted (D.state disk.old)) }
     ensures sound { IfOk result (λ q. IsSoundBitmap (D.state disk.old).blocks q.found.run.header.geom q.bitmap.items) }
     ensures refused { IsTrue D.tells → IsIdle (D.state disk.old) → IfErr result (RefusalSays (D.state disk.old) (D.state disk.new)) }
     ensures calm { is_faulty result ≡ false }
@@ -98,6 +110,7 @@ pub fn find_store<D: Disk>(alloc: Global, disk: &mut D) -> Result<FoundStore, St
     };
     let geom = found.run().header().geom;
     geom.lawful();
+    found.epoch();
     let bitmap = read_bitmap(alloc, disk, &found)?;
     check_bitmap(bitmap.as_slice(), &geom)?;
     Ok(FoundStore { found, bitmap })

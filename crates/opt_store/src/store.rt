@@ -152,7 +152,7 @@ impl<D: Disk> Store<D> {
     ghost use Rattle.opt_mount.specs.Mount.{IsIdle, settled_on};
     ghost use Rattle.opt_blocks.specs.Crashes.{IsBegun};
     ghost use Rattle.opt_store.specs.Mounting.{BeginsWith, HoldsLast, LeavesDisk};
-    ghost use Rattle.opt_store.specs.Refusal.{RefusalSays, is_disk_fault, is_read_fault};
+    ghost use Rattle.opt_store.specs.Refusal.{MayBeMounted, RefusalSays, is_disk_fault, is_read_fault};
     ghost use Rattle.opt_store.specs.Store.{bookkeeping_of};
     ghost use Rattle.opt_store.specs.StoreOf.{disk_in, state_of};
 
@@ -164,6 +164,7 @@ impl<D: Disk> Store<D> {
         requires idle { IsTrue D.tells → IsIdle (D.state disk) }
         ensures begun { IfOk result (λ s. IsBegun (state_of D.state s)) }
         ensures begins { IsTrue D.tells → (g : Geometry) (m : Blocks) → HoldsUnder (D.state disk).blocks g (settled_on (D.state disk)) m → IfOk result (λ s. BeginsWith g m (state_of D.state s)) }
+        ensures mountable { IsTrue D.tells → IfOk result (λ s. MayBeMounted (D.state disk)) }
         ensures leaves { IfOk result (λ s. LeavesDisk D.tells false false (D.state disk) (D.state (disk_in s))) }
         ensures refused { IsTrue D.tells → IfErr result (λ e. RefusalSays (D.state disk) (D.state e.0) e.1) }
         ensures back { IfErr result (λ e. LeavesDisk D.tells (is_read_fault e.1) (is_disk_fault e.1) (D.state disk) (D.state e.0)) }
@@ -184,6 +185,7 @@ impl<D: Disk> Store<D> {
         requires idle { IsTrue D.tells → IsIdle (D.state disk) }
         ensures begun { IfOk result (λ s. IsBegun (state_of D.state s)) }
         ensures begins { IsTrue D.tells → (g : Geometry) (m : Blocks) → HoldsUnder (D.state disk).blocks g (settled_on (D.state disk)) m → IfOk result (λ s. BeginsWith g m (state_of D.state s)) }
+        ensures mountable { IsTrue D.tells → IfOk result (λ s. MayBeMounted (D.state disk)) }
         ensures leaves { IfOk result (λ s. LeavesDisk D.tells false false (D.state disk) (D.state (disk_in s))) }
         ensures refused { IsTrue D.tells → IfErr result (λ e. RefusalSays (D.state disk) (D.state e.0) e.1) }
         ensures back { IfErr result (λ e. LeavesDisk D.tells (is_read_fault e.1) (is_disk_fault e.1) (D.state disk) (D.state e.0)) }

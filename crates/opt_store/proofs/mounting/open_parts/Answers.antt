@@ -28,7 +28,7 @@ pub returns-in-Err-clause-holds : goal.returns-in-Err-clause-holds
 returns-in-Err-clause-holds g c = λ tells. window_since g.D.Disk.tells (g.D.Disk.state c.args.disk.now) (g.D.Disk.state c.find_store.new.disk) (g.D.Disk.state c.open.new.disk) tells c.in_ok-found.ensures.reads c.in_ok-found.field-0.found (c.requires.idle tells) (c.in_ok-found.ensures.found tells (c.requires.idle tells)).0 (c.open.ensures.holds tells)
 
 pub returns-in-Err-clause-refused : goal.returns-in-Err-clause-refused
-returns-in-Err-clause-refused g c = λ tells. faults_say (g.D.Disk.state c.args.disk.now) (g.D.Disk.state c.open.new.disk) c.in-Err.why c.refusal_of.result c.refusal_of.ensures c.in-Err.ensures.fault
+returns-in-Err-clause-refused g c = λ tells. faults_say (g.D.Disk.state c.args.disk.now) (g.D.Disk.state c.open.new.disk) c.in-Err.why c.refusal_of.result (c.in_ok-found.ensures.mountable tells (c.requires.idle tells)) c.refusal_of.ensures c.in-Err.ensures.fault
 
 pub returns-in-Err-clause-spends : goal.returns-in-Err-clause-spends
 returns-in-Err-clause-spends g c = refused_spends Mounted _ c.in-Err.why c.refusal_of.result (g.D.Disk.state c.args.disk.now) (g.D.Disk.state c.open.new.disk) c.refusal_of.ensures
