@@ -37,7 +37,7 @@ fn is_header(block: &Block) -> bool {
 }
 
 /// Whether this is what block `b` of the least disk has: its bits in block 18, its nodes from 19 on.
-fn is_right(b: u32, block: &Block) -> bool {
+pub(crate) fn is_right(b: u32, block: &Block) -> bool {
     match b {
         0 => is_header(block),
         18 => has_start(block, [0xff, 0xff, 0x7f].as_slice()),

@@ -11,6 +11,8 @@ mod bitmap;
 #[cfg(test)]
 mod blocks;
 #[cfg(test)]
+mod cache;
+#[cfg(test)]
 mod dirent;
 #[cfg(test)]
 mod draw;
@@ -32,6 +34,8 @@ mod plain_recovery;
 mod ranks;
 #[cfg(test)]
 mod recover;
+#[cfg(test)]
+mod store;
 #[cfg(test)]
 mod trace;
 #[cfg(test)]
