@@ -1,7 +1,6 @@
 -- What a line reads as is `Bad` or in the grammar.
 use Rattle.std.proofs.Common.{◌≡◌, refl, sym, subst, arith, tests, ℕ, suc, get_or, ◌+◌, ◌*◌, ◌<◌, ◌==◌, Bool, true, false, ◌&&◌, ◌⊎◌, inl, inr, List, [], ◌∷◌, length, Result, Ok, Err, Option, Some, None, decimal, nat_lt, nat_le, bytes_eq, codes}
 use Rattle.std.specs.Prelude.{IfSome, IfOk, if◌then◌else◌}
-use Rattle.std.proofs.lemmas.Bool.{and_parts, false≢true}
 use Rattle.std.proofs.lemmas.Bool.Decides.{Decides-ltb}
 use Rattle.std.specs.Char.{is_ascii_digit}
 use Rattle.std.specs.List.{list_all, slice_split}
@@ -11,9 +10,8 @@ use Rattle.hex.specs.declared.error.FromHexError.{FromHexError}
 use Rattle.opt_base.specs.Name.{is_name}
 use Rattle.opt_tree.specs.declared.command.Cmd.{Cmd}
 use Rattle.opt_tree.specs.declared.command.Cmd.TheVariants.{Mkdir, Create, Write, Fill, Read, Truncate, Link, Unlink, Rmdir, Rename, Stat, List as ListNames, Osync, Dsync, Durable, Poll, Bad}
-use Rattle.opt_tree.specs.Points.{asks_for_durability}
 use Rattle.opt_script.specs.Values.{IsCommand}
-use Rattle.opt_script.specs.Grammar.{has_line, has_lawful_arguments, command_of, command_of_parts, path_of, names_of, number_of, bytes_of, some_bytes, path_command, paths_command, truncate_of, write_of, read_of, fill_of, is_in_grammar}
+use Rattle.opt_script.specs.Grammar.{command_of, command_of_parts, path_of, names_of, number_of, bytes_of, some_bytes, path_command, paths_command, truncate_of, write_of, read_of, fill_of, is_in_grammar}
 
 abbrev Lawful : Cmd → Type 0
 Lawful cmd = (cmd ≡ Bad) ⊎ (is_in_grammar cmd ≡ true)
@@ -166,7 +164,8 @@ fill_lawful (Some path) (Some offset) (Some count) (Some byte) h k m = kept_fill
 
 parts_lawful : (parts : List (List ℕ)) → Lawful (command_of_parts parts)
 parts_lawful [] = inl refl
-parts_lawful (word ∷ []) = either _ Osync Bad (inr refl) (inl refl)
+parts_lawful (word ∷ []) =
+    either _ Osync _ (inr refl) (either _ Dsync _ (inr refl) (either _ Durable _ (inr refl) (either _ Poll Bad (inr refl) (inl refl))))
 parts_lawful (word ∷ path ∷ []) = path_command_lawful word (path_of path) (path_lawful path)
 parts_lawful (word ∷ path ∷ last ∷ []) =
     either (bytes_eq word (codes "truncate")) (truncate_of (path_of path) (number_of last)) (paths_command word (path_of path) (path_of last))
@@ -190,37 +189,30 @@ parts_lawful (word ∷ path ∷ offset ∷ count ∷ byte ∷ one ∷ more) = in
 pub line_lawful : (line : List ℕ) → (command_of line ≡ Bad) ⊎ (is_in_grammar (command_of line) ≡ true)
 line_lawful line = parts_lawful (slice_split (λ b. b == 32) line)
 
+-- a command that some line asks for has lawful arguments
+in_grammar_lawful : (cmd : Cmd) → is_in_grammar cmd ≡ true → IsCommand cmd
+in_grammar_lawful (Mkdir path) h = h
+in_grammar_lawful (Create path) h = h
+in_grammar_lawful (Write path offset bytes) h = h
+in_grammar_lawful (Fill path offset count byte) h = h
+in_grammar_lawful (Read path offset count) h = h
+in_grammar_lawful (Truncate path size) h = h
+in_grammar_lawful (Link path other) h = h
+in_grammar_lawful (Unlink path) h = h
+in_grammar_lawful (Rmdir path) h = h
+in_grammar_lawful (Rename path other) h = h
+in_grammar_lawful (Stat path) h = h
+in_grammar_lawful (ListNames path) h = h
+in_grammar_lawful Osync h = refl
+in_grammar_lawful Dsync h = refl
+in_grammar_lawful Durable h = refl
+in_grammar_lawful Poll h = refl
+in_grammar_lawful Bad h = refl
+
 -- its arguments are lawful in either case
 pub line_command : (line : List ℕ) → IsCommand (command_of line)
 line_command line = either_way (command_of line) (line_lawful line)
   where
     either_way : (cmd : Cmd) → Lawful cmd → IsCommand cmd
     either_way cmd (inl bad) = subst IsCommand (sym bad) refl
-    either_way cmd (inr h) = (and_parts (has_line cmd) (has_lawful_arguments cmd) h).1
-
--- a command that has a line asks for no sync point on the disk
-has_line_quiet : (cmd : Cmd) → has_line cmd ≡ true → asks_for_durability cmd ≡ false
-has_line_quiet (Mkdir path) h = refl
-has_line_quiet (Create path) h = refl
-has_line_quiet (Write path offset bytes) h = refl
-has_line_quiet (Fill path offset count byte) h = refl
-has_line_quiet (Read path offset count) h = refl
-has_line_quiet (Truncate path size) h = refl
-has_line_quiet (Link path other) h = refl
-has_line_quiet (Unlink path) h = refl
-has_line_quiet (Rmdir path) h = refl
-has_line_quiet (Rename path other) h = refl
-has_line_quiet (Stat path) h = refl
-has_line_quiet (ListNames path) h = refl
-has_line_quiet Osync h = refl
-has_line_quiet Dsync h = absurd (false≢true h)
-has_line_quiet Durable h = absurd (false≢true h)
-has_line_quiet Poll h = refl
-has_line_quiet Bad h = refl
-
-pub line_quiet : (line : List ℕ) → asks_for_durability (command_of line) ≡ false
-line_quiet line = either_way (command_of line) (line_lawful line)
-  where
-    either_way : (cmd : Cmd) → Lawful cmd → asks_for_durability cmd ≡ false
-    either_way cmd (inl bad) = subst (λ c. asks_for_durability c ≡ false) (sym bad) refl
-    either_way cmd (inr h) = has_line_quiet cmd (and_parts (has_line cmd) (has_lawful_arguments cmd) h).0
+    either_way cmd (inr h) = in_grammar_lawful cmd h

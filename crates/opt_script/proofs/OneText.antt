@@ -1,9 +1,8 @@
 -- A text is that of one command and of one reply, and has no line feed.
-use Rattle.std.proofs.Common.{◌≡◌, sym, ap, refl, ◌∙◌, arith, rules, tests, subst, inl, inr, ℕ, zero, suc, ◌<◌, ◌≤◌, ◌^◌, ◌/◌, ◌%◌, ◌==◌, Bool, true, false, if◌then◌else◌, List, [], ◌∷◌, ◌++◌, drop, get_or, length, Option, Some, None, decimal, nat_lt, nat_le, bytes_eq, codes, slice_index, append_assoc}
+use Rattle.std.proofs.Common.{◌≡◌, sym, ap, refl, ◌∙◌, arith, rules, tests, subst, ℕ, zero, suc, ◌<◌, ◌≤◌, ◌^◌, ◌/◌, ◌%◌, ◌==◌, Bool, true, if◌then◌else◌, List, [], ◌∷◌, ◌++◌, drop, get_or, length, Option, Some, None, decimal, nat_lt, nat_le, bytes_eq, codes, slice_index, append_assoc}
 use Rattle.std.specs.Prelude.{slice_index_or}
-use Rattle.std.proofs.lemmas.Bool.{and_parts, cases_Bool, false≢true}
+use Rattle.std.proofs.lemmas.Bool.{and_parts}
 use Rattle.std.proofs.lemmas.Bool.Decides.{Decides-ltb}
-use Rattle.std.proofs.lemmas.Slice.Eq.{bytes_eq-Decides}
 use Rattle.std.proofs.lemmas.List.{append-nil}
 use Rattle.std.proofs.lemmas.Fmt.{digits_decimal, digits_value-decimal}
 use Rattle.std.specs.Char.{is_ascii_digit}
@@ -22,7 +21,7 @@ use Rattle.opt_tree.specs.declared.command.Refusal.TheVariants.{NotFound, Exists
 use Rattle.opt_tree.specs.Refusals.{refusal_number, refusal_name}
 use Rattle.opt_tree.specs.Listing.{slashed, path_text, digits_behind_blank}
 use Rattle.opt_script.specs.Text.{command_text, text_of_reply, kind_text, names_behind_blanks, refusal_text}
-use Rattle.opt_script.specs.Grammar.{command_of, bytes_of, is_in_grammar, has_lawful_arguments}
+use Rattle.opt_script.specs.Grammar.{command_of, bytes_of}
 use Rattle.opt_script.specs.Values.{IsCommand, IsReply, HasFigures, has_no_feed}
 use Rattle.opt_script.proofs.Steps.{own}
 use Rattle.opt_script.proofs.RoundTrip.{weaker, both, name_bytes, bytes_of-encode_lower, round_trip}
@@ -403,44 +402,20 @@ reply_no_feed reply h = ap has_no_feed (reply_joined reply) ∙ joined_no_feed (
 
 -- Commands.
 
--- the command of a text, also of one that no line asks for yet
-abbrev command_in : List ℕ → Cmd
-command_in text =
-    if bytes_eq text (codes "dsync") then Dsync
-    else if bytes_eq text (codes "durable") then Durable
-    else if bytes_eq text (codes "poll") then Poll
-    else command_of text
-
--- a command that has a line isn't written as a text that is read as none
-another_text : (cmd : Cmd) (text : List ℕ) → is_in_grammar cmd ≡ true → command_of text ≡ Bad → bytes_eq (command_text cmd) text ≡ false
-another_text cmd text h none = elim (cases_Bool (bytes_eq (command_text cmd) text)) [
-  | inl same ↦
-      let is : command_text cmd ≡ text = (bytes_eq-Decides (command_text cmd) text).0 same in
-      let bad : cmd ≡ Bad = sym (round_trip cmd h) ∙ ap command_of is ∙ none in
-      absurd (false≢true (sym (ap is_in_grammar bad) ∙ h))
-  | inr differs ↦ differs
-]
-
-with_line : (cmd : Cmd) → is_in_grammar cmd ≡ true → command_in (command_text cmd) ≡ cmd
-with_line cmd h =
-    let dsync = another_text cmd (codes "dsync") h refl in
-    let durable = another_text cmd (codes "durable") h refl in
-    let poll = another_text cmd (codes "poll") h refl in
-    rw (dsync, durable, poll) (round_trip cmd h)
-
-read_back : (cmd : Cmd) → IsCommand cmd → command_in (command_text cmd) ≡ cmd
-read_back (Mkdir path) h = with_line (Mkdir path) h
-read_back (Create path) h = with_line (Create path) h
-read_back (Write path offset bytes) h = with_line (Write path offset bytes) h
-read_back (Fill path offset count byte) h = with_line (Fill path offset count byte) h
-read_back (Read path offset count) h = with_line (Read path offset count) h
-read_back (Truncate path size) h = with_line (Truncate path size) h
-read_back (Link path second) h = with_line (Link path second) h
-read_back (Unlink path) h = with_line (Unlink path) h
-read_back (Rmdir path) h = with_line (Rmdir path) h
-read_back (Rename path second) h = with_line (Rename path second) h
-read_back (Stat path) h = with_line (Stat path) h
-read_back (ListNames path) h = with_line (ListNames path) h
+-- a text reads as its command, and that of `Bad` as `Bad`
+read_back : (cmd : Cmd) → IsCommand cmd → command_of (command_text cmd) ≡ cmd
+read_back (Mkdir path) h = round_trip (Mkdir path) h
+read_back (Create path) h = round_trip (Create path) h
+read_back (Write path offset bytes) h = round_trip (Write path offset bytes) h
+read_back (Fill path offset count byte) h = round_trip (Fill path offset count byte) h
+read_back (Read path offset count) h = round_trip (Read path offset count) h
+read_back (Truncate path size) h = round_trip (Truncate path size) h
+read_back (Link path second) h = round_trip (Link path second) h
+read_back (Unlink path) h = round_trip (Unlink path) h
+read_back (Rmdir path) h = round_trip (Rmdir path) h
+read_back (Rename path second) h = round_trip (Rename path second) h
+read_back (Stat path) h = round_trip (Stat path) h
+read_back (ListNames path) h = round_trip (ListNames path) h
 read_back Osync h = refl
 read_back Dsync h = refl
 read_back Durable h = refl
@@ -448,7 +423,7 @@ read_back Poll h = refl
 read_back Bad h = refl
 
 pub one_command : (cmd other : Cmd) → IsCommand cmd → IsCommand other → command_text cmd ≡ command_text other → cmd ≡ other
-one_command cmd other h k e = sym (read_back cmd h) ∙ ap command_in e ∙ read_back other k
+one_command cmd other h k e = sym (read_back cmd h) ∙ ap command_of e ∙ read_back other k
 
 -- texts without a line feed, one behind the other
 beside : (xs ys : List ℕ) → has_no_feed xs ≡ true → has_no_feed ys ≡ true → has_no_feed (xs ++ ys) ≡ true

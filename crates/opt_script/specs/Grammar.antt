@@ -38,6 +38,15 @@ some_bytes _ = None
 abbrev pub bytes_of : List ℕ → Option (List ℕ)
 bytes_of part = some_bytes (decode_of part)
 
+-- the command of a word alone
+abbrev pub word_command : List ℕ → Cmd
+word_command word =
+    if bytes_eq word (codes "osync") then Osync
+    else if bytes_eq word (codes "dsync") then Dsync
+    else if bytes_eq word (codes "durable") then Durable
+    else if bytes_eq word (codes "poll") then Poll
+    else Bad
+
 -- the command of a word and a path, where the part is one
 abbrev pub path_command : List ℕ → Option (List (List ℕ)) → Cmd
 path_command word (Some path) =
@@ -80,7 +89,7 @@ fill_of _ _ _ _ = Bad
 
 -- the command whose word and arguments the parts are
 abbrev pub command_of_parts : List (List ℕ) → Cmd
-command_of_parts (word ∷ []) = if bytes_eq word (codes "osync") then Osync else Bad
+command_of_parts (word ∷ []) = word_command word
 command_of_parts (word ∷ path ∷ []) = path_command word (path_of path)
 command_of_parts (word ∷ path ∷ last ∷ []) =
     if bytes_eq word (codes "truncate") then truncate_of (path_of path) (number_of last)
@@ -114,14 +123,7 @@ has_lawful_arguments (Stat path) = list_all is_name path
 has_lawful_arguments (ListNames path) = list_all is_name path
 has_lawful_arguments _ = true
 
--- whether a line may have the command's word. No line asks yet for what the disk has, since the program writes nothing to its disk
-abbrev pub has_line : Cmd → Bool
-has_line Dsync = false
-has_line Durable = false
-has_line Poll = false
-has_line Bad = false
-has_line _ = true
-
--- whether some line asks for the command
+-- whether some line asks for the command: it isn't `Bad`, and its arguments are lawful
 abbrev pub is_in_grammar : Cmd → Bool
-is_in_grammar cmd = has_line cmd && has_lawful_arguments cmd
+is_in_grammar Bad = false
+is_in_grammar cmd = has_lawful_arguments cmd

@@ -1,19 +1,16 @@
 //! Laws of the texts: each line is a command, one text is that of one command or reply, and a line feed is in
 //! none. They run nothing.
 
-ghost use Rattle.std.specs.Prelude.{◌≡◌, ℕ, List, true, false};
+ghost use Rattle.std.specs.Prelude.{◌≡◌, ℕ, List, true};
 ghost use Rattle.opt_tree.specs.declared.command.Cmd.{Cmd};
 ghost use Rattle.opt_tree.specs.declared.command.Reply.{Reply};
-ghost use Rattle.opt_tree.specs.Points.{asks_for_durability};
 ghost use Rattle.opt_script.specs.Grammar.{command_of};
 ghost use Rattle.opt_script.specs.Text.{command_text, text_of_reply};
 ghost use Rattle.opt_script.specs.Values.{IsCommand, IsReply, has_no_feed};
 
-/// Each line is a command whose arguments are lawful, or none; and none asks for a sync point that is on the
-/// disk.
+/// Each line is a command whose arguments are lawful, or none.
 pub fn lines_are_commands()
     ensures lawful { (line : List ℕ) → IsCommand (command_of line) }
-    ensures quiet { (line : List ℕ) → asks_for_durability (command_of line) ≡ false }
 {}
 
 /// Two commands with lawful arguments that have one text are the same, and so are two replies. None of these texts

@@ -4,7 +4,7 @@
 
 ghost use Rattle.std.specs.Prelude.{◌≡◌, ℕ, List, [], ◌∷◌, IfOk, ◌⊎◌, map, true, Some};
 ghost use Rattle.opt_tree.specs.declared.command.Cmd.TheVariants.{Bad};
-ghost use Rattle.opt_script.specs.Grammar.{command_of, command_of_parts, is_in_grammar, path_command, paths_command, truncate_of, write_of, read_of, fill_of, path_of, number_of, bytes_of};
+ghost use Rattle.opt_script.specs.Grammar.{command_of, command_of_parts, is_in_grammar, word_command, path_command, paths_command, truncate_of, write_of, read_of, fill_of, path_of, number_of, bytes_of};
 
 use crate::arguments::{bytes, number, parts, path};
 use opt_base::NoMemory;
@@ -29,12 +29,7 @@ fn cmd_of_parts(alloc: Global, parts: &[&[u8]]) -> Result<Cmd, NoMemory>
     ensures { IfOk result (λ cmd. cmd ≡ command_of_parts (map (λ part. part.now) parts.now)) }
 {
     match parts {
-        [word] => {
-            if *word == b"osync".as_slice() {
-                return Ok(Cmd::Osync);
-            }
-            Ok(Cmd::Bad)
-        }
+        [word] => Ok(cmd_of_word(word)),
         [word, path] => {
             let cmd = with_path(alloc, word, path)?;
             Ok(cmd)
@@ -54,6 +49,25 @@ fn cmd_of_parts(alloc: Global, parts: &[&[u8]]) -> Result<Cmd, NoMemory>
         [] => Ok(Cmd::Bad),
         [_, _, _, _, _, _, ..] => Ok(Cmd::Bad),
     }
+}
+
+// A word alone.
+fn cmd_of_word(word: &[u8]) -> Cmd
+    ensures { result ≡ word_command word.now }
+{
+    if word == b"osync".as_slice() {
+        return Cmd::Osync;
+    }
+    if word == b"dsync".as_slice() {
+        return Cmd::Dsync;
+    }
+    if word == b"durable".as_slice() {
+        return Cmd::Durable;
+    }
+    if word == b"poll".as_slice() {
+        return Cmd::Poll;
+    }
+    Cmd::Bad
 }
 
 // A word and a path.

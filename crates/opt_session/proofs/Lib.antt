@@ -7,3 +7,4 @@ pub mod Opening
 pub mod Weights
 pub mod Spending
 pub mod Moments
+pub mod Ending

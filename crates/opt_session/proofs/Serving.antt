@@ -1,5 +1,5 @@
 -- One command more: the run goes on, and so does what is known of its points.
-use Rattle.std.proofs.Common.{◌≡◌, ◌≢◌, ◌⊎◌, inl, inr, ⊎_elim, ℕ, zero, suc, ◌+◌, ◌<◌, ◌≤◌, Bool, true, false, IsTrue, if◌then◌else◌, List, [], ◌∷◌, ◌++◌, length, take, slice_get, Some, unwrap_or, ◌&&◌, Err, refl, sym, ◌∙◌, ap, subst, arith}
+use Rattle.std.proofs.Common.{◌≡◌, ◌≢◌, ◌⊎◌, inl, inr, ⊎_elim, ℕ, suc, ◌+◌, ◌<◌, ◌≤◌, Bool, true, false, IsTrue, if◌then◌else◌, List, [], ◌∷◌, ◌++◌, length, take, slice_get, Some, ◌&&◌, Err, refl, sym, ◌∙◌, ap, subst, arith}
 use Rattle.std.proofs.Math.Logic.{∥∥₁_map}
 use Rattle.std.proofs.lemmas.Bool.{cases_lt, cases_eq, cases_Bool, eq-eqb, ne_eqb, lt-ltb, le-ltb, true≢false, false≢true}
 use Rattle.std.proofs.lemmas.List.{length-append}
@@ -32,7 +32,7 @@ use Rattle.opt_session.specs.Serving.{HasTree, GoesOn, HasServed, IsDrawn}
 use Rattle.opt_session.proofs.Counting.{TellsPoints, tells_points}
 use Rattle.opt_session.proofs.Crashes.{StandsForTree, crashes_more}
 use Rattle.opt_session.proofs.Issuing.{issued_now, issues_more}
-use Rattle.opt_session.proofs.Histories.{none_some, points_more, session_more, run_more, floor_more, ascend_more, get_before, get_behind}
+use Rattle.opt_session.proofs.Histories.{none_some, points_more, session_more, run_more, floor_more, ascend_more, get_before, get_behind, get_split}
 
 -- What opt_tree promises of replies, and opt_fs of points.
 pub record ServingLaws {S : Type 0} (tells : Bool) (state : S → State) : Type 1 where
@@ -100,16 +100,6 @@ reply_tree f cmd reply is = by (is_refusal reply)
 makes_sync : (c d : Bool) (p : Point) (ps : List Point) → (if c && d then p ∷ [] else []) ≡ p ∷ ps → c ≡ true
 makes_sync true d p ps e = refl
 makes_sync false d p ps e = absurd (none_some (length ps) (ap (λ (qs : List Point). length qs) e))
-
-some_is : {A : Type 0} (x y : A) → Some x ≡ Some y → x ≡ y
-some_is x y e = ap (λ o. unwrap_or o x) e
-
--- the last of a list, or one before it
-get_split : {A : Type 0} (xs : List A) (x y : A) (i : ℕ) → slice_get (xs ++ x ∷ []) i ≡ Some y → (slice_get xs i ≡ Some y) ⊎ (x ≡ y)
-get_split [] x y zero is = inr (some_is x y is)
-get_split [] x y (suc i) is = inl is
-get_split (z ∷ xs) x y zero is = inl is
-get_split (z ∷ xs) x y (suc i) is = get_split xs x y i is
 
 module _ {S : Type 0} (tells : Bool) (state : S → State) (told : IsTrue tells) (laws : ServingLaws tells state) (g : Geometry) (t : Tree) (mounted : ℕ) (cmds : List Cmd) (replies : List Reply) (marks : List ℕ) (old new : S) (cmd : Cmd) (reply : Reply)
     (served : HasServed g t mounted cmds replies marks (state old)) (drawn : (s : S) → IsDrawn (state s)) (applies : Applies tells state cmd reply old new)

@@ -3,3 +3,4 @@ pub mod Crashes
 pub mod Issued
 pub mod Serving
 pub mod Budget
+pub mod Ending

@@ -1,6 +1,6 @@
 //! Laws of runs, which program code cites. The functions do nothing; their clauses are the laws.
 
-ghost use Rattle.std.specs.Prelude.{◌≡◌, ◌+◌, ℕ, List, take};
+ghost use Rattle.std.specs.Prelude.{◌≡◌, ◌≤◌, ◌+◌, ◌++◌, ℕ, List, length, take};
 ghost use Rattle.opt_disk.specs.Disk.{writes_in};
 ghost use Rattle.opt_geom.specs.Geometry.{Geometry, bitmap_blocks};
 ghost use Rattle.opt_tree.specs.declared.command.Cmd.{Cmd};
@@ -11,10 +11,12 @@ ghost use Rattle.opt_stands.specs.Stands.{StandsFor};
 ghost use Rattle.opt_crash.specs.Counts.{AreAtMost};
 ghost use Rattle.opt_session.specs.Budget.{KeepsBudget, budget_of};
 ghost use Rattle.opt_session.specs.Crashes.{IsCrashConsistent};
+ghost use Rattle.opt_session.specs.Ending.{HasRun, ending_marks, ending_replies};
 ghost use Rattle.opt_session.specs.Serving.{HasServed};
 
 use opt_blocks::Blocks;
 use opt_stands::an_image_stands_for_one_tree;
+use opt_tree::{a_fault_ends_the_session, a_reply_tells_the_session};
 
 /// Where the blocks with which the disk began stand for the tree of a run, what crashes leave of the run is as
 /// `IsCrashConsistent` says, which speaks of any disk.
@@ -31,3 +33,15 @@ pub fn the_writes_keep_within_the_budget<S: Blocks>()
     ensures { (s : S) (g : Geometry) (t : Tree) (begun owed mounted : ℕ) (cmds : List Cmd) (replies : List Reply) → KeepsBudget g t begun cmds replies (S.state s)
         → begun ≡ writes_in (take mounted (S.state s).crash.log) + owed → AreAtMost mounted (S.state s).crash.log (owed + budget_of (bitmap_blocks g) (session_on g.i t) 0 cmds replies) }
 {}
+
+/// Whatever commands come, a run may end with them: the disk fails at the first that is one, no event comes, and what
+/// was said of the run holds of the longer one. It stands for no smaller budget.
+pub fn a_run_may_end_at_once<S: Blocks>()
+    ensures run { (s : S) (g : Geometry) (t : Tree) (mounted : ℕ) (cmds : List Cmd) (replies : List Reply) (marks : List ℕ) (more : List Cmd) → HasServed g t mounted cmds replies marks (S.state s)
+        → HasRun g t (S.state s).crash.base (S.state s).crash.log mounted (cmds ++ more) (replies ++ ending_replies (S.state s).books.stopped more) (marks ++ ending_marks (length (S.state s).crash.log) more) }
+    ensures budget { (g : Geometry) (t : Tree) (cmds : List Cmd) (replies : List Reply) (more : List Cmd) (later : List Reply) → length cmds ≡ length replies
+        → budget_of (bitmap_blocks g) (session_on g.i t) 0 cmds replies ≤ budget_of (bitmap_blocks g) (session_on g.i t) 0 (cmds ++ more) (replies ++ later) }
+{
+    a_reply_tells_the_session();
+    a_fault_ends_the_session();
+}

@@ -6,5 +6,7 @@
 mod laws;
 mod served;
 
-pub use laws::{a_served_run_is_crash_consistent, the_writes_keep_within_the_budget};
+pub use laws::{
+    a_run_may_end_at_once, a_served_run_is_crash_consistent, the_writes_keep_within_the_budget,
+};
 pub use served::Served;

@@ -1,7 +1,7 @@
-//! Lists of words and what they ask for, by the grammar of the README.
+//! Lists of words and what they ask for, by the grammar of docs/WORDS.md.
 
 use opt_base::NoMemory;
-use opt_words::{Request, read_words};
+use opt_words::{Notices, Request, read_words};
 use std::alloc::Global;
 
 fn read(alloc: Global, words: &[&str]) -> Result<Option<Request>, NoMemory> {
@@ -12,12 +12,55 @@ fn read(alloc: Global, words: &[&str]) -> Result<Option<Request>, NoMemory> {
     read_words(alloc, list.as_slice())
 }
 
+/// The same of words that stand in one text, with a blank between two.
+fn read_text(alloc: Global, text: &str) -> Result<Option<Request>, NoMemory> {
+    let words: Vec<&str> = text.split(' ').collect(alloc)?;
+    read(alloc, words.as_slice())
+}
+
 fn recording(blocks: u32, journal: u32, nodes: u32) -> Option<Request> {
     Some(Request::Record {
         blocks,
         journal,
         nodes,
+        notices: Notices::Silent,
+        room: 4096,
+        fail: None,
     })
+}
+
+/// A recording with 64 blocks, 16 of the journal and 17 nodes.
+fn with_options(notices: Notices, room: u32, fail: Option<u32>) -> Option<Request> {
+    Some(Request::Record {
+        blocks: 64,
+        journal: 16,
+        nodes: 17,
+        notices,
+        room,
+        fail,
+    })
+}
+
+/// What such a recording asks for where an option has this value: the option stands before the numbers,
+/// among them and behind them, in one word and in two. `None` where the places don't agree.
+fn with_value(
+    alloc: Global,
+    option: &str,
+    joined: &str,
+    value: &str,
+) -> Result<Option<Option<Request>>, NoMemory> {
+    let asked = read(alloc, &["record", joined, "64", "16", "17"])?;
+    let others = [
+        read(alloc, &["record", "64", joined, "16", "17"])?,
+        read(alloc, &["record", "64", "16", "17", joined])?,
+        read(alloc, &["record", option, value, "64", "16", "17"])?,
+        read(alloc, &["record", "64", "16", option, value, "17"])?,
+        read(alloc, &["record", "64", "16", "17", option, value])?,
+    ];
+    if others.iter().all(|other| *other == asked) {
+        return Ok(Some(asked));
+    }
+    Ok(None)
 }
 
 #[test]
@@ -107,7 +150,7 @@ fn other_texts_are_no_number(rt: HostRuntime) -> Result<(), NoMemory> {
 
 #[test]
 fn other_lists_are_outside_the_grammar(rt: HostRuntime) -> Result<(), NoMemory> {
-    let cases: [&[&str]; 32] = [
+    let cases: [&[&str]; 29] = [
         &[],
         &[""],
         &["fly"],
@@ -127,9 +170,6 @@ fn other_lists_are_outside_the_grammar(rt: HostRuntime) -> Result<(), NoMemory> 
         &["réc", "ö", "日", "本"],
         &["record", "-é", "16", "16"],
         &["optfs", "record", "64", "16", "16"],
-        &["record", "--notices=fifo", "64", "16", "16"],
-        &["record", "--notices", "fifo", "64", "16", "16"],
-        &["record", "64", "16", "16", "--room=5"],
         &["record", "64", "16", "16", "-v"],
         &["record", "--blocks=64", "16", "16"],
         &["--help"],
@@ -170,6 +210,182 @@ fn two_dashes_may_stand_once_behind_record(rt: HostRuntime) -> Result<(), NoMemo
     ];
     for words in refused {
         assert_eq!(rt; read(rt.alloc(), words)?, None);
+    }
+    Ok(())
+}
+
+#[test]
+fn an_option_stands_anywhere_behind_record(rt: HostRuntime) -> Result<(), NoMemory> {
+    let alloc = rt.alloc();
+    let cases = [
+        "record --fail 7 64 --room=5 16 --notices fifo 17",
+        "record 64 16 17 --notices=fifo --room 5 --fail=7",
+        "record 64 16 17 --fail 7 --room 5 --notices fifo",
+        "record --room=5 --notices=fifo --fail=7 64 16 17",
+        "record --room 5 64 --fail 7 16 --notices fifo 17",
+        "record 64 --notices=fifo --fail=7 16 17 --room=5",
+        "record --room=5 --notices=fifo --fail=7 -- 64 16 17",
+        "record 64 --fail 7 --room=5 --notices fifo -- 16 17",
+        "record --fail=7 64 16 17 --notices fifo --room=5 --",
+    ];
+    for text in cases {
+        assert_eq!(rt;
+            read_text(alloc, text)?,
+            with_options(Notices::Fifo, 5, Some(7))
+        );
+    }
+    // The word behind `--room` is its value, and the next three are the numbers.
+    let asked = read_text(alloc, "record --room 64 64 16 17")?;
+    assert_eq!(rt; asked, with_options(Notices::Silent, 64, None));
+    Ok(())
+}
+
+#[test]
+fn notices_are_none_or_fifo_or_a_seed(rt: HostRuntime) -> Result<(), NoMemory> {
+    let alloc = rt.alloc();
+    let taken = [
+        ("--notices=none", "none", Notices::Silent),
+        ("--notices=fifo", "fifo", Notices::Fifo),
+        ("--notices=1", "1", Notices::Seed(1)),
+        ("--notices=10", "10", Notices::Seed(10)),
+        ("--notices=907", "907", Notices::Seed(907)),
+        (
+            "--notices=4294967295",
+            "4294967295",
+            Notices::Seed(4_294_967_295),
+        ),
+    ];
+    for (joined, value, notices) in taken {
+        let asked = with_value(alloc, "--notices", joined, value)?;
+        assert_eq!(rt; asked, Some(with_options(notices, 4096, None)));
+    }
+    let refused = [
+        ("--notices=", ""),
+        ("--notices=0", "0"),
+        ("--notices=00", "00"),
+        ("--notices=07", "07"),
+        ("--notices=+5", "+5"),
+        ("--notices=-5", "-5"),
+        ("--notices=-", "-"),
+        ("--notices=4294967296", "4294967296"),
+        ("--notices=18446744073709551617", "18446744073709551617"),
+        ("--notices=Fifo", "Fifo"),
+        ("--notices=NONE", "NONE"),
+        ("--notices=fif", "fif"),
+        ("--notices=fifo5", "fifo5"),
+        ("--notices= 5", " 5"),
+        ("--notices=5 ", "5 "),
+        ("--notices=5=5", "5=5"),
+        ("--notices=٥", "٥"),
+    ];
+    for (joined, value) in refused {
+        assert_eq!(rt; with_value(alloc, "--notices", joined, value)?, Some(None));
+    }
+    Ok(())
+}
+
+#[test]
+fn a_room_is_a_number_up_to_65536(rt: HostRuntime) -> Result<(), NoMemory> {
+    let alloc = rt.alloc();
+    let taken = [
+        ("--room=1", "1", 1),
+        ("--room=4096", "4096", 4096),
+        ("--room=65536", "65536", 65_536),
+        ("--room=+5", "+5", 5),
+        ("--room=007", "007", 7),
+    ];
+    for (joined, value, room) in taken {
+        let asked = with_value(alloc, "--room", joined, value)?;
+        assert_eq!(rt; asked, Some(with_options(Notices::Silent, room, None)));
+    }
+    let refused = [
+        ("--room=", ""),
+        ("--room=0", "0"),
+        ("--room=+0", "+0"),
+        ("--room=65537", "65537"),
+        ("--room=4294967297", "4294967297"),
+        ("--room=-1", "-1"),
+        ("--room=+", "+"),
+        ("--room=none", "none"),
+        ("--room=5=6", "5=6"),
+        ("--room=5 ", "5 "),
+    ];
+    for (joined, value) in refused {
+        assert_eq!(rt; with_value(alloc, "--room", joined, value)?, Some(None));
+    }
+    Ok(())
+}
+
+#[test]
+fn a_write_that_fails_is_a_number_from_1_on(rt: HostRuntime) -> Result<(), NoMemory> {
+    let alloc = rt.alloc();
+    let taken = [
+        ("--fail=1", "1", 1),
+        ("--fail=4294967295", "4294967295", 4_294_967_295),
+        ("--fail=+5", "+5", 5),
+        ("--fail=007", "007", 7),
+    ];
+    for (joined, value, write) in taken {
+        let asked = with_value(alloc, "--fail", joined, value)?;
+        assert_eq!(rt;
+            asked,
+            Some(with_options(Notices::Silent, 4096, Some(write)))
+        );
+    }
+    let refused = [
+        ("--fail=", ""),
+        ("--fail=0", "0"),
+        ("--fail=000", "000"),
+        ("--fail=4294967296", "4294967296"),
+        ("--fail=-1", "-1"),
+        ("--fail=--1", "--1"),
+        ("--fail=none", "none"),
+        ("--fail=1.0", "1.0"),
+    ];
+    for (joined, value) in refused {
+        assert_eq!(rt; with_value(alloc, "--fail", joined, value)?, Some(None));
+    }
+    Ok(())
+}
+
+#[test]
+fn other_options_are_outside_the_grammar(rt: HostRuntime) -> Result<(), NoMemory> {
+    let cases = [
+        // twice
+        "record --room=5 --room=5 64 16 17",
+        "record --room 5 64 16 17 --room 6",
+        "record --notices fifo 64 16 --notices=none 17",
+        "record 64 --fail=1 16 17 --fail 1",
+        // without a value
+        "record 64 16 17 --room",
+        "record --room 64 16 17",
+        "record 64 16 17 --notices",
+        "record 64 16 17 --fail",
+        "record 64 16 17 --notices --room 5",
+        "record 64 16 17 --notices --room=5",
+        "record --room -- 64 16 17",
+        "record 64 16 17 --fail --",
+        // unknown
+        "record 64 16 17 --roo=5",
+        "record 64 16 17 --rooms 5",
+        "record 64 16 17 --ROOM=5",
+        "record 64 16 17 --=5",
+        "record 64 16 17 --nodes=17",
+        "record 64 16 --nodes 17",
+        "record 64 16 17 -room 5",
+        "record 64 16 17 -r5",
+        "record 64 16 17 --seed=5",
+        "record 64 16 17 room=5",
+        // behind `--`, or before `record`
+        "record -- 64 16 17 --room=5",
+        "record -- 64 16 17 --room 5",
+        "record 64 16 17 -- --notices=fifo",
+        "--room=5 record 64 16 17",
+        "--room 5 record 64 16 17",
+        "--notices=none",
+    ];
+    for text in cases {
+        assert_eq!(rt; read_text(rt.alloc(), text)?, None);
     }
     Ok(())
 }

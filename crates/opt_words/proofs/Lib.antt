@@ -1,4 +1,7 @@
-pub mod Numbers
+pub mod Texts
+pub mod Program
+pub mod Apart
+pub mod Steps
 pub mod Walk
 pub mod Line
-pub mod Program
+pub mod Asked

@@ -1,24 +1,20 @@
--- What `clap` makes of a whole list of words: `record` and its numbers, and nothing else.
-use Rattle.std.proofs.Common.{subst, ◌≡◌, ◌||◌, ℕ, Bool, true, false, cond, List, [], ◌∷◌, length, Option, Some, None, is_some, refl, inl, inr, sym, ap, ap₂, ◌∙◌, codes, fold}
-use Rattle.std.specs.Prelude.{slice_get, if◌then◌else◌, option_and_then, option_map}
+-- What `clap` makes of a whole list of words: `record` and the texts that the definition names, or a fault.
+use Rattle.std.proofs.Common.{subst, ◌≡◌, ◌||◌, ℕ, Bool, true, false, cond, List, [], ◌∷◌, length, Option, Some, None, is_some, refl, sym, ap, ap₂, ◌∙◌, codes, fold}
+use Rattle.std.specs.Prelude.{slice_get, if◌then◌else◌, option_map}
 use Rattle.std.specs.Option.{option_map_or}
 use Rattle.std.specs.Str.{bytes_eq, chars}
 use Rattle.clap.specs.Lexer.{long_of, short_of}
-use Rattle.clap.specs.Kinds.{HasKind, Kinds, or_else}
-use Rattle.clap.specs.Values.{kind_of}
-use Rattle.clap.specs.declared.error.Error.{Error}
-use Rattle.clap.specs.declared.error.kind.ErrorKind.TheVariants.{OutOfMemory}
+use Rattle.clap.specs.Kinds.{Kinds, or_else}
 use Rattle.clap.specs.Faults.{walk_fault, settle_fault, defaults_fault, check_fault, flags_fault, step_fault, flag_word_fault, bundle_fault, bundle_step_fault, other_fault, entered_fault, fault_of}
 use Rattle.clap.specs.Walk.{Held, Names, Row, Step, Text, Walk, bundle_met, finished, settled, walk_from, walked, after_flag, after_step, bundle_step, long_or_other, nothing_held, idle, trailing, short_or_plain, subcommand_or_other, plain as plain_outcome}
 use Rattle.clap.specs.Simple.{Shape, built, entered, names_of, subcommand_of}
 use Rattle.clap.proofs.WalkLemmas.{walk_stopped}
 use Rattle.clap.proofs.FaultLemmas.{stopped_fault}
-use Rattle.opt_words.specs.declared.request.Request.{Request}
-use Rattle.opt_words.specs.declared.request.Request.TheVariants.{Record}
-use Rattle.opt_words.specs.Program.{program, kept_numbers}
-use Rattle.opt_words.specs.Words.{IsInRange, number_in, recording_of, request_of_texts, without_dashes}
-use Rattle.opt_words.proofs.Numbers.{is_number_in, number-range, value_of}
-use Rattle.opt_words.proofs.Walk.{is_clean, unclean-first, or_else-nil, Goes, none_yet, faults_from, rows_from, from_none, open-none}
+use Rattle.opt_words.specs.Program.{program}
+use Rattle.opt_words.specs.Words.{Named, are_apart, named, numbers}
+use Rattle.opt_words.proofs.Apart.{rows}
+use Rattle.opt_words.proofs.Steps.{is_clean, unclean_first, or_else_nil, Refused, Fate}
+use Rattle.opt_words.proofs.Walk.{faults_from, rows_from, none_yet, words_go}
 
 abbrev top : Shape
 top = (built program).top
@@ -34,20 +30,20 @@ end_faults w = or_else (entered_fault (built program) w.stopped) (or_else (settl
 abbrev faults_behind : Kinds → Walk → List Text → Kinds
 faults_behind turn next words = or_else (or_else turn (walk_fault top names next words)) (end_faults (fold (walked top.rules names) next words))
 
--- what is found, by the words
-abbrev pub from_line : List Text → Option (List Row)
+-- the texts that the words say
+abbrev pub from_line : List Text → Option (List Named)
 from_line [] = None
-from_line (word ∷ words) = if bytes_eq (codes "record") word then from_none (without_dashes words) else None
+from_line (word ∷ words) = if bytes_eq (codes "record") word then named words None numbers else None
 
--- the words are refused, or are taken as `record` with these rows
-abbrev pub LineGoes : List Text → Option (List Row) → Type 0
-LineGoes words None = is_clean (fault_of program words) ≡ false
-LineGoes words (Some rows) = (is_clean (fault_of program words) ≡ true) × (subcommand_of program words ≡ Some (codes "record", rows))
+-- the words have no fault, and `record` is entered and keeps the texts that they say; or they have one, and say none, or some that ask for nothing
+abbrev pub LineFate : Bool → Option (Text × List Row) → Option (List Named) → Type 0
+LineFate true entered want = (texts : List Named) × (want ≡ Some texts) × (are_apart texts ≡ true) × (entered ≡ Some (codes "record", rows texts))
+LineFate false entered want = Refused want
 
 -- ---- a first word that isn't `record`
 
 refused-turn : (turn : Kinds) (next : Walk) (words : List Text) → is_clean turn ≡ false → is_clean (faults_behind turn next words) ≡ false
-refused-turn turn next words bad = unclean-first (or_else turn (walk_fault top names next words)) _ (unclean-first turn _ bad)
+refused-turn turn next words bad = unclean_first (or_else turn (walk_fault top names next words)) _ (unclean_first turn _ bad)
 
 -- where the walk begins
 abbrev start : Walk
@@ -107,149 +103,49 @@ record_end : (words : List Text) → fold (walked top.rules names) (stopped_with
 record_end words = sym (walk_stopped top.rules names start (codes "record") [] words)
 
 -- the faults are those of the words behind it
-record_faults : (words : List Text) → is_clean (faults_behind [] (stopped_with []) words) ≡ is_clean (faults_from (none_yet false) words)
+record_faults : (words : List Text) → is_clean (faults_behind [] (stopped_with []) words) ≡ is_clean (faults_from (none_yet) words)
 unfolding defaults_fault
 record_faults words =
     ap is_clean (ap₂ (λ (later : Kinds) (w : Walk). or_else later (end_faults w)) (stopped_fault top names start (codes "record", []) words) (record_end words)
-    ∙ or_else-nil (faults_from (none_yet false) words))
+    ∙ or_else_nil (faults_from (none_yet) words))
 
 -- and so is what is found
 record_found : (words : List Text) → entered (built program) (fold (walked top.rules names) (stopped_with []) words).stopped
-    ≡ Some (codes "record", rows_from (none_yet false) words)
+    ≡ Some (codes "record", rows_from (none_yet) words)
 record_found words = ap (λ (w : Walk). entered (built program) w.stopped) (record_end words)
 
 -- ---- the line
 
-pub line_goes : (words : List Text) → LineGoes words (from_line words)
+pub line_goes : (words : List Text) → LineFate (is_clean (fault_of program words)) (subcommand_of program words) (from_line words)
 unfolding walked walk_fault defaults_fault
-line_goes [] = refl
+line_goes [] = tt
 line_goes (word ∷ words) = by_record (bytes_eq (codes "record") word)
   where
-    named : Bool → Option Text
-    named found = option_map (λ (s : Text × List Text). s.0) (cond (found || false) (Some (codes "record", [])) None)
+    name_of : Bool → Option Text
+    name_of found = option_map (λ (s : Text × List Text). s.0) (cond (found || false) (Some (codes "record", [])) None)
 
     met : Bool → Held × Step
-    met found = subcommand_or_other top.rules (named found) idle 1 word nothing_held
+    met found = subcommand_or_other top.rules (name_of found) idle 1 word nothing_held
 
     turn : Bool → Kinds
-    turn found = or_else (other_fault top (named found) word nothing_held)
+    turn found = or_else (other_fault top (name_of found) word nothing_held)
         (step_fault top 1 (met found).0 (met found).1)
 
     next : Bool → Walk
     next found = after_step top.rules word start (met found).0 (met found).1
 
-    Is : Bool → Option (List Row) → Type 0
-    Is found None = is_clean (faults_behind (turn found) (next found) words) ≡ false
-    Is found (Some rows) = (is_clean (faults_behind (turn found) (next found) words) ≡ true)
-        × (entered (built program) (fold (walked top.rules names) (next found) words).stopped ≡ Some (codes "record", rows))
+    LineGoes : Bool → Option (List Named) → Type 0
+    LineGoes found want = LineFate (is_clean (faults_behind (turn found) (next found) words)) (entered (built program) (fold (walked top.rules names) (next found) words).stopped) want
 
-    of_goes : (want : Option (List Row)) → Goes (none_yet false) words want → Is true want
-    of_goes None h = record_faults words ∙ h
-    of_goes (Some rows) h = (record_faults words ∙ h.0, record_found words ∙ ap (λ (r : List Row). Some (codes "record", r)) h.1)
+    of_fate : (clean : Bool) (sub : Option (Text × List Row)) (found : List Row) (want : Option (List Named)) → sub ≡ Some (codes "record", found) → Fate clean found want → LineFate clean sub want
+    of_fate true sub found want same fate = (fate.0, fate.1, fate.2, same ∙ ap (λ (r : List Row). Some (codes "record", r)) fate.3)
+    of_fate false sub found want same fate = fate
 
-    by_record : (found : Bool) → Is found (if found then from_none (without_dashes words) else None)
-    by_record true = of_goes (from_none (without_dashes words)) (open-none words)
-    by_record false = other_refused (bytes_eq word (codes "--")) word words
-
--- ---- the request
-
--- the rows of the line are those of the three numbers that the request has
-pub record Asks (rows : List Row) (asked : Option Request) : Type 0 where
-  pub a : Text
-  pub b : Text
-  pub c : Text
-  pub blocks : ℕ
-  pub journal : ℕ
-  pub nodes : ℕ
-  pub kept : rows ≡ kept_numbers a b c
-  pub first : number_in 64 1048576 a ≡ Some blocks
-  pub second : number_in 16 65536 b ≡ Some journal
-  pub third : number_in 16 65536 c ≡ Some nodes
-  pub request : asked ≡ Some (Record blocks journal nodes)
-
-abbrev pub MatchesRequest : Option (List Row) → Option Request → Type 0
-MatchesRequest None request = request ≡ None
-MatchesRequest (Some rows) request = Asks rows request
-
-none-if : (b : Bool) (o : Option (List Row)) → o ≡ None → (if b then o else None) ≡ None
-none-if true o e = e
-none-if false o e = refl
-
-nothing-asked : (o : Option (List Row)) → o ≡ None → MatchesRequest o None
-nothing-asked None e = refl
-nothing-asked (Some rows) e = cc
-
-numbers_request : (words : List Text) → MatchesRequest (from_none words) (recording_of words)
-numbers_request [] = refl
-numbers_request (a ∷ []) = refl
-numbers_request (a ∷ b ∷ []) = nothing-asked _ (none-if (is_number_in 64 1048576 a) None refl)
-numbers_request (a ∷ b ∷ c ∷ []) = go (is_number_in 64 1048576 a) refl (is_number_in 16 65536 b) refl (is_number_in 16 65536 c) refl
-  where
-    number : (low high : ℕ) (t : Text) (ok : Bool) → Option ℕ
-    number low high t ok = if ok then Some (value_of t) else None
-
-    go : (x : Bool) → is_number_in 64 1048576 a ≡ x → (y : Bool) → is_number_in 16 65536 b ≡ y → (z : Bool) → is_number_in 16 65536 c ≡ z
-        → MatchesRequest (if x then (if y then (if z then Some (kept_numbers a b c) else None) else None) else None)
-        (option_and_then (λ blocks. option_and_then (λ journal. option_map (λ nodes. Record blocks journal nodes)
-        (if z then Some (value_of c) else None)) (if y then Some (value_of b) else None)) (if x then Some (value_of a) else None))
-    go false _ y _ z _ = refl
-    go true _ false _ z _ = refl
-    go true _ true _ false _ = refl
-    go true x true y true z = record {
-      a = a;
-      b = b;
-      c = c;
-      blocks = value_of a;
-      journal = value_of b;
-      nodes = value_of c;
-      kept = refl;
-      first = ap (λ t. if t then Some (value_of a) else None) x;
-      second = ap (λ t. if t then Some (value_of b) else None) y;
-      third = ap (λ t. if t then Some (value_of c) else None) z;
-      request = refl;
-    }
-numbers_request (a ∷ b ∷ c ∷ d ∷ words) =
-    nothing-asked _ (none-if (is_number_in 64 1048576 a) _ (none-if (is_number_in 16 65536 b) None refl))
-
-line_request : (words : List Text) → MatchesRequest (from_line words) (request_of_texts words)
-line_request [] = refl
-line_request (word ∷ words) = go (bytes_eq (codes "record") word)
-  where
-    go : (b : Bool) → MatchesRequest (if b then from_none (without_dashes words) else None) (if b then recording_of (without_dashes words) else None)
-    go true = numbers_request (without_dashes words)
-    go false = refl
-
--- where `clap` takes the words, it enters `record` with the rows of the request
-pub taken_line : (words : List Text) → fault_of program words ≡ []
-    → (rows : List Row) × (subcommand_of program words ≡ Some (codes "record", rows)) × Asks rows (request_of_texts words)
-taken_line words none = go (from_line words) (line_goes words) (line_request words)
-  where
-    go : (want : Option (List Row)) → LineGoes words want → MatchesRequest want (request_of_texts words)
-        → (rows : List Row) × (subcommand_of program words ≡ Some (codes "record", rows)) × Asks rows (request_of_texts words)
-    go None goes request = let clean = ap is_clean none in cc
-    go (Some rows) goes request = (rows, goes.1, request)
-
--- where it refuses them, they ask for nothing
-pub refused_line : (words : List Text) (e : Error) → HasKind (fault_of program words) e → (kind_of e ≡ OutOfMemory → ⊥) → request_of_texts words ≡ None
-refused_line words e kinds memory = go (from_line words) (line_goes words) (line_request words)
-  where
-    no_kind : (faults : Kinds) → is_clean faults ≡ true → HasKind faults e → ⊥
-    no_kind [] clean (inl out) = memory out
-    no_kind [] clean (inr among) = among
-    no_kind (k ∷ faults) clean has = let bad : false ≡ true = clean in cc
-
-    go : (want : Option (List Row)) → LineGoes words want → MatchesRequest want (request_of_texts words) → request_of_texts words ≡ None
-    go None goes request = request
-    go (Some rows) goes request = absurd (no_kind (fault_of program words) goes.0 kinds)
-
--- what the words ask for is in its ranges
-pub asked-range : (words : List Text) → IsInRange (request_of_texts words)
-asked-range words = go (from_line words) (line_request words)
-  where
-    go : (want : Option (List Row)) → MatchesRequest want (request_of_texts words) → IsInRange (request_of_texts words)
-    go None none = subst IsInRange (sym none) tt
-    go (Some rows) asks =
-        let blocks = number-range 64 1048576 asks.blocks asks.a asks.first in
-        let journal = number-range 16 65536 asks.journal asks.b asks.second in
-        let nodes = number-range 16 65536 asks.nodes asks.c asks.third in
-        subst IsInRange (sym asks.request) (blocks.0, blocks.1, journal.0, journal.1, nodes.0, nodes.1)
+    by_record : (found : Bool) → LineGoes found (if found then named words None numbers else None)
+    by_record true =
+        let sub : Option (Text × List Row) = entered (built program) (fold (walked top.rules names) (next true) words).stopped in
+        subst (λ (b : Bool). LineFate b sub (named words None numbers)) (sym (record_faults words))
+        (of_fate (is_clean (faults_from none_yet words)) sub (rows_from none_yet words) (named words None numbers) (record_found words) (words_go words))
+    by_record false =
+        subst (λ (b : Bool). LineFate b (entered (built program) (fold (walked top.rules names) (next false) words).stopped) None)
+        (sym (other_refused (bytes_eq word (codes "--")) word words)) tt

@@ -1,20 +1,27 @@
 -- From the contracts of `clap`'s calls to the request: the program's command, and what a parse gives.
-use Rattle.std.proofs.Common.{◌≡◌, ℕ, true, List, [], Option, Some, None, refl, sym, ap, subst, ◌∙◌, codes, arith}
-use Rattle.std.specs.Prelude.{option_map}
-use Rattle.clap.specs.Kinds.{HasKind}
+use Rattle.std.proofs.Common.{◌≡◌, inl, inr, ◌||◌, Bool, true, false, List, [], ◌∷◌, Option, Some, None, refl, sym, ap, ap₂, subst, ◌∙◌, codes}
+use Rattle.std.specs.Prelude.{option_and_then, option_map}
+use Rattle.std.proofs.lemmas.Bool.{false≢true}
+use Rattle.clap.specs.Kinds.{HasKind, Kinds}
 use Rattle.clap.specs.Values.{kind_of}
 use Rattle.clap.specs.Faults.{fault_of, is_simple_and_free}
-use Rattle.clap.specs.Walk.{Row, Text, one_of}
+use Rattle.clap.specs.Matches.{first_value}
+use Rattle.clap.specs.Walk.{Row, Text, first_of, rows_of}
 use Rattle.clap.specs.Simple.{App, Shape, app_of_fields, is_simple, matches_of, new_app, on_top, subcommand_of}
 use Rattle.clap.specs.declared.builder.command.Command.{Command}
 use Rattle.clap.specs.declared.builder.command.Command.TheOpen.{Command-F}
 use Rattle.clap.specs.declared.error.Error.{Error}
 use Rattle.clap.specs.declared.error.kind.ErrorKind.TheVariants.{OutOfMemory}
+use Rattle.clap.specs.declared.parser.matches.Found.{Found}
 use Rattle.clap.proofs.OnLiterals.{clap_on_literals}
+use Rattle.clap.proofs.WalkLemmas.{first_value-rows}
 use Rattle.opt_words.specs.declared.request.Request.{Request}
-use Rattle.opt_words.specs.Program.{ReadsNumber, ReadsRecording, bare, kept_numbers, program}
-use Rattle.opt_words.specs.Words.{number_in, request_of_texts}
-use Rattle.opt_words.proofs.Line.{Asks, taken_line, refused_line}
+use Rattle.opt_words.specs.Program.{bare, program}
+use Rattle.opt_words.specs.Words.{Named, recording_apart, recording_of, request_of_texts, text_of}
+use Rattle.opt_words.proofs.Apart.{rows}
+use Rattle.opt_words.proofs.Asked.{first_is, recording_same, refused_none, request_is}
+use Rattle.opt_words.proofs.Line.{LineFate, from_line, line_goes}
+use Rattle.opt_words.proofs.Steps.{is_clean}
 
 -- the settings of the command above `record`
 pub bare_of : (a b c d e : Command-F Command) → app_of_fields a ≡ new_app (codes "optfs")
@@ -27,6 +34,10 @@ bare_of a b c d e start first second third fourth =
     (ap app_of_fields second ∙ ap (on_top (λ (s : Shape). record s { disable_help_flag = true }))
     (ap app_of_fields first ∙ ap (on_top (λ (s : Shape). record s { no_binary_name = true })) start)))
 
+-- a command with one argument more has no global one
+pub no_globals : (old more new : Bool) → new ≡ (old || more) → old ≡ false → more ≡ false → new ≡ false
+no_globals old more new is first second = is ∙ ap₂ (λ (a b : Bool). a || b) first second
+
 -- `clap` tells exactly what it makes of the words for this command
 is_free : is_simple_and_free program ≡ true
 unfolding clap_on_literals
@@ -36,39 +47,61 @@ is_plain : is_simple program ≡ true
 unfolding clap_on_literals
 is_plain = refl
 
--- the three numbers that are read
-pub reads_three : (rows : List Row) (first second third : Option ℕ) (a b c : List ℕ) (blocks journal nodes : ℕ)
-    → ReadsNumber rows (codes "blocks") first → ReadsNumber rows (codes "journal") second → ReadsNumber rows (codes "nodes") third
-    → rows ≡ kept_numbers a b c
-    → number_in 64 1048576 a ≡ Some blocks → number_in 16 65536 b ≡ Some journal → number_in 16 65536 c ≡ Some nodes
-    → (first ≡ Some blocks) × (second ≡ Some journal) × (third ≡ Some nodes)
-reads_three rows first second third a b c blocks journal nodes one two three kept x y z = (
-  one 64 1048576 blocks a (omega arith) (ap (one_of (codes "blocks")) kept) x,
-  two 16 65536 journal b (omega arith) (ap (one_of (codes "journal")) kept) y,
-  three 16 65536 nodes c (omega arith) (ap (one_of (codes "nodes")) kept) z,
-)
+-- the texts that `record` keeps, which are those of the request
+pub record Entered (words : List Text) (sub : Option (Text × List Row)) : Type 0 where
+  pub texts : List Named
+  pub kept : sub ≡ Some (codes "record", rows texts)
+  pub asks : request_of_texts words ≡ recording_of (text_of texts)
 
--- a parse that succeeds entered `record`, and what is read there is the request
+taken_line : (words : List Text) → fault_of program words ≡ [] → Entered words (subcommand_of program words)
+taken_line words none =
+    go (from_line words) refl (subst (λ (b : Bool). LineFate b (subcommand_of program words) (from_line words)) (ap is_clean none) (line_goes words))
+  where
+    go : (want : Option (List Named)) → from_line words ≡ want → LineFate true (subcommand_of program words) (from_line words) → Entered words (subcommand_of program words)
+    go want same fate = record {
+      texts = fate.0;
+      kept = fate.3;
+      asks = request_is words ∙ ap (option_and_then recording_apart) fate.1 ∙ rw fate.2 refl;
+    }
+
+-- a parse that succeeds entered `record`, and keeps the texts of the request
 pub parsed_request : (p : App) (words : List Text) (own : List Row) (sub : Option (Text × List Row)) → p ≡ program
     → (is_simple_and_free p ≡ true → fault_of p words ≡ [])
     → (is_simple p ≡ true → (own ≡ matches_of p words) × (sub ≡ subcommand_of p words))
-    → (rows : List Row) × (sub ≡ Some (codes "record", rows)) × Asks rows (request_of_texts words)
+    → Entered words sub
 parsed_request p words own sub is kinds matches =
     let none : fault_of program words ≡ [] = subst (λ (q : App). fault_of q words ≡ []) is (kinds (ap is_simple_and_free is ∙ is_free)) in
     let line = taken_line words none in
-    (line.0, (matches (ap is_simple is ∙ is_plain)).1 ∙ (ap (λ (q : App). subcommand_of q words) is ∙ line.1), line.2)
+    record {
+      texts = line.texts;
+      kept = (matches (ap is_simple is ∙ is_plain)).1 ∙ (ap (λ (q : App). subcommand_of q words) is ∙ line.kept);
+      asks = line.asks;
+    }
 
--- the rows of the subcommand are those of the request
-pub read_request : (words : List Text) (rows found : List Row) (sub : Option (Text × List Row)) (result : Option Request)
-    → sub ≡ Some (codes "record", rows) → Asks rows (request_of_texts words) → Some found ≡ option_map (λ q. q.1) sub
-    → ReadsRecording found result → result ≡ request_of_texts words
-read_request words rows found sub result entered asks same read =
-    let is : Some found ≡ Some rows = same ∙ ap (option_map (λ (q : Text × List Row). q.1)) entered in
-    let kept : found ≡ kept_numbers asks.a asks.b asks.c = let e : found ≡ rows = cc in e ∙ asks.kept in
-    read asks.a asks.b asks.c asks.blocks asks.journal asks.nodes kept asks.first asks.second asks.third ∙ sym asks.request
+-- what is read of them is the request
+pub read_request : (words : List Text) (sub : Option (Text × List Row)) (found : Found) (result : Option Request)
+    → Entered words sub → Some (rows_of found) ≡ option_map (λ q. q.1) sub → result ≡ recording_of (first_value found) → result ≡ request_of_texts words
+read_request words sub found result entered same read =
+    let is : Some (rows_of found) ≡ Some (rows entered.texts) = same ∙ ap (option_map (λ (q : Text × List Row). q.1)) entered.kept in
+    let kept : rows_of found ≡ rows entered.texts = cc in
+    let texts : (name : Text) → first_value found name ≡ text_of entered.texts name =
+    λ name. first_value-rows found name ∙ ap (first_of name) kept ∙ first_is entered.texts name in
+    read ∙ recording_same (first_value found) (text_of entered.texts) texts ∙ sym entered.asks
 
 -- a parse that fails, but for out of memory, had words that ask for nothing
 pub refused_request : (p : App) (words : List Text) (e : Error) → p ≡ program
     → (is_simple_and_free p ≡ true → HasKind (fault_of p words) e) → (kind_of e ≡ OutOfMemory → ⊥) → request_of_texts words ≡ None
 refused_request p words e is kinds memory =
-    refused_line words e (subst (λ (q : App). HasKind (fault_of q words) e) is (kinds (ap is_simple_and_free is ∙ is_free))) memory
+    request_is words ∙ by_clean (is_clean (fault_of program words)) refl (line_goes words)
+  where
+    has : HasKind (fault_of program words) e
+    has = subst (λ (q : App). HasKind (fault_of q words) e) is (kinds (ap is_simple_and_free is ∙ is_free))
+
+    no_kind : (faults : Kinds) → is_clean faults ≡ true → HasKind faults e → ⊥
+    no_kind [] clean (inl out) = memory out
+    no_kind [] clean (inr among) = among
+    no_kind (k ∷ faults) clean among = absurd (false≢true clean)
+
+    by_clean : (b : Bool) → is_clean (fault_of program words) ≡ b → LineFate b (subcommand_of program words) (from_line words) → option_and_then recording_apart (from_line words) ≡ None
+    by_clean true clean fate = absurd (no_kind (fault_of program words) clean has)
+    by_clean false clean fate = refused_none (from_line words) fate

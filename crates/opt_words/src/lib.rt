@@ -4,5 +4,6 @@
 
 mod command;
 mod request;
+mod values;
 
-pub use request::{Request, read_words};
+pub use request::{Notices, Request, read_words};

@@ -1,16 +1,30 @@
 //! The request that words ask for: its type, and how it is read from them. How `clap` is known of the
-//! command line is in the module of the command.
+//! command line is in the module of the command, and what one text says in that of the values.
 
-ghost use Rattle.std.specs.Prelude.{◌≡◌, IfOk};
-ghost use Rattle.clap.specs.Words.{found_of, rows_of};
-ghost use Rattle.opt_words.specs.Program.{ReadsNumber, ReadsRecording};
-ghost use Rattle.opt_words.specs.Words.{IsInRange, request_of};
+ghost use Rattle.std.specs.Prelude.{◌≡◌, IfOk, option_and_then};
+ghost use Rattle.clap.specs.Words.{first_value, found_of};
+ghost use Rattle.opt_words.specs.Words.{IsInRange, number_in, recording_of, request_of};
 
-use crate::command::{BLOCKS, JOURNAL, NODES, program};
+use crate::command::{BLOCKS, FAIL, JOURNAL, NODES, NOTICES, ROOM, program};
+use crate::values::{notices_of, number_in};
 use clap::ArgMatches;
 use clap::error::ErrorKind;
 use opt_base::NoMemory;
+use opt_base::limits::{
+    LEAST_BLOCKS, LEAST_JOURNAL, LEAST_NODES, MOST_BLOCKS, MOST_JOURNAL, MOST_NODES,
+};
 use std::alloc::Global;
+
+/// By which rule a disk in memory brings its notices.
+#[derive(Clone, Copy, Debug, PartialEq, Eq)]
+pub enum Notices {
+    /// None comes.
+    Silent,
+    /// That of the least open ticket comes.
+    Fifo,
+    /// They come by a draw that begins with this seed, from 1 to 4,294,967,295.
+    Seed(u32),
+}
 
 /// What the words ask for.
 #[derive(Clone, Copy, Debug, PartialEq, Eq)]
@@ -21,8 +35,20 @@ pub enum Request {
         blocks: u32,
         journal: u32,
         nodes: u32,
+        /// By which rule the disk brings its notices.
+        notices: Notices,
+        /// For how many writes the disk has room, from 1 to 65,536.
+        room: u32,
+        /// Which write of the disk fails, counted from 1; or none does.
+        fail: Option<u32>,
     },
 }
+
+/// The room for writes that a recording has without the option.
+const DEFAULT_ROOM: u32 = 4096;
+
+/// The most room for writes.
+const MOST_ROOM: u32 = 65_536;
 
 /// Reads the words behind the program's name. `None`: they are outside the grammar.
 ///
@@ -46,23 +72,41 @@ pub fn read_words(alloc: Global, words: &[String]) -> Result<Option<Request>, No
     }
 }
 
-/// The recording whose numbers were found.
+/// The recording whose texts were found.
 fn recording(found: &ArgMatches) -> Option<Request>
-    ensures { ReadsRecording (rows_of (found_of found.now)) result }
+    ensures { result ≡ recording_of (first_value (found_of found.now)) }
 {
-    let blocks = number(found, BLOCKS)?;
-    let journal = number(found, JOURNAL)?;
-    let nodes = number(found, NODES)?;
+    let blocks = number(found, BLOCKS, LEAST_BLOCKS, MOST_BLOCKS)?;
+    let journal = number(found, JOURNAL, LEAST_JOURNAL, MOST_JOURNAL)?;
+    let nodes = number(found, NODES, LEAST_NODES, MOST_NODES)?;
+    let notices = match found.get_str(NOTICES) {
+        Some(text) => notices_of(text)?,
+        None => Notices::Silent,
+    };
+    let room = match found.get_str(ROOM) {
+        Some(text) => number_in(text, 1, MOST_ROOM)?,
+        None => DEFAULT_ROOM,
+    };
+    let fail = match found.get_str(FAIL) {
+        Some(text) => Some(number_in(text, 1, u32::MAX)?),
+        None => None,
+    };
     Some(Request::Record {
         blocks,
         journal,
         nodes,
+        notices,
+        room,
+        fail,
     })
 }
 
 /// The number that was found under this name.
-fn number(found: &ArgMatches, id: &str) -> Option<u32>
-    ensures { ReadsNumber (rows_of (found_of found.now)) id.now result }
+fn number(found: &ArgMatches, id: &str, low: u32, high: u32) -> Option<u32>
+    ensures { result ≡ option_and_then (number_in low high) (first_value (found_of found.now) id.now) }
 {
-    found.get_one::<u32>(id)
+    match found.get_str(id) {
+        Some(text) => number_in(text, low, high),
+        None => None,
+    }
 }

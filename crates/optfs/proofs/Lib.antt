@@ -1,8 +1,13 @@
 pub mod LineLemmas
-pub mod RunLemmas
+pub mod Entries
+pub mod EventLines
+pub mod Runs
 pub mod RecordingLemmas
 pub mod ReadingLemmas
 pub mod ProgramLemmas
-pub mod Quiet
 mod Requests
+mod Quiet
 mod FormattedImages
+mod FormattedFound
+mod MountLemmas
+mod OpenLemmas

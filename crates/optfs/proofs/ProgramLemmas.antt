@@ -1,25 +1,62 @@
 -- The last line of each ending, taken or not.
-use Rattle.std.proofs.Common.{◌≡◌, ℕ, ◌^◌, List, ◌++◌, take, drop, Option, refl, sym, ap, ◌∙◌, subst, inl, inr, append_assoc, take-append-drop}
+use Rattle.std.proofs.Common.{◌≡◌, ℕ, ◌^◌, ◌==◌, nat_lt, Bool, true, false, if◌then◌else◌, List, [], ◌∷◌, ◌++◌, flat_map, length, take, drop, Option, refl, sym, ap, ◌∙◌, subst, inl, inr, arith, append_assoc, take-append-drop}
 use Rattle.std.specs.Io.KnownBytes.{Appends}
-use Rattle.std.proofs.KnownBytes.{Appends-trans}
+use Rattle.std.proofs.KnownBytes.{Appends-trans, Appends-nil, Consumes-nil}
 use Rattle.opt_base.specs.Counts.{Rose}
-use Rattle.opt_geom.specs.Geometry.{Geometry}
-use Rattle.opt_trace.specs.Line.{end_line}
-use Rattle.optfs.specs.Output.{Serves, IsWhole, source_line, long_line}
+use Rattle.opt_geom.specs.Geometry.{Geometry, geometry_fits}
+use Rattle.opt_script.specs.Grammar.{command_of}
+use Rattle.opt_script.specs.Values.{IsCommand}
+use Rattle.opt_stands.specs.Stands.{StandsFor}
+use Rattle.opt_journal.specs.Formatted.{formatted}
+use Rattle.opt_memdisk.specs.MemDisk.{MemDiskState, state_of as disk_state}
+use Rattle.opt_trace.specs.Contents.{Each}
+use Rattle.opt_trace.specs.Line.{geometry_line, event_lines, end_line}
+use Rattle.opt_tree.specs.declared.command.Cmd.TheVariants.{Bad}
+use Rattle.opt_tree.specs.Step.{start}
+use Rattle.optfs.specs.Disks.{FailedToMount}
+use Rattle.optfs.specs.Output.{Serves, IsWhole, FailsToMount, longest, disk_line, source_line, long_line}
 use Rattle.optfs.specs.Reading.{AtEnding, Halted, ReadsAll, ReadsSome, ReadsTooMuch}
-use Rattle.optfs.proofs.Quiet.{BeginsEmpty, all_read, some_read, in_whole, whole_front}
+use Rattle.optfs.specs.Lines.{commands_of_line, commands_of, whole_commands, whole_lines, parts_of}
 use Rattle.optfs.specs.Program.{RecordsTo, Tells}
+use Rattle.optfs.proofs.Runs.{each_append, front_at_first, small}
 use Rattle.optfs.specs.declared.reading.Ending.{Ending}
 use Rattle.optfs.specs.declared.reading.Ending.TheVariants.{End, SourceFault as Broke, LongInput as Longer}
 use Rattle.optfs.specs.declared.status.Status.{Status}
-use Rattle.optfs.specs.declared.status.Status.TheVariants.{Done, NoMemory, SourceFault, SinkFault, LongInput}
+use Rattle.optfs.specs.declared.status.Status.TheVariants.{Done, NoMemory, DiskFault, SourceFault, SinkFault, LongInput}
+
+-- What is read is a command, or none.
+
+-- each line is a command with lawful arguments
+abbrev pub AreCommands : Type 0
+AreCommands = (line : List ℕ) → IsCommand (command_of line)
+
+line_read : AreCommands → (n : ℕ) (line : List ℕ) → Each IsCommand (commands_of_line n line)
+line_read read n [] = tt
+line_read read n (b ∷ line) = unless (b == 35) (nat_lt n (length (b ∷ line)))
+  where
+    unless : (skipped long : Bool) → Each IsCommand (if skipped then [] else ((if long then Bad else command_of (b ∷ line)) ∷ []))
+    unless true long = tt
+    unless false true = (refl, tt)
+    unless false false = (read (b ∷ line), tt)
+
+lines_read : AreCommands → (n : ℕ) (lines : List (List ℕ)) → Each IsCommand (flat_map (commands_of_line n) lines)
+lines_read read n [] = tt
+lines_read read n (line ∷ lines) = each_append IsCommand (commands_of_line n line) (flat_map (commands_of_line n) lines) (line_read read n line) (lines_read read n lines)
+
+all_read : AreCommands → (seen : List ℕ) → Each IsCommand (commands_of longest seen)
+all_read read seen = lines_read read longest (parts_of seen)
+
+some_read : AreCommands → (seen : List ℕ) → Each IsCommand (whole_commands longest seen)
+some_read read seen = lines_read read longest (whole_lines seen)
+
+-- The last lines.
 
 regroup : (body line : List ℕ) (n : ℕ) → body ++ line ≡ (body ++ take n line) ++ drop n line
 regroup body line n = ap (λ l. body ++ l) (sym (take-append-drop n line)) ∙ sym (append_assoc body (take n line) (drop n line))
 
-pub tells_end : (geom : Geometry) → BeginsEmpty geom → (result : Status) (left now told mid out : Option (List ℕ)) (source source_now sink sink_now : ℕ) (line : List ℕ) → line ≡ end_line
+pub tells_end : (geom : Geometry) → AreCommands → (result : Status) (left now told mid out : Option (List ℕ)) (source source_now sink sink_now : ℕ) (line : List ℕ) → line ≡ end_line
     → ReadsAll geom left now told mid → Tells Done result line mid out sink sink_now → RecordsTo geom result left now told out source source_now
-tells_end geom begins result left now told mid out source source_now sink sink_now line is r (inl t) =
+tells_end geom read result left now told mid out source source_now sink sink_now line is r (inl t) =
     let P : Status → Type 0 = λ s. RecordsTo geom s left now told out source source_now in
     let Q : List ℕ → Type 0 = λ l. Appends mid out l in
     subst P (sym t.0) (record {
@@ -27,9 +64,9 @@ tells_end geom begins result left now told mid out source source_now sink sink_n
       reads = ((r.read, r.short), r.over);
       text = r.serves.body ++ end_line;
       writes = Appends-trans told mid out r.serves.body end_line r.serves.told (subst Q is t.1);
-      output = record { body = r.serves.body; served = in_whole geom begins _ r.serves.body (all_read geom begins r.seen) r.serves.served; is = refl };
+      output = record { body = r.serves.body; served = r.serves.served (all_read read r.seen); is = refl };
     })
-tells_end geom begins result left now told mid out source source_now sink sink_now line is r (inr t) =
+tells_end geom read result left now told mid out source source_now sink sink_now line is r (inr t) =
     let P : Status → Type 0 = λ s. RecordsTo geom s left now told out source source_now in
     let Q : List ℕ → Type 0 = λ l. Appends mid out (take t.1.0 l) in
     let R : List ℕ → Type 0 = λ l. IsWhole (Serves geom) (Rose source source_now) r.seen l in
@@ -38,12 +75,12 @@ tells_end geom begins result left now told mid out source source_now sink sink_n
       reads = inl (r.read, r.short);
       text = r.serves.body ++ take t.1.0 end_line;
       writes = Appends-trans told mid out r.serves.body _ r.serves.told (subst Q is t.1.1);
-      output = (drop t.1.0 end_line, subst R (regroup r.serves.body end_line t.1.0) (inl (record { body = r.serves.body; served = in_whole geom begins _ r.serves.body (all_read geom begins r.seen) r.serves.served; is = refl })));
+      output = inl (drop t.1.0 end_line, subst R (regroup r.serves.body end_line t.1.0) (inl (record { body = r.serves.body; served = r.serves.served (all_read read r.seen); is = refl })));
     })
 
-pub tells_source : (geom : Geometry) → BeginsEmpty geom → (result : Status) (left now told mid out : Option (List ℕ)) (source source_now sink sink_now : ℕ) (line : List ℕ) → line ≡ source_line → Rose source source_now
+pub tells_source : (geom : Geometry) → AreCommands → (result : Status) (left now told mid out : Option (List ℕ)) (source source_now sink sink_now : ℕ) (line : List ℕ) → line ≡ source_line → Rose source source_now
     → ReadsSome geom left now told mid → Tells SourceFault result line mid out sink sink_now → RecordsTo geom result left now told out source source_now
-tells_source geom begins result left now told mid out source source_now sink sink_now line is rose r (inl t) =
+tells_source geom read result left now told mid out source source_now sink sink_now line is rose r (inl t) =
     let P : Status → Type 0 = λ s. RecordsTo geom s left now told out source source_now in
     let Q : List ℕ → Type 0 = λ l. Appends mid out l in
     subst P (sym t.0) (record {
@@ -51,9 +88,9 @@ tells_source geom begins result left now told mid out source source_now sink sin
       reads = (r.read, r.short);
       text = r.serves.body ++ source_line;
       writes = Appends-trans told mid out r.serves.body source_line r.serves.told (subst Q is t.1);
-      output = record { body = r.serves.body; served = in_whole geom begins _ r.serves.body (some_read geom begins r.seen) r.serves.served; is = refl };
+      output = record { body = r.serves.body; served = r.serves.served (some_read read r.seen); is = refl };
     })
-tells_source geom begins result left now told mid out source source_now sink sink_now line is rose r (inr t) =
+tells_source geom read result left now told mid out source source_now sink sink_now line is rose r (inr t) =
     let P : Status → Type 0 = λ s. RecordsTo geom s left now told out source source_now in
     let Q : List ℕ → Type 0 = λ l. Appends mid out (take t.1.0 l) in
     let R : List ℕ → Type 0 = λ l. IsWhole (Serves geom) (Rose source source_now) r.seen l in
@@ -62,12 +99,12 @@ tells_source geom begins result left now told mid out source source_now sink sin
       reads = inl (r.read, r.short);
       text = r.serves.body ++ take t.1.0 source_line;
       writes = Appends-trans told mid out r.serves.body _ r.serves.told (subst Q is t.1.1);
-      output = (drop t.1.0 source_line, subst R (regroup r.serves.body source_line t.1.0) (inr (inl (rose, record { body = r.serves.body; served = in_whole geom begins _ r.serves.body (some_read geom begins r.seen) r.serves.served; is = refl }))));
+      output = inl (drop t.1.0 source_line, subst R (regroup r.serves.body source_line t.1.0) (inr (inl (rose, record { body = r.serves.body; served = r.serves.served (some_read read r.seen); is = refl }))));
     })
 
-pub tells_long : (geom : Geometry) → BeginsEmpty geom → (result : Status) (left now told mid out : Option (List ℕ)) (source source_now sink sink_now : ℕ) (line : List ℕ) → line ≡ long_line
+pub tells_long : (geom : Geometry) → AreCommands → (result : Status) (left now told mid out : Option (List ℕ)) (source source_now sink sink_now : ℕ) (line : List ℕ) → line ≡ long_line
     → ReadsTooMuch geom left now told mid → Tells LongInput result line mid out sink sink_now → RecordsTo geom result left now told out source source_now
-tells_long geom begins result left now told mid out source source_now sink sink_now line is r (inl t) =
+tells_long geom read result left now told mid out source source_now sink sink_now line is r (inl t) =
     let P : Status → Type 0 = λ s. RecordsTo geom s left now told out source source_now in
     let Q : List ℕ → Type 0 = λ l. Appends mid out l in
     subst P (sym t.0) (record {
@@ -75,9 +112,9 @@ tells_long geom begins result left now told mid out source source_now sink sink_
       reads = (r.next, r.read, r.long);
       text = r.serves.body ++ long_line;
       writes = Appends-trans told mid out r.serves.body long_line r.serves.told (subst Q is t.1);
-      output = record { body = r.serves.body; served = in_whole geom begins _ r.serves.body (some_read geom begins r.seen) r.serves.served; is = refl };
+      output = record { body = r.serves.body; served = r.serves.served (some_read read r.seen); is = refl };
     })
-tells_long geom begins result left now told mid out source source_now sink sink_now line is r (inr t) =
+tells_long geom read result left now told mid out source source_now sink sink_now line is r (inr t) =
     let P : Status → Type 0 = λ s. RecordsTo geom s left now told out source source_now in
     let Q : List ℕ → Type 0 = λ l. Appends mid out (take t.1.0 l) in
     let R : List ℕ → Type 0 = λ l. IsWhole (Serves geom) (Rose source source_now) r.seen l in
@@ -86,48 +123,120 @@ tells_long geom begins result left now told mid out source source_now sink sink_
       reads = inr (r.next, r.read, r.long);
       text = r.serves.body ++ take t.1.0 long_line;
       writes = Appends-trans told mid out r.serves.body _ r.serves.told (subst Q is t.1.1);
-      output = (drop t.1.0 long_line, subst R (regroup r.serves.body long_line t.1.0) (inr (inr (r.long, record { body = r.serves.body; served = in_whole geom begins _ r.serves.body (some_read geom begins r.seen) r.serves.served; is = refl }))));
+      output = inl (drop t.1.0 long_line, subst R (regroup r.serves.body long_line t.1.0) (inr (inr (r.long, record { body = r.serves.body; served = r.serves.served (some_read read r.seen); is = refl }))));
     })
 
-pub closes_end : (geom : Geometry) → BeginsEmpty geom → (ending : Ending) (result : Status) (source source_now : ℕ) (left now told mid out : Option (List ℕ)) (sink sink_now : ℕ) (line : List ℕ) → ending ≡ End → line ≡ end_line
+pub closes_end : (geom : Geometry) → AreCommands → (ending : Ending) (result : Status) (source source_now : ℕ) (left now told mid out : Option (List ℕ)) (sink sink_now : ℕ) (line : List ℕ) → ending ≡ End → line ≡ end_line
     → AtEnding geom ending source source_now left now told mid → Tells Done result line mid out sink sink_now → RecordsTo geom result left now told out source source_now
-closes_end geom begins ending result source source_now left now told mid out sink sink_now line at is h t =
+closes_end geom read ending result source source_now left now told mid out sink sink_now line at is h t =
     let P : Ending → Type 0 = λ e. AtEnding geom e source source_now left now told mid in
-    tells_end geom begins result left now told mid out source source_now sink sink_now line is (subst P at h) t
+    tells_end geom read result left now told mid out source source_now sink sink_now line is (subst P at h) t
 
-pub closes_source : (geom : Geometry) → BeginsEmpty geom → (ending : Ending) (result : Status) (source source_now : ℕ) (left now told mid out : Option (List ℕ)) (sink sink_now : ℕ) (line : List ℕ) → ending ≡ Broke → line ≡ source_line
+pub closes_source : (geom : Geometry) → AreCommands → (ending : Ending) (result : Status) (source source_now : ℕ) (left now told mid out : Option (List ℕ)) (sink sink_now : ℕ) (line : List ℕ) → ending ≡ Broke → line ≡ source_line
     → AtEnding geom ending source source_now left now told mid → Tells SourceFault result line mid out sink sink_now → RecordsTo geom result left now told out source source_now
-closes_source geom begins ending result source source_now left now told mid out sink sink_now line at is h t =
+closes_source geom read ending result source source_now left now told mid out sink sink_now line at is h t =
     let P : Ending → Type 0 = λ e. AtEnding geom e source source_now left now told mid in
     let r : Rose source source_now × ReadsSome geom left now told mid = subst P at h in
-    tells_source geom begins result left now told mid out source source_now sink sink_now line is r.0 r.1 t
+    tells_source geom read result left now told mid out source source_now sink sink_now line is r.0 r.1 t
 
-pub closes_long : (geom : Geometry) → BeginsEmpty geom → (ending : Ending) (result : Status) (source source_now : ℕ) (left now told mid out : Option (List ℕ)) (sink sink_now : ℕ) (line : List ℕ) → ending ≡ Longer → line ≡ long_line
+pub closes_long : (geom : Geometry) → AreCommands → (ending : Ending) (result : Status) (source source_now : ℕ) (left now told mid out : Option (List ℕ)) (sink sink_now : ℕ) (line : List ℕ) → ending ≡ Longer → line ≡ long_line
     → AtEnding geom ending source source_now left now told mid → Tells LongInput result line mid out sink sink_now → RecordsTo geom result left now told out source source_now
-closes_long geom begins ending result source source_now left now told mid out sink sink_now line at is h t =
+closes_long geom read ending result source source_now left now told mid out sink sink_now line at is h t =
     let P : Ending → Type 0 = λ e. AtEnding geom e source source_now left now told mid in
-    tells_long geom begins result left now told mid out source source_now sink sink_now line is (subst P at h) t
+    tells_long geom read result left now told mid out source source_now sink sink_now line is (subst P at h) t
 
 -- Where the recording stopped before its end, no last line is written.
 
-pub halts_memory : (geom : Geometry) → BeginsEmpty geom → (left now told out : Option (List ℕ)) (source source_now : ℕ)
+pub halts_memory : (geom : Geometry) → AreCommands → (left now told out : Option (List ℕ)) (source source_now : ℕ)
     → Halted geom (2 ^ 30) left now told out → RecordsTo geom NoMemory left now told out source source_now
-halts_memory geom begins left now told out source source_now h = record {
+halts_memory geom read left now told out source source_now h = record {
   seen = h.seen;
   reads = (h.read, h.short);
   text = h.stopped.text;
   writes = h.stopped.told;
-  output = whole_front geom begins h.seen h.stopped.text h.stopped.front;
+  output = inr (h.stopped.front (all_read read h.seen));
 }
 
-pub halts_sink : (geom : Geometry) → BeginsEmpty geom → (left now told out : Option (List ℕ)) (source source_now : ℕ)
+pub halts_sink : (geom : Geometry) → AreCommands → (left now told out : Option (List ℕ)) (source source_now : ℕ)
     → Halted geom (2 ^ 30) left now told out → RecordsTo geom SinkFault left now told out source source_now
-halts_sink geom begins left now told out source source_now h =
-    let f = whole_front geom begins h.seen h.stopped.text h.stopped.front in
+halts_sink geom read left now told out source source_now h =
+    let f = h.stopped.front (all_read read h.seen) in
     record {
       seen = h.seen;
       reads = inl (h.read, h.short);
       text = h.stopped.text;
       writes = h.stopped.told;
-      output = (f.0, inl f.1);
+      output = inl (f.0, inl f.1);
     }
+
+-- Memory ran out before anything was written.
+
+pub never_begun : (geom : Geometry) (left told : Option (List ℕ)) (source source_now : ℕ) → RecordsTo geom NoMemory left left told told source source_now
+never_begun geom left told source source_now = record {
+  seen = [];
+  reads = (Consumes-nil left, omega arith);
+  text = [];
+  writes = Appends-nil told;
+  output = inl refl;
+}
+
+-- A mount that failed.
+
+-- what is written of it, but for the last line
+abbrev pub head_of : Geometry → MemDiskState → List ℕ
+head_of g d = (geometry_line g ++ event_lines d.log) ++ end_line
+
+fails_so : (g : Geometry) (d : MemDiskState) → geometry_fits g ≡ true → StandsFor g.n (formatted g) (start g.i).tree → FailedToMount g (disk_state d) → FailsToMount g (head_of g d ++ disk_line)
+fails_so g d fits root failed =
+    let low = small g fits in
+    record {
+      log = d.log;
+      lawful = record {
+        blocks = omega (arith, low.0);
+        journal = omega (arith, low.1);
+        nodes = omega (arith, low.2);
+        log = failed.lawful;
+        events = failed.events;
+        cmds = tt;
+        replies = tt;
+        each_answered = refl;
+        each_marked = refl;
+        ascend = refl;
+      };
+      begins = root;
+      consistent = failed.consistent;
+      is = ap (λ (xs : List ℕ). (xs ++ end_line) ++ disk_line) (sym (front_at_first g d.log));
+    }
+
+pub tells_disk : (g : Geometry) (d : MemDiskState) (result : Status) (left told mid out : Option (List ℕ)) (source sink sink_now : ℕ) (line : List ℕ) → geometry_fits g ≡ true → StandsFor g.n (formatted g) (start g.i).tree → FailedToMount g (disk_state d)
+    → line ≡ disk_line → Appends told mid (head_of g d) → Tells DiskFault result line mid out sink sink_now → RecordsTo g result left left told out source source
+tells_disk g d result left told mid out source sink sink_now line fits root failed is wrote (inl t) =
+    let P : Status → Type 0 = λ s. RecordsTo g s left left told out source source in
+    let Q : List ℕ → Type 0 = λ l. Appends mid out l in
+    subst P (sym t.0) (record {
+      seen = [];
+      reads = (refl, (Consumes-nil left, omega arith));
+      text = head_of g d ++ disk_line;
+      writes = Appends-trans told mid out (head_of g d) disk_line wrote (subst Q is t.1);
+      output = fails_so g d fits root failed;
+    })
+tells_disk g d result left told mid out source sink sink_now line fits root failed is wrote (inr t) =
+    let P : Status → Type 0 = λ s. RecordsTo g s left left told out source source in
+    let Q : List ℕ → Type 0 = λ l. Appends mid out (take t.1.0 l) in
+    subst P (sym t.0) (record {
+      seen = [];
+      reads = inl (Consumes-nil left, omega arith);
+      text = head_of g d ++ take t.1.0 disk_line;
+      writes = Appends-trans told mid out (head_of g d) _ wrote (subst Q is t.1.1);
+      output = inr (drop t.1.0 disk_line, subst (FailsToMount g) (regroup (head_of g d) disk_line t.1.0) (fails_so g d fits root failed));
+    })
+
+pub head_broke : (g : Geometry) (d : MemDiskState) (left told out : Option (List ℕ)) (source n : ℕ) → geometry_fits g ≡ true → StandsFor g.n (formatted g) (start g.i).tree → FailedToMount g (disk_state d)
+    → Appends told out (take n (head_of g d)) → RecordsTo g SinkFault left left told out source source
+head_broke g d left told out source n fits root failed wrote = record {
+  seen = [];
+  reads = inl (Consumes-nil left, omega arith);
+  text = take n (head_of g d);
+  writes = wrote;
+  output = inr (drop n (head_of g d) ++ disk_line, subst (FailsToMount g) (ap (λ (l : List ℕ). l ++ disk_line) (sym (take-append-drop n (head_of g d))) ∙ append_assoc (take n (head_of g d)) (drop n (head_of g d)) disk_line) (fails_so g d fits root failed));
+}

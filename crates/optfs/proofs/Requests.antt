@@ -7,9 +7,7 @@ use Rattle.optfs.specs.Output.{usage_line, shape_line}
 use Rattle.optfs.specs.Program.{Does, RecordsWhere, RecordsTo, Refuses, Tells, is_recording, shape_of}
 use Rattle.optfs.specs.declared.status.Status.{Status}
 use Rattle.optfs.specs.declared.status.Status.TheVariants.{Usage, NoMemory, BadShape}
-use Rattle.optfs.proofs.Quiet.{BeginsEmpty}
-use Rattle.optfs.proofs.ReadingLemmas.{nothing_read}
-use Rattle.optfs.proofs.ProgramLemmas.{halts_memory}
+use Rattle.optfs.proofs.ProgramLemmas.{never_begun}
 
 -- a line that was told is a refusal's line
 pub refused : (refusal result : Status) (line : List ℕ) (told out : Option (List ℕ)) (sink sink_now : ℕ)
@@ -18,16 +16,13 @@ refused refusal result line told out sink sink_now (inl t) = inl t
 refused refusal result line told out sink sink_now (inr t) = inr (inl (t.0, t.1))
 
 -- Where no memory is found before anything was read or written, that may be so for every request.
-memory_where : (fits : Bool) (geom : Geometry) (left told : Option (List ℕ)) (source source_now : ℕ)
-    → (fits ≡ true → BeginsEmpty geom) → RecordsWhere fits geom NoMemory left left told told source source_now
-memory_where true geom left told source source_now begins = halts_memory geom (begins refl) left left told told source source_now (nothing_read geom left told)
-memory_where false geom left told source source_now begins = inr (inr (refl, refl))
+memory_where : (fits : Bool) (geom : Geometry) (left told : Option (List ℕ)) (source source_now : ℕ) → RecordsWhere fits geom NoMemory left left told told source source_now
+memory_where true geom left told source source_now = never_begun geom left told source source_now
+memory_where false geom left told source source_now = inr (inr (refl, refl))
 
-pub does_memory : (request : Option Request) (left told : Option (List ℕ)) (source source_now : ℕ)
-    → ((geom : Geometry) → geometry_fits geom ≡ true → BeginsEmpty geom) → Does request NoMemory left left told told source source_now
-does_memory None left told source source_now begins = inr (inr (refl, refl))
-does_memory (Some request) left told source source_now begins =
-    memory_where (geometry_fits (shape_of request)) (shape_of request) left told source source_now (begins (shape_of request))
+pub does_memory : (request : Option Request) (left told : Option (List ℕ)) (source source_now : ℕ) → Does request NoMemory left left told told source source_now
+does_memory None left told source source_now = inr (inr (refl, refl))
+does_memory (Some request) left told source source_now = memory_where (geometry_fits (shape_of request)) (shape_of request) left told source source_now
 
 pub does_usage : (request : Option Request) (result : Status) (left left_now told out : Option (List ℕ)) (source source_now sink sink_now : ℕ) (line : List ℕ)
     → request ≡ None → line ≡ usage_line → Tells Usage result line told out sink sink_now → Does request result left left_now told out source source_now

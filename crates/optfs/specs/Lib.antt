@@ -1,4 +1,7 @@
 pub mod Lines
+pub mod Running
+pub mod Disks
+pub mod Mounting
 pub mod Output
 pub mod Follows
 pub mod Program

@@ -1,7 +1,7 @@
 -- What the program writes for the bytes that it read, status by status. It is described in docs/TRACE.md.
-use Rattle.std.specs.Prelude.{◌≡◌, ℕ, ◌^◌, ◌⊎◌, List, ◌++◌, codes, length}
+use Rattle.std.specs.Prelude.{◌≡◌, ℕ, ◌^◌, ◌⊎◌, List, [], ◌++◌, codes, length}
 use Rattle.opt_disk.specs.declared.event.Event.{Event}
-use Rattle.opt_geom.specs.Geometry.{Geometry}
+use Rattle.opt_geom.specs.Geometry.{Geometry, bitmap_blocks}
 use Rattle.opt_journal.specs.Formatted.{formatted}
 use Rattle.opt_stands.specs.Stands.{StandsFor}
 use Rattle.opt_trace.specs.Line.{end_line}
@@ -10,17 +10,21 @@ use Rattle.opt_tree.specs.declared.command.Cmd.{Cmd}
 use Rattle.opt_tree.specs.declared.command.Reply.{Reply}
 use Rattle.opt_tree.specs.Step.{Session, start}
 use Rattle.opt_tree.specs.Run.{StopsAfterFault}
-use Rattle.opt_fs.specs.Room.{Room, IsFirstRoom, RunsIn}
+use Rattle.opt_crash.specs.Counts.{AreAtMost}
+use Rattle.opt_fs.specs.Room.{Room, IsFirstRoom}
+use Rattle.opt_fs.specs.DiskRoom.{RunsOn}
+use Rattle.opt_session.specs.Budget.{budget_of}
 use Rattle.opt_session.specs.Crashes.{IsCrashConsistent}
+use Rattle.opt_session.specs.Issued.{IssuesLast}
 use Rattle.optfs.specs.Lines.{whole_commands, commands_of}
 use Rattle.optfs.specs.declared.status.Status.{Status}
-use Rattle.optfs.specs.declared.status.Status.TheVariants.{Done, Usage, NoMemory, SourceFault, SinkFault, BadShape, LongInput}
+use Rattle.optfs.specs.declared.status.Status.TheVariants.{Done, Usage, NoMemory, DiskFault, SourceFault, SinkFault, BadShape, LongInput}
 
 -- what the trace of a run on a disk of this geometry says
 abbrev pub says : Geometry → List Event → ℕ → List Cmd → List Reply → List ℕ → Contents
 says g log mounted cmds replies marks = record { geometry = g; log = log; mounted = mounted; cmds = cmds; replies = replies; marks = marks }
 
--- The text begins the trace of a run of these commands on a disk that was formatted with this geometry. Each command is answered in turn as the tree answers it, or refused as the room of that disk says, or out of memory; and every crash leaves a sync point.
+-- The text begins the trace of a run of these commands on a disk that was formatted with this geometry. Each command is answered in turn as the tree answers it, or refused as the room of that disk says, or for the disk or memory; and every crash, at each moment of the mount and of each command, leaves a sync point. At the mark of each reply before any fault of the disk, all that was issued stands for the last point. The writes keep within what the commands stand for.
 pub record Serves (g : Geometry) (cmds : List Cmd) (text : List ℕ) : Type 0 where
   -- all events of the disk, and how many of them are the mount's
   pub log : List Event
@@ -34,10 +38,12 @@ pub record Serves (g : Geometry) (cmds : List Cmd) (text : List ℕ) : Type 0 wh
   pub room : Room
   pub lawful : AreLawful (says g log mounted cmds replies marks)
   pub empty : IsFirstRoom g first
-  pub run : RunsIn g (start g.i) first cmds replies after room
+  pub run : RunsOn g (start g.i) first cmds replies after room
   pub stops : StopsAfterFault cmds replies
   pub begins : StandsFor g.n (formatted g) (start g.i).tree
   pub consistent : IsCrashConsistent g.n g.i (formatted g) log mounted cmds replies marks
+  pub issued : IssuesLast g.n (formatted g) (start g.i) log mounted cmds replies marks
+  pub budget : AreAtMost mounted log (budget_of (bitmap_blocks g) (start g.i) 0 cmds replies)
   pub is : text ≡ front_of (says g log mounted cmds replies marks)
 
 -- what such a text says
@@ -62,6 +68,17 @@ pub record IsCutShort (S : List Cmd → List ℕ → Type 0) (seen last text : L
   pub served : S (whole_commands longest seen) body
   pub is : text ≡ body ++ last
 
+abbrev pub disk_line : List ℕ
+disk_line = codes "error 5 disk\n"
+
+-- The text is that of a mount that the disk failed: the events so far, and then the last line. Every crash of it leaves the root alone.
+pub record FailsToMount (g : Geometry) (text : List ℕ) : Type 0 where
+  pub log : List Event
+  pub lawful : AreLawful (says g log (length log) [] [] [])
+  pub begins : StandsFor g.n (formatted g) (start g.i).tree
+  pub consistent : IsCrashConsistent g.n g.i (formatted g) log (length log) [] [] []
+  pub is : text ≡ (front_of (says g log (length log) [] [] []) ++ end_line) ++ disk_line
+
 abbrev pub source_line : List ℕ
 source_line = codes "error 7 source\n"
 
@@ -85,12 +102,13 @@ IsWhole S source_failed seen text =
 abbrev pub IsFront : (List ℕ → Type 0) → List ℕ → Type 0
 IsFront P text = (rest : List ℕ) × P (text ++ rest)
 
--- what a recording that ended with this status wrote for the bytes that it read, where the source failed or didn't
-abbrev pub Recorded : (List Cmd → List ℕ → Type 0) → Status → Type 0 → List ℕ → List ℕ → Type 0
-Recorded S Done source_failed seen text = IsTrace S seen text
-Recorded S SourceFault source_failed seen text = IsCutShort S seen source_line text
-Recorded S LongInput source_failed seen text = IsCutShort S seen long_line text
-Recorded S Usage source_failed seen text = ⊥
-Recorded S BadShape source_failed seen text = ⊥
-Recorded S NoMemory source_failed seen text = IsFront (IsTrace S seen) text
-Recorded S SinkFault source_failed seen text = IsFront (IsWhole S source_failed seen) text
+-- What a recording on a disk of this geometry that ended with this status wrote for the bytes that it read, where the source failed or didn't. Where memory ran out before the mount ended, that is nothing.
+abbrev pub Recorded : Geometry → Status → Type 0 → List ℕ → List ℕ → Type 0
+Recorded g Done source_failed seen text = IsTrace (Serves g) seen text
+Recorded g DiskFault source_failed seen text = FailsToMount g text
+Recorded g SourceFault source_failed seen text = IsCutShort (Serves g) seen source_line text
+Recorded g LongInput source_failed seen text = IsCutShort (Serves g) seen long_line text
+Recorded g Usage source_failed seen text = ⊥
+Recorded g BadShape source_failed seen text = ⊥
+Recorded g NoMemory source_failed seen text = (text ≡ []) ⊎ IsFront (IsTrace (Serves g) seen) text
+Recorded g SinkFault source_failed seen text = IsFront (IsWhole (Serves g) source_failed seen) text ⊎ IsFront (FailsToMount g) text

@@ -5,9 +5,9 @@ use Rattle.opt_base.specs.Counts.{Rose}
 use Rattle.opt_geom.specs.Geometry.{Geometry, geometry_fits}
 use Rattle.opt_words.specs.declared.request.Request.{Request}
 use Rattle.opt_words.specs.declared.request.Request.TheVariants.{Record}
-use Rattle.optfs.specs.Output.{Serves, Recorded, usage_line, shape_line}
+use Rattle.optfs.specs.Output.{Recorded, usage_line, shape_line}
 use Rattle.optfs.specs.declared.status.Status.{Status}
-use Rattle.optfs.specs.declared.status.Status.TheVariants.{Done, Usage, NoMemory, SourceFault, SinkFault, BadShape, LongInput}
+use Rattle.optfs.specs.declared.status.Status.TheVariants.{Done, Usage, NoMemory, DiskFault, SourceFault, SinkFault, BadShape, LongInput}
 
 -- these bytes were read, which are no more than an input may have
 abbrev pub ReadsWithin : List ℕ → Option (List ℕ) → Option (List ℕ) → Type 0
@@ -23,6 +23,7 @@ Reads Done seen left left_now = ReadsWithin seen left left_now × IsAtEnd left_n
 Reads Usage seen left left_now = ⊥
 Reads BadShape seen left left_now = ⊥
 Reads NoMemory seen left left_now = ReadsWithin seen left left_now
+Reads DiskFault seen left left_now = (seen ≡ []) × ReadsWithin seen left left_now
 Reads SourceFault seen left left_now = ReadsWithin seen left left_now
 Reads SinkFault seen left left_now = ReadsWithin seen left left_now ⊎ ReadsPast seen left left_now
 Reads LongInput seen left left_now = ReadsPast seen left left_now
@@ -33,7 +34,7 @@ pub record RecordsTo (g : Geometry) (status : Status) (left left_now taken taken
   pub reads : Reads status seen left left_now
   pub text : List ℕ
   pub writes : Appends taken taken_now text
-  pub output : Recorded (Serves g) status (Rose source source_now) seen text
+  pub output : Recorded g status (Rose source source_now) seen text
 
 -- The line of this refusal is written; where the sink fails it has a front of that line, and where no memory is found nothing is written.
 abbrev pub Refuses : Status → List ℕ → Status → Option (List ℕ) → Option (List ℕ) → Type 0
@@ -48,7 +49,7 @@ RecordsWhere false g status left left_now taken taken_now source source_now = Re
 
 -- the geometry that a request asks for
 abbrev pub shape_of : Request → Geometry
-shape_of (Record blocks journal nodes) = record { n = blocks; j = journal; i = nodes }
+shape_of (Record blocks journal nodes notices room fail) = record { n = blocks; j = journal; i = nodes }
 
 -- What the program does for what its words ask: it records on a disk of the geometry, where that fits, and else says so; words that ask for nothing are told the usage.
 abbrev pub Does : Option Request → Status → Option (List ℕ) → Option (List ℕ) → Option (List ℕ) → Option (List ℕ) → ℕ → ℕ → Type 0

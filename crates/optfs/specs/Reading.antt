@@ -2,22 +2,22 @@
 use Rattle.std.specs.Prelude.{◌≡◌, ℕ, ◌+◌, ◌^◌, ◌<◌, ◌≤◌, List, [], ◌∷◌, ◌++◌, length, Option}
 use Rattle.std.specs.Io.KnownBytes.{Consumes, IsAtEnd}
 use Rattle.opt_base.specs.Counts.{Rose}
-use Rattle.opt_disk.specs.declared.event.Event.{Event}
 use Rattle.opt_geom.specs.Geometry.{Geometry}
 use Rattle.optfs.specs.Lines.{commands_of, whole_commands}
 use Rattle.optfs.specs.Output.{longest}
-use Rattle.optfs.specs.Follows.{System, Follows, Stopped, ServesTo}
+use Rattle.opt_blocks.specs.State.{State}
+use Rattle.optfs.specs.Follows.{Follows, Stopped, ServesTo}
 use Rattle.optfs.specs.declared.reading.Turn.{Turn}
 use Rattle.optfs.specs.declared.reading.Turn.TheVariants.{Took, Ended, Failed}
 use Rattle.optfs.specs.declared.reading.Ending.{Ending}
 use Rattle.optfs.specs.declared.reading.Ending.TheVariants.{End, SourceFault, LongInput}
 
 -- So many bytes were read since the beginning, and the recording follows them.
-pub record At (geom : Geometry) (count : ℕ) (left_first left told_first told : Option (List ℕ)) (system : System) (line : List ℕ) (log : List Event) : Type 0 where
+pub record At (geom : Geometry) (count : ℕ) (left_first left told_first told : Option (List ℕ)) (s : State) (line : List ℕ) : Type 0 where
   pub seen : List ℕ
   pub read : Consumes left_first left seen
   pub long : length seen ≡ count
-  pub follows : Follows geom seen told_first told system line log
+  pub follows : Follows geom seen told_first told s line
 
 -- The recording stopped, with at most so many bytes read.
 pub record Halted (geom : Geometry) (most : ℕ) (left_first left told_first told : Option (List ℕ)) : Type 0 where
@@ -32,13 +32,13 @@ Brings (Took n) most = (0 < n) × (n ≤ most)
 Brings _ most = Unit
 
 -- how far the reading is after a pull
-abbrev pub AfterTurn : Geometry → Turn → ℕ → ℕ → ℕ → Option (List ℕ) → Option (List ℕ) → Option (List ℕ) → Option (List ℕ) → System → List ℕ → List Event → Type 0
-AfterTurn geom (Took n) count faults faults_now left_first left told_first told system line log =
-    At geom (count + n) left_first left told_first told system line log
-AfterTurn geom Ended count faults faults_now left_first left told_first told system line log =
-    IsAtEnd left × At geom count left_first left told_first told system line log
-AfterTurn geom Failed count faults faults_now left_first left told_first told system line log =
-    Rose faults faults_now × At geom count left_first left told_first told system line log
+abbrev pub AfterTurn : Geometry → Turn → ℕ → ℕ → ℕ → Option (List ℕ) → Option (List ℕ) → Option (List ℕ) → Option (List ℕ) → State → List ℕ → Type 0
+AfterTurn geom (Took n) count faults faults_now left_first left told_first told s line =
+    At geom (count + n) left_first left told_first told s line
+AfterTurn geom Ended count faults faults_now left_first left told_first told s line =
+    IsAtEnd left × At geom count left_first left told_first told s line
+AfterTurn geom Failed count faults faults_now left_first left told_first told s line =
+    Rose faults faults_now × At geom count left_first left told_first told s line
 
 -- The whole input was read and all its commands are served.
 pub record ReadsAll (geom : Geometry) (left_first left told_first told : Option (List ℕ)) : Type 0 where

@@ -1,14 +1,18 @@
 //! The program `optfs`: words and a script in, a trace out. The crates below hold the parts; here are
-//! the reading of lines, the recording of their commands, the formatted disk, and the exit status. The
+//! the formatted disk and its mount, the reading of lines, the recording of their commands, and the exit status. The
 //! rules are described in docs/SCRIPT.md, docs/TRACE.md and docs/CRASHES.md.
 #![tactic(auto)]
 
+mod disk;
+mod events;
 mod formatting;
 mod laws;
 mod lines;
+mod mounting;
 mod program;
 mod reading;
 mod recording;
+mod running;
 mod status;
 #[cfg(test)]
 mod tests;
@@ -18,7 +22,6 @@ mod tree_tests;
 pub use laws::{a_disk_at_rest_is_crash_consistent, a_text_is_served_in_one_way};
 use opt_io::{ReadSource, WriteSink};
 use opt_memdisk::MemBay;
-use program::ROOM;
 pub use program::optfs;
 pub use status::Status;
 use std::env;
@@ -68,3 +71,6 @@ fn words_of(rt: &HostRuntime) -> io::Result<Vec<String>> {
     }
     Ok(words)
 }
+
+/// For how many writes a disk of the bay has room.
+const ROOM: u32 = 4096;

@@ -3,16 +3,25 @@
 //! a line is answered is in the module of the recording, and how the input is read in the module of
 //! the reading.
 
-ghost use Rattle.std.specs.Prelude.{◌≡◌, ℕ, ◌≤◌, ◌^◌, true, false, List, [], Option, IfOk, IsOk, ◌↔◌, OnErr, length};
-ghost use Rattle.opt_geom.specs.Geometry.{Geometry, geometry_fits};
-ghost use Rattle.opt_memdisk.specs.MemDisk.{MemDiskState};
+ghost use Rattle.std.specs.Prelude.{◌≡◌, ℕ, ◌^◌, ◌≤◌, true, false, List, [], ◌++◌, take, Option, IfOk, IsOk, OnOk, OnErr, ◌↔◌};
+ghost use Rattle.std.specs.Io.KnownBytes.{Appends};
+ghost use Rattle.opt_base.specs.Counts.{HasCause};
+ghost use Rattle.opt_geom.specs.Geometry.{geometry_fits};
+ghost use Rattle.opt_memdisk.specs.MemDisk.{state_of as disk_state};
+ghost use Rattle.opt_store.specs.StoreOf.{state_of};
+ghost use Rattle.opt_fs.specs.Opened.{blocks_in};
+ghost use Rattle.opt_trace.specs.Line.{geometry_line, event_lines, end_line};
 ghost use Rattle.opt_words.specs.Words.{request_of};
+ghost use Rattle.optfs.specs.Disks.{FailedToMount, IsOpened};
 ghost use Rattle.optfs.specs.Follows.{StopsByCause};
+ghost use Rattle.optfs.specs.Mounting.{Mounts};
+ghost use Rattle.optfs.specs.Program.{Does, HasFault, RecordsTo, Tells, is_recording, shape_of};
 ghost use Rattle.optfs.specs.Reading.{AtEnding, Halted};
-ghost use Rattle.optfs.specs.Program.{Does, RecordsTo, HasFault, Tells, is_recording, shape_of};
 
-use crate::formatting::formatted_image;
-use crate::reading::{Ending, read_all};
+use crate::disk::{Behaviour, formatted_disk};
+use crate::events::write_head;
+use crate::mounting::{Mounted, System, mount};
+use crate::reading::{Ending, read_lines};
 use crate::recording::{Recording, Stop};
 use crate::status::Status;
 use opt_base::NoMemory;
@@ -21,20 +30,17 @@ use opt_geom::{BadShape, Geom};
 use opt_io::{Sink, SinkFault, Source, push_all};
 use opt_memdisk::MemDisk;
 use opt_script::lines_are_commands;
-use opt_stands::{images_alike_below_n_stand_for_the_same, the_formatted_disk_stands_for_the_root};
-use opt_trace::{write_end, write_geom};
-use opt_tree::{a_tree_in_memory_refuses_for_no_disk, no_other_command_is_promised_a_point};
+use opt_stands::the_formatted_disk_stands_for_the_root;
+use opt_trace::write_end;
 use opt_words::{Request, read_words};
 use std::alloc::Global;
 
 /// Runs the program with these words.
 ///
-/// The words `record N J I` read a script from `input` and write its trace to `out`. Each command is
-/// answered as the tree of names and byte files answers it. Or it is refused: where it needs more blocks
-/// than are left, costs more than a transaction has room for, or would scatter a node over too many runs,
-/// each exactly where that is so; or out of memory. A crash after any of the events that the trace tells
-/// leaves the tree of one sync point, no older than the last one promised. No command writes to the disk
-/// yet, so the trace tells no event. The bay is for words that name an image; none of these is built yet.
+/// The words `record N J I` format a disk in memory and mount it. They read a script from `input`, answer its
+/// commands by a file system on this disk, and write the trace to `out`: each command, the events that the disk had
+/// meanwhile, and the reply. The options `--notices`, `--room` and `--fail` say how the disk behaves. The bay is for
+/// words that name an image; none of these is built yet.
 pub fn optfs<S: Source, K: Sink, Y: Bay>(
     alloc: Global,
     words: &[String],
@@ -52,17 +58,12 @@ pub fn optfs<S: Source, K: Sink, Y: Bay>(
 
     ensures bay { bay.new ≡ bay.old }
 {
-    the_formatted_disk_stands_for_the_root();
-    images_alike_below_n_stand_for_the_same();
-    lines_are_commands();
-    a_tree_in_memory_refuses_for_no_disk();
-    no_other_command_is_promised_a_point();
     match read_words(alloc, words) {
         Err(NoMemory) => Status::NoMemory,
         Ok(None) => tell(out, USAGE, Status::Usage),
         Ok(Some(request)) => match geometry(request) {
             Err(BadShape) => tell(out, SHAPE, Status::BadShape),
-            Ok(geom) => record(alloc, &geom, input, out),
+            Ok(geom) => record(alloc, &geom, &behaviour(request), input, out),
         },
     }
 }
@@ -80,24 +81,104 @@ fn geometry(request: Request) -> Result<Geom, BadShape>
             blocks,
             journal,
             nodes,
+            ..
         } => Geom::new(blocks, journal, nodes),
     }
 }
 
-/// Makes a recording of the whole input on a disk of this geometry, and writes its last line.
-fn record<S: Source, K: Sink>(alloc: Global, geom: &Geom, input: &mut S, out: &mut K) -> Status
+/// How the disk is to behave that a request asks for.
+fn behaviour(request: Request) -> Behaviour {
+    match request {
+        Request::Record {
+            notices,
+            room,
+            fail,
+            ..
+        } => Behaviour {
+            notices,
+            room,
+            fail,
+        },
+    }
+}
+
+/// Makes a recording of the whole input on a disk that was just formatted with this geometry and behaves so.
+fn record<S: Source, K: Sink>(
+    alloc: Global,
+    geom: &Geom,
+    behaviour: &Behaviour,
+    input: &mut S,
+    out: &mut K,
+) -> Status
     ensures records { RecordsTo geom.now result (S.remaining input.old) (S.remaining input.new)
         (K.taken out.old) (K.taken out.new) (S.faults input.old) (S.faults input.new) }
     ensures faults { HasFault result (S.faults input.old) (S.faults input.new) (K.faults out.old) (K.faults out.new) }
     ensures counts { (S.faults input.old ≤ S.faults input.new) × (K.faults out.old ≤ K.faults out.new) }
 {
+    match begin(alloc, geom, behaviour) {
+        Err(NoMemory) => Status::NoMemory,
+        Ok(Mounted::Failed(disk)) => tell_failed_mount(geom, &disk, out),
+        Ok(Mounted::Opened(system)) => record_on(alloc, geom, system, input, out),
+    }
+}
+
+/// Formats a disk, mounts it, and opens the file system on it.
+///
+/// # Errors
+/// Out of memory.
+fn begin(alloc: Global, geom: &Geom, behaviour: &Behaviour) -> Result<Mounted, NoMemory>
+    ensures { IfOk result (λ mounted. Mounts geom.now mounted) }
+{
+    let disk = formatted_disk(alloc, geom, behaviour)?;
+    let mounted = mount(alloc, geom, disk)?;
+    Ok(mounted)
+}
+
+/// Writes the whole output of a mount that failed: what the trace has of it, and the last line.
+fn tell_failed_mount<K: Sink>(geom: &Geom, disk: &MemDisk, out: &mut K) -> Status
+    requires failed { FailedToMount geom.now (disk_state disk.now) }
+    ensures records { (left : Option (List ℕ)) (source : ℕ) → RecordsTo geom.now result left left (K.taken out.old) (K.taken out.new) source source }
+    ensures faults { (source : ℕ) → HasFault result source source (K.faults out.old) (K.faults out.new) }
+    ensures counts { K.faults out.old ≤ K.faults out.new }
+{
     geom.lawful();
     the_formatted_disk_stands_for_the_root();
-    images_alike_below_n_stand_for_the_same();
+    match write_failed_mount(geom, disk, out) {
+        Err(SinkFault) => Status::SinkFault,
+        Ok(()) => tell(out, DISK, Status::DiskFault),
+    }
+}
+
+/// Writes a trace that ends with the mount.
+///
+/// # Errors
+/// The first fault of the sink, which by then took a front of the trace and nothing else.
+fn write_failed_mount<K: Sink>(geom: &Geom, disk: &MemDisk, out: &mut K) -> Result<(), SinkFault>
+    ensures all { OnOk result (Appends (K.taken out.old) (K.taken out.new) ((geometry_line geom.now ++ event_lines disk.now.log) ++ end_line)) }
+    ensures front { OnErr result ((n : ℕ) × Appends (K.taken out.old) (K.taken out.new) (take n ((geometry_line geom.now ++ event_lines disk.now.log) ++ end_line))) }
+    ensures cause { HasCause result (K.faults out.old) (K.faults out.new) }
+{
+    write_head(out, geom, disk)?;
+    write_end(out)?;
+    Ok(())
+}
+
+/// Makes a recording of the whole input by this file system, which nothing was asked of yet, and writes its last line.
+fn record_on<S: Source, K: Sink>(
+    alloc: Global,
+    geom: &Geom,
+    system: System,
+    input: &mut S,
+    out: &mut K,
+) -> Status
+    requires opened { IsOpened geom.now (state_of disk_state (blocks_in system)) }
+    ensures records { RecordsTo geom.now result (S.remaining input.old) (S.remaining input.new)
+        (K.taken out.old) (K.taken out.new) (S.faults input.old) (S.faults input.new) }
+    ensures faults { HasFault result (S.faults input.old) (S.faults input.new) (K.faults out.old) (K.faults out.new) }
+    ensures counts { (S.faults input.old ≤ S.faults input.new) × (K.faults out.old ≤ K.faults out.new) }
+{
     lines_are_commands();
-    a_tree_in_memory_refuses_for_no_disk();
-    no_other_command_is_promised_a_point();
-    match record_lines(alloc, geom, input, out) {
+    match record_lines(alloc, geom, system, input, out) {
         Err(Stop::NoMemory) => Status::NoMemory,
         Err(Stop::SinkFault) => Status::SinkFault,
         Ok(Ending::End) => tell(out, END, Status::Done),
@@ -106,13 +187,41 @@ fn record<S: Source, K: Sink>(alloc: Global, geom: &Geom, input: &mut S, out: &m
     }
 }
 
-/// Formats a disk, and writes the trace of the whole input but its last line.
+/// Writes the trace of the whole input but its last line, by this file system, which nothing was asked of yet.
+///
+/// # Errors
+/// Out of memory, or a fault of the sink.
 fn record_lines<S: Source, K: Sink>(
     alloc: Global,
     geom: &Geom,
+    system: System,
     input: &mut S,
     out: &mut K,
 ) -> Result<Ending, Stop>
+    requires opened { IsOpened geom.now (state_of disk_state (blocks_in system)) }
+    ensures ok { IfOk result (λ ending. AtEnding geom.now ending (S.faults input.old) (S.faults input.new)
+        (S.remaining input.old) (S.remaining input.new) (K.taken out.old) (K.taken out.new)) }
+    ensures err { OnErr result (Halted geom.now (2 ^ 30) (S.remaining input.old) (S.remaining input.new) (K.taken out.old) (K.taken out.new)) }
+    ensures source { S.faults input.old ≤ S.faults input.new }
+    ensures cause { StopsByCause (K.faults out.old) (K.faults out.new) result }
+{
+    let mut recording = Recording::new(alloc, system);
+    write_lines(alloc, geom, &mut recording, input, out)
+}
+
+/// Writes what `record_lines` does, by a recording that has begun with the file system and has no line.
+///
+/// # Errors
+/// Out of memory, or a fault of the sink.
+fn write_lines<S: Source, K: Sink>(
+    alloc: Global,
+    geom: &Geom,
+    recording: &mut Recording,
+    input: &mut S,
+    out: &mut K,
+) -> Result<Ending, Stop>
+    requires opened { IsOpened geom.now (state_of disk_state (blocks_in recording.old.system)) }
+    requires line { recording.old.line.items ≡ [] }
     ensures ok { IfOk result (λ ending. AtEnding geom.now ending (S.faults input.old) (S.faults input.new)
         (S.remaining input.old) (S.remaining input.new) (K.taken out.old) (K.taken out.new)) }
     ensures err { OnErr result (Halted geom.now (2 ^ 30) (S.remaining input.old) (S.remaining input.new) (K.taken out.old) (K.taken out.new)) }
@@ -120,21 +229,10 @@ fn record_lines<S: Source, K: Sink>(
     ensures cause { StopsByCause (K.faults out.old) (K.faults out.new) result }
 {
     geom.lawful();
-    let image = formatted_image(alloc, geom)?;
-    let disk = MemDisk::of_image(alloc, image, ROOM)?;
-    let mut recording = Recording::new(alloc, geom, disk)?;
-    let mut chunk = zeros(alloc, CHUNK)?;
-    write_geom(out, geom)?;
-    let ending = read_all(alloc, &mut recording, input, out, chunk.as_mut_slice())?;
+    recording.run_is_known();
+    write_head(out, geom, recording.disk())?;
+    let ending = read_lines(alloc, recording, input, out)?;
     Ok(ending)
-}
-
-/// So many zero bytes.
-fn zeros(alloc: Global, count: usize) -> Result<Vec<u8>, NoMemory>
-    ensures { IfOk result (λ bytes. length bytes.items ≡ count) }
-{
-    let bytes = vec![in alloc; 0u8; count]?;
-    Ok(bytes)
 }
 
 /// Writes the last line of a status.
@@ -148,16 +246,12 @@ fn tell<K: Sink>(out: &mut K, line: &[u8], status: Status) -> Status
     }
 }
 
-/// How many bytes are asked for at once.
-const CHUNK: usize = 65_536;
-
-/// How many writes a disk in memory takes.
-pub(crate) const ROOM: u32 = 4096;
-
 /// The last line of a whole trace, and of each status that has one.
 const END: &[u8] = b"end\n";
 
 const USAGE: &[u8] = b"error 2 usage\n";
+
+const DISK: &[u8] = b"error 5 disk\n";
 
 const SOURCE: &[u8] = b"error 7 source\n";
 

@@ -1,14 +1,16 @@
 //! The reading of an input: pull after pull, up to its end, to a fault of the source, or to the most
 //! bytes that an input may have. What the bytes do is in the module of the recording.
 
-ghost use Rattle.std.specs.Prelude.{◌≡◌, ℕ, true, ◌+◌, ◌^◌, ◌<◌, ◌≤◌, List, length, Option, OnErr, IfOk};
-ghost use Rattle.opt_blocks.specs.PlainOf.{state_of};
-ghost use Rattle.opt_fs.specs.Opened.{MayFollow};
+ghost use Rattle.std.specs.Prelude.{◌≡◌, ℕ, ◌+◌, ◌^◌, ◌<◌, ◌≤◌, List, length, Option, OnErr, IfOk};
+ghost use Rattle.opt_memdisk.specs.MemDisk.{state_of as disk_state};
+ghost use Rattle.opt_store.specs.StoreOf.{state_of};
+ghost use Rattle.opt_fs.specs.Opened.{blocks_in};
 ghost use Rattle.opt_geom.specs.Geometry.{Geometry};
 ghost use Rattle.optfs.specs.Follows.{StopsByCause};
 ghost use Rattle.optfs.specs.Reading.{At, Halted, Brings, AfterTurn, AtEnding};
 
 use crate::recording::{Recording, Stop};
+use opt_base::NoMemory;
 use opt_base::limits::LONGEST_INPUT;
 use opt_io::{Sink, Source, SourceFault};
 use std::alloc::Global;
@@ -44,15 +46,13 @@ fn pull_once<S: Source, K: Sink>(
     chunk: &mut [u8],
 ) -> Result<Turn, Stop>
     requires some { 0 < length chunk.old }
-    requires follows { MayFollow true state_of recording.old.system }
-    ensures follows { MayFollow true state_of recording.new.system }
     ensures some { IfOk result (λ turn. Brings turn (length chunk.old)) }
     ensures ok { IfOk result (λ turn. (geom : Geometry) (count : ℕ) (left told : Option (List ℕ))
-        → At geom count left (S.remaining input.old) told (K.taken out.old) recording.old.system recording.old.line.items recording.old.disk.log
+        → At geom count left (S.remaining input.old) told (K.taken out.old) (state_of disk_state (blocks_in recording.old.system)) recording.old.line.items
         → AfterTurn geom turn count (S.faults input.old) (S.faults input.new) left (S.remaining input.new)
-        told (K.taken out.new) recording.new.system recording.new.line.items recording.new.disk.log) }
+        told (K.taken out.new) (state_of disk_state (blocks_in recording.new.system)) recording.new.line.items) }
     ensures err { OnErr result ((geom : Geometry) (count : ℕ) (left told : Option (List ℕ))
-        → At geom count left (S.remaining input.old) told (K.taken out.old) recording.old.system recording.old.line.items recording.old.disk.log
+        → At geom count left (S.remaining input.old) told (K.taken out.old) (state_of disk_state (blocks_in recording.old.system)) recording.old.line.items
         → Halted geom (count + length chunk.old) left (S.remaining input.new) told (K.taken out.new)) }
     ensures source { S.faults input.old ≤ S.faults input.new }
     ensures cause { StopsByCause (K.faults out.old) (K.faults out.new) result }
@@ -68,11 +68,42 @@ fn pull_once<S: Source, K: Sink>(
     Ok(Turn::Took(count))
 }
 
+/// Reads the input to its end.
+///
+/// # Errors
+/// Out of memory, or a fault of the sink.
+pub fn read_lines<S: Source, K: Sink>(
+    alloc: Global,
+    recording: &mut Recording,
+    input: &mut S,
+    out: &mut K,
+) -> Result<Ending, Stop>
+    ensures ok { IfOk result (λ ending. (geom : Geometry) (left told : Option (List ℕ))
+        → At geom 0 left (S.remaining input.old) told (K.taken out.old) (state_of disk_state (blocks_in recording.old.system)) recording.old.line.items
+        → AtEnding geom ending (S.faults input.old) (S.faults input.new) left (S.remaining input.new) told (K.taken out.new)) }
+    ensures err { OnErr result ((geom : Geometry) (left told : Option (List ℕ))
+        → At geom 0 left (S.remaining input.old) told (K.taken out.old) (state_of disk_state (blocks_in recording.old.system)) recording.old.line.items
+        → Halted geom (2 ^ 30) left (S.remaining input.new) told (K.taken out.new)) }
+    ensures source { S.faults input.old ≤ S.faults input.new }
+    ensures cause { StopsByCause (K.faults out.old) (K.faults out.new) result }
+{
+    let mut chunk = zeros(alloc, CHUNK)?;
+    read_all(alloc, recording, input, out, chunk.as_mut_slice())
+}
+
+/// So many zero bytes.
+fn zeros(alloc: Global, count: usize) -> Result<Vec<u8>, NoMemory>
+    ensures { IfOk result (λ bytes. length bytes.items ≡ count) }
+{
+    let bytes = vec![in alloc; 0u8; count]?;
+    Ok(bytes)
+}
+
 /// Reads the input to its end, by pieces of at most the chunk's length.
 ///
 /// # Errors
 /// Out of memory, or a fault of the sink.
-pub fn read_all<S: Source, K: Sink>(
+fn read_all<S: Source, K: Sink>(
     alloc: Global,
     recording: &mut Recording,
     input: &mut S,
@@ -80,12 +111,11 @@ pub fn read_all<S: Source, K: Sink>(
     chunk: &mut [u8],
 ) -> Result<Ending, Stop>
     requires some { 0 < length chunk.old }
-    requires follows { MayFollow true state_of recording.old.system }
     ensures ok { IfOk result (λ ending. (geom : Geometry) (left told : Option (List ℕ))
-        → At geom 0 left (S.remaining input.old) told (K.taken out.old) recording.old.system recording.old.line.items recording.old.disk.log
+        → At geom 0 left (S.remaining input.old) told (K.taken out.old) (state_of disk_state (blocks_in recording.old.system)) recording.old.line.items
         → AtEnding geom ending (S.faults input.old) (S.faults input.new) left (S.remaining input.new) told (K.taken out.new)) }
     ensures err { OnErr result ((geom : Geometry) (left told : Option (List ℕ))
-        → At geom 0 left (S.remaining input.old) told (K.taken out.old) recording.old.system recording.old.line.items recording.old.disk.log
+        → At geom 0 left (S.remaining input.old) told (K.taken out.old) (state_of disk_state (blocks_in recording.old.system)) recording.old.line.items
         → Halted geom (2 ^ 30) left (S.remaining input.new) told (K.taken out.new)) }
     ensures source { S.faults input.old ≤ S.faults input.new }
     ensures cause { StopsByCause (K.faults out.old) (K.faults out.new) result }
@@ -112,12 +142,11 @@ fn read_past<S: Source, K: Sink>(
     input: &mut S,
     out: &mut K,
 ) -> Result<Ending, Stop>
-    requires follows { MayFollow true state_of recording.old.system }
     ensures ok { IfOk result (λ ending. (geom : Geometry) (left told : Option (List ℕ))
-        → At geom (2 ^ 30) left (S.remaining input.old) told (K.taken out.old) recording.old.system recording.old.line.items recording.old.disk.log
+        → At geom (2 ^ 30) left (S.remaining input.old) told (K.taken out.old) (state_of disk_state (blocks_in recording.old.system)) recording.old.line.items
         → AtEnding geom ending (S.faults input.old) (S.faults input.new) left (S.remaining input.new) told (K.taken out.new)) }
     ensures err { OnErr result ((geom : Geometry) (left told : Option (List ℕ))
-        → At geom (2 ^ 30) left (S.remaining input.old) told (K.taken out.old) recording.old.system recording.old.line.items recording.old.disk.log
+        → At geom (2 ^ 30) left (S.remaining input.old) told (K.taken out.old) (state_of disk_state (blocks_in recording.old.system)) recording.old.line.items
         → Halted geom (2 ^ 30) left (S.remaining input.new) told (K.taken out.new)) }
     ensures source { S.faults input.old ≤ S.faults input.new }
     ensures cause { StopsByCause (K.faults out.old) (K.faults out.new) result }
@@ -132,6 +161,9 @@ fn read_past<S: Source, K: Sink>(
         Ok(_) => Ok(Ending::LongInput),
     }
 }
+
+/// How many bytes are asked for at once.
+const CHUNK: usize = 65_536;
 
 /// The most bytes of a whole input.
 const MOST: usize = LONGEST_INPUT as usize;

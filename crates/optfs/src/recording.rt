@@ -1,35 +1,35 @@
-//! A recording on its way: a file system that answers, a disk, and the line that is open. It takes the bytes
-//! of the input one by one, and after each line feed it answers the line and writes its entry of the
-//! trace. Where the bytes come from, and how a recording ends, is in the module of the program.
+//! A recording on its way: a file system that answers, over a store on a disk in memory, and the line that is open.
+//! It takes the bytes of the input one by one. After each line feed it answers the line, and writes its entry of the
+//! trace with the events that the disk had meanwhile. Where the bytes come from, and how a recording ends, is in the
+//! module of the program.
 //!
-//! Nothing writes to the disk yet: the blocks of the file system lie in memory, and none of its calls fails.
-//! What holds after the bytes seen is one fact, `Follows`: the commands of the whole lines are answered in
-//! turn, the sink has taken the trace of them, the open line is kept, and the disk has no event.
+//! The disk's log has each event, and the trace has it once its command is answered: so no event waits to be written
+//! between two commands, and nothing of the trace is held here.
 
-ghost use Rattle.std.specs.Prelude.{◌≡◌, ◌≤◌, ℕ, true, List, [], ◌∷◌, ◌++◌, length, Option, OnOk, OnErr, IfOk};
-ghost use Rattle.opt_blocks.specs.PlainOf.{state_of};
-ghost use Rattle.opt_fs.specs.Opened.{MayFollow, blocks_in};
-ghost use Rattle.opt_fs.specs.Memory.{room_of};
-ghost use Rattle.opt_fs.specs.Room.{IsFirstRoom};
-ghost use Rattle.opt_fs.specs.Sessions.{IsSession};
-ghost use Rattle.opt_geom.specs.Geometry.{Geometry};
-ghost use Rattle.opt_tree.specs.Step.{start};
+ghost use Rattle.std.specs.Prelude.{◌≡◌, ℕ, true, List, [], ◌∷◌, ◌++◌, length, Option, OnOk, OnErr};
+ghost use Rattle.opt_geom.specs.Geometry.{Geometry, geometry_fits};
+ghost use Rattle.opt_memdisk.specs.MemDisk.{state_of as disk_state};
+ghost use Rattle.opt_store.specs.StoreOf.{state_of};
+ghost use Rattle.opt_fs.specs.Opened.{blocks_in};
 ghost use Rattle.optfs.specs.Lines.{commands_of_line, commands_of};
 ghost use Rattle.optfs.specs.Output.{longest};
-ghost use Rattle.optfs.specs.Follows.{ServesTo, ServesFrom, TriesFrom, Follows, Stopped, StopsByCause};
+ghost use Rattle.opt_tree.specs.declared.command.Cmd.{Cmd};
+ghost use Rattle.opt_tree.specs.declared.command.Reply.{Reply};
+ghost use Rattle.optfs.specs.Running.{KnownRun, Ran, RunLaws, ServesFrom, TriesFrom};
+ghost use Rattle.optfs.specs.Follows.{Follows, Stopped, ServesTo, StopsByCause};
 
+use crate::events::write_events;
 use crate::lines::command_of_line;
+use crate::mounting::System;
+use crate::running::{a_run_is_known, answer};
 use opt_base::NoMemory;
 use opt_base::limits::LONGEST_LINE;
-use opt_blocks::PlainBlocks;
 use opt_disk::Disk;
-use opt_fs::{Fs, commands_in_memory_are_answered_in_their_room, formatted_in_memory};
-use opt_geom::Geom;
 use opt_io::{Sink, SinkFault};
 use opt_memdisk::MemDisk;
 use opt_script::{cmd_text, reply_text};
 use opt_trace::{write_command, write_reply};
-use opt_tree::{Cmd, no_dsync_answers_a_point_to_come};
+use opt_tree::Cmd;
 use std::alloc::{AllocFailed, Global};
 
 /// Why a recording stops before its input ends.
@@ -74,89 +74,90 @@ impl From<SinkFault> for Stop {
     }
 }
 
-/// A file system over blocks in memory.
-type System = Fs<PlainBlocks>;
-
-/// Answers one command and writes its entry, with the number of events so far.
-fn serve<K: Sink>(
-    alloc: Global,
-    system: &mut System,
-    out: &mut K,
-    moment: u64,
-    cmd: &Cmd,
-) -> Result<(), Stop>
-    requires follows { MayFollow true state_of system.old }
-    ensures follows { MayFollow true state_of system.new }
-    ensures ok { OnOk result (moment ≡ 0 → ServesFrom (cmd.now ∷ []) system.old system.new (K.taken out.old) (K.taken out.new)) }
-    ensures err { OnErr result (moment ≡ 0 → TriesFrom (cmd.now ∷ []) system.old (K.taken out.old) (K.taken out.new)) }
+/// Answers one command and writes its entry: the command, the events that came meanwhile, and the reply with the
+/// number of all events so far.
+///
+/// # Errors
+/// Out of memory, or a fault of the sink.
+fn serve<K: Sink>(alloc: Global, system: &mut System, out: &mut K, cmd: &Cmd) -> Result<(), Stop>
+    ensures ok { OnOk result (ServesFrom (cmd.now ∷ []) (state_of disk_state (blocks_in system.old)) (state_of disk_state (blocks_in system.new)) (K.taken out.old) (K.taken out.new)) }
+    ensures err { OnErr result (TriesFrom (cmd.now ∷ []) (state_of disk_state (blocks_in system.old)) (K.taken out.old) (K.taken out.new)) }
     ensures cause { StopsByCause (K.faults out.old) (K.faults out.new) result }
 {
-    commands_in_memory_are_answered_in_their_room();
-    no_dsync_answers_a_point_to_come();
     let asked = cmd_text(alloc, cmd)?;
     write_command(out, asked.as_slice())?;
-    let reply = system.apply(alloc, cmd);
+    let before = moment_of(system);
+    let reply = answer(alloc, system, cmd);
+    a_run_is_known(system);
     let told = reply_text(alloc, &reply)?;
-    write_reply(out, moment, told.as_slice())?;
+    write_events(out, system.blocks().disk(), before)?;
+    write_reply(out, moment_of(system), told.as_slice())?;
     Ok(())
 }
 
+/// The number of events of the disk so far.
+fn moment_of(system: &System) -> u64
+    ensures { result ≡ length (state_of disk_state (blocks_in system.now)).crash.log }
+{
+    system.blocks().disk().moment()
+}
+
 /// Answers the command that a line is, if it is one, and writes its entry.
+///
+/// # Errors
+/// As `serve`.
 fn serve_line<K: Sink>(
     alloc: Global,
     system: &mut System,
     out: &mut K,
-    moment: u64,
     line: &[u8],
 ) -> Result<(), Stop>
-    requires follows { MayFollow true state_of system.old }
-    ensures follows { MayFollow true state_of system.new }
-    ensures ok { OnOk result (moment ≡ 0 → ServesFrom (commands_of_line longest line.now) system.old system.new (K.taken out.old) (K.taken out.new)) }
-    ensures err { OnErr result (moment ≡ 0 → TriesFrom (commands_of_line longest line.now) system.old (K.taken out.old) (K.taken out.new)) }
+    ensures ok { OnOk result (ServesFrom (commands_of_line longest line.now) (state_of disk_state (blocks_in system.old)) (state_of disk_state (blocks_in system.new)) (K.taken out.old) (K.taken out.new)) }
+    ensures err { OnErr result (TriesFrom (commands_of_line longest line.now) (state_of disk_state (blocks_in system.old)) (K.taken out.old) (K.taken out.new)) }
     ensures cause { StopsByCause (K.faults out.old) (K.faults out.new) result }
 {
     match command_of_line(alloc, line)? {
         None => Ok(()),
         Some(cmd) => {
-            serve(alloc, system, out, moment, &cmd)?;
+            serve(alloc, system, out, &cmd)?;
             Ok(())
         }
     }
 }
 
-/// A file system, the line whose line feed hasn't come yet, and the disk.
+/// A file system, and the line whose line feed hasn't come yet.
 #[derive(Drop)]
 pub struct Recording {
     system: System,
     line: Vec<u8>,
-    disk: MemDisk,
 }
 
 impl Recording {
-    /// A file system that was just formatted with this geometry, no line, and this disk.
-    ///
-    /// # Errors
-    /// Out of memory.
-    pub fn new(alloc: Global, geom: &Geom, disk: MemDisk) -> Result<Recording, NoMemory>
-        ensures geom { IfOk result (λ r. (state_of (blocks_in r.system)).books.geom ≡ geom.now) }
-        ensures session { IfOk result (λ r. IsSession (state_of (blocks_in r.system)) (start geom.now.i)) }
-        ensures room { IfOk result (λ r. IsFirstRoom geom.now (room_of (state_of (blocks_in r.system)))) }
-        ensures follows { IfOk result (λ r. MayFollow true state_of r.system) }
-        ensures rest { IfOk result (λ r. (r.line.items ≡ []) × (r.disk ≡ disk)) }
+    /// This file system, and no line.
+    pub fn new(alloc: Global, system: System) -> Recording
+        ensures system { result.system ≡ system }
+        ensures line { result.line.items ≡ [] }
     {
-        let system = formatted_in_memory(alloc, geom)?;
-        Ok(Recording {
+        Recording {
             system,
             line: Vec::new(alloc),
-            disk,
-        })
+        }
     }
 
-    /// The number of events of the disk so far.
-    fn moment(&self) -> u64
-        ensures { result ≡ length self.now.disk.log }
+    /// The disk.
+    pub fn disk(&self) -> &MemDisk
+        ensures { result.now.log ≡ (state_of disk_state (blocks_in self.now.system)).crash.log }
     {
-        self.disk.moment()
+        self.system.blocks().disk()
+    }
+
+    /// What is known of the run so far, as `a_run_is_known` has it. This does nothing.
+    pub fn run_is_known(&self)
+        ensures laws { (g : Geometry) → geometry_fits g ≡ true → RunLaws g }
+        ensures known { (g : Geometry) (mounted : ℕ) (cmds : List Cmd) (replies : List Reply) (marks : List ℕ)
+            → Ran g mounted cmds replies marks (state_of disk_state (blocks_in self.now.system)) → KnownRun g (state_of disk_state (blocks_in self.now.system)) mounted cmds replies marks }
+    {
+        a_run_is_known(&self.system);
     }
 
     /// Takes one byte of the input.
@@ -164,19 +165,16 @@ impl Recording {
     /// # Errors
     /// Out of memory, or a fault of the sink, which then has a front of an output.
     pub fn take_byte<K: Sink>(&mut self, alloc: Global, out: &mut K, byte: u8) -> Result<(), Stop>
-        requires follows { MayFollow true state_of self.old.system }
-        ensures follows { MayFollow true state_of self.new.system }
         ensures ok { OnOk result ((geom : Geometry) (seen : List ℕ) (before : Option (List ℕ))
-            → Follows geom seen before (K.taken out.old) self.old.system self.old.line.items self.old.disk.log
-            → Follows geom (seen ++ byte ∷ []) before (K.taken out.new) self.new.system self.new.line.items self.new.disk.log) }
+            → Follows geom seen before (K.taken out.old) (state_of disk_state (blocks_in self.old.system)) self.old.line.items
+            → Follows geom (seen ++ byte ∷ []) before (K.taken out.new) (state_of disk_state (blocks_in self.new.system)) self.new.line.items) }
         ensures err { OnErr result ((geom : Geometry) (seen more : List ℕ) (before : Option (List ℕ))
-            → Follows geom seen before (K.taken out.old) self.old.system self.old.line.items self.old.disk.log
+            → Follows geom seen before (K.taken out.old) (state_of disk_state (blocks_in self.old.system)) self.old.line.items
             → Stopped geom (seen ++ byte ∷ more) before (K.taken out.new)) }
         ensures cause { StopsByCause (K.faults out.old) (K.faults out.new) result }
     {
         if byte == FEED {
-            let moment = self.moment();
-            serve_line(alloc, &mut self.system, out, moment, self.line.as_slice())?;
+            serve_line(alloc, &mut self.system, out, self.line.as_slice())?;
             self.line.clear();
             return Ok(());
         }
@@ -196,13 +194,11 @@ impl Recording {
         out: &mut K,
         bytes: &[u8],
     ) -> Result<(), Stop>
-        requires follows { MayFollow true state_of self.old.system }
-        ensures follows { MayFollow true state_of self.new.system }
         ensures ok { OnOk result ((geom : Geometry) (seen : List ℕ) (before : Option (List ℕ))
-            → Follows geom seen before (K.taken out.old) self.old.system self.old.line.items self.old.disk.log
-            → Follows geom (seen ++ bytes.now) before (K.taken out.new) self.new.system self.new.line.items self.new.disk.log) }
+            → Follows geom seen before (K.taken out.old) (state_of disk_state (blocks_in self.old.system)) self.old.line.items
+            → Follows geom (seen ++ bytes.now) before (K.taken out.new) (state_of disk_state (blocks_in self.new.system)) self.new.line.items) }
         ensures err { OnErr result ((geom : Geometry) (seen : List ℕ) (before : Option (List ℕ))
-            → Follows geom seen before (K.taken out.old) self.old.system self.old.line.items self.old.disk.log
+            → Follows geom seen before (K.taken out.old) (state_of disk_state (blocks_in self.old.system)) self.old.line.items
             → Stopped geom (seen ++ bytes.now) before (K.taken out.new)) }
         ensures cause { StopsByCause (K.faults out.old) (K.faults out.new) result }
     {
@@ -217,18 +213,15 @@ impl Recording {
     /// # Errors
     /// As `take_byte`.
     pub fn take_end<K: Sink>(&mut self, alloc: Global, out: &mut K) -> Result<(), Stop>
-        requires follows { MayFollow true state_of self.old.system }
-        ensures follows { MayFollow true state_of self.new.system }
         ensures ok { OnOk result ((geom : Geometry) (seen : List ℕ) (before : Option (List ℕ))
-            → Follows geom seen before (K.taken out.old) self.old.system self.old.line.items self.old.disk.log
+            → Follows geom seen before (K.taken out.old) (state_of disk_state (blocks_in self.old.system)) self.old.line.items
             → ServesTo geom (commands_of longest seen) before (K.taken out.new)) }
         ensures err { OnErr result ((geom : Geometry) (seen : List ℕ) (before : Option (List ℕ))
-            → Follows geom seen before (K.taken out.old) self.old.system self.old.line.items self.old.disk.log
+            → Follows geom seen before (K.taken out.old) (state_of disk_state (blocks_in self.old.system)) self.old.line.items
             → Stopped geom seen before (K.taken out.new)) }
         ensures cause { StopsByCause (K.faults out.old) (K.faults out.new) result }
     {
-        let moment = self.moment();
-        serve_line(alloc, &mut self.system, out, moment, self.line.as_slice())?;
+        serve_line(alloc, &mut self.system, out, self.line.as_slice())?;
         self.line.clear();
         Ok(())
     }

@@ -13,6 +13,8 @@ pub enum Status {
     Usage,
     /// 4: no memory was found.
     NoMemory,
+    /// 5: a call of the disk failed in the mount.
+    DiskFault,
     /// 7: the source of the input failed.
     SourceFault,
     /// 8: the sink of the output failed.
@@ -32,6 +34,7 @@ impl Status {
             Status::Done => 0,
             Status::Usage => 2,
             Status::NoMemory => 4,
+            Status::DiskFault => 5,
             Status::SourceFault => 7,
             Status::SinkFault => 8,
             Status::BadShape => 11,

@@ -1,9 +1,8 @@
-//! The texts of replies that no tree in memory gives, and of the commands and replies of which no line of a
-//! script asks yet.
+//! The texts of replies that no tree in memory gives.
 
 use opt_base::{Name, NoMemory};
-use opt_script::{cmd_text, parse_line, reply_text};
-use opt_tree::{Cmd, Kind, NameList, Refusal, Reply, Stat};
+use opt_script::reply_text;
+use opt_tree::{Kind, NameList, Refusal, Reply, Stat};
 use std::alloc::Global;
 use std::test::Fail;
 
@@ -79,21 +78,6 @@ fn replies_that_no_tree_gives(rt: HostRuntime) -> Result<(), Fail> {
     }
     for (why, text) in REFUSALS {
         assert!(rt; is_text(alloc, &Reply::Refused(why), text)?, "for {text}");
-    }
-    Ok(())
-}
-
-// They have texts of their own, and a line with such a text is none of them.
-#[test]
-fn commands_that_no_line_asks_for_have_texts(rt: HostRuntime) -> Result<(), Fail> {
-    let alloc = rt.alloc();
-    for (cmd, text) in [
-        (Cmd::Dsync, "dsync"),
-        (Cmd::Durable, "durable"),
-        (Cmd::Poll, "poll"),
-    ] {
-        assert_eq!(rt; cmd_text(alloc, &cmd)?.as_slice(), text.as_bytes());
-        assert!(rt; matches!(parse_line(alloc, text.as_bytes())?, Cmd::Bad));
     }
     Ok(())
 }

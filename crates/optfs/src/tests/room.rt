@@ -1,13 +1,14 @@
-//! Scripts that a disk has room for, and scripts that it hasn't. What is expected was worked out by hand from
-//! docs/TREE.md and docs/SPACE.md. A disk of 64 blocks, 16 of the journal and 16 nodes has 41 data blocks,
+//! Scripts that a disk has room for, and scripts that it hasn't; what is looked at is the replies, and not the events
+//! of the disk. What is expected was worked out by hand from docs/TREE.md and docs/SPACE.md. A disk of 64 blocks, 16 of the journal and 16 nodes has 41 data blocks,
 //! and what changes between two syncs may weigh 336.
 
+use super::outline::answers;
 use super::run_words;
 use crate::Status;
 use std::alloc::Global;
 use std::test::Fail;
 
-/// A script, and the trace that it is to make.
+/// A script, and the answers that its trace is to have.
 #[derive(Drop)]
 struct Expected {
     script: Vec<u8>,
@@ -33,18 +34,19 @@ impl Expected {
             return Ok(());
         }
         let told = if reply == "bad" { "?" } else { line };
-        for part in ["c ", told, "\nr 0 ", reply, "\n"] {
+        for part in ["c ", told, "\n ", reply, "\n"] {
             self.trace.extend_from_slice(part.as_bytes())?;
         }
         Ok(())
     }
 
-    /// Whether the program with these words makes the trace of the script.
+    /// Whether the program with these words answers the script so.
     fn comes(&mut self, alloc: Global, words: &[&str]) -> Result<bool, Fail> {
         self.trace.extend_from_slice(b"end\n")?;
         let outcome = run_words(alloc, words, self.script.as_slice())?;
+        let found = answers(alloc, outcome.text.as_slice())?;
         let is_done = outcome.status == Status::Done;
-        Ok(is_done && outcome.text.as_slice() == self.trace.as_slice())
+        Ok(is_done && found.as_slice() == self.trace.as_slice())
     }
 }
 

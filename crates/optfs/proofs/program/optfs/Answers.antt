@@ -1,11 +1,10 @@
 -- Each request is done, or refused by its line.
 use Rattle.std.proofs.Common.{refl, sym, ◌∙◌}
-use Rattle.optfs.proofs.Quiet.{begins_empty}
 use Rattle.optfs.proofs.Requests.{does_memory, does_usage, does_shape, not_fitting}
 use Rattle.optfs.proofs.program.optfs.Goals as goal
 
 pub returns-in-Err-clause-does : goal.returns-in-Err-clause-does
-returns-in-Err-clause-does g c = does_memory _ _ _ _ _ (begins_empty c.the_formatted_disk_stands_for_the_root.ensures.image c.images_alike_below_n_stand_for_the_same.ensures c.lines_are_commands.ensures.lawful c.lines_are_commands.ensures.quiet c.a_tree_in_memory_refuses_for_no_disk.ensures.alone c.no_other_command_is_promised_a_point.ensures)
+returns-in-Err-clause-does g c = does_memory _ _ _ _ _
 
 pub returns-in-Ok-None-clause-does : goal.returns-in-Ok-None-clause-does
 returns-in-Ok-None-clause-does g c =

@@ -1,23 +1,6 @@
--- The last line of each ending.
-use Rattle.std.proofs.Common.{refl}
-use Rattle.optfs.proofs.Quiet.{begins_empty}
-use Rattle.optfs.proofs.ProgramLemmas.{closes_end, closes_source, closes_long, halts_memory, halts_sink}
+-- Where no memory is found before the mount has ended, nothing is written.
+use Rattle.optfs.proofs.ProgramLemmas.{never_begun}
 use Rattle.optfs.proofs.program.record.Goals as goal
 
-pub returns-in-Err-NoMemory-clause-records : goal.returns-in-Err-NoMemory-clause-records
-returns-in-Err-NoMemory-clause-records g c = halts_memory c.args.geom.now (begins_empty c.the_formatted_disk_stands_for_the_root.ensures.image c.images_alike_below_n_stand_for_the_same.ensures c.lines_are_commands.ensures.lawful c.lines_are_commands.ensures.quiet c.a_tree_in_memory_refuses_for_no_disk.ensures.alone c.no_other_command_is_promised_a_point.ensures c.args.geom.now c.lawful.ensures.fits) _ _ _ _ _ _ c.in-Err-NoMemory.ensures.err
-
-pub returns-in-Err-SinkFault-clause-records : goal.returns-in-Err-SinkFault-clause-records
-returns-in-Err-SinkFault-clause-records g c = halts_sink c.args.geom.now (begins_empty c.the_formatted_disk_stands_for_the_root.ensures.image c.images_alike_below_n_stand_for_the_same.ensures c.lines_are_commands.ensures.lawful c.lines_are_commands.ensures.quiet c.a_tree_in_memory_refuses_for_no_disk.ensures.alone c.no_other_command_is_promised_a_point.ensures c.args.geom.now c.lawful.ensures.fits) _ _ _ _ _ _ c.in-Err-SinkFault.ensures.err
-
-pub returns-in-Ok-End-clause-records : goal.returns-in-Ok-End-clause-records
-returns-in-Ok-End-clause-records g c =
-    closes_end c.args.geom.now (begins_empty c.the_formatted_disk_stands_for_the_root.ensures.image c.images_alike_below_n_stand_for_the_same.ensures c.lines_are_commands.ensures.lawful c.lines_are_commands.ensures.quiet c.a_tree_in_memory_refuses_for_no_disk.ensures.alone c.no_other_command_is_promised_a_point.ensures c.args.geom.now c.lawful.ensures.fits) _ _ _ _ _ _ _ _ _ _ _ _ c.in-Ok-End.field-0-is refl c.in-Ok-End.ensures.ok c.tell.ensures.told
-
-pub returns-in-Ok-SourceFault-clause-records : goal.returns-in-Ok-SourceFault-clause-records
-returns-in-Ok-SourceFault-clause-records g c =
-    closes_source c.args.geom.now (begins_empty c.the_formatted_disk_stands_for_the_root.ensures.image c.images_alike_below_n_stand_for_the_same.ensures c.lines_are_commands.ensures.lawful c.lines_are_commands.ensures.quiet c.a_tree_in_memory_refuses_for_no_disk.ensures.alone c.no_other_command_is_promised_a_point.ensures c.args.geom.now c.lawful.ensures.fits) _ _ _ _ _ _ _ _ _ _ _ _ c.in-Ok-SourceFault.field-0-is refl c.in-Ok-SourceFault.ensures.ok c.tell-in-Ok-SourceFault.ensures.told
-
-pub returns-in-Ok-LongInput-clause-records : goal.returns-in-Ok-LongInput-clause-records
-returns-in-Ok-LongInput-clause-records g c =
-    closes_long c.args.geom.now (begins_empty c.the_formatted_disk_stands_for_the_root.ensures.image c.images_alike_below_n_stand_for_the_same.ensures c.lines_are_commands.ensures.lawful c.lines_are_commands.ensures.quiet c.a_tree_in_memory_refuses_for_no_disk.ensures.alone c.no_other_command_is_promised_a_point.ensures c.args.geom.now c.lawful.ensures.fits) _ _ _ _ _ _ _ _ _ _ _ _ c.in-Ok-LongInput.field-0-is refl c.in-Ok-LongInput.ensures.ok c.tell-in-Ok-LongInput.ensures.told
+pub returns-in-Err-clause-records : goal.returns-in-Err-clause-records
+returns-in-Err-clause-records g c = never_begun c.args.geom.now _ _ _ _

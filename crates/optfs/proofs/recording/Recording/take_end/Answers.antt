@@ -1,12 +1,9 @@
 -- The open line is the last line of the input.
-use Rattle.std.proofs.Common.{length, ap, ◌∙◌}
 use Rattle.optfs.proofs.RecordingLemmas.{ended, end_halts}
 use Rattle.optfs.proofs.recording.Recording.take_end.Goals as goal
 
 pub returns-in_err-serve_line-clause-err : goal.returns-in_err-serve_line-clause-err
-returns-in_err-serve_line-clause-err g c =
-    end_halts _ _ _ _ _ _ _ c.as_slice.ensures.value (λ q. c.in_err-serve_line.ensures.err (c.moment-moment.ensures ∙ ap length q))
+returns-in_err-serve_line-clause-err g c = end_halts _ _ _ _ _ _ c.as_slice.ensures.value c.in_err-serve_line.ensures.err
 
 pub returns-clause-ok : goal.returns-clause-ok
-returns-clause-ok g c =
-    λ geom seen before f. ended geom seen before _ _ _ _ _ _ _ c.as_slice.ensures.value f (λ q. c.in_ok-serve_line.ensures.ok (c.moment-moment.ensures ∙ ap length q))
+returns-clause-ok g c = λ geom seen before f. ended geom seen before _ _ _ _ _ _ c.as_slice.ensures.value f c.in_ok-serve_line.ensures.ok

@@ -1,0 +1,251 @@
+-- What `clap` makes of one word behind `record`, and of the end: which faults they have, and which rows are kept.
+use Rattle.std.proofs.Common.{◌≡◌, ◌⊎◌, inl, inr, ◌&&◌, ◌||◌, ℕ, Bool, true, false, cond, List, [], ◌∷◌, ◌++◌, Option, Some, None, refl, sym, ap, ap₂, subst, ◌∙◌, arith, codes, fold, length}
+use Rattle.std.specs.Prelude.{IfSome, find, not, if◌then◌else◌, option_map}
+use Rattle.std.specs.Option.{option_map_or}
+use Rattle.std.specs.List.{list_all, list_any}
+use Rattle.std.specs.Str.{bytes_eq}
+use Rattle.std.specs.Str.Parse.{starts_with_minus}
+use Rattle.std.proofs.lemmas.Bool.{and_parts, eqb-true, false≢true}
+use Rattle.std.proofs.lemmas.List.{append-nil, append_assoc}
+use Rattle.clap.specs.Facts.{explicit_source}
+use Rattle.clap.specs.Kinds.{Kinds, check_kinds, or_else}
+use Rattle.clap.specs.Faults.{settle_fault, default_fault, defaults_fault, given_default_fault, check_fault, repeat_fault}
+use Rattle.clap.specs.Walk.{Held, Row, Rule, Text, Waiting, Walk, finished, settled, settled_rows, idle, option, next, plain_word, default_rows, reading_by, with_default, with_values, without, is_empty, has_row}
+use Rattle.clap.specs.Simple.{Shape, built}
+use Rattle.clap.specs.Takes.{is_given}
+use Rattle.clap.specs.declared.builder.value_parser.Reading.TheVariants.{AsWritten}
+use Rattle.clap.specs.declared.error.kind.ErrorKind.TheVariants.{ArgumentConflict}
+use Rattle.clap.specs.declared.parser.matches.ValueSource.TheVariants.{CommandLine}
+use Rattle.opt_words.specs.Program.{program, recording, kept}
+use Rattle.opt_words.specs.Words.{Named, numbers, options, has_name, are_apart}
+use Rattle.opt_words.proofs.Apart.{rows, has_row_is, without_fresh, with_fresh, apart_repeat, apart_more}
+
+-- ---- lists of kinds
+
+abbrev pub is_clean : Kinds → Bool
+is_clean [] = true
+is_clean (k ∷ ks) = false
+
+pub unclean_first : (a b : Kinds) → is_clean a ≡ false → is_clean (or_else a b) ≡ false
+unclean_first [] b bad = cc
+unclean_first (k ∷ a) b bad = refl
+
+pub unclean_second : (a b : Kinds) → is_clean b ≡ false → is_clean (or_else a b) ≡ false
+unclean_second [] b bad = bad
+unclean_second (k ∷ a) b bad = refl
+
+pub clean_first : (a b : Kinds) → is_clean a ≡ true → is_clean (or_else a b) ≡ is_clean b
+clean_first [] b clean = refl
+clean_first (k ∷ a) b clean = absurd (false≢true clean)
+
+pub or_else_nil : (a : Kinds) → or_else a [] ≡ a
+or_else_nil [] = refl
+or_else_nil (k ∷ a) = refl
+
+pub or_else_assoc : (a b c : Kinds) → or_else (or_else a b) c ≡ or_else a (or_else b c)
+or_else_assoc [] b c = refl
+or_else_assoc (k ∷ a) b c = refl
+
+-- ---- the command behind `record`
+
+abbrev first_sub : List Shape → Shape
+first_sub [] = recording.top
+first_sub (s ∷ subs) = s
+
+-- as `clap` builds it
+abbrev pub shape : Shape
+shape = first_sub (built program).subs
+
+abbrev pub rules : List Rule
+rules = shape.rules
+
+abbrev pub held_at : List Named → Option (Text × List Text) → Held
+held_at texts pending = record { rows = rows texts; pending = pending; skip = 0 }
+
+-- between two words: whether `--` came, what waits, the texts that are kept, the one whose word was the last, and the place of the next number
+abbrev pub at : Bool → Waiting → List Named → Option (Text × List Text) → ℕ → Walk
+at trails waiting texts pending position = record {
+  held = held_at texts pending;
+  waiting = waiting;
+  position = position;
+  is_trailing = trails;
+  stopped = None;
+}
+
+abbrev pub pends : Option Named → Option (Text × List Text)
+pends None = None
+pends (Some text) = Some (text.0, text.1 ∷ [])
+
+abbrev pub listed : Option Named → List Named
+listed None = []
+listed (Some text) = text ∷ []
+
+-- ---- the names of the arguments
+
+abbrev pub is_known : Text → Bool
+is_known name = list_any (λ known. bytes_eq known name) (numbers ++ options)
+
+-- what `clap` makes of an argument that waits for its value, and of one that has it
+pub record IsArg (name : Text) : Type 0 where
+  pub known : is_known name ≡ true
+  pub fault : (word : Text) (rs : List Row)
+      → settle_fault rules false (record { rows = rs; pending = Some (name, word ∷ []); skip = 0 }) ≡ or_else (repeat_fault false name rs) []
+  pub keeps : (word : Text) (rs : List Row)
+      → settled_rows rules (Some (name, word ∷ [])) rs ≡ with_values name AsWritten CommandLine (word ∷ []) (without name rs)
+  pub lacks : (rs : List Row) → is_clean (settle_fault rules false (record { rows = rs; pending = Some (name, []); skip = 0 })) ≡ false
+  pub takes : (word : Text) (rs : List Row) → plain_word rules (option name) word (record { rows = rs; pending = Some (name, []); skip = 0 })
+      ≡ (record { rows = rs; pending = Some (name, word ∷ []); skip = 0 }, next idle)
+
+pub blocks_is : IsArg (codes "blocks")
+blocks_is = record { known = refl; fault = λ word rs. refl; keeps = λ word rs. refl; lacks = λ rs. refl; takes = λ word rs. refl }
+
+pub journal_is : IsArg (codes "journal")
+journal_is = record { known = refl; fault = λ word rs. refl; keeps = λ word rs. refl; lacks = λ rs. refl; takes = λ word rs. refl }
+
+pub nodes_is : IsArg (codes "nodes")
+nodes_is = record { known = refl; fault = λ word rs. refl; keeps = λ word rs. refl; lacks = λ rs. refl; takes = λ word rs. refl }
+
+pub notices_is : IsArg (codes "notices")
+notices_is = record { known = refl; fault = λ word rs. refl; keeps = λ word rs. refl; lacks = λ rs. refl; takes = λ word rs. refl }
+
+pub room_is : IsArg (codes "room")
+room_is = record { known = refl; fault = λ word rs. refl; keeps = λ word rs. refl; lacks = λ rs. refl; takes = λ word rs. refl }
+
+pub fail_is : IsArg (codes "fail")
+fail_is = record { known = refl; fault = λ word rs. refl; keeps = λ word rs. refl; lacks = λ rs. refl; takes = λ word rs. refl }
+
+-- ---- the text whose word was the last is kept, unless its name stands before
+
+abbrev pub IsKept : List Named → Option Named → Type 0
+IsKept texts pending = (is_clean (settle_fault rules false (held_at texts (pends pending))) ≡ true)
+    × (settled rules (held_at texts (pends pending)) ≡ held_at (texts ++ listed pending) None)
+    × (are_apart (texts ++ listed pending) ≡ true)
+
+abbrev pub IsRepeated : List Named → Option Named → Type 0
+IsRepeated texts pending = (is_clean (settle_fault rules false (held_at texts (pends pending))) ≡ false)
+    × ((rest : List Named) → are_apart ((texts ++ listed pending) ++ rest) ≡ false)
+
+pub settles : (texts : List Named) (pending : Option Named) → IfSome pending (λ text. IsArg text.0) → are_apart texts ≡ true
+    → IsKept texts pending ⊎ IsRepeated texts pending
+settles texts None arg apart =
+    inl (refl, ap (λ ts. held_at ts None) (sym (append-nil texts)), ap are_apart (append-nil texts) ∙ apart)
+settles texts (Some text) arg apart = go (has_name text.0 texts) refl
+  where
+    faults : (b : Bool) → has_name text.0 texts ≡ b
+        → is_clean (settle_fault rules false (held_at texts (Some (text.0, text.1 ∷ [])))) ≡ is_clean (or_else (if b && true then ArgumentConflict ∷ [] else []) [])
+    faults b e = ap is_clean (arg.fault text.1 (rows texts)) ∙ ap (λ (c : Bool). is_clean (or_else (if c && true then ArgumentConflict ∷ [] else []) [])) (has_row_is text.0 texts ∙ e)
+
+    go : (b : Bool) → has_name text.0 texts ≡ b → IsKept texts (Some text) ⊎ IsRepeated texts (Some text)
+    go false e = inl (
+      faults false e,
+      ap (λ (rs : List Row). record { rows = rs; pending = None; skip = 0 })
+          (arg.keeps text.1 (rows texts) ∙ ap (with_values text.0 AsWritten CommandLine (text.1 ∷ [])) (without_fresh text.0 texts e) ∙ with_fresh text.0 text.1 texts e),
+      apart_more text texts apart e,
+    )
+    go true e = inr (faults true e, λ rest. ap are_apart (append_assoc texts (text ∷ []) rest) ∙ apart_repeat text texts rest e)
+
+-- ---- the end
+
+with_no_default : (rs : List Row) (a : Rule) → is_empty a.defaults ≡ true → with_default rs a ≡ rs
+with_no_default rs a none = go (has_row a.id rs) a.defaults none
+  where
+    go : (b : Bool) (ds : List Text) → is_empty ds ≡ true → (if b then rs else default_rows a.id (reading_by a) ds rs) ≡ rs
+    go true ds none = refl
+    go false [] none = refl
+    go false (d ∷ ds) none = absurd (omega (arith, eqb-true (length (d ∷ ds)) 0 none))
+
+abbrev no_defaults : List Rule → Bool
+no_defaults = list_all (λ a. is_empty a.defaults)
+
+default_rows_same : (c : List Rule) (rs : List Row) → no_defaults c ≡ true → fold with_default rs c ≡ rs
+default_rows_same [] rs none = refl
+default_rows_same (a ∷ c) rs none =
+    let parts = and_parts (is_empty a.defaults) (no_defaults c) none in
+    ap (λ (r : List Row). fold with_default r c) (with_no_default rs a parts.0) ∙ default_rows_same c rs parts.1
+
+default_no_fault : (rs : List Row) (a : Rule) → is_empty a.defaults ≡ true → default_fault rs a ≡ []
+default_no_fault rs a none = rw none (go (has_row a.id rs))
+  where
+    go : (b : Bool) → (if b || true then [] else given_default_fault a a.defaults) ≡ []
+    go true = refl
+    go false = refl
+
+defaults_no_fault : (c : List Rule) (rs : List Row) → no_defaults c ≡ true → defaults_fault rs c ≡ []
+unfolding defaults_fault
+defaults_no_fault [] rs none = refl
+defaults_no_fault (a ∷ c) rs none =
+    let parts = and_parts (is_empty a.defaults) (no_defaults c) none in
+    ap₂ or_else (default_no_fault rs a parts.0)
+    (ap (λ (r : List Row). defaults_fault r c) (with_no_default rs a parts.0) ∙ defaults_no_fault c rs parts.1)
+
+given_is : (name : Text) (texts : List Named) → is_given name (rows texts) ≡ has_name name texts
+given_is name [] = refl
+given_is name (t ∷ texts) = go (given_is name texts) (bytes_eq t.0 name)
+  where
+    go : is_given name (rows texts) ≡ has_name name texts → (b : Bool)
+        → option_map_or (λ (r : Row). explicit_source r.source) (cond b (Some (kept t)) (find (λ (r : Row). bytes_eq r.id name) (rows texts))) false ≡ (b || has_name name texts)
+    go later true = refl
+    go later false = later
+
+-- the three numbers are there
+abbrev pub has_numbers : List Named → Bool
+has_numbers texts = has_name (codes "blocks") texts && (has_name (codes "journal") texts && has_name (codes "nodes") texts)
+
+check_is : (texts : List Named) → is_clean (check_fault shape (rows texts) false) ≡ has_numbers texts
+check_is texts =
+    go (is_given (codes "blocks") (rows texts)) (is_given (codes "journal") (rows texts)) (is_given (codes "nodes") (rows texts))
+    ∙ rw (given_is (codes "blocks") texts, given_is (codes "journal") texts, given_is (codes "nodes") texts) refl
+  where
+    go : (a b c : Bool) → is_clean (check_kinds false false (not a || (not b || (not c || false)))) ≡ (a && (b && c))
+    go true true true = refl
+    go true true false = refl
+    go true false c = refl
+    go false b c = refl
+
+-- the faults of the end
+abbrev pub end_faults : Held → Kinds
+end_faults h = or_else (settle_fault rules false h)
+    (or_else (defaults_fault (settled rules h).rows rules) (check_fault shape (finished rules h) false))
+
+-- texts that ask for nothing: a name stands twice, a number is missing, or one begins with a minus sign
+abbrev pub has_minus : List Named → Bool
+has_minus = list_any (λ text. starts_with_minus text.1 && is_known text.0)
+
+abbrev pub AsksNothing : List Named → Type 0
+AsksNothing texts = (are_apart texts ≡ false) ⊎ ((has_numbers texts ≡ false) ⊎ (has_minus texts ≡ true))
+
+abbrev pub Refused : Option (List Named) → Type 0
+Refused None = Unit {0}
+Refused (Some texts) = AsksNothing texts
+
+-- words without a fault say these texts, which `clap` keeps; and words with one say none, or some that ask for nothing
+abbrev pub Fate : Bool → List Row → Option (List Named) → Type 0
+Fate true found want = (texts : List Named) × (want ≡ Some texts) × (are_apart texts ≡ true) × (found ≡ rows texts)
+Fate false found want = Refused want
+
+-- the texts that were met, and those to come
+abbrev pub behind : List Named → Option (List Named) → Option (List Named)
+behind texts = option_map (λ more. texts ++ more)
+
+pub ends : (texts : List Named) (pending : Option Named) → IfSome pending (λ text. IsArg text.0) → are_apart texts ≡ true
+    → Fate (is_clean (end_faults (held_at texts (pends pending)))) (finished rules (held_at texts (pends pending))) (behind (texts ++ listed pending) (Some []))
+ends texts pending arg apart = go (settles texts pending arg apart)
+  where
+    h : Held
+    h = held_at texts (pends pending)
+
+    all : List Named
+    all = texts ++ listed pending
+
+    by_numbers : (found : List Row) → found ≡ rows all → are_apart all ≡ true → (b : Bool) → has_numbers all ≡ b → Fate b found (Some (all ++ []))
+    by_numbers found same apart true e = (all, ap Some (append-nil all), apart, same)
+    by_numbers found same apart false e = inr (inl (ap has_numbers (append-nil all) ∙ e))
+
+    go : IsKept texts pending ⊎ IsRepeated texts pending → Fate (is_clean (end_faults h)) (finished rules h) (Some (all ++ []))
+    go (inl k) =
+        let found : finished rules h ≡ rows all = ap (λ (s : Held). fold with_default s.rows rules) k.1 ∙ default_rows_same rules (rows all) refl in
+        let no_default : defaults_fault (settled rules h).rows rules ≡ [] = defaults_no_fault rules (settled rules h).rows refl in
+        let clean : is_clean (end_faults h) ≡ has_numbers all =
+        clean_first (settle_fault rules false h) _ k.0 ∙ ap is_clean (ap₂ or_else no_default (ap (λ (rs : List Row). check_fault shape rs false) found)) ∙ check_is all in
+        subst (λ (b : Bool). Fate b (finished rules h) (Some (all ++ []))) (sym clean) (by_numbers (finished rules h) found k.2 (has_numbers all) refl)
+    go (inr r) = subst (λ (b : Bool). Fate b (finished rules h) (Some (all ++ []))) (sym (unclean_first (settle_fault rules false h) _ r.0)) (inl (r.1 []))

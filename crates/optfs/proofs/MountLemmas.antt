@@ -1,0 +1,139 @@
+-- What comes of the mount of a disk that was just formatted, by what a mount, a store and a file system say of any disk.
+use Rattle.std.proofs.Common.{◌≡◌, ℕ, ◌^◌, ◌<◌, ◌≤◌, Bool, true, List, [], length, take, refl, sym, ap, ◌∙◌, subst, arith}
+use Rattle.opt_base.specs.Seal.{Blocks, sha256}
+use Rattle.opt_disk.specs.declared.event.Event.{Event}
+use Rattle.opt_disk.specs.Cell.{Cell, cell_of}
+use Rattle.opt_disk.specs.Crash.{IsHonest, MayHold, IsTorn, Window}
+use Rattle.opt_disk.specs.Disk as disk
+use Rattle.opt_disk.specs.Lawful.{IsLogOf}
+use Rattle.opt_geom.specs.Geometry.{Geometry, data_start}
+use Rattle.opt_journal.specs.Formatted.{formatted}
+use Rattle.opt_journal.specs.declared.header.Header.{Header}
+use Rattle.opt_journal.specs.Run.{Newest, HeldIs, live_part}
+use Rattle.opt_tree.specs.Step.{start, session_on}
+use Rattle.opt_tree.specs.Tree.{Tree}
+use Rattle.opt_stands.specs.Stands.{IsTreeOf, StandsFor}
+use Rattle.opt_crash.specs.Ledger.{HoldsUnder}
+use Rattle.opt_recover.specs.Search.{IsFound}
+use Rattle.opt_mount.specs.Mount.{IsIdle, IsUsedUp, settled_on}
+use Rattle.opt_blocks.specs.State.{State}
+use Rattle.opt_store.specs.declared.refusal.StoreRefusal.TheVariants.{NoHeader, BadBit, Spent}
+use Rattle.opt_store.specs.Mounting.{LeavesDisk}
+use Rattle.opt_store.specs.Refusal.{RefusalSays}
+use Rattle.opt_session.specs.Crashes.{LeavesPoints, IsCrashConsistent}
+use Rattle.opt_memdisk.specs.MemDisk.{MemDiskState, state_of as disk_state}
+use Rattle.optfs.specs.declared.disk.Behaviour.{Behaviour}
+use Rattle.optfs.specs.Disks.{BeganFormatted, IsFormatted, IsFormattedDisk, HoldsRoot, FailedToMount}
+use Rattle.optfs.proofs.FormattedFound.{HasLaws, has_header, not_used_up, no_bad_bit}
+
+-- what laws of other crates say of the formatted disk's live blocks, and of each image that has them
+pub record HasRoot (g : Geometry) : Type 0 where
+  pub held : (img : Blocks) → ((b : ℕ) → b < g.n → img b ≡ formatted g b) → HoldsUnder g.n g img (live_part g (formatted g))
+  pub tree : IsTreeOf g (live_part g (formatted g)) (start g.i).tree
+  pub one : (n : ℕ) (img : Blocks) (t u : Tree) → StandsFor n img t → StandsFor n img u → t ≡ u
+
+-- from the law of the formatted disk, whose blocks before the data are among those of the disk
+pub held_by : (g : Geometry) → data_start g ≤ g.n → ((img : Blocks) → ((b : ℕ) → b < data_start g → img b ≡ formatted g b) → (held : HeldIs g.n img (live_part g (formatted g))) × (held.header.geom ≡ g))
+    → (img : Blocks) → ((b : ℕ) → b < g.n → img b ≡ formatted g b) → HoldsUnder g.n g img (live_part g (formatted g))
+held_by g room law img same = let both = law img (λ b low. same b (omega (arith, low, room))) in record { held = both.0; geom = both.1 }
+
+-- Images that are alike are left by crashes of disks that began alike.
+
+cell_alike : (base other : Blocks) (log : List Event) (b : ℕ) → base b ≡ other b → cell_of base log b ≡ cell_of other log b
+cell_alike base other log b same = ap (λ (x : List ℕ). cell_of (λ _. x) log b) same
+
+pub honest_alike : (n : ℕ) (base other : Blocks) (log : List Event) (img : Blocks) → ((b : ℕ) → b < n → base b ≡ other b) → IsHonest n base log img → IsHonest n other log img
+honest_alike n base other log img same h = record {
+  leaves = λ b low. subst (λ (c : Cell). MayHold c (img b)) (cell_alike base other log b (same b low)) (h.leaves b low);
+  unsealed = λ b low torn. h.unsealed b low (subst (λ (c : Cell). IsTorn c (img b)) (sym (cell_alike base other log b (same b low))) torn);
+  like_base = λ b c low below e. h.like_base b c low below (e ∙ ap sha256 (sym (same c below))) ∙ same c below;
+  like_written = h.like_written;
+}
+
+-- An image that holds a map under this geometry stands for the tree for which the map does.
+pub stands_by : (g : Geometry) (img m : Blocks) (t : Tree) → HoldsUnder g.n g img m → IsTreeOf g m t → StandsFor g.n img t
+stands_by g img m t h tree = record { map = m; held = h.held; tree = subst (λ (k : Geometry). IsTreeOf k m t) (sym h.geom) tree }
+
+module _ (g : Geometry) (root : HasRoot g) where
+  pub all_stand : (base : Blocks) (log : List Event) → Window g.n base log 0 (λ img. HoldsUnder g.n g img (live_part g (formatted g))) → Window g.n base log 0 (λ img. StandsFor g.n img (start g.i).tree)
+  all_stand base log w = record { each = λ k img from upto honest. stands_by g img (live_part g (formatted g)) (start g.i).tree (w.each k img from upto honest) root.tree }
+
+  -- so a run of no commands is crash consistent
+  pub consistent_by : (base : Blocks) (log : List Event) → ((b : ℕ) → b < g.n → base b ≡ formatted g b) → Window g.n base log 0 (λ img. StandsFor g.n img (start g.i).tree) → IsCrashConsistent g.n g.i (formatted g) log (length log) [] [] []
+  consistent_by base log same w = record { points = points; none = λ none. absurd (none (start g.i).tree first) }
+    where
+      first : StandsFor g.n (formatted g) (start g.i).tree
+      first = stands_by g (formatted g) (live_part g (formatted g)) (start g.i).tree (root.held (formatted g) (λ b low. refl)) root.tree
+
+      points : (t : Tree) → StandsFor g.n (formatted g) t → LeavesPoints g.n (formatted g) (session_on g.i t) log (length log) [] [] []
+      points t stands = record {
+        each = λ k img upto honest. ∣ record {
+          number = 0;
+          point = record { tree = t; begun = 0 };
+          from = omega arith;
+          upto = omega arith;
+          is = refl;
+          stands = subst (λ (u : Tree). StandsFor g.n img u) (root.one g.n (formatted g) (start g.i).tree t first stands) (w.each k img (omega arith) upto (honest_alike g.n (formatted g) base (take k log) img (λ b low. sym (same b low)) honest));
+        } ∣₁;
+      }
+
+  -- what a failed mount leaves
+  pub fails_with : (d : disk.State) → HoldsRoot g d → IsLogOf d.blocks d.log → length d.log < 2 ^ 64 → FailedToMount g d
+  fails_with d h lawful events =
+      let stand = all_stand d.base d.log h.images in
+      record {
+        began = h.began;
+        images = stand;
+        consistent = consistent_by d.base d.log h.began.base stand;
+        lawful = subst (λ (n : ℕ). IsLogOf n d.log) h.began.size lawful;
+        events = events;
+      }
+
+  -- A disk that was just formatted.
+  module _ (laws : HasLaws g) (d : disk.State) (is : IsFormatted g d) where
+    settled_same : (b : ℕ) → b < g.n → settled_on d b ≡ formatted g b
+    settled_same b low = ap (λ (log : List Event). (cell_of d.base log b).settled) is.nothing ∙ is.began.base b low
+
+    pub idle : IsIdle d
+    idle b = ap (λ (log : List Event). (cell_of d.base log b).pending) is.nothing
+
+    pub holds : HoldsUnder d.blocks g (settled_on d) (live_part g (formatted g))
+    holds = subst (λ (n : ℕ). HoldsUnder n g (settled_on d) (live_part g (formatted g))) (sym is.began.size) (root.held (settled_on d) settled_same)
+
+    -- no mount refuses it for what is on it
+    pub header_found : (new : disk.State) → RefusalSays d new NoHeader → ⊥
+    header_found new says = has_header g laws (settled_on d) settled_same (subst (λ (n : ℕ). (slot : ℕ) (h : Header) → ¬ Newest n (settled_on d) slot h) is.began.size says.0)
+
+    pub bits_good : (new : disk.State) (b : ℕ) → RefusalSays d new (BadBit b) → ⊥
+    bits_good new b says = no_bad_bit g laws (settled_on d) settled_same says.0.found.run b (subst (λ (n : ℕ). IsFound n (settled_on d) says.0.found.run) is.began.size says.0.left.is_found.is_found) says.0.bad.bad
+
+    pub unspent : (new : disk.State) → RefusalSays d new Spent → ⊥
+    unspent new says = not_used_up g laws (settled_on d) settled_same (subst (λ (n : ℕ). IsUsedUp n (settled_on d)) is.began.size says.0)
+
+    -- and whatever comes of it, each honest image holds the formatted disk's live blocks
+    left_began : (unread faulty : Bool) (new : disk.State) → LeavesDisk true unread faulty d new → BeganFormatted g new
+    left_began unread faulty new left = record {
+      size = left.spends.same.blocks ∙ is.began.size;
+      base = λ b low. ap (λ (x : Blocks). x b) left.spends.same.base ∙ is.began.base b low;
+    }
+
+    left_images : (unread faulty : Bool) (new : disk.State) → LeavesDisk true unread faulty d new → Window g.n new.base new.log 0 (λ img. HoldsUnder g.n g img (live_part g (formatted g)))
+    left_images unread faulty new left =
+        let w : Window d.blocks d.base new.log (length d.log) (λ img. HoldsUnder d.blocks g img (live_part g (formatted g))) = left.holds refl g (live_part g (formatted g)) holds in
+        record {
+          each = λ k img from upto honest.
+              subst (λ (n : ℕ). HoldsUnder n g img (live_part g (formatted g))) is.began.size
+              (w.each k img (omega (arith, ap (λ (es : List Event). length es) is.nothing)) upto
+              (subst (λ (n : ℕ). IsHonest n d.base (take k new.log) img) (sym is.began.size)
+              (subst (λ (x : Blocks). IsHonest g.n x (take k new.log) img) left.spends.same.base honest)));
+        }
+
+    pub left_with : (unread faulty : Bool) (new : disk.State) → LeavesDisk true unread faulty d new → HoldsRoot g new
+    left_with unread faulty new left = record { began = left_began unread faulty new left; images = left_images unread faulty new left }
+
+-- a disk in memory that was just formatted is such a disk
+pub formatted_in_memory : (g : Geometry) (b : Behaviour) (d : MemDiskState) → IsFormattedDisk g b d → IsFormatted g (disk_state d)
+formatted_in_memory g b d is = record {
+  began = record { size = is.blocks.count; base = is.blocks.each };
+  nothing = ap (λ (x : MemDiskState). x.log) is.behaves;
+}

@@ -1,0 +1,105 @@
+-- What comes of opening the file system of a store that was just mounted on a formatted disk: the root alone stands in it, and nothing is taken.
+use Rattle.std.proofs.Common.{◌≡◌, ℕ, ◌+◌, ◌*◌, ◌/◌, ◌%◌, ◌^◌, ◌<◌, ◌≤◌, ◌==◌, ◌||◌, nat_lt, Bool, true, false, List, [], length, get_or, refl, sym, ap, ◌∙◌, subst, arith}
+use Rattle.std.proofs.lemmas.Bool.{and_from, cond-true, le-leb, lt-ltb, le-ltb}
+use Rattle.std.specs.Int.{bit_at}
+use Rattle.opt_base.specs.Seal.{Blocks}
+use Rattle.opt_disk.specs.declared.disk.Disk.{Ghosts}
+use Rattle.opt_disk.specs.declared.event.Event.{Event}
+use Rattle.opt_disk.specs.Disk as disk
+use Rattle.opt_disk.specs.Disk.{writes_in}
+use Rattle.opt_disk.specs.Lawful.{IsLogOf}
+use Rattle.opt_disk.specs.Crash.{Window}
+use Rattle.opt_geom.specs.Geometry.{Geometry, IsGeometry, bitmap_start, bitmap_blocks, data_start}
+use Rattle.opt_layout.specs.Bitmap.{is_set}
+use Rattle.opt_journal.specs.Formatted.{formatted}
+use Rattle.opt_journal.specs.Run.{is_live, live_part}
+use Rattle.opt_tree.specs.Step.{start}
+use Rattle.opt_stands.specs.Stands.{IsTreeOf}
+use Rattle.opt_crash.specs.Ledger.{HoldsUnder}
+use Rattle.opt_blocks.specs.Crashes.{IsBegun}
+use Rattle.opt_blocks.specs.State.{Bookkeeping, State}
+use Rattle.opt_files.specs.Effects.{LooksOnly}
+use Rattle.opt_fs.specs.Memory.{HasNoBlocks, room_of}
+use Rattle.opt_fs.specs.Room.{IsFirstRoom}
+use Rattle.opt_store.specs.declared.store.Store.{Store}
+use Rattle.opt_store.specs.StoreOf.{state_of}
+use Rattle.opt_session.specs.Budget.{KeepsBudget}
+use Rattle.opt_session.specs.Serving.{HasServed, IsDrawn, IsMountedWith}
+use Rattle.optfs.specs.Disks.{IsMounted, IsOpened, ShowsRoot}
+
+-- the view of crashes of a store is drawn from its disk
+pub drawn : {D : Type 0} {k : Ghosts D} (known : D → disk.State) (s : Store D k) → IsDrawn (state_of known s)
+drawn known s = record {
+  left = λ since k img from upto honest. record { moment = k; from = from; within = upto; honest = honest };
+  holds = λ img m h. h;
+  issued = λ m h. h;
+}
+
+-- The bitmap of the formatted disk's live blocks.
+module _ (g : Geometry) (limits : IsGeometry g) (bits : (b : ℕ) → b < 8192 * bitmap_blocks g → is_set g (formatted g) b ≡ nat_lt b (data_start g)) where
+  -- the blocks of the bitmap are live
+  bitmap_live : (b : ℕ) → bitmap_start g ≤ b → b < data_start g → live_part g (formatted g) b ≡ formatted g b
+  bitmap_live b from below = cond-true (is_live g (formatted g) b) (formatted g b) []
+      (and_from _ _ (le-leb _ _ from) (and_from _ _ (lt-ltb b g.n (omega (arith, below, limits.data_room))) (ap (λ t. t || is_set g (formatted g) b) (lt-ltb _ _ below))))
+
+  -- no data block is set
+  unset : (b : ℕ) → data_start g ≤ b → b < g.n → is_set g (live_part g (formatted g)) b ≡ false
+  unset b from below =
+      ap (λ (x : List ℕ). bit_at (get_or x (b % 8192 / 8) 0) (b % 8) == 1) (bitmap_live (bitmap_start g + b / 8192) (omega arith) (omega (arith, below)))
+      ∙ bits b (omega (arith, below)) ∙ le-ltb b (data_start g) from
+
+  pub has_none : (s t : State) → IsMounted g s → LooksOnly true false s t → HasNoBlocks t
+  has_none s t is looks =
+      subst (λ (k : Geometry). (b : ℕ) → data_start k ≤ b → b < k.n → is_set k t.map b ≡ false) (sym (ap (λ (k : Bookkeeping). k.geom) looks.books ∙ is.begins.geom))
+      (subst (λ (m : Blocks). (b : ℕ) → data_start g ≤ b → b < g.n → is_set g m b ≡ false) (sym (looks.map refl ∙ is.begins.map)) unset)
+
+-- nothing was done where blocks were only looked at
+pub still_begun : (s t : State) → t.books ≡ s.books → IsBegun s → IsBegun t
+still_begun s t same h = subst (λ (k : Bookkeeping). IsBegun (record t { books = k })) (sym same) (record {
+  point = h.point;
+  weight = h.weight;
+  held = h.held;
+  payloads = h.payloads;
+  fresh = h.fresh;
+  none_bare = h.none_bare;
+  going = h.going;
+})
+
+module _ (g : Geometry) (s : State) (is : IsMounted g s) where
+  -- the blocks are mounted with the formatted disk's live blocks
+  pub mounted_with : IsMountedWith g (live_part g (formatted g)) s
+  mounted_with = record { geom = is.begins.geom; map = is.begins.map; only = is.begins.only; images = is.shows.images }
+
+  -- the root alone stands in them
+  pub root_stands : IsTreeOf g (live_part g (formatted g)) (start g.i).tree → IsTreeOf s.books.geom s.map (start g.i).tree
+  root_stands tree = subst (λ (k : Geometry). IsTreeOf k s.map (start g.i).tree) (sym is.begins.geom) (subst (λ (m : Blocks). IsTreeOf g m (start g.i).tree) (sym is.begins.map) tree)
+
+  -- a disk that was only looked at shows the same
+  pub still_shows : (failed : Bool) (t : State) → LooksOnly true failed s t → ShowsRoot g t
+  still_shows failed t looks =
+      let crash = looks.crash refl in
+      record {
+        geom = ap (λ (k : Bookkeeping). k.geom) looks.books ∙ is.begins.geom;
+        base = λ b low. ap (λ (x : Blocks). x b) crash.base ∙ is.shows.base b low;
+        images = subst (λ (x : Blocks). Window g.n x t.crash.log 0 (λ img. HoldsUnder g.n g img (live_part g (formatted g)))) (sym crash.base)
+            (subst (λ (log : List Event). Window g.n s.crash.base log 0 (λ img. HoldsUnder g.n g img (live_part g (formatted g)))) (sym crash.log) is.shows.images);
+      }
+
+  pub nothing_waits : (t : State) → LooksOnly true false s t → t.books.waiting ≡ 0
+  nothing_waits t looks = ap (λ (k : Bookkeeping). k.waiting) looks.books ∙ is.begins.waiting
+
+  -- all that is known of the file system
+  pub opened_with : (t : State) → LooksOnly true false s t → HasServed g (start g.i).tree (length s.crash.log) [] [] [] t → KeepsBudget s.books.geom (start g.i).tree (writes_in s.crash.log + s.books.owed) [] [] t
+      → IsFirstRoom t.books.geom (room_of t) → IsLogOf t.books.geom.n t.crash.log → length t.crash.log < 2 ^ 64 → IsOpened g t
+  opened_with t looks served budget room lawful events =
+      let crash = looks.crash refl in
+      let geom : t.books.geom ≡ g = ap (λ (k : Bookkeeping). k.geom) looks.books ∙ is.begins.geom in
+      let writes : writes_in s.crash.log + s.books.owed ≡ writes_in t.crash.log = omega (arith, is.begins.owed, ap (λ (es : List Event). writes_in es) crash.log) in
+      record {
+        served = subst (λ (n : ℕ). HasServed g (start g.i).tree n [] [] [] t) (ap (λ (es : List Event). length es) (sym crash.log)) served;
+        budget = subst (λ (k : Geometry). KeepsBudget k (start g.i).tree (writes_in t.crash.log) [] [] t) is.begins.geom (subst (λ (n : ℕ). KeepsBudget s.books.geom (start g.i).tree n [] [] t) writes budget);
+        room = subst (λ (k : Geometry). IsFirstRoom k (room_of t)) geom room;
+        base = λ b low. ap (λ (x : Blocks). x b) crash.base ∙ is.shows.base b low;
+        lawful = subst (λ (k : Geometry). IsLogOf k.n t.crash.log) geom lawful;
+        events = events;
+      }

@@ -1,0 +1,103 @@
+-- A run of commands on the disk of a recording, as far as it has come. Only proofs and private contracts speak of it.
+use Rattle.std.specs.Prelude.{◌≡◌, ℕ, ◌^◌, ◌<◌, ◌≤◌, true, List, [], ◌∷◌, ◌++◌, length, take, Option}
+use Rattle.std.specs.Io.KnownBytes.{Appends}
+use Rattle.opt_base.specs.Seal.{Blocks}
+use Rattle.opt_disk.specs.Disk.{Grows, writes_in}
+use Rattle.opt_disk.specs.Lawful.{IsLogOf}
+use Rattle.opt_geom.specs.Geometry.{Geometry, geometry_fits, bitmap_blocks}
+use Rattle.opt_journal.specs.Formatted.{formatted}
+use Rattle.opt_script.specs.Text.{command_text}
+use Rattle.opt_script.specs.Values.{IsCommand, IsReply}
+use Rattle.opt_trace.specs.Contents.{Each, front_of}
+use Rattle.opt_trace.specs.Line.{command_line}
+use Rattle.opt_tree.specs.declared.command.Cmd.{Cmd}
+use Rattle.opt_tree.specs.declared.command.Reply.{Reply}
+use Rattle.opt_tree.specs.Step.{Session, start}
+use Rattle.opt_tree.specs.Tree.{Tree}
+use Rattle.opt_stands.specs.Stands.{StandsFor}
+use Rattle.opt_crash.specs.Counts.{AreAtMost}
+use Rattle.opt_blocks.specs.State.{State}
+use Rattle.opt_fs.specs.Memory.{room_of}
+use Rattle.opt_fs.specs.Room.{Room, IsFirstRoom}
+use Rattle.opt_fs.specs.DiskRoom.{AnswersOn, IsRoomOf, RunsOn}
+use Rattle.opt_fs.specs.Sessions.{IsSession}
+use Rattle.opt_session.specs.Budget.{KeepsBudget, budget_of}
+use Rattle.opt_session.specs.Ending.{HasRun, ending_marks, ending_replies}
+use Rattle.opt_session.specs.Serving.{HasServed}
+use Rattle.optfs.specs.Output.{Serves, says}
+
+-- These commands were answered with these replies, at these marks, since a disk that was formatted with this geometry was mounted; and so much is known of the blocks now.
+pub record Ran (g : Geometry) (mounted : ℕ) (cmds : List Cmd) (replies : List Reply) (marks : List ℕ) (s : State) : Type 0 where
+  pub served : HasServed g (start g.i).tree mounted cmds replies marks s
+  pub first : Room
+  pub empty : IsFirstRoom g first
+  pub after : Session
+  pub session : IsSession s after
+  pub rooms : RunsOn g (start g.i) first cmds replies after (room_of s)
+  -- no write was owed as the mount ended
+  pub budget : KeepsBudget g (start g.i).tree (writes_in (take mounted s.crash.log)) cmds replies s
+  pub base : (b : ℕ) → b < g.n → s.crash.base b ≡ formatted g b
+  pub fits : geometry_fits g ≡ true
+  pub lawful : IsLogOf g.n s.crash.log
+  pub events : length s.crash.log < 2 ^ 64
+  pub answers : Each IsReply replies
+
+-- What other crates say of the formatted disk, of images, and of runs that end.
+pub record RunLaws (g : Geometry) : Type 0 where
+  pub root : StandsFor g.n (formatted g) (start g.i).tree
+  pub one : (n : ℕ) (img : Blocks) (t u : Tree) → StandsFor n img t → StandsFor n img u → t ≡ u
+  pub alike : (n : ℕ) (img other : Blocks) (t : Tree) → ((b : ℕ) → b < n → img b ≡ other b) → StandsFor n img t → StandsFor n other t
+  pub budget : (cmds : List Cmd) (replies : List Reply) (more : List Cmd) (later : List Reply) → length cmds ≡ length replies
+      → budget_of (bitmap_blocks g) (start g.i) 0 cmds replies ≤ budget_of (bitmap_blocks g) (start g.i) 0 (cmds ++ more) (replies ++ later)
+
+-- What is known of a run over blocks, as one on a disk, and of one that ends behind it.
+pub record KnownRun (g : Geometry) (s : State) (mounted : ℕ) (cmds : List Cmd) (replies : List Reply) (marks : List ℕ) : Type 0 where
+  pub most : AreAtMost mounted s.crash.log (budget_of (bitmap_blocks g) (start g.i) 0 cmds replies)
+  pub room : (f : Session) → IsSession s f → IsRoomOf g f (room_of s)
+  pub ends : (more : List Cmd) → HasRun g (start g.i).tree s.crash.base s.crash.log mounted (cmds ++ more) (replies ++ ending_replies s.books.stopped more) (marks ++ ending_marks (length s.crash.log) more)
+
+-- how a command was answered, and what came with it
+pub record IsAnswered (cmd : Cmd) (reply : Reply) (old new : State) : Type 0 where
+  pub serves : (g : Geometry) (t : Tree) (mounted : ℕ) (cmds : List Cmd) (replies : List Reply) (marks : List ℕ) → HasServed g t mounted cmds replies marks old → HasServed g t mounted (cmds ++ cmd ∷ []) (replies ++ reply ∷ []) (marks ++ length new.crash.log ∷ []) new
+  pub budget : (g : Geometry) (t : Tree) (mounted begun : ℕ) (cmds : List Cmd) (replies : List Reply) (marks : List ℕ) → HasServed g t mounted cmds replies marks old → KeepsBudget g t begun cmds replies old → KeepsBudget g t begun (cmds ++ cmd ∷ []) (replies ++ reply ∷ []) new
+  pub room : (f : Session) → IsSession old f → (next : Session) × IsSession new next × (new.books.geom ≡ old.books.geom) × AnswersOn old.books.geom f (room_of old) cmd reply next (room_of new)
+  pub base : new.crash.base ≡ old.crash.base
+  pub grows : Grows old.crash.log new.crash.log
+  pub lawful : IsLogOf new.books.geom.n new.crash.log
+  pub events : length new.crash.log < 2 ^ 64
+
+-- However the commands go on behind these, with such a command first, the text and that command's line begin the trace of some run.
+pub record GoesOnWith (g : Geometry) (cmds : List Cmd) (text : List ℕ) (cmd : Cmd) (more : List Cmd) : Type 0 where
+  pub rest : List ℕ
+  pub served : Each IsCommand (cmds ++ cmd ∷ more) → Serves g (cmds ++ cmd ∷ more) ((text ++ command_line (command_text cmd)) ++ rest)
+
+-- These commands were answered so far, and this text begins their trace.
+pub record Records (g : Geometry) (cmds : List Cmd) (text : List ℕ) (s : State) : Type 0 where
+  pub mounted : ℕ
+  pub replies : List Reply
+  pub marks : List ℕ
+  pub ran : Ran g mounted cmds replies marks s
+  pub is : text ≡ front_of (says g s.crash.log mounted cmds replies marks)
+  pub served : Each IsCommand cmds → Serves g cmds text
+  pub ends : (cmd : Cmd) (more : List Cmd) → GoesOnWith g cmds text cmd more
+
+-- More was answered, and the sink took the text that came with it.
+pub record RecordsOn (g : Geometry) (cmds : List Cmd) (text : List ℕ) (s : State) (before after : Option (List ℕ)) : Type 0 where
+  pub piece : List ℕ
+  pub told : Appends before after piece
+  pub records : Records g cmds (text ++ piece) s
+
+-- The sink took some text more, with which the trace of some run of these commands begins.
+pub record BreaksOff (g : Geometry) (cmds : List Cmd) (text : List ℕ) (before after : Option (List ℕ)) : Type 0 where
+  pub piece : List ℕ
+  pub rest : List ℕ
+  pub told : Appends before after piece
+  pub served : Each IsCommand cmds → Serves g cmds ((text ++ piece) ++ rest)
+
+-- these commands are answered behind those that were, whatever they are
+abbrev pub ServesFrom : List Cmd → State → State → Option (List ℕ) → Option (List ℕ) → Type 0
+ServesFrom cmds old new before after = (g : Geometry) (past : List Cmd) (text : List ℕ) → Records g past text old → RecordsOn g (past ++ cmds) text new before after
+
+-- the recording breaks off in these commands, whatever comes behind them
+abbrev pub TriesFrom : List Cmd → State → Option (List ℕ) → Option (List ℕ) → Type 0
+TriesFrom cmds old before after = (g : Geometry) (past more : List Cmd) (text : List ℕ) → Records g past text old → BreaksOff g ((past ++ cmds) ++ more) text before after

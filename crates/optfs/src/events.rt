@@ -1,0 +1,45 @@
+//! The events of the disk of a recording, written to the trace as they come. Each line is written by `opt_trace`.
+
+ghost use Rattle.std.specs.Prelude.{ℕ, ◌++◌, take, drop, OnOk, OnErr};
+ghost use Rattle.std.specs.Io.KnownBytes.{Appends};
+ghost use Rattle.opt_base.specs.Counts.{HasCause};
+ghost use Rattle.opt_trace.specs.Line.{geometry_line, event_lines};
+
+use opt_disk::Disk;
+use opt_geom::Geom;
+use opt_io::{Sink, SinkFault};
+use opt_memdisk::MemDisk;
+use opt_trace::{write_event, write_geom};
+
+/// Writes the beginning of a trace: the line of the geometry, and the events of the mount, which are all events of
+/// the disk so far.
+///
+/// # Errors
+/// The first fault of the sink, which by then took a front of these lines and nothing else.
+pub fn write_head<K: Sink>(out: &mut K, geom: &Geom, disk: &MemDisk) -> Result<(), SinkFault>
+    ensures all { OnOk result (Appends (K.taken out.old) (K.taken out.new) (geometry_line geom.now ++ event_lines disk.now.log)) }
+    ensures front { OnErr result ((n : ℕ) × Appends (K.taken out.old) (K.taken out.new) (take n (geometry_line geom.now ++ event_lines disk.now.log))) }
+    ensures cause { HasCause result (K.faults out.old) (K.faults out.new) }
+{
+    write_geom(out, geom)?;
+    write_events(out, disk, 0)?;
+    Ok(())
+}
+
+/// Writes the lines of the disk's events behind the first so many, in order.
+///
+/// # Errors
+/// The first fault of the sink, which by then took a front of these lines and nothing else.
+pub fn write_events<K: Sink>(out: &mut K, disk: &MemDisk, from: u64) -> Result<(), SinkFault>
+    ensures all { OnOk result (Appends (K.taken out.old) (K.taken out.new) (event_lines (drop from disk.now.log))) }
+    ensures front { OnErr result ((n : ℕ) × Appends (K.taken out.old) (K.taken out.new) (take n (event_lines (drop from disk.now.log)))) }
+    ensures cause { HasCause result (K.faults out.old) (K.faults out.new) }
+{
+    for place in from..disk.moment() {
+        match disk.event(place) {
+            Some(event) => write_event(out, event)?,
+            None => unreachable!(),
+        }
+    }
+    Ok(())
+}
