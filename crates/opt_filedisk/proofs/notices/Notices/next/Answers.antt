@@ -1,0 +1,11 @@
+use Rattle.std.proofs.Common.{◌≡◌, true, rules}
+use Rattle.opt_filedisk.specs.Notices.{StaysOver}
+use Rattle.opt_filedisk.proofs.Overs.{low_over}
+use Rattle.opt_filedisk.proofs.notices.Notices.next.Goals as goal
+
+-- the ticket that was passed was over already
+pub loop-self-preserved : goal.loop-self-preserved
+loop-self-preserved c =
+    let inv = c.loop-self.invariant in
+    let back : StaysOver c.pass.new.self c.loop-self.self = search rules in
+    (λ t over. c.pass.ensures.stays t (inv.0 t over), λ t over. inv.1 t (back t over), λ t low. inv.1 t (back t (low_over c.pass.new.self t low)))

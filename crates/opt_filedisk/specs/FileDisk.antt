@@ -1,0 +1,24 @@
+-- A disk on an image file as far as contracts know it: its numbers, and nothing of its contents.
+use Rattle.std.specs.Prelude.{ℕ, ◌+◌, ◌≤◌, ◌<◌, ◌==◌, ◌^◌, Bool, List, []}
+use Rattle.opt_base.specs.Counts.{next_count}
+use Rattle.opt_disk.specs.Disk.{State}
+use Rattle.opt_filedisk.specs.Notices.{NoticesState}
+
+-- a disk on a file: its number of blocks, the last ticket that it gave, up to which ticket the file was synced, which tickets are over, and its counts
+pub record FileDiskState : Type 0 where
+  pub blocks : ℕ
+  pub last : ℕ
+  pub synced : ℕ
+  pub notices : NoticesState
+  pub faults : ℕ
+  pub read_faults : ℕ
+  pub waits : ℕ
+  pub polls : ℕ
+
+-- what the contract of disks says of it; its base and its log aren't told
+abbrev pub state_of : FileDiskState → State
+state_of d = record { blocks = d.blocks; base = λ _. []; log = []; faults = d.faults; read_faults = d.read_faults; waits = d.waits; polls = d.polls }
+
+-- a disk of so many blocks on which nothing was done
+abbrev pub opened : ℕ → FileDiskState
+opened n = record { blocks = n; last = 0; synced = 0; notices = record { upto = 0; waited = []; most = 0 }; faults = 0; read_faults = 0; waits = 0; polls = 0 }

@@ -1,0 +1,3 @@
+pub mod FileBay
+pub mod FileDisk
+pub mod Notices

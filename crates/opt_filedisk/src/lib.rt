@@ -1,0 +1,11 @@
+//! Disks on image files, and the bay that opens them. This is the edge to the files of the system: what
+//! a file holds is known to no contract, so the few lines here that reach it are trusted. Which ticket gets
+//! its notice when is proved. The rules are described in docs/BAYS.md.
+#![tactic(auto)]
+
+mod bay;
+mod disk;
+mod notices;
+
+pub use bay::FileBay;
+pub use disk::FileDisk;
