@@ -1,6 +1,5 @@
 -- A call of a bay that tells nothing and fails by a fault.
-use Rattle.std.proofs.Common.{◌≡◌, ℕ, List, false, sym, subst, Result, Err, refl}
-use Rattle.std.proofs.lemmas.Bool.{false≢true}
+use Rattle.std.proofs.Common.{◌≡◌, ℕ, List, false, sym, subst, Err, refl}
 use Rattle.opt_base.specs.Counts.{next_count}
 use Rattle.opt_disk.specs.declared.bay.BayFault.{BayFault}
 use Rattle.opt_disk.specs.declared.bay.BayFault.TheVariants.{Fault}

@@ -1,7 +1,7 @@
 -- Tickets that are over: what a wait and a poll make of them.
-use Rattle.std.proofs.Common.{◌≡◌, ⊎_elim, ℕ, ◌+◌, ◌<◌, ◌≤◌, ◌==◌, ◌||◌, Bool, true, false, not, List, [], ◌∷◌, ◌++◌, max, nat_le, filter, All, refl, sym, subst, ◌∙◌, ap, arith}
+use Rattle.std.proofs.Common.{◌≡◌, ⊎_elim, ℕ, ◌+◌, ◌≤◌, ◌==◌, ◌||◌, true, false, not, List, [], ◌∷◌, ◌++◌, nat_le, filter, All, refl, sym, subst, ◌∙◌, ap, arith}
 use Rattle.std.specs.List.{list_any}
-use Rattle.std.proofs.lemmas.Bool.{cases_Bool, cases_eq, true≢false, false≢true, cond-true, cond-false, eq-eqb, eqb-true, eqb-false, ne_eqb, or_cases, or_left, or_right, or_from, leb-true, le-leb, both_ways, not_from_true, not_from_false}
+use Rattle.std.proofs.lemmas.Bool.{cases_Bool, cases_eq, false≢true, cond-true, cond-false, eq-eqb, eqb-true, or_cases, or_left, or_right, leb-true, le-leb, not_from_true, not_from_false}
 use Rattle.std.proofs.lemmas.List.Elements.{All-head, All-tail}
 use Rattle.opt_filedisk.specs.Notices.{NoticesState, is_over, StaysOver}
 

@@ -1,6 +1,5 @@
 -- A disk on an image file as far as contracts know it: its numbers, and nothing of its contents.
-use Rattle.std.specs.Prelude.{ℕ, ◌+◌, ◌≤◌, ◌<◌, ◌==◌, ◌^◌, Bool, List, []}
-use Rattle.opt_base.specs.Counts.{next_count}
+use Rattle.std.specs.Prelude.{ℕ, []}
 use Rattle.opt_disk.specs.Disk.{State}
 use Rattle.opt_filedisk.specs.Notices.{NoticesState}
 

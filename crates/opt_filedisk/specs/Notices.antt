@@ -1,6 +1,6 @@
 -- Which tickets of a disk are over: they had their notice, or never get one. The rules are described in docs/BAYS.md.
-use Rattle.std.specs.Prelude.{ℕ, ◌==◌, ◌≤◌, ◌||◌, Bool, IsTrue, List, nat_le}
-use Rattle.std.specs.List.{list_any, All}
+use Rattle.std.specs.Prelude.{ℕ, ◌==◌, ◌||◌, Bool, IsTrue, List, nat_le}
+use Rattle.std.specs.List.{list_any}
 
 -- the tickets that are over: those up to a number, and those of a list; none of the list is above the second number
 pub record NoticesState : Type 0 where

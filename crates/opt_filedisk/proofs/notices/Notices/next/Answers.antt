@@ -1,4 +1,4 @@
-use Rattle.std.proofs.Common.{◌≡◌, true, rules}
+use Rattle.std.proofs.Common.{rules}
 use Rattle.opt_filedisk.specs.Notices.{StaysOver}
 use Rattle.opt_filedisk.proofs.Overs.{low_over}
 use Rattle.opt_filedisk.proofs.notices.Notices.next.Goals as goal
