@@ -1,0 +1,2 @@
+pub mod MemBay
+pub mod Shelves
