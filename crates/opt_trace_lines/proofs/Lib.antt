@@ -1,0 +1,5 @@
+pub mod Cuts
+pub mod Digits
+pub mod Events
+pub mod Reasons
+pub mod Promises
