@@ -109,3 +109,19 @@ known_reads law text = reads_as (λ point. text_of_reply (Known point)) (λ poin
 -- the last line
 pub ends : (line : List ℕ) → (bytes_eq line (codes "end") ≡ true) ↔ (fed line ≡ end_line)
 ends line = (λ h. ap fed ((bytes_eq-Decides line (codes "end")).0 h), λ same. (bytes_eq-Decides line (codes "end")).1 (fed_same line (codes "end") same))
+
+-- ---- one line says one thing
+
+one_of : {A : Type 0} (x y : A) → Some x ≡ Some y → x ≡ y
+one_of x y h = cc h
+
+pub one_event : Numbers → (e d : Event) → IsEventOf (2 ^ 32) e → IsEventOf (2 ^ 32) d → event_line e ≡ event_line d → e ≡ d
+one_event law e d one other same =
+    let text : event_text e ≡ event_text d = fed_same (event_text e) (event_text d) (sym (event_fed e) ∙ same ∙ event_fed d) in
+    one_of e d (sym (event_read law e one) ∙ ap (behind event_by_letter) text ∙ event_read law d other)
+
+pub one_reply : Numbers → (m k : ℕ) (s t : List ℕ) → m < 2 ^ 64 → k < 2 ^ 64 → reply_line m s ≡ reply_line k t → (m ≡ k) × (s ≡ t)
+one_reply law m k s t low small same =
+    let text : 114 ∷ 32 ∷ reply_text (m, s) ≡ 114 ∷ 32 ∷ reply_text (k, t) = fed_same (114 ∷ 32 ∷ reply_text (m, s)) (114 ∷ 32 ∷ reply_text (k, t)) (sym (reply_fed (m, s)) ∙ same ∙ reply_fed (k, t)) in
+    let pair : (m, s) ≡ (k, t) = one_of (m, s) (k, t) (sym (reply_read law (m, s) low) ∙ ap (behind reply_by_letter) text ∙ reply_read law (k, t) small) in
+    (ap (λ (p : ℕ × List ℕ). p.0) pair, ap (λ (p : ℕ × List ℕ). p.1) pair)
