@@ -4,13 +4,15 @@
 ghost use Rattle.std.specs.Prelude.{◌≡◌, ℕ, List, true};
 ghost use Rattle.opt_tree.specs.declared.command.Cmd.{Cmd};
 ghost use Rattle.opt_tree.specs.declared.command.Reply.{Reply};
-ghost use Rattle.opt_script.specs.Grammar.{command_of};
+ghost use Rattle.opt_script.specs.Grammar.{command_of, is_in_grammar};
 ghost use Rattle.opt_script.specs.Text.{command_text, text_of_reply};
 ghost use Rattle.opt_script.specs.Values.{IsCommand, IsReply, has_no_feed};
 
-/// Each line is a command whose arguments are lawful, or none.
+/// Each line is a command whose arguments are lawful, or none. A command that some line asks for is the one that its
+/// text asks for.
 pub fn lines_are_commands()
     ensures lawful { (line : List ℕ) → IsCommand (command_of line) }
+    ensures read { (cmd : Cmd) → is_in_grammar cmd ≡ true → command_of (command_text cmd) ≡ cmd }
 {}
 
 /// Two commands with lawful arguments that have one text are the same, and so are two replies. None of these texts
