@@ -17,11 +17,6 @@ none_some x none some = cc
 pub some_same : {A : Type 0} (x y : A) → Some x ≡ Some y → x ≡ y
 some_same x y e = cc
 
--- what isn't nothing is something
-pub has : {A : Type 0} (o : Option A) → is_some o ≡ true → (x : A) × (o ≡ Some x)
-has None e = absurd cc
-has (Some x) e = (x, refl)
-
 -- what isn't something is nothing
 pub lacks : {A : Type 0} (o : Option A) → is_some o ≡ false → o ≡ None
 lacks None e = refl

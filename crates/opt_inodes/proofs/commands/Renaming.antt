@@ -33,10 +33,6 @@ module _ (limit : ℕ) (m : Inodes) (t : Tree) (a : Agrees limit m t) where
   pub under : (up : Path) (d : ℕ) (slots : List Slot) (b : List ℕ) → get t.names up ≡ Some d → m d ≡ Some (ADir slots) → get t.names (up ++ b ∷ []) ≡ node_in slots b
   under up d slots b at is = step_at (entries_of m) (get t.names) a.goes up b d at ∙ ap (λ o. entry_in o b) is
 
-  -- a slot's path leads to the node that it names
-  pub slot_path : (up : Path) (d i n : ℕ) (slots : List Slot) (b : List ℕ) → get t.names up ≡ Some d → m d ≡ Some (ADir slots) → slice_get slots i ≡ Some (slot_of n b) → get t.names (up ++ b ∷ []) ≡ Some n
-  slot_path up d i n slots b at is at_i = under up d slots b at is ∙ finds slots i (slot_of n b) (a.distinct d slots is) at_i
-
 -- what isn't node n isn't the same node
 not_same : (n : ℕ) (o : Option ℕ) → (o ≡ Some n → ⊥) → are_same (Some n) o ≡ false
 not_same n None off = refl

@@ -12,10 +12,6 @@ use Rattle.opt_inodes.specs.Changes.{slot_of, put_at, with_slot}
 use Rattle.opt_inodes.proofs.basics.Paths.{none_some, some_same}
 use Rattle.opt_inodes.proofs.slots.Slots.{front_at, set_other, added_distinct, added_here, added_other, set_distinct, set_here_name, set_other_name}
 
--- the test of a slot's name
-abbrev named : List ℕ → Slot → Bool
-named name s = bytes_eq s.name name
-
 -- the first slot of that name, by its place
 record IsFirst (slots : List Slot) (name : List ℕ) (place : ℕ) : Type 0 where
   node : ℕ
