@@ -69,10 +69,10 @@ accepted s Dsync = (waited (synced s s.changed), DurableAt (synced s s.changed).
 accepted s Durable = (s, Known s.durable)
 accepted s cmd = (s, accepted_reply (map_of s.nodes) cmd)
 
-abbrev pub served_by : State → Cmd → Option Refusal → State × Reply
-served_by s cmd (Some why) = (s, Refused why)
-served_by s cmd None = accepted s cmd
+-- refused for a reason, and then all is as it was, or done so
+abbrev pub served_by : State → Option Refusal → State × Reply → State × Reply
+served_by s (Some why) done = (s, Refused why)
+served_by s None done = done
 
--- refused for a reason, and then all is as it was, or done
 abbrev pub served : State → Cmd → State × Reply
-served s cmd = served_by s cmd (reason s.limit (map_of s.nodes) cmd)
+served s cmd = served_by s (reason s.limit (map_of s.nodes) cmd) (accepted s cmd)

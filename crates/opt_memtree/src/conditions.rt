@@ -1,13 +1,18 @@
-//! Why a command is refused: first the walks, and then the other conditions in the order of their
-//! numbers, one small function for each family of commands. Nothing here changes a node or takes memory.
+//! Why a command is refused, or what it is about: first the walks, and then the other conditions in the order
+//! of their numbers, one small function for each family of commands. Each path is walked once, and what the
+//! walk found is returned. Nothing here changes a node or takes memory.
 
-ghost use Rattle.std.specs.Prelude.{◌≡◌, ◌+◌, ◌&&◌, nat_lt, Some, is_none, Option};
+ghost use Rattle.std.specs.Prelude.{◌≡◌, ◌+◌, ◌^◌, ◌<◌, ◌&&◌, nat_lt, Some, None, Option, IfOk, if◌then◌else◌};
+ghost use Rattle.std.specs.Result.{result_err};
 ghost use Rattle.opt_tree.specs.Conditions.{is_too_large};
-ghost use Rattle.opt_inodes.specs.Lookups.{number_at};
+ghost use Rattle.opt_tree.specs.Walk.{are_same};
+ghost use Rattle.opt_inodes.specs.Lookups.{least_free, number_at};
 ghost use Rattle.opt_inodes.specs.Refusals.{reason, make_reason, write_reason, file_reason, truncate_reason, link_reason, rmdir_reason, onto_reason, rename_reason, walk_reason, list_reason};
+ghost use Rattle.opt_memtree.specs.Trails.{IsEnd, IsUnder};
 ghost use Rattle.opt_memtree.specs.Kept.{map_of};
 
 use crate::nodes::Nodes;
+use crate::walks::End;
 use opt_base::limits::{LARGEST_FILE, MOST_LINKS};
 use opt_tree::{Cmd, Path, Refusal};
 
@@ -17,147 +22,160 @@ impl Nodes {
         ensures { result ≡ reason limit (map_of self.now) cmd.now }
     {
         match cmd {
-            Cmd::Mkdir(path) => self.make_refusal(limit, path),
-            Cmd::Create(path) => self.make_refusal(limit, path),
+            Cmd::Mkdir(path) | Cmd::Create(path) => self.to_make(limit, path).err(),
             Cmd::Write(path, offset, bytes) => {
-                self.write_refusal(path, *offset, bytes.len() as u64)
+                self.to_write(path, *offset, bytes.len() as u64).err()
             }
             Cmd::Fill(path, offset, count, _) => {
-                self.write_refusal(path, *offset, u64::from(*count))
+                self.to_write(path, *offset, u64::from(*count)).err()
             }
-            Cmd::Read(path, _, _) => self.file_refusal(path),
-            Cmd::Truncate(path, size) => self.truncate_refusal(path, *size),
-            Cmd::Link(path, other) => self.link_refusal(path, other),
-            Cmd::Unlink(path) => self.file_refusal(path),
-            Cmd::Rmdir(path) => self.rmdir_refusal(path),
-            Cmd::Rename(from, to) => self.rename_refusal(from, to),
-            Cmd::Stat(path) => self.walk_refusal(path),
-            Cmd::List(path) => self.list_refusal(path),
-            Cmd::Osync => None,
-            Cmd::Dsync => None,
-            Cmd::Durable => None,
-            Cmd::Poll => None,
-            Cmd::Bad => None,
+            Cmd::Read(path, _, _) => self.to_read(path).err(),
+            Cmd::Truncate(path, size) => self.to_truncate(path, *size).err(),
+            Cmd::Link(path, other) => self.to_link(path, other).err(),
+            Cmd::Unlink(path) => self.to_unlink(path).err(),
+            Cmd::Rmdir(path) => self.to_rmdir(path).err(),
+            Cmd::Rename(from, to) => self.to_rename(from, to).err(),
+            Cmd::Stat(path) => self.to_stat(path).err(),
+            Cmd::List(path) => self.to_list(path).err(),
+            Cmd::Osync | Cmd::Dsync | Cmd::Durable | Cmd::Poll | Cmd::Bad => None,
         }
     }
 
-    /// A new node: the path isn't there, and a number is unused.
-    fn make_refusal(&self, limit: u32, path: &Path) -> Option<Refusal>
-        ensures { result ≡ make_reason limit (map_of self.now) path.now }
+    /// A new node: the path isn't there, and a number is unused. Where it is to be, and its number.
+    pub(crate) fn to_make<'a>(&self, limit: u32, path: &'a Path) -> Result<(End<'a>, u32), Refusal>
+        ensures reason { result_err result ≡ make_reason limit (map_of self.now) path.now }
+        ensures found { IfOk result (λ found. IsEnd (map_of self.now) path.now found.0 × (found.0.number ≡ None) × (least_free limit (map_of self.now) ≡ Some found.1)) }
+        ensures under { IfOk result (λ found. IsUnder (map_of self.now) found.0) }
     {
-        match self.look(path.names()) {
-            Err(why) => return Some(why),
-            Ok(Some(_)) => return Some(Refusal::Exists),
-            Ok(None) => {}
+        let end = self.look(path.names())?;
+        if end.number.is_some() {
+            return Err(Refusal::Exists);
         }
-        if self.unused(limit).is_none() {
-            return Some(Refusal::NoNode);
+        match self.unused(limit) {
+            None => Err(Refusal::NoNode),
+            Some(number) => Ok((end, number)),
         }
-        None
     }
 
-    /// So many bytes from `offset` on come into a file.
-    fn write_refusal(&self, path: &Path, offset: u32, count: u64) -> Option<Refusal>
-        ensures { result ≡ write_reason (map_of self.now) path.now offset count }
+    /// So many bytes from `offset` on come into a file. Its number.
+    pub(crate) fn to_write(&self, path: &Path, offset: u32, count: u64) -> Result<u32, Refusal>
+        ensures reason { result_err result ≡ write_reason (map_of self.now) path.now offset count }
+        ensures found { IfOk result (λ number. number_at (map_of self.now) path.now ≡ Some number) }
+        ensures end { IfOk result (λ number. offset + count < 2 ^ 62) }
     {
-        let number = match self.walk(path.names()) {
-            Err(why) => return Some(why),
-            Ok(number) => number,
-        };
+        let number = self.walk(path.names())?;
         if self.is_dir(number) {
-            return Some(Refusal::IsDir);
+            return Err(Refusal::IsDir);
         }
         if grows_too_large(offset, count) {
-            return Some(Refusal::TooLarge);
+            return Err(Refusal::TooLarge);
         }
-        None
+        Ok(number)
     }
 
-    /// A file alone.
-    fn file_refusal(&self, path: &Path) -> Option<Refusal>
-        ensures { result ≡ file_reason (map_of self.now) path.now }
+    /// A file alone. Its number.
+    pub(crate) fn to_read(&self, path: &Path) -> Result<u32, Refusal>
+        ensures reason { result_err result ≡ file_reason (map_of self.now) path.now }
+        ensures found { IfOk result (λ number. number_at (map_of self.now) path.now ≡ Some number) }
     {
-        let number = match self.walk(path.names()) {
-            Err(why) => return Some(why),
-            Ok(number) => number,
-        };
+        let number = self.walk(path.names())?;
         if self.is_dir(number) {
-            return Some(Refusal::IsDir);
+            return Err(Refusal::IsDir);
         }
-        None
+        Ok(number)
     }
 
-    /// A file alone that may have this size.
-    fn truncate_refusal(&self, path: &Path, size: u32) -> Option<Refusal>
-        ensures { result ≡ truncate_reason (map_of self.now) path.now size }
+    /// A file alone that may have this size. Its number.
+    pub(crate) fn to_truncate(&self, path: &Path, size: u32) -> Result<u32, Refusal>
+        ensures reason { result_err result ≡ truncate_reason (map_of self.now) path.now size }
+        ensures found { IfOk result (λ number. number_at (map_of self.now) path.now ≡ Some number) }
     {
-        let number = match self.walk(path.names()) {
-            Err(why) => return Some(why),
-            Ok(number) => number,
-        };
+        let number = self.walk(path.names())?;
         if self.is_dir(number) {
-            return Some(Refusal::IsDir);
+            return Err(Refusal::IsDir);
         }
         if u64::from(size) > LARGEST_FILE {
-            return Some(Refusal::TooLarge);
+            return Err(Refusal::TooLarge);
         }
-        None
+        Ok(number)
     }
 
-    /// Another path of a file, which has so many paths at most.
-    fn link_refusal(&self, path: &Path, other: &Path) -> Option<Refusal>
-        ensures { result ≡ link_reason (map_of self.now) path.now other.now }
+    /// Another path of a file, which has so many paths at most. The file's number, and where the path ends.
+    pub(crate) fn to_link<'a>(
+        &self,
+        path: &Path,
+        other: &'a Path,
+    ) -> Result<(u32, End<'a>), Refusal>
+        ensures reason { result_err result ≡ link_reason (map_of self.now) path.now other.now }
+        ensures found { IfOk result (λ found. (number_at (map_of self.now) path.now ≡ Some found.0) × IsEnd (map_of self.now) other.now found.1) }
     {
-        let number = match self.walk(path.names()) {
-            Err(why) => return Some(why),
-            Ok(number) => number,
-        };
-        match self.look(other.names()) {
-            Err(why) => return Some(why),
-            Ok(Some(_)) => return Some(Refusal::Exists),
-            Ok(None) => {}
+        let number = self.walk(path.names())?;
+        let end = self.look(other.names())?;
+        if end.number.is_some() {
+            return Err(Refusal::Exists);
         }
         if self.is_dir(number) {
-            return Some(Refusal::IsDir);
+            return Err(Refusal::IsDir);
         }
         if self.links(number) >= u64::from(MOST_LINKS) {
-            return Some(Refusal::TooManyLinks);
+            return Err(Refusal::TooManyLinks);
         }
-        None
+        Ok((number, end))
     }
 
-    /// An empty directory that isn't the root.
-    fn rmdir_refusal(&self, path: &Path) -> Option<Refusal>
-        ensures { result ≡ rmdir_reason (map_of self.now) path.now }
+    /// A file alone. Where its path ends.
+    pub(crate) fn to_unlink<'a>(&self, path: &'a Path) -> Result<End<'a>, Refusal>
+        ensures reason { result_err result ≡ file_reason (map_of self.now) path.now }
+        ensures found { IfOk result (λ end. IsEnd (map_of self.now) path.now end) }
     {
-        let number = match self.walk(path.names()) {
-            Err(why) => return Some(why),
-            Ok(number) => number,
-        };
+        let (end, number) = self.reach(path.names())?;
+        if self.is_dir(number) {
+            return Err(Refusal::IsDir);
+        }
+        Ok(end)
+    }
+
+    /// An empty directory that isn't the root. Where its path ends.
+    pub(crate) fn to_rmdir<'a>(&self, path: &'a Path) -> Result<End<'a>, Refusal>
+        ensures reason { result_err result ≡ rmdir_reason (map_of self.now) path.now }
+        ensures found { IfOk result (λ end. IsEnd (map_of self.now) path.now end) }
+    {
+        let (end, number) = self.reach(path.names())?;
         if self.is_file(number) {
-            return Some(Refusal::NotDir);
+            return Err(Refusal::NotDir);
         }
         if self.holds_names(number) {
-            return Some(Refusal::NotEmpty);
+            return Err(Refusal::NotEmpty);
         }
         if path.names().is_empty() {
-            return Some(Refusal::BelowItself);
+            return Err(Refusal::BelowItself);
         }
-        None
+        Ok(end)
     }
 
-    /// A move; where both paths lead to one node, the walks alone can refuse it.
-    fn rename_refusal(&self, from: &Path, to: &Path) -> Option<Refusal>
-        ensures { result ≡ rename_reason (map_of self.now) from.now to.now }
+    /// A move; where both paths lead to one node, the walks alone can refuse it. Where both paths end.
+    pub(crate) fn to_rename<'a>(
+        &self,
+        from: &'a Path,
+        to: &'a Path,
+    ) -> Result<(End<'a>, End<'a>), Refusal>
+        ensures reason { result_err result ≡ rename_reason (map_of self.now) from.now to.now }
+        ensures found { IfOk result (λ found. IsEnd (map_of self.now) from.now found.0 × IsEnd (map_of self.now) to.now found.1) }
     {
-        let number = match self.walk(from.names()) {
-            Err(why) => return Some(why),
-            Ok(number) => number,
-        };
-        let old = match self.look(to.names()) {
-            Err(why) => return Some(why),
-            Ok(old) => old,
-        };
+        let (first, number) = self.reach(from.names())?;
+        let second = self.look(to.names())?;
+        match self.move_refusal(from, to, number, second.number) {
+            Some(why) => Err(why),
+            None => Ok((first, second)),
+        }
+    }
+
+    /// Why the node at the first path can't come to the second one; nothing is done where they are one node.
+    fn move_refusal(&self, from: &Path, to: &Path, number: u32, old: Option<u32>) -> Option<Refusal>
+        requires first { number_at (map_of self.now) from.now ≡ Some number }
+        requires second { number_at (map_of self.now) to.now ≡ old }
+        ensures { result ≡ (if are_same (Some number) old then None else onto_reason (map_of self.now) from.now to.now) }
+    {
         match old {
             None => self.below_refusal(from, to, number),
             Some(old) => {
@@ -202,28 +220,25 @@ impl Nodes {
         None
     }
 
-    /// A path that is there.
-    fn walk_refusal(&self, path: &Path) -> Option<Refusal>
-        ensures { result ≡ walk_reason (map_of self.now) path.now }
+    /// A path that is there. Its number.
+    pub(crate) fn to_stat(&self, path: &Path) -> Result<u32, Refusal>
+        ensures reason { result_err result ≡ walk_reason (map_of self.now) path.now }
+        ensures found { IfOk result (λ number. number_at (map_of self.now) path.now ≡ Some number) }
     {
-        match self.walk(path.names()) {
-            Err(why) => Some(why),
-            Ok(_) => None,
-        }
+        let number = self.walk(path.names())?;
+        Ok(number)
     }
 
-    /// The names of a directory.
-    fn list_refusal(&self, path: &Path) -> Option<Refusal>
-        ensures { result ≡ list_reason (map_of self.now) path.now }
+    /// A directory alone. Its number.
+    pub(crate) fn to_list(&self, path: &Path) -> Result<u32, Refusal>
+        ensures reason { result_err result ≡ list_reason (map_of self.now) path.now }
+        ensures found { IfOk result (λ number. number_at (map_of self.now) path.now ≡ Some number) }
     {
-        let number = match self.walk(path.names()) {
-            Err(why) => return Some(why),
-            Ok(number) => number,
-        };
+        let number = self.walk(path.names())?;
         if self.is_file(number) {
-            return Some(Refusal::NotDir);
+            return Err(Refusal::NotDir);
         }
-        None
+        Ok(number)
     }
 }
 

@@ -2,28 +2,34 @@
 //! paths that move. A command touches the entries that it names alone. Where no memory is found, all is as
 //! before.
 
-ghost use Rattle.std.specs.Prelude.{◌≡◌, ◌+◌, ◌^◌, ◌<◌, None, Some, IfOk, OnOk, OnErr};
-ghost use Rattle.opt_inodes.specs.Lookups.{number_at};
+ghost use Rattle.std.specs.Prelude.{◌≡◌, None, Some, IfOk, OnOk, OnErr};
+ghost use Rattle.opt_inodes.specs.Lookups.{least_free};
+ghost use Rattle.opt_memtree.specs.Changes.{made_at, linked_at, removed_at, moved_at, put_over, is_that};
+ghost use Rattle.opt_memtree.specs.Trails.{spot_of, IsUnder};
 ghost use Rattle.opt_memtree.specs.Kept.{map_of};
-ghost use Rattle.opt_memtree.specs.Changes.{made, linked, removed, moved, edited, put_over, is_that};
-ghost use Rattle.opt_memtree.specs.Stored.{kept, grown, end_of};
+ghost use Rattle.opt_memtree.specs.Stored.{kept};
 
 use crate::node::{Growth, Node, Settling};
 use crate::nodes::Nodes;
+use crate::walks::End;
 use opt_base::{Name, NoMemory};
-use opt_tree::Path;
 
 impl Nodes {
-    /// Puts a new node at the path, which isn't there, under the least unused number.
-    pub(crate) fn make(&mut self, limit: u32, path: &Path, node: Node) -> Result<(), NoMemory>
-        requires { number_at (map_of self.old) path.now ≡ None }
-        ensures ok { OnOk result (self.new ≡ made limit self.old path.now (kept node)) }
+    /// Puts a new node at the end of a path, which isn't there, under the least unused number.
+    pub(crate) fn make(
+        &mut self,
+        limit: u32,
+        end: End<'_>,
+        number: u32,
+        node: Node,
+    ) -> Result<(), NoMemory>
+        requires unused { least_free limit (map_of self.old) ≡ Some number }
+        requires absent { end.number ≡ None }
+        requires under { IsUnder (map_of self.old) end }
+        ensures ok { OnOk result (self.new ≡ made_at self.old (spot_of end.entry) (Some number) (kept node)) }
         ensures err { OnErr result (self.new ≡ self.old) }
     {
-        let Some((directory, name)) = self.spot(path) else {
-            return Ok(());
-        };
-        let Some(number) = self.unused(limit) else {
+        let Some((directory, name)) = end.spot else {
             return Ok(());
         };
         self.grow(directory, Growth::Name(name, number))?;
@@ -34,27 +40,12 @@ impl Nodes {
         Ok(())
     }
 
-    /// Changes the bytes of the file at the path.
-    pub(crate) fn edit(&mut self, path: &Path, change: Growth<'_>) -> Result<(), NoMemory>
-        requires { end_of change < 2 ^ 62 }
-        ensures ok { OnOk result (self.new ≡ edited self.old path.now (grown change.entry)) }
+    /// Makes the end of a path lead to the node with this number too.
+    pub(crate) fn link(&mut self, number: u32, end: End<'_>) -> Result<(), NoMemory>
+        ensures ok { OnOk result (self.new ≡ linked_at self.old (Some number) (spot_of end.entry)) }
         ensures err { OnErr result (self.new ≡ self.old) }
     {
-        if let Some(number) = self.find(path.names()) {
-            self.grow(number, change)?;
-        }
-        Ok(())
-    }
-
-    /// Makes the second path lead to the node at the first one too.
-    pub(crate) fn link(&mut self, path: &Path, other: &Path) -> Result<(), NoMemory>
-        ensures ok { OnOk result (self.new ≡ linked self.old path.now other.now) }
-        ensures err { OnErr result (self.new ≡ self.old) }
-    {
-        let Some(number) = self.find(path.names()) else {
-            return Ok(());
-        };
-        let Some((directory, name)) = self.spot(other) else {
+        let Some((directory, name)) = end.spot else {
             return Ok(());
         };
         self.grow(directory, Growth::Name(name, number))?;
@@ -62,15 +53,15 @@ impl Nodes {
         Ok(())
     }
 
-    /// Takes the path out, and its node too where it was the last one.
-    pub(crate) fn remove_path(&mut self, path: &Path) -> Result<(), NoMemory>
-        ensures ok { OnOk result (self.new ≡ removed self.old path.now) }
+    /// Takes the path that ends there out, and its node too where it was the last one.
+    pub(crate) fn remove_path(&mut self, end: End<'_>) -> Result<(), NoMemory>
+        ensures ok { OnOk result (self.new ≡ removed_at self.old (spot_of end.entry) end.entry.number) }
         ensures err { OnErr result (self.new ≡ self.old) }
     {
-        let Some((directory, name)) = self.spot(path) else {
+        let Some((directory, name)) = end.spot else {
             return Ok(());
         };
-        let Some(number) = self.entry(directory, name) else {
+        let Some(number) = end.number else {
             return Ok(());
         };
         self.unlink(number)?;
@@ -78,26 +69,25 @@ impl Nodes {
         Ok(())
     }
 
-    /// Moves what is at `from` to `to`, where what was there loses a path. Returns whether that changed
-    /// anything: it doesn't where both paths lead to one node.
-    pub(crate) fn rename(&mut self, from: &Path, to: &Path) -> Result<bool, NoMemory>
-        ensures ok { IfOk result (λ changed. moved self.old from.now to.now ≡ (self.new, changed)) }
+    /// Moves what is at the end of `from` to that of `to`, where what was there loses a path. Returns whether
+    /// that changed anything: it doesn't where both paths lead to one node.
+    pub(crate) fn rename(&mut self, from: End<'_>, to: End<'_>) -> Result<bool, NoMemory>
+        ensures ok { IfOk result (λ changed. moved_at self.old (spot_of from.entry) (spot_of to.entry) from.entry.number to.entry.number ≡ (self.new, changed)) }
         ensures err { OnErr result (self.new ≡ self.old) }
     {
-        let Some((source, name)) = self.spot(from) else {
+        let Some((source, name)) = from.spot else {
             return Ok(false);
         };
-        let Some((target, other)) = self.spot(to) else {
+        let Some((target, other)) = to.spot else {
             return Ok(false);
         };
-        let Some(number) = self.entry(source, name) else {
+        let Some(number) = from.number else {
             return Ok(false);
         };
-        let old = self.entry(target, other);
-        if is_that(number, old) {
+        if is_that(number, to.number) {
             return Ok(false);
         }
-        self.put(target, other, number, old)?;
+        self.put(target, other, number, to.number)?;
         self.settle(source, Settling::Unname(name));
         Ok(true)
     }

@@ -2,8 +2,8 @@
 //! opt_figures counts from them. No block is known, and no loop goes over blocks or bytes. The rules are
 //! described in docs/TREE.md.
 
-ghost use Rattle.std.specs.Prelude.{◌≡◌, ◌==◌, ◌+◌, ◌≤◌, ◌<◌, ◌^◌, ℕ, None, length, if◌then◌else◌};
-ghost use Rattle.opt_tree.specs.Paths.{parent};
+ghost use Rattle.std.specs.Prelude.{◌≡◌, ◌==◌, ◌+◌, ◌≤◌, ◌<◌, ◌^◌, ℕ, None, is_some, length, if◌then◌else◌};
+ghost use Rattle.opt_tree.specs.Paths.{parent, name_in};
 ghost use Rattle.opt_tree.specs.Walk.{are_same};
 ghost use Rattle.opt_tree.specs.Figures as spec;
 ghost use Rattle.opt_inodes.specs.Figures as from_inodes;
@@ -80,7 +80,7 @@ impl Nodes {
         if old.is_some() {
             return moving(bitmap, 0, release(source) + self.blocks_lost(to));
         }
-        if are_in_one(from, to) {
+        if is_one_below(above(from), to.names()) {
             return moving(bitmap, 0, 0);
         }
         moving(bitmap, growth(self.siblings(to)), release(source))
@@ -143,12 +143,15 @@ fn above(path: &Path) -> &[Name]
     &names[..names.len().saturating_sub(1)]
 }
 
-/// Whether both paths lie in one directory.
-fn are_in_one(p: &Path, q: &Path) -> bool
-    ensures { result ≡ spec.are_in_one p.now q.now }
+/// Whether the path has the names of the front and one more.
+fn is_one_below(front: &[Name], path: &[Name]) -> bool
+    ensures { result ≡ is_some (name_in front.now path.now) }
 {
-    match q.names().strip_prefix(above(p)) {
-        Some(rest) => rest.len() == 1,
-        None => false,
+    match front {
+        [] => path.len() == 1,
+        [first, front @ ..] => match path {
+            [] => false,
+            [next, path @ ..] => first == next && is_one_below(front, path),
+        },
     }
 }

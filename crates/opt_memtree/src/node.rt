@@ -1,7 +1,7 @@
 //! One node, a directory with its names or a file with its links and bytes, and how it changes in place. To
 //! which number it belongs is not said here.
 
-ghost use Rattle.std.specs.Prelude.{◌≡◌, ◌^◌, ◌<◌, ◌↔◌, IsTrue, IfOk, OnOk, OnErr};
+ghost use Rattle.std.specs.Prelude.{◌≡◌, ◌^◌, ◌<◌, ◌↔◌, IsTrue, IfOk, OnOk, OnErr, option_map};
 ghost use Rattle.opt_memtree.specs.Stored.{kept, grown, settled, end_of};
 
 use crate::content;
@@ -42,81 +42,82 @@ pub(crate) enum Settling<'a> {
     Unlink,
 }
 
-/// Makes the change.
+/// Makes the change of the node at a place, where one is there.
 ///
 /// # Errors
 /// Out of memory; then the node is as before.
-pub(crate) fn grow(node: &mut Node, change: Growth<'_>) -> Result<(), NoMemory>
+pub(crate) fn grow(place: &mut Option<Node>, change: Growth<'_>) -> Result<(), NoMemory>
     requires { end_of change < 2 ^ 62 }
-    ensures ok { OnOk result (kept node.new ≡ grown change.entry (kept node.old)) }
-    ensures err { OnErr result (kept node.new ≡ kept node.old) }
+    ensures ok { OnOk result (option_map kept place.new ≡ option_map (grown change.entry) (option_map kept place.old)) }
+    ensures err { OnErr result (option_map kept place.new ≡ option_map kept place.old) }
 {
-    match node {
-        Node::File(_, bytes) => match change {
+    match place {
+        None => {}
+        Some(Node::File(_, bytes)) => match change {
             Growth::Write(off, piece) => content::overwrite(bytes, off, piece)?,
             Growth::Fill(off, count, byte) => content::fill(bytes, off, count, byte)?,
             Growth::Resize(size) => content::resize(bytes, size)?,
             Growth::Name(_, _) => {}
         },
-        Node::Dir(names) => match change {
+        Some(Node::Dir(names)) => match change {
             Growth::Name(name, number) => names.insert(name, number)?,
-            Growth::Write(_, _) => {}
-            Growth::Fill(_, _, _) => {}
-            Growth::Resize(_) => {}
+            Growth::Write(_, _) | Growth::Fill(_, _, _) | Growth::Resize(_) => {}
         },
     }
     Ok(())
 }
 
-/// Makes the change. This takes no memory.
-pub(crate) fn settle(node: &mut Node, change: Settling<'_>)
-    ensures { kept node.new ≡ settled change.entry (kept node.old) }
+/// Makes the change of the node at a place, where one is there. This takes no memory.
+pub(crate) fn settle(place: &mut Option<Node>, change: Settling<'_>)
+    ensures { option_map kept place.new ≡ option_map (settled change.entry) (option_map kept place.old) }
 {
-    match node {
-        Node::File(links, _) => match change {
+    match place {
+        None => {}
+        Some(Node::File(links, _)) => match change {
             Settling::Link => *links = links.saturating_add(1),
             Settling::Unlink => *links = links.saturating_sub(1),
-            Settling::Renumber(_, _) => {}
-            Settling::Unname(_) => {}
+            Settling::Renumber(_, _) | Settling::Unname(_) => {}
         },
-        Node::Dir(names) => match change {
+        Some(Node::Dir(names)) => match change {
             Settling::Renumber(name, number) => names.renumber(name, number),
             Settling::Unname(name) => names.remove(name),
-            Settling::Link => {}
-            Settling::Unlink => {}
+            Settling::Link | Settling::Unlink => {}
         },
     }
 }
 
-/// The same node once more.
+/// The same once more of what is at a place.
 ///
 /// # Errors
 /// Out of memory.
-pub(crate) fn copied(alloc: Global, node: &Node) -> Result<Node, NoMemory>
-    ensures { IfOk result (λ copy. kept copy ≡ kept node.now) }
+pub(crate) fn copied(alloc: Global, place: &Option<Node>) -> Result<Option<Node>, NoMemory>
+    ensures { IfOk result (λ copy. option_map kept copy ≡ option_map kept place.now) }
 {
-    match node {
-        Node::Dir(names) => {
+    match place {
+        None => Ok(None),
+        Some(Node::Dir(names)) => {
             let names = names.copy()?;
-            Ok(Node::Dir(names))
+            Ok(Some(Node::Dir(names)))
         }
-        Node::File(links, bytes) => {
+        Some(Node::File(links, bytes)) => {
             let bytes = Vec::from_slice(alloc, bytes.as_slice())?;
-            Ok(Node::File(*links, bytes))
+            Ok(Some(Node::File(*links, bytes)))
         }
     }
 }
 
-/// Whether both are the same node.
-pub(crate) fn is_same(left: &Node, right: &Node) -> bool
-    ensures { IsTrue result ↔ (kept left.now ≡ kept right.now) }
+/// Whether both are the same node, or none is there.
+pub(crate) fn is_same(left: Option<&Node>, right: Option<&Node>) -> bool
+    ensures { IsTrue result ↔ (option_map (λ node. kept node.now) left.entry ≡ option_map (λ node. kept node.now) right.entry) }
 {
     match (left, right) {
-        (Node::Dir(left), Node::Dir(right)) => left.is_same(right),
-        (Node::File(links, left), Node::File(others, right)) => {
+        (None, None) => true,
+        (Some(Node::Dir(left)), Some(Node::Dir(right))) => left.is_same(right),
+        (Some(Node::File(links, left)), Some(Node::File(others, right))) => {
             *links == *others && left.as_slice() == right.as_slice()
         }
-        (Node::Dir(_), Node::File(_, _)) => false,
-        (Node::File(_, _), Node::Dir(_)) => false,
+        (Some(Node::Dir(_)), Some(Node::File(_, _)) | None) => false,
+        (Some(Node::File(_, _)), Some(Node::Dir(_)) | None) => false,
+        (None, Some(_)) => false,
     }
 }

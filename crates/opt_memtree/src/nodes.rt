@@ -117,8 +117,7 @@ impl Nodes {
     {
         match self.at(number) {
             None => {}
-            Some(Node::Dir(_)) => self.remove(number)?,
-            Some(Node::File(1, _)) => self.remove(number)?,
+            Some(Node::Dir(_)) | Some(Node::File(1, _)) => self.remove(number)?,
             Some(Node::File(_, _)) => self.settle(number, Settling::Unlink),
         }
         Ok(())
@@ -213,19 +212,7 @@ fn grow_at(row: &mut Vec<Option<Node>>, number: u32, change: Growth<'_>) -> Resu
     let Some(index) = used_index(row.as_slice(), number) else {
         return Ok(());
     };
-    grow_in(&mut row[index], change)?;
-    Ok(())
-}
-
-/// Changes what is at a place of the row.
-fn grow_in(place: &mut Option<Node>, change: Growth<'_>) -> Result<(), NoMemory>
-    requires { end_of change < 2 ^ 62 }
-    ensures ok { OnOk result (option_map kept place.new ≡ option_map (grown change.entry) (option_map kept place.old)) }
-    ensures err { OnErr result (option_map kept place.new ≡ option_map kept place.old) }
-{
-    if let Some(node) = place {
-        grow(node, change)?;
-    }
+    grow(&mut row[index], change)?;
     Ok(())
 }
 
@@ -237,16 +224,7 @@ fn settle_at(row: &mut Vec<Option<Node>>, number: u32, change: Settling<'_>)
     let Some(index) = used_index(row.as_slice(), number) else {
         return;
     };
-    settle_in(&mut row[index], change);
-}
-
-/// Changes what is at a place of the row.
-fn settle_in(place: &mut Option<Node>, change: Settling<'_>)
-    ensures { option_map kept place.new ≡ option_map (settled change.entry) (option_map kept place.old) }
-{
-    if let Some(node) = place {
-        settle(node, change);
-    }
+    settle(&mut row[index], change);
 }
 
 /// The same row once more.
@@ -255,21 +233,9 @@ fn copied_row(alloc: Global, row: &[Option<Node>]) -> Result<Vec<Option<Node>>, 
 {
     let mut copy = Vec::with_capacity(alloc, row.len())?;
     for place in row {
-        copy.push(copied_place(alloc, place)?)?;
+        copy.push(copied(alloc, place)?)?;
     }
     Ok(copy)
-}
-
-fn copied_place(alloc: Global, place: &Option<Node>) -> Result<Option<Node>, NoMemory>
-    ensures { IfOk result (λ copy. option_map kept copy ≡ option_map kept place.now) }
-{
-    match place {
-        Some(node) => {
-            let node = copied(alloc, node)?;
-            Ok(Some(node))
-        }
-        None => Ok(None),
-    }
 }
 
 /// Whether the same is in both rows, where a place past the end is an empty one.
@@ -277,20 +243,9 @@ fn are_same(left: &[Option<Node>], right: &[Option<Node>]) -> bool
     ensures { IsTrue result ↔ (nodes_of left.now ≡ nodes_of right.now) }
 {
     for index in 0..cmp::max(left.len(), right.len()) {
-        if !stand_same(stands_at(left, index), stands_at(right, index)) {
+        if !is_same(stands_at(left, index), stands_at(right, index)) {
             return false;
         }
     }
     true
-}
-
-fn stand_same(left: Option<&Node>, right: Option<&Node>) -> bool
-    ensures { IsTrue result ↔ (option_map (λ node. kept node.now) left.entry ≡ option_map (λ node. kept node.now) right.entry) }
-{
-    match (left, right) {
-        (Some(left), Some(right)) => is_same(left, right),
-        (None, None) => true,
-        (Some(_), None) => false,
-        (None, Some(_)) => false,
-    }
 }

@@ -1,20 +1,30 @@
 //! The walk from the root, name by name, and what is under a number or at a path. Nothing here changes a
 //! node or takes memory. Why commands are refused is in the module `conditions`.
 
-ghost use Rattle.std.specs.Prelude.{◌≡◌, ◌<◌, ◌^◌, ℕ, length, IfOk, IfErr, OnErr, Some, None, option_map};
-ghost use Rattle.opt_tree.specs.Paths.{parent};
-ghost use Rattle.opt_inodes.specs.Lookups.{walk_on, number_at, is_dir_inode, is_file_inode, has_slots, links_in, bytes_of, slots_of, inode_at};
+ghost use Rattle.std.specs.Prelude.{◌≡◌, ◌<◌, ◌^◌, length, IfOk, OnErr, Some, None};
+ghost use Rattle.std.specs.Result.{result_err};
+ghost use Rattle.opt_inodes.specs.Lookups.{walk_on, number_at, is_dir_inode, is_file_inode, has_slots, links_in, bytes_of, slots_of};
 ghost use Rattle.opt_inodes.specs.Names.{names_of};
-ghost use Rattle.opt_inodes.specs.Refusals.{parent_reason};
+ghost use Rattle.opt_inodes.specs.Refusals.{walk_reason, parent_reason};
 ghost use Rattle.opt_stands.specs.Walks.{entry_in};
-ghost use Rattle.opt_memtree.specs.Kept.{map_of, split, spot_at};
+ghost use Rattle.opt_memtree.specs.Trails.{IsEnd, IsUnder};
+ghost use Rattle.opt_memtree.specs.Kept.{map_of};
 
 use crate::node::Node;
 use crate::nodes::Nodes;
 use opt_base::limits::ROOT;
 use opt_base::{Name, NoMemory};
-use opt_tree::{Path, Refusal};
+use opt_tree::Refusal;
 use std::alloc::Global;
+
+/// Where a path ends.
+#[derive(Clone, Copy)]
+pub(crate) struct End<'a> {
+    /// The number of what is above, and the last name; none for the root.
+    pub(crate) spot: Option<(u32, &'a Name)>,
+    /// The number at the path, where it is there.
+    pub(crate) number: Option<u32>,
+}
 
 impl Nodes {
     /// The number under a name of a directory; none where the number is that of no directory.
@@ -23,8 +33,7 @@ impl Nodes {
     {
         match self.at(directory) {
             Some(Node::Dir(names)) => names.get(name),
-            Some(Node::File(_, _)) => None,
-            None => None,
+            Some(Node::File(_, _)) | None => None,
         }
     }
 
@@ -34,8 +43,7 @@ impl Nodes {
     {
         match self.at(number) {
             Some(Node::Dir(_)) => true,
-            Some(Node::File(_, _)) => false,
-            None => false,
+            Some(Node::File(_, _)) | None => false,
         }
     }
 
@@ -44,9 +52,8 @@ impl Nodes {
         ensures { result ≡ is_file_inode (map_of self.now number) }
     {
         match self.at(number) {
-            Some(Node::Dir(_)) => false,
             Some(Node::File(_, _)) => true,
-            None => false,
+            Some(Node::Dir(_)) | None => false,
         }
     }
 
@@ -64,8 +71,7 @@ impl Nodes {
     {
         match self.at(number) {
             Some(Node::Dir(names)) => names.len(),
-            Some(Node::File(_, _)) => 0,
-            None => 0,
+            Some(Node::File(_, _)) | None => 0,
         }
     }
 
@@ -85,9 +91,8 @@ impl Nodes {
         ensures { result.now ≡ bytes_of (map_of self.now number) }
     {
         match self.at(number) {
-            Some(Node::Dir(_)) => &[],
             Some(Node::File(_, bytes)) => bytes.as_slice(),
-            None => &[],
+            Some(Node::Dir(_)) | None => &[],
         }
     }
 
@@ -124,16 +129,6 @@ impl Nodes {
         self.walk(path).ok()
     }
 
-    /// The bytes of the file at the path; none where no file is there.
-    pub(crate) fn content(&self, path: &Path) -> &[u8]
-        ensures { result.now ≡ bytes_of (inode_at (map_of self.now) path.now) }
-    {
-        match self.find(path.names()) {
-            None => &[],
-            Some(number) => self.bytes(number),
-        }
-    }
-
     /// The names of the directory with this number, in order; none where it is no directory.
     ///
     /// # Errors
@@ -151,45 +146,34 @@ impl Nodes {
         }
     }
 
-    /// The names of the directory at the path, in order; none where no directory is there.
-    ///
-    /// # Errors
-    /// Out of memory.
-    pub(crate) fn names_at(&self, alloc: Global, path: &Path) -> Result<Vec<Name>, NoMemory>
-        ensures { IfOk result (λ names. names.items ≡ names_of (slots_of (inode_at (map_of self.now) path.now))) }
-    {
-        match self.find(path.names()) {
-            None => Ok(Vec::new(alloc)),
-            Some(number) => {
-                let names = self.names(alloc, number)?;
-                Ok(names)
-            }
-        }
-    }
-
-    /// The number at the path, where it is there; or why the path can't come to be there. The root has no
-    /// walk.
-    pub(crate) fn look(&self, path: &[Name]) -> Result<Option<u32>, Refusal>
-        ensures ok { IfOk result (λ found. (parent_reason (map_of self.now) path.now ≡ None) × (number_at (map_of self.now) path.now ≡ found)) }
-        ensures err { IfErr result (λ why. parent_reason (map_of self.now) path.now ≡ Some why) }
+    /// Where the path ends, or why it can't come to be there. The root has no walk.
+    pub(crate) fn look<'a>(&self, path: &'a [Name]) -> Result<End<'a>, Refusal>
+        ensures reason { result_err result ≡ parent_reason (map_of self.now) path.now }
+        ensures end { IfOk result (λ end. IsEnd (map_of self.now) path.now end) }
+        ensures under { IfOk result (λ end. IsUnder (map_of self.now) end) }
     {
         let Some((name, up)) = path.split_last() else {
-            return Ok(Some(ROOT));
+            let (spot, number) = (None, Some(ROOT));
+            return Ok(End { spot, number });
         };
         let directory = self.walk(up)?;
         if !self.is_dir(directory) {
             return Err(Refusal::NotDir);
         }
-        Ok(self.entry(directory, name))
+        let spot = Some((directory, name));
+        let number = self.entry(directory, name);
+        Ok(End { spot, number })
     }
 
-    /// The number of what is above the path, and the path's last name; none for the root, and where nothing
-    /// is above.
-    pub(crate) fn spot<'a>(&self, path: &'a Path) -> Option<(u32, &'a Name)>
-        ensures { option_map (λ spot. (spot.0, spot.1.now)) result ≡ spot_at (map_of self.now) path.now }
+    /// Where the path ends and the number there, or what the walk meets in its way.
+    pub(crate) fn reach<'a>(&self, path: &'a [Name]) -> Result<(End<'a>, u32), Refusal>
+        ensures reason { result_err result ≡ walk_reason (map_of self.now) path.now }
+        ensures end { IfOk result (λ found. IsEnd (map_of self.now) path.now found.0 × (number_at (map_of self.now) path.now ≡ Some found.1)) }
     {
-        let (name, up) = path.names().split_last()?;
-        let directory = self.find(up)?;
-        Some((directory, name))
+        let end = self.look(path)?;
+        match end.number {
+            None => Err(Refusal::NotFound),
+            Some(number) => Ok((end, number)),
+        }
     }
 }

@@ -1,5 +1,5 @@
 -- The entries of a search tree over names make a finite map: look-up and insertion agree. What a finite map has at a key after a change.
-use Rattle.std.proofs.Common.{◌≡◌, ℕ, Bool, true, false, cond, if◌then◌else◌, List, [], ◌∷◌, Option, None, Some, IsSome, MutBor, is_some, subst, sym, refl, ap, ◌∙◌, ◌⊎◌, inl, inr, ⊎_elim, true≢false}
+use Rattle.std.proofs.Common.{◌≡◌, ℕ, Bool, true, false, cond, if◌then◌else◌, List, [], ◌∷◌, Option, None, Some, IsSome, MutBor, subst, sym, refl, ap, ◌∙◌, ◌⊎◌, inl, inr, ⊎_elim, true≢false}
 use Rattle.std.proofs.lemmas.Bool.{cases_Bool}
 use Rattle.std.specs.Option.{option_copied_mut}
 use Rattle.std.specs.Ordering.{is_eq, eq_by_cmp, match_ordering}

@@ -13,8 +13,8 @@ use Rattle.opt_tree.specs.declared.command.Reply.TheVariants.{Stat as StatReply}
 use Rattle.opt_stands.specs.Inodes.{AreDistinct}
 use Rattle.opt_stands.specs.Walks.{node_in, entry_in}
 use Rattle.opt_inodes.specs.Changes.{slot_of}
-use Rattle.opt_inodes.specs.Lookups.{slots_of, number_at}
-use Rattle.opt_inodes.specs.Names.{names_of, stat_in, stat_at, stat_by}
+use Rattle.opt_inodes.specs.Lookups.{slots_of}
+use Rattle.opt_inodes.specs.Names.{names_of, stat_by}
 use Rattle.opt_memtree.specs.Kept.{DirNames, name_cmp, KeptDir, KeptFile, KeptNodes, inode_of, map_of, slots_for}
 use Rattle.opt_memtree.proofs.keys.InOrder.{entries_empty}
 use Rattle.opt_memtree.proofs.keys.Keys.{name_total, name_same, tied, apart}
@@ -112,11 +112,10 @@ module _ (nodes : KeptNodes) (k : ℕ) where
   names_of_none is = ap (λ o. names_of (slots_of (option_map inode_of o))) (sym is) ∙ no_names
 
 -- what a stat of a directory says
-pub stat_dir : (nodes : KeptNodes) (path : List (List ℕ)) (k size : ℕ) (names : DirNames) → number_at (map_of nodes) path ≡ Some k → Some (KeptDir names) ≡ get nodes k → size ≡ len names
-    → StatReply (record { kind = DirKind; number = k; size = 64 * size; links = 1 }) ≡ stat_in (map_of nodes) path
-stat_dir nodes path k size names leads is count =
-    ap (λ n. StatReply (record { kind = DirKind; number = k; size = 64 * n; links = 1 })) (count ∙ sym (count_of_slots names))
-    ∙ sym (ap (stat_at (map_of nodes)) leads ∙ ap (λ o. stat_by k (option_map inode_of o)) (sym is))
+pub stat_dir : (nodes : KeptNodes) (k size : ℕ) (names : DirNames) → Some (KeptDir names) ≡ get nodes k → size ≡ len names
+    → StatReply (record { kind = DirKind; number = k; size = 64 * size; links = 1 }) ≡ stat_by k (map_of nodes k)
+stat_dir nodes k size names is count = ap (λ n. StatReply (record { kind = DirKind; number = k; size = 64 * n; links = 1 })) (count ∙ sym (count_of_slots names))
+    ∙ ap (λ o. stat_by k (option_map inode_of o)) is
 
 -- an entry is found by its name
 below_mid : (x : List ℕ) (front : List (List ℕ × ℕ)) (e : List ℕ × ℕ) (es : List (List ℕ × ℕ)) → T (below_all name_cmp x (front ++ e ∷ es)) → T (is_lt (name_cmp x e.0))

@@ -1,5 +1,5 @@
 -- Walks by names: that one comes to its end where the path leads, what is at a path's last name, and the parts of a path.
-use Rattle.std.proofs.Common.{◌≡◌, ℕ, suc, ◌+◌, ◌-◌, ◌<◌, true, false, List, [], ◌∷◌, ◌++◌, length, take, drop, get_or, Option, None, Some, Result, Ok, Err, IfOk, OnErr, option_map, option_and_then, refl, sym, ap, ap₂, ◌∙◌, arith, drop-cons, length-append, take_all, ◌⊎◌, inl, inr}
+use Rattle.std.proofs.Common.{◌≡◌, ℕ, suc, ◌+◌, ◌-◌, ◌<◌, Bool, true, List, [], ◌∷◌, ◌++◌, length, take, drop, get_or, Option, None, Some, Result, Ok, Err, IfOk, OnErr, option_map, option_and_then, refl, sym, ap, ap₂, subst, ◌∙◌, arith, drop-cons, length-append, take_all}
 use Rattle.std.proofs.lemmas.List.{take-append-le}
 use Rattle.opt_tree.specs.declared.command.Refusal.{Refusal}
 use Rattle.opt_tree.specs.Paths.{parent}
@@ -28,42 +28,25 @@ pub fits : (m : Inodes) (k : ℕ) (path : List (List ℕ)) → Fits (walk_on m k
 fits m k [] = refl
 fits m k (name ∷ path) = fits_step (m k) name (λ j. walk_on m j path) (λ j. walk (entries_of m) j path) (λ j. fits m j path)
 
-pub found_by : (m : Inodes) (path : List (List ℕ)) (r : Result ℕ Refusal) → r ≡ walk_on m 1 path → IfOk r (λ n. number_at m path ≡ Some n)
-found_by m path (Ok n) is = by (walk_on m 1 path) is (fits m 1 path)
-  where
-    by : (w : Result ℕ Refusal) → Ok n ≡ w → Fits w (number_at m path) → number_at m path ≡ Some n
-    by (Ok k) e f = let same : n ≡ k = cc in f ∙ ap Some (sym same)
-    by (Err why) e f = absurd cc
-found_by m path (Err why) is = tt
+-- what the code's walk answers, and the number at the path
+pub found_by : (m : Inodes) (path : List (List ℕ)) (r : Result ℕ Refusal) → r ≡ walk_on m 1 path → Fits r (number_at m path)
+found_by m path r is = subst (λ w. Fits w (number_at m path)) (sym is) (fits m 1 path)
 
-pub lost_by : (m : Inodes) (path : List (List ℕ)) (r : Result ℕ Refusal) → r ≡ walk_on m 1 path → OnErr r (number_at m path ≡ None)
-lost_by m path (Ok n) is = tt
-lost_by m path (Err why) is = by (walk_on m 1 path) is (fits m 1 path)
-  where
-    by : (w : Result ℕ Refusal) → Err why ≡ w → Fits w (number_at m path) → number_at m path ≡ None
-    by (Ok k) e f = absurd cc
-    by (Err other) e f = f
+pub on_ok : (r : Result ℕ Refusal) (o : Option ℕ) → Fits r o → IfOk r (λ n. o ≡ Some n)
+on_ok (Ok n) o f = f
+on_ok (Err why) o f = tt
 
--- One step of the code's walk.
-pub next_step : (m : Inodes) (k j : ℕ) (path : List (List ℕ)) (i : ℕ) (name : List ℕ) → i < length path → name ≡ get_or path i name → is_dir_inode (m k) ≡ true → entry_in (m k) name ≡ Some j
-    → walk_on m k (drop i path) ≡ walk_on m j (drop (i + 1) path)
-next_step m k j path i name within is dir there =
+pub on_err : (r : Result ℕ Refusal) (o : Option ℕ) → Fits r o → OnErr r (o ≡ None)
+on_err (Ok n) o f = tt
+on_err (Err why) o f = f
+
+-- One step of the code's walk: it goes on, or stops.
+pub next_step : (m : Inodes) (k : ℕ) (path : List (List ℕ)) (i : ℕ) (name : List ℕ) (b : Bool) (o : Option ℕ) → i < length path → name ≡ get_or path i name → is_dir_inode (m k) ≡ b → entry_in (m k) name ≡ o
+    → walk_on m k (drop i path) ≡ enter b o (λ j. walk_on m j (drop (i + 1) path))
+next_step m k path i name b o within is dir there =
     let next : suc i ≡ i + 1 = omega arith in
     ap (walk_on m k) (drop-cons path i name within ∙ ap₂ (λ x n. x ∷ drop n path) (sym is) next)
     ∙ ap₂ (λ b o. enter b o (λ j. walk_on m j (drop (i + 1) path))) dir there
-
--- and where it stops
-pub stops_no_dir : (m : Inodes) (k : ℕ) (path : List (List ℕ)) (i : ℕ) (name : List ℕ) → i < length path → name ≡ get_or path i name → is_dir_inode (m k) ≡ false
-    → walk_on m k (drop i path) ≡ enter false (entry_in (m k) name) (λ j. walk_on m j (drop (suc i) path))
-stops_no_dir m k path i name within is dir =
-    ap (walk_on m k) (drop-cons path i name within ∙ ap (λ x. x ∷ drop (suc i) path) (sym is))
-    ∙ ap (λ b. enter b (entry_in (m k) name) (λ j. walk_on m j (drop (suc i) path))) dir
-
-pub stops_no_name : (m : Inodes) (k : ℕ) (path : List (List ℕ)) (i : ℕ) (name : List ℕ) → i < length path → name ≡ get_or path i name → is_dir_inode (m k) ≡ true → entry_in (m k) name ≡ None
-    → walk_on m k (drop i path) ≡ enter true None (λ j. walk_on m j (drop (suc i) path))
-stops_no_name m k path i name within is dir none =
-    ap (walk_on m k) (drop-cons path i name within ∙ ap (λ x. x ∷ drop (suc i) path) (sym is))
-    ∙ ap₂ (λ b o. enter b o (λ j. walk_on m j (drop (suc i) path))) dir none
 
 -- The parts of a path.
 
@@ -77,13 +60,9 @@ split_is [] name = refl
 split_is (first ∷ up) name = ap Some (split_end up first name)
 
 -- a path is empty, or has a front and a last name
-pub parts : (path : List (List ℕ)) → (path ≡ []) ⊎ ((up : List (List ℕ)) × (name : List ℕ) × (path ≡ up ++ name ∷ []))
-parts [] = inl refl
-parts (name ∷ path) = by (parts path)
-  where
-    by : (path ≡ []) ⊎ ((up : List (List ℕ)) × (last : List ℕ) × (path ≡ up ++ last ∷ [])) → (name ∷ path ≡ []) ⊎ ((up : List (List ℕ)) × (last : List ℕ) × (name ∷ path ≡ up ++ last ∷ []))
-    by (inl e) = inr ([], name, ap (λ p. name ∷ p) e)
-    by (inr s) = inr (name ∷ s.0, s.1, ap (λ p. name ∷ p) s.2)
+pub by_parts : (P : List (List ℕ) → Type 0) → P [] → ((up : List (List ℕ)) (name : List ℕ) → P (up ++ name ∷ [])) → (path : List (List ℕ)) → P path
+by_parts P nil last [] = nil
+by_parts P nil last (name ∷ path) = by_parts (λ q. P (name ∷ q)) (last [] name) (λ up end. last (name ∷ up) end) path
 
 pub parent_is : (up : List (List ℕ)) (name : List ℕ) → parent (up ++ name ∷ []) ≡ up
 parent_is up name = take_front (length (up ++ name ∷ []) - 1) up (name ∷ []) (omega (arith, length-append up (name ∷ [])))

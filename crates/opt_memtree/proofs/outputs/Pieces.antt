@@ -1,8 +1,8 @@
 -- A text that a sink takes piece by piece: what is left of it, and that a fault leaves a front of it taken.
-use Rattle.std.proofs.Common.{◌≡◌, ℕ, ◌+◌, ◌<◌, List, [], ◌∷◌, ◌++◌, length, drop, get_or, codes, Option, Result, Ok, Err, OnErr, sym, refl, ap, ◌∙◌, subst, arith, append_assoc, append-nil, drop-cons, suc, slice_index, ◌/◌, ◌%◌, decimal}
+use Rattle.std.proofs.Common.{◌≡◌, ℕ, ◌<◌, List, [], ◌∷◌, ◌++◌, length, codes, Option, Result, Ok, Err, OnErr, sym, refl, ap, ◌∙◌, subst, arith, append_assoc, append-nil, slice_index, ◌/◌, ◌%◌, decimal}
 use Rattle.std.proofs.lemmas.Grind.{flat_map-append}
 use Rattle.std.specs.Io.KnownBytes.{Appends}
-use Rattle.std.proofs.KnownBytes.{Appends-trans, Appends-nil}
+use Rattle.std.proofs.KnownBytes.{Appends-trans}
 use Rattle.hex.specs.Hex.{encode_lower, encode_with, lower_digits}
 use Rattle.opt_io.specs.Prefix.{TakesPrefix}
 use Rattle.opt_tree.specs.Listing.{slashed, path_text, digits_behind_blank}
@@ -17,9 +17,6 @@ pub record Wrote (old now : Option (List ℕ)) (rest whole : List ℕ) : Type 0 
   pub done : List ℕ
   pub taken : Appends old now done
   pub split : done ++ rest ≡ whole
-
-pub wrote_nothing : (old : Option (List ℕ)) (rest whole : List ℕ) → rest ≡ whole → Wrote old old rest whole
-wrote_nothing old rest whole is = record { done = []; taken = Appends-nil old; split = is }
 
 pub wrote_first : (old now : Option (List ℕ)) (first rest whole : List ℕ) → Appends old now first → first ++ rest ≡ whole → Wrote old now rest whole
 wrote_first old now first rest whole taken is = record { done = first; taken = taken; split = is }
@@ -46,18 +43,6 @@ wrote_front old now new left piece rest whole so_far is front = subst (TakesPref
 -- the kind with its blank, the path and the number
 abbrev pub head : List ℕ → List (List ℕ) → ℕ → List ℕ
 head kind path n = kind ++ path_text path ++ codes " " ++ decimal n
-
-pub slashed_all : (path : List (List ℕ)) → 0 < length path → slashed path ≡ path_text path
-slashed_all [] some = absurd (omega arith)
-slashed_all (name ∷ path) some = refl
-
--- the next name of a path, and those behind it
-pub slashed_next : (path : List (List ℕ)) (i : ℕ) (name : List ℕ) → i < length path → name ≡ get_or path i name
-    → slashed (drop i path) ≡ (47 ∷ name) ++ slashed (drop (i + 1) path)
-slashed_next path i name within is =
-    let next : suc i ≡ i + 1 = omega arith in
-    ap slashed (drop-cons path i name within) ∙ ap (λ x. (47 ∷ x) ++ slashed (drop (suc i) path)) (sym is)
-    ∙ ap (λ k. (47 ∷ name) ++ slashed (drop k path)) next
 
 -- a name more at the end of a path
 pub slashed_last : (up : List (List ℕ)) (name : List ℕ) → slashed (up ++ name ∷ []) ≡ slashed up ++ 47 ∷ name

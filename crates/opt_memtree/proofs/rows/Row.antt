@@ -1,7 +1,8 @@
 -- What is in a row is a finite map from the numbers 1, 2 and so on, and its unused numbers are a set.
-use Rattle.std.proofs.Common.{◌≡◌, ℕ, zero, suc, ◌+◌, ◌<◌, ◌≤◌, nat_lt, nat_le, Bool, true, false, cond, if◌then◌else◌, List, [], ◌∷◌, ◌++◌, length, slice_get, slice_set, Option, Some, None, option_map, is_none, is_some, subst, find as first, sym, refl, ap, ◌∙◌, ◌⊎◌, inl, inr, arith, nat_cmp, true≢false, Bor, option_copied, get_or, IsTrue, IsSome, btree_set_len, take}
+use Rattle.std.proofs.Common.{◌≡◌, ℕ, zero, suc, ◌+◌, ◌-◌, ◌<◌, ◌≤◌, nat_lt, nat_le, Bool, true, false, cond, if◌then◌else◌, List, [], ◌∷◌, ◌++◌, length, slice_get, slice_set, Option, Some, None, option_map, is_none, is_some, subst, find as first, sym, refl, ap, ◌∙◌, ◌⊎◌, inl, inr, arith, nat_cmp, true≢false, Bor, option_copied, get_or, IsTrue, IsSome, btree_set_len, take}
 use Rattle.std.proofs.lemmas.Bool.{cases_eq, cases_Bool}
-use Rattle.std.proofs.lemmas.List.{map-append, take_more}
+use Rattle.std.proofs.lemmas.List.{map-append, map-set, length-map, take_more}
+use Rattle.std.proofs.Math.Seq.{map-set_same}
 use Rattle.std.proofs.lemmas.Option.{slice_get_past, slice_get_read, slice_get-map, get_or_from_slice_get}
 use Rattle.std.proofs.lemmas.Bool.Decides.{nat_tests}
 use Rattle.std.proofs.lemmas.Map.Keys.{le_from_not_gt}
@@ -74,15 +75,6 @@ get_push_same : {A : Type 0} (xs : List A) (x : A) → slice_get (xs ++ x ∷ []
 get_push_same [] x = refl
 get_push_same (y ∷ xs) x = get_push_same xs x
 
-things_set : (xs : List (Option Node)) (i : ℕ) (x : Option Node) → things (slice_set xs i x) ≡ slice_set (things xs) i (option_map kept x)
-things_set [] i x = refl
-things_set (y ∷ xs) zero x = refl
-things_set (y ∷ xs) (suc i) x = ap (λ rest. option_map kept y ∷ rest) (things_set xs i x)
-
-length-things : (xs : List (Option Node)) → length (things xs) ≡ length xs
-length-things [] = refl
-length-things (x ∷ xs) = ap suc (length-things xs)
-
 abbrev chosen : List (Option Kept) → ℕ → ℕ → Option Kept → Option (Option Kept)
 chosen xs q n x = cond (eq_by_cmp nat_cmp q n) (Some x) (place xs q)
 
@@ -109,10 +101,10 @@ put_push xs n x e (suc j) = by (cases_eq j (length xs))
     by (inr d) = get_push xs j x d ∙ sym (chosen_other xs (suc j) n x (λ z. d (omega (arith, e, z))))
 
 pub is_set : (xs : List (Option Node)) (i n : ℕ) (x : Option Node) → n ≡ i + 1 → i < length xs → IsPut (things xs) (things (slice_set xs i x)) n (option_map kept x)
-is_set xs i n x e h q = ap (λ ys. place ys q) (things_set xs i x) ∙ put_set (things xs) i n (option_map kept x) e (omega (arith, h, length-things xs)) q
+is_set xs i n x e h q = ap (λ ys. place ys q) (map-set (option_map kept) xs i x) ∙ put_set (things xs) i n (option_map kept x) e (omega (arith, h, length-map xs (option_map kept))) q
 
 pub is_pushed : (xs : List (Option Node)) (n : ℕ) (x : Option Node) → n ≡ length xs + 1 → IsPut (things xs) (things (xs ++ x ∷ [])) n (option_map kept x)
-is_pushed xs n x e q = ap (λ ys. place ys q) (map-append (option_map kept) xs (x ∷ [])) ∙ put_push (things xs) n (option_map kept x) (omega (arith, e, length-things xs)) q
+is_pushed xs n x e q = ap (λ ys. place ys q) (map-append (option_map kept) xs (x ∷ [])) ∙ put_push (things xs) n (option_map kept x) (omega (arith, e, length-map xs (option_map kept))) q
 
 in_chosen : (b : Bool) (x : Option Kept) (y : Option (Option Kept)) → in_place (cond b (Some x) y) ≡ cond b x (in_place y)
 in_chosen true x y = refl
@@ -198,6 +190,10 @@ as_free limit m = ap (λ test. first test (range_with_len 1 limit)) (λ i k. non
 pub free_unused : (limit : ℕ) (m : ℕ → Option Inode) (n : ℕ) → least_free limit m ≡ Some n → is_none (m n) ≡ true
 free_unused limit m n e = (found_first (λ k. is_none (m k)) 1 limit n e).0
 
+-- and it is at least 1
+pub free_low : (limit : ℕ) (m : ℕ → Option Inode) (n : ℕ) → least_free limit m ≡ Some n → 1 ≤ n
+free_low limit m n e = (found_first (λ k. is_none (m k)) 1 limit n e).1
+
 -- the number is unused, and each before it is used
 pub record IsFirst (xs : List (Option Kept)) (n : ℕ) : Type 0 where
   pub low : 1 ≤ n
@@ -270,9 +266,6 @@ first_past s xs n are empty e = record {
     none : (s : BTreeSet ℕ) (k : ℕ) → s.keys ≡ [] → contains nat_cmp s k ≡ false
     none s k e = rw e refl
 
-pub least_low : (limit n : ℕ) (m : KeptNodes) → least_unused limit m ≡ Some n → 1 ≤ n
-least_low limit n m e = (found_first (λ k. is_none (get m k)) 1 limit n e).1
-
 -- What the code reads and does.
 
 next : (i : ℕ) → i + 1 ≡ suc i
@@ -312,14 +305,20 @@ nodes_taken xs i n m e h is = row_taken (things xs) (things (slice_set xs i None
 pub unused_pushed : (s : BTreeSet ℕ) (xs ys : List (Option Node)) (n : ℕ) (x : Node) → ys ≡ xs ++ Some x ∷ [] → n ≡ length xs + 1 → AreUnused s (things xs) → AreUnused s (things ys)
 unused_pushed s xs ys n x is e are = subst (λ row. AreUnused s (things row)) (sym is)
     (unused_put (things xs) (things (xs ++ Some x ∷ [])) n s s (Some (kept x)) are (is_pushed xs n (Some x) e)
-    (set_kept s n (are n ∙ ap is_gap (past_end (things xs) n (omega (arith, e, length-things xs))))))
+    (set_kept s n (are n ∙ ap is_gap (past_end (things xs) n (omega (arith, e, length-map xs (option_map kept)))))))
 
 pub nodes_pushed : (xs ys : List (Option Node)) (n : ℕ) (x : Node) (m : KeptNodes) → ys ≡ xs ++ Some x ∷ [] → n ≡ length xs + 1 → nodes_of xs ≡ m → nodes_of ys ≡ insert m n (kept x)
 nodes_pushed xs ys n x m is e old = ap nodes_of is ∙ row_put (things xs) (things (xs ++ Some x ∷ [])) n (kept x) (is_pushed xs n (Some x) e) ∙ ap (λ k. insert k n (kept x)) old
 
--- the number to be added is one of the row, or the one after them
-pub addable : (xs : List (Option Node)) (limit n : ℕ) (m : KeptNodes) → nodes_of xs ≡ m → least_unused limit m ≡ Some n → n ≤ length xs + 1
-addable xs limit n m is least = omega (arith, length-things xs, first_within (things xs) n (first_is limit n (things xs) (ap (least_unused limit) is ∙ least)))
+-- the number to be added, where the row hasn't its place, is the one after them
+pub next_one : (xs : List (Option Node)) (limit n : ℕ) (m : KeptNodes) → nodes_of xs ≡ m → least_free limit (map_of m) ≡ Some n → length xs ≤ n - 1 → n ≡ length xs + 1
+next_one xs limit n m is least past = omega (
+  arith,
+  past,
+  free_low limit (map_of m) n least,
+  length-map xs (option_map kept),
+  first_within (things xs) n (first_is limit n (things xs) (ap (least_unused limit) is ∙ as_free limit m ∙ least)),
+)
 
 -- the least number of the set, as its contract says, up to the limit
 pub least_in_set : (s : BTreeSet ℕ) (xs : List (Option Node)) (limit n : ℕ) (m : KeptNodes) → nodes_of xs ≡ m → AreUnused s (things xs) → IsTrue (contains nat_cmp s n) → IsLowerBound nat_cmp s n
@@ -331,7 +330,7 @@ least_in_set s xs limit n m is are member least =
 pub least_past : (s : BTreeSet ℕ) (xs ys : List (Option Node)) (limit n : ℕ) (m : KeptNodes) → nodes_of xs ≡ m → ys ≡ xs → AreUnused s (things xs) → s.keys ≡ [] → n ≡ length ys + 1
     → (if nat_le n limit then Some n else None) ≡ least_unused limit m
 least_past s xs ys limit n m is same are empty e =
-    sym (ap (least_unused limit) (sym is) ∙ least_is limit n (things xs) (first_past s (things xs) n are empty (omega (arith, e, length-things xs, ap length same))))
+    sym (ap (least_unused limit) (sym is) ∙ least_is limit n (things xs) (first_past s (things xs) n are empty (omega (arith, e, length-map xs (option_map kept), ap length same))))
 
 pub least_beyond : (s : BTreeSet ℕ) (xs ys : List (Option Node)) (limit : ℕ) (m : KeptNodes) → nodes_of xs ≡ m → ys ≡ xs → AreUnused s (things xs) → s.keys ≡ [] → limit < length ys + 1
     → None ≡ least_unused limit m
@@ -350,10 +349,8 @@ no_keys s o none some = by s.keys refl
 
 -- A change of one node.
 
-pub things_set_same : (xs : List (Option Node)) (i : ℕ) (x y : Option Node) → i < length xs → y ≡ get_or xs i y → option_map kept x ≡ option_map kept y → things (slice_set xs i x) ≡ things xs
-things_set_same [] i x y h is e = absurd (omega (arith, h))
-things_set_same (z ∷ xs) zero x y h is e = ap (λ t. t ∷ things xs) (e ∙ ap (option_map kept) is)
-things_set_same (z ∷ xs) (suc i) x y h is e = ap (λ rest. option_map kept z ∷ rest) (things_set_same xs i x y (omega (arith, h)) is e)
+pub things_set_same : (xs : List (Option Node)) (i : ℕ) (x y : Option Node) → y ≡ get_or xs i y → option_map kept x ≡ option_map kept y → things (slice_set xs i x) ≡ things xs
+things_set_same xs i x y is e = map-set_same (option_map kept) xs i x y (e ∙ ap (option_map kept) is)
 
 pub not_edited : (xs ys : List (Option Node)) (n : ℕ) (change : Kept → Kept) → ys ≡ xs → false ≡ is_some (thing_in (things ys) n) → nodes_of xs ≡ changed_at (nodes_of xs) n change
 not_edited xs ys n change same none = sym (ap (put_changed (nodes_of xs) n change) (get_none xs ys n same none))
@@ -400,10 +397,10 @@ pub rows_same : (xs ys : List (Option Node)) (most end : ℕ) → most ≡ ord_m
 rows_same xs ys most end is high same = same_map nat_cmp_total nat_cmp-IsAntisymmetric _ _ (λ q. get_row (things xs) q ∙ at q ∙ sym (get_row (things ys) q))
   where
     left : length (things xs) ≤ end
-    left = omega (arith, length-things xs, is, high, max_left (length xs) (length ys))
+    left = omega (arith, length-map xs (option_map kept), is, high, max_left (length xs) (length ys))
 
     right : length (things ys) ≤ end
-    right = omega (arith, length-things ys, is, high, max_right (length xs) (length ys))
+    right = omega (arith, length-map ys (option_map kept), is, high, max_right (length xs) (length ys))
 
     at : (q : ℕ) → thing_in (things xs) q ≡ thing_in (things ys) q
     at zero = refl
@@ -418,4 +415,4 @@ pub copied_more : (xs copy copied : List (Option Node)) (i : ℕ) (x y : Option 
 copied_more xs copy copied i x y h at same is before = ap things is ∙ map-append (option_map kept) copy (x ∷ [])
     ∙ ap (λ front. front ++ option_map kept x ∷ []) before
     ∙ ap (λ t. take i (things xs) ++ t ∷ []) (same ∙ sym (get_or_from_slice_get (things xs) i (option_map kept y) None (thing_at_index xs i y h at)))
-    ∙ sym (take_more (things xs) i None (omega (arith, h, length-things xs)))
+    ∙ sym (take_more (things xs) i None (omega (arith, h, length-map xs (option_map kept))))

@@ -1,5 +1,5 @@
 -- After each command that changes the nodes, their inode map is that of the tree after the command.
-use Rattle.std.proofs.Common.{◌≡◌, ◌≢◌, ℕ, ◌+◌, ◌<◌, ◌==◌, nat_le, Bool, true, false, true≢false, if◌then◌else◌, List, [], ◌∷◌, ◌++◌, length, replicate, is_none, is_some, Option, Some, None, option_map, option_and_then, refl, sym, ap, ap₂, subst, ◌∙◌, ◌⊎◌, inl, inr, arith, ne_eqb, eq-eqb}
+use Rattle.std.proofs.Common.{◌≡◌, ◌≢◌, ℕ, ◌+◌, ◌<◌, ◌==◌, nat_le, Bool, true, false, true≢false, if◌then◌else◌, List, [], ◌∷◌, ◌++◌, length, replicate, is_none, is_some, Option, Some, None, option_map, option_and_then, refl, sym, ap, ap₂, subst, ◌∙◌, arith, ne_eqb, eq-eqb}
 use Rattle.std.proofs.Math.Nat.{min-eq_left}
 use Rattle.std.specs.FinMap.{get, insert, empty}
 use Rattle.opt_base.specs.Counts.{next_count}
@@ -10,7 +10,7 @@ use Rattle.opt_tree.specs.declared.command.Refusal.{Refusal}
 use Rattle.opt_tree.specs.declared.command.Refusal.TheVariants.{Exists, IsDir, NoNode, TooManyLinks}
 use Rattle.opt_tree.specs.Tree.{Dir}
 use Rattle.opt_tree.specs.Walk.{are_same, is_same_node}
-use Rattle.opt_tree.specs.Conditions.{refusal, when}
+use Rattle.opt_tree.specs.Conditions.{refusal, when, first_reason}
 use Rattle.opt_tree.specs.Step.{Session, step, written, resized}
 use Rattle.opt_stands.specs.Inodes.{Inode, Inodes, ADir, AFile}
 use Rattle.opt_stands.specs.Maps.{IsMapOf}
@@ -22,23 +22,15 @@ use Rattle.opt_memtree.specs.Kept.{name_cmp, DirNames, Kept, KeptDir, KeptFile, 
 use Rattle.opt_memtree.specs.Changes.{made, made_at, edited, edited_by, linked, linked_at, removed, removed_at, moved, moved_at, is_that, put_and_take}
 use Rattle.opt_memtree.specs.Laws.{MapLaws}
 use Rattle.opt_memtree.proofs.maps.Slots.{as_slots, under_name}
-use Rattle.opt_memtree.proofs.maps.Walking.{number_last, spot_is, parts}
+use Rattle.opt_memtree.proofs.maps.Walking.{number_last, spot_is, by_parts}
 use Rattle.opt_memtree.proofs.keys.InOrder.{entries_empty}
 use Rattle.opt_memtree.proofs.rows.Row.{free_unused}
 use Rattle.opt_memtree.proofs.serving.Changed.{kept_dir, kept_file, mapped, changed_here, changed_other}
 use Rattle.opt_memtree.proofs.serving.Naming.{adds_node, adds_path, takes_path, moves_path}
-use Rattle.opt_memtree.proofs.serving.Reasons.{no_reason, not_so, some_of, walked, parent_there, file_there}
+use Rattle.opt_memtree.proofs.serving.Reasons.{no_reason, not_so, some_of, walked, parent_there, FileAt, file_there}
 
 no_slots : inode_of (KeptDir empty) ≡ new_inode Dir
 no_slots = ap (λ es. ADir (as_slots es)) (entries_empty name_cmp)
-
--- a path is empty, or has a last name
-by_parts : (P : List (List ℕ) → Type 0) → P [] → ((up : List (List ℕ)) (name : List ℕ) → P (up ++ name ∷ [])) → (path : List (List ℕ)) → P path
-by_parts P nil last path = by (parts path)
-  where
-    by : (path ≡ []) ⊎ ((up : List (List ℕ)) × (name : List ℕ) × (path ≡ up ++ name ∷ [])) → P path
-    by (inl e) = subst P (sym e) nil
-    by (inr s) = subst P (sym s.2) (last s.0 s.1)
 
 longer : (up : List (List ℕ)) (name : List ℕ) → up ++ name ∷ [] ≡ up → ⊥
 longer [] name e = cc
@@ -60,16 +52,13 @@ same_that n None off = refl
 same_that n (Some w) off = ne_eqb n w (λ e. off (ap Some (sym e)))
 
 -- what the code does with a move
-pub moved_by : (nodes : KeptNodes) (a b : Option (ℕ × List ℕ)) (o p : Option ℕ) (from to : ℕ × List ℕ) (n : ℕ) (old : Option ℕ) (t : Bool) → a ≡ Some from → b ≡ Some to → o ≡ Some n → p ≡ old → is_that n old ≡ t
+moved_by : (nodes : KeptNodes) (a b : Option (ℕ × List ℕ)) (o p : Option ℕ) (from to : ℕ × List ℕ) (n : ℕ) (old : Option ℕ) (t : Bool) → a ≡ Some from → b ≡ Some to → o ≡ Some n → p ≡ old → is_that n old ≡ t
     → moved_at nodes a b o p ≡ (if t then (nodes, false) else (put_and_take nodes from to n old, true))
 moved_by nodes a b o p from to n old t a_is b_is o_is p_is that =
     ap₂ (λ x y. moved_at nodes x y o p) a_is b_is ∙ ap₂ (moved_at nodes (Some from) (Some to)) o_is p_is
     ∙ ap (λ t. if t then (nodes, false) else (put_and_take nodes from to n old, true)) that
 
-pub moved_none : (nodes : KeptNodes) (a b : Option (ℕ × List ℕ)) (o p : Option ℕ) (from to : ℕ × List ℕ) → a ≡ Some from → b ≡ Some to → o ≡ None → moved_at nodes a b o p ≡ (nodes, false)
-moved_none nodes a b o p from to a_is b_is o_is = ap₂ (λ x y. moved_at nodes x y o p) a_is b_is ∙ ap (λ o. moved_at nodes (Some from) (Some to) o p) o_is
-
-pub moved_nowhere : (nodes : KeptNodes) (a b : Option (ℕ × List ℕ)) (n w : ℕ) → (n == w) ≡ true → moved_at nodes a b (Some n) (Some w) ≡ (nodes, false)
+moved_nowhere : (nodes : KeptNodes) (a b : Option (ℕ × List ℕ)) (n w : ℕ) → (n == w) ≡ true → moved_at nodes a b (Some n) (Some w) ≡ (nodes, false)
 moved_nowhere nodes None b n w e = refl
 moved_nowhere nodes (Some from) None n w e = refl
 moved_nowhere nodes (Some from) (Some to) n w e = ap (λ t. if t then (nodes, false) else (put_and_take nodes from to n (Some w), true)) e
@@ -126,11 +115,9 @@ module _ (laws : MapLaws) (s : Session) (nodes : KeptNodes) (is : IsMapOf s.limi
   makes : (up : List (List ℕ)) (name : List ℕ) (x : Kept) → make_reason s.limit m (up ++ name ∷ []) ≡ None → Made up name x
   makes up name x none =
       let path = up ++ name ∷ [] in
-      let there : Option Refusal = when (is_some (number_at m path)) Exists in
-      let full : Option Refusal = when (is_none (least_free s.limit m)) NoNode in
-      let one = no_reason (parent_reason m path) (there ∷ full ∷ []) none in
-      let two = no_reason there (full ∷ []) one.1 in
-      let three = no_reason full [] two.1 in
+      let one = no_reason (parent_reason m path) _ none in
+      let two = no_reason (when (is_some (number_at m path)) Exists) _ one.1 in
+      let three = no_reason (when (is_none (least_free s.limit m)) NoNode) _ two.1 in
       let p = parent_there m up name one.0 in
       let n = some_of (least_free s.limit m) (not_so (is_none (least_free s.limit m)) NoNode three.0) in
       let k = kept_dir nodes p.dir p.slots p.is in
@@ -144,27 +131,30 @@ module _ (laws : MapLaws) (s : Session) (nodes : KeptNodes) (is : IsMapOf s.limi
             (adds_node nodes p.dir n.0 k.0 name k.1 (dir_apart n.0 p.dir k.0 (is_none_of (m n.0) (free_unused s.limit m n.0 n.1)) k.1) x);
       }
 
-  no_root_made : make_reason s.limit m [] ≡ None → ⊥
-  no_root_made none =
-      let full : Option Refusal = when (is_none (least_free s.limit m)) NoNode in
-      let one = no_reason (parent_reason m []) (when true Exists ∷ full ∷ []) none in
-      true≢false (not_so true Exists (no_reason (when true Exists) (full ∷ []) one.1).0)
+  -- nothing is made at the root
+  there_already : Some Exists ≡ None → ⊥
+  there_already e = cc
 
   pub mkdir_mapped : (path : List (List ℕ)) → refusal s.limit s.tree (Mkdir path) ≡ None → IsMapOf s.limit (map_of (made s.limit nodes path (KeptDir empty))) (step s (Mkdir path)).0.tree
   mkdir_mapped = by_parts (λ path. refusal s.limit s.tree (Mkdir path) ≡ None → IsMapOf s.limit (map_of (made s.limit nodes path (KeptDir empty))) (step s (Mkdir path)).0.tree)
-      (λ accepts. absurd (no_root_made (reason_none (Mkdir []) accepts)))
+      (λ accepts. absurd (there_already (reason_none (Mkdir []) accepts)))
       (λ up name accepts.
       let c = makes up name (KeptDir empty) (reason_none (Mkdir (up ++ name ∷ [])) accepts) in
       laws.mkdir s m _ up name c.d c.n is accepts c.leads c.free (subst (λ x. AddsName m (map_of (made s.limit nodes (up ++ name ∷ []) (KeptDir empty))) c.d c.n name x) no_slots c.adds))
 
   pub create_mapped : (path : List (List ℕ)) → refusal s.limit s.tree (Create path) ≡ None → IsMapOf s.limit (map_of (made s.limit nodes path (KeptFile 1 []))) (step s (Create path)).0.tree
   create_mapped = by_parts (λ path. refusal s.limit s.tree (Create path) ≡ None → IsMapOf s.limit (map_of (made s.limit nodes path (KeptFile 1 []))) (step s (Create path)).0.tree)
-      (λ accepts. absurd (no_root_made (reason_none (Create []) accepts)))
+      (λ accepts. absurd (there_already (reason_none (Create []) accepts)))
       (λ up name accepts.
       let c = makes up name (KeptFile 1 []) (reason_none (Create (up ++ name ∷ [])) accepts) in
       laws.create s m _ up name c.d c.n is accepts c.leads c.free c.adds)
 
   -- Bytes of a file.
+  file_met : (path : List (List ℕ)) (rest : List (Option Refusal)) → first_reason (walk_reason m path ∷ when (is_dir_inode (inode_at m path)) IsDir ∷ rest) ≡ None → FileAt m path
+  file_met path rest none =
+      let one = no_reason (walk_reason m path) (when (is_dir_inode (inode_at m path)) IsDir ∷ rest) none in
+      file_there m s.limit s.tree path is one.0 (not_so (is_dir_inode (inode_at m path)) IsDir (no_reason (when (is_dir_inode (inode_at m path)) IsDir) rest one.1).0)
+
   sets_bytes : (path : List (List ℕ)) (n links : ℕ) (bytes : List ℕ) (change : List ℕ → List ℕ) → LeadsTo m path n → m n ≡ Some (AFile links bytes)
       → Sets m (map_of (edited nodes path (with_bytes change))) n (Some (AFile links (change bytes)))
   sets_bytes path n links bytes change leads file =
@@ -176,28 +166,19 @@ module _ (laws : MapLaws) (s : Session) (nodes : KeptNodes) (is : IsMapOf s.limi
   pub write_mapped : (path : List (List ℕ)) (offset : ℕ) (bytes : List ℕ) → 0 < length bytes → refusal s.limit s.tree (Write path offset bytes) ≡ None
       → IsMapOf s.limit (map_of (edited nodes path (with_bytes (written offset bytes)))) (step s (Write path offset bytes)).0.tree
   write_mapped path offset bytes some accepts =
-      let none = reason_none (Write path offset bytes) accepts in
-      let one = no_reason (walk_reason m path) (when (is_dir_inode (inode_at m path)) IsDir ∷ _) none in
-      let two = no_reason (when (is_dir_inode (inode_at m path)) IsDir) _ one.1 in
-      let f = file_there m s.limit s.tree path is one.0 (not_so (is_dir_inode (inode_at m path)) IsDir two.0) in
+      let f = file_met path _ (reason_none (Write path offset bytes) accepts) in
       laws.write s m _ path offset bytes f.node f.links f.bytes is accepts some f.leads f.is (sets_bytes path f.node f.links f.bytes (written offset bytes) f.leads f.is)
 
   pub fill_mapped : (path : List (List ℕ)) (offset count byte : ℕ) → 0 < count → refusal s.limit s.tree (Fill path offset count byte) ≡ None
       → IsMapOf s.limit (map_of (edited nodes path (with_bytes (written offset (replicate count byte))))) (step s (Fill path offset count byte)).0.tree
   fill_mapped path offset count byte some accepts =
-      let none = reason_none (Fill path offset count byte) accepts in
-      let one = no_reason (walk_reason m path) (when (is_dir_inode (inode_at m path)) IsDir ∷ _) none in
-      let two = no_reason (when (is_dir_inode (inode_at m path)) IsDir) _ one.1 in
-      let f = file_there m s.limit s.tree path is one.0 (not_so (is_dir_inode (inode_at m path)) IsDir two.0) in
+      let f = file_met path _ (reason_none (Fill path offset count byte) accepts) in
       laws.fill s m _ path offset count byte f.node f.links f.bytes is accepts some f.leads f.is (sets_bytes path f.node f.links f.bytes (written offset (replicate count byte)) f.leads f.is)
 
   pub truncate_mapped : (path : List (List ℕ)) (size : ℕ) → size ≢ length (bytes_of (inode_at m path)) → refusal s.limit s.tree (Truncate path size) ≡ None
       → IsMapOf s.limit (map_of (edited nodes path (with_bytes (resized size)))) (step s (Truncate path size)).0.tree
   truncate_mapped path size other accepts =
-      let none = reason_none (Truncate path size) accepts in
-      let one = no_reason (walk_reason m path) (when (is_dir_inode (inode_at m path)) IsDir ∷ _) none in
-      let two = no_reason (when (is_dir_inode (inode_at m path)) IsDir) _ one.1 in
-      let f = file_there m s.limit s.tree path is one.0 (not_so (is_dir_inode (inode_at m path)) IsDir two.0) in
+      let f = file_met path _ (reason_none (Truncate path size) accepts) in
       let bytes : bytes_of (inode_at m path) ≡ f.bytes = ap bytes_of (ap (option_and_then m) f.leads ∙ f.is) in
       laws.truncate s m _ path size f.node f.links f.bytes is accepts (λ e. other (e ∙ ap length (sym bytes))) f.leads f.is (sets_bytes path f.node f.links f.bytes (resized size) f.leads f.is)
 
@@ -206,24 +187,16 @@ module _ (laws : MapLaws) (s : Session) (nodes : KeptNodes) (is : IsMapOf s.limi
   link_mapped path = by_parts (λ other. refusal s.limit s.tree (Link path other) ≡ None → IsMapOf s.limit (map_of (linked nodes path other)) (step s (Link path other)).0.tree) no_root last
     where
       no_root : refusal s.limit s.tree (Link path []) ≡ None → IsMapOf s.limit (map_of (linked nodes path [])) (step s (Link path [])).0.tree
-      no_root accepts =
-          let dir : Option Refusal = when (is_dir_inode (inode_at m path)) IsDir in
-          let many : Option Refusal = when (nat_le 65535 (links_in (inode_at m path))) TooManyLinks in
-          let one = no_reason (walk_reason m path) (parent_reason m [] ∷ when true Exists ∷ dir ∷ many ∷ []) (reason_none (Link path []) accepts) in
-          let two = no_reason (parent_reason m []) (when true Exists ∷ dir ∷ many ∷ []) one.1 in
-          absurd (true≢false (not_so true Exists (no_reason (when true Exists) (dir ∷ many ∷ []) two.1).0))
+      no_root accepts = absurd (there_already (no_reason (walk_reason m path) _ (reason_none (Link path []) accepts)).1)
 
       last : (up : List (List ℕ)) (name : List ℕ) → refusal s.limit s.tree (Link path (up ++ name ∷ [])) ≡ None → IsMapOf s.limit (map_of (linked nodes path (up ++ name ∷ []))) (step s (Link path (up ++ name ∷ []))).0.tree
       last up name accepts =
-          let dir : Option Refusal = when (is_dir_inode (inode_at m path)) IsDir in
-          let many : Option Refusal = when (nat_le 65535 (links_in (inode_at m path))) TooManyLinks in
           let other = up ++ name ∷ [] in
-          let there : Option Refusal = when (is_some (number_at m other)) Exists in
-          let one = no_reason (walk_reason m path) (parent_reason m other ∷ there ∷ dir ∷ many ∷ []) (reason_none (Link path other) accepts) in
-          let two = no_reason (parent_reason m other) (there ∷ dir ∷ many ∷ []) one.1 in
-          let three = no_reason there (dir ∷ many ∷ []) two.1 in
-          let four = no_reason dir (many ∷ []) three.1 in
-          let five = no_reason many [] four.1 in
+          let one = no_reason (walk_reason m path) _ (reason_none (Link path other) accepts) in
+          let two = no_reason (parent_reason m other) _ one.1 in
+          let three = no_reason (when (is_some (number_at m other)) Exists) _ two.1 in
+          let four = no_reason (when (is_dir_inode (inode_at m path)) IsDir) _ three.1 in
+          let five = no_reason (when (nat_le 65535 (links_in (inode_at m path))) TooManyLinks) _ four.1 in
           let f = file_there m s.limit s.tree path is one.0 (not_so (is_dir_inode (inode_at m path)) IsDir four.0) in
           let p = parent_there m up name two.0 in
           let k = kept_dir nodes p.dir p.slots p.is in

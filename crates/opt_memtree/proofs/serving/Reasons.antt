@@ -1,10 +1,10 @@
 -- What a command that nothing refuses meets: where its paths lead, and what is there.
-use Rattle.std.proofs.Common.{◌≡◌, ℕ, Bool, true, false, true≢false, if◌then◌else◌, List, [], ◌∷◌, ◌++◌, is_none, is_some, Option, Some, None, Result, Ok, Err, option_map, option_and_then, refl, sym, ap, ◌∙◌, ◌⊎◌, inl, inr}
+use Rattle.std.proofs.Common.{◌≡◌, ℕ, Bool, true, false, true≢false, if◌then◌else◌, List, [], ◌∷◌, ◌++◌, is_none, Option, Some, None, Result, Ok, Err, option_map, option_and_then, refl, sym, ap, ap₂, ◌∙◌}
 use Rattle.opt_layout.specs.declared.slot.Slot.{Slot}
 use Rattle.opt_tree.specs.declared.command.Refusal.{Refusal}
-use Rattle.opt_tree.specs.declared.command.Refusal.TheVariants.{NotDir}
+use Rattle.opt_tree.specs.declared.command.Refusal.TheVariants.{NotFound, NotDir}
 use Rattle.opt_tree.specs.Tree.{Tree}
-use Rattle.opt_tree.specs.Walk.{refusal_in}
+use Rattle.opt_tree.specs.Walk.{enter, refusal_in}
 use Rattle.opt_tree.specs.Conditions.{when, first_reason}
 use Rattle.opt_stands.specs.Inodes.{Inode, Inodes, ADir, AFile}
 use Rattle.opt_stands.specs.Maps.{IsMapOf}
@@ -12,7 +12,7 @@ use Rattle.opt_stands.specs.Walks.{entry_in, LeadsTo}
 use Rattle.opt_inodes.specs.Lookups.{is_dir_inode, walk_on, number_at, inode_at}
 use Rattle.opt_inodes.specs.Refusals.{walk_reason, dir_reason, parent_reason}
 use Rattle.opt_memtree.specs.Kept.{spot_at}
-use Rattle.opt_memtree.proofs.maps.Walking.{Fits, fits, parent_is, parts, number_last, spot_is}
+use Rattle.opt_memtree.proofs.maps.Walking.{Fits, fits, parent_is, by_parts, number_last, spot_is}
 
 -- where no reason comes first, the first one is none, and none of the later ones is
 pub no_reason : (r : Option Refusal) (rest : List (Option Refusal)) → first_reason (r ∷ rest) ≡ None → (r ≡ None) × (first_reason rest ≡ None)
@@ -27,20 +27,6 @@ not_so false why e = refl
 pub some_of : {A : Type 0} (o : Option A) → is_none o ≡ false → (x : A) × (o ≡ Some x)
 some_of None e = absurd (true≢false e)
 some_of (Some x) e = (x, refl)
-
-pub none_of : {A : Type 0} (o : Option A) → is_some o ≡ false → o ≡ None
-none_of None e = refl
-none_of (Some x) e = absurd (true≢false e)
-
-nothing_there : {A : Type 0} {x : A} → None ≡ Some x → ⊥
-nothing_there e = cc
-
-some_same : {A : Type 0} {x y : A} → Some x ≡ Some y → x ≡ y
-some_same e = cc
-
-same_spot : (o : Option ℕ) (last : List ℕ) (p : ℕ × List ℕ) → option_map {U = ℕ × List ℕ} (λ k. (k, last)) o ≡ Some p → (o ≡ Some p.0) × (last ≡ p.1)
-same_spot None last p e = absurd (nothing_there e)
-same_spot (Some k) last p e = let q : ◌≡◌ {A = ℕ × List ℕ} (k, last) p = some_same e in (ap (λ (r : ℕ × List ℕ). Some r.0) q, ap (λ (r : ℕ × List ℕ). r.1) q)
 
 module _ (m : Inodes) where
   -- a walk without a reason comes to a number
@@ -97,23 +83,45 @@ module _ (m : Inodes) where
       by n leads (ADir slots) at not_dir = absurd (true≢false (sym (ap is_dir_inode at) ∙ not_dir))
       by n leads (AFile links bytes) at not_dir = record { node = n; leads = leads; links = links; bytes = bytes; is = at }
 
+  -- where the directory above a path is there
+  pub no_parent_reason : (path up : List (List ℕ)) (name : List ℕ) (d : ℕ) → path ≡ up ++ name ∷ [] → walk_on m 1 up ≡ Ok d → is_dir_inode (m d) ≡ true → parent_reason m path ≡ None
+  no_parent_reason path up name d is walks dir = ap (parent_reason m) is ∙ reason_of_parent up name ∙ ap (dir_reason m) walks ∙ ap (λ b. if b then None else Some NotDir) dir
+
   -- what the code finds at a path with a last name
-  pub looked_up : (path up : List (List ℕ)) (name : List ℕ) (d : ℕ) → path ≡ up ++ name ∷ [] → walk_on m 1 up ≡ Ok d → number_at m up ≡ Some d → is_dir_inode (m d) ≡ true
-      → (parent_reason m path ≡ None) × (number_at m path ≡ entry_in (m d) name)
-  looked_up path up name d is walks leads dir = (
-    ap (parent_reason m) is ∙ reason_of_parent up name ∙ ap (dir_reason m) walks ∙ ap (λ b. if b then None else Some NotDir) dir,
+  pub looked_up : (path up : List (List ℕ)) (name : List ℕ) (d : ℕ) → path ≡ up ++ name ∷ [] → number_at m up ≡ Some d → (spot_at m path ≡ Some (d, name)) × (number_at m path ≡ entry_in (m d) name)
+  looked_up path up name d is leads = (
+    ap (spot_at m) is ∙ spot_is m up name ∙ ap (option_map (λ d. (d, name))) leads,
     ap (number_at m) is ∙ number_last m up name ∙ ap (option_and_then (λ j. entry_in (m j) name)) leads,
   )
 
-  pub spot_found : (path up : List (List ℕ)) (name : List ℕ) (o : Option ℕ) → path ≡ up ++ name ∷ [] → number_at m up ≡ o → spot_at m path ≡ option_map (λ d. (d, name)) o
-  spot_found path up name o is leads = ap (spot_at m) is ∙ spot_is m up name ∙ ap (option_map (λ d. (d, name))) leads
+  -- a walk that goes on by one name
+  abbrev then_name : Result ℕ Refusal → List ℕ → Result ℕ Refusal
+  then_name (Err why) name = Err why
+  then_name (Ok d) name = enter (is_dir_inode (m d)) (entry_in (m d) name) (λ j. Ok j)
 
-  -- what is at a path is what is under its last name
-  pub spot_number : (path : List (List ℕ)) (d : ℕ) (name : List ℕ) → spot_at m path ≡ Some (d, name) → number_at m path ≡ entry_in (m d) name
-  spot_number path d name spot = by (parts path)
+  -- a walk by one name more
+  one_more : (k : ℕ) (up : List (List ℕ)) (name : List ℕ) → walk_on m k (up ++ name ∷ []) ≡ then_name (walk_on m k up) name
+  one_more k [] name = refl
+  one_more k (x ∷ up) name = by (is_dir_inode (m k)) (entry_in (m k) x) (λ j. one_more j up name)
     where
-      by : (path ≡ []) ⊎ ((up : List (List ℕ)) × (last : List ℕ) × (path ≡ up ++ last ∷ [])) → number_at m path ≡ entry_in (m d) name
-      by (inl e) = absurd (nothing_there (sym (ap (spot_at m) e) ∙ spot))
-      by (inr s) =
-          let r = same_spot (number_at m s.0) s.1 (d, name) (sym (spot_is m s.0 s.1) ∙ ap (spot_at m) (sym s.2) ∙ spot) in
-          ap (number_at m) s.2 ∙ number_last m s.0 s.1 ∙ ap (option_and_then (λ j. entry_in (m j) s.1)) r.0 ∙ ap (entry_in (m d)) r.1
+      by : (b : Bool) (o : Option ℕ) → ((j : ℕ) → walk_on m j (up ++ name ∷ []) ≡ then_name (walk_on m j up) name) → enter b o (λ j. walk_on m j (up ++ name ∷ [])) ≡ then_name (enter b o (λ j. walk_on m j up)) name
+      by false o on = refl
+      by true None on = refl
+      by true (Some j) on = on j
+
+  -- a walk meets what is in the way of the path's parent, or that nothing is there
+  pub reached : (path : List (List ℕ)) (r : Option Refusal) (o : Option ℕ) → r ≡ parent_reason m path → number_at m path ≡ o → first_reason (r ∷ when (is_none o) NotFound ∷ []) ≡ walk_reason m path
+  reached path r o parent is = ap₂ (λ r o. first_reason (r ∷ when (is_none o) NotFound ∷ [])) parent (sym is) ∙ by_parts (λ path. first_reason (parent_reason m path ∷ when (is_none (number_at m path)) NotFound ∷ []) ≡ walk_reason m path) refl last path
+    where
+      both : (b : Bool) (o : Option ℕ) → first_reason ((if b then None else Some NotDir) ∷ when (is_none o) NotFound ∷ []) ≡ refusal_in (enter b o (λ j. Ok j))
+      both false o = refl
+      both true None = refl
+      both true (Some j) = refl
+
+      by : (up : List (List ℕ)) (name : List ℕ) (w : Result ℕ Refusal) → Fits w (number_at m up)
+          → first_reason (dir_reason m w ∷ when (is_none (option_and_then (λ j. entry_in (m j) name) (number_at m up))) NotFound ∷ []) ≡ refusal_in (then_name w name)
+      by up name (Err why) f = refl
+      by up name (Ok d) f = ap (λ o. first_reason (dir_reason m (Ok d) ∷ when (is_none (option_and_then (λ j. entry_in (m j) name) o)) NotFound ∷ [])) f ∙ both (is_dir_inode (m d)) (entry_in (m d) name)
+
+      last : (up : List (List ℕ)) (name : List ℕ) → first_reason (parent_reason m (up ++ name ∷ []) ∷ when (is_none (number_at m (up ++ name ∷ []))) NotFound ∷ []) ≡ walk_reason m (up ++ name ∷ [])
+      last up name = ap₂ (λ r o. first_reason (r ∷ when (is_none o) NotFound ∷ [])) (reason_of_parent up name) (number_last m up name) ∙ by up name (walk_on m 1 up) (fits m 1 up) ∙ ap refusal_in (sym (one_more 1 up name))

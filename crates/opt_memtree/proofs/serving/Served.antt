@@ -147,6 +147,6 @@ module _ (laws : MapLaws) (old : State) (kept : IsKept old) where
   pub serves : (cmd : Cmd) (new : State) (reply : Reply) → served old cmd ≡ (new, reply) → (step s cmd ≡ (session_of new, reply)) × IsKept new
   serves cmd new reply is = subst (λ r. Serves cmd r) is (by (reason old.limit (map_of old.nodes) cmd) refl)
     where
-      by : (o : Option Refusal) → reason old.limit (map_of old.nodes) cmd ≡ o → Serves cmd (served_by old cmd o)
+      by : (o : Option Refusal) → reason old.limit (map_of old.nodes) cmd ≡ o → Serves cmd (served_by old o (accepted old cmd))
       by None e = serves_accepted cmd (laws.refuses s.limit (map_of old.nodes) s.tree cmd kept.map ∙ e)
       by (Some why) e = unchanged cmd (Refused why) (ap (answered s cmd) (laws.refuses s.limit (map_of old.nodes) s.tree cmd kept.map ∙ e))

@@ -2,10 +2,10 @@ use Rattle.std.proofs.Common.{◌+◌, ◌∙◌, sym, refl, true≢false}
 use Rattle.opt_memtree.proofs.rows.Row.{thing_same, rows_same}
 use Rattle.opt_memtree.proofs.nodes.are_same.Goals as goal
 
-pub returns-then-not-stand_same : goal.returns-then-not-stand_same
-returns-then-not-stand_same c = (
+pub returns-then-not-is_same : goal.returns-then-not-is_same
+returns-then-not-is_same c = (
   λ e. absurd (true≢false (sym e)),
-  λ same. sym c.if-not-stand_same.true ∙ c.stand_same.ensures.1 (c.stands_at.ensures ∙ thing_same c.args.left.now c.args.right.now (c.loop-index.index + 1) same ∙ sym c.stands_at-in-loop-index.ensures),
+  λ same. sym c.if-not-is_same.true ∙ c.is_same.ensures.1 (c.stands_at.ensures ∙ thing_same c.args.left.now c.args.right.now (c.loop-index.index + 1) same ∙ sym c.stands_at-in-loop-index.ensures),
 )
 
 pub returns : goal.returns

@@ -10,14 +10,13 @@ on_err (Err e) p = p
 pub returns-in_default-clause-ok : goal.returns-in_default-clause-ok
 returns-in_default-clause-ok c = not_edited c.args.row.now.items c.as_slice.result.now c.args.number (grown c.args.change) c.as_slice.ensures.value c.in_default.ensures.used
 
-pub returns-in_err-grow_in-clause-err : goal.returns-in_err-grow_in-clause-err
-returns-in_err-grow_in-clause-err c = on_err c.from_residual.result (things_set_same c.args.row.now.items c.in-Some.index c.grow_in.new.place c.index_mut.result.now
-    (omega (arith, c.in-Some.ensures.place.1, ap length c.as_slice.ensures.value)) c.index_mut.ensures.value c.in_err-grow_in.ensures.err)
+pub returns-in_err-grow-clause-err : goal.returns-in_err-grow-clause-err
+returns-in_err-grow-clause-err c = on_err c.from_residual.result (things_set_same c.args.row.now.items c.in-Some.index c.grow.new.place c.index_mut.result.now c.index_mut.ensures.value c.in_err-grow.ensures.err)
 
 pub returns-clause-ok : goal.returns-clause-ok
-returns-clause-ok c = nodes_edited c.args.row.now.items c.in-Some.index c.args.number c.grow_in.new.place c.index_mut.result.now (grown c.args.change)
-    c.in-Some.ensures.place.0 (omega (arith, c.in-Some.ensures.place.1, ap length c.as_slice.ensures.value)) c.index_mut.ensures.value c.in_ok-grow_in.ensures.ok
+returns-clause-ok c = nodes_edited c.args.row.now.items c.in-Some.index c.args.number c.grow.new.place c.index_mut.result.now (grown c.args.change)
+    c.in-Some.ensures.place.0 (omega (arith, c.in-Some.ensures.place.1, ap length c.as_slice.ensures.value)) c.index_mut.ensures.value c.in_ok-grow.ensures.ok
 
 pub returns-clause-unused : goal.returns-clause-unused
-returns-clause-unused c = gaps_edited c.args.row.now.items c.in-Some.index c.args.number c.grow_in.new.place c.index_mut.result.now (grown c.args.change)
-    c.in-Some.ensures.place.0 (omega (arith, c.in-Some.ensures.place.1, ap length c.as_slice.ensures.value)) c.index_mut.ensures.value c.in_ok-grow_in.ensures.ok
+returns-clause-unused c = gaps_edited c.args.row.now.items c.in-Some.index c.args.number c.grow.new.place c.index_mut.result.now (grown c.args.change)
+    c.in-Some.ensures.place.0 (omega (arith, c.in-Some.ensures.place.1, ap length c.as_slice.ensures.value)) c.index_mut.ensures.value c.in_ok-grow.ensures.ok

@@ -1,10 +1,6 @@
-use Rattle.std.proofs.Common.{◌≡◌, ◌∙◌, Some, rules}
-use Rattle.std.specs.FinMap.{get}
-use Rattle.opt_memtree.specs.Kept.{KeptDir}
+use Rattle.std.proofs.Common.{◌∙◌, rules}
 use Rattle.opt_memtree.proofs.maps.Slots.{entry_of_dir}
 use Rattle.opt_memtree.proofs.nodes.Nodes.entry.Goals as goal
 
 pub returns-in-Some-Dir : goal.returns-in-Some-Dir
-returns-in-Some-Dir c =
-    let there : Some (KeptDir c.in-Some-Dir.names) ≡ get c.args.self.now c.args.directory = search rules in
-    c.get.ensures ∙ entry_of_dir c.args.self.now c.args.directory c.in-Some-Dir.names c.args.name.now there
+returns-in-Some-Dir c = c.get.ensures ∙ entry_of_dir c.args.self.now c.args.directory c.in-Some-Dir.names c.args.name.now (search rules)

@@ -1,10 +1,6 @@
-use Rattle.std.proofs.Common.{◌≡◌, ◌∙◌, Some, rules}
-use Rattle.std.specs.FinMap.{get}
-use Rattle.opt_memtree.specs.Kept.{KeptDir}
+use Rattle.std.proofs.Common.{◌∙◌, rules}
 use Rattle.opt_memtree.proofs.maps.Slots.{count_in_dir}
 use Rattle.opt_memtree.proofs.nodes.Nodes.held.Goals as goal
 
 pub returns-in-Some-Dir-clause-value : goal.returns-in-Some-Dir-clause-value
-returns-in-Some-Dir-clause-value c =
-    let there : Some (KeptDir c.in-Some-Dir.names) ≡ get c.args.self.now c.args.number = search rules in
-    c.len.ensures.value ∙ count_in_dir c.args.self.now c.args.number c.in-Some-Dir.names there
+returns-in-Some-Dir-clause-value c = c.len.ensures.value ∙ count_in_dir c.args.self.now c.args.number c.in-Some-Dir.names (search rules)
