@@ -1,6 +1,7 @@
 -- A sync of a map of blocks in memory: nothing to commit, out of memory, a point made, and the floor raised.
 use Rattle.std.proofs.Common.{◌≡◌, ◌≢◌, ℕ, ◌+◌, ◌≤◌, ◌==◌, true, false, [], ◌∷◌, ◌++◌, refl, sym, ap, subst, ◌∙◌, arith, inl, inr, Ok, Err}
 use Rattle.std.proofs.lemmas.Bool.{cond-true, cond-false, eq-eqb, ne_eqb}
+use Rattle.opt_disk.specs.Manner.{any_manner}
 use Rattle.opt_blocks.specs.declared.plain.PlainBlocks.{PlainBlocks}
 use Rattle.opt_blocks.specs.declared.refusals.SyncRefusal.TheVariants.{NoMemory}
 use Rattle.opt_blocks.specs.Running.{Running, HasNoBare, nothing_running}
@@ -85,7 +86,7 @@ syncs_changed old new point some filled is books reusable now points ticks = rec
     free_places = omega (arith, ap (λ k. k.free_places) books);
   };
   disk = quiet old new;
-  ticks = ticks;
+  ticks = ap (λ (n : ℕ). record { made = n; polls = 0; manner = any_manner }) ticks;
   map = λ t. same_part (books_of old) (books_of new) old.history.now new.history.now (ap (λ k. k.geom) books) (ap (λ k. k.marked) books) filled none now;
   crash = λ t. advances_by old new (old.history.now ∷ []) points (omega (arith, ap (λ k. k.floor) books));
   made = λ t. makes_point old new points now none;

@@ -1,6 +1,8 @@
 -- What several calls of a map of blocks have in common. It is described in docs/BLOCKS.md.
 use Rattle.std.specs.Prelude.{◌≡◌, ℕ, Bool, IsTrue, IfOk, OnOk, Result}
 use Rattle.opt_blocks.specs.declared.refusals.SyncRefusal.{SyncRefusal}
+use Rattle.opt_base.specs.Counts.{next_count}
+use Rattle.opt_disk.specs.Disk.{PollsFirst}
 use Rattle.opt_blocks.specs.State.{State}
 use Rattle.opt_blocks.specs.Calls.{sync_fails, OnNoMemory, UnlessNoMemory, UsesDisk, MovesPipeline, EndsTransaction, IsAfterSync, commit_writes}
 use Rattle.opt_blocks.specs.Crashes.{IssuesNothing, Advances, MakesPoint, WritesAtMost}
@@ -14,6 +16,12 @@ pub record LeavesDisk (tells : Bool) (old new : State) : Type 0 where
 pub record ChangesNothing (tells : Bool) (old new : State) : Type 0 where
   pub books : new.books ≡ old.books
   pub disk : LeavesDisk tells old new
+
+-- One tick more was made, of the same disk. Where it is known what polls answer, the tick's events begin with the notices of at most 64 polls, up to the first that has none.
+pub record Ticked (tells : Bool) (old new : State) : Type 0 where
+  pub made : new.counts.ticks.made ≡ next_count old.counts.ticks.made
+  pub manner : new.counts.ticks.manner ≡ old.counts.ticks.manner
+  pub polled : IsTrue tells → PollsFirst old.counts.ticks.manner 64 old.counts.ticks.polls old.crash.log new.counts.ticks.polls new.crash.log
 
 -- The pipeline moves on, and the map stays: at each moment a crash leaves a point, and no write comes that wasn't owed.
 pub record RunsPipeline (tells failed : Bool) (old new : State) : Type 0 where

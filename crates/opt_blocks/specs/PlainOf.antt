@@ -1,6 +1,7 @@
 -- What is known of a map of blocks in memory.
 use Rattle.std.specs.Prelude.{◌-◌, ◌*◌, false, length}
 use Rattle.opt_base.specs.Seal.{blocks_of}
+use Rattle.opt_disk.specs.Manner.{any_manner}
 use Rattle.opt_geom.specs.Geometry.{data_start}
 use Rattle.opt_blocks.specs.declared.plain.PlainBlocks.{PlainBlocks}
 use Rattle.opt_blocks.specs.State.{Bookkeeping, State, defined_part}
@@ -28,7 +29,7 @@ books_of p = record {
 abbrev pub state_of : PlainBlocks → State
 state_of p = record {
   books = books_of p;
-  counts = record { ticks = p.ticks; read_faults = 0; faults = 0; waits = 0 };
+  counts = record { ticks = record { made = p.ticks; polls = 0; manner = any_manner }; read_faults = 0; faults = 0; waits = 0 };
   map = defined_part (books_of p) (blocks_of p.history.now);
   crash = crash_of p.history.points p.floor;
 }

@@ -4,12 +4,19 @@ use Rattle.std.specs.List.{filter, range_with_len, All, AllPairs}
 use Rattle.opt_base.specs.Seal.{Blocks}
 use Rattle.opt_base.specs.declared.words.Class.{Class}
 use Rattle.opt_disk.specs.declared.event.Event.{Event}
+use Rattle.opt_disk.specs.Manner.{Manner}
 use Rattle.opt_geom.specs.Geometry.{Geometry, bitmap_start, data_start}
 use Rattle.opt_blocks.specs.Running.{Running, Spare, is_bare, with_put, with_takes, with_free, has}
 
--- how often it ticked, a read failed, another call of the disk failed, and it waited for the disk; each count stops at the last number of 64 bits
+-- what ticks go by: how often it ticked, how often the disk was polled, and how the disk behaves
+pub record Ticking : Type 0 where
+  pub made : ℕ
+  pub polls : ℕ
+  pub manner : Manner
+
+-- how often it ticked, with what ticks go by, and how often a read failed, another call of the disk failed, and it waited for the disk; each count stops at the last number of 64 bits
 pub record Counts : Type 0 where
-  pub ticks : ℕ
+  pub ticks : Ticking
   pub read_faults : ℕ
   pub faults : ℕ
   pub waits : ℕ

@@ -5,11 +5,10 @@
 ghost use Rattle.std.specs.Prelude.{◌≡◌, ◌<◌, ◌≤◌, ◌+◌, Bool, true, false, IsTrue, length, is_err, IfOk, IfErr, OnOk, OnErr, Ok};
 ghost use Rattle.opt_geom.specs.Geometry.{bitmap_start, table_start, data_start};
 ghost use Rattle.opt_layout.specs.Bitmap.{is_set};
-ghost use Rattle.opt_base.specs.Counts.{next_count};
 ghost use Rattle.opt_blocks.specs.State.{State, reusable_blocks, is_defined, MayBeTaken, after_put, after_take, after_free, after_weigh};
 ghost use Rattle.opt_blocks.specs.Calls.{IsWithBlock, IsWithTaken, IsWithFreed, OnNoMemory, AreLowest, LowestRefused, lowest_fails, CountsReads, commit_places, MaySync, HasTurns, AreFigures, IsReady, IsSound};
 ghost use Rattle.opt_blocks.specs.Crashes.{IssuesNothing, IsTold};
-ghost use Rattle.opt_blocks.specs.Effects.{LeavesDisk, ChangesNothing, RunsPipeline, Syncs};
+ghost use Rattle.opt_blocks.specs.Effects.{LeavesDisk, ChangesNothing, RunsPipeline, Syncs, Ticked};
 
 use crate::{Figures, LowestRefusal, SyncRefusal};
 use opt_base::{Block, Class, NoMemory, Places, ReadFault};
@@ -117,8 +116,8 @@ pub trait Blocks {
         ensures map { IsTrue tells → (state self.new).map ≡ (state self.old).map }
         ensures disk { LeavesDisk tells (state self.old) (state self.new) };
 
-    /// Takes the durability notifications that have come, and moves the pipeline by a step. It doesn't
-    /// wait.
+    /// Takes the durability notifications that have come, at most 64, and moves the pipeline by a step. It
+    /// doesn't wait.
     ///
     /// # Errors
     /// The disk failed.
@@ -127,7 +126,7 @@ pub trait Blocks {
         requires turns { HasTurns (state self.old).books }
         ensures moves { RunsPipeline tells (is_err result) (state self.old) (state self.new) }
         ensures waits { (state self.new).counts.waits ≡ (state self.old).counts.waits }
-        ensures ticks { (state self.new).counts.ticks ≡ next_count (state self.old).counts.ticks };
+        ensures ticks { Ticked tells (state self.old) (state self.new) };
 
     /// Waits until nothing waits in the pipeline any more, and all blocks that earlier transactions freed
     /// may be taken.

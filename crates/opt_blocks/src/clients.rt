@@ -29,7 +29,7 @@ pub fn tick_then_sync<S: Blocks>(alloc: Global, blocks: &mut S) -> Result<u64, S
     ensures point { IfOk result (λ p. p ≡ (S.state blocks.new).books.point) }
     ensures synced { OnOk result ((S.state blocks.new).books.point ≡ (S.state blocks.old).books.point + if_changed (S.state blocks.old).books.running 1 0) }
     ensures ended { OnOk result ((S.state blocks.new).books.running ≡ if_changed (S.state blocks.old).books.running nothing_running (S.state blocks.old).books.running) }
-    ensures ticks { (S.state blocks.new).counts.ticks ≡ next_count (S.state blocks.old).counts.ticks }
+    ensures ticks { (S.state blocks.new).counts.ticks.made ≡ next_count (S.state blocks.old).counts.ticks.made }
     ensures disk { UsesDisk (sync_fails result) (S.state blocks.old) (S.state blocks.new) }
     ensures crash { IsTrue S.tells → Advances (S.state blocks.old) (S.state blocks.new) }
     ensures made { IsTrue S.tells → MakesPoint (S.state blocks.old) (S.state blocks.new) }

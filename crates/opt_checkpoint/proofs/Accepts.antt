@@ -1,5 +1,5 @@
 -- A committed transaction joins the pipeline: its record is in the ledger, and is the last one of the committed.
-use Rattle.std.proofs.Common.{◌≡◌, ◌⊎◌, ⊎_elim, ℕ, suc, ◌+◌, ◌%◌, ◌<◌, ◌≤◌, ◌==◌, nat_le, Bool, true, false, IsTrue, List, [], ◌∷◌, ◌++◌, length, map, slice_get, Some, refl, sym, ◌∙◌, subst, ap, arith, length-append, append_assoc}
+use Rattle.std.proofs.Common.{◌≡◌, ◌⊎◌, ⊎_elim, ℕ, suc, ◌+◌, ◌%◌, ◌<◌, ◌≤◌, ◌==◌, ◌||◌, nat_le, Bool, true, false, IsTrue, List, [], ◌∷◌, ◌++◌, length, map, slice_get, Some, refl, sym, ◌∙◌, subst, ap, arith, length-append, append_assoc}
 use Rattle.std.proofs.lemmas.Bool.{eqb-true, false≢true, le-leb, lt-leb}
 use Rattle.std.proofs.lemmas.Option.{slice_get_within}
 use Rattle.opt_base.specs.Seal.{Blocks}
@@ -13,12 +13,12 @@ use Rattle.opt_crash.specs.Steps.{NoneIsBeingWritten, with_record}
 use Rattle.opt_crash.specs.HomeTest.{AreFreedBy, is_one_of}
 use Rattle.opt_crash.specs.OnePending.{HasOnePending}
 use Rattle.opt_crash.specs.PipelineData.{PipelineData, DataAgree, AreFreed, with_committed, pairs_of}
-use Rattle.opt_notes.specs.Notes.{Expected, is_noticed, are_expected}
+use Rattle.opt_notes.specs.Notes.{Expected, is_expected, is_noticed, are_expected}
 use Rattle.opt_tx.specs.declared.commit.Committed.{Committed}
 use Rattle.opt_checkpoint.specs.declared.pipeline.Pipeline.{Pipeline}
 use Rattle.opt_checkpoint.specs.Agree.{PipelineAgrees, AreApart, AreNewTickets, IsRecordAt, KeepsRecord, HasFreed, data_of, durable_count, no_tickets, tickets_in}
 use Rattle.opt_checkpoint.proofs.Lists.{choose_true, choose_false, map_push, last_or, get_old, get_new}
-use Rattle.opt_checkpoint.proofs.Apart.{none_new}
+use Rattle.opt_checkpoint.proofs.Apart.{none_new, one_or}
 use Rattle.opt_checkpoint.proofs.Expected.{ExpectMore, are_more, home_more}
 
 -- what is one of a list has a place there
@@ -41,7 +41,8 @@ module _ (base : Blocks) (old new : List Event) (l : Ledger) (v : Pipeline) (rin
     -- notices stay, no mark is set, what was expected is so still, and so are the record's tickets
     (stays : (t : ℕ) → IsNoticed t old → IsNoticed t new) (quiet : (t : ℕ) → is_noticed t notes.notes ≡ is_noticed t v.notes.notes)
     (expect : ExpectMore v.notes.notes notes.notes) (expected : are_expected c.tickets.items notes.notes ≡ true)
-    -- and they are new
+    -- nothing else is expected, and they are new
+    (only : (t : ℕ) → is_expected t notes.notes ≡ (is_one_of t c.tickets.items || is_expected t v.notes.notes))
     (fresh : AreNewTickets old new c.tickets.items)
     -- what the commit left
     (joined : (freed : List ℕ) → AreFreed l w m freed → DataAgree base new (with_record l w m) (with_committed (data_of v ring waiting) l w c.tickets.items freed))
@@ -157,6 +158,7 @@ module _ (base : Blocks) (old new : List Event) (l : Ledger) (v : Pipeline) (rin
         (last_or v.committed.items c k t (ap (λ (xs : List Committed). slice_get xs k) (sym more) ∙ is));
     agree = subst (DataAgree base new (with_record l w m)) same_data (joined c.freed.items (λ b low live gone. one_of_get b c.freed.items (freed_then.killed b low live gone)));
     notes = λ t e. stays t (a.notes t (sym (quiet t) ∙ e));
+    given = λ t e. ⊎_elim (λ own. fresh.given t own) (λ was. fresh.stays t (a.given t was)) (one_or (is_one_of t c.tickets.items) (is_expected t v.notes.notes) (sym (only t) ∙ e));
     expected = record {
       records = λ k t is. ⊎_elim (λ here. are_more t.tickets.items v.notes.notes notes.notes expect (a.expected.records k t here)) (λ there. subst (λ (q : Committed). are_expected q.tickets.items notes.notes ≡ true) there.1 expected)
           (last_or v.committed.items c k t (ap (λ (xs : List Committed). slice_get xs k) (sym more) ∙ is));

@@ -1,10 +1,10 @@
 -- Open tickets stay apart: a new one is above all that were given before.
-use Rattle.std.proofs.Common.{◌≡◌, ℕ, zero, suc, ◌<◌, ◌≤◌, ◌==◌, ◌&&◌, not, Bool, true, false, if◌then◌else◌, List, [], ◌∷◌, ◌++◌, map, slice_get, Some, refl, sym, ◌∙◌, ap, arith}
-use Rattle.std.proofs.lemmas.Bool.{and_parts, eq-eqb, eqb-true, false≢true}
+use Rattle.std.proofs.Common.{◌≡◌, ℕ, zero, suc, ◌<◌, ◌≤◌, ◌==◌, ◌&&◌, ◌||◌, ◌⊎◌, inl, inr, ⊎_elim, not, Bool, true, false, if◌then◌else◌, List, [], ◌∷◌, ◌++◌, map, slice_get, Some, refl, sym, ◌∙◌, ap, subst, arith}
+use Rattle.std.proofs.lemmas.Bool.{and_parts, or_left, or_right, eq-eqb, eqb-true, false≢true}
 use Rattle.std.proofs.lemmas.Option.{same_Some, none-some}
 use Rattle.opt_disk.specs.declared.event.Event.{Event}
 use Rattle.opt_disk.specs.declared.event.Event.TheVariants.{Wrote, Lost, Noticed}
-use Rattle.opt_disk.specs.Cell.{greatest_ticket}
+use Rattle.opt_disk.specs.Cell.{greatest_ticket, is_accepted, IsAccepted}
 use Rattle.opt_crash.specs.HomeTest.{is_one_of}
 use Rattle.opt_crash.specs.Writes.{AddsWrites}
 use Rattle.opt_notes.specs.declared.notes.Note.{Note}
@@ -29,6 +29,27 @@ greatest_last (Wrote u c y ∷ log) t b x = omega (arith, greatest_last log t b 
 greatest_last (Lost c y ∷ log) t b x = greatest_last log t b x
 greatest_last (Noticed u ∷ log) t b x = greatest_last log t b x
 
+-- The tickets of accepted writes.
+
+-- one of two
+pub one_or : (x y : Bool) → (x || y) ≡ true → (x ≡ true) ⊎ (y ≡ true)
+one_or true y e = inl refl
+one_or false y e = inr e
+
+-- those of a log stay so
+pub accepted_more : (t : ℕ) (log more : List Event) → IsAccepted t log → IsAccepted t (log ++ more)
+accepted_more t [] more e = absurd (false≢true e)
+accepted_more t (Wrote u b x ∷ log) more e = ⊎_elim (λ own. or_left (u == t) (is_accepted t (log ++ more)) own) (λ rest. or_right (u == t) (is_accepted t (log ++ more)) (accepted_more t log more rest)) (one_or (u == t) (is_accepted t log) e)
+accepted_more t (Lost b x ∷ log) more e = accepted_more t log more e
+accepted_more t (Noticed u ∷ log) more e = accepted_more t log more e
+
+-- and so is the last write
+pub accepted_last : (log : List Event) (t b : ℕ) (x : List ℕ) → IsAccepted t (log ++ Wrote t b x ∷ [])
+accepted_last [] t b x = or_left (t == t) false (eq-eqb t t refl)
+accepted_last (Wrote u c y ∷ log) t b x = or_right (u == t) (is_accepted t (log ++ Wrote t b x ∷ [])) (accepted_last log t b x)
+accepted_last (Lost c y ∷ log) t b x = accepted_last log t b x
+accepted_last (Noticed u ∷ log) t b x = accepted_last log t b x
+
 -- a ticket that isn't one of a list, by a contradiction
 pub not_one : (t : ℕ) (ts : List ℕ) → (is_one_of t ts ≡ true → ⊥) → is_one_of t ts ≡ false
 not_one t ts never = by (is_one_of t ts) refl
@@ -39,7 +60,7 @@ not_one t ts never = by (is_one_of t ts) refl
 
 -- the tickets of writes that were made one by one are new
 pub new_tickets : (ws : List (ℕ × List ℕ)) (ts : List ℕ) (old new : List Event) → AddsWrites ws ts old new → AreNewTickets old new ts
-new_tickets [] [] old new adds = record { above = λ t own. absurd (false≢true own); upto = λ t own. absurd (false≢true own); grows = omega (arith, ap greatest_ticket adds) }
+new_tickets [] [] old new adds = record { above = λ t own. absurd (false≢true own); upto = λ t own. absurd (false≢true own); grows = omega (arith, ap greatest_ticket adds); given = λ t own. absurd (false≢true own); stays = λ t is. subst (λ (l : List Event). IsAccepted t l) (sym adds) is }
 new_tickets [] (u ∷ us) old new adds = absurd adds
 new_tickets (w ∷ ws) [] old new adds = absurd adds
 new_tickets (w ∷ ws) (u ∷ us) old new adds =
@@ -51,11 +72,17 @@ new_tickets (w ∷ ws) (u ∷ us) old new adds =
     one above more last rest t true same own = (omega (arith, above, eqb-true u t same), omega (arith, eqb-true u t same, last, rest.grows))
     one above more last rest t false same own = (omega (arith, more, rest.above t own), rest.upto t own)
 
+    first : AreNewTickets (old ++ Wrote u w.0 w.1 ∷ []) new us → (t : ℕ) (v : Bool) → (u == t) ≡ v → (if v then true else is_one_of t us) ≡ true → IsAccepted t new
+    first rest t true same own = rest.stays t (subst (λ n. IsAccepted n (old ++ Wrote u w.0 w.1 ∷ [])) (eqb-true u t same) (accepted_last old u w.0 w.1))
+    first rest t false same own = rest.given t own
+
     by : greatest_ticket old < u → greatest_ticket old ≤ greatest_ticket (old ++ Wrote u w.0 w.1 ∷ []) → u ≤ greatest_ticket (old ++ Wrote u w.0 w.1 ∷ []) → AreNewTickets (old ++ Wrote u w.0 w.1 ∷ []) new us → AreNewTickets old new (u ∷ us)
     by above more last rest = record {
       above = λ t own. (one above more last rest t (u == t) refl own).0;
       upto = λ t own. (one above more last rest t (u == t) refl own).1;
       grows = omega (arith, more, rest.grows);
+      given = λ t own. first rest t (u == t) refl own;
+      stays = λ t is. rest.stays t (accepted_more t old (Wrote u w.0 w.1 ∷ []) is);
     }
 
 -- Tickets that leave the notes.

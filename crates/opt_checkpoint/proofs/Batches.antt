@@ -16,7 +16,7 @@ use Rattle.opt_checkpoint.specs.Agree.{PipelineAgrees, AreExpectedHome, AreNewTi
 use Rattle.opt_checkpoint.specs.HomeState.{HomeState, with_homes}
 use Rattle.opt_checkpoint.specs.Turns.{BeginsBatch}
 use Rattle.opt_checkpoint.proofs.Lists.{choose_true}
-use Rattle.opt_checkpoint.proofs.Apart.{not_old, one_of_home, new_tickets}
+use Rattle.opt_checkpoint.proofs.Apart.{not_old, one_of_home, one_or, new_tickets}
 use Rattle.opt_checkpoint.proofs.Expected.{ExpectMore, are_more, with_old}
 
 module _ (base : Blocks) (old new : List Event) (l : Ledger) (v : Pipeline) (ring : RingPlaces) (waiting : List (ℕ × ℕ)) (taken : List ℕ) (a : PipelineAgrees base old l v ring waiting taken)
@@ -68,6 +68,7 @@ module _ (base : Blocks) (old new : List Event) (l : Ledger) (v : Pipeline) (rin
     committed_at = a.committed_at;
     agree = subst (Rattle.opt_crash.specs.PipelineData.DataAgree base new l) data_is home.agree;
     notes = λ t seen. stays t (a.notes t (sym (e.noticed t) ∙ seen));
+    given = λ t seen. ⊎_elim (λ own. fresh.given t own) (λ was. fresh.stays t (a.given t was)) (one_or (is_one_of t (map home_ticket w.home.items)) (is_expected t v.notes.notes) (sym (e.expected t) ∙ seen));
     expected = record {
       records = λ k c is. are_more c.tickets.items v.notes.notes w.notes.notes expect (a.expected.records k c is);
       home = expected;

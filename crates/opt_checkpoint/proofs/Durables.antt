@@ -12,7 +12,7 @@ use Rattle.opt_crash.specs.HomeTest.{is_one_of}
 use Rattle.opt_crash.specs.OnePending.{HasOnePending, MayWriteAllFresh}
 use Rattle.opt_crash.specs.PipelineData.{PipelineData, DataAgree, AllNoticed, AreNewlyNoticed, SameNewTickets, with_tickets}
 use Rattle.opt_notes.specs.declared.notes.Note.{Note}
-use Rattle.opt_notes.specs.Notes.{Expected, is_noticed, are_noticed, is_among}
+use Rattle.opt_notes.specs.Notes.{Expected, is_expected, is_noticed, are_noticed, is_among}
 use Rattle.opt_tx.specs.declared.put.Put.{Put}
 use Rattle.opt_tx.specs.Rows.{put_of}
 use Rattle.opt_tx.specs.declared.commit.Committed.{Committed}
@@ -144,6 +144,7 @@ module _ (base : Blocks) (log : List Event) (l : Ledger) (v : Pipeline) (ring : 
       committed_at = λ k t is. still_at l (l.known + 1) a.freed _ _ t.number t.place t.count t.payloads.items t.fresh.items t.freed.items (omega (arith, counted)) (a.committed_at (suc k) t (committed_is k t is));
       agree = may_go (data_of v ring waiting) (data_of next ring waiting).tickets known_data tickets;
       notes = λ t e. a.notes t (and_parts (not (is_among t c.tickets.items)) (is_noticed t v.notes.notes) (sym (gone.noticed t) ∙ e)).1;
+      given = λ t e. a.given t (and_parts (not (is_among t c.tickets.items)) (is_expected t v.notes.notes) (sym (gone.expected t) ∙ e)).1;
       expected = record {
         records = λ k t is. still_all t.tickets.items c.tickets.items v.notes.notes ns.notes gone.expected (apart_back c.tickets.items t.tickets.items (a.apart.records 0 (suc k) c t (omega arith) first_is (committed_is k t is))) (a.expected.records (suc k) t (committed_is k t is));
         home = λ k h is. still_one h.ticket c.tickets.items v.notes.notes ns.notes gone.expected (a.apart.beside 0 h.ticket c first_is (inl (k, h, is, refl))) (a.expected.home k h is);

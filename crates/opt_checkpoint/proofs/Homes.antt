@@ -122,6 +122,7 @@ module _ (base : Blocks) (log : List Event) (l : Ledger) (v : Pipeline) (ring : 
     committed_at = λ k t is. moved (durable_count v + k) (durable_count at_home + k) t.number t.place t.count t.payloads.items t.fresh.items t.freed.items (omega (arith, counted)) (a.committed_at k t is);
     agree = data_is;
     notes = λ t seen. a.notes t (and_parts (not (is_among t (map home_ticket v.home.items))) (is_noticed t v.notes.notes) (sym (e.forgets.noticed t) ∙ seen)).1;
+    given = λ t seen. a.given t (and_parts (not (is_among t (map home_ticket v.home.items))) (is_expected t v.notes.notes) (sym (e.forgets.expected t) ∙ seen)).1;
     expected = record {
       records = λ k c is. still_all c.tickets.items (map home_ticket v.home.items) v.notes.notes w.notes.notes e.forgets.expected (stays_record k c is) (a.expected.records k c is);
       home = λ k h is. absurd (none-some h (sym (ap (λ (hw : List HomeWrite). slice_get hw k) e.home) ∙ is));

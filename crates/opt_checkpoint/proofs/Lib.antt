@@ -35,6 +35,7 @@ pub mod Payloads
 pub mod Told
 pub mod HeaderTurns
 pub mod Placing
+pub mod Polled
 pub mod NotesRoom
 pub mod BatchEnds
 pub mod RecordSpots
@@ -46,6 +47,7 @@ pub mod Made
 pub mod Same
 pub mod ForwardRight
 pub mod ForwardSound
+pub mod Given
 pub mod DueRows
 pub mod MovesRows
 pub mod Taking

@@ -14,7 +14,7 @@ use Rattle.opt_crash.specs.PipelineData.{PipelineData, DataAgree, data_at_mount}
 use Rattle.opt_crash.specs.Points.{IsMounted, ledger_at_mount}
 use Rattle.opt_crash.specs.Steps.{NoneIsBeingWritten}
 use Rattle.opt_notes.specs.declared.notes.Note.{Note}
-use Rattle.opt_notes.specs.Notes.{is_noticed}
+use Rattle.opt_notes.specs.Notes.{is_expected, is_noticed}
 use Rattle.opt_tx.specs.declared.commit.Committed.{Committed}
 use Rattle.opt_tx.specs.declared.states.Durable.{Durable}
 use Rattle.opt_tx.specs.declared.states.Sure.{Sure}
@@ -65,6 +65,9 @@ module _ (g : Geometry) (h : Header) (slot : ℕ) (v : Pipeline) (e : HasNoRecor
     unnoticed : (t : ℕ) → is_noticed t v.notes.notes ≡ true → ⊥
     unnoticed t is = false≢true (sym (ap (λ (ns : List Note). is_noticed t ns) e.notes) ∙ is)
 
+    unexpected : (t : ℕ) → is_expected t v.notes.notes ≡ true → ⊥
+    unexpected t is = false≢true (sym (ap (λ (ns : List Note). is_expected t ns) e.notes) ∙ is)
+
     unpending : {A : Type 0} (q : Pending) → v.next ≡ Some q → A
     unpending q is = absurd (none-some q (sym e.next ∙ is))
 
@@ -88,6 +91,7 @@ module _ (g : Geometry) (h : Header) (slot : ℕ) (v : Pipeline) (e : HasNoRecor
       committed_at = λ k t is. absurd (in_none v.committed.items k t e.committed is);
       agree = subst (DataAgree base log l) same_data agree;
       notes = λ t is. absurd (unnoticed t is);
+      given = λ t is. absurd (unexpected t is);
       expected = record {
         records = λ k c is. absurd (in_none v.committed.items k c e.committed is);
         home = λ k w is. absurd (in_none v.home.items k w e.home is);

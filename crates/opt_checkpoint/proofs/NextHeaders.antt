@@ -1,11 +1,11 @@
 -- The next header is written beside the durable one.
 use Rattle.std.proofs.Common.{◌≡◌, ◌≢◌, inl, ⊎_elim, ℕ, ◌+◌, ◌-◌, ◌<◌, ◌≤◌, ◌%◌, ◌==◌, ◌||◌, true, List, [], ◌∷◌, ◌++◌, length, Some, refl, sym, ◌∙◌, subst, ap, arith}
-use Rattle.std.proofs.lemmas.Bool.{eq-eqb}
+use Rattle.std.proofs.lemmas.Bool.{eq-eqb, eqb-true}
 use Rattle.std.proofs.lemmas.Option.{same_Some}
 use Rattle.opt_base.specs.Seal.{Blocks}
 use Rattle.opt_disk.specs.declared.event.Event.{Event}
 use Rattle.opt_disk.specs.declared.event.Event.TheVariants.{Wrote}
-use Rattle.opt_disk.specs.Cell.{cell_of, greatest_ticket}
+use Rattle.opt_disk.specs.Cell.{cell_of, greatest_ticket, IsAccepted}
 use Rattle.opt_geom.specs.Geometry.{ring_block}
 use Rattle.opt_journal.specs.declared.header.Header.{Header}
 use Rattle.opt_journal.specs.Ring.{RingPlaces}
@@ -17,7 +17,7 @@ use Rattle.opt_notes.specs.Notes.{Expected, is_expected, is_noticed}
 use Rattle.opt_checkpoint.specs.declared.pipeline.Pending.{Pending}
 use Rattle.opt_checkpoint.specs.declared.pipeline.Pipeline.{Pipeline}
 use Rattle.opt_checkpoint.specs.Agree.{PipelineAgrees, IsRecordAt, data_of}
-use Rattle.opt_checkpoint.proofs.Apart.{greatest_more, greatest_last, not_old}
+use Rattle.opt_checkpoint.proofs.Apart.{accepted_last, accepted_more, greatest_more, greatest_last, not_old, one_or}
 use Rattle.opt_checkpoint.proofs.Expected.{are_more, home_more, with_one, with_old}
 use Rattle.opt_checkpoint.proofs.Notices.{noticed_before}
 
@@ -58,6 +58,7 @@ module _ (base : Blocks) (log : List Event) (l : Ledger) (v : Pipeline) (ring : 
     committed_at = λ k s is. moved l header a.freed _ s.number s.place s.count s.payloads.items s.fresh.items s.freed.items (a.committed_at k s is);
     agree = agree;
     notes = λ u e. noticed_before u log (Wrote t (1 - l.slot) x) (a.notes u (sym (quiet u) ∙ e));
+    given = λ u e. ⊎_elim (λ own. subst (λ n. IsAccepted n (log ++ Wrote t (1 - l.slot) x ∷ [])) (eqb-true t u own) (accepted_last log t (1 - l.slot) x)) (λ was. accepted_more u log (Wrote t (1 - l.slot) x ∷ []) (a.given u was)) (one_or (t == u) (is_expected u v.notes.notes) (sym (expect u) ∙ e));
     expected = record {
       records = λ k c is. are_more c.tickets.items v.notes.notes notes.notes more (a.expected.records k c is);
       home = home_more v.home.items v.notes.notes notes.notes more a.expected.home;

@@ -123,7 +123,7 @@ polls_step p k = ap (λ n. after_calls n p) (s k)
 -- one poll more, which may have failed
 pub polls_on : (failed : Bool) (k : ℕ) (a b c : State) → Spends false 0 k a b → OnlyPolls failed b c → Spends failed 0 (k + 1) a c
 polls_on failed k a b c one two = record {
-  same = record { blocks = two.same.blocks ∙ one.same.blocks; base = two.same.base ∙ one.same.base };
+  same = record { blocks = two.same.blocks ∙ one.same.blocks; base = two.same.base ∙ one.same.base; manner = two.same.manner ∙ one.same.manner };
   faults = two.faults ∙ ap (after_call failed) one.faults;
   read_faults = two.read_faults ∙ one.read_faults;
   waits = two.waits ∙ one.waits;

@@ -5,7 +5,7 @@ use Rattle.std.proofs.lemmas.Option.{same_Some, none-some}
 use Rattle.opt_base.specs.Seal.{Blocks}
 use Rattle.opt_disk.specs.declared.event.Event.{Event}
 use Rattle.opt_disk.specs.declared.event.Event.TheVariants.{Wrote, Lost, Noticed}
-use Rattle.opt_disk.specs.Cell.{cell_of, greatest_ticket, IsNoticed}
+use Rattle.opt_disk.specs.Cell.{cell_of, greatest_ticket, IsAccepted, IsNoticed}
 use Rattle.opt_disk.specs.Disk.{AddsPoll}
 use Rattle.opt_journal.specs.Ring.{RingPlaces}
 use Rattle.opt_crash.specs.Ledger.{Ledger}
@@ -17,7 +17,7 @@ use Rattle.opt_notes.specs.Notes.{Expected, is_expected, is_noticed}
 use Rattle.opt_checkpoint.specs.declared.pipeline.Pipeline.{Pipeline}
 use Rattle.opt_checkpoint.specs.Agree.{PipelineAgrees, NotesAreTrue, data_of}
 use Rattle.opt_checkpoint.specs.Steps.{TakesOne}
-use Rattle.opt_checkpoint.proofs.Apart.{greatest_more, apart_on}
+use Rattle.opt_checkpoint.proofs.Apart.{accepted_more, greatest_more, apart_on}
 use Rattle.opt_checkpoint.proofs.Expected.{expected_with, same_more}
 
 or_right : (p q : Bool) → q ≡ true → (p || q) ≡ true
@@ -60,8 +60,8 @@ with_notes v notes = record v { notes = notes }
 
 module _ (base : Blocks) (log new : List Event) (l : Ledger) (v : Pipeline) (ring : RingPlaces) (waiting : List (ℕ × ℕ)) (taken : List ℕ) (a : PipelineAgrees base log l v ring waiting taken) where
   pub moved : (notes : Expected) → DataAgree base new l (data_of v ring waiting) → NoneIsBeingWritten (cell_of base new) l → HasOnePending base new l (data_of v ring waiting) [] → NotesAreTrue new notes.notes → ((u : ℕ) → is_expected u notes.notes ≡ is_expected u v.notes.notes)
-      → MayWriteAllFresh new l (data_of v ring waiting) taken → greatest_ticket log ≤ greatest_ticket new → PipelineAgrees base new l (with_notes v notes) ring waiting taken
-  moved notes agree idle one true_now same free grows = record {
+      → MayWriteAllFresh new l (data_of v ring waiting) taken → greatest_ticket log ≤ greatest_ticket new → ((u : ℕ) → IsAccepted u log → IsAccepted u new) → PipelineAgrees base new l (with_notes v notes) ring waiting taken
+  moved notes agree idle one true_now same free grows stays = record {
     geom = a.geom;
     ring_geom = a.ring_geom;
     slot = a.slot;
@@ -80,6 +80,7 @@ module _ (base : Blocks) (log new : List Event) (l : Ledger) (v : Pipeline) (rin
     committed_at = a.committed_at;
     agree = agree;
     notes = true_now;
+    given = λ u e. stays u (a.given u (sym (same u) ∙ e));
     expected = expected_with v notes (same_more v.notes.notes notes.notes same) a.expected;
     apart = apart_on log new v notes grows a.apart;
     idle = idle;
@@ -101,6 +102,7 @@ module _ (base : Blocks) (log new : List Event) (l : Ledger) (v : Pipeline) (rin
       same
       (subst (λ (lg : List Event). MayWriteAllFresh lg l (data_of v ring waiting) taken) (sym is) (free log (Noticed t ∷ []) l (data_of v ring waiting) taken a.free))
       (subst (λ (lg : List Event). greatest_ticket log ≤ greatest_ticket lg) (sym is) (greatest_more log (Noticed t ∷ [])))
+      (λ u given. subst (λ (lg : List Event). IsAccepted u lg) (sym is) (accepted_more u log (Noticed t ∷ []) given))
 
 -- under other names of the disk's base and log
 pub agrees_moved : (base base2 : Blocks) (log new : List Event) (l : Ledger) (v : Pipeline) (ring : RingPlaces) (waiting : List (ℕ × ℕ)) (taken : List ℕ) → base2 ≡ base → new ≡ log → PipelineAgrees base log l v ring waiting taken → PipelineAgrees base2 new l v ring waiting taken

@@ -253,6 +253,7 @@ module _ (v w : Pipeline) (s : SamePipeline v w) where
     committed_at = λ k t is. subst (λ n. IsRecordAt l a.freed (n + k) t.number t.place t.count t.payloads.items t.fresh.items t.freed.items) (sym known_same) (a.committed_at k t (in_old w.committed.items v.committed.items k t s.committed is));
     agree = subst (DataAgree base log l) (data_same ring waiting) a.agree;
     notes = λ t e. a.notes t (ap (is_noticed t) (sym s.notes) ∙ e);
+    given = λ t e. a.given t (ap (is_expected t) (sym s.notes) ∙ e);
     expected = record {
       records = λ k c is. ap (are_expected c.tickets.items) s.notes ∙ a.expected.records k c (in_old w.committed.items v.committed.items k c s.committed is);
       home = λ k h is. ap (is_expected h.ticket) s.notes ∙ a.expected.home k h (in_old w.home.items v.home.items k h s.home is);

@@ -21,7 +21,7 @@ calls_add (suc k) m n = ap next_count (calls_add k m n) ∙ ap (λ i. after_call
 -- calls that succeeded, and calls that may have failed
 pub spends_on : (failed : Bool) (m k m2 k2 : ℕ) (a b c : State) → Spends false m k a b → Spends failed m2 k2 b c → Spends failed (m2 + m) (k2 + k) a c
 spends_on failed m k m2 k2 a b c one two = record {
-  same = record { blocks = two.same.blocks ∙ one.same.blocks; base = two.same.base ∙ one.same.base };
+  same = record { blocks = two.same.blocks ∙ one.same.blocks; base = two.same.base ∙ one.same.base; manner = two.same.manner ∙ one.same.manner };
   faults = two.faults ∙ ap (after_call failed) one.faults;
   read_faults = two.read_faults ∙ one.read_faults;
   waits = two.waits ∙ ap (after_calls m2) one.waits ∙ calls_add m2 m a.waits;
@@ -32,7 +32,7 @@ pub waits_on : (failed : Bool) (a b c : State) → WaitsSome false a b → Waits
 waits_on failed a b c one two = record { made = two.made + one.made; spends = spends_on failed one.made 0 two.made 0 a b c one.spends two.spends }
 
 pub no_waits : (a : State) → WaitsSome false a a
-no_waits a = record { made = 0; spends = record { same = record { blocks = refl; base = refl }; faults = refl; read_faults = refl; waits = refl; polls = refl } }
+no_waits a = record { made = 0; spends = record { same = record { blocks = refl; base = refl; manner = refl }; faults = refl; read_faults = refl; waits = refl; polls = refl } }
 
 pub notices_on : (a b c : List Event) → OnlyNotices a b → OnlyNotices b c → OnlyNotices a c
 notices_on a b c one two = record { tickets = one.tickets ++ two.tickets; log = log_more one.tickets two.tickets a b c one.log two.log }
@@ -48,3 +48,8 @@ failed_waits (Err x) a b e w = w
 pub on_ok : {A E : Type 0} {P Q : Type 0} (r : Result A E) → Rattle.std.proofs.Common.OnOk r P → (P → Q) → Rattle.std.proofs.Common.OnOk r Q
 on_ok (Ok a) p f = f p
 on_ok (Err e) p f = tt
+
+-- what holds where a call failed
+pub on_err : {A E : Type 0} {P : Type 0} (r : Result A E) → P → Rattle.std.proofs.Common.OnErr r P
+on_err (Ok a) p = tt
+on_err (Err e) p = p

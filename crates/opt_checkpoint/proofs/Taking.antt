@@ -97,6 +97,7 @@ agrees_taken base log l v ring waiting taken now a may = record {
   committed_at = a.committed_at;
   agree = a.agree;
   notes = a.notes;
+  given = a.given;
   expected = a.expected;
   apart = a.apart;
   idle = a.idle;

@@ -190,6 +190,7 @@ module _ (base : Blocks) (log : List Event) (l : Ledger) (v : Pipeline) (ring : 
       committed_at = λ k t is. shift a.freed (durable_count v + k) (durable_count turned + k) t.number t.place t.count t.payloads.items t.fresh.items t.freed.items (omega (arith, counted, gone_placed)) (a.committed_at k t is);
       agree = data_is;
       notes = λ t e. a.notes t (and_parts (not (is_among t (q.ticket ∷ []))) (is_noticed t v.notes.notes) (sym (forgets.noticed t) ∙ e)).1;
+      given = λ t e. a.given t (and_parts (not (is_among t (q.ticket ∷ []))) (is_expected t v.notes.notes) (sym (forgets.expected t) ∙ e)).1;
       expected = record {
         records = λ k c is. still_all c.tickets.items (q.ticket ∷ []) v.notes.notes notes.notes forgets.expected (apart_back (q.ticket ∷ []) c.tickets.items (own_apart k c is)) (a.expected.records k c is);
         home = λ k w is. still_one w.ticket (q.ticket ∷ []) v.notes.notes notes.notes forgets.expected (not_one w.ticket (q.ticket ∷ []) (λ same. a.apart.header_apart q is_next k w is (sym (one_alone q.ticket w.ticket same)))) (a.expected.home k w is);

@@ -4,7 +4,7 @@ use Rattle.std.proofs.lemmas.Bool.{eqb-true, and_parts}
 use Rattle.opt_base.specs.Seal.{Blocks}
 use Rattle.opt_disk.specs.declared.event.Event.{Event}
 use Rattle.opt_disk.specs.declared.event.Event.TheVariants.{Noticed}
-use Rattle.opt_disk.specs.Cell.{cell_of, greatest_ticket, IsNoticed, notices}
+use Rattle.opt_disk.specs.Cell.{cell_of, greatest_ticket, IsAccepted, IsNoticed, notices}
 use Rattle.opt_journal.specs.Ring.{RingPlaces}
 use Rattle.opt_crash.specs.Ledger.{Ledger}
 use Rattle.opt_crash.specs.Steps.{NoneIsBeingWritten}
@@ -13,7 +13,7 @@ use Rattle.opt_crash.specs.PipelineData.{PipelineData, DataAgree}
 use Rattle.opt_notes.specs.Notes.{Expected, is_expected, is_noticed}
 use Rattle.opt_checkpoint.specs.declared.pipeline.Pipeline.{Pipeline}
 use Rattle.opt_checkpoint.specs.Agree.{PipelineAgrees, data_of}
-use Rattle.opt_checkpoint.proofs.Apart.{greatest_more}
+use Rattle.opt_checkpoint.proofs.Apart.{accepted_more, greatest_more}
 use Rattle.opt_checkpoint.proofs.Notices.{moved, noticed_before, with_notes}
 
 -- what one notice keeps, a row of them keeps
@@ -41,3 +41,4 @@ module _ (base : Blocks) (log new : List Event) (l : Ledger) (v : Pipeline) (rin
       same
       (subst (λ (lg : List Event). MayWriteAllFresh lg l (data_of v ring waiting) taken) (sym is) (free log (notices ts) l (data_of v ring waiting) taken a.free))
       (subst (λ (lg : List Event). greatest_ticket log ≤ greatest_ticket lg) (sym is) (greatest_more log (notices ts)))
+      (λ u given. subst (λ (lg : List Event). IsAccepted u lg) (sym is) (accepted_more u log (notices ts) given))

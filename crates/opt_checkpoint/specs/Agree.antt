@@ -2,7 +2,7 @@
 use Rattle.std.specs.Prelude.{◌≡◌, ◌≢◌, ◌⊎◌, ℕ, zero, suc, ◌+◌, ◌<◌, ◌≤◌, nat_lt, true, false, IsTrue, if◌then◌else◌, List, [], ◌∷◌, ◌++◌, length, map, slice_get, Some, option_map}
 use Rattle.opt_base.specs.Seal.{Blocks}
 use Rattle.opt_disk.specs.declared.event.Event.{Event}
-use Rattle.opt_disk.specs.Cell.{cell_of, greatest_ticket, IsNoticed}
+use Rattle.opt_disk.specs.Cell.{cell_of, greatest_ticket, IsAccepted, IsNoticed}
 use Rattle.opt_journal.specs.declared.header.Header.{Header}
 use Rattle.opt_journal.specs.Ring.{RingPlaces}
 use Rattle.opt_geom.specs.Geometry.{data_start}
@@ -81,6 +81,10 @@ pub record IsRecordAt (l : Ledger) (freed : List (List ℕ)) (k number place cou
 abbrev pub NotesAreTrue : List Event → List Note → Type 0
 NotesAreTrue log notes = (t : ℕ) → is_noticed t notes ≡ true → IsNoticed t log
 
+-- each ticket that the notes expect is of a write that the disk accepted
+abbrev pub NotesAreGiven : List Event → List Note → Type 0
+NotesAreGiven log notes = (t : ℕ) → is_expected t notes ≡ true → IsAccepted t log
+
 -- these are the blocks that the next record frees, where m is the map after it: each data block that it kills is among them, and each of them is dead after it
 pub record HasFreed (l : Ledger) (m : Blocks) (freed : List ℕ) : Type 0 where
   pub killed : (b : ℕ) → data_start l.geom ≤ b → IsTrue (is_live l.geom (l.map_before (next_number l)) b) → is_live l.geom m b ≡ false → is_one_of b freed ≡ true
@@ -104,11 +108,13 @@ pub record OpenAreExpected (v : Pipeline) : Type 0 where
 abbrev pub AreApart : List ℕ → List ℕ → Type 0
 AreApart ts us = (t : ℕ) → is_one_of t ts ≡ true → is_one_of t us ≡ false
 
--- these tickets were given since: they are above the greatest of the old log, and none is above that of the new one
+-- these tickets were given since: they are above the greatest of the old log, and none is above that of the new one, which has their writes and those of the old log
 pub record AreNewTickets (old new : List Event) (ts : List ℕ) : Type 0 where
   pub above : (t : ℕ) → is_one_of t ts ≡ true → greatest_ticket old < t
   pub upto : (t : ℕ) → is_one_of t ts ≡ true → t ≤ greatest_ticket new
   pub grows : greatest_ticket old ≤ greatest_ticket new
+  pub given : (t : ℕ) → is_one_of t ts ≡ true → IsAccepted t new
+  pub stays : (t : ℕ) → IsAccepted t old → IsAccepted t new
 
 -- the ticket is open and no committed record's: it is that of a checkpoint write, or of the header that isn't known to be durable
 abbrev pub IsOpenBeside : Pipeline → ℕ → Type 0
@@ -145,6 +151,7 @@ pub record PipelineAgrees (base : Blocks) (log : List Event) (l : Ledger) (v : P
   -- tickets, the batch's writes, the ring and the freed blocks, for crashes
   pub agree : DataAgree base log l (data_of v ring waiting)
   pub notes : NotesAreTrue log v.notes.notes
+  pub given : NotesAreGiven log v.notes.notes
   pub expected : OpenAreExpected v
   pub apart : OpenAreApart log v
   -- no record is under way, and no block has two writes pending

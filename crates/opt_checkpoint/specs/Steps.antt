@@ -1,10 +1,11 @@
 -- What the pipeline's calls make of it, in terms of its own lists: a commit joins, the oldest record becomes durable, notices are taken. It is described in docs/PIPELINE.md.
-use Rattle.std.specs.Prelude.{◌≡◌, ◌⊎◌, ⊤, ℕ, ◌+◌, ◌-◌, ◌≤◌, min, max, ◌||◌, ◌&&◌, Bool, true, false, List, [], ◌∷◌, ◌++◌, length, drop, None, Result, Ok, Err, OnOk}
+use Rattle.std.specs.Prelude.{◌≡◌, ◌⊎◌, ⊤, ℕ, ◌+◌, ◌-◌, ◌≤◌, min, max, ◌||◌, ◌&&◌, Bool, true, false, IsTrue, List, [], ◌∷◌, ◌++◌, length, drop, Option, Some, None, Result, Ok, Err, OnOk, is_ok}
 use Rattle.opt_base.specs.Seal.{Blocks}
 use Rattle.opt_disk.specs.declared.event.Event.{Event}
 use Rattle.opt_disk.specs.Cell.{notices}
 use Rattle.opt_base.specs.Counts.{after_calls}
 use Rattle.opt_disk.specs.Disk.{State, Spends}
+use Rattle.opt_disk.specs.Manner.{Polled, after_polls}
 use Rattle.opt_geom.specs.Geometry.{Geometry}
 use Rattle.opt_journal.specs.declared.header.Header.{Header}
 use Rattle.opt_journal.specs.Ring.{RingPlaces}
@@ -48,6 +49,22 @@ pub record TakesNotices {A E : Type 0} (result : Result A E) (v w : Pipeline) (o
   pub log : new.log ≡ old.log ++ notices tickets
   pub notes : TakesAll tickets v.notes.notes w.notes.notes
   pub polls : OnOk result (new.polls ≡ after_calls (min 64 (length tickets + 1)) old.polls)
+
+-- where it was known what the poll answers, it gave this: a ticket, whose notice is in the log, or none
+abbrev pub TakesAnswer : {E : Type 0} → Option (Option ℕ) → Result Bool E → List Event → List Event → Type 0
+TakesAnswer None r old new = Unit {0}
+TakesAnswer (Some None) r old new = (r ≡ Ok false) × (new ≡ old)
+TakesAnswer (Some (Some t)) r old new = (r ≡ Ok true) × (new ≡ old ++ notices (t ∷ []))
+
+-- no poll failed, and polls and log are these
+pub record HasPolled {A E : Type 0} (r : Result A E) (new : State) (p : Polled) : Type 0 where
+  pub done : IsTrue (is_ok r)
+  pub polls : new.polls ≡ p.polls
+  pub log : new.log ≡ p.log
+
+-- where it was known what 64 polls answer, none of them failed, and polls and log are those after them
+abbrev pub TakesKnown : {A E : Type 0} → Result A E → State → State → Type 0
+TakesKnown r old new = (p : Polled) → after_polls old.manner 64 old.polls old.log ≡ Some p → HasPolled r new p
 
 -- there is a committed record, and none of the oldest one's tickets is open
 abbrev pub is_first_settled : List Committed → List Note → Bool

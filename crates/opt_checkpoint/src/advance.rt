@@ -1,15 +1,15 @@
 //! The pipeline's whole step, in its order, and the calls made of it: the step after the notices that have come, and
 //! the rounds of waits that bring every record to its end. What a single step does is the other modules' matter.
 
-ghost use Rattle.std.specs.Prelude.{◌≡◌, ◌≤◌, ◌<◌, ◌+◌, ◌++◌, ◌∷◌, ◌^◌, [], ℕ, List, length, false, vec_len, vec_capacity, IsTrue, OnOk, is_err};
+ghost use Rattle.std.specs.Prelude.{◌≡◌, ◌≤◌, ◌<◌, ◌+◌, ◌++◌, ◌∷◌, ◌^◌, [], ℕ, List, length, false, vec_len, vec_capacity, IsTrue, OnOk, OnErr, is_err};
 ghost use Rattle.opt_base.specs.Seal.{Blocks};
 ghost use Rattle.opt_disk.specs.declared.event.Event.{Event};
-ghost use Rattle.opt_disk.specs.Disk.{State, OnlyWrites, writes_in};
+ghost use Rattle.opt_disk.specs.Disk.{State, HasFailed, OnlyWrites, PollsFirst, writes_in};
 ghost use Rattle.opt_journal.specs.Ring.{RingPlaces};
 ghost use Rattle.opt_crash.specs.Ledger.{Ledger};
 ghost use Rattle.opt_crash.specs.Points.{MountedSession, IsSafe};
 ghost use Rattle.opt_checkpoint.specs.Adds.{AddsHome, LosesFront};
-ghost use Rattle.opt_checkpoint.specs.Agree.{PipelineAgrees, durable_count};
+ghost use Rattle.opt_checkpoint.specs.Agree.{NotesAreGiven, PipelineAgrees, durable_count};
 ghost use Rattle.opt_checkpoint.specs.Bytes.{LeavesBytes};
 ghost use Rattle.opt_reuse.specs.Dead.{DeadBlocks};
 ghost use Rattle.opt_checkpoint.specs.Kept.{kept};
@@ -62,6 +62,8 @@ impl Pipeline {
         ensures front { LosesFront (kept self.old) (kept self.new) }
         ensures bytes { IsTrue D.tells → (s : MountedSession) (l : Ledger) (t floor : ℕ) (taken : List ℕ) → IsRightOn s (D.state disk.old) l t floor self.old ring.old reuse.old taken → LeavesBytes l self.old self.new (D.state disk.old) (D.state disk.new) }
         ensures spends { AdvanceSpends result (D.state disk.old) (D.state disk.new) }
+        ensures polled { IsTrue D.tells → PollsFirst (D.state disk.old).manner 64 (D.state disk.old).polls (D.state disk.old).log (D.state disk.new).polls (D.state disk.new).log }
+        ensures cause { IsTrue D.tells → OnErr result (HasFailed (D.state disk.new)) }
     {
         calls_add_at_most_one_write();
         the_newest_payloads_are_the_map();
@@ -92,6 +94,7 @@ impl Pipeline {
         ensures front { LosesFront (kept self.old) (kept self.new) }
         ensures bytes { IsTrue D.tells → (s : MountedSession) (l : Ledger) (t floor : ℕ) (taken : List ℕ) → IsRightOn s (D.state disk.old) l t floor self.old ring.old reuse.old taken → LeavesBytes l self.old self.new (D.state disk.old) (D.state disk.new) }
         ensures spends { WaitsSome (is_err result) (D.state disk.old) (D.state disk.new) }
+        ensures cause { IsTrue D.tells → (s : MountedSession) (l : Ledger) (t floor : ℕ) (taken : List ℕ) → IsRightOn s (D.state disk.old) l t floor self.old ring.old reuse.old taken → OnErr result (HasFailed (D.state disk.new)) }
     {
         calls_change_what_is_dead();
         a_freed_block_waits();
@@ -121,6 +124,7 @@ impl Pipeline {
         ensures owed { writes_owed self.new ≡ writes_owed self.old }
         ensures log { IsTrue D.tells → OnlyNotices (D.state disk.old).log (D.state disk.new).log }
         ensures spends { WaitsSome (is_err result) (D.state disk.old) (D.state disk.new) }
+        ensures cause { IsTrue D.tells → NotesAreGiven (D.state disk.old).log self.old.notes.notes → OnErr result (HasFailed (D.state disk.new)) }
     {
         wait_upto(disk, self, upto)?;
         settle_all(self);
@@ -147,6 +151,7 @@ fn drain_once<D: Disk>(
     ensures front { LosesFront (kept pipeline.old) (kept pipeline.new) }
     ensures bytes { IsTrue D.tells → (s : MountedSession) (l : Ledger) (t floor : ℕ) (taken : List ℕ) → IsRightOn s (D.state disk.old) l t floor pipeline.old ring.old reuse.old taken → LeavesBytes l pipeline.old pipeline.new (D.state disk.old) (D.state disk.new) }
     ensures spends { WaitsSome (is_err result) (D.state disk.old) (D.state disk.new) }
+    ensures cause { IsTrue D.tells → NotesAreGiven (D.state disk.old).log pipeline.old.notes.notes → OnErr result (HasFailed (D.state disk.new)) }
 {
     the_newest_payloads_are_the_map();
     if pipeline.is_empty() {
@@ -176,6 +181,7 @@ fn go_on<D: Disk>(
     ensures front { LosesFront (kept pipeline.old) (kept pipeline.new) }
     ensures bytes { IsTrue D.tells → (s : MountedSession) (l : Ledger) (t floor : ℕ) (taken : List ℕ) → IsRightOn s (D.state disk.old) l t floor pipeline.old ring.old reuse.old taken → LeavesBytes l pipeline.old pipeline.new (D.state disk.old) (D.state disk.new) }
     ensures spends { OnlyWrites (is_err result) (D.state disk.old) (D.state disk.new) }
+    ensures cause { IsTrue D.tells → OnErr result (HasFailed (D.state disk.new)) }
 {
     calls_add_at_most_one_write();
     a_batch_goes_home();

@@ -1,11 +1,11 @@
 //! The batch: sure records whose newest payloads are brought to their blocks. How one block is written there, and
 //! where the newest payload of a block is, are matters of other modules.
 
-ghost use Rattle.std.specs.Prelude.{◌≡◌, ◌≤◌, ◌<◌, ◌+◌, ◌++◌, ◌&&◌, ◌||◌, ℕ, List, [], length, map, take, drop, slice_get, Some, None, IsSome, true, IsTrue, OnOk, is_err, if◌then◌else◌, vec_capacity};
+ghost use Rattle.std.specs.Prelude.{◌≡◌, ◌≤◌, ◌<◌, ◌+◌, ◌++◌, ◌&&◌, ◌||◌, ℕ, List, [], length, map, take, drop, slice_get, Some, None, IsSome, true, IsTrue, OnOk, OnErr, is_err, if◌then◌else◌, vec_capacity};
 ghost use Rattle.std.specs.VecDeque.{deque_len, deque_capacity};
 ghost use Rattle.opt_base.specs.Seal.{Blocks};
 ghost use Rattle.opt_disk.specs.declared.event.Event.{Event};
-ghost use Rattle.opt_disk.specs.Disk.{OnlyWrites, writes_in};
+ghost use Rattle.opt_disk.specs.Disk.{HasFailed, OnlyWrites, writes_in};
 ghost use Rattle.opt_journal.specs.Ring.{RingPlaces};
 ghost use Rattle.opt_crash.specs.HomeTest.{is_one_of};
 ghost use Rattle.opt_crash.specs.Ledger.{Ledger};
@@ -93,6 +93,7 @@ pub fn begin_batch<D: Disk>(disk: &mut D, pipeline: &mut Pipeline) -> Result<(),
     ensures open { IsTrue D.tells → is_batch_due pipeline.old ≡ true → NotesAreTrue (D.state disk.old).log pipeline.old.notes.notes → OnOk result (AreOpenHome pipeline.new.home.items pipeline.new.notes.notes) }
     ensures log { IsTrue D.tells → AddsBatch (is_batch_due pipeline.old) result pipeline.old pipeline.new (D.state disk.old).log (D.state disk.new).log }
     ensures spends { OnlyWrites (is_err result) (D.state disk.old) (D.state disk.new) }
+    ensures cause { IsTrue D.tells → OnErr result (HasFailed (D.state disk.new)) }
     ensures order { IsInOrder pipeline.new }
     ensures room { HasRoom pipeline.new }
     ensures owed { IsTrue D.tells → writes_in (D.state disk.new).log + writes_owed pipeline.new ≤ writes_in (D.state disk.old).log + writes_owed pipeline.old }
@@ -182,6 +183,7 @@ fn write_batch<D: Disk>(
         → IsSafe s (D.state disk.new).base (D.state disk.new).log l t floor × OnOk result (HomeState (D.state disk.new).base (D.state disk.new).log l (with_homes p (map home_pair home.new.items) (D.state disk.old).blocks) freed taken) }
     ensures log { IsTrue D.tells → (row : List Put) → IsHomeRow (map of_sure records.now.items) row → map block_of row ≡ blocks.now → AddsAll (map fresh_write row) result [] (map home_ticket home.new.items) (D.state disk.old).log (D.state disk.new).log }
     ensures spends { OnlyWrites (is_err result) (D.state disk.old) (D.state disk.new) }
+    ensures cause { IsTrue D.tells → OnErr result (HasFailed (D.state disk.new)) }
     ensures listed { OnOk result (map home_block home.new.items ≡ blocks.now) }
     ensures few { length home.new.items ≤ length blocks.now }
     ensures home_room { vec_capacity home.old ≤ vec_capacity home.new }

@@ -1,11 +1,11 @@
 //! Headers: the one that was written last becomes the durable one, once its write is noticed, and the next one is
 //! written beside it. How records come so far, and when these steps are made, isn't said here.
 
-ghost use Rattle.std.specs.Prelude.{◌≡◌, ◌≤◌, ◌<◌, ◌+◌, ◌-◌, ◌++◌, ◌^◌, ℕ, List, length, take, drop, map, slice_get, true, false, Some, IsTrue, IsOk, OnOk, is_err};
+ghost use Rattle.std.specs.Prelude.{◌≡◌, ◌≤◌, ◌<◌, ◌+◌, ◌-◌, ◌++◌, ◌^◌, ℕ, List, length, take, drop, map, slice_get, true, false, Some, IsTrue, IsOk, OnOk, OnErr, is_err};
 ghost use Rattle.std.specs.VecDeque.{deque_len, deque_capacity};
 ghost use Rattle.opt_base.specs.Seal.{Blocks};
 ghost use Rattle.opt_disk.specs.declared.event.Event.{Event};
-ghost use Rattle.opt_disk.specs.Disk.{OnlyWrites};
+ghost use Rattle.opt_disk.specs.Disk.{HasFailed, OnlyWrites};
 ghost use Rattle.opt_journal.specs.Ring.{RingPlaces, without_places};
 ghost use Rattle.opt_crash.specs.Ledger.{Ledger};
 ghost use Rattle.opt_crash.specs.Points.{MountedSession, IsSafe};
@@ -139,6 +139,7 @@ pub fn write_next_header<D: Disk>(
     ensures log { IsTrue D.tells → AddsHeader (is_header_due pipeline.old) result pipeline.old pipeline.new ring.now (D.state disk.old).log (D.state disk.new).log }
     ensures stays { is_header_due pipeline.old ≡ false → disk.new ≡ disk.old }
     ensures spends { OnlyWrites (is_err result) (D.state disk.old) (D.state disk.new) }
+    ensures cause { IsTrue D.tells → OnErr result (HasFailed (D.state disk.new)) }
     ensures order { OnOk result (IsInOrder pipeline.new) }
     ensures room { OnOk result (HasRoom pipeline.new) }
     ensures owed { is_header_due pipeline.old ≡ true → writes_owed pipeline.new + 1 ≤ writes_owed pipeline.old }

@@ -2,8 +2,8 @@
 //! these are is said by the test of the crash argument; how code finds them isn't said here, nor when a
 //! batch begins.
 
-ghost use Rattle.std.specs.Prelude.{◌≡◌, ◌≤◌, ◌<◌, ℕ, List, Some, None, IsTrue, is_err};
-ghost use Rattle.opt_disk.specs.Disk.{AddsWrite, OnlyWrites};
+ghost use Rattle.std.specs.Prelude.{◌≡◌, ◌≤◌, ◌<◌, ℕ, List, Some, None, IsTrue, OnErr, is_err};
+ghost use Rattle.opt_disk.specs.Disk.{HasFailed, AddsWrite, OnlyWrites};
 ghost use Rattle.opt_crash.specs.Ledger.{Ledger};
 ghost use Rattle.opt_crash.specs.PipelineData.{PipelineData};
 ghost use Rattle.opt_crash.specs.Points.{MountedSession, IsSafe};
@@ -28,6 +28,7 @@ pub fn write_home<D: Disk>(disk: &mut D, block: u32, bytes: &Block) -> Result<u6
         → HomeWritten s l p freed taken t floor block result (D.state disk.new).base (D.state disk.new).log }
     ensures log { IsTrue D.tells → AddsWrite block bytes.now result (D.state disk.old).log (D.state disk.new).log }
     ensures spends { OnlyWrites (is_err result) (D.state disk.old) (D.state disk.new) }
+    ensures cause { IsTrue D.tells → OnErr result (HasFailed (D.state disk.new)) }
 {
     the_home_test_is_exact();
     counts_tell_the_batch();

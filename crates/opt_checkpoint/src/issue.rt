@@ -3,7 +3,7 @@
 
 ghost use Rattle.std.specs.Prelude.{◌≡◌, ◌≤◌, ◌<◌, ◌+◌, ◌++◌, ◌⊎◌, ◌-◌, ◌^◌, ℕ, List, length, IsTrue, OnOk, OnErr, IfErr, is_err};
 ghost use Rattle.opt_base.specs.Seal.{Blocks};
-ghost use Rattle.opt_disk.specs.Disk.{OnlyWrites};
+ghost use Rattle.opt_disk.specs.Disk.{HasFailed, OnlyWrites};
 ghost use Rattle.opt_journal.specs.Ring.{with_places};
 ghost use Rattle.opt_journal.specs.Run.{places};
 ghost use Rattle.opt_crash.specs.Ledger.{Ledger};
@@ -63,6 +63,7 @@ pub fn commit_next<D: Disk>(
     ensures ring { ring.new ≡ with_places ring.old (places (record_of 0 0 running.paid running.laid)) }
     ensures front { IsTrue D.tells → OnErr result (AddsFront (record_writes ring.old.geom epoch number ring.old.next running.paid running.laid) (D.state disk.old).log (D.state disk.new).log) }
     ensures spends { OnlyWrites (is_err result) (D.state disk.old) (D.state disk.new) }
+    ensures cause { IsTrue D.tells → OnErr result (HasFailed (D.state disk.new)) }
     ensures order { OnOk result (IsInOrder pipeline.new) }
     ensures room { OnOk result (HasRoom pipeline.new) }
     ensures index { OnOk result (IndexIsRight pipeline.new) }

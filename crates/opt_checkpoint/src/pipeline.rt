@@ -2,11 +2,11 @@
 //! write: notices are taken, the oldest record becomes durable, a commit joins. Headers and batches are steps
 //! of other modules.
 
-ghost use Rattle.std.specs.Prelude.{◌≡◌, ◌≤◌, ◌<◌, ◌+◌, ◌||◌, ℕ, List, [], ◌∷◌, ◌++◌, length, IsTrue, if◌then◌else◌, is_err};
+ghost use Rattle.std.specs.Prelude.{◌≡◌, ◌≤◌, ◌<◌, ◌+◌, ◌||◌, ℕ, List, [], ◌∷◌, ◌++◌, length, IsTrue, OnErr, if◌then◌else◌, is_err};
 ghost use Rattle.opt_base.specs.Seal.{Blocks};
 ghost use Rattle.opt_disk.specs.declared.event.Event.{Event};
 ghost use Rattle.opt_disk.specs.Cell.{IsNoticed};
-ghost use Rattle.opt_disk.specs.Disk.{OnlyPolls};
+ghost use Rattle.opt_disk.specs.Disk.{HasFailed, OnlyPolls};
 ghost use Rattle.opt_journal.specs.Ring.{RingPlaces, with_places};
 ghost use Rattle.opt_journal.specs.Run.{places};
 ghost use Rattle.opt_crash.specs.HomeTest.{is_one_of};
@@ -26,7 +26,7 @@ ghost use Rattle.opt_checkpoint.specs.Index.{IndexIsRight};
 ghost use Rattle.opt_checkpoint.specs.Kept.{kept, of_committed, places_taken};
 ghost use Rattle.opt_checkpoint.specs.Order.{IsInOrder, HasRoom, HasPlaces};
 ghost use Rattle.opt_checkpoint.specs.Waits.{HearsMore};
-ghost use Rattle.opt_checkpoint.specs.Steps.{TakesNotices, TakesOne, PollsUpTo, SettlesOrStays, Accepts, is_first_settled, ready_after};
+ghost use Rattle.opt_checkpoint.specs.Steps.{TakesNotices, TakesOne, TakesAnswer, TakesKnown, PollsUpTo, SettlesOrStays, Accepts, is_first_settled, ready_after};
 
 use crate::newest::Newest;
 use opt_crash::{
@@ -108,6 +108,8 @@ pub fn take_notices<D: Disk>(disk: &mut D, pipeline: &mut Pipeline) -> Result<()
     ensures rest { pipeline.new ≡ record pipeline.old { notes = pipeline.new.notes } }
     ensures hears { HearsMore pipeline.old.notes pipeline.new.notes }
     ensures spends { PollsUpTo (is_err result) 64 (D.state disk.old) (D.state disk.new) }
+    ensures polled { IsTrue D.tells → TakesKnown result (D.state disk.old) (D.state disk.new) }
+    ensures cause { IsTrue D.tells → OnErr result (HasFailed (D.state disk.new)) }
 {
     for turn in 0..MOST_NOTICES {
         if !take_notice(disk, pipeline)? {
@@ -125,6 +127,8 @@ fn take_notice<D: Disk>(disk: &mut D, pipeline: &mut Pipeline) -> Result<bool, D
     ensures rest { pipeline.new ≡ record pipeline.old { notes = pipeline.new.notes } }
     ensures hears { HearsMore pipeline.old.notes pipeline.new.notes }
     ensures spends { OnlyPolls (is_err result) (D.state disk.old) (D.state disk.new) }
+    ensures answer { IsTrue D.tells → TakesAnswer ((D.state disk.old).manner.notice (D.state disk.old).polls (D.state disk.old).log) result (D.state disk.old).log (D.state disk.new).log }
+    ensures cause { IsTrue D.tells → OnErr result (HasFailed (D.state disk.new)) }
 {
     nothing_is_written_between_records();
     one_write_is_pending();

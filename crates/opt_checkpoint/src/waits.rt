@@ -1,14 +1,15 @@
 //! Waits for tickets: for all that are open, and for those of the records up to one. Which step comes then isn't
 //! said here.
 
-ghost use Rattle.std.specs.Prelude.{◌≡◌, ◌<◌, ℕ, List, length, slice_get, Some, true, false, IsTrue, OnOk, is_err};
+ghost use Rattle.std.specs.Prelude.{◌≡◌, ◌<◌, ℕ, List, length, slice_get, Some, true, false, IsTrue, OnOk, OnErr, is_err};
+ghost use Rattle.opt_disk.specs.Disk.{HasFailed};
 ghost use Rattle.opt_journal.specs.Ring.{RingPlaces};
 ghost use Rattle.opt_crash.specs.Ledger.{Ledger};
 ghost use Rattle.opt_crash.specs.Points.{MountedSession, IsSafe};
 ghost use Rattle.opt_notes.specs.Notes.{is_noticed, is_open, none_open};
 ghost use Rattle.opt_notes.specs.declared.notes.Note.{Note};
 ghost use Rattle.opt_tx.specs.declared.commit.Committed.{Committed};
-ghost use Rattle.opt_checkpoint.specs.Agree.{PipelineAgrees};
+ghost use Rattle.opt_checkpoint.specs.Agree.{PipelineAgrees, NotesAreGiven};
 ghost use Rattle.opt_checkpoint.specs.Order.{IsInOrder};
 ghost use Rattle.opt_checkpoint.specs.Waits.{AreAllNoticed, HearsMore, AreWaitedFor, OnlyNotices, WaitsSome};
 
@@ -30,6 +31,7 @@ pub fn wait_for_all<D: Disk>(disk: &mut D, pipeline: &mut Pipeline) -> Result<()
     ensures rest { pipeline.new ≡ record pipeline.old { notes = pipeline.new.notes } }
     ensures log { IsTrue D.tells → OnlyNotices (D.state disk.old).log (D.state disk.new).log }
     ensures spends { WaitsSome (is_err result) (D.state disk.old) (D.state disk.new) }
+    ensures cause { IsTrue D.tells → NotesAreGiven (D.state disk.old).log pipeline.old.notes.notes → OnErr result (HasFailed (D.state disk.new)) }
 {
     for at in 0..pipeline.notes.len() {
         wait_for_note(disk, pipeline, at)?;
@@ -46,6 +48,7 @@ fn wait_for_note<D: Disk>(disk: &mut D, pipeline: &mut Pipeline, at: usize) -> R
     ensures rest { pipeline.new ≡ record pipeline.old { notes = pipeline.new.notes } }
     ensures log { IsTrue D.tells → OnlyNotices (D.state disk.old).log (D.state disk.new).log }
     ensures spends { WaitsSome (is_err result) (D.state disk.old) (D.state disk.new) }
+    ensures cause { IsTrue D.tells → NotesAreGiven (D.state disk.old).log pipeline.old.notes.notes → OnErr result (HasFailed (D.state disk.new)) }
 {
     match pipeline.notes.get(at) {
         Some(note) => wait_where_open(disk, pipeline, note.ticket),
@@ -66,6 +69,7 @@ pub fn wait_upto<D: Disk>(disk: &mut D, pipeline: &mut Pipeline, upto: u64) -> R
     ensures rest { pipeline.new ≡ record pipeline.old { notes = pipeline.new.notes } }
     ensures log { IsTrue D.tells → OnlyNotices (D.state disk.old).log (D.state disk.new).log }
     ensures spends { WaitsSome (is_err result) (D.state disk.old) (D.state disk.new) }
+    ensures cause { IsTrue D.tells → NotesAreGiven (D.state disk.old).log pipeline.old.notes.notes → OnErr result (HasFailed (D.state disk.new)) }
 {
     for at in 0..pipeline.committed.len() {
         if upto < pipeline.committed[at].number {
@@ -90,6 +94,7 @@ fn wait_for_record<D: Disk>(
     ensures rest { pipeline.new ≡ record pipeline.old { notes = pipeline.new.notes } }
     ensures log { IsTrue D.tells → OnlyNotices (D.state disk.old).log (D.state disk.new).log }
     ensures spends { WaitsSome (is_err result) (D.state disk.old) (D.state disk.new) }
+    ensures cause { IsTrue D.tells → NotesAreGiven (D.state disk.old).log pipeline.old.notes.notes → OnErr result (HasFailed (D.state disk.new)) }
 {
     for k in 0..pipeline.committed[at].tickets.len() {
         let ticket = pipeline.committed[at].tickets[k];
@@ -111,6 +116,7 @@ fn wait_where_open<D: Disk>(
     ensures rest { pipeline.new ≡ record pipeline.old { notes = pipeline.new.notes } }
     ensures log { IsTrue D.tells → OnlyNotices (D.state disk.old).log (D.state disk.new).log }
     ensures spends { WaitsSome (is_err result) (D.state disk.old) (D.state disk.new) }
+    ensures cause { IsTrue D.tells → NotesAreGiven (D.state disk.old).log pipeline.old.notes.notes → OnErr result (HasFailed (D.state disk.new)) }
 {
     nothing_is_written_between_records();
     one_write_is_pending();

@@ -7,3 +7,4 @@ pub mod LastWrites
 pub mod LastReads
 pub mod Rows
 pub mod Spending
+pub mod Given

@@ -11,3 +11,4 @@ pub mod ReplayUpTo
 pub mod Begun
 pub mod Windows
 pub mod IdleDisk
+pub mod OnlyWrite

@@ -3,7 +3,8 @@ use Rattle.std.specs.Prelude.{◌≡◌, ◌⊎◌, ℕ, ◌+◌, ◌-◌, ◌<�
 use Rattle.opt_base.specs.Seal.{Blocks}
 use Rattle.opt_disk.specs.declared.event.Event.{Event}
 use Rattle.opt_disk.specs.declared.event.Event.TheVariants.{Wrote, Lost}
-use Rattle.opt_disk.specs.Cell.{Cell, greatest_ticket, IsNoticed}
+use Rattle.opt_disk.specs.Cell.{Cell, greatest_ticket, IsNoticed, notices}
+use Rattle.opt_disk.specs.Manner.{Manner}
 use Rattle.opt_disk.specs.Disk.{AddsNotices}
 use Rattle.opt_geom.specs.Geometry.{Geometry, ring_block}
 use Rattle.opt_journal.specs.declared.header.Header.{Header}
@@ -69,3 +70,26 @@ pub record AddsWaited (block : ℕ) (x : List ℕ) (old new : List Event) : Type
 abbrev pub AddsDurable : {T E : Type 0} → ℕ → List ℕ → Result T E → List Event → List Event → Type 0
 AddsDurable block x (Ok done) old new = (w : AddsWaited block x old new) × IsNoticed w.ticket new
 AddsDurable block x (Err e) old new = (new ≡ old) ⊎ (new ≡ old ++ Lost block x ∷ []) ⊎ AddsWaited block x old new
+
+-- one accepted write, and notices alone behind it
+pub record WritesOne (old new : List Event) : Type 0 where
+  pub ticket : ℕ
+  pub block : ℕ
+  pub bytes : List ℕ
+  pub noticed : List ℕ
+  pub log : new ≡ old ++ Wrote ticket block bytes ∷ notices noticed
+
+-- one lost write, and nothing else
+pub record LosesOne (old new : List Event) : Type 0 where
+  pub block : ℕ
+  pub bytes : List ℕ
+  pub log : new ≡ old ++ Lost block bytes ∷ []
+
+-- What was to write once and wait for it has stopped: nothing was added, or the write was lost; or it was accepted and the wait failed, which the manner of the disk lets be.
+abbrev pub StopsAtOne : Manner → List Event → List Event → Type 0
+StopsAtOne m old new = (new ≡ old) ⊎ (LosesOne old new ⊎ (WritesOne old new × (m.stalls ≡ true)))
+
+-- a call that writes once and waits for it: the write was accepted where the call succeeds, and where it fails it has stopped at this write or before it
+abbrev pub WritesOnce : {T E : Type 0} → Manner → Result T E → List Event → List Event → Type 0
+WritesOnce m (Ok done) old new = WritesOne old new
+WritesOnce m (Err e) old new = StopsAtOne m old new

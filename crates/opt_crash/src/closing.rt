@@ -2,12 +2,12 @@
 //! its run, and then the run's blocks, one by one, each written and waited for. Which header is the newest,
 //! and which run it has, is found elsewhere.
 
-ghost use Rattle.std.specs.Prelude.{◌≡◌, ◌<◌, ◌≤◌, ◌+◌, ◌-◌, ◌^◌, ℕ, List, [], length, IsTrue, OnOk, Some, None, is_err};
+ghost use Rattle.std.specs.Prelude.{◌≡◌, ◌<◌, ◌≤◌, ◌+◌, ◌-◌, ◌^◌, ℕ, List, [], length, IsTrue, OnOk, OnErr, Some, None, is_err};
 ghost use Rattle.opt_base.specs.Seal.{Blocks};
 ghost use Rattle.opt_geom.specs.Geometry.{bitmap_start};
 ghost use Rattle.opt_journal.specs.declared.header.Header.{Header};
 ghost use Rattle.opt_disk.specs.Crash.{Window};
-ghost use Rattle.opt_disk.specs.Disk.{SpendsUpTo};
+ghost use Rattle.opt_disk.specs.Disk.{HasFailed, SpendsUpTo};
 ghost use Rattle.opt_journal.specs.Spelling.{header_block};
 ghost use Rattle.opt_journal.specs.Run.{Record, covered_by};
 ghost use Rattle.opt_crash.specs.Ledger.{cells_of, HoldsUnder};
@@ -68,6 +68,7 @@ pub fn close_journal<D: Disk>(
         → Window newest.now.geom.n (D.state disk.old).base (D.state disk.new).log (length (D.state disk.old).log) (λ img. HoldsUnder newest.now.geom.n newest.now.geom img (found_map (settled (cells_of (D.state disk.old))) newest.now run)) }
     ensures log { IsTrue D.tells → AddsDurable (1 - slot) (header_block (closed_header newest.now last)) result (D.state disk.old).log (D.state disk.new).log }
     ensures spends { SpendsUpTo (is_err result) 1 (D.state disk.old) (D.state disk.new) }
+    ensures cause { IsTrue D.tells → OnErr result (HasFailed (D.state disk.new)) }
 {
     the_journal_is_lawful();
     journal_blocks_read_back();
@@ -94,6 +95,7 @@ pub fn replay_block<D: Disk>(disk: &mut D, block: u32, bytes: &Block) -> Result<
     ensures placed { IsTrue D.tells → OnOk result (IsSettledIn (cells_of (D.state disk.new) block) bytes.now) }
     ensures log { IsTrue D.tells → AddsDurable block bytes.now result (D.state disk.old).log (D.state disk.new).log }
     ensures spends { SpendsUpTo (is_err result) 1 (D.state disk.old) (D.state disk.new) }
+    ensures cause { IsTrue D.tells → OnErr result (HasFailed (D.state disk.new)) }
 {
     the_journal_is_lawful();
     let ticket = disk.write(block, bytes)?;

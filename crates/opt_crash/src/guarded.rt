@@ -1,10 +1,11 @@
 //! Disk calls that are guarded by the laws: each is one call of a disk, and its clause says what becomes of
 //! the ledger. Which block is to be written, and when to wait, is not their matter.
 
-ghost use Rattle.std.specs.Prelude.{◌≡◌, ◌<◌, ◌≤◌, ◌+◌, ◌-◌, ◌^◌, ℕ, List, length, IsTrue, OnOk, slice_index_or, is_err, vec_len, vec_capacity, []};
+ghost use Rattle.std.specs.Prelude.{◌≡◌, ◌<◌, ◌≤◌, ◌+◌, ◌-◌, ◌^◌, ℕ, List, length, IsTrue, OnOk, OnErr, slice_index_or, is_err, vec_len, vec_capacity, []};
 ghost use Rattle.opt_base.specs.Seal.{Blocks};
-ghost use Rattle.opt_disk.specs.Cell.{IsNoticed};
-ghost use Rattle.opt_disk.specs.Disk.{AddsWrite, AddsPoll, AddsNotices, OnlyWrites, OnlyPolls, OnlyWaits};
+ghost use Rattle.opt_disk.specs.Cell.{IsAccepted, IsNoticed};
+ghost use Rattle.opt_disk.specs.Disk.{HasFailed, AddsWrite, AddsPoll, AddsNotices, OnlyWrites, OnlyPolls, OnlyWaits};
+ghost use Rattle.opt_disk.specs.Manner.{AnswersBy};
 ghost use Rattle.opt_geom.specs.Geometry.{ring_block};
 ghost use Rattle.opt_journal.specs.declared.header.Header.{Header};
 ghost use Rattle.opt_crash.specs.Ledger.{Ledger, WrittenRecord, cells_of, block_at};
@@ -24,6 +25,7 @@ pub fn write_in_ring<D: Disk>(disk: &mut D, block: u32, bytes: &Block) -> Result
         → StaysSafe s l t floor (D.state disk.old) (D.state disk.new) }
     ensures log { IsTrue D.tells → AddsWrite block bytes.now result (D.state disk.old).log (D.state disk.new).log }
     ensures spends { OnlyWrites (is_err result) (D.state disk.old) (D.state disk.new) }
+    ensures cause { IsTrue D.tells → OnErr result (HasFailed (D.state disk.new)) }
 {
     the_journal_is_lawful();
     disk.write(block, bytes)
@@ -36,6 +38,7 @@ pub fn write_in_place<D: Disk>(disk: &mut D, block: u32, bytes: &Block) -> Resul
         → StaysSafe s l t floor (D.state disk.old) (D.state disk.new) }
     ensures log { IsTrue D.tells → AddsWrite block bytes.now result (D.state disk.old).log (D.state disk.new).log }
     ensures spends { OnlyWrites (is_err result) (D.state disk.old) (D.state disk.new) }
+    ensures cause { IsTrue D.tells → OnErr result (HasFailed (D.state disk.new)) }
 {
     the_journal_is_lawful();
     disk.write(block, bytes)
@@ -49,6 +52,7 @@ pub fn write_commit<D: Disk>(disk: &mut D, block: u32, bytes: &Block) -> Result<
         → CommitWritten s l w m t floor result (D.state disk.old) (D.state disk.new) }
     ensures log { IsTrue D.tells → AddsWrite block bytes.now result (D.state disk.old).log (D.state disk.new).log }
     ensures spends { OnlyWrites (is_err result) (D.state disk.old) (D.state disk.new) }
+    ensures cause { IsTrue D.tells → OnErr result (HasFailed (D.state disk.new)) }
 {
     the_journal_is_lawful();
     disk.write(block, bytes)
@@ -62,6 +66,7 @@ pub fn write_header<D: Disk>(disk: &mut D, slot: u32, bytes: &Block) -> Result<u
         → HeaderWritten s l h t floor result (D.state disk.old) (D.state disk.new) }
     ensures log { IsTrue D.tells → AddsWrite slot bytes.now result (D.state disk.old).log (D.state disk.new).log }
     ensures spends { OnlyWrites (is_err result) (D.state disk.old) (D.state disk.new) }
+    ensures cause { IsTrue D.tells → OnErr result (HasFailed (D.state disk.new)) }
 {
     the_journal_is_lawful();
     disk.write(slot, bytes)
@@ -74,6 +79,7 @@ pub fn wait_for<D: Disk>(disk: &mut D, ticket: u64) -> Result<(), DiskFault>
     ensures log { IsTrue D.tells → AddsNotices (D.state disk.old).log (D.state disk.new).log }
     ensures noticed { IsTrue D.tells → OnOk result (IsNoticed ticket (D.state disk.new).log) }
     ensures spends { OnlyWaits (is_err result) (D.state disk.old) (D.state disk.new) }
+    ensures cause { IsTrue D.tells → IsAccepted ticket (D.state disk.old).log → OnErr result (HasFailed (D.state disk.new)) }
 {
     the_journal_is_lawful();
     disk.wait(ticket)
@@ -85,6 +91,8 @@ pub fn poll_once<D: Disk>(disk: &mut D) -> Result<Option<u64>, DiskFault>
     ensures knows { IsTrue D.tells → (l : Ledger) (p : PipelineData) → AreRightOn (D.state disk.old) l p → AreRightOn (D.state disk.new) l p }
     ensures log { IsTrue D.tells → AddsPoll result (D.state disk.old).log (D.state disk.new).log }
     ensures spends { OnlyPolls (is_err result) (D.state disk.old) (D.state disk.new) }
+    ensures answer { IsTrue D.tells → AnswersBy ((D.state disk.old).manner.notice (D.state disk.old).polls (D.state disk.old).log) result }
+    ensures cause { IsTrue D.tells → OnErr result (HasFailed (D.state disk.new)) }
 {
     the_journal_is_lawful();
     disk.poll()
@@ -110,6 +118,7 @@ pub fn write_all_in_ring<D: Disk>(
     ensures log { IsTrue D.tells → AddsAll (row_writes first blocks.now) result tickets.old.items tickets.new.items (D.state disk.old).log (D.state disk.new).log }
     ensures taken { OnOk result (vec_len tickets.new ≡ vec_len tickets.old + length blocks.now) }
     ensures spends { OnlyWrites (is_err result) (D.state disk.old) (D.state disk.new) }
+    ensures cause { IsTrue D.tells → OnErr result (HasFailed (D.state disk.new)) }
 {
     let mut at = first;
     for block in blocks {

@@ -2,11 +2,11 @@
 //! beside the newest one, written and waited for, over any disk. Which header is the newest, and which
 //! epoch is the greatest in the journal, is found elsewhere.
 
-ghost use Rattle.std.specs.Prelude.{◌≡◌, ◌<◌, ◌≤◌, ◌-◌, ◌^◌, ℕ, true, List, [], length, IsTrue, OnOk, is_err};
+ghost use Rattle.std.specs.Prelude.{◌≡◌, ◌<◌, ◌≤◌, ◌-◌, ◌^◌, ℕ, true, List, [], length, IsTrue, OnOk, OnErr, is_err};
 ghost use Rattle.opt_base.specs.Seal.{Blocks};
 ghost use Rattle.opt_disk.specs.Cell.{cell_of};
 ghost use Rattle.opt_disk.specs.Crash.{Window};
-ghost use Rattle.opt_disk.specs.Disk.{SpendsUpTo};
+ghost use Rattle.opt_disk.specs.Disk.{HasFailed, SpendsUpTo};
 ghost use Rattle.opt_geom.specs.Geometry.{Geometry, geometry_fits};
 ghost use Rattle.opt_journal.specs.declared.header.Header.{Header};
 ghost use Rattle.opt_journal.specs.Spelling.{header_block};
@@ -15,7 +15,7 @@ ghost use Rattle.opt_journal.specs.Formatted.{empty_header, formatted};
 ghost use Rattle.opt_crash.specs.Ledger.{cells_of, HoldsUnder};
 ghost use Rattle.opt_crash.specs.Mounting.{HasBegun};
 ghost use Rattle.opt_crash.specs.Replay.{IsFound, IsReplayed, found_map};
-ghost use Rattle.opt_crash.specs.Opening.{opening_header, settled, IsReadyToOpen, AddsDurable};
+ghost use Rattle.opt_crash.specs.Opening.{opening_header, settled, IsReadyToOpen, AddsDurable, WritesOnce};
 
 use crate::journal::the_journal_is_lawful;
 use opt_base::Block;
@@ -69,6 +69,8 @@ pub fn open_journal<D: Disk>(
         → Window newest.now.geom.n (D.state disk.old).base (D.state disk.new).log (length (D.state disk.old).log) (λ img. HoldsUnder newest.now.geom.n h.geom img (found_map at h run)) }
     ensures log { IsTrue D.tells → AddsDurable (1 - slot) (header_block (opening_header newest.now last greatest_epoch)) result (D.state disk.old).log (D.state disk.new).log }
     ensures spends { SpendsUpTo (is_err result) 1 (D.state disk.old) (D.state disk.new) }
+    ensures cause { IsTrue D.tells → OnErr result (HasFailed (D.state disk.new)) }
+    ensures alone { IsTrue D.tells → WritesOnce (D.state disk.old).manner result (D.state disk.old).log (D.state disk.new).log }
 {
     the_journal_is_lawful();
     journal_blocks_read_back();

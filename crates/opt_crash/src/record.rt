@@ -1,9 +1,9 @@
 //! The calls that write a record, block by block, each with what is issued of it then. What a record says,
 //! and which places and blocks it takes, is decided elsewhere.
 
-ghost use Rattle.std.specs.Prelude.{◌≡◌, ◌<◌, ◌+◌, ℕ, List, length, slice_get, IsTrue, Some, is_err};
+ghost use Rattle.std.specs.Prelude.{◌≡◌, ◌<◌, ◌+◌, ℕ, List, length, slice_get, IsTrue, OnErr, Some, is_err};
 ghost use Rattle.opt_base.specs.Seal.{Blocks};
-ghost use Rattle.opt_disk.specs.Disk.{AddsWrite, OnlyWrites};
+ghost use Rattle.opt_disk.specs.Disk.{HasFailed, AddsWrite, OnlyWrites};
 ghost use Rattle.opt_geom.specs.Geometry.{ring_block};
 ghost use Rattle.opt_journal.specs.declared.entry.Entry.{Entry};
 ghost use Rattle.opt_journal.specs.Run.{places};
@@ -26,6 +26,7 @@ pub fn write_fresh<D: Disk>(disk: &mut D, block: u32, bytes: &Block) -> Result<u
         → PartWritten s l p w t floor tickets (i + 1) issued result (D.state disk.new) }
     ensures log { IsTrue D.tells → AddsWrite block bytes.now result (D.state disk.old).log (D.state disk.new).log }
     ensures spends { OnlyWrites (is_err result) (D.state disk.old) (D.state disk.new) }
+    ensures cause { IsTrue D.tells → OnErr result (HasFailed (D.state disk.new)) }
 {
     the_journal_is_lawful();
     disk.write(block, bytes)
@@ -40,6 +41,7 @@ pub fn write_part<D: Disk>(disk: &mut D, block: u32, bytes: &Block) -> Result<u6
         → PartWritten s l p w t floor tickets laid (i + 1) result (D.state disk.new) }
     ensures log { IsTrue D.tells → AddsWrite block bytes.now result (D.state disk.old).log (D.state disk.new).log }
     ensures spends { OnlyWrites (is_err result) (D.state disk.old) (D.state disk.new) }
+    ensures cause { IsTrue D.tells → OnErr result (HasFailed (D.state disk.new)) }
 {
     the_journal_is_lawful();
     disk.write(block, bytes)
@@ -54,6 +56,7 @@ pub fn write_last<D: Disk>(disk: &mut D, block: u32, bytes: &Block) -> Result<u6
         → RecordWritten s l p w m t floor tickets result (D.state disk.old) (D.state disk.new) }
     ensures log { IsTrue D.tells → AddsWrite block bytes.now result (D.state disk.old).log (D.state disk.new).log }
     ensures spends { OnlyWrites (is_err result) (D.state disk.old) (D.state disk.new) }
+    ensures cause { IsTrue D.tells → OnErr result (HasFailed (D.state disk.new)) }
 {
     the_journal_is_lawful();
     disk.write(block, bytes)

@@ -9,7 +9,7 @@ use Rattle.opt_crash.specs.Opening.{AddsWaited}
 
 -- a disk that is the same twice over
 same_twice : (a b c : State) → SameDisk a b → SameDisk b c → SameDisk a c
-same_twice a b c one two = record { blocks = two.blocks ∙ one.blocks; base = two.base ∙ one.base }
+same_twice a b c one two = record { blocks = two.blocks ∙ one.blocks; base = two.base ∙ one.base; manner = two.manner ∙ one.manner }
 
 -- calls behind calls
 after_sum : (n m x : ℕ) → after_calls n (after_calls m x) ≡ after_calls (n + m) x

@@ -16,7 +16,7 @@ more_calls (suc a) b n = ap next_count (more_calls a b n) ∙ ap (λ k. after_ca
 
 pub spends_together : (failed : Bool) (waits polls more_waits more_polls : ℕ) (old mid new : State) → Spends false waits polls old mid → Spends failed more_waits more_polls mid new → Spends failed (more_waits + waits) (more_polls + polls) old new
 spends_together failed waits polls more_waits more_polls old mid new a b = record {
-  same = record { blocks = b.same.blocks ∙ a.same.blocks; base = b.same.base ∙ a.same.base };
+  same = record { blocks = b.same.blocks ∙ a.same.blocks; base = b.same.base ∙ a.same.base; manner = b.same.manner ∙ a.same.manner };
   faults = b.faults ∙ ap (after_call failed) a.faults;
   read_faults = b.read_faults ∙ a.read_faults;
   waits = b.waits ∙ ap (after_calls more_waits) a.waits ∙ more_calls more_waits waits old.waits;

@@ -5,8 +5,9 @@ use Rattle.opt_base.specs.Seal.{Blocks}
 use Rattle.opt_disk.specs.declared.event.Event.{Event}
 use Rattle.opt_disk.specs.declared.event.Event.TheVariants.{Wrote, Lost, Noticed}
 use Rattle.opt_disk.specs.Cell.{accepted, is_lost, lost_from, IsOneOf, greatest_ticket, IsAccepted, IsNoticed, notices}
+use Rattle.opt_disk.specs.Manner.{Manner, Polled, HasFailedBy, after_polls}
 
--- a disk: its number of blocks, what they were when it began, the events since, and its counts of failed calls but reads, of failed reads, of waits and of polls; where it doesn't tell, `base` and `log` say nothing
+-- a disk: its number of blocks, what they were when it began, the events since, its counts of failed calls but reads, of failed reads, of waits and of polls, and how it behaves; where it doesn't tell, `base`, `log` and `manner` say nothing
 pub record State : Type 0 where
   pub blocks : ℕ
   pub base : Blocks
@@ -15,6 +16,7 @@ pub record State : Type 0 where
   pub read_faults : ℕ
   pub waits : ℕ
   pub polls : ℕ
+  pub manner : Manner
 
 -- what a read gives: the last accepted bytes; where writes to the block were lost after that one, those or the bytes of one of the lost
 pub record Reads (s : State) (b : ℕ) (x : List ℕ) : Type 0 where
@@ -47,10 +49,15 @@ pub record AddsNotices (old new : List Event) : Type 0 where
   pub open_before : AreOpen tickets old
   pub log : new ≡ old ++ notices tickets
 
--- what no call changes: how many blocks there are, and what they were when the disk began
+-- a call other than a read has failed just now, for a reason that the disk's manner has
+abbrev pub HasFailed : State → Type 0
+HasFailed s = HasFailedBy s.manner s.log
+
+-- what no call changes: how many blocks there are, what they were when the disk began, and how it behaves
 pub record SameDisk (old new : State) : Type 0 where
   pub blocks : new.blocks ≡ old.blocks
   pub base : new.base ≡ old.base
+  pub manner : new.manner ≡ old.manner
 
 -- What a call spends that reads nothing, and waits and polls so many times: where it failed, that was counted once, and nothing else is new but the log.
 pub record Spends (failed : Bool) (made asked : ℕ) (old new : State) : Type 0 where
@@ -104,3 +111,7 @@ writes_in (Noticed ticket ∷ es) = writes_in es
 pub record Grows (old new : List Event) : Type 0 where
   pub more : List Event
   pub log : new ≡ old ++ more
+
+-- The disk was polled first, so many times at most and up to the first poll without a ticket: where it is known what these polls answer, the polls are counted and their notices stand behind the old log, before anything else.
+abbrev pub PollsFirst : Manner → ℕ → ℕ → List Event → ℕ → List Event → Type 0
+PollsFirst m most polls log polls_now log_now = (p : Polled) → after_polls m most polls log ≡ Some p → (polls_now ≡ p.polls) × Grows p.log log_now

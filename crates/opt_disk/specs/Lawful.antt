@@ -1,10 +1,11 @@
 -- Lawful logs, and settled and pending in the field's own words: the newest write whose durability was
 -- noticed, and the writes after it. The rules are described in docs/DISK.md.
-use Rattle.std.specs.Prelude.{◌≡◌, ◌⊎◌, ℕ, ◌<◌, ◌≤◌, ◌^◌, ◌==◌, if◌then◌else◌, List, [], ◌∷◌, ◌++◌, length, slice_index_or, Some, None}
+use Rattle.std.specs.Prelude.{◌≡◌, ◌⊎◌, ℕ, ◌<◌, ◌≤◌, ◌^◌, ◌==◌, true, if◌then◌else◌, List, [], ◌∷◌, ◌++◌, length, slice_index_or, Some, None}
 use Rattle.opt_disk.specs.declared.event.Event.{Event}
 use Rattle.opt_disk.specs.declared.event.Event.TheVariants.{Wrote, Lost, Noticed}
 use Rattle.opt_disk.specs.Cell.{Write, greatest_ticket, IsNoticed}
 use Rattle.opt_disk.specs.Disk.{State, IsOpen}
+use Rattle.opt_disk.specs.Manner.{GoesBy}
 
 -- an event that may come behind these: an accepted write has a ticket above all earlier ones, and a notification is of an open ticket
 abbrev pub MayCome : List Event → Event → Type 0
@@ -42,10 +43,12 @@ pub record IsLogOf (n : ℕ) (log : List Event) : Type 0 where
   pub lawful : IsLawful log
   pub events : AreEventsOf n log
 
--- a sound disk: each block had the bytes of a block when the disk began, and the log is one of a disk of so many blocks
+-- a sound disk: each block had the bytes of a block when the disk began, the log is one of a disk of so many blocks, and by the disk's manner its writes may be accepted and lost as they are, and a read may have failed if one did
 pub record IsSoundDisk (s : State) : Type 0 where
   pub blocks : (b : ℕ) → b < s.blocks → IsBlock (s.base b)
   pub log : IsLogOf s.blocks s.log
+  pub manner : GoesBy s.manner s.log
+  pub reads : 0 < s.read_faults → s.manner.reads_fail ≡ true
 
 -- the writes to a block, accepted and lost, the oldest first
 abbrev pub writes_to : ℕ → List Event → List Write

@@ -3,3 +3,4 @@ pub mod Cell
 pub mod Crash
 pub mod Disk
 pub mod Lawful
+pub mod Manner

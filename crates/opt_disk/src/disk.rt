@@ -2,10 +2,11 @@
 //! it may make them durable in any order, lose some, and fail any call. What that means for a crash is
 //! described by the definitions of Cell and Crash, and in docs/DISK.md.
 
-ghost use Rattle.std.specs.Prelude.{◌≡◌, ◌<◌, ℕ, Bool, length, IsTrue, OnOk, is_err};
-ghost use Rattle.opt_disk.specs.Cell.{IsNoticed};
+ghost use Rattle.std.specs.Prelude.{◌≡◌, ◌<◌, ℕ, Bool, true, length, IsTrue, OnOk, OnErr, is_err};
+ghost use Rattle.opt_disk.specs.Cell.{IsAccepted, IsNoticed};
 ghost use Rattle.opt_disk.specs.Lawful.{IsSoundDisk};
-ghost use Rattle.opt_disk.specs.Disk.{State, Reads, AddsWrite, AddsPoll, AddsNotices, OnlyReads, OnlyWrites, OnlyPolls, OnlyWaits};
+ghost use Rattle.opt_disk.specs.Manner.{AnswersBy};
+ghost use Rattle.opt_disk.specs.Disk.{State, HasFailed, Reads, AddsWrite, AddsPoll, AddsNotices, OnlyReads, OnlyWrites, OnlyPolls, OnlyWaits};
 
 use opt_base::Block;
 use std::error::Error;
@@ -27,7 +28,8 @@ impl Error for DiskFault {}
 ///
 /// Its contents and events are known only where `tells` says so. Of a disk that doesn't tell, the
 /// clauses still say its number of blocks, that each fault is counted, and how often it was polled and
-/// waited for. Each count stops at 2^64 - 1.
+/// waited for. Each count stops at 2^64 - 1. How the disk behaves, which calls may fail and what polls
+/// answer, is its manner, a constant of it; of a disk of which nothing is known, that lets anything come.
 pub trait Disk {
     /// Whether contents and events are known.
     ghost tells: { Bool };
@@ -36,7 +38,8 @@ pub trait Disk {
     ghost state: { Self → State };
 
     /// Does nothing. A proof learns from the call that blocks have 1,024 bytes, in the base and in each
-    /// write, and that the log is a lawful one of so many blocks.
+    /// write, that the log is a lawful one of so many blocks, and that the disk's manner lets its writes
+    /// be accepted and lost as they are, and a read fail if one did.
     fn lawful(&self)
         ensures { IsTrue tells → IsSoundDisk (state self.now) };
 
@@ -66,27 +69,34 @@ pub trait Disk {
     /// all earlier ones.
     ///
     /// # Errors
-    /// The write failed, which is counted. It may be on the medium all the same, or come there later.
+    /// The write failed, which is counted, and the disk's manner lets it. It may be on the medium all the
+    /// same, or come there later.
     fn write(&mut self, b: u32, from: &Block) -> Result<u64, DiskFault>
         requires { b < (state self.old).blocks }
         ensures log { IsTrue tells → AddsWrite b from.now result (state self.old).log (state self.new).log }
-        ensures spends { OnlyWrites (is_err result) (state self.old) (state self.new) };
+        ensures spends { OnlyWrites (is_err result) (state self.old) (state self.new) }
+        ensures cause { IsTrue tells → OnErr result (HasFailed (state self.new)) };
 
     /// The ticket of a write that is durable now and whose notice is new, or `None` where there is
-    /// none yet. It doesn't wait.
+    /// none yet. It doesn't wait. Where the disk's manner says what a poll answers, it is that.
     ///
     /// # Errors
-    /// The poll failed, which is counted.
+    /// The poll failed, which is counted, and the disk's manner lets it.
     fn poll(&mut self) -> Result<Option<u64>, DiskFault>
         ensures log { IsTrue tells → AddsPoll result (state self.old).log (state self.new).log }
-        ensures spends { OnlyPolls (is_err result) (state self.old) (state self.new) };
+        ensures spends { OnlyPolls (is_err result) (state self.old) (state self.new) }
+        ensures cause { IsTrue tells → OnErr result (HasFailed (state self.new)) }
+        ensures answer { IsTrue tells → AnswersBy ((state self.old).manner.notice (state self.old).polls (state self.old).log) result };
 
     /// Waits until the write of this ticket is durable. Other writes may become durable meanwhile.
     ///
     /// # Errors
-    /// The wait failed, which is counted. Some writes may have become durable.
+    /// The wait failed, which is counted. Either the ticket was never given, or the disk's manner lets a
+    /// wait fail. Some writes may have become durable.
     fn wait(&mut self, ticket: u64) -> Result<(), DiskFault>
         ensures log { IsTrue tells → AddsNotices (state self.old).log (state self.new).log }
         ensures noticed { IsTrue tells → OnOk result (IsNoticed ticket (state self.new).log) }
-        ensures spends { OnlyWaits (is_err result) (state self.old) (state self.new) };
+        ensures spends { OnlyWaits (is_err result) (state self.old) (state self.new) }
+        ensures cause { IsTrue tells → IsAccepted ticket (state self.old).log → OnErr result (HasFailed (state self.new)) }
+        ensures stalls { IsTrue tells → IsAccepted ticket (state self.old).log → OnErr result ((state self.old).manner.stalls ≡ true) };
 }

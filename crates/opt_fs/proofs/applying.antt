@@ -1,3 +1,7 @@
 pub mod Ticked
 pub mod Answered
 pub mod Passing
+pub mod Ticking
+pub mod Unread
+pub mod Late
+pub mod Turning

@@ -1,6 +1,5 @@
 -- How a file system answers a command of a script: whether it begins, with a tick, and what is done then. It is described in docs/FILE-SYSTEM.md.
 use Rattle.std.specs.Prelude.{◌≡◌, ◌≢◌, ◌⊎◌, ◌+◌, ◌^◌, ◌-◌, ◌≤◌, nat_le, Bool, true, false, Result, Ok, Err}
-use Rattle.opt_base.specs.Counts.{next_count}
 use Rattle.opt_tree.specs.declared.command.Cmd.{Cmd}
 use Rattle.opt_tree.specs.declared.command.Cmd.TheVariants.{Osync, Dsync, Durable, Poll, Bad}
 use Rattle.opt_tree.specs.declared.command.Refusal.{Refusal}
@@ -11,7 +10,7 @@ use Rattle.opt_blocks.specs.State.{Bookkeeping, State}
 use Rattle.opt_tree.specs.Run.{Answers, is_of_disk}
 use Rattle.opt_tree.specs.Step.{Session}
 use Rattle.opt_blocks.specs.Crashes.{Advances, MakesPoint}
-use Rattle.opt_blocks.specs.Effects.{RunsPipeline}
+use Rattle.opt_blocks.specs.Effects.{RunsPipeline, Ticked}
 use Rattle.opt_fs.specs.Commands.{Carries}
 use Rattle.opt_fs.specs.Sessions.{IsSession}
 use Rattle.opt_fs.specs.Syncs.{SyncsSession}
@@ -24,7 +23,7 @@ is_spent k = nat_le (2 ^ 63 - 8) k.turns
 pub record Ticks (tells failed : Bool) (old new : State) : Type 0 where
   pub moves : RunsPipeline tells failed old new
   pub waits : new.counts.waits ≡ old.counts.waits
-  pub ticks : new.counts.ticks ≡ next_count old.counts.ticks
+  pub ticks : Ticked tells old new
 
 -- Time goes on over a command: a crash leaves points, one more came at most, and the map now is that one's.
 pub record PassesTime (old new : State) : Type 0 where

@@ -1,5 +1,5 @@
 -- What a sync leaves of a map of blocks and of its session. It is described in docs/FILE-SYSTEM.md.
-use Rattle.std.specs.Prelude.{◌≡◌, ◌⊎◌, ◌+◌, ◌<◌, ◌≤◌, ℕ, Bool, false, true, IsTrue, IfOk, IfErr, OnOk, OnErr, Result, Err}
+use Rattle.std.specs.Prelude.{◌≡◌, ◌⊎◌, ◌+◌, ◌^◌, ◌<◌, ◌≤◌, ℕ, Bool, false, true, IsTrue, IfOk, IfErr, OnOk, OnErr, Result, Err}
 use Rattle.opt_tree.specs.declared.command.Cmd.{Cmd}
 use Rattle.opt_tree.specs.declared.command.Refusal.{Refusal}
 use Rattle.opt_tree.specs.declared.command.Refusal.TheVariants as because
@@ -38,6 +38,7 @@ pub record SyncsSession (tells orders : Bool) (cmd : Cmd) (result : Result Reply
   pub takeable : (b : ℕ) → IsReusable old.books.geom old.books.reusable b → new.books.reusable b ≡ true
   pub disk : UsesDisk (is_disk_fault result) old new
   pub geom : new.books.geom ≡ old.books.geom
+  pub turns : new.books.turns ≤ old.books.turns + 2 ^ 18
   pub one : new.books.point ≤ old.books.point + 1
   -- unless out of memory, one point more where anything was weighed, also where the disk failed
   pub point : (result ≡ Err because.NoMemory → ⊥) → new.books.point ≡ old.books.point + if_changed old.books.running 1 0

@@ -1,16 +1,27 @@
 //! Laws that the commands share, each a function that changes nothing: the inode map of blocks that stand
 //! for a tree.
 
-ghost use Rattle.std.specs.Prelude.{◌≡◌, ℕ, Some};
+ghost use Rattle.std.specs.Prelude.{◌≡◌, ◌≢◌, ◌<◌, ◌≤◌, ◌+◌, ◌^◌, ℕ, true, false, IsTrue, Some};
 ghost use Rattle.opt_base.specs.Seal.{Blocks as BlockMap};
 ghost use Rattle.opt_geom.specs.Geometry.{Geometry};
+ghost use Rattle.opt_tree.specs.declared.command.Cmd.{Cmd};
+ghost use Rattle.opt_tree.specs.declared.command.Cmd.TheVariants.{Bad};
+ghost use Rattle.opt_tree.specs.declared.command.Refusal.TheVariants.{ReadFault, Spent, Stopped};
+ghost use Rattle.opt_tree.specs.declared.command.Reply.{Reply};
+ghost use Rattle.opt_tree.specs.declared.command.Reply.TheVariants.{Refused};
+ghost use Rattle.opt_tree.specs.Step.{Session};
 ghost use Rattle.opt_tree.specs.Tree.{Tree};
 ghost use Rattle.opt_stands.specs.Files.{FileNode, files_of};
 ghost use Rattle.opt_stands.specs.Inodes.{Inode, inode_of, inodes_of};
 ghost use Rattle.opt_stands.specs.Maps.{IsMapOf};
 ghost use Rattle.opt_stands.specs.Stands.{AreSound, IsTreeOf};
+ghost use Rattle.opt_blocks.specs.Effects.{Ticked};
+ghost use Rattle.opt_fs.specs.Applying.{Applies, is_spent};
+ghost use Rattle.opt_fs.specs.Sessions.{IsSession};
 
+use opt_blocks::Blocks;
 use opt_stands::{blocks_have_a_map, files_have_one_map};
+use opt_tree::a_tree_in_memory_refuses_for_no_disk;
 
 /// Blocks stand for a tree exactly where they are sound and what their nodes read as is that tree's map.
 pub(crate) fn blocks_have_the_map_of_their_tree()
@@ -19,3 +30,24 @@ pub(crate) fn blocks_have_the_map_of_their_tree()
     blocks_have_a_map();
     files_have_one_map();
 }
+
+/// A command that isn't refused at once ticks once, of the same disk. Where it is known what polls answer, its events
+/// begin with the notices of at most 64 polls, up to the first that has none, and it polls no more.
+pub fn a_command_begins_with_a_tick<S: Blocks>()
+    ensures { (cmd : Cmd) (reply : Reply) (old new : S) → cmd ≢ Bad → (S.state old).books.stopped ≡ false → is_spent (S.state old).books ≡ false → Applies S.tells S.state cmd reply old new → Ticked S.tells (S.state old) (S.state new) }
+{}
+
+/// A command of a session is refused for a failed read only where the disk has counted one, as stopped only where a
+/// call of the disk had failed before, and as spent only where the journal's numbers were used up.
+pub fn a_refusal_for_the_disk_has_its_cause<S: Blocks>()
+    ensures read { IsTrue S.tells → (old new : S) (f : Session) (cmd : Cmd) (reply : Reply) → IsSession (S.state old) f → Applies S.tells S.state cmd reply old new → reply ≡ Refused ReadFault → 0 < (S.state new).counts.read_faults }
+    ensures stopped { IsTrue S.tells → (old new : S) (f : Session) (cmd : Cmd) (reply : Reply) → IsSession (S.state old) f → Applies S.tells S.state cmd reply old new → reply ≡ Refused Stopped → (S.state old).books.stopped ≡ true }
+    ensures spent { IsTrue S.tells → (old new : S) (f : Session) (cmd : Cmd) (reply : Reply) → IsSession (S.state old) f → Applies S.tells S.state cmd reply old new → reply ≡ Refused Spent → is_spent (S.state old).books ≡ true }
+{
+    a_tree_in_memory_refuses_for_no_disk();
+}
+
+/// One command raises the journal's numbers by less than 2^20.
+pub fn a_command_raises_the_numbers_little<S: Blocks>()
+    ensures { (old new : S) (cmd : Cmd) (reply : Reply) → Applies S.tells S.state cmd reply old new → (S.state new).books.turns ≤ (S.state old).books.turns + 2 ^ 20 }
+{}

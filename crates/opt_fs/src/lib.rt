@@ -33,6 +33,10 @@ mod syncs;
 
 pub use disk::{a_command_is_answered_in_a_room_that_came_back, any_command_may_be_answered};
 pub use fs::Fs;
+pub use laws::{
+    a_command_begins_with_a_tick, a_command_raises_the_numbers_little,
+    a_refusal_for_the_disk_has_its_cause,
+};
 pub use listing::ListRefusal;
 pub use live::as_many_blocks_are_marked_as_the_tree_has;
 pub use look::{list, read, stat};

@@ -1,6 +1,7 @@
 -- What is known of the blocks of an image: the numbers, and nothing of the contents.
 use Rattle.std.specs.Prelude.{ℕ, ◌-◌, ◌*◌, ⊤, true, false, ◌==◌, if◌then◌else◌, List, [], ◌∷◌, Result, Ok, Err}
 use Rattle.opt_geom.specs.Geometry.{Geometry, data_start}
+use Rattle.opt_disk.specs.Manner.{any_manner}
 use Rattle.opt_blocks.specs.declared.role.Role.{Role}
 use Rattle.opt_blocks.specs.declared.refusals.SyncRefusal.{SyncRefusal}
 use Rattle.opt_blocks.specs.declared.refusals.SyncRefusal.TheVariants.{NoMemory}
@@ -58,7 +59,7 @@ untold = record {
 abbrev pub state_of : ImageBlocks → State
 state_of p = record {
   books = books_of p;
-  counts = record { ticks = p.ticks; read_faults = 0; faults = 0; waits = 0 };
+  counts = record { ticks = record { made = p.ticks; polls = 0; manner = any_manner }; read_faults = 0; faults = 0; waits = 0 };
   map = λ b. [];
   crash = untold;
 }

@@ -5,11 +5,12 @@ ghost use Rattle.std.specs.Prelude.{◌≡◌, ◌<◌, ◌^◌, ℕ, true, fals
 ghost use Rattle.opt_base.specs.Seal.{blocks_of};
 ghost use Rattle.opt_base.specs.Counts.{HasCause};
 ghost use Rattle.opt_disk.specs.Bay.{IsLeftBy};
-ghost use Rattle.opt_disk.specs.Cell.{accepted, IsNoticed};
+ghost use Rattle.opt_disk.specs.Cell.{accepted, IsAccepted, IsNoticed};
 ghost use Rattle.opt_disk.specs.Disk.{AddsWrite, AddsPoll, AddsNotices};
 ghost use Rattle.opt_disk.specs.Lawful.{IsSoundDisk};
+ghost use Rattle.opt_disk.specs.Manner.{HasFailedBy, AnswersBy};
 ghost use Rattle.opt_memdisk.specs.declared.calls.DiskCall.TheVariants.{Read, Write, Poll, Wait};
-ghost use Rattle.opt_memdisk.specs.MemDisk.{begun, state_of, fails_next, has_room, next_ticket, poll_answer, can_wait, after_read, after_write, after_poll, after_wait};
+ghost use Rattle.opt_memdisk.specs.MemDisk.{begun, state_of, manner_of, fails_next, has_room, next_ticket, poll_answer, can_wait, after_read, after_write, after_poll, after_wait};
 
 use opt_base::{Block, NoMemory};
 use opt_disk::{Disk, DiskFault};
@@ -103,6 +104,7 @@ impl Disk for BayDisk {
         ensures failed { OnErr result (into.new ≡ into.old) }
         ensures cause { HasCause result self.old.read_faults self.new.read_faults }
         ensures base { self.new.base ≡ self.old.base }
+        ensures manner { manner_of self.new ≡ manner_of self.old }
         ensures state { self.new ≡ after_read self.old }
     {
         self.disk.read(b, into)?;
@@ -116,7 +118,9 @@ impl Disk for BayDisk {
         ensures exact { is_ok result ≡ (if fails_next Write self.old then false else has_room self.old) }
         ensures ticket { IfOk result (λ t. t ≡ next_ticket self.old) }
         ensures base { self.new.base ≡ self.old.base }
+        ensures manner { manner_of self.new ≡ manner_of self.old }
         ensures state { self.new ≡ after_write self.old b from.now }
+        ensures reason { OnErr result (HasFailedBy (manner_of self.new) self.new.log) }
     {
         let ticket = self.disk.write(b, from)?;
         self.contents[b as usize] = *from;
@@ -129,7 +133,10 @@ impl Disk for BayDisk {
         ensures exact { is_ok result ≡ not (fails_next Poll self.old) }
         ensures answer { IfOk result (λ ticket. ticket ≡ poll_answer self.old) }
         ensures base { self.new.base ≡ self.old.base }
+        ensures manner { manner_of self.new ≡ manner_of self.old }
         ensures state { self.new ≡ after_poll self.old }
+        ensures reason { OnErr result (HasFailedBy (manner_of self.new) self.new.log) }
+        ensures known { AnswersBy ((manner_of self.old).notice self.old.polls self.old.log) result }
     {
         let ticket = self.disk.poll()?;
         Ok(ticket)
@@ -141,7 +148,10 @@ impl Disk for BayDisk {
         ensures cause { HasCause result self.old.faults self.new.faults }
         ensures exact { is_ok result ≡ can_wait self.old ticket }
         ensures base { self.new.base ≡ self.old.base }
+        ensures manner { manner_of self.new ≡ manner_of self.old }
         ensures state { self.new ≡ after_wait self.old ticket }
+        ensures reason { IsAccepted ticket self.old.log → OnErr result (HasFailedBy (manner_of self.new) self.new.log) }
+        ensures stalls { IsAccepted ticket self.old.log → OnErr result ((manner_of self.old).stalls ≡ true) }
     {
         self.disk.wait(ticket)?;
         Ok(())

@@ -4,3 +4,4 @@ pub mod LastFound
 pub mod LastPlaces
 pub mod PollTickets
 pub mod Zeros
+pub mod Manners

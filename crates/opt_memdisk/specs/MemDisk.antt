@@ -1,5 +1,5 @@
 -- A disk in memory as a value, and what each call makes of it. The rules are described in docs/DISK.md.
-use Rattle.std.specs.Prelude.{◌≡◌, ℕ, zero, suc, ◌+◌, ◌<◌, ◌==◌, ◌&&◌, ◌/◌, ◌%◌, nat_lt, Bool, true, false, not, if◌then◌else◌, List, [], ◌∷◌, ◌++◌, length, slice_index_or, Option, Some, None}
+use Rattle.std.specs.Prelude.{◌≡◌, ℕ, zero, suc, ◌+◌, ◌<◌, ◌==◌, ◌&&◌, ◌||◌, ◌/◌, ◌%◌, ◌-◌, ◌^◌, nat_lt, IsTrue, IfSome, Bool, true, false, not, if◌then◌else◌, List, [], ◌∷◌, ◌++◌, length, slice_index_or, Option, Some, None}
 use Rattle.std.specs.List.{slice_get, list_any}
 use Rattle.opt_base.specs.Seal.{Blocks, blocks_of}
 use Rattle.opt_draw.specs.Draws.{next_state, drawn}
@@ -8,6 +8,7 @@ use Rattle.opt_disk.specs.declared.event.Event.TheVariants.{Wrote, Lost, Noticed
 use Rattle.opt_disk.specs.Cell.{accepted, is_accepted, is_noticed}
 use Rattle.opt_base.specs.Counts.{next_count}
 use Rattle.opt_disk.specs.Disk.{State}
+use Rattle.opt_disk.specs.Manner.{Manner, any_manner, GoesBy}
 use Rattle.opt_memdisk.specs.declared.calls.DiskCall.{DiskCall}
 use Rattle.opt_memdisk.specs.declared.calls.DiskCall.TheVariants as calls
 use Rattle.opt_memdisk.specs.declared.calls.Fail.{Fail}
@@ -17,40 +18,36 @@ use Rattle.opt_memdisk.specs.declared.rule.Notices.{Notices}
 use Rattle.opt_memdisk.specs.declared.rule.Notices.TheVariants as notices
 use Rattle.opt_memdisk.specs.Log.{LogState, tickets, open_tickets, write_count, AreWithin}
 
--- a disk in memory: the blocks that it began with, the events since, how many writes it has room for, how its polls find notices, which calls fail, and its counts of failed calls and of all calls
+-- a disk in memory: the blocks that it began with, the events since, how many writes it has room for, how its polls find notices, which calls fail, the rule of its notices where rule and failing calls were set before the first call, and its counts of failed calls and of all calls but writes
 pub record MemDiskState : Type 0 where
   pub base : List (List ℕ)
   pub log : List Event
   pub room : ℕ
   pub notices : Notices
   pub fails : List Fail
+  pub known : Option Rule
   pub faults : ℕ
   pub read_faults : ℕ
   pub reads : ℕ
-  pub writes : ℕ
   pub polls : ℕ
   pub waits : ℕ
 
 -- a disk that begins with these blocks: its polls have no notices, and no call is listed to fail
 abbrev pub begun : List (List ℕ) → ℕ → MemDiskState
-begun image room = record { base = image; log = []; room = room; notices = notices.Silent; fails = []; faults = 0; read_faults = 0; reads = 0; writes = 0; polls = 0; waits = 0 }
+begun image room = record { base = image; log = []; room = room; notices = notices.Silent; fails = []; known = Some rules.Silent; faults = 0; read_faults = 0; reads = 0; polls = 0; waits = 0 }
 
 -- a disk that has these events behind it, and no room for more writes
 abbrev pub with_log : List (List ℕ) → List Event → MemDiskState
-with_log image log = record (begun image (write_count log)) { log = log }
+with_log image log = record (begun image (write_count log)) { log = log; known = None }
 
--- the numbers of a disk: its room, its counts of failed calls, and those of all calls
+-- the numbers of a disk: its room, its counts of failed calls, and those of all calls but writes
 abbrev pub room_and_counts : MemDiskState → List ℕ
-room_and_counts d = d.room ∷ d.faults ∷ d.read_faults ∷ d.reads ∷ d.writes ∷ d.polls ∷ d.waits ∷ []
+room_and_counts d = d.room ∷ d.faults ∷ d.read_faults ∷ d.reads ∷ d.polls ∷ d.waits ∷ []
 
--- what the contract of disks says of it
-abbrev pub state_of : MemDiskState → State
-state_of d = record { blocks = length d.base; base = blocks_of d.base; log = d.log; faults = d.faults; read_faults = d.read_faults; waits = d.waits; polls = d.polls }
-
--- which call of a kind the next one is, counted from 1
+-- which call of a kind the next one is, counted from 1; of writes those count that are in the log, since past the room none is accepted or lost
 abbrev pub next_call : DiskCall → MemDiskState → ℕ
 next_call calls.Read d = next_count d.reads
-next_call calls.Write d = next_count d.writes
+next_call calls.Write d = write_count d.log + 1
 next_call calls.Poll d = next_count d.polls
 next_call calls.Wait d = next_count d.waits
 
@@ -81,10 +78,10 @@ is_listed call n fails = list_any (λ f. same_call f.kind call && (f.nth == n)) 
 abbrev pub fails_next : DiskCall → MemDiskState → Bool
 fails_next call d = is_listed call (next_call call d) d.fails
 
--- one more call of this kind
+-- one more call of this kind; writes are counted by the log
 abbrev pub counted : DiskCall → MemDiskState → MemDiskState
 counted calls.Read d = record d { reads = next_count d.reads }
-counted calls.Write d = record d { writes = next_count d.writes }
+counted calls.Write d = d
 counted calls.Poll d = record d { polls = next_count d.polls }
 counted calls.Wait d = record d { waits = next_count d.waits }
 
@@ -112,9 +109,9 @@ with_event e d = record d { log = d.log ++ e ∷ [] }
 abbrev pub after_write : MemDiskState → ℕ → List ℕ → MemDiskState
 after_write d b x =
     if has_room d then
-    (if fails_next calls.Write d then faulted (with_event (Lost b x) (counted calls.Write d))
-    else with_event (Wrote (next_ticket d) b x) (counted calls.Write d))
-    else faulted (counted calls.Write d)
+    (if fails_next calls.Write d then faulted (with_event (Lost b x) d)
+    else with_event (Wrote (next_ticket d) b x) d)
+    else faulted d
 
 -- the ticket that a draw gives, of those that are open: none where it is a multiple of 4, else the one at the place that the rest of the draw says
 abbrev pub drawn_ticket : ℕ → List ℕ → Option ℕ
@@ -162,6 +159,58 @@ abbrev pub by_rule : Rule → Notices
 by_rule rules.Silent = notices.Silent
 by_rule rules.Fifo = notices.Fifo
 by_rule (rules.Seed seed) = notices.Drawn seed
+
+-- how polls find notices after so many that didn't fail
+abbrev pub turns : ℕ → Notices → Notices
+turns zero n = n
+turns (suc k) n = turned (turns k n)
+
+-- whether some call of this kind is listed to fail
+abbrev pub has_listed : DiskCall → List Fail → Bool
+has_listed call fails = list_any (λ f. same_call f.kind call) fails
+
+-- what the next poll answers behind these events, where the disk was polled so often: as the rule has it after so many, where no poll is listed to fail and the count isn't at its last value
+abbrev pub ruled : List Fail → Rule → ℕ → List Event → Option (Option ℕ)
+ruled fails rule polls log = if has_listed calls.Poll fails then None else (if nat_lt polls (2 ^ 64 - 1) then Some (polled (turns polls (by_rule rule)) (open_tickets log)) else None)
+
+-- the manner of a disk with this room whose failing calls and rule are known: while there is room, exactly the listed writes are lost and the others accepted; past it each write fails with nothing lost; another call may fail only where one of its kind is listed
+abbrev pub manner_by : ℕ → List Fail → Rule → Manner
+manner_by room fails rule = record {
+  reads_fail = has_listed calls.Read fails;
+  stalls = has_listed calls.Poll fails || has_listed calls.Wait fails;
+  accepts = λ log. nat_lt (write_count log) room && not (is_listed calls.Write (write_count log + 1) fails);
+  loses = λ log. nat_lt (write_count log) room && is_listed calls.Write (write_count log + 1) fails;
+  refuses = λ log. not (nat_lt (write_count log) room);
+  notice = ruled fails rule;
+}
+
+-- its manner: that, or anything where rule or failing calls were set amid its calls
+abbrev pub manner_known : ℕ → List Fail → Option Rule → Manner
+manner_known room fails None = any_manner
+manner_known room fails (Some rule) = manner_by room fails rule
+
+abbrev pub manner_of : MemDiskState → Manner
+manner_of d = manner_known d.room d.fails d.known
+
+-- what the contract of disks says of it
+abbrev pub state_of : MemDiskState → State
+state_of d = record { blocks = length d.base; base = blocks_of d.base; log = d.log; faults = d.faults; read_faults = d.read_faults; waits = d.waits; polls = d.polls; manner = manner_of d }
+
+-- no event came, no poll was made, and no read failed
+abbrev pub is_untouched : MemDiskState → Bool
+is_untouched d = (length d.log == 0) && ((d.polls == 0) && (d.read_faults == 0))
+
+-- the disk has gone by its room, its list and this rule since it began: its writes are accepted and lost by them, no read failed where none is listed, and its notices are at their first turn before the first poll, and where no poll is listed at the one that the count of polls says
+pub record GoesByRule (room : ℕ) (log : List Event) (notices : Notices) (fails : List Fail) (read_faults polls : ℕ) (rule : Rule) : Type 0 where
+  pub writes : GoesBy (manner_by room fails rule) log
+  pub reads : 0 < read_faults → has_listed calls.Read fails ≡ true
+  pub first : polls ≡ 0 → notices ≡ by_rule rule
+  pub turn : has_listed calls.Poll fails ≡ false → polls < 2 ^ 64 - 1 → notices ≡ turns polls (by_rule rule)
+
+-- the same where the rule is known
+abbrev pub GoesAsKnown : ℕ → List Event → Notices → List Fail → ℕ → ℕ → Option Rule → Type 0
+GoesAsKnown room log notices fails read_faults polls None = Unit {0}
+GoesAsKnown room log notices fails read_faults polls (Some rule) = GoesByRule room log notices fails read_faults polls rule
 
 -- a block's place is right: 0 where it has its bytes of the base, else one more than the place in the log of its last accepted write
 abbrev pub IsLast : Blocks → List Event → ℕ → ℕ → Type 0

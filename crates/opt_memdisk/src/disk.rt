@@ -2,10 +2,11 @@
 //! are kept once. Which calls fail, and which notices its polls have, is set by its caller. The rules are described in
 //! docs/DISK.md.
 
-ghost use Rattle.std.specs.Prelude.{◌≡◌, ◌<◌, ◌≤◌, ◌+◌, ◌^◌, ℕ, Bool, true, false, not, List, length, Ok, Err, None, is_ok, is_err, option_map, take, IfOk, OnOk, OnErr, IsTrue, if◌then◌else◌};
+ghost use Rattle.std.specs.Prelude.{◌≡◌, ◌<◌, ◌≤◌, ◌+◌, ◌^◌, ℕ, Bool, true, false, not, List, [], length, Ok, Err, Some, None, is_ok, is_err, option_map, take, IfOk, IfSome, OnOk, OnErr, IsTrue, if◌then◌else◌};
 ghost use Rattle.std.specs.List.{slice_get};
 ghost use Rattle.opt_base.specs.Seal.{blocks_of};
-ghost use Rattle.opt_disk.specs.Cell.{accepted, greatest_ticket, is_accepted, is_noticed, IsNoticed};
+ghost use Rattle.opt_disk.specs.Cell.{accepted, greatest_ticket, is_accepted, is_noticed, IsAccepted, IsNoticed};
+ghost use Rattle.opt_disk.specs.Manner.{AnswersBy, HasFailedBy};
 ghost use Rattle.opt_base.specs.Counts.{HasCause, next_count};
 ghost use Rattle.opt_disk.specs.Disk.{IsOpen, Reads, AddsWrite, AddsPoll, AddsNotices, SameDisk};
 ghost use Rattle.opt_disk.specs.Bay.{zero_blocks};
@@ -15,8 +16,9 @@ ghost use Rattle.opt_disk.specs.declared.event.Event.{Event};
 ghost use Rattle.opt_disk.specs.declared.event.Event.TheVariants.{Wrote, Lost, Noticed};
 ghost use Rattle.opt_memdisk.specs.Choice.{GivesImage};
 ghost use Rattle.opt_memdisk.specs.Log.{AreWithin, write_count};
-ghost use Rattle.opt_memdisk.specs.MemDisk.{begun, with_log, state_of, has_room, next_ticket, next_call, fails_next, with_event, room_and_counts, counted, faulted, after_read, after_write, after_poll, after_wait, poll_answer, can_wait, by_rule, AreLast};
+ghost use Rattle.opt_memdisk.specs.MemDisk.{begun, with_log, state_of, manner_of, is_untouched, turned, has_room, next_ticket, next_call, fails_next, with_event, room_and_counts, counted, faulted, after_read, after_write, after_poll, after_wait, poll_answer, can_wait, by_rule, AreLast};
 ghost use Rattle.opt_memdisk.specs.declared.calls.DiskCall.TheVariants.{Read, Write, Poll, Wait};
+ghost use Rattle.opt_memdisk.specs.declared.rule.Rule.TheVariants.{Silent};
 
 use crate::calls::is_listed;
 use crate::crash::image_at;
@@ -38,22 +40,23 @@ pub struct MemDisk {
     log: Log,
     notices: Notices,
     fails: Vec<Fail>,
+    /// The rule of the notices, where it and the failing calls were set before the first call.
+    known: Option<Rule>,
     faults: u64,
     read_faults: u64,
     reads: u64,
-    writes: u64,
     polls: u64,
     waits: u64,
 }
 
 impl Model for MemDisk {
-    ghost use Rattle.opt_memdisk.specs.MemDisk.{MemDiskState, IsDisk};
+    ghost use Rattle.opt_memdisk.specs.MemDisk.{MemDiskState, IsDisk, GoesAsKnown};
 
     ghost Value = { MemDiskState };
 
-    ghost view = { λ d. record { base = d.base; log = d.log.events; room = d.log.room; notices = d.notices; fails = d.fails.items; faults = d.faults; read_faults = d.read_faults; reads = d.reads; writes = d.writes; polls = d.polls; waits = d.waits } };
+    ghost view = { λ d. record { base = d.base; log = d.log.events; room = d.log.room; notices = d.notices; fails = d.fails.items; known = d.known; faults = d.faults; read_faults = d.read_faults; reads = d.reads; polls = d.polls; waits = d.waits } };
 
-    ghost invariant = { λ d. IsDisk d.base d.log d.last.items };
+    ghost invariant = { λ d. IsDisk d.base d.log d.last.items × GoesAsKnown d.log.room d.log.events d.notices d.fails.items d.read_faults d.polls d.known };
 }
 
 impl MemDisk {
@@ -79,7 +82,7 @@ impl MemDisk {
     {
         let last = vec![in alloc; 0usize; image.blocks() as usize]?;
         let log = Log::new(alloc, room)?;
-        Ok(MemDisk::of_parts(alloc, image, last, log))
+        Ok(MemDisk::of_parts(alloc, image, last, log, Some(Rule::Silent)))
     }
 
     /// A disk that began with the blocks of an image and has this log behind it. It has no room for more
@@ -94,15 +97,22 @@ impl MemDisk {
     {
         let last = last_places(alloc, log.as_slice(), image.blocks())?;
         let log = Log::of_events(alloc, log)?;
-        Ok(MemDisk::of_parts(alloc, image, last, log))
+        Ok(MemDisk::of_parts(alloc, image, last, log, None))
     }
 
-    // A disk of these parts, none of whose calls were made.
-    fn of_parts(alloc: Global, base: Image, last: Vec<usize>, log: Log) -> MemDisk
+    // A disk of these parts, none of whose calls were made. Its rule is known only where its log has no event.
+    fn of_parts(
+        alloc: Global,
+        base: Image,
+        last: Vec<usize>,
+        log: Log,
+        known: Option<Rule>,
+    ) -> MemDisk
         requires places { AreLast base log.events last.items }
         requires within { AreWithin (length base) log.events }
         requires boxes { write_count log.events + log.boxes ≡ log.room }
-        ensures { result ≡ record (begun base log.room) { log = log.events } }
+        requires known { IfSome known (λ rule. (log.events ≡ []) × (rule ≡ Silent)) }
+        ensures { result ≡ record (begun base log.room) { log = log.events; known = known } }
     {
         MemDisk {
             base,
@@ -110,33 +120,60 @@ impl MemDisk {
             log,
             notices: Notices::new(Rule::Silent),
             fails: Vec::new(alloc),
+            known,
             faults: 0,
             read_faults: 0,
             reads: 0,
-            writes: 0,
             polls: 0,
             waits: 0,
         }
     }
 
-    /// From now on polls find their notices by this rule. That of a seed begins with its first draw.
+    /// From now on polls find their notices by this rule. That of a seed begins with its first draw. Where an event
+    /// came, a poll was made or a read failed already, the disk's manner isn't known any more.
     pub fn notices(&mut self, rule: Rule)
-        ensures { self.new ≡ record self.old { notices = by_rule rule } }
+        ensures { self.new ≡ record self.old { notices = by_rule rule; known = (if is_untouched self.old then Some rule else None) } }
     {
+        self.known = if self.is_untouched() {
+            Some(rule)
+        } else {
+            None
+        };
         self.notices = Notices::new(rule);
     }
 
     /// From now on exactly these calls fail, beside those that must. A write among them is lost; of what else
-    /// they do, nothing happens. The list takes the place of the one before.
+    /// they do, nothing happens. The list takes the place of the one before. Where an event came, a poll was made or a
+    /// read failed already, the disk's manner isn't known any more.
     ///
     /// # Errors
     /// Out of memory, and the list stays as it was.
     pub fn fail_at(&mut self, alloc: Global, list: &[Fail]) -> Result<(), NoMemory>
-        ensures done { OnOk result (self.new ≡ record self.old { fails = list.now }) }
+        ensures done { OnOk result (self.new ≡ record self.old { fails = list.now; known = (if is_untouched self.old then self.old.known else None) }) }
         ensures same { OnErr result (self.new ≡ self.old) }
     {
+        let known = self.known_at_first();
         self.fails = Vec::from_slice(alloc, list)?;
+        self.known = known;
         Ok(())
+    }
+
+    // The rule that is known, where nothing happened yet.
+    fn known_at_first(&self) -> Option<Rule>
+        ensures { result ≡ (if is_untouched self.now then self.now.known else None) }
+    {
+        if self.is_untouched() {
+            self.known
+        } else {
+            None
+        }
+    }
+
+    // Whether no event came, no poll was made, and no read failed.
+    fn is_untouched(&self) -> bool
+        ensures { result ≡ is_untouched self.now }
+    {
+        self.log.len() == 0 && (self.polls == 0 && self.read_faults == 0)
     }
 
     /// The event at this place of the log, the first of which is 0, where there is one.
@@ -164,38 +201,32 @@ impl MemDisk {
         Ok(image)
     }
 
-    // Counts a call, and whether it is listed to fail.
-    fn begins(&mut self, call: DiskCall) -> bool
-        ensures listed { result ≡ fails_next call self.old }
-        ensures state { self.new ≡ counted call self.old }
+    // Whether the next call of this kind is listed to fail.
+    fn fails_next(&self, call: DiskCall) -> bool
+        ensures { result ≡ fails_next call self.now }
     {
-        let nth = self.count(call);
-        is_listed(self.fails.as_slice(), call, nth)
+        is_listed(self.fails.as_slice(), call, self.next_call(call))
     }
 
-    // Counts a call, and gives which of its kind it is.
-    fn count(&mut self, call: DiskCall) -> u64
-        ensures nth { result ≡ next_call call self.old }
-        ensures state { self.new ≡ counted call self.old }
+    // Which call of this kind the next one is.
+    fn next_call(&self, call: DiskCall) -> u64
+        ensures { result ≡ next_call call self.now }
     {
         match call {
-            DiskCall::Read => {
-                self.reads = self.reads.saturating_add(1);
-                self.reads
-            }
-            DiskCall::Write => {
-                self.writes = self.writes.saturating_add(1);
-                self.writes
-            }
-            DiskCall::Poll => {
-                self.polls = self.polls.saturating_add(1);
-                self.polls
-            }
-            DiskCall::Wait => {
-                self.waits = self.waits.saturating_add(1);
-                self.waits
-            }
+            DiskCall::Read => self.reads.saturating_add(1),
+            DiskCall::Write => u64::from(self.log.room() - self.log.boxes()) + 1,
+            DiskCall::Poll => self.polls.saturating_add(1),
+            DiskCall::Wait => self.waits.saturating_add(1),
         }
+    }
+
+    // Counts a poll that doesn't fail, and gives the ticket that it answers.
+    fn next_notice(&mut self) -> Option<u64>
+        ensures answer { result ≡ poll_answer self.old }
+        ensures state { self.new ≡ record (counted Poll self.old) { notices = turned self.old.notices } }
+    {
+        self.polls = self.polls.saturating_add(1);
+        self.notices.next(&self.log)
     }
 
     // The last accepted bytes of a block.
@@ -214,8 +245,8 @@ impl MemDisk {
         }
     }
 
-    // The room, the counts of failed calls, and those of all calls.
-    fn room_and_counts(&self) -> [u64; 7]
+    // The room, the counts of failed calls, and those of all calls but writes.
+    fn room_and_counts(&self) -> [u64; 6]
         ensures { result ≡ room_and_counts self.now }
     {
         [
@@ -223,7 +254,6 @@ impl MemDisk {
             self.faults,
             self.read_faults,
             self.reads,
-            self.writes,
             self.polls,
             self.waits,
         ]
@@ -249,6 +279,7 @@ impl MemDisk {
     fn accept(&mut self, b: u32, from: &Block) -> u64
         requires there { b < length self.old.base }
         requires room { IsTrue (has_room self.old) }
+        requires unlisted { fails_next Write self.old ≡ false }
         ensures ticket { result ≡ next_ticket self.old }
         ensures above { greatest_ticket self.old.log < result }
         ensures unnoticed { is_noticed result self.old.log ≡ false }
@@ -264,6 +295,7 @@ impl MemDisk {
     fn lose(&mut self, b: u32, from: &Block)
         requires there { b < length self.old.base }
         requires room { IsTrue (has_room self.old) }
+        requires listed { fails_next Write self.old ≡ true }
         ensures { self.new ≡ with_event (Lost b from.now) self.old }
     {
         self.log.add_lost(b, from);
@@ -331,10 +363,10 @@ impl Clone for MemDisk {
             log: self.log.clone()?,
             notices: self.notices,
             fails: self.fails.clone()?,
+            known: self.known,
             faults: self.faults,
             read_faults: self.read_faults,
             reads: self.reads,
-            writes: self.writes,
             polls: self.polls,
             waits: self.waits,
         })
@@ -389,9 +421,12 @@ impl Disk for MemDisk {
         ensures failed { OnErr result (into.new ≡ into.old) }
         ensures cause { HasCause result self.old.read_faults self.new.read_faults }
         ensures base { self.new.base ≡ self.old.base }
+        ensures manner { manner_of self.new ≡ manner_of self.old }
         ensures state { self.new ≡ after_read self.old }
     {
-        if self.begins(DiskCall::Read) {
+        let listed = self.fails_next(DiskCall::Read);
+        self.reads = self.reads.saturating_add(1);
+        if listed {
             self.read_faults = self.read_faults.saturating_add(1);
             return Err(DiskFault);
         }
@@ -406,9 +441,11 @@ impl Disk for MemDisk {
         ensures exact { is_ok result ≡ (if fails_next Write self.old then false else has_room self.old) }
         ensures ticket { IfOk result (λ t. t ≡ next_ticket self.old) }
         ensures base { self.new.base ≡ self.old.base }
+        ensures manner { manner_of self.new ≡ manner_of self.old }
         ensures state { self.new ≡ after_write self.old b from.now }
+        ensures reason { OnErr result (HasFailedBy (manner_of self.new) self.new.log) }
     {
-        let listed = self.begins(DiskCall::Write);
+        let listed = self.fails_next(DiskCall::Write);
         if !self.has_room() {
             return Err(self.fault());
         }
@@ -425,12 +462,16 @@ impl Disk for MemDisk {
         ensures exact { is_ok result ≡ not (fails_next Poll self.old) }
         ensures answer { IfOk result (λ ticket. ticket ≡ poll_answer self.old) }
         ensures base { self.new.base ≡ self.old.base }
+        ensures manner { manner_of self.new ≡ manner_of self.old }
         ensures state { self.new ≡ after_poll self.old }
+        ensures reason { OnErr result (HasFailedBy (manner_of self.new) self.new.log) }
+        ensures known { AnswersBy ((manner_of self.old).notice self.old.polls self.old.log) result }
     {
-        if self.begins(DiskCall::Poll) {
+        if self.fails_next(DiskCall::Poll) {
+            self.polls = self.polls.saturating_add(1);
             return Err(self.fault());
         }
-        match self.notices.next(&self.log) {
+        match self.next_notice() {
             None => Ok(None),
             Some(ticket) => {
                 self.note(ticket);
@@ -445,9 +486,14 @@ impl Disk for MemDisk {
         ensures cause { HasCause result self.old.faults self.new.faults }
         ensures exact { is_ok result ≡ can_wait self.old ticket }
         ensures base { self.new.base ≡ self.old.base }
+        ensures manner { manner_of self.new ≡ manner_of self.old }
         ensures state { self.new ≡ after_wait self.old ticket }
+        ensures reason { IsAccepted ticket self.old.log → OnErr result (HasFailedBy (manner_of self.new) self.new.log) }
+        ensures stalls { IsAccepted ticket self.old.log → OnErr result ((manner_of self.old).stalls ≡ true) }
     {
-        if self.begins(DiskCall::Wait) {
+        let listed = self.fails_next(DiskCall::Wait);
+        self.waits = self.waits.saturating_add(1);
+        if listed {
             return Err(self.fault());
         }
         if !self.log.is_accepted(ticket) {

@@ -134,6 +134,13 @@ impl Log {
         self.events.as_slice()
     }
 
+    /// How many boxes are ready for the bytes of writes.
+    pub(crate) fn boxes(&self) -> u32
+        ensures { result ≡ self.now.boxes }
+    {
+        self.boxes.len() as u32
+    }
+
     /// Whether a box is ready for one more write.
     pub(crate) fn has_box(&self) -> bool
         ensures { result ≡ nat_lt 0 self.now.boxes }

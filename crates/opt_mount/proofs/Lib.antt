@@ -2,3 +2,4 @@ pub mod Founds
 pub mod States
 pub mod Replays
 pub mod Opens
+pub mod OnlyWrite

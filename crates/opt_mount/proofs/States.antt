@@ -28,7 +28,7 @@ more_calls (suc a) b n = ap next_count (more_calls a b n) ∙ ap (λ k. after_ca
 -- calls in a row spend together, where only the last one may have failed
 pub spends_on : (unread faulty : Bool) (a b most : ℕ) (old mid new : State) → a + b ≤ most → MountSpends false false a old mid → MountSpends unread faulty b mid new → MountSpends unread faulty most old new
 spends_on unread faulty a b most old mid new le one two = record {
-  same = record { blocks = two.same.blocks ∙ one.same.blocks; base = two.same.base ∙ one.same.base };
+  same = record { blocks = two.same.blocks ∙ one.same.blocks; base = two.same.base ∙ one.same.base; manner = two.same.manner ∙ one.same.manner };
   read_faults = two.read_faults ∙ ap (after_call unread) one.read_faults;
   faults = two.faults ∙ ap (after_call faulty) one.faults;
   waits = (two.waits.0 + one.waits.0, omega (arith, one.waits.1, two.waits.1), two.waits.2 ∙ ap (after_calls two.waits.0) one.waits.2 ∙ more_calls two.waits.0 one.waits.0 old.waits);
@@ -37,7 +37,7 @@ spends_on unread faulty a b most old mid new le one two = record {
 
 -- nothing is spent so far
 pub spends_none : (s : State) (most : ℕ) → MountSpends false false most s s
-spends_none s most = record { same = record { blocks = refl; base = refl }; read_faults = refl; faults = refl; waits = (0, omega arith, refl); polls = refl }
+spends_none s most = record { same = record { blocks = refl; base = refl; manner = refl }; read_faults = refl; faults = refl; waits = (0, omega arith, refl); polls = refl }
 
 -- what is spent at most so often is so at most more often
 pub spends_less : (unread faulty : Bool) (few most : ℕ) (old new : State) → few ≤ most → MountSpends unread faulty few old new → MountSpends unread faulty most old new

@@ -32,11 +32,15 @@ pub record IsFoundOn (d : State) (f : FoundDisk) : Type 0 where
   pub is_found : IsFound d.blocks (settled_on d) f.run
   pub is_greatest : IsGreatestEpoch f.run.header.geom (settled_on d) f.epoch
 
+-- no run that is found on the disk has a record, so that there is nothing to replay
+abbrev pub HasNothingToReplay : State → Type 0
+HasNothingToReplay d = (f : FoundDisk) → IsFoundOn d f → f.run.records ≡ []
+
 -- each honest image of each moment from t on holds the map of this run, which was found in these blocks
 abbrev pub StaysFound : State → ℕ → Blocks → FoundRun → Type 0
 StaysFound d t at r = Window r.header.geom.n d.base d.log t (λ img. HoldsUnder r.header.geom.n r.header.geom img (found_map at r.header r.records))
 
--- A header goes on from what was found: its epoch is one above the greatest on the disk, its turn is later, and its records begin behind the last one of the run, at the first ring place.
+-- A header goes on from what was found: its epoch is one above the greatest on the disk, its turn is later by one or two, and its records begin behind the last one of the run, at the first ring place.
 pub record GoesOn (n : ℕ) (at : Blocks) (h : Header) : Type 0 where
   pub found : FoundRun
   pub is_found : IsFound n at found
@@ -44,6 +48,7 @@ pub record GoesOn (n : ℕ) (at : Blocks) (h : Header) : Type 0 where
   pub is_greatest : IsGreatestEpoch found.header.geom at greatest
   pub epoch : h.epoch ≡ greatest + 1
   pub turn : found.header.turn < h.turn
+  pub most : h.turn ≤ found.header.turn + 2
   pub start : h.start ≡ last_number found.header (length found.records) + 1
   pub sure : h.sure ≡ last_number found.header (length found.records)
   pub place : h.at ≡ 0

@@ -1,19 +1,19 @@
 //! The mount itself: what is found is closed and replayed, and then the journal is opened.
 
-ghost use Rattle.std.specs.Prelude.{◌≡◌, ◌<◌, ◌≤◌, ◌+◌, ◌-◌, ◌^◌, ℕ, List, [], IsTrue, IfOk, IfErr, length};
+ghost use Rattle.std.specs.Prelude.{◌≡◌, ◌<◌, ◌≤◌, ◌+◌, ◌-◌, ◌^◌, ℕ, true, List, [], IsTrue, IfOk, IfErr, length};
 ghost use Rattle.opt_base.specs.Seal.{Blocks};
 ghost use Rattle.opt_disk.specs.Crash.{Window};
 ghost use Rattle.opt_geom.specs.Geometry.{Geometry};
 ghost use Rattle.opt_journal.specs.declared.header.Header as headers;
 ghost use Rattle.opt_journal.specs.Run.{Record, IsRun, live_part};
-ghost use Rattle.opt_disk.specs.Disk.{Grows};
+ghost use Rattle.opt_disk.specs.Disk.{Grows, HasFailed};
 ghost use Rattle.opt_crash.specs.Ledger.{HoldsUnder, cells_of};
 ghost use Rattle.opt_crash.specs.Mounting.{HasBegun};
-ghost use Rattle.opt_crash.specs.Opening.{opening_header, IsReadyToOpen};
+ghost use Rattle.opt_crash.specs.Opening.{opening_header, IsReadyToOpen, WritesOnce};
 ghost use Rattle.opt_recover.specs.Epoch.{IsGreatestEpoch};
 ghost use Rattle.opt_recover.specs.Search.{last_number};
 ghost use Rattle.opt_crash.specs.Replay.{IsFound, IsReplayed, found_map};
-ghost use Rattle.opt_mount.specs.Mount.{IsIdle, IsFoundOn, settled_on, GoesOn, RefusalSays, MountSpends, OpensAnew};
+ghost use Rattle.opt_mount.specs.Mount.{IsIdle, IsFoundOn, HasNothingToReplay, settled_on, GoesOn, RefusalSays, MountSpends, OpensAnew};
 ghost use Rattle.opt_mount.specs.Refusal.{IsFault, is_unread, is_faulty};
 
 use crate::found::{Found, find};
@@ -39,7 +39,8 @@ pub struct Mounted {
 
 /// Mounts a disk on which nothing is pending: closes and replays the run that it has, where there is one, and
 /// opens the journal under a new epoch. A session begins with the map that the disk held, and each honest
-/// image since the call began holds it, whatever comes of the call.
+/// image since the call began holds it, whatever comes of the call. Where there is no record to replay, the
+/// header that opens the journal is its only write.
 ///
 /// # Errors
 /// `NoHeader` and `Spent` come of what is on the disk, and `NoMemory` of want of memory: nothing is written
@@ -52,7 +53,9 @@ pub fn mount<D: Disk>(alloc: Global, disk: &mut D) -> Result<Mounted, MountRefus
         → Window (D.state disk.old).blocks (D.state disk.old).base (D.state disk.new).log (length (D.state disk.old).log) (λ img. HoldsUnder (D.state disk.old).blocks g img m) }
     ensures refused { IsTrue D.tells → IsIdle (D.state disk.old) → IfErr result (RefusalSays (D.state disk.old) (D.state disk.new)) }
     ensures spends { MountSpends (is_unread result) (is_faulty result) ((D.state disk.old).blocks + 2) (D.state disk.old) (D.state disk.new) }
+    ensures cause { IsTrue D.tells → is_faulty result ≡ true → HasFailed (D.state disk.new) }
     ensures anew { IfOk result (λ q. OpensAnew q.header (D.state disk.old) (D.state disk.new)) }
+    ensures alone { IsTrue D.tells → IsIdle (D.state disk.old) → HasNothingToReplay (D.state disk.old) → WritesOnce (D.state disk.old).manner result (D.state disk.old).log (D.state disk.new).log }
 {
     an_image_holds_one_map();
     journal_blocks_keep_to_their_bounds();
@@ -78,7 +81,9 @@ pub fn open<D: Disk>(disk: &mut D, found: &Found) -> Result<Mounted, MountRefusa
         → Window (D.state disk.old).blocks (D.state disk.old).base (D.state disk.new).log (length (D.state disk.old).log) (λ img. HoldsUnder (D.state disk.old).blocks g img m) }
     ensures fault { IfErr result IsFault }
     ensures spends { MountSpends (is_unread result) (is_faulty result) ((D.state disk.old).blocks + 2) (D.state disk.old) (D.state disk.new) }
+    ensures cause { IsTrue D.tells → is_faulty result ≡ true → HasFailed (D.state disk.new) }
     ensures anew { IfOk result (λ q. OpensAnew q.header (D.state disk.old) (D.state disk.new)) }
+    ensures alone { IsTrue D.tells → found.now.run.records ≡ [] → WritesOnce (D.state disk.old).manner result (D.state disk.old).log (D.state disk.new).log }
 {
     an_image_holds_one_map();
     let mounted = open_found(disk, found.run(), found.epoch())?;
@@ -94,12 +99,14 @@ fn open_found<D: Disk>(disk: &mut D, run: &Run, epoch: u64) -> Result<Mounted, M
     requires last { last_number run.now.header (length run.now.records) < 2 ^ 64 - 1 }
     ensures begins { IsTrue D.tells → IsIdle (D.state disk.old) → IsFound run.now.header.geom.n (settled_on (D.state disk.old)) run.now.slot run.now.header run.now.records → IsGreatestEpoch run.now.header.geom (settled_on (D.state disk.old)) epoch
         → IfOk result (λ q. HasBegun (D.state disk.new) run.now.header.geom q.slot q.header (length (D.state disk.old).log) (found_map (settled_on (D.state disk.old)) run.now.header run.now.records)) }
-    ensures header { IfOk result (λ q. (q.header.epoch ≡ epoch + 1) × (run.now.header.turn < q.header.turn) × (q.header.start ≡ last_number run.now.header (length run.now.records) + 1) × (q.header.sure ≡ last_number run.now.header (length run.now.records)) × (q.header.at ≡ 0)) }
+    ensures header { IfOk result (λ q. (q.header.epoch ≡ epoch + 1) × (run.now.header.turn < q.header.turn) × (q.header.turn ≤ run.now.header.turn + 2) × (q.header.start ≡ last_number run.now.header (length run.now.records) + 1) × (q.header.sure ≡ last_number run.now.header (length run.now.records)) × (q.header.at ≡ 0)) }
     ensures holds { IsTrue D.tells → IsIdle (D.state disk.old) → IsFound run.now.header.geom.n (settled_on (D.state disk.old)) run.now.slot run.now.header run.now.records → IsGreatestEpoch run.now.header.geom (settled_on (D.state disk.old)) epoch
         → Window run.now.header.geom.n (D.state disk.old).base (D.state disk.new).log (length (D.state disk.old).log) (λ img. HoldsUnder run.now.header.geom.n run.now.header.geom img (found_map (settled_on (D.state disk.old)) run.now.header run.now.records)) }
     ensures fault { IfErr result IsFault }
     ensures spends { MountSpends (is_unread result) (is_faulty result) (run.now.header.geom.n + 2) (D.state disk.old) (D.state disk.new) }
+    ensures cause { IsTrue D.tells → is_faulty result ≡ true → HasFailed (D.state disk.new) }
     ensures anew { IfOk result (λ q. OpensAnew q.header (D.state disk.old) (D.state disk.new)) }
+    ensures alone { IsTrue D.tells → run.now.records ≡ [] → WritesOnce (D.state disk.old).manner result (D.state disk.old).log (D.state disk.new).log }
 {
     no_epoch_is_above_the_greatest();
     a_replay_goes_block_by_block();
@@ -138,7 +145,9 @@ fn open_after<D: Disk>(
     ensures grows { IsTrue D.tells → Grows (D.state disk.old).log (D.state disk.new).log }
     ensures fault { IfErr result IsFault }
     ensures spends { MountSpends (is_unread result) (is_faulty result) 1 (D.state disk.old) (D.state disk.new) }
+    ensures cause { IsTrue D.tells → is_faulty result ≡ true → HasFailed (D.state disk.new) }
     ensures anew { IfOk result (λ q. OpensAnew q.header (D.state disk.old) (D.state disk.new)) }
+    ensures alone { IsTrue D.tells → WritesOnce (D.state disk.old).manner result (D.state disk.old).log (D.state disk.new).log }
 {
     calls_only_add();
     match open_journal(disk, slot, newest, last, epoch) {

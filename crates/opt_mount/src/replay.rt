@@ -1,9 +1,9 @@
 //! The replay of the run that was found: it is closed, and then the last payload of each block goes to its
 //! place, ascending, each waited for. How the journal is opened behind it isn't described here.
 
-ghost use Rattle.std.specs.Prelude.{◌≡◌, ◌<◌, ◌≤◌, ◌+◌, ◌-◌, ◌^◌, ℕ, List, IsTrue, IfOk, IfErr, OnOk, Some, None, is_err, length};
+ghost use Rattle.std.specs.Prelude.{◌≡◌, ◌<◌, ◌≤◌, ◌+◌, ◌-◌, ◌^◌, ℕ, true, List, IsTrue, IfOk, IfErr, OnOk, Some, None, is_err, length};
 ghost use Rattle.opt_base.specs.Seal.{Blocks};
-ghost use Rattle.opt_disk.specs.Disk.{Grows, OnlyReads};
+ghost use Rattle.opt_disk.specs.Disk.{Grows, HasFailed, OnlyReads};
 ghost use Rattle.opt_disk.specs.Crash.{Window};
 ghost use Rattle.opt_geom.specs.Geometry.{bitmap_start, ring_block};
 ghost use Rattle.opt_journal.specs.declared.header.Header as headers;
@@ -45,6 +45,7 @@ pub(crate) fn replay_found<D: Disk>(disk: &mut D, run: &Run) -> Result<Closed, M
     ensures grows { IsTrue D.tells → Grows (D.state disk.old).log (D.state disk.new).log }
     ensures fault { IfErr result IsFault }
     ensures spends { MountSpends (is_unread result) (is_faulty result) (run.now.header.geom.n + 1) (D.state disk.old) (D.state disk.new) }
+    ensures cause { IsTrue D.tells → is_faulty result ≡ true → HasFailed (D.state disk.new) }
 {
     windows_go_on::<HoldsMap>();
     let closed = close_run(disk, run)?;
@@ -65,6 +66,7 @@ pub(crate) fn close_run<D: Disk>(disk: &mut D, run: &Run) -> Result<Closed, Moun
     ensures grows { IsTrue D.tells → Grows (D.state disk.old).log (D.state disk.new).log }
     ensures fault { IfErr result IsFault }
     ensures spends { MountSpends (is_unread result) (is_faulty result) 1 (D.state disk.old) (D.state disk.new) }
+    ensures cause { IsTrue D.tells → is_faulty result ≡ true → HasFailed (D.state disk.new) }
 {
     journal_blocks_keep_to_their_bounds();
     a_replay_goes_block_by_block();
@@ -108,6 +110,7 @@ pub(crate) fn replay_run<D: Disk>(disk: &mut D, run: &Run) -> Result<(), MountRe
     ensures grows { IsTrue D.tells → Grows (D.state disk.old).log (D.state disk.new).log }
     ensures fault { IfErr result IsFault }
     ensures spends { MountSpends (is_unread result) (is_faulty result) run.now.header.geom.n (D.state disk.old) (D.state disk.new) }
+    ensures cause { IsTrue D.tells → is_faulty result ≡ true → HasFailed (D.state disk.new) }
 {
     a_replay_holds_what_was_found();
     windows_go_on::<HoldsMap>();
@@ -131,6 +134,7 @@ fn replay_payload<D: Disk>(disk: &mut D, run: &Run, b: u32) -> Result<(), MountR
     ensures grows { IsTrue D.tells → Grows (D.state disk.old).log (D.state disk.new).log }
     ensures fault { IfErr result IsFault }
     ensures spends { MountSpends (is_unread result) (is_faulty result) 1 (D.state disk.old) (D.state disk.new) }
+    ensures cause { IsTrue D.tells → is_faulty result ≡ true → HasFailed (D.state disk.new) }
 {
     a_replay_goes_block_by_block();
     a_replay_holds_what_was_found();
@@ -153,6 +157,7 @@ fn write_payload<D: Disk>(disk: &mut D, b: u32, bytes: &Block) -> Result<(), Mou
     ensures grows { IsTrue D.tells → Grows (D.state disk.old).log (D.state disk.new).log }
     ensures fault { IfErr result IsFault }
     ensures spends { MountSpends (is_unread result) (is_faulty result) 1 (D.state disk.old) (D.state disk.new) }
+    ensures cause { IsTrue D.tells → is_faulty result ≡ true → HasFailed (D.state disk.new) }
 {
     calls_only_add();
     match replay_block(disk, b, bytes) {

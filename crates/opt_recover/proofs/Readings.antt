@@ -9,14 +9,14 @@ use Rattle.opt_recover.specs.Reading.{Gives, Searches}
 
 -- before the first read nothing is another
 pub none_read : (tells : Bool) (s : State) → Searches tells false s s
-none_read tells s = record { log = λ _. refl; only = record { same = record { blocks = refl; base = refl }; faults = refl; read_faults = refl; waits = refl; polls = refl } }
+none_read tells s = record { log = λ _. refl; only = record { same = record { blocks = refl; base = refl; manner = refl }; faults = refl; read_faults = refl; waits = refl; polls = refl } }
 
 -- reads after reads
 pub read_on : (tells failed : Bool) (a b c : State) → Searches tells false a b → Searches tells failed b c → Searches tells failed a c
 read_on tells failed a b c x y = record {
   log = λ t. y.log t ∙ x.log t;
   only = record {
-    same = record { blocks = y.only.same.blocks ∙ x.only.same.blocks; base = y.only.same.base ∙ x.only.same.base };
+    same = record { blocks = y.only.same.blocks ∙ x.only.same.blocks; base = y.only.same.base ∙ x.only.same.base; manner = y.only.same.manner ∙ x.only.same.manner };
     faults = y.only.faults ∙ x.only.faults;
     read_faults = y.only.read_faults ∙ ap (after_call failed) x.only.read_faults;
     waits = y.only.waits ∙ x.only.waits;

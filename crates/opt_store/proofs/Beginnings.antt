@@ -1,6 +1,6 @@
 -- What a store keeps as it begins, and with which map: new parts on a disk on which a session has begun.
 use Rattle.std.proofs.Common.{◌≡◌, ⊎_elim, ℕ, zero, suc, ◌+◌, ◌-◌, ◌^◌, ◌<◌, ◌≤◌, nat_le, nat_lt, ◌&&◌, ◌||◌, not, ◌==◌, if◌then◌else◌, Bool, true, false, IsTrue, List, [], ◌∷◌, ◌++◌, length, map, drop, None, refl, sym, ◌∙◌, ap, ap₂, subst, arith}
-use Rattle.std.proofs.lemmas.Bool.{cases_lt, le-ltb, lt-ltb}
+use Rattle.std.proofs.lemmas.Bool.{cases_lt, le-ltb, lt-ltb, false≢true}
 use Rattle.std.specs.List.{filter, range_with_len}
 use Rattle.std.proofs.Props.{props}
 use Rattle.std.proofs.Math.Logic.{∥∥₁_elim}
@@ -33,6 +33,7 @@ use Rattle.opt_checkpoint.specs.declared.pipeline.Pipeline.{Pipeline}
 use Rattle.opt_checkpoint.specs.Advance.{IsRight, IsSound}
 use Rattle.opt_checkpoint.specs.Agree.{PipelineAgrees, durable_count}
 use Rattle.opt_checkpoint.specs.Kept.{behind_batch, kept, newest_in, payloads_in, of_committed, of_durable, of_sure}
+use Rattle.opt_checkpoint.specs.Steps.{is_first_settled}
 use Rattle.opt_mount.specs.Mount.{OpensAnew}
 use Rattle.opt_blocks.specs.declared.role.Role.{Role}
 use Rattle.opt_blocks.specs.declared.role.Role.TheVariants.{Untouched}
@@ -217,6 +218,7 @@ module _ (g : Geometry) (slot : ℕ) (h : Header) (moment : ℕ) (v : StoreParts
   told_at_once : BeginLaws → (d : State) (since : ℕ) (m : Blocks) → d.blocks ≡ g.n → Starts d g slot h moment since v.books m → IsToldBy v d (first_ledger d g slot h)
   told_at_once laws d since m size starts = record {
     safe = safe;
+    failed = λ stopped. absurd (false≢true (sym new.going ∙ stopped));
     made = omega (arith, new.first);
     began = subst (λ (x : Blocks). BeganAt v.books x) (sym (first_is laws d since m starts.begun)) (laws.began d g slot h since m v.books starts.begun new.books starts.bitmap);
     whole = λ b lives. ap (λ (x : List ℕ). length x) (stands_for d b) ∙ accepted_whole d b starts.lawful (omega (arith, size, ap (λ (k : Geometry). k.n) new.books.geom, live_below v.books.geom (last_map v d) b lives));
@@ -225,6 +227,7 @@ module _ (g : Geometry) (slot : ℕ) (h : Header) (moment : ℕ) (v : StoreParts
           (subst (λ ring. PipelineAgrees d.base d.log (first_ledger d g slot h) v.pipeline ring v.books.dead.waiting []) (sym new.ring) right.agrees);
       serves = right.serves;
       next = omega (arith, new.first, new.point);
+      due = ap (λ (cs : List Committed). is_first_settled cs v.pipeline.notes.notes) new.pipeline.none.committed;
       cache = record {
         newest = λ b lives is. ap (λ ks. newest_in None ks b) (kept_none g slot h v.pipeline new.pipeline);
         same = λ b lives. subst (λ (k : Cache). Agrees k d) (sym new.cache) (laws.cache v.cache.capacity d) b;

@@ -26,14 +26,14 @@ use Rattle.opt_store.proofs.OnePoint.{low_live}
 
 -- nothing is read so far
 pub searches_none : (tells : Bool) (s : State) → Searches tells false s s
-searches_none tells s = record { log = λ t. refl; only = record { same = record { blocks = refl; base = refl }; faults = refl; read_faults = refl; waits = refl; polls = refl } }
+searches_none tells s = record { log = λ t. refl; only = record { same = record { blocks = refl; base = refl; manner = refl }; faults = refl; read_faults = refl; waits = refl; polls = refl } }
 
 -- and then more, where only the last read may have failed
 pub searches_on : (tells failed : Bool) (old mid new : State) → Searches tells false old mid → Searches tells failed mid new → Searches tells failed old new
 searches_on tells failed old mid new one two = record {
   log = λ t. two.log t ∙ one.log t;
   only = record {
-    same = record { blocks = two.only.same.blocks ∙ one.only.same.blocks; base = two.only.same.base ∙ one.only.same.base };
+    same = record { blocks = two.only.same.blocks ∙ one.only.same.blocks; base = two.only.same.base ∙ one.only.same.base; manner = two.only.same.manner ∙ one.only.same.manner };
     faults = two.only.faults ∙ one.only.faults;
     read_faults = two.only.read_faults ∙ ap (after_call failed) one.only.read_faults;
     waits = two.only.waits ∙ one.only.waits;

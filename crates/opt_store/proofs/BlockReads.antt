@@ -9,6 +9,7 @@ use Rattle.opt_disk.specs.declared.event.Event.{Event}
 use Rattle.opt_disk.specs.Cell.{accepted}
 use Rattle.opt_disk.specs.Disk as disk
 use Rattle.opt_disk.specs.Disk.{Reads, SameDisk}
+use Rattle.opt_disk.specs.Manner.{Manner, HasFailedBy}
 use Rattle.opt_journal.specs.Run.{otherwise, is_live}
 use Rattle.opt_cache.specs.Cache.{Cache, ComesIn, IsKept, IsTheDisks}
 use Rattle.opt_crash.specs.Ledger.{Ledger}
@@ -79,8 +80,9 @@ module _ (v : StoreParts) (d : disk.State) (b : ℕ) (x : List ℕ) (w : Cache) 
 -- What is kept behind the read.
 
 -- where the disk's base and log stay, what is told of the store stays too
-told_still : (v : StoreParts) (d e : disk.State) (w : Cache) (l : Ledger) → IsToldBy v d l → (v.stopped ≡ false → CacheAgrees (record v { cache = w }) d) → IsToldBy (record v { cache = w }) (record e { base = d.base; log = d.log }) l
-told_still v d e w l told cache = record {
+told_still : (v : StoreParts) (d e : disk.State) (w : Cache) (l : Ledger) → e.manner ≡ d.manner → IsToldBy v d l → (v.stopped ≡ false → CacheAgrees (record v { cache = w }) d) → IsToldBy (record v { cache = w }) (record e { base = d.base; log = d.log }) l
+told_still v d e w l manner told cache = record {
+  failed = λ stopped. subst (λ (m : Manner). HasFailedBy m d.log) (sym manner) (told.failed stopped);
   safe = told.safe;
   made = told.made;
   began = told.began;
@@ -92,6 +94,7 @@ told_still v d e w l told cache = record {
         agrees = g.agrees;
         serves = g.serves;
         next = g.next;
+        due = g.due;
         cache = record {
           newest = a.newest;
           same = λ b lives. weaker (Reads d b) (Reads (record e { base = d.base; log = d.log }) b) (get w.kept b) (λ y r. record { calm = r.calm; one = r.one }) (a.same b lives);
@@ -118,6 +121,6 @@ read_keeps r tells v d e b x w k none comes same gives on waits log = record {
   told = λ t. ∥∥₁_map (k.told t) (λ (p : (l : Ledger) × IsToldBy v d l). (
     p.0,
     subst (λ (s : disk.State). IsToldBy (record v { cache = w }) s p.0) (ap₂ (λ (m : Blocks) (es : List Event). record e { base = m; log = es }) (sym on.base) (sym (log t)))
-        (told_still v d e w p.0 p.1 (λ going. cache_still v d b x w (p.1.going going).cache none r comes same (gives t))),
+        (told_still v d e w p.0 on.manner p.1 (λ going. cache_still v d b x w (p.1.going going).cache none r comes same (gives t))),
   ));
 }

@@ -57,8 +57,10 @@ parts_told v w d l on began told = record {
         agrees = r.agrees;
         serves = r.serves;
         next = g.next;
+        due = g.due;
         cache = record { newest = λ b lives is. g.cache.newest b (was_live b lives) is; same = λ b lives. g.cache.same b (was_live b lives) };
       };
+  failed = told.failed;
 }
   where
     was_live : (b : ℕ) → IsTrue (is_live w.geom (last_map v d) b) → IsTrue (is_live v.books.geom (last_map v d) b)

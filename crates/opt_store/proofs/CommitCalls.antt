@@ -4,7 +4,7 @@ use Rattle.std.proofs.lemmas.Bool.{false≢true}
 use Rattle.opt_base.specs.Seal.{Blocks}
 use Rattle.opt_disk.specs.declared.disk.DiskFault.{DiskFault}
 use Rattle.opt_disk.specs.declared.event.Event.{Event}
-use Rattle.opt_disk.specs.Disk.{State, Grows, OnlyWrites}
+use Rattle.opt_disk.specs.Disk.{State, Grows, HasFailed, OnlyWrites}
 use Rattle.opt_journal.specs.declared.header.Header.{Header}
 use Rattle.opt_journal.specs.Ring.{RingPlaces, with_places}
 use Rattle.opt_journal.specs.Run.{is_live, otherwise}
@@ -23,7 +23,7 @@ use Rattle.opt_books.specs.Books.{TransactionBooks, map_of, running_of}
 use Rattle.opt_books.specs.Kept.{AreKept}
 use Rattle.opt_books.specs.Point.{BeganAt, HasSameLive}
 use Rattle.opt_store.specs.declared.parts.StoreParts.{StoreParts}
-use Rattle.opt_store.specs.Committing.{BecomesRecord, WritesRecord, ledger_with, places_for, writes_of}
+use Rattle.opt_store.specs.Committing.{BecomesRecord, StaysDue, WritesRecord, ledger_with, places_for, writes_of}
 use Rattle.opt_store.specs.SessionView.{state_of}
 use Rattle.opt_store.specs.Syncing.{Forgets}
 use Rattle.opt_store.specs.Told.{CacheAgrees, IsToldBy, last_map, map_now, session_of}
@@ -74,6 +74,7 @@ pub record Succeeded (tells : Bool) (v : StoreParts) (d e : State) (ring : RingP
   pub writes : IsTrue tells → WritesRecord {A = Unit {0}} {E = DiskFault} (committed tt) (writes_of v.ring v.pipeline.header.epoch (v.first + v.point) v.books.changes) v.books v.pipeline q d e
   pub spends : OnlyWrites false d e
   pub forgets : Forgets v.books.changes.paid (map block_of v.books.changes.laid) v.cache c
+  pub due : IsTrue tells → StaysDue d.log v.pipeline q
 
 -- What a commit gave where the disk failed; books and pipeline are as they were.
 pub record Failed (tells : Bool) (v : StoreParts) (d e : State) (ring : RingPlaces) (fault : DiskFault) : Type 0 where
@@ -81,6 +82,7 @@ pub record Failed (tells : Bool) (v : StoreParts) (d e : State) (ring : RingPlac
   pub ring_is : ring ≡ with_places v.ring (places_for v.books.changes)
   pub writes : IsTrue tells → WritesRecord {A = Unit {0}} {E = DiskFault} (faulted fault) (writes_of v.ring v.pipeline.header.epoch (v.first + v.point) v.books.changes) v.books v.pipeline v.pipeline d e
   pub spends : OnlyWrites true d e
+  pub cause : IsTrue tells → HasFailed e
 
 -- Behind a commit some ledger tells the parts, by which the disk was safe all along; where its last record made the last point, its newest map is the map now; and the map is as it was.
 pub record After (v w : StoreParts) (d e : State) : Type 0 where
@@ -166,7 +168,8 @@ module _ (laws : Laws) (v : StoreParts) (d : State) (l : Ledger) (k : AreKept v.
         made = omega (arith, next_then, told.made);
         began = began_next laws.map v.books (last_map v d) k told.began filled w (v.first + v.point) (last_map parts e) s.kept s.becomes.books s.becomes.empty writes.bytes l record_then;
         whole = whole_next laws.map v.books (last_map v d) k told.began filled w (v.first + v.point) (last_map parts e) s.kept s.becomes.books s.becomes.empty writes.bytes told.whole;
-        going = λ still_going. record { agrees = right.agrees; serves = right.serves; next = omega (arith, next_then, next); cache = record { newest = cache_then.newest; same = cache_then.same } };
+        going = λ still_going. record { agrees = right.agrees; serves = right.serves; next = omega (arith, next_then, next); due = s.due t (told.going going).agrees.notes (told.going going).due; cache = record { newest = cache_then.newest; same = cache_then.same } };
+        failed = λ stopped. absurd (false≢true (sym going ∙ stopped));
       };
       safe = right.safe;
       newest = λ last. newest_then ∙ sym map_then;
@@ -206,6 +209,7 @@ module _ (laws : Laws) (v : StoreParts) (d : State) (l : Ledger) (k : AreKept v.
         began = laws.map.began v.books (last_map v d) (last_map stopped_parts e) k told.began stays;
         whole = λ b live. ap (λ (x : List ℕ). length x) (stays b (live_before b live)) ∙ told.whole b (live_before b live);
         going = λ still. absurd (false≢true (sym still));
+        failed = λ stopped. f.cause t;
       };
       safe = safe;
       newest = λ last. newest last ∙ sym map_stays;

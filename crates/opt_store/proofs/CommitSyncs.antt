@@ -32,6 +32,7 @@ use Rattle.opt_store.specs.Told.{IsKeptOn, IsToldBy, IsToldBySome, counts_of, ma
 use Rattle.opt_store.proofs.CommitCalls.{After, Failed, Laws, Succeeded, after_failure, after_success, session_then}
 use Rattle.opt_store.proofs.PipelineCalls.{advances_by_some}
 use Rattle.opt_store.proofs.Reserving.{places_are}
+use Rattle.opt_store.proofs.Spending.{asks_none}
 
 -- What is told, of each field for itself, since which ledger tells it isn't said.
 
@@ -157,7 +158,7 @@ module _ (laws : Laws) (tells : Bool) (v : StoreParts) (d e : State) (r : Commit
     after = after_sync;
     ends = ends;
     disk = record { faults = s.spends.faults; stopped = going; read_faults = s.spends.read_faults; waits = omega (arith, s.spends.waits) };
-    ticks = refl;
+    ticks = asks_none _ _ _ _ s.spends ticks;
     map = map_stays laws tells v parts d e ticks k going same_session s.spends.same.base grows refl refl refl after;
     crash = time_goes_on laws tells v parts d e ticks k going same_session s.spends.same.base grows refl refl refl after;
     made = makes_point laws tells v parts d e ticks k going same_session s.spends.same.base grows refl refl refl after;
@@ -205,7 +206,7 @@ module _ (laws : Laws) (tells : Bool) (v : StoreParts) (d e : State) (r : Commit
     };
     ends = tt;
     disk = record { faults = f.spends.faults; stopped = refl; read_faults = f.spends.read_faults; waits = omega (arith, f.spends.waits) };
-    ticks = refl;
+    ticks = asks_none _ _ _ _ f.spends ticks;
     map = map_stays laws tells v stopped_parts d e ticks k going refl f.spends.same.base grows_fault refl refl refl after_fault;
     crash = time_goes_on laws tells v stopped_parts d e ticks k going refl f.spends.same.base grows_fault refl refl refl after_fault;
     made = makes_point laws tells v stopped_parts d e ticks k going refl f.spends.same.base grows_fault refl refl refl after_fault;

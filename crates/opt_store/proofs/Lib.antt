@@ -8,6 +8,7 @@ pub mod Windows
 pub mod OnePoint
 pub mod Going
 pub mod NextRecord
+pub mod FirstOpen
 pub mod RecordLogs
 pub mod Joining
 pub mod BooksCommit

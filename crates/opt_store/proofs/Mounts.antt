@@ -1,8 +1,10 @@
 -- What a mount leaves of a disk that was read before: windows, sessions and counts, and what its refusals say.
-use Rattle.std.proofs.Common.{◌≡◌, ℕ, ◌+◌, Bool, false, IsTrue, List, [], length, take, take_all, Err, refl, sym, ◌∙◌, ap, ap₂, subst, arith}
+use Rattle.std.proofs.Common.{◌≡◌, inl, ℕ, ◌+◌, ◌≤◌, max, Bool, false, IsTrue, List, [], length, take, take_all, Result, Ok, Err, IsErr, refl, sym, ◌∙◌, ap, ap₂, subst, arith}
+use Rattle.std.proofs.lemmas.Bool.{false≢true}
 use mathlib.Core.Path.{fun_ext, subst₂}
 use Rattle.opt_base.specs.Counts.{after_call, after_calls}
 use Rattle.opt_base.specs.Seal.{Blocks}
+use Rattle.opt_disk.specs.Manner.{Manner}
 use Rattle.opt_disk.specs.declared.event.Event.{Event}
 use Rattle.opt_disk.specs.Cell.{cell_of}
 use Rattle.opt_disk.specs.Crash.{IsHonest, Window}
@@ -11,10 +13,10 @@ use Rattle.opt_disk.specs.Lawful.{IsSoundDisk}
 use Rattle.opt_geom.specs.Geometry.{Geometry}
 use Rattle.opt_journal.specs.declared.header.Header.{Header}
 use Rattle.opt_recover.specs.Reading.{Searches}
-use Rattle.opt_recover.specs.Search.{FoundRun, IsFound}
+use Rattle.opt_recover.specs.Search.{FoundRun, IsFound, last_number}
 use Rattle.opt_crash.specs.Ledger.{HoldsUnder, cells_of, issued, last_of}
 use Rattle.opt_crash.specs.Mounting.{HasBegun}
-use Rattle.opt_crash.specs.Opening.{settled}
+use Rattle.opt_crash.specs.Opening.{StopsAtOne, WritesOne, WritesOnce, settled}
 use Rattle.opt_crash.specs.Replay.{found_map}
 use Rattle.opt_mount.specs.declared.refusal.MountRefusal.{MountRefusal}
 use Rattle.opt_mount.specs.declared.refusal.MountRefusal.TheVariants as mounting
@@ -25,7 +27,7 @@ use Rattle.opt_books.specs.Books.{TransactionBooks}
 use Rattle.opt_books.specs.Point.{HasBitmap}
 use Rattle.opt_store.specs.declared.parts.StoreParts.{StoreParts}
 use Rattle.opt_store.specs.declared.refusal.StoreRefusal.{StoreRefusal}
-use Rattle.opt_store.specs.Mounting.{HoldsLast}
+use Rattle.opt_store.specs.Mounting.{AreNewParts, GoesOnFrom, HoldsLast}
 use Rattle.opt_store.specs.Refusal.{IsReplayedBitmap, MayBeMounted, RefusalSays, is_disk_fault, is_read_fault, refusal_of}
 use Rattle.opt_store.specs.Told.{store_state}
 use Rattle.opt_store.proofs.Beginnings.{Starts}
@@ -63,9 +65,10 @@ search_spends tells most old new s = record {
 
 same_state : (tells failed : Bool) (old mid : State) → IsTrue tells → Searches tells failed old mid → mid ≡ record old { read_faults = mid.read_faults }
 same_state tells failed old mid t s =
-    ap₂ (λ (n : ℕ) (base : Blocks). record { blocks = n; base = base; log = mid.log; faults = mid.faults; read_faults = mid.read_faults; waits = mid.waits; polls = mid.polls }) s.only.same.blocks s.only.same.base
-    ∙ (ap₂ (λ (log : List Event) (f : ℕ). record { blocks = old.blocks; base = old.base; log = log; faults = f; read_faults = mid.read_faults; waits = mid.waits; polls = mid.polls }) (s.log t) s.only.faults
-    ∙ ap₂ (λ (w p : ℕ). record { blocks = old.blocks; base = old.base; log = old.log; faults = old.faults; read_faults = mid.read_faults; waits = w; polls = p }) s.only.waits s.only.polls)
+    ap₂ (λ (n : ℕ) (base : Blocks). record { blocks = n; base = base; log = mid.log; faults = mid.faults; read_faults = mid.read_faults; waits = mid.waits; polls = mid.polls; manner = mid.manner }) s.only.same.blocks s.only.same.base
+    ∙ (ap₂ (λ (log : List Event) (f : ℕ). record { blocks = old.blocks; base = old.base; log = log; faults = f; read_faults = mid.read_faults; waits = mid.waits; polls = mid.polls; manner = mid.manner }) (s.log t) s.only.faults
+    ∙ (ap₂ (λ (w p : ℕ). record { blocks = old.blocks; base = old.base; log = old.log; faults = old.faults; read_faults = mid.read_faults; waits = w; polls = p; manner = mid.manner }) s.only.waits s.only.polls
+    ∙ ap (λ (m : Manner). record { blocks = old.blocks; base = old.base; log = old.log; faults = old.faults; read_faults = mid.read_faults; waits = old.waits; polls = old.polls; manner = m }) s.only.same.manner))
 
 -- what was found, and its bitmap in the books
 pub found_as : (old : State) (f : FoundDisk) (xs : List (List ℕ)) (books : TransactionBooks) → books.bitmap ≡ xs → IsFoundOn old f × IsReplayedBitmap f.run (settled_on old) xs → IsFoundOn old f × IsReplayedBitmap f.run (settled_on old) books.bitmap
@@ -116,7 +119,7 @@ module _ (tells : Bool) (old mid new : State) (t : IsTrue tells) (s : Searches t
 -- what a mount spends behind a search that found the run
 pub spends_since : (tells unread faulty : Bool) (old mid new : State) → Searches tells false old mid → MountSpends unread faulty (mid.blocks + 2) mid new → MountSpends unread faulty (old.blocks + 2) old new
 spends_since tells unread faulty old mid new s two = record {
-  same = record { blocks = two.same.blocks ∙ s.only.same.blocks; base = two.same.base ∙ s.only.same.base };
+  same = record { blocks = two.same.blocks ∙ s.only.same.blocks; base = two.same.base ∙ s.only.same.base; manner = two.same.manner ∙ s.only.same.manner };
   read_faults = two.read_faults ∙ ap (after_call unread) s.only.read_faults;
   faults = two.faults ∙ ap (after_call faulty) s.only.faults;
   waits = (two.waits.0, omega (arith, two.waits.1, s.only.same.blocks), two.waits.2 ∙ ap (after_calls two.waits.0) s.only.waits);
@@ -132,7 +135,7 @@ unread_of Q mounting.ReadFault = refl
 unread_of Q mounting.DiskFault = refl
 unread_of Q mounting.NoMemory = refl
 
-faulty_of : (Q : Type 0) (why : MountRefusal) → is_disk_fault (refusal_of why) ≡ mount.is_faulty {T = Q} (Err why)
+pub faulty_of : (Q : Type 0) (why : MountRefusal) → is_disk_fault (refusal_of why) ≡ mount.is_faulty {T = Q} (Err why)
 faulty_of Q mounting.NoHeader = refl
 faulty_of Q mounting.Spent = refl
 faulty_of Q mounting.ReadFault = refl
@@ -154,6 +157,38 @@ faults_say old new why is may same fault = subst (RefusalSays old new) (sym same
     says mounting.ReadFault f = tt
     says mounting.DiskFault f = may
     says mounting.NoMemory f = absurd f
+
+-- The numbers of a store that begins are those of the header of its mount, and so they go on from what was found.
+numbers_from : (g : Geometry) (slot : ℕ) (h : Header) (moment : ℕ) (v : StoreParts) (old : State) → AreNewParts g slot h moment v → GoesOn old.blocks (settled_on old) h → (ticks : ℕ) (new : State) → GoesOnFrom old (store_state v ticks new)
+numbers_from g slot h moment v old parts goes ticks new = record {
+  found = record { run = goes.found; epoch = goes.greatest };
+  is_found = record { is_found = goes.is_found; is_greatest = goes.is_greatest };
+  most = at_most v.pipeline.written.turn v.pipeline.last goes.found.header.turn (last_number goes.found.header (length goes.found.records))
+      (omega (arith, goes.most, ap (λ (k : Header). k.turn) parts.pipeline.none.written)) (parts.pipeline.none.last ∙ goes.sure);
+}
+  where
+    at_most : (t l u m : ℕ) → t ≤ u + 2 → l ≡ m → max t (l + 1) ≤ max (u + 2) (m + 1)
+    at_most t l u m le same = omega (arith, le, same)
+
+-- also where a search came before the mount
+pub numbers_since : (tells : Bool) (old mid : State) → IsTrue tells → Searches tells false old mid → (f : FoundDisk) → IsIdle old → IsFoundOn old f → (g : Geometry) (slot : ℕ) (h : Header) (moment : ℕ) (v : StoreParts) → AreNewParts g slot h moment v
+    → (IsIdle mid → IsFoundOn mid f → GoesOn mid.blocks (settled_on mid) h) → (ticks : ℕ) (new : State) → GoesOnFrom old (store_state v ticks new)
+numbers_since tells old mid t s f idle is g slot h moment v parts goes = numbers_from g slot h moment v old parts
+    (subst (λ (q : State). IsIdle q → IsFoundOn q f → GoesOn q.blocks (settled_on q) h) (same_state tells false old mid t s) goes idle (found_still old mid.read_faults f is))
+
+-- The one write of a mount that has nothing to replay.
+
+-- where nothing was added, what hands on an error has stopped before it
+pub stops_before : {T E : Type 0} (m : Manner) (r : Result T E) (old new : List Event) → IsErr r → new ≡ old → WritesOnce m r old new
+stops_before m (Ok x) old new is same = absurd (false≢true is)
+stops_before m (Err e) old new is same = inl same
+
+-- behind a search, which adds nothing
+pub one_since : (old mid new : State) → mid.log ≡ old.log → WritesOne mid.log new.log → WritesOne old.log new.log
+one_since old mid new log one = subst (λ (l : List Event). WritesOne l new.log) log one
+
+pub stops_since : (old mid new : State) → mid.manner ≡ old.manner → mid.log ≡ old.log → StopsAtOne mid.manner mid.log new.log → StopsAtOne old.manner old.log new.log
+stops_since old mid new manner log stops = subst₂ (λ (m : Manner) (l : List Event). StopsAtOne m l new.log) manner log stops
 
 -- Where nothing is pending, what is settled is what was issued: so it holds the last point's map.
 settled_is : (d : State) → IsIdle d → settled_on d ≡ issued d.base d.log

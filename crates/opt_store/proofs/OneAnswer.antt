@@ -1,10 +1,10 @@
 -- Of the answers that a mount may give of a disk, one alone is so: there is one newest header, one run and one greatest epoch.
-use Rattle.std.proofs.Common.{◌≡◌, ◌⊎◌, inl, inr, ℕ, ◌≤◌, Bool, true, false, length, sym, ◌∙◌, ap₂, subst, arith, true≢false, List}
+use Rattle.std.proofs.Common.{◌≡◌, ◌⊎◌, inl, inr, ℕ, ◌≤◌, true, length, sym, ◌∙◌, ap₂, subst, arith, true≢false, List}
 use Rattle.opt_base.specs.Seal.{Blocks}
 use Rattle.opt_disk.specs.Disk.{State}
 use Rattle.opt_geom.specs.Geometry.{Geometry}
 use Rattle.opt_journal.specs.declared.header.Header.{Header}
-use Rattle.opt_journal.specs.Run.{Newest, Record, IsRun}
+use Rattle.opt_journal.specs.Run.{Record, IsRun}
 use Rattle.opt_recover.specs.Epoch.{IsGreatestEpoch, IsHeaderEpoch, IsRecordEpoch}
 use Rattle.opt_recover.specs.Search.{FoundRun, IsFound, is_spent}
 use Rattle.opt_mount.specs.Mount.{FoundDisk, IsUsedUp, settled_on}

@@ -1,5 +1,5 @@
 -- A call of the pipeline keeps the store, whether it succeeded or not, and runs the pipeline as the contract of maps of blocks says it.
-use Rattle.std.proofs.Common.{◌≡◌, inl, inr, ⊎_elim, ℕ, zero, suc, ◌+◌, ◌-◌, ◌^◌, ◌<◌, ◌≤◌, Bool, true, false, IsTrue, List, ◌++◌, length, Result, Ok, Err, OnOk, is_err, refl, sym, ◌∙◌, ap, subst, arith}
+use Rattle.std.proofs.Common.{◌≡◌, inl, inr, ⊎_elim, ℕ, zero, suc, ◌+◌, ◌-◌, ◌^◌, ◌<◌, ◌≤◌, Bool, true, false, IsTrue, List, ◌++◌, length, Result, Ok, Err, OnOk, OnErr, is_err, refl, sym, ◌∙◌, ap, subst, arith}
 use Rattle.std.proofs.Props.{props}
 use Rattle.std.proofs.Math.Logic.{∥∥₁_elim, ∥∥₁_map, ∥∥₁_prop}
 use Rattle.std.proofs.lemmas.Bool.{false≢true}
@@ -9,7 +9,7 @@ use Rattle.opt_base.specs.Seal.{Blocks}
 use Rattle.opt_disk.specs.declared.disk.DiskFault.{DiskFault}
 use Rattle.opt_disk.specs.declared.event.Event.{Event}
 use Rattle.opt_disk.specs.Cell.{notices}
-use Rattle.opt_disk.specs.Disk.{State, Grows, SameDisk, Spends, writes_in}
+use Rattle.opt_disk.specs.Disk.{State, Grows, HasFailed, SameDisk, Spends, writes_in}
 use Rattle.opt_geom.specs.Geometry.{Geometry}
 use Rattle.opt_journal.specs.declared.header.Header.{Header}
 use Rattle.opt_journal.specs.Ring.{RingPlaces}
@@ -21,9 +21,10 @@ use Rattle.opt_reuse.specs.Dead.{AreSound, DeadBlocks}
 use Rattle.opt_checkpoint.specs.declared.pipeline.Pipeline.{Pipeline}
 use Rattle.opt_checkpoint.specs.Adds.{AddsHome, LosesFront}
 use Rattle.opt_checkpoint.specs.Advance.{HasTurns, IsRightOn, IsSound, Leaves, Moves, StaysRight, StaysSafe, writes_owed}
-use Rattle.opt_checkpoint.specs.Agree.{PipelineAgrees, durable_count}
+use Rattle.opt_checkpoint.specs.Agree.{NotesAreGiven, PipelineAgrees, durable_count}
 use Rattle.opt_checkpoint.specs.Bytes.{IsLiveNow, LeavesBytes}
 use Rattle.opt_checkpoint.specs.Kept.{kept}
+use Rattle.opt_checkpoint.specs.Steps.{is_first_settled}
 use Rattle.opt_checkpoint.specs.Waits.{OnlyNotices}
 use Rattle.opt_blocks.specs.State.{Bookkeeping, Counts}
 use Rattle.opt_blocks.specs.Calls.{MovesPipeline}
@@ -171,9 +172,9 @@ moved_on (Err x) headers v w m = record { moves = m.moves; books = m.books; dead
 
 -- The store is told behind the call.
 
-told_ok : (laws : Laws) (headers : ℕ) (a : Unit {0}) (v w : StoreParts) (d e : State) (l : Ledger) → StoreIsSound v → IsToldBy v d l → GoesBy v d l → PartsMove headers v w → LosesFront (kept v.pipeline) (kept w.pipeline) → IsSound w.pipeline w.ring w.books.dead → LeavesBytes l v.pipeline w.pipeline d e
+told_ok : (laws : Laws) (headers : ℕ) (a : Unit {0}) (v w : StoreParts) (d e : State) (l : Ledger) → StoreIsSound v → IsToldBy v d l → GoesBy v d l → PartsMove headers v w → LosesFront (kept v.pipeline) (kept w.pipeline) → IsSound w.pipeline w.ring w.books.dead → LeavesBytes l v.pipeline w.pipeline d e → w.stopped ≡ false → is_first_settled w.pipeline.committed.items w.pipeline.notes.notes ≡ false
     → (stay : StaysRight (session_of v) e.base e.log l (length d.log) v.floor w.pipeline w.ring w.books.dead v.books.changes.taken) → IsToldBy (settled_up (done a) w) e stay.now
-told_ok laws headers a v w d e l s told goes m front sound bytes stay = record {
+told_ok laws headers a v w d e l s told goes m front sound bytes still_going due stay = record {
   safe = subst (λ (x : MountedSession). IsSafe x e.base e.log stay.now (length e.log) (durable_point w)) (sym (same_session headers v w m))
       (lower_floor (session_of v) e.base e.log stay.now (length e.log) (stay.now.known - v.first) (durable_point w) low (laws.begins (session_of v) e.base e.log stay.now (length d.log) v.floor stay.right.safe));
   made = omega (arith, told.made, stay.turned.next, m.first, m.point);
@@ -183,8 +184,10 @@ told_ok laws headers a v w d e l s told goes m front sound bytes stay = record {
     agrees = subst (λ (x : TransactionBooks). PipelineAgrees e.base e.log stay.now w.pipeline w.ring w.books.dead.waiting x.changes.taken) (sym m.books) stay.right.agrees;
     serves = stay.right.serves;
     next = omega (arith, goes.next, stay.turned.next, m.first, m.point);
+    due = due;
     cache = record { newest = cache.newest; same = cache.same };
   };
+  failed = λ stopped. absurd (false≢true (sym still_going ∙ stopped));
 }
   where
     cache : CacheAgrees w e
@@ -193,15 +196,16 @@ told_ok laws headers a v w d e l s told goes m front sound bytes stay = record {
     low : durable_point w ≤ stay.now.known - v.first
     low = omega (arith, stay.right.agrees.known, ap (λ (h : Header). h.start) stay.right.agrees.header, sound.order.sure, m.first)
 
-told_err : (laws : Laws) (headers : ℕ) (x : DiskFault) (v w : StoreParts) (d e : State) (l : Ledger) → StoreIsSound v → IsToldBy v d l → GoesBy v d l → PartsMove headers v w → w.floor ≡ v.floor → LeavesBytes l v.pipeline w.pipeline d e
+told_err : (laws : Laws) (headers : ℕ) (x : DiskFault) (v w : StoreParts) (d e : State) (l : Ledger) → StoreIsSound v → IsToldBy v d l → GoesBy v d l → PartsMove headers v w → w.floor ≡ v.floor → LeavesBytes l v.pipeline w.pipeline d e → HasFailed e
     → (stay : StaysSafe (session_of v) e l (length d.log) v.floor) → IsToldBy (settled_up (failed x) w) e stay.now
-told_err laws headers x v w d e l s told goes m floor bytes stay = record {
+told_err laws headers x v w d e l s told goes m floor bytes cause stay = record {
   safe = subst (λ (x : MountedSession). IsSafe x e.base e.log stay.now (length e.log) w.floor) (sym (same_session headers v w m))
       (lower_floor (session_of v) e.base e.log stay.now (length e.log) (stay.now.known - v.first) w.floor (omega (arith, stay.safe.low, floor)) (laws.begins (session_of v) e.base e.log stay.now (length d.log) v.floor stay.safe));
   made = omega (arith, told.made, stay.turned.next, m.first, m.point);
   began = began_then laws headers v w d e l s.kept told goes m bytes;
   whole = whole_then laws headers v w d e l s.kept told goes m bytes;
   going = λ still. absurd (false≢true (sym still));
+  failed = λ stopped. cause;
 }
 
 told_then : (laws : Laws) (tells : Bool) (headers : ℕ) (result : Result (Unit {0}) DiskFault) (v w : StoreParts) (d e : State) → IsTrue tells → StoreIsSound v → v.stopped ≡ false → CallsPipeline tells headers result v w d e → (l : Ledger) → IsToldBy v d l → (k : Ledger) × IsToldBy (settled_up result w) e k
@@ -209,12 +213,12 @@ told_then laws tells headers (Ok a) v w d e t s going c l told =
     let goes = told.going going in
     let right = right_before v d l told goes in
     let stay = c.right t (session_of v) l (length d.log) v.floor v.books.changes.taken right in
-    (stay.now, told_ok laws headers a v w d e l s told goes c.moves c.front c.sound (c.bytes t (session_of v) l (length d.log) v.floor v.books.changes.taken right) stay)
+    (stay.now, told_ok laws headers a v w d e l s told goes c.moves c.front c.sound (c.bytes t (session_of v) l (length d.log) v.floor v.books.changes.taken right) (c.stopped ∙ going) (c.due t (session_of v) l (length d.log) v.floor v.books.changes.taken right) stay)
 told_then laws tells headers (Err x) v w d e t s going c l told =
     let goes = told.going going in
     let right = right_before v d l told goes in
     let stay = c.right t (session_of v) l (length d.log) v.floor v.books.changes.taken right in
-    (stay.now, told_err laws headers x v w d e l s told goes c.moves c.floor (c.bytes t (session_of v) l (length d.log) v.floor v.books.changes.taken right) stay)
+    (stay.now, told_err laws headers x v w d e l s told goes c.moves c.floor (c.bytes t (session_of v) l (length d.log) v.floor v.books.changes.taken right) (c.cause t (session_of v) l (length d.log) v.floor v.books.changes.taken right) stay)
 
 -- The store is kept.
 
@@ -316,8 +320,10 @@ pub stepped : (tells : Bool) (headers : ℕ) (result : Result (Unit {0}) DiskFau
     → (IsTrue tells → AddsHome result (kept v.pipeline) d.log e.log)
     → (IsTrue tells → (s : MountedSession) (l : Ledger) (t floor : ℕ) (taken : List ℕ) → IsRightOn s d l t floor v.pipeline v.ring dead taken → Leaves result s e l t floor q ring next taken)
     → (IsTrue tells → (s : MountedSession) (l : Ledger) (t floor : ℕ) (taken : List ℕ) → IsRightOn s d l t floor v.pipeline v.ring dead taken → LeavesBytes l v.pipeline q d e)
+    → (IsTrue tells → (s : MountedSession) (l : Ledger) (t floor : ℕ) (taken : List ℕ) → IsRightOn s d l t floor v.pipeline v.ring dead taken → OnErr result (HasFailed e))
+    → (IsTrue tells → (s : MountedSession) (l : Ledger) (t floor : ℕ) (taken : List ℕ) → IsRightOn s d l t floor v.pipeline v.ring dead taken → OnOk result (is_first_settled q.committed.items q.notes.notes ≡ false))
     → (IsTrue tells → writes_in e.log + writes_owed q ≤ writes_in d.log + writes_owed v.pipeline) → CallsPipeline tells headers result v (with_moved v q ring next) d e
-stepped tells headers result v q ring dead next d e made asked lent moves lawful sound front spends adds right bytes owed = record {
+stepped tells headers result v q ring dead next d e made asked lent moves lawful sound front spends adds right bytes cause due owed = record {
   moves = record { moves = subst (λ (x : DeadBlocks). Moves headers v.pipeline q v.ring ring x next) lent moves; books = refl; dead = lawful; cache = refl; mounted = refl; first = refl; point = refl };
   floor = refl;
   stopped = refl;
@@ -329,6 +335,8 @@ stepped tells headers result v q ring dead next d e made asked lent moves lawful
   grows = λ t. record { more = (adds t).more; log = (adds t).log };
   right = λ t s l u floor taken was. right t s l u floor taken (subst (λ (x : DeadBlocks). IsRightOn s d l u floor v.pipeline v.ring x taken) (sym lent) was);
   bytes = λ t s l u floor taken was. bytes t s l u floor taken (subst (λ (x : DeadBlocks). IsRightOn s d l u floor v.pipeline v.ring x taken) (sym lent) was);
+  cause = λ t s l u floor taken was. cause t s l u floor taken (subst (λ (x : DeadBlocks). IsRightOn s d l u floor v.pipeline v.ring x taken) (sym lent) was);
+  due = λ t s l u floor taken was. due t s l u floor taken (subst (λ (x : DeadBlocks). IsRightOn s d l u floor v.pipeline v.ring x taken) (sym lent) was);
   owed = owed;
 }
 
@@ -336,8 +344,10 @@ stepped tells headers result v q ring dead next d e made asked lent moves lawful
 pub waited : (tells : Bool) (result : Result (Unit {0}) DiskFault) (v : StoreParts) (q : Pipeline) (d e : State) (made : ℕ) → ((s : MountedSession) (l : Ledger) (t floor : ℕ) (v w : Pipeline) (ring : RingPlaces) (dead : DeadBlocks) (taken : List ℕ) (d e : State) → IsRightOn s d l t floor v ring dead taken → SameDisk d e → OnlyNotices d.log e.log → kept w ≡ kept v → LeavesBytes l v w d e)
     → Moves 0 v.pipeline q v.ring v.ring v.books.dead v.books.dead → AreSound v.books.dead → IsSound q v.ring v.books.dead → kept q ≡ kept v.pipeline → Spends (is_err result) made 0 d e → (IsTrue tells → OnlyNotices d.log e.log)
     → (IsTrue tells → (s : MountedSession) (l : Ledger) (t floor : ℕ) (ring : RingPlaces) (dead : DeadBlocks) (taken : List ℕ) → IsRightOn s d l t floor v.pipeline ring dead taken → Leaves result s e l t floor q ring dead taken)
+    → (IsTrue tells → NotesAreGiven d.log v.pipeline.notes.notes → OnErr result (HasFailed e))
+    → OnOk result (is_first_settled q.committed.items q.notes.notes ≡ false)
     → writes_owed q ≡ writes_owed v.pipeline → CallsPipeline tells 0 result v (record v { pipeline = q }) d e
-waited tells result v q d e made noticed moves lawful sound same spends adds right owed = record {
+waited tells result v q d e made noticed moves lawful sound same spends adds right cause due owed = record {
   moves = record { moves = moves; books = refl; dead = lawful; cache = refl; mounted = refl; first = refl; point = refl };
   floor = refl;
   stopped = refl;
@@ -349,6 +359,8 @@ waited tells result v q d e made noticed moves lawful sound same spends adds rig
   grows = λ t. record { more = notices (adds t).tickets; log = (adds t).log };
   right = λ t s l u floor taken was. right t s l u floor v.ring v.books.dead taken was;
   bytes = λ t s l u floor taken was. noticed s l u floor v.pipeline q v.ring v.books.dead taken d e was spends.same (adds t) same;
+  cause = λ t s l u floor taken was. cause t was.agrees.given;
+  due = λ t s l u floor taken was. due;
   owed = λ t. omega (arith, owed, ap writes_in (adds t).log, writes_noticed d.log (adds t).tickets);
 }
 

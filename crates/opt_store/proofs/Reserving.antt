@@ -16,6 +16,7 @@ use Rattle.opt_crash.specs.Points.{MountedSession, IsSafe}
 use Rattle.opt_notes.specs.declared.notes.Note.{Note}
 use Rattle.opt_notes.specs.Notes.{is_open}
 use Rattle.opt_tx.specs.declared.commit.CommitRoom.{CommitRoom}
+use Rattle.opt_tx.specs.declared.commit.Committed.{Committed}
 use Rattle.opt_tx.specs.Commits.{HasRoomForCommit}
 use Rattle.opt_tx.specs.Record.{payload_entry, fresh_entry}
 use Rattle.opt_tx.specs.Running.{Changes}
@@ -28,7 +29,7 @@ use Rattle.opt_checkpoint.specs.Agree.{PipelineAgrees, durable_count}
 use Rattle.opt_checkpoint.specs.Index.{IndexIsRight}
 use Rattle.opt_checkpoint.specs.Kept.{Kept, kept, newest_in, of_committed, of_durable, of_sure, count_of, payloads_in, placed_count, places_taken, total}
 use Rattle.opt_checkpoint.specs.Order.{IsInOrder, HasRoom}
-use Rattle.opt_checkpoint.specs.Steps.{SamePipeline, ready_upto}
+use Rattle.opt_checkpoint.specs.Steps.{SamePipeline, is_first_settled, ready_upto}
 use Rattle.opt_blocks.specs.Running.{record_places}
 use Rattle.opt_blocks.specs.Calls.{MaySync}
 use Rattle.opt_books.specs.Books.{map_of}
@@ -155,11 +156,13 @@ module _ (v : StoreParts) (q : Pipeline) (same : SamePipeline v.pipeline q) wher
         agrees = agrees d.base d.log l v.ring v.books.dead.waiting v.books.changes.taken g.agrees;
         serves = still_serves l g.serves;
         next = g.next;
+        due = ap₂ (λ (cs : List Committed) (ns : List Note). is_first_settled cs ns) same.committed same.notes ∙ g.due;
         cache = record {
           newest = λ b live there. ap (λ (ks : List Kept). newest_in None ks b) (kept_same v.pipeline q same) ∙ g.cache.newest b (subst (λ (m : Blocks). IsTrue (is_live v.books.geom m b)) (last_same d) live) there;
           same = λ b live. g.cache.same b (subst (λ (m : Blocks). IsTrue (is_live v.books.geom m b)) (last_same d) live);
         };
       };
+      failed = t.failed;
     }
 
     pub still_kept : (tells : Bool) (d : State) → IsKeptOn tells v d → IsKeptOn tells w d

@@ -1,7 +1,9 @@
 -- What calls in a row spend.
-use Rattle.std.proofs.Common.{◌≡◌, ℕ, zero, suc, ◌+◌, ◌≤◌, Bool, true, false, refl, sym, ◌∙◌, ap, subst, arith}
+use Rattle.std.proofs.Common.{◌≡◌, ℕ, zero, suc, ◌+◌, ◌≤◌, Bool, true, false, refl, sym, ◌∙◌, ap, ap₂, subst, arith}
 use Rattle.opt_base.specs.Counts.{next_count, after_call, after_calls}
 use Rattle.opt_disk.specs.Disk.{State, Spends, OnlyWrites, OnlyWaits, MadeUpTo, SpendsUpTo}
+use Rattle.opt_disk.specs.Manner.{Manner}
+use Rattle.opt_store.specs.Told.{AsksNothing}
 
 -- so many calls, and then more
 more_calls : (a b n : ℕ) → after_calls b (after_calls a n) ≡ after_calls (a + b) n
@@ -14,14 +16,18 @@ more_calls a (suc b) n = ap next_count (more_calls a b n) ∙ ap (λ k. after_ca
     one : (x y : ℕ) → suc (x + y) ≡ x + suc y
     one x y = omega arith
 
+-- calls that don't poll ask the disk nothing
+pub asks_none : (failed : Bool) (made : ℕ) (d e : State) → Spends failed made 0 d e → AsksNothing d e
+asks_none failed made d e s = λ ticks. ap₂ (λ (n : ℕ) (m : Manner). record { made = ticks; polls = n; manner = m }) s.polls s.same.manner
+
 -- nothing is spent so far
 pub spends_none : (s : State) → Spends false 0 0 s s
-spends_none s = record { same = record { blocks = refl; base = refl }; faults = refl; read_faults = refl; waits = refl; polls = refl }
+spends_none s = record { same = record { blocks = refl; base = refl; manner = refl }; faults = refl; read_faults = refl; waits = refl; polls = refl }
 
 -- a write behind others of which none failed
 pub writes_on : (failed : Bool) (old mid new : State) → OnlyWrites false old mid → OnlyWrites failed mid new → OnlyWrites failed old new
 writes_on failed old mid new one two = record {
-  same = record { blocks = two.same.blocks ∙ one.same.blocks; base = two.same.base ∙ one.same.base };
+  same = record { blocks = two.same.blocks ∙ one.same.blocks; base = two.same.base ∙ one.same.base; manner = two.same.manner ∙ one.same.manner };
   faults = two.faults ∙ ap (after_call failed) one.faults;
   read_faults = two.read_faults ∙ one.read_faults;
   waits = two.waits ∙ one.waits;
@@ -31,7 +37,7 @@ writes_on failed old mid new one two = record {
 -- a wait behind others of which none failed
 pub waits_on : (made next : ℕ) (old mid new : State) → next ≡ made + 1 → Spends false made 0 old mid → OnlyWaits false mid new → Spends false next 0 old new
 waits_on made next old mid new e one two = record {
-  same = record { blocks = two.same.blocks ∙ one.same.blocks; base = two.same.base ∙ one.same.base };
+  same = record { blocks = two.same.blocks ∙ one.same.blocks; base = two.same.base ∙ one.same.base; manner = two.same.manner ∙ one.same.manner };
   faults = two.faults ∙ one.faults;
   read_faults = two.read_faults ∙ one.read_faults;
   waits = two.waits ∙ ap next_count one.waits ∙ ap (λ k. after_calls k old.waits) (plus_one made) ∙ ap (λ k. after_calls k old.waits) (sym e);
@@ -54,7 +60,7 @@ all_waited failed made most old new is e one = subst (λ f. SpendsUpTo f most ol
 -- and one that failed behind them
 pub wait_failed : (failed : Bool) (made most : ℕ) (old mid new : State) → failed ≡ true → made + 1 ≤ most → Spends false made 0 old mid → OnlyWaits true mid new → SpendsUpTo failed most old new
 wait_failed failed made most old mid new is le one two = subst (λ f. SpendsUpTo f most old new) (sym is) (record {
-  same = record { blocks = two.same.blocks ∙ one.same.blocks; base = two.same.base ∙ one.same.base };
+  same = record { blocks = two.same.blocks ∙ one.same.blocks; base = two.same.base ∙ one.same.base; manner = two.same.manner ∙ one.same.manner };
   faults = two.faults ∙ ap (after_call true) one.faults;
   read_faults = two.read_faults ∙ one.read_faults;
   waits = (made + 1, le, two.waits ∙ ap next_count one.waits ∙ ap (λ k. after_calls k old.waits) (plus_one made));
@@ -77,7 +83,7 @@ write_failed failed most old new is one = subst (λ f. SpendsUpTo f most old new
 -- what writes spend of which none failed, and then waits
 pub writes_then_waits : (failed : Bool) (most : ℕ) (old mid new : State) → OnlyWrites false old mid → SpendsUpTo failed most mid new → SpendsUpTo failed most old new
 writes_then_waits failed most old mid new one two = record {
-  same = record { blocks = two.same.blocks ∙ one.same.blocks; base = two.same.base ∙ one.same.base };
+  same = record { blocks = two.same.blocks ∙ one.same.blocks; base = two.same.base ∙ one.same.base; manner = two.same.manner ∙ one.same.manner };
   faults = two.faults ∙ ap (after_call failed) one.faults;
   read_faults = two.read_faults ∙ one.read_faults;
   waits = subst (λ n. MadeUpTo failed most n new.waits) one.waits two.waits;
@@ -91,7 +97,7 @@ made_then true a b most before mid now e one two = (a + two.0, omega (arith, two
 -- a group that didn't fail, and then another
 pub groups_then : (failed : Bool) (a b most : ℕ) (old mid new : State) → a + b ≡ most → SpendsUpTo false a old mid → SpendsUpTo failed b mid new → SpendsUpTo failed most old new
 groups_then failed a b most old mid new e one two = record {
-  same = record { blocks = two.same.blocks ∙ one.same.blocks; base = two.same.base ∙ one.same.base };
+  same = record { blocks = two.same.blocks ∙ one.same.blocks; base = two.same.base ∙ one.same.base; manner = two.same.manner ∙ one.same.manner };
   faults = two.faults ∙ ap (after_call failed) one.faults;
   read_faults = two.read_faults ∙ one.read_faults;
   waits = made_then failed a b most old.waits mid.waits new.waits e one.waits two.waits;

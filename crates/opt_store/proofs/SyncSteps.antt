@@ -32,7 +32,7 @@ use Rattle.opt_store.specs.Committing.{places_for}
 use Rattle.opt_store.specs.SessionView.{state_of}
 use Rattle.opt_store.specs.Store.{PartsMove, StoreIsSound, bookkeeping_of}
 use Rattle.opt_store.specs.Syncing.{IsSameStore, MayCommit}
-use Rattle.opt_store.specs.Told.{IsKeptOn, IsToldBy, counts_of, map_now, session_of, store_state}
+use Rattle.opt_store.specs.Told.{AsksNothing, IsKeptOn, IsToldBy, counts_of, map_now, session_of, store_state}
 use Rattle.opt_store.proofs.CommitSyncs.{heavy}
 use Rattle.opt_store.proofs.Reserving.{places_fit}
 use Rattle.opt_store.proofs.StoreStates.{goes_on_itself}
@@ -309,7 +309,7 @@ abbrev pub MadeLaw : Type 0
 MadeLaw = (s : MountedSession) (base : Blocks) (log : List Event) (l : Ledger) (k : Bookkeeping) (c : Counts) (m : Blocks) (t floor : ℕ) → IsSafe s base log l t floor → k.geom ≡ s.geom → next_number l - s.first ≤ k.point
     → (k.point ≡ next_number l - s.first → HasLiveBlocks k.geom m (l.map_before (next_number l))) → HasMapOfPoint (state_of s k c m base log) k.point
 
-module _ (made : MadeLaw) (tells : Bool) (v w : StoreParts) (d e : disk.State) (r : CommitRoom) (may : MayCommit v r) (k : IsKeptOn tells w e) (runs : (before after : ℕ) → RunsPipeline tells true (store_state v before d) (store_state w after e)) where
+module _ (made : MadeLaw) (tells : Bool) (v w : StoreParts) (d e : disk.State) (r : CommitRoom) (may : MayCommit v r) (k : IsKeptOn tells w e) (runs : (before after : ℕ) → RunsPipeline tells true (store_state v before d) (store_state w after e)) (asks : AsksNothing d e) where
   abbrev with_point : StoreParts
   with_point = record w { point = w.point + 1 }
 
@@ -321,7 +321,7 @@ module _ (made : MadeLaw) (tells : Bool) (v w : StoreParts) (d e : disk.State) (
     size = k.size;
     waits = k.waits;
     sound = record { kept = k.sound.kept; ring_geom = k.sound.ring_geom; pipeline_geom = k.sound.pipeline_geom; floor = omega (arith, k.sound.floor); going = λ still. absurd (false≢true (sym still ∙ stopped)) };
-    told = λ t. ∥∥₁_map (k.told t) (λ (x : (l : Ledger) × IsToldBy w e l). (x.0, record { safe = x.1.safe; made = omega (arith, x.1.made); began = x.1.began; whole = x.1.whole; going = λ still. absurd (false≢true (sym still ∙ stopped)) }));
+    told = λ t. ∥∥₁_map (k.told t) (λ (x : (l : Ledger) × IsToldBy w e l). (x.0, record { safe = x.1.safe; made = omega (arith, x.1.made); began = x.1.began; whole = x.1.whole; going = λ still. absurd (false≢true (sym still ∙ stopped)); failed = x.1.failed }));
   }
 
   -- no record made the point
@@ -345,7 +345,7 @@ module _ (made : MadeLaw) (tells : Bool) (v w : StoreParts) (d e : disk.State) (
         };
         ends = tt;
         disk = record { faults = run.disk.faults; stopped = stopped; read_faults = run.disk.read_faults; waits = run.disk.waits };
-        ticks = refl;
+        ticks = asks ticks;
         map = run.map;
         crash = λ t. point_more (store_state v ticks d) (store_state w ticks e) (w.point + 1) (run.crash t) (omega arith);
         made = λ t more. makes_none ticks t;

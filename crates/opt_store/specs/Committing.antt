@@ -17,9 +17,10 @@ use Rattle.opt_tx.specs.Running.{Changes, IsEmpty}
 use Rattle.opt_tx.specs.Writes.{record_writes}
 use Rattle.opt_checkpoint.specs.declared.pipeline.Pipeline.{Pipeline}
 use Rattle.opt_checkpoint.specs.Advance.{IsRightOn, IsSound, writes_owed}
-use Rattle.opt_checkpoint.specs.Agree.{durable_count}
+use Rattle.opt_checkpoint.specs.Agree.{NotesAreTrue, durable_count}
 use Rattle.opt_checkpoint.specs.Bytes.{bytes_now}
 use Rattle.opt_checkpoint.specs.Kept.{Kept, kept}
+use Rattle.opt_checkpoint.specs.Steps.{is_first_settled}
 use Rattle.opt_blocks.specs.Running.{record_writes as writes_for}
 use Rattle.opt_books.specs.Books.{TransactionBooks, bytes_over, map_of}
 use Rattle.opt_books.specs.Sealing.{with_record as sealed_books}
@@ -57,6 +58,10 @@ pub record BecomesRecord (number : ℕ) (v w : TransactionBooks) (p q : Pipeline
   pub header : q.header ≡ p.header
   pub written : q.written ≡ p.written
   pub durable : durable_count q ≡ durable_count p
+
+-- where the oldest committed record had an open ticket, or there was none, it has one still; the notes told the truth of this log
+abbrev pub StaysDue : List Event → Pipeline → Pipeline → Type 0
+StaysDue log p q = NotesAreTrue log p.notes.notes → is_first_settled p.committed.items p.notes.notes ≡ false → is_first_settled q.committed.items q.notes.notes ≡ false
 
 -- all of these writes join the log, or where the disk failed a front of them
 abbrev pub AddsRecord : {A E : Type 0} → Result A E → List (ℕ × List ℕ) → List Event → List Event → Type 0

@@ -1,13 +1,14 @@
 -- The parts with which a store begins, with which map it begins, and what a mount leaves of the disk. It is described in docs/STORE.md.
-use Rattle.std.specs.Prelude.{◌≡◌, ℕ, ◌+◌, Bool, false, IsTrue, length}
+use Rattle.std.specs.Prelude.{◌≡◌, ℕ, ◌+◌, ◌≤◌, max, Bool, false, true, IsTrue, length}
 use Rattle.opt_base.specs.Seal.{Blocks}
 use Rattle.opt_cache.specs.Cache.{empty_cache}
 use Rattle.opt_disk.specs.Crash.{Window}
 use Rattle.opt_disk.specs.Disk as disk
 use Rattle.opt_geom.specs.Geometry.{Geometry}
 use Rattle.opt_journal.specs.declared.header.Header.{Header}
+use Rattle.opt_recover.specs.Search.{last_number}
 use Rattle.opt_crash.specs.Ledger.{HoldsUnder}
-use Rattle.opt_mount.specs.Mount.{MountSpends, settled_on}
+use Rattle.opt_mount.specs.Mount.{FoundDisk, IsFoundOn, MountSpends, settled_on}
 use Rattle.opt_blocks.specs.State.{State}
 use Rattle.opt_blocks.specs.Crashes.{HasMapOfPoint}
 use Rattle.opt_store.specs.declared.parts.StoreParts.{StoreParts}
@@ -35,10 +36,17 @@ pub record BeginsWith (g : Geometry) (m : Blocks) (s : State) : Type 0 where
   pub waiting : s.books.waiting ≡ 0
   pub owed : s.books.owed ≡ 0
 
--- What a mount leaves of the disk, whatever comes of it: where the disk tells, each honest image since the call began holds the map that the disk held; and so much was spent.
+-- The journal's numbers go on from what was found on the disk: they are at most two above the turn of the newest header there, or at most one above the number of the last record of its run.
+pub record GoesOnFrom (d : disk.State) (s : State) : Type 0 where
+  pub found : FoundDisk
+  pub is_found : IsFoundOn d found
+  pub most : s.books.turns ≤ max (found.run.header.turn + 2) (last_number found.run.header (length found.run.records) + 1)
+
+-- What a mount leaves of the disk, whatever comes of it: where the disk tells, each honest image since the call began holds the map that the disk held, and a call other than a read failed only for a reason that the disk's manner has; and so much was spent.
 pub record LeavesDisk (tells unread faulty : Bool) (old new : disk.State) : Type 0 where
   pub holds : IsTrue tells → (g : Geometry) (m : Blocks) → HoldsUnder old.blocks g (settled_on old) m → Window old.blocks old.base new.log (length old.log) (λ img. HoldsUnder old.blocks g img m)
   pub spends : MountSpends unread faulty (old.blocks + 2) old new
+  pub cause : IsTrue tells → faulty ≡ true → disk.HasFailed new
 
 -- what is settled on the disk holds some map under a header of the geometry, and each that it holds so is that of the last point
 pub record HoldsLast (d : disk.State) (s : State) : Type 0 where

@@ -3,11 +3,16 @@ use Rattle.opt_disk.specs.Disk as disk
 use Rattle.opt_disk.specs.declared.disk.Disk.{Ghosts}
 use Rattle.opt_crash.specs.Points.{MountedSession}
 use Rattle.opt_blocks.specs.State.{State}
+use Rattle.opt_store.specs.declared.parts.StoreParts.{StoreParts}
 use Rattle.opt_store.specs.declared.store.Store.{Store}
 use Rattle.opt_store.specs.Told.{session_of, store_state}
 
 abbrev pub disk_in : {D : Type 0} {k : Ghosts D} → Store D k → D
 disk_in s = s.disk
+
+-- what it keeps beside its disk
+abbrev pub parts_in : {D : Type 0} {k : Ghosts D} → Store D k → StoreParts
+parts_in s = s.parts
 
 -- the session, as crashes are told of
 abbrev pub session_in : {D : Type 0} {k : Ghosts D} → Store D k → MountedSession

@@ -1,16 +1,20 @@
 -- What is known of a store where its disk tells, and what is kept of that. It is described in docs/STORE.md.
-use Rattle.std.specs.Prelude.{◌≡◌, ℕ, ◌+◌, ◌^◌, ◌<◌, ◌≤◌, Bool, false, IsTrue, length, None}
+use Rattle.std.specs.Prelude.{◌≡◌, ℕ, ◌+◌, ◌^◌, ◌<◌, ◌≤◌, Bool, false, true, IsTrue, length, None}
 use Rattle.opt_base.specs.Seal.{Blocks}
 use Rattle.opt_disk.specs.Disk as disk
 use Rattle.opt_journal.specs.Run.{is_live}
 use Rattle.opt_cache.specs.Cache.{IsKept, IsTheDisks}
+use Rattle.opt_crash.specs.HomeTest.{is_one_of}
 use Rattle.opt_crash.specs.Ledger.{Ledger, next_number}
 use Rattle.opt_crash.specs.Points.{MountedSession, IsSafe}
+use Rattle.opt_notes.specs.Notes.{is_open}
+use Rattle.opt_tx.specs.declared.commit.Committed.{Committed}
 use Rattle.opt_checkpoint.specs.Advance.{MayServe}
 use Rattle.opt_checkpoint.specs.Agree.{PipelineAgrees}
 use Rattle.opt_checkpoint.specs.Bytes.{bytes_now}
 use Rattle.opt_checkpoint.specs.Kept.{kept, newest_in}
-use Rattle.opt_blocks.specs.State.{Counts, State}
+use Rattle.opt_checkpoint.specs.Steps.{is_first_settled}
+use Rattle.opt_blocks.specs.State.{Counts, State, Ticking}
 use Rattle.opt_books.specs.Books.{map_of}
 use Rattle.opt_books.specs.Point.{BeganAt}
 use Rattle.opt_store.specs.declared.parts.StoreParts.{StoreParts}
@@ -36,9 +40,17 @@ pub record IsSameSession (v w : StoreParts) : Type 0 where
   pub mounted : w.mounted ≡ v.mounted
   pub first : w.first ≡ v.first
 
+-- what ticks go by: the disk, and how often the store ticked
+abbrev pub ticking_of : ℕ → disk.State → Ticking
+ticking_of ticks d = record { made = ticks; polls = d.polls; manner = d.manner }
+
+-- the disk wasn't polled, and behaves as it did
+abbrev pub AsksNothing : disk.State → disk.State → Type 0
+AsksNothing d e = (ticks : ℕ) → ticking_of ticks e ≡ ticking_of ticks d
+
 -- the counts: those of the disk, and how often the store ticked
 abbrev pub counts_of : ℕ → disk.State → Counts
-counts_of ticks d = record { ticks = ticks; read_faults = d.read_faults; faults = d.faults; waits = d.waits }
+counts_of ticks d = record { ticks = ticking_of ticks d; read_faults = d.read_faults; faults = d.faults; waits = d.waits }
 
 -- what is known of the store as a map of blocks
 abbrev pub store_state : StoreParts → ℕ → disk.State → State
@@ -49,20 +61,30 @@ pub record CacheAgrees (v : StoreParts) (d : disk.State) : Type 0 where
   pub newest : (b : ℕ) → IsTrue (is_live v.books.geom (last_map v d) b) → IsKept b v.cache → newest_in None (kept v.pipeline) b ≡ None
   pub same : (b : ℕ) → IsTrue (is_live v.books.geom (last_map v d) b) → IsTheDisks b v.cache d
 
--- While no call of the disk failed, pipeline, ring and dead blocks agree with the ledger, whose last record made the last point, and the cache agrees with the disk.
+-- While no call of the disk failed, pipeline, ring and dead blocks agree with the ledger, whose last record made the last point; the oldest committed record has an open ticket; and the cache agrees with the disk.
 pub record GoesBy (v : StoreParts) (d : disk.State) (l : Ledger) : Type 0 where
   pub agrees : PipelineAgrees d.base d.log l v.pipeline v.ring v.books.dead.waiting v.books.changes.taken
   pub serves : MayServe l v.pipeline v.books.dead
   pub next : next_number l ≡ v.first + v.point
+  pub due : is_first_settled v.pipeline.committed.items v.pipeline.notes.notes ≡ false
   pub cache : CacheAgrees v d
 
--- Always the disk is safe by the ledger, from now on and from the floor on; the ledger has no point behind the last; the running transaction began at the map of the last point; and each live block of that map is whole.
+-- The record of the point behind the floor has a ticket that the notes expect, and whose notice they don't know of: so no later point is known to be durable.
+pub record KnowsNoMore (v : StoreParts) : Type 0 where
+  pub next : Committed
+  pub number : next.number ≡ v.first + v.floor
+  pub ticket : ℕ
+  pub own : is_one_of ticket next.tickets.items ≡ true
+  pub waited : is_open ticket v.pipeline.notes.notes ≡ true
+
+-- Always the disk is safe by the ledger, from now on and from the floor on; the ledger has no point behind the last; the running transaction began at the map of the last point; and each live block of that map is whole. Where a call of the disk failed, it was the last one.
 pub record IsToldBy (v : StoreParts) (d : disk.State) (l : Ledger) : Type 0 where
   pub safe : IsSafe (session_of v) d.base d.log l (length d.log) v.floor
   pub made : next_number l ≤ v.first + v.point
   pub began : BeganAt v.books (last_map v d)
   pub whole : (b : ℕ) → IsTrue (is_live v.books.geom (last_map v d) b) → length (last_map v d b) ≡ 1024
   pub going : v.stopped ≡ false → GoesBy v d l
+  pub failed : v.stopped ≡ true → disk.HasFailed d
 
 -- where the disk tells, some ledger tells it
 abbrev pub IsToldBySome : Bool → StoreParts → disk.State → Type 0

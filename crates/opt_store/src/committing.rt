@@ -2,7 +2,7 @@
 //! said here.
 
 ghost use Rattle.std.specs.Prelude.{◌≡◌, ◌+◌, ◌≤◌, ◌<◌, ℕ, length, IsTrue, OnOk, OnErr, is_err};
-ghost use Rattle.opt_disk.specs.Disk.{OnlyWrites};
+ghost use Rattle.opt_disk.specs.Disk.{HasFailed, OnlyWrites};
 ghost use Rattle.opt_journal.specs.Ring.{with_places};
 ghost use Rattle.opt_crash.specs.Ledger.{Ledger, next_number};
 ghost use Rattle.opt_crash.specs.Points.{MountedSession};
@@ -12,7 +12,7 @@ ghost use Rattle.opt_blocks.specs.Running.{HasNoBare};
 ghost use Rattle.opt_books.specs.Books.{running_of};
 ghost use Rattle.opt_books.specs.Kept.{AreKept};
 ghost use Rattle.opt_books.specs.Point.{BeganAt};
-ghost use Rattle.opt_store.specs.Committing.{BecomesRecord, CommitLeaves, WritesRecord, ledger_with, places_for, writes_of};
+ghost use Rattle.opt_store.specs.Committing.{BecomesRecord, CommitLeaves, StaysDue, WritesRecord, ledger_with, places_for, writes_of};
 
 use crate::{a_commit_stays_right, a_commit_stays_sound, a_running_transaction_may_be_committed};
 use opt_books::{Books, a_running_transaction_may_be_the_next_record};
@@ -57,6 +57,8 @@ pub fn commit_books<D: Disk>(
     ensures ring { ring.new ≡ with_places ring.old (places_for books.old.changes) }
     ensures writes { IsTrue D.tells → WritesRecord result (writes_of ring.old epoch number books.old.changes) books.old pipeline.old pipeline.new (D.state disk.old) (D.state disk.new) }
     ensures spends { OnlyWrites (is_err result) (D.state disk.old) (D.state disk.new) }
+    ensures cause { IsTrue D.tells → OnErr result (HasFailed (D.state disk.new)) }
+    ensures due { IsTrue D.tells → OnOk result (StaysDue (D.state disk.old).log pipeline.old pipeline.new) }
 {
     a_running_transaction_may_be_the_next_record();
     a_running_transaction_may_be_committed();

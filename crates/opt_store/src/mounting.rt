@@ -1,15 +1,17 @@
 //! The parts of a store on a disk that is mounted: what is found is checked, all memory is taken, and then the
 //! journal is opened under a new epoch. What a mount writes is described by `opt_mount`.
 
-ghost use Rattle.std.specs.Prelude.{◌≡◌, ◌<◌, ◌≤◌, ◌+◌, ℕ, IsTrue, IfOk, IfErr, length};
+ghost use Rattle.std.specs.Prelude.{◌≡◌, ◌<◌, ◌≤◌, ◌+◌, ℕ, true, IsTrue, IfOk, IfErr, length};
+ghost use Rattle.opt_disk.specs.Disk.{HasFailed};
 ghost use Rattle.opt_base.specs.Seal.{Blocks};
 ghost use Rattle.opt_disk.specs.Crash.{Window};
 ghost use Rattle.opt_cache.specs.Cache.{empty_cache};
 ghost use Rattle.opt_geom.specs.Geometry.{Geometry};
 ghost use Rattle.opt_crash.specs.Ledger.{HoldsUnder};
-ghost use Rattle.opt_mount.specs.Mount.{IsIdle, MountSpends, settled_on};
+ghost use Rattle.opt_crash.specs.Opening.{WritesOnce};
+ghost use Rattle.opt_mount.specs.Mount.{HasNothingToReplay, IsIdle, MountSpends, settled_on};
 ghost use Rattle.opt_blocks.specs.Crashes.{IsBegun};
-ghost use Rattle.opt_store.specs.Mounting.{AreNewParts, BeginsWith};
+ghost use Rattle.opt_store.specs.Mounting.{AreNewParts, BeginsWith, GoesOnFrom};
 ghost use Rattle.opt_store.specs.Opening.{AreNewBooks};
 ghost use Rattle.opt_store.specs.Refusal.{MayBeMounted, RefusalSays, is_faulty, is_unread};
 ghost use Rattle.opt_store.specs.Told.{IsKeptOn, store_state};
@@ -52,6 +54,9 @@ pub(crate) fn open_parts<D: Disk>(
     ensures mountable { IsTrue D.tells → IfOk result (λ v. MayBeMounted (D.state disk.old)) }
     ensures refused { IsTrue D.tells → IfErr result (RefusalSays (D.state disk.old) (D.state disk.new)) }
     ensures spends { MountSpends (is_unread result) (is_faulty result) ((D.state disk.old).blocks + 2) (D.state disk.old) (D.state disk.new) }
+    ensures cause { IsTrue D.tells → is_faulty result ≡ true → HasFailed (D.state disk.new) }
+    ensures numbers { IsTrue D.tells → IfOk result (λ v. (ticks : ℕ) → GoesOnFrom (D.state disk.old) (store_state v ticks (D.state disk.new))) }
+    ensures alone { IsTrue D.tells → HasNothingToReplay (D.state disk.old) → WritesOnce (D.state disk.old).manner result (D.state disk.old).log (D.state disk.new).log }
 {
     a_session_begins_with_its_map();
     a_new_store_is_right();

@@ -1,9 +1,9 @@
 //! Calls that move the pipeline: a step of it, a drain, and a wait for the last record. Each keeps the store, and the
 //! store stops where the disk failed. When they are called isn't said here.
 
-ghost use Rattle.std.specs.Prelude.{◌≡◌, ◌+◌, ◌^◌, ◌<◌, ◌≤◌, ℕ, Bool, List, Result, false, is_err, OnOk};
+ghost use Rattle.std.specs.Prelude.{◌≡◌, ◌+◌, ◌^◌, ◌<◌, ◌≤◌, ℕ, Bool, List, Result, false, is_err, IsTrue, OnOk};
 ghost use Rattle.opt_disk.specs.declared.disk.DiskFault as faults;
-ghost use Rattle.opt_disk.specs.Disk.{SameDisk, State};
+ghost use Rattle.opt_disk.specs.Disk.{SameDisk, State, PollsFirst};
 ghost use Rattle.opt_journal.specs.Ring.{RingPlaces};
 ghost use Rattle.opt_crash.specs.Ledger.{Ledger};
 ghost use Rattle.opt_crash.specs.Points.{MountedSession};
@@ -21,7 +21,7 @@ ghost use Rattle.opt_blocks.specs.Effects.{RunsPipeline};
 ghost use Rattle.opt_store.specs.declared.parts.StoreParts as parts;
 ghost use Rattle.opt_store.specs.PipelineCall.{CallsPipeline, settled_up};
 ghost use Rattle.opt_store.specs.Store.{PartsMove, bookkeeping_of};
-ghost use Rattle.opt_store.specs.Told.{IsKeptOn, store_state};
+ghost use Rattle.opt_store.specs.Told.{AsksNothing, IsKeptOn, store_state};
 
 use crate::parts::StoreParts;
 use crate::{
@@ -41,6 +41,8 @@ pub(crate) fn advance<D: Disk>(disk: &mut D, parts: &mut StoreParts) -> Result<(
     ensures kept { IsKeptOn D.tells parts.new (D.state disk.new) }
     ensures runs { (before then : ℕ) → RunsPipeline D.tells (is_err result) (store_state parts.old before (D.state disk.old)) (store_state parts.new then (D.state disk.new)) }
     ensures waits { (D.state disk.new).waits ≡ (D.state disk.old).waits }
+    ensures manner { (D.state disk.new).manner ≡ (D.state disk.old).manner }
+    ensures polled { IsTrue D.tells → PollsFirst (D.state disk.old).manner 64 (D.state disk.old).polls (D.state disk.old).log (D.state disk.new).polls (D.state disk.new).log }
 {
     a_sound_store_has_sound_books();
     a_pipeline_call_keeps_the_store();
@@ -60,6 +62,7 @@ pub(crate) fn drain<D: Disk>(disk: &mut D, parts: &mut StoreParts) -> Result<(),
     ensures moves { PartsMove 4 parts.old parts.new }
     ensures settled { OnOk result ((bookkeeping_of parts.new).waiting ≡ 0) }
     ensures places { OnOk result (parts.new.ring.taken ≡ 0) }
+    ensures asks { AsksNothing (D.state disk.old) (D.state disk.new) }
 {
     a_sound_store_has_sound_books();
     a_pipeline_call_keeps_the_store();
@@ -78,6 +81,7 @@ pub(crate) fn wait_for_last<D: Disk>(disk: &mut D, parts: &mut StoreParts) -> Re
     ensures runs { (before then : ℕ) → RunsPipeline D.tells (is_err result) (store_state parts.old before (D.state disk.old)) (store_state parts.new then (D.state disk.new)) }
     ensures moves { PartsMove 4 parts.old parts.new }
     ensures durable { OnOk result (parts.new.floor ≡ parts.new.point) }
+    ensures asks { AsksNothing (D.state disk.old) (D.state disk.new) }
 {
     a_pipeline_call_keeps_the_store();
     let last = parts.pipeline.last;

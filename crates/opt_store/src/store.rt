@@ -145,16 +145,19 @@ impl<D: Disk> Blocks for Store<D> {
 }
 
 impl<D: Disk> Store<D> {
-    ghost use Rattle.std.specs.Prelude.{◌≡◌, ◌^◌, ◌-◌, ◌<◌, ◌≤◌, nat_le, false, IsTrue, IfOk, IfErr};
+    ghost use Rattle.std.specs.Prelude.{◌≡◌, ◌^◌, ◌-◌, ◌<◌, ◌≤◌, nat_le, false, true, IsTrue, IfOk, IfErr};
     ghost use Rattle.opt_base.specs.Seal.{Blocks};
+    ghost use Rattle.opt_disk.specs.Disk.{HasFailed};
     ghost use Rattle.opt_geom.specs.Geometry.{Geometry};
     ghost use Rattle.opt_crash.specs.Ledger.{HoldsUnder};
-    ghost use Rattle.opt_mount.specs.Mount.{IsIdle, settled_on};
+    ghost use Rattle.opt_crash.specs.Opening.{StopsAtOne, WritesOne};
+    ghost use Rattle.opt_mount.specs.Mount.{HasNothingToReplay, IsIdle, settled_on};
     ghost use Rattle.opt_blocks.specs.Crashes.{IsBegun};
-    ghost use Rattle.opt_store.specs.Mounting.{BeginsWith, HoldsLast, LeavesDisk};
+    ghost use Rattle.opt_store.specs.Mounting.{BeginsWith, GoesOnFrom, HoldsLast, LeavesDisk};
     ghost use Rattle.opt_store.specs.Refusal.{MayBeMounted, RefusalSays, is_disk_fault, is_read_fault};
     ghost use Rattle.opt_store.specs.Store.{bookkeeping_of};
-    ghost use Rattle.opt_store.specs.StoreOf.{disk_in, state_of};
+    ghost use Rattle.opt_store.specs.StoreOf.{disk_in, parts_in, state_of};
+    ghost use Rattle.opt_store.specs.Told.{KnowsNoMore};
 
     /// Mounts a disk on which nothing is pending, with a cache of 64 blocks.
     ///
@@ -168,12 +171,16 @@ impl<D: Disk> Store<D> {
         ensures leaves { IfOk result (λ s. LeavesDisk D.tells false false (D.state disk) (D.state (disk_in s))) }
         ensures refused { IsTrue D.tells → IfErr result (λ e. RefusalSays (D.state disk) (D.state e.0) e.1) }
         ensures back { IfErr result (λ e. LeavesDisk D.tells (is_read_fault e.1) (is_disk_fault e.1) (D.state disk) (D.state e.0)) }
+        ensures numbers { IsTrue D.tells → IfOk result (λ s. GoesOnFrom (D.state disk) (state_of D.state s)) }
+        ensures alone { IsTrue D.tells → HasNothingToReplay (D.state disk) → IfOk result (λ s. WritesOne (D.state disk).log (D.state (disk_in s)).log) }
+        ensures stops { IsTrue D.tells → HasNothingToReplay (D.state disk) → IfErr result (λ e. StopsAtOne (D.state disk).manner (D.state disk).log (D.state e.0).log) }
     {
         Store::mount_with(alloc, disk, CACHED)
     }
 
     /// Mounts a disk on which nothing is pending, with a cache of at most so many blocks: the session begins with the
-    /// map that the disk held, and each honest image since the call began holds it, whatever comes of the call.
+    /// map that the disk held, and each honest image since the call began holds it, whatever comes of the call. Where
+    /// there is no record to replay, the header that opens the journal is its only write.
     ///
     /// # Errors
     /// The disk comes back, with why. `NoHeader`, `Spent` and `BadBit` come of what is on the disk, in this order, and
@@ -189,6 +196,9 @@ impl<D: Disk> Store<D> {
         ensures leaves { IfOk result (λ s. LeavesDisk D.tells false false (D.state disk) (D.state (disk_in s))) }
         ensures refused { IsTrue D.tells → IfErr result (λ e. RefusalSays (D.state disk) (D.state e.0) e.1) }
         ensures back { IfErr result (λ e. LeavesDisk D.tells (is_read_fault e.1) (is_disk_fault e.1) (D.state disk) (D.state e.0)) }
+        ensures numbers { IsTrue D.tells → IfOk result (λ s. GoesOnFrom (D.state disk) (state_of D.state s)) }
+        ensures alone { IsTrue D.tells → HasNothingToReplay (D.state disk) → IfOk result (λ s. WritesOne (D.state disk).log (D.state (disk_in s)).log) }
+        ensures stops { IsTrue D.tells → HasNothingToReplay (D.state disk) → IfErr result (λ e. StopsAtOne (D.state disk).manner (D.state disk).log (D.state e.0).log) }
     {
         a_store_that_is_kept_is_told();
         let mut disk = disk;
@@ -201,6 +211,14 @@ impl<D: Disk> Store<D> {
             Err(why) => Err((disk, why)),
         }
     }
+
+    /// Does nothing. A proof learns from the call that where the store has stopped, the last call of its disk failed,
+    /// for a reason that the disk's manner has. And where it hasn't, `durable` isn't too low: where that isn't the last
+    /// point, a ticket of the next point's record is open still.
+    pub fn lawful(&self)
+        ensures failed { IsTrue D.tells → (state_of D.state self.now).books.stopped ≡ true → ∥ HasFailed (D.state (disk_in self.now)) ∥₁ }
+        ensures known { IsTrue D.tells → (state_of D.state self.now).books.stopped ≡ false → (state_of D.state self.now).books.floor < (state_of D.state self.now).books.point → ∥ KnowsNoMore (parts_in self.now) ∥₁ }
+    {}
 
     /// The disk, which has as many blocks as the geometry says.
     pub fn disk(&self) -> &D

@@ -60,7 +60,7 @@ pub(crate) fn sync<D: Disk>(
     }
 }
 
-/// As `sync`, and then waits until the last point is durable.
+/// As `sync`, and then waits until the last point is durable. Where it is, it waits for nothing.
 pub(crate) fn sync_durably<D: Disk>(
     alloc: Global,
     disk: &mut D,
@@ -74,8 +74,12 @@ pub(crate) fn sync_durably<D: Disk>(
     ensures syncs { (ticks : ℕ) → Syncs D.tells result (store_state parts.old ticks (D.state disk.old)) (store_state parts.new ticks (D.state disk.new)) }
     ensures durable { OnOk result (parts.new.floor ≡ parts.new.point) }
     ensures idle { parts.old.books.weight ≡ 0 → OnNoMemory result ⊥ }
+    ensures idles { (ticks : ℕ) → parts.old.books.weight ≡ 0 → parts.old.floor ≡ parts.old.point → ChangesNothing D.tells (store_state parts.old ticks (D.state disk.old)) (store_state parts.new ticks (D.state disk.new)) }
 {
     let point = sync(alloc, disk, parts)?;
+    if parts.floor == parts.point {
+        return Ok(point);
+    }
     match wait_for_last(disk, parts) {
         Ok(()) => Ok(point),
         Err(DiskFault) => Err(SyncRefusal::DiskFault),

@@ -1,9 +1,9 @@
 //! The commit of the running transaction, as one record of the journal. Nothing is waited for.
 
-ghost use Rattle.std.specs.Prelude.{◌≡◌, ◌≤◌, ◌<◌, ◌+◌, ◌-◌, ◌^◌, ◌⊎◌, ℕ, List, [], length, map, IsTrue, IfErr, IfOk, is_err};
+ghost use Rattle.std.specs.Prelude.{◌≡◌, ◌≤◌, ◌<◌, ◌+◌, ◌-◌, ◌^◌, ◌⊎◌, ℕ, List, [], length, map, IsTrue, IfErr, IfOk, OnErr, is_err};
 ghost use Rattle.opt_base.specs.Seal.{Blocks};
 ghost use Rattle.opt_disk.specs.Cell.{cell_of};
-ghost use Rattle.opt_disk.specs.Disk.{OnlyWrites};
+ghost use Rattle.opt_disk.specs.Disk.{HasFailed, OnlyWrites};
 ghost use Rattle.opt_journal.specs.Run.{places};
 ghost use Rattle.opt_journal.specs.Ring.{with_places};
 ghost use Rattle.opt_crash.specs.Ledger.{Ledger};
@@ -115,6 +115,7 @@ impl Running {
         ensures back { IfErr result (λ running. running ≡ self) }
         ensures ring { ring.new ≡ with_places ring.old (places (record_of 0 0 self.paid self.laid)) }
         ensures spends { OnlyWrites (is_err result) (D.state disk.old) (D.state disk.new) }
+        ensures cause { IsTrue D.tells → OnErr result (HasFailed (D.state disk.new)) }
     {
         payloads_read_back();
         journal_blocks_read_back();

@@ -1,10 +1,10 @@
 //! The calls that issue a record: its fresh blocks, then its descriptors, then its payloads, and last its
 //! commit block. Each is one write, and none is waited for. Which puts a record has isn't their matter.
 
-ghost use Rattle.std.specs.Prelude.{◌≡◌, ◌<◌, ◌≤◌, ◌+◌, ◌^◌, ℕ, List, [], length, map, IsTrue, OnOk, is_err, vec_len, vec_capacity};
+ghost use Rattle.std.specs.Prelude.{◌≡◌, ◌<◌, ◌≤◌, ◌+◌, ◌^◌, ℕ, List, [], length, map, IsTrue, OnOk, OnErr, is_err, vec_len, vec_capacity};
 ghost use Rattle.opt_base.specs.Seal.{Blocks};
 ghost use Rattle.opt_disk.specs.Cell.{cell_of};
-ghost use Rattle.opt_disk.specs.Disk.{OnlyWrites};
+ghost use Rattle.opt_disk.specs.Disk.{HasFailed, OnlyWrites};
 ghost use Rattle.opt_geom.specs.Geometry.{Geometry};
 ghost use Rattle.opt_journal.specs.Layout.{descriptor_count};
 ghost use Rattle.opt_journal.specs.Run.{places, heads};
@@ -39,6 +39,7 @@ pub fn issue_fresh<D: Disk>(
         → IsSafe s (D.state disk.new).base (D.state disk.new).log l t floor × OnOk result (IsPartlyWritten (D.state disk.new).base (D.state disk.new).log l p w tickets.new.items (length laid.now) issued) }
     ensures log { IsTrue D.tells → AddsAll (map fresh_write laid.now) result tickets.old.items tickets.new.items (D.state disk.old).log (D.state disk.new).log }
     ensures spends { OnlyWrites (is_err result) (D.state disk.old) (D.state disk.new) }
+    ensures cause { IsTrue D.tells → OnErr result (HasFailed (D.state disk.new)) }
     ensures taken { OnOk result (vec_len tickets.new ≡ vec_len tickets.old + length laid.now) }
     ensures capacity { vec_capacity tickets.old ≤ vec_capacity tickets.new }
 {
@@ -70,6 +71,7 @@ pub fn issue_descriptors<D: Disk>(
         → IsSafe s (D.state disk.new).base (D.state disk.new).log l t floor × OnOk result (IsPartlyWritten (D.state disk.new).base (D.state disk.new).log l p w tickets.new.items laid_so_far (1 + descriptor_count (length paid.now + length laid.now))) }
     ensures log { IsTrue D.tells → AddsAll (ring_writes geom.now (place + 1) (descriptor_blocks epoch (record_of number 0 paid.now laid.now))) result tickets.old.items tickets.new.items (D.state disk.old).log (D.state disk.new).log }
     ensures spends { OnlyWrites (is_err result) (D.state disk.old) (D.state disk.new) }
+    ensures cause { IsTrue D.tells → OnErr result (HasFailed (D.state disk.new)) }
     ensures taken { OnOk result (vec_len tickets.new ≡ vec_len tickets.old + descriptor_count (length paid.now + length laid.now)) }
     ensures capacity { vec_capacity tickets.old ≤ vec_capacity tickets.new }
 {
@@ -102,6 +104,7 @@ pub fn issue_payloads<D: Disk>(
         → IsSafe s (D.state disk.new).base (D.state disk.new).log l t floor × OnOk result (IsPartlyWritten (D.state disk.new).base (D.state disk.new).log l p w tickets.new.items laid (from + length paid.now)) }
     ensures log { IsTrue D.tells → AddsAll (ring_writes geom.now first (map stored_put paid.now)) result tickets.old.items tickets.new.items (D.state disk.old).log (D.state disk.new).log }
     ensures spends { OnlyWrites (is_err result) (D.state disk.old) (D.state disk.new) }
+    ensures cause { IsTrue D.tells → OnErr result (HasFailed (D.state disk.new)) }
     ensures taken { OnOk result (vec_len tickets.new ≡ vec_len tickets.old + length paid.now) }
     ensures capacity { vec_capacity tickets.old ≤ vec_capacity tickets.new }
 {
@@ -140,6 +143,7 @@ pub fn issue_record<D: Disk>(
         → RecordLeaves s l p (written_of epoch number place paid.now laid.now) m t floor result tickets.new.items (D.state disk.new).base (D.state disk.new).log }
     ensures log { IsTrue D.tells → AddsAll (record_writes geom.now epoch number place paid.now laid.now) result tickets.old.items tickets.new.items (D.state disk.old).log (D.state disk.new).log }
     ensures spends { OnlyWrites (is_err result) (D.state disk.old) (D.state disk.new) }
+    ensures cause { IsTrue D.tells → OnErr result (HasFailed (D.state disk.new)) }
     ensures taken { OnOk result (length tickets.new.items ≡ length laid.now + places (record_of 0 0 paid.now laid.now)) }
 {
     geom.lawful();

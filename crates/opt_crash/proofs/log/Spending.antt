@@ -5,7 +5,7 @@ use Rattle.opt_disk.specs.Disk.{State, SameDisk, OnlyWrites, OnlyWaits, SpendsUp
 
 -- a disk that is the same twice over
 pub same_twice : (a b c : State) → SameDisk a b → SameDisk b c → SameDisk a c
-same_twice a b c one two = record { blocks = two.blocks ∙ one.blocks; base = two.base ∙ one.base }
+same_twice a b c one two = record { blocks = two.blocks ∙ one.blocks; base = two.base ∙ one.base; manner = two.manner ∙ one.manner }
 
 -- a call that only writes, behind others of which none failed
 pub writes_on : (failed : Bool) (a b c : State) → OnlyWrites false a b → OnlyWrites failed b c → OnlyWrites failed a c

@@ -1,5 +1,5 @@
 -- What the node at a path reads as, from what is known of its file.
-use Rattle.std.proofs.Common.{◌≡◌, ℕ, ◌==◌, Bool, true, false, IsTrue, List, Some, option_map, option_and_then, refl, sym, subst, ap, ◌∙◌}
+use Rattle.std.proofs.Common.{◌≡◌, ℕ, ◌==◌, Bool, true, false, IsTrue, List, None, Some, option_map, option_and_then, refl, sym, subst, ap, ◌∙◌}
 use Rattle.opt_layout.specs.declared.slot.Slot.{Slot}
 use Rattle.opt_layout.specs.declared.node.NodeKind.{NodeKind}
 use Rattle.opt_layout.specs.declared.node.NodeKind.TheVariants.{Free, Dir, File}
@@ -14,7 +14,7 @@ use Rattle.opt_files.specs.Calls.{facts_of, files_in, is_dir}
 use Rattle.opt_files.specs.Drafts.{DraftState}
 use Rattle.opt_files.specs.Effects.{LooksOnly}
 use Rattle.opt_fs.specs.Listing.{MayWalk, IsMapIn}
-use Rattle.opt_fs.proofs.looking.Found.{same_files, draft_stays, facts_are}
+use Rattle.opt_fs.proofs.looking.Found.{same_files, draft_stays, facts_are, is_used}
 use Rattle.opt_fs.proofs.looking.Facts.{file_told, not_file}
 
 module _ (tells failed : Bool) (s t : State) (d : DraftState) (k : LooksOnly tells failed s t) where
@@ -61,3 +61,7 @@ module _ (s : State) (d : DraftState) (m : Inodes) (t : Tree) (h : IsMapIn s d m
     bytes_there file =
         let x = file_there.0 in
         here ∙ file_told x.kind x.links x.bytes some_there.0 some_there.1 (sym (ap (λ (f : FileFacts). is_dir f.kind) file_there.2) ∙ file)
+
+  -- it isn't unknown
+  pub never_unknown : None ≡ option_map facts_of (files_in s d number) → ⊥
+  never_unknown none = is_used (files_in s d number) reads.0 reads.1 none

@@ -33,10 +33,11 @@ impl StillDisk {
 
 impl Disk for StillDisk {
     ghost use Rattle.std.specs.Prelude.{false, []};
+    ghost use Rattle.opt_disk.specs.Manner.{any_manner};
 
     ghost tells = { false };
 
-    ghost state = { λ s. record { blocks = 64; base = λ b. []; log = []; faults = s.faults; read_faults = s.read_faults; waits = s.waits; polls = s.polls } };
+    ghost state = { λ s. record { blocks = 64; base = λ b. []; log = []; faults = s.faults; read_faults = s.read_faults; waits = s.waits; polls = s.polls; manner = any_manner } };
 
     fn lawful(&self) {}
 

@@ -105,12 +105,12 @@ length_ring_writes g place (x ∷ xs) = omega (arith, length_ring_writes g (plac
 
 -- nothing is spent by no call
 pub still : (s : State) → OnlyWrites false s s
-still s = record { same = record { blocks = refl; base = refl }; faults = refl; read_faults = refl; waits = refl; polls = refl }
+still s = record { same = record { blocks = refl; base = refl; manner = refl }; faults = refl; read_faults = refl; waits = refl; polls = refl }
 
 -- and writes behind writes of which none failed only write
 pub still_more : (failed : Bool) (old mid new : State) → OnlyWrites false old mid → OnlyWrites failed mid new → OnlyWrites failed old new
 still_more failed old mid new so_far more = record {
-  same = record { blocks = more.same.blocks ∙ so_far.same.blocks; base = more.same.base ∙ so_far.same.base };
+  same = record { blocks = more.same.blocks ∙ so_far.same.blocks; base = more.same.base ∙ so_far.same.base; manner = more.same.manner ∙ so_far.same.manner };
   faults = more.faults ∙ ap (after_call failed) so_far.faults;
   read_faults = more.read_faults ∙ so_far.read_faults;
   waits = more.waits ∙ so_far.waits;

@@ -1,5 +1,5 @@
 -- What a commit leaves, by the answer of the calls that write the record.
-use Rattle.std.proofs.Common.{◌≡◌, ◌⊎◌, ℕ, ◌+◌, true, false, List, length, Result, Ok, Err, is_err, OnOk, refl, sym, ◌∙◌, ap}
+use Rattle.std.proofs.Common.{◌≡◌, ◌⊎◌, ℕ, ◌+◌, true, false, List, length, Result, Ok, Err, is_err, OnOk, refl, sym, ◌∙◌, ap, OnErr}
 use Rattle.opt_journal.specs.Run.{places}
 use Rattle.std.proofs.lemmas.Bool.{false≢true}
 use Rattle.opt_base.specs.Seal.{Blocks}
@@ -45,3 +45,8 @@ ok_holds (Err a) P e p = absurd (false≢true (sym e))
 
 pub same_size : (P paid L laid : List Put) (number place : ℕ) → P ≡ paid → L ≡ laid → length L + places (record_of 0 0 P L) ≡ length laid + places (record_of number place paid laid)
 same_size P paid L laid number place p q = ap (λ (ps : List Put). length L + places (record_of 0 0 ps L)) p ∙ ap (λ (ls : List Put). length ls + places (record_of 0 0 paid ls)) q
+
+-- what holds of a call that failed
+pub err_cause : {A E : Type 0} {P : Type 0} (r : Result A E) → is_err r ≡ true → OnErr r P → P
+err_cause (Ok a) failed p = absurd (false≢true failed)
+err_cause (Err e) failed p = p

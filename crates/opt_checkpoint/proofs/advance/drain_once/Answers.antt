@@ -9,6 +9,7 @@ use Rattle.opt_checkpoint.proofs.MovesRows.{moves_more, moves_heard}
 use Rattle.opt_checkpoint.proofs.Settled.{turned_same}
 use Rattle.opt_checkpoint.proofs.StageRows.{empty_is_on}
 use Rattle.opt_checkpoint.proofs.StepsRight.{leaves_failed}
+use Rattle.opt_checkpoint.proofs.Spent.{on_err}
 use Rattle.opt_checkpoint.proofs.advance.drain_once.Goals as goal
 
 pub returns-then-is_empty-clause-stage : goal.returns-then-is_empty-clause-stage
@@ -87,3 +88,9 @@ returns-clause-bytes g c = λ tells s l t floor taken right.
     leaves_then l l (turned_same l) v w c.go_on.new.pipeline old middle (g.D.Disk.state c.go_on.new.disk) (loses_heard v w c.wait_for_all.ensures.rest)
     (leaves_noticed l v w old middle heard.tickets (λ b lives. c.the_newest_payloads_are_the_map.ensures.calm old.base old.log l v c.args.ring.now c.args.reuse.now.waiting taken b right.safe.keeps right.agrees lives) c.wait_for_all.ensures.rest c.wait_for_all.ensures.spends.spends.same.base heard.log)
     (c.go_on.ensures.bytes tells s l t floor taken (record { safe = waited.0; agrees = waited.1; serves = serves_heard l v w c.args.reuse.now c.wait_for_all.ensures.rest c.wait_for_all.ensures.hears right.serves }))
+
+pub returns-in_err-wait_for_all-clause-cause : goal.returns-in_err-wait_for_all-clause-cause
+returns-in_err-wait_for_all-clause-cause g c = λ tells given. on_err c.from_residual.result (c.in_err-wait_for_all.ensures.cause tells given)
+
+pub returns-clause-cause : goal.returns-clause-cause
+returns-clause-cause g c = λ tells given. c.go_on.ensures.cause tells

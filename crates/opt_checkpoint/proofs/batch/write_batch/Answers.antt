@@ -21,7 +21,7 @@ use Rattle.opt_checkpoint.proofs.batch.write_batch.Goals as goal
 
 pub loop-block-init : goal.loop-block-init
 loop-block-init g c = record {
-  spends = record { same = record { blocks = refl; base = refl }; faults = refl; read_faults = refl; waits = refl; polls = refl };
+  spends = record { same = record { blocks = refl; base = refl; manner = refl }; faults = refl; read_faults = refl; waits = refl; polls = refl };
   taken = c.clear.ensures.len;
   capacity = omega (arith, c.clear.ensures.capacity);
   room = omega arith;
@@ -79,7 +79,7 @@ loop-block-preserved g c =
     let at = item_is blocks k c.loop-block-test.true in
     record {
       spends = record {
-        same = record { blocks = c.write_home.ensures.spends.same.blocks ∙ c.loop-block.invariant.spends.same.blocks; base = c.write_home.ensures.spends.same.base ∙ c.loop-block.invariant.spends.same.base };
+        same = record { blocks = c.write_home.ensures.spends.same.blocks ∙ c.loop-block.invariant.spends.same.blocks; base = c.write_home.ensures.spends.same.base ∙ c.loop-block.invariant.spends.same.base; manner = c.write_home.ensures.spends.same.manner ∙ c.loop-block.invariant.spends.same.manner };
         faults = c.in_ok-ticket.ensures.spends.faults ∙ c.loop-block.invariant.spends.faults;
         read_faults = c.write_home.ensures.spends.read_faults ∙ c.loop-block.invariant.spends.read_faults;
         waits = c.write_home.ensures.spends.waits ∙ c.loop-block.invariant.spends.waits;

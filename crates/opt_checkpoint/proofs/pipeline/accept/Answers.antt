@@ -32,6 +32,7 @@ returns-clause-agrees c = λ s base old new l m t floor epoch ring waiting taken
     freed (λ k u is. c.records_stand_in_order.ensures.numbers base old l k u safe.keeps is) stays c.expect_all.ensures.noticed
     (λ u e. c.expect_all.ensures.expected u ∙ with_old (is_one_of u c.as_slice.result.now) (is_expected u c.args.pipeline.now.notes.notes) e)
     (all_expected tx.tickets.items c.as_slice.result.now c.args.pipeline.now.notes.notes c.expect_all.new.notes.notes c.expect_all.ensures.expected (λ u e. ap (is_one_of u) c.as_slice.ensures.value ∙ e))
+    (λ u. c.expect_all.ensures.expected u ∙ ap (λ (ts : List ℕ). is_one_of u ts || is_expected u c.args.pipeline.now.notes.notes) c.as_slice.ensures.value)
     fresh left.joined left.idle one
 
 pub returns-clause-accepts : goal.returns-clause-accepts

@@ -1,9 +1,10 @@
 -- A notice is heard, and all else stays.
-use Rattle.std.proofs.Common.{refl}
+use Rattle.std.proofs.Common.{Ok, is_err, refl, ◌∙◌, ap}
 use Rattle.opt_disk.specs.declared.disk.DiskFault.{DiskFault}
 use Rattle.opt_checkpoint.specs.Agree.{data_of}
 use Rattle.opt_checkpoint.proofs.Notices.{agrees_notice, agrees_moved, some_adds, none_adds, took_none}
 use Rattle.opt_checkpoint.proofs.NoticeRows.{takes_one}
+use Rattle.opt_checkpoint.proofs.Polled.{takes_failed, takes_none, takes_some}
 use Rattle.opt_checkpoint.proofs.pipeline.take_notice.Goals as goal
 
 pub returns-in_err-ticket-clause-agrees : goal.returns-in_err-ticket-clause-agrees
@@ -34,3 +35,12 @@ returns-in-None-clause-takes g c = λ tells. (none_adds DiskFault c.in_ok-ticket
 
 pub returns-in-Some-clause-takes : goal.returns-in-Some-clause-takes
 returns-in-Some-clause-takes g c = λ tells. (c.in-Some.ticket, some_adds DiskFault c.in_ok-ticket.field-0 c.in-Some.ticket _ _ c.in-Some.is (c.in_ok-ticket.ensures.log tells), takes_one c.in-Some.ticket c.args.pipeline.now.notes.notes c.noticed.new.self.notes c.noticed.ensures.expected c.noticed.ensures.noticed)
+
+pub returns-in_err-ticket-clause-answer : goal.returns-in_err-ticket-clause-answer
+returns-in_err-ticket-clause-answer g c = λ tells. takes_failed ((g.D.Disk.state c.args.disk.now).manner.notice (g.D.Disk.state c.args.disk.now).polls (g.D.Disk.state c.args.disk.now).log) c.poll_once.result c.from_residual.result _ _ (ap is_err c.in_err-ticket.was) (c.poll_once.ensures.answer tells)
+
+pub returns-in-None-clause-answer : goal.returns-in-None-clause-answer
+returns-in-None-clause-answer g c = λ tells. takes_none DiskFault ((g.D.Disk.state c.args.disk.now).manner.notice (g.D.Disk.state c.args.disk.now).polls (g.D.Disk.state c.args.disk.now).log) c.poll_once.result _ _ (c.in_ok-ticket.was ∙ ap Ok c.in-None.is) (c.poll_once.ensures.answer tells) (c.poll_once.ensures.log tells)
+
+pub returns-in-Some-clause-answer : goal.returns-in-Some-clause-answer
+returns-in-Some-clause-answer g c = λ tells. takes_some DiskFault ((g.D.Disk.state c.args.disk.now).manner.notice (g.D.Disk.state c.args.disk.now).polls (g.D.Disk.state c.args.disk.now).log) c.poll_once.result c.in-Some.ticket _ _ (c.in_ok-ticket.was ∙ ap Ok c.in-Some.is) (c.poll_once.ensures.answer tells) (c.poll_once.ensures.log tells)

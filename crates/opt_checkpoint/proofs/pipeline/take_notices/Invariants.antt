@@ -1,5 +1,6 @@
-use Rattle.std.proofs.Common.{◌≡◌, ◌++◌, ℕ, false, IsTrue, List, length}
+use Rattle.std.proofs.Common.{◌≡◌, ◌++◌, ◌-◌, ℕ, false, IsTrue, List, Some, length}
 use Rattle.opt_disk.specs.Disk.{Spends}
+use Rattle.opt_disk.specs.Manner.{Polled, after_polls}
 use Rattle.opt_journal.specs.Ring.{RingPlaces}
 use Rattle.opt_crash.specs.Ledger.{Ledger}
 use Rattle.opt_crash.specs.Points.{MountedSession, IsSafe}
@@ -15,6 +16,7 @@ invariant-loop-turn g l = record {
   rest : l.pipeline ≡ record l.fn.pipeline { notes = l.pipeline.notes };
   hears : HearsMore l.fn.pipeline.notes l.pipeline.notes;
   takes : IsTrue g.D.Disk.tells → (ts : List ℕ) × (length ts ≡ l.turn) × ((g.D.Disk.state l.disk).log ≡ (g.D.Disk.state l.fn.disk).log ++ notices ts) × TakesAll ts l.fn.pipeline.notes.notes l.pipeline.notes.notes;
+  polled : IsTrue g.D.Disk.tells → (p : Polled) → after_polls (g.D.Disk.state l.fn.disk).manner 64 (g.D.Disk.state l.fn.disk).polls (g.D.Disk.state l.fn.disk).log ≡ Some p → after_polls (g.D.Disk.state l.fn.disk).manner (64 - l.turn) (g.D.Disk.state l.disk).polls (g.D.Disk.state l.disk).log ≡ Some p;
   agrees : IsTrue g.D.Disk.tells → (s : MountedSession) (k : Ledger) (t floor : ℕ) (ring : RingPlaces) (waiting : List (ℕ × ℕ)) (taken : List ℕ) → IsSafe s (g.D.Disk.state l.fn.disk).base (g.D.Disk.state l.fn.disk).log k t floor → PipelineAgrees (g.D.Disk.state l.fn.disk).base (g.D.Disk.state l.fn.disk).log k l.fn.pipeline ring waiting taken
       → IsSafe s (g.D.Disk.state l.disk).base (g.D.Disk.state l.disk).log k t floor × PipelineAgrees (g.D.Disk.state l.disk).base (g.D.Disk.state l.disk).log k l.pipeline ring waiting taken;
 }

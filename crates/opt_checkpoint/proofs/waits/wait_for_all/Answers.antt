@@ -4,6 +4,8 @@ use Rattle.opt_checkpoint.specs.Waits.{WaitsSome}
 use Rattle.opt_checkpoint.specs.declared.pipeline.Pipeline.{Pipeline}
 use Rattle.opt_checkpoint.proofs.Hears.{here, hears_on, all_noticed, upto_more}
 use Rattle.opt_checkpoint.proofs.Spent.{failed_waits, waits_on, no_waits, notices_on, no_notices}
+use Rattle.opt_checkpoint.proofs.Given.{given_heard}
+use Rattle.opt_checkpoint.proofs.Spent.{on_err}
 use Rattle.opt_checkpoint.proofs.waits.wait_for_all.Goals as goal
 
 pub returns-in_err-wait_for_note-clause-agrees : goal.returns-in_err-wait_for_note-clause-agrees
@@ -41,3 +43,6 @@ loop-at-preserved g c =
 
 pub returns-clause-noticed : goal.returns-clause-noticed
 returns-clause-noticed g c = all_noticed c.args.pipeline.now.notes.notes c.loop-at.pipeline.notes.notes c.loop-at.at c.loop-at.invariant.hears.tickets (omega (arith, c.loop-at-test.false, c.len-at-end.ensures)) c.loop-at.invariant.upto
+
+pub returns-in_err-wait_for_note-clause-cause : goal.returns-in_err-wait_for_note-clause-cause
+returns-in_err-wait_for_note-clause-cause g c = λ tells given. on_err c.from_residual.result (c.in_err-wait_for_note.ensures.cause tells (given_heard (g.D.Disk.state c.args.disk.now).log (g.D.Disk.state c.loop-at.disk).log c.args.pipeline.now.notes c.loop-at.pipeline.notes given c.loop-at.invariant.hears (c.loop-at.invariant.log tells)))

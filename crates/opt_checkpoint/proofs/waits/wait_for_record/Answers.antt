@@ -5,6 +5,8 @@ use Rattle.opt_checkpoint.specs.Waits.{WaitsSome}
 use Rattle.opt_checkpoint.specs.declared.pipeline.Pipeline.{Pipeline}
 use Rattle.opt_checkpoint.proofs.Hears.{hears_on, closed_more, none_open_of, ticket_at, ends}
 use Rattle.opt_checkpoint.proofs.Spent.{failed_waits, waits_on, no_waits, notices_on, no_notices}
+use Rattle.opt_checkpoint.proofs.Given.{given_heard}
+use Rattle.opt_checkpoint.proofs.Spent.{on_err}
 use Rattle.opt_checkpoint.proofs.waits.wait_for_record.Goals as goal
 
 pub returns-in_err-wait_where_open-clause-agrees : goal.returns-in_err-wait_where_open-clause-agrees
@@ -46,3 +48,6 @@ returns-clause-noticed g c = λ c2 is.
 
 pub index-requires-in-loop-k : goal.index-requires-in-loop-k
 index-requires-in-loop-k g c = subst (λ (p : Pipeline). c.args.at < deque_len p.committed) (sym c.loop-k.invariant.rest) (search rules)
+
+pub returns-in_err-wait_where_open-clause-cause : goal.returns-in_err-wait_where_open-clause-cause
+returns-in_err-wait_where_open-clause-cause g c = λ tells given. on_err c.from_residual.result (c.in_err-wait_where_open.ensures.cause tells (given_heard (g.D.Disk.state c.args.disk.now).log (g.D.Disk.state c.loop-k.disk).log c.args.pipeline.now.notes c.loop-k.pipeline.notes given c.loop-k.invariant.hears (c.loop-k.invariant.log tells)))

@@ -7,6 +7,8 @@ use Rattle.opt_checkpoint.proofs.Numbers.{committed_rise}
 use Rattle.std.proofs.lemmas.Bool.{cases_lt}
 use Rattle.std.proofs.lemmas.Option.{slice_get_within}
 use Rattle.opt_checkpoint.proofs.Spent.{failed_waits, waits_on, no_waits, notices_on, no_notices}
+use Rattle.opt_checkpoint.proofs.Given.{given_heard}
+use Rattle.opt_checkpoint.proofs.Spent.{on_err}
 use Rattle.opt_checkpoint.proofs.waits.wait_upto.Goals as goal
 
 pub returns-in_err-wait_for_record-clause-agrees : goal.returns-in_err-wait_for_record-clause-agrees
@@ -56,3 +58,6 @@ returns-clause-noticed g c = λ k c2 is upto.
     let there : slice_get v.committed.items k ≡ Some c2 = sym (ap (λ (p : Pipeline). slice_get p.committed.items k) c.loop-at.invariant.rest) ∙ is in
     let all : c.len-at-end.result ≡ length v.committed.items = search rules in
     c.loop-at.invariant.upto k c2 (omega (arith, c.loop-at-test.false, all, slice_get_within v.committed.items k c2 there)) there
+
+pub returns-in_err-wait_for_record-clause-cause : goal.returns-in_err-wait_for_record-clause-cause
+returns-in_err-wait_for_record-clause-cause g c = λ tells given. on_err c.from_residual.result (c.in_err-wait_for_record.ensures.cause tells (given_heard (g.D.Disk.state c.args.disk.now).log (g.D.Disk.state c.loop-at.disk).log c.args.pipeline.now.notes c.loop-at.pipeline.notes given c.loop-at.invariant.hears (c.loop-at.invariant.log tells)))

@@ -1,10 +1,12 @@
 -- The ticket is noticed by the disk, and then by the notes; or the wait failed.
-use Rattle.std.proofs.Common.{inl, inr, ⊎_elim, subst, sym, ◌∙◌, refl}
+use Rattle.std.proofs.Common.{rules, ◌≡◌, true, inl, inr, ⊎_elim, subst, sym, ◌∙◌, refl}
 use Rattle.opt_disk.specs.Cell.{IsNoticed}
-use Rattle.opt_notes.specs.Notes.{is_expected, is_noticed}
+use Rattle.opt_notes.specs.Notes.{is_expected, is_noticed, is_open}
 use Rattle.opt_checkpoint.specs.Agree.{data_of}
 use Rattle.opt_checkpoint.proofs.Notices.{agrees_moved}
 use Rattle.opt_checkpoint.proofs.Waited.{agrees_waited, marked_before}
+use Rattle.opt_checkpoint.proofs.Given.{open_expected}
+use Rattle.opt_checkpoint.proofs.Spent.{on_err}
 use Rattle.opt_checkpoint.proofs.waits.wait_where_open.Goals as goal
 
 pub returns-in_err-wait_for-clause-agrees : goal.returns-in_err-wait_for-clause-agrees
@@ -28,3 +30,8 @@ returns-clause-agrees g c = λ tells s l t floor ring waiting taken safe a.
           c.nothing_is_written_between_records.ensures.notice c.one_write_is_pending.ensures.notice c.taken_blocks_stay_dead.ensures.events c.noticed.ensures.expected
           (λ u e. ⊎_elim inl (λ same. inr (subst (λ n. IsNoticed n (g.D.Disk.state c.wait_for.new.disk).log) same came)) (marked_before (is_noticed u c.args.pipeline.now.notes.notes) (is_expected u c.args.pipeline.now.notes.notes) c.args.ticket u (sym (c.noticed.ensures.noticed u) ∙ e))),
     )
+
+pub returns-in_err-wait_for-clause-cause : goal.returns-in_err-wait_for-clause-cause
+returns-in_err-wait_for-clause-cause g c = λ tells given.
+    let is : is_open c.args.ticket c.args.pipeline.now.notes.notes ≡ true = search rules in
+    on_err c.from_residual.result (c.in_err-wait_for.ensures.cause tells (given c.args.ticket (open_expected c.args.ticket c.args.pipeline.now.notes.notes is)))

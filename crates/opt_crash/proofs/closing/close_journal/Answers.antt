@@ -9,6 +9,8 @@ use Rattle.opt_crash.specs.Opening.{closed_header, settled}
 use Rattle.opt_crash.proofs.log.Spending.{wait_failed}
 use Rattle.opt_crash.proofs.mount.OpeningMoments.{closed_waited, closed_failed, closed_upto}
 use Rattle.opt_crash.proofs.mount.OpeningSteps.{closing_is, then_waited, then_noticed, failed_write, failed_wait}
+use Rattle.opt_disk.specs.declared.disk.DiskFault.{DiskFault}
+use Rattle.opt_crash.proofs.log.Given.{given_now, on_err}
 use Rattle.opt_crash.proofs.closing.close_journal.Goals as goal
 
 pub returns-in_err-wait-clause-spends : goal.returns-in_err-wait-clause-spends
@@ -37,3 +39,9 @@ returns-clause-closed g c = λ tells run idle found is_last.
     let done = then_noticed (1 - c.args.slot) c.in_ok-ticket.ticket (header_block (closed_header c.args.newest.now c.args.last)) c.write_header.new.into _ _ _ (c.write_header.ensures ∙ ap header_block c.closed_header-header.ensures.is) (c.in_ok-ticket.ensures.log tells) (c.wait.ensures.log tells) (c.in_ok-wait.ensures.noticed tells) in
     subst (λ (b : Blocks). IsReplayedUpTo c.args.newest.now.geom.n (cell_of b (g.D.Disk.state c.wait.new.self).log) (settled (cells_of (g.D.Disk.state c.args.disk.now))) (1 - c.args.slot) c.args.newest.now (closed_header c.args.newest.now c.args.last) run (bitmap_start c.args.newest.now.geom)) (sym (c.wait.ensures.spends.same.base ∙ c.write.ensures.spends.same.base))
     (closed_upto c.the_journal_is_lawful.ensures c.journal_blocks_read_back.ensures.headers _ _ c.args.slot c.args.newest.now c.args.last run idle found is_last (closing_is c.args.newest.now c.args.last (length run) _ (c.the_journal_is_lawful.ensures.header_bounds _ _ c.args.newest.now found.newest.stands) is_last c.closed_header-header.ensures.epoch c.requires.turn c.closed_header-header.ensures.start c.ranges.last.fits) _ done.0 done.1)
+
+pub returns-in_err-ticket-clause-cause : goal.returns-in_err-ticket-clause-cause
+returns-in_err-ticket-clause-cause g c = λ tells. on_err c.from_residual.result (c.in_err-ticket.ensures.cause tells)
+
+pub returns-in_err-wait-clause-cause : goal.returns-in_err-wait-clause-cause
+returns-in_err-wait-clause-cause g c = λ tells. on_err c.from_residual-in_err-wait.result (c.in_err-wait.ensures.cause tells (given_now DiskFault _ _ _ _ _ (c.in_ok-ticket.ensures.log tells)))

@@ -7,6 +7,8 @@ use Rattle.opt_crash.proofs.log.Spending.{wait_failed}
 use Rattle.opt_crash.proofs.mount.ReplayUpTo.{upto_waited}
 use Rattle.opt_crash.proofs.mount.ReplaySteps.{replayed_waited, replayed_failed}
 use Rattle.opt_crash.proofs.mount.OpeningSteps.{own_settled, then_waited, then_noticed, failed_write, failed_wait}
+use Rattle.opt_disk.specs.declared.disk.DiskFault.{DiskFault}
+use Rattle.opt_crash.proofs.log.Given.{given_now, on_err}
 use Rattle.opt_crash.proofs.closing.replay_block.Goals as goal
 
 pub returns-in_err-wait-clause-spends : goal.returns-in_err-wait-clause-spends
@@ -46,3 +48,9 @@ returns-clause-next g c = λ tells n at slot old_slot h closed run found low cov
     let done = then_noticed c.args.block c.in_ok-ticket.ticket c.args.bytes.now c.args.bytes.now _ _ _ refl (c.in_ok-ticket.ensures.log tells) (c.wait.ensures.log tells) (c.in_ok-wait.ensures.noticed tells) in
     subst (λ (b : Blocks). IsReplayedUpTo n (cell_of b (g.D.Disk.state c.wait.new.self).log) at slot h closed run (c.args.block + 1)) (sym (c.wait.ensures.spends.same.base ∙ c.write.ensures.spends.same.base))
     (upto_waited c.the_journal_is_lawful.ensures n (g.D.Disk.state c.args.disk.now).base at slot old_slot h closed run found c.args.block c.args.bytes.now low covered _ _ r done.0 done.1)
+
+pub returns-in_err-ticket-clause-cause : goal.returns-in_err-ticket-clause-cause
+returns-in_err-ticket-clause-cause g c = λ tells. on_err c.from_residual.result (c.in_err-ticket.ensures.cause tells)
+
+pub returns-in_err-wait-clause-cause : goal.returns-in_err-wait-clause-cause
+returns-in_err-wait-clause-cause g c = λ tells. on_err c.from_residual-in_err-wait.result (c.in_err-wait.ensures.cause tells (given_now DiskFault _ _ _ _ _ (c.in_ok-ticket.ensures.log tells)))

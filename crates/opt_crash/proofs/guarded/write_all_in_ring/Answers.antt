@@ -8,7 +8,7 @@ use Rattle.opt_crash.proofs.guarded.write_all_in_ring.Goals as goal
 pub loop-block-init : goal.loop-block-init
 loop-block-init g c = record {
   at = omega arith;
-  spent = record { same = record { blocks = refl; base = refl }; faults = refl; read_faults = refl; waits = refl; polls = refl };
+  spent = record { same = record { blocks = refl; base = refl; manner = refl }; faults = refl; read_faults = refl; waits = refl; polls = refl };
   taken = omega arith;
   capacity = omega arith;
   log = λ tells. none_written (row_writes c.args.first c.args.blocks.now) c.args.tickets.now.items (g.D.Disk.state c.args.disk.now).log;

@@ -3,9 +3,12 @@ use Rattle.opt_journal.specs.Spelling.{header_block}
 use Rattle.opt_crash.specs.Opening.{opening_header}
 use Rattle.opt_crash.proofs.mount.OpeningMoments.{holds_waited, holds_failed, found_waited, found_failed}
 use Rattle.opt_crash.proofs.mount.OpeningSteps.{opened, then_waited, then_noticed, failed_write, failed_wait, is_low}
+use Rattle.opt_crash.proofs.mount.OnlyWrite.{one_written, stopped_writing, stopped_waiting}
 use Rattle.opt_crash.proofs.mount.Mounted.{mounted_safe}
 use Rattle.opt_crash.proofs.mount.Begun.{begins_with, has_begun}
 use Rattle.opt_crash.proofs.log.Spending.{wait_failed}
+use Rattle.opt_disk.specs.declared.disk.DiskFault.{DiskFault}
+use Rattle.opt_crash.proofs.log.Given.{given_now, on_err}
 use Rattle.opt_crash.proofs.opening.open_journal.Goals as goal
 
 pub returns-in_err-wait-clause-spends : goal.returns-in_err-wait-clause-spends
@@ -61,3 +64,21 @@ returns-clause-replayed g c = λ tells was old_slot h run ready found done.
 pub returns-clause-log : goal.returns-clause-log
 returns-clause-log g c = λ tells.
     then_noticed _ c.in_ok-ticket.ticket _ _ _ _ _ (c.write_header.ensures ∙ ap header_block c.opening_header-header.ensures) (c.in_ok-ticket.ensures.log tells) (c.wait.ensures.log tells) (c.in_ok-wait.ensures.noticed tells)
+
+pub returns-in_err-ticket-clause-cause : goal.returns-in_err-ticket-clause-cause
+returns-in_err-ticket-clause-cause g c = λ tells. on_err c.from_residual.result (c.in_err-ticket.ensures.cause tells)
+
+pub returns-in_err-wait-clause-cause : goal.returns-in_err-wait-clause-cause
+returns-in_err-wait-clause-cause g c = λ tells. on_err c.from_residual-in_err-wait.result (c.in_err-wait.ensures.cause tells (given_now DiskFault _ _ _ _ _ (c.in_ok-ticket.ensures.log tells)))
+
+pub returns-in_err-ticket-clause-alone : goal.returns-in_err-ticket-clause-alone
+returns-in_err-ticket-clause-alone g c = λ tells. stopped_writing (g.D.Disk.state c.args.disk.now).manner c.from_residual.result _ _ _ _ c.in_err-ticket.field-0.0 c.from_residual.ensures.0 (c.in_err-ticket.ensures.log tells)
+
+pub returns-in_err-wait-clause-alone : goal.returns-in_err-wait-clause-alone
+returns-in_err-wait-clause-alone g c = λ tells. stopped_waiting (g.D.Disk.state c.args.disk.now).manner (g.D.Disk.state c.write.new.self).manner c.from_residual-in_err-wait.result _ _ c.from_residual-in_err-wait.ensures.0
+    (one_written DiskFault _ c.in_ok-ticket.ticket _ _ _ _ (c.in_ok-ticket.ensures.log tells) (c.wait.ensures.log tells))
+    c.write.ensures.spends.same.manner
+    (c.in_err-wait.ensures.stalls tells (given_now DiskFault _ _ _ _ _ (c.in_ok-ticket.ensures.log tells)))
+
+pub returns-clause-alone : goal.returns-clause-alone
+returns-clause-alone g c = λ tells. one_written DiskFault _ c.in_ok-ticket.ticket _ _ _ _ (c.in_ok-ticket.ensures.log tells) (c.wait.ensures.log tells)

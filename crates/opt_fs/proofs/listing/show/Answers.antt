@@ -1,8 +1,9 @@
-use Rattle.std.proofs.Common.{Some, subst, sym, refl, ◌∙◌}
+use Rattle.std.proofs.Common.{◌≡◌, None, Some, subst, sym, refl, ◌∙◌, rules}
 use Rattle.std.specs.Io.KnownBytes.{Appends}
 use Rattle.opt_io.specs.Prefix.{TakesPrefix}
 use Rattle.opt_tree.specs.Tree.{Dir, File}
 use Rattle.opt_tree.specs.Listing.{line_of}
+use Rattle.opt_fs.proofs.listed.Reads.{never_unknown}
 use Rattle.opt_fs.proofs.listed.Texts.{on_err}
 use Rattle.opt_fs.proofs.listed.Shows.{may_read, dir_front, dir_taken, dir_writes, file_front, file_writes}
 use Rattle.opt_fs.proofs.listing.show.Goals as goal
@@ -47,3 +48,8 @@ returns-clause-writes g c = λ told.
     g.S.Blocks.tells (g.S.Blocks.state c.look.new.blocks) told c.in_ok-facts.ensures.looks _ _
     (λ x at is. subst (λ p. Appends (g.K.Sink.taken c.args.out.now) (g.K.Sink.taken c.write_file.new.out) (line_of p c.args.number (Some (File x.bytes)))) c.as_slice-path.ensures.value (c.in_ok-write_file.ensures.all told x at is))
     c.leave-2.ensures refl refl
+
+pub returns-in_default-clause-writes : goal.returns-in_default-clause-writes
+returns-in_default-clause-writes g c = λ told m t h leads walk.
+    let none : None ≡ c.in_ok-facts.field-0 = search rules in
+    absurd (never_unknown (g.S.Blocks.state c.args.blocks.now) c.args.draft.now m t h c.args.walk.now.path.items c.args.number leads (none ∙ c.in_ok-facts.ensures.facts told))

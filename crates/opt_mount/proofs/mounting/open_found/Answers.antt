@@ -9,6 +9,7 @@ use Rattle.opt_mount.specs.Refusal.{is_unread, is_faulty}
 use Rattle.opt_mount.proofs.States.{spends_on, anew_on}
 use Rattle.opt_mount.proofs.Replays.{stays_on}
 use Rattle.opt_mount.proofs.Opens.{none_above, begun_since, empty_holds, empty_opened, window_from, begun_as}
+use Rattle.opt_mount.proofs.OnlyWrite.{stops_too, not_empty}
 use Rattle.opt_mount.proofs.mounting.open_found.Goals as goal
 
 pub returns-in_err-mounted-clause-holds : goal.returns-in_err-mounted-clause-holds
@@ -106,3 +107,21 @@ returns-clause-spends g c = spends_on _ _ (c.args.run.now.header.geom.n + 1) 1 _
 
 pub returns-clause-anew : goal.returns-clause-anew
 returns-clause-anew g c = anew_on (c.args.run.now.header.geom.n + 1) c.in_ok-opened.opened.header (g.D.Disk.state c.args.disk.now) (g.D.Disk.state c.replay_found.new.disk) (g.D.Disk.state c.open_after-2.new.disk) c.in_ok-closed.ensures.spends c.in_ok-opened.ensures.anew
+
+pub returns-in_err-mounted-clause-alone : goal.returns-in_err-mounted-clause-alone
+returns-in_err-mounted-clause-alone g c = λ tells none. stops_too (g.D.Disk.state c.args.disk.now).manner c.from_residual.result _ _ c.from_residual.ensures.0 (c.in_err-mounted.ensures.alone tells)
+
+pub returns-in_err-closed-clause-alone : goal.returns-in_err-closed-clause-alone
+returns-in_err-closed-clause-alone g c = λ tells none.
+    let some : 0 < length c.args.run.now.records = search rules in
+    absurd (not_empty c.args.run.now.records some none)
+
+pub returns-in_err-opened-clause-alone : goal.returns-in_err-opened-clause-alone
+returns-in_err-opened-clause-alone g c = λ tells none.
+    let some : 0 < length c.args.run.now.records = search rules in
+    absurd (not_empty c.args.run.now.records some none)
+
+pub returns-clause-alone : goal.returns-clause-alone
+returns-clause-alone g c = λ tells none.
+    let some : 0 < length c.args.run.now.records = search rules in
+    absurd (not_empty c.args.run.now.records some none)

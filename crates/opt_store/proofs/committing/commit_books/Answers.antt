@@ -1,4 +1,4 @@
-use Rattle.std.proofs.Common.{sym, ap, subst, ◌∙◌}
+use Rattle.std.proofs.Common.{sym, ap, subst, ◌∙◌, arith}
 use Rattle.opt_journal.specs.Ring.{RingPlaces}
 use Rattle.opt_crash.specs.Writes.{AddsFront, AddsWrites}
 use Rattle.opt_books.specs.Books.{TransactionBooks}
@@ -6,6 +6,7 @@ use Rattle.opt_books.specs.Kept.{AreKept}
 use Rattle.opt_tx.specs.Running.{Changes}
 use Rattle.opt_store.specs.Committing.{BecomesRecord, places_for, writes_of}
 use Rattle.opt_store.proofs.BooksCommit.{are_below, becomes_record, books_right, books_safe, given_back, kept_again, sealed_dead}
+use Rattle.opt_store.proofs.FirstOpen.{due_then}
 use Rattle.opt_store.proofs.Joining.{front_written, record_written}
 use Rattle.opt_store.proofs.committing.commit_books.Goals as goal
 
@@ -70,3 +71,7 @@ returns-in-Err-clause-writes g c = λ tells.
     c.args.books.now c.args.pipeline.now c.commit_next.new.pipeline c.args.ring.now c.args.epoch c.args.number (g.D.Disk.state c.args.disk.now) (g.D.Disk.state c.commit_next.new.disk)
     c.requires.kept (c.requires.sound.goes_with.ring_geom ∙ c.requires.geom) c.in-Err.ensures.spends.same.base _ _ c.in-Err.ensures.back.1
     (subst (λ (q : Changes). AddsFront (writes_of c.args.ring.now c.args.epoch c.args.number q) (g.D.Disk.state c.args.disk.now).log (g.D.Disk.state c.commit_next.new.disk).log) c.take_running-running.ensures.running (c.in-Err.ensures.front tells))
+
+pub returns-in-Ok-clause-due : goal.returns-in-Ok-clause-due
+returns-in-Ok-clause-due g c = λ tells.
+    due_then c.in-Ok.ensures.joins.0 c.args.pipeline.now c.commit_next.new.pipeline c.in-Ok.ensures.joins.2 _ (g.D.Disk.state c.args.disk.now).log (g.D.Disk.state c.commit_next.new.disk).log (omega (arith, c.a_record_makes_so_many_writes.ensures.size c.args.ring.now.geom c.args.epoch c.args.number c.args.ring.now.next c.take_running-running.result.paid c.take_running-running.result.laid)) (c.in-Ok.ensures.joins.3 tells)

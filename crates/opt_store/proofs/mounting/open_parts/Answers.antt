@@ -1,4 +1,4 @@
-use Rattle.std.proofs.Common.{◌≡◌, sym, ◌∙◌, ap, subst}
+use Rattle.std.proofs.Common.{◌≡◌, inl, sym, ◌∙◌, ap, subst}
 use Rattle.opt_geom.specs.Geometry.{Geometry}
 use Rattle.opt_journal.specs.declared.header.Header.{Header}
 use Rattle.opt_recover.specs.Search.{FoundRun}
@@ -7,9 +7,10 @@ use Rattle.opt_mount.specs.declared.mounting.Mounted.{Mounted}
 use Rattle.opt_mount.specs.Mount.{settled_on}
 use Rattle.opt_books.specs.Books.{TransactionBooks}
 use Rattle.opt_store.specs.Mounting.{BeginsWith}
+use Rattle.opt_store.specs.Refusal.{is_disk_fault}
 use Rattle.opt_store.specs.Told.{store_state}
 use Rattle.opt_store.proofs.Beginnings.{BeginLaws, begins_with, is_begun, kept_at_once}
-use Rattle.opt_store.proofs.Mounts.{calm_window, faults_say, found_as, held_one, refused_spends, search_spends, spends_since, starts_with, window_since}
+use Rattle.opt_store.proofs.Mounts.{calm_window, faults_say, faulty_of, found_as, held_one, numbers_since, one_since, refused_spends, search_spends, spends_since, starts_with, stops_before, stops_since, window_since}
 use Rattle.opt_store.proofs.mounting.open_parts.Goals as goal
 
 pub returns-in_err-found-clause-holds : goal.returns-in_err-found-clause-holds
@@ -71,3 +72,26 @@ returns-clause-holds g c = λ tells. window_since g.D.Disk.tells (g.D.Disk.state
 
 pub returns-clause-spends : goal.returns-clause-spends
 returns-clause-spends g c = spends_since g.D.Disk.tells _ _ (g.D.Disk.state c.args.disk.now) (g.D.Disk.state c.find_store.new.disk) (g.D.Disk.state c.open.new.disk) c.in_ok-found.ensures.reads c.in-Ok-open.ensures.spends
+
+pub returns-in-Err-clause-cause : goal.returns-in-Err-clause-cause
+returns-in-Err-clause-cause g c = λ tells faulty. c.in-Err.ensures.cause tells (sym (faulty_of Mounted c.in-Err.why) ∙ sym (ap is_disk_fault c.refusal_of.ensures) ∙ faulty)
+
+pub returns-in_err-found-clause-alone : goal.returns-in_err-found-clause-alone
+returns-in_err-found-clause-alone g c = λ tells none. stops_before (g.D.Disk.state c.args.disk.now).manner c.from_residual.result _ _ c.from_residual.ensures.0 (c.find_store.ensures.reads.log tells)
+
+pub returns-in_default-clause-alone : goal.returns-in_default-clause-alone
+returns-in_default-clause-alone g c = λ tells none. inl (c.find_store.ensures.reads.log tells)
+
+pub returns-in_default-new-clause-alone : goal.returns-in_default-new-clause-alone
+returns-in_default-new-clause-alone g c = λ tells none. inl (c.find_store.ensures.reads.log tells)
+
+pub returns-in-Err-clause-alone : goal.returns-in-Err-clause-alone
+returns-in-Err-clause-alone g c = λ tells none. stops_since (g.D.Disk.state c.args.disk.now) (g.D.Disk.state c.find_store.new.disk) (g.D.Disk.state c.open.new.disk) c.find_store.ensures.reads.only.same.manner (c.find_store.ensures.reads.log tells)
+    (c.in-Err.ensures.alone tells (none c.in_ok-found.field-0.found (c.in_ok-found.ensures.found tells (c.requires.idle tells)).0))
+
+pub returns-clause-alone : goal.returns-clause-alone
+returns-clause-alone g c = λ tells none. one_since (g.D.Disk.state c.args.disk.now) (g.D.Disk.state c.find_store.new.disk) (g.D.Disk.state c.open.new.disk) (c.find_store.ensures.reads.log tells)
+    (c.in-Ok-open.ensures.alone tells (none c.in_ok-found.field-0.found (c.in_ok-found.ensures.found tells (c.requires.idle tells)).0))
+
+pub returns-clause-numbers : goal.returns-clause-numbers
+returns-clause-numbers g c = λ tells ticks. numbers_since g.D.Disk.tells (g.D.Disk.state c.args.disk.now) (g.D.Disk.state c.find_store.new.disk) tells c.in_ok-found.ensures.reads c.in_ok-found.field-0.found (c.requires.idle tells) (c.in_ok-found.ensures.found tells (c.requires.idle tells)).0 _ _ _ _ _ c.new_parts.ensures.parts (c.in-Ok-open.ensures.goes_on tells) ticks (g.D.Disk.state c.open.new.disk)

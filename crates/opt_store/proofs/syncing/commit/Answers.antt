@@ -34,6 +34,7 @@ returns-in-Ok g c =
       writes = c.in-Ok.ensures.writes;
       spends = c.in-Ok.ensures.spends;
       forgets = forgets_record (v.first + v.point) v.books call.new.books v.pipeline call.new.pipeline call.new.ring c.in-Ok.ensures.ok going.sound.order going.number v.cache c.forget_last.new.cache c.forget_last.ensures;
+      due = c.in-Ok.ensures.due;
     } in
     record {
       kept = kept_success laws g.D.Disk.tells v d e c.args.room c.requires.kept c.requires.going c.requires.may call.new.ring call.new.pipeline call.new.books c.forget_last.new.cache succeeded;
@@ -62,6 +63,7 @@ returns-in-Err g c =
       ring_is = c.in-Err.ensures.ring;
       writes = λ t. subst (λ (q : Pipeline). WritesRecord {A = Unit {0}} {E = DiskFault} (Err c.in-Err.field-0) (writes_of v.ring v.pipeline.header.epoch (v.first + v.point) v.books.changes) v.books v.pipeline q d e) c.in-Err.ensures.back.1 (c.in-Err.ensures.writes t);
       spends = c.in-Err.ensures.spends;
+      cause = c.in-Err.ensures.cause;
     } in
     let after = failure laws g.D.Disk.tells v d e c.args.room c.requires.kept c.requires.going c.requires.may call.new.ring c.in-Err.field-0 failed call.new.pipeline call.new.books c.in-Err.ensures.back.1 c.in-Err.ensures.back.0 in
     record {

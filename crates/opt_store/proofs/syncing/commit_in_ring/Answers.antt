@@ -1,4 +1,4 @@
-use Rattle.std.proofs.Common.{refl, arith}
+use Rattle.std.proofs.Common.{arith}
 use Rattle.opt_store.specs.Told.{store_state}
 use Rattle.opt_store.proofs.CommitSyncs.{places_needed}
 use Rattle.opt_store.proofs.SyncSteps.{fits_then, kept_fault, may_then, run_then_sync, syncs_fault}
@@ -20,7 +20,7 @@ commit-requires-in-Ok-clause-free g c =
 pub returns-in-Ok-clause-syncs : goal.returns-in-Ok-clause-syncs
 returns-in-Ok-clause-syncs g c = λ ticks.
     run_then_sync g.D.Disk.tells (store_state c.args.parts.now ticks (g.D.Disk.state c.args.disk.now)) (store_state c.drain.new.parts ticks (g.D.Disk.state c.drain.new.disk)) (store_state c.commit-in-Ok.new.parts ticks (g.D.Disk.state c.commit-in-Ok.new.disk))
-    (c.in-Ok.ensures.runs ticks ticks) (omega (arith, c.commit-in-Ok.ensures.turns, c.in-Ok.ensures.moves.moves.turn, c.in-Ok.ensures.moves.moves.last)) c.commit-in-Ok.result refl c.commit-in-Ok.ensures.memory (c.commit-in-Ok.ensures.syncs ticks)
+    (c.in-Ok.ensures.runs ticks ticks) (omega (arith, c.commit-in-Ok.ensures.turns, c.in-Ok.ensures.moves.moves.turn, c.in-Ok.ensures.moves.moves.last)) c.commit-in-Ok.result (c.in-Ok.ensures.asks ticks) c.commit-in-Ok.ensures.memory (c.commit-in-Ok.ensures.syncs ticks)
 
 pub returns-in-Ok-clause-order : goal.returns-in-Ok-clause-order
 returns-in-Ok-clause-order g c = λ few.
@@ -28,10 +28,10 @@ returns-in-Ok-clause-order g c = λ few.
     absurd (omega (arith, few, places_needed c.args.parts.now (c.a_commit_has_what_the_roles_say.ensures.payloads c.args.parts.now.books kept) (c.a_commit_has_what_the_roles_say.ensures.fresh c.args.parts.now.books kept), c.places_needed.ensures.places, c.free.ensures, c.if-places_needed-free.false))
 
 pub returns-in-Err-clause-kept : goal.returns-in-Err-clause-kept
-returns-in-Err-clause-kept g c = kept_fault c.a_call_that_stays_safe_advances.ensures.made g.D.Disk.tells c.args.parts.now c.drain.new.parts (g.D.Disk.state c.args.disk.now) (g.D.Disk.state c.drain.new.disk) c.args.room c.requires.may c.in-Err.ensures.kept c.in-Err.ensures.runs
+returns-in-Err-clause-kept g c = kept_fault c.a_call_that_stays_safe_advances.ensures.made g.D.Disk.tells c.args.parts.now c.drain.new.parts (g.D.Disk.state c.args.disk.now) (g.D.Disk.state c.drain.new.disk) c.args.room c.requires.may c.in-Err.ensures.kept c.in-Err.ensures.runs c.in-Err.ensures.asks
 
 pub returns-in-Err-clause-syncs : goal.returns-in-Err-clause-syncs
-returns-in-Err-clause-syncs g c = syncs_fault c.a_call_that_stays_safe_advances.ensures.made g.D.Disk.tells c.args.parts.now c.drain.new.parts (g.D.Disk.state c.args.disk.now) (g.D.Disk.state c.drain.new.disk) c.args.room c.requires.may c.in-Err.ensures.kept c.in-Err.ensures.runs
+returns-in-Err-clause-syncs g c = syncs_fault c.a_call_that_stays_safe_advances.ensures.made g.D.Disk.tells c.args.parts.now c.drain.new.parts (g.D.Disk.state c.args.disk.now) (g.D.Disk.state c.drain.new.disk) c.args.room c.requires.may c.in-Err.ensures.kept c.in-Err.ensures.runs c.in-Err.ensures.asks
 
 pub returns-in-Err-clause-order : goal.returns-in-Err-clause-order
 returns-in-Err-clause-order g c = λ few.

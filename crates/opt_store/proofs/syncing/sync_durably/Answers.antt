@@ -1,4 +1,6 @@
-use Rattle.std.proofs.Common.{true, false, refl, arith}
+use Rattle.std.proofs.Common.{◌≡◌, true, false, ap, arith}
+use Rattle.opt_blocks.specs.State.{Bookkeeping}
+use Rattle.opt_store.specs.Store.{bookkeeping_of}
 use Rattle.opt_store.specs.Told.{store_state}
 use Rattle.opt_store.proofs.SyncSteps.{refused, sync_then_wait}
 use Rattle.opt_store.proofs.syncing.sync_durably.Goals as goal
@@ -7,15 +9,34 @@ pub returns-in_err-point-clause-syncs : goal.returns-in_err-point-clause-syncs
 returns-in_err-point-clause-syncs g c = λ ticks.
     refused g.D.Disk.tells c.from_residual.result c.in_err-point.field-0.0 (store_state c.args.parts.now ticks (g.D.Disk.state c.args.disk.now)) (store_state c.sync.new.parts ticks (g.D.Disk.state c.sync.new.disk)) c.from_residual.ensures.1 (c.in_err-point.ensures.syncs ticks)
 
+pub returns-in_err-point-clause-idles : goal.returns-in_err-point-clause-idles
+returns-in_err-point-clause-idles g c = λ ticks none same. c.sync.ensures.idles ticks none
+
+pub returns-then-parts-clause-syncs : goal.returns-then-parts-clause-syncs
+returns-then-parts-clause-syncs g c = c.in_ok-point.ensures.syncs
+
+pub returns-then-parts-clause-idles : goal.returns-then-parts-clause-idles
+returns-then-parts-clause-idles g c = λ ticks none same. c.sync.ensures.idles ticks none
+
+-- where nothing was to commit, and the last point was durable, it is so behind the sync
+still_durable : (old new : Bookkeeping) → new ≡ old → old.floor ≡ old.point → new.floor ≡ new.point
+still_durable old new is same = omega (arith, ap (λ (k : Bookkeeping). k.floor) is, ap (λ (k : Bookkeeping). k.point) is, same)
+
+pub returns-in-Ok-clause-idles : goal.returns-in-Ok-clause-idles
+returns-in-Ok-clause-idles g c = λ ticks none same. absurd (c.if-parts.false (still_durable (bookkeeping_of c.args.parts.now) (bookkeeping_of c.sync.new.parts) (c.sync.ensures.idles ticks none).books same))
+
+pub returns-in-Err-clause-idles : goal.returns-in-Err-clause-idles
+returns-in-Err-clause-idles g c = λ ticks none same. absurd (c.if-parts.false (still_durable (bookkeeping_of c.args.parts.now) (bookkeeping_of c.sync.new.parts) (c.sync.ensures.idles ticks none).books same))
+
 pub wait_for_last-requires-clause-going : goal.wait_for_last-requires-clause-going
 wait_for_last-requires-clause-going g c = (c.in_ok-point.ensures.syncs 0).disk.stopped
 
 pub returns-in-Ok-clause-syncs : goal.returns-in-Ok-clause-syncs
 returns-in-Ok-clause-syncs g c = λ ticks.
     sync_then_wait g.D.Disk.tells false (store_state c.args.parts.now ticks (g.D.Disk.state c.args.disk.now)) (store_state c.sync.new.parts ticks (g.D.Disk.state c.sync.new.disk)) (store_state c.wait_for_last.new.parts ticks (g.D.Disk.state c.wait_for_last.new.disk)) c.in_ok-point.point
-    (c.in_ok-point.ensures.syncs ticks) (c.in-Ok.ensures.runs ticks ticks) (omega (arith, c.in_ok-point.ensures.turns, c.in-Ok.ensures.moves.moves.turn, c.in-Ok.ensures.moves.moves.last)) refl
+    (c.in_ok-point.ensures.syncs ticks) (c.in-Ok.ensures.runs ticks ticks) (omega (arith, c.in_ok-point.ensures.turns, c.in-Ok.ensures.moves.moves.turn, c.in-Ok.ensures.moves.moves.last)) (c.in-Ok.ensures.asks ticks)
 
 pub returns-in-Err-clause-syncs : goal.returns-in-Err-clause-syncs
 returns-in-Err-clause-syncs g c = λ ticks.
     sync_then_wait g.D.Disk.tells true (store_state c.args.parts.now ticks (g.D.Disk.state c.args.disk.now)) (store_state c.sync.new.parts ticks (g.D.Disk.state c.sync.new.disk)) (store_state c.wait_for_last.new.parts ticks (g.D.Disk.state c.wait_for_last.new.disk)) c.in_ok-point.point
-    (c.in_ok-point.ensures.syncs ticks) (c.in-Err.ensures.runs ticks ticks) (omega (arith, c.in_ok-point.ensures.turns, c.in-Err.ensures.moves.moves.turn, c.in-Err.ensures.moves.moves.last)) refl
+    (c.in_ok-point.ensures.syncs ticks) (c.in-Err.ensures.runs ticks ticks) (omega (arith, c.in_ok-point.ensures.turns, c.in-Err.ensures.moves.moves.turn, c.in-Err.ensures.moves.moves.last)) (c.in-Err.ensures.asks ticks)

@@ -1,11 +1,12 @@
 -- The notices are taken, and then the steps that are due are made.
-use Rattle.std.proofs.Common.{ap, arith}
+use Rattle.std.proofs.Common.{is_err, ap, arith}
 use Rattle.opt_disk.specs.Disk.{writes_in}
 use Rattle.opt_checkpoint.specs.Kept.{kept}
 use Rattle.opt_checkpoint.proofs.Added.{home_noticed, home_heard, loses_on, loses_heard}
 use Rattle.opt_checkpoint.proofs.Heard.{sound_heard, turns_heard, has_turns, serves_heard, owed_heard, due_heard, writes_noticed}
 use Rattle.opt_checkpoint.proofs.LiveBytes.{leaves_noticed, leaves_then}
 use Rattle.opt_checkpoint.proofs.MovesRows.{moves_more, moves_heard}
+use Rattle.opt_checkpoint.proofs.Polled.{polls_first, polls_failed}
 use Rattle.opt_checkpoint.proofs.Settled.{turned_same}
 use Rattle.opt_checkpoint.proofs.Spent.{on_ok}
 use Rattle.opt_checkpoint.proofs.StepsRight.{leaves_failed}
@@ -83,3 +84,11 @@ returns-clause-bytes g c = λ tells s l t floor taken right.
     leaves_then l l (turned_same l) v w c.go_on.new.pipeline old middle (g.D.Disk.state c.go_on.new.disk) (loses_heard v w c.take_notices.ensures.rest)
     (leaves_noticed l v w old middle taken_in.tickets (λ b lives. c.the_newest_payloads_are_the_map.ensures.calm old.base old.log l v c.args.ring.now c.args.reuse.now.waiting taken b right.safe.keeps right.agrees lives) c.take_notices.ensures.rest c.take_notices.ensures.spends.spends.same.base taken_in.log)
     (c.go_on.ensures.bytes tells s l t floor taken (record { safe = heard.0; agrees = heard.1; serves = serves_heard l v w c.args.reuse.now c.take_notices.ensures.rest c.take_notices.ensures.hears right.serves }))
+
+pub returns-in_err-take_notices-clause-polled : goal.returns-in_err-take_notices-clause-polled
+returns-in_err-take_notices-clause-polled g c = λ tells. polls_failed c.take_notices.result (g.D.Disk.state c.args.disk.now) (g.D.Disk.state c.take_notices.new.disk) (ap is_err c.in_err-take_notices.was) (c.take_notices.ensures.polled tells)
+
+pub returns-clause-polled : goal.returns-clause-polled
+returns-clause-polled g c = λ tells.
+    let more = c.go_on.ensures.adds tells in
+    polls_first c.take_notices.result (g.D.Disk.state c.args.disk.now) (g.D.Disk.state c.take_notices.new.disk) _ _ (c.take_notices.ensures.polled tells) c.go_on.ensures.spends.polls (record { more = more.more; log = more.log })

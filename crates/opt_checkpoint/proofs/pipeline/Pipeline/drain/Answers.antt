@@ -9,6 +9,7 @@ use Rattle.opt_checkpoint.proofs.Rounds.{leaves_on, stays_on, served_sound, serv
 use Rattle.opt_checkpoint.proofs.Settled.{turned_same}
 use Rattle.opt_checkpoint.proofs.Spent.{failed_waits, waits_on}
 use Rattle.opt_checkpoint.proofs.StepsRight.{leaves_failed}
+use Rattle.opt_checkpoint.proofs.Spent.{on_err}
 use Rattle.opt_checkpoint.proofs.pipeline.Pipeline.drain.Goals as goal
 
 pub returns-in_err-drain_once-clause-right : goal.returns-in_err-drain_once-clause-right
@@ -101,3 +102,6 @@ returns-clause-bytes g c = λ tells s l t floor taken right.
     let was = c.loop-round.invariant in
     let d = g.D.Disk.state c.loop-round.disk in
     leaves_same l c.args.self.now c.loop-round.self c.serve_blocks.new.pipeline (g.D.Disk.state c.args.disk.now) d was.front (ap kept c.serve_blocks.ensures.rest) (was.bytes tells s l t floor taken right)
+
+pub returns-in_err-drain_once-clause-cause : goal.returns-in_err-drain_once-clause-cause
+returns-in_err-drain_once-clause-cause g c = λ tells s l t floor taken right. on_err c.from_residual.result (c.in_err-drain_once.ensures.cause tells (c.loop-round.invariant.right tells s l t floor taken right).right.agrees.given)

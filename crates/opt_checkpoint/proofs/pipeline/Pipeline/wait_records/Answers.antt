@@ -9,6 +9,7 @@ use Rattle.opt_checkpoint.proofs.MovesRows.{moves_on, moves_heard, moves_settled
 use Rattle.opt_checkpoint.proofs.Settled.{turned_same}
 use Rattle.opt_checkpoint.proofs.StepsRight.{leaves_failed}
 use Rattle.opt_checkpoint.proofs.WaitedRecords.{sound_settled, durable_upto, right_settled}
+use Rattle.opt_checkpoint.proofs.Spent.{on_err}
 use Rattle.opt_checkpoint.proofs.pipeline.Pipeline.wait_records.Goals as goal
 
 pub returns-in_err-wait_upto-clause-right : goal.returns-in_err-wait_upto-clause-right
@@ -55,3 +56,6 @@ returns-in_err-wait_upto-clause-kept g c = ap kept c.wait_upto.ensures.rest
 
 pub returns-clause-kept : goal.returns-clause-kept
 returns-clause-kept g c = c.settle_all.ensures.settles.1.kept ∙ ap kept c.wait_upto.ensures.rest
+
+pub returns-in_err-wait_upto-clause-cause : goal.returns-in_err-wait_upto-clause-cause
+returns-in_err-wait_upto-clause-cause g c = λ tells given. on_err c.from_residual.result (c.in_err-wait_upto.ensures.cause tells given)

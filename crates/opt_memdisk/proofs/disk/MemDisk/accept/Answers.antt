@@ -1,7 +1,10 @@
-use Rattle.std.proofs.Common.{◌≡◌, ◌<◌, ◌+◌, List, length, slice_set, ap, subst, sym, rules}
+use Rattle.std.proofs.Common.{◌≡◌, ◌<◌, ◌+◌, true, false, nat_lt, List, length, slice_set, ap, subst, sym, rules}
 use Rattle.opt_disk.specs.declared.event.Event.{Event}
-use Rattle.opt_memdisk.specs.MemDisk.{IsDisk}
+use Rattle.opt_memdisk.specs.declared.calls.DiskCall.TheVariants.{Write}
+use Rattle.opt_memdisk.specs.Log.{LogState, write_count}
+use Rattle.opt_memdisk.specs.MemDisk.{IsDisk, GoesAsKnown, is_listed}
 use Rattle.opt_memdisk.proofs.disk_calls.LastDisks.{disk_wrote}
+use Rattle.opt_memdisk.proofs.disk_calls.Manners.{goes_wrote}
 use Rattle.opt_memdisk.proofs.disk.MemDisk.accept.Goals as goal
 
 pub invariant_of-self : goal.invariant_of-self
@@ -10,6 +13,11 @@ invariant_of-self c =
     let place = length c.events.result.now + 1 in
     let low : c.args.b < length d.base = search rules in
     let some : 0 < d.log.boxes = search rules in
-    let at : place ≡ length d.log.events + 1 = ap (λ (events : List Event). length events + 1) c.events.ensures.value in
-    subst (λ log. IsDisk d.base log (slice_set d.last.items c.args.b place)) (sym c.add_write-ticket.ensures.state)
-    (disk_wrote d.base d.log d.last.items c.add_write-ticket.result c.args.b place c.args.from.now low some at c.self.invariant)
+    let room : nat_lt (write_count d.log.events) d.log.room ≡ true = search rules in
+    let unlisted : is_listed Write (write_count d.log.events + 1) d.fails.items ≡ false = search rules in
+    let at : place ≡ length d.log.events + 1 = ap (λ (events : List Event). length events + 1) c.events.ensures.value in (
+      subst (λ log. IsDisk d.base log (slice_set d.last.items c.args.b place)) (sym c.add_write-ticket.ensures.state)
+          (disk_wrote d.base d.log d.last.items c.add_write-ticket.result c.args.b place c.args.from.now low some at c.self.invariant.0),
+      subst (λ (log : LogState). GoesAsKnown log.room log.events d.notices d.fails.items d.read_faults d.polls d.known) (sym c.add_write-ticket.ensures.state)
+          (goes_wrote d.log.room d.log.events d.notices d.fails.items d.read_faults d.polls d.known c.add_write-ticket.result c.args.b c.args.from.now room unlisted c.self.invariant.1),
+    )

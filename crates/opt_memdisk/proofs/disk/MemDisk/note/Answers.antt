@@ -1,9 +1,14 @@
 use Rattle.std.proofs.Common.{subst, sym}
-use Rattle.opt_memdisk.specs.MemDisk.{IsDisk}
+use Rattle.opt_memdisk.specs.Log.{LogState}
+use Rattle.opt_memdisk.specs.MemDisk.{IsDisk, GoesAsKnown}
 use Rattle.opt_memdisk.proofs.disk_calls.LastDisks.{disk_noticed}
+use Rattle.opt_memdisk.proofs.disk_calls.Manners.{goes_noticed}
 use Rattle.opt_memdisk.proofs.disk.MemDisk.note.Goals as goal
 
 pub invariant_of-self : goal.invariant_of-self
 invariant_of-self c =
-    let d = c.self.inside in
-    subst (λ log. IsDisk d.base log d.last.items) (sym c.add_notice.ensures) (disk_noticed d.base d.log d.last.items c.args.ticket c.self.invariant)
+    let d = c.self.inside in (
+      subst (λ log. IsDisk d.base log d.last.items) (sym c.add_notice.ensures) (disk_noticed d.base d.log d.last.items c.args.ticket c.self.invariant.0),
+      subst (λ (log : LogState). GoesAsKnown log.room log.events d.notices d.fails.items d.read_faults d.polls d.known) (sym c.add_notice.ensures)
+          (goes_noticed d.log.room d.log.events d.notices d.fails.items d.read_faults d.polls d.known c.args.ticket c.self.invariant.1),
+    )

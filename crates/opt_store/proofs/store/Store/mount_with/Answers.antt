@@ -1,3 +1,4 @@
+use Rattle.std.proofs.lemmas.Bool.{false≢true}
 use Rattle.opt_store.proofs.store.Store.mount_with.Goals as goal
 
 pub invariant_of-result : goal.invariant_of-result
@@ -12,3 +13,12 @@ returns-in-Ok-clause-begun g c = c.in-Ok.ensures.begun 0
 
 pub returns-in-Ok-clause-begins : goal.returns-in-Ok-clause-begins
 returns-in-Ok-clause-begins g c = λ tells k m held. c.in-Ok.ensures.begins tells k m held 0
+
+pub returns-in-Ok-clause-leaves : goal.returns-in-Ok-clause-leaves
+returns-in-Ok-clause-leaves g c = record { holds = c.in-Ok.ensures.holds; spends = c.in-Ok.ensures.spends; cause = λ tells never. absurd (false≢true never) }
+
+pub returns-in-Err-clause-back : goal.returns-in-Err-clause-back
+returns-in-Err-clause-back g c = record { holds = c.in-Err.ensures.holds; spends = c.in-Err.ensures.spends; cause = c.in-Err.ensures.cause }
+
+pub returns-in-Ok-clause-numbers : goal.returns-in-Ok-clause-numbers
+returns-in-Ok-clause-numbers g c = λ tells. c.in-Ok.ensures.numbers tells 0

@@ -49,3 +49,9 @@ returns-in-Err-clause-looks g c = λ le. absurd (fewer c.args.n c.reusable.resul
 
 pub returns-in-Err-clause-refused : goal.returns-in-Err-clause-refused
 returns-in-Err-clause-refused g c = omega (arith, c.if-reusable-n.false, c.reusable.ensures (beside_books c.args.self.now.parts))
+
+pub returns-in-Ok-clause-ticks : goal.returns-in-Ok-clause-ticks
+returns-in-Ok-clause-ticks g c = c.in-Ok.ensures.asks c.args.self.now.ticks
+
+pub returns-in-Err-clause-ticks : goal.returns-in-Err-clause-ticks
+returns-in-Err-clause-ticks g c = c.in-Err.ensures.asks c.args.self.now.ticks

@@ -9,3 +9,6 @@ invariant_of-self g c = record {
 
 pub returns-clause-moves : goal.returns-clause-moves
 returns-clause-moves g c = c.drain.ensures.runs c.args.self.now.ticks _
+
+pub returns-clause-ticks : goal.returns-clause-ticks
+returns-clause-ticks g c = c.drain.ensures.asks c.args.self.now.ticks

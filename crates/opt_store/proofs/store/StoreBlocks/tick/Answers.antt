@@ -1,3 +1,4 @@
+use Rattle.std.proofs.Common.{rules}
 use Rattle.opt_store.proofs.store.StoreBlocks.tick.Goals as goal
 
 pub invariant_of-self : goal.invariant_of-self
@@ -9,3 +10,6 @@ invariant_of-self g c = record {
 
 pub returns-clause-moves : goal.returns-clause-moves
 returns-clause-moves g c = c.advance.ensures.runs c.args.self.now.ticks _
+
+pub returns-clause-ticks : goal.returns-clause-ticks
+returns-clause-ticks g c = record { made = search rules; manner = c.advance.ensures.manner; polled = c.advance.ensures.polled }

@@ -11,7 +11,7 @@ use Rattle.opt_tx.specs.Writes.{record_writes}
 use Rattle.opt_tx.specs.Commits.{RecordLeaves}
 use Rattle.opt_tx.specs.Running.{Changes}
 use Rattle.opt_tx.proofs.spelling.Spelled.{is_next}
-use Rattle.opt_tx.proofs.logs.Outcomes.{err_left, ok_left, err_adds, ok_adds, ok_holds, same_size, same_written, same_writes}
+use Rattle.opt_tx.proofs.logs.Outcomes.{err_cause, err_left, ok_left, err_adds, ok_adds, ok_holds, same_size, same_written, same_writes}
 use Rattle.opt_base.specs.Seal.{Blocks}
 use Rattle.opt_disk.specs.Cell.{cell_of}
 use Rattle.opt_crash.specs.Steps.{with_record}
@@ -110,3 +110,6 @@ returns-clause-one g c = λ tells s l p m t floor geom may known safe o off free
     subst (λ (base : Blocks). HasOnePending base (g.D.Disk.state c.issue_record.new.disk).log (with_record l w m) (with_committed p l w c.issue_record.new.tickets.items freed) []) (sym c.issue_record.ensures.spends.same.base)
     (keeps_one c.entries_that_fit_keep_to_the_disk.ensures.fresh c.entries_that_fit_keep_to_the_disk.ensures.ascending c.blocks_to_be_written_are_idle.ensures.fresh c.records_stand_in_order.ensures.behind c.records_stand_in_order.ensures.apart c.a_write_to_an_idle_block_is_the_one.ensures.under_way
     (g.D.Disk.state c.args.disk.now).base l p c.args.epoch c.args.number c.args.ring.now.next c.args.self.paid c.args.self.laid m (g.D.Disk.state c.args.disk.now).log may known safe.keeps o off c.one_write_stays_pending.ensures.joins c.issue_record.new.tickets.items freed (g.D.Disk.state c.issue_record.new.disk).log adds)
+
+pub returns-then-is_err-clause-cause : goal.returns-then-is_err-clause-cause
+returns-then-is_err-clause-cause g c = λ tells. err_cause c.issue_record.result (sym c.is_err.ensures.value ∙ c.if-is_err.true) (c.issue_record.ensures.cause tells)
