@@ -64,7 +64,7 @@ fn disk(alloc: Global, at_hand: &mut AtHand, words: &[&str]) -> Result<Outcome, 
     let Some(geom) = geometry(n, j, i) else {
         return Ok(Outcome::Unreadable);
     };
-    *at_hand = AtHand::Image(formatted_image(alloc, &geom)?);
+    at_hand.becomes(AtHand::Image(formatted_image(alloc, &geom)?));
     begin(alloc, at_hand, rule, fails)
 }
 
@@ -76,7 +76,7 @@ fn formatted(alloc: Global, at_hand: &mut AtHand, words: &[&str]) -> Result<Outc
     let Some(geom) = geometry(n, j, i) else {
         return Ok(Outcome::Unreadable);
     };
-    *at_hand = AtHand::Image(formatted_image(alloc, &geom)?);
+    at_hand.becomes(AtHand::Image(formatted_image(alloc, &geom)?));
     Ok(Outcome::Right)
 }
 
@@ -137,7 +137,7 @@ fn begin(
     };
     match open_image(alloc, image, &manner)? {
         Ok(system) => {
-            *at_hand = AtHand::Disk(system);
+            at_hand.becomes(AtHand::Disk(system));
             Ok(Outcome::Right)
         }
         Err(why) => Ok(Outcome::Wrong(unopened_text(alloc, &why)?)),
@@ -152,7 +152,7 @@ fn zeros(alloc: Global, at_hand: &mut AtHand, words: &[&str]) -> Result<Outcome,
     let Ok(n) = n.parse::<u32>() else {
         return Ok(Outcome::Unreadable);
     };
-    *at_hand = AtHand::Image(Image::zeros(alloc, n)?);
+    at_hand.becomes(AtHand::Image(Image::zeros(alloc, n)?));
     Ok(Outcome::Right)
 }
 
@@ -172,7 +172,7 @@ fn take_image(
     };
     match disk.image(alloc, moment, &choice) {
         Ok(image) => {
-            *at_hand = AtHand::Image(image);
+            at_hand.becomes(AtHand::Image(image));
             Ok(Outcome::Right)
         }
         Err(why) => Ok(Outcome::Wrong(format!(in alloc; "{why}")?.into_bytes())),

@@ -18,3 +18,11 @@ pub enum AtHand {
     /// An image of a disk, which isn't mounted.
     Image(Image),
 }
+
+impl AtHand {
+    /// Goes on with this, and drops what was at hand. It is done here alone, since the drop of a file system is proved
+    /// wherever one stands.
+    pub(crate) fn becomes(&mut self, next: AtHand) {
+        *self = next;
+    }
+}

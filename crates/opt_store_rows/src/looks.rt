@@ -74,15 +74,13 @@ pub(crate) fn look(alloc: Global, image: &Image, word: &str) -> Result<Option<Ve
 
 fn mount_text(alloc: Global, image: &Image) -> Result<Vec<u8>, NoMemory> {
     let manner = sound_manner(alloc, Rule::Silent, ROOM_FOR_A_MOUNT);
-    let text = match mount_image(alloc, image, &manner, 64)? {
-        Ok(store) => {
-            let events = store.disk().moment();
-            format!(in alloc; "ok, {events} events")?
-        }
-        Err((disk, why)) => {
-            let events = disk.moment();
-            format!(in alloc; "{why:?}, {events} events")?
-        }
+    let (events, refusal) = match mount_image(alloc, image, &manner, 64)? {
+        Ok(store) => (store.disk().moment(), None),
+        Err((disk, why)) => (disk.moment(), Some(why)),
+    };
+    let text = match refusal {
+        None => format!(in alloc; "ok, {events} events")?,
+        Some(why) => format!(in alloc; "{why:?}, {events} events")?,
     };
     Ok(text.into_bytes())
 }
@@ -104,8 +102,19 @@ pub(crate) fn find(alloc: Global, image: &Image) -> Result<Found, NoMemory> {
 }
 
 fn compare(alloc: Global, mut system: System, plain: &Recovered) -> Result<Found, NoMemory> {
-    let listing = listing_of(alloc, &mut system)?;
-    match unlike(&mut system.into_blocks(), plain) {
+    let listing = listing_of(alloc, &mut system);
+    let mut store = system.into_blocks();
+    compared(alloc, listing, unlike(&mut store, plain))
+}
+
+// What is found, by the listing and by the least block that isn't that of the plain recovery.
+fn compared(
+    alloc: Global,
+    listing: Result<Vec<u8>, NoMemory>,
+    unlike: Option<u32>,
+) -> Result<Found, NoMemory> {
+    let listing = listing?;
+    match unlike {
         None => Ok(Found::Tree(listing)),
         Some(b) => {
             let text = format!(in alloc; "block {b} isn't that of the plain recovery")?;
@@ -163,7 +172,7 @@ pub(crate) fn third_read(
     };
     let manner = reads_fail(alloc, first.saturating_add(2))?;
     match mount_image(alloc, image, &manner, capacity)? {
-        Ok(mut store) => Ok(Some(gets(alloc, &mut store, blocks)?)),
+        Ok(mut store) => gets(alloc, &mut store, blocks),
         Err(_) => Ok(None),
     }
 }
@@ -191,11 +200,12 @@ fn reads_fail(alloc: Global, nth: u64) -> Result<Manner, NoMemory> {
     Ok(manner)
 }
 
+// What the store gives for each of these blocks, of which there may be any number.
 fn gets(
     alloc: Global,
     store: &mut Store<WatchedDisk>,
     blocks: &[&str],
-) -> Result<Vec<u8>, NoMemory> {
+) -> Result<Option<Vec<u8>>, NoMemory> {
     let mut text = Vec::new(alloc);
     for word in blocks {
         let b = word.parse::<u32>().unwrap_or(0);
@@ -208,5 +218,5 @@ fn gets(
         }
         text.extend_from_slice(piece)?;
     }
-    Ok(text)
+    Ok(Some(text))
 }

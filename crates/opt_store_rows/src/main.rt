@@ -42,13 +42,23 @@ fn main(rt: HostRuntime) -> Result<ExitCode> {
     }
 }
 
-/// Takes the rows in turn. Empty lines and comments are none.
+/// Takes all rows, with nothing at hand before the first.
 fn run<W: Write>(alloc: Global, input: &str, out: &mut W) -> Result<Counts> {
-    let mut counts = Counts::new();
     let mut at_hand = AtHand::Nothing;
+    take_rows(alloc, &mut at_hand, input, out)
+}
+
+/// Takes the rows in turn. Empty lines and comments are none.
+fn take_rows<W: Write>(
+    alloc: Global,
+    at_hand: &mut AtHand,
+    input: &str,
+    out: &mut W,
+) -> Result<Counts> {
+    let mut counts = Counts::new();
     for text in input.lines() {
         if !text.is_empty() && !text.starts_with('#') {
-            let outcome = take(alloc, &mut at_hand, text)?;
+            let outcome = take(alloc, at_hand, text)?;
             counts.add(&outcome);
             write_row(out, text, &outcome)?;
         }

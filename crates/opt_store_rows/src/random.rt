@@ -97,36 +97,38 @@ fn session(alloc: Global, plan: &Plan) -> Result<Ended, NoMemory> {
     };
     let image = formatted_image(alloc, &geom)?;
     let manner = sound_manner(alloc, plan.rule, ROOM);
+    let oracle = Oracle::new(alloc, geom.i())?;
     match open_image(alloc, &image, &manner)? {
         Ok(system) => {
-            let running = Running {
+            let moments = Vec::new(alloc);
+            let mut running = Running {
                 system,
-                oracle: Oracle::new(alloc, geom.i())?,
-                moments: Vec::new(alloc),
+                oracle,
+                moments,
             };
-            run(alloc, running, plan)
+            running.ended(alloc, plan)
         }
         Err(why) => Ok(Ended::Wrong(unopened_text(alloc, &why)?)),
     }
 }
 
-// Runs the commands, and then looks at crashes.
-fn run(alloc: Global, mut running: Running, plan: &Plan) -> Result<Ended, NoMemory> {
-    let mut draws = Draws::new(plan.seed);
-    running.note(alloc)?;
-    if let Some(why) = running.commands(alloc, &mut draws, plan.count)? {
-        return Ok(Ended::Wrong(why));
-    }
-    if let Some(why) = running.crashes(alloc, &mut draws)? {
-        return Ok(Ended::Wrong(why));
-    }
-    Ok(Ended::Well {
-        points: running.system.figures().point,
-        events: running.system.blocks().disk().moment(),
-    })
-}
-
 impl Running {
+    // Runs the commands, and then looks at crashes.
+    fn ended(&mut self, alloc: Global, plan: &Plan) -> Result<Ended, NoMemory> {
+        let mut draws = Draws::new(plan.seed);
+        self.note(alloc)?;
+        if let Some(why) = self.commands(alloc, &mut draws, plan.count)? {
+            return Ok(Ended::Wrong(why));
+        }
+        if let Some(why) = self.crashes(alloc, &mut draws)? {
+            return Ok(Ended::Wrong(why));
+        }
+        Ok(Ended::Well {
+            points: self.system.figures().point,
+            events: self.system.blocks().disk().moment(),
+        })
+    }
+
     // Notes what is known now.
     fn note(&mut self, alloc: Global) -> Result<(), NoMemory> {
         let now = self.system.figures();

@@ -1,12 +1,13 @@
 //! A cache of blocks over a disk in memory: what it keeps, what it drops for want of room, and which
 //! reads the disk gets. What is expected was worked out by hand.
 
+use opt_base::Block;
 use opt_cache::BlockCache;
 use opt_disk::Disk;
 use opt_memdisk::{DiskCall, Fail as Failing, MemDisk};
 
 /// What the cache gives of a block, by its first byte; none where the disk failed to read it.
-fn given(cache: &mut BlockCache, disk: &mut MemDisk, b: u32) -> Option<u8> {
+fn given<D: Disk>(cache: &mut BlockCache, disk: &mut D, b: u32) -> Option<u8> {
     let mut into = [0; 1024];
     if b >= disk.blocks() {
         return None;
@@ -15,9 +16,14 @@ fn given(cache: &mut BlockCache, disk: &mut MemDisk, b: u32) -> Option<u8> {
     Some(into[0])
 }
 
+/// The block that has this byte at each place.
+fn block_of(byte: u8) -> Block {
+    [byte; 1024]
+}
+
 /// Writes a block of this byte, and answers whether the disk took it.
 fn wrote(disk: &mut MemDisk, b: u32, byte: u8) -> bool {
-    b < disk.blocks() && disk.write(b, &[byte; 1024]).is_ok()
+    b < disk.blocks() && disk.write(b, &block_of(byte)).is_ok()
 }
 
 // The fourth read of the disk fails, so it shows which of the calls read: the block that was used the longest

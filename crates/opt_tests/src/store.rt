@@ -15,15 +15,20 @@ use std::test::Fail;
 /// What each block has before.
 const OLD: Block = [0xa5; 1024];
 
+/// An image of so many blocks that all are this one.
+fn image_of(alloc: Global, n: u32, block: &Block) -> Result<Image, Fail> {
+    let mut image = Image::zeros(alloc, n)?;
+    for b in 0..n {
+        if b < image.blocks() {
+            image.set(alloc, b, block)?;
+        }
+    }
+    Ok(image)
+}
+
 /// The least disk, full of that byte, with room for 30 writes.
 fn used_disk(alloc: Global) -> Result<MemDisk, Fail> {
-    let mut image = Image::zeros(alloc, 64)?;
-    for b in 0..64 {
-        if b >= image.blocks() {
-            return Err(Fail::new("the image has 64 blocks"));
-        }
-        image.set(alloc, b, &OLD)?;
-    }
+    let image = image_of(alloc, 64, &OLD)?;
     Ok(MemDisk::of_image(alloc, image, 30)?)
 }
 
