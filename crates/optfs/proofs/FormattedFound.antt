@@ -61,10 +61,10 @@ module _ (g : Geometry) (laws : HasLaws g) (at : Blocks) (same : (b : ℕ) → b
   empty_run = record { consecutive = tt; whole = tt; let_in = tt; within = omega arith; longest = none_follows }
 
   -- what is found is the first header, and no record
-  found_header : (r : FoundRun) → IsFound g.n at r → r.header ≡ empty_header g 1 1
+  pub found_header : (r : FoundRun) → IsFound g.n at r → r.header ≡ empty_header g 1 1
   found_header r is = (laws.one_header at r.slot 0 r.header (empty_header g 1 1) is.newest first_newest).1
 
-  found_records : (r : FoundRun) → IsFound g.n at r → r.records ≡ []
+  pub found_records : (r : FoundRun) → IsFound g.n at r → r.records ≡ []
   found_records r is = laws.one_run at (empty_header g 1 1) r.records [] (subst (λ (h : Header). IsRun at h r.records) (found_header r is) is.is_run) empty_run
 
   -- there is a newest header

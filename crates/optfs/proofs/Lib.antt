@@ -1,6 +1,8 @@
 pub mod LineLemmas
 pub mod Entries
 pub mod EventLines
+pub mod Paces
+pub mod Answering
 pub mod Runs
 pub mod RecordingLemmas
 pub mod ReadingLemmas

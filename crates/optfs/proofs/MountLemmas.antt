@@ -1,30 +1,34 @@
 -- What comes of the mount of a disk that was just formatted, by what a mount, a store and a file system say of any disk.
-use Rattle.std.proofs.Common.{◌≡◌, ℕ, ◌^◌, ◌<◌, ◌≤◌, Bool, true, List, [], length, take, refl, sym, ap, ◌∙◌, subst, arith}
+use Rattle.std.proofs.Common.{◌≡◌, ◌⊎◌, inl, inr, ℕ, ◌+◌, ◌^◌, ◌<◌, ◌≤◌, max, Bool, true, IsTrue, List, [], ◌∷◌, ◌++◌, length, take, refl, sym, ap, ap₂, ◌∙◌, subst, arith}
 use Rattle.opt_base.specs.Seal.{Blocks, sha256}
 use Rattle.opt_disk.specs.declared.event.Event.{Event}
+use Rattle.opt_disk.specs.declared.event.Event.TheVariants.{Lost}
 use Rattle.opt_disk.specs.Cell.{Cell, cell_of}
 use Rattle.opt_disk.specs.Crash.{IsHonest, MayHold, IsTorn, Window}
 use Rattle.opt_disk.specs.Disk as disk
 use Rattle.opt_disk.specs.Lawful.{IsLogOf}
+use Rattle.opt_disk.specs.Manner.{Manner, GoesBy}
 use Rattle.opt_geom.specs.Geometry.{Geometry, data_start}
 use Rattle.opt_journal.specs.Formatted.{formatted}
 use Rattle.opt_journal.specs.declared.header.Header.{Header}
-use Rattle.opt_journal.specs.Run.{Newest, HeldIs, live_part}
+use Rattle.opt_journal.specs.Run.{Newest, HeldIs, Record, live_part}
 use Rattle.opt_tree.specs.Step.{start, session_on}
 use Rattle.opt_tree.specs.Tree.{Tree}
 use Rattle.opt_stands.specs.Stands.{IsTreeOf, StandsFor}
 use Rattle.opt_crash.specs.Ledger.{HoldsUnder}
-use Rattle.opt_recover.specs.Search.{IsFound}
-use Rattle.opt_mount.specs.Mount.{IsIdle, IsUsedUp, settled_on}
+use Rattle.opt_crash.specs.Opening.{StopsAtOne}
+use Rattle.opt_recover.specs.Search.{IsFound, last_number}
+use Rattle.opt_mount.specs.Mount.{HasNothingToReplay, IsIdle, IsUsedUp, settled_on}
 use Rattle.opt_blocks.specs.State.{State}
 use Rattle.opt_store.specs.declared.refusal.StoreRefusal.TheVariants.{NoHeader, BadBit, Spent}
-use Rattle.opt_store.specs.Mounting.{LeavesDisk}
+use Rattle.opt_store.specs.Mounting.{GoesOnFrom, LeavesDisk}
 use Rattle.opt_store.specs.Refusal.{RefusalSays}
 use Rattle.opt_session.specs.Crashes.{LeavesPoints, IsCrashConsistent}
 use Rattle.opt_memdisk.specs.MemDisk.{MemDiskState, state_of as disk_state}
 use Rattle.optfs.specs.declared.disk.Behaviour.{Behaviour}
-use Rattle.optfs.specs.Disks.{BeganFormatted, IsFormatted, IsFormattedDisk, HoldsRoot, FailedToMount}
-use Rattle.optfs.proofs.FormattedFound.{HasLaws, has_header, not_used_up, no_bad_bit}
+use Rattle.optfs.specs.Behaving.{MountFails}
+use Rattle.optfs.specs.Disks.{BeganFormatted, IsFormatted, IsFormattedDisk, HasFault, HoldsRoot, FailedToMount, setting_on}
+use Rattle.optfs.proofs.FormattedFound.{HasLaws, found_header, found_records, has_header, not_used_up, no_bad_bit}
 
 -- what laws of other crates say of the formatted disk's live blocks, and of each image that has them
 pub record HasRoot (g : Geometry) : Type 0 where
@@ -36,6 +40,11 @@ pub record HasRoot (g : Geometry) : Type 0 where
 pub held_by : (g : Geometry) → data_start g ≤ g.n → ((img : Blocks) → ((b : ℕ) → b < data_start g → img b ≡ formatted g b) → (held : HeldIs g.n img (live_part g (formatted g))) × (held.header.geom ≡ g))
     → (img : Blocks) → ((b : ℕ) → b < g.n → img b ≡ formatted g b) → HoldsUnder g.n g img (live_part g (formatted g))
 held_by g room law img same = let both = law img (λ b low. same b (omega (arith, low, room))) in record { held = both.0; geom = both.1 }
+
+-- an event isn't none
+none_lost : (before : List Event) (e : Event) → [] ≡ before ++ e ∷ [] → ⊥
+none_lost [] e is = absurd cc
+none_lost (x ∷ before) e is = absurd cc
 
 -- Images that are alike are left by crashes of disks that began alike.
 
@@ -78,8 +87,8 @@ module _ (g : Geometry) (root : HasRoot g) where
       }
 
   -- what a failed mount leaves
-  pub fails_with : (d : disk.State) → HoldsRoot g d → IsLogOf d.blocks d.log → length d.log < 2 ^ 64 → FailedToMount g d
-  fails_with d h lawful events =
+  pub fails_with : (d : disk.State) → HoldsRoot g d → HasFault d → IsLogOf d.blocks d.log → length d.log < 2 ^ 64 → GoesBy d.manner d.log → (0 < d.read_faults → d.manner.reads_fail ≡ true) → FailedToMount (record { shape = g; manner = d.manner }) d
+  fails_with d h fault lawful events writes reads =
       let stand = all_stand d.base d.log h.images in
       record {
         began = h.began;
@@ -87,7 +96,24 @@ module _ (g : Geometry) (root : HasRoot g) where
         consistent = consistent_by d.base d.log h.began.base stand;
         lawful = subst (λ (n : ℕ). IsLogOf n d.log) h.began.size lawful;
         events = events;
+        writes = writes;
+        cause = by fault;
       }
+    where
+      -- nothing came, so that the call that failed was a first write, or a poll or a wait
+      by_none : d.log ≡ [] → disk.HasFailed d → MountFails d.manner d.log
+      by_none none (inl lost) = absurd (none_lost lost.before (Lost lost.block lost.bytes) (sym none ∙ lost.is))
+      by_none none (inr (inl full)) = inr (inr (inl (subst (λ (es : List Event). IsTrue (d.manner.refuses es)) none full)))
+      by_none none (inr (inr stalls)) = inr (inl stalls)
+
+      by_stop : disk.HasFailed d → StopsAtOne d.manner [] d.log → MountFails d.manner d.log
+      by_stop failed (inl none) = by_none none failed
+      by_stop failed (inr (inl lost)) = inr (inr (inr (lost, (subst (λ (es : List Event). GoesBy d.manner es) lost.log writes).0)))
+      by_stop failed (inr (inr stalled)) = inr (inl stalled.1)
+
+      by : HasFault d → MountFails d.manner d.log
+      by (inl unread) = inl (reads unread)
+      by (inr failed) = by_stop failed.0 failed.1
 
   -- A disk that was just formatted.
   module _ (laws : HasLaws g) (d : disk.State) (is : IsFormatted g d) where
@@ -128,6 +154,27 @@ module _ (g : Geometry) (root : HasRoot g) where
               (subst (λ (x : Blocks). IsHonest g.n x (take k new.log) img) left.spends.same.base honest)));
         }
 
+    -- a fault stopped it, which was counted, or which the disk's manner lets be
+    pub left_unread : (faulty : Bool) (new : disk.State) → LeavesDisk true true faulty d new → HasFault new
+    left_unread faulty new left = inl (omega (arith, left.spends.read_faults))
+
+    pub left_faulty : (unread : Bool) (new : disk.State) → LeavesDisk true unread true d new → StopsAtOne d.manner d.log new.log → HasFault new
+    left_faulty unread new left stops = inr (
+      left.cause refl refl,
+      subst (λ (m : Manner). StopsAtOne m [] new.log) (sym left.spends.same.manner) (subst (λ (es : List Event). StopsAtOne d.manner es new.log) is.nothing stops),
+    )
+
+    -- its mount has nothing to replay, and begins with small numbers
+    pub nothing_to_replay : HasNothingToReplay d
+    nothing_to_replay f found = found_records g laws (settled_on d) settled_same f.run (subst (λ (n : ℕ). IsFound n (settled_on d) f.run) is.began.size found.is_found)
+
+    pub few_turns : (s : State) → GoesOnFrom d s → s.books.turns ≤ 3
+    few_turns s from =
+        let found = subst (λ (n : ℕ). IsFound n (settled_on d) from.found.run) is.began.size from.is_found.is_found in
+        let header = found_header g laws (settled_on d) settled_same from.found.run found in
+        let records = found_records g laws (settled_on d) settled_same from.found.run found in
+        subst (λ (n : ℕ). s.books.turns ≤ n) (ap₂ (λ (h : Header) (rs : List Record). max (h.turn + 2) (last_number h (length rs) + 1)) header records) from.most
+
     pub left_with : (unread faulty : Bool) (new : disk.State) → LeavesDisk true unread faulty d new → HoldsRoot g new
     left_with unread faulty new left = record { began = left_began unread faulty new left; images = left_images unread faulty new left }
 
@@ -136,4 +183,9 @@ pub formatted_in_memory : (g : Geometry) (b : Behaviour) (d : MemDiskState) → 
 formatted_in_memory g b d is = record {
   began = record { size = is.blocks.count; base = is.blocks.each };
   nothing = ap (λ (x : MemDiskState). x.log) is.behaves;
+  polls = ap (λ (x : MemDiskState). x.polls) is.behaves;
 }
+
+-- and it has the manner of one that behaves so
+pub manner_in_memory : (g : Geometry) (b : Behaviour) (d : MemDiskState) → IsFormattedDisk g b d → record { shape = g; manner = (disk_state d).manner } ≡ setting_on g b
+manner_in_memory g b d is = ap (λ (x : MemDiskState). record { shape = g; manner = (disk_state x).manner }) is.behaves

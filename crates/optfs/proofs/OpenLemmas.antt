@@ -1,5 +1,5 @@
 -- What comes of opening the file system of a store that was just mounted on a formatted disk: the root alone stands in it, and nothing is taken.
-use Rattle.std.proofs.Common.{◌≡◌, ℕ, ◌+◌, ◌*◌, ◌/◌, ◌%◌, ◌^◌, ◌<◌, ◌≤◌, ◌==◌, ◌||◌, nat_lt, Bool, true, false, List, [], length, get_or, refl, sym, ap, ◌∙◌, subst, arith}
+use Rattle.std.proofs.Common.{◌≡◌, ℕ, ◌+◌, ◌*◌, ◌/◌, ◌%◌, ◌^◌, ◌<◌, ◌≤◌, ◌==◌, ◌||◌, nat_lt, Bool, true, false, IsTrue, List, [], length, get_or, refl, sym, ap, ◌∙◌, subst, arith}
 use Rattle.std.proofs.lemmas.Bool.{and_from, cond-true, le-leb, lt-ltb, le-ltb}
 use Rattle.std.specs.Int.{bit_at}
 use Rattle.opt_base.specs.Seal.{Blocks}
@@ -9,6 +9,7 @@ use Rattle.opt_disk.specs.Disk as disk
 use Rattle.opt_disk.specs.Disk.{writes_in}
 use Rattle.opt_disk.specs.Lawful.{IsLogOf}
 use Rattle.opt_disk.specs.Crash.{Window}
+use Rattle.opt_disk.specs.Manner.{Manner, GoesBy}
 use Rattle.opt_geom.specs.Geometry.{Geometry, IsGeometry, bitmap_start, bitmap_blocks, data_start}
 use Rattle.opt_layout.specs.Bitmap.{is_set}
 use Rattle.opt_journal.specs.Formatted.{formatted}
@@ -16,8 +17,9 @@ use Rattle.opt_journal.specs.Run.{is_live, live_part}
 use Rattle.opt_tree.specs.Step.{start}
 use Rattle.opt_stands.specs.Stands.{IsTreeOf}
 use Rattle.opt_crash.specs.Ledger.{HoldsUnder}
+use Rattle.opt_crash.specs.Opening.{WritesOne}
 use Rattle.opt_blocks.specs.Crashes.{IsBegun}
-use Rattle.opt_blocks.specs.State.{Bookkeeping, State}
+use Rattle.opt_blocks.specs.State.{Bookkeeping, State, Ticking}
 use Rattle.opt_files.specs.Effects.{LooksOnly}
 use Rattle.opt_fs.specs.Memory.{HasNoBlocks, room_of}
 use Rattle.opt_fs.specs.Room.{IsFirstRoom}
@@ -65,6 +67,10 @@ still_begun s t same h = subst (λ (k : Bookkeeping). IsBegun (record t { books 
   going = h.going;
 })
 
+-- a first write that was accepted is one that may be
+first_accepted : (m : Manner) (log : List Event) → WritesOne [] log → GoesBy m log → IsTrue (m.accepts [])
+first_accepted m log one goes = (subst (λ (es : List Event). GoesBy m es) one.log goes).0
+
 module _ (g : Geometry) (s : State) (is : IsMounted g s) where
   -- the blocks are mounted with the formatted disk's live blocks
   pub mounted_with : IsMountedWith g (live_part g (formatted g)) s
@@ -90,10 +96,11 @@ module _ (g : Geometry) (s : State) (is : IsMounted g s) where
 
   -- all that is known of the file system
   pub opened_with : (t : State) → LooksOnly true false s t → HasServed g (start g.i).tree (length s.crash.log) [] [] [] t → KeepsBudget s.books.geom (start g.i).tree (writes_in s.crash.log + s.books.owed) [] [] t
-      → IsFirstRoom t.books.geom (room_of t) → IsLogOf t.books.geom.n t.crash.log → length t.crash.log < 2 ^ 64 → IsOpened g t
-  opened_with t looks served budget room lawful events =
+      → IsFirstRoom t.books.geom (room_of t) → IsLogOf t.books.geom.n t.crash.log → length t.crash.log < 2 ^ 64 → GoesBy t.counts.ticks.manner t.crash.log → IsOpened (record { shape = g; manner = s.counts.ticks.manner }) t
+  opened_with t looks served budget room lawful events goes =
       let crash = looks.crash refl in
       let geom : t.books.geom ≡ g = ap (λ (k : Bookkeeping). k.geom) looks.books ∙ is.begins.geom in
+      let goes_now = subst (λ (m : Manner). GoesBy m t.crash.log) (ap (λ (k : Ticking). k.manner) looks.counts.ticks) goes in
       let writes : writes_in s.crash.log + s.books.owed ≡ writes_in t.crash.log = omega (arith, is.begins.owed, ap (λ (es : List Event). writes_in es) crash.log) in
       record {
         served = subst (λ (n : ℕ). HasServed g (start g.i).tree n [] [] [] t) (ap (λ (es : List Event). length es) (sym crash.log)) served;
@@ -102,4 +109,9 @@ module _ (g : Geometry) (s : State) (is : IsMounted g s) where
         base = λ b low. ap (λ (x : Blocks). x b) crash.base ∙ is.shows.base b low;
         lawful = subst (λ (k : Geometry). IsLogOf k.n t.crash.log) geom lawful;
         events = events;
+        polls = ap (λ (k : Ticking). k.polls) looks.counts.ticks ∙ is.polls;
+        manner = ap (λ (k : Ticking). k.manner) looks.counts.ticks;
+        writes = goes_now;
+        opens = first_accepted s.counts.ticks.manner t.crash.log (subst (λ (es : List Event). WritesOne [] es) (sym crash.log) is.first) goes_now;
+        turns = omega (arith, ap (λ (k : Bookkeeping). k.turns) looks.books, is.turns);
       }

@@ -12,83 +12,104 @@ use Rattle.opt_script.specs.Values.{IsCommand}
 use Rattle.std.specs.Io.KnownBytes.{Appends}
 use Rattle.std.proofs.KnownBytes.{Appends-nil, Appends-trans}
 use Rattle.opt_blocks.specs.State.{State}
-use Rattle.opt_geom.specs.Geometry.{Geometry}
 use Rattle.opt_trace.specs.Contents.{Each}
 use Rattle.opt_trace.specs.Line.{command_line, event_lines, reply_line, end_line}
 use Rattle.opt_trace.specs.Trace.{entry}
 use Rattle.opt_disk.specs.declared.event.Event.{Event}
 use Rattle.opt_tree.specs.declared.command.Reply.{Reply}
 use Rattle.optfs.specs.Lines.{open_line, whole_commands, commands_of, commands_of_line}
-use Rattle.optfs.specs.Output.{Serves, longest}
+use Rattle.optfs.specs.Output.{BeginsFirst, Serves, ServesBy, Setting, longest}
 use Rattle.optfs.specs.Running.{Records, BreaksOff, ServesFrom, TriesFrom}
 use Rattle.optfs.specs.Follows.{Follows, Stopped, ServesTo}
 use Rattle.optfs.proofs.LineLemmas.{open-byte, open-feed, commands-byte, commands-feed, commands-end, commands-more}
 
 -- One command.
 
+-- the first of commands are commands
+each_front : (xs ys : List Cmd) → Each IsCommand (xs ++ ys) → Each IsCommand xs
+each_front [] ys all = tt
+each_front (x ∷ xs) ys all = (all.0, each_front xs ys all.1)
+
+-- the text so far is the trace of the commands so far, which are the first of all
+begins_here : (set : Setting) (past more : List Cmd) (text : List ℕ) (s : State) → Records set past text s → Each IsCommand (past ++ more) → BeginsFirst (ServesBy set) (past ++ more) (text ++ [])
+begins_here set past more text s r lawful = record {
+  asked = past;
+  later = more;
+  are = refl;
+  rest = [];
+  served = subst (λ (xs : List ℕ). ServesBy set past xs) (sym (append-nil (text ++ []) ∙ append-nil text)) (r.served (each_front past more lawful));
+}
+
 -- Nothing more was taken: the text so far begins the trace of some run of all commands.
-pub breaks_here : (g : Geometry) (past more : List Cmd) (text : List ℕ) (s : State) (told : Option (List ℕ)) → Records g past text s → BreaksOff g (past ++ more) text told told
-breaks_here g past [] text s told r = record {
+pub breaks_here : (set : Setting) (past more : List Cmd) (text : List ℕ) (s : State) (told : Option (List ℕ)) → Records set past text s → BreaksOff set (past ++ more) text told told
+breaks_here set past [] text s told r = record {
   piece = [];
   rest = [];
   told = Appends-nil told;
-  served = λ lawful. subst (λ (cs : List Cmd). Serves g cs ((text ++ []) ++ [])) (sym (append-nil past))
-      (subst (λ (xs : List ℕ). Serves g past xs) (sym (append-nil (text ++ []) ∙ append-nil text)) (r.served (subst (λ (cs : List Cmd). Each IsCommand cs) (append-nil past) lawful)));
+  served = λ lawful. subst (λ (cs : List Cmd). Serves set.shape cs ((text ++ []) ++ [])) (sym (append-nil past))
+      (subst (λ (xs : List ℕ). Serves set.shape past xs) (sym (append-nil (text ++ []) ∙ append-nil text)) (r.served (subst (λ (cs : List Cmd). Each IsCommand cs) (append-nil past) lawful)).served);
+  begins = begins_here set past [] text s r;
 }
-breaks_here g past (cmd ∷ more) text s told r =
+breaks_here set past (cmd ∷ more) text s told r =
     let on = r.ends cmd more in
     record {
       piece = [];
       rest = command_line (command_text cmd) ++ on.rest;
       told = Appends-nil told;
-      served = λ lawful. subst (λ (xs : List ℕ). Serves g (past ++ cmd ∷ more) xs)
+      served = λ lawful. subst (λ (xs : List ℕ). Serves set.shape (past ++ cmd ∷ more) xs)
           (append_assoc text (command_line (command_text cmd)) on.rest ∙ ap (λ (xs : List ℕ). xs ++ (command_line (command_text cmd) ++ on.rest)) (sym (append-nil text))) (on.served lawful);
+      begins = begins_here set past (cmd ∷ more) text s r;
     }
 
 -- a front of a line, and the rest of it
 line_parts : (text line rest : List ℕ) (n : ℕ) → (text ++ line) ++ rest ≡ (text ++ take n line) ++ (drop n line ++ rest)
 line_parts text line rest n = ap (λ l. (text ++ l) ++ rest) (sym (take-append-drop n line)) ∙ simp append_assoc
 
--- the sink has a front of the command's line
-line_tried : (cmd : Cmd) (s : State) (before after : Option (List ℕ)) (n : ℕ) → Appends before after (take n (command_line (command_text cmd))) → TriesFrom (cmd ∷ []) s before after
-line_tried cmd s before after n told g past more text r =
-    let on = r.ends cmd more in
-    let line = command_line (command_text cmd) in
-    let together : past ++ cmd ∷ more ≡ (past ++ cmd ∷ []) ++ more = sym (append_assoc past (cmd ∷ []) more) in
-    record {
-      piece = take n line;
-      rest = drop n line ++ on.rest;
-      told = told;
-      served = λ lawful. subst (λ (cs : List Cmd). Serves g cs ((text ++ take n line) ++ (drop n line ++ on.rest))) together
-          (subst (λ (xs : List ℕ). Serves g (past ++ cmd ∷ more) xs) (line_parts text line on.rest n) (on.served (subst (λ (cs : List Cmd). Each IsCommand cs) (sym together) lawful)));
-    }
-
 -- The command was answered, and the sink took a front of what came with it.
-pub entry_cut : (g : Geometry) (all more : List Cmd) (text piece others : List ℕ) (s : State) (before after : Option (List ℕ)) → Records g all (text ++ (piece ++ others)) s
-    → Appends before after piece → BreaksOff g (all ++ more) text before after
-entry_cut g all more text piece others s before after r told =
-    let end = breaks_here g all more (text ++ (piece ++ others)) s before r in
+pub entry_cut : (set : Setting) (all more : List Cmd) (text piece others : List ℕ) (s : State) (before after : Option (List ℕ)) → Records set all (text ++ (piece ++ others)) s
+    → Appends before after piece → BreaksOff set (all ++ more) text before after
+entry_cut set all more text piece others s before after r told =
+    let end = breaks_here set all more (text ++ (piece ++ others)) s before r in
     record {
       piece = piece;
       rest = others ++ (end.piece ++ end.rest);
       told = told;
-      served = λ lawful. subst (λ (xs : List ℕ). Serves g (all ++ more) xs) (simp append_assoc) (end.served lawful);
+      served = λ lawful. subst (λ (xs : List ℕ). Serves set.shape (all ++ more) xs) (simp append_assoc) (end.served lawful);
+      begins = λ lawful. record {
+        asked = all;
+        later = more;
+        are = refl;
+        rest = others;
+        served = subst (λ (xs : List ℕ). ServesBy set all xs) (sym (append_assoc text piece others)) (r.served (each_front all more lawful));
+      };
     }
 
 -- What one command more makes of each recording, by how it was answered.
 abbrev pub GoesOn : Cmd → Reply → State → State → Type 0
-GoesOn cmd reply old new = (g : Geometry) (past : List Cmd) (text : List ℕ) → Records g past text old → Records g (past ++ cmd ∷ []) (text ++ entry (drop (length old.crash.log) new.crash.log) cmd reply (length new.crash.log)) new
+GoesOn cmd reply old new = (set : Setting) (past : List Cmd) (text : List ℕ) → Records set past text old → Records set (past ++ cmd ∷ []) (text ++ entry (drop (length old.crash.log) new.crash.log) cmd reply (length new.crash.log)) new
+
+-- the sink has a front of the command's line
+pub command_cut : {T E : Type 0} (r : Result T E) (cmd : Cmd) (reply : Reply) (old new : State) (before after : Option (List ℕ)) (asked : List ℕ) (n : ℕ) → GoesOn cmd reply old new
+    → asked ≡ command_text cmd → Appends before after (take n (command_line asked)) → OnErr r (TriesFrom (cmd ∷ []) old before after)
+command_cut (Ok x) cmd reply old new before after asked n on asked_is line = tt
+command_cut (Err e) cmd reply old new before after asked n on asked_is line = λ set past more text r.
+    let first = command_line (command_text cmd) in
+    let lines = event_lines (drop (length old.crash.log) new.crash.log) in
+    let last = reply_line (length new.crash.log) (text_of_reply reply) in
+    entry_cut set (past ++ cmd ∷ []) more text (take n first) (drop n first ++ (lines ++ last)) new before after
+    (subst (λ (xs : List ℕ). Records set (past ++ cmd ∷ []) (text ++ xs) new) (append_assoc first lines last ∙ line_parts [] first (lines ++ last) n) (on set past text r))
+    (subst (λ (l : List ℕ). Appends before after (take n (command_line l))) asked_is line)
 
 -- the sink has the command's line, and a front of the events'
 pub events_cut : {T E : Type 0} (r : Result T E) (cmd : Cmd) (reply : Reply) (old new : State) (before mid after : Option (List ℕ)) (asked : List ℕ) (events : List Event) (n : ℕ) → GoesOn cmd reply old new
     → asked ≡ command_text cmd → events ≡ drop (length old.crash.log) new.crash.log → Appends before mid (command_line asked) → Appends mid after (take n (event_lines events)) → OnErr r (TriesFrom (cmd ∷ []) old before after)
 events_cut (Ok x) cmd reply old new before mid after asked events n on asked_is events_are line told = tt
-events_cut (Err e) cmd reply old new before mid after asked events n on asked_is events_are line told = λ g past more text r.
+events_cut (Err e) cmd reply old new before mid after asked events n on asked_is events_are line told = λ set past more text r.
     let first = command_line (command_text cmd) in
     let lines = event_lines (drop (length old.crash.log) new.crash.log) in
     let last = reply_line (length new.crash.log) (text_of_reply reply) in
-    entry_cut g (past ++ cmd ∷ []) more text (first ++ take n lines) (drop n lines ++ last) new before after
-    (subst (λ (xs : List ℕ). Records g (past ++ cmd ∷ []) (text ++ xs) new) (line_parts first lines last n) (on g past text r))
+    entry_cut set (past ++ cmd ∷ []) more text (first ++ take n lines) (drop n lines ++ last) new before after
+    (subst (λ (xs : List ℕ). Records set (past ++ cmd ∷ []) (text ++ xs) new) (line_parts first lines last n) (on set past text r))
     (Appends-trans before mid after first (take n lines) (subst (λ (l : List ℕ). Appends before mid (command_line l)) asked_is line) (subst (λ (es : List Event). Appends mid after (take n (event_lines es))) events_are told))
 
 -- it has these, and a front of the reply's
@@ -96,12 +117,12 @@ pub reply_cut : {T E : Type 0} (r : Result T E) (cmd : Cmd) (reply : Reply) (old
     → asked ≡ command_text cmd → events ≡ drop (length old.crash.log) new.crash.log → moment ≡ length new.crash.log → answered ≡ text_of_reply reply
     → Appends before mid (command_line asked) → Appends mid late (event_lines events) → Appends late after (take n (reply_line moment answered)) → OnErr r (TriesFrom (cmd ∷ []) old before after)
 reply_cut (Ok x) cmd reply old new before mid late after asked answered events moment n on asked_is events_are moment_is answered_is line lines told = tt
-reply_cut (Err e) cmd reply old new before mid late after asked answered events moment n on asked_is events_are moment_is answered_is line lines told = λ g past more text r.
+reply_cut (Err e) cmd reply old new before mid late after asked answered events moment n on asked_is events_are moment_is answered_is line lines told = λ set past more text r.
     let first = command_line (command_text cmd) in
     let middle = event_lines (drop (length old.crash.log) new.crash.log) in
     let last = reply_line (length new.crash.log) (text_of_reply reply) in
-    entry_cut g (past ++ cmd ∷ []) more text ((first ++ middle) ++ take n last) (drop n last) new before after
-    (subst (λ (xs : List ℕ). Records g (past ++ cmd ∷ []) (text ++ xs) new) (ap (λ (l : List ℕ). (first ++ middle) ++ l) (sym (take-append-drop n last)) ∙ sym (append_assoc (first ++ middle) (take n last) (drop n last))) (on g past text r))
+    entry_cut set (past ++ cmd ∷ []) more text ((first ++ middle) ++ take n last) (drop n last) new before after
+    (subst (λ (xs : List ℕ). Records set (past ++ cmd ∷ []) (text ++ xs) new) (ap (λ (l : List ℕ). (first ++ middle) ++ l) (sym (take-append-drop n last)) ∙ sym (append_assoc (first ++ middle) (take n last) (drop n last))) (on set past text r))
     (Appends-trans before late after (first ++ middle) (take n last)
     (Appends-trans before mid late first middle (subst (λ (l : List ℕ). Appends before mid (command_line l)) asked_is line) (subst (λ (es : List Event). Appends mid late (event_lines es)) events_are lines))
     (subst (λ (m : ℕ). Appends late after (take n (reply_line m (text_of_reply reply)))) moment_is (subst (λ (l : List ℕ). Appends late after (take n (reply_line moment l))) answered_is told)))
@@ -110,7 +131,7 @@ reply_cut (Err e) cmd reply old new before mid late after asked answered events 
 pub one_served : (cmd : Cmd) (reply : Reply) (old new : State) (before mid late after : Option (List ℕ)) (asked answered : List ℕ) (events : List Event) (moment : ℕ) → GoesOn cmd reply old new
     → asked ≡ command_text cmd → events ≡ drop (length old.crash.log) new.crash.log → moment ≡ length new.crash.log → answered ≡ text_of_reply reply
     → Appends before mid (command_line asked) → Appends mid late (event_lines events) → Appends late after (reply_line moment answered) → ServesFrom (cmd ∷ []) old new before after
-one_served cmd reply old new before mid late after asked answered events moment on asked_is events_are moment_is answered_is line lines told g past text r =
+one_served cmd reply old new before mid late after asked answered events moment on asked_is events_are moment_is answered_is line lines told set past text r =
     let first = command_line (command_text cmd) in
     let middle = event_lines (drop (length old.crash.log) new.crash.log) in
     let last = reply_line (length new.crash.log) (text_of_reply reply) in
@@ -119,36 +140,23 @@ one_served cmd reply old new before mid late after asked answered events moment 
       told = Appends-trans before late after (first ++ middle) last
           (Appends-trans before mid late first middle (subst (λ (l : List ℕ). Appends before mid (command_line l)) asked_is line) (subst (λ (es : List Event). Appends mid late (event_lines es)) events_are lines))
           (subst (λ (m : ℕ). Appends late after (reply_line m (text_of_reply reply))) moment_is (subst (λ (l : List ℕ). Appends late after (reply_line moment l)) answered_is told));
-      records = on g past text r;
+      records = on set past text r;
     }
 
 -- no command at all
 pub none_served : (s : State) (told : Option (List ℕ)) → ServesFrom [] s s told told
-none_served s told g past text r = record {
+none_served s told set past text r = record {
   piece = [];
   told = Appends-nil told;
-  records = subst (λ (cs : List Cmd). Records g cs (text ++ []) s) (sym (append-nil past)) (subst (λ (xs : List ℕ). Records g past xs s) (sym (append-nil text)) r);
+  records = subst (λ (cs : List Cmd). Records set cs (text ++ []) s) (sym (append-nil past)) (subst (λ (xs : List ℕ). Records set past xs s) (sym (append-nil text)) r);
 }
 
 -- The same as the code has them: the texts were made before.
 
 pub nothing_told : {T E : Type 0} (r : Result T E) (cmds : List Cmd) (s : State) (told : Option (List ℕ)) → OnErr r (TriesFrom cmds s told told)
 nothing_told (Ok x) cmds s told = tt
-nothing_told (Err e) cmds s told = λ g past more text r.
-    subst (λ (cs : List Cmd). BreaksOff g cs text told told) (sym (append_assoc past cmds more)) (breaks_here g past (cmds ++ more) text s told r)
-
-pub line_cut : {T E : Type 0} (r : Result T E) (cmd : Cmd) (s : State) (before after : Option (List ℕ)) (text : List ℕ) (n : ℕ)
-    → text ≡ command_text cmd → Appends before after (take n (command_line text)) → OnErr r (TriesFrom (cmd ∷ []) s before after)
-line_cut (Ok x) cmd s before after text n is told = tt
-line_cut (Err e) cmd s before after text n is told =
-    let P : List ℕ → Type 0 = λ l. Appends before after (take n (command_line l)) in
-    line_tried cmd s before after n (subst P is told)
-
-pub line_told : {T E : Type 0} (r : Result T E) (cmd : Cmd) (s : State) (before after : Option (List ℕ)) (text : List ℕ)
-    → text ≡ command_text cmd → Appends before after (command_line text) → OnErr r (TriesFrom (cmd ∷ []) s before after)
-line_told r cmd s before after text is told =
-    let P : List ℕ → Type 0 = λ l. Appends before after l in
-    line_cut r cmd s before after text (length (command_line text)) is (subst P (sym (take_all (length (command_line text)) (command_line text) (omega arith))) told)
+nothing_told (Err e) cmds s told = λ set past more text r.
+    subst (λ (cs : List Cmd). BreaksOff set cs text told told) (sym (append_assoc past cmds more)) (breaks_here set past (cmds ++ more) text s told r)
 
 -- the commands of a line, told as the line's
 pub line_tries : {T E : Type 0} (r : Result T E) (cmds same : List Cmd) (s : State) (before after : Option (List ℕ)) → cmds ≡ same
@@ -206,142 +214,147 @@ same_commands : (seen line : List ℕ) → line ≡ take (longest + 1) (open_lin
 same_commands seen line kept =
     ap (λ l. whole_commands longest seen ++ l) (ap (commands_of_line longest) kept ∙ line_kept longest (open_line seen)) ∙ sym (commands-end longest seen)
 
-pub follows_feed : (geom : Geometry) (seen : List ℕ) (before mid after : Option (List ℕ)) (system next : State) (line : List ℕ)
-    → Follows geom seen before mid system line → ServesFrom (commands_of_line longest line) system next mid after → Follows geom (seen ++ 10 ∷ []) before after next []
-follows_feed geom seen before mid after system next line f h =
-    let s = h geom (whole_commands longest seen) f.body f.records in
+pub follows_feed : (set : Setting) (seen : List ℕ) (before mid after : Option (List ℕ)) (system next : State) (line : List ℕ)
+    → Follows set seen before mid system line → ServesFrom (commands_of_line longest line) system next mid after → Follows set (seen ++ 10 ∷ []) before after next []
+follows_feed set seen before mid after system next line f h =
+    let s = h set (whole_commands longest seen) f.body f.records in
     record {
       body = f.body ++ s.piece;
-      records = subst (λ (cs : List Cmd). Records geom cs (f.body ++ s.piece) next) (same_commands seen line f.kept ∙ sym (commands-feed longest seen)) s.records;
+      records = subst (λ (cs : List Cmd). Records set cs (f.body ++ s.piece) next) (same_commands seen line f.kept ∙ sym (commands-feed longest seen)) s.records;
       told = Appends-trans before mid after f.body s.piece f.told s.told;
       kept = sym (ap (take (longest + 1)) (open-feed seen) ∙ take_all (longest + 1) [] (omega arith));
     }
 
 -- A recording that broke off in these commands stopped in the bytes of which they are a front.
-stopped_off : (geom : Geometry) (seen : List ℕ) (cmds : List Cmd) (body : List ℕ) (before mid after : Option (List ℕ)) → Appends before mid body
-    → BreaksOff geom cmds body mid after → cmds ≡ commands_of longest seen → Stopped geom seen before after
-stopped_off geom seen cmds body before mid after told off is = record {
+stopped_off : (set : Setting) (seen : List ℕ) (cmds : List Cmd) (body : List ℕ) (before mid after : Option (List ℕ)) → Appends before mid body
+    → BreaksOff set cmds body mid after → cmds ≡ commands_of longest seen → Stopped set seen before after
+stopped_off set seen cmds body before mid after told off is = record {
   text = body ++ off.piece;
   told = Appends-trans before mid after body off.piece told off.told;
-  front = λ lawful. (
-    off.rest ++ end_line,
-    record {
-      body = (body ++ off.piece) ++ off.rest;
-      served = subst (λ (cs : List Cmd). Serves geom cs ((body ++ off.piece) ++ off.rest)) is (off.served (subst (λ (cs : List Cmd). Each IsCommand cs) (sym is) lawful));
-      is = sym (append_assoc (body ++ off.piece) off.rest end_line);
-    },
-  );
+  broken = λ lawful.
+      let these = subst (λ (cs : List Cmd). Each IsCommand cs) (sym is) lawful in
+      record {
+        front = (
+          off.rest ++ end_line,
+          record {
+            body = (body ++ off.piece) ++ off.rest;
+            served = subst (λ (cs : List Cmd). Serves set.shape cs ((body ++ off.piece) ++ off.rest)) is (off.served these);
+            is = sym (append_assoc (body ++ off.piece) off.rest end_line);
+          },
+        );
+        begins = subst (λ (cs : List Cmd). BeginsFirst (ServesBy set) cs (body ++ off.piece)) is (off.begins these);
+      };
 }
 
-pub stopped_feed : (geom : Geometry) (seen more : List ℕ) (before mid after : Option (List ℕ)) (system : State) (line : List ℕ)
-    → Follows geom seen before mid system line → TriesFrom (commands_of_line longest line) system mid after → Stopped geom (seen ++ 10 ∷ more) before after
-stopped_feed geom seen more before mid after system line f h =
+pub stopped_feed : (set : Setting) (seen more : List ℕ) (before mid after : Option (List ℕ)) (system : State) (line : List ℕ)
+    → Follows set seen before mid system line → TriesFrom (commands_of_line longest line) system mid after → Stopped set (seen ++ 10 ∷ more) before after
+stopped_feed set seen more before mid after system line f h =
     let later = commands-more longest (seen ++ 10 ∷ []) more in
-    stopped_off geom (seen ++ 10 ∷ more) _ f.body before mid after f.told (h geom (whole_commands longest seen) later.0 f.body f.records)
+    stopped_off set (seen ++ 10 ∷ more) _ f.body before mid after f.told (h set (whole_commands longest seen) later.0 f.body f.records)
     (ap (λ (cs : List Cmd). cs ++ later.0) (same_commands seen line f.kept ∙ sym (commands-feed longest seen)) ∙ sym later.1 ∙ ap (commands_of longest) (append_assoc seen (10 ∷ []) more))
 
-pub follows_byte : (geom : Geometry) (seen : List ℕ) (b : ℕ) (before after : Option (List ℕ)) (system : State) (line grown : List ℕ) → eqb b 10 ≡ false
-    → Follows geom seen before after system line → grown ≡ take (longest + 1) (open_line seen ++ b ∷ []) → Follows geom (seen ++ b ∷ []) before after system grown
-follows_byte geom seen b before after system line grown no_feed f kept = record {
+pub follows_byte : (set : Setting) (seen : List ℕ) (b : ℕ) (before after : Option (List ℕ)) (system : State) (line grown : List ℕ) → eqb b 10 ≡ false
+    → Follows set seen before after system line → grown ≡ take (longest + 1) (open_line seen ++ b ∷ []) → Follows set (seen ++ b ∷ []) before after system grown
+follows_byte set seen b before after system line grown no_feed f kept = record {
   body = f.body;
-  records = subst (λ (cs : List Cmd). Records geom cs f.body system) (sym (commands-byte longest seen b no_feed)) f.records;
+  records = subst (λ (cs : List Cmd). Records set cs f.body system) (sym (commands-byte longest seen b no_feed)) f.records;
   told = f.told;
   kept = kept ∙ ap (take (longest + 1)) (sym (open-byte seen b no_feed));
 }
 
-pub stopped_here : (geom : Geometry) (seen more : List ℕ) (before after : Option (List ℕ)) (system : State) (line : List ℕ)
-    → Follows geom seen before after system line → Stopped geom (seen ++ more) before after
-stopped_here geom seen more before after system line f =
+pub stopped_here : (set : Setting) (seen more : List ℕ) (before after : Option (List ℕ)) (system : State) (line : List ℕ)
+    → Follows set seen before after system line → Stopped set (seen ++ more) before after
+stopped_here set seen more before after system line f =
     let later = commands-more longest seen more in
-    stopped_off geom (seen ++ more) _ f.body before after after f.told (breaks_here geom (whole_commands longest seen) later.0 f.body system after f.records) (sym later.1)
+    stopped_off set (seen ++ more) _ f.body before after after f.told (breaks_here set (whole_commands longest seen) later.0 f.body system after f.records) (sym later.1)
 
 -- The end.
 
-pub serves_end : (geom : Geometry) (seen : List ℕ) (before mid after : Option (List ℕ)) (system next : State) (line : List ℕ)
-    → Follows geom seen before mid system line → ServesFrom (commands_of_line longest line) system next mid after → ServesTo geom (commands_of longest seen) before after
-serves_end geom seen before mid after system next line f h =
-    let s = h geom (whole_commands longest seen) f.body f.records in
-    let records : Records geom (commands_of longest seen) (f.body ++ s.piece) next = subst (λ (cs : List Cmd). Records geom cs (f.body ++ s.piece) next) (same_commands seen line f.kept) s.records in
+pub serves_end : (set : Setting) (seen : List ℕ) (before mid after : Option (List ℕ)) (system next : State) (line : List ℕ)
+    → Follows set seen before mid system line → ServesFrom (commands_of_line longest line) system next mid after → ServesTo set (commands_of longest seen) before after
+serves_end set seen before mid after system next line f h =
+    let s = h set (whole_commands longest seen) f.body f.records in
+    let records : Records set (commands_of longest seen) (f.body ++ s.piece) next = subst (λ (cs : List Cmd). Records set cs (f.body ++ s.piece) next) (same_commands seen line f.kept) s.records in
     record { body = f.body ++ s.piece; served = records.served; told = Appends-trans before mid after f.body s.piece f.told s.told }
 
-pub stopped_end : (geom : Geometry) (seen : List ℕ) (before mid after : Option (List ℕ)) (system : State) (line : List ℕ)
-    → Follows geom seen before mid system line → TriesFrom (commands_of_line longest line) system mid after → Stopped geom seen before after
-stopped_end geom seen before mid after system line f h =
-    stopped_off geom seen _ f.body before mid after f.told (h geom (whole_commands longest seen) [] f.body f.records) (append-nil _ ∙ same_commands seen line f.kept)
+pub stopped_end : (set : Setting) (seen : List ℕ) (before mid after : Option (List ℕ)) (system : State) (line : List ℕ)
+    → Follows set seen before mid system line → TriesFrom (commands_of_line longest line) system mid after → Stopped set seen before after
+stopped_end set seen before mid after system line f h =
+    stopped_off set seen _ f.body before mid after f.told (h set (whole_commands longest seen) [] f.body f.records) (append-nil _ ∙ same_commands seen line f.kept)
 
 -- The same, as the code has them: the byte is known to be a line feed, and the line was borrowed.
 
-pub fed : (geom : Geometry) (seen : List ℕ) (byte : ℕ) (before mid after : Option (List ℕ)) (system next : State) (line cut left : List ℕ)
-    → byte ≡ 10 → cut ≡ line → left ≡ [] → Follows geom seen before mid system line → ServesFrom (commands_of_line longest cut) system next mid after
-    → Follows geom (seen ++ byte ∷ []) before after next left
-fed geom seen byte before mid after system next line cut left feed lent empty f s =
+pub fed : (set : Setting) (seen : List ℕ) (byte : ℕ) (before mid after : Option (List ℕ)) (system next : State) (line cut left : List ℕ)
+    → byte ≡ 10 → cut ≡ line → left ≡ [] → Follows set seen before mid system line → ServesFrom (commands_of_line longest cut) system next mid after
+    → Follows set (seen ++ byte ∷ []) before after next left
+fed set seen byte before mid after system next line cut left feed lent empty f s =
     let P : List ℕ → Type 0 = λ l. ServesFrom (commands_of_line longest l) system next mid after in
-    let Q : ℕ → Type 0 = λ b. Follows geom (seen ++ b ∷ []) before after next left in
-    let R : List ℕ → Type 0 = λ l. Follows geom (seen ++ 10 ∷ []) before after next l in
-    subst Q (sym feed) (subst R (sym empty) (follows_feed geom seen before mid after system next line f (subst P lent s)))
+    let Q : ℕ → Type 0 = λ b. Follows set (seen ++ b ∷ []) before after next left in
+    let R : List ℕ → Type 0 = λ l. Follows set (seen ++ 10 ∷ []) before after next l in
+    subst Q (sym feed) (subst R (sym empty) (follows_feed set seen before mid after system next line f (subst P lent s)))
 
-pub feed_stopped : (geom : Geometry) (seen more : List ℕ) (byte : ℕ) (before mid after : Option (List ℕ)) (system : State) (line cut : List ℕ)
-    → byte ≡ 10 → cut ≡ line → Follows geom seen before mid system line → TriesFrom (commands_of_line longest cut) system mid after
-    → Stopped geom (seen ++ byte ∷ more) before after
-feed_stopped geom seen more byte before mid after system line cut feed lent f s =
+pub feed_stopped : (set : Setting) (seen more : List ℕ) (byte : ℕ) (before mid after : Option (List ℕ)) (system : State) (line cut : List ℕ)
+    → byte ≡ 10 → cut ≡ line → Follows set seen before mid system line → TriesFrom (commands_of_line longest cut) system mid after
+    → Stopped set (seen ++ byte ∷ more) before after
+feed_stopped set seen more byte before mid after system line cut feed lent f s =
     let P : List ℕ → Type 0 = λ l. TriesFrom (commands_of_line longest l) system mid after in
-    let Q : ℕ → Type 0 = λ b. Stopped geom (seen ++ b ∷ more) before after in
-    subst Q (sym feed) (stopped_feed geom seen more before mid after system line f (subst P lent s))
+    let Q : ℕ → Type 0 = λ b. Stopped set (seen ++ b ∷ more) before after in
+    subst Q (sym feed) (stopped_feed set seen more before mid after system line f (subst P lent s))
 
-pub pushed : (geom : Geometry) (seen : List ℕ) (byte : ℕ) (before after : Option (List ℕ)) (system : State) (line grown : List ℕ)
-    → byte ≢ 10 → length line ≤ 262144 → grown ≡ line ++ byte ∷ [] → Follows geom seen before after system line → Follows geom (seen ++ byte ∷ []) before after system grown
-pushed geom seen byte before after system line grown other room is f =
-    follows_byte geom seen byte before after system line grown (not_feed byte other) f
+pub pushed : (set : Setting) (seen : List ℕ) (byte : ℕ) (before after : Option (List ℕ)) (system : State) (line grown : List ℕ)
+    → byte ≢ 10 → length line ≤ 262144 → grown ≡ line ++ byte ∷ [] → Follows set seen before after system line → Follows set (seen ++ byte ∷ []) before after system grown
+pushed set seen byte before after system line grown other room is f =
+    follows_byte set seen byte before after system line grown (not_feed byte other) f
     (is ∙ kept_push longest byte (open_line seen) line f.kept (within_longest (length line) room))
 
-pub passed : (geom : Geometry) (seen : List ℕ) (byte : ℕ) (before after : Option (List ℕ)) (system : State) (line : List ℕ)
-    → byte ≢ 10 → 262144 < length line → Follows geom seen before after system line → Follows geom (seen ++ byte ∷ []) before after system line
-passed geom seen byte before after system line other full f =
-    follows_byte geom seen byte before after system line line (not_feed byte other) f
+pub passed : (set : Setting) (seen : List ℕ) (byte : ℕ) (before after : Option (List ℕ)) (system : State) (line : List ℕ)
+    → byte ≢ 10 → 262144 < length line → Follows set seen before after system line → Follows set (seen ++ byte ∷ []) before after system line
+passed set seen byte before after system line other full f =
+    follows_byte set seen byte before after system line line (not_feed byte other) f
     (kept_full longest byte (open_line seen) line f.kept (past_longest (length line) full))
 
-pub ended : (geom : Geometry) (seen : List ℕ) (before mid after : Option (List ℕ)) (system next : State) (line cut : List ℕ)
-    → cut ≡ line → Follows geom seen before mid system line → ServesFrom (commands_of_line longest cut) system next mid after → ServesTo geom (commands_of longest seen) before after
-ended geom seen before mid after system next line cut lent f s =
+pub ended : (set : Setting) (seen : List ℕ) (before mid after : Option (List ℕ)) (system next : State) (line cut : List ℕ)
+    → cut ≡ line → Follows set seen before mid system line → ServesFrom (commands_of_line longest cut) system next mid after → ServesTo set (commands_of longest seen) before after
+ended set seen before mid after system next line cut lent f s =
     let P : List ℕ → Type 0 = λ l. ServesFrom (commands_of_line longest l) system next mid after in
-    serves_end geom seen before mid after system next line f (subst P lent s)
+    serves_end set seen before mid after system next line f (subst P lent s)
 
-pub end_stopped : (geom : Geometry) (seen : List ℕ) (before mid after : Option (List ℕ)) (system : State) (line cut : List ℕ)
-    → cut ≡ line → Follows geom seen before mid system line → TriesFrom (commands_of_line longest cut) system mid after → Stopped geom seen before after
-end_stopped geom seen before mid after system line cut lent f s =
+pub end_stopped : (set : Setting) (seen : List ℕ) (before mid after : Option (List ℕ)) (system : State) (line cut : List ℕ)
+    → cut ≡ line → Follows set seen before mid system line → TriesFrom (commands_of_line longest cut) system mid after → Stopped set seen before after
+end_stopped set seen before mid after system line cut lent f s =
     let P : List ℕ → Type 0 = λ l. TriesFrom (commands_of_line longest l) system mid after in
-    stopped_end geom seen before mid after system line f (subst P lent s)
+    stopped_end set seen before mid after system line f (subst P lent s)
 
 pub feed_halts : {T E : Type 0} (r : Result T E) (byte : ℕ) (old new : Option (List ℕ)) (system : State) (line cut : List ℕ)
     → byte ≡ 10 → cut ≡ line → TriesFrom (commands_of_line longest cut) system old new
-    → OnErr r ((geom : Geometry) (seen more : List ℕ) (before : Option (List ℕ)) → Follows geom seen before old system line → Stopped geom (seen ++ byte ∷ more) before new)
+    → OnErr r ((set : Setting) (seen more : List ℕ) (before : Option (List ℕ)) → Follows set seen before old system line → Stopped set (seen ++ byte ∷ more) before new)
 feed_halts (Ok x) byte old new system line cut feed lent s = tt
-feed_halts (Err e) byte old new system line cut feed lent s = λ geom seen more before f. feed_stopped geom seen more byte before old new system line cut feed lent f s
+feed_halts (Err e) byte old new system line cut feed lent s = λ set seen more before f. feed_stopped set seen more byte before old new system line cut feed lent f s
 
 pub byte_halts : {T E : Type 0} (r : Result T E) (byte : ℕ) (told : Option (List ℕ)) (system : State) (line : List ℕ)
-    → OnErr r ((geom : Geometry) (seen more : List ℕ) (before : Option (List ℕ)) → Follows geom seen before told system line → Stopped geom (seen ++ byte ∷ more) before told)
+    → OnErr r ((set : Setting) (seen more : List ℕ) (before : Option (List ℕ)) → Follows set seen before told system line → Stopped set (seen ++ byte ∷ more) before told)
 byte_halts (Ok x) byte told system line = tt
-byte_halts (Err e) byte told system line = λ geom seen more before f. stopped_here geom seen (byte ∷ more) before told system line f
+byte_halts (Err e) byte told system line = λ set seen more before f. stopped_here set seen (byte ∷ more) before told system line f
 
 pub end_halts : {T E : Type 0} (r : Result T E) (old new : Option (List ℕ)) (system : State) (line cut : List ℕ)
     → cut ≡ line → TriesFrom (commands_of_line longest cut) system old new
-    → OnErr r ((geom : Geometry) (seen : List ℕ) (before : Option (List ℕ)) → Follows geom seen before old system line → Stopped geom seen before new)
+    → OnErr r ((set : Setting) (seen : List ℕ) (before : Option (List ℕ)) → Follows set seen before old system line → Stopped set seen before new)
 end_halts (Ok x) old new system line cut lent s = tt
-end_halts (Err e) old new system line cut lent s = λ geom seen before f. end_stopped geom seen before old new system line cut lent f s
+end_halts (Err e) old new system line cut lent s = λ set seen before f. end_stopped set seen before old new system line cut lent f s
 
 -- the bytes up to here, this one, and the others are all of them
 pub rest_halts : {T E : Type 0} (r : Result T E) (bytes : List ℕ) (i byte : ℕ) (first old new : Option (List ℕ)) (system_first system : State) (line_first line : List ℕ)
     → i < length bytes → byte ≡ get_or bytes i 0
-    → ((geom : Geometry) (seen : List ℕ) (before : Option (List ℕ)) → Follows geom seen before first system_first line_first → Follows geom (seen ++ take i bytes) before old system line)
-    → ((geom : Geometry) (seen more : List ℕ) (before : Option (List ℕ)) → Follows geom seen before old system line → Stopped geom (seen ++ byte ∷ more) before new)
-    → OnErr r ((geom : Geometry) (seen : List ℕ) (before : Option (List ℕ)) → Follows geom seen before first system_first line_first → Stopped geom (seen ++ bytes) before new)
+    → ((set : Setting) (seen : List ℕ) (before : Option (List ℕ)) → Follows set seen before first system_first line_first → Follows set (seen ++ take i bytes) before old system line)
+    → ((set : Setting) (seen more : List ℕ) (before : Option (List ℕ)) → Follows set seen before old system line → Stopped set (seen ++ byte ∷ more) before new)
+    → OnErr r ((set : Setting) (seen : List ℕ) (before : Option (List ℕ)) → Follows set seen before first system_first line_first → Stopped set (seen ++ bytes) before new)
 rest_halts (Ok x) bytes i byte first old new system_first system line_first line below is so_far halts = tt
-rest_halts (Err e) bytes i byte first old new system_first system line_first line below is so_far halts = λ geom seen before f.
-    let P : List ℕ → Type 0 = λ l. Stopped geom l before new in
+rest_halts (Err e) bytes i byte first old new system_first system line_first line below is so_far halts = λ set seen before f.
+    let P : List ℕ → Type 0 = λ l. Stopped set l before new in
     let whole : take i bytes ++ byte ∷ drop (suc i) bytes ≡ bytes =
     ap (λ b. take i bytes ++ b ∷ drop (suc i) bytes) is ∙ ap (λ l. take i bytes ++ l) (sym (drop-cons bytes i 0 below)) ∙ take-append-drop i bytes in
     subst P (append_assoc seen (take i bytes) (byte ∷ drop (suc i) bytes) ∙ ap (λ l. seen ++ l) whole)
-    (halts geom (seen ++ take i bytes) (drop (suc i) bytes) before (so_far geom seen before f))
+    (halts set (seen ++ take i bytes) (drop (suc i) bytes) before (so_far set seen before f))
 
 -- this byte behind those up to here
 pub byte_on : (seen bytes : List ℕ) (i byte : ℕ) → i < length bytes → byte ≡ get_or bytes i 0 → (seen ++ take i bytes) ++ byte ∷ [] ≡ seen ++ take (i + 1) bytes

@@ -1,7 +1,8 @@
 -- A run so far as a trace: what is served by it, and how it may go on, whatever commands come.
-use Rattle.std.proofs.Common.{◌≡◌, inl, inr, ℕ, ◌+◌, ◌-◌, ◌^◌, ◌<◌, ◌≤◌, nat_le, Bool, true, false, if◌then◌else◌, List, [], ◌∷◌, ◌++◌, length, take, take_all, drop, refl, sym, ap, ◌∙◌, subst, arith, append_assoc, append-nil}
+use Rattle.std.proofs.Common.{◌≡◌, inl, inr, ℕ, zero, suc, ◌+◌, ◌-◌, ◌^◌, ◌<◌, ◌≤◌, nat_le, Bool, true, false, if◌then◌else◌, List, [], ◌∷◌, ◌++◌, length, take, take_all, drop, Some, refl, sym, ap, ap₂, ◌∙◌, subst, arith, append_assoc, append-nil}
 use Rattle.std.proofs.Math.Logic.{∥∥₁_map}
 use Rattle.std.proofs.lemmas.List.{take-append-le}
+use Rattle.std.specs.List.{slice_get}
 use Rattle.std.proofs.lemmas.Bool.{and_parts}
 use Rattle.std.proofs.lemmas.Bool.Decides.{nat_tests}
 use Rattle.opt_base.specs.Seal.{Blocks}
@@ -34,10 +35,12 @@ use Rattle.opt_session.specs.Ending.{HasRun, is_none, over_after, ending_reply, 
 use Rattle.opt_session.specs.Histories.{last_mark}
 use Rattle.opt_session.specs.Issued.{IssuesLast}
 use Rattle.optfs.specs.Disks.{IsOpened}
-use Rattle.optfs.specs.Output.{Serves, says}
-use Rattle.optfs.specs.Running.{Ran, Records, GoesOnWith, RunLaws, KnownRun, IsAnswered}
+use Rattle.optfs.specs.Behaving.{Pace}
+use Rattle.optfs.specs.Output.{Serves, ServesBy, Setting, says}
+use Rattle.optfs.specs.Running.{Ran, PacedRun, Records, GoesOnWith, RunLaws, KnownRun, IsAnswered, pace_of}
 use Rattle.optfs.proofs.Entries.{front_on, one_entry, first_line}
 use Rattle.optfs.proofs.MountLemmas.{honest_alike}
+use Rattle.optfs.proofs.Paces.{paced_on}
 
 -- Runs joined.
 
@@ -197,7 +200,10 @@ module _ (g : Geometry) (laws : RunLaws g) (base : Blocks) (log : List Event) (m
         is = refl;
       }
 
-module _ (g : Geometry) (laws : RunLaws g) (s : State) (mounted : ℕ) (cmds : List Cmd) (replies : List Reply) (marks : List ℕ) (ran : Ran g mounted cmds replies marks s) (known : KnownRun g s mounted cmds replies marks) where
+module _ (set : Setting) (laws : RunLaws set.shape) (s : State) (mounted : ℕ) (cmds : List Cmd) (replies : List Reply) (marks : List ℕ) (ran : Ran set.shape mounted cmds replies marks s) (paced : PacedRun set.manner mounted cmds replies marks s) (known : KnownRun set.shape s mounted cmds replies marks) where
+  abbrev g : Geometry
+  g = set.shape
+
   abbrev later : List Cmd → List Reply
   later more = ending_replies s.books.stopped more
 
@@ -217,7 +223,10 @@ module _ (g : Geometry) (laws : RunLaws g) (s : State) (mounted : ℕ) (cmds : L
     answers = each_append IsReply replies (later more) ran.answers (replies_end s.books.stopped more);
   }
 
-  here : Each IsCommand cmds → Serves g cmds (front_of (says g s.crash.log mounted cmds replies marks))
+  abbrev text : List ℕ
+  text = front_of (says set.shape s.crash.log mounted cmds replies marks)
+
+  here : Each IsCommand cmds → Serves g cmds text
   here = serves g laws s.crash.base s.crash.log mounted cmds replies marks (record {
     run = record { run = ran.served.run; stops = ran.served.stops; answered = ran.served.answered; marked = ran.served.marked; ascend = ran.served.ascend; crashes = ran.served.crashes; issued = ran.served.issued };
     first = ran.first;
@@ -233,8 +242,9 @@ module _ (g : Geometry) (laws : RunLaws g) (s : State) (mounted : ℕ) (cmds : L
     answers = ran.answers;
   })
 
-  abbrev text : List ℕ
-  text = front_of (says g s.crash.log mounted cmds replies marks)
+  here_by : Each IsCommand cmds → ServesBy set cmds text
+  unfolding here serves
+  here_by commands = record { served = here commands; goes = record { writes = paced.writes; last = pace_of s; paces = paced.paces; opens = paced.opens; unspent = paced.unspent } }
 
   goes_on : (cmd : Cmd) (more : List Cmd) → GoesOnWith g cmds text cmd more
   goes_on cmd more =
@@ -248,8 +258,8 @@ module _ (g : Geometry) (laws : RunLaws g) (s : State) (mounted : ℕ) (cmds : L
             (serves g laws s.crash.base log mounted (cmds ++ cmd ∷ more) (replies ++ later (cmd ∷ more)) (marks ++ ending_marks (length log) (cmd ∷ more)) (ending (cmd ∷ more)) lawful);
       }
 
-  pub records : Records g cmds text s
-  records = record { mounted = mounted; replies = replies; marks = marks; ran = ran; is = refl; served = here; ends = goes_on }
+  pub records : Records set cmds text s
+  records = record { mounted = mounted; replies = replies; marks = marks; ran = ran; paced = paced; is = refl; served = here_by; ends = goes_on }
 
 -- One command more.
 
@@ -297,24 +307,31 @@ text_on g old new mounted cmds replies marks cmd reply grows answered marked up 
 -- The recording with one command more: its text is that so far, and behind it the entry.
 pub records_on : (cmd : Cmd) (reply : Reply) (old new : State) → IsAnswered cmd reply old new → ((g : Geometry) → geometry_fits g ≡ true → RunLaws g)
     → ((g : Geometry) (mounted : ℕ) (cmds : List Cmd) (replies : List Reply) (marks : List ℕ) → Ran g mounted cmds replies marks new → KnownRun g new mounted cmds replies marks) → IsReply reply
-    → (g : Geometry) (past : List Cmd) (text : List ℕ) → Records g past text old → Records g (past ++ cmd ∷ []) (text ++ entry (drop (length old.crash.log) new.crash.log) cmd reply (length new.crash.log)) new
-records_on cmd reply old new a laws known lawful g past text r =
+    → (set : Setting) (past : List Cmd) (text : List ℕ) → Records set past text old → Records set (past ++ cmd ∷ []) (text ++ entry (drop (length old.crash.log) new.crash.log) cmd reply (length new.crash.log)) new
+records_on cmd reply old new a laws known lawful set past text r =
+    let g = set.shape in
     let ran = ran_on cmd reply old new a lawful g r.mounted past r.replies r.marks r.ran in
-    subst (λ (xs : List ℕ). Records g (past ++ cmd ∷ []) xs new)
+    let paced = paced_on cmd reply old new a.steps a.grows r.replies r.ran.served.goes_on.ended ran.served.goes_on.ended ran.served.goes_on.going set.manner r.ran.after r.mounted past r.marks r.ran.session r.ran.served.ascend r.paced in
+    subst (λ (xs : List ℕ). Records set (past ++ cmd ∷ []) xs new)
     (text_on g old.crash.log new.crash.log r.mounted past r.replies r.marks cmd reply a.grows r.ran.served.answered r.ran.served.marked r.ran.served.ascend
     ∙ ap (λ (xs : List ℕ). xs ++ entry (drop (length old.crash.log) new.crash.log) cmd reply (length new.crash.log)) (sym r.is))
-    (records g (laws g r.ran.fits) new r.mounted (past ++ cmd ∷ []) (r.replies ++ reply ∷ []) (r.marks ++ length new.crash.log ∷ []) ran
+    (records set (laws g r.ran.fits) new r.mounted (past ++ cmd ∷ []) (r.replies ++ reply ∷ []) (r.marks ++ length new.crash.log ∷ []) ran paced
     (known g r.mounted (past ++ cmd ∷ []) (r.replies ++ reply ∷ []) (r.marks ++ length new.crash.log ∷ []) ran))
+
+none_is : {A : Type 0} (i : ℕ) (x : A) → slice_get [] i ≡ Some x → ⊥
+none_is zero x is = cc
+none_is (suc i) x is = cc
 
 -- The first moment of a recording: the mount's events, and no command.
 
 pub front_at_first : (g : Geometry) (log : List Event) → front_of (says g log (length log) [] [] []) ≡ geometry_line g ++ event_lines log
 front_at_first g log = append-nil (geometry_line g ++ event_lines (take (length log) log)) ∙ ap (λ (es : List Event). geometry_line g ++ event_lines es) (take_all (length log) log (omega arith))
 
-pub at_first : (g : Geometry) (s : State) → geometry_fits g ≡ true → IsOpened g s → ((k : Geometry) → geometry_fits k ≡ true → RunLaws k)
+pub at_first : (set : Setting) (s : State) → geometry_fits set.shape ≡ true → IsOpened set s → ((k : Geometry) → geometry_fits k ≡ true → RunLaws k)
     → ((k : Geometry) (mounted : ℕ) (cmds : List Cmd) (replies : List Reply) (marks : List ℕ) → Ran k mounted cmds replies marks s → KnownRun k s mounted cmds replies marks)
-    → Records g [] (geometry_line g ++ event_lines s.crash.log) s
-at_first g s fits opened laws known =
+    → Records set [] (geometry_line set.shape ++ event_lines s.crash.log) s
+at_first set s fits opened laws known =
+    let g = set.shape in
     let ran : Ran g (length s.crash.log) [] [] [] s = record {
       served = opened.served;
       first = room_of s;
@@ -329,4 +346,12 @@ at_first g s fits opened laws known =
       events = opened.events;
       answers = tt;
     } in
-    subst (λ (xs : List ℕ). Records g [] xs s) (front_at_first g s.crash.log) (records g (laws g fits) s (length s.crash.log) [] [] [] ran (known g (length s.crash.log) [] [] [] ran))
+    let paced : PacedRun set.manner (length s.crash.log) [] [] [] s = record {
+      manner = opened.manner;
+      writes = opened.writes;
+      paces = ap₂ (λ (n : ℕ) (over : Bool). record { polls = n; events = length s.crash.log; over = over }) opened.polls (opened.served.goes_on.going (λ i is. none_is i _ is));
+      opens = opened.opens;
+      turns = omega (arith, opened.turns);
+      unspent = λ i few is. none_is i _ is;
+    } in
+    subst (λ (xs : List ℕ). Records set [] xs s) (front_at_first g s.crash.log) (records set (laws g fits) s (length s.crash.log) [] [] [] ran paced (known g (length s.crash.log) [] [] [] ran))

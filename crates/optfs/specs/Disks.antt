@@ -1,5 +1,5 @@
 -- The disk of a recording: how it behaves, and what it is before and after its mount. Only private contracts speak of it.
-use Rattle.std.specs.Prelude.{◌≡◌, ℕ, ◌^◌, ◌<◌, List, [], ◌∷◌, length, Option, Some, None}
+use Rattle.std.specs.Prelude.{◌≡◌, ◌⊎◌, ℕ, ◌^◌, ◌<◌, ◌≤◌, IsTrue, [], length, Some}
 use Rattle.opt_disk.specs.Crash.{Window}
 use Rattle.opt_disk.specs.Disk as disk
 use Rattle.opt_disk.specs.Disk.{writes_in}
@@ -7,17 +7,13 @@ use Rattle.opt_disk.specs.Lawful.{IsLogOf}
 use Rattle.opt_geom.specs.Geometry.{Geometry}
 use Rattle.opt_journal.specs.Formatted.{formatted}
 use Rattle.opt_journal.specs.Run.{live_part}
-use Rattle.opt_memdisk.specs.declared.calls.DiskCall.TheVariants.{Write}
-use Rattle.opt_memdisk.specs.declared.calls.Fail.{Fail}
-use Rattle.opt_memdisk.specs.declared.rule.Rule.{Rule}
-use Rattle.opt_memdisk.specs.declared.rule.Rule.TheVariants as rules
 use Rattle.opt_memdisk.specs.Choice.{AreBlocksOf}
-use Rattle.opt_memdisk.specs.MemDisk.{MemDiskState, begun, by_rule}
-use Rattle.opt_words.specs.declared.request.Notices.{Notices}
-use Rattle.opt_words.specs.declared.request.Notices.TheVariants as words
+use Rattle.opt_memdisk.specs.MemDisk.{MemDiskState, begun, by_rule, manner_by}
+use Rattle.opt_disk.specs.Manner.{GoesBy}
 use Rattle.opt_stands.specs.Stands.{StandsFor}
 use Rattle.opt_tree.specs.Step.{start}
 use Rattle.opt_crash.specs.Ledger.{HoldsUnder}
+use Rattle.opt_crash.specs.Opening.{StopsAtOne, WritesOne}
 use Rattle.opt_blocks.specs.Crashes.{IsBegun}
 use Rattle.opt_blocks.specs.State.{State}
 use Rattle.opt_store.specs.Mounting.{BeginsWith}
@@ -26,33 +22,29 @@ use Rattle.opt_fs.specs.Room.{IsFirstRoom}
 use Rattle.opt_session.specs.Budget.{KeepsBudget}
 use Rattle.opt_session.specs.Crashes.{IsCrashConsistent}
 use Rattle.opt_session.specs.Serving.{HasServed}
+use Rattle.optfs.specs.Behaving.{MountFails, fails_of, rule_of}
+use Rattle.optfs.specs.Output.{Setting}
 use Rattle.optfs.specs.declared.disk.Behaviour.{Behaviour}
-
--- the rule of a disk in memory that the words name
-abbrev pub rule_of : Notices → Rule
-rule_of words.Silent = rules.Silent
-rule_of words.Fifo = rules.Fifo
-rule_of (words.Seed seed) = rules.Seed seed
-
--- the calls that are to fail: the write of this number, or none
-abbrev pub fails_of : Option ℕ → List Fail
-fails_of None = []
-fails_of (Some write) = record { kind = Write; nth = write } ∷ []
 
 -- A disk in memory that has the formatted disk's blocks and behaves so. No call of it was made yet.
 pub record IsFormattedDisk (g : Geometry) (b : Behaviour) (d : MemDiskState) : Type 0 where
   pub blocks : AreBlocksOf g.n (formatted g) d.base
-  pub behaves : d ≡ record (begun d.base b.room) { notices = by_rule (rule_of b.notices); fails = fails_of b.fail }
+  pub behaves : d ≡ record (begun d.base b.room) { notices = by_rule (rule_of b.notices); fails = fails_of b.fail; known = Some (rule_of b.notices) }
+
+-- a disk of this geometry that behaves so
+abbrev pub setting_on : Geometry → Behaviour → Setting
+setting_on g b = record { shape = g; manner = manner_by b.room (fails_of b.fail) (rule_of b.notices) }
 
 -- a disk that began as the formatted disk of this geometry
 pub record BeganFormatted (g : Geometry) (d : disk.State) : Type 0 where
   pub size : d.blocks ≡ g.n
   pub base : (b : ℕ) → b < g.n → d.base b ≡ formatted g b
 
--- the same, and nothing was written to it yet
+-- the same; nothing was written to it yet, and it wasn't polled
 pub record IsFormatted (g : Geometry) (d : disk.State) : Type 0 where
   pub began : BeganFormatted g d
   pub nothing : d.log ≡ []
+  pub polls : d.polls ≡ 0
 
 -- Each honest image of each moment of such a disk's log so far holds the formatted disk's live blocks.
 pub record HoldsRoot (g : Geometry) (d : disk.State) : Type 0 where
@@ -65,25 +57,39 @@ pub record ShowsRoot (g : Geometry) (s : State) : Type 0 where
   pub base : (b : ℕ) → b < g.n → s.crash.base b ≡ formatted g b
   pub images : Window g.n s.crash.base s.crash.log 0 (λ img. HoldsUnder g.n g img (live_part g (formatted g)))
 
--- A map of blocks that was mounted on such a disk: nothing was done yet, and it begins with those live blocks.
+-- A map of blocks that was mounted on such a disk: nothing was done yet, the disk wasn't polled, and it begins with those live blocks.
 pub record IsMounted (g : Geometry) (s : State) : Type 0 where
   pub begun : IsBegun s
   pub begins : BeginsWith g (live_part g (formatted g)) s
   pub shows : ShowsRoot g s
+  pub polls : s.counts.ticks.polls ≡ 0
+  pub first : WritesOne [] s.crash.log
+  pub turns : s.books.turns ≤ 3
 
 -- A file system that was opened on such blocks: it has answered no command, its writes so far are those of the mount, and nothing is taken.
-pub record IsOpened (g : Geometry) (s : State) : Type 0 where
-  pub served : HasServed g (start g.i).tree (length s.crash.log) [] [] [] s
-  pub budget : KeepsBudget g (start g.i).tree (writes_in s.crash.log) [] [] s
-  pub room : IsFirstRoom g (room_of s)
-  pub base : (b : ℕ) → b < g.n → s.crash.base b ≡ formatted g b
-  pub lawful : IsLogOf g.n s.crash.log
+pub record IsOpened (set : Setting) (s : State) : Type 0 where
+  pub served : HasServed set.shape (start set.shape.i).tree (length s.crash.log) [] [] [] s
+  pub budget : KeepsBudget set.shape (start set.shape.i).tree (writes_in s.crash.log) [] [] s
+  pub room : IsFirstRoom set.shape (room_of s)
+  pub base : (b : ℕ) → b < set.shape.n → s.crash.base b ≡ formatted set.shape b
+  pub lawful : IsLogOf set.shape.n s.crash.log
   pub events : length s.crash.log < 2 ^ 64
+  pub polls : s.counts.ticks.polls ≡ 0
+  pub manner : s.counts.ticks.manner ≡ set.manner
+  pub writes : GoesBy set.manner s.crash.log
+  pub opens : IsTrue (set.manner.accepts [])
+  pub turns : s.books.turns ≤ 3
 
--- A disk whose mount failed: each honest image of each moment stands for the root alone, so that it is crash consistent with a run of no commands.
-pub record FailedToMount (g : Geometry) (d : disk.State) : Type 0 where
-  pub began : BeganFormatted g d
-  pub images : Window g.n d.base d.log 0 (λ img. StandsFor g.n img (start g.i).tree)
-  pub consistent : IsCrashConsistent g.n g.i (formatted g) d.log (length d.log) [] [] []
-  pub lawful : IsLogOf g.n d.log
+-- a call of the disk has failed: some read; or just now another call, at the disk's first write
+abbrev pub HasFault : disk.State → Type 0
+HasFault d = (0 < d.read_faults) ⊎ (disk.HasFailed d × StopsAtOne d.manner [] d.log)
+
+-- A disk whose mount failed: each honest image of each moment stands for the root alone, so that it is crash consistent with a run of no commands. It went by its manner.
+pub record FailedToMount (set : Setting) (d : disk.State) : Type 0 where
+  pub began : BeganFormatted set.shape d
+  pub images : Window set.shape.n d.base d.log 0 (λ img. StandsFor set.shape.n img (start set.shape.i).tree)
+  pub consistent : IsCrashConsistent set.shape.n set.shape.i (formatted set.shape) d.log (length d.log) [] [] []
+  pub lawful : IsLogOf set.shape.n d.log
   pub events : length d.log < 2 ^ 64
+  pub writes : GoesBy set.manner d.log
+  pub cause : MountFails set.manner d.log

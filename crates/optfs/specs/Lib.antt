@@ -1,4 +1,5 @@
 pub mod Lines
+pub mod Behaving
 pub mod Running
 pub mod Disks
 pub mod Mounting

@@ -1,6 +1,7 @@
 -- What the program writes for the bytes that it read, status by status. It is described in docs/TRACE.md.
 use Rattle.std.specs.Prelude.{◌≡◌, ℕ, ◌^◌, ◌⊎◌, List, [], ◌++◌, codes, length}
 use Rattle.opt_disk.specs.declared.event.Event.{Event}
+use Rattle.opt_disk.specs.Manner.{Manner, GoesBy}
 use Rattle.opt_geom.specs.Geometry.{Geometry, bitmap_blocks}
 use Rattle.opt_journal.specs.Formatted.{formatted}
 use Rattle.opt_stands.specs.Stands.{StandsFor}
@@ -16,9 +17,15 @@ use Rattle.opt_fs.specs.DiskRoom.{RunsOn}
 use Rattle.opt_session.specs.Budget.{budget_of}
 use Rattle.opt_session.specs.Crashes.{IsCrashConsistent}
 use Rattle.opt_session.specs.Issued.{IssuesLast}
+use Rattle.optfs.specs.Behaving.{MountFails, RunsBy}
 use Rattle.optfs.specs.Lines.{whole_commands, commands_of}
 use Rattle.optfs.specs.declared.status.Status.{Status}
 use Rattle.optfs.specs.declared.status.Status.TheVariants.{Done, Usage, NoMemory, DiskFault, SourceFault, SinkFault, BadShape, LongInput}
+
+-- the disk of a recording: its geometry, and how it behaves
+pub record Setting : Type 0 where
+  pub shape : Geometry
+  pub manner : Manner
 
 -- what the trace of a run on a disk of this geometry says
 abbrev pub says : Geometry → List Event → ℕ → List Cmd → List Reply → List ℕ → Contents
@@ -50,6 +57,11 @@ pub record Serves (g : Geometry) (cmds : List Cmd) (text : List ℕ) : Type 0 wh
 abbrev pub contents : (g : Geometry) (cmds : List Cmd) (text : List ℕ) → Serves g cmds text → Contents
 contents g cmds text s = says g s.log s.mounted cmds s.replies s.marks
 
+-- Such a run on a disk that behaves so: the disk went by its manner, and each command by the disk's.
+pub record ServesBy (set : Setting) (cmds : List Cmd) (text : List ℕ) : Type 0 where
+  pub served : Serves set.shape cmds text
+  pub goes : RunsBy set.manner served.log served.mounted cmds served.replies served.marks
+
 -- the longest line, in bytes
 unfoldable pub longest : ℕ
 longest = 262144
@@ -71,13 +83,15 @@ pub record IsCutShort (S : List Cmd → List ℕ → Type 0) (seen last text : L
 abbrev pub disk_line : List ℕ
 disk_line = codes "error 5 disk\n"
 
--- The text is that of a mount that the disk failed: the events so far, and then the last line. Every crash of it leaves the root alone.
-pub record FailsToMount (g : Geometry) (text : List ℕ) : Type 0 where
+-- The text is that of a mount that the disk failed: the events so far, and then the last line. Every crash of it leaves the root alone. The disk went by its manner, which lets the mount fail so.
+pub record FailsToMount (set : Setting) (text : List ℕ) : Type 0 where
   pub log : List Event
-  pub lawful : AreLawful (says g log (length log) [] [] [])
-  pub begins : StandsFor g.n (formatted g) (start g.i).tree
-  pub consistent : IsCrashConsistent g.n g.i (formatted g) log (length log) [] [] []
-  pub is : text ≡ (front_of (says g log (length log) [] [] []) ++ end_line) ++ disk_line
+  pub lawful : AreLawful (says set.shape log (length log) [] [] [])
+  pub begins : StandsFor set.shape.n (formatted set.shape) (start set.shape.i).tree
+  pub consistent : IsCrashConsistent set.shape.n set.shape.i (formatted set.shape) log (length log) [] [] []
+  pub writes : GoesBy set.manner log
+  pub cause : MountFails set.manner log
+  pub is : text ≡ (front_of (says set.shape log (length log) [] [] []) ++ end_line) ++ disk_line
 
 abbrev pub source_line : List ℕ
 source_line = codes "error 7 source\n"
@@ -102,13 +116,26 @@ IsWhole S source_failed seen text =
 abbrev pub IsFront : (List ℕ → Type 0) → List ℕ → Type 0
 IsFront P text = (rest : List ℕ) × P (text ++ rest)
 
--- What a recording on a disk of this geometry that ended with this status wrote for the bytes that it read, where the source failed or didn't. Where memory ran out before the mount ended, that is nothing.
-abbrev pub Recorded : Geometry → Status → Type 0 → List ℕ → List ℕ → Type 0
-Recorded g Done source_failed seen text = IsTrace (Serves g) seen text
-Recorded g DiskFault source_failed seen text = FailsToMount g text
-Recorded g SourceFault source_failed seen text = IsCutShort (Serves g) seen source_line text
-Recorded g LongInput source_failed seen text = IsCutShort (Serves g) seen long_line text
-Recorded g Usage source_failed seen text = ⊥
-Recorded g BadShape source_failed seen text = ⊥
-Recorded g NoMemory source_failed seen text = (text ≡ []) ⊎ IsFront (IsTrace (Serves g) seen) text
-Recorded g SinkFault source_failed seen text = IsFront (IsWhole (Serves g) source_failed seen) text ⊎ IsFront (FailsToMount g) text
+-- The text begins the trace of the first of these commands, however many these are.
+pub record BeginsFirst (S : List Cmd → List ℕ → Type 0) (cmds : List Cmd) (text : List ℕ) : Type 0 where
+  pub asked : List Cmd
+  pub later : List Cmd
+  pub are : cmds ≡ asked ++ later
+  pub rest : List ℕ
+  pub served : S asked (text ++ rest)
+
+-- The text breaks off in the trace of the bytes as a script on a disk of this geometry, and as far as it goes the disk behaves so.
+pub record IsBrokenOff (set : Setting) (seen text : List ℕ) : Type 0 where
+  pub front : IsFront (IsTrace (Serves set.shape) seen) text
+  pub begins : BeginsFirst (ServesBy set) (commands_of longest seen) text
+
+-- What a recording on such a disk that ended with this status wrote for the bytes that it read, where the source failed or didn't. Where memory ran out before the mount ended, that is nothing.
+abbrev pub Recorded : Setting → Status → Type 0 → List ℕ → List ℕ → Type 0
+Recorded set Done source_failed seen text = IsTrace (ServesBy set) seen text
+Recorded set DiskFault source_failed seen text = FailsToMount set text
+Recorded set SourceFault source_failed seen text = IsCutShort (ServesBy set) seen source_line text
+Recorded set LongInput source_failed seen text = IsCutShort (ServesBy set) seen long_line text
+Recorded set Usage source_failed seen text = ⊥
+Recorded set BadShape source_failed seen text = ⊥
+Recorded set NoMemory source_failed seen text = (text ≡ []) ⊎ IsBrokenOff set seen text
+Recorded set SinkFault source_failed seen text = IsFront (IsWhole (ServesBy set) source_failed seen) text ⊎ (IsBrokenOff set seen text ⊎ IsFront (FailsToMount set) text)

@@ -5,7 +5,9 @@ use Rattle.opt_base.specs.Counts.{Rose}
 use Rattle.opt_geom.specs.Geometry.{Geometry, geometry_fits}
 use Rattle.opt_words.specs.declared.request.Request.{Request}
 use Rattle.opt_words.specs.declared.request.Request.TheVariants.{Record}
-use Rattle.optfs.specs.Output.{Recorded, usage_line, shape_line}
+use Rattle.opt_memdisk.specs.MemDisk.{manner_by}
+use Rattle.optfs.specs.Behaving.{fails_of, rule_of}
+use Rattle.optfs.specs.Output.{Recorded, Setting, usage_line, shape_line}
 use Rattle.optfs.specs.declared.status.Status.{Status}
 use Rattle.optfs.specs.declared.status.Status.TheVariants.{Done, Usage, NoMemory, DiskFault, SourceFault, SinkFault, BadShape, LongInput}
 
@@ -28,13 +30,13 @@ Reads SourceFault seen left left_now = ReadsWithin seen left left_now
 Reads SinkFault seen left left_now = ReadsWithin seen left left_now ⊎ ReadsPast seen left left_now
 Reads LongInput seen left left_now = ReadsPast seen left left_now
 
--- A recording on a disk of this geometry, ended with this status: what it read and wrote.
-pub record RecordsTo (g : Geometry) (status : Status) (left left_now taken taken_now : Option (List ℕ)) (source source_now : ℕ) : Type 0 where
+-- A recording on such a disk, ended with this status: what it read and wrote.
+pub record RecordsTo (set : Setting) (status : Status) (left left_now taken taken_now : Option (List ℕ)) (source source_now : ℕ) : Type 0 where
   pub seen : List ℕ
   pub reads : Reads status seen left left_now
   pub text : List ℕ
   pub writes : Appends taken taken_now text
-  pub output : Recorded g status (Rose source source_now) seen text
+  pub output : Recorded set status (Rose source source_now) seen text
 
 -- The line of this refusal is written; where the sink fails it has a front of that line, and where no memory is found nothing is written.
 abbrev pub Refuses : Status → List ℕ → Status → Option (List ℕ) → Option (List ℕ) → Type 0
@@ -43,19 +45,23 @@ Refuses refusal line status taken taken_now =
     ⊎ (((status ≡ SinkFault) × ((n : ℕ) × Appends taken taken_now (take n line)))
     ⊎ ((status ≡ NoMemory) × (taken_now ≡ taken)))
 
-abbrev pub RecordsWhere : Bool → Geometry → Status → Option (List ℕ) → Option (List ℕ) → Option (List ℕ) → Option (List ℕ) → ℕ → ℕ → Type 0
-RecordsWhere true g status left left_now taken taken_now source source_now = RecordsTo g status left left_now taken taken_now source source_now
-RecordsWhere false g status left left_now taken taken_now source source_now = Refuses BadShape shape_line status taken taken_now
+abbrev pub RecordsWhere : Bool → Setting → Status → Option (List ℕ) → Option (List ℕ) → Option (List ℕ) → Option (List ℕ) → ℕ → ℕ → Type 0
+RecordsWhere true set status left left_now taken taken_now source source_now = RecordsTo set status left left_now taken taken_now source source_now
+RecordsWhere false set status left left_now taken taken_now source source_now = Refuses BadShape shape_line status taken taken_now
 
 -- the geometry that a request asks for
 abbrev pub shape_of : Request → Geometry
 shape_of (Record blocks journal nodes notices room fail) = record { n = blocks; j = journal; i = nodes }
 
+-- the disk that it asks for: of this geometry, with its room, its rule of notices, and the write that is to be lost
+abbrev pub setting_of : Request → Setting
+setting_of (Record blocks journal nodes notices room fail) = record { shape = record { n = blocks; j = journal; i = nodes }; manner = manner_by room (fails_of fail) (rule_of notices) }
+
 -- What the program does for what its words ask: it records on a disk of the geometry, where that fits, and else says so; words that ask for nothing are told the usage.
 abbrev pub Does : Option Request → Status → Option (List ℕ) → Option (List ℕ) → Option (List ℕ) → Option (List ℕ) → ℕ → ℕ → Type 0
 Does None status left left_now taken taken_now source source_now = Refuses Usage usage_line status taken taken_now
 Does (Some request) status left left_now taken taken_now source source_now =
-    RecordsWhere (geometry_fits (shape_of request)) (shape_of request) status left left_now taken taken_now source source_now
+    RecordsWhere (geometry_fits (shape_of request)) (setting_of request) status left left_now taken taken_now source source_now
 
 -- the words ask for a recording on a disk of a geometry that fits
 abbrev pub is_recording : Option Request → Bool

@@ -1,8 +1,9 @@
 -- A run of commands on the disk of a recording, as far as it has come. Only proofs and private contracts speak of it.
-use Rattle.std.specs.Prelude.{◌≡◌, ℕ, ◌^◌, ◌<◌, ◌≤◌, true, List, [], ◌∷◌, ◌++◌, length, take, Option}
+use Rattle.std.specs.Prelude.{◌≡◌, ◌≢◌, ◌⊎◌, ℕ, ◌+◌, ◌*◌, ◌^◌, ◌<◌, ◌≤◌, true, false, IsTrue, slice_get, Some, List, [], ◌∷◌, ◌++◌, length, take, Option}
 use Rattle.std.specs.Io.KnownBytes.{Appends}
 use Rattle.opt_base.specs.Seal.{Blocks}
-use Rattle.opt_disk.specs.Disk.{Grows, writes_in}
+use Rattle.opt_disk.specs.Disk.{Grows, PollsFirst, writes_in}
+use Rattle.opt_disk.specs.Manner.{Manner, GoesBy, HasFailedBy}
 use Rattle.opt_disk.specs.Lawful.{IsLogOf}
 use Rattle.opt_geom.specs.Geometry.{Geometry, geometry_fits, bitmap_blocks}
 use Rattle.opt_journal.specs.Formatted.{formatted}
@@ -11,7 +12,10 @@ use Rattle.opt_script.specs.Values.{IsCommand, IsReply}
 use Rattle.opt_trace.specs.Contents.{Each, front_of}
 use Rattle.opt_trace.specs.Line.{command_line}
 use Rattle.opt_tree.specs.declared.command.Cmd.{Cmd}
+use Rattle.opt_tree.specs.declared.command.Cmd.TheVariants.{Bad}
+use Rattle.opt_tree.specs.declared.command.Refusal.TheVariants.{ReadFault, Spent, Stopped}
 use Rattle.opt_tree.specs.declared.command.Reply.{Reply}
+use Rattle.opt_tree.specs.declared.command.Reply.TheVariants.{Refused}
 use Rattle.opt_tree.specs.Step.{Session, start}
 use Rattle.opt_tree.specs.Tree.{Tree}
 use Rattle.opt_stands.specs.Stands.{StandsFor}
@@ -20,11 +24,13 @@ use Rattle.opt_blocks.specs.State.{State}
 use Rattle.opt_fs.specs.Memory.{room_of}
 use Rattle.opt_fs.specs.Room.{Room, IsFirstRoom}
 use Rattle.opt_fs.specs.DiskRoom.{AnswersOn, IsRoomOf, RunsOn}
+use Rattle.opt_fs.specs.Applying.{is_spent}
 use Rattle.opt_fs.specs.Sessions.{IsSession}
 use Rattle.opt_session.specs.Budget.{KeepsBudget, budget_of}
 use Rattle.opt_session.specs.Ending.{HasRun, ending_marks, ending_replies}
 use Rattle.opt_session.specs.Serving.{HasServed}
-use Rattle.optfs.specs.Output.{Serves, says}
+use Rattle.optfs.specs.Behaving.{Pace, PacesBy, pace_at_first}
+use Rattle.optfs.specs.Output.{BeginsFirst, Serves, ServesBy, Setting, says}
 
 -- These commands were answered with these replies, at these marks, since a disk that was formatted with this geometry was mounted; and so much is known of the blocks now.
 pub record Ran (g : Geometry) (mounted : ℕ) (cmds : List Cmd) (replies : List Reply) (marks : List ℕ) (s : State) : Type 0 where
@@ -56,6 +62,32 @@ pub record KnownRun (g : Geometry) (s : State) (mounted : ℕ) (cmds : List Cmd)
   pub room : (f : Session) → IsSession s f → IsRoomOf g f (room_of s)
   pub ends : (more : List Cmd) → HasRun g (start g.i).tree s.crash.base s.crash.log mounted (cmds ++ more) (replies ++ ending_replies s.books.stopped more) (marks ++ ending_marks (length s.crash.log) more)
 
+-- how far a run has come over these blocks
+abbrev pub pace_of : State → Pace
+pace_of s = record { polls = s.counts.ticks.polls; events = length s.crash.log; over = s.books.stopped }
+
+-- These commands were answered so on a disk of this manner, and so far have they come.
+pub record PacedRun (m : Manner) (mounted : ℕ) (cmds : List Cmd) (replies : List Reply) (marks : List ℕ) (s : State) : Type 0 where
+  pub manner : s.counts.ticks.manner ≡ m
+  pub writes : GoesBy m s.crash.log
+  pub paces : PacesBy m s.crash.log (pace_at_first mounted) cmds replies marks (pace_of s)
+  pub opens : IsTrue (m.accepts [])
+  -- the journal's numbers rise little with each command, so that none is spent
+  pub turns : s.books.turns ≤ 3 + length replies * 2 ^ 20
+  pub unspent : (i : ℕ) → i < 2 ^ 40 → slice_get replies i ≡ Some (Refused Spent) → ⊥
+
+-- what the disk did for one command
+pub record StepsOn (cmd : Cmd) (reply : Reply) (old new : State) : Type 0 where
+  pub manner : new.counts.ticks.manner ≡ old.counts.ticks.manner
+  pub writes : GoesBy new.counts.ticks.manner new.crash.log
+  pub rests : (cmd ≡ Bad) ⊎ (old.books.stopped ≡ true) → (new.counts.ticks.polls ≡ old.counts.ticks.polls) × ((new.crash.log ≡ old.crash.log) × (new.books.stopped ≡ old.books.stopped))
+  pub ticks : cmd ≢ Bad → old.books.stopped ≡ false → reply ≢ Refused Spent → PollsFirst old.counts.ticks.manner 64 old.counts.ticks.polls old.crash.log new.counts.ticks.polls new.crash.log
+  pub turns : new.books.turns ≤ old.books.turns + 2 ^ 20
+  pub spent : (f : Session) → IsSession old f → reply ≡ Refused Spent → is_spent old.books ≡ true
+  pub stops : (f : Session) → IsSession old f → reply ≡ Refused Stopped → old.books.stopped ≡ true
+  pub reads : (f : Session) → IsSession old f → reply ≡ Refused ReadFault → new.counts.ticks.manner.reads_fail ≡ true
+  pub fails : new.books.stopped ≡ true → ∥ HasFailedBy new.counts.ticks.manner new.crash.log ∥₁
+
 -- how a command was answered, and what came with it
 pub record IsAnswered (cmd : Cmd) (reply : Reply) (old new : State) : Type 0 where
   pub serves : (g : Geometry) (t : Tree) (mounted : ℕ) (cmds : List Cmd) (replies : List Reply) (marks : List ℕ) → HasServed g t mounted cmds replies marks old → HasServed g t mounted (cmds ++ cmd ∷ []) (replies ++ reply ∷ []) (marks ++ length new.crash.log ∷ []) new
@@ -65,6 +97,7 @@ pub record IsAnswered (cmd : Cmd) (reply : Reply) (old new : State) : Type 0 whe
   pub grows : Grows old.crash.log new.crash.log
   pub lawful : IsLogOf new.books.geom.n new.crash.log
   pub events : length new.crash.log < 2 ^ 64
+  pub steps : StepsOn cmd reply old new
 
 -- However the commands go on behind these, with such a command first, the text and that command's line begin the trace of some run.
 pub record GoesOnWith (g : Geometry) (cmds : List Cmd) (text : List ℕ) (cmd : Cmd) (more : List Cmd) : Type 0 where
@@ -72,32 +105,34 @@ pub record GoesOnWith (g : Geometry) (cmds : List Cmd) (text : List ℕ) (cmd : 
   pub served : Each IsCommand (cmds ++ cmd ∷ more) → Serves g (cmds ++ cmd ∷ more) ((text ++ command_line (command_text cmd)) ++ rest)
 
 -- These commands were answered so far, and this text begins their trace.
-pub record Records (g : Geometry) (cmds : List Cmd) (text : List ℕ) (s : State) : Type 0 where
+pub record Records (set : Setting) (cmds : List Cmd) (text : List ℕ) (s : State) : Type 0 where
   pub mounted : ℕ
   pub replies : List Reply
   pub marks : List ℕ
-  pub ran : Ran g mounted cmds replies marks s
-  pub is : text ≡ front_of (says g s.crash.log mounted cmds replies marks)
-  pub served : Each IsCommand cmds → Serves g cmds text
-  pub ends : (cmd : Cmd) (more : List Cmd) → GoesOnWith g cmds text cmd more
+  pub ran : Ran set.shape mounted cmds replies marks s
+  pub paced : PacedRun set.manner mounted cmds replies marks s
+  pub is : text ≡ front_of (says set.shape s.crash.log mounted cmds replies marks)
+  pub served : Each IsCommand cmds → ServesBy set cmds text
+  pub ends : (cmd : Cmd) (more : List Cmd) → GoesOnWith set.shape cmds text cmd more
 
 -- More was answered, and the sink took the text that came with it.
-pub record RecordsOn (g : Geometry) (cmds : List Cmd) (text : List ℕ) (s : State) (before after : Option (List ℕ)) : Type 0 where
+pub record RecordsOn (set : Setting) (cmds : List Cmd) (text : List ℕ) (s : State) (before after : Option (List ℕ)) : Type 0 where
   pub piece : List ℕ
   pub told : Appends before after piece
-  pub records : Records g cmds (text ++ piece) s
+  pub records : Records set cmds (text ++ piece) s
 
--- The sink took some text more, with which the trace of some run of these commands begins.
-pub record BreaksOff (g : Geometry) (cmds : List Cmd) (text : List ℕ) (before after : Option (List ℕ)) : Type 0 where
+-- The sink took some text more, with which the trace of some run of these commands begins; and that of the first of them begins with it.
+pub record BreaksOff (set : Setting) (cmds : List Cmd) (text : List ℕ) (before after : Option (List ℕ)) : Type 0 where
   pub piece : List ℕ
   pub rest : List ℕ
   pub told : Appends before after piece
-  pub served : Each IsCommand cmds → Serves g cmds ((text ++ piece) ++ rest)
+  pub served : Each IsCommand cmds → Serves set.shape cmds ((text ++ piece) ++ rest)
+  pub begins : Each IsCommand cmds → BeginsFirst (ServesBy set) cmds (text ++ piece)
 
 -- these commands are answered behind those that were, whatever they are
 abbrev pub ServesFrom : List Cmd → State → State → Option (List ℕ) → Option (List ℕ) → Type 0
-ServesFrom cmds old new before after = (g : Geometry) (past : List Cmd) (text : List ℕ) → Records g past text old → RecordsOn g (past ++ cmds) text new before after
+ServesFrom cmds old new before after = (set : Setting) (past : List Cmd) (text : List ℕ) → Records set past text old → RecordsOn set (past ++ cmds) text new before after
 
 -- the recording breaks off in these commands, whatever comes behind them
 abbrev pub TriesFrom : List Cmd → State → Option (List ℕ) → Option (List ℕ) → Type 0
-TriesFrom cmds old before after = (g : Geometry) (past more : List Cmd) (text : List ℕ) → Records g past text old → BreaksOff g ((past ++ cmds) ++ more) text before after
+TriesFrom cmds old before after = (set : Setting) (past more : List Cmd) (text : List ℕ) → Records set past text old → BreaksOff set ((past ++ cmds) ++ more) text before after

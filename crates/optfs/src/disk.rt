@@ -3,7 +3,8 @@
 
 ghost use Rattle.std.specs.Prelude.{◌≡◌, IfOk};
 ghost use Rattle.opt_memdisk.specs.declared.calls.DiskCall.TheVariants.{Write};
-ghost use Rattle.optfs.specs.Disks.{IsFormattedDisk, fails_of, rule_of};
+ghost use Rattle.optfs.specs.Behaving.{fails_of, rule_of};
+ghost use Rattle.optfs.specs.Disks.{IsFormattedDisk};
 
 use crate::formatting::formatted_image;
 use opt_base::NoMemory;

@@ -1,12 +1,13 @@
 //! The mount of the disk of a recording, and the file system that is opened on it. A formatted disk is refused by
 //! neither, but for a call of the disk that fails and for want of memory.
 
-ghost use Rattle.std.specs.Prelude.{◌≡◌, ◌<◌, ◌^◌, length, IfOk};
+ghost use Rattle.std.specs.Prelude.{◌≡◌, ◌<◌, ◌^◌, true, length, IfOk};
 ghost use Rattle.opt_disk.specs.Lawful.{IsLogOf};
+ghost use Rattle.opt_disk.specs.Manner.{GoesBy, HasFailedBy};
 ghost use Rattle.opt_memdisk.specs.MemDisk.{state_of as disk_state};
 ghost use Rattle.opt_store.specs.StoreOf.{state_of};
 ghost use Rattle.opt_fs.specs.Opened.{blocks_in};
-ghost use Rattle.optfs.specs.Disks.{HoldsRoot, IsFormatted, IsMounted, ShowsRoot};
+ghost use Rattle.optfs.specs.Disks.{HasFault, HoldsRoot, IsFormatted, IsMounted, ShowsRoot};
 ghost use Rattle.optfs.specs.Mounting.{Mounts};
 
 use opt_base::NoMemory;
@@ -41,7 +42,7 @@ pub enum Mounted {
 /// Out of memory.
 pub fn mount(alloc: Global, geom: &Geom, disk: MemDisk) -> Result<Mounted, NoMemory>
     requires { IsFormatted geom.now (disk_state disk) }
-    ensures { IfOk result (λ mounted. Mounts geom.now mounted) }
+    ensures { IfOk result (λ mounted. Mounts (record { shape = geom.now; manner = (disk_state disk).manner }) mounted) }
 {
     geom.lawful();
     the_formatted_disk_is_empty();
@@ -71,7 +72,7 @@ pub fn mount(alloc: Global, geom: &Geom, disk: MemDisk) -> Result<Mounted, NoMem
 /// Out of memory.
 fn open(alloc: Global, geom: &Geom, store: Store<MemDisk>) -> Result<Mounted, NoMemory>
     requires { IsMounted geom.now (state_of disk_state store) }
-    ensures { IfOk result (λ mounted. Mounts geom.now mounted) }
+    ensures { IfOk result (λ mounted. Mounts (record { shape = geom.now; manner = (state_of disk_state store).counts.ticks.manner }) mounted) }
 {
     geom.lawful();
     the_formatted_disk_is_empty();
@@ -80,7 +81,7 @@ fn open(alloc: Global, geom: &Geom, store: Store<MemDisk>) -> Result<Mounted, No
     nothing_is_taken_at_first::<Store<MemDisk>>();
     match Served::open(alloc, store) {
         Ok(system) => {
-            the_log_is_lawful(&system);
+            the_disk_keeps_to_its_manner(&system);
             Ok(Mounted::Opened(system))
         }
         Err((store, CheckRefusal::ReadFault)) => Ok(unread(geom, store)),
@@ -91,8 +92,9 @@ fn open(alloc: Global, geom: &Geom, store: Store<MemDisk>) -> Result<Mounted, No
 
 /// What came of a mount whose file system couldn't be read.
 fn unread(geom: &Geom, store: Store<MemDisk>) -> Mounted
-    requires { ShowsRoot geom.now (state_of disk_state store) }
-    ensures { Mounts geom.now result }
+    requires shows { ShowsRoot geom.now (state_of disk_state store) }
+    requires read { 0 < (state_of disk_state store).counts.read_faults }
+    ensures { Mounts (record { shape = geom.now; manner = (state_of disk_state store).counts.ticks.manner }) result }
 {
     // a call for its clause alone: how many blocks the disk has
     let _ = store.disk();
@@ -101,31 +103,39 @@ fn unread(geom: &Geom, store: Store<MemDisk>) -> Mounted
 
 /// What came of a mount in which a call of the disk failed.
 fn failed(geom: &Geom, disk: MemDisk) -> Mounted
-    requires { HoldsRoot geom.now (disk_state disk) }
-    ensures { Mounts geom.now result }
+    requires holds { HoldsRoot geom.now (disk_state disk) }
+    requires fault { HasFault (disk_state disk) }
+    ensures { Mounts (record { shape = geom.now; manner = (disk_state disk).manner }) result }
 {
     geom.lawful();
     the_formatted_disk_stands_for_the_root();
     the_data_of_a_formatted_disk_may_be_anything();
     an_image_stands_for_one_tree();
-    a_disk_has_a_lawful_log(&disk);
+    a_disk_keeps_to_its_manner(&disk);
     Mounted::Failed(disk)
 }
 
 /// The log of the disk under a file system is one of as many blocks as the geometry says, and the number of its
-/// events has 64 bits. This does nothing.
-pub fn the_log_is_lawful(system: &System)
+/// events has 64 bits. The disk keeps to its manner; and where a call of it failed, it was the last one. This does
+/// nothing.
+pub fn the_disk_keeps_to_its_manner(system: &System)
     ensures log { IsLogOf (state_of disk_state (blocks_in system.now)).books.geom.n (state_of disk_state (blocks_in system.now)).crash.log }
     ensures events { length (state_of disk_state (blocks_in system.now)).crash.log < 2 ^ 64 }
+    ensures writes { GoesBy (state_of disk_state (blocks_in system.now)).counts.ticks.manner (state_of disk_state (blocks_in system.now)).crash.log }
+    ensures reads { 0 < (state_of disk_state (blocks_in system.now)).counts.read_faults → (state_of disk_state (blocks_in system.now)).counts.ticks.manner.reads_fail ≡ true }
+    ensures fails { (state_of disk_state (blocks_in system.now)).books.stopped ≡ true → ∥ HasFailedBy (state_of disk_state (blocks_in system.now)).counts.ticks.manner (state_of disk_state (blocks_in system.now)).crash.log ∥₁ }
 {
-    a_disk_has_a_lawful_log(system.blocks().disk());
+    system.blocks().lawful();
+    a_disk_keeps_to_its_manner(system.blocks().disk());
 }
 
-/// The log of a disk is a lawful one of its number of blocks, and the number of its events has 64 bits. This does
-/// nothing.
-fn a_disk_has_a_lawful_log(disk: &MemDisk)
+/// The log of a disk is a lawful one of its number of blocks, and the number of its events has 64 bits. Its writes are
+/// accepted and lost as its manner has it, and a read has failed only where one may. This does nothing.
+fn a_disk_keeps_to_its_manner(disk: &MemDisk)
     ensures log { IsLogOf (disk_state disk.now).blocks (disk_state disk.now).log }
     ensures events { length (disk_state disk.now).log < 2 ^ 64 }
+    ensures writes { GoesBy (disk_state disk.now).manner (disk_state disk.now).log }
+    ensures reads { 0 < (disk_state disk.now).read_faults → (disk_state disk.now).manner.reads_fail ≡ true }
 {
     disk.lawful();
     let _ = disk.moment();

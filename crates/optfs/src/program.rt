@@ -6,16 +6,17 @@
 ghost use Rattle.std.specs.Prelude.{◌≡◌, ℕ, ◌^◌, ◌≤◌, true, false, List, [], ◌++◌, take, Option, IfOk, IsOk, OnOk, OnErr, ◌↔◌};
 ghost use Rattle.std.specs.Io.KnownBytes.{Appends};
 ghost use Rattle.opt_base.specs.Counts.{HasCause};
+ghost use Rattle.opt_disk.specs.Manner.{Manner};
 ghost use Rattle.opt_geom.specs.Geometry.{geometry_fits};
 ghost use Rattle.opt_memdisk.specs.MemDisk.{state_of as disk_state};
 ghost use Rattle.opt_store.specs.StoreOf.{state_of};
 ghost use Rattle.opt_fs.specs.Opened.{blocks_in};
 ghost use Rattle.opt_trace.specs.Line.{geometry_line, event_lines, end_line};
 ghost use Rattle.opt_words.specs.Words.{request_of};
-ghost use Rattle.optfs.specs.Disks.{FailedToMount, IsOpened};
+ghost use Rattle.optfs.specs.Disks.{FailedToMount, IsOpened, setting_on};
 ghost use Rattle.optfs.specs.Follows.{StopsByCause};
 ghost use Rattle.optfs.specs.Mounting.{Mounts};
-ghost use Rattle.optfs.specs.Program.{Does, HasFault, RecordsTo, Tells, is_recording, shape_of};
+ghost use Rattle.optfs.specs.Program.{Does, HasFault, RecordsTo, Tells, is_recording, setting_of, shape_of};
 ghost use Rattle.optfs.specs.Reading.{AtEnding, Halted};
 
 use crate::disk::{Behaviour, formatted_disk};
@@ -87,7 +88,9 @@ fn geometry(request: Request) -> Result<Geom, BadShape>
 }
 
 /// How the disk is to behave that a request asks for.
-fn behaviour(request: Request) -> Behaviour {
+fn behaviour(request: Request) -> Behaviour
+    ensures { setting_on (shape_of request) result ≡ setting_of request }
+{
     match request {
         Request::Record {
             notices,
@@ -110,7 +113,7 @@ fn record<S: Source, K: Sink>(
     input: &mut S,
     out: &mut K,
 ) -> Status
-    ensures records { RecordsTo geom.now result (S.remaining input.old) (S.remaining input.new)
+    ensures records { RecordsTo (setting_on geom.now behaviour.now) result (S.remaining input.old) (S.remaining input.new)
         (K.taken out.old) (K.taken out.new) (S.faults input.old) (S.faults input.new) }
     ensures faults { HasFault result (S.faults input.old) (S.faults input.new) (K.faults out.old) (K.faults out.new) }
     ensures counts { (S.faults input.old ≤ S.faults input.new) × (K.faults out.old ≤ K.faults out.new) }
@@ -127,7 +130,7 @@ fn record<S: Source, K: Sink>(
 /// # Errors
 /// Out of memory.
 fn begin(alloc: Global, geom: &Geom, behaviour: &Behaviour) -> Result<Mounted, NoMemory>
-    ensures { IfOk result (λ mounted. Mounts geom.now mounted) }
+    ensures { IfOk result (λ mounted. Mounts (setting_on geom.now behaviour.now) mounted) }
 {
     let disk = formatted_disk(alloc, geom, behaviour)?;
     let mounted = mount(alloc, geom, disk)?;
@@ -136,8 +139,8 @@ fn begin(alloc: Global, geom: &Geom, behaviour: &Behaviour) -> Result<Mounted, N
 
 /// Writes the whole output of a mount that failed: what the trace has of it, and the last line.
 fn tell_failed_mount<K: Sink>(geom: &Geom, disk: &MemDisk, out: &mut K) -> Status
-    requires failed { FailedToMount geom.now (disk_state disk.now) }
-    ensures records { (left : Option (List ℕ)) (source : ℕ) → RecordsTo geom.now result left left (K.taken out.old) (K.taken out.new) source source }
+    ensures records { (m : Manner) (left : Option (List ℕ)) (source : ℕ) → FailedToMount (record { shape = geom.now; manner = m }) (disk_state disk.now)
+        → RecordsTo (record { shape = geom.now; manner = m }) result left left (K.taken out.old) (K.taken out.new) source source }
     ensures faults { (source : ℕ) → HasFault result source source (K.faults out.old) (K.faults out.new) }
     ensures counts { K.faults out.old ≤ K.faults out.new }
 {
@@ -171,8 +174,9 @@ fn record_on<S: Source, K: Sink>(
     input: &mut S,
     out: &mut K,
 ) -> Status
-    requires opened { IsOpened geom.now (state_of disk_state (blocks_in system)) }
-    ensures records { RecordsTo geom.now result (S.remaining input.old) (S.remaining input.new)
+    requires opened { (m : Manner) × IsOpened (record { shape = geom.now; manner = m }) (state_of disk_state (blocks_in system)) }
+    ensures records { (m : Manner) → IsOpened (record { shape = geom.now; manner = m }) (state_of disk_state (blocks_in system))
+        → RecordsTo (record { shape = geom.now; manner = m }) result (S.remaining input.old) (S.remaining input.new)
         (K.taken out.old) (K.taken out.new) (S.faults input.old) (S.faults input.new) }
     ensures faults { HasFault result (S.faults input.old) (S.faults input.new) (K.faults out.old) (K.faults out.new) }
     ensures counts { (S.faults input.old ≤ S.faults input.new) × (K.faults out.old ≤ K.faults out.new) }
@@ -198,10 +202,11 @@ fn record_lines<S: Source, K: Sink>(
     input: &mut S,
     out: &mut K,
 ) -> Result<Ending, Stop>
-    requires opened { IsOpened geom.now (state_of disk_state (blocks_in system)) }
-    ensures ok { IfOk result (λ ending. AtEnding geom.now ending (S.faults input.old) (S.faults input.new)
+    ensures ok { IfOk result (λ ending. (m : Manner) → IsOpened (record { shape = geom.now; manner = m }) (state_of disk_state (blocks_in system))
+        → AtEnding (record { shape = geom.now; manner = m }) ending (S.faults input.old) (S.faults input.new)
         (S.remaining input.old) (S.remaining input.new) (K.taken out.old) (K.taken out.new)) }
-    ensures err { OnErr result (Halted geom.now (2 ^ 30) (S.remaining input.old) (S.remaining input.new) (K.taken out.old) (K.taken out.new)) }
+    ensures err { OnErr result ((m : Manner) → IsOpened (record { shape = geom.now; manner = m }) (state_of disk_state (blocks_in system))
+        → Halted (record { shape = geom.now; manner = m }) (2 ^ 30) (S.remaining input.old) (S.remaining input.new) (K.taken out.old) (K.taken out.new)) }
     ensures source { S.faults input.old ≤ S.faults input.new }
     ensures cause { StopsByCause (K.faults out.old) (K.faults out.new) result }
 {
@@ -220,11 +225,12 @@ fn write_lines<S: Source, K: Sink>(
     input: &mut S,
     out: &mut K,
 ) -> Result<Ending, Stop>
-    requires opened { IsOpened geom.now (state_of disk_state (blocks_in recording.old.system)) }
     requires line { recording.old.line.items ≡ [] }
-    ensures ok { IfOk result (λ ending. AtEnding geom.now ending (S.faults input.old) (S.faults input.new)
+    ensures ok { IfOk result (λ ending. (m : Manner) → IsOpened (record { shape = geom.now; manner = m }) (state_of disk_state (blocks_in recording.old.system))
+        → AtEnding (record { shape = geom.now; manner = m }) ending (S.faults input.old) (S.faults input.new)
         (S.remaining input.old) (S.remaining input.new) (K.taken out.old) (K.taken out.new)) }
-    ensures err { OnErr result (Halted geom.now (2 ^ 30) (S.remaining input.old) (S.remaining input.new) (K.taken out.old) (K.taken out.new)) }
+    ensures err { OnErr result ((m : Manner) → IsOpened (record { shape = geom.now; manner = m }) (state_of disk_state (blocks_in recording.old.system))
+        → Halted (record { shape = geom.now; manner = m }) (2 ^ 30) (S.remaining input.old) (S.remaining input.new) (K.taken out.old) (K.taken out.new)) }
     ensures source { S.faults input.old ≤ S.faults input.new }
     ensures cause { StopsByCause (K.faults out.old) (K.faults out.new) result }
 {

@@ -5,8 +5,8 @@ ghost use Rattle.std.specs.Prelude.{◌≡◌, ℕ, ◌+◌, ◌^◌, ◌<◌, �
 ghost use Rattle.opt_memdisk.specs.MemDisk.{state_of as disk_state};
 ghost use Rattle.opt_store.specs.StoreOf.{state_of};
 ghost use Rattle.opt_fs.specs.Opened.{blocks_in};
-ghost use Rattle.opt_geom.specs.Geometry.{Geometry};
 ghost use Rattle.optfs.specs.Follows.{StopsByCause};
+ghost use Rattle.optfs.specs.Output.{Setting};
 ghost use Rattle.optfs.specs.Reading.{At, Halted, Brings, AfterTurn, AtEnding};
 
 use crate::recording::{Recording, Stop};
@@ -47,13 +47,13 @@ fn pull_once<S: Source, K: Sink>(
 ) -> Result<Turn, Stop>
     requires some { 0 < length chunk.old }
     ensures some { IfOk result (λ turn. Brings turn (length chunk.old)) }
-    ensures ok { IfOk result (λ turn. (geom : Geometry) (count : ℕ) (left told : Option (List ℕ))
-        → At geom count left (S.remaining input.old) told (K.taken out.old) (state_of disk_state (blocks_in recording.old.system)) recording.old.line.items
-        → AfterTurn geom turn count (S.faults input.old) (S.faults input.new) left (S.remaining input.new)
+    ensures ok { IfOk result (λ turn. (set : Setting) (count : ℕ) (left told : Option (List ℕ))
+        → At set count left (S.remaining input.old) told (K.taken out.old) (state_of disk_state (blocks_in recording.old.system)) recording.old.line.items
+        → AfterTurn set turn count (S.faults input.old) (S.faults input.new) left (S.remaining input.new)
         told (K.taken out.new) (state_of disk_state (blocks_in recording.new.system)) recording.new.line.items) }
-    ensures err { OnErr result ((geom : Geometry) (count : ℕ) (left told : Option (List ℕ))
-        → At geom count left (S.remaining input.old) told (K.taken out.old) (state_of disk_state (blocks_in recording.old.system)) recording.old.line.items
-        → Halted geom (count + length chunk.old) left (S.remaining input.new) told (K.taken out.new)) }
+    ensures err { OnErr result ((set : Setting) (count : ℕ) (left told : Option (List ℕ))
+        → At set count left (S.remaining input.old) told (K.taken out.old) (state_of disk_state (blocks_in recording.old.system)) recording.old.line.items
+        → Halted set (count + length chunk.old) left (S.remaining input.new) told (K.taken out.new)) }
     ensures source { S.faults input.old ≤ S.faults input.new }
     ensures cause { StopsByCause (K.faults out.old) (K.faults out.new) result }
 {
@@ -78,12 +78,12 @@ pub fn read_lines<S: Source, K: Sink>(
     input: &mut S,
     out: &mut K,
 ) -> Result<Ending, Stop>
-    ensures ok { IfOk result (λ ending. (geom : Geometry) (left told : Option (List ℕ))
-        → At geom 0 left (S.remaining input.old) told (K.taken out.old) (state_of disk_state (blocks_in recording.old.system)) recording.old.line.items
-        → AtEnding geom ending (S.faults input.old) (S.faults input.new) left (S.remaining input.new) told (K.taken out.new)) }
-    ensures err { OnErr result ((geom : Geometry) (left told : Option (List ℕ))
-        → At geom 0 left (S.remaining input.old) told (K.taken out.old) (state_of disk_state (blocks_in recording.old.system)) recording.old.line.items
-        → Halted geom (2 ^ 30) left (S.remaining input.new) told (K.taken out.new)) }
+    ensures ok { IfOk result (λ ending. (set : Setting) (left told : Option (List ℕ))
+        → At set 0 left (S.remaining input.old) told (K.taken out.old) (state_of disk_state (blocks_in recording.old.system)) recording.old.line.items
+        → AtEnding set ending (S.faults input.old) (S.faults input.new) left (S.remaining input.new) told (K.taken out.new)) }
+    ensures err { OnErr result ((set : Setting) (left told : Option (List ℕ))
+        → At set 0 left (S.remaining input.old) told (K.taken out.old) (state_of disk_state (blocks_in recording.old.system)) recording.old.line.items
+        → Halted set (2 ^ 30) left (S.remaining input.new) told (K.taken out.new)) }
     ensures source { S.faults input.old ≤ S.faults input.new }
     ensures cause { StopsByCause (K.faults out.old) (K.faults out.new) result }
 {
@@ -111,12 +111,12 @@ fn read_all<S: Source, K: Sink>(
     chunk: &mut [u8],
 ) -> Result<Ending, Stop>
     requires some { 0 < length chunk.old }
-    ensures ok { IfOk result (λ ending. (geom : Geometry) (left told : Option (List ℕ))
-        → At geom 0 left (S.remaining input.old) told (K.taken out.old) (state_of disk_state (blocks_in recording.old.system)) recording.old.line.items
-        → AtEnding geom ending (S.faults input.old) (S.faults input.new) left (S.remaining input.new) told (K.taken out.new)) }
-    ensures err { OnErr result ((geom : Geometry) (left told : Option (List ℕ))
-        → At geom 0 left (S.remaining input.old) told (K.taken out.old) (state_of disk_state (blocks_in recording.old.system)) recording.old.line.items
-        → Halted geom (2 ^ 30) left (S.remaining input.new) told (K.taken out.new)) }
+    ensures ok { IfOk result (λ ending. (set : Setting) (left told : Option (List ℕ))
+        → At set 0 left (S.remaining input.old) told (K.taken out.old) (state_of disk_state (blocks_in recording.old.system)) recording.old.line.items
+        → AtEnding set ending (S.faults input.old) (S.faults input.new) left (S.remaining input.new) told (K.taken out.new)) }
+    ensures err { OnErr result ((set : Setting) (left told : Option (List ℕ))
+        → At set 0 left (S.remaining input.old) told (K.taken out.old) (state_of disk_state (blocks_in recording.old.system)) recording.old.line.items
+        → Halted set (2 ^ 30) left (S.remaining input.new) told (K.taken out.new)) }
     ensures source { S.faults input.old ≤ S.faults input.new }
     ensures cause { StopsByCause (K.faults out.old) (K.faults out.new) result }
 {
@@ -142,12 +142,12 @@ fn read_past<S: Source, K: Sink>(
     input: &mut S,
     out: &mut K,
 ) -> Result<Ending, Stop>
-    ensures ok { IfOk result (λ ending. (geom : Geometry) (left told : Option (List ℕ))
-        → At geom (2 ^ 30) left (S.remaining input.old) told (K.taken out.old) (state_of disk_state (blocks_in recording.old.system)) recording.old.line.items
-        → AtEnding geom ending (S.faults input.old) (S.faults input.new) left (S.remaining input.new) told (K.taken out.new)) }
-    ensures err { OnErr result ((geom : Geometry) (left told : Option (List ℕ))
-        → At geom (2 ^ 30) left (S.remaining input.old) told (K.taken out.old) (state_of disk_state (blocks_in recording.old.system)) recording.old.line.items
-        → Halted geom (2 ^ 30) left (S.remaining input.new) told (K.taken out.new)) }
+    ensures ok { IfOk result (λ ending. (set : Setting) (left told : Option (List ℕ))
+        → At set (2 ^ 30) left (S.remaining input.old) told (K.taken out.old) (state_of disk_state (blocks_in recording.old.system)) recording.old.line.items
+        → AtEnding set ending (S.faults input.old) (S.faults input.new) left (S.remaining input.new) told (K.taken out.new)) }
+    ensures err { OnErr result ((set : Setting) (left told : Option (List ℕ))
+        → At set (2 ^ 30) left (S.remaining input.old) told (K.taken out.old) (state_of disk_state (blocks_in recording.old.system)) recording.old.line.items
+        → Halted set (2 ^ 30) left (S.remaining input.new) told (K.taken out.new)) }
     ensures source { S.faults input.old ≤ S.faults input.new }
     ensures cause { StopsByCause (K.faults out.old) (K.faults out.new) result }
 {

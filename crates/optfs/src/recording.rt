@@ -12,7 +12,7 @@ ghost use Rattle.opt_memdisk.specs.MemDisk.{state_of as disk_state};
 ghost use Rattle.opt_store.specs.StoreOf.{state_of};
 ghost use Rattle.opt_fs.specs.Opened.{blocks_in};
 ghost use Rattle.optfs.specs.Lines.{commands_of_line, commands_of};
-ghost use Rattle.optfs.specs.Output.{longest};
+ghost use Rattle.optfs.specs.Output.{Setting, longest};
 ghost use Rattle.opt_tree.specs.declared.command.Cmd.{Cmd};
 ghost use Rattle.opt_tree.specs.declared.command.Reply.{Reply};
 ghost use Rattle.optfs.specs.Running.{KnownRun, Ran, RunLaws, ServesFrom, TriesFrom};
@@ -85,11 +85,11 @@ fn serve<K: Sink>(alloc: Global, system: &mut System, out: &mut K, cmd: &Cmd) ->
     ensures cause { StopsByCause (K.faults out.old) (K.faults out.new) result }
 {
     let asked = cmd_text(alloc, cmd)?;
-    write_command(out, asked.as_slice())?;
     let before = moment_of(system);
     let reply = answer(alloc, system, cmd);
     a_run_is_known(system);
     let told = reply_text(alloc, &reply)?;
+    write_command(out, asked.as_slice())?;
     write_events(out, system.blocks().disk(), before)?;
     write_reply(out, moment_of(system), told.as_slice())?;
     Ok(())
@@ -165,12 +165,12 @@ impl Recording {
     /// # Errors
     /// Out of memory, or a fault of the sink, which then has a front of an output.
     pub fn take_byte<K: Sink>(&mut self, alloc: Global, out: &mut K, byte: u8) -> Result<(), Stop>
-        ensures ok { OnOk result ((geom : Geometry) (seen : List ℕ) (before : Option (List ℕ))
-            → Follows geom seen before (K.taken out.old) (state_of disk_state (blocks_in self.old.system)) self.old.line.items
-            → Follows geom (seen ++ byte ∷ []) before (K.taken out.new) (state_of disk_state (blocks_in self.new.system)) self.new.line.items) }
-        ensures err { OnErr result ((geom : Geometry) (seen more : List ℕ) (before : Option (List ℕ))
-            → Follows geom seen before (K.taken out.old) (state_of disk_state (blocks_in self.old.system)) self.old.line.items
-            → Stopped geom (seen ++ byte ∷ more) before (K.taken out.new)) }
+        ensures ok { OnOk result ((set : Setting) (seen : List ℕ) (before : Option (List ℕ))
+            → Follows set seen before (K.taken out.old) (state_of disk_state (blocks_in self.old.system)) self.old.line.items
+            → Follows set (seen ++ byte ∷ []) before (K.taken out.new) (state_of disk_state (blocks_in self.new.system)) self.new.line.items) }
+        ensures err { OnErr result ((set : Setting) (seen more : List ℕ) (before : Option (List ℕ))
+            → Follows set seen before (K.taken out.old) (state_of disk_state (blocks_in self.old.system)) self.old.line.items
+            → Stopped set (seen ++ byte ∷ more) before (K.taken out.new)) }
         ensures cause { StopsByCause (K.faults out.old) (K.faults out.new) result }
     {
         if byte == FEED {
@@ -194,12 +194,12 @@ impl Recording {
         out: &mut K,
         bytes: &[u8],
     ) -> Result<(), Stop>
-        ensures ok { OnOk result ((geom : Geometry) (seen : List ℕ) (before : Option (List ℕ))
-            → Follows geom seen before (K.taken out.old) (state_of disk_state (blocks_in self.old.system)) self.old.line.items
-            → Follows geom (seen ++ bytes.now) before (K.taken out.new) (state_of disk_state (blocks_in self.new.system)) self.new.line.items) }
-        ensures err { OnErr result ((geom : Geometry) (seen : List ℕ) (before : Option (List ℕ))
-            → Follows geom seen before (K.taken out.old) (state_of disk_state (blocks_in self.old.system)) self.old.line.items
-            → Stopped geom (seen ++ bytes.now) before (K.taken out.new)) }
+        ensures ok { OnOk result ((set : Setting) (seen : List ℕ) (before : Option (List ℕ))
+            → Follows set seen before (K.taken out.old) (state_of disk_state (blocks_in self.old.system)) self.old.line.items
+            → Follows set (seen ++ bytes.now) before (K.taken out.new) (state_of disk_state (blocks_in self.new.system)) self.new.line.items) }
+        ensures err { OnErr result ((set : Setting) (seen : List ℕ) (before : Option (List ℕ))
+            → Follows set seen before (K.taken out.old) (state_of disk_state (blocks_in self.old.system)) self.old.line.items
+            → Stopped set (seen ++ bytes.now) before (K.taken out.new)) }
         ensures cause { StopsByCause (K.faults out.old) (K.faults out.new) result }
     {
         for byte in bytes {
@@ -213,12 +213,12 @@ impl Recording {
     /// # Errors
     /// As `take_byte`.
     pub fn take_end<K: Sink>(&mut self, alloc: Global, out: &mut K) -> Result<(), Stop>
-        ensures ok { OnOk result ((geom : Geometry) (seen : List ℕ) (before : Option (List ℕ))
-            → Follows geom seen before (K.taken out.old) (state_of disk_state (blocks_in self.old.system)) self.old.line.items
-            → ServesTo geom (commands_of longest seen) before (K.taken out.new)) }
-        ensures err { OnErr result ((geom : Geometry) (seen : List ℕ) (before : Option (List ℕ))
-            → Follows geom seen before (K.taken out.old) (state_of disk_state (blocks_in self.old.system)) self.old.line.items
-            → Stopped geom seen before (K.taken out.new)) }
+        ensures ok { OnOk result ((set : Setting) (seen : List ℕ) (before : Option (List ℕ))
+            → Follows set seen before (K.taken out.old) (state_of disk_state (blocks_in self.old.system)) self.old.line.items
+            → ServesTo set (commands_of longest seen) before (K.taken out.new)) }
+        ensures err { OnErr result ((set : Setting) (seen : List ℕ) (before : Option (List ℕ))
+            → Follows set seen before (K.taken out.old) (state_of disk_state (blocks_in self.old.system)) self.old.line.items
+            → Stopped set seen before (K.taken out.new)) }
         ensures cause { StopsByCause (K.faults out.old) (K.faults out.new) result }
     {
         serve_line(alloc, &mut self.system, out, self.line.as_slice())?;

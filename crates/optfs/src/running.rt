@@ -10,8 +10,11 @@ ghost use Rattle.opt_tree.specs.declared.command.Cmd.{Cmd};
 ghost use Rattle.opt_tree.specs.declared.command.Reply.{Reply};
 ghost use Rattle.optfs.specs.Running.{IsAnswered, KnownRun, Ran, RunLaws};
 
-use crate::mounting::{System, the_log_is_lawful};
-use opt_fs::a_command_is_answered_in_a_room_that_came_back;
+use crate::mounting::{System, the_disk_keeps_to_its_manner};
+use opt_fs::{
+    a_command_begins_with_a_tick, a_command_is_answered_in_a_room_that_came_back,
+    a_command_raises_the_numbers_little, a_refusal_for_the_disk_has_its_cause,
+};
 use opt_memdisk::MemDisk;
 use opt_session::{a_run_may_end_at_once, the_writes_keep_within_the_budget};
 use opt_stands::{
@@ -27,8 +30,11 @@ pub fn answer(alloc: Global, system: &mut System, cmd: &Cmd) -> Reply
     ensures { IsAnswered cmd.now result (state_of disk_state (blocks_in system.old)) (state_of disk_state (blocks_in system.new)) }
 {
     a_command_is_answered_in_a_room_that_came_back::<Store<MemDisk>>();
+    a_command_begins_with_a_tick::<Store<MemDisk>>();
+    a_refusal_for_the_disk_has_its_cause::<Store<MemDisk>>();
+    a_command_raises_the_numbers_little::<Store<MemDisk>>();
     let reply = system.apply(alloc, cmd);
-    the_log_is_lawful(system);
+    the_disk_keeps_to_its_manner(system);
     reply
 }
 

@@ -10,4 +10,4 @@ returns c =
       held = held_by g (omega (arith, c.lawful.ensures.limits.data_room)) (λ img same. c.the_data_of_a_formatted_disk_may_be_anything.ensures.held g img c.lawful.ensures.fits same);
       tree = c.the_formatted_disk_stands_for_the_root.ensures.blocks g c.lawful.ensures.fits;
       one = c.an_image_stands_for_one_tree.ensures.image;
-    }) (disk_state c.args.disk) c.requires c.a_disk_has_a_lawful_log.ensures.log c.a_disk_has_a_lawful_log.ensures.events
+    }) (disk_state c.args.disk) c.requires.holds c.requires.fault c.a_disk_keeps_to_its_manner.ensures.log c.a_disk_keeps_to_its_manner.ensures.events c.a_disk_keeps_to_its_manner.ensures.writes c.a_disk_keeps_to_its_manner.ensures.reads

@@ -1,13 +1,18 @@
-use Rattle.std.proofs.Common.{false, refl, subst, replicate, arith}
+use Rattle.std.proofs.Common.{List, true, false, refl, subst, ◌∙◌, replicate, arith}
+use Rattle.opt_disk.specs.declared.event.Event.{Event}
+use Rattle.opt_disk.specs.Manner.{Manner}
+use Rattle.opt_crash.specs.Opening.{WritesOne}
 use Rattle.opt_memdisk.specs.MemDisk.{state_of as disk_state}
 use Rattle.opt_journal.specs.declared.entry.EntryKind.TheVariants.{Payload}
 use Rattle.opt_journal.specs.Formatted.{formatted}
 use Rattle.opt_journal.specs.Run.{live_part}
 use Rattle.opt_store.specs.StoreOf.{disk_in}
-use Rattle.opt_store.specs.Refusal.{RefusalSays}
+use Rattle.opt_store.specs.Mounting.{LeavesDisk}
+use Rattle.opt_store.specs.Refusal.{RefusalSays, is_disk_fault, is_read_fault}
 use Rattle.opt_store.specs.declared.refusal.StoreRefusal.{StoreRefusal}
+use Rattle.optfs.specs.Mounting.{Mounts}
 use Rattle.optfs.proofs.FormattedFound.{HasLaws, zeros_are_stored}
-use Rattle.optfs.proofs.MountLemmas.{HasRoot, held_by, holds, header_found, bits_good, unspent, left_with}
+use Rattle.optfs.proofs.MountLemmas.{HasRoot, held_by, holds, header_found, bits_good, unspent, left_faulty, left_unread, left_with, nothing_to_replay, few_turns}
 use Rattle.optfs.proofs.mounting.mount.Goals as goal
 use Rattle.optfs.proofs.mounting.mount.Goals.{After-journal_blocks_are_told_apart}
 
@@ -39,17 +44,43 @@ open-requires c =
     let d = disk_state c.args.disk in
     let begins = c.in-Ok.ensures.begins refl g (live_part g (formatted g)) (holds g (root p) (laws p) d c.requires) in
     let left = left_with g (root p) (laws p) d c.requires false false (disk_state (disk_in c.in-Ok.store)) c.in-Ok.ensures.leaves in
-    record { begun = c.in-Ok.ensures.begun; begins = begins; shows = record { geom = begins.geom; base = left.began.base; images = left.images } }
+    record {
+      begun = c.in-Ok.ensures.begun;
+      begins = begins;
+      shows = record { geom = begins.geom; base = left.began.base; images = left.images };
+      polls = c.in-Ok.ensures.leaves.spends.polls ∙ c.requires.polls;
+      first = subst (λ (es : List Event). WritesOne es (disk_state (disk_in c.in-Ok.store)).log) c.requires.nothing (c.in-Ok.ensures.alone refl (nothing_to_replay g (root p) (laws p) d c.requires));
+      turns = few_turns g (root p) (laws p) d c.requires _ (c.in-Ok.ensures.numbers refl);
+    }
 
 pub failed-requires : goal.failed-requires
 failed-requires c =
     let p = (goal.at.failed-requires c).After-journal_blocks_are_told_apart in
-    left_with c.args.geom.now (root p) (laws p) (disk_state c.args.disk) c.requires _ _ (disk_state c.in-Err-default-DiskFault.disk) c.in-Err-default-DiskFault.ensures.back
+    let d = disk_state c.args.disk in
+    let new = disk_state c.in-Err-default-DiskFault.disk in
+    let back : LeavesDisk true false true d new = subst (λ (why : StoreRefusal). LeavesDisk true (is_read_fault why) (is_disk_fault why) d new) c.in-Err-default-DiskFault.field-0-1-is c.in-Err-default-DiskFault.ensures.back in
+    record {
+      holds = left_with c.args.geom.now (root p) (laws p) d c.requires _ _ new back;
+      fault = left_faulty c.args.geom.now (root p) (laws p) d c.requires false new back (c.in-Err-default-DiskFault.ensures.stops refl (nothing_to_replay c.args.geom.now (root p) (laws p) d c.requires));
+    }
 
 pub failed-requires-in-Err-default-ReadFault : goal.failed-requires-in-Err-default-ReadFault
 failed-requires-in-Err-default-ReadFault c =
     let p = (goal.at.failed-requires-in-Err-default-ReadFault c).After-journal_blocks_are_told_apart in
-    left_with c.args.geom.now (root p) (laws p) (disk_state c.args.disk) c.requires _ _ (disk_state c.in-Err-default-ReadFault.disk) c.in-Err-default-ReadFault.ensures.back
+    let d = disk_state c.args.disk in
+    let new = disk_state c.in-Err-default-ReadFault.disk in
+    let back : LeavesDisk true true false d new = subst (λ (why : StoreRefusal). LeavesDisk true (is_read_fault why) (is_disk_fault why) d new) c.in-Err-default-ReadFault.field-0-1-is c.in-Err-default-ReadFault.ensures.back in
+    record {
+      holds = left_with c.args.geom.now (root p) (laws p) d c.requires _ _ new back;
+      fault = left_unread c.args.geom.now (root p) (laws p) d c.requires false new back;
+    }
+
+-- the disk that is handed back is that which was mounted
+pub returns-in-Err-default-DiskFault : goal.returns-in-Err-default-DiskFault
+returns-in-Err-default-DiskFault c = subst (λ (m : Manner). Mounts (record { shape = c.args.geom.now; manner = m }) c.failed.result) c.in-Err-default-DiskFault.ensures.back.spends.same.manner c.failed.ensures
+
+pub returns-in-Err-default-ReadFault : goal.returns-in-Err-default-ReadFault
+returns-in-Err-default-ReadFault c = subst (λ (m : Manner). Mounts (record { shape = c.args.geom.now; manner = m }) c.failed-in-Err-default-ReadFault.result) c.in-Err-default-ReadFault.ensures.back.spends.same.manner c.failed-in-Err-default-ReadFault.ensures
 
 pub unreachable-requires : goal.unreachable-requires
 unreachable-requires c =

@@ -16,7 +16,7 @@ returns-in-Failed-clause-ok g c =
 pub returns-in_err-take_end-in-Ended-clause-err : goal.returns-in_err-take_end-in-Ended-clause-err
 returns-in_err-take_end-in-Ended-clause-err g c =
     let now = ended_turn _ c.loop-count.count _ _ _ _ _ _ _ _ _ _ _ _ _ _ c.in-Ended.is c.loop-count.invariant.so_far c.in_ok-pull_once.ensures.ok in
-    halted_end _ c.loop-count.count _ _ _ _ _ _ _ _ _ c.loop-count.invariant.within (λ geom left told f. (now geom left told f).1) c.in_err-take_end-in-Ended.ensures.err
+    halted_end _ c.loop-count.count _ _ _ _ _ _ _ _ _ c.loop-count.invariant.within (λ set left told f. (now set left told f).1) c.in_err-take_end-in-Ended.ensures.err
 
 pub returns-in-Ended-clause-ok : goal.returns-in-Ended-clause-ok
 returns-in-Ended-clause-ok g c =

@@ -4,7 +4,7 @@ use Rattle.opt_memdisk.specs.MemDisk.{MemDiskState, state_of as disk_state}
 use Rattle.opt_store.specs.StoreOf.{disk_in, state_of}
 use Rattle.opt_fs.specs.Opened.{blocks_in}
 use Rattle.optfs.proofs.Runs.{records_on}
-use Rattle.optfs.proofs.RecordingLemmas.{nothing_told, line_cut, line_told, events_cut, reply_cut, one_served}
+use Rattle.optfs.proofs.RecordingLemmas.{nothing_told, command_cut, events_cut, reply_cut, one_served}
 use Rattle.optfs.proofs.recording.serve.Goals as goal
 
 pub returns-in_err-asked-clause-err : goal.returns-in_err-asked-clause-err
@@ -13,10 +13,11 @@ returns-in_err-asked-clause-err g c = nothing_told _ _ _ _
 pub returns-in_err-write_command-clause-err : goal.returns-in_err-write_command-clause-err
 returns-in_err-write_command-clause-err g c =
     let front = c.in_err-write_command.ensures.front in
-    line_cut _ _ _ _ _ _ front.0 (c.as_slice.ensures.value ∙ c.in_ok-asked.ensures.text) front.1
+    command_cut _ _ _ _ _ _ _ _ front.0 (records_on _ _ _ _ c.answer-reply.ensures c.a_run_is_known.ensures.laws c.a_run_is_known.ensures.known c.in_ok-told.ensures.lawful)
+    (c.as_slice.ensures.value ∙ c.in_ok-asked.ensures.text) front.1
 
 pub returns-in_err-told-clause-err : goal.returns-in_err-told-clause-err
-returns-in_err-told-clause-err g c = line_told _ _ _ _ _ _ (c.as_slice.ensures.value ∙ c.in_ok-asked.ensures.text) c.in_ok-write_command.ensures.all
+returns-in_err-told-clause-err g c = nothing_told _ _ _ _
 
 pub returns-in_err-write_events-clause-err : goal.returns-in_err-write_events-clause-err
 returns-in_err-write_events-clause-err g c =

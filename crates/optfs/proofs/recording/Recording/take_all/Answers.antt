@@ -13,13 +13,13 @@ returns-in_err-take_byte-clause-err g c = rest_halts _ _ c.loop-byte.byte-index 
 pub loop-byte-preserved : goal.loop-byte-preserved
 loop-byte-preserved g c = record {
   faults_rise = omega (arith, c.loop-byte.invariant.faults_rise, c.in_ok-take_byte.ensures.cause);
-  follows = λ geom seen before f.
-      subst (λ (xs : List ℕ). Follows geom xs before (g.K.Sink.taken c.take_byte.new.out) (state_of disk_state (blocks_in c.take_byte.new.self.system)) c.take_byte.new.self.line.items)
+  follows = λ set seen before f.
+      subst (λ (xs : List ℕ). Follows set xs before (g.K.Sink.taken c.take_byte.new.out) (state_of disk_state (blocks_in c.take_byte.new.self.system)) c.take_byte.new.self.line.items)
       (byte_on seen c.args.bytes.now c.loop-byte.byte-index _ (omega arith) refl)
-      (c.in_ok-take_byte.ensures.ok geom _ before (c.loop-byte.invariant.follows geom seen before f));
+      (c.in_ok-take_byte.ensures.ok set _ before (c.loop-byte.invariant.follows set seen before f));
 }
 
 pub returns-clause-ok : goal.returns-clause-ok
-returns-clause-ok g c = λ geom seen before f.
-    subst (λ (xs : List ℕ). Follows geom (seen ++ xs) before (g.K.Sink.taken c.loop-byte.out) (state_of disk_state (blocks_in c.loop-byte.self.system)) c.loop-byte.self.line.items)
-    (take_all c.loop-byte.byte-index c.args.bytes.now (omega arith)) (c.loop-byte.invariant.follows geom seen before f)
+returns-clause-ok g c = λ set seen before f.
+    subst (λ (xs : List ℕ). Follows set (seen ++ xs) before (g.K.Sink.taken c.loop-byte.out) (state_of disk_state (blocks_in c.loop-byte.self.system)) c.loop-byte.self.line.items)
+    (take_all c.loop-byte.byte-index c.args.bytes.now (omega arith)) (c.loop-byte.invariant.follows set seen before f)

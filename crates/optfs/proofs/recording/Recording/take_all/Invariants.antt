@@ -1,18 +1,18 @@
 -- The bytes so far are taken, and the sink's count never fell.
 use Rattle.std.proofs.Common.{ℕ, ◌≤◌, List, ◌++◌, take, Option}
-use Rattle.opt_geom.specs.Geometry.{Geometry}
 use Rattle.opt_memdisk.specs.MemDisk.{state_of as disk_state}
 use Rattle.opt_store.specs.StoreOf.{state_of}
 use Rattle.opt_fs.specs.Opened.{blocks_in}
 use Rattle.optfs.specs.Follows.{Follows}
+use Rattle.optfs.specs.Output.{Setting}
 use Rattle.optfs.proofs.recording.Recording.take_all.Given as goal
 
-pub record IsTaken (faults_before faults : ℕ) (old new : Geometry → (List ℕ) → Option (List ℕ) → Type 0) : Type 0 where
+pub record IsTaken (faults_before faults : ℕ) (old new : Setting → (List ℕ) → Option (List ℕ) → Type 0) : Type 0 where
   pub faults_rise : faults_before ≤ faults
-  pub follows : (geom : Geometry) (seen : List ℕ) (before : Option (List ℕ)) → old geom seen before → new geom seen before
+  pub follows : (set : Setting) (seen : List ℕ) (before : Option (List ℕ)) → old set seen before → new set seen before
 
 abbrev pub invariant-loop-byte : goal.invariant-loop-byte
 invariant-loop-byte g l =
     IsTaken (g.K.Sink.faults l.fn.out) (g.K.Sink.faults l.out)
-    (λ geom seen before. Follows geom seen before (g.K.Sink.taken l.fn.out) (state_of disk_state (blocks_in l.fn.self.system)) l.fn.self.line.items)
-    (λ geom seen before. Follows geom (seen ++ take l.byte-index l.bytes) before (g.K.Sink.taken l.out) (state_of disk_state (blocks_in l.self.system)) l.self.line.items)
+    (λ set seen before. Follows set seen before (g.K.Sink.taken l.fn.out) (state_of disk_state (blocks_in l.fn.self.system)) l.fn.self.line.items)
+    (λ set seen before. Follows set (seen ++ take l.byte-index l.bytes) before (g.K.Sink.taken l.out) (state_of disk_state (blocks_in l.self.system)) l.self.line.items)

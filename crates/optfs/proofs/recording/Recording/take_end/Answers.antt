@@ -6,4 +6,4 @@ pub returns-in_err-serve_line-clause-err : goal.returns-in_err-serve_line-clause
 returns-in_err-serve_line-clause-err g c = end_halts _ _ _ _ _ _ c.as_slice.ensures.value c.in_err-serve_line.ensures.err
 
 pub returns-clause-ok : goal.returns-clause-ok
-returns-clause-ok g c = λ geom seen before f. ended geom seen before _ _ _ _ _ _ c.as_slice.ensures.value f c.in_ok-serve_line.ensures.ok
+returns-clause-ok g c = λ set seen before f. ended set seen before _ _ _ _ _ _ c.as_slice.ensures.value f c.in_ok-serve_line.ensures.ok

@@ -1,0 +1,182 @@
+-- A run on a disk of some manner, with one command more: it went by the manner still.
+use Rattle.std.proofs.Common.{◌≡◌, ◌≢◌, ◌⊎◌, inl, inr, ℕ, zero, suc, ◌+◌, ◌*◌, ◌-◌, ◌^◌, ◌<◌, ◌≤◌, ◌||◌, Bool, true, false, List, [], ◌∷◌, ◌++◌, length, take, take_all, Some, unwrap_or, refl, sym, ap, ◌∙◌, subst, arith}
+use Rattle.std.proofs.Math.Logic.{∥∥₁_map}
+use Rattle.std.proofs.Math.Seq.{take-append_seam, take-length}
+use Rattle.std.proofs.lemmas.Bool.{cases_Bool, false≢true, leb-true}
+use Rattle.std.proofs.lemmas.List.{take-append-le, length-append}
+use Rattle.std.specs.List.{slice_get}
+use Rattle.opt_disk.specs.declared.event.Event.{Event}
+use Rattle.opt_disk.specs.Disk.{Grows, PollsFirst}
+use Rattle.opt_disk.specs.Manner.{Manner, GoesBy, HasFailedBy}
+use Rattle.opt_trace.specs.Trace.{Ascend}
+use Rattle.opt_tree.specs.declared.command.Cmd.{Cmd}
+use Rattle.opt_tree.specs.declared.command.Cmd.TheVariants.{Bad}
+use Rattle.opt_tree.specs.declared.command.Refusal.{Refusal}
+use Rattle.opt_tree.specs.declared.command.Refusal.TheVariants as because
+use Rattle.opt_tree.specs.declared.command.Reply.{Reply}
+use Rattle.opt_tree.specs.declared.command.Reply.TheVariants as replied
+use Rattle.opt_tree.specs.declared.command.Reply.TheVariants.{Refused}
+use Rattle.opt_tree.specs.Step.{Session}
+use Rattle.opt_blocks.specs.State.{Bookkeeping, State}
+use Rattle.opt_session.specs.Histories.{HasNoFault}
+use Rattle.opt_fs.specs.Applying.{is_spent}
+use Rattle.opt_fs.specs.Sessions.{IsSession}
+use Rattle.optfs.specs.Behaving.{Pace, PacesBy, StepsBy, is_fault, pace_at_first}
+use Rattle.optfs.specs.Running.{PacedRun, StepsOn, pace_of}
+
+-- Lists with one element more.
+
+get_behind : {A : Type 0} (xs : List A) (y : A) → slice_get (xs ++ y ∷ []) (length xs) ≡ Some y
+get_behind [] y = refl
+get_behind (x ∷ xs) y = get_behind xs y
+
+get_split : {A : Type 0} (xs : List A) (x y : A) (i : ℕ) → slice_get (xs ++ x ∷ []) i ≡ Some y → (slice_get xs i ≡ Some y) ⊎ (x ≡ y)
+get_split [] x y zero is = inr (ap (λ o. unwrap_or o x) is)
+get_split [] x y (suc i) is = inl is
+get_split (z ∷ xs) x y zero is = inl is
+get_split (z ∷ xs) x y (suc i) is = get_split xs x y i is
+
+get_split_at : {A : Type 0} (xs : List A) (x y : A) (i : ℕ) → slice_get (xs ++ x ∷ []) i ≡ Some y → (slice_get xs i ≡ Some y) ⊎ ((x ≡ y) × (i ≡ length xs))
+get_split_at [] x y zero is = inr (ap (λ o. unwrap_or o x) is, refl)
+get_split_at [] x y (suc i) is = inl is
+get_split_at (z ∷ xs) x y zero is = inl is
+get_split_at (z ∷ xs) x y (suc i) is = by (get_split_at xs x y i is)
+  where
+    by : (slice_get xs i ≡ Some y) ⊎ ((x ≡ y) × (i ≡ length xs)) → (slice_get (z ∷ xs) (suc i) ≡ Some y) ⊎ ((x ≡ y) × (suc i ≡ length (z ∷ xs)))
+    by (inl earlier) = inl earlier
+    by (inr last) = inr (last.0, ap suc last.1)
+
+-- numbers that are used up are far
+spent_far : (k : Bookkeeping) → is_spent k ≡ true → 2 ^ 63 - 8 ≤ k.turns
+spent_far k is = leb-true (2 ^ 63 - 8) k.turns is
+
+-- marks that ascend are none past the last event
+within : (from : ℕ) (marks : List ℕ) (events : ℕ) → Ascend from marks events → from ≤ events
+within from [] events is = omega (arith, is)
+within from (mark ∷ marks) events is = omega (arith, is.0, within mark marks events is.1)
+
+-- Whether a reply is a fault.
+
+fault_why : (why : Refusal) → is_fault (Refused why) ≡ true → why ≡ because.DiskFault
+fault_why because.NotFound is = absurd (false≢true is)
+fault_why because.Exists is = absurd (false≢true is)
+fault_why because.NotDir is = absurd (false≢true is)
+fault_why because.IsDir is = absurd (false≢true is)
+fault_why because.NotEmpty is = absurd (false≢true is)
+fault_why because.BelowItself is = absurd (false≢true is)
+fault_why because.TooLarge is = absurd (false≢true is)
+fault_why because.TooManyLinks is = absurd (false≢true is)
+fault_why because.NoNode is = absurd (false≢true is)
+fault_why (because.Full need left) is = absurd (false≢true is)
+fault_why (because.TooBig weight cost room) is = absurd (false≢true is)
+fault_why (because.Scattered runs) is = absurd (false≢true is)
+fault_why because.ReadFault is = absurd (false≢true is)
+fault_why because.DiskFault is = refl
+fault_why because.Stopped is = absurd (false≢true is)
+fault_why because.Spent is = absurd (false≢true is)
+fault_why because.NoMemory is = absurd (false≢true is)
+
+fault_is : (reply : Reply) → is_fault reply ≡ true → reply ≡ Refused because.DiskFault
+fault_is replied.Ok is = absurd (false≢true is)
+fault_is (replied.Bytes bytes) is = absurd (false≢true is)
+fault_is (replied.Stat stat) is = absurd (false≢true is)
+fault_is (replied.Names names) is = absurd (false≢true is)
+fault_is (replied.Synced point) is = absurd (false≢true is)
+fault_is (replied.DurableAt point) is = absurd (false≢true is)
+fault_is (replied.Known point) is = absurd (false≢true is)
+fault_is replied.Bad is = absurd (false≢true is)
+fault_is (Refused why) is = ap Refused (fault_why why is)
+
+-- What was said of a shorter log holds of a longer one.
+
+module _ (m : Manner) (log more : List Event) where
+  front : (k : ℕ) → k ≤ length log → take k (log ++ more) ≡ take k log
+  front k low = take-append-le k log more low
+
+  steps_longer : (cmd : Cmd) (reply : Reply) (p q : Pace) → p.events ≤ length log → q.events ≤ length log → StepsBy m log cmd reply p q → StepsBy m (log ++ more) cmd reply p q
+  steps_longer cmd reply p q low low_next step = record {
+    over = step.over;
+    rests = step.rests;
+    ticks = λ meant going unspent.
+        subst (λ (es : List Event). PollsFirst m 64 p.polls es q.polls (take q.events (log ++ more))) (sym (front p.events low))
+        (subst (λ (es : List Event). PollsFirst m 64 p.polls (take p.events log) q.polls es) (sym (front q.events low_next)) (step.ticks meant going unspent));
+    stops = step.stops;
+    reads = step.reads;
+    fails = λ is. subst (λ (es : List Event). ∥ HasFailedBy m es ∥₁) (sym (front q.events low_next)) (step.fails is);
+  }
+
+  paces_longer : (cmd : Cmd) (reply : Reply) (mark : ℕ) (mid end : Pace) (p : Pace) (cmds : List Cmd) (replies : List Reply) (marks : List ℕ) → Ascend p.events marks (length log)
+      → PacesBy m log p cmds replies marks mid → end.events ≡ mark → StepsBy m (log ++ more) cmd reply mid end → PacesBy m (log ++ more) p (cmds ++ cmd ∷ []) (replies ++ reply ∷ []) (marks ++ mark ∷ []) end
+  paces_longer cmd reply mark mid end p [] [] [] up paces is step = (end, is, subst (λ (x : Pace). StepsBy m (log ++ more) cmd reply x end) paces step, refl)
+  paces_longer cmd reply mark mid end p (c ∷ cmds) (r ∷ replies) (k ∷ marks) up paces is step =
+      let at : paces.0.events ≡ k = paces.1 in
+      let up_next : Ascend paces.0.events marks (length log) = subst (λ (n : ℕ). Ascend n marks (length log)) (sym at) up.1 in
+      let low = within k marks (length log) up.1 in
+      (paces.0, at, steps_longer c r p paces.0 (omega (arith, up.0, low)) (omega (arith, at, low)) paces.2, paces_longer cmd reply mark mid end paces.0 cmds replies marks up_next paces.3 is step)
+  paces_longer cmd reply mark mid end p [] [] (k ∷ marks) up paces is step = absurd paces
+  paces_longer cmd reply mark mid end p [] (r ∷ replies) marks up paces is step = absurd paces
+  paces_longer cmd reply mark mid end p (c ∷ cmds) [] marks up paces is step = absurd paces
+  paces_longer cmd reply mark mid end p (c ∷ cmds) (r ∷ replies) [] up paces is step = absurd paces
+
+-- One command more, over blocks of which it is known exactly where a call of the disk has failed.
+module _ (cmd : Cmd) (reply : Reply) (old new : State) (s : StepsOn cmd reply old new) (grows : Grows old.crash.log new.crash.log) (replies : List Reply)
+    (before : (i : ℕ) → slice_get replies i ≡ Some (Refused because.DiskFault) → old.books.stopped ≡ true)
+    (ended : (i : ℕ) → slice_get (replies ++ reply ∷ []) i ≡ Some (Refused because.DiskFault) → new.books.stopped ≡ true)
+    (going : HasNoFault (replies ++ reply ∷ []) → new.books.stopped ≡ false) where
+  over_now : new.books.stopped ≡ (old.books.stopped || is_fault reply)
+  over_now = by (cases_Bool old.books.stopped)
+    where
+      none : old.books.stopped ≡ false → is_fault reply ≡ false → HasNoFault (replies ++ reply ∷ [])
+      none run calm i at = no (get_split replies reply (Refused because.DiskFault) i at)
+        where
+          no : (slice_get replies i ≡ Some (Refused because.DiskFault)) ⊎ (reply ≡ Refused because.DiskFault) → ⊥
+          no (inl earlier) = false≢true (sym run ∙ before i earlier)
+          no (inr now) = false≢true (sym calm ∙ ap is_fault now)
+
+      by_reply : old.books.stopped ≡ false → (is_fault reply ≡ true) ⊎ (is_fault reply ≡ false) → new.books.stopped ≡ (old.books.stopped || is_fault reply)
+      by_reply run (inl fault) = ended (length replies) (get_behind replies reply ∙ ap Some (fault_is reply fault)) ∙ sym fault ∙ ap (λ (v : Bool). v || is_fault reply) (sym run)
+      by_reply run (inr calm) = going (none run calm) ∙ sym calm ∙ ap (λ (v : Bool). v || is_fault reply) (sym run)
+
+      by : (old.books.stopped ≡ true) ⊎ (old.books.stopped ≡ false) → new.books.stopped ≡ (old.books.stopped || is_fault reply)
+      by (inl over) = (s.rests (inr over)).1.1 ∙ over ∙ ap (λ (v : Bool). v || is_fault reply) (sym over)
+      by (inr run) = by_reply run (cases_Bool (is_fault reply))
+
+  step_now : (m : Manner) (f : Session) → IsSession old f → old.counts.ticks.manner ≡ m → StepsBy m new.crash.log cmd reply (pace_of old) (pace_of new)
+  step_now m f session is =
+      let same : new.counts.ticks.manner ≡ m = s.manner ∙ is in
+      let all : take (length new.crash.log) new.crash.log ≡ new.crash.log = take-length new.crash.log in
+      let earlier : take (length old.crash.log) new.crash.log ≡ old.crash.log = ap (λ (es : List Event). take (length old.crash.log) es) grows.log ∙ take-append_seam old.crash.log grows.more in
+      record {
+        over = over_now;
+        rests = λ still. let r = s.rests still in (r.0, ap (λ (es : List Event). length es) r.1.0);
+        ticks = λ meant run unspent.
+            subst (λ (es : List Event). PollsFirst m 64 old.counts.ticks.polls es new.counts.ticks.polls (take (length new.crash.log) new.crash.log)) (sym earlier)
+            (subst (λ (es : List Event). PollsFirst m 64 old.counts.ticks.polls old.crash.log new.counts.ticks.polls es) (sym all)
+            (subst (λ (x : Manner). PollsFirst x 64 old.counts.ticks.polls old.crash.log new.counts.ticks.polls new.crash.log) is (s.ticks meant run unspent)));
+        stops = λ late. s.stops f session late;
+        reads = λ unread. ap (λ (x : Manner). x.reads_fail) (sym same) ∙ s.reads f session unread;
+        fails = λ fault. subst (λ (es : List Event). ∥ HasFailedBy m es ∥₁) (sym all)
+            (subst (λ (x : Manner). ∥ HasFailedBy x new.crash.log ∥₁) same (s.fails (ended (length replies) (get_behind replies reply ∙ ap Some fault))));
+      }
+
+  -- so many commands don't use the numbers up
+  unspent_on : (f : Session) → IsSession old f → old.books.turns ≤ 3 + length replies * 2 ^ 20 → ((i : ℕ) → i < 2 ^ 40 → slice_get replies i ≡ Some (Refused because.Spent) → ⊥)
+      → (i : ℕ) → i < 2 ^ 40 → slice_get (replies ++ reply ∷ []) i ≡ Some (Refused because.Spent) → ⊥
+  unspent_on f session turns none i few at = by (get_split_at replies reply (Refused because.Spent) i at)
+    where
+      by : (slice_get replies i ≡ Some (Refused because.Spent)) ⊎ ((reply ≡ Refused because.Spent) × (i ≡ length replies)) → ⊥
+      by (inl earlier) = none i few earlier
+      by (inr now) = absurd (omega (arith, few, now.1, turns, spent_far old.books (s.spent f session now.0)))
+
+  pub paced_on : (m : Manner) (f : Session) (mounted : ℕ) (cmds : List Cmd) (marks : List ℕ) → IsSession old f → Ascend mounted marks (length old.crash.log) → PacedRun m mounted cmds replies marks old
+      → PacedRun m mounted (cmds ++ cmd ∷ []) (replies ++ reply ∷ []) (marks ++ length new.crash.log ∷ []) new
+  paced_on m f mounted cmds marks session up run = record {
+    manner = s.manner ∙ run.manner;
+    writes = subst (λ (x : Manner). GoesBy x new.crash.log) (s.manner ∙ run.manner) s.writes;
+    opens = run.opens;
+    turns = omega (arith, s.turns, run.turns, length-append replies (reply ∷ []));
+    unspent = unspent_on f session run.turns run.unspent;
+    paces = subst (λ (es : List Event). PacesBy m es (pace_at_first mounted) (cmds ++ cmd ∷ []) (replies ++ reply ∷ []) (marks ++ length new.crash.log ∷ []) (pace_of new)) (sym grows.log)
+        (paces_longer m old.crash.log grows.more cmd reply (length new.crash.log) (pace_of old) (pace_of new) (pace_at_first mounted) cmds replies marks up run.paces refl
+        (subst (λ (es : List Event). StepsBy m es cmd reply (pace_of old) (pace_of new)) grows.log (step_now m f session run.manner)));
+  }
