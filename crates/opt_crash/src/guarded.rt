@@ -1,10 +1,10 @@
 //! Disk calls that are guarded by the laws: each is one call of a disk, and its clause says what becomes of
 //! the ledger. Which block is to be written, and when to wait, is not their matter.
 
-ghost use Rattle.std.specs.Prelude.{◌≡◌, ◌<◌, ◌≤◌, ◌+◌, ◌-◌, ◌^◌, ℕ, List, length, IsTrue, OnOk, OnErr, slice_index_or, is_err, vec_len, vec_capacity, []};
+ghost use Rattle.std.specs.Prelude.{◌≡◌, ◌<◌, ◌≤◌, ◌+◌, ◌-◌, ◌^◌, ℕ, List, length, IsTrue, true, OnOk, OnErr, slice_index_or, is_err, vec_len, vec_capacity, []};
 ghost use Rattle.opt_base.specs.Seal.{Blocks};
 ghost use Rattle.opt_disk.specs.Cell.{IsAccepted, IsNoticed};
-ghost use Rattle.opt_disk.specs.Disk.{HasFailed, AddsWrite, AddsPoll, AddsNotices, OnlyWrites, OnlyPolls, OnlyWaits};
+ghost use Rattle.opt_disk.specs.Disk.{HasFailed, HearsAlone, AddsWrite, AddsPoll, AddsNotices, OnlyWrites, OnlyPolls, OnlyWaits};
 ghost use Rattle.opt_disk.specs.Manner.{AnswersBy};
 ghost use Rattle.opt_geom.specs.Geometry.{ring_block};
 ghost use Rattle.opt_journal.specs.declared.header.Header.{Header};
@@ -80,6 +80,7 @@ pub fn wait_for<D: Disk>(disk: &mut D, ticket: u64) -> Result<(), DiskFault>
     ensures noticed { IsTrue D.tells → OnOk result (IsNoticed ticket (D.state disk.new).log) }
     ensures spends { OnlyWaits (is_err result) (D.state disk.old) (D.state disk.new) }
     ensures cause { IsTrue D.tells → IsAccepted ticket (D.state disk.old).log → OnErr result (HasFailed (D.state disk.new)) }
+    ensures alone { IsTrue D.tells → (D.state disk.old).manner.waits_alone ≡ true → HearsAlone ticket (D.state disk.old).log (D.state disk.new).log }
 {
     the_journal_is_lawful();
     disk.wait(ticket)

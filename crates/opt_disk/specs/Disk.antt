@@ -49,6 +49,10 @@ pub record AddsNotices (old new : List Event) : Type 0 where
   pub open_before : AreOpen tickets old
   pub log : new ≡ old ++ notices tickets
 
+-- a wait brings the notification of its ticket, or none
+abbrev pub HearsAlone : ℕ → List Event → List Event → Type 0
+HearsAlone t old new = (new ≡ old) ⊎ (new ≡ old ++ Noticed t ∷ [])
+
 -- a call other than a read has failed just now, for a reason that the disk's manner has
 abbrev pub HasFailed : State → Type 0
 HasFailed s = HasFailedBy s.manner s.log
@@ -112,6 +116,23 @@ pub record Grows (old new : List Event) : Type 0 where
   pub more : List Event
   pub log : new ≡ old ++ more
 
+-- these events are writes, accepted or lost
+abbrev pub AreWrites : List Event → Type 0
+AreWrites [] = Unit {0}
+AreWrites (Wrote ticket block bytes ∷ es) = AreWrites es
+AreWrites (Lost block bytes ∷ es) = AreWrites es
+AreWrites (Noticed ticket ∷ es) = ⊥
+
+-- a log that goes on by writes alone: no notification comes
+pub record GrowsByWrites (old new : List Event) : Type 0 where
+  pub more : List Event
+  pub log : new ≡ old ++ more
+  pub writes : AreWrites more
+
 -- The disk was polled first, so many times at most and up to the first poll without a ticket: where it is known what these polls answer, the polls are counted and their notices stand behind the old log, before anything else.
 abbrev pub PollsFirst : Manner → ℕ → ℕ → List Event → ℕ → List Event → Type 0
 PollsFirst m most polls log polls_now log_now = (p : Polled) → after_polls m most polls log ≡ Some p → (polls_now ≡ p.polls) × Grows p.log log_now
+
+-- The same, and behind those notices come writes alone.
+abbrev pub PollsThenWrites : Manner → ℕ → ℕ → List Event → ℕ → List Event → Type 0
+PollsThenWrites m most polls log polls_now log_now = (p : Polled) → after_polls m most polls log ≡ Some p → (polls_now ≡ p.polls) × GrowsByWrites p.log log_now

@@ -1,13 +1,14 @@
 -- How a disk behaves, as far as that is known: which of its calls may fail and when, and what its polls answer. It is described in docs/DISK.md.
-use Rattle.std.specs.Prelude.{◌≡◌, ◌⊎◌, ℕ, zero, suc, Bool, true, IsTrue, List, [], ◌∷◌, ◌++◌, Option, Some, None, Result, Ok, Err}
+use Rattle.std.specs.Prelude.{◌≡◌, ◌⊎◌, ℕ, zero, suc, Bool, true, false, IsTrue, List, [], ◌∷◌, ◌++◌, Option, Some, None, Result, Ok, Err}
 use Rattle.opt_base.specs.Counts.{next_count}
 use Rattle.opt_disk.specs.declared.event.Event.{Event}
 use Rattle.opt_disk.specs.declared.event.Event.TheVariants.{Wrote, Lost, Noticed}
 
--- the manner of a disk, a constant of it: whether a read may fail; whether a poll or a wait may; whether behind these events a write may be accepted, may be lost, and may fail with nothing lost; and what the next poll answers behind these events, where the disk was polled so often, or nothing where that isn't known
+-- the manner of a disk, a constant of it: whether a read may fail; whether a poll or a wait may; whether a wait brings no notice but that of its ticket; whether behind these events a write may be accepted, may be lost, and may fail with nothing lost; and what the next poll answers behind these events, where the disk was polled so often, or nothing where that isn't known
 pub record Manner : Type 0 where
   pub reads_fail : Bool
   pub stalls : Bool
+  pub waits_alone : Bool
   pub accepts : List Event → Bool
   pub loses : List Event → Bool
   pub refuses : List Event → Bool
@@ -15,7 +16,7 @@ pub record Manner : Type 0 where
 
 -- the manner of a disk of which nothing is known: anything may come
 abbrev pub any_manner : Manner
-any_manner = record { reads_fail = true; stalls = true; accepts = λ log. true; loses = λ log. true; refuses = λ log. true; notice = λ polls log. None }
+any_manner = record { reads_fail = true; stalls = true; waits_alone = false; accepts = λ log. true; loses = λ log. true; refuses = λ log. true; notice = λ polls log. None }
 
 -- an event that may come behind these by the manner
 abbrev pub MayComeBy : Manner → List Event → Event → Type 0

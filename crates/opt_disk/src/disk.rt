@@ -6,7 +6,7 @@ ghost use Rattle.std.specs.Prelude.{◌≡◌, ◌<◌, ℕ, Bool, true, length,
 ghost use Rattle.opt_disk.specs.Cell.{IsAccepted, IsNoticed};
 ghost use Rattle.opt_disk.specs.Lawful.{IsSoundDisk};
 ghost use Rattle.opt_disk.specs.Manner.{AnswersBy};
-ghost use Rattle.opt_disk.specs.Disk.{State, HasFailed, Reads, AddsWrite, AddsPoll, AddsNotices, OnlyReads, OnlyWrites, OnlyPolls, OnlyWaits};
+ghost use Rattle.opt_disk.specs.Disk.{State, HasFailed, HearsAlone, Reads, AddsWrite, AddsPoll, AddsNotices, OnlyReads, OnlyWrites, OnlyPolls, OnlyWaits};
 
 use opt_base::Block;
 use std::error::Error;
@@ -88,7 +88,8 @@ pub trait Disk {
         ensures cause { IsTrue tells → OnErr result (HasFailed (state self.new)) }
         ensures answer { IsTrue tells → AnswersBy ((state self.old).manner.notice (state self.old).polls (state self.old).log) result };
 
-    /// Waits until the write of this ticket is durable. Other writes may become durable meanwhile.
+    /// Waits until the write of this ticket is durable. Other writes may become durable meanwhile, and their
+    /// notices come too where the disk's manner lets them.
     ///
     /// # Errors
     /// The wait failed, which is counted. Either the ticket was never given, or the disk's manner lets a
@@ -98,5 +99,6 @@ pub trait Disk {
         ensures noticed { IsTrue tells → OnOk result (IsNoticed ticket (state self.new).log) }
         ensures spends { OnlyWaits (is_err result) (state self.old) (state self.new) }
         ensures cause { IsTrue tells → IsAccepted ticket (state self.old).log → OnErr result (HasFailed (state self.new)) }
-        ensures stalls { IsTrue tells → IsAccepted ticket (state self.old).log → OnErr result ((state self.old).manner.stalls ≡ true) };
+        ensures stalls { IsTrue tells → IsAccepted ticket (state self.old).log → OnErr result ((state self.old).manner.stalls ≡ true) }
+        ensures alone { IsTrue tells → (state self.old).manner.waits_alone ≡ true → HearsAlone ticket (state self.old).log (state self.new).log };
 }

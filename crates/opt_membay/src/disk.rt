@@ -6,7 +6,7 @@ ghost use Rattle.opt_base.specs.Seal.{blocks_of};
 ghost use Rattle.opt_base.specs.Counts.{HasCause};
 ghost use Rattle.opt_disk.specs.Bay.{IsLeftBy};
 ghost use Rattle.opt_disk.specs.Cell.{accepted, IsAccepted, IsNoticed};
-ghost use Rattle.opt_disk.specs.Disk.{AddsWrite, AddsPoll, AddsNotices};
+ghost use Rattle.opt_disk.specs.Disk.{AddsWrite, AddsPoll, AddsNotices, HearsAlone};
 ghost use Rattle.opt_disk.specs.Lawful.{IsSoundDisk};
 ghost use Rattle.opt_disk.specs.Manner.{HasFailedBy, AnswersBy};
 ghost use Rattle.opt_memdisk.specs.declared.calls.DiskCall.TheVariants.{Read, Write, Poll, Wait};
@@ -152,6 +152,7 @@ impl Disk for BayDisk {
         ensures state { self.new ≡ after_wait self.old ticket }
         ensures reason { IsAccepted ticket self.old.log → OnErr result (HasFailedBy (manner_of self.new) self.new.log) }
         ensures stalls { IsAccepted ticket self.old.log → OnErr result ((manner_of self.old).stalls ≡ true) }
+        ensures alone { HearsAlone ticket self.old.log self.new.log }
     {
         self.disk.wait(ticket)?;
         Ok(())

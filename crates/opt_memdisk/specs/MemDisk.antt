@@ -173,11 +173,12 @@ has_listed call fails = list_any (λ f. same_call f.kind call) fails
 abbrev pub ruled : List Fail → Rule → ℕ → List Event → Option (Option ℕ)
 ruled fails rule polls log = if has_listed calls.Poll fails then None else (if nat_lt polls (2 ^ 64 - 1) then Some (polled (turns polls (by_rule rule)) (open_tickets log)) else None)
 
--- the manner of a disk with this room whose failing calls and rule are known: while there is room, exactly the listed writes are lost and the others accepted; past it each write fails with nothing lost; another call may fail only where one of its kind is listed
+-- the manner of a disk with this room whose failing calls and rule are known: while there is room, exactly the listed writes are lost and the others accepted; past it each write fails with nothing lost; another call may fail only where one of its kind is listed; and a wait brings the notice of its ticket alone
 abbrev pub manner_by : ℕ → List Fail → Rule → Manner
 manner_by room fails rule = record {
   reads_fail = has_listed calls.Read fails;
   stalls = has_listed calls.Poll fails || has_listed calls.Wait fails;
+  waits_alone = true;
   accepts = λ log. nat_lt (write_count log) room && not (is_listed calls.Write (write_count log + 1) fails);
   loses = λ log. nat_lt (write_count log) room && is_listed calls.Write (write_count log + 1) fails;
   refuses = λ log. not (nat_lt (write_count log) room);

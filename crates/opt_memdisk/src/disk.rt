@@ -8,7 +8,7 @@ ghost use Rattle.opt_base.specs.Seal.{blocks_of};
 ghost use Rattle.opt_disk.specs.Cell.{accepted, greatest_ticket, is_accepted, is_noticed, IsAccepted, IsNoticed};
 ghost use Rattle.opt_disk.specs.Manner.{AnswersBy, HasFailedBy};
 ghost use Rattle.opt_base.specs.Counts.{HasCause, next_count};
-ghost use Rattle.opt_disk.specs.Disk.{IsOpen, Reads, AddsWrite, AddsPoll, AddsNotices, SameDisk};
+ghost use Rattle.opt_disk.specs.Disk.{IsOpen, Reads, AddsWrite, AddsPoll, AddsNotices, HearsAlone, SameDisk};
 ghost use Rattle.opt_disk.specs.Bay.{zero_blocks};
 ghost use Rattle.opt_disk.specs.Crash.{IsImage};
 ghost use Rattle.opt_disk.specs.Lawful.{IsLawful};
@@ -490,6 +490,7 @@ impl Disk for MemDisk {
         ensures state { self.new ≡ after_wait self.old ticket }
         ensures reason { IsAccepted ticket self.old.log → OnErr result (HasFailedBy (manner_of self.new) self.new.log) }
         ensures stalls { IsAccepted ticket self.old.log → OnErr result ((manner_of self.old).stalls ≡ true) }
+        ensures alone { HearsAlone ticket self.old.log self.new.log }
     {
         let listed = self.fails_next(DiskCall::Wait);
         self.waits = self.waits.saturating_add(1);
