@@ -23,6 +23,7 @@ use Rattle.opt_checkpoint.specs.Advance.{Turned, AgreesOn, MayServe, IsRight, St
 use Rattle.opt_checkpoint.specs.Agree.{PipelineAgrees, data_of}
 use Rattle.opt_checkpoint.specs.Steps.{SettlesSome}
 use Rattle.opt_checkpoint.specs.Turns.{TurnsOrStays, EndsOrStays, going_home, header_turned, with_served}
+use Rattle.opt_checkpoint.proofs.Forgotten.{forgotten_opens}
 use Rattle.opt_checkpoint.proofs.HeaderTurns.{still_dead, turned_header, serves_turned}
 use Rattle.opt_checkpoint.proofs.Settled.{turned_on}
 
@@ -163,7 +164,7 @@ wait_above dead sure going stays = record {
 -- Each step.
 
 pub serves_settled : (count : ℕ) (v a : Pipeline) (l k : Ledger) (dead : DeadBlocks) → SettlesSome count v a → Turned l k → MayServe l v dead → MayServe k a dead
-serves_settled count v a l k dead s turned serves = still_dead l k v a dead turned serves (λ i h at opens. (sym (ap (λ (p : Pipeline). slice_get p.home.items i) s.rest) ∙ at, s.opens h.ticket opens))
+serves_settled count v a l k dead s turned serves = still_dead l k v a dead turned serves (λ i h at opens. (sym (ap (λ (p : Pipeline). slice_get p.home.items i) s.rest) ∙ at, forgotten_opens v.notes.notes a.notes.notes s.forgets h.ticket opens))
 
 serves_ended : (r : Bool) (b c : Pipeline) (l : Ledger) (dead : DeadBlocks) → EndsOrStays r b c → MayServe l b dead → MayServe l c dead
 serves_ended false b c l dead same serves = subst (λ (p : Pipeline). MayServe l p dead) (sym same) serves

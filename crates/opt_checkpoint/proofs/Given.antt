@@ -1,5 +1,5 @@
 -- The tickets that notes expect are of writes that the disk accepted.
-use Rattle.std.proofs.Common.{◌≡◌, ℕ, ◌&&◌, not, true, List, ◌++◌, sym, ◌∙◌, subst}
+use Rattle.std.proofs.Common.{◌≡◌, ℕ, not, true, List, sym, ◌∙◌, subst}
 use Rattle.std.proofs.lemmas.Bool.{and_parts}
 use Rattle.opt_disk.specs.declared.event.Event.{Event}
 use Rattle.opt_disk.specs.Cell.{IsAccepted, notices}

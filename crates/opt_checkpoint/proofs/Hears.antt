@@ -5,7 +5,8 @@ use Rattle.std.proofs.lemmas.Option.{same_Some, none-some, slice_get_read, get_o
 use Rattle.opt_notes.specs.declared.notes.Note.{Note}
 use Rattle.opt_notes.specs.Notes.{Expected, is_expected, is_noticed, is_open, none_open, is_among, ticket_of}
 use Rattle.opt_tx.specs.declared.commit.Committed.{Committed}
-use Rattle.opt_checkpoint.specs.Waits.{HearsMore, AreAllNoticed, OpensNone}
+use Rattle.opt_checkpoint.specs.Waits.{HearsMore, AreAllNoticed}
+use Rattle.opt_checkpoint.proofs.Forgotten.{OpensNone}
 use Rattle.opt_checkpoint.proofs.Lists.{choose_true, choose_false}
 
 -- a ticket is expected where it is among the tickets

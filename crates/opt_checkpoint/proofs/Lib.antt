@@ -48,6 +48,8 @@ pub mod Same
 pub mod ForwardRight
 pub mod ForwardSound
 pub mod Given
+pub mod Forgotten
+pub mod HeardRecords
 pub mod DueRows
 pub mod MovesRows
 pub mod Taking

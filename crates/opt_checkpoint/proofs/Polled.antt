@@ -1,11 +1,9 @@
 -- Polls whose answers are known, one after the other.
-use Rattle.std.proofs.Common.{◌≡◌, ◌⊎◌, ℕ, suc, ◌+◌, ◌-◌, ◌<◌, ◌≤◌, Bool, true, false, IsTrue, List, [], ◌∷◌, ◌++◌, Option, Some, None, Result, Ok, Err, IsErr, is_ok, is_err, refl, sym, ◌∙◌, ap, ap₂, subst, arith}
+use Rattle.std.proofs.Common.{◌≡◌, ℕ, suc, ◌+◌, ◌-◌, ◌<◌, ◌≤◌, Bool, true, false, List, ◌++◌, Option, Some, None, Result, Ok, Err, IsErr, is_err, refl, ◌∙◌, ap, ap₂, subst, arith}
 use Rattle.std.proofs.lemmas.Bool.{false≢true}
 use Rattle.opt_base.specs.Counts.{next_count}
 use Rattle.opt_disk.specs.declared.event.Event.{Event}
-use Rattle.opt_disk.specs.declared.event.Event.TheVariants.{Noticed}
-use Rattle.opt_disk.specs.Cell.{notices}
-use Rattle.opt_disk.specs.Disk.{State, Grows, AddsPoll, PollsFirst}
+use Rattle.opt_disk.specs.Disk.{State, GrowsByWrites, AddsPoll, PollsThenWrites}
 use Rattle.opt_disk.specs.Manner.{Manner, Polled, AnswersBy, after_polls, after_polls_on}
 use Rattle.opt_checkpoint.specs.Steps.{TakesAnswer, TakesKnown}
 
@@ -84,10 +82,10 @@ row_done m turn polls log p all e = (ap (λ (q : Polled). q.polls) is, ap (λ (q
     is = some_is _ (subst (λ n. after_polls m n polls log ≡ Some p) none e)
 
 -- what was polled first stands in front of what came then
-pub polls_first : {A E : Type 0} (r : Result A E) (old mid : State) (polls : ℕ) (log : List Event) → TakesKnown r old mid → polls ≡ mid.polls → Grows mid.log log → PollsFirst old.manner 64 old.polls old.log polls log
-polls_first r old mid polls log takes same grows = λ p e. let t = takes p e in (same ∙ t.polls, record { more = grows.more; log = subst (λ (l : List Event). log ≡ l ++ grows.more) t.log grows.log })
+pub polls_first : {A E : Type 0} (r : Result A E) (old mid : State) (polls : ℕ) (log : List Event) → TakesKnown r old mid → polls ≡ mid.polls → GrowsByWrites mid.log log → PollsThenWrites old.manner 64 old.polls old.log polls log
+polls_first r old mid polls log takes same grows = λ p e. let t = takes p e in (same ∙ t.polls, record { more = grows.more; log = subst (λ (l : List Event). log ≡ l ++ grows.more) t.log grows.log; writes = grows.writes })
 
 -- where the polls failed, their answers weren't known
-pub polls_failed : {A E : Type 0} (r : Result A E) (old mid : State) → IsErr r → TakesKnown r old mid → PollsFirst old.manner 64 old.polls old.log mid.polls mid.log
+pub polls_failed : {A E : Type 0} (r : Result A E) (old mid : State) → IsErr r → TakesKnown r old mid → PollsThenWrites old.manner 64 old.polls old.log mid.polls mid.log
 polls_failed (Ok a) old mid failed takes = absurd (false≢true failed)
 polls_failed (Err e) old mid failed takes = λ p e. absurd (false≢true (takes p e).done)

@@ -1,6 +1,6 @@
 -- Several records that become durable one after the other.
-use Rattle.std.proofs.Common.{◌≡◌, ℕ, ◌+◌, ◌≤◌, ◌&&◌, not, Bool, true, false, if◌then◌else◌, List, [], ◌∷◌, length, drop, refl, sym, ◌∙◌, ap, subst, arith, length-append}
-use Rattle.std.proofs.lemmas.Bool.{false≢true, and_parts}
+use Rattle.std.proofs.Common.{◌≡◌, ℕ, ◌+◌, ◌≤◌, Bool, true, false, if◌then◌else◌, List, [], ◌∷◌, length, drop, refl, sym, ◌∙◌, ap, subst, arith, length-append}
+use Rattle.std.proofs.lemmas.Bool.{false≢true}
 use Rattle.opt_base.specs.Seal.{Blocks}
 use Rattle.opt_disk.specs.declared.event.Event.{Event}
 use Rattle.opt_journal.specs.Ring.{RingPlaces}
@@ -8,36 +8,19 @@ use Rattle.opt_crash.specs.Ledger.{Ledger}
 use Rattle.opt_crash.specs.Points.{MountedSession, IsSafe}
 use Rattle.opt_crash.specs.Steps.{with_known}
 use Rattle.opt_notes.specs.declared.notes.Note.{Note}
-use Rattle.opt_notes.specs.Notes.{Expected, is_expected, is_noticed, is_among}
 use Rattle.opt_tx.specs.declared.commit.Committed.{Committed}
 use Rattle.opt_tx.specs.declared.states.Durable.{Durable}
-use Rattle.opt_tx.specs.States.{Forgets}
 use Rattle.opt_checkpoint.specs.declared.pipeline.Pipeline.{Pipeline}
 use Rattle.opt_checkpoint.specs.Agree.{PipelineAgrees}
 use Rattle.opt_checkpoint.specs.Steps.{SettlesFirst, SettlesSome, SettlesOrStays, is_first_settled}
-use Rattle.opt_checkpoint.specs.Waits.{OpensNone, AreAllNoticed}
 use Rattle.opt_checkpoint.specs.Advance.{AgreesOn, Turned}
+use Rattle.opt_checkpoint.proofs.Forgotten.{forgets_these, forgets_none, forgets_on}
 use Rattle.opt_checkpoint.proofs.KeptRows.{drop_rest}
 use Rattle.opt_checkpoint.proofs.Orders.{kept_settled}
 
--- tickets that are dropped aren't open any more, and others are as they were
-pub forgets_opens : (ts : List ℕ) (old new : Expected) → Forgets ts old new → OpensNone old.notes new.notes
-forgets_opens ts old new f u e = by (is_among u ts) (is_expected u old.notes) (is_noticed u old.notes) (is_expected u new.notes) (is_noticed u new.notes) (f.expected u) (f.noticed u) e
-  where
-    by : (a x n y m : Bool) → y ≡ (not a && x) → m ≡ (not a && n) → (y && not m) ≡ true → (x && not n) ≡ true
-    by true x n y m ey em e = absurd (false≢true (sym (ap (λ b. b && not m) ey) ∙ e))
-    by false x n y m ey em e = sym (ap (λ b. b && not m) ey ∙ ap (λ b. x && not b) em) ∙ e
-
-pub forgets_noticed : (ts : List ℕ) (old new : Expected) → Forgets ts old new → AreAllNoticed old.notes → AreAllNoticed new.notes
-forgets_noticed ts old new f all u e = let p = and_parts (not (is_among u ts)) (is_expected u old.notes) (sym (f.expected u) ∙ e) in f.noticed u ∙ both (not (is_among u ts)) (is_noticed u old.notes) p.0 (all u p.1)
-  where
-    both : (p q : Bool) → p ≡ true → q ≡ true → (p && q) ≡ true
-    both true q e h = h
-    both false q e h = absurd (false≢true e)
-
 -- none yet
 pub settles_none : (v : Pipeline) → SettlesSome 0 v v
-settles_none v = record { kept = refl; committed = refl; durable = omega arith; opens = λ u e. e; noticed = λ all. all; rest = refl }
+settles_none v = record { kept = refl; committed = refl; durable = omega arith; forgets = forgets_none v.notes.notes; rest = refl }
 
 -- one more
 pub settles_more : (n : ℕ) (v w x : Pipeline) → SettlesSome n v w → SettlesFirst w x → SettlesSome (n + 1) v x
@@ -45,8 +28,7 @@ settles_more n v w x s f = record {
   kept = kept_settled w x f.first f.settled f.rest f.was f.durable f.keeps ∙ s.kept;
   committed = drop_rest n v.committed.items x.committed.items f.first (sym s.committed ∙ f.was);
   durable = omega (arith, s.durable, length-append w.durable.items (f.settled ∷ []), ap (λ (ds : List Durable). length ds) f.durable);
-  opens = λ u e. s.opens u (forgets_opens f.first.tickets.items w.notes x.notes f.forgets u e);
-  noticed = λ all. forgets_noticed f.first.tickets.items w.notes x.notes f.forgets (s.noticed all);
+  forgets = forgets_on v.notes.notes w.notes.notes x.notes.notes s.forgets (forgets_these f.first.tickets.items w.notes x.notes f.forgets);
   rest = f.rest ∙ ap (λ (p : Pipeline). record p { committed = x.committed; durable = x.durable; notes = x.notes }) s.rest;
 }
 

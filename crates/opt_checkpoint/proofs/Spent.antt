@@ -49,6 +49,11 @@ pub on_ok : {A E : Type 0} {P Q : Type 0} (r : Result A E) → Rattle.std.proofs
 on_ok (Ok a) p f = f p
 on_ok (Err e) p f = tt
 
+-- what holds whether or not a call succeeded
+pub holds_ok : {A E : Type 0} {P : Type 0} (r : Result A E) → P → Rattle.std.proofs.Common.OnOk r P
+holds_ok (Ok a) p = p
+holds_ok (Err e) p = tt
+
 -- what holds where a call failed
 pub on_err : {A E : Type 0} {P : Type 0} (r : Result A E) → P → Rattle.std.proofs.Common.OnErr r P
 on_err (Ok a) p = tt

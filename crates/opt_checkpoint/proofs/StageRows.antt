@@ -24,7 +24,7 @@ use Rattle.opt_checkpoint.specs.Steps.{is_first_settled}
 use Rattle.opt_checkpoint.specs.Turns.{TurnsHeader, TurnsOrStays, EndsBatch, EndsOrStays, BeginsBatch, BatchAdds, WritesHeader, HeaderAdds, is_header_noticed, is_batch_noticed, is_batch_due, is_header_due, due_header}
 use Rattle.opt_checkpoint.specs.Waits.{AreAllNoticed}
 use Rattle.opt_checkpoint.specs.Advance.{GoesForward}
-use Rattle.opt_checkpoint.proofs.Settled.{forgets_noticed}
+use Rattle.opt_checkpoint.proofs.Forgotten.{forgets_these, forgotten_noticed}
 
 -- Where all tickets are noticed none is open.
 
@@ -74,7 +74,7 @@ kept_length v = omega (
 -- What the steps that make no write leave, where all tickets are noticed.
 module _ (v a b c w : Pipeline) (ring next_ring : RingPlaces) (dead next_dead : DeadBlocks) (o : IsInOrder v) (g : GoesForward v a b c w ring next_ring dead next_dead) (all : AreAllNoticed v.notes.notes) where
   a_all : AreAllNoticed a.notes.notes
-  a_all = g.settles.noticed all
+  a_all = forgotten_noticed v.notes.notes a.notes.notes g.settles.forgets all
 
   a_committed : a.committed.items ≡ []
   a_committed = no_committed a.committed.items a.notes.notes a_all g.settled
@@ -112,7 +112,7 @@ module _ (v a b c w : Pipeline) (ring next_ring : RingPlaces) (dead next_dead : 
   turned = turned_or_none a.next a b ring next_ring a_all g.turns
 
   b_all : AreAllNoticed b.notes.notes
-  b_all = ⊎_elim (λ s. subst (λ (p : Pipeline). AreAllNoticed p.notes.notes) (sym s.1) a_all) (λ t. forgets_noticed (t.pending.ticket ∷ []) a.notes b.notes t.forgets a_all) turned
+  b_all = ⊎_elim (λ s. subst (λ (p : Pipeline). AreAllNoticed p.notes.notes) (sym s.1) a_all) (λ t. forgotten_noticed a.notes.notes b.notes.notes (forgets_these (t.pending.ticket ∷ []) a.notes b.notes t.forgets) a_all) turned
 
   b_next : b.next ≡ None
   b_next = ⊎_elim (λ s. ap (λ (p : Pipeline). p.next) s.1 ∙ s.0) (λ t. ap (λ (p : Pipeline). p.next) t.rest) turned

@@ -17,7 +17,8 @@ use Rattle.opt_checkpoint.specs.Agree.{durable_count}
 use Rattle.opt_checkpoint.specs.Kept.{kept, number_of, placed_number}
 use Rattle.opt_checkpoint.specs.Order.{IsInOrder, HasRoom}
 use Rattle.opt_checkpoint.specs.Steps.{SettlesSome, is_first_settled}
-use Rattle.opt_checkpoint.specs.Waits.{AreWaitedFor, OpensNone}
+use Rattle.opt_checkpoint.specs.Waits.{AreWaitedFor}
+use Rattle.opt_checkpoint.proofs.Forgotten.{OpensNone, forgotten_opens}
 use Rattle.opt_checkpoint.proofs.ForwardRight.{serves_settled}
 use Rattle.opt_checkpoint.proofs.ForwardSound.{index_some, goes_settled}
 use Rattle.opt_checkpoint.proofs.Lists.{get_drop}
@@ -47,7 +48,7 @@ module _ (count : ℕ) (v w : Pipeline) (s : SettlesSome count v w) where
     where
       by : (cs : List Committed) → w.committed.items ≡ cs → is_first_settled cs w.notes.notes ≡ false → upto < w.header.start + durable_count w
       by [] is none = omega (arith, le, last_by_count w o, ap (λ (cs : List Committed). length cs) is)
-      by (c ∷ cs) is none = ⊎_elim (λ less. less) (λ more. absurd (false≢true (sym none ∙ still_none c.tickets.items v.notes.notes w.notes.notes s.opens (waited count c there (omega (arith, more, number)))))) (cases_lt upto (w.header.start + durable_count w))
+      by (c ∷ cs) is none = ⊎_elim (λ less. less) (λ more. absurd (false≢true (sym none ∙ still_none c.tickets.items v.notes.notes w.notes.notes (forgotten_opens v.notes.notes w.notes.notes s.forgets) (waited count c there (omega (arith, more, number)))))) (cases_lt upto (w.header.start + durable_count w))
         where
           first : slice_get w.committed.items 0 ≡ Some c
           first = ap (λ (ds : List Committed). slice_get ds 0) is

@@ -1,5 +1,5 @@
 -- What the pipeline's calls make of it, in terms of its own lists: a commit joins, the oldest record becomes durable, notices are taken. It is described in docs/PIPELINE.md.
-use Rattle.std.specs.Prelude.{◌≡◌, ◌⊎◌, ⊤, ℕ, ◌+◌, ◌-◌, ◌≤◌, min, max, ◌||◌, ◌&&◌, Bool, true, false, IsTrue, List, [], ◌∷◌, ◌++◌, length, drop, Option, Some, None, Result, Ok, Err, OnOk, is_ok}
+use Rattle.std.specs.Prelude.{◌≡◌, ◌⊎◌, ℕ, ◌+◌, ◌-◌, ◌≤◌, min, max, ◌||◌, ◌&&◌, Bool, true, false, IsTrue, List, [], ◌∷◌, ◌++◌, length, drop, Option, Some, None, Result, Ok, Err, OnOk, is_ok}
 use Rattle.opt_base.specs.Seal.{Blocks}
 use Rattle.opt_disk.specs.declared.event.Event.{Event}
 use Rattle.opt_disk.specs.Cell.{notices}
@@ -18,13 +18,12 @@ use Rattle.opt_notes.specs.Notes.{is_expected, is_noticed, none_open}
 use Rattle.opt_tx.specs.declared.commit.Committed.{Committed}
 use Rattle.opt_tx.specs.declared.states.Durable.{Durable}
 use Rattle.opt_tx.specs.States.{IsDurableOf, Forgets}
-use Rattle.opt_crash.specs.Writes.{AddsFront}
 use Rattle.opt_checkpoint.specs.declared.pipeline.Pipeline.{Pipeline}
 use Rattle.opt_checkpoint.specs.declared.pipeline.Ready.{Ready}
 use Rattle.opt_checkpoint.specs.Newest.{spot_of, spot_after}
 use Rattle.opt_checkpoint.specs.Agree.{PipelineAgrees}
 use Rattle.opt_checkpoint.specs.Kept.{kept}
-use Rattle.opt_checkpoint.specs.Waits.{OpensNone, AreAllNoticed}
+use Rattle.opt_checkpoint.specs.Waits.{ForgetsSome}
 
 -- the notes once these notices are taken: nothing more is expected, and those of them that were expected are noticed
 pub record TakesAll (tickets : List ℕ) (old new : List Note) : Type 0 where
@@ -86,13 +85,12 @@ abbrev pub SettlesOrStays : Bool → Pipeline → Pipeline → Type 0
 SettlesOrStays true v w = SettlesFirst v w
 SettlesOrStays false v w = w ≡ v
 
--- So many of the committed records, from the oldest on, have become durable and their tickets have left the notes; the records are the same, and nothing else has changed. No ticket is open that wasn't, and where all were noticed all are.
+-- So many of the committed records, from the oldest on, have become durable and their tickets have left the notes; the records are the same, and nothing else has changed.
 pub record SettlesSome (count : ℕ) (v w : Pipeline) : Type 0 where
   pub kept : kept w ≡ kept v
   pub committed : w.committed.items ≡ drop count v.committed.items
   pub durable : length w.durable.items ≡ length v.durable.items + count
-  pub opens : OpensNone v.notes.notes w.notes.notes
-  pub noticed : AreAllNoticed v.notes.notes → AreAllNoticed w.notes.notes
+  pub forgets : ForgetsSome v.notes.notes w.notes.notes
   pub rest : w ≡ record v { committed = w.committed; durable = w.durable; notes = w.notes }
 
 -- what is ready still once this record has taken its part

@@ -1,12 +1,44 @@
 -- What waits leave: tickets are noticed, and nothing else is new. It is described in docs/PIPELINE.md.
-use Rattle.std.specs.Prelude.{◌≡◌, ℕ, ◌≤◌, Bool, true, List, ◌++◌, map, slice_get, Some}
+use Rattle.std.specs.Prelude.{◌≡◌, ◌⊎◌, ℕ, ◌≤◌, Bool, true, List, ◌++◌, drop, map, slice_get, Some, Result, OnOk}
 use Rattle.opt_disk.specs.declared.event.Event.{Event}
-use Rattle.opt_disk.specs.Cell.{notices}
+use Rattle.opt_disk.specs.Cell.{notices, IsNoticed}
 use Rattle.opt_disk.specs.Disk.{State, Spends}
+use Rattle.opt_crash.specs.HomeTest.{is_one_of}
 use Rattle.opt_notes.specs.declared.notes.Note.{Note}
-use Rattle.opt_notes.specs.Notes.{Expected, is_expected, is_noticed, is_open, none_open, ticket_of}
+use Rattle.opt_notes.specs.Notes.{Expected, is_expected, is_noticed, none_open, ticket_of}
 use Rattle.opt_tx.specs.declared.commit.Committed.{Committed}
 use Rattle.opt_checkpoint.specs.declared.pipeline.Pipeline.{Pipeline}
+
+-- No ticket is expected that wasn't, and of each that is expected still the same is known.
+pub record ForgetsSome (old new : List Note) : Type 0 where
+  pub expected : (u : ℕ) → is_expected u new ≡ true → is_expected u old ≡ true
+  pub noticed : (u : ℕ) → is_expected u new ≡ true → is_noticed u new ≡ is_noticed u old
+
+-- Each notice that came is of such a ticket, and where no call failed the notes know it.
+pub record HearsOnly {A E : Type 0} (P : ℕ → Type 0) (result : Result A E) (old new : List Event) (notes : List Note) : Type 0 where
+  pub only : (u : ℕ) → IsNoticed u new → IsNoticed u old ⊎ P u
+  pub heard : OnOk result ((u : ℕ) → IsNoticed u new → IsNoticed u old ⊎ (is_noticed u notes ≡ true))
+
+-- the ticket is one of a committed record up to this number
+pub record IsOfRecord (v : Pipeline) (upto t : ℕ) : Type 0 where
+  pub place : ℕ
+  pub committed : Committed
+  pub is : slice_get v.committed.items place ≡ Some committed
+  pub within : committed.number ≤ upto
+  pub own : is_one_of t committed.tickets.items ≡ true
+
+-- the notes know each notice in the log that is of a committed record's ticket
+abbrev pub HearsRecords : List Event → Pipeline → Type 0
+HearsRecords log v = (k t : ℕ) (c : Committed) → slice_get v.committed.items k ≡ Some c → is_one_of t c.tickets.items ≡ true → IsNoticed t log → is_noticed t v.notes.notes ≡ true
+
+-- where the disk's waits bring the notice of their own ticket alone: if the notes knew those notices before a call, they do after it
+abbrev pub StaysHeard : State → State → Pipeline → Pipeline → Type 0
+StaysHeard d e v w = d.manner.waits_alone ≡ true → HearsRecords d.log v → HearsRecords e.log w
+
+-- some of the committed records, the oldest, aren't committed ones any more, and no other has come
+pub record LosesCommitted (v w : Pipeline) : Type 0 where
+  pub count : ℕ
+  pub left : w.committed.items ≡ drop count v.committed.items
 
 -- each ticket that is expected is noticed
 abbrev pub AreAllNoticed : List Note → Type 0
@@ -17,10 +49,6 @@ pub record HearsMore (old new : Expected) : Type 0 where
   pub tickets : map ticket_of new.notes ≡ map ticket_of old.notes
   pub room : new.room ≡ old.room
   pub noticed : (u : ℕ) → is_noticed u old.notes ≡ true → is_noticed u new.notes ≡ true
-
--- no ticket is open that wasn't
-abbrev pub OpensNone : List Note → List Note → Type 0
-OpensNone old new = (u : ℕ) → is_open u new ≡ true → is_open u old ≡ true
 
 -- none of the tickets of the committed records up to this number is open
 abbrev pub AreWaitedFor : ℕ → Pipeline → Type 0

@@ -1,10 +1,11 @@
 //! The pipeline's whole step, in its order, and the calls made of it: the step after the notices that have come, and
 //! the rounds of waits that bring every record to its end. What a single step does is the other modules' matter.
 
-ghost use Rattle.std.specs.Prelude.{◌≡◌, ◌≤◌, ◌<◌, ◌+◌, ◌++◌, ◌∷◌, ◌^◌, [], ℕ, List, length, false, vec_len, vec_capacity, IsTrue, OnOk, OnErr, is_err};
+ghost use Rattle.std.specs.Prelude.{◌≡◌, ◌⊎◌, ◌≤◌, ◌<◌, ◌+◌, ◌++◌, ◌∷◌, ◌^◌, [], true, ℕ, List, length, false, vec_len, vec_capacity, IsTrue, OnOk, OnErr, is_err};
 ghost use Rattle.opt_base.specs.Seal.{Blocks};
 ghost use Rattle.opt_disk.specs.declared.event.Event.{Event};
-ghost use Rattle.opt_disk.specs.Disk.{State, HasFailed, OnlyWrites, PollsFirst, writes_in};
+ghost use Rattle.opt_disk.specs.Cell.{IsNoticed};
+ghost use Rattle.opt_disk.specs.Disk.{State, HasFailed, GrowsByWrites, OnlyWrites, PollsThenWrites, writes_in};
 ghost use Rattle.opt_journal.specs.Ring.{RingPlaces};
 ghost use Rattle.opt_crash.specs.Ledger.{Ledger};
 ghost use Rattle.opt_crash.specs.Points.{MountedSession, IsSafe};
@@ -16,7 +17,7 @@ ghost use Rattle.opt_checkpoint.specs.Kept.{kept};
 ghost use Rattle.opt_checkpoint.specs.Order.{IsInOrder, HasRoom};
 ghost use Rattle.opt_checkpoint.specs.Steps.{is_first_settled, SettlesSome};
 ghost use Rattle.opt_checkpoint.specs.Stages.{IsAtStage};
-ghost use Rattle.opt_checkpoint.specs.Waits.{AreAllNoticed, OnlyNotices, WaitsSome};
+ghost use Rattle.opt_checkpoint.specs.Waits.{AreAllNoticed, IsOfRecord, LosesCommitted, OnlyNotices, StaysHeard, WaitsSome};
 ghost use Rattle.opt_checkpoint.specs.Advance.{AgreesOn, IsRight, IsRightOn, StaysRight, Leaves, IsSound, HasTurns, LeavesTurns, Moves, NothingIsDue, IsDrained, AdvanceSpends, GoesForward, writes_owed};
 ghost use Rattle.opt_checkpoint.specs.Turns.{with_served, going_home};
 
@@ -60,9 +61,11 @@ impl Pipeline {
         ensures owed { IsTrue D.tells → writes_in (D.state disk.new).log + writes_owed self.new ≤ writes_in (D.state disk.old).log + writes_owed self.old }
         ensures adds { IsTrue D.tells → AddsHome result (kept self.old) (D.state disk.old).log (D.state disk.new).log }
         ensures front { LosesFront (kept self.old) (kept self.new) }
+        ensures lost { OnOk result (LosesCommitted self.old self.new) }
+        ensures heard { IsTrue D.tells → (s : MountedSession) (l : Ledger) (t floor : ℕ) (taken : List ℕ) → IsRightOn s (D.state disk.old) l t floor self.old ring.old reuse.old taken → OnOk result (StaysHeard (D.state disk.old) (D.state disk.new) self.old self.new) }
         ensures bytes { IsTrue D.tells → (s : MountedSession) (l : Ledger) (t floor : ℕ) (taken : List ℕ) → IsRightOn s (D.state disk.old) l t floor self.old ring.old reuse.old taken → LeavesBytes l self.old self.new (D.state disk.old) (D.state disk.new) }
         ensures spends { AdvanceSpends result (D.state disk.old) (D.state disk.new) }
-        ensures polled { IsTrue D.tells → PollsFirst (D.state disk.old).manner 64 (D.state disk.old).polls (D.state disk.old).log (D.state disk.new).polls (D.state disk.new).log }
+        ensures polled { IsTrue D.tells → PollsThenWrites (D.state disk.old).manner 64 (D.state disk.old).polls (D.state disk.old).log (D.state disk.new).polls (D.state disk.new).log }
         ensures cause { IsTrue D.tells → OnErr result (HasFailed (D.state disk.new)) }
     {
         calls_add_at_most_one_write();
@@ -92,6 +95,8 @@ impl Pipeline {
         ensures owed { IsTrue D.tells → writes_in (D.state disk.new).log + writes_owed self.new ≤ writes_in (D.state disk.old).log + writes_owed self.old }
         ensures adds { IsTrue D.tells → AddsHome result (kept self.old) (D.state disk.old).log (D.state disk.new).log }
         ensures front { LosesFront (kept self.old) (kept self.new) }
+        ensures lost { OnOk result (LosesCommitted self.old self.new) }
+        ensures heard { IsTrue D.tells → (s : MountedSession) (l : Ledger) (t floor : ℕ) (taken : List ℕ) → IsRightOn s (D.state disk.old) l t floor self.old ring.old reuse.old taken → OnOk result (StaysHeard (D.state disk.old) (D.state disk.new) self.old self.new) }
         ensures bytes { IsTrue D.tells → (s : MountedSession) (l : Ledger) (t floor : ℕ) (taken : List ℕ) → IsRightOn s (D.state disk.old) l t floor self.old ring.old reuse.old taken → LeavesBytes l self.old self.new (D.state disk.old) (D.state disk.new) }
         ensures spends { WaitsSome (is_err result) (D.state disk.old) (D.state disk.new) }
         ensures cause { IsTrue D.tells → (s : MountedSession) (l : Ledger) (t floor : ℕ) (taken : List ℕ) → IsRightOn s (D.state disk.old) l t floor self.old ring.old reuse.old taken → OnErr result (HasFailed (D.state disk.new)) }
@@ -109,7 +114,8 @@ impl Pipeline {
     }
 
     /// Waits until no ticket of the records up to this number is open, and takes those records as durable. Where the
-    /// last record has that number or a greater one, the record of that number is durable then.
+    /// last record has that number or a greater one, the record of that number is durable then. Where the disk's
+    /// waits bring the notice of their own ticket alone, each notice that came is of a ticket of those records.
     ///
     /// # Errors
     /// A wait failed, which the disk has counted. What a crash leaves is still one sync point.
@@ -121,6 +127,9 @@ impl Pipeline {
         ensures moves { (ring : RingPlaces) (dead : DeadBlocks) → Moves 0 self.old self.new ring ring dead dead }
         ensures durable { OnOk result (upto ≤ self.old.last → upto < self.new.header.start + durable_count self.new) }
         ensures kept { kept self.new ≡ kept self.old }
+        ensures lost { OnOk result (LosesCommitted self.old self.new) }
+        ensures heard { IsTrue D.tells → (s : MountedSession) (l : Ledger) (t floor : ℕ) (ring : RingPlaces) (dead : DeadBlocks) (taken : List ℕ) → IsRightOn s (D.state disk.old) l t floor self.old ring dead taken → OnOk result (StaysHeard (D.state disk.old) (D.state disk.new) self.old self.new) }
+        ensures only { IsTrue D.tells → (D.state disk.old).manner.waits_alone ≡ true → (u : ℕ) → IsNoticed u (D.state disk.new).log → IsNoticed u (D.state disk.old).log ⊎ IsOfRecord self.old upto u }
         ensures owed { writes_owed self.new ≡ writes_owed self.old }
         ensures log { IsTrue D.tells → OnlyNotices (D.state disk.old).log (D.state disk.new).log }
         ensures spends { WaitsSome (is_err result) (D.state disk.old) (D.state disk.new) }
@@ -149,6 +158,8 @@ fn drain_once<D: Disk>(
     ensures owed { IsTrue D.tells → writes_in (D.state disk.new).log + writes_owed pipeline.new ≤ writes_in (D.state disk.old).log + writes_owed pipeline.old }
     ensures adds { IsTrue D.tells → AddsHome result (kept pipeline.old) (D.state disk.old).log (D.state disk.new).log }
     ensures front { LosesFront (kept pipeline.old) (kept pipeline.new) }
+    ensures lost { OnOk result (LosesCommitted pipeline.old pipeline.new) }
+    ensures heard { IsTrue D.tells → (s : MountedSession) (l : Ledger) (t floor : ℕ) (taken : List ℕ) → IsRightOn s (D.state disk.old) l t floor pipeline.old ring.old reuse.old taken → OnOk result (StaysHeard (D.state disk.old) (D.state disk.new) pipeline.old pipeline.new) }
     ensures bytes { IsTrue D.tells → (s : MountedSession) (l : Ledger) (t floor : ℕ) (taken : List ℕ) → IsRightOn s (D.state disk.old) l t floor pipeline.old ring.old reuse.old taken → LeavesBytes l pipeline.old pipeline.new (D.state disk.old) (D.state disk.new) }
     ensures spends { WaitsSome (is_err result) (D.state disk.old) (D.state disk.new) }
     ensures cause { IsTrue D.tells → NotesAreGiven (D.state disk.old).log pipeline.old.notes.notes → OnErr result (HasFailed (D.state disk.new)) }
@@ -179,6 +190,9 @@ fn go_on<D: Disk>(
     ensures owed { IsTrue D.tells → writes_in (D.state disk.new).log + writes_owed pipeline.new ≤ writes_in (D.state disk.old).log + writes_owed pipeline.old }
     ensures adds { IsTrue D.tells → AddsHome result (kept pipeline.old) (D.state disk.old).log (D.state disk.new).log }
     ensures front { LosesFront (kept pipeline.old) (kept pipeline.new) }
+    ensures lost { OnOk result (LosesCommitted pipeline.old pipeline.new) }
+    ensures heard { IsTrue D.tells → (s : MountedSession) (l : Ledger) (t floor : ℕ) (taken : List ℕ) → IsRightOn s (D.state disk.old) l t floor pipeline.old ring.old reuse.old taken → OnOk result (StaysHeard (D.state disk.old) (D.state disk.new) pipeline.old pipeline.new) }
+    ensures writes { IsTrue D.tells → GrowsByWrites (D.state disk.old).log (D.state disk.new).log }
     ensures bytes { IsTrue D.tells → (s : MountedSession) (l : Ledger) (t floor : ℕ) (taken : List ℕ) → IsRightOn s (D.state disk.old) l t floor pipeline.old ring.old reuse.old taken → LeavesBytes l pipeline.old pipeline.new (D.state disk.old) (D.state disk.new) }
     ensures spends { OnlyWrites (is_err result) (D.state disk.old) (D.state disk.new) }
     ensures cause { IsTrue D.tells → OnErr result (HasFailed (D.state disk.new)) }

@@ -4,6 +4,7 @@
 ghost use Rattle.std.specs.Prelude.{◌≡◌, ◌<◌, ℕ, List, length, slice_get, Some, true, false, IsTrue, OnOk, OnErr, is_err};
 ghost use Rattle.opt_disk.specs.Disk.{HasFailed};
 ghost use Rattle.opt_journal.specs.Ring.{RingPlaces};
+ghost use Rattle.opt_crash.specs.HomeTest.{is_one_of};
 ghost use Rattle.opt_crash.specs.Ledger.{Ledger};
 ghost use Rattle.opt_crash.specs.Points.{MountedSession, IsSafe};
 ghost use Rattle.opt_notes.specs.Notes.{is_noticed, is_open, none_open};
@@ -11,7 +12,7 @@ ghost use Rattle.opt_notes.specs.declared.notes.Note.{Note};
 ghost use Rattle.opt_tx.specs.declared.commit.Committed.{Committed};
 ghost use Rattle.opt_checkpoint.specs.Agree.{PipelineAgrees, NotesAreGiven};
 ghost use Rattle.opt_checkpoint.specs.Order.{IsInOrder};
-ghost use Rattle.opt_checkpoint.specs.Waits.{AreAllNoticed, HearsMore, AreWaitedFor, OnlyNotices, WaitsSome};
+ghost use Rattle.opt_checkpoint.specs.Waits.{AreAllNoticed, HearsMore, HearsOnly, IsOfRecord, AreWaitedFor, OnlyNotices, WaitsSome};
 
 use crate::Pipeline;
 use opt_crash::{
@@ -32,6 +33,7 @@ pub fn wait_for_all<D: Disk>(disk: &mut D, pipeline: &mut Pipeline) -> Result<()
     ensures log { IsTrue D.tells → OnlyNotices (D.state disk.old).log (D.state disk.new).log }
     ensures spends { WaitsSome (is_err result) (D.state disk.old) (D.state disk.new) }
     ensures cause { IsTrue D.tells → NotesAreGiven (D.state disk.old).log pipeline.old.notes.notes → OnErr result (HasFailed (D.state disk.new)) }
+    ensures only { IsTrue D.tells → (D.state disk.old).manner.waits_alone ≡ true → HearsOnly (λ u. is_open u pipeline.old.notes.notes ≡ true) result (D.state disk.old).log (D.state disk.new).log pipeline.new.notes.notes }
 {
     for at in 0..pipeline.notes.len() {
         wait_for_note(disk, pipeline, at)?;
@@ -49,6 +51,7 @@ fn wait_for_note<D: Disk>(disk: &mut D, pipeline: &mut Pipeline, at: usize) -> R
     ensures log { IsTrue D.tells → OnlyNotices (D.state disk.old).log (D.state disk.new).log }
     ensures spends { WaitsSome (is_err result) (D.state disk.old) (D.state disk.new) }
     ensures cause { IsTrue D.tells → NotesAreGiven (D.state disk.old).log pipeline.old.notes.notes → OnErr result (HasFailed (D.state disk.new)) }
+    ensures only { IsTrue D.tells → (D.state disk.old).manner.waits_alone ≡ true → HearsOnly (λ u. is_open u pipeline.old.notes.notes ≡ true) result (D.state disk.old).log (D.state disk.new).log pipeline.new.notes.notes }
 {
     match pipeline.notes.get(at) {
         Some(note) => wait_where_open(disk, pipeline, note.ticket),
@@ -70,6 +73,7 @@ pub fn wait_upto<D: Disk>(disk: &mut D, pipeline: &mut Pipeline, upto: u64) -> R
     ensures log { IsTrue D.tells → OnlyNotices (D.state disk.old).log (D.state disk.new).log }
     ensures spends { WaitsSome (is_err result) (D.state disk.old) (D.state disk.new) }
     ensures cause { IsTrue D.tells → NotesAreGiven (D.state disk.old).log pipeline.old.notes.notes → OnErr result (HasFailed (D.state disk.new)) }
+    ensures only { IsTrue D.tells → (D.state disk.old).manner.waits_alone ≡ true → HearsOnly (IsOfRecord pipeline.old upto) result (D.state disk.old).log (D.state disk.new).log pipeline.new.notes.notes }
 {
     for at in 0..pipeline.committed.len() {
         if upto < pipeline.committed[at].number {
@@ -95,6 +99,7 @@ fn wait_for_record<D: Disk>(
     ensures log { IsTrue D.tells → OnlyNotices (D.state disk.old).log (D.state disk.new).log }
     ensures spends { WaitsSome (is_err result) (D.state disk.old) (D.state disk.new) }
     ensures cause { IsTrue D.tells → NotesAreGiven (D.state disk.old).log pipeline.old.notes.notes → OnErr result (HasFailed (D.state disk.new)) }
+    ensures only { IsTrue D.tells → (D.state disk.old).manner.waits_alone ≡ true → HearsOnly (λ u. (c : Committed) × (slice_get pipeline.old.committed.items at ≡ Some c) × (is_one_of u c.tickets.items ≡ true)) result (D.state disk.old).log (D.state disk.new).log pipeline.new.notes.notes }
 {
     for k in 0..pipeline.committed[at].tickets.len() {
         let ticket = pipeline.committed[at].tickets[k];
@@ -117,6 +122,7 @@ fn wait_where_open<D: Disk>(
     ensures log { IsTrue D.tells → OnlyNotices (D.state disk.old).log (D.state disk.new).log }
     ensures spends { WaitsSome (is_err result) (D.state disk.old) (D.state disk.new) }
     ensures cause { IsTrue D.tells → NotesAreGiven (D.state disk.old).log pipeline.old.notes.notes → OnErr result (HasFailed (D.state disk.new)) }
+    ensures only { IsTrue D.tells → (D.state disk.old).manner.waits_alone ≡ true → HearsOnly (λ u. (u ≡ ticket) × (is_open ticket pipeline.old.notes.notes ≡ true)) result (D.state disk.old).log (D.state disk.new).log pipeline.new.notes.notes }
 {
     nothing_is_written_between_records();
     one_write_is_pending();

@@ -1,15 +1,17 @@
 -- Where there is no record nothing is done; else a wait for all tickets, and the steps that are due then.
-use Rattle.std.proofs.Common.{refl, ap, arith}
+use Rattle.std.proofs.Common.{◌≡◌, true, refl, ap, arith}
 use Rattle.opt_disk.specs.Disk.{writes_in}
 use Rattle.opt_checkpoint.specs.Kept.{kept}
 use Rattle.opt_checkpoint.proofs.Added.{home_none, home_noticed, home_heard, loses_none, loses_on, loses_heard}
 use Rattle.opt_checkpoint.proofs.Heard.{sound_heard, serves_heard, owed_heard, writes_noticed}
+use Rattle.opt_checkpoint.proofs.Forgotten.{committed_heard, committed_on, committed_same}
+use Rattle.opt_checkpoint.proofs.HeardRecords.{heard_waited, stays_heard_on}
 use Rattle.opt_checkpoint.proofs.LiveBytes.{leaves_none, leaves_noticed, leaves_then}
 use Rattle.opt_checkpoint.proofs.MovesRows.{moves_more, moves_heard}
 use Rattle.opt_checkpoint.proofs.Settled.{turned_same}
 use Rattle.opt_checkpoint.proofs.StageRows.{empty_is_on}
 use Rattle.opt_checkpoint.proofs.StepsRight.{leaves_failed}
-use Rattle.opt_checkpoint.proofs.Spent.{on_err}
+use Rattle.opt_checkpoint.proofs.Spent.{on_err, on_ok}
 use Rattle.opt_checkpoint.proofs.advance.drain_once.Goals as goal
 
 pub returns-then-is_empty-clause-stage : goal.returns-then-is_empty-clause-stage
@@ -94,3 +96,23 @@ returns-in_err-wait_for_all-clause-cause g c = λ tells given. on_err c.from_res
 
 pub returns-clause-cause : goal.returns-clause-cause
 returns-clause-cause g c = λ tells given. c.go_on.ensures.cause tells
+
+pub returns-then-is_empty-clause-lost : goal.returns-then-is_empty-clause-lost
+returns-then-is_empty-clause-lost g c = committed_same c.args.pipeline.now c.args.pipeline.now refl
+
+pub returns-then-is_empty-clause-heard : goal.returns-then-is_empty-clause-heard
+returns-then-is_empty-clause-heard g c = λ tells s l t floor taken right alone heard. heard
+
+pub returns-clause-lost : goal.returns-clause-lost
+returns-clause-lost g c = on_ok c.go_on.result c.go_on.ensures.lost (committed_on c.args.pipeline.now c.wait_for_all.new.pipeline c.go_on.new.pipeline (committed_heard c.args.pipeline.now c.wait_for_all.new.pipeline c.wait_for_all.ensures.rest))
+
+pub returns-clause-heard : goal.returns-clause-heard
+returns-clause-heard g c = λ tells s l t floor taken right.
+    let v = c.args.pipeline.now in
+    let w = c.wait_for_all.new.pipeline in
+    let old = g.D.Disk.state c.args.disk.now in
+    let middle = g.D.Disk.state c.wait_for_all.new.disk in
+    let waited = c.wait_for_all.ensures.agrees tells s l t floor c.args.ring.now c.args.reuse.now.waiting taken right.safe right.agrees in
+    let known = λ (alone : old.manner.waits_alone ≡ true). heard_waited c.in_ok-wait_for_all.field-0 old.log middle.log v w c.wait_for_all.ensures.rest c.wait_for_all.ensures.hears (c.in_ok-wait_for_all.ensures.only tells alone) in
+    on_ok c.go_on.result (c.go_on.ensures.heard tells s l t floor taken (record { safe = waited.0; agrees = waited.1; serves = serves_heard l v w c.args.reuse.now c.wait_for_all.ensures.rest c.wait_for_all.ensures.hears right.serves }))
+    (stays_heard_on old middle (g.D.Disk.state c.go_on.new.disk) v w c.go_on.new.pipeline c.wait_for_all.ensures.spends.spends.same.manner known)

@@ -5,6 +5,8 @@ use Rattle.opt_checkpoint.specs.Kept.{kept}
 use Rattle.opt_checkpoint.specs.Turns.{is_batch_due, is_header_due, due_header, header_made}
 use Rattle.opt_checkpoint.proofs.Added.{home_before, home_failed, home_went, home_batch, home_stepped, loses_on, loses_batch, loses_header, kept_begun, kept_made}
 use Rattle.opt_checkpoint.proofs.EventRows.{adds_on}
+use Rattle.opt_checkpoint.proofs.Forgotten.{committed_on, committed_same, forward_forgets, forward_loses, written_committed, written_noticed}
+use Rattle.opt_checkpoint.proofs.HeardRecords.{grows_batch, grows_header, grows_on, heard_left, none_came}
 use Rattle.opt_checkpoint.proofs.HomeLives.{home_lives}
 use Rattle.opt_checkpoint.proofs.LiveBytes.{Covered, leaves_on, batch_covered, header_covered}
 use Rattle.opt_checkpoint.proofs.MovesRows.{turns_left, moves_more, moves_upto_batch, moves_whole, sound_batch, sound_header}
@@ -199,3 +201,51 @@ returns-clause-bytes g c = λ tells s l t floor taken right.
     leaves_on l on.now on.turned v w y old old new c.go_forward.ensures.front (c.write_next_header.ensures.spends.same.base ∙ c.begin_batch.ensures.spends.same.base)
     (kept_made (is_header_due x) c.write_next_header.result x y c.go_forward.new.ring c.write_next_header.ensures.adds ∙ kept_begun (is_batch_due w) c.begin_batch.result w x c.begin_batch.ensures.begins)
     (adds_on (Covered on.now w) old.log middle.log new.log batch header) (c.go_forward.ensures.bytes s old l t floor taken right)
+
+pub returns-clause-lost : goal.returns-clause-lost
+returns-clause-lost g c =
+    let f = c.go_forward.ensures.forward in
+    let v = c.args.pipeline.now in
+    let w = c.go_forward.new.pipeline in
+    let y = c.write_next_header.new.pipeline in
+    committed_on v w y (forward_loses v f.0 f.1 f.2 w c.args.ring.now c.go_forward.new.ring c.args.reuse.now c.go_forward.new.reuse f.3)
+    (committed_same w y (written_committed (is_batch_due w) (is_header_due c.begin_batch.new.pipeline) c.begin_batch.result c.write_next_header.result w c.begin_batch.new.pipeline y c.go_forward.new.ring c.begin_batch.ensures.begins c.write_next_header.ensures.adds))
+
+pub returns-clause-heard : goal.returns-clause-heard
+returns-clause-heard g c = λ tells s l t floor taken right alone.
+    let f = c.go_forward.ensures.forward in
+    let v = c.args.pipeline.now in
+    let w = c.go_forward.new.pipeline in
+    let x = c.begin_batch.new.pipeline in
+    let y = c.write_next_header.new.pipeline in
+    let old = g.D.Disk.state c.args.disk.now in
+    let middle = g.D.Disk.state c.begin_batch.new.disk in
+    let new = g.D.Disk.state c.write_next_header.new.disk in
+    let on = c.go_forward.ensures.right s old.base old.log l t floor taken right in
+    let grows = grows_on old.log middle.log new.log (grows_batch (is_batch_due w) c.begin_batch.result w x old.log middle.log (c.begin_batch.ensures.log tells)) (grows_header (is_header_due x) c.write_next_header.result x y c.go_forward.new.ring middle.log new.log (c.write_next_header.ensures.log tells)) in
+    heard_left old.log new.log v w y (forward_loses v f.0 f.1 f.2 w c.args.ring.now c.go_forward.new.ring c.args.reuse.now c.go_forward.new.reuse f.3)
+    (written_committed (is_batch_due w) (is_header_due x) c.begin_batch.result c.write_next_header.result w x y c.go_forward.new.ring c.begin_batch.ensures.begins c.write_next_header.ensures.adds)
+    (forward_forgets v f.0 f.1 f.2 w c.args.ring.now c.go_forward.new.ring c.args.reuse.now c.go_forward.new.reuse f.3)
+    (written_noticed (is_batch_due w) (is_header_due x) c.begin_batch.result c.write_next_header.result w x y c.go_forward.new.ring c.begin_batch.ensures.begins c.write_next_header.ensures.adds)
+    on.right.agrees.expected (none_came old.log new.log grows)
+
+pub returns-in_err-begin_batch-clause-writes : goal.returns-in_err-begin_batch-clause-writes
+returns-in_err-begin_batch-clause-writes g c = λ tells. grows_batch (is_batch_due c.go_forward.new.pipeline) c.begin_batch.result c.go_forward.new.pipeline c.begin_batch.new.pipeline (g.D.Disk.state c.args.disk.now).log (g.D.Disk.state c.begin_batch.new.disk).log (c.begin_batch.ensures.log tells)
+
+pub returns-in_err-write_next_header-clause-writes : goal.returns-in_err-write_next_header-clause-writes
+returns-in_err-write_next_header-clause-writes g c = λ tells.
+    let w = c.go_forward.new.pipeline in
+    let x = c.begin_batch.new.pipeline in
+    let old = (g.D.Disk.state c.args.disk.now).log in
+    let middle = (g.D.Disk.state c.begin_batch.new.disk).log in
+    let new = (g.D.Disk.state c.write_next_header.new.disk).log in
+    grows_on old middle new (grows_batch (is_batch_due w) c.begin_batch.result w x old middle (c.begin_batch.ensures.log tells)) (grows_header (is_header_due x) c.write_next_header.result x c.write_next_header.new.pipeline c.go_forward.new.ring middle new (c.write_next_header.ensures.log tells))
+
+pub returns-clause-writes : goal.returns-clause-writes
+returns-clause-writes g c = λ tells.
+    let w = c.go_forward.new.pipeline in
+    let x = c.begin_batch.new.pipeline in
+    let old = (g.D.Disk.state c.args.disk.now).log in
+    let middle = (g.D.Disk.state c.begin_batch.new.disk).log in
+    let new = (g.D.Disk.state c.write_next_header.new.disk).log in
+    grows_on old middle new (grows_batch (is_batch_due w) c.begin_batch.result w x old middle (c.begin_batch.ensures.log tells)) (grows_header (is_header_due x) c.write_next_header.result x c.write_next_header.new.pipeline c.go_forward.new.ring middle new (c.write_next_header.ensures.log tells))

@@ -1,8 +1,11 @@
 -- Each turn has one ticket more noticed.
-use Rattle.std.proofs.Common.{◌∙◌, true, false, is_err, refl, ap, subst, arith}
+use Rattle.std.proofs.Common.{◌≡◌, ◌∙◌, true, false, Ok, is_err, refl, ap, subst, arith}
 use Rattle.opt_checkpoint.specs.Waits.{WaitsSome}
 use Rattle.opt_checkpoint.specs.declared.pipeline.Pipeline.{Pipeline}
-use Rattle.opt_checkpoint.proofs.Hears.{here, hears_on, all_noticed, upto_more}
+use Rattle.opt_checkpoint.proofs.Hears.{heard_opens, here, hears_on, all_noticed, upto_more}
+use Rattle.opt_notes.specs.Notes.{is_open}
+use Rattle.opt_disk.specs.Manner.{Manner}
+use Rattle.opt_checkpoint.proofs.HeardRecords.{hears_failed, hears_nothing, hears_then, only_then}
 use Rattle.opt_checkpoint.proofs.Spent.{failed_waits, waits_on, no_waits, notices_on, no_notices}
 use Rattle.opt_checkpoint.proofs.Given.{given_heard}
 use Rattle.opt_checkpoint.proofs.Spent.{on_err}
@@ -24,6 +27,7 @@ loop-at-init g c = record {
   upto = λ k n lt. absurd (omega (arith, lt));
   log = λ tells. no_notices _;
   spends = no_waits _;
+  only = λ tells alone. hears_nothing (λ u. is_open u c.args.pipeline.now.notes.notes ≡ true) _ _ _ c.args.pipeline.now.notes.notes refl;
   agrees = λ tells s l t floor ring waiting taken safe a. (safe, a);
 }
 
@@ -38,6 +42,8 @@ loop-at-preserved g c =
           (λ n is. here c.args.pipeline.now.notes.notes v.notes.notes w.notes.notes c.loop-at.at n c.loop-at.invariant.hears.tickets is c.in_ok-wait_for_note.ensures.noticed);
       log = λ tells. notices_on _ _ _ (c.loop-at.invariant.log tells) (c.wait_for_note.ensures.log tells);
       spends = waits_on false _ _ _ c.loop-at.invariant.spends c.in_ok-wait_for_note.ensures.spends;
+      only = λ tells alone. hears_then (λ u. is_open u c.args.pipeline.now.notes.notes ≡ true) (λ u. is_open u c.loop-at.pipeline.notes.notes ≡ true) c.in_ok-wait_for_note.field-0 (g.D.Disk.state c.args.disk.now).log (g.D.Disk.state c.loop-at.disk).log (g.D.Disk.state c.wait_for_note.new.disk).log v.notes w.notes (λ u own. heard_opens c.args.pipeline.now.notes c.loop-at.pipeline.notes c.loop-at.invariant.hears u own) c.wait_for_note.ensures.hears (c.loop-at.invariant.only tells alone)
+          (c.in_ok-wait_for_note.ensures.only tells (ap (λ (m : Manner). m.waits_alone) c.loop-at.invariant.spends.spends.same.manner ∙ alone));
       agrees = λ tells s l t floor ring waiting taken safe a. let was = c.loop-at.invariant.agrees tells s l t floor ring waiting taken safe a in c.wait_for_note.ensures.agrees tells s l t floor ring waiting taken was.0 was.1;
     }
 
@@ -46,3 +52,9 @@ returns-clause-noticed g c = all_noticed c.args.pipeline.now.notes.notes c.loop-
 
 pub returns-in_err-wait_for_note-clause-cause : goal.returns-in_err-wait_for_note-clause-cause
 returns-in_err-wait_for_note-clause-cause g c = λ tells given. on_err c.from_residual.result (c.in_err-wait_for_note.ensures.cause tells (given_heard (g.D.Disk.state c.args.disk.now).log (g.D.Disk.state c.loop-at.disk).log c.args.pipeline.now.notes c.loop-at.pipeline.notes given c.loop-at.invariant.hears (c.loop-at.invariant.log tells)))
+
+pub returns-in_err-wait_for_note-clause-only : goal.returns-in_err-wait_for_note-clause-only
+returns-in_err-wait_for_note-clause-only g c = λ tells alone.
+    hears_failed (λ u. is_open u c.args.pipeline.now.notes.notes ≡ true) c.from_residual.result (g.D.Disk.state c.args.disk.now).log (g.D.Disk.state c.wait_for_note.new.disk).log c.wait_for_note.new.pipeline.notes.notes c.from_residual.ensures.0
+    (only_then (λ u. is_open u c.args.pipeline.now.notes.notes ≡ true) (λ u. is_open u c.loop-at.pipeline.notes.notes ≡ true) (Ok tt) c.wait_for_note.result (g.D.Disk.state c.args.disk.now).log (g.D.Disk.state c.loop-at.disk).log (g.D.Disk.state c.wait_for_note.new.disk).log c.loop-at.pipeline.notes.notes c.wait_for_note.new.pipeline.notes.notes (λ u own. heard_opens c.args.pipeline.now.notes c.loop-at.pipeline.notes c.loop-at.invariant.hears u own) (c.loop-at.invariant.only tells alone)
+    (c.wait_for_note.ensures.only tells (ap (λ (m : Manner). m.waits_alone) c.loop-at.invariant.spends.spends.same.manner ∙ alone)))

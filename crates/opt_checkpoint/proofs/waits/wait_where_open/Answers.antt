@@ -6,6 +6,7 @@ use Rattle.opt_checkpoint.specs.Agree.{data_of}
 use Rattle.opt_checkpoint.proofs.Notices.{agrees_moved}
 use Rattle.opt_checkpoint.proofs.Waited.{agrees_waited, marked_before}
 use Rattle.opt_checkpoint.proofs.Given.{open_expected}
+use Rattle.opt_checkpoint.proofs.HeardRecords.{heard_alone, hears_failed, taken_is_noticed}
 use Rattle.opt_checkpoint.proofs.Spent.{on_err}
 use Rattle.opt_checkpoint.proofs.waits.wait_where_open.Goals as goal
 
@@ -35,3 +36,18 @@ pub returns-in_err-wait_for-clause-cause : goal.returns-in_err-wait_for-clause-c
 returns-in_err-wait_for-clause-cause g c = λ tells given.
     let is : is_open c.args.ticket c.args.pipeline.now.notes.notes ≡ true = search rules in
     on_err c.from_residual.result (c.in_err-wait_for.ensures.cause tells (given c.args.ticket (open_expected c.args.ticket c.args.pipeline.now.notes.notes is)))
+
+pub returns-in_err-wait_for-clause-only : goal.returns-in_err-wait_for-clause-only
+returns-in_err-wait_for-clause-only g c = λ tells alone.
+    let is : is_open c.args.ticket c.args.pipeline.now.notes.notes ≡ true = search rules in
+    hears_failed (λ u. (u ≡ c.args.ticket) × (is_open c.args.ticket c.args.pipeline.now.notes.notes ≡ true)) c.from_residual.result (g.D.Disk.state c.args.disk.now).log (g.D.Disk.state c.wait_for.new.disk).log c.args.pipeline.now.notes.notes c.from_residual.ensures.0
+    (λ u came. ⊎_elim inl (λ own. inr (own, is)) (heard_alone c.args.ticket (g.D.Disk.state c.args.disk.now).log (g.D.Disk.state c.wait_for.new.disk).log (c.wait_for.ensures.alone tells alone) u came))
+
+pub returns-clause-only : goal.returns-clause-only
+returns-clause-only g c = λ tells alone.
+    let is : is_open c.args.ticket c.args.pipeline.now.notes.notes ≡ true = search rules in
+    let came = heard_alone c.args.ticket (g.D.Disk.state c.args.disk.now).log (g.D.Disk.state c.wait_for.new.disk).log (c.wait_for.ensures.alone tells alone) in
+    let known = taken_is_noticed c.args.ticket c.args.pipeline.now.notes.notes c.noticed.new.self.notes is c.noticed.ensures.noticed in record {
+      only = λ u now. ⊎_elim inl (λ own. inr (own, is)) (came u now);
+      heard = λ u now. ⊎_elim inl (λ own. inr (subst (λ n. is_noticed n c.noticed.new.self.notes ≡ true) (sym own) known)) (came u now);
+    }

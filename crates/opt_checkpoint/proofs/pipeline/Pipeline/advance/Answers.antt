@@ -1,9 +1,11 @@
 -- The notices are taken, and then the steps that are due are made.
-use Rattle.std.proofs.Common.{is_err, ap, arith}
+use Rattle.std.proofs.Common.{◌≡◌, true, is_err, ap, arith}
 use Rattle.opt_disk.specs.Disk.{writes_in}
 use Rattle.opt_checkpoint.specs.Kept.{kept}
 use Rattle.opt_checkpoint.proofs.Added.{home_noticed, home_heard, loses_on, loses_heard}
 use Rattle.opt_checkpoint.proofs.Heard.{sound_heard, turns_heard, has_turns, serves_heard, owed_heard, due_heard, writes_noticed}
+use Rattle.opt_checkpoint.proofs.Forgotten.{committed_heard, committed_on}
+use Rattle.opt_checkpoint.proofs.HeardRecords.{heard_taken, stays_heard_on}
 use Rattle.opt_checkpoint.proofs.LiveBytes.{leaves_noticed, leaves_then}
 use Rattle.opt_checkpoint.proofs.MovesRows.{moves_more, moves_heard}
 use Rattle.opt_checkpoint.proofs.Polled.{polls_first, polls_failed}
@@ -90,5 +92,19 @@ returns-in_err-take_notices-clause-polled g c = λ tells. polls_failed c.take_no
 
 pub returns-clause-polled : goal.returns-clause-polled
 returns-clause-polled g c = λ tells.
-    let more = c.go_on.ensures.adds tells in
-    polls_first c.take_notices.result (g.D.Disk.state c.args.disk.now) (g.D.Disk.state c.take_notices.new.disk) _ _ (c.take_notices.ensures.polled tells) c.go_on.ensures.spends.polls (record { more = more.more; log = more.log })
+    polls_first c.take_notices.result (g.D.Disk.state c.args.disk.now) (g.D.Disk.state c.take_notices.new.disk) _ _ (c.take_notices.ensures.polled tells) c.go_on.ensures.spends.polls (c.go_on.ensures.writes tells)
+
+pub returns-clause-lost : goal.returns-clause-lost
+returns-clause-lost g c = on_ok c.go_on.result c.go_on.ensures.lost (committed_on c.args.self.now c.take_notices.new.pipeline c.go_on.new.pipeline (committed_heard c.args.self.now c.take_notices.new.pipeline c.take_notices.ensures.rest))
+
+pub returns-clause-heard : goal.returns-clause-heard
+returns-clause-heard g c = λ tells s l t floor taken right.
+    let v = c.args.self.now in
+    let w = c.take_notices.new.pipeline in
+    let old = g.D.Disk.state c.args.disk.now in
+    let middle = g.D.Disk.state c.take_notices.new.disk in
+    let taken_in = c.take_notices.ensures.takes tells in
+    let heard = c.take_notices.ensures.agrees tells s l t floor c.args.ring.now c.args.reuse.now.waiting taken right.safe right.agrees in
+    let known = λ (alone : old.manner.waits_alone ≡ true). heard_taken taken_in.tickets old.log middle.log v w c.take_notices.ensures.rest c.take_notices.ensures.hears right.agrees.expected taken_in.log taken_in.notes in
+    on_ok c.go_on.result (c.go_on.ensures.heard tells s l t floor taken (record { safe = heard.0; agrees = heard.1; serves = serves_heard l v w c.args.reuse.now c.take_notices.ensures.rest c.take_notices.ensures.hears right.serves }))
+    (stays_heard_on old middle (g.D.Disk.state c.go_on.new.disk) v w c.go_on.new.pipeline c.take_notices.ensures.spends.spends.same.manner known)

@@ -1,8 +1,11 @@
 -- Round after round, and then blocks serve again.
-use Rattle.std.proofs.Common.{rules, ◌+◌, true, false, Ok, is_err, subst, ap, arith}
+use Rattle.std.proofs.Common.{rules, ◌+◌, true, false, Ok, is_err, refl, sym, subst, ap, arith}
 use Rattle.opt_checkpoint.specs.Kept.{kept}
-use Rattle.opt_checkpoint.specs.Waits.{WaitsSome}
+use Rattle.opt_checkpoint.specs.Waits.{HearsRecords, WaitsSome}
 use Rattle.opt_checkpoint.proofs.Added.{home_then, home_failed, home_went, loses_on, loses_served}
+use Rattle.opt_checkpoint.specs.declared.pipeline.Pipeline.{Pipeline}
+use Rattle.opt_checkpoint.proofs.Forgotten.{committed_on, committed_same}
+use Rattle.opt_checkpoint.proofs.HeardRecords.{stays_heard_on}
 use Rattle.opt_checkpoint.proofs.LiveBytes.{leaves_none, leaves_same, leaves_then}
 use Rattle.opt_checkpoint.proofs.MovesRows.{moves_more, moves_on}
 use Rattle.opt_checkpoint.proofs.Rounds.{leaves_on, stays_on, served_sound, served_moves, served_drained, served_stays}
@@ -45,6 +48,8 @@ loop-round-init g c = record {
   adds = search rules;
   bytes = λ tells s k t floor taken right. leaves_none k c.args.self.now (g.D.Disk.state c.args.disk.now)
       (λ b lives. c.the_newest_payloads_are_the_map.ensures.calm (g.D.Disk.state c.args.disk.now).base (g.D.Disk.state c.args.disk.now).log k c.args.self.now c.args.ring.now c.args.reuse.now.waiting taken b right.safe.keeps right.agrees lives);
+  lost = committed_same c.args.self.now c.args.self.now refl;
+  heard = λ tells s k t floor taken right alone heard. heard;
   front = search rules;
   spends = search rules;
 }
@@ -66,6 +71,11 @@ loop-round-preserved g c =
           let one = was.right tells s l t floor taken right in
           leaves_then l one.now one.turned c.args.self.now c.loop-round.self c.drain_once.new.pipeline (g.D.Disk.state c.args.disk.now) (g.D.Disk.state c.loop-round.disk) (g.D.Disk.state c.drain_once.new.disk) was.front (was.bytes tells s l t floor taken right)
           (c.in_ok-drain_once.ensures.bytes tells s one.now t floor taken one.right);
+      lost = committed_on c.args.self.now c.loop-round.self c.drain_once.new.pipeline was.lost c.in_ok-drain_once.ensures.lost;
+      heard = λ tells s l t floor taken right.
+          let one = was.right tells s l t floor taken right in
+          stays_heard_on (g.D.Disk.state c.args.disk.now) (g.D.Disk.state c.loop-round.disk) (g.D.Disk.state c.drain_once.new.disk) c.args.self.now c.loop-round.self c.drain_once.new.pipeline was.spends.spends.same.manner (was.heard tells s l t floor taken right)
+          (c.in_ok-drain_once.ensures.heard tells s one.now t floor taken one.right);
       front = loses_on (kept c.args.self.now) (kept c.loop-round.self) (kept c.drain_once.new.pipeline) was.front c.drain_once.ensures.front;
       spends = waits_on false _ _ _ was.spends c.in_ok-drain_once.ensures.spends;
     }
@@ -105,3 +115,9 @@ returns-clause-bytes g c = λ tells s l t floor taken right.
 
 pub returns-in_err-drain_once-clause-cause : goal.returns-in_err-drain_once-clause-cause
 returns-in_err-drain_once-clause-cause g c = λ tells s l t floor taken right. on_err c.from_residual.result (c.in_err-drain_once.ensures.cause tells (c.loop-round.invariant.right tells s l t floor taken right).right.agrees.given)
+
+pub returns-clause-lost : goal.returns-clause-lost
+returns-clause-lost g c = committed_on c.args.self.now c.loop-round.self c.serve_blocks.new.pipeline c.loop-round.invariant.lost (committed_same c.loop-round.self c.serve_blocks.new.pipeline (ap (λ (p : Pipeline). p.committed.items) c.serve_blocks.ensures.rest))
+
+pub returns-clause-heard : goal.returns-clause-heard
+returns-clause-heard g c = λ tells s l t floor taken right alone heard. subst (λ (p : Pipeline). HearsRecords (g.D.Disk.state c.loop-round.disk).log p) (sym c.serve_blocks.ensures.rest) (c.loop-round.invariant.heard tells s l t floor taken right alone heard)

@@ -7,7 +7,7 @@ use Rattle.opt_checkpoint.specs.Advance.{IsSound, IsRightOn, StaysRight, Moves, 
 use Rattle.opt_checkpoint.specs.Bytes.{LeavesBytes}
 use Rattle.opt_checkpoint.specs.Kept.{kept}
 use Rattle.opt_checkpoint.specs.Stages.{IsAtStage}
-use Rattle.opt_checkpoint.specs.Waits.{WaitsSome}
+use Rattle.opt_checkpoint.specs.Waits.{LosesCommitted, StaysHeard, WaitsSome}
 use Rattle.opt_checkpoint.proofs.pipeline.Pipeline.drain.Given as goal
 
 abbrev pub invariant-loop-round : goal.invariant-loop-round
@@ -19,6 +19,8 @@ invariant-loop-round g l = record {
   owed : IsTrue g.D.Disk.tells → writes_in (g.D.Disk.state l.disk).log + writes_owed l.self ≤ writes_in (g.D.Disk.state l.fn.disk).log + writes_owed l.fn.self;
   adds : IsTrue g.D.Disk.tells → AddsHome {A = Unit {0}} {E = Unit {0}} (Ok tt) (kept l.fn.self) (g.D.Disk.state l.fn.disk).log (g.D.Disk.state l.disk).log;
   bytes : IsTrue g.D.Disk.tells → (s : MountedSession) (k : Ledger) (t floor : ℕ) (taken : List ℕ) → IsRightOn s (g.D.Disk.state l.fn.disk) k t floor l.fn.self l.fn.ring l.fn.reuse taken → LeavesBytes k l.fn.self l.self (g.D.Disk.state l.fn.disk) (g.D.Disk.state l.disk);
+  lost : LosesCommitted l.fn.self l.self;
+  heard : IsTrue g.D.Disk.tells → (s : MountedSession) (k : Ledger) (t floor : ℕ) (taken : List ℕ) → IsRightOn s (g.D.Disk.state l.fn.disk) k t floor l.fn.self l.fn.ring l.fn.reuse taken → StaysHeard (g.D.Disk.state l.fn.disk) (g.D.Disk.state l.disk) l.fn.self l.self;
   front : LosesFront (kept l.fn.self) (kept l.self);
   spends : WaitsSome false (g.D.Disk.state l.fn.disk) (g.D.Disk.state l.disk);
 }

@@ -1,8 +1,10 @@
 -- The tickets are waited for, and then records become durable.
-use Rattle.std.proofs.Common.{◌∙◌, sym, ap, subst, arith}
+use Rattle.std.proofs.Common.{◌∙◌, refl, sym, ap, subst, arith}
 use Rattle.opt_checkpoint.specs.Kept.{kept}
 use Rattle.opt_checkpoint.specs.Order.{HasRoom}
 use Rattle.opt_checkpoint.specs.declared.pipeline.Pipeline.{Pipeline}
+use Rattle.opt_checkpoint.proofs.Forgotten.{committed_heard, committed_on, committed_settled}
+use Rattle.opt_checkpoint.proofs.HeardRecords.{heard_left, heard_waited}
 use Rattle.opt_checkpoint.proofs.ForwardSound.{owed_settled}
 use Rattle.opt_checkpoint.proofs.Heard.{room_heard, sound_heard, serves_heard, owed_heard}
 use Rattle.opt_checkpoint.proofs.MovesRows.{moves_on, moves_heard, moves_settled}
@@ -59,3 +61,24 @@ returns-clause-kept g c = c.settle_all.ensures.settles.1.kept ∙ ap kept c.wait
 
 pub returns-in_err-wait_upto-clause-cause : goal.returns-in_err-wait_upto-clause-cause
 returns-in_err-wait_upto-clause-cause g c = λ tells given. on_err c.from_residual.result (c.in_err-wait_upto.ensures.cause tells given)
+
+pub returns-clause-lost : goal.returns-clause-lost
+returns-clause-lost g c = committed_on c.args.self.now c.wait_upto.new.pipeline c.settle_all.new.pipeline (committed_heard c.args.self.now c.wait_upto.new.pipeline c.wait_upto.ensures.rest) (committed_settled c.settle_all.ensures.settles.0 c.wait_upto.new.pipeline c.settle_all.new.pipeline c.settle_all.ensures.settles.1)
+
+pub returns-clause-heard : goal.returns-clause-heard
+returns-clause-heard g c = λ tells s l t floor ring dead taken right alone heard.
+    let v = c.args.self.now in
+    let w = c.wait_upto.new.pipeline in
+    let x = c.settle_all.new.pipeline in
+    let old = g.D.Disk.state c.args.disk.now in
+    let new = g.D.Disk.state c.wait_upto.new.disk in
+    let waited = c.wait_upto.ensures.agrees tells s l t floor ring dead.waiting taken right.safe right.agrees in
+    let settled = c.settle_all.ensures.agrees s new.base new.log l t floor ring dead.waiting taken waited.0 waited.1 in
+    let known = heard_waited c.in_ok-wait_upto.field-0 old.log new.log v w c.wait_upto.ensures.rest c.wait_upto.ensures.hears (c.in_ok-wait_upto.ensures.only tells alone) heard in
+    heard_left new.log new.log w x x (committed_settled c.settle_all.ensures.settles.0 w x c.settle_all.ensures.settles.1) refl c.settle_all.ensures.settles.1.forgets (λ u. refl) settled.agrees.expected (λ u came. came) known
+
+pub returns-in_err-wait_upto-clause-only : goal.returns-in_err-wait_upto-clause-only
+returns-in_err-wait_upto-clause-only g c = λ tells alone. (c.wait_upto.ensures.only tells alone).only
+
+pub returns-clause-only : goal.returns-clause-only
+returns-clause-only g c = λ tells alone. (c.wait_upto.ensures.only tells alone).only
