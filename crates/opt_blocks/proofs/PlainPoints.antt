@@ -20,6 +20,7 @@ nothing_issued old new e f = record {
   left = λ t m. (λ is. subst (λ ps. IsKeptFrom ps old.floor m) e (subst (λ k. IsKeptFrom new.history.points k m) f is), λ is. subst (λ k. IsKeptFrom new.history.points k m) (sym f) (subst (λ ps. IsKeptFrom ps old.floor m) (sym e) is));
   holds = λ img m. (λ is. is, λ is. is);
   issued = λ m. (λ is. subst (λ ps. IsKeptPoint ps (length ps - 1) m) e is, λ is. subst (λ ps. IsKeptPoint ps (length ps - 1) m) (sym e) is);
+  awaits = λ p t. (λ is. is, λ is. is);
 }
 
 -- a point of the first ones is one of them all
@@ -42,6 +43,7 @@ advances_parts p s points more floor e rises = record {
   holds = λ img m. (λ is. is, λ is. is);
   last = omega (arith, ap length e, length-append p.history.points more);
   floor = rises;
+  awaits = λ q t waits. absurd waits;
 }
 
 -- the points stay or one more is made

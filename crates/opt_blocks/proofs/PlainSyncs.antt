@@ -7,7 +7,7 @@ use Rattle.opt_blocks.specs.declared.refusals.SyncRefusal.TheVariants.{NoMemory}
 use Rattle.opt_blocks.specs.Running.{Running, HasNoBare, nothing_running}
 use Rattle.opt_blocks.specs.State.{State, IsReusable}
 use Rattle.opt_blocks.specs.Calls.{if_changed, UsesDisk}
-use Rattle.opt_blocks.specs.Effects.{Syncs}
+use Rattle.opt_blocks.specs.Effects.{ChangesNothing, Syncs}
 use Rattle.opt_blocks.specs.Plain.{crash_of}
 use Rattle.opt_blocks.specs.PlainOf.{books_of, state_of}
 use Rattle.opt_blocks.proofs.Times.{advances_on, leaves_not}
@@ -122,3 +122,7 @@ syncs_durably old mid point floor rises h = record {
   writes = h.writes;
   none = tt;
 }
+
+-- the floor that there was leaves all as it was
+pub floor_stays : (old mid : PlainBlocks) (floor : ℕ) → floor ≡ mid.floor → ChangesNothing true (state_of old) (state_of mid) → ChangesNothing true (state_of old) (with_floor mid floor)
+floor_stays old mid floor e h = subst (λ x. ChangesNothing true (state_of old) (with_floor mid x)) (sym e) h

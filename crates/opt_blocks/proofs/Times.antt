@@ -1,15 +1,18 @@
 -- Two calls, one behind the other.
-use Rattle.std.proofs.Common.{◌≡◌, ◌≤◌, Bool, false, List, [], ◌++◌, arith, ⊎_elim, inl, inr, ◌∙◌, refl, sym, ap, append_assoc, length, length-append}
+use Rattle.std.proofs.Common.{◌≡◌, ℕ, ◌≤◌, ◌==◌, Bool, false, ◌||◌, List, [], ◌∷◌, ◌++◌, arith, ⊎_elim, inl, inr, ◌∙◌, refl, sym, ap, append_assoc, length, length-append}
 use Rattle.std.proofs.Math.Logic.{∥∥₁_map}
 use Rattle.std.proofs.lemmas.List.{append-nil}
 use Rattle.opt_base.specs.Counts.{after_call}
 use Rattle.opt_base.specs.Seal.{Blocks}
 use Rattle.opt_disk.specs.declared.event.Event.{Event}
+use Rattle.opt_disk.specs.declared.event.Event.TheVariants.{Wrote, Lost, Noticed}
+use Rattle.opt_disk.specs.Cell.{is_accepted}
 use Rattle.opt_disk.specs.Disk.{Grows}
 use Rattle.opt_blocks.specs.State.{State}
 use Rattle.opt_blocks.specs.Calls.{UsesDisk}
-use Rattle.opt_blocks.specs.Crashes.{HoldsPointBetween, Advances, IssuesNothing, IsTold}
+use Rattle.opt_blocks.specs.Crashes.{HoldsPointBetween, AwaitsSince, Advances, IssuesNothing, IsTold}
 use Rattle.opt_blocks.specs.Effects.{LeavesDisk}
+use Rattle.opt_blocks.proofs.Members.{or_first, or_last}
 
 -- a map of a point in the middle is one in the end
 kept : (old mid new : State) → Advances old mid → Advances mid new → (m : Blocks) → HoldsPointBetween mid old.books.floor mid.books.point m → HoldsPointBetween new old.books.floor new.books.point m
@@ -27,6 +30,17 @@ later old new a = omega (arith, ap (λ (es : List Event). length es) a.log, leng
 grows_on : (old mid new : List Event) → Grows old mid → Grows mid new → Grows old new
 grows_on old mid new a b = record { more = a.more ++ b.more; log = b.log ∙ ap (λ (es : List Event). es ++ b.more) a.log ∙ append_assoc old a.more b.more }
 
+-- a write that is accepted in none of the events of a log was in none of its first ones
+not_before : (t : ℕ) (old more : List Event) → is_accepted t (old ++ more) ≡ false → is_accepted t old ≡ false
+not_before t [] more none = refl
+not_before t (Wrote u b x ∷ old) more none = ap (λ own. own || is_accepted t old) (or_first (u == t) (is_accepted t (old ++ more)) none) ∙ not_before t old more (or_last (u == t) (is_accepted t (old ++ more)) none)
+not_before t (Lost b x ∷ old) more none = not_before t old more none
+not_before t (Noticed u ∷ old) more none = not_before t old more none
+
+-- what is new since the middle is new since the beginning
+since_before : (old mid : State) → Advances old mid → (p t : ℕ) → AwaitsSince mid p t → AwaitsSince old p t
+since_before old mid a p t since = record { point = omega (arith, a.last, since.point); ticket = not_before t old.crash.log a.grows.more (ap (is_accepted t) (sym a.grows.log) ∙ since.ticket) }
+
 pub advances_on : (old mid new : State) → Advances old mid → Advances mid new → Advances old new
 advances_on old mid new a b = record {
   base = b.base ∙ a.base;
@@ -40,6 +54,7 @@ advances_on old mid new a b = record {
   holds = λ img m. (λ is. (a.holds img m).0 ((b.holds img m).0 is), λ is. (b.holds img m).1 ((a.holds img m).1 is));
   last = omega (arith, a.last, b.last);
   floor = omega (arith, a.floor, b.floor);
+  awaits = λ p t waits. ⊎_elim (a.awaits p t) (λ since. inr (since_before old mid a p t since)) (b.awaits p t waits);
 }
 
 -- nothing is issued, twice
@@ -51,6 +66,7 @@ nothing_on old mid new a b = record {
   left = λ t m. (λ is. (a.left t m).0 ((b.left t m).0 is), λ is. (b.left t m).1 ((a.left t m).1 is));
   holds = λ img m. (λ is. (a.holds img m).0 ((b.holds img m).0 is), λ is. (b.holds img m).1 ((a.holds img m).1 is));
   issued = λ m. (λ is. (a.issued m).0 ((b.issued m).0 is), λ is. (b.issued m).1 ((a.issued m).1 is));
+  awaits = λ p t. (λ is. (a.awaits p t).0 ((b.awaits p t).0 is), λ is. (b.awaits p t).1 ((a.awaits p t).1 is));
 }
 
 pub nothing_not : (s : State) → IssuesNothing s s
@@ -61,6 +77,7 @@ nothing_not s = record {
   left = λ t m. (λ is. is, λ is. is);
   holds = λ img m. (λ is. is, λ is. is);
   issued = λ m. (λ is. is, λ is. is);
+  awaits = λ p t. (λ is. is, λ is. is);
 }
 
 -- the disk is left alone, twice
@@ -81,6 +98,7 @@ nothing_advances old new told e f a = record {
   holds = λ img m. a.holds img m;
   last = omega (arith, e);
   floor = omega (arith, f);
+  awaits = λ p t waits. inl ((a.awaits p t).0 waits);
 }
 
 -- the disk's counts over two calls, of which the first didn't fail

@@ -1,5 +1,5 @@
 -- What a call of a map of blocks leaves of its blocks, its bookkeeping and its counts. It is described in docs/BLOCKS.md.
-use Rattle.std.specs.Prelude.{◌≡◌, ◌≢◌, ◌⊎◌, ℕ, ◌+◌, ◌-◌, ◌*◌, ◌^◌, ◌<◌, ◌≤◌, ⊤, Bool, true, false, IsTrue, nat_le, ◌==◌, if◌then◌else◌, List, [], length, take, Result, Ok, Err}
+use Rattle.std.specs.Prelude.{◌≡◌, ◌≢◌, ◌⊎◌, ℕ, ◌+◌, ◌-◌, ◌*◌, ◌^◌, ◌<◌, ◌≤◌, ⊤, Bool, true, false, nat_le, ◌==◌, if◌then◌else◌, List, [], length, take, Result, Ok, Err}
 use Rattle.opt_base.specs.Counts.{after_call}
 use Rattle.opt_base.specs.Seal.{Blocks}
 use Rattle.opt_geom.specs.Geometry.{Geometry, bitmap_blocks, data_start}

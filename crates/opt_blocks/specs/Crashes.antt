@@ -1,6 +1,7 @@
 -- What a crash may leave of a map of blocks, before and after a call. It is described in docs/BLOCKS.md.
 use Rattle.std.specs.Prelude.{◌≡◌, ◌↔◌, ◌⊎◌, ℕ, ◌+◌, ◌<◌, ◌≤◌, false, true, IsTrue, [], length}
 use Rattle.opt_base.specs.Seal.{Blocks}
+use Rattle.opt_disk.specs.Cell.{is_accepted, IsAccepted, IsNoticed}
 use Rattle.opt_disk.specs.Disk.{Grows, writes_in}
 use Rattle.opt_geom.specs.Geometry.{Geometry}
 use Rattle.opt_layout.specs.Bitmap.{is_set}
@@ -29,6 +30,12 @@ pub record IssuesNothing (old new : State) : Type 0 where
   pub left : (t : ℕ) (img : Blocks) → new.crash.left_since t img ↔ old.crash.left_since t img
   pub holds : (img m : Blocks) → new.crash.holds img m ↔ old.crash.holds img m
   pub issued : (m : Blocks) → new.crash.issued m ↔ old.crash.issued m
+  pub awaits : (p t : ℕ) → new.crash.awaits p t ↔ old.crash.awaits p t
+
+-- a point that came since waits for the ticket of a write that came since
+pub record AwaitsSince (old : State) (p t : ℕ) : Type 0 where
+  pub point : old.books.point < p
+  pub ticket : is_accepted t old.crash.log ≡ false
 
 -- Time goes on: events come behind those that there were. At each moment of the call a crash leaves an image that holds the map of a point, from the floor as it began to the last one as it ended.
 pub record Advances (old new : State) : Type 0 where
@@ -43,6 +50,8 @@ pub record Advances (old new : State) : Type 0 where
   pub point : (p : ℕ) (m : Blocks) → p ≤ old.books.point → new.crash.is_point p m ↔ old.crash.is_point p m
   pub last : old.books.point ≤ new.books.point
   pub floor : old.books.floor ≤ new.books.floor
+  -- a point waits for no ticket that it didn't wait for, unless both are new
+  pub awaits : (p t : ℕ) → new.crash.awaits p t → old.crash.awaits p t ⊎ AwaitsSince old p t
 
 -- the map now is that of point p, on its live blocks
 abbrev pub HasMapOfPoint : State → ℕ → Type 0
@@ -71,6 +80,22 @@ pub record StandsForLast (s : State) : Type 0 where
   pub some : ∥ ((m : Blocks) × s.crash.issued m) ∥₁
   pub each : (m : Blocks) → s.crash.issued m → s.crash.is_point s.books.point m
 
+-- A point waits for a ticket only where it is behind the floor, and the write of this ticket was accepted.
+pub record MayAwait (s : State) (p t : ℕ) : Type 0 where
+  pub behind : s.books.floor < p
+  pub upto : p ≤ s.books.point
+  pub accepted : IsAccepted t s.crash.log
+
+-- The point waits for a ticket whose notice hasn't come, as far as a wait brings that of its own ticket alone.
+pub record StillAwaits (s : State) (p : ℕ) : Type 0 where
+  pub ticket : ℕ
+  pub awaits : s.crash.awaits p ticket
+  pub not_yet : s.counts.ticks.manner.waits_alone ≡ true → ¬ IsNoticed ticket s.crash.log
+
+-- A notice that came is of a ticket that a point waited for, or of a write that came since.
+abbrev pub HearsRecords : State → State → Type 0
+HearsRecords old new = (t : ℕ) → IsNoticed t new.crash.log → IsNoticed t old.crash.log ⊎ (∥ ((p : ℕ) × old.crash.awaits p t) ∥₁ ⊎ (is_accepted t old.crash.log ≡ false))
+
 -- What is known of each state: a crash now leaves an image that holds the map of a point from the floor on; the bits of the map are those of the bookkeeping; each block on which the map is defined is whole, and elsewhere it has nothing; and while no call of the disk failed, all that was issued is the last point.
 pub record IsTold (s : State) : Type 0 where
   pub now : (img : Blocks) → s.crash.left_since (length s.crash.log) img → ∥ HoldsPointBetween s s.books.floor s.books.point img ∥₁
@@ -78,3 +103,4 @@ pub record IsTold (s : State) : Type 0 where
   pub whole : (b : ℕ) → b < s.books.geom.n → is_defined s.books b ≡ true → length (s.map b) ≡ 1024
   pub nothing : (b : ℕ) → is_defined s.books b ≡ false → s.map b ≡ []
   pub issued : s.books.stopped ≡ false → StandsForLast s
+  pub awaits : (p t : ℕ) → s.crash.awaits p t → MayAwait s p t

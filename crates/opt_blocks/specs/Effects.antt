@@ -1,10 +1,11 @@
 -- What several calls of a map of blocks have in common. It is described in docs/BLOCKS.md.
-use Rattle.std.specs.Prelude.{◌≡◌, ℕ, Bool, IsTrue, IfOk, OnOk, Result}
+use Rattle.std.specs.Prelude.{◌≡◌, ◌+◌, ◌≤◌, ℕ, Bool, IsTrue, IfOk, OnOk, Result}
 use Rattle.opt_blocks.specs.declared.refusals.SyncRefusal.{SyncRefusal}
 use Rattle.opt_base.specs.Counts.{next_count}
-use Rattle.opt_disk.specs.Disk.{PollsFirst}
-use Rattle.opt_blocks.specs.State.{State}
-use Rattle.opt_blocks.specs.Calls.{sync_fails, OnNoMemory, UnlessNoMemory, UsesDisk, MovesPipeline, EndsTransaction, IsAfterSync, commit_writes}
+use Rattle.opt_disk.specs.Disk.{PollsFirst, writes_in}
+use Rattle.opt_blocks.specs.Running.{fresh_blocks}
+use Rattle.opt_blocks.specs.State.{Bookkeeping, State}
+use Rattle.opt_blocks.specs.Calls.{sync_fails, OnNoMemory, UnlessNoMemory, UsesDisk, MovesPipeline, EndsTransaction, IsAfterSync, commit_places, commit_writes, if_changed}
 use Rattle.opt_blocks.specs.Crashes.{IssuesNothing, Advances, MakesPoint, WritesAtMost}
 
 -- The disk isn't called: no count changes, and a crash may leave what it might have left.
@@ -22,6 +23,14 @@ pub record Ticked (tells : Bool) (old new : State) : Type 0 where
   pub made : new.counts.ticks.made ≡ next_count old.counts.ticks.made
   pub manner : new.counts.ticks.manner ≡ old.counts.ticks.manner
   pub polled : IsTrue tells → PollsFirst old.counts.ticks.manner 64 old.counts.ticks.polls old.crash.log new.counts.ticks.polls new.crash.log
+
+-- A sync that is done writes its record and no more: each payload in the ring, each fresh block, the descriptors and the commit block.
+abbrev pub WritesItsRecord : State → State → Type 0
+WritesItsRecord old new = writes_in new.crash.log ≤ writes_in old.crash.log + if_changed old.books.running (commit_places old.books + fresh_blocks old.books.geom old.books.running) 0
+
+-- The ring has places for the record that a sync would write.
+abbrev pub FitsRing : Bookkeeping → Type 0
+FitsRing k = commit_places k ≤ k.free_places
 
 -- The pipeline moves on, and the map stays: at each moment a crash leaves a point, and no write comes that wasn't owed.
 pub record RunsPipeline (tells failed : Bool) (old new : State) : Type 0 where

@@ -49,4 +49,5 @@ crash_of points floor = record {
   left_since = λ t m. IsKeptFrom points floor m;
   holds = λ img m. img ≡ m;
   issued = λ m. IsKeptPoint points (length points - 1) m;
+  awaits = λ p t. ⊥;
 }

@@ -58,4 +58,5 @@ plain_is_told p = record {
     some = ∣ (blocks_of _, record { below = omega (arith, p.floor_is); is = refl }) ∣₁;
     each = λ m issued. issued;
   };
+  awaits = λ p t waits. absurd waits;
 }

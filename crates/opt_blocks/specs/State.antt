@@ -43,7 +43,7 @@ pub record Bookkeeping : Type 0 where
   -- a call of the disk failed in a write, a poll or a wait, and nothing is written any more
   pub stopped : Bool
 
--- What is known of crashes: what the disk's blocks were as it began, and its events since, whose number is the moment; which maps are those of a point, which images a crash at some moment from one on may leave, which map an image holds, and what stands where all accepted writes stand. Of blocks in memory there is no event.
+-- What is known of crashes: what the disk's blocks were as it began, and its events since, whose number is the moment; which maps are those of a point, which images a crash at some moment from one on may leave, which map an image holds, and what stands where all accepted writes stand; and which tickets a point waits for, those of the writes of its record, until it is known to be durable. Of blocks in memory there is no event.
 pub record CrashView : Type 1 where
   pub base : Blocks
   pub log : List Event
@@ -51,6 +51,7 @@ pub record CrashView : Type 1 where
   pub left_since : ℕ → Blocks → Type 0
   pub holds : Blocks → Blocks → Type 0
   pub issued : Blocks → Type 0
+  pub awaits : ℕ → ℕ → Type 0
 
 -- The whole. The map has the bytes of each block on which it is defined, and nothing elsewhere; where contents aren't known, it and `crash` say nothing.
 pub record State : Type 1 where

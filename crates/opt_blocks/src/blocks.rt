@@ -3,12 +3,13 @@
 //! memory and a store over a disk both meet it. The rules are described in docs/BLOCKS.md.
 
 ghost use Rattle.std.specs.Prelude.{◌≡◌, ◌<◌, ◌≤◌, ◌+◌, Bool, true, false, IsTrue, length, is_err, IfOk, IfErr, OnOk, OnErr, Ok};
+ghost use Rattle.opt_disk.specs.Disk.{GrowsByWrites, PollsThenWrites};
 ghost use Rattle.opt_geom.specs.Geometry.{bitmap_start, table_start, data_start};
 ghost use Rattle.opt_layout.specs.Bitmap.{is_set};
 ghost use Rattle.opt_blocks.specs.State.{State, reusable_blocks, is_defined, MayBeTaken, after_put, after_take, after_free, after_weigh};
-ghost use Rattle.opt_blocks.specs.Calls.{IsWithBlock, IsWithTaken, IsWithFreed, OnNoMemory, AreLowest, LowestRefused, lowest_fails, CountsReads, commit_places, MaySync, HasTurns, AreFigures, IsReady, IsSound};
-ghost use Rattle.opt_blocks.specs.Crashes.{IssuesNothing, IsTold};
-ghost use Rattle.opt_blocks.specs.Effects.{LeavesDisk, ChangesNothing, RunsPipeline, Syncs, Ticked};
+ghost use Rattle.opt_blocks.specs.Calls.{IsWithBlock, IsWithTaken, IsWithFreed, OnNoMemory, AreLowest, LowestRefused, lowest_fails, CountsReads, MaySync, HasTurns, AreFigures, IsReady, IsSound};
+ghost use Rattle.opt_blocks.specs.Crashes.{HearsRecords, IssuesNothing, IsTold};
+ghost use Rattle.opt_blocks.specs.Effects.{LeavesDisk, ChangesNothing, FitsRing, RunsPipeline, Syncs, Ticked, WritesItsRecord};
 
 use crate::{Figures, LowestRefusal, SyncRefusal};
 use opt_base::{Block, Class, NoMemory, Places, ReadFault};
@@ -117,7 +118,7 @@ pub trait Blocks {
         ensures disk { LeavesDisk tells (state self.old) (state self.new) };
 
     /// Takes the durability notifications that have come, at most 64, and moves the pipeline by a step. It
-    /// doesn't wait.
+    /// doesn't wait: behind those notifications come writes alone.
     ///
     /// # Errors
     /// The disk failed.
@@ -126,7 +127,8 @@ pub trait Blocks {
         requires turns { HasTurns (state self.old).books }
         ensures moves { RunsPipeline tells (is_err result) (state self.old) (state self.new) }
         ensures waits { (state self.new).counts.waits ≡ (state self.old).counts.waits }
-        ensures ticks { Ticked tells (state self.old) (state self.new) };
+        ensures ticks { Ticked tells (state self.old) (state self.new) }
+        ensures writes { IsTrue tells → PollsThenWrites (state self.old).counts.ticks.manner 64 (state self.old).counts.ticks.polls (state self.old).crash.log (state self.new).counts.ticks.polls (state self.new).crash.log };
 
     /// Waits until nothing waits in the pipeline any more, and all blocks that earlier transactions freed
     /// may be taken.
@@ -141,8 +143,8 @@ pub trait Blocks {
         ensures ticks { (state self.new).counts.ticks ≡ (state self.old).counts.ticks };
 
     /// Ends the running transaction, if it has a weight, by a sync point that comes after all earlier
-    /// ones, and answers the last point. All its writes are issued, and none is waited for where its
-    /// record fits the free ring places. With nothing to commit, nothing is done.
+    /// ones, and answers the last point. All its writes are issued. Where its record fits the free ring
+    /// places, none is waited for, and no other is made. With nothing to commit, nothing is done.
     ///
     /// # Errors
     /// The disk failed; or out of memory, and nothing was done.
@@ -151,12 +153,16 @@ pub trait Blocks {
         requires turns { HasTurns (state self.old).books }
         requires sound { MaySync (state self.old).books }
         ensures syncs { Syncs tells result (state self.old) (state self.new) }
-        ensures order { commit_places (state self.old).books ≤ (state self.old).books.free_places → (state self.new).counts.waits ≡ (state self.old).counts.waits }
+        ensures order { FitsRing (state self.old).books → (state self.new).counts.waits ≡ (state self.old).counts.waits }
+        ensures writes { IsTrue tells → FitsRing (state self.old).books → GrowsByWrites (state self.old).crash.log (state self.new).crash.log }
+        ensures written { IsTrue tells → FitsRing (state self.old).books → OnOk result (WritesItsRecord (state self.old) (state self.new)) }
         ensures idle { (state self.old).books.running.weight ≡ 0 → result ≡ Ok (state self.old).books.point }
         ensures idles { (state self.old).books.running.weight ≡ 0 → ChangesNothing tells (state self.old) (state self.new) };
 
     /// As `osync`, and then waits until the last point is durable: no crash from then on goes back
-    /// behind it. With nothing to commit, it takes no memory.
+    /// behind it. Where its record fits the free ring places, it waits for the writes of records alone.
+    /// With nothing to commit, it takes no memory, and where the last point is known to be durable
+    /// nothing is done.
     ///
     /// # Errors
     /// The disk failed; or out of memory, and nothing was done.
@@ -166,7 +172,10 @@ pub trait Blocks {
         requires sound { MaySync (state self.old).books }
         ensures syncs { Syncs tells result (state self.old) (state self.new) }
         ensures durable { OnOk result ((state self.new).books.floor ≡ (state self.new).books.point) }
-        ensures idle { (state self.old).books.running.weight ≡ 0 → OnNoMemory result ⊥ };
+        ensures written { IsTrue tells → FitsRing (state self.old).books → OnOk result (WritesItsRecord (state self.old) (state self.new)) }
+        ensures waits { IsTrue tells → (state self.old).counts.ticks.manner.waits_alone ≡ true → FitsRing (state self.old).books → HearsRecords (state self.old) (state self.new) }
+        ensures idle { (state self.old).books.running.weight ≡ 0 → OnNoMemory result ⊥ }
+        ensures idles { (state self.old).books.running.weight ≡ 0 → (state self.old).books.floor ≡ (state self.old).books.point → ChangesNothing tells (state self.old) (state self.new) };
 
     /// The last point that is known to be durable: no crash from now on goes back behind it.
     fn durable(&self) -> u64

@@ -1,6 +1,11 @@
-use Rattle.std.proofs.Common.{arith}
-use Rattle.opt_blocks.proofs.PlainSyncs.{syncs_durably}
+use Rattle.std.proofs.Common.{◌∙◌, sym, ap, arith}
+use Rattle.opt_blocks.proofs.PlainSyncs.{syncs_durably, floor_stays}
 use Rattle.opt_blocks.proofs.plain.PlainBlocksBlocks.dsync.Goals as goal
 
 pub returns-clause-syncs : goal.returns-clause-syncs
 returns-clause-syncs c = syncs_durably c.args.self.now c.osync.new.self c.in_ok-point.point c.in_ok-point.point (omega (arith, c.osync.new.self.floor_is, c.in_ok-point.ensures.syncs.point)) c.in_ok-point.ensures.syncs
+
+pub returns-clause-idles : goal.returns-clause-idles
+returns-clause-idles c = λ none known.
+    let books = (c.osync.ensures.idles none).books in
+    floor_stays c.args.self.now c.osync.new.self c.in_ok-point.point (c.in_ok-point.ensures.syncs.point ∙ ap (λ k. k.point) books ∙ sym known ∙ sym (ap (λ k. k.floor) books)) (c.osync.ensures.idles none)

@@ -91,3 +91,6 @@ returns-clause-draft g c = within_draft g.S.Blocks.tells (old g c) c.args.number
 
 pub returns-clause-changes : goal.returns-clause-changes
 returns-clause-changes g c = λ told some. within_changes g.S.Blocks.tells (old g c) c.args.number c.args.offset c.args.bytes.now c.in-Some.node c.args.self.now c.write_content.new.draft (written g c)
+
+pub returns-clause-looks : goal.returns-clause-looks
+returns-clause-looks g c = looks g c
