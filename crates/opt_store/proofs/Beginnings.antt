@@ -1,9 +1,10 @@
 -- What a store keeps as it begins, and with which map: new parts on a disk on which a session has begun.
-use Rattle.std.proofs.Common.{◌≡◌, ⊎_elim, ℕ, zero, suc, ◌+◌, ◌-◌, ◌^◌, ◌<◌, ◌≤◌, nat_le, nat_lt, ◌&&◌, ◌||◌, not, ◌==◌, if◌then◌else◌, Bool, true, false, IsTrue, List, [], ◌∷◌, ◌++◌, length, map, drop, None, refl, sym, ◌∙◌, ap, ap₂, subst, arith}
+use Rattle.std.proofs.Common.{◌≡◌, ⊎_elim, ℕ, zero, suc, ◌+◌, ◌-◌, ◌^◌, ◌<◌, ◌≤◌, nat_le, nat_lt, ◌&&◌, ◌||◌, not, ◌==◌, if◌then◌else◌, Bool, true, false, IsTrue, List, [], ◌∷◌, ◌++◌, length, map, drop, slice_get, None, refl, sym, ◌∙◌, ap, ap₂, subst, arith}
 use Rattle.std.proofs.lemmas.Bool.{cases_lt, le-ltb, lt-ltb, false≢true}
 use Rattle.std.specs.List.{filter, range_with_len}
 use Rattle.std.proofs.Props.{props}
 use Rattle.std.proofs.Math.Logic.{∥∥₁_elim}
+use Rattle.std.proofs.lemmas.Option.{none-some}
 use mathlib.Core.Path.{fun_ext}
 use Rattle.opt_base.specs.Counts.{after_calls}
 use Rattle.opt_base.specs.Seal.{Blocks}
@@ -228,6 +229,7 @@ module _ (g : Geometry) (slot : ℕ) (h : Header) (moment : ℕ) (v : StoreParts
       serves = right.serves;
       next = omega (arith, new.first, new.point);
       due = ap (λ (cs : List Committed). is_first_settled cs v.pipeline.notes.notes) new.pipeline.none.committed;
+      heard = λ alone k t c is own came. absurd (none-some c (ap (λ (cs : List Committed). slice_get cs k) (sym new.pipeline.none.committed) ∙ is));
       cache = record {
         newest = λ b lives is. ap (λ ks. newest_in None ks b) (kept_none g slot h v.pipeline new.pipeline);
         same = λ b lives. subst (λ (k : Cache). Agrees k d) (sym new.cache) (laws.cache v.cache.capacity d) b;
@@ -266,6 +268,7 @@ module _ (g : Geometry) (slot : ℕ) (h : Header) (moment : ℕ) (v : StoreParts
     only = λ q is b live. ∥∥₁_elim is (search props) (λ (other : IsPoint (session_of v) d.base d.log 0 q).
         one_point laws.one (session_of v) d.base d.log 0 q m other first b ∙ sym (ap (λ (x : Blocks). x b) map_is));
     waiting = ap (λ (x : DeadBlocks). length x.waiting) new.books.dead;
+    free_places = omega (arith, ap (λ ring. ring.geom.j) new.ring, ap (λ ring. ring.taken) new.ring);
     owed = omega (arith, none_left, ap (λ (x : Header). x.sure) new.pipeline.none.written, ap (λ (x : Header). x.start) new.pipeline.none.written, new.pipeline.none.last, released);
   }
     where

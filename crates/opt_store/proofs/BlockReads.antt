@@ -95,6 +95,7 @@ told_still v d e w l manner told cache = record {
         serves = g.serves;
         next = g.next;
         due = g.due;
+        heard = λ alone. g.heard (ap (λ (m : Manner). m.waits_alone) (sym manner) ∙ alone);
         cache = record {
           newest = a.newest;
           same = λ b lives. weaker (Reads d b) (Reads (record e { base = d.base; log = d.log }) b) (get w.kept b) (λ y r. record { calm = r.calm; one = r.one }) (a.same b lives);

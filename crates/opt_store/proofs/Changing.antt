@@ -58,6 +58,7 @@ parts_told v w d l on began told = record {
         serves = r.serves;
         next = g.next;
         due = g.due;
+        heard = g.heard;
         cache = record { newest = λ b lives is. g.cache.newest b (was_live b lives) is; same = λ b lives. g.cache.same b (was_live b lives) };
       };
   failed = told.failed;

@@ -4,6 +4,7 @@ use Rattle.std.proofs.lemmas.Bool.{false≢true}
 use Rattle.opt_base.specs.Seal.{Blocks}
 use Rattle.opt_disk.specs.declared.disk.DiskFault.{DiskFault}
 use Rattle.opt_disk.specs.declared.event.Event.{Event}
+use Rattle.opt_disk.specs.Manner.{Manner}
 use Rattle.opt_disk.specs.Disk.{State, Grows, HasFailed, OnlyWrites}
 use Rattle.opt_journal.specs.declared.header.Header.{Header}
 use Rattle.opt_journal.specs.Ring.{RingPlaces, with_places}
@@ -11,6 +12,7 @@ use Rattle.opt_journal.specs.Run.{is_live, otherwise}
 use Rattle.opt_cache.specs.Cache.{Cache, IsKept}
 use Rattle.opt_crash.specs.Ledger.{Ledger, WrittenRecord, next_number}
 use Rattle.opt_crash.specs.Points.{MountedSession, IsSafe}
+use Rattle.opt_crash.specs.Writes.{AddsWrites}
 use Rattle.opt_tx.specs.Record.{block_of, written_of}
 use Rattle.opt_tx.specs.Running.{bytes_put}
 use Rattle.opt_checkpoint.specs.declared.pipeline.Pipeline.{Pipeline}
@@ -18,15 +20,16 @@ use Rattle.opt_checkpoint.specs.Advance.{IsRightOn}
 use Rattle.opt_checkpoint.specs.Kept.{kept, newest_in}
 use Rattle.opt_blocks.specs.Running.{HasNoBare, fresh_blocks, payloads}
 use Rattle.opt_blocks.specs.State.{Bookkeeping, Counts}
-use Rattle.opt_blocks.specs.Crashes.{Advances, HasLiveBlocks, HasMapOfPoint}
+use Rattle.opt_blocks.specs.Crashes.{Advances, AwaitsSince, HasLiveBlocks, HasMapOfPoint}
 use Rattle.opt_books.specs.Books.{TransactionBooks, map_of, running_of}
 use Rattle.opt_books.specs.Kept.{AreKept}
 use Rattle.opt_books.specs.Point.{BeganAt, HasSameLive}
 use Rattle.opt_store.specs.declared.parts.StoreParts.{StoreParts}
-use Rattle.opt_store.specs.Committing.{BecomesRecord, StaysDue, WritesRecord, ledger_with, places_for, writes_of}
+use Rattle.opt_store.specs.Committing.{BecomesRecord, JoinsCommitted, StaysDue, WritesRecord, ledger_with, places_for, writes_of}
 use Rattle.opt_store.specs.SessionView.{state_of}
 use Rattle.opt_store.specs.Syncing.{Forgets}
-use Rattle.opt_store.specs.Told.{CacheAgrees, IsToldBy, last_map, map_now, session_of}
+use Rattle.opt_store.specs.Told.{CacheAgrees, IsToldBy, awaited_in, last_map, map_now, session_of}
+use Rattle.opt_store.proofs.Awaiting.{joined_heard}
 use Rattle.opt_store.proofs.CommitBytes.{MapLaws, began_next, live_from, live_now, map_next, none_newest, not_fresh, not_laid, not_put, still_disks, was_live, whole_next}
 use Rattle.opt_store.proofs.Forgetting.{StillKept, still_kept}
 use Rattle.opt_store.proofs.LastMap.{LastMapLaws, newest_is, none_lost}
@@ -38,10 +41,10 @@ pub record Laws : Type 0 where
   pub map : MapLaws
   pub payloads : (v : TransactionBooks) → AreKept v → payloads v.geom (running_of v) ≡ length v.changes.paid
   pub fresh : (v : TransactionBooks) → AreKept v → fresh_blocks v.geom (running_of v) ≡ length v.changes.laid
-  pub advances : (s : MountedSession) (base : Blocks) (old new : List Event) (l n : Ledger) (j k : Bookkeeping) (c d : Counts) (a b : Blocks) (t floor since low : ℕ) → IsSafe s base old l t floor → Grows old new → IsSafe s base new n since low → since ≤ length old → j.floor ≤ low
-      → j.point ≡ next_number l - s.first → next_number n - s.first ≤ k.point → j.floor ≤ k.floor → Advances (state_of s j c a base old) (state_of s k d b base new)
-  pub made : (s : MountedSession) (base : Blocks) (log : List Event) (l : Ledger) (k : Bookkeeping) (c : Counts) (m : Blocks) (t floor : ℕ) → IsSafe s base log l t floor → k.geom ≡ s.geom → next_number l - s.first ≤ k.point
-      → (k.point ≡ next_number l - s.first → HasLiveBlocks k.geom m (l.map_before (next_number l))) → HasMapOfPoint (state_of s k c m base log) k.point
+  pub advances : (s : MountedSession) (base : Blocks) (old new : List Event) (l n : Ledger) (j k : Bookkeeping) (c d : Counts) (a b : Blocks) (v w : StoreParts) (t floor since low : ℕ) → IsSafe s base old l t floor → Grows old new → IsSafe s base new n since low → since ≤ length old → j.floor ≤ low
+      → j.point ≡ next_number l - s.first → next_number n - s.first ≤ k.point → j.floor ≤ k.floor → ((p u : ℕ) → awaited_in w p u → awaited_in v p u ⊎ AwaitsSince (state_of s j c a base old (awaited_in v)) p u) → Advances (state_of s j c a base old (awaited_in v)) (state_of s k d b base new (awaited_in w))
+  pub made : (s : MountedSession) (base : Blocks) (log : List Event) (l : Ledger) (k : Bookkeeping) (c : Counts) (m : Blocks) (w : StoreParts) (t floor : ℕ) → IsSafe s base log l t floor → k.geom ≡ s.geom → next_number l - s.first ≤ k.point
+      → (k.point ≡ next_number l - s.first → HasLiveBlocks k.geom m (l.map_before (next_number l))) → HasMapOfPoint (state_of s k c m base log (awaited_in w)) k.point
 
 -- a disk that is safe with a window from one moment on is so from a later one on
 from_later : (s : MountedSession) (base : Blocks) (log : List Event) (l : Ledger) (t u floor : ℕ) → t ≤ u → IsSafe s base log l t floor → IsSafe s base log l u floor
@@ -75,6 +78,7 @@ pub record Succeeded (tells : Bool) (v : StoreParts) (d e : State) (ring : RingP
   pub spends : OnlyWrites false d e
   pub forgets : Forgets v.books.changes.paid (map block_of v.books.changes.laid) v.cache c
   pub due : IsTrue tells → StaysDue d.log v.pipeline q
+  pub joins : IsTrue tells → (tickets : List ℕ) × JoinsCommitted (v.first + v.point) tickets v.pipeline q × AddsWrites (writes_of v.ring v.pipeline.header.epoch (v.first + v.point) v.books.changes) tickets d.log e.log
 
 -- What a commit gave where the disk failed; books and pipeline are as they were.
 pub record Failed (tells : Bool) (v : StoreParts) (d e : State) (ring : RingPlaces) (fault : DiskFault) : Type 0 where
@@ -168,7 +172,7 @@ module _ (laws : Laws) (v : StoreParts) (d : State) (l : Ledger) (k : AreKept v.
         made = omega (arith, next_then, told.made);
         began = began_next laws.map v.books (last_map v d) k told.began filled w (v.first + v.point) (last_map parts e) s.kept s.becomes.books s.becomes.empty writes.bytes l record_then;
         whole = whole_next laws.map v.books (last_map v d) k told.began filled w (v.first + v.point) (last_map parts e) s.kept s.becomes.books s.becomes.empty writes.bytes told.whole;
-        going = λ still_going. record { agrees = right.agrees; serves = right.serves; next = omega (arith, next_then, next); due = s.due t (told.going going).agrees.notes (told.going going).due; cache = record { newest = cache_then.newest; same = cache_then.same } };
+        going = λ still_going. record { agrees = right.agrees; serves = right.serves; next = omega (arith, next_then, next); due = s.due t (told.going going).agrees.notes (told.going going).due; heard = λ alone. joined_heard (v.first + v.point) (writes_of v.ring v.pipeline.header.epoch (v.first + v.point) v.books.changes) (s.joins t).0 v.pipeline q d.log e.log writes.grows (s.joins t).1 (s.joins t).2 ((told.going going).heard (ap (λ (m : Manner). m.waits_alone) (sym s.spends.same.manner) ∙ alone)); cache = record { newest = cache_then.newest; same = cache_then.same } };
         failed = λ stopped. absurd (false≢true (sym going ∙ stopped));
       };
       safe = right.safe;

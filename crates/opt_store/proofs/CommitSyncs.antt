@@ -1,5 +1,5 @@
 -- A commit of the running transaction makes a sync point, as the contract of maps of blocks says it, whether it succeeded or the disk failed.
-use Rattle.std.proofs.Common.{◌≡◌, inl, inr, ℕ, ◌+◌, ◌^◌, ◌<◌, ◌==◌, ◌&&◌, Bool, true, false, IsTrue, length, Ok, Err, refl, sym, ◌∙◌, ap, ap₂, subst, arith}
+use Rattle.std.proofs.Common.{◌≡◌, ◌⊎◌, inl, inr, ⊎_elim, ℕ, ◌+◌, ◌^◌, ◌<◌, ◌==◌, ◌&&◌, Bool, true, false, IsTrue, length, Ok, Err, refl, sym, ◌∙◌, ap, ap₂, subst, arith}
 use Rattle.std.proofs.Props.{props}
 use Rattle.std.proofs.Math.Logic.{∥∥₁_elim, ∥∥₁_map}
 use Rattle.std.proofs.lemmas.Bool.{cond-false, false≢true, ne_eqb}
@@ -20,19 +20,21 @@ use Rattle.opt_checkpoint.specs.declared.pipeline.Pipeline.{Pipeline}
 use Rattle.opt_blocks.specs.declared.refusals.SyncRefusal.TheVariants as sync
 use Rattle.opt_blocks.specs.Running.{Running, HasNoBare, fresh_blocks, nothing_running, payloads, record_places, record_writes}
 use Rattle.opt_blocks.specs.Calls.{EndsTransaction, IsAfterSync, commit_places, commit_writes, if_changed}
-use Rattle.opt_blocks.specs.Crashes.{Advances, MakesPoint}
+use Rattle.opt_blocks.specs.Crashes.{Advances, AwaitsSince, MakesPoint}
 use Rattle.opt_blocks.specs.Effects.{Syncs}
 use Rattle.opt_books.specs.Books.{TransactionBooks, bit_now, has_put, is_marked, role_by, running_of}
 use Rattle.opt_store.specs.declared.parts.StoreParts.{StoreParts}
-use Rattle.opt_store.specs.Committing.{BecomesRecord, places_for}
+use Rattle.opt_store.specs.Committing.{BecomesRecord, places_for, writes_of}
 use Rattle.opt_store.specs.SessionView.{state_of}
 use Rattle.opt_store.specs.Store.{StoreIsSound, bookkeeping_of}
 use Rattle.opt_store.specs.Syncing.{MayCommit}
-use Rattle.opt_store.specs.Told.{IsKeptOn, IsToldBy, IsToldBySome, counts_of, map_now, session_of, store_state}
+use Rattle.opt_store.specs.Told.{IsKeptOn, IsToldBy, IsToldBySome, awaited_in, counts_of, map_now, session_of, store_state}
+use Rattle.opt_store.proofs.Awaiting.{joined_awaits}
 use Rattle.opt_store.proofs.CommitCalls.{After, Failed, Laws, Succeeded, after_failure, after_success, session_then}
 use Rattle.opt_store.proofs.PipelineCalls.{advances_by_some}
 use Rattle.opt_store.proofs.Reserving.{places_are}
 use Rattle.opt_store.proofs.Spending.{asks_none}
+use Rattle.opt_store.proofs.TicketLogs.{grows_by}
 
 -- What is told, of each field for itself, since which ledger tells it isn't said.
 
@@ -44,21 +46,25 @@ module _ (laws : Laws) (tells : Bool) (v w : StoreParts) (d e : State) (ticks : 
   map_stays : IsTrue tells → map_now w e ≡ map_now v d
   map_stays t = fun_ext (λ b. ∥∥₁_elim (k.told t) (search props) (λ (x : (l : Ledger) × IsToldBy v d l). ap (λ (m : Blocks). m b) (after t x.0 x.1).map))
 
-  advances_by : IsTrue tells → (l : Ledger) → IsToldBy v d l → Advances (state_of (session_of v) (bookkeeping_of v) (counts_of ticks d) (map_now v d) d.base d.log) (state_of (session_of v) (bookkeeping_of w) (counts_of ticks e) (map_now w e) d.base e.log)
-  advances_by t l told =
-      let a = after t l told in
-      laws.advances (session_of v) d.base d.log e.log l a.now (bookkeeping_of v) (bookkeeping_of w) (counts_of ticks d) (counts_of ticks e) (map_now v d) (map_now w e) (length d.log) v.floor (length d.log) v.floor
-      told.safe (grows t) (subst (λ (x : Blocks). IsSafe (session_of v) x e.log a.now (length d.log) v.floor) base a.safe) (omega arith) (omega arith) (omega (arith, (told.going going).next)) (omega (arith, a.told.made, first)) (omega (arith, floor))
+  -- for a ticket that wasn't there only a new point waits
+  abbrev AwaitsNew : Type 0
+  AwaitsNew = (p u : ℕ) → awaited_in w p u → awaited_in v p u ⊎ AwaitsSince (store_state v ticks d) p u
 
-  time_goes_on : IsTrue tells → Advances (store_state v ticks d) (store_state w ticks e)
-  time_goes_on t = subst₂ (λ (s : MountedSession) (x : Blocks). Advances (store_state v ticks d) (state_of s (bookkeeping_of w) (counts_of ticks e) (map_now w e) x e.log)) (sym session) (sym base)
-      (advances_by_some (session_of v) d.base d.log e.log (bookkeeping_of v) (bookkeeping_of w) (counts_of ticks d) (counts_of ticks e) (map_now v d) (map_now w e) (grows t) (∥∥₁_map (k.told t) (λ (x : (l : Ledger) × IsToldBy v d l). advances_by t x.0 x.1)))
+  advances_by : AwaitsNew → IsTrue tells → (l : Ledger) → IsToldBy v d l → Advances (store_state v ticks d) (state_of (session_of v) (bookkeeping_of w) (counts_of ticks e) (map_now w e) d.base e.log (awaited_in w))
+  advances_by awaits t l told =
+      let a = after t l told in
+      laws.advances (session_of v) d.base d.log e.log l a.now (bookkeeping_of v) (bookkeeping_of w) (counts_of ticks d) (counts_of ticks e) (map_now v d) (map_now w e) v w (length d.log) v.floor (length d.log) v.floor
+      told.safe (grows t) (subst (λ (x : Blocks). IsSafe (session_of v) x e.log a.now (length d.log) v.floor) base a.safe) (omega arith) (omega arith) (omega (arith, (told.going going).next)) (omega (arith, a.told.made, first)) (omega (arith, floor)) awaits
+
+  time_goes_on : AwaitsNew → IsTrue tells → Advances (store_state v ticks d) (store_state w ticks e)
+  time_goes_on awaits t = subst₂ (λ (s : MountedSession) (x : Blocks). Advances (store_state v ticks d) (state_of s (bookkeeping_of w) (counts_of ticks e) (map_now w e) x e.log (awaited_in w))) (sym session) (sym base)
+      (advances_by_some (session_of v) d.base d.log e.log (bookkeeping_of v) (bookkeeping_of w) (counts_of ticks d) (counts_of ticks e) (map_now v d) (map_now w e) v w (grows t) awaits (∥∥₁_map (k.told t) (λ (x : (l : Ledger) × IsToldBy v d l). advances_by awaits t x.0 x.1)))
 
   -- the point's map is the map now
   makes_point : IsTrue tells → MakesPoint (store_state v ticks d) (store_state w ticks e)
   makes_point t more m is b live = ∥∥₁_elim (k.told t) (search props) (λ (x : (l : Ledger) × IsToldBy v d l).
       let a = after t x.0 x.1 in
-      laws.made (session_of w) e.base e.log a.now (bookkeeping_of w) (counts_of ticks e) (map_now w e) (length e.log) w.floor a.told.safe refl (omega (arith, a.told.made)) (λ last c there. ap (λ (q : Blocks). q c) (a.newest last)) m is b live)
+      laws.made (session_of w) e.base e.log a.now (bookkeeping_of w) (counts_of ticks e) (map_now w e) w (length e.log) w.floor a.told.safe refl (omega (arith, a.told.made)) (λ last c there. ap (λ (q : Blocks). q c) (a.newest last)) m is b live)
 
 -- The numbers.
 
@@ -71,6 +77,11 @@ places_needed v paid laid = ap₂ record_places paid laid ∙ sym (places_are v.
 
 writes_needed : (v : StoreParts) → payloads v.books.geom (running_of v.books) ≡ length v.books.changes.paid → fresh_blocks v.books.geom (running_of v.books) ≡ length v.books.changes.laid → 0 < v.books.weight → commit_writes (bookkeeping_of v) ≡ record_writes (length v.books.changes.paid) (length v.books.changes.laid)
 writes_needed v paid laid weight = heavy (running_of v.books) _ 0 weight ∙ ap₂ record_writes paid laid
+
+-- the writes of the record: its ring places, and the fresh blocks
+pub record_needed : (v : StoreParts) → payloads v.books.geom (running_of v.books) ≡ length v.books.changes.paid → fresh_blocks v.books.geom (running_of v.books) ≡ length v.books.changes.laid → 0 < v.books.weight
+    → if_changed (running_of v.books) (commit_places (bookkeeping_of v) + fresh_blocks v.books.geom (running_of v.books)) 0 ≡ record_places (length v.books.changes.paid) (length v.books.changes.laid) + length v.books.changes.laid
+record_needed v paid laid weight = heavy (running_of v.books) _ 0 weight ∙ ap₂ (λ (m n : ℕ). record_places m n + n) paid laid
 
 -- behind the commit nothing runs
 nothing_runs : (number : ℕ) (v w : TransactionBooks) (p q : Pipeline) (ring : RingPlaces) → BecomesRecord number v w p q ring → running_of w ≡ nothing_running
@@ -112,7 +123,12 @@ module _ (laws : Laws) (tells : Bool) (v : StoreParts) (d e : State) (r : Commit
   after t l told = after_success laws v d l k.sound.kept told going filled tells t e ring q w c s
 
   grows : IsTrue tells → Grows d.log e.log
-  grows t = (s.writes t).grows
+  grows t = grows_by d.log e.log (s.writes t).grows
+
+  -- the new point waits for the tickets of its record
+  awaits_new : (ticks : ℕ) → IsTrue tells → (p t : ℕ) → awaited_in parts p t → awaited_in v p t ⊎ AwaitsSince (store_state v ticks d) p t
+  awaits_new ticks on p t waits = ⊎_elim (λ was. inl was) (λ late. inr (record { point = late.0; ticket = late.1 }))
+      (joined_awaits (v.first + v.point) (writes_of v.ring v.pipeline.header.epoch (v.first + v.point) v.books.changes) (s.joins on).0 v parts d.log e.log (s.joins on).1 (s.joins on).2 refl refl going p t waits)
 
   sound_then : StoreIsSound parts
   sound_then = record {
@@ -160,7 +176,7 @@ module _ (laws : Laws) (tells : Bool) (v : StoreParts) (d e : State) (r : Commit
     disk = record { faults = s.spends.faults; stopped = going; read_faults = s.spends.read_faults; waits = omega (arith, s.spends.waits) };
     ticks = asks_none _ _ _ _ s.spends ticks;
     map = map_stays laws tells v parts d e ticks k going same_session s.spends.same.base grows refl refl refl after;
-    crash = time_goes_on laws tells v parts d e ticks k going same_session s.spends.same.base grows refl refl refl after;
+    crash = λ t. time_goes_on laws tells v parts d e ticks k going same_session s.spends.same.base grows refl refl refl after (awaits_new ticks t) t;
     made = makes_point laws tells v parts d e ticks k going same_session s.spends.same.base grows refl refl refl after;
     writes = λ t. omega (arith, (s.writes t).writes, writes_needed v (laws.payloads v.books k.sound.kept) (laws.fresh v.books k.sound.kept) may.weight);
     none = tt;
@@ -176,7 +192,7 @@ module _ (laws : Laws) (tells : Bool) (v : StoreParts) (d e : State) (r : Commit
   after_fault t l told = after_failure laws v d l k.sound.kept told going may.sync.none_bare tells t e ring fault f
 
   grows_fault : IsTrue tells → Grows d.log e.log
-  grows_fault t = (f.writes t).grows
+  grows_fault t = grows_by d.log e.log (f.writes t).grows
 
   kept_failure : IsKeptOn tells stopped_parts e
   kept_failure = record {
@@ -208,7 +224,7 @@ module _ (laws : Laws) (tells : Bool) (v : StoreParts) (d e : State) (r : Commit
     disk = record { faults = f.spends.faults; stopped = refl; read_faults = f.spends.read_faults; waits = omega (arith, f.spends.waits) };
     ticks = asks_none _ _ _ _ f.spends ticks;
     map = map_stays laws tells v stopped_parts d e ticks k going refl f.spends.same.base grows_fault refl refl refl after_fault;
-    crash = time_goes_on laws tells v stopped_parts d e ticks k going refl f.spends.same.base grows_fault refl refl refl after_fault;
+    crash = λ t. time_goes_on laws tells v stopped_parts d e ticks k going refl f.spends.same.base grows_fault refl refl refl after_fault (λ p u waits. absurd (false≢true (sym waits.going))) t;
     made = makes_point laws tells v stopped_parts d e ticks k going refl f.spends.same.base grows_fault refl refl refl after_fault;
     writes = λ t. omega (arith, (f.writes t).writes, writes_needed v (laws.payloads v.books k.sound.kept) (laws.fresh v.books k.sound.kept) may.weight);
     none = tt;

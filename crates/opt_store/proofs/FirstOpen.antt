@@ -1,7 +1,8 @@
 -- The oldest committed record has an open ticket: behind a commit, since the tickets of its record are new, and behind a wait for all records, since no record is committed then. Where the floor isn't the last point, it is the record of the point behind the floor.
-use Rattle.std.proofs.Common.{◌≡◌, ℕ, zero, suc, ◌+◌, ◌<◌, ◌≤◌, ◌==◌, ◌&&◌, not, if◌then◌else◌, Bool, true, false, List, [], ◌∷◌, ◌++◌, length, map, Result, Ok, Err, OnOk, refl, sym, ◌∙◌, ap, subst, arith, length-append, append_assoc}
+use Rattle.std.proofs.Common.{◌≡◌, ℕ, zero, suc, ◌+◌, ◌<◌, ◌≤◌, ◌==◌, ◌&&◌, not, if◌then◌else◌, Bool, true, false, List, [], ◌∷◌, ◌++◌, length, map, option_map, slice_get, Some, Result, Ok, Err, OnOk, refl, sym, ◌∙◌, ap, subst, arith, length-append, append_assoc}
 use Rattle.std.proofs.lemmas.Bool.{and_from, and_parts, eq-eqb, eqb-true, false_from_ne_true, false≢true, or_left, or_right}
 use Rattle.std.proofs.lemmas.List.{length-map, map-append}
+use Rattle.std.proofs.lemmas.Option.{none-some, same_Some, slice_get-map}
 use Rattle.std.specs.List.{range_with_len}
 use Rattle.opt_disk.specs.declared.disk.DiskFault.{DiskFault}
 use Rattle.opt_disk.specs.declared.event.Event.{Event}
@@ -96,26 +97,30 @@ due_waited (Err x) v last is order durable = tt
 
 -- Which record it is.
 
-abbrev first_or : ℕ → List ℕ → ℕ
-first_or d [] = d
-first_or d (x ∷ xs) = x
+-- the number at a place of a row
+in_row : (a n k y : ℕ) → slice_get (range_with_len a n) k ≡ Some y → (y ≡ a + k) × (k < n)
+in_row a zero k y e = absurd (none-some y e)
+in_row a (suc n) zero y e = (omega (arith, same_Some a y e), omega arith)
+in_row a (suc n) (suc k) y e = let rest = in_row (a + 1) n k y e in (omega (arith, rest.0), omega (arith, rest.1))
 
-abbrev rest_of : List ℕ → List ℕ
-rest_of [] = []
-rest_of (x ∷ xs) = xs
+-- a place behind others
+get_behind : {A : Type 0} (xs ys : List A) (k : ℕ) → slice_get (xs ++ ys) (length xs + k) ≡ slice_get ys k
+get_behind [] ys k = ap (slice_get ys) (z k)
+  where
+    z : (k : ℕ) → 0 + k ≡ k
+    z k = omega arith
+get_behind (x ∷ xs) ys k = ap (slice_get (x ∷ (xs ++ ys))) (s (length xs) k) ∙ get_behind xs ys k
+  where
+    s : (n k : ℕ) → suc n + k ≡ suc (n + k)
+    s n k = omega arith
 
--- the number behind so many in a row
-in_a_row : (a n : ℕ) (xs ys : List ℕ) (y : ℕ) → xs ++ y ∷ ys ≡ range_with_len a n → y ≡ a + length xs
-in_a_row a zero [] ys y e = absurd (omega (arith, ap (λ (zs : List ℕ). length zs) e))
-in_a_row a zero (x ∷ xs) ys y e = absurd (omega (arith, ap (λ (zs : List ℕ). length zs) e))
-in_a_row a (suc n) [] ys y e = let is : y ≡ a = ap (first_or 0) e in omega (arith, is)
-in_a_row a (suc n) (x ∷ xs) ys y e = let rest : xs ++ y ∷ ys ≡ range_with_len (a + 1) n = ap rest_of e in omega (arith, in_a_row (a + 1) n xs ys y rest)
+-- the numbers before those of the committed records
+abbrev before : Pipeline → List ℕ
+before v = map placed_number v.placed.items ++ (map number_of (map of_sure v.sure.items) ++ map number_of (map of_durable v.durable.items))
 
--- the oldest committed record has the number behind the last durable one's
-pub first_number : (v : Pipeline) (c : Committed) (cs : List Committed) → IsInOrder v → v.committed.items ≡ c ∷ cs → c.number ≡ v.header.start + durable_count v
-first_number v c cs order is = omega (
+before_len : (v : Pipeline) → length (before v) ≡ durable_count v
+before_len v = omega (
   arith,
-  in_a_row v.header.start (length (numbers v)) before (map number_of (map of_committed cs)) c.number (apart ∙ order.numbers_are),
   length-append (map placed_number v.placed.items) (map number_of (map of_sure v.sure.items) ++ map number_of (map of_durable v.durable.items)),
   length-append (map number_of (map of_sure v.sure.items)) (map number_of (map of_durable v.durable.items)),
   length-map v.placed.items placed_number,
@@ -124,24 +129,35 @@ first_number v c cs order is = omega (
   length-map v.sure.items of_sure,
   length-map v.durable.items of_durable,
 )
-  where
-    before : List ℕ
-    before = map placed_number v.placed.items ++ (map number_of (map of_sure v.sure.items) ++ map number_of (map of_durable v.durable.items))
 
-    apart : before ++ c.number ∷ map number_of (map of_committed cs) ≡ numbers v
-    apart =
-        append_assoc (map placed_number v.placed.items) (map number_of (map of_sure v.sure.items) ++ map number_of (map of_durable v.durable.items)) (c.number ∷ map number_of (map of_committed cs))
-        ∙ ap (λ (xs : List ℕ). map placed_number v.placed.items ++ xs)
-        (append_assoc (map number_of (map of_sure v.sure.items)) (map number_of (map of_durable v.durable.items)) (c.number ∷ map number_of (map of_committed cs))
-        ∙ ap (λ (xs : List ℕ). map number_of (map of_sure v.sure.items) ++ xs)
-        (ap (λ (ks : List Committed). map number_of (map of_durable v.durable.items) ++ map number_of (map of_committed ks)) (sym is)
-        ∙ sym (map-append number_of (map of_durable v.durable.items) (map of_committed v.committed.items)))
-        ∙ sym (map-append number_of (map of_sure v.sure.items) (map of_durable v.durable.items ++ map of_committed v.committed.items)))
+apart : (v : Pipeline) → before v ++ map number_of (map of_committed v.committed.items) ≡ numbers v
+apart v =
+    append_assoc (map placed_number v.placed.items) (map number_of (map of_sure v.sure.items) ++ map number_of (map of_durable v.durable.items)) (map number_of (map of_committed v.committed.items))
+    ∙ ap (λ (xs : List ℕ). map placed_number v.placed.items ++ xs)
+    (append_assoc (map number_of (map of_sure v.sure.items)) (map number_of (map of_durable v.durable.items)) (map number_of (map of_committed v.committed.items))
+    ∙ ap (λ (xs : List ℕ). map number_of (map of_sure v.sure.items) ++ xs) (sym (map-append number_of (map of_durable v.durable.items) (map of_committed v.committed.items)))
+    ∙ sym (map-append number_of (map of_sure v.sure.items) (map of_durable v.durable.items ++ map of_committed v.committed.items)))
+
+-- the number at a place of the committed records
+at_place : (v : Pipeline) → IsInOrder v → (k : ℕ) (c : Committed) → slice_get v.committed.items k ≡ Some c → (c.number ≡ v.header.start + (length (before v) + k)) × (length (before v) + k < length (numbers v))
+at_place v order k c is = in_row v.header.start (length (numbers v)) (length (before v) + k) c.number
+    (ap (λ (ns : List ℕ). slice_get ns (length (before v) + k)) (sym (apart v ∙ order.numbers_are))
+    ∙ get_behind (before v) (map number_of (map of_committed v.committed.items)) k
+    ∙ slice_get-map number_of (map of_committed v.committed.items) k
+    ∙ ap (option_map number_of) (slice_get-map of_committed v.committed.items k ∙ ap (option_map of_committed) is))
+
+-- they have the numbers behind the last durable one's, in a row
+pub number_at : (v : Pipeline) → IsInOrder v → (k : ℕ) (c : Committed) → slice_get v.committed.items k ≡ Some c → c.number ≡ v.header.start + durable_count v + k
+number_at v order k c is = omega (arith, (at_place v order k c is).0, before_len v)
+
+-- and none is above the last number
+pub number_upto : (v : Pipeline) → IsInOrder v → (k : ℕ) (c : Committed) → slice_get v.committed.items k ≡ Some c → c.number ≤ v.last
+number_upto v order k c is = omega (arith, (at_place v order k c is).0, (at_place v order k c is).1, order.last)
 
 -- a record whose point is behind the floor is committed, and the oldest such one has an open ticket
-pub first_of : (v : Pipeline) → IsInOrder v → is_first_settled v.committed.items v.notes.notes ≡ false → v.header.start + durable_count v ≤ v.last → (c : Committed) × (c.number ≡ v.header.start + durable_count v) × ((t : ℕ) × (is_one_of t c.tickets.items ≡ true) × (is_open t v.notes.notes ≡ true))
+pub first_of : (v : Pipeline) → IsInOrder v → is_first_settled v.committed.items v.notes.notes ≡ false → v.header.start + durable_count v ≤ v.last → (c : Committed) × (slice_get v.committed.items 0 ≡ Some c) × ((t : ℕ) × (is_one_of t c.tickets.items ≡ true) × (is_open t v.notes.notes ≡ true))
 first_of v order due more = by v.committed.items refl due
   where
-    by : (cs : List Committed) → v.committed.items ≡ cs → is_first_settled cs v.notes.notes ≡ false → (c : Committed) × (c.number ≡ v.header.start + durable_count v) × ((t : ℕ) × (is_one_of t c.tickets.items ≡ true) × (is_open t v.notes.notes ≡ true))
+    by : (cs : List Committed) → v.committed.items ≡ cs → is_first_settled cs v.notes.notes ≡ false → (c : Committed) × (slice_get v.committed.items 0 ≡ Some c) × ((t : ℕ) × (is_one_of t c.tickets.items ≡ true) × (is_open t v.notes.notes ≡ true))
     by [] is e = absurd (omega (arith, order.last, numbers_len v, more, ap (λ (xs : List Committed). length xs) is))
-    by (c ∷ cs) is e = (c, first_number v c cs order is, one_open c.tickets.items v.notes.notes e)
+    by (c ∷ cs) is e = (c, ap (λ (ks : List Committed). slice_get ks 0) is, one_open c.tickets.items v.notes.notes e)

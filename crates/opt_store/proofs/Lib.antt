@@ -9,6 +9,8 @@ pub mod OnePoint
 pub mod Going
 pub mod NextRecord
 pub mod FirstOpen
+pub mod TicketLogs
+pub mod Awaiting
 pub mod RecordLogs
 pub mod Joining
 pub mod BooksCommit

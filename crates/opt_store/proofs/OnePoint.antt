@@ -14,7 +14,9 @@ use Rattle.opt_crash.specs.Ledger.{Ledger, issued, next_number}
 use Rattle.opt_crash.specs.Points.{MountedSession, IsMoment, IsPoint, IsSafe, points_in}
 use Rattle.opt_blocks.specs.State.{Bookkeeping, Counts}
 use Rattle.opt_blocks.specs.Crashes.{HasLiveBlocks, HasMapOfPoint}
+use Rattle.opt_store.specs.declared.parts.StoreParts.{StoreParts}
 use Rattle.opt_store.specs.SessionView.{state_of}
+use Rattle.opt_store.specs.Told.{awaited_in}
 use Rattle.opt_store.proofs.Windows.{LastIs, OneMap, points_are, points_more}
 
 -- points never get fewer from one moment to a later one
@@ -75,9 +77,9 @@ upto_last s base log p m is = omega (arith, is.at.count, points_grow s log is.mo
     late = ⊎_elim (λ first. omega (arith, first.1)) (λ behind. omega (arith, behind.0)) is.at.just
 
 -- the map of the newest point has the live blocks of each map whose live blocks the ledger's has
-pub made_of : LastIs → OneMap → (s : MountedSession) (base : Blocks) (log : List Event) (l : Ledger) (k : Bookkeeping) (c : Counts) (m : Blocks) (t floor : ℕ) → IsSafe s base log l t floor → k.geom ≡ s.geom → next_number l - s.first ≤ k.point
-    → (k.point ≡ next_number l - s.first → HasLiveBlocks k.geom m (l.map_before (next_number l))) → HasMapOfPoint (state_of s k c m base log) k.point
-made_of last_is one_map s base log l k c m t floor safe geom least has q point b live = ∥∥₁_elim point (search props) (λ (is : IsPoint s base log k.point q).
+pub made_of : LastIs → OneMap → (s : MountedSession) (base : Blocks) (log : List Event) (l : Ledger) (k : Bookkeeping) (c : Counts) (m : Blocks) (w : StoreParts) (t floor : ℕ) → IsSafe s base log l t floor → k.geom ≡ s.geom → next_number l - s.first ≤ k.point
+    → (k.point ≡ next_number l - s.first → HasLiveBlocks k.geom m (l.map_before (next_number l))) → HasMapOfPoint (state_of s k c m base log (awaited_in w)) k.point
+made_of last_is one_map s base log l k c m w t floor safe geom least has q point b live = ∥∥₁_elim point (search props) (λ (is : IsPoint s base log k.point q).
     let last : k.point ≡ next_number l - s.first = omega (arith, least, upto_last s base log k.point q is, points_are s base log l t floor (next_number l - s.first) safe refl) in
     one_point one_map s base log k.point q newest is (subst (λ (p : ℕ). IsPoint s base log p newest) (points_are s base log l t floor k.point safe last) (last_is s base log l t floor safe)) b
     ∙ ap (λ t. if t then l.map_before (next_number l) b else []) (subst (λ (g : Geometry). is_live g (l.map_before (next_number l)) b ≡ true) same (stays_live k.geom m (l.map_before (next_number l)) b (subst (λ (g : Geometry). data_start g ≤ g.n) (sym same) safe.keeps.shape) (has last) live))

@@ -1,5 +1,5 @@
 -- A call of the pipeline keeps the store, whether it succeeded or not, and runs the pipeline as the contract of maps of blocks says it.
-use Rattle.std.proofs.Common.{◌≡◌, inl, inr, ⊎_elim, ℕ, zero, suc, ◌+◌, ◌-◌, ◌^◌, ◌<◌, ◌≤◌, Bool, true, false, IsTrue, List, ◌++◌, length, Result, Ok, Err, OnOk, OnErr, is_err, refl, sym, ◌∙◌, ap, subst, arith}
+use Rattle.std.proofs.Common.{◌≡◌, ◌⊎◌, inl, inr, ⊎_elim, ℕ, zero, suc, ◌+◌, ◌-◌, ◌^◌, ◌<◌, ◌≤◌, Bool, true, false, IsTrue, List, ◌++◌, length, Result, Ok, Err, OnOk, OnErr, is_err, refl, sym, ◌∙◌, ap, subst, arith}
 use Rattle.std.proofs.Props.{props}
 use Rattle.std.proofs.Math.Logic.{∥∥₁_elim, ∥∥₁_map, ∥∥₁_prop}
 use Rattle.std.proofs.lemmas.Bool.{false≢true}
@@ -9,6 +9,7 @@ use Rattle.opt_base.specs.Seal.{Blocks}
 use Rattle.opt_disk.specs.declared.disk.DiskFault.{DiskFault}
 use Rattle.opt_disk.specs.declared.event.Event.{Event}
 use Rattle.opt_disk.specs.Cell.{notices}
+use Rattle.opt_disk.specs.Manner.{Manner}
 use Rattle.opt_disk.specs.Disk.{State, Grows, HasFailed, SameDisk, Spends, writes_in}
 use Rattle.opt_geom.specs.Geometry.{Geometry}
 use Rattle.opt_journal.specs.declared.header.Header.{Header}
@@ -25,10 +26,10 @@ use Rattle.opt_checkpoint.specs.Agree.{NotesAreGiven, PipelineAgrees, durable_co
 use Rattle.opt_checkpoint.specs.Bytes.{IsLiveNow, LeavesBytes}
 use Rattle.opt_checkpoint.specs.Kept.{kept}
 use Rattle.opt_checkpoint.specs.Steps.{is_first_settled}
-use Rattle.opt_checkpoint.specs.Waits.{OnlyNotices}
+use Rattle.opt_checkpoint.specs.Waits.{HearsRecords, LosesCommitted, OnlyNotices, StaysHeard}
 use Rattle.opt_blocks.specs.State.{Bookkeeping, Counts}
 use Rattle.opt_blocks.specs.Calls.{MovesPipeline}
-use Rattle.opt_blocks.specs.Crashes.{Advances, HoldsPointBetween}
+use Rattle.opt_blocks.specs.Crashes.{Advances, AwaitsSince, HoldsPointBetween}
 use Rattle.opt_blocks.specs.Effects.{RunsPipeline}
 use Rattle.opt_books.specs.Books.{TransactionBooks, map_of}
 use Rattle.opt_books.specs.Kept.{AreKept}
@@ -37,7 +38,8 @@ use Rattle.opt_store.specs.declared.parts.StoreParts.{StoreParts}
 use Rattle.opt_store.specs.PipelineCall.{CallsPipeline, settled_up}
 use Rattle.opt_store.specs.SessionView.{LeftImage, state_of}
 use Rattle.opt_store.specs.Store.{PartsMove, StoreIsSound, bookkeeping_of, durable_point}
-use Rattle.opt_store.specs.Told.{CacheAgrees, GoesBy, IsKeptOn, IsToldBy, counts_of, last_map, map_now, session_of, store_state}
+use Rattle.opt_store.specs.Told.{CacheAgrees, GoesBy, IsKeptOn, IsToldBy, awaited_in, counts_of, last_map, map_now, session_of, store_state}
+use Rattle.opt_store.proofs.Awaiting.{called_awaits}
 use Rattle.opt_store.proofs.Going.{durable_few}
 use Rattle.opt_store.proofs.LastMap.{LastMapLaws, bytes_are}
 use Rattle.opt_store.proofs.PipelineBytes.{writes_noticed, still_none, cache_still}
@@ -54,8 +56,8 @@ pub record Laws : Type 0 where
   pub goes_on : (v w : StoreParts) (headers : ℕ) → StoreIsSound v → v.stopped ≡ false → PartsMove headers v w → IsSound w.pipeline w.ring w.books.dead → w.floor ≡ durable_point w → StoreIsSound w
   pub rises : (v w : StoreParts) (headers : ℕ) → StoreIsSound v → v.stopped ≡ false → PartsMove headers v w → w.floor ≡ durable_point w → v.floor ≤ w.floor
   pub stops : (v w : StoreParts) (headers : ℕ) → StoreIsSound v → PartsMove headers v w → w.stopped ≡ true → w.floor ≡ v.floor → StoreIsSound w
-  pub advances : (s : MountedSession) (base : Blocks) (old new : List Event) (l n : Ledger) (j k : Bookkeeping) (c d : Counts) (a b : Blocks) (t floor since low : ℕ) → IsSafe s base old l t floor → Grows old new → IsSafe s base new n since low → since ≤ length old → j.floor ≤ low
-      → j.point ≡ next_number l - s.first → next_number n - s.first ≤ k.point → j.floor ≤ k.floor → Advances (state_of s j c a base old) (state_of s k d b base new)
+  pub advances : (s : MountedSession) (base : Blocks) (old new : List Event) (l n : Ledger) (j k : Bookkeeping) (c d : Counts) (a b : Blocks) (v w : StoreParts) (t floor since low : ℕ) → IsSafe s base old l t floor → Grows old new → IsSafe s base new n since low → since ≤ length old → j.floor ≤ low
+      → j.point ≡ next_number l - s.first → next_number n - s.first ≤ k.point → j.floor ≤ k.floor → ((p u : ℕ) → awaited_in w p u → awaited_in v p u ⊎ AwaitsSince (state_of s j c a base old (awaited_in v)) p u) → Advances (state_of s j c a base old (awaited_in v)) (state_of s k d b base new (awaited_in w))
 
 -- the answers of a call of the pipeline
 abbrev done : Unit {0} → Result (Unit {0}) DiskFault
@@ -83,8 +85,9 @@ lower_floor s base log l t floor low le safe = record {
 }
 
 -- Whichever ledgers tell a disk before and after a call, time went on: where the log has grown, the truncation can be dropped.
-some_advances : (s : MountedSession) (base : Blocks) (log more : List Event) (j k : Bookkeeping) (c d : Counts) (a b : Blocks) → ∥ Advances (state_of s j c a base log) (state_of s k d b base (log ++ more)) ∥₁ → Advances (state_of s j c a base log) (state_of s k d b base (log ++ more))
-some_advances s base log more j k c d a b some = record {
+some_advances : (s : MountedSession) (base : Blocks) (log more : List Event) (j k : Bookkeeping) (c d : Counts) (a b : Blocks) (v w : StoreParts) → ((p u : ℕ) → awaited_in w p u → awaited_in v p u ⊎ AwaitsSince (state_of s j c a base log (awaited_in v)) p u) → ∥ Advances (state_of s j c a base log (awaited_in v)) (state_of s k d b base (log ++ more) (awaited_in w)) ∥₁
+    → Advances (state_of s j c a base log (awaited_in v)) (state_of s k d b base (log ++ more) (awaited_in w))
+some_advances s base log more j k c d a b v w awaits some = record {
   base = refl;
   grows = record { more = more; log = refl };
   window = window;
@@ -93,15 +96,17 @@ some_advances s base log more j k c d a b some = record {
   point = λ p m le. (λ is. ∥∥₁_elim some ∥∥₁_prop (λ go. (go.point p m le).0 is), λ is. ∥∥₁_elim some ∥∥₁_prop (λ go. (go.point p m le).1 is));
   last = ∥∥₁_elim some (search props) (λ go. go.last);
   floor = ∥∥₁_elim some (search props) (λ go. go.floor);
+  awaits = awaits;
 }
   where
-    window : (img : Blocks) → LeftImage s base (log ++ more) (length log) img → ∥ HoldsPointBetween (state_of s k d b base (log ++ more)) j.floor k.point img ∥₁
+    window : (img : Blocks) → LeftImage s base (log ++ more) (length log) img → ∥ HoldsPointBetween (state_of s k d b base (log ++ more) (awaited_in w)) j.floor k.point img ∥₁
     window img left = ∥∥₁_elim some ∥∥₁_prop (λ go. go.window img left)
 
-pub advances_by_some : (s : MountedSession) (base : Blocks) (old new : List Event) (j k : Bookkeeping) (c d : Counts) (a b : Blocks) → Grows old new → ∥ Advances (state_of s j c a base old) (state_of s k d b base new) ∥₁ → Advances (state_of s j c a base old) (state_of s k d b base new)
-advances_by_some s base old new j k c d a b grows some =
-    subst (λ (log : List Event). Advances (state_of s j c a base old) (state_of s k d b base log)) (sym grows.log)
-    (some_advances s base old grows.more j k c d a b (subst (λ (log : List Event). ∥ Advances (state_of s j c a base old) (state_of s k d b base log) ∥₁) grows.log some))
+pub advances_by_some : (s : MountedSession) (base : Blocks) (old new : List Event) (j k : Bookkeeping) (c d : Counts) (a b : Blocks) (v w : StoreParts) → Grows old new → ((p u : ℕ) → awaited_in w p u → awaited_in v p u ⊎ AwaitsSince (state_of s j c a base old (awaited_in v)) p u) → ∥ Advances (state_of s j c a base old (awaited_in v)) (state_of s k d b base new (awaited_in w)) ∥₁
+    → Advances (state_of s j c a base old (awaited_in v)) (state_of s k d b base new (awaited_in w))
+advances_by_some s base old new j k c d a b v w grows awaits some =
+    subst (λ (log : List Event). Advances (state_of s j c a base old (awaited_in v)) (state_of s k d b base log (awaited_in w))) (sym grows.log)
+    (some_advances s base old grows.more j k c d a b v w awaits (subst (λ (log : List Event). ∥ Advances (state_of s j c a base old (awaited_in v)) (state_of s k d b base log (awaited_in w)) ∥₁) grows.log some))
 
 -- The ledger after a call.
 
@@ -172,9 +177,9 @@ moved_on (Err x) headers v w m = record { moves = m.moves; books = m.books; dead
 
 -- The store is told behind the call.
 
-told_ok : (laws : Laws) (headers : ℕ) (a : Unit {0}) (v w : StoreParts) (d e : State) (l : Ledger) → StoreIsSound v → IsToldBy v d l → GoesBy v d l → PartsMove headers v w → LosesFront (kept v.pipeline) (kept w.pipeline) → IsSound w.pipeline w.ring w.books.dead → LeavesBytes l v.pipeline w.pipeline d e → w.stopped ≡ false → is_first_settled w.pipeline.committed.items w.pipeline.notes.notes ≡ false
+told_ok : (laws : Laws) (headers : ℕ) (a : Unit {0}) (v w : StoreParts) (d e : State) (l : Ledger) → StoreIsSound v → IsToldBy v d l → GoesBy v d l → PartsMove headers v w → LosesFront (kept v.pipeline) (kept w.pipeline) → IsSound w.pipeline w.ring w.books.dead → LeavesBytes l v.pipeline w.pipeline d e → w.stopped ≡ false → is_first_settled w.pipeline.committed.items w.pipeline.notes.notes ≡ false → (e.manner.waits_alone ≡ true → HearsRecords e.log w.pipeline)
     → (stay : StaysRight (session_of v) e.base e.log l (length d.log) v.floor w.pipeline w.ring w.books.dead v.books.changes.taken) → IsToldBy (settled_up (done a) w) e stay.now
-told_ok laws headers a v w d e l s told goes m front sound bytes still_going due stay = record {
+told_ok laws headers a v w d e l s told goes m front sound bytes still_going due heard stay = record {
   safe = subst (λ (x : MountedSession). IsSafe x e.base e.log stay.now (length e.log) (durable_point w)) (sym (same_session headers v w m))
       (lower_floor (session_of v) e.base e.log stay.now (length e.log) (stay.now.known - v.first) (durable_point w) low (laws.begins (session_of v) e.base e.log stay.now (length d.log) v.floor stay.right.safe));
   made = omega (arith, told.made, stay.turned.next, m.first, m.point);
@@ -185,6 +190,7 @@ told_ok laws headers a v w d e l s told goes m front sound bytes still_going due
     serves = stay.right.serves;
     next = omega (arith, goes.next, stay.turned.next, m.first, m.point);
     due = due;
+    heard = heard;
     cache = record { newest = cache.newest; same = cache.same };
   };
   failed = λ stopped. absurd (false≢true (sym still_going ∙ stopped));
@@ -213,7 +219,10 @@ told_then laws tells headers (Ok a) v w d e t s going c l told =
     let goes = told.going going in
     let right = right_before v d l told goes in
     let stay = c.right t (session_of v) l (length d.log) v.floor v.books.changes.taken right in
-    (stay.now, told_ok laws headers a v w d e l s told goes c.moves c.front c.sound (c.bytes t (session_of v) l (length d.log) v.floor v.books.changes.taken right) (c.stopped ∙ going) (c.due t (session_of v) l (length d.log) v.floor v.books.changes.taken right) stay)
+    (stay.now, told_ok laws headers a v w d e l s told goes c.moves c.front c.sound (c.bytes t (session_of v) l (length d.log) v.floor v.books.changes.taken right) (c.stopped ∙ going) (c.due t (session_of v) l (length d.log) v.floor v.books.changes.taken right) (λ alone. c.heard t (session_of v) l (length d.log) v.floor v.books.changes.taken right (still_alone alone) (goes.heard (still_alone alone))) stay)
+  where
+    still_alone : e.manner.waits_alone ≡ true → d.manner.waits_alone ≡ true
+    still_alone alone = ap (λ (m : Manner). m.waits_alone) (sym c.spends.same.manner) ∙ alone
 told_then laws tells headers (Err x) v w d e t s going c l told =
     let goes = told.going going in
     let right = right_before v d l told goes in
@@ -255,20 +264,23 @@ module _ (laws : Laws) (tells : Bool) (headers : ℕ) (result : Result (Unit {0}
   bytes_on : IsTrue tells → (l : Ledger) → IsToldBy v d l → LeavesBytes l v.pipeline u.pipeline d e
   bytes_on t l told = subst (λ (p : Pipeline). LeavesBytes l v.pipeline p d e) (sym pipeline) (c.bytes t (session_of v) l (length d.log) v.floor v.books.changes.taken (right_before v d l told (told.going going)))
 
-  goes_by : IsTrue tells → (l : Ledger) → IsToldBy v d l → Advances (state_of (session_of v) (bookkeeping_of v) (counts_of before d) (map_now v d) d.base d.log) (state_of (session_of v) (bookkeeping_of u) (counts_of then e) (map_now u e) d.base e.log)
+  awaits : (p t : ℕ) → awaited_in u p t → awaited_in v p t
+  awaits = called_awaits result v w u c.lost pipeline moved.first stops going
+
+  goes_by : IsTrue tells → (l : Ledger) → IsToldBy v d l → Advances (state_of (session_of v) (bookkeeping_of v) (counts_of before d) (map_now v d) d.base d.log (awaited_in v)) (state_of (session_of v) (bookkeeping_of u) (counts_of then e) (map_now u e) d.base e.log (awaited_in u))
   goes_by t l told =
       let goes = told.going going in
       let stay = safe_after result (session_of v) e l (length d.log) v.floor w.pipeline w.ring w.books.dead v.books.changes.taken (c.right t (session_of v) l (length d.log) v.floor v.books.changes.taken (right_before v d l told goes)) in
-      laws.advances (session_of v) d.base d.log e.log l stay.now (bookkeeping_of v) (bookkeeping_of u) (counts_of before d) (counts_of then e) (map_now v d) (map_now u e) (length d.log) v.floor (length d.log) v.floor
-      told.safe (c.grows t) (subst (λ (x : Blocks). IsSafe (session_of v) x e.log stay.now (length d.log) v.floor) c.spends.same.base stay.safe) (omega arith) (omega arith) (omega (arith, goes.next)) (omega (arith, goes.next, stay.turned.next, moved.point)) floors
+      laws.advances (session_of v) d.base d.log e.log l stay.now (bookkeeping_of v) (bookkeeping_of u) (counts_of before d) (counts_of then e) (map_now v d) (map_now u e) v u (length d.log) v.floor (length d.log) v.floor
+      told.safe (c.grows t) (subst (λ (x : Blocks). IsSafe (session_of v) x e.log stay.now (length d.log) v.floor) c.spends.same.base stay.safe) (omega arith) (omega arith) (omega (arith, goes.next)) (omega (arith, goes.next, stay.turned.next, moved.point)) floors (λ p t waits. inl (awaits p t waits))
 
   runs_by : RunsPipeline tells (is_err result) (store_state v before d) (store_state u then e)
   runs_by = record {
     pipeline = laws.moves v u headers few moved floors;
     disk = record { faults = c.spends.faults; stopped = stops; read_faults = c.spends.read_faults; waits = subst (λ n. d.waits ≤ n) (sym c.spends.waits) (count_stays c.made d.waits k.waits).0 };
     map = λ t. fun_ext (λ b. ∥∥₁_elim (k.told t) (search props) (λ (p : (l : Ledger) × IsToldBy v d l). ap (λ (m : Blocks). m b) (map_then laws headers v u d e p.0 k.sound.kept p.1 (p.1.going going) moved (bytes_on t p.0 p.1))));
-    crash = λ t. subst₂ (λ (s : MountedSession) (x : Blocks). Advances (store_state v before d) (state_of s (bookkeeping_of u) (counts_of then e) (map_now u e) x e.log)) (sym (same_session headers v u moved)) (sym c.spends.same.base)
-        (advances_by_some (session_of v) d.base d.log e.log (bookkeeping_of v) (bookkeeping_of u) (counts_of before d) (counts_of then e) (map_now v d) (map_now u e) (c.grows t) (∥∥₁_map (k.told t) (λ (p : (l : Ledger) × IsToldBy v d l). goes_by t p.0 p.1)));
+    crash = λ t. subst₂ (λ (s : MountedSession) (x : Blocks). Advances (store_state v before d) (state_of s (bookkeeping_of u) (counts_of then e) (map_now u e) x e.log (awaited_in u))) (sym (same_session headers v u moved)) (sym c.spends.same.base)
+        (advances_by_some (session_of v) d.base d.log e.log (bookkeeping_of v) (bookkeeping_of u) (counts_of before d) (counts_of then e) (map_now v d) (map_now u e) v u (c.grows t) (λ p t waits. inl (awaits p t waits)) (∥∥₁_map (k.told t) (λ (p : (l : Ledger) × IsToldBy v d l). goes_by t p.0 p.1)));
     writes = λ t. omega (arith, c.owed t, ap writes_owed pipeline);
   }
 
@@ -322,8 +334,10 @@ pub stepped : (tells : Bool) (headers : ℕ) (result : Result (Unit {0}) DiskFau
     → (IsTrue tells → (s : MountedSession) (l : Ledger) (t floor : ℕ) (taken : List ℕ) → IsRightOn s d l t floor v.pipeline v.ring dead taken → LeavesBytes l v.pipeline q d e)
     → (IsTrue tells → (s : MountedSession) (l : Ledger) (t floor : ℕ) (taken : List ℕ) → IsRightOn s d l t floor v.pipeline v.ring dead taken → OnErr result (HasFailed e))
     → (IsTrue tells → (s : MountedSession) (l : Ledger) (t floor : ℕ) (taken : List ℕ) → IsRightOn s d l t floor v.pipeline v.ring dead taken → OnOk result (is_first_settled q.committed.items q.notes.notes ≡ false))
+    → OnOk result (LosesCommitted v.pipeline q)
+    → (IsTrue tells → (s : MountedSession) (l : Ledger) (t floor : ℕ) (taken : List ℕ) → IsRightOn s d l t floor v.pipeline v.ring dead taken → OnOk result (StaysHeard d e v.pipeline q))
     → (IsTrue tells → writes_in e.log + writes_owed q ≤ writes_in d.log + writes_owed v.pipeline) → CallsPipeline tells headers result v (with_moved v q ring next) d e
-stepped tells headers result v q ring dead next d e made asked lent moves lawful sound front spends adds right bytes cause due owed = record {
+stepped tells headers result v q ring dead next d e made asked lent moves lawful sound front spends adds right bytes cause due lost heard owed = record {
   moves = record { moves = subst (λ (x : DeadBlocks). Moves headers v.pipeline q v.ring ring x next) lent moves; books = refl; dead = lawful; cache = refl; mounted = refl; first = refl; point = refl };
   floor = refl;
   stopped = refl;
@@ -337,6 +351,8 @@ stepped tells headers result v q ring dead next d e made asked lent moves lawful
   bytes = λ t s l u floor taken was. bytes t s l u floor taken (subst (λ (x : DeadBlocks). IsRightOn s d l u floor v.pipeline v.ring x taken) (sym lent) was);
   cause = λ t s l u floor taken was. cause t s l u floor taken (subst (λ (x : DeadBlocks). IsRightOn s d l u floor v.pipeline v.ring x taken) (sym lent) was);
   due = λ t s l u floor taken was. due t s l u floor taken (subst (λ (x : DeadBlocks). IsRightOn s d l u floor v.pipeline v.ring x taken) (sym lent) was);
+  lost = lost;
+  heard = λ t s l u floor taken was. heard t s l u floor taken (subst (λ (x : DeadBlocks). IsRightOn s d l u floor v.pipeline v.ring x taken) (sym lent) was);
   owed = owed;
 }
 
@@ -346,8 +362,10 @@ pub waited : (tells : Bool) (result : Result (Unit {0}) DiskFault) (v : StorePar
     → (IsTrue tells → (s : MountedSession) (l : Ledger) (t floor : ℕ) (ring : RingPlaces) (dead : DeadBlocks) (taken : List ℕ) → IsRightOn s d l t floor v.pipeline ring dead taken → Leaves result s e l t floor q ring dead taken)
     → (IsTrue tells → NotesAreGiven d.log v.pipeline.notes.notes → OnErr result (HasFailed e))
     → OnOk result (is_first_settled q.committed.items q.notes.notes ≡ false)
+    → OnOk result (LosesCommitted v.pipeline q)
+    → (IsTrue tells → (s : MountedSession) (l : Ledger) (t floor : ℕ) (ring : RingPlaces) (dead : DeadBlocks) (taken : List ℕ) → IsRightOn s d l t floor v.pipeline ring dead taken → OnOk result (StaysHeard d e v.pipeline q))
     → writes_owed q ≡ writes_owed v.pipeline → CallsPipeline tells 0 result v (record v { pipeline = q }) d e
-waited tells result v q d e made noticed moves lawful sound same spends adds right cause due owed = record {
+waited tells result v q d e made noticed moves lawful sound same spends adds right cause due lost heard owed = record {
   moves = record { moves = moves; books = refl; dead = lawful; cache = refl; mounted = refl; first = refl; point = refl };
   floor = refl;
   stopped = refl;
@@ -361,6 +379,8 @@ waited tells result v q d e made noticed moves lawful sound same spends adds rig
   bytes = λ t s l u floor taken was. noticed s l u floor v.pipeline q v.ring v.books.dead taken d e was spends.same (adds t) same;
   cause = λ t s l u floor taken was. cause t was.agrees.given;
   due = λ t s l u floor taken was. due;
+  lost = lost;
+  heard = λ t s l u floor taken was. heard t s l u floor v.ring v.books.dead taken was;
   owed = λ t. omega (arith, owed, ap writes_in (adds t).log, writes_noticed d.log (adds t).tickets);
 }
 

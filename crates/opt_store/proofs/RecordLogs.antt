@@ -6,7 +6,7 @@ use Rattle.std.proofs.lemmas.Option.{none-some}
 use Rattle.opt_disk.specs.declared.event.Event.{Event}
 use Rattle.opt_disk.specs.declared.event.Event.TheVariants.{Wrote, Lost, Noticed}
 use Rattle.opt_disk.specs.Cell.{accepted_from, is_lost_from}
-use Rattle.opt_disk.specs.Disk.{Grows}
+use Rattle.opt_disk.specs.Disk.{AreWrites, GrowsByWrites}
 use Rattle.opt_geom.specs.Geometry.{Geometry, bitmap_start, ring_block}
 use Rattle.opt_journal.specs.Run.{heads, commit_says, otherwise}
 use Rattle.opt_journal.specs.Spelling.{commit_block}
@@ -69,15 +69,22 @@ none_are_lost b (w ∷ ws) (t ∷ ts) old new a e = none_are_lost b ws ts (old +
     by true l e = refl
     by false l e = e
 
-pub all_grow : (ws : List (ℕ × List ℕ)) (ts : List ℕ) (old new : List Event) → AddsWrites ws ts old new → Grows old new
-all_grow [] [] old new a = record { more = []; log = a ∙ sym (append-nil old) }
+pub all_grow : (ws : List (ℕ × List ℕ)) (ts : List ℕ) (old new : List Event) → AddsWrites ws ts old new → GrowsByWrites old new
+all_grow [] [] old new a = record { more = []; log = a ∙ sym (append-nil old); writes = tt }
 all_grow [] (t ∷ ts) old new a = absurd a
 all_grow (w ∷ ws) [] old new a = absurd a
-all_grow (w ∷ ws) (t ∷ ts) old new a = let g = all_grow ws ts (old ++ Wrote t w.0 w.1 ∷ []) new a.2 in record { more = Wrote t w.0 w.1 ∷ g.more; log = g.log ∙ append_assoc old (Wrote t w.0 w.1 ∷ []) g.more }
+all_grow (w ∷ ws) (t ∷ ts) old new a = let g = all_grow ws ts (old ++ Wrote t w.0 w.1 ∷ []) new a.2 in record { more = Wrote t w.0 w.1 ∷ g.more; log = g.log ∙ append_assoc old (Wrote t w.0 w.1 ∷ []) g.more; writes = g.writes }
 
-pub front_grows : (ws : List (ℕ × List ℕ)) (old new : List Event) → AddsFront ws old new → Grows old new
-front_grows ws old new f = let g = all_grow f.front f.tickets old f.middle f.accepted in ⊎_elim (λ same. subst (Grows old) (sym same) g)
-    (λ lost. record { more = g.more ++ Lost lost.0 lost.1 ∷ []; log = lost.4 ∙ ap (λ (es : List Event). es ++ Lost lost.0 lost.1 ∷ []) g.log ∙ append_assoc old g.more (Lost lost.0 lost.1 ∷ []) }) f.ends
+-- one that was lost behind them is a write too
+and_lost : (es : List Event) (b : ℕ) (x : List ℕ) → AreWrites es → AreWrites (es ++ Lost b x ∷ [])
+and_lost [] b x all = tt
+and_lost (Wrote t c y ∷ es) b x all = and_lost es b x all
+and_lost (Lost c y ∷ es) b x all = and_lost es b x all
+and_lost (Noticed t ∷ es) b x all = absurd all
+
+pub front_grows : (ws : List (ℕ × List ℕ)) (old new : List Event) → AddsFront ws old new → GrowsByWrites old new
+front_grows ws old new f = let g = all_grow f.front f.tickets old f.middle f.accepted in ⊎_elim (λ same. subst (GrowsByWrites old) (sym same) g)
+    (λ lost. record { more = g.more ++ Lost lost.0 lost.1 ∷ []; log = lost.4 ∙ ap (λ (es : List Event). es ++ Lost lost.0 lost.1 ∷ []) g.log ∙ append_assoc old g.more (Lost lost.0 lost.1 ∷ []); writes = and_lost g.more lost.0 lost.1 g.writes }) f.ends
 
 -- Writes to other blocks.
 

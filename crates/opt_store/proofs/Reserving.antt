@@ -1,20 +1,22 @@
 -- Memory is made ready for a commit: how much is needed, and that what is known of the store stays.
-use Rattle.std.proofs.Common.{◌≡◌, ℕ, ◌+◌, ◌-◌, ◌*◌, ◌^◌, ◌<◌, ◌≤◌, max, Bool, List, ◌++◌, length, map, drop, slice_get, None, IsTrue, sym, ◌∙◌, ap, ap₂, subst, arith, length-append}
+use Rattle.std.proofs.Common.{◌≡◌, ℕ, ◌+◌, ◌-◌, ◌*◌, ◌^◌, ◌<◌, ◌≤◌, max, Bool, List, ◌++◌, length, map, drop, slice_get, Some, None, true, IsTrue, refl, sym, ◌∙◌, ap, ap₂, subst, arith, length-append}
 use Rattle.std.proofs.Math.Logic.{∥∥₁_map}
 use Rattle.std.proofs.lemmas.List.{length-map}
 use Rattle.std.specs.List.{All}
+use mathlib.Core.Path.{subst₂}
 use Rattle.opt_base.specs.Seal.{Blocks}
 use Rattle.opt_disk.specs.declared.event.Event.{Event}
-use Rattle.opt_disk.specs.Cell.{accepted}
+use Rattle.opt_disk.specs.Cell.{accepted, IsNoticed}
 use Rattle.opt_disk.specs.Disk.{State}
 use Rattle.opt_journal.specs.Layout.{descriptor_count}
 use Rattle.opt_journal.specs.declared.header.Header.{Header}
 use Rattle.opt_journal.specs.Ring.{RingPlaces}
 use Rattle.opt_journal.specs.Run.{is_live, otherwise}
+use Rattle.opt_crash.specs.HomeTest.{is_one_of}
 use Rattle.opt_crash.specs.Ledger.{Ledger}
 use Rattle.opt_crash.specs.Points.{MountedSession, IsSafe}
 use Rattle.opt_notes.specs.declared.notes.Note.{Note}
-use Rattle.opt_notes.specs.Notes.{is_open}
+use Rattle.opt_notes.specs.Notes.{is_noticed, is_open}
 use Rattle.opt_tx.specs.declared.commit.CommitRoom.{CommitRoom}
 use Rattle.opt_tx.specs.declared.commit.Committed.{Committed}
 use Rattle.opt_tx.specs.Commits.{HasRoomForCommit}
@@ -103,7 +105,7 @@ module _ (v : StoreParts) (q : Pipeline) (same : SamePipeline v.pipeline q) wher
   last_same d = λ i b. otherwise (newest_in None (kept_same v.pipeline q same i) b) (accepted d.base d.log b)
 
   pub same_store : IsSameStore v w
-  same_store = record { books = books_same; session = session_same; map = λ d. ap (map_of v.books) (last_same d) }
+  same_store = record { books = books_same; session = session_same; map = λ d. ap (map_of v.books) (last_same d); awaits = record { stopped = refl; first = refl; committed = same.committed } }
 
   -- what was made ready is enough for the commit
   pub may_commit : (r : CommitRoom) (writes payloads : ℕ) → q.ready ≡ ready_upto writes payloads v.pipeline.ready → length v.books.changes.laid + places_for v.books.changes ≤ writes → length v.books.changes.paid ≤ payloads → HasRoomForCommit v.books.changes r
@@ -157,6 +159,7 @@ module _ (v : StoreParts) (q : Pipeline) (same : SamePipeline v.pipeline q) wher
         serves = still_serves l g.serves;
         next = g.next;
         due = ap₂ (λ (cs : List Committed) (ns : List Note). is_first_settled cs ns) same.committed same.notes ∙ g.due;
+        heard = λ alone. subst₂ (λ (cs : List Committed) (ns : List Note). (k t : ℕ) (c : Committed) → slice_get cs k ≡ Some c → is_one_of t c.tickets.items ≡ true → IsNoticed t d.log → is_noticed t ns ≡ true) (sym same.committed) (sym same.notes) (g.heard alone);
         cache = record {
           newest = λ b live there. ap (λ (ks : List Kept). newest_in None ks b) (kept_same v.pipeline q same) ∙ g.cache.newest b (subst (λ (m : Blocks). IsTrue (is_live v.books.geom m b)) (last_same d) live) there;
           same = λ b live. g.cache.same b (subst (λ (m : Blocks). IsTrue (is_live v.books.geom m b)) (last_same d) live);

@@ -1,5 +1,5 @@
 -- A sync in its steps: nothing to commit, a drain before the commit, a wait behind it, and a disk that fails in a drain.
-use Rattle.std.proofs.Common.{◌≡◌, inl, inr, ⊎_elim, ℕ, ◌+◌, ◌-◌, List, ◌++◌, ◌^◌, ◌<◌, ◌≤◌, ◌==◌, Bool, true, false, IsTrue, length, Result, Ok, Err, refl, sym, ◌∙◌, ap, ap₂, subst, arith}
+use Rattle.std.proofs.Common.{◌≡◌, ◌⊎◌, inl, inr, ⊎_elim, ℕ, ◌+◌, ◌-◌, List, ◌++◌, ◌^◌, ◌<◌, ◌≤◌, ◌==◌, Bool, true, false, IsTrue, length, Result, Ok, Err, OnOk, refl, sym, ◌∙◌, ap, ap₂, subst, arith}
 use Rattle.std.proofs.Props.{props}
 use Rattle.std.proofs.Math.Logic.{∥∥₁_elim, ∥∥₁_map}
 use Rattle.std.specs.Result.{IsErrAnd}
@@ -9,7 +9,8 @@ use mathlib.Core.Path.{subst₂}
 use Rattle.opt_base.specs.Counts.{after_call}
 use Rattle.opt_base.specs.Seal.{Blocks}
 use Rattle.opt_disk.specs.Disk as disk
-use Rattle.opt_disk.specs.Disk.{Grows}
+use Rattle.opt_disk.specs.Cell.{is_accepted}
+use Rattle.opt_disk.specs.Disk.{Grows, GrowsByWrites}
 use Rattle.opt_geom.specs.Geometry.{Geometry}
 use Rattle.opt_journal.specs.Run.{is_live}
 use Rattle.opt_crash.specs.Ledger.{Ledger, next_number}
@@ -24,18 +25,20 @@ use Rattle.opt_blocks.specs.declared.refusals.SyncRefusal.TheVariants as sync
 use Rattle.opt_blocks.specs.Running.{Running, HasNoBare, fresh_blocks, nothing_running, payloads}
 use Rattle.opt_blocks.specs.State.{Bookkeeping, Counts, State, IsReusable}
 use Rattle.opt_blocks.specs.Calls.{EndsTransaction, IsAfterSync, MaySync, OnNoMemory, UsesDisk, commit_places, commit_writes, if_changed}
-use Rattle.opt_blocks.specs.Crashes.{Advances, HasLiveBlocks, HasMapOfPoint, HoldsPointBetween, IsTold, MakesPoint}
-use Rattle.opt_blocks.specs.Effects.{RunsPipeline, Syncs}
+use Rattle.opt_blocks.specs.Crashes.{Advances, HasLiveBlocks, HasMapOfPoint, HearsRecords, HoldsPointBetween, IsTold, MakesPoint}
+use Rattle.opt_blocks.specs.Effects.{RunsPipeline, Syncs, WritesItsRecord}
 use Rattle.opt_books.specs.Books.{TransactionBooks, running_of}
 use Rattle.opt_store.specs.declared.parts.StoreParts.{StoreParts}
 use Rattle.opt_store.specs.Committing.{places_for}
 use Rattle.opt_store.specs.SessionView.{state_of}
 use Rattle.opt_store.specs.Store.{PartsMove, StoreIsSound, bookkeeping_of}
 use Rattle.opt_store.specs.Syncing.{IsSameStore, MayCommit}
-use Rattle.opt_store.specs.Told.{AsksNothing, IsKeptOn, IsToldBy, counts_of, map_now, session_of, store_state}
+use Rattle.opt_store.specs.Told.{AsksNothing, IsKeptOn, IsToldBy, awaited_in, counts_of, map_now, session_of, store_state}
+use Rattle.opt_store.proofs.Awaiting.{same_awaited}
 use Rattle.opt_store.proofs.CommitSyncs.{heavy}
 use Rattle.opt_store.proofs.Reserving.{places_fit}
 use Rattle.opt_store.proofs.StoreStates.{goes_on_itself}
+use Rattle.opt_store.proofs.TicketLogs.{not_before, noticed_before}
 
 -- Nothing is committed.
 
@@ -81,6 +84,7 @@ syncs_without_memory tells s going told = record {
         left = λ u img. (λ is. is, λ is. is);
         holds = λ img m. (λ is. is, λ is. is);
         issued = λ m. (λ is. is, λ is. is);
+        awaits = λ p u. (λ is. is, λ is. is);
       };
     };
   };
@@ -88,10 +92,13 @@ syncs_without_memory tells s going told = record {
 
 -- what is known is the same where memory was made ready
 same_state : (v w : StoreParts) (ticks : ℕ) (d : disk.State) → IsSameStore v w → store_state w ticks d ≡ store_state v ticks d
-same_state v w ticks d same = λ i. state_of (same.session i) (same.books i) (counts_of ticks d) (same.map d i) d.base d.log
+same_state v w ticks d same = λ i. state_of (same.session i) (same.books i) (counts_of ticks d) (same.map d i) d.base d.log (same_awaited v w same.awaits i)
 
 pub syncs_from_same : (tells : Bool) (result : Result ℕ SyncRefusal) (v w : StoreParts) (ticks : ℕ) (d : disk.State) (new : State) → IsSameStore v w → Syncs tells result (store_state w ticks d) new → Syncs tells result (store_state v ticks d) new
 syncs_from_same tells result v w ticks d new same s = subst (λ (x : State). Syncs tells result x new) (same_state v w ticks d same) s
+
+pub record_from_same : (v w : StoreParts) (ticks : ℕ) (d : disk.State) (new : State) (result : Result ℕ SyncRefusal) → IsSameStore v w → OnOk result (WritesItsRecord (store_state w ticks d) new) → OnOk result (WritesItsRecord (store_state v ticks d) new)
+record_from_same v w ticks d new result same s = subst (λ (x : State). OnOk result (WritesItsRecord x new)) (same_state v w ticks d same) s
 
 pub no_memory : (tells : Bool) (v w : StoreParts) (ticks : ℕ) (d : disk.State) → v.stopped ≡ false → (IsTrue tells → IsTold (store_state v ticks d)) → IsSameStore v w → Syncs tells (Err sync.NoMemory) (store_state v ticks d) (store_state w ticks d)
 no_memory tells v w ticks d going told same = subst (λ (x : State). Syncs tells (Err sync.NoMemory) (store_state v ticks d) x) (sym (same_state v w ticks d same)) (syncs_without_memory tells (store_state v ticks d) going told)
@@ -122,6 +129,7 @@ advances_on old mid new a b = record {
   point = λ p m low. (λ is. (a.point p m low).0 ((b.point p m (omega (arith, low, a.last))).0 is), λ is. (b.point p m (omega (arith, low, a.last))).1 ((a.point p m low).1 is));
   last = omega (arith, a.last, b.last);
   floor = omega (arith, a.floor, b.floor);
+  awaits = λ p t waits. ⊎_elim (a.awaits p t) (λ late. inr (record { point = omega (arith, late.point, a.last); ticket = not_before t old.crash.log mid.crash.log a.grows late.ticket })) (b.awaits p t waits);
 }
 
 disk_on : (failed : Bool) (old mid new : State) → UsesDisk false old mid → UsesDisk failed mid new → UsesDisk failed old new
@@ -249,7 +257,26 @@ module _ (tells failed : Bool) (old mid new : State) (p : ℕ) (s : Syncs tells 
         none = tt;
       }
 
+-- Notices that came.
+
+-- writes bring none
+pub writes_hear : (old new : State) → GrowsByWrites old.crash.log new.crash.log → HearsRecords old new
+writes_hear old new grows t came = inl (noticed_before t old.crash.log new.crash.log grows came)
+
+-- behind a sync that writes alone, a wait brings those of tickets that points waited for, or of new writes
+pub sync_then_hears : (old mid new : State) → GrowsByWrites old.crash.log mid.crash.log → Advances old mid → HearsRecords mid new → HearsRecords old new
+sync_then_hears old mid new grows a hears t came = ⊎_elim (λ was. inl (noticed_before t old.crash.log mid.crash.log grows was)) (λ late. inr (by (is_accepted t old.crash.log) refl late)) (hears t came)
+  where
+    by : (x : Bool) → is_accepted t old.crash.log ≡ x → ∥ ((p : ℕ) × mid.crash.awaits p t) ∥₁ ⊎ (is_accepted t mid.crash.log ≡ false) → ∥ ((p : ℕ) × old.crash.awaits p t) ∥₁ ⊎ (is_accepted t old.crash.log ≡ false)
+    by false is late = inr is
+    by true is late = ⊎_elim (λ some. inl (∥∥₁_map some (λ (w : (p : ℕ) × mid.crash.awaits p t). (w.0, ⊎_elim (λ was. was) (λ since. absurd (false≢true (sym since.ticket ∙ is))) (a.awaits w.0 t w.1)))))
+        (λ new_one. inr (not_before t old.crash.log mid.crash.log a.grows new_one)) late
+
 -- where the sync was refused, nothing is waited for, and the refusal is passed on
+pub refused_record : (P : Type 0) (result : Result ℕ SyncRefusal) (why : SyncRefusal) → IsErrAnd result (λ x. x ≡ why) → OnOk result P
+refused_record P (Ok p) why is = absurd is
+refused_record P (Err x) why is = tt
+
 pub refused : (tells : Bool) (result : Result ℕ SyncRefusal) (why : SyncRefusal) (old new : State) → IsErrAnd result (λ x. x ≡ why) → Syncs tells (Err why) old new → Syncs tells result old new
 refused tells (Ok p) why old new is s = absurd is
 refused tells (Err x) why old new is s = subst (λ (y : SyncRefusal). Syncs tells (Err y) old new) (sym is) s
@@ -299,6 +326,7 @@ point_more old mid point a more = record {
   point = a.point;
   last = omega (arith, a.last, more);
   floor = a.floor;
+  awaits = a.awaits;
 }
   where
     later_point : {img : Blocks} → HoldsPointBetween mid old.books.floor mid.books.point img → HoldsPointBetween (record mid { books = record mid.books { point = point } }) old.books.floor point img
@@ -306,8 +334,8 @@ point_more old mid point a more = record {
 
 -- what a law says of the point that was made
 abbrev pub MadeLaw : Type 0
-MadeLaw = (s : MountedSession) (base : Blocks) (log : List Event) (l : Ledger) (k : Bookkeeping) (c : Counts) (m : Blocks) (t floor : ℕ) → IsSafe s base log l t floor → k.geom ≡ s.geom → next_number l - s.first ≤ k.point
-    → (k.point ≡ next_number l - s.first → HasLiveBlocks k.geom m (l.map_before (next_number l))) → HasMapOfPoint (state_of s k c m base log) k.point
+MadeLaw = (s : MountedSession) (base : Blocks) (log : List Event) (l : Ledger) (k : Bookkeeping) (c : Counts) (m : Blocks) (w : StoreParts) (t floor : ℕ) → IsSafe s base log l t floor → k.geom ≡ s.geom → next_number l - s.first ≤ k.point
+    → (k.point ≡ next_number l - s.first → HasLiveBlocks k.geom m (l.map_before (next_number l))) → HasMapOfPoint (state_of s k c m base log (awaited_in w)) k.point
 
 module _ (made : MadeLaw) (tells : Bool) (v w : StoreParts) (d e : disk.State) (r : CommitRoom) (may : MayCommit v r) (k : IsKeptOn tells w e) (runs : (before after : ℕ) → RunsPipeline tells true (store_state v before d) (store_state w after e)) (asks : AsksNothing d e) where
   abbrev with_point : StoreParts
@@ -327,7 +355,7 @@ module _ (made : MadeLaw) (tells : Bool) (v w : StoreParts) (d e : disk.State) (
   -- no record made the point
   makes_none : (ticks : ℕ) → IsTrue tells → HasMapOfPoint (store_state with_point ticks e) (w.point + 1)
   makes_none ticks t m is b live = ∥∥₁_elim (k.told t) (search props) (λ (x : (l : Ledger) × IsToldBy w e l).
-      made (session_of w) e.base e.log x.0 (bookkeeping_of with_point) (counts_of ticks e) (map_now w e) (length e.log) w.floor x.1.safe refl (omega (arith, x.1.made)) (λ last. absurd (omega (arith, last, x.1.made))) m is b live)
+      made (session_of w) e.base e.log x.0 (bookkeeping_of with_point) (counts_of ticks e) (map_now w e) with_point (length e.log) w.floor x.1.safe refl (omega (arith, x.1.made)) (λ last. absurd (omega (arith, last, x.1.made))) m is b live)
 
   pub syncs_fault : (ticks : ℕ) → Syncs tells (Err sync.DiskFault) (store_state v ticks d) (store_state with_point ticks e)
   syncs_fault ticks =

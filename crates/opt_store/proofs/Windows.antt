@@ -15,8 +15,10 @@ use Rattle.opt_journal.specs.Run.{HeldIs, live_part}
 use Rattle.opt_crash.specs.Ledger.{Ledger, HoldsUnder, issued, next_number}
 use Rattle.opt_crash.specs.Points.{MountedSession, IsPoint, HoldsPoint, IsSafe, commits, points_in}
 use Rattle.opt_blocks.specs.State.{Bookkeeping, Counts}
-use Rattle.opt_blocks.specs.Crashes.{Advances, HoldsPointBetween, IssuesNothing, StandsForLast}
+use Rattle.opt_blocks.specs.Crashes.{Advances, AwaitsSince, HoldsPointBetween, IssuesNothing, StandsForLast}
+use Rattle.opt_store.specs.declared.parts.StoreParts.{StoreParts}
 use Rattle.opt_store.specs.SessionView.{LeftImage, state_of}
+use Rattle.opt_store.specs.Told.{awaited_in}
 
 -- What opt_crash promises of points and calls, and opt_journal of maps.
 abbrev pub Stays : Type 0
@@ -68,19 +70,19 @@ by_moment s base log more t img left = ⊎_elim
     (cases_lt (length log) left.moment)
 
 -- what is left in the window of a safe disk holds a point
-pub in_window : (s : MountedSession) (base : Blocks) (log : List Event) (l : Ledger) (t floor u low : ℕ) (k : Bookkeeping) (c : Counts) (m img : Blocks) → IsSafe s base log l t floor → t ≤ u → low ≤ floor → next_number l - s.first ≤ k.point → LeftImage s base log u img → ∥ HoldsPointBetween (state_of s k c m base log) low k.point img ∥₁
-in_window s base log l t floor u low k c m img safe early lower last left =
+pub in_window : (s : MountedSession) (base : Blocks) (log : List Event) (l : Ledger) (t floor u low : ℕ) (k : Bookkeeping) (c : Counts) (m img : Blocks) (w : StoreParts) → IsSafe s base log l t floor → t ≤ u → low ≤ floor → next_number l - s.first ≤ k.point → LeftImage s base log u img → ∥ HoldsPointBetween (state_of s k c m base log (awaited_in w)) low k.point img ∥₁
+in_window s base log l t floor u low k c m img w safe early lower last left =
     ∥∥₁_map (safe.window.each left.moment img (omega (arith, early, left.from)) left.within left.honest)
     (λ (h : HoldsPoint s base log floor (next_number l - s.first) img). record { point = h.point; from = omega (arith, h.from, lower); upto = omega (arith, h.upto, last); map = h.map; holds = h.held; is = ∣ h.is ∣₁ })
 
 -- a crash now leaves a point from the floor on
-pub told_of : BeginsSafe → (s : MountedSession) (base : Blocks) (log : List Event) (l : Ledger) (k : Bookkeeping) (c : Counts) (m : Blocks) (t floor : ℕ) (img : Blocks) → IsSafe s base log l t floor → k.floor ≤ l.known - s.first → next_number l - s.first ≤ k.point → LeftImage s base log (length log) img → ∥ HoldsPointBetween (state_of s k c m base log) k.floor k.point img ∥₁
-told_of begins s base log l k c m t floor img safe lower last left = in_window s base log l (length log) (l.known - s.first) (length log) k.floor k c m img (begins s base log l t floor safe) (omega arith) lower last left
+pub told_of : BeginsSafe → (s : MountedSession) (base : Blocks) (log : List Event) (l : Ledger) (k : Bookkeeping) (c : Counts) (m : Blocks) (w : StoreParts) (t floor : ℕ) (img : Blocks) → IsSafe s base log l t floor → k.floor ≤ l.known - s.first → next_number l - s.first ≤ k.point → LeftImage s base log (length log) img → ∥ HoldsPointBetween (state_of s k c m base log (awaited_in w)) k.floor k.point img ∥₁
+told_of begins s base log l k c m w t floor img safe lower last left = in_window s base log l (length log) (l.known - s.first) (length log) k.floor k c m img w (begins s base log l t floor safe) (omega arith) lower last left
 
 -- time goes on as the log does
-goes_on : Stays → Was → (s : MountedSession) (base : Blocks) (log more : List Event) (l n : Ledger) (j k : Bookkeeping) (c d : Counts) (a b : Blocks) (t floor since low : ℕ) → IsSafe s base log l t floor → IsSafe s base (log ++ more) n since low → since ≤ length log → j.floor ≤ low
-    → j.point ≡ next_number l - s.first → next_number n - s.first ≤ k.point → j.floor ≤ k.floor → Advances (state_of s j c a base log) (state_of s k d b base (log ++ more))
-goes_on stays was s base log more l n j k c d a b t floor since low before after early lower first last floors = record {
+goes_on : Stays → Was → (s : MountedSession) (base : Blocks) (log more : List Event) (l n : Ledger) (j k : Bookkeeping) (c d : Counts) (a b : Blocks) (v w : StoreParts) (t floor since low : ℕ) → IsSafe s base log l t floor → IsSafe s base (log ++ more) n since low → since ≤ length log → j.floor ≤ low
+    → j.point ≡ next_number l - s.first → next_number n - s.first ≤ k.point → j.floor ≤ k.floor → ((p u : ℕ) → awaited_in w p u → awaited_in v p u ⊎ AwaitsSince (state_of s j c a base log (awaited_in v)) p u) → Advances (state_of s j c a base log (awaited_in v)) (state_of s k d b base (log ++ more) (awaited_in w))
+goes_on stays was s base log more l n j k c d a b v w t floor since low before after early lower first last floors awaits = record {
   base = refl;
   grows = record { more = more; log = refl };
   window = window;
@@ -89,23 +91,24 @@ goes_on stays was s base log more l n j k c d a b t floor since low before after
   point = λ p m le. (λ is. ∥∥₁_map is (was s base log more p m before.points.late (omega (arith, le, count))), λ is. ∥∥₁_map is (stays s base log more p m));
   last = omega (arith, count, points_are s base (log ++ more) n since low (next_number n - s.first) after refl, last, points_more s log more before.points.late);
   floor = floors;
+  awaits = awaits;
 }
   where
     count : points_in s log ≡ j.point
     count = points_are s base log l t floor j.point before first
 
-    window : (img : Blocks) → LeftImage s base (log ++ more) (length log) img → ∥ HoldsPointBetween (state_of s k d b base (log ++ more)) j.floor k.point img ∥₁
-    window img left = in_window s base (log ++ more) n since low (length log) j.floor k d b img after early lower last left
+    window : (img : Blocks) → LeftImage s base (log ++ more) (length log) img → ∥ HoldsPointBetween (state_of s k d b base (log ++ more) (awaited_in w)) j.floor k.point img ∥₁
+    window img left = in_window s base (log ++ more) n since low (length log) j.floor k d b img w after early lower last left
 
-pub advances_of : Stays → Was → (s : MountedSession) (base : Blocks) (old new : List Event) (l n : Ledger) (j k : Bookkeeping) (c d : Counts) (a b : Blocks) (t floor since low : ℕ) → IsSafe s base old l t floor → Grows old new → IsSafe s base new n since low → since ≤ length old → j.floor ≤ low
-    → j.point ≡ next_number l - s.first → next_number n - s.first ≤ k.point → j.floor ≤ k.floor → Advances (state_of s j c a base old) (state_of s k d b base new)
-advances_of stays was s base old new l n j k c d a b t floor since low before grows after early lower first last floors =
-    subst (λ (log : List Event). Advances (state_of s j c a base old) (state_of s k d b base log)) (sym grows.log)
-    (goes_on stays was s base old grows.more l n j k c d a b t floor since low before (subst (λ (log : List Event). IsSafe s base log n since low) grows.log after) early lower first last floors)
+pub advances_of : Stays → Was → (s : MountedSession) (base : Blocks) (old new : List Event) (l n : Ledger) (j k : Bookkeeping) (c d : Counts) (a b : Blocks) (v w : StoreParts) (t floor since low : ℕ) → IsSafe s base old l t floor → Grows old new → IsSafe s base new n since low → since ≤ length old → j.floor ≤ low
+    → j.point ≡ next_number l - s.first → next_number n - s.first ≤ k.point → j.floor ≤ k.floor → ((p u : ℕ) → awaited_in w p u → awaited_in v p u ⊎ AwaitsSince (state_of s j c a base old (awaited_in v)) p u) → Advances (state_of s j c a base old (awaited_in v)) (state_of s k d b base new (awaited_in w))
+advances_of stays was s base old new l n j k c d a b v w t floor since low before grows after early lower first last floors awaits =
+    subst (λ (log : List Event). Advances (state_of s j c a base old (awaited_in v)) (state_of s k d b base log (awaited_in w))) (sym grows.log)
+    (goes_on stays was s base old grows.more l n j k c d a b v w t floor since low before (subst (λ (log : List Event). IsSafe s base log n since low) grows.log after) early lower first last floors awaits)
 
 -- all that was issued is the last point
-pub last_of : IssuedHolds → LastIs → OneMap → (s : MountedSession) (base : Blocks) (log : List Event) (l : Ledger) (k : Bookkeeping) (c : Counts) (m : Blocks) (t floor : ℕ) → IsSafe s base log l t floor → k.point ≡ next_number l - s.first → StandsForLast (state_of s k c m base log)
-last_of issued_holds last_is one_map s base log l k c m t floor safe last = record {
+pub last_of : IssuedHolds → LastIs → OneMap → (s : MountedSession) (base : Blocks) (log : List Event) (l : Ledger) (k : Bookkeeping) (c : Counts) (m : Blocks) (w : StoreParts) (t floor : ℕ) → IsSafe s base log l t floor → k.point ≡ next_number l - s.first → StandsForLast (state_of s k c m base log (awaited_in w))
+last_of issued_holds last_is one_map s base log l k c m w t floor safe last = record {
   some = ∣ (newest, held) ∣₁;
   each = λ q is. ∣ subst (λ (x : Blocks). IsPoint s base log k.point x) (fun_ext (λ b. one_map s.geom.n (issued base log) newest q held.held is.held b))
       (subst (λ (p : ℕ). IsPoint s base log p newest) (points_are s base log l t floor k.point safe last) (last_is s base log l t floor safe)) ∣₁;
@@ -118,18 +121,19 @@ last_of issued_holds last_is one_map s base log l k c m t floor safe last = reco
     held = subst (λ (g : Geometry). HoldsUnder g.n g (issued base log) newest) (sym safe.points.geom) (issued_holds s base log l t floor safe)
 
 -- where no write was lost, all that was issued is all that was accepted
-pub accepted_of : ReadsLast → (s : MountedSession) (base : Blocks) (log : List Event) (m : Blocks) → ((b : ℕ) → is_lost b log ≡ false) → HoldsUnder s.geom.n s.geom (issued base log) m ↔ HoldsUnder s.geom.n s.geom (accepted base log) m
-accepted_of reads s base log m none =
+pub accepted_of : ReadsLast → (s : MountedSession) (base : Blocks) (log : List Event) (w : StoreParts) (m : Blocks) → ((b : ℕ) → is_lost b log ≡ false) → HoldsUnder s.geom.n s.geom (issued base log) m ↔ HoldsUnder s.geom.n s.geom (accepted base log) m
+accepted_of reads s base log w m none =
     let same : accepted base log ≡ issued base log = fun_ext (λ b. reads base log b (none b)) in
     (λ is. subst (λ (img : Blocks). HoldsUnder s.geom.n s.geom img m) (sym same) is, λ is. subst (λ (img : Blocks). HoldsUnder s.geom.n s.geom img m) same is)
 
 -- where the log stays, nothing is issued
-pub nothing_of : (s : MountedSession) (base : Blocks) (old new : List Event) (j k : Bookkeeping) (c d : Counts) (a b : Blocks) → new ≡ old → IssuesNothing (state_of s j c a base old) (state_of s k d b base new)
-nothing_of s base old new j k c d a b same = subst (λ (log : List Event). IssuesNothing (state_of s j c a base old) (state_of s k d b base log)) (sym same) (record {
+pub nothing_of : (s : MountedSession) (base : Blocks) (old new : List Event) (j k : Bookkeeping) (c d : Counts) (a b : Blocks) (v w : StoreParts) → new ≡ old → ((p u : ℕ) → awaited_in w p u ↔ awaited_in v p u) → IssuesNothing (state_of s j c a base old (awaited_in v)) (state_of s k d b base new (awaited_in w))
+nothing_of s base old new j k c d a b v w same awaits = subst (λ (log : List Event). IssuesNothing (state_of s j c a base old (awaited_in v)) (state_of s k d b base log (awaited_in w))) (sym same) (record {
   base = refl;
   log = refl;
   point = λ p m. (λ is. is, λ is. is);
   left = λ t img. (λ is. is, λ is. is);
   holds = λ img m. (λ is. is, λ is. is);
   issued = λ m. (λ is. is, λ is. is);
+  awaits = awaits;
 })

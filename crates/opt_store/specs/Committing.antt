@@ -2,7 +2,7 @@
 use Rattle.std.specs.Prelude.{◌≡◌, ◌⊎◌, ℕ, ◌+◌, ◌≤◌, false, List, [], ◌∷◌, ◌++◌, length, map, None, Result, Ok, Err, OnOk}
 use Rattle.opt_disk.specs.declared.event.Event.{Event}
 use Rattle.opt_disk.specs.Cell.{accepted, is_lost}
-use Rattle.opt_disk.specs.Disk.{State, Grows, writes_in}
+use Rattle.opt_disk.specs.Disk.{State, GrowsByWrites, writes_in}
 use Rattle.opt_geom.specs.Geometry.{bitmap_start}
 use Rattle.opt_journal.specs.Ring.{RingPlaces}
 use Rattle.opt_journal.specs.Run.{places}
@@ -11,6 +11,8 @@ use Rattle.opt_crash.specs.Ledger.{Ledger, next_number}
 use Rattle.opt_crash.specs.Points.{MountedSession, IsSafe}
 use Rattle.opt_crash.specs.Steps.{with_record}
 use Rattle.opt_crash.specs.Writes.{AddsWrites, AddsFront}
+use Rattle.opt_notes.specs.Notes.{is_noticed}
+use Rattle.opt_tx.specs.declared.commit.Committed.{Committed}
 use Rattle.opt_tx.specs.Record.{record_of, written_of, block_of}
 use Rattle.opt_tx.specs.Rows.{put_of}
 use Rattle.opt_tx.specs.Running.{Changes, IsEmpty}
@@ -59,6 +61,19 @@ pub record BecomesRecord (number : ℕ) (v w : TransactionBooks) (p q : Pipeline
   pub written : q.written ≡ p.written
   pub durable : durable_count q ≡ durable_count p
 
+-- The record of this number, with these tickets, is the last committed one now, and of each ticket the notes know what they knew.
+pub record JoinsCommitted (number : ℕ) (tickets : List ℕ) (p q : Pipeline) : Type 0 where
+  pub committed : Committed
+  pub joined : q.committed.items ≡ p.committed.items ++ committed ∷ []
+  pub number_is : committed.number ≡ number
+  pub tickets_are : committed.tickets.items ≡ tickets
+  pub noticed : (u : ℕ) → is_noticed u q.notes.notes ≡ is_noticed u p.notes.notes
+
+-- Where it succeeded, the record of this number joined the committed ones, with the tickets of its writes.
+abbrev pub JoinsWith : {A E : Type 0} → Result A E → ℕ → List (ℕ × List ℕ) → Pipeline → Pipeline → List Event → List Event → Type 0
+JoinsWith (Ok a) number ws p q old new = (tickets : List ℕ) × JoinsCommitted number tickets p q × AddsWrites ws tickets old new
+JoinsWith (Err e) number ws p q old new = Unit {0}
+
 -- where the oldest committed record had an open ticket, or there was none, it has one still; the notes told the truth of this log
 abbrev pub StaysDue : List Event → Pipeline → Pipeline → Type 0
 StaysDue log p q = NotesAreTrue log p.notes.notes → is_first_settled p.committed.items p.notes.notes ≡ false → is_first_settled q.committed.items q.notes.notes ≡ false
@@ -73,10 +88,10 @@ pub record IsLeftAlone (b : ℕ) (old new : State) : Type 0 where
   pub bytes : accepted new.base new.log b ≡ accepted old.base old.log b
   pub lost : is_lost b new.log ≡ is_lost b old.log
 
--- What a commit does to a disk that tells. From the bitmap on it writes no blocks but the transaction's fresh ones. Where it succeeded no write was lost, and what stands for each block that wasn't freed is what the transaction put, or what stood for it. So many writes were made, or are owed now.
+-- What a commit does to a disk that tells. Its writes are all that comes. From the bitmap on it writes no blocks but the transaction's fresh ones. Where it succeeded no write was lost, and what stands for each block that wasn't freed is what the transaction put, or what stood for it. So many writes were made, or are owed now.
 pub record WritesRecord {A E : Type 0} (result : Result A E) (ws : List (ℕ × List ℕ)) (v : TransactionBooks) (p q : Pipeline) (old new : State) : Type 0 where
   pub adds : AddsRecord result ws old.log new.log
-  pub grows : Grows old.log new.log
+  pub grows : GrowsByWrites old.log new.log
   pub elsewhere : (b : ℕ) → bitmap_start v.geom ≤ b → put_of b v.changes.laid ≡ None → IsLeftAlone b old new
   pub none_lost : OnOk result (((b : ℕ) → is_lost b old.log ≡ false) → (b : ℕ) → is_lost b new.log ≡ false)
   pub bytes : OnOk result ((b : ℕ) → bitmap_start v.geom ≤ b → is_one_of b v.changes.freed ≡ false → bytes_now q new.base new.log b ≡ bytes_over v.changes (bytes_now p old.base old.log) b)

@@ -27,13 +27,14 @@ pub record AreNewParts (g : Geometry) (slot : ℕ) (h : Header) (moment : ℕ) (
   pub floor : v.floor ≡ 0
   pub going : v.stopped ≡ false
 
--- a map of blocks begins with this one, which is its map now and that of point 0; point 0 has no other; no block waits, and no write is owed
+-- a map of blocks begins with this one, which is its map now and that of point 0; point 0 has no other; no block waits, each ring place is free, and no write is owed
 pub record BeginsWith (g : Geometry) (m : Blocks) (s : State) : Type 0 where
   pub geom : s.books.geom ≡ g
   pub map : s.map ≡ m
   pub point : s.crash.is_point 0 m
   pub only : HasMapOfPoint s 0
   pub waiting : s.books.waiting ≡ 0
+  pub free_places : s.books.free_places ≡ g.j
   pub owed : s.books.owed ≡ 0
 
 -- The journal's numbers go on from what was found on the disk: they are at most two above the turn of the newest header there, or at most one above the number of the last record of its run.

@@ -9,6 +9,7 @@ use Rattle.opt_checkpoint.specs.Advance.{IsRightOn, IsSound, Leaves, writes_owed
 use Rattle.opt_checkpoint.specs.Bytes.{LeavesBytes}
 use Rattle.opt_checkpoint.specs.Kept.{kept}
 use Rattle.opt_checkpoint.specs.Steps.{is_first_settled}
+use Rattle.opt_checkpoint.specs.Waits.{LosesCommitted, StaysHeard}
 use Rattle.opt_store.specs.declared.parts.StoreParts.{StoreParts}
 use Rattle.opt_store.specs.Store.{PartsMove, durable_point}
 
@@ -17,7 +18,7 @@ abbrev pub settled_up : {A E : Type 0} → Result A E → StoreParts → StorePa
 settled_up (Ok a) v = record v { floor = durable_point v }
 settled_up (Err e) v = record v { stopped = true }
 
--- A call of the pipeline, which wrote so many headers at most: how it moved the parts, and what it spent. Where the disk tells, all is right after it if it succeeded, and the oldest committed record has an open ticket; it is safe if the disk failed, for a reason that its manner has; the bytes of live blocks stay; and no write came that wasn't owed.
+-- A call of the pipeline, which wrote so many headers at most: how it moved the parts, and what it spent. Where the disk tells, all is right after it if it succeeded, and the oldest committed record has an open ticket; of records' notices as many are known as came; it is safe if the disk failed, for a reason that its manner has; the bytes of live blocks stay; and no write came that wasn't owed.
 pub record CallsPipeline (tells : Bool) (headers : ℕ) (result : Result (Unit {0}) DiskFault) (v w : StoreParts) (d e : State) : Type 0 where
   pub moves : PartsMove headers v w
   pub floor : w.floor ≡ v.floor
@@ -32,4 +33,6 @@ pub record CallsPipeline (tells : Bool) (headers : ℕ) (result : Result (Unit {
   pub bytes : IsTrue tells → (s : MountedSession) (l : Ledger) (t floor : ℕ) (taken : List ℕ) → IsRightOn s d l t floor v.pipeline v.ring v.books.dead taken → LeavesBytes l v.pipeline w.pipeline d e
   pub cause : IsTrue tells → (s : MountedSession) (l : Ledger) (t floor : ℕ) (taken : List ℕ) → IsRightOn s d l t floor v.pipeline v.ring v.books.dead taken → OnErr result (HasFailed e)
   pub due : IsTrue tells → (s : MountedSession) (l : Ledger) (t floor : ℕ) (taken : List ℕ) → IsRightOn s d l t floor v.pipeline v.ring v.books.dead taken → OnOk result (is_first_settled w.pipeline.committed.items w.pipeline.notes.notes ≡ false)
+  pub lost : OnOk result (LosesCommitted v.pipeline w.pipeline)
+  pub heard : IsTrue tells → (s : MountedSession) (l : Ledger) (t floor : ℕ) (taken : List ℕ) → IsRightOn s d l t floor v.pipeline v.ring v.books.dead taken → OnOk result (StaysHeard d e v.pipeline w.pipeline)
   pub owed : IsTrue tells → writes_in e.log + writes_owed w.pipeline ≤ writes_in d.log + writes_owed v.pipeline

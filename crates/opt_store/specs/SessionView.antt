@@ -15,16 +15,17 @@ pub record LeftImage (s : MountedSession) (base : Blocks) (log : List Event) (t 
   pub honest : IsHonest s.geom.n base (take moment log) img
 
 -- Base and log are the disk's, and the points are the session's: of each, some moment has it. An image holds a map under a header of the session's geometry, that in which all that was issued stands as well.
-abbrev pub crash_of : MountedSession → Blocks → List Event → CrashView
-crash_of s base log = record {
+abbrev pub crash_of : MountedSession → Blocks → List Event → (ℕ → ℕ → Type 0) → CrashView
+crash_of s base log awaits = record {
   base = base;
   log = log;
   is_point = λ p m. ∥ IsPoint s base log p m ∥₁;
   left_since = λ t img. LeftImage s base log t img;
   holds = λ img m. HoldsUnder s.geom.n s.geom img m;
   issued = λ m. HoldsUnder s.geom.n s.geom (issued base log) m;
+  awaits = awaits;
 }
 
--- the whole: a bookkeeping, counts and a map, with this view of crashes
-abbrev pub state_of : MountedSession → Bookkeeping → Counts → Blocks → Blocks → List Event → State
-state_of s k c m base log = record { books = k; counts = c; map = m; crash = crash_of s base log }
+-- the whole: a bookkeeping, counts and a map, with this view of crashes, in which points wait for these tickets
+abbrev pub state_of : MountedSession → Bookkeeping → Counts → Blocks → Blocks → List Event → (ℕ → ℕ → Type 0) → State
+state_of s k c m base log awaits = record { books = k; counts = c; map = m; crash = crash_of s base log awaits }

@@ -12,7 +12,7 @@ use Rattle.opt_blocks.specs.Calls.{MaySync}
 use Rattle.opt_store.specs.declared.parts.StoreParts.{StoreParts}
 use Rattle.opt_store.specs.Committing.{places_for}
 use Rattle.opt_store.specs.Store.{bookkeeping_of}
-use Rattle.opt_store.specs.Told.{map_now, session_of}
+use Rattle.opt_store.specs.Told.{AwaitsTheSame, map_now, session_of}
 
 -- The running transaction has a weight and may be synced, and memory is ready for its commit.
 pub record MayCommit (v : StoreParts) (r : CommitRoom) : Type 0 where
@@ -32,3 +32,4 @@ pub record IsSameStore (v w : StoreParts) : Type 0 where
   pub books : bookkeeping_of w ≡ bookkeeping_of v
   pub session : session_of w ≡ session_of v
   pub map : (d : State) → map_now w d ≡ map_now v d
+  pub awaits : AwaitsTheSame v w

@@ -1,5 +1,5 @@
 -- What is known of a store where its disk tells, and what is kept of that. It is described in docs/STORE.md.
-use Rattle.std.specs.Prelude.{◌≡◌, ℕ, ◌+◌, ◌^◌, ◌<◌, ◌≤◌, Bool, false, true, IsTrue, length, None}
+use Rattle.std.specs.Prelude.{◌≡◌, ℕ, ◌+◌, ◌^◌, ◌<◌, ◌≤◌, Bool, false, true, IsTrue, List, length, slice_get, Some, None}
 use Rattle.opt_base.specs.Seal.{Blocks}
 use Rattle.opt_disk.specs.Disk as disk
 use Rattle.opt_journal.specs.Run.{is_live}
@@ -7,13 +7,13 @@ use Rattle.opt_cache.specs.Cache.{IsKept, IsTheDisks}
 use Rattle.opt_crash.specs.HomeTest.{is_one_of}
 use Rattle.opt_crash.specs.Ledger.{Ledger, next_number}
 use Rattle.opt_crash.specs.Points.{MountedSession, IsSafe}
-use Rattle.opt_notes.specs.Notes.{is_open}
 use Rattle.opt_tx.specs.declared.commit.Committed.{Committed}
 use Rattle.opt_checkpoint.specs.Advance.{MayServe}
 use Rattle.opt_checkpoint.specs.Agree.{PipelineAgrees}
 use Rattle.opt_checkpoint.specs.Bytes.{bytes_now}
 use Rattle.opt_checkpoint.specs.Kept.{kept, newest_in}
 use Rattle.opt_checkpoint.specs.Steps.{is_first_settled}
+use Rattle.opt_checkpoint.specs.Waits.{HearsRecords}
 use Rattle.opt_blocks.specs.State.{Counts, State, Ticking}
 use Rattle.opt_books.specs.Books.{map_of}
 use Rattle.opt_books.specs.Point.{BeganAt}
@@ -52,30 +52,42 @@ AsksNothing d e = (ticks : ℕ) → ticking_of ticks e ≡ ticking_of ticks d
 abbrev pub counts_of : ℕ → disk.State → Counts
 counts_of ticks d = record { ticks = ticking_of ticks d; read_faults = d.read_faults; faults = d.faults; waits = d.waits }
 
+-- While no call of the disk failed, a point waits for the tickets of its record, as long as that is a committed one, which isn't known to be durable. The session's first record, of point 1, has the number `first`.
+pub record IsAwaited (stopped : Bool) (first : ℕ) (records : List Committed) (p t : ℕ) : Type 0 where
+  pub going : stopped ≡ false
+  pub place : ℕ
+  pub committed : Committed
+  pub is : slice_get records place ≡ Some committed
+  pub number : committed.number + 1 ≡ first + p
+  pub own : is_one_of t committed.tickets.items ≡ true
+
+-- which tickets its points wait for
+abbrev pub awaited_in : StoreParts → ℕ → ℕ → Type 0
+awaited_in v = IsAwaited v.stopped v.first v.pipeline.committed.items
+
+-- the same points wait for the same tickets
+pub record AwaitsTheSame (v w : StoreParts) : Type 0 where
+  pub stopped : w.stopped ≡ v.stopped
+  pub first : w.first ≡ v.first
+  pub committed : w.pipeline.committed.items ≡ v.pipeline.committed.items
+
 -- what is known of the store as a map of blocks
 abbrev pub store_state : StoreParts → ℕ → disk.State → State
-store_state v ticks d = state_of (session_of v) (bookkeeping_of v) (counts_of ticks d) (map_now v d) d.base d.log
+store_state v ticks d = state_of (session_of v) (bookkeeping_of v) (counts_of ticks d) (map_now v d) d.base d.log (awaited_in v)
 
 -- Each live block of the map that the cache keeps has no newer payload in a record, and is kept as the disk has it.
 pub record CacheAgrees (v : StoreParts) (d : disk.State) : Type 0 where
   pub newest : (b : ℕ) → IsTrue (is_live v.books.geom (last_map v d) b) → IsKept b v.cache → newest_in None (kept v.pipeline) b ≡ None
   pub same : (b : ℕ) → IsTrue (is_live v.books.geom (last_map v d) b) → IsTheDisks b v.cache d
 
--- While no call of the disk failed, pipeline, ring and dead blocks agree with the ledger, whose last record made the last point; the oldest committed record has an open ticket; and the cache agrees with the disk.
+-- While no call of the disk failed, pipeline, ring and dead blocks agree with the ledger, whose last record made the last point; the oldest committed record has an open ticket; where a wait brings the notice of its own ticket alone, the notes know all notices of records' tickets; and the cache agrees with the disk.
 pub record GoesBy (v : StoreParts) (d : disk.State) (l : Ledger) : Type 0 where
   pub agrees : PipelineAgrees d.base d.log l v.pipeline v.ring v.books.dead.waiting v.books.changes.taken
   pub serves : MayServe l v.pipeline v.books.dead
   pub next : next_number l ≡ v.first + v.point
   pub due : is_first_settled v.pipeline.committed.items v.pipeline.notes.notes ≡ false
+  pub heard : d.manner.waits_alone ≡ true → HearsRecords d.log v.pipeline
   pub cache : CacheAgrees v d
-
--- The record of the point behind the floor has a ticket that the notes expect, and whose notice they don't know of: so no later point is known to be durable.
-pub record KnowsNoMore (v : StoreParts) : Type 0 where
-  pub next : Committed
-  pub number : next.number ≡ v.first + v.floor
-  pub ticket : ℕ
-  pub own : is_one_of ticket next.tickets.items ≡ true
-  pub waited : is_open ticket v.pipeline.notes.notes ≡ true
 
 -- Always the disk is safe by the ledger, from now on and from the floor on; the ledger has no point behind the last; the running transaction began at the map of the last point; and each live block of that map is whole. Where a call of the disk failed, it was the last one.
 pub record IsToldBy (v : StoreParts) (d : disk.State) (l : Ledger) : Type 0 where

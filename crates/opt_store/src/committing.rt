@@ -12,7 +12,7 @@ ghost use Rattle.opt_blocks.specs.Running.{HasNoBare};
 ghost use Rattle.opt_books.specs.Books.{running_of};
 ghost use Rattle.opt_books.specs.Kept.{AreKept};
 ghost use Rattle.opt_books.specs.Point.{BeganAt};
-ghost use Rattle.opt_store.specs.Committing.{BecomesRecord, CommitLeaves, StaysDue, WritesRecord, ledger_with, places_for, writes_of};
+ghost use Rattle.opt_store.specs.Committing.{BecomesRecord, CommitLeaves, StaysDue, JoinsWith, WritesRecord, ledger_with, places_for, writes_of};
 
 use crate::{a_commit_stays_right, a_commit_stays_sound, a_running_transaction_may_be_committed};
 use opt_books::{Books, a_running_transaction_may_be_the_next_record};
@@ -58,6 +58,7 @@ pub fn commit_books<D: Disk>(
     ensures writes { IsTrue D.tells → WritesRecord result (writes_of ring.old epoch number books.old.changes) books.old pipeline.old pipeline.new (D.state disk.old) (D.state disk.new) }
     ensures spends { OnlyWrites (is_err result) (D.state disk.old) (D.state disk.new) }
     ensures cause { IsTrue D.tells → OnErr result (HasFailed (D.state disk.new)) }
+    ensures joins { IsTrue D.tells → JoinsWith result number (writes_of ring.old epoch number books.old.changes) pipeline.old pipeline.new (D.state disk.old).log (D.state disk.new).log }
     ensures due { IsTrue D.tells → OnOk result (StaysDue (D.state disk.old).log pipeline.old pipeline.new) }
 {
     a_running_transaction_may_be_the_next_record();

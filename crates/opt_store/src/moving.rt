@@ -1,9 +1,9 @@
 //! Calls that move the pipeline: a step of it, a drain, and a wait for the last record. Each keeps the store, and the
 //! store stops where the disk failed. When they are called isn't said here.
 
-ghost use Rattle.std.specs.Prelude.{◌≡◌, ◌+◌, ◌^◌, ◌<◌, ◌≤◌, ℕ, Bool, List, Result, false, is_err, IsTrue, OnOk};
+ghost use Rattle.std.specs.Prelude.{◌≡◌, ◌+◌, ◌^◌, ◌<◌, ◌≤◌, ℕ, Bool, List, Result, false, true, is_err, IsTrue, OnOk};
 ghost use Rattle.opt_disk.specs.declared.disk.DiskFault as faults;
-ghost use Rattle.opt_disk.specs.Disk.{SameDisk, State, PollsFirst};
+ghost use Rattle.opt_disk.specs.Disk.{SameDisk, State, PollsThenWrites, writes_in};
 ghost use Rattle.opt_journal.specs.Ring.{RingPlaces};
 ghost use Rattle.opt_crash.specs.Ledger.{Ledger};
 ghost use Rattle.opt_crash.specs.Points.{MountedSession};
@@ -17,6 +17,7 @@ ghost use Rattle.opt_checkpoint.specs.Kept.{kept};
 ghost use Rattle.opt_checkpoint.specs.Order.{IsInOrder};
 ghost use Rattle.opt_checkpoint.specs.Waits.{OnlyNotices};
 ghost use Rattle.opt_blocks.specs.Calls.{HasTurns};
+ghost use Rattle.opt_blocks.specs.Crashes.{HearsRecords};
 ghost use Rattle.opt_blocks.specs.Effects.{RunsPipeline};
 ghost use Rattle.opt_store.specs.declared.parts.StoreParts as parts;
 ghost use Rattle.opt_store.specs.PipelineCall.{CallsPipeline, settled_up};
@@ -42,7 +43,7 @@ pub(crate) fn advance<D: Disk>(disk: &mut D, parts: &mut StoreParts) -> Result<(
     ensures runs { (before then : ℕ) → RunsPipeline D.tells (is_err result) (store_state parts.old before (D.state disk.old)) (store_state parts.new then (D.state disk.new)) }
     ensures waits { (D.state disk.new).waits ≡ (D.state disk.old).waits }
     ensures manner { (D.state disk.new).manner ≡ (D.state disk.old).manner }
-    ensures polled { IsTrue D.tells → PollsFirst (D.state disk.old).manner 64 (D.state disk.old).polls (D.state disk.old).log (D.state disk.new).polls (D.state disk.new).log }
+    ensures polled { IsTrue D.tells → PollsThenWrites (D.state disk.old).manner 64 (D.state disk.old).polls (D.state disk.old).log (D.state disk.new).polls (D.state disk.new).log }
 {
     a_sound_store_has_sound_books();
     a_pipeline_call_keeps_the_store();
@@ -81,6 +82,8 @@ pub(crate) fn wait_for_last<D: Disk>(disk: &mut D, parts: &mut StoreParts) -> Re
     ensures runs { (before then : ℕ) → RunsPipeline D.tells (is_err result) (store_state parts.old before (D.state disk.old)) (store_state parts.new then (D.state disk.new)) }
     ensures moves { PartsMove 4 parts.old parts.new }
     ensures durable { OnOk result (parts.new.floor ≡ parts.new.point) }
+    ensures still { IsTrue D.tells → writes_in (D.state disk.new).log ≡ writes_in (D.state disk.old).log }
+    ensures waits { (before then : ℕ) → IsTrue D.tells → (D.state disk.old).manner.waits_alone ≡ true → HearsRecords (store_state parts.old before (D.state disk.old)) (store_state parts.new then (D.state disk.new)) }
     ensures asks { AsksNothing (D.state disk.old) (D.state disk.new) }
 {
     a_pipeline_call_keeps_the_store();

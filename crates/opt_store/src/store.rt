@@ -145,19 +145,18 @@ impl<D: Disk> Blocks for Store<D> {
 }
 
 impl<D: Disk> Store<D> {
-    ghost use Rattle.std.specs.Prelude.{◌≡◌, ◌^◌, ◌-◌, ◌<◌, ◌≤◌, nat_le, false, true, IsTrue, IfOk, IfErr};
+    ghost use Rattle.std.specs.Prelude.{◌≡◌, ◌+◌, ◌^◌, ◌-◌, ◌<◌, ◌≤◌, nat_le, false, true, IsTrue, IfOk, IfErr};
     ghost use Rattle.opt_base.specs.Seal.{Blocks};
     ghost use Rattle.opt_disk.specs.Disk.{HasFailed};
     ghost use Rattle.opt_geom.specs.Geometry.{Geometry};
     ghost use Rattle.opt_crash.specs.Ledger.{HoldsUnder};
     ghost use Rattle.opt_crash.specs.Opening.{StopsAtOne, WritesOne};
     ghost use Rattle.opt_mount.specs.Mount.{HasNothingToReplay, IsIdle, settled_on};
-    ghost use Rattle.opt_blocks.specs.Crashes.{IsBegun};
+    ghost use Rattle.opt_blocks.specs.Crashes.{IsBegun, StillAwaits};
     ghost use Rattle.opt_store.specs.Mounting.{BeginsWith, GoesOnFrom, HoldsLast, LeavesDisk};
     ghost use Rattle.opt_store.specs.Refusal.{MayBeMounted, RefusalSays, is_disk_fault, is_read_fault};
     ghost use Rattle.opt_store.specs.Store.{bookkeeping_of};
-    ghost use Rattle.opt_store.specs.StoreOf.{disk_in, parts_in, state_of};
-    ghost use Rattle.opt_store.specs.Told.{KnowsNoMore};
+    ghost use Rattle.opt_store.specs.StoreOf.{disk_in, state_of};
 
     /// Mounts a disk on which nothing is pending, with a cache of 64 blocks.
     ///
@@ -214,10 +213,10 @@ impl<D: Disk> Store<D> {
 
     /// Does nothing. A proof learns from the call that where the store has stopped, the last call of its disk failed,
     /// for a reason that the disk's manner has. And where it hasn't, `durable` isn't too low: where that isn't the last
-    /// point, a ticket of the next point's record is open still.
+    /// point, the next one still waits for a ticket of its record.
     pub fn lawful(&self)
         ensures failed { IsTrue D.tells → (state_of D.state self.now).books.stopped ≡ true → ∥ HasFailed (D.state (disk_in self.now)) ∥₁ }
-        ensures known { IsTrue D.tells → (state_of D.state self.now).books.stopped ≡ false → (state_of D.state self.now).books.floor < (state_of D.state self.now).books.point → ∥ KnowsNoMore (parts_in self.now) ∥₁ }
+        ensures known { IsTrue D.tells → (state_of D.state self.now).books.stopped ≡ false → (state_of D.state self.now).books.floor < (state_of D.state self.now).books.point → ∥ StillAwaits (state_of D.state self.now) ((state_of D.state self.now).books.floor + 1) ∥₁ }
     {}
 
     /// The disk, which has as many blocks as the geometry says.

@@ -1,15 +1,16 @@
 //! Syncs: the running transaction becomes the next record, or all that was committed is waited for. Where the record
 //! doesn't fit the free ring places, the pipeline is drained first.
 
-ghost use Rattle.std.specs.Prelude.{◌≡◌, ◌+◌, ◌^◌, ◌<◌, ◌≤◌, ◌++◌, ◌∷◌, [], ℕ, length, Bool, false, List, Ok, IfOk, OnOk, is_some, if◌then◌else◌, None};
+ghost use Rattle.std.specs.Prelude.{◌≡◌, ◌+◌, ◌^◌, ◌<◌, ◌≤◌, ◌++◌, ◌∷◌, [], ℕ, length, Bool, false, true, IsTrue, List, Ok, IfOk, OnOk, is_some, if◌then◌else◌, None};
 ghost use Rattle.std.specs.FinMap.{get};
-ghost use Rattle.opt_disk.specs.Disk.{State};
+ghost use Rattle.opt_disk.specs.Disk.{GrowsByWrites, State};
 ghost use Rattle.opt_crash.specs.HomeTest.{is_one_of};
 ghost use Rattle.opt_tx.specs.declared.commit.Committed as commit;
 ghost use Rattle.opt_tx.specs.Rows.{put_of};
 ghost use Rattle.opt_checkpoint.specs.Advance as pipeline;
-ghost use Rattle.opt_blocks.specs.Calls.{HasTurns, MaySync, commit_places, OnNoMemory};
-ghost use Rattle.opt_blocks.specs.Effects.{ChangesNothing, Syncs};
+ghost use Rattle.opt_blocks.specs.Calls.{HasTurns, MaySync, OnNoMemory};
+ghost use Rattle.opt_blocks.specs.Crashes.{HearsRecords};
+ghost use Rattle.opt_blocks.specs.Effects.{ChangesNothing, FitsRing, Syncs, WritesItsRecord};
 ghost use Rattle.opt_books.specs.Kept.{AreKept};
 ghost use Rattle.opt_store.specs.Committing.{places_for};
 ghost use Rattle.opt_store.specs.Store.{StoreIsSound, bookkeeping_of};
@@ -45,7 +46,9 @@ pub(crate) fn sync<D: Disk>(
     requires may { MaySync (bookkeeping_of parts.old) }
     ensures kept { IsKeptOn D.tells parts.new (D.state disk.new) }
     ensures syncs { (ticks : ℕ) → Syncs D.tells result (store_state parts.old ticks (D.state disk.old)) (store_state parts.new ticks (D.state disk.new)) }
-    ensures order { commit_places (bookkeeping_of parts.old) ≤ (bookkeeping_of parts.old).free_places → (D.state disk.new).waits ≡ (D.state disk.old).waits }
+    ensures order { FitsRing (bookkeeping_of parts.old) → (D.state disk.new).waits ≡ (D.state disk.old).waits }
+    ensures writes { IsTrue D.tells → FitsRing (bookkeeping_of parts.old) → GrowsByWrites (D.state disk.old).log (D.state disk.new).log }
+    ensures written { (ticks : ℕ) → IsTrue D.tells → FitsRing (bookkeeping_of parts.old) → OnOk result (WritesItsRecord (store_state parts.old ticks (D.state disk.old)) (store_state parts.new ticks (D.state disk.new))) }
     ensures idle { parts.old.books.weight ≡ 0 → result ≡ Ok parts.old.point }
     ensures idles { (ticks : ℕ) → parts.old.books.weight ≡ 0 → ChangesNothing D.tells (store_state parts.old ticks (D.state disk.old)) (store_state parts.new ticks (D.state disk.new)) }
     ensures turns { (bookkeeping_of parts.new).turns ≤ (bookkeeping_of parts.old).turns + 5 }
@@ -73,6 +76,8 @@ pub(crate) fn sync_durably<D: Disk>(
     ensures kept { IsKeptOn D.tells parts.new (D.state disk.new) }
     ensures syncs { (ticks : ℕ) → Syncs D.tells result (store_state parts.old ticks (D.state disk.old)) (store_state parts.new ticks (D.state disk.new)) }
     ensures durable { OnOk result (parts.new.floor ≡ parts.new.point) }
+    ensures written { (ticks : ℕ) → IsTrue D.tells → FitsRing (bookkeeping_of parts.old) → OnOk result (WritesItsRecord (store_state parts.old ticks (D.state disk.old)) (store_state parts.new ticks (D.state disk.new))) }
+    ensures waits { (ticks : ℕ) → IsTrue D.tells → (D.state disk.old).manner.waits_alone ≡ true → FitsRing (bookkeeping_of parts.old) → HearsRecords (store_state parts.old ticks (D.state disk.old)) (store_state parts.new ticks (D.state disk.new)) }
     ensures idle { parts.old.books.weight ≡ 0 → OnNoMemory result ⊥ }
     ensures idles { (ticks : ℕ) → parts.old.books.weight ≡ 0 → parts.old.floor ≡ parts.old.point → ChangesNothing D.tells (store_state parts.old ticks (D.state disk.old)) (store_state parts.new ticks (D.state disk.new)) }
 {
@@ -135,7 +140,9 @@ fn commit_in_ring<D: Disk>(
     requires may { MayCommit parts.old room }
     ensures kept { IsKeptOn D.tells parts.new (D.state disk.new) }
     ensures syncs { (ticks : ℕ) → Syncs D.tells result (store_state parts.old ticks (D.state disk.old)) (store_state parts.new ticks (D.state disk.new)) }
-    ensures order { commit_places (bookkeeping_of parts.old) ≤ (bookkeeping_of parts.old).free_places → (D.state disk.new).waits ≡ (D.state disk.old).waits }
+    ensures order { FitsRing (bookkeeping_of parts.old) → (D.state disk.new).waits ≡ (D.state disk.old).waits }
+    ensures writes { IsTrue D.tells → FitsRing (bookkeeping_of parts.old) → GrowsByWrites (D.state disk.old).log (D.state disk.new).log }
+    ensures written { (ticks : ℕ) → IsTrue D.tells → FitsRing (bookkeeping_of parts.old) → OnOk result (WritesItsRecord (store_state parts.old ticks (D.state disk.old)) (store_state parts.new ticks (D.state disk.new))) }
     ensures memory { OnNoMemory result ⊥ }
     ensures turns { (bookkeeping_of parts.new).turns ≤ (bookkeeping_of parts.old).turns + 5 }
 {
@@ -173,6 +180,8 @@ fn commit<D: Disk>(
     ensures kept { IsKeptOn D.tells parts.new (D.state disk.new) }
     ensures syncs { (ticks : ℕ) → Syncs D.tells result (store_state parts.old ticks (D.state disk.old)) (store_state parts.new ticks (D.state disk.new)) }
     ensures waits { (D.state disk.new).waits ≡ (D.state disk.old).waits }
+    ensures writes { IsTrue D.tells → GrowsByWrites (D.state disk.old).log (D.state disk.new).log }
+    ensures written { (ticks : ℕ) → IsTrue D.tells → OnOk result (WritesItsRecord (store_state parts.old ticks (D.state disk.old)) (store_state parts.new ticks (D.state disk.new))) }
     ensures memory { OnNoMemory result ⊥ }
     ensures turns { (bookkeeping_of parts.new).turns ≤ (bookkeeping_of parts.old).turns + 1 }
 {

@@ -1,4 +1,4 @@
-use Rattle.std.proofs.Common.{sym, ap, subst, ◌∙◌, arith}
+use Rattle.std.proofs.Common.{refl, sym, ap, subst, ◌∙◌, arith}
 use Rattle.opt_journal.specs.Ring.{RingPlaces}
 use Rattle.opt_crash.specs.Writes.{AddsFront, AddsWrites}
 use Rattle.opt_books.specs.Books.{TransactionBooks}
@@ -75,3 +75,10 @@ returns-in-Err-clause-writes g c = λ tells.
 pub returns-in-Ok-clause-due : goal.returns-in-Ok-clause-due
 returns-in-Ok-clause-due g c = λ tells.
     due_then c.in-Ok.ensures.joins.0 c.args.pipeline.now c.commit_next.new.pipeline c.in-Ok.ensures.joins.2 _ (g.D.Disk.state c.args.disk.now).log (g.D.Disk.state c.commit_next.new.disk).log (omega (arith, c.a_record_makes_so_many_writes.ensures.size c.args.ring.now.geom c.args.epoch c.args.number c.args.ring.now.next c.take_running-running.result.paid c.take_running-running.result.laid)) (c.in-Ok.ensures.joins.3 tells)
+
+pub returns-in-Ok-clause-joins : goal.returns-in-Ok-clause-joins
+returns-in-Ok-clause-joins g c = λ tells. (
+  c.in-Ok.ensures.joins.0.tickets.items,
+  record { committed = c.in-Ok.ensures.joins.0; joined = c.in-Ok.ensures.joins.2.committed; number_is = c.in-Ok.ensures.joins.1.number; tickets_are = refl; noticed = c.in-Ok.ensures.joins.2.noticed },
+  subst (λ (q : Changes). AddsWrites (writes_of c.args.ring.now c.args.epoch c.args.number q) c.in-Ok.ensures.joins.0.tickets.items (g.D.Disk.state c.args.disk.now).log (g.D.Disk.state c.commit_next.new.disk).log) c.take_running-running.ensures.running (c.in-Ok.ensures.joins.3 tells),
+)

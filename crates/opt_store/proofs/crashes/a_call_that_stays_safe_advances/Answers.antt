@@ -21,4 +21,4 @@ pub returns-clause-nothing : goal.returns-clause-nothing
 returns-clause-nothing c = nothing_of
 
 pub returns-clause-writes : goal.returns-clause-writes
-returns-clause-writes c = λ s base old new j k c d a b more le. le
+returns-clause-writes c = λ s base old new j k c d a b v w more le. le

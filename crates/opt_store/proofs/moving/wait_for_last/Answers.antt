@@ -1,5 +1,8 @@
-use Rattle.std.proofs.Common.{arith}
+use Rattle.std.proofs.Common.{◌∙◌, ap, arith}
+use Rattle.opt_disk.specs.Disk.{writes_in}
+use Rattle.opt_store.proofs.Awaiting.{waited_hears}
 use Rattle.opt_store.proofs.FirstOpen.{due_waited}
+use Rattle.opt_store.proofs.PipelineBytes.{writes_noticed}
 use Rattle.opt_store.proofs.PipelineCalls.{durable_fits, either, ends, last_is_durable, moves_more, waited}
 use Rattle.opt_store.proofs.Spending.{asks_none}
 use Rattle.opt_store.proofs.moving.wait_for_last.Goals as goal
@@ -21,12 +24,14 @@ returns g c =
     let call = c.wait_records-waited in
     let w = record v { pipeline = call.new.self } in
     let moves = call.ensures.moves v.ring v.books.dead in
-    let called = waited g.D.Disk.tells call.result v call.new.self old new call.ensures.spends.made c.a_pipeline_call_keeps_the_store.ensures.noticed moves c.requires.kept.sound.kept.sound (call.ensures.sound v.ring v.books.dead (c.requires.kept.sound.going c.requires.going).sound) call.ensures.kept call.ensures.spends.spends call.ensures.log call.ensures.right call.ensures.cause (due_waited call.result call.new.self v.pipeline.last moves.last (call.ensures.sound v.ring v.books.dead (c.requires.kept.sound.going c.requires.going).sound).order call.ensures.durable) call.ensures.owed in
+    let called = waited g.D.Disk.tells call.result v call.new.self old new call.ensures.spends.made c.a_pipeline_call_keeps_the_store.ensures.noticed moves c.requires.kept.sound.kept.sound (call.ensures.sound v.ring v.books.dead (c.requires.kept.sound.going c.requires.going).sound) call.ensures.kept call.ensures.spends.spends call.ensures.log call.ensures.right call.ensures.cause (due_waited call.result call.new.self v.pipeline.last moves.last (call.ensures.sound v.ring v.books.dead (c.requires.kept.sound.going c.requires.going).sound).order call.ensures.durable) call.ensures.lost call.ensures.heard call.ensures.owed in
     let after = ends c.a_pipeline_call_keeps_the_store.ensures.keeps c.a_pipeline_call_keeps_the_store.ensures.runs g.D.Disk.tells 0 call.result c.settle_up.result v w c.settle_up.new.parts old new (omega arith) c.requires.kept c.requires.going called c.settle_up.ensures.answer c.settle_up.ensures.parts in
     record {
       kept = after.0;
       runs = after.1;
       moves = moves_more 0 4 v c.settle_up.new.parts (omega arith) after.2;
       durable = last_is_durable g.D.Disk.tells c.settle_up.result call.result w c.settle_up.new.parts new v.pipeline.last after.0 c.requires.going moves.last c.settle_up.ensures.answer c.settle_up.ensures.parts call.ensures.durable;
+      still = λ tells. ap writes_in (call.ensures.log tells).log ∙ writes_noticed old.log (call.ensures.log tells).tickets;
+      waits = λ before then tells alone. waited_hears v c.settle_up.new.parts old new before then v.pipeline.last (c.requires.kept.sound.going c.requires.going) c.requires.going (call.ensures.only tells alone);
       asks = asks_none _ _ _ _ call.ensures.spends.spends;
     }

@@ -4,7 +4,7 @@ use Rattle.opt_journal.specs.declared.header.Header.{Header}
 use Rattle.opt_checkpoint.specs.declared.pipeline.Pipeline.{Pipeline}
 use Rattle.opt_store.specs.Committing.{WritesRecord, writes_of}
 use Rattle.opt_store.proofs.CommitCalls.{Failed, Laws, Succeeded}
-use Rattle.opt_store.proofs.CommitSyncs.{failure, kept_success, syncs_success}
+use Rattle.opt_store.proofs.CommitSyncs.{failure, kept_success, record_needed, syncs_success}
 use Rattle.opt_store.proofs.LastCommitted.{forgets_record}
 use Rattle.opt_store.proofs.syncing.commit.Goals as goal
 
@@ -35,11 +35,19 @@ returns-in-Ok g c =
       spends = c.in-Ok.ensures.spends;
       forgets = forgets_record (v.first + v.point) v.books call.new.books v.pipeline call.new.pipeline call.new.ring c.in-Ok.ensures.ok going.sound.order going.number v.cache c.forget_last.new.cache c.forget_last.ensures;
       due = c.in-Ok.ensures.due;
+      joins = c.in-Ok.ensures.joins;
     } in
     record {
       kept = kept_success laws g.D.Disk.tells v d e c.args.room c.requires.kept c.requires.going c.requires.may call.new.ring call.new.pipeline call.new.books c.forget_last.new.cache succeeded;
       syncs = syncs_success laws g.D.Disk.tells v d e c.args.room c.requires.kept c.requires.going c.requires.may call.new.ring call.new.pipeline call.new.books c.forget_last.new.cache succeeded;
       waits = c.in-Ok.ensures.spends.waits;
+      writes = λ tells. (c.in-Ok.ensures.writes tells).grows;
+      written = λ ticks tells. omega (
+        arith,
+        (c.in-Ok.ensures.writes tells).writes,
+        c.in-Ok.ensures.ok.owed,
+        record_needed v (c.a_commit_has_what_the_roles_say.ensures.payloads v.books c.requires.kept.sound.kept) (c.a_commit_has_what_the_roles_say.ensures.fresh v.books c.requires.kept.sound.kept) c.requires.may.weight,
+      );
       memory = tt;
       turns = omega (arith, ap (λ (h : Header). h.turn) c.in-Ok.ensures.ok.written, c.in-Ok.ensures.ok.last, going.number);
     }
@@ -70,6 +78,8 @@ returns-in-Err g c =
       kept = after.0;
       syncs = after.1;
       waits = c.in-Err.ensures.spends.waits;
+      writes = λ tells. (c.in-Err.ensures.writes tells).grows;
+      written = λ ticks tells. tt;
       memory = tt;
       turns = omega (arith, ap (λ (q : Pipeline). q.written.turn) c.in-Err.ensures.back.1, ap (λ (q : Pipeline). q.last) c.in-Err.ensures.back.1);
     }

@@ -27,6 +27,16 @@ returns-in-Ok-clause-order g c = λ few.
     let kept = c.requires.kept.sound.kept in
     absurd (omega (arith, few, places_needed c.args.parts.now (c.a_commit_has_what_the_roles_say.ensures.payloads c.args.parts.now.books kept) (c.a_commit_has_what_the_roles_say.ensures.fresh c.args.parts.now.books kept), c.places_needed.ensures.places, c.free.ensures, c.if-places_needed-free.false))
 
+pub returns-in-Ok-clause-written : goal.returns-in-Ok-clause-written
+returns-in-Ok-clause-written g c = λ ticks tells few.
+    let kept = c.requires.kept.sound.kept in
+    absurd (omega (arith, few, places_needed c.args.parts.now (c.a_commit_has_what_the_roles_say.ensures.payloads c.args.parts.now.books kept) (c.a_commit_has_what_the_roles_say.ensures.fresh c.args.parts.now.books kept), c.places_needed.ensures.places, c.free.ensures, c.if-places_needed-free.false))
+
+pub returns-in-Ok-clause-writes : goal.returns-in-Ok-clause-writes
+returns-in-Ok-clause-writes g c = λ tells few.
+    let kept = c.requires.kept.sound.kept in
+    absurd (omega (arith, few, places_needed c.args.parts.now (c.a_commit_has_what_the_roles_say.ensures.payloads c.args.parts.now.books kept) (c.a_commit_has_what_the_roles_say.ensures.fresh c.args.parts.now.books kept), c.places_needed.ensures.places, c.free.ensures, c.if-places_needed-free.false))
+
 pub returns-in-Err-clause-kept : goal.returns-in-Err-clause-kept
 returns-in-Err-clause-kept g c = kept_fault c.a_call_that_stays_safe_advances.ensures.made g.D.Disk.tells c.args.parts.now c.drain.new.parts (g.D.Disk.state c.args.disk.now) (g.D.Disk.state c.drain.new.disk) c.args.room c.requires.may c.in-Err.ensures.kept c.in-Err.ensures.runs c.in-Err.ensures.asks
 
@@ -37,3 +47,19 @@ pub returns-in-Err-clause-order : goal.returns-in-Err-clause-order
 returns-in-Err-clause-order g c = λ few.
     let kept = c.requires.kept.sound.kept in
     absurd (omega (arith, few, places_needed c.args.parts.now (c.a_commit_has_what_the_roles_say.ensures.payloads c.args.parts.now.books kept) (c.a_commit_has_what_the_roles_say.ensures.fresh c.args.parts.now.books kept), c.places_needed.ensures.places, c.free.ensures, c.if-places_needed-free.false))
+
+pub returns-in-Err-clause-written : goal.returns-in-Err-clause-written
+returns-in-Err-clause-written g c = λ ticks tells few.
+    let kept = c.requires.kept.sound.kept in
+    absurd (omega (arith, few, places_needed c.args.parts.now (c.a_commit_has_what_the_roles_say.ensures.payloads c.args.parts.now.books kept) (c.a_commit_has_what_the_roles_say.ensures.fresh c.args.parts.now.books kept), c.places_needed.ensures.places, c.free.ensures, c.if-places_needed-free.false))
+
+pub returns-in-Err-clause-writes : goal.returns-in-Err-clause-writes
+returns-in-Err-clause-writes g c = λ tells few.
+    let kept = c.requires.kept.sound.kept in
+    absurd (omega (arith, few, places_needed c.args.parts.now (c.a_commit_has_what_the_roles_say.ensures.payloads c.args.parts.now.books kept) (c.a_commit_has_what_the_roles_say.ensures.fresh c.args.parts.now.books kept), c.places_needed.ensures.places, c.free.ensures, c.if-places_needed-free.false))
+
+pub returns-then-places_needed-free-clause-writes : goal.returns-then-places_needed-free-clause-writes
+returns-then-places_needed-free-clause-writes g c = λ tells fits. c.commit.ensures.writes tells
+
+pub returns-then-places_needed-free-clause-written : goal.returns-then-places_needed-free-clause-written
+returns-then-places_needed-free-clause-written g c = λ ticks tells fits. c.commit.ensures.written ticks tells

@@ -1,8 +1,8 @@
-use Rattle.std.proofs.Common.{◌≤◌, ◌∙◌, sym, subst}
-use Rattle.opt_blocks.specs.State.{Bookkeeping}
-use Rattle.opt_blocks.specs.Calls.{commit_places}
+use Rattle.std.proofs.Common.{◌∙◌, arith, sym, subst}
+use Rattle.opt_blocks.specs.Effects.{FitsRing}
 use Rattle.opt_store.specs.Told.{store_state}
-use Rattle.opt_store.proofs.SyncSteps.{no_memory, syncs_from_same, syncs_nothing}
+use Rattle.opt_store.proofs.SyncSteps.{no_memory, record_from_same, syncs_from_same, syncs_nothing}
+use Rattle.opt_store.proofs.TicketLogs.{no_write}
 use Rattle.opt_store.proofs.syncing.sync.Goals as goal
 
 pub returns-then-weight-eq0-clause-syncs : goal.returns-then-weight-eq0-clause-syncs
@@ -18,7 +18,10 @@ returns-in-Ok-clause-syncs g c = λ ticks.
     syncs_from_same g.D.Disk.tells c.commit_in_ring.result c.args.parts.now c.reserve.new.parts ticks (g.D.Disk.state c.args.disk.now) (store_state c.commit_in_ring.new.parts ticks (g.D.Disk.state c.commit_in_ring.new.disk)) c.in-Ok.ensures.same (c.commit_in_ring.ensures.syncs ticks)
 
 pub returns-in-Ok-clause-order : goal.returns-in-Ok-clause-order
-returns-in-Ok-clause-order g c = λ few. c.commit_in_ring.ensures.order (subst (λ (k : Bookkeeping). commit_places k ≤ k.free_places) (sym c.in-Ok.ensures.same.books) few)
+returns-in-Ok-clause-order g c = λ few. c.commit_in_ring.ensures.order (subst FitsRing (sym c.in-Ok.ensures.same.books) few)
+
+pub returns-in-Ok-clause-writes : goal.returns-in-Ok-clause-writes
+returns-in-Ok-clause-writes g c = λ tells few. c.commit_in_ring.ensures.writes tells (subst FitsRing (sym c.in-Ok.ensures.same.books) few)
 
 pub returns-in-Err-clause-kept : goal.returns-in-Err-clause-kept
 returns-in-Err-clause-kept g c = c.in-Err.ensures.keeps g.D.Disk.tells (g.D.Disk.state c.args.disk.now) c.requires.kept
@@ -26,3 +29,16 @@ returns-in-Err-clause-kept g c = c.in-Err.ensures.keeps g.D.Disk.tells (g.D.Disk
 pub returns-in-Err-clause-syncs : goal.returns-in-Err-clause-syncs
 returns-in-Err-clause-syncs g c = λ ticks.
     no_memory g.D.Disk.tells c.args.parts.now c.reserve.new.parts ticks (g.D.Disk.state c.args.disk.now) c.requires.going (c.a_store_that_is_kept_is_told.ensures.told g.D.Disk.tells c.args.parts.now ticks (g.D.Disk.state c.args.disk.now) c.requires.kept) c.in-Err.ensures.same
+
+pub returns-then-weight-eq0-clause-writes : goal.returns-then-weight-eq0-clause-writes
+returns-then-weight-eq0-clause-writes g c = λ tells few. no_write (g.D.Disk.state c.args.disk.now).log
+
+pub returns-in-Err-clause-writes : goal.returns-in-Err-clause-writes
+returns-in-Err-clause-writes g c = λ tells few. no_write (g.D.Disk.state c.args.disk.now).log
+
+pub returns-then-weight-eq0-clause-written : goal.returns-then-weight-eq0-clause-written
+returns-then-weight-eq0-clause-written g c = λ ticks tells few. omega arith
+
+pub returns-in-Ok-clause-written : goal.returns-in-Ok-clause-written
+returns-in-Ok-clause-written g c = λ ticks tells few.
+    record_from_same c.args.parts.now c.reserve.new.parts ticks (g.D.Disk.state c.args.disk.now) (store_state c.commit_in_ring.new.parts ticks (g.D.Disk.state c.commit_in_ring.new.disk)) c.commit_in_ring.result c.in-Ok.ensures.same (c.commit_in_ring.ensures.written ticks tells (subst FitsRing (sym c.in-Ok.ensures.same.books) few))

@@ -1,8 +1,8 @@
-use Rattle.std.proofs.Common.{◌≡◌, true, false, ap, arith}
-use Rattle.opt_blocks.specs.State.{Bookkeeping}
+use Rattle.std.proofs.Common.{◌≡◌, true, false, ◌∙◌, ap, arith}
+use Rattle.opt_blocks.specs.State.{Bookkeeping, Ticking}
 use Rattle.opt_store.specs.Store.{bookkeeping_of}
 use Rattle.opt_store.specs.Told.{store_state}
-use Rattle.opt_store.proofs.SyncSteps.{refused, sync_then_wait}
+use Rattle.opt_store.proofs.SyncSteps.{refused, refused_record, sync_then_hears, sync_then_wait, writes_hear}
 use Rattle.opt_store.proofs.syncing.sync_durably.Goals as goal
 
 pub returns-in_err-point-clause-syncs : goal.returns-in_err-point-clause-syncs
@@ -40,3 +40,28 @@ pub returns-in-Err-clause-syncs : goal.returns-in-Err-clause-syncs
 returns-in-Err-clause-syncs g c = λ ticks.
     sync_then_wait g.D.Disk.tells true (store_state c.args.parts.now ticks (g.D.Disk.state c.args.disk.now)) (store_state c.sync.new.parts ticks (g.D.Disk.state c.sync.new.disk)) (store_state c.wait_for_last.new.parts ticks (g.D.Disk.state c.wait_for_last.new.disk)) c.in_ok-point.point
     (c.in_ok-point.ensures.syncs ticks) (c.in-Err.ensures.runs ticks ticks) (omega (arith, c.in_ok-point.ensures.turns, c.in-Err.ensures.moves.moves.turn, c.in-Err.ensures.moves.moves.last)) (c.in-Err.ensures.asks ticks)
+
+pub returns-in_err-point-clause-waits : goal.returns-in_err-point-clause-waits
+returns-in_err-point-clause-waits g c = λ ticks tells alone fits. writes_hear (store_state c.args.parts.now ticks (g.D.Disk.state c.args.disk.now)) (store_state c.sync.new.parts ticks (g.D.Disk.state c.sync.new.disk)) (c.sync.ensures.writes tells fits)
+
+pub returns-then-parts-clause-waits : goal.returns-then-parts-clause-waits
+returns-then-parts-clause-waits g c = λ ticks tells alone fits. writes_hear (store_state c.args.parts.now ticks (g.D.Disk.state c.args.disk.now)) (store_state c.sync.new.parts ticks (g.D.Disk.state c.sync.new.disk)) (c.sync.ensures.writes tells fits)
+
+pub returns-in-Ok-clause-waits : goal.returns-in-Ok-clause-waits
+returns-in-Ok-clause-waits g c = λ ticks tells alone fits.
+    sync_then_hears (store_state c.args.parts.now ticks (g.D.Disk.state c.args.disk.now)) (store_state c.sync.new.parts ticks (g.D.Disk.state c.sync.new.disk)) (store_state c.wait_for_last.new.parts ticks (g.D.Disk.state c.wait_for_last.new.disk))
+    (c.sync.ensures.writes tells fits) ((c.in_ok-point.ensures.syncs ticks).crash tells) (c.in-Ok.ensures.waits ticks ticks tells (ap (λ (t : Ticking). t.manner.waits_alone) ((c.in_ok-point.ensures.syncs ticks).ticks) ∙ alone))
+
+pub returns-in-Err-clause-waits : goal.returns-in-Err-clause-waits
+returns-in-Err-clause-waits g c = λ ticks tells alone fits.
+    sync_then_hears (store_state c.args.parts.now ticks (g.D.Disk.state c.args.disk.now)) (store_state c.sync.new.parts ticks (g.D.Disk.state c.sync.new.disk)) (store_state c.wait_for_last.new.parts ticks (g.D.Disk.state c.wait_for_last.new.disk))
+    (c.sync.ensures.writes tells fits) ((c.in_ok-point.ensures.syncs ticks).crash tells) (c.in-Err.ensures.waits ticks ticks tells (ap (λ (t : Ticking). t.manner.waits_alone) ((c.in_ok-point.ensures.syncs ticks).ticks) ∙ alone))
+
+pub returns-in_err-point-clause-written : goal.returns-in_err-point-clause-written
+returns-in_err-point-clause-written g c = λ ticks tells fits. refused_record _ c.from_residual.result c.in_err-point.field-0.0 c.from_residual.ensures.1
+
+pub returns-then-parts-clause-written : goal.returns-then-parts-clause-written
+returns-then-parts-clause-written g c = λ ticks tells fits. c.in_ok-point.ensures.written ticks tells fits
+
+pub returns-in-Ok-clause-written : goal.returns-in-Ok-clause-written
+returns-in-Ok-clause-written g c = λ ticks tells fits. omega (arith, c.in_ok-point.ensures.written ticks tells fits, c.in-Ok.ensures.still tells)

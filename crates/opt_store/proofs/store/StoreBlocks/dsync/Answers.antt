@@ -9,3 +9,12 @@ invariant_of-self g c = record {
 
 pub returns-clause-syncs : goal.returns-clause-syncs
 returns-clause-syncs g c = c.sync_durably.ensures.syncs c.args.self.now.ticks
+
+pub returns-clause-waits : goal.returns-clause-waits
+returns-clause-waits g c = c.sync_durably.ensures.waits c.args.self.now.ticks
+
+pub returns-clause-idles : goal.returns-clause-idles
+returns-clause-idles g c = c.sync_durably.ensures.idles c.args.self.now.ticks
+
+pub returns-clause-written : goal.returns-clause-written
+returns-clause-written g c = c.sync_durably.ensures.written c.args.self.now.ticks

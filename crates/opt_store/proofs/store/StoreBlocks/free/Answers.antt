@@ -1,6 +1,6 @@
 use Rattle.std.proofs.Common.{refl, ap}
 use Rattle.opt_blocks.specs.State.{Bookkeeping}
-use Rattle.opt_store.proofs.StoreStates.{books_session}
+use Rattle.opt_store.proofs.StoreStates.{books_awaits, books_session}
 use Rattle.opt_store.proofs.store.StoreBlocks.free.Goals as goal
 
 pub invariant_of-self : goal.invariant_of-self
@@ -16,5 +16,5 @@ returns-clause-map g c = λ on. c.free.ensures.map g.D.Disk.tells (g.D.Disk.stat
 pub returns-clause-disk : goal.returns-clause-disk
 returns-clause-disk g c = record {
   counts = refl;
-  crash = λ on. c.a_store_that_is_kept_is_told.ensures.nothing c.args.self.now.parts c.free.new.parts _ _ (g.D.Disk.state c.args.self.now.disk) (g.D.Disk.state c.args.self.now.disk) (books_session c.args.self.now.parts c.free.new.parts c.free.ensures.rest (ap (λ (k : Bookkeeping). k.geom) c.free.ensures.books)) refl refl;
+  crash = λ on. c.a_store_that_is_kept_is_told.ensures.nothing c.args.self.now.parts c.free.new.parts _ _ (g.D.Disk.state c.args.self.now.disk) (g.D.Disk.state c.args.self.now.disk) (books_session c.args.self.now.parts c.free.new.parts c.free.ensures.rest (ap (λ (k : Bookkeeping). k.geom) c.free.ensures.books)) (books_awaits c.args.self.now.parts c.free.new.parts c.free.ensures.rest) refl refl;
 }

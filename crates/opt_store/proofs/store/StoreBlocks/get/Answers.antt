@@ -13,7 +13,7 @@ invariant_of-self g c = record {
 pub returns-clause-crash : goal.returns-clause-crash
 returns-clause-crash g c = λ on. c.a_store_that_is_kept_is_told.ensures.nothing c.args.self.now.parts c.read_block.new.parts _ _ (g.D.Disk.state c.args.self.now.disk) (g.D.Disk.state c.read_block.new.disk)
     (record { geom = ap (λ (x : StoreParts). x.books.geom) c.read_block.ensures.parts; epoch = ap (λ (x : StoreParts). x.pipeline.header.epoch) c.read_block.ensures.parts; mounted = ap (λ (x : StoreParts). x.mounted) c.read_block.ensures.parts; first = ap (λ (x : StoreParts). x.first) c.read_block.ensures.parts })
-    c.read_block.ensures.spends.same.base (c.read_block.ensures.log on)
+    (record { stopped = ap (λ (x : StoreParts). x.stopped) c.read_block.ensures.parts; first = ap (λ (x : StoreParts). x.first) c.read_block.ensures.parts; committed = ap (λ (x : StoreParts). x.pipeline.committed.items) c.read_block.ensures.parts }) c.read_block.ensures.spends.same.base (c.read_block.ensures.log on)
 
 pub returns-clause-counts : goal.returns-clause-counts
 returns-clause-counts g c =

@@ -12,3 +12,9 @@ returns-clause-syncs g c = c.sync.ensures.syncs c.args.self.now.ticks
 
 pub returns-clause-idles : goal.returns-clause-idles
 returns-clause-idles g c = c.sync.ensures.idles c.args.self.now.ticks
+
+pub returns-clause-writes : goal.returns-clause-writes
+returns-clause-writes g c = c.sync.ensures.writes
+
+pub returns-clause-written : goal.returns-clause-written
+returns-clause-written g c = c.sync.ensures.written c.args.self.now.ticks

@@ -1,4 +1,5 @@
 use Rattle.std.proofs.Common.{rules}
+use Rattle.opt_store.proofs.TicketLogs.{grows_by}
 use Rattle.opt_store.proofs.store.StoreBlocks.tick.Goals as goal
 
 pub invariant_of-self : goal.invariant_of-self
@@ -12,4 +13,7 @@ pub returns-clause-moves : goal.returns-clause-moves
 returns-clause-moves g c = c.advance.ensures.runs c.args.self.now.ticks _
 
 pub returns-clause-ticks : goal.returns-clause-ticks
-returns-clause-ticks g c = record { made = search rules; manner = c.advance.ensures.manner; polled = c.advance.ensures.polled }
+returns-clause-ticks g c = record { made = search rules; manner = c.advance.ensures.manner; polled = λ on p known. let polled = c.advance.ensures.polled on p known in (polled.0, grows_by p.log (g.D.Disk.state c.advance.new.disk).log polled.1) }
+
+pub returns-clause-writes : goal.returns-clause-writes
+returns-clause-writes g c = c.advance.ensures.polled
