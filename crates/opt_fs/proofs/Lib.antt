@@ -1,5 +1,6 @@
 pub mod Opening
 pub mod Weighing
+pub mod Logs
 pub mod AtMost
 pub mod Placing
 pub mod FirstReason

@@ -5,3 +5,5 @@ pub mod Ticking
 pub mod Unread
 pub mod Late
 pub mod Turning
+pub mod Waiting
+pub mod Places

@@ -1,17 +1,18 @@
 -- How a file system answers a command of a script: whether it begins, with a tick, and what is done then. It is described in docs/FILE-SYSTEM.md.
-use Rattle.std.specs.Prelude.{◌≡◌, ◌≢◌, ◌⊎◌, ◌+◌, ◌^◌, ◌-◌, ◌≤◌, nat_le, Bool, true, false, Result, Ok, Err}
+use Rattle.std.specs.Prelude.{◌≡◌, ◌≢◌, ◌⊎◌, ◌+◌, ◌^◌, ◌-◌, ◌≤◌, nat_le, ⊤, Bool, true, false, IsTrue, length, Result, Ok, Err}
 use Rattle.opt_tree.specs.declared.command.Cmd.{Cmd}
 use Rattle.opt_tree.specs.declared.command.Cmd.TheVariants.{Osync, Dsync, Durable, Poll, Bad}
 use Rattle.opt_tree.specs.declared.command.Refusal.{Refusal}
 use Rattle.opt_tree.specs.declared.command.Refusal.TheVariants.{DiskFault, Stopped, Spent}
 use Rattle.opt_tree.specs.declared.command.Reply.{Reply}
 use Rattle.opt_tree.specs.declared.command.Reply.TheVariants.{Ok as Done, Known, Bad as NotUnderstood, Refused}
-use Rattle.opt_blocks.specs.State.{Bookkeeping, State}
+use Rattle.opt_disk.specs.Disk.{PollsThenWrites}
+use Rattle.opt_blocks.specs.State.{Bookkeeping, State, reusable_blocks}
 use Rattle.opt_tree.specs.Run.{Answers, is_of_disk}
 use Rattle.opt_tree.specs.Step.{Session}
 use Rattle.opt_blocks.specs.Crashes.{Advances, MakesPoint}
-use Rattle.opt_blocks.specs.Effects.{RunsPipeline, Ticked}
-use Rattle.opt_fs.specs.Commands.{Carries}
+use Rattle.opt_blocks.specs.Effects.{FitsRing, RunsPipeline, Ticked}
+use Rattle.opt_fs.specs.Commands.{Carries, figures_on}
 use Rattle.opt_fs.specs.Sessions.{IsSession}
 use Rattle.opt_fs.specs.Syncs.{SyncsSession}
 
@@ -24,6 +25,16 @@ pub record Ticks (tells failed : Bool) (old new : State) : Type 0 where
   pub moves : RunsPipeline tells failed old new
   pub waits : new.counts.waits ≡ old.counts.waits
   pub ticks : Ticked tells old new
+  pub writes : IsTrue tells → PollsThenWrites old.counts.ticks.manner 64 old.counts.ticks.polls old.crash.log new.counts.ticks.polls new.crash.log
+
+-- The command needn't wait for the disk: one that only orders has ring places for its record, one on the tree finds as many blocks as it needs, and any other asks for none. A dsync may always wait.
+abbrev pub NeedsNoWait : State → Session → Cmd → Type 0
+NeedsNoWait s f Osync = FitsRing s.books
+NeedsNoWait s f Dsync = ⊥
+NeedsNoWait s f Durable = ⊤
+NeedsNoWait s f Poll = ⊤
+NeedsNoWait s f Bad = ⊤
+NeedsNoWait s f cmd = (figures_on s f cmd).need ≤ length (reusable_blocks s.books)
 
 -- Time goes on over a command: a crash leaves points, one more came at most, and the map now is that one's.
 pub record PassesTime (old new : State) : Type 0 where

@@ -29,6 +29,7 @@ pub record RunsCommand (tells read_failed failed : Bool) (old new : State) : Typ
   pub area : new.books.area ≡ old.books.area
   pub point : new.books.point ≡ old.books.point
   pub floor : old.books.floor ≤ new.books.floor
+  pub free_places : old.books.free_places ≤ new.books.free_places
   pub turns : new.books.turns ≤ old.books.turns + 2 ^ 18
   pub stopped : new.books.stopped ≡ failed
   pub read_faults : new.counts.read_faults ≡ after_call read_failed old.counts.read_faults
@@ -137,10 +138,16 @@ IsCutShort why = (why ≡ because.ReadFault) ⊎ (why ≡ because.NoMemory)
 abbrev pub IsRefusedFor : State → State → Session → Cmd → Refusal → Type 0
 IsRefusedFor old new f cmd why = IsOutOfRoom old f cmd why ⊎ (IsScattered old new f cmd why ⊎ (FailsToSettle old f cmd why ⊎ IsCutShort why))
 
+-- Where as many blocks as are needed may be taken, the disk has no event.
+abbrev pub IsQuiet : ℕ → State → State → Type 0
+IsQuiet need old new = need ≤ length (reusable_blocks old.books) → new.crash.log ≡ old.crash.log
+
 -- How a command that isn't a sync ends over a map of blocks: done as the tree does it, or refused from outside the tree, and then the session is as it was and nothing is spent.
 pub record Carries (tells : Bool) (cmd : Cmd) (result : Result Reply Refusal) (old new : State) : Type 0 where
   pub done : IsTrue tells → IfOk result (λ reply. (f : Session) → IsSession old f → IsDone old new f cmd reply)
   pub refused : IsTrue tells → IfErr result (λ why. (f : Session) → IsSession old f → IsRefusedFor old new f cmd why)
   pub kept : IsTrue tells → OnErr result ((f : Session) → IsSession old f → IsSession new f)
   pub unspent : OnErr result (SpendsNothing tells old new)
+  -- also where it is refused, there is no event of it where its blocks may be taken
+  pub quiet : IsTrue tells → (f : Session) → IsSession old f → IsQuiet (figures_on old f cmd).need old new
   pub runs : RunsCommand tells (is_read_fault result) (is_disk_fault result) old new

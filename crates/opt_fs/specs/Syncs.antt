@@ -1,5 +1,6 @@
 -- What a sync leaves of a map of blocks and of its session. It is described in docs/FILE-SYSTEM.md.
 use Rattle.std.specs.Prelude.{◌≡◌, ◌⊎◌, ◌+◌, ◌^◌, ◌<◌, ◌≤◌, ℕ, Bool, false, true, IsTrue, IfOk, IfErr, OnOk, OnErr, Result, Err}
+use Rattle.opt_disk.specs.Disk.{GrowsByWrites}
 use Rattle.opt_tree.specs.declared.command.Cmd.{Cmd}
 use Rattle.opt_tree.specs.declared.command.Refusal.{Refusal}
 use Rattle.opt_tree.specs.declared.command.Refusal.TheVariants as because
@@ -10,7 +11,8 @@ use Rattle.opt_blocks.specs.declared.refusals.SyncRefusal.TheVariants as sync
 use Rattle.opt_blocks.specs.Running.{nothing_running}
 use Rattle.opt_blocks.specs.State.{Bookkeeping, State, IsReusable}
 use Rattle.opt_blocks.specs.Calls.{HasTurns, UsesDisk, commit_places, commit_writes, if_changed}
-use Rattle.opt_blocks.specs.Crashes.{Advances, MakesPoint, WritesAtMost}
+use Rattle.opt_blocks.specs.Crashes.{Advances, HearsRecords, MakesPoint, WritesAtMost}
+use Rattle.opt_blocks.specs.Effects.{FitsRing}
 use Rattle.opt_files.specs.Finish.{MayGoOn}
 use Rattle.opt_fs.specs.Commands.{is_disk_fault}
 use Rattle.opt_fs.specs.Sessions.{IsSession}
@@ -26,7 +28,7 @@ refusal_of_sync sync.DiskFault = because.DiskFault
 refusal_of_sync sync.NoMemory = because.NoMemory
 
 -- The sync is done as the session does it, or refused by the disk or out of memory, and then the session is as it was. Time goes on; where a point came, the map is its, and the writes are those of its record.
--- One that only orders doesn't wait where the record fits the free ring places.
+-- Where the record fits the free ring places, one that only orders doesn't wait, and one that waits does so for records' writes alone.
 pub record SyncsSession (tells orders : Bool) (cmd : Cmd) (result : Result Reply Refusal) (old new : State) : Type 0 where
   pub done : IsTrue tells → IfOk result (λ reply. (f : Session) → IsSession old f → (reply ≡ (step f cmd).1) × IsSession new (step f cmd).0)
   pub kept : IsTrue tells → OnErr result ((f : Session) → IsSession old f → IsSession new f)
@@ -44,7 +46,10 @@ pub record SyncsSession (tells orders : Bool) (cmd : Cmd) (result : Result Reply
   pub point : (result ≡ Err because.NoMemory → ⊥) → new.books.point ≡ old.books.point + if_changed old.books.running 1 0
   pub map : IsTrue tells → new.map ≡ old.map
   pub ticks : new.counts.ticks ≡ old.counts.ticks
-  pub order : IsTrue orders → commit_places old.books ≤ old.books.free_places → new.counts.waits ≡ old.counts.waits
+  pub order : IsTrue orders → FitsRing old.books → new.counts.waits ≡ old.counts.waits
+  pub alone : IsTrue tells → IsTrue orders → FitsRing old.books → GrowsByWrites old.crash.log new.crash.log
+  pub waits : IsTrue tells → old.counts.ticks.manner.waits_alone ≡ true → FitsRing old.books → HearsRecords old new
+  pub free_places : OnOk result (old.books.free_places ≤ new.books.free_places + if_changed old.books.running (commit_places old.books) 0)
   pub crash : IsTrue tells → Advances old new
   pub made : IsTrue tells → MakesPoint old new
   pub writes : IsTrue tells → WritesAtMost (commit_writes old.books) old new

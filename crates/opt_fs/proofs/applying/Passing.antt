@@ -20,6 +20,7 @@ nothing_issued s = record {
   left = λ t img. (λ x. x, λ x. x);
   holds = λ img m. (λ x. x, λ x. x);
   issued = λ m. (λ x. x, λ x. x);
+  awaits = λ p t. (λ x. x, λ x. x);
 }
 
 -- no point comes where the last one is as before

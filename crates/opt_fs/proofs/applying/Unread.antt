@@ -8,7 +8,6 @@ use Rattle.opt_tree.specs.declared.command.Refusal.{Refusal}
 use Rattle.opt_tree.specs.declared.command.Refusal.TheVariants as because
 use Rattle.opt_tree.specs.declared.command.Reply.{Reply}
 use Rattle.opt_tree.specs.declared.command.Reply.TheVariants.{Refused}
-use Rattle.opt_tree.specs.Refusals.{refusal_number}
 use Rattle.opt_tree.specs.Run.{Answers, is_of_disk, is_of_memory}
 use Rattle.opt_tree.specs.Step.{Session, step}
 use Rattle.opt_blocks.specs.State.{State}

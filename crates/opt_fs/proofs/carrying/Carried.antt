@@ -47,6 +47,7 @@ pub record LeavesRest (s t : State) : Type 0 where
   pub turns : t.books.turns ≡ s.books.turns
   pub stopped : t.books.stopped ≡ s.books.stopped
   pub owed : t.books.owed ≡ s.books.owed
+  pub free_places : t.books.free_places ≡ s.books.free_places
 
 pub made_rests : (tells : Bool) (d : DraftState) (cost : ℕ) (s t : State) → IsCarriedOut tells d cost s t → LeavesRest s t
 made_rests tells d cost s t h = record {
@@ -58,6 +59,7 @@ made_rests tells d cost s t h = record {
   turns = ap (λ (b : Bookkeeping). b.turns) h.same;
   stopped = ap (λ (b : Bookkeeping). b.stopped) h.same;
   owed = ap (λ (b : Bookkeeping). b.owed) h.same;
+  free_places = ap (λ (b : Bookkeeping). b.free_places) h.same;
 }
 
 pub kept_rests : (tells : Bool) (s t : State) → KeepsBlocks tells s t → LeavesRest s t
@@ -70,6 +72,7 @@ kept_rests tells s t h = record {
   turns = ap (λ (b : Bookkeeping). b.turns) h.books;
   stopped = ap (λ (b : Bookkeeping). b.stopped) h.books;
   owed = ap (λ (b : Bookkeeping). b.owed) h.books;
+  free_places = ap (λ (b : Bookkeeping). b.free_places) h.books;
 }
 
 -- a command that only looked, or whose pipeline settled
@@ -80,6 +83,7 @@ runs_settled tells read_failed failed s t h = record {
   area = h.pipeline.area;
   point = h.pipeline.point;
   floor = h.pipeline.floor;
+  free_places = h.pipeline.free_places;
   turns = h.pipeline.turns;
   stopped = h.stopped;
   read_faults = h.read_faults;
@@ -98,6 +102,7 @@ runs_behind tells s t u h rest disk advances = record {
   area = rest.area ∙ h.pipeline.area;
   point = rest.point ∙ h.pipeline.point;
   floor = omega (arith, rest.floor, h.pipeline.floor);
+  free_places = omega (arith, rest.free_places, h.pipeline.free_places);
   turns = omega (arith, rest.turns, h.pipeline.turns);
   stopped = rest.stopped ∙ h.stopped;
   read_faults = ap (λ c. c.read_faults) disk.counts ∙ h.read_faults;
@@ -198,6 +203,7 @@ module _ (tells : Bool) (cmd : Cmd) (start mid new : State) (costs : (bitmap : �
     refused = λ told. tt;
     kept = λ told. tt;
     unspent = tt;
+    quiet = λ told f h enough. (disk.crash told).log ∙ plans.quiet told f h enough;
     runs = runs_behind tells start mid new plans.settles (made_rests tells d cost mid new carried) disk advances;
   }
 
@@ -216,6 +222,7 @@ carried_answer tells cmd start mid reply sound plans = record {
   refused = λ told. tt;
   kept = λ told. tt;
   unspent = tt;
+  quiet = plans.quiet;
   runs = runs_settled tells false false start mid plans.settles;
 }
 
@@ -228,6 +235,7 @@ carried_refusal tells cmd start mid new d cost first why plans refused kept disk
   kept = λ told f h. session_stays mid new f plans.settles.stopped rest.geom (kept.map told) rest.point (ap (λ (b : Bookkeeping). b.running.weight) kept.books) (omega (arith, rest.floor))
       (session_settles tells false false start mid f plans.going told plans.settles h);
   unspent = kept_unspent tells start mid new plans.settles kept;
+  quiet = λ told f h enough. (disk.crash told).log ∙ plans.quiet told f h enough;
   runs = counted refused (runs_behind tells start mid new plans.settles rest disk advances);
 }
   where
@@ -249,6 +257,7 @@ refused_plan tells cmd start mid why plans = record {
   refused = λ told f h. plans.is told f h;
   kept = λ told f h. session_settles tells (plan_fails_reading {T = Plan} (Err why)) (plan_fails_settling {T = Plan} (Err why)) start mid f plans.going told plans.settles h;
   unspent = settled_unspent tells (plan_fails_reading {T = Plan} (Err why)) (plan_fails_settling {T = Plan} (Err why)) start mid plans.settles;
+  quiet = plans.quiet;
   runs = runs_settled tells (plan_fails_reading {T = Plan} (Err why)) (plan_fails_settling {T = Plan} (Err why)) start mid plans.settles;
 }
 

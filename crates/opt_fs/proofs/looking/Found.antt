@@ -39,6 +39,7 @@ looks_more tells failed s t u first second = record {
     left = λ n img. iff_on (b.left n img) (a.left n img);
     holds = λ img m. iff_on (b.holds img m) (a.holds img m);
     issued = λ m. iff_on (b.issued m) (a.issued m);
+    awaits = λ p n. iff_on (b.awaits p n) (a.awaits p n);
   };
 }
 

@@ -17,7 +17,7 @@ use Rattle.opt_files.specs.Effects.{LooksAndSettles}
 use Rattle.opt_dirs.specs.Directories.{inodes_in}
 use Rattle.opt_fs.specs.declared.plan.Plan.TheVariants.{Change}
 use Rattle.opt_fs.specs.Changes.{IsWithinCost, Uses}
-use Rattle.opt_fs.specs.Commands.{figures_on, places_of, GrowsInRuns, IsRefusedFor}
+use Rattle.opt_fs.specs.Commands.{figures_on, places_of, GrowsInRuns, IsQuiet, IsRefusedFor}
 use Rattle.opt_fs.specs.Making.{AcceptsName, AddsName}
 use Rattle.opt_fs.specs.Plans.{Plans, MakesTree}
 use Rattle.opt_fs.specs.Refusals.{refusal_of}
@@ -52,6 +52,10 @@ module _ (old now : State) (f : Session) (cmd : Cmd) (dir count : ℕ) (h : Acce
     rests = λ enough. a.rests (subst (λ n. n ≤ length (reusable_blocks old.books)) need_is enough);
   }
 
+  -- it has no event where the directory's block may be taken
+  pub quiet_so : IsQuiet (growth (length h.slots)) old now → IsQuiet (figures_on old f cmd).need old now
+  quiet_so quiet = subst (λ n. IsQuiet n old now) (sym need_is) quiet
+
   -- the directory couldn't grow
   pub refused_so : IsSound now.books → MovesPipeline old.books now.books → old.books.geom.n ≤ 1048576 → length (places_of old dir) ≤ 1048576 → (why : FileRefusal) → GrowthRefused (growth (length h.slots)) (places_of old dir) old.books now.books why
       → IsRefusedFor old now f cmd (refusal_of why)
@@ -67,15 +71,20 @@ pub record Names (old now : State) (f : Session) (cmd : Cmd) (d : DraftState) (d
   pub map : IsMapOf f.limit (inodes_in now d) (step f cmd).0.tree
 
 -- The plans.
-module _ (tells : Bool) (cmd : Cmd) (s t : State) (dir count : ℕ) (v : Figures) (going : s.books.stopped ≡ false) (value : v ≡ adding (growth count)) (room : HasRoom s.books v) (accepts : IsTrue tells → (f : Session) → IsSession s f → AcceptsName s f cmd dir count) where
+module _ (tells : Bool) (cmd : Cmd) (s t : State) (dir count : ℕ) (v : Figures) (going : s.books.stopped ≡ false) (value : v ≡ adding (growth count)) (room : HasRoom s.books v) (accepts : IsTrue tells → (f : Session) → IsSession s f → AcceptsName s f cmd dir count)
+    (quiet : IsTrue tells → (slots : List Slot) → inodes s dir ≡ Some (ADir slots) → IsQuiet (growth (length slots)) s t) where
+  quiet_is : IsTrue tells → (f : Session) → IsSession s f → IsQuiet (figures_on s f cmd).need s t
+  quiet_is told f h = let a = accepts told f h in quiet_so s t f cmd dir count a v value room (quiet told a.slots a.is_dir)
+
   pub named_plan : (d : DraftState) (first : ℕ) → LooksAndSettles tells false false s t → ((told : IsTrue tells) (f : Session) (h : IsSession s f) → Names s t f cmd d dir (accepts told f h).slots) → Plans tells cmd (Ok (Change d v.cost first)) s t
   named_plan d first settles names = record {
     is = λ told f h. let n = names told f h in made_so s t f cmd dir count (accepts told f h) v value room d n.node n.name n.inode n.adds n.map;
     going = going;
+    quiet = quiet_is;
     settles = settles;
   }
 
   pub name_refused : IsSound t.books → s.books.geom.n ≤ 1048576 → (IsTrue tells → length (places_of s dir) ≤ 1048576) → (why : FileRefusal) → LooksAndSettles tells (fails_reading {T = DraftState} (Err why)) (fails_settling {T = DraftState} (Err why)) s t
       → (IsTrue tells → (slots : List Slot) → inodes s dir ≡ Some (ADir slots) → GrowthRefused (growth (length slots)) (places_of s dir) s.books t.books why) → Plans tells cmd (Err (refusal_of why)) s t
   name_refused sound small few why settles refused =
-      growth_plan tells cmd s t why going (λ told f h. let a = accepts told f h in refused_so s t f cmd dir count a v value room sound settles.pipeline small (few told) why (refused told a.slots a.is_dir)) settles
+      growth_plan tells cmd s t why going (λ told f h. let a = accepts told f h in refused_so s t f cmd dir count a v value room sound settles.pipeline small (few told) why (refused told a.slots a.is_dir)) quiet_is settles

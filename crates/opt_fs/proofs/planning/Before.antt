@@ -18,7 +18,7 @@ use Rattle.opt_fs.specs.declared.plan.Plan.TheVariants.{Answer, Change}
 use Rattle.opt_fs.specs.Changes.{Uses}
 use Rattle.opt_fs.specs.Commands.{figures_on, grown_by, places_of, GrowsInRuns, FindsRuns, IsRefusedFor, IsScattered}
 use Rattle.opt_fs.specs.Plans.{Plans, PlanIs, IsRight, plan_fails_reading, plan_fails_settling}
-use Rattle.opt_fs.specs.Sessions.{inodes}
+use Rattle.opt_fs.specs.Sessions.{IsSession, inodes}
 use Rattle.opt_fs.specs.Space.{HasRoom, LacksRoom}
 use Rattle.opt_fs.proofs.carrying.Staying.{session_stays}
 use Rattle.opt_fs.proofs.planning.Looking.{settled_after}
@@ -84,6 +84,9 @@ module _ (s t u : State) (f : Session) (cmd : Cmd) (books : t.books ≡ s.books)
     placed = λ k. subst (λ (ps : List ℕ). places_in u d k ≡ take (length (places_in u d k)) (ps ++ take (figures_on t f cmd).need (reusable_blocks u.books))) (places_same k) (h.placed k);
   })
 
+  enough_before : (figures_on s f cmd).need ≤ length (reusable_blocks s.books) → (figures_on t f cmd).need ≤ length (reusable_blocks t.books)
+  enough_before enough = subst (λ (n : Figures). n.need ≤ length (reusable_blocks t.books)) (sym figures_same) (subst (λ (b : Bookkeeping). (figures_on s f cmd).need ≤ length (reusable_blocks b)) (sym books) enough)
+
   right_before : (plan : Plan) → IsRight cmd plan t u f → IsRight cmd plan s u f
   right_before (Answer reply) h = record {
     answer = h.answer;
@@ -104,8 +107,7 @@ module _ (s t u : State) (f : Session) (cmd : Cmd) (books : t.books ≡ s.books)
     within = h.within;
     uses = uses_before d h.uses;
     enough = subst (λ (n : Figures). n.need ≤ length (reusable_blocks u.books)) figures_same h.enough;
-    rests = λ enough. h.rests (subst (λ (n : Figures). n.need ≤ length (reusable_blocks t.books)) (sym figures_same)
-        (subst (λ (b : Bookkeeping). (figures_on s f cmd).need ≤ length (reusable_blocks b)) (sym books) enough)) ∙ books;
+    rests = λ enough. h.rests (enough_before enough) ∙ books;
   }
 
   plan_before : (result : Result Plan Refusal) → PlanIs cmd result t u f → PlanIs cmd result s u f
@@ -114,8 +116,12 @@ module _ (s t u : State) (f : Session) (cmd : Cmd) (books : t.books ≡ s.books)
 
 pub plans_behind : (tells : Bool) (cmd : Cmd) (result : Result Plan Refusal) (s t u : State) → s.books.stopped ≡ false → LooksOnly tells false s t → (IsTrue tells → Advances s u) → Plans tells cmd result t u → Plans tells cmd result s u
 plans_behind tells cmd result s t u going looks advances plans = record {
-  is = λ told f h. plan_before s t u f cmd looks.books (looks.map told) result (plans.is told f
-      (session_stays s t f going (ap (λ (b : Bookkeeping). b.geom) looks.books) (looks.map told) (ap (λ (b : Bookkeeping). b.point) looks.books) (ap (λ (b : Bookkeeping). b.running.weight) looks.books) (omega (arith, ap (λ (b : Bookkeeping). b.floor) looks.books)) h));
+  is = λ told f h. plan_before s t u f cmd looks.books (looks.map told) result (plans.is told f (still told f h));
   going = going;
+  quiet = λ told f h enough. plans.quiet told f (still told f h) (enough_before s t u f cmd looks.books (looks.map told) enough) ∙ (looks.crash told).log;
   settles = settled_after tells (plan_fails_reading result) (plan_fails_settling result) s t u looks plans.settles advances;
 }
+  where
+    still : IsTrue tells → (f : Session) → IsSession s f → IsSession t f
+    still told f h = session_stays s t f going (ap (λ (b : Bookkeeping). b.geom) looks.books) (looks.map told) (ap (λ (b : Bookkeeping). b.point) looks.books) (ap (λ (b : Bookkeeping). b.running.weight) looks.books)
+        (omega (arith, ap (λ (b : Bookkeeping). b.floor) looks.books)) h

@@ -20,7 +20,7 @@ use Rattle.opt_files.specs.Drafts.{DraftState}
 use Rattle.opt_files.specs.Effects.{LooksOnly, LooksAndSettles}
 use Rattle.opt_fs.specs.declared.plan.Plan.{Plan}
 use Rattle.opt_fs.specs.declared.plan.Plan.TheVariants.{Answer, Change}
-use Rattle.opt_fs.specs.Commands.{figures_on, IsCutShort, IsRefusedFor, is_read_fault, is_disk_fault}
+use Rattle.opt_fs.specs.Commands.{figures_on, IsCutShort, IsQuiet, IsRefusedFor, is_read_fault, is_disk_fault}
 use Rattle.opt_fs.specs.Plans.{Plans, MakesTree, plan_fails_reading, plan_fails_settling}
 use Rattle.opt_fs.specs.Refusals.{refusal_of}
 use Rattle.opt_fs.specs.Sessions.{IsSession, inodes}
@@ -95,6 +95,10 @@ looked_after tells read_failed s t u first second advances = record {
   writes = λ told. omega (arith, ap writes_in (second.crash told).log, ap (λ (b : Bookkeeping). b.owed) second.books, first.writes told);
 }
 
+-- what was only read has no event, whatever is needed
+pub looked_quietly : (tells failed : Bool) (s t : State) (need : ℕ) → LooksOnly tells failed s t → IsTrue tells → IsQuiet need s t
+looked_quietly tells failed s t need h told enough = (h.crash told).log
+
 -- a refusal of a call on files fails a plan by a read, or by another call of the disk, where it does so itself
 fails_so : (why : FileRefusal) → plan_fails_reading {T = Plan} (Err (refusal_of why)) ≡ fails_reading {T = Plan} (Err why)
 fails_so file.ReadFault = refl
@@ -112,10 +116,12 @@ settles_so file.NoMemory = refl
 
 -- a plan whose file or directory couldn't grow
 pub growth_plan : (tells : Bool) (cmd : Cmd) (s t : State) (why : FileRefusal) → s.books.stopped ≡ false → (IsTrue tells → (f : Session) → IsSession s f → IsRefusedFor s t f cmd (refusal_of why))
+    → (IsTrue tells → (f : Session) → IsSession s f → IsQuiet (figures_on s f cmd).need s t)
     → LooksAndSettles tells (fails_reading {T = Plan} (Err why)) (fails_settling {T = Plan} (Err why)) s t → Plans tells cmd (Err (refusal_of why)) s t
-growth_plan tells cmd s t why going is settles = record {
+growth_plan tells cmd s t why going is quiet settles = record {
   is = is;
   going = going;
+  quiet = quiet;
   settles = subst (λ b. LooksAndSettles tells b (plan_fails_settling {T = Plan} (Err (refusal_of why))) s t) (sym (fails_so why))
       (subst (λ b. LooksAndSettles tells (fails_reading {T = Plan} (Err why)) b s t) (sym (settles_so why)) settles);
 }
@@ -141,6 +147,7 @@ pub cut_short_plan : (tells : Bool) (cmd : Cmd) (s t : State) (why : FileRefusal
     → Plans tells cmd (Err (refusal_of why)) s t
 cut_short_plan tells cmd s t why going refused looks advances =
     growth_plan tells cmd s t why going (λ told f h. inr (inr (inr (look_cut why refused))))
+    (λ told f h. looked_quietly tells (fails_reading {T = Plan} (Err why)) s t (figures_on s f cmd).need looks told)
     (subst (λ b. LooksAndSettles tells (fails_reading {T = Plan} (Err why)) b s t) (sym (quiet_settling why refused)) (looked tells (fails_reading {T = Plan} (Err why)) s t going looks advances))
 
 -- a plan that answers the tree's own refusal, found by reads alone
@@ -149,6 +156,7 @@ pub refusal_plan : (tells : Bool) (cmd : Cmd) (s t : State) (why : Refusal) → 
 refusal_plan tells cmd s t why going sound refuses looks advances = record {
   is = λ told f h. tree_refuses s t f cmd why sound looks.books (refuses told f h);
   going = going;
+  quiet = λ told f h. looked_quietly tells false s t (figures_on s f cmd).need looks told;
   settles = looked tells false s t going looks advances;
 }
 
@@ -165,6 +173,7 @@ pub done_plan : (tells : Bool) (cmd : Cmd) (s t : State) → s.books.stopped ≡
 done_plan tells cmd s t going sound stays looks advances = record {
   is = λ told f h. tree_stays s t f cmd sound looks.books (stays told f h).0 (stays told f h).1;
   going = going;
+  quiet = λ told f h. looked_quietly tells false s t (figures_on s f cmd).need looks told;
   settles = looked tells false s t going looks advances;
 }
 
@@ -174,6 +183,7 @@ pub looked_change : (tells : Bool) (cmd : Cmd) (s t : State) (d : DraftState) (c
 looked_change tells cmd s t d cost first going makes looks advances = record {
   is = makes;
   going = going;
+  quiet = λ told f h. looked_quietly tells false s t (figures_on s f cmd).need looks told;
   settles = looked tells false s t going looks advances;
 }
 
@@ -183,6 +193,7 @@ pub room_plan : (tells : Bool) (cmd : Cmd) (s t : State) (why : Refusal) → s.b
 room_plan tells cmd s t why going reads disk is looks advances = record {
   is = is;
   going = going;
+  quiet = λ told f h. looked_quietly tells false s t (figures_on s f cmd).need looks told;
   settles = subst (λ b. LooksAndSettles tells b (plan_fails_settling {T = Plan} (Err why)) s t) (sym reads) (subst (λ b. LooksAndSettles tells false b s t) (sym disk) (looked tells false s t going looks advances));
 }
 

@@ -19,7 +19,7 @@ use Rattle.opt_fs.specs.Commands.{figures_on}
 use Rattle.opt_fs.specs.Plans.{Plans, answer_of}
 use Rattle.opt_fs.specs.Sessions.{IsSession}
 use Rattle.opt_fs.proofs.planning.Answers.{room_for_nothing, runs_for_nothing}
-use Rattle.opt_fs.proofs.planning.Looking.{looked, cut_short_plan}
+use Rattle.opt_fs.proofs.planning.Looking.{looked, looked_quietly, cut_short_plan}
 
 -- The command leaves each session as it is, and takes nothing.
 pub record Looks (cmd : Cmd) : Type 0 where
@@ -60,6 +60,7 @@ look_plan tells cmd s t (Ok reply) looks going sound answer refused only advance
     books = only.books;
   };
   going = going;
+  quiet = λ told f h. looked_quietly tells false s t (figures_on s f cmd).need only told;
   settles = looked tells false s t going only advances;
 }
 look_plan tells cmd s t (Err why) looks going sound answer refused only advances = cut_short_plan tells cmd s t why going refused only advances

@@ -1,15 +1,16 @@
 -- Whether what stands under a name may go, from what its path comes to.
-use Rattle.std.proofs.Common.{◌≡◌, ◌≢◌, ℕ, Bool, IsTrue, List, [], ◌∷◌, ◌++◌, Option, None, Some, IfSome, Result, Ok, sym, subst, ◌∙◌}
+use Rattle.std.proofs.Common.{◌≡◌, ◌≢◌, ◌≤◌, ℕ, Bool, IsTrue, List, [], ◌∷◌, ◌++◌, length, Option, None, Some, IfSome, Result, Ok, sym, subst, ◌∙◌}
 use Rattle.opt_tree.specs.declared.command.Cmd.{Cmd}
 use Rattle.opt_tree.specs.declared.command.Kind.{Kind}
 use Rattle.opt_tree.specs.declared.command.Refusal.{Refusal}
 use Rattle.opt_stands.specs.Files.{Files}
 use Rattle.opt_stands.specs.Inodes.{Inodes, inodes_of}
 use Rattle.opt_inodes.specs.Lookups.{walk_on}
-use Rattle.opt_blocks.specs.State.{State}
+use Rattle.opt_blocks.specs.State.{State, reusable_blocks}
 use Rattle.opt_fs.specs.declared.paths.Entry.{Entry}
 use Rattle.opt_fs.specs.declared.paths.Spot.TheVariants.{Inside}
 use Rattle.opt_fs.specs.declared.plan.Plan.{Plan}
+use Rattle.opt_fs.specs.Commands.{figures_on}
 use Rattle.opt_fs.specs.Looks.{ComesTo, ShowsFacts, entry_number}
 use Rattle.opt_fs.specs.Plans.{Plans, PlanIs}
 use Rattle.opt_fs.specs.Removing.{IsLoss, MayLose}
@@ -41,5 +42,6 @@ pub plans_as : (tells : Bool) (cmd other : Cmd) (result : Result Plan Refusal) (
 plans_as tells cmd other result s t same plans = record {
   is = λ told f h. subst (λ (c : Cmd). PlanIs c result s t f) (same told) (plans.is told f h);
   going = plans.going;
+  quiet = λ told f h enough. plans.quiet told f h (subst (λ (c : Cmd). (figures_on s f c).need ≤ length (reusable_blocks s.books)) (sym (same told)) enough);
   settles = plans.settles;
 }

@@ -37,6 +37,14 @@ kept_same p q a n more long = by (fewer_or_same p q a n more)
     by (inl few) = absurd (omega (arith, few, long))
     by (inr same) = same
 
+-- and one that passes no fewer keeps as many or more
+pub as_many_kept : (p q : ℕ → Bool) (a n : ℕ) → ((b : ℕ) → a ≤ b → b < a + n → p b ≡ true → q b ≡ true) → counted p a n ≤ counted q a n
+as_many_kept p q a n more = by (fewer_or_same p q a n more)
+  where
+    by : (counted p a n < counted q a n) ⊎ (filter p (range_with_len a n) ≡ filter q (range_with_len a n)) → counted p a n ≤ counted q a n
+    by (inl few) = omega (arith, few)
+    by (inr same) = omega (arith, ap (λ (xs : List ℕ). length xs) same)
+
 -- a test that all pass keeps all
 pub all_kept : (a n : ℕ) → filter (λ b. true) (range_with_len a n) ≡ range_with_len a n
 all_kept a zero = refl

@@ -1,6 +1,7 @@
 -- What a sync makes of the session: a point where something changed, and nothing where nothing did.
 use Rattle.std.proofs.lemmas.Bool.{ltb-true, ltb-false, eq-eqb, ne_eqb, cond-true, cond-false, cases_eq, true≢false, false≢true}
 use Rattle.std.proofs.Common.{◌≡◌, ◌≢◌, ◌⊎◌, inl, inr, ℕ, ◌+◌, ◌^◌, ◌≤◌, ◌<◌, ◌==◌, nat_lt, Bool, true, false, IsTrue, zero, suc, is_err, Result, Ok, Err, refl, sym, subst, ap, ◌∙◌, arith}
+use Rattle.opt_disk.specs.Disk.{GrowsByWrites}
 use Rattle.opt_geom.specs.Geometry.{Geometry}
 use Rattle.opt_tree.specs.declared.command.Cmd.{Cmd}
 use Rattle.opt_tree.specs.declared.command.Cmd.TheVariants.{Osync, Dsync}
@@ -11,14 +12,16 @@ use Rattle.opt_tree.specs.declared.command.Reply.TheVariants.{Synced, DurableAt}
 use Rattle.opt_tree.specs.Step.{Session, step, next_point, osync}
 use Rattle.opt_blocks.specs.Running.{Running, nothing_running}
 use Rattle.opt_blocks.specs.State.{Bookkeeping, State}
-use Rattle.opt_blocks.specs.Calls.{if_changed, IsAfterSync, OnNoMemory, commit_places}
-use Rattle.opt_blocks.specs.Effects.{Syncs}
+use Rattle.opt_blocks.specs.Calls.{if_changed, IsAfterSync, OnNoMemory}
+use Rattle.opt_blocks.specs.Crashes.{HearsRecords}
+use Rattle.opt_blocks.specs.Effects.{FitsRing, Syncs}
 use Rattle.opt_blocks.specs.declared.refusals.SyncRefusal.{SyncRefusal}
 use Rattle.opt_blocks.specs.declared.refusals.SyncRefusal.TheVariants as sync
 use Rattle.opt_files.specs.Finish.{MayGoOn}
 use Rattle.opt_fs.specs.Commands.{is_disk_fault}
 use Rattle.opt_fs.specs.Sessions.{IsSession, IsBetween}
 use Rattle.opt_fs.specs.Syncs.{SyncsSession, refusal_of_sync}
+use Rattle.opt_fs.proofs.Logs.{heard_same}
 use Rattle.opt_fs.proofs.carrying.Staying.{tree_stays, session_stays, between_stays}
 
 changed_is : {T : Type 0} (r : Running) (x y : T) → 0 < r.weight → if_changed r x y ≡ x
@@ -107,10 +110,31 @@ some_weighed : (w : ℕ) → (w ≡ 0 → ⊥) → 0 < w
 some_weighed zero none = absurd (none refl)
 some_weighed (suc w) none = omega arith
 
+-- How long a sync waits, and for what, where its record fits the free ring places.
+pub record Waits (tells orders : Bool) (s t : State) : Type 0 where
+  pub order : IsTrue orders → FitsRing s.books → t.counts.waits ≡ s.counts.waits
+  pub alone : IsTrue tells → IsTrue orders → FitsRing s.books → GrowsByWrites s.crash.log t.crash.log
+  pub records : IsTrue tells → s.counts.ticks.manner.waits_alone ≡ true → FitsRing s.books → HearsRecords s t
+
+-- one that only orders has no notice
+pub orders_so : (tells : Bool) (s t : State) → (FitsRing s.books → t.counts.waits ≡ s.counts.waits) → (IsTrue tells → FitsRing s.books → GrowsByWrites s.crash.log t.crash.log) → Waits tells true s t
+orders_so tells s t order writes = record {
+  order = λ orders. order;
+  alone = λ told orders. writes told;
+  records = λ told alone fits n noticed. let w = writes told fits in inl (subst IsTrue (heard_same n s.crash.log t.crash.log w) noticed);
+}
+
+-- one that waits may do so for records alone
+pub waits_so : (tells : Bool) (s t : State) → (IsTrue tells → s.counts.ticks.manner.waits_alone ≡ true → FitsRing s.books → HearsRecords s t) → Waits tells false s t
+waits_so tells s t records = record {
+  order = λ orders. absurd (false≢true orders);
+  alone = λ told orders. absurd (false≢true orders);
+  records = records;
+}
+
 -- A sync that was refused, as its session sees it. Of nothing it isn't out of memory.
-pub refused_session : (tells orders : Bool) (cmd : Cmd) (s t : State) (why : SyncRefusal) → s.books.stopped ≡ false → Syncs tells (Err why) s t → (s.books.running.weight ≡ 0 → OnNoMemory {T = ℕ} (Err why) ⊥) → (IsTrue orders → commit_places s.books ≤ s.books.free_places → t.counts.waits ≡ s.counts.waits)
-    → SyncsSession tells orders cmd (Err (refusal_of_sync why)) s t
-refused_session tells orders cmd s t sync.DiskFault going syncs idle order = record {
+pub refused_session : (tells orders : Bool) (cmd : Cmd) (s t : State) (why : SyncRefusal) → s.books.stopped ≡ false → Syncs tells (Err why) s t → (s.books.running.weight ≡ 0 → OnNoMemory {T = ℕ} (Err why) ⊥) → Waits tells orders s t → SyncsSession tells orders cmd (Err (refusal_of_sync why)) s t
+refused_session tells orders cmd s t sync.DiskFault going syncs idle waits = record {
   done = λ told. tt;
   kept = λ told f h. sync_refused tells s t f sync.DiskFault told going syncs h;
   refused = inl refl;
@@ -124,12 +148,15 @@ refused_session tells orders cmd s t sync.DiskFault going syncs idle order = rec
   point = λ not. syncs.after.point;
   map = syncs.map;
   ticks = syncs.ticks;
-  order = order;
+  order = waits.order;
+  alone = waits.alone;
+  waits = waits.records;
+  free_places = tt;
   crash = syncs.crash;
   made = syncs.made;
   writes = syncs.writes;
 }
-refused_session tells orders cmd s t sync.NoMemory going syncs idle order = record {
+refused_session tells orders cmd s t sync.NoMemory going syncs idle waits = record {
   done = λ told. tt;
   kept = λ told f h. sync_refused tells s t f sync.NoMemory told going syncs h;
   refused = inr refl;
@@ -143,16 +170,18 @@ refused_session tells orders cmd s t sync.NoMemory going syncs idle order = reco
   point = λ not. absurd (not refl);
   map = syncs.map;
   ticks = syncs.ticks;
-  order = order;
+  order = waits.order;
+  alone = waits.alone;
+  waits = waits.records;
+  free_places = tt;
   crash = syncs.crash;
   made = syncs.made;
   writes = syncs.writes;
 }
 
 -- A sync that was done, as its session sees it.
-pub synced_session : (tells : Bool) (s t : State) (p : ℕ) → s.books.stopped ≡ false → Syncs tells (Ok p) s t → p < 2 ^ 64 → (commit_places s.books ≤ s.books.free_places → t.counts.waits ≡ s.counts.waits)
-    → SyncsSession tells true Osync (Ok (Synced p)) s t
-synced_session tells s t p going syncs low order = record {
+pub synced_session : (tells : Bool) (s t : State) (p : ℕ) → s.books.stopped ≡ false → Syncs tells (Ok p) s t → p < 2 ^ 64 → Waits tells true s t → SyncsSession tells true Osync (Ok (Synced p)) s t
+synced_session tells s t p going syncs low waits = record {
   done = λ told f h. synced tells s t f p told going syncs low h;
   kept = λ told. tt;
   refused = tt;
@@ -166,14 +195,17 @@ synced_session tells s t p going syncs low order = record {
   point = λ not. syncs.after.point;
   map = syncs.map;
   ticks = syncs.ticks;
-  order = λ orders. order;
+  order = waits.order;
+  alone = waits.alone;
+  waits = waits.records;
+  free_places = syncs.ends.free_places;
   crash = syncs.crash;
   made = syncs.made;
   writes = syncs.writes;
 }
 
-pub dsynced_session : (tells : Bool) (s t : State) (p : ℕ) → s.books.stopped ≡ false → Syncs tells (Ok p) s t → p < 2 ^ 64 → t.books.floor ≡ t.books.point → SyncsSession tells false Dsync (Ok (DurableAt p)) s t
-dsynced_session tells s t p going syncs low floor = record {
+pub dsynced_session : (tells : Bool) (s t : State) (p : ℕ) → s.books.stopped ≡ false → Syncs tells (Ok p) s t → p < 2 ^ 64 → t.books.floor ≡ t.books.point → Waits tells false s t → SyncsSession tells false Dsync (Ok (DurableAt p)) s t
+dsynced_session tells s t p going syncs low floor waits = record {
   done = λ told f h. dsynced tells s t f p told going syncs low h floor syncs.disk.stopped;
   kept = λ told. tt;
   refused = tt;
@@ -187,7 +219,10 @@ dsynced_session tells s t p going syncs low floor = record {
   point = λ not. syncs.after.point;
   map = syncs.map;
   ticks = syncs.ticks;
-  order = λ orders. absurd (false≢true orders);
+  order = waits.order;
+  alone = waits.alone;
+  waits = waits.records;
+  free_places = syncs.ends.free_places;
   crash = syncs.crash;
   made = syncs.made;
   writes = syncs.writes;

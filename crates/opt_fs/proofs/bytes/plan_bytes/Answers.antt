@@ -7,12 +7,14 @@ use Rattle.opt_stands.specs.Files.{FileNode}
 use Rattle.opt_inodes.specs.Lookups.{bytes_of}
 use Rattle.opt_files.specs.Bytes.{overwritten}
 use Rattle.opt_files.specs.Calls.{IsWithFile, IsWithPlaces, ChangesAmong, Grows, GrowthRefused, files_in, places_in, growth, with_bytes, written_blocks}
+use Rattle.opt_files.specs.Content.{fails_reading}
 use Rattle.opt_files.specs.Drafts.{nothing_drafted}
 use Rattle.opt_files.specs.Effects.{LooksOnly}
 use Rattle.opt_files.specs.Sound.{IsDraftOf}
 use Rattle.opt_dirs.specs.Directories.{inodes_in}
 use Rattle.opt_fs.specs.Commands.{places_of}
 use Rattle.opt_fs.specs.Plans.{Plans}
+use Rattle.opt_fs.specs.declared.plan.Plan.{Plan}
 use Rattle.opt_fs.proofs.growing.Refused.{growth_refused}
 use Rattle.opt_fs.proofs.planning.Looking.{growth_plan}
 use Rattle.opt_fs.proofs.writing.Puts.{puts_so}
@@ -71,6 +73,20 @@ returns-in-Ok-clause-plans g c = λ cmd path may. record {
       puts_tree s t f cmd path c.args.offset c.args.number c.args.cost c.args.bytes.now x.0 d g.S.Blocks.tells false false h so weighed map leads x.1 x.2 c.requires.some holds count division small
       c.in-Ok.ensures.settles (λ enough. (rests enough).books) with (all_read (files_in s nothing_drafted) h.tree.inodes h.tree.read) grows among placed.others;
   going = c.requires.may.begin.going;
+  quiet = λ told f h enough.
+      let s = g.S.Blocks.state c.args.blocks.now in
+      let t = g.S.Blocks.state c.write_at.new.blocks in
+      let x = c.requires.file told in
+      let map = c.blocks_have_the_map_of_their_tree.ensures.map s.books.geom s.map f.tree h.tree in
+      let leads = c.walks_are_the_same.ensures.ends (inodes_in s nothing_drafted) path c.args.number (may.walk told) in
+      let at = c.the_node_at_a_path_gives_the_inode.ensures.inode (files_in s nothing_drafted) path c.args.number x.0 leads x.1 in
+      let holds = c.paths_lead_to_inodes.ensures.bytes s.books.geom.i (inodes_in s nothing_drafted) f.tree path map ∙ ap bytes_of at ∙ file_bytes x.0 x.2 in
+      let so = puts_so cmd path c.args.offset c.args.bytes.now may.puts c.new_bytes_are_mapped.ensures.write c.new_bytes_are_mapped.ensures.fill in
+      let count = c.a_file_has_its_blocks.ensures c.args.blocks.now nothing_drafted c.args.number x.0 told (c.a_draft_begins.ensures.draft c.requires.may.begin.none_bare c.requires.may.begin.sound) x.1 in
+      let need = need_is s t f cmd path c.args.offset c.args.number c.args.cost c.args.bytes.now x.0 c.write_at.new.self g.S.Blocks.tells false false h so (may.weighed told f h) map leads x.1 x.2 c.requires.some holds count c.touched_blocks_are_counted_by_division.ensures c.small_drafts_are_within_the_cost.ensures.writing in
+      let looks = moved_to (λ d n. (x : FileNode) → files_in s d c.args.number ≡ Some x → growth (length x.bytes) (n + length c.args.bytes.now) ≤ length (reusable_blocks s.books) → LooksOnly g.S.Blocks.tells false s t)
+      c.new-draft.result nothing_drafted c.from.result c.args.offset c.new-draft.ensures c.from.ensures (c.in-Ok.ensures.looks told) x.0 x.1 in
+      ((looks (omega (arith, enough, need))).crash told).log;
   settles = c.in-Ok.ensures.settles;
 }
 
@@ -94,4 +110,17 @@ returns-in-Err-clause-plans g c = λ cmd path may.
     let refused = moved_to (λ d n. (x : FileNode) → files_in s d c.args.number ≡ Some x → GrowthRefused (growth (length x.bytes) (n + length c.args.bytes.now)) (places_in s d c.args.number) s.books t.books why)
     c.new-draft.result nothing_drafted c.from.result c.args.offset c.new-draft.ensures c.from.ensures (c.in-Err.ensures.refused told) x.0 x.1 in
     growth_refused s t f cmd c.args.number (g.met.S.Blocks.is_sound c.write_at.new.blocks) c.in-Err.ensures.settles.pipeline (subst (λ (g : Geometry). g.n ≤ 1048576) c.geom.ensures c.lawful.ensures.limits.most_blocks) weighed.accepted weighed.room (so.grown (inodes_in s nothing_drafted) ∙ leads) (omega (arith, count, fits)) why
-    (subst (λ n. GrowthRefused n (places_of s c.args.number) s.books t.books why) (sym need) refused)) c.in-Err.ensures.settles)
+    (subst (λ n. GrowthRefused n (places_of s c.args.number) s.books t.books why) (sym need) refused))
+    (λ told f h enough.
+    let x = c.requires.file told in
+    let map = c.blocks_have_the_map_of_their_tree.ensures.map s.books.geom s.map f.tree h.tree in
+    let leads = c.walks_are_the_same.ensures.ends (inodes_in s nothing_drafted) path c.args.number (may.walk told) in
+    let at = c.the_node_at_a_path_gives_the_inode.ensures.inode (files_in s nothing_drafted) path c.args.number x.0 leads x.1 in
+    let holds = c.paths_lead_to_inodes.ensures.bytes s.books.geom.i (inodes_in s nothing_drafted) f.tree path map ∙ ap bytes_of at ∙ file_bytes x.0 x.2 in
+    let so = puts_so cmd path c.args.offset c.args.bytes.now may.puts c.new_bytes_are_mapped.ensures.write c.new_bytes_are_mapped.ensures.fill in
+    let count = c.a_file_has_its_blocks.ensures c.args.blocks.now nothing_drafted c.args.number x.0 told (c.a_draft_begins.ensures.draft c.requires.may.begin.none_bare c.requires.may.begin.sound) x.1 in
+    let need = need_is s t f cmd path c.args.offset c.args.number c.args.cost c.args.bytes.now x.0 c.write_at.new.self g.S.Blocks.tells false false h so (may.weighed told f h) map leads x.1 x.2 c.requires.some holds count c.touched_blocks_are_counted_by_division.ensures c.small_drafts_are_within_the_cost.ensures.writing in
+    let looks = moved_to (λ d n. (x : FileNode) → files_in s d c.args.number ≡ Some x → growth (length x.bytes) (n + length c.args.bytes.now) ≤ length (reusable_blocks s.books) → LooksOnly g.S.Blocks.tells (fails_reading {T = Plan} (Err why)) s t)
+    c.new-draft.result nothing_drafted c.from.result c.args.offset c.new-draft.ensures c.from.ensures (c.in-Err.ensures.looks told) x.0 x.1 in
+    ((looks (omega (arith, enough, need))).crash told).log)
+    c.in-Err.ensures.settles)

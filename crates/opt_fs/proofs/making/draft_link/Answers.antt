@@ -77,3 +77,18 @@ returns-in-Ok-set_links-clause-names g c = λ told t slots before bytes h here a
     (placed_kept (places_in mid d) (places_in new e) node [] (c.in-Ok-set_links.ensures.places told)) (c.in-Ok.ensures.room told slots at_first)
     (subst (λ b. inodes_in s b c.args.dir ≡ Some (ADir slots) → stretches (places_in s b c.args.dir ++ take (growth (length slots)) (reusable_blocks mid.books)) ≤ 28) c.new-draft.ensures (c.in-Ok.ensures.runs told slots) at)
     c.alterations_add_up.ensures.both c.alterations_add_up.ensures.price c.files_have_one_map.ensures.read
+
+pub returns-in-Err-clause-quiet : goal.returns-in-Err-clause-quiet
+returns-in-Err-clause-quiet g c = λ told slots at enough.
+    let s = g.S.Blocks.state c.args.blocks.now in
+    ((c.in-Err.ensures.looks told slots (subst (λ d. inodes_in s d c.args.dir ≡ Some (ADir slots)) (sym c.new-draft.ensures) at) enough).crash told).log
+
+pub returns-in-Ok-set_links-clause-quiet : goal.returns-in-Ok-set_links-clause-quiet
+returns-in-Ok-set_links-clause-quiet g c = λ told slots at enough.
+    let s = g.S.Blocks.state c.args.blocks.now in
+    (c.in-Ok-set_links.ensures.looks.crash told).log ∙ ((c.in-Ok.ensures.looks told slots (subst (λ d. inodes_in s d c.args.dir ≡ Some (ADir slots)) (sym c.new-draft.ensures) at) enough).crash told).log
+
+pub returns-in-Err-set_links-clause-quiet : goal.returns-in-Err-set_links-clause-quiet
+returns-in-Err-set_links-clause-quiet g c = λ told slots at enough.
+    let s = g.S.Blocks.state c.args.blocks.now in
+    (c.in-Err-set_links.ensures.looks.crash told).log ∙ ((c.in-Ok.ensures.looks told slots (subst (λ d. inodes_in s d c.args.dir ≡ Some (ADir slots)) (sym c.new-draft.ensures) at) enough).crash told).log

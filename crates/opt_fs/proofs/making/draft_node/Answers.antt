@@ -87,3 +87,18 @@ returns-in-Err-new_node-clause-settles g c =
     (looked_after g.S.Blocks.tells (fails_reading {T = DraftState} (Err c.in-Err-new_node.why)) s (g.S.Blocks.state c.add_slot.new.blocks) new c.in-Ok.ensures.settles looks
     (λ told. c.calls_compose.ensures.advances c.args.blocks.now c.add_slot.new.blocks c.new_node.new.blocks (c.in-Ok.ensures.settles.crash told)
     (c.calls_compose.ensures.rests told c.add_slot.new.blocks c.new_node.new.blocks (ap (λ (b : Bookkeeping). b.point) looks.books) (ap (λ (b : Bookkeeping). b.floor) looks.books) (looks.crash told))))
+
+pub returns-in-Err-clause-quiet : goal.returns-in-Err-clause-quiet
+returns-in-Err-clause-quiet g c = λ told slots at enough.
+    let s = g.S.Blocks.state c.args.blocks.now in
+    ((c.in-Err.ensures.looks told slots (subst (λ d. inodes_in s d c.args.dir ≡ Some (ADir slots)) (sym c.new-draft.ensures) at) enough).crash told).log
+
+pub returns-in-Ok-new_node-clause-quiet : goal.returns-in-Ok-new_node-clause-quiet
+returns-in-Ok-new_node-clause-quiet g c = λ told slots at enough.
+    let s = g.S.Blocks.state c.args.blocks.now in
+    (c.in-Ok-new_node.ensures.looks.crash told).log ∙ ((c.in-Ok.ensures.looks told slots (subst (λ d. inodes_in s d c.args.dir ≡ Some (ADir slots)) (sym c.new-draft.ensures) at) enough).crash told).log
+
+pub returns-in-Err-new_node-clause-quiet : goal.returns-in-Err-new_node-clause-quiet
+returns-in-Err-new_node-clause-quiet g c = λ told slots at enough.
+    let s = g.S.Blocks.state c.args.blocks.now in
+    (c.in-Err-new_node.ensures.looks.crash told).log ∙ ((c.in-Ok.ensures.looks told slots (subst (λ d. inodes_in s d c.args.dir ≡ Some (ADir slots)) (sym c.new-draft.ensures) at) enough).crash told).log

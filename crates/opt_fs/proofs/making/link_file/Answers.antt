@@ -24,7 +24,7 @@ returns-in-Ok-draft_link-clause-plans g c = λ cmd may.
     let slot = c.args.slot.now in
     let d = c.in-Ok-draft_link.draft in
     named_plan g.S.Blocks.tells cmd s new v.dir v.count (value_of c.new_name_figures-figures.result) c.requires.may.begin.going (c.new_name_figures-figures.ensures.value ∙ ap (λ n. adding (growth n)) c.from.ensures)
-    c.in-Ok.ensures.room (λ told f h. (may told f h).accepts) d c.args.first_unused c.in-Ok-draft_link.ensures.settles
+    c.in-Ok.ensures.room (λ told f h. (may told f h).accepts) c.in-Ok-draft_link.ensures.quiet d c.args.first_unused c.in-Ok-draft_link.ensures.settles
     (λ told f h.
     let m = may told f h in
     let adds = c.in-Ok-draft_link.ensures.names told f.tree m.accepts.slots m.before m.bytes h.tree m.file m.accepts.is_dir in
@@ -47,5 +47,5 @@ returns-in-Err-draft_link-clause-plans g c = λ cmd may.
     let v = c.args.vacancy.now in
     subst (λ why. Plans g.S.Blocks.tells cmd (Err why) s new) (sym c.refusal_of.ensures)
     (name_refused g.S.Blocks.tells cmd s new v.dir v.count (value_of c.new_name_figures-figures.result) c.requires.may.begin.going (c.new_name_figures-figures.ensures.value ∙ ap (λ n. adding (growth n)) c.from.ensures)
-    c.in-Ok.ensures.room (λ told f h. (may told f h).accepts)
+    c.in-Ok.ensures.room (λ told f h. (may told f h).accepts) c.in-Err-draft_link.ensures.quiet
     (g.met.S.Blocks.is_sound c.draft_link.new.blocks) c.a_disk_is_small.ensures.disk (λ told. c.a_disk_is_small.ensures.places told c.requires.may.begin v.dir) c.in-Err-draft_link.why c.in-Err-draft_link.ensures.settles c.in-Err-draft_link.ensures.refused)

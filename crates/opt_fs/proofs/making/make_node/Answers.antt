@@ -34,7 +34,7 @@ returns-in-Ok-draft_node-clause-plans g c = λ path appears least.
     let accepts : IsTrue g.S.Blocks.tells → (f : Session) → IsSession s f → AcceptsName s f (make_cmd c.args.kind path) v.dir v.count =
     λ told f h. c.the_tree_makes_nodes.ensures.accepted c.args.blocks.now f c.args.kind path v node h (appears told) (least told) in
     named_plan g.S.Blocks.tells (make_cmd c.args.kind path) s new v.dir v.count (value_of c.new_name_figures-figures.result) c.requires.may.begin.going (c.new_name_figures-figures.ensures.value ∙ ap (λ n. adding (growth n)) c.from.ensures)
-    c.in-Ok.ensures.room accepts d (node + 1) c.in-Ok-draft_node.ensures.settles
+    c.in-Ok.ensures.room accepts c.in-Ok-draft_node.ensures.quiet d (node + 1) c.in-Ok-draft_node.ensures.settles
     (λ told f h.
     let slots = (accepts told f h).slots in
     let adds : AddsName s new d v.dir node v.name (new_inode (first_thing c.args.kind)) slots = subst (λ name. AddsName s new d v.dir node name (new_inode (first_thing c.args.kind)) slots) c.copy.ensures
@@ -64,5 +64,5 @@ returns-in-Err-draft_node-clause-plans g c = λ path appears least.
     let v = c.args.vacancy.now in
     subst (λ why. Plans g.S.Blocks.tells (make_cmd c.args.kind path) (Err why) s new) (sym c.refusal_of.ensures)
     (name_refused g.S.Blocks.tells (make_cmd c.args.kind path) s new v.dir v.count (value_of c.new_name_figures-figures.result) c.requires.may.begin.going (c.new_name_figures-figures.ensures.value ∙ ap (λ n. adding (growth n)) c.from.ensures)
-    c.in-Ok.ensures.room (λ told f h. c.the_tree_makes_nodes.ensures.accepted c.args.blocks.now f c.args.kind path v c.args.node h (appears told) (least told))
+    c.in-Ok.ensures.room (λ told f h. c.the_tree_makes_nodes.ensures.accepted c.args.blocks.now f c.args.kind path v c.args.node h (appears told) (least told)) c.in-Err-draft_node.ensures.quiet
     (g.met.S.Blocks.is_sound c.draft_node.new.blocks) c.a_disk_is_small.ensures.disk (λ told. c.a_disk_is_small.ensures.places told c.requires.may.begin v.dir) c.in-Err-draft_node.why c.in-Err-draft_node.ensures.settles c.in-Err-draft_node.ensures.refused)

@@ -112,3 +112,21 @@ returns-in-Ok-take_slot-clause-moves g c = λ told count name may.
       placed = subst (λ (k : Bookkeeping). ArePlaced p0 p2 (take (growth count) (reusable_blocks k))) (sym c.in-Ok-take_slot.ensures.looks.books) placed;
       used = used_across f0 f1 f2 c.args.source.now c.args.into count name c.args.other.now may.from may.into may.apart named two;
     }
+
+pub returns-in-Err-clause-quiet : goal.returns-in-Err-clause-quiet
+returns-in-Err-clause-quiet g c = λ told count name may enough.
+    let s = g.S.Blocks.state c.args.blocks.now in
+    let at = ap (λ d. inodes_in s d c.args.into) c.new-draft.ensures ∙ may.into.dir_is in
+    ((c.in-Err.ensures.looks told may.into.slots at (subst (λ n. growth n ≤ length (reusable_blocks s.books)) may.into.many_are enough)).crash told).log
+
+pub returns-in-Ok-take_slot-clause-quiet : goal.returns-in-Ok-take_slot-clause-quiet
+returns-in-Ok-take_slot-clause-quiet g c = λ told count name may enough.
+    let s = g.S.Blocks.state c.args.blocks.now in
+    let at = ap (λ d. inodes_in s d c.args.into) c.new-draft.ensures ∙ may.into.dir_is in
+    (c.in-Ok-take_slot.ensures.looks.crash told).log ∙ ((c.in-Ok.ensures.looks told may.into.slots at (subst (λ n. growth n ≤ length (reusable_blocks s.books)) may.into.many_are enough)).crash told).log
+
+pub returns-in-Err-take_slot-clause-quiet : goal.returns-in-Err-take_slot-clause-quiet
+returns-in-Err-take_slot-clause-quiet g c = λ told count name may enough.
+    let s = g.S.Blocks.state c.args.blocks.now in
+    let at = ap (λ d. inodes_in s d c.args.into) c.new-draft.ensures ∙ may.into.dir_is in
+    (c.in-Err-take_slot.ensures.looks.crash told).log ∙ ((c.in-Ok.ensures.looks told may.into.slots at (subst (λ n. growth n ≤ length (reusable_blocks s.books)) may.into.many_are enough)).crash told).log

@@ -9,11 +9,13 @@ use Rattle.opt_stands.specs.Files.{FileNode}
 use Rattle.opt_inodes.specs.Lookups.{bytes_of}
 use Rattle.opt_files.specs.Bytes.{blocks_for}
 use Rattle.opt_files.specs.Calls.{IsWithFile, IsWithPlaces, IsUsed, Resizes, GrowthRefused, files_in, places_in, growth, with_bytes}
+use Rattle.opt_files.specs.Content.{fails_reading}
 use Rattle.opt_files.specs.Drafts.{nothing_drafted}
 use Rattle.opt_files.specs.Effects.{LooksOnly}
 use Rattle.opt_dirs.specs.Directories.{inodes_in}
 use Rattle.opt_fs.specs.Commands.{places_of}
 use Rattle.opt_fs.specs.Plans.{Plans}
+use Rattle.opt_fs.specs.declared.plan.Plan.{Plan}
 use Rattle.opt_fs.proofs.growing.Refused.{growth_refused}
 use Rattle.opt_fs.proofs.planning.Looking.{growth_plan}
 use Rattle.opt_fs.proofs.sizing.Resized.{need_is, resized_tree, within_cost}
@@ -68,6 +70,18 @@ returns-in-Ok-clause-plans g c = λ path may. record {
       resized_tree s t f path c.args.number c.args.size c.args.cost x.0 weighed holds other d g.S.Blocks.tells false false c.in-Ok.ensures.settles resizes (λ enough. (rests enough).books) x.2 count
       h map leads x.1 (all_read (files_in s nothing_drafted) h.tree.inodes h.tree.read) with c.new_bytes_are_mapped.ensures.truncate within placed.others;
   going = c.requires.may.begin.going;
+  quiet = λ told f h enough.
+      let s = g.S.Blocks.state c.args.blocks.now in
+      let t = g.S.Blocks.state c.resize.new.blocks in
+      let x = c.requires.file told in
+      let map = c.blocks_have_the_map_of_their_tree.ensures.map s.books.geom s.map f.tree h.tree in
+      let leads = c.walks_are_the_same.ensures.ends (inodes_in s nothing_drafted) path c.args.number (may.walk told) in
+      let at = c.the_node_at_a_path_gives_the_inode.ensures.inode (files_in s nothing_drafted) path c.args.number x.0 leads x.1 in
+      let holds = c.paths_lead_to_inodes.ensures.bytes s.books.geom.i (inodes_in s nothing_drafted) f.tree path map ∙ ap bytes_of at ∙ file_bytes x.0 x.2 in
+      let need = need_is s t f path c.args.number c.args.size c.args.cost x.0 (may.weighed told f h) holds (may.other told x.0 x.1) in
+      let looks = moved_to (λ d n. (x : FileNode) → files_in s d c.args.number ≡ Some x → growth (length x.bytes) n ≤ length (reusable_blocks s.books) → LooksOnly g.S.Blocks.tells false s t)
+      c.new-draft.result nothing_drafted c.from.result c.args.size c.new-draft.ensures c.from.ensures (c.in-Ok.ensures.looks told) x.0 x.1 in
+      ((looks (omega (arith, enough, need))).crash told).log;
   settles = c.in-Ok.ensures.settles;
 }
 
@@ -90,4 +104,15 @@ returns-in-Err-clause-plans g c = λ path may.
     let refused = moved_to (λ d n. (x : FileNode) → files_in s d c.args.number ≡ Some x → GrowthRefused (growth (length x.bytes) n) (places_in s d c.args.number) s.books t.books why)
     c.new-draft.result nothing_drafted c.from.result c.args.size c.new-draft.ensures c.from.ensures (c.in-Err.ensures.refused told) x.0 x.1 in
     growth_refused s t f (Truncate path c.args.size) c.args.number (g.met.S.Blocks.is_sound c.resize.new.blocks) c.in-Err.ensures.settles.pipeline (subst (λ (k : Geometry). k.n ≤ 1048576) c.geom.ensures c.lawful.ensures.limits.most_blocks) weighed.accepted weighed.room leads (omega (arith, count, fits)) why
-    (subst (λ n. GrowthRefused n (places_of s c.args.number) s.books t.books why) (sym need) refused)) c.in-Err.ensures.settles)
+    (subst (λ n. GrowthRefused n (places_of s c.args.number) s.books t.books why) (sym need) refused))
+    (λ told f h enough.
+    let x = c.requires.file told in
+    let map = c.blocks_have_the_map_of_their_tree.ensures.map s.books.geom s.map f.tree h.tree in
+    let leads = c.walks_are_the_same.ensures.ends (inodes_in s nothing_drafted) path c.args.number (may.walk told) in
+    let at = c.the_node_at_a_path_gives_the_inode.ensures.inode (files_in s nothing_drafted) path c.args.number x.0 leads x.1 in
+    let holds = c.paths_lead_to_inodes.ensures.bytes s.books.geom.i (inodes_in s nothing_drafted) f.tree path map ∙ ap bytes_of at ∙ file_bytes x.0 x.2 in
+    let need = need_is s t f path c.args.number c.args.size c.args.cost x.0 (may.weighed told f h) holds (may.other told x.0 x.1) in
+    let looks = moved_to (λ d n. (x : FileNode) → files_in s d c.args.number ≡ Some x → growth (length x.bytes) n ≤ length (reusable_blocks s.books) → LooksOnly g.S.Blocks.tells (fails_reading {T = Plan} (Err why)) s t)
+    c.new-draft.result nothing_drafted c.from.result c.args.size c.new-draft.ensures c.from.ensures (c.in-Err.ensures.looks told) x.0 x.1 in
+    ((looks (omega (arith, enough, need))).crash told).log)
+    c.in-Err.ensures.settles)

@@ -1,10 +1,9 @@
-use Rattle.std.proofs.lemmas.Bool.{false≢true}
 use Rattle.std.proofs.Common.{false, Ok, Err, sym, subst}
 use Rattle.opt_tree.specs.declared.command.Cmd.TheVariants.{Dsync}
 use Rattle.opt_tree.specs.declared.command.Refusal.{Refusal}
 use Rattle.opt_tree.specs.declared.command.Reply.{Reply}
 use Rattle.opt_fs.specs.Syncs.{SyncsSession}
-use Rattle.opt_fs.proofs.syncing.Synced.{dsynced_session, between_after, between_refused, refused_session}
+use Rattle.opt_fs.proofs.syncing.Synced.{dsynced_session, waits_so, between_after, between_refused, refused_session}
 use Rattle.opt_fs.proofs.syncs.dsync.Goals as goal
 
 pub returns-in-Ok-clause-syncs : goal.returns-in-Ok-clause-syncs
@@ -12,7 +11,7 @@ returns-in-Ok-clause-syncs g c =
     let s = g.S.Blocks.state c.args.blocks.now in
     let t = g.S.Blocks.state c.dsync.new.self in
     subst (λ (r : Reply). SyncsSession g.S.Blocks.tells false Dsync (Ok r) s t) (sym c.durable_at.ensures.reply)
-    (dsynced_session g.S.Blocks.tells s t c.in-Ok.point c.requires.may.going c.in-Ok.ensures.syncs c.durable_at.ensures.low c.in-Ok.ensures.durable)
+    (dsynced_session g.S.Blocks.tells s t c.in-Ok.point c.requires.may.going c.in-Ok.ensures.syncs c.durable_at.ensures.low c.in-Ok.ensures.durable (waits_so g.S.Blocks.tells s t c.in-Ok.ensures.waits))
 
 pub returns-in-Ok-clause-between : goal.returns-in-Ok-clause-between
 returns-in-Ok-clause-between g c =
@@ -23,7 +22,7 @@ returns-in-Err-clause-syncs g c =
     let s = g.S.Blocks.state c.args.blocks.now in
     let t = g.S.Blocks.state c.dsync.new.self in
     subst (λ (why : Refusal). SyncsSession g.S.Blocks.tells false Dsync (Err why) s t) (sym c.refusal_of_sync.ensures)
-    (refused_session g.S.Blocks.tells false Dsync s t c.in-Err.why c.requires.may.going c.in-Err.ensures.syncs c.in-Err.ensures.idle (λ orders. absurd (false≢true orders)))
+    (refused_session g.S.Blocks.tells false Dsync s t c.in-Err.why c.requires.may.going c.in-Err.ensures.syncs c.in-Err.ensures.idle (waits_so g.S.Blocks.tells s t c.in-Err.ensures.waits))
 
 pub returns-in-Err-clause-between : goal.returns-in-Err-clause-between
 returns-in-Err-clause-between g c =
