@@ -5,8 +5,9 @@ ghost use Rattle.std.specs.Prelude.{◌≡◌, ◌<◌, ◌^◌, ℕ, true, List
 ghost use Rattle.opt_geom.specs.Geometry.{geometry_fits};
 ghost use Rattle.opt_disk.specs.Lawful.{IsEventOf};
 ghost use Rattle.opt_tree.specs.declared.command.Reply.TheVariants.{Known};
-ghost use Rattle.opt_script.specs.Text.{refusal_text, text_of_reply};
-ghost use Rattle.opt_trace.specs.Line.{geometry_line, event_line, reply_line, end_line};
+ghost use Rattle.opt_script.specs.Text.{command_text, refusal_text, text_of_reply};
+ghost use Rattle.opt_script.specs.Values.{IsCommand};
+ghost use Rattle.opt_trace.specs.Line.{geometry_line, event_line, command_line, reply_line, end_line};
 ghost use Rattle.opt_trace_lines.specs.ReadsAs.{IsReadAs, IsOutside, fed};
 
 use crate::{lines, refusals};
@@ -14,7 +15,8 @@ use opt_base::NoMemory;
 use opt_decimal::a_number_has_one_text;
 use opt_disk::Event;
 use opt_geom::{Geom, geometries_are_within_limits};
-use opt_tree::Refusal;
+use opt_script::{cmd_text, lines_are_commands, parse_line};
+use opt_tree::{Cmd, Refusal};
 use std::alloc::Global;
 
 /// The geometry of the first line of a trace, given without its line feed.
@@ -61,6 +63,43 @@ pub fn read_known(text: &[u8]) -> Option<u64>
 {
     a_number_has_one_text();
     refusals::known_of(text)
+}
+
+/// The command of a line, given without its line feed: one that is written as commands are, or none, which is
+/// written `?`.
+///
+/// # Errors
+/// Out of memory.
+pub fn read_command(alloc: Global, line: &[u8]) -> Result<Option<Cmd>, NoMemory>
+    ensures { IfOk result (λ cmd. IsReadAs (λ cmd. command_line (command_text cmd)) IsCommand (fed line.now) cmd) }
+{
+    match line {
+        [] => Ok(None),
+        [_] => Ok(None),
+        [first, second, text @ ..] => {
+            if *first != b'c' {
+                return Ok(None);
+            }
+            if *second != b' ' {
+                return Ok(None);
+            }
+            let cmd = command_in(alloc, text)?;
+            Ok(cmd)
+        }
+    }
+}
+
+// The command that is written so: the line that it is, where that is its text.
+fn command_in(alloc: Global, text: &[u8]) -> Result<Option<Cmd>, NoMemory>
+    ensures { IfOk result (λ cmd. IsReadAs command_text IsCommand text.now cmd) }
+{
+    lines_are_commands();
+    let cmd = parse_line(alloc, text)?;
+    let written = cmd_text(alloc, &cmd)?;
+    if written.as_slice() == text {
+        return Ok(Some(cmd));
+    }
+    Ok(None)
 }
 
 /// Whether it is the last line of a trace, given without its line feed.

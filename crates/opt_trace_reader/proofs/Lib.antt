@@ -1,3 +1,17 @@
 pub mod Steps
 pub mod Taking
 pub mod Tracking
+pub mod Following
+pub mod Texts
+pub mod LineTexts
+pub mod Sound
+pub mod GoesOn
+pub mod OneState
+pub mod Once
+pub mod Parts
+pub mod Runs
+pub mod Complete
+pub mod Growing
+pub mod Pulling
+pub mod WrongLine
+pub mod AsRuns

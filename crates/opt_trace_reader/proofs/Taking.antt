@@ -1,5 +1,6 @@
 -- What comes of the text of a reply, by the kind of the command and of the text.
 use Rattle.std.proofs.Common.{◌≡◌, ◌≢◌, sym, ap, refl, ◌∙◌, subst, arith, ℕ, ◌<◌, ◌≤◌, ◌^◌, Bool, true, false, ◌||◌, inl, inr, List, Option, Some, None}
+use Rattle.std.specs.Prelude.{IfSome}
 use Rattle.opt_tree.specs.declared.command.Cmd.{Cmd}
 use Rattle.opt_tree.specs.declared.command.Cmd.TheVariants.{Mkdir, Create, Write, Fill, Read, Truncate, Link, Unlink, Rmdir, Rename, Stat, List as ListNames, Osync, Dsync, Durable, Poll, Bad}
 use Rattle.opt_tree.specs.declared.command.Reply.{Reply}
@@ -21,7 +22,7 @@ or_false : (b : Bool) → b ≡ (b || false)
 or_false true = refl
 or_false false = refl
 
-bad_is : (cmd : Cmd) → is_bad cmd ≡ true → cmd ≡ Bad
+pub bad_is : (cmd : Cmd) → is_bad cmd ≡ true → cmd ≡ Bad
 bad_is (Mkdir path) h = cc h
 bad_is (Create path) h = cc h
 bad_is (Write path offset bytes) h = cc h
@@ -128,7 +129,7 @@ stopped_outside = record { number = refl; figures = tt }
 
 -- ---- a bad line
 
-bad_reply : (s : Session) (stopped : Bool) (cmd : Cmd) (reply : Reply) → cmd ≡ Bad → reply ≡ NotUnderstood → MayReply s stopped cmd reply
+pub bad_reply : (s : Session) (stopped : Bool) (cmd : Cmd) (reply : Reply) → cmd ≡ Bad → reply ≡ NotUnderstood → MayReply s stopped cmd reply
 bad_reply s stopped cmd reply is e = record {
   next = s;
   answers = inl (ap (step s) is ∙ ap (λ r. (s, r)) (sym e));
@@ -148,15 +149,17 @@ takes_bad k cmd text (Some reply) is h =
     record {
       reads = (bad_reply k.session k.stopped cmd reply bad h.0, h.1);
       after = λ r e. bad_after k cmd r bad (sym (found_is reply r e) ∙ h.0);
+      lawful = subst IsReply (sym h.0) tt;
     }
 takes_bad k cmd text None is h = record {
   reads = λ reply may e. h reply (may.bad (bad_is cmd is)) e;
   after = λ r e. nothing_found (λ r. k ≡ after k cmd r) r e;
+  lawful = tt;
 }
 
 -- ---- a refusal from outside
 
-refused_reply : (s : Session) (stopped : Bool) (cmd : Cmd) (why : Refusal) (reply : Reply) → is_bad cmd ≡ false → IsOutside why → (stopped ≡ true → is_stopped why ≡ true)
+pub refused_reply : (s : Session) (stopped : Bool) (cmd : Cmd) (why : Refusal) (reply : Reply) → is_bad cmd ≡ false → IsOutside why → (stopped ≡ true → is_stopped why ≡ true)
     → reply ≡ Refused why → MayReply s stopped cmd reply
 refused_reply s stopped cmd why reply other out may e = record {
   next = s;
@@ -176,11 +179,13 @@ pub takes_refused : OneReply → (k new : Kept) (cmd : Cmd) (text : List ℕ) (w
 takes_refused law k new cmd text why (Some reply) other out spelled so = record {
   reads = (refused_reply k.session k.stopped cmd why reply other out so.1 so.0, ap text_of_reply so.0 ∙ spelled);
   after = λ r e. so.2 ∙ ap (after k cmd) (sym so.0 ∙ found_is reply r e);
+  lawful = subst IsReply (sym so.0) (wide_figures why out.figures);
 }
 takes_refused law k new cmd text why None other out spelled so = record {
   reads = λ reply may e.
       other_refusal law why text out spelled so.1 (ap text_of_reply (sym (may.ended so.0 (not_bad cmd other))) ∙ e);
   after = λ r e. nothing_found (λ r. new ≡ after k cmd r) r e;
+  lawful = tt;
 }
 
 -- ---- behind a fault of the disk
@@ -189,6 +194,7 @@ pub takes_nothing : (k : Kept) (cmd : Cmd) (text : List ℕ) → is_bad cmd ≡ 
 takes_nothing k cmd text other stopped none = record {
   reads = λ reply may e. none Stopped stopped_outside (ap text_of_reply (sym (may.ended stopped (not_bad cmd other))) ∙ e);
   after = λ r e. nothing_found (λ r. k ≡ after k cmd r) r e;
+  lawful = tt;
 }
 
 -- ---- what the tree and the disk may answer
@@ -228,10 +234,12 @@ pub takes_known : (k : Kept) (cmd : Cmd) (text : List ℕ) (found : Option Reply
 takes_known k cmd text (Some reply) points durable counts going is none h = record {
   reads = (known_reply k cmd reply points durable going (durable_is cmd is) h.0, h.1);
   after = λ r e. known_after k cmd r h.0.point (durable_is cmd is) (sym (found_is reply r e) ∙ h.0.is);
+  lawful = subst IsReply (sym h.0.is) (omega (arith, h.0.upto, points, counts.low));
 }
 takes_known k cmd text None points durable counts going is none h = record {
   reads = λ reply may e. go reply may e may.answers;
   after = λ r e. nothing_found (λ r. k ≡ after k cmd r) r e;
+  lawful = tt;
 }
   where
     go : (reply : Reply) (may : MayReply k.session k.stopped cmd reply) → text_of_reply reply ≡ text → Answers is_of_disk k.session cmd reply may.next → ⊥
@@ -267,14 +275,16 @@ stepped_reply law k cmd reply other going e = record {
 }
 
 pub takes_applied : Tells → Alone → (k new : Kept) (cmd : Cmd) (text : List ℕ) (found : Option Reply) → is_bad cmd ≡ false → k.stopped ≡ false → is_durable cmd ≡ false
-    → IsReadAs refusal_text IsOutside text None → IsReadAs text_of_reply (λ reply. reply ≡ (step k.session cmd).1) text found → Applies k cmd new → Takes k cmd text found new
-takes_applied tells law k new cmd text (Some reply) other going asks none h applies = record {
+    → IsReadAs refusal_text IsOutside text None → IsReadAs text_of_reply (λ reply. reply ≡ (step k.session cmd).1) text found → IfSome found (λ reply. IsReply reply) → Applies k cmd new → Takes k cmd text found new
+takes_applied tells law k new cmd text (Some reply) other going asks none h lawful applies = record {
   reads = (stepped_reply law k cmd reply other going h.0, h.1);
   after = λ r e. stepped_after tells law k new cmd going applies ∙ ap (after k cmd) (sym h.0 ∙ found_is reply r e);
+  lawful = lawful;
 }
-takes_applied tells law k new cmd text None other going asks none h applies = record {
+takes_applied tells law k new cmd text None other going asks none h lawful applies = record {
   reads = λ reply may e. go reply may e may.answers;
   after = λ r e. nothing_found (λ r. new ≡ after k cmd r) r e;
+  lawful = tt;
 }
   where
     go : (reply : Reply) (may : MayReply k.session k.stopped cmd reply) → text_of_reply reply ≡ text → Answers is_of_disk k.session cmd reply may.next → ⊥

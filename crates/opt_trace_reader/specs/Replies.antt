@@ -1,5 +1,5 @@
 -- How a command of a trace may be answered. The rule is described in docs/TRACE.md.
-use Rattle.std.specs.Prelude.{◌≡◌, ◌≢◌, ◌≤◌, ◌||◌, ℕ, Bool, true, false, List, Option, Some, None}
+use Rattle.std.specs.Prelude.{◌≡◌, ◌≢◌, ◌≤◌, ◌||◌, ℕ, Bool, true, false, List, Option, Some, None, IfSome}
 use Rattle.opt_tree.specs.declared.command.Cmd.{Cmd}
 use Rattle.opt_tree.specs.declared.command.Cmd.TheVariants.{Bad, Durable}
 use Rattle.opt_tree.specs.declared.command.Reply.{Reply}
@@ -10,6 +10,7 @@ use Rattle.opt_tree.specs.Step.{Session, step}
 use Rattle.opt_tree.specs.Run.{Answers, is_of_disk}
 use Rattle.opt_tree.specs.Points.{after_reply}
 use Rattle.opt_script.specs.Text.{text_of_reply}
+use Rattle.opt_script.specs.Values.{IsReply}
 use Rattle.opt_trace_lines.specs.ReadsAs.{IsReadAs, HasSmallFigures}
 
 -- whether a command is a bad line
@@ -87,10 +88,11 @@ after k cmd reply = record {
   stopped = k.stopped || is_fault reply;
 }
 
--- What comes of the text of a reply to a command: the reply that is written so and may stand there, with the session behind it; or none, exactly where no such reply is.
+-- What comes of the text of a reply to a command: the reply that is written so and may stand there, whose numbers have 64 bits, with the session behind it; or none, exactly where no such reply is.
 pub record Takes (old : Kept) (cmd : Cmd) (text : List ℕ) (found : Option Reply) (new : Kept) : Type 0 where
   pub reads : IsReadAs text_of_reply (MayReply old.session old.stopped cmd) text found
   pub after : (reply : Reply) → found ≡ Some reply → new ≡ after old cmd reply
+  pub lawful : IfSome found (λ reply. IsReply reply)
 
 -- a point that `durable` may be answered by
 pub record IsKnown (k : Kept) (reply : Reply) : Type 0 where

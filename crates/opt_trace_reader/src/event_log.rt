@@ -1,7 +1,7 @@
 //! The events of a trace as they come: which of them may come behind those before it. It knows no other line of a
 //! trace. Of each accepted write the ticket is noted, so that its notice is found by halving.
 
-ghost use Rattle.std.specs.Prelude.{◌≡◌, ◌↔◌, [], true, IfOk, OnErr};
+ghost use Rattle.std.specs.Prelude.{◌≡◌, ◌<◌, ◌^◌, ◌↔◌, [], true, length, IfOk, OnErr};
 ghost use Rattle.opt_trace_reader.specs.Events.{IsNext, TakesEvent};
 
 use opt_base::NoMemory;
@@ -101,6 +101,14 @@ impl EventLog {
             }
             Event::Noticed { ticket } => self.notes.is_open(*ticket),
         }
+    }
+
+    /// How many events there are so far.
+    pub fn len(&self) -> u64
+        ensures value { result ≡ length self.now }
+        ensures wide { length self.now < 2 ^ 64 }
+    {
+        self.events.len() as u64
     }
 
     /// The events so far, in their order.

@@ -1,10 +1,11 @@
 //! The commands of a trace, replayed on a tree in memory: which reply the text behind a command is, of those that
 //! may stand there. It knows no other line of a trace.
 
-ghost use Rattle.std.specs.Prelude.{◌≡◌, ◌≤◌, false, IfOk, OnOk};
+ghost use Rattle.std.specs.Prelude.{◌≡◌, ◌≤◌, false, IfOk, OnOk, IfSome};
 ghost use Rattle.opt_tree.specs.Step.{start, step};
 ghost use Rattle.opt_tree.specs.declared.command.Reply.TheVariants.{Bad as NotUnderstood};
 ghost use Rattle.opt_script.specs.Text.{text_of_reply};
+ghost use Rattle.opt_script.specs.Values.{IsReply};
 ghost use Rattle.opt_trace_lines.specs.ReadsAs.{IsReadAs};
 ghost use Rattle.opt_trace_reader.specs.Replies.{Kept, Takes, Applies, IsKnown, RefusedSo};
 
@@ -126,6 +127,7 @@ impl Replay {
     // The reply of the tree, where it is written so.
     fn applied(&mut self, alloc: Global, cmd: &Cmd, text: &[u8]) -> Result<Option<Reply>, NoMemory>
         ensures reads { IfOk result (λ found. IsReadAs text_of_reply (λ reply. reply ≡ (step self.old.session cmd.now).1) text.now found) }
+        ensures lawful { IfOk result (λ found. IfSome found (λ reply. IsReply reply)) }
         ensures applies { OnOk result (Applies self.old cmd.now self.new) }
     {
         a_tree_in_memory_refuses_for_no_disk();

@@ -20,4 +20,4 @@ pub returns : goal.returns
 returns c =
     let going : c.args.self.now.stopped ≡ false = sym (ap (λ k. k.stopped) c.self.view_is) ∙ c.if-self.false in
     takes_applied record { session = c.a_reply_tells_the_session.ensures } record { exact = c.a_tree_in_memory_refuses_for_no_disk.ensures.exact; alone = c.a_tree_in_memory_refuses_for_no_disk.ensures.alone } c.args.self.now c.applied.new.self c.args.cmd.now c.args.text.now c.in_ok-found.found (sym c.is_bad.ensures ∙ c.if-is_bad.false) going
-    (sym c.is_durable.ensures ∙ c.if-is_durable.false) c.in_default.ensures c.in_ok-found.ensures.reads c.in_ok-found.ensures.applies
+    (sym c.is_durable.ensures ∙ c.if-is_durable.false) c.in_default.ensures c.in_ok-found.ensures.reads c.in_ok-found.ensures.lawful c.in_ok-found.ensures.applies
