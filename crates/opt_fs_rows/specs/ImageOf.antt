@@ -53,6 +53,7 @@ untold = record {
   left_since = λ t img. ⊤;
   holds = λ img m. ⊤;
   issued = λ m. ⊤;
+  awaits = λ p t. ⊥;
 }
 
 -- all that is known of the blocks
