@@ -15,13 +15,13 @@ use Rattle.opt_tree.specs.Points.{is_refusal, is_sync}
 use Rattle.opt_tree.specs.Step.{Session, step, answered, osync}
 use Rattle.opt_tree.specs.Walk.{content, is_same_node}
 use Rattle.opt_blocks.specs.Running.{Running, payloads, fresh_blocks, record_writes, nothing_running}
-use Rattle.opt_blocks.specs.Calls.{MaySync, commit_writes, if_changed}
+use Rattle.opt_blocks.specs.Calls.{MaySync, commit_places, commit_writes, if_changed}
 use Rattle.opt_blocks.specs.State.{Bookkeeping, State}
 use Rattle.opt_fs.specs.Applying.{Ticks, Runs, Began, Applies, reply_for, is_spent}
 use Rattle.opt_fs.specs.Commands.{Carries, is_disk_fault}
 use Rattle.opt_fs.specs.Sessions.{IsSession}
 use Rattle.opt_fs.specs.Syncs.{SyncsSession}
-use Rattle.opt_session.specs.Budget.{sync_budget, weight_by}
+use Rattle.opt_session.specs.Budget.{sync_budget, sync_places, weight_by}
 use Rattle.opt_session.proofs.Counting.{is_bad, session_ticks}
 
 -- A command that the tree refuses costs nothing.
@@ -176,3 +176,7 @@ within_weight k may = by (cases_Bool (k.running.weight == 0))
     by : ((k.running.weight == 0) ≡ true) ⊎ ((k.running.weight == 0) ≡ false) → commit_writes k ≤ sync_budget k.running.weight
     by (inl none) = omega (arith, cond-true {A = ℕ} (k.running.weight == 0) 0 writes none)
     by (inr some) = omega (arith, cond-false {A = ℕ} (k.running.weight == 0) 0 writes some, cond-false {A = ℕ} (k.running.weight == 0) 0 budget some, may.fits)
+
+-- A record takes no more ring places than its weight does.
+pub places_within_weight : (k : Bookkeeping) → MaySync k → commit_places k ≤ sync_places k.running.weight
+places_within_weight k may = omega (arith, may.fits)

@@ -45,6 +45,10 @@ weight_after bitmap s w (cmd ∷ cmds) (reply ∷ replies) = weight_after bitmap
 abbrev pub sync_budget : ℕ → ℕ
 sync_budget w = if w == 0 then 0 else w + descriptor_count w + 3
 
+-- the ring places that the record of a transaction of this weight takes at most: the commit block, and the descriptors of as many entries
+abbrev pub sync_places : ℕ → ℕ
+sync_places w = 1 + descriptor_count w
+
 -- the writes that commands stand for which were answered so
 abbrev pub budget_of : ℕ → Session → ℕ → List Cmd → List Reply → ℕ
 budget_of bitmap s w [] replies = 0

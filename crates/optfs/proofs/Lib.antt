@@ -1,6 +1,7 @@
 pub mod LineLemmas
 pub mod Entries
 pub mod EventLines
+pub mod Waiting
 pub mod Paces
 pub mod Answering
 pub mod Runs

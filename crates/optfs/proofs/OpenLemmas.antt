@@ -18,7 +18,7 @@ use Rattle.opt_tree.specs.Step.{start}
 use Rattle.opt_stands.specs.Stands.{IsTreeOf}
 use Rattle.opt_crash.specs.Ledger.{HoldsUnder}
 use Rattle.opt_crash.specs.Opening.{WritesOne}
-use Rattle.opt_blocks.specs.Crashes.{IsBegun}
+use Rattle.opt_blocks.specs.Crashes.{IsBegun, IsTold}
 use Rattle.opt_blocks.specs.State.{Bookkeeping, State, Ticking}
 use Rattle.opt_files.specs.Effects.{LooksOnly}
 use Rattle.opt_fs.specs.Memory.{HasNoBlocks, room_of}
@@ -96,8 +96,8 @@ module _ (g : Geometry) (s : State) (is : IsMounted g s) where
 
   -- all that is known of the file system
   pub opened_with : (t : State) → LooksOnly true false s t → HasServed g (start g.i).tree (length s.crash.log) [] [] [] t → KeepsBudget s.books.geom (start g.i).tree (writes_in s.crash.log + s.books.owed) [] [] t
-      → IsFirstRoom t.books.geom (room_of t) → IsLogOf t.books.geom.n t.crash.log → length t.crash.log < 2 ^ 64 → GoesBy t.counts.ticks.manner t.crash.log → IsOpened (record { shape = g; manner = s.counts.ticks.manner }) t
-  opened_with t looks served budget room lawful events goes =
+      → IsFirstRoom t.books.geom (room_of t) → IsLogOf t.books.geom.n t.crash.log → length t.crash.log < 2 ^ 64 → GoesBy t.counts.ticks.manner t.crash.log → IsTold t → IsOpened (record { shape = g; manner = s.counts.ticks.manner }) t
+  opened_with t looks served budget room lawful events goes told =
       let crash = looks.crash refl in
       let geom : t.books.geom ≡ g = ap (λ (k : Bookkeeping). k.geom) looks.books ∙ is.begins.geom in
       let goes_now = subst (λ (m : Manner). GoesBy m t.crash.log) (ap (λ (k : Ticking). k.manner) looks.counts.ticks) goes in
@@ -114,4 +114,6 @@ module _ (g : Geometry) (s : State) (is : IsMounted g s) where
         writes = goes_now;
         opens = first_accepted s.counts.ticks.manner t.crash.log (subst (λ (es : List Event). WritesOne [] es) (sym crash.log) is.first) goes_now;
         turns = omega (arith, ap (λ (k : Bookkeeping). k.turns) looks.books, is.turns);
+        free = ap (λ (k : Bookkeeping). k.free_places) looks.books ∙ is.begins.free_places;
+        may = told.awaits;
       }

@@ -1,12 +1,22 @@
 -- What the program does for each request that words may be.
-use Rattle.std.proofs.Common.{◌≡◌, ◌↔◌, ℕ, Bool, true, false, List, Option, None, Some, Result, Err, IsOk, refl, sym, ap, ◌∙◌, subst, inl, inr}
-use Rattle.std.proofs.lemmas.Bool.{false≢true}
+use Rattle.std.proofs.Common.{◌≡◌, ◌↔◌, ℕ, ◌≤◌, ◌==◌, nat_lt, Bool, true, false, not, ◌&&◌, ◌||◌, List, [], Option, None, Some, Result, Err, IsOk, refl, sym, ap, ◌∙◌, subst, inl, inr}
+use Rattle.std.proofs.lemmas.Bool.{and_right, eqb-true, false≢true, lt-ltb, not_from_true, or_from}
+use Rattle.opt_base.specs.Counts.{Rose}
+use Rattle.opt_disk.specs.declared.event.Event.{Event}
 use Rattle.opt_geom.specs.Geometry.{Geometry, geometry_fits}
+use Rattle.opt_memdisk.specs.declared.calls.DiskCall.{DiskCall}
+use Rattle.opt_memdisk.specs.declared.calls.DiskCall.TheVariants as calls
+use Rattle.opt_memdisk.specs.declared.rule.Rule.{Rule}
+use Rattle.opt_memdisk.specs.MemDisk.{has_listed, is_listed, manner_by, same_call}
+use Rattle.opt_words.specs.declared.request.Notices.{Notices}
 use Rattle.opt_words.specs.declared.request.Request.{Request}
+use Rattle.opt_words.specs.declared.request.Request.TheVariants.{Record}
+use Rattle.opt_words.specs.Words.{IsInRange}
+use Rattle.optfs.specs.Behaving.{MountFails, fails_of, rule_of}
 use Rattle.optfs.specs.Output.{Setting, usage_line, shape_line}
-use Rattle.optfs.specs.Program.{Does, RecordsWhere, RecordsTo, Refuses, Tells, is_recording, setting_of, shape_of}
+use Rattle.optfs.specs.Program.{Completes, Does, EndsSo, HasFault, RecordsWhere, RecordsTo, Refuses, Tells, is_recording, setting_of, shape_of}
 use Rattle.optfs.specs.declared.status.Status.{Status}
-use Rattle.optfs.specs.declared.status.Status.TheVariants.{Usage, NoMemory, BadShape}
+use Rattle.optfs.specs.declared.status.Status.TheVariants.{Done, Usage, NoMemory, DiskFault, SourceFault, SinkFault, BadShape, LongInput}
 use Rattle.optfs.proofs.ProgramLemmas.{never_begun}
 
 -- a line that was told is a refusal's line
@@ -60,3 +70,72 @@ does_record request asked set result left left_now told out source source_now so
 pub is_asked : (request : Option Request) (asked : Request) → request ≡ Some asked
     → geometry_fits (shape_of asked) ≡ true → is_recording request ≡ true
 is_asked request asked some fits = ap is_recording some ∙ fits
+
+-- The first write.
+
+-- whether the first write is listed, of a list that has one write at most
+first_listed : (fail : Option ℕ) → is_listed calls.Write 1 (fails_of fail) ≡ true → fail ≡ Some 1
+first_listed None is = absurd (false≢true is)
+first_listed (Some write) is = ap Some (eqb-true write 1 (first (write == 1) is))
+  where
+    first : (b : Bool) → ((true && b) || false) ≡ true → b ≡ true
+    first true e = refl
+    first false e = e
+
+-- a list of one write at most has no other call
+no_call : (call : DiskCall) (fail : Option ℕ) → same_call calls.Write call ≡ false → has_listed call (fails_of fail) ≡ false
+no_call call None other = refl
+no_call call (Some write) other = or_from (same_call calls.Write call) false other refl
+
+-- only such a list fails a mount with room for a write
+fails_so : (room : ℕ) (fail : Option ℕ) (rule : Rule) (log : List Event) → 1 ≤ room → MountFails (manner_by room (fails_of fail) rule) log → fail ≡ Some 1
+fails_so room fail rule log some (inl reads) = absurd (false≢true (sym (no_call calls.Read fail refl) ∙ reads))
+fails_so room fail rule log some (inr (inl stalls)) = absurd (false≢true (sym (or_from _ _ (no_call calls.Poll fail refl) (no_call calls.Wait fail refl)) ∙ stalls))
+fails_so room fail rule log some (inr (inr (inl refuses))) = absurd (false≢true (sym (not_from_true (nat_lt 0 room) (lt-ltb 0 room some)) ∙ refuses))
+fails_so room fail rule log some (inr (inr (inr loses))) = first_listed fail (both (nat_lt 0 room) (is_listed calls.Write 1 (fails_of fail)) loses.1)
+  where
+    both : (a b : Bool) → (a && b) ≡ true → b ≡ true
+    both true b e = e
+    both false b e = absurd (false≢true e)
+
+-- where the first write may be accepted it isn't listed
+not_listed : (room : ℕ) (fail : Option ℕ) (rule : Rule) → (manner_by room (fails_of fail) rule).accepts [] ≡ true → fail ≡ Some 1 → ⊥
+not_listed room fail rule may is = absurd (false≢true (sym (and_right (nat_lt 0 room) (not (is_listed calls.Write 1 (fails_of fail))) (ap (λ (x : Option ℕ). not (is_listed calls.Write 1 (fails_of x))) is)) ∙ may))
+
+-- How a recording ends where nothing but the disk failed.
+
+ends_so : (blocks journal nodes : ℕ) (notices : Notices) (room : ℕ) (fail : Option ℕ) (status : Status) (left left_now told out : Option (List ℕ)) (source source_now sink sink_now : ℕ) → 1 ≤ room
+    → RecordsTo (setting_of (Record blocks journal nodes notices room fail)) status left left_now told out source source_now → HasFault status source source_now sink sink_now → ¬ Rose source source_now → ¬ Rose sink sink_now → EndsSo fail status
+ends_so blocks journal nodes notices room fail Done left left_now told out source source_now sink sink_now some r fault no_source no_sink = not_listed room fail (rule_of notices) r.output.served.goes.opens
+ends_so blocks journal nodes notices room fail LongInput left left_now told out source source_now sink sink_now some r fault no_source no_sink = not_listed room fail (rule_of notices) r.output.served.goes.opens
+ends_so blocks journal nodes notices room fail NoMemory left left_now told out source source_now sink sink_now some r fault no_source no_sink = tt
+ends_so blocks journal nodes notices room fail DiskFault left left_now told out source source_now sink sink_now some r fault no_source no_sink = fails_so room fail (rule_of notices) r.output.log some r.output.cause
+ends_so blocks journal nodes notices room fail Usage left left_now told out source source_now sink sink_now some r fault no_source no_sink = absurd r.reads
+ends_so blocks journal nodes notices room fail BadShape left left_now told out source source_now sink sink_now some r fault no_source no_sink = absurd r.reads
+ends_so blocks journal nodes notices room fail SourceFault left left_now told out source source_now sink sink_now some r fault no_source no_sink = no_source fault
+ends_so blocks journal nodes notices room fail SinkFault left left_now told out source source_now sink sink_now some r fault no_source no_sink = no_sink fault
+
+completes_asked : (asked : Request) (status : Status) (left left_now told out : Option (List ℕ)) (source source_now sink sink_now : ℕ) → IsInRange (Some asked)
+    → RecordsTo (setting_of asked) status left left_now told out source source_now → HasFault status source source_now sink sink_now → Completes (Some asked) status (Rose source source_now) (Rose sink sink_now)
+completes_asked (Record blocks journal nodes notices room fail) status left left_now told out source source_now sink sink_now range r fault = λ fits no_source no_sink.
+    ends_so blocks journal nodes notices room fail status left left_now told out source source_now sink sink_now range.7 r fault no_source no_sink
+
+pub completes_record : (request : Option Request) (asked : Request) (set : Setting) (status : Status) (left left_now told out : Option (List ℕ)) (source source_now sink sink_now : ℕ) → request ≡ Some asked → set ≡ setting_of asked → IsInRange (Some asked)
+    → RecordsTo set status left left_now told out source source_now → HasFault status source source_now sink sink_now → Completes request status (Rose source source_now) (Rose sink sink_now)
+completes_record request asked set status left left_now told out source source_now sink sink_now some is range r fault =
+    subst (λ (q : Option Request). Completes q status (Rose source source_now) (Rose sink sink_now)) (sym some)
+    (completes_asked asked status left left_now told out source source_now sink sink_now range (subst (λ (k : Setting). RecordsTo k status left left_now told out source source_now) is r) fault)
+
+-- words that ask for nothing, or for a geometry that doesn't fit, promise nothing of a recording; and memory may always be short
+pub completes_none : (request : Option Request) (status : Status) (P Q : Type 0) → request ≡ None → Completes request status P Q
+completes_none request status P Q none = subst (λ (q : Option Request). Completes q status P Q) (sym none) tt
+
+pub completes_shape : (request : Option Request) (asked : Request) (status : Status) (P Q : Type 0) → request ≡ Some asked → geometry_fits (shape_of asked) ≡ false → Completes request status P Q
+completes_shape request asked status P Q some fits = subst (λ (q : Option Request). Completes q status P Q) (sym some) (by asked fits)
+  where
+    by : (r : Request) → geometry_fits (shape_of r) ≡ false → Completes (Some r) status P Q
+    by (Record blocks journal nodes notices room fail) not = λ is no_source no_sink. absurd (false≢true (sym not ∙ is))
+
+pub completes_memory : (request : Option Request) (P Q : Type 0) → Completes request NoMemory P Q
+completes_memory None P Q = tt
+completes_memory (Some (Record blocks journal nodes notices room fail)) P Q = λ fits no_source no_sink. tt

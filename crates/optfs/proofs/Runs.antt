@@ -32,15 +32,16 @@ use Rattle.opt_fs.specs.Room.{Room, IsFirstRoom}
 use Rattle.opt_session.specs.Budget.{KeepsBudget, budget_of}
 use Rattle.opt_session.specs.Crashes.{LeavesPoints, IsCrashConsistent}
 use Rattle.opt_session.specs.Ending.{HasRun, is_none, over_after, ending_reply, ending_replies, ending_marks}
-use Rattle.opt_session.specs.Histories.{last_mark}
+use Rattle.opt_session.specs.Histories.{last_mark, session_after}
 use Rattle.opt_session.specs.Issued.{IssuesLast}
 use Rattle.optfs.specs.Disks.{IsOpened}
-use Rattle.optfs.specs.Behaving.{Pace}
+use Rattle.optfs.specs.Behaving.{nothing_taken}
 use Rattle.optfs.specs.Output.{Serves, ServesBy, Setting, says}
 use Rattle.optfs.specs.Running.{Ran, PacedRun, Records, GoesOnWith, RunLaws, KnownRun, IsAnswered, pace_of}
 use Rattle.optfs.proofs.Entries.{front_on, one_entry, first_line}
 use Rattle.optfs.proofs.MountLemmas.{honest_alike}
-use Rattle.optfs.proofs.Paces.{paced_on}
+use Rattle.optfs.proofs.Paces.{Waits, over_now, paced_on}
+use Rattle.optfs.proofs.Waiting.{calm_on, hears_on, keeps_at_first, keeps_on, knows_on}
 
 -- Runs joined.
 
@@ -200,7 +201,7 @@ module _ (g : Geometry) (laws : RunLaws g) (base : Blocks) (log : List Event) (m
         is = refl;
       }
 
-module _ (set : Setting) (laws : RunLaws set.shape) (s : State) (mounted : ℕ) (cmds : List Cmd) (replies : List Reply) (marks : List ℕ) (ran : Ran set.shape mounted cmds replies marks s) (paced : PacedRun set.manner mounted cmds replies marks s) (known : KnownRun set.shape s mounted cmds replies marks) where
+module _ (set : Setting) (laws : RunLaws set.shape) (s : State) (mounted : ℕ) (cmds : List Cmd) (replies : List Reply) (marks : List ℕ) (ran : Ran set.shape mounted cmds replies marks s) (paced : PacedRun set.shape set.manner mounted cmds replies marks s) (known : KnownRun set.shape s mounted cmds replies marks) where
   abbrev g : Geometry
   g = set.shape
 
@@ -244,7 +245,7 @@ module _ (set : Setting) (laws : RunLaws set.shape) (s : State) (mounted : ℕ) 
 
   here_by : Each IsCommand cmds → ServesBy set cmds text
   unfolding here serves
-  here_by commands = record { served = here commands; goes = record { writes = paced.writes; last = pace_of s; paces = paced.paces; opens = paced.opens; unspent = paced.unspent } }
+  here_by commands = record { served = here commands; goes = record { writes = paced.writes; last = pace_of paced.taken s; paces = paced.paces; opens = paced.opens; unspent = paced.unspent } }
 
   goes_on : (cmd : Cmd) (more : List Cmd) → GoesOnWith g cmds text cmd more
   goes_on cmd more =
@@ -311,7 +312,16 @@ pub records_on : (cmd : Cmd) (reply : Reply) (old new : State) → IsAnswered cm
 records_on cmd reply old new a laws known lawful set past text r =
     let g = set.shape in
     let ran = ran_on cmd reply old new a lawful g r.mounted past r.replies r.marks r.ran in
-    let paced = paced_on cmd reply old new a.steps a.grows r.replies r.ran.served.goes_on.ended ran.served.goes_on.ended ran.served.goes_on.going set.manner r.ran.after r.mounted past r.marks r.ran.session r.ran.served.ascend r.paced in
+    let over = over_now cmd reply old new a.steps a.grows r.replies r.ran.served.goes_on.ended ran.served.goes_on.ended ran.served.goes_on.going in
+    let answered = a.room (session_after (start g.i) past r.replies) r.ran.served.goes_on.session in
+    let answers = subst (λ (k : Geometry). AnswersOn k (session_after (start g.i) past r.replies) (room_of old) cmd reply answered.0 (room_of new)) r.ran.served.geom answered.3 in
+    let waits : Waits cmd reply old new a.steps a.grows r.replies r.ran.served.goes_on.ended ran.served.goes_on.ended ran.served.goes_on.going g r.paced.taken = record {
+      calm = calm_on cmd reply old new a.waits a.grows g r.mounted past r.replies r.marks r.ran.served ran.served r.ran.budget.weight over r.paced.taken r.paced.keeps;
+      hears = hears_on cmd reply old new a.waits a.grows g r.mounted past r.replies r.marks r.ran.served ran.served r.ran.budget.weight over r.paced.taken r.paced.keeps a.lawful.lawful;
+      knows = knows_on cmd reply old new a.waits a.grows g r.mounted past r.replies r.marks r.ran.served ran.served r.ran.budget.weight over r.paced.taken r.paced.keeps;
+    } in
+    let keeps = keeps_on cmd reply old new a.waits a.grows g r.mounted past r.replies r.marks r.ran.served ran.served r.ran.budget.weight over r.paced.taken r.paced.keeps answered.0 answers in
+    let paced = paced_on cmd reply old new a.steps a.grows r.replies r.ran.served.goes_on.ended ran.served.goes_on.ended ran.served.goes_on.going g set.manner r.ran.after r.mounted past r.marks r.ran.session r.ran.served.ascend r.paced waits keeps in
     subst (λ (xs : List ℕ). Records set (past ++ cmd ∷ []) xs new)
     (text_on g old.crash.log new.crash.log r.mounted past r.replies r.marks cmd reply a.grows r.ran.served.answered r.ran.served.marked r.ran.served.ascend
     ∙ ap (λ (xs : List ℕ). xs ++ entry (drop (length old.crash.log) new.crash.log) cmd reply (length new.crash.log)) (sym r.is))
@@ -346,10 +356,12 @@ at_first set s fits opened laws known =
       events = opened.events;
       answers = tt;
     } in
-    let paced : PacedRun set.manner (length s.crash.log) [] [] [] s = record {
+    let paced : PacedRun g set.manner (length s.crash.log) [] [] [] s = record {
       manner = opened.manner;
       writes = opened.writes;
-      paces = ap₂ (λ (n : ℕ) (over : Bool). record { polls = n; events = length s.crash.log; over = over }) opened.polls (opened.served.goes_on.going (λ i is. none_is i _ is));
+      taken = nothing_taken g;
+      keeps = keeps_at_first g s opened.free opened.room (omega (arith, opened.served.goes_on.exact (opened.served.goes_on.going (λ i is. none_is i _ is)))) opened.may;
+      paces = ap₂ (λ (n : ℕ) (over : Bool). record { polls = n; events = length s.crash.log; over = over; taken = nothing_taken g }) opened.polls (opened.served.goes_on.going (λ i is. none_is i _ is));
       opens = opened.opens;
       turns = omega (arith, opened.turns);
       unspent = λ i few is. none_is i _ is;

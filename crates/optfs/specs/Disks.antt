@@ -14,7 +14,7 @@ use Rattle.opt_stands.specs.Stands.{StandsFor}
 use Rattle.opt_tree.specs.Step.{start}
 use Rattle.opt_crash.specs.Ledger.{HoldsUnder}
 use Rattle.opt_crash.specs.Opening.{StopsAtOne, WritesOne}
-use Rattle.opt_blocks.specs.Crashes.{IsBegun}
+use Rattle.opt_blocks.specs.Crashes.{IsBegun, MayAwait}
 use Rattle.opt_blocks.specs.State.{State}
 use Rattle.opt_store.specs.Mounting.{BeginsWith}
 use Rattle.opt_fs.specs.Memory.{room_of}
@@ -79,6 +79,8 @@ pub record IsOpened (set : Setting) (s : State) : Type 0 where
   pub writes : GoesBy set.manner s.crash.log
   pub opens : IsTrue (set.manner.accepts [])
   pub turns : s.books.turns ≤ 3
+  pub free : s.books.free_places ≡ set.shape.j
+  pub may : (p t : ℕ) → s.crash.awaits p t → MayAwait s p t
 
 -- a call of the disk has failed: some read; or just now another call, at the disk's first write
 abbrev pub HasFault : disk.State → Type 0

@@ -60,7 +60,7 @@ contents g cmds text s = says g s.log s.mounted cmds s.replies s.marks
 -- Such a run on a disk that behaves so: the disk went by its manner, and each command by the disk's.
 pub record ServesBy (set : Setting) (cmds : List Cmd) (text : List ℕ) : Type 0 where
   pub served : Serves set.shape cmds text
-  pub goes : RunsBy set.manner served.log served.mounted cmds served.replies served.marks
+  pub goes : RunsBy set.shape set.manner served.log served.mounted cmds served.replies served.marks
 
 -- the longest line, in bytes
 unfoldable pub longest : ℕ

@@ -1,5 +1,5 @@
 -- The contract of the whole program. It is described in docs/PROMISES.md.
-use Rattle.std.specs.Prelude.{◌≡◌, ℕ, ◌^◌, ◌≤◌, ◌⊎◌, Bool, true, false, List, [], ◌∷◌, ◌++◌, length, take, Option, Some, None}
+use Rattle.std.specs.Prelude.{◌≡◌, ℕ, ◌^◌, ◌≤◌, ◌⊎◌, ⊤, Bool, true, false, List, [], ◌∷◌, ◌++◌, length, take, Option, Some, None}
 use Rattle.std.specs.Io.KnownBytes.{Appends, Consumes, IsAtEnd}
 use Rattle.opt_base.specs.Counts.{Rose}
 use Rattle.opt_geom.specs.Geometry.{Geometry, geometry_fits}
@@ -73,6 +73,20 @@ abbrev pub HasFault : Status → ℕ → ℕ → ℕ → ℕ → Type 0
 HasFault SourceFault source source_now sink sink_now = Rose source source_now
 HasFault SinkFault source source_now sink sink_now = Rose sink sink_now
 HasFault _ source source_now sink sink_now = Unit
+
+-- how a recording may end where neither source nor sink failed and this write is to be lost: as it should, out of memory, or behind an input that is too long; and by a fault of the disk exactly where the first write is lost
+abbrev pub EndsSo : Option ℕ → Status → Type 0
+EndsSo fail Done = (fail ≡ Some 1) → ⊥
+EndsSo fail NoMemory = ⊤
+EndsSo fail LongInput = (fail ≡ Some 1) → ⊥
+EndsSo fail DiskFault = fail ≡ Some 1
+EndsSo fail _ = ⊥
+
+-- Completeness: a recording on a disk of a geometry that fits ends so, unless the source or the sink failed.
+abbrev pub Completes : Option Request → Status → Type 0 → Type 0 → Type 0
+Completes None status source_failed sink_failed = ⊤
+Completes (Some (Record blocks journal nodes notices room fail)) status source_failed sink_failed =
+    geometry_fits (record { n = blocks; j = journal; i = nodes }) ≡ true → ¬ source_failed → ¬ sink_failed → EndsSo fail status
 
 -- The sink took the line and the status stands; or it failed, and took a front of the line.
 abbrev pub Tells : Status → Status → List ℕ → Option (List ℕ) → Option (List ℕ) → ℕ → ℕ → Type 0

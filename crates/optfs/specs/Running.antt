@@ -1,35 +1,41 @@
 -- A run of commands on the disk of a recording, as far as it has come. Only proofs and private contracts speak of it.
-use Rattle.std.specs.Prelude.{◌≡◌, ◌≢◌, ◌⊎◌, ℕ, ◌+◌, ◌*◌, ◌^◌, ◌<◌, ◌≤◌, true, false, IsTrue, slice_get, Some, List, [], ◌∷◌, ◌++◌, length, take, Option}
+use Rattle.std.specs.Prelude.{◌≡◌, ◌≢◌, ◌⊎◌, ℕ, ◌+◌, ◌-◌, ◌*◌, ◌^◌, ◌<◌, ◌≤◌, true, false, IsTrue, slice_get, Some, List, [], ◌∷◌, ◌++◌, length, take, Option}
 use Rattle.std.specs.Io.KnownBytes.{Appends}
 use Rattle.opt_base.specs.Seal.{Blocks}
-use Rattle.opt_disk.specs.Disk.{Grows, PollsFirst, writes_in}
-use Rattle.opt_disk.specs.Manner.{Manner, GoesBy, HasFailedBy}
+use Rattle.opt_disk.specs.Cell.{is_accepted, IsNoticed}
+use Rattle.opt_disk.specs.Disk.{Grows, PollsFirst, PollsThenWrites, writes_in}
+use Rattle.opt_disk.specs.Manner.{Manner, GoesBy, HasFailedBy, Polled, after_polls}
 use Rattle.opt_disk.specs.Lawful.{IsLogOf}
-use Rattle.opt_geom.specs.Geometry.{Geometry, geometry_fits, bitmap_blocks}
+use Rattle.opt_geom.specs.Geometry.{Geometry, geometry_fits, bitmap_blocks, data_start}
 use Rattle.opt_journal.specs.Formatted.{formatted}
 use Rattle.opt_script.specs.Text.{command_text}
 use Rattle.opt_script.specs.Values.{IsCommand, IsReply}
 use Rattle.opt_trace.specs.Contents.{Each, front_of}
 use Rattle.opt_trace.specs.Line.{command_line}
 use Rattle.opt_tree.specs.declared.command.Cmd.{Cmd}
-use Rattle.opt_tree.specs.declared.command.Cmd.TheVariants.{Bad}
-use Rattle.opt_tree.specs.declared.command.Refusal.TheVariants.{ReadFault, Spent, Stopped}
+use Rattle.opt_tree.specs.declared.command.Cmd.TheVariants.{Bad, Dsync, Durable}
+use Rattle.opt_tree.specs.declared.command.Refusal.TheVariants.{DiskFault, ReadFault, Spent, Stopped}
 use Rattle.opt_tree.specs.declared.command.Reply.{Reply}
-use Rattle.opt_tree.specs.declared.command.Reply.TheVariants.{Refused}
+use Rattle.opt_tree.specs.declared.command.Reply.TheVariants.{Known, Refused}
+use Rattle.opt_tree.specs.Points.{is_sync}
 use Rattle.opt_tree.specs.Step.{Session, start}
 use Rattle.opt_tree.specs.Tree.{Tree}
 use Rattle.opt_stands.specs.Stands.{StandsFor}
 use Rattle.opt_crash.specs.Counts.{AreAtMost}
-use Rattle.opt_blocks.specs.State.{State}
+use Rattle.opt_blocks.specs.Calls.{commit_places, if_changed}
+use Rattle.opt_blocks.specs.Crashes.{AwaitsSince, MayAwait, StillAwaits}
+use Rattle.opt_blocks.specs.Effects.{FitsRing}
+use Rattle.opt_blocks.specs.State.{State, reusable_blocks}
 use Rattle.opt_fs.specs.Memory.{room_of}
 use Rattle.opt_fs.specs.Room.{Room, IsFirstRoom}
 use Rattle.opt_fs.specs.DiskRoom.{AnswersOn, IsRoomOf, RunsOn}
-use Rattle.opt_fs.specs.Applying.{is_spent}
+use Rattle.opt_fs.specs.Applying.{NeedsNoWait, is_spent}
 use Rattle.opt_fs.specs.Sessions.{IsSession}
-use Rattle.opt_session.specs.Budget.{KeepsBudget, budget_of}
+use Rattle.opt_session.specs.Budget.{KeepsBudget, budget_of, sync_places, weight_after}
 use Rattle.opt_session.specs.Ending.{HasRun, ending_marks, ending_replies}
+use Rattle.opt_session.specs.Histories.{session_after}
 use Rattle.opt_session.specs.Serving.{HasServed}
-use Rattle.optfs.specs.Behaving.{Pace, PacesBy, pace_at_first}
+use Rattle.optfs.specs.Behaving.{CameIn, Pace, PacesBy, Span, Taken, pace_at_first}
 use Rattle.optfs.specs.Output.{BeginsFirst, Serves, ServesBy, Setting, says}
 
 -- These commands were answered with these replies, at these marks, since a disk that was formatted with this geometry was mounted; and so much is known of the blocks now.
@@ -62,15 +68,26 @@ pub record KnownRun (g : Geometry) (s : State) (mounted : ℕ) (cmds : List Cmd)
   pub room : (f : Session) → IsSession s f → IsRoomOf g f (room_of s)
   pub ends : (more : List Cmd) → HasRun g (start g.i).tree s.crash.base s.crash.log mounted (cmds ++ more) (replies ++ ending_replies s.books.stopped more) (marks ++ ending_marks (length s.crash.log) more)
 
--- how far a run has come over these blocks
-abbrev pub pace_of : State → Pace
-pace_of s = record { polls = s.counts.ticks.polls; events = length s.crash.log; over = s.books.stopped }
+-- What was taken by these commands is known of the blocks. While no call of the disk failed, the ring has at least the other places free, and at least the other data blocks may be taken; there are as many spans as points, and a point waits only for tickets of writes that came in its span.
+pub record KeepsTaken (g : Geometry) (cmds : List Cmd) (replies : List Reply) (s : State) (t : Taken) : Type 0 where
+  pub session : t.session ≡ session_after (start g.i) cmds replies
+  pub weight : t.weight ≡ weight_after (bitmap_blocks g) (start g.i) 0 cmds replies
+  pub places : s.books.stopped ≡ false → g.j ≤ s.books.free_places + t.places
+  pub blocks : s.books.stopped ≡ false → g.n - data_start g ≤ length (reusable_blocks s.books) + t.blocks
+  pub spans : s.books.stopped ≡ false → length t.spans ≡ s.books.point
+  pub awaits : s.books.stopped ≡ false → (p ticket : ℕ) → s.crash.awaits p ticket → (span : Span) × (slice_get t.spans (p - 1) ≡ Some span) × (span.begun ≤ length s.crash.log) × CameIn s.crash.log span ticket
 
--- These commands were answered so on a disk of this manner, and so far have they come.
-pub record PacedRun (m : Manner) (mounted : ℕ) (cmds : List Cmd) (replies : List Reply) (marks : List ℕ) (s : State) : Type 0 where
+-- how far a run has come over these blocks
+abbrev pub pace_of : Taken → State → Pace
+pace_of t s = record { polls = s.counts.ticks.polls; events = length s.crash.log; over = s.books.stopped; taken = t }
+
+-- These commands were answered so on a disk of this geometry and manner, and so far have they come.
+pub record PacedRun (g : Geometry) (m : Manner) (mounted : ℕ) (cmds : List Cmd) (replies : List Reply) (marks : List ℕ) (s : State) : Type 0 where
   pub manner : s.counts.ticks.manner ≡ m
   pub writes : GoesBy m s.crash.log
-  pub paces : PacesBy m s.crash.log (pace_at_first mounted) cmds replies marks (pace_of s)
+  pub taken : Taken
+  pub keeps : KeepsTaken g cmds replies s taken
+  pub paces : PacesBy g m s.crash.log (pace_at_first g mounted) cmds replies marks (pace_of taken s)
   pub opens : IsTrue (m.accepts [])
   -- the journal's numbers rise little with each command, so that none is spent
   pub turns : s.books.turns ≤ 3 + length replies * 2 ^ 20
@@ -88,6 +105,20 @@ pub record StepsOn (cmd : Cmd) (reply : Reply) (old new : State) : Type 0 where
   pub reads : (f : Session) → IsSession old f → reply ≡ Refused ReadFault → new.counts.ticks.manner.reads_fail ≡ true
   pub fails : new.books.stopped ≡ true → ∥ HasFailedBy new.counts.ticks.manner new.crash.log ∥₁
 
+-- what one command waited for, and what the points wait for after it
+pub record WaitsOn (cmd : Cmd) (reply : Reply) (old new : State) : Type 0 where
+  pub calm : cmd ≢ Bad → old.books.stopped ≡ false → reply ≢ Refused Spent → (f : Session) → IsSession old f → NeedsNoWait old f cmd → PollsThenWrites old.counts.ticks.manner 64 old.counts.ticks.polls old.crash.log new.counts.ticks.polls new.crash.log
+  pub records : cmd ≡ Dsync → old.books.stopped ≡ false → reply ≢ Refused Spent → (f : Session) → IsSession old f → FitsRing old.books → old.counts.ticks.manner.waits_alone ≡ true
+      → (p : Polled) (t : ℕ) → after_polls old.counts.ticks.manner 64 old.counts.ticks.polls old.crash.log ≡ Some p → IsNoticed t new.crash.log → IsNoticed t p.log ⊎ (∥ ((q : ℕ) × old.crash.awaits q t) ∥₁ ⊎ (is_accepted t old.crash.log ≡ false))
+  pub fits : commit_places old.books ≤ sync_places old.books.running.weight
+  pub places : is_sync cmd ≡ false → old.books.free_places ≤ new.books.free_places
+  pub record_places : is_sync cmd ≡ true → (reply ≡ Refused DiskFault → ⊥) → old.books.free_places ≤ new.books.free_places + if_changed old.books.running (commit_places old.books) 0
+  pub room : (f : Session) → IsSession old f → IsRoomOf old.books.geom f (room_of old)
+  pub awaits : (p t : ℕ) → new.crash.awaits p t → old.crash.awaits p t ⊎ AwaitsSince old p t
+  pub may : (p t : ℕ) → new.crash.awaits p t → MayAwait new p t
+  pub known : (n : ℕ) → cmd ≡ Durable → reply ≡ Known n → (n ≡ new.books.floor) × (new.books.stopped ≡ false) × (new.books.point ≡ old.books.point)
+  pub still : new.books.stopped ≡ false → new.books.floor < new.books.point → ∥ StillAwaits new (new.books.floor + 1) ∥₁
+
 -- how a command was answered, and what came with it
 pub record IsAnswered (cmd : Cmd) (reply : Reply) (old new : State) : Type 0 where
   pub serves : (g : Geometry) (t : Tree) (mounted : ℕ) (cmds : List Cmd) (replies : List Reply) (marks : List ℕ) → HasServed g t mounted cmds replies marks old → HasServed g t mounted (cmds ++ cmd ∷ []) (replies ++ reply ∷ []) (marks ++ length new.crash.log ∷ []) new
@@ -98,6 +129,7 @@ pub record IsAnswered (cmd : Cmd) (reply : Reply) (old new : State) : Type 0 whe
   pub lawful : IsLogOf new.books.geom.n new.crash.log
   pub events : length new.crash.log < 2 ^ 64
   pub steps : StepsOn cmd reply old new
+  pub waits : WaitsOn cmd reply old new
 
 -- However the commands go on behind these, with such a command first, the text and that command's line begin the trace of some run.
 pub record GoesOnWith (g : Geometry) (cmds : List Cmd) (text : List ℕ) (cmd : Cmd) (more : List Cmd) : Type 0 where
@@ -110,7 +142,7 @@ pub record Records (set : Setting) (cmds : List Cmd) (text : List ℕ) (s : Stat
   pub replies : List Reply
   pub marks : List ℕ
   pub ran : Ran set.shape mounted cmds replies marks s
-  pub paced : PacedRun set.manner mounted cmds replies marks s
+  pub paced : PacedRun set.shape set.manner mounted cmds replies marks s
   pub is : text ≡ front_of (says set.shape s.crash.log mounted cmds replies marks)
   pub served : Each IsCommand cmds → ServesBy set cmds text
   pub ends : (cmd : Cmd) (more : List Cmd) → GoesOnWith set.shape cmds text cmd more

@@ -1,10 +1,11 @@
 //! The mount of the disk of a recording, and the file system that is opened on it. A formatted disk is refused by
 //! neither, but for a call of the disk that fails and for want of memory.
 
-ghost use Rattle.std.specs.Prelude.{◌≡◌, ◌<◌, ◌^◌, true, length, IfOk};
+ghost use Rattle.std.specs.Prelude.{◌≡◌, ◌<◌, ◌+◌, ◌^◌, false, true, length, IfOk};
 ghost use Rattle.opt_disk.specs.Lawful.{IsLogOf};
 ghost use Rattle.opt_disk.specs.Manner.{GoesBy, HasFailedBy};
 ghost use Rattle.opt_memdisk.specs.MemDisk.{state_of as disk_state};
+ghost use Rattle.opt_blocks.specs.Crashes.{IsTold, StillAwaits};
 ghost use Rattle.opt_store.specs.StoreOf.{state_of};
 ghost use Rattle.opt_fs.specs.Opened.{blocks_in};
 ghost use Rattle.optfs.specs.Disks.{HasFault, HoldsRoot, IsFormatted, IsMounted, ShowsRoot};
@@ -116,15 +117,19 @@ fn failed(geom: &Geom, disk: MemDisk) -> Mounted
 }
 
 /// The log of the disk under a file system is one of as many blocks as the geometry says, and the number of its
-/// events has 64 bits. The disk keeps to its manner; and where a call of it failed, it was the last one. This does
-/// nothing.
+/// events has 64 bits. The disk keeps to its manner; and where a call of it failed, it was the last one. What is known
+/// of maps of blocks holds, and where the last point isn't known to be durable, the next one waits for a ticket. This
+/// does nothing.
 pub fn the_disk_keeps_to_its_manner(system: &System)
     ensures log { IsLogOf (state_of disk_state (blocks_in system.now)).books.geom.n (state_of disk_state (blocks_in system.now)).crash.log }
     ensures events { length (state_of disk_state (blocks_in system.now)).crash.log < 2 ^ 64 }
     ensures writes { GoesBy (state_of disk_state (blocks_in system.now)).counts.ticks.manner (state_of disk_state (blocks_in system.now)).crash.log }
     ensures reads { 0 < (state_of disk_state (blocks_in system.now)).counts.read_faults → (state_of disk_state (blocks_in system.now)).counts.ticks.manner.reads_fail ≡ true }
     ensures fails { (state_of disk_state (blocks_in system.now)).books.stopped ≡ true → ∥ HasFailedBy (state_of disk_state (blocks_in system.now)).counts.ticks.manner (state_of disk_state (blocks_in system.now)).crash.log ∥₁ }
+    ensures told { IsTold (state_of disk_state (blocks_in system.now)) }
+    ensures waits { (state_of disk_state (blocks_in system.now)).books.stopped ≡ false → (state_of disk_state (blocks_in system.now)).books.floor < (state_of disk_state (blocks_in system.now)).books.point → ∥ StillAwaits (state_of disk_state (blocks_in system.now)) ((state_of disk_state (blocks_in system.now)).books.floor + 1) ∥₁ }
 {
+    system.lawful();
     system.blocks().lawful();
     a_disk_keeps_to_its_manner(system.blocks().disk());
 }

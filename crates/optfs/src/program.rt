@@ -5,7 +5,7 @@
 
 ghost use Rattle.std.specs.Prelude.{◌≡◌, ℕ, ◌^◌, ◌≤◌, true, false, List, [], ◌++◌, take, Option, IfOk, IsOk, OnOk, OnErr, ◌↔◌};
 ghost use Rattle.std.specs.Io.KnownBytes.{Appends};
-ghost use Rattle.opt_base.specs.Counts.{HasCause};
+ghost use Rattle.opt_base.specs.Counts.{HasCause, Rose};
 ghost use Rattle.opt_disk.specs.Manner.{Manner};
 ghost use Rattle.opt_geom.specs.Geometry.{geometry_fits};
 ghost use Rattle.opt_memdisk.specs.MemDisk.{state_of as disk_state};
@@ -16,7 +16,7 @@ ghost use Rattle.opt_words.specs.Words.{request_of};
 ghost use Rattle.optfs.specs.Disks.{FailedToMount, IsOpened, setting_on};
 ghost use Rattle.optfs.specs.Follows.{StopsByCause};
 ghost use Rattle.optfs.specs.Mounting.{Mounts};
-ghost use Rattle.optfs.specs.Program.{Does, HasFault, RecordsTo, Tells, is_recording, setting_of, shape_of};
+ghost use Rattle.optfs.specs.Program.{Completes, Does, HasFault, RecordsTo, Tells, is_recording, setting_of, shape_of};
 ghost use Rattle.optfs.specs.Reading.{AtEnding, Halted};
 
 use crate::disk::{Behaviour, formatted_disk};
@@ -56,6 +56,9 @@ pub fn optfs<S: Source, K: Sink, Y: Bay>(
     // A fault comes only where the count of the one that failed rose.
     ensures faults { HasFault result (S.faults input.old) (S.faults input.new) (K.faults out.old) (K.faults out.new) }
     ensures counts { (S.faults input.old ≤ S.faults input.new) × (K.faults out.old ≤ K.faults out.new) }
+
+    // Completeness: a recording that is asked for ends as it should, but for such faults and for want of memory.
+    ensures completes { Completes (request_of words.now) result (Rose (S.faults input.old) (S.faults input.new)) (Rose (K.faults out.old) (K.faults out.new)) }
 
     ensures bay { bay.new ≡ bay.old }
 {

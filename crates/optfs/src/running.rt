@@ -13,7 +13,9 @@ ghost use Rattle.optfs.specs.Running.{IsAnswered, KnownRun, Ran, RunLaws};
 use crate::mounting::{System, the_disk_keeps_to_its_manner};
 use opt_fs::{
     a_command_begins_with_a_tick, a_command_is_answered_in_a_room_that_came_back,
-    a_command_raises_the_numbers_little, a_refusal_for_the_disk_has_its_cause,
+    a_command_raises_the_numbers_little, a_command_takes_the_places_of_its_record,
+    a_command_that_needs_no_wait_makes_none, a_refusal_for_the_disk_has_its_cause,
+    a_sync_waits_for_records_alone,
 };
 use opt_memdisk::MemDisk;
 use opt_session::{a_run_may_end_at_once, the_writes_keep_within_the_budget};
@@ -33,6 +35,10 @@ pub fn answer(alloc: Global, system: &mut System, cmd: &Cmd) -> Reply
     a_command_begins_with_a_tick::<Store<MemDisk>>();
     a_refusal_for_the_disk_has_its_cause::<Store<MemDisk>>();
     a_command_raises_the_numbers_little::<Store<MemDisk>>();
+    a_command_that_needs_no_wait_makes_none::<Store<MemDisk>>();
+    a_sync_waits_for_records_alone::<Store<MemDisk>>();
+    a_command_takes_the_places_of_its_record::<Store<MemDisk>>();
+    system.lawful();
     let reply = system.apply(alloc, cmd);
     the_disk_keeps_to_its_manner(system);
     reply
