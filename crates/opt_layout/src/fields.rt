@@ -30,11 +30,15 @@ pub fn number_8(bytes: &[u8], at: usize) -> u64
     LittleEndian::read_u64(&bytes[at..])
 }
 
-/// Whether every byte is zero.
+/// Whether every byte is zero. All bytes are looked at, so that many can be at once.
 pub fn are_zeros(bytes: &[u8]) -> bool
     ensures { result ≡ are_zeros bytes.now }
 {
-    bytes.iter().all(|byte| *byte == 0)
+    let mut greatest = 0u8;
+    for byte in bytes {
+        greatest = greatest.max(*byte);
+    }
+    greatest == 0
 }
 
 /// Whether every byte from `at` up to byte `end` is zero.
