@@ -3,3 +3,4 @@ pub mod States
 pub mod Replays
 pub mod Opens
 pub mod OnlyWrite
+pub mod Writes

@@ -4,7 +4,7 @@ use Rattle.opt_base.specs.Seal.{Blocks}
 use Rattle.opt_disk.specs.declared.event.Event.{Event}
 use Rattle.opt_disk.specs.Cell.{Cell}
 use Rattle.opt_disk.specs.Crash.{Window}
-use Rattle.opt_disk.specs.Disk.{State, Grows}
+use Rattle.opt_disk.specs.Disk.{State, Grows, writes_in}
 use Rattle.opt_geom.specs.Geometry.{Geometry, bitmap_start}
 use Rattle.opt_journal.specs.declared.header.Header.{Header}
 use Rattle.opt_journal.specs.Run.{Record}
@@ -59,6 +59,7 @@ pub record IsOnItsWay (tells : Bool) (h : Header) (rs : List Record) (old now : 
   pub low : bitmap_start h.geom ≤ b
   pub spends : MountSpends false false (b - bitmap_start h.geom) old now
   pub grows : IsTrue tells → Grows old.log now.log
+  pub written : IsTrue tells → writes_in now.log ≤ writes_in old.log + (b - bitmap_start h.geom)
   pub steps : IsTrue tells → Steps h rs old now (bitmap_start h.geom) b
   pub keeps : IsTrue tells → Keeps h rs old now (bitmap_start h.geom)
 
@@ -68,6 +69,7 @@ way_begins tells h rs s keeps = record {
   low = omega arith;
   spends = spends_none s _;
   grows = λ t. grows_none s.log;
+  written = λ t. omega arith;
   steps = λ t at slot old_slot closed found r. r;
   keeps = keeps;
 }
@@ -78,12 +80,13 @@ way_keeps joins tells h rs old mid new b way grows keeps t at slot old_slot clos
     stays_on joins h rs at old mid new way.spends.same.base (way.grows t) (grows t) (way.keeps t at slot old_slot closed found r) (keeps t at slot old_slot closed found (way.steps t at slot old_slot closed found r))
 
 -- it goes on
-pub way_on : Joins → (tells : Bool) (h : Header) (rs : List Record) (old mid new : State) (b : ℕ) → IsOnItsWay tells h rs old mid b → MountSpends false false 1 mid new → (IsTrue tells → Grows mid.log new.log) → (IsTrue tells → Steps h rs mid new b (b + 1)) → (IsTrue tells → Keeps h rs mid new b)
+pub way_on : Joins → (tells : Bool) (h : Header) (rs : List Record) (old mid new : State) (b : ℕ) → IsOnItsWay tells h rs old mid b → MountSpends false false 1 mid new → (IsTrue tells → Grows mid.log new.log) → (IsTrue tells → writes_in new.log ≤ writes_in mid.log + 1) → (IsTrue tells → Steps h rs mid new b (b + 1)) → (IsTrue tells → Keeps h rs mid new b)
     → IsOnItsWay tells h rs old new (b + 1)
-way_on joins tells h rs old mid new b way spends grows steps keeps = record {
+way_on joins tells h rs old mid new b way spends grows written steps keeps = record {
   low = omega (arith, way.low);
   spends = spends_on false false (b - bitmap_start h.geom) 1 (b + 1 - bitmap_start h.geom) old mid new (omega (arith, way.low)) way.spends spends;
   grows = λ t. grows_on old.log mid.log new.log (way.grows t) (grows t);
+  written = λ t. omega (arith, way.low, way.written t, written t);
   steps = λ t at slot old_slot closed found r. steps t at slot old_slot closed found (way.steps t at slot old_slot closed found r);
   keeps = way_keeps joins tells h rs old mid new b way grows keeps;
 }

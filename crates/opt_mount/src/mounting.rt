@@ -6,7 +6,7 @@ ghost use Rattle.opt_disk.specs.Crash.{Window};
 ghost use Rattle.opt_geom.specs.Geometry.{Geometry};
 ghost use Rattle.opt_journal.specs.declared.header.Header as headers;
 ghost use Rattle.opt_journal.specs.Run.{Record, IsRun, live_part};
-ghost use Rattle.opt_disk.specs.Disk.{Grows, HasFailed};
+ghost use Rattle.opt_disk.specs.Disk.{Grows, HasFailed, writes_in};
 ghost use Rattle.opt_crash.specs.Ledger.{HoldsUnder, cells_of};
 ghost use Rattle.opt_crash.specs.Mounting.{HasBegun};
 ghost use Rattle.opt_crash.specs.Opening.{opening_header, IsReadyToOpen, WritesOnce};
@@ -21,8 +21,8 @@ use crate::refusal::MountRefusal;
 use crate::replay::replay_found;
 use opt_crash::{
     HoldsMap, a_replay_goes_block_by_block, a_window_reaches_back,
-    an_idle_disk_holds_what_is_settled, calls_only_add, open_journal, opening_header,
-    windows_go_on,
+    an_idle_disk_holds_what_is_settled, calls_add_at_most_one_write, calls_only_add, open_journal,
+    opening_header, windows_go_on,
 };
 use opt_disk::Disk;
 use opt_journal::{Header, an_image_holds_one_map, journal_blocks_keep_to_their_bounds};
@@ -54,6 +54,7 @@ pub fn mount<D: Disk>(alloc: Global, disk: &mut D) -> Result<Mounted, MountRefus
     ensures refused { IsTrue D.tells → IsIdle (D.state disk.old) → IfErr result (RefusalSays (D.state disk.old) (D.state disk.new)) }
     ensures spends { MountSpends (is_unread result) (is_faulty result) ((D.state disk.old).blocks + 2) (D.state disk.old) (D.state disk.new) }
     ensures cause { IsTrue D.tells → is_faulty result ≡ true → HasFailed (D.state disk.new) }
+    ensures written { IsTrue D.tells → writes_in (D.state disk.new).log ≤ writes_in (D.state disk.old).log + ((D.state disk.old).blocks + 2) }
     ensures anew { IfOk result (λ q. OpensAnew q.header (D.state disk.old) (D.state disk.new)) }
     ensures alone { IsTrue D.tells → IsIdle (D.state disk.old) → HasNothingToReplay (D.state disk.old) → WritesOnce (D.state disk.old).manner result (D.state disk.old).log (D.state disk.new).log }
 {
@@ -82,6 +83,7 @@ pub fn open<D: Disk>(disk: &mut D, found: &Found) -> Result<Mounted, MountRefusa
     ensures fault { IfErr result IsFault }
     ensures spends { MountSpends (is_unread result) (is_faulty result) ((D.state disk.old).blocks + 2) (D.state disk.old) (D.state disk.new) }
     ensures cause { IsTrue D.tells → is_faulty result ≡ true → HasFailed (D.state disk.new) }
+    ensures written { IsTrue D.tells → writes_in (D.state disk.new).log ≤ writes_in (D.state disk.old).log + ((D.state disk.old).blocks + 2) }
     ensures anew { IfOk result (λ q. OpensAnew q.header (D.state disk.old) (D.state disk.new)) }
     ensures alone { IsTrue D.tells → found.now.run.records ≡ [] → WritesOnce (D.state disk.old).manner result (D.state disk.old).log (D.state disk.new).log }
 {
@@ -105,6 +107,7 @@ fn open_found<D: Disk>(disk: &mut D, run: &Run, epoch: u64) -> Result<Mounted, M
     ensures fault { IfErr result IsFault }
     ensures spends { MountSpends (is_unread result) (is_faulty result) (run.now.header.geom.n + 2) (D.state disk.old) (D.state disk.new) }
     ensures cause { IsTrue D.tells → is_faulty result ≡ true → HasFailed (D.state disk.new) }
+    ensures written { IsTrue D.tells → writes_in (D.state disk.new).log ≤ writes_in (D.state disk.old).log + (run.now.header.geom.n + 2) }
     ensures anew { IfOk result (λ q. OpensAnew q.header (D.state disk.old) (D.state disk.new)) }
     ensures alone { IsTrue D.tells → run.now.records ≡ [] → WritesOnce (D.state disk.old).manner result (D.state disk.old).log (D.state disk.new).log }
 {
@@ -146,10 +149,12 @@ fn open_after<D: Disk>(
     ensures fault { IfErr result IsFault }
     ensures spends { MountSpends (is_unread result) (is_faulty result) 1 (D.state disk.old) (D.state disk.new) }
     ensures cause { IsTrue D.tells → is_faulty result ≡ true → HasFailed (D.state disk.new) }
+    ensures written { IsTrue D.tells → writes_in (D.state disk.new).log ≤ writes_in (D.state disk.old).log + 1 }
     ensures anew { IfOk result (λ q. OpensAnew q.header (D.state disk.old) (D.state disk.new)) }
     ensures alone { IsTrue D.tells → WritesOnce (D.state disk.old).manner result (D.state disk.old).log (D.state disk.new).log }
 {
     calls_only_add();
+    calls_add_at_most_one_write();
     match open_journal(disk, slot, newest, last, epoch) {
         Err(_) => Err(MountRefusal::DiskFault),
         Ok(()) => Ok(Mounted {

@@ -3,7 +3,7 @@
 
 ghost use Rattle.std.specs.Prelude.{◌≡◌, ◌<◌, ◌≤◌, ◌+◌, ◌-◌, ◌^◌, ℕ, true, List, IsTrue, IfOk, IfErr, OnOk, Some, None, is_err, length};
 ghost use Rattle.opt_base.specs.Seal.{Blocks};
-ghost use Rattle.opt_disk.specs.Disk.{Grows, HasFailed, OnlyReads};
+ghost use Rattle.opt_disk.specs.Disk.{Grows, HasFailed, OnlyReads, writes_in};
 ghost use Rattle.opt_disk.specs.Crash.{Window};
 ghost use Rattle.opt_geom.specs.Geometry.{bitmap_start, ring_block};
 ghost use Rattle.opt_journal.specs.declared.header.Header as headers;
@@ -18,8 +18,8 @@ use crate::refusal::MountRefusal;
 use opt_base::Block;
 use opt_crash::{
     HoldsMap, a_read_gives_what_was_written_last, a_replay_goes_block_by_block,
-    a_replay_holds_what_was_found, an_idle_disk_holds_what_is_settled, calls_only_add,
-    close_journal, closed_header, replay_block, windows_go_on,
+    a_replay_holds_what_was_found, an_idle_disk_holds_what_is_settled, calls_add_at_most_one_write,
+    calls_only_add, close_journal, closed_header, replay_block, windows_go_on,
 };
 use opt_disk::{Disk, DiskFault};
 use opt_journal::{Header, journal_blocks_keep_to_their_bounds, unescape};
@@ -46,6 +46,7 @@ pub(crate) fn replay_found<D: Disk>(disk: &mut D, run: &Run) -> Result<Closed, M
     ensures fault { IfErr result IsFault }
     ensures spends { MountSpends (is_unread result) (is_faulty result) (run.now.header.geom.n + 1) (D.state disk.old) (D.state disk.new) }
     ensures cause { IsTrue D.tells → is_faulty result ≡ true → HasFailed (D.state disk.new) }
+    ensures written { IsTrue D.tells → writes_in (D.state disk.new).log ≤ writes_in (D.state disk.old).log + (run.now.header.geom.n + 1) }
 {
     windows_go_on::<HoldsMap>();
     let closed = close_run(disk, run)?;
@@ -67,12 +68,14 @@ pub(crate) fn close_run<D: Disk>(disk: &mut D, run: &Run) -> Result<Closed, Moun
     ensures fault { IfErr result IsFault }
     ensures spends { MountSpends (is_unread result) (is_faulty result) 1 (D.state disk.old) (D.state disk.new) }
     ensures cause { IsTrue D.tells → is_faulty result ≡ true → HasFailed (D.state disk.new) }
+    ensures written { IsTrue D.tells → writes_in (D.state disk.new).log ≤ writes_in (D.state disk.old).log + 1 }
 {
     journal_blocks_keep_to_their_bounds();
     a_replay_goes_block_by_block();
     an_idle_disk_holds_what_is_settled();
     windows_go_on::<HoldsMap>();
     calls_only_add();
+    calls_add_at_most_one_write();
     let newest = run.header();
     newest.geom.lawful();
     if closes(newest, run.last()) {
@@ -111,6 +114,7 @@ pub(crate) fn replay_run<D: Disk>(disk: &mut D, run: &Run) -> Result<(), MountRe
     ensures fault { IfErr result IsFault }
     ensures spends { MountSpends (is_unread result) (is_faulty result) run.now.header.geom.n (D.state disk.old) (D.state disk.new) }
     ensures cause { IsTrue D.tells → is_faulty result ≡ true → HasFailed (D.state disk.new) }
+    ensures written { IsTrue D.tells → writes_in (D.state disk.new).log ≤ writes_in (D.state disk.old).log + run.now.header.geom.n }
 {
     a_replay_holds_what_was_found();
     windows_go_on::<HoldsMap>();
@@ -135,6 +139,7 @@ fn replay_payload<D: Disk>(disk: &mut D, run: &Run, b: u32) -> Result<(), MountR
     ensures fault { IfErr result IsFault }
     ensures spends { MountSpends (is_unread result) (is_faulty result) 1 (D.state disk.old) (D.state disk.new) }
     ensures cause { IsTrue D.tells → is_faulty result ≡ true → HasFailed (D.state disk.new) }
+    ensures written { IsTrue D.tells → writes_in (D.state disk.new).log ≤ writes_in (D.state disk.old).log + 1 }
 {
     a_replay_goes_block_by_block();
     a_replay_holds_what_was_found();
@@ -158,8 +163,10 @@ fn write_payload<D: Disk>(disk: &mut D, b: u32, bytes: &Block) -> Result<(), Mou
     ensures fault { IfErr result IsFault }
     ensures spends { MountSpends (is_unread result) (is_faulty result) 1 (D.state disk.old) (D.state disk.new) }
     ensures cause { IsTrue D.tells → is_faulty result ≡ true → HasFailed (D.state disk.new) }
+    ensures written { IsTrue D.tells → writes_in (D.state disk.new).log ≤ writes_in (D.state disk.old).log + 1 }
 {
     calls_only_add();
+    calls_add_at_most_one_write();
     match replay_block(disk, b, bytes) {
         Err(_) => Err(MountRefusal::DiskFault),
         Ok(()) => Ok(()),

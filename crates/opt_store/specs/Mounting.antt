@@ -43,11 +43,12 @@ pub record GoesOnFrom (d : disk.State) (s : State) : Type 0 where
   pub is_found : IsFoundOn d found
   pub most : s.books.turns ≤ max (found.run.header.turn + 2) (last_number found.run.header (length found.run.records) + 1)
 
--- What a mount leaves of the disk, whatever comes of it: where the disk tells, each honest image since the call began holds the map that the disk held, and a call other than a read failed only for a reason that the disk's manner has; and so much was spent.
+-- What a mount leaves of the disk, whatever comes of it: where the disk tells, each honest image since the call began holds the map that the disk held, a call other than a read failed only for a reason that the disk's manner has, and the writes that it added, lost ones included, are at most as many as the disk has blocks, and two; and so much was spent.
 pub record LeavesDisk (tells unread faulty : Bool) (old new : disk.State) : Type 0 where
   pub holds : IsTrue tells → (g : Geometry) (m : Blocks) → HoldsUnder old.blocks g (settled_on old) m → Window old.blocks old.base new.log (length old.log) (λ img. HoldsUnder old.blocks g img m)
   pub spends : MountSpends unread faulty (old.blocks + 2) old new
   pub cause : IsTrue tells → faulty ≡ true → disk.HasFailed new
+  pub written : IsTrue tells → disk.writes_in new.log ≤ disk.writes_in old.log + (old.blocks + 2)
 
 -- what is settled on the disk holds some map under a header of the geometry, and each that it holds so is that of the last point
 pub record HoldsLast (d : disk.State) (s : State) : Type 0 where

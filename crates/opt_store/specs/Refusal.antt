@@ -1,5 +1,5 @@
 -- Why a store wasn't opened, what a refusal says of the disk, and which counts it raises.
-use Rattle.std.specs.Prelude.{◌≡◌, ⊤, ℕ, ◌+◌, ◌<◌, Bool, true, false, List, length, Result, Ok, Err}
+use Rattle.std.specs.Prelude.{◌≡◌, ◌⊎◌, ℕ, ◌+◌, ◌<◌, Bool, true, false, List, length, Result, Ok, Err}
 use Rattle.opt_base.specs.Seal.{Blocks, blocks_of}
 use Rattle.opt_disk.specs.Disk.{State}
 use Rattle.opt_geom.specs.Geometry.{Geometry, bitmap_blocks, bitmap_start}
@@ -60,12 +60,12 @@ pub record HasBadBit (d : State) (b : ℕ) : Type 0 where
   pub left : HasNumbersLeft d found
   pub bad : IsLeastBad found.run.header.geom (replayed_bitmap found.run (settled_on d)) b
 
--- What a refusal says of the disk; where it comes from what is on the disk, or from want of memory, nothing was written. A write or a wait fails only where the disk may be mounted; a read may fail before that is known.
+-- What a refusal says of the disk; where it comes from what is on the disk, or from want of memory, nothing was written. A write or a wait fails only where the disk may be mounted; a read fails before anything is written, or where the disk may be mounted.
 abbrev pub RefusalSays : State → State → StoreRefusal → Type 0
 RefusalSays old new NoHeader = ((slot : ℕ) (h : Header) → ¬ Newest old.blocks (settled_on old) slot h) × (new.log ≡ old.log)
 RefusalSays old new (BadBit b) = HasBadBit old b × (new.log ≡ old.log)
 RefusalSays old new Spent = IsUsedUp old.blocks (settled_on old) × (new.log ≡ old.log)
-RefusalSays old new ReadFault = ⊤
+RefusalSays old new ReadFault = (new.log ≡ old.log) ⊎ MayBeMounted old
 RefusalSays old new DiskFault = MayBeMounted old
 RefusalSays old new NoMemory = new.log ≡ old.log
 

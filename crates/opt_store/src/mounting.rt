@@ -2,7 +2,7 @@
 //! journal is opened under a new epoch. What a mount writes is described by `opt_mount`.
 
 ghost use Rattle.std.specs.Prelude.{◌≡◌, ◌<◌, ◌≤◌, ◌+◌, ℕ, true, IsTrue, IfOk, IfErr, length};
-ghost use Rattle.opt_disk.specs.Disk.{HasFailed};
+ghost use Rattle.opt_disk.specs.Disk.{HasFailed, writes_in};
 ghost use Rattle.opt_base.specs.Seal.{Blocks};
 ghost use Rattle.opt_disk.specs.Crash.{Window};
 ghost use Rattle.opt_cache.specs.Cache.{empty_cache};
@@ -55,6 +55,7 @@ pub(crate) fn open_parts<D: Disk>(
     ensures refused { IsTrue D.tells → IfErr result (RefusalSays (D.state disk.old) (D.state disk.new)) }
     ensures spends { MountSpends (is_unread result) (is_faulty result) ((D.state disk.old).blocks + 2) (D.state disk.old) (D.state disk.new) }
     ensures cause { IsTrue D.tells → is_faulty result ≡ true → HasFailed (D.state disk.new) }
+    ensures written { IsTrue D.tells → writes_in (D.state disk.new).log ≤ writes_in (D.state disk.old).log + ((D.state disk.old).blocks + 2) }
     ensures numbers { IsTrue D.tells → IfOk result (λ v. (ticks : ℕ) → GoesOnFrom (D.state disk.old) (store_state v ticks (D.state disk.new))) }
     ensures alone { IsTrue D.tells → HasNothingToReplay (D.state disk.old) → WritesOnce (D.state disk.old).manner result (D.state disk.old).log (D.state disk.new).log }
 {

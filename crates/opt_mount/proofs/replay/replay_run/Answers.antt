@@ -33,7 +33,7 @@ returns-in_err-replay_payload-clause-spends g c =
     spends_on _ _ (c.loop-b.b - bitmap_start c.args.run.now.header.geom) 1 _ _ _ _ (omega (arith, within, c.loop-b.invariant.low)) c.loop-b.invariant.spends step
 
 pub loop-b-preserved : goal.loop-b-preserved
-loop-b-preserved g c = way_on c.windows_go_on.ensures.joins g.D.Disk.tells c.args.run.now.header c.args.run.now.records (g.D.Disk.state c.args.disk.now) (g.D.Disk.state c.loop-b.disk) (g.D.Disk.state c.replay_payload.new.disk) c.loop-b.b c.loop-b.invariant c.in_ok-replay_payload.ensures.spends c.replay_payload.ensures.grows c.in_ok-replay_payload.ensures.next c.replay_payload.ensures.holds
+loop-b-preserved g c = way_on c.windows_go_on.ensures.joins g.D.Disk.tells c.args.run.now.header c.args.run.now.records (g.D.Disk.state c.args.disk.now) (g.D.Disk.state c.loop-b.disk) (g.D.Disk.state c.replay_payload.new.disk) c.loop-b.b c.loop-b.invariant c.in_ok-replay_payload.ensures.spends c.replay_payload.ensures.grows c.replay_payload.ensures.written c.in_ok-replay_payload.ensures.next c.replay_payload.ensures.holds
 
 pub returns-clause-replayed : goal.returns-clause-replayed
 returns-clause-replayed g c = λ tells at slot old_slot closed found r.
@@ -50,3 +50,14 @@ pub returns-clause-spends : goal.returns-clause-spends
 returns-clause-spends g c =
     let upto : c.loop-b.b ≤ c.header.result.now.geom.n = omega (arith, c.loop-b.auto.b-end, c.n-b-end.ensures, c.bitmap_start-b.ensures, c.lawful.ensures.limits.data_room) in
     spends_less _ _ _ _ _ _ (subst (λ (k : Header). c.loop-b.b - bitmap_start c.args.run.now.header.geom ≤ k.geom.n) c.header.ensures (omega (arith, upto))) c.loop-b.invariant.spends
+
+pub returns-in_err-replay_payload-clause-written : goal.returns-in_err-replay_payload-clause-written
+returns-in_err-replay_payload-clause-written g c = λ tells.
+    let within : c.loop-b.b < c.args.run.now.header.geom.n = subst (λ (k : Header). c.loop-b.b < k.geom.n) c.header.ensures (omega (arith, c.loop-b-test.true, c.n-b-end.ensures)) in
+    omega (arith, within, c.loop-b.invariant.low, c.loop-b.invariant.written tells, c.replay_payload.ensures.written tells)
+
+pub returns-clause-written : goal.returns-clause-written
+returns-clause-written g c = λ tells.
+    let upto : c.loop-b.b ≤ c.header.result.now.geom.n = omega (arith, c.loop-b.auto.b-end, c.n-b-end.ensures, c.bitmap_start-b.ensures, c.lawful.ensures.limits.data_room) in
+    let low : c.loop-b.b ≤ c.args.run.now.header.geom.n = subst (λ (k : Header). c.loop-b.b ≤ k.geom.n) c.header.ensures upto in
+    omega (arith, low, c.loop-b.invariant.written tells)

@@ -15,10 +15,10 @@ pub returns-in-Ok-clause-begins : goal.returns-in-Ok-clause-begins
 returns-in-Ok-clause-begins g c = λ tells k m held. c.in-Ok.ensures.begins tells k m held 0
 
 pub returns-in-Ok-clause-leaves : goal.returns-in-Ok-clause-leaves
-returns-in-Ok-clause-leaves g c = record { holds = c.in-Ok.ensures.holds; spends = c.in-Ok.ensures.spends; cause = λ tells never. absurd (false≢true never) }
+returns-in-Ok-clause-leaves g c = record { holds = c.in-Ok.ensures.holds; spends = c.in-Ok.ensures.spends; cause = λ tells never. absurd (false≢true never); written = c.in-Ok.ensures.written }
 
 pub returns-in-Err-clause-back : goal.returns-in-Err-clause-back
-returns-in-Err-clause-back g c = record { holds = c.in-Err.ensures.holds; spends = c.in-Err.ensures.spends; cause = c.in-Err.ensures.cause }
+returns-in-Err-clause-back g c = record { holds = c.in-Err.ensures.holds; spends = c.in-Err.ensures.spends; cause = c.in-Err.ensures.cause; written = c.in-Err.ensures.written }
 
 pub returns-in-Ok-clause-numbers : goal.returns-in-Ok-clause-numbers
 returns-in-Ok-clause-numbers g c = λ tells. c.in-Ok.ensures.numbers tells 0
