@@ -8,7 +8,7 @@ use Rattle.opt_disk.specs.Manner.{Manner}
 use Rattle.opt_disk.specs.declared.event.Event.{Event}
 use Rattle.opt_disk.specs.Cell.{cell_of}
 use Rattle.opt_disk.specs.Crash.{IsHonest, Window}
-use Rattle.opt_disk.specs.Disk.{State, writes_in}
+use Rattle.opt_disk.specs.Disk.{State}
 use Rattle.opt_disk.specs.Lawful.{IsSoundDisk}
 use Rattle.opt_geom.specs.Geometry.{Geometry}
 use Rattle.opt_journal.specs.declared.header.Header.{Header}
@@ -21,7 +21,6 @@ use Rattle.opt_crash.specs.Replay.{found_map}
 use Rattle.opt_mount.specs.declared.refusal.MountRefusal.{MountRefusal}
 use Rattle.opt_mount.specs.declared.refusal.MountRefusal.TheVariants as mounting
 use Rattle.opt_mount.specs.Mount.{FoundDisk, GoesOn, IsFoundOn, IsIdle, MountSpends, settled_on}
-use Rattle.opt_mount.specs.Mount as opened
 use Rattle.opt_mount.specs.Refusal as mount
 use Rattle.opt_blocks.specs.Crashes.{StandsForLast}
 use Rattle.opt_books.specs.Books.{TransactionBooks}
@@ -127,14 +126,6 @@ spends_since tells unread faulty old mid new s two = record {
   polls = two.polls ∙ s.only.polls;
 }
 
--- how much is written behind a search, which adds nothing
-pub written_since : (old mid new : State) → mid.blocks ≡ old.blocks → mid.log ≡ old.log → writes_in new.log ≤ writes_in mid.log + (mid.blocks + 2) → writes_in new.log ≤ writes_in old.log + (old.blocks + 2)
-written_since old mid new size same le = omega (arith, size, ap writes_in same, le)
-
--- where nothing was added, nothing was written
-pub written_none : (old new : State) → new.log ≡ old.log → writes_in new.log ≤ writes_in old.log + (old.blocks + 2)
-written_none old new same = omega (arith, ap writes_in same)
-
 -- The refusals of a mount.
 
 unread_of : (Q : Type 0) (why : MountRefusal) → is_read_fault (refusal_of why) ≡ mount.is_unread {T = Q} (Err why)
@@ -155,17 +146,6 @@ faulty_of Q mounting.NoMemory = refl
 pub refused_spends : (Q : Type 0) (most : ℕ) (why : MountRefusal) (is : StoreRefusal) (old new : State) → is ≡ refusal_of why → MountSpends (mount.is_unread {T = Q} (Err why)) (mount.is_faulty {T = Q} (Err why)) most old new → MountSpends (is_read_fault is) (is_disk_fault is) most old new
 refused_spends Q most why is old new same s = subst (λ (x : StoreRefusal). MountSpends (is_read_fault x) (is_disk_fault x) most old new) (sym same)
     (subst₂ (λ (u f : Bool). MountSpends u f most old new) (sym (unread_of Q why)) (sym (faulty_of Q why)) s)
-
--- What the refusal of a search says of a mount: a failed read came before anything was written.
-pub search_says : (old new : State) (why : MountRefusal) (is : StoreRefusal) → is ≡ refusal_of why → mount.is_faulty {T = FoundDisk} (Err why) ≡ false → new.log ≡ old.log → opened.RefusalSays old new why → RefusalSays old new is
-search_says old new why is same calm log of = subst (RefusalSays old new) (sym same) (says why calm of)
-  where
-    says : (x : MountRefusal) → mount.is_faulty {T = FoundDisk} (Err x) ≡ false → opened.RefusalSays old new x → RefusalSays old new (refusal_of x)
-    says mounting.NoHeader c o = o
-    says mounting.Spent c o = o
-    says mounting.ReadFault c o = inl log
-    says mounting.DiskFault c o = absurd (false≢true (sym c))
-    says mounting.NoMemory c o = o
 
 -- a call of the disk that failed as the journal was opened says that the disk may be mounted
 pub faults_say : (old new : State) (why : MountRefusal) (is : StoreRefusal) → MayBeMounted old → is ≡ refusal_of why → mount.IsFault why → RefusalSays old new is

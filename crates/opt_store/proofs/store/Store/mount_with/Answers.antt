@@ -22,3 +22,6 @@ returns-in-Err-clause-back g c = record { holds = c.in-Err.ensures.holds; spends
 
 pub returns-in-Ok-clause-numbers : goal.returns-in-Ok-clause-numbers
 returns-in-Ok-clause-numbers g c = λ tells. c.in-Ok.ensures.numbers tells 0
+
+pub returns-in-Ok-clause-alone : goal.returns-in-Ok-clause-alone
+returns-in-Ok-clause-alone g c = c.in-Ok.ensures.alone
