@@ -39,8 +39,8 @@ pub struct Mounted {
 
 /// Mounts a disk on which nothing is pending: closes and replays the run that it has, where there is one, and
 /// opens the journal under a new epoch. A session begins with the map that the disk held, and each honest
-/// image since the call began holds it, whatever comes of the call. Where there is no record to replay, the
-/// header that opens the journal is its only write.
+/// image since the call began holds it, whatever comes of the call. It adds at most as many writes as the disk has
+/// blocks, and two. Where there is no record to replay, the header that opens the journal is its only write.
 ///
 /// # Errors
 /// `NoHeader` and `Spent` come of what is on the disk, and `NoMemory` of want of memory: nothing is written
@@ -69,7 +69,8 @@ pub fn mount<D: Disk>(alloc: Global, disk: &mut D) -> Result<Mounted, MountRefus
 
 /// Mounts a disk on which that was found and nothing is pending: closes and replays the run, where there is
 /// one, and opens the journal under a new epoch. A session begins with the map that the disk held, and each
-/// honest image since the call began holds it, whatever comes of the call.
+/// honest image since the call began holds it, whatever comes of the call. It adds at most as many writes as the disk
+/// has blocks, and two.
 ///
 /// # Errors
 /// `ReadFault` and `DiskFault` come of a call that failed, which the disk has counted.

@@ -178,13 +178,14 @@ impl<D: Disk> Store<D> {
     }
 
     /// Mounts a disk on which nothing is pending, with a cache of at most so many blocks: the session begins with the
-    /// map that the disk held, and each honest image since the call began holds it, whatever comes of the call. Where
-    /// there is no record to replay, the header that opens the journal is its only write.
+    /// map that the disk held, and each honest image since the call began holds it, whatever comes of the call. It adds
+    /// at most as many writes as the disk has blocks, and two. Where there is no record to replay, the header that opens
+    /// the journal is its only write.
     ///
     /// # Errors
     /// The disk comes back, with why. `NoHeader`, `Spent` and `BadBit` come of what is on the disk, in this order, and
     /// `NoMemory` of want of memory: nothing is written then. `ReadFault` and `DiskFault` come of a call that failed,
-    /// which the disk has counted.
+    /// which the disk has counted. Where `ReadFault` comes, nothing was written, or the disk may be mounted.
     pub fn mount_with(alloc: Global, disk: D, capacity: u32) -> Result<Store<D>, (D, StoreRefusal)>
         requires some { 0 < capacity }
         requires most { capacity ≤ 65536 }
