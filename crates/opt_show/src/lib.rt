@@ -5,6 +5,7 @@
 #![tactic(auto)]
 
 mod laws;
+mod lent;
 mod refusal;
 mod show;
 

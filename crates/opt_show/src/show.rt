@@ -14,6 +14,7 @@ ghost use Rattle.opt_show.specs.declared.refusal.ShowRefusal.TheVariants.{NoMemo
 ghost use Rattle.opt_show.specs.Mounted.{IsFresh, IsMarkOf, IsMountedOn, HasTree, ShowsDisk, answer_of, of_bay};
 ghost use Rattle.opt_show.specs.Shows.{HasImage, HasShowCause, LeavesBay, Lists, Refuses, fails_pushing, says_nothing};
 
+use crate::lent::LentDisk;
 use crate::refusal::{ShowRefusal, of_bay, of_check, of_listing, of_store};
 use opt_disk::{Bay, Disk, Mark};
 use opt_fs::Fs;
@@ -70,12 +71,12 @@ fn room_for_a_mark(alloc: Global) -> Result<Vec<Mark>, ShowRefusal>
 ///
 /// # Errors
 /// `Fault`, which the bay has counted, or `NoMemory`.
-fn open_shown<B: Bay>(bay: &mut B, name: &str) -> Result<B::D, ShowRefusal>
-    ensures opens { IfOk result (λ disk. Opens B.tells B.D.state name.now (Ok disk) (B.state bay.old) (B.state bay.new)) }
+fn open_shown<B: Bay>(bay: &mut B, name: &str) -> Result<LentDisk<B>, ShowRefusal>
+    ensures opens { IfOk result (λ lent. Opens B.tells B.D.state name.now (Ok lent.disk) (B.state bay.old) (B.state bay.new)) }
     ensures refused { IfErr result (λ why. (fault : Failure) × (why ≡ of_bay fault) × Opens B.tells B.D.state name.now (Err fault) (B.state bay.old) (B.state bay.new)) }
 {
     match bay.open(name) {
-        Ok(disk) => Ok(disk),
+        Ok(disk) => Ok(LentDisk { disk }),
         Err(fault) => Err(of_bay(fault)),
     }
 }
@@ -194,11 +195,11 @@ fn disk_back<D: Disk + Drop>(store: Store<D>) -> D
 ///
 /// # Errors
 /// The answer of the showing, where it is a refusal; else `Fault`, which the bay has counted, or `NoMemory`.
-fn close_shown<B: Bay>(bay: &mut B, name: &str, left: Left<B::D>) -> Result<(), ShowRefusal>
-    ensures { (back : Result (Unit {0}) Failure) × Closes B.tells name.now (B.D.state left.disk) left.marks.items back (B.state bay.old) (B.state bay.new) × (result ≡ answer_of left.answer back) }
+fn close_shown<B: Bay>(bay: &mut B, name: &str, left: Left<LentDisk<B>>) -> Result<(), ShowRefusal>
+    ensures { (back : Result (Unit {0}) Failure) × Closes B.tells name.now (B.D.state left.disk.disk) left.marks.items back (B.state bay.old) (B.state bay.new) × (result ≡ answer_of left.answer back) }
 {
     let Left {
-        disk,
+        disk: LentDisk { disk },
         marks,
         answer,
     } = left;
