@@ -1,1 +1,3 @@
 pub mod Damages
+pub mod Standing
+pub mod Steps

@@ -10,19 +10,19 @@ use Rattle.opt_disk.specs.Crash.{Window}
 use Rattle.opt_disk.specs.Disk as disk
 use Rattle.opt_crash.specs.Ledger.{HoldsUnder}
 use Rattle.opt_blocks.specs.State.{State}
-use Rattle.opt_tree.specs.Tree.{Tree}
-use Rattle.opt_stands.specs.Stands.{IsTreeOf}
+use Rattle.opt_tree.specs.Step.{Session}
 use Rattle.opt_store.specs.declared.refusal.StoreRefusal.{StoreRefusal}
 use Rattle.opt_store.specs.declared.refusal.StoreRefusal.TheVariants as store
 use Rattle.opt_fsck.specs.declared.checking.CheckRefusal.{CheckRefusal}
 use Rattle.opt_fsck.specs.declared.checking.CheckRefusal.TheVariants as check
+use Rattle.opt_fs.specs.Sessions.{IsSession}
 use Rattle.opt_fs.specs.declared.listing.ListRefusal.{ListRefusal}
 use Rattle.opt_fs.specs.declared.listing.ListRefusal.TheVariants as list
 use Rattle.opt_show.specs.declared.refusal.ImageDamage.TheVariants.{NoHeader, BadBit, Broken}
 use Rattle.opt_show.specs.declared.refusal.ShowRefusal.{ShowRefusal}
 use Rattle.opt_show.specs.declared.refusal.ShowRefusal.TheVariants.{Fault, Damaged, Spent, SinkFault, NoMemory}
 use Rattle.opt_show.specs.Images.{CanBeMounted}
-use Rattle.opt_show.specs.Shows.{HasMark, Lists, RefusesOn, StandsThroughout}
+use Rattle.opt_show.specs.Shows.{HasMark, Lists, RefusesOn, SpendsAtMost, StandsThroughout}
 
 -- The refusals.
 
@@ -89,18 +89,19 @@ pub record HoldsThroughout (first : disk.State) (s : State) : Type 0 where
 -- A store that was mounted on such a disk, on which no call but a read has failed since.
 pub record IsMountedOn (tells unread : Bool) (first : disk.State) (s : State) : Type 0 where
   pub blocks : s.books.geom.n ≡ first.blocks
-  pub base : s.crash.base ≡ first.base
+  pub base : IsTrue tells → s.crash.base ≡ first.base
   pub manner : s.counts.ticks.manner ≡ first.manner
   pub polls : s.counts.ticks.polls ≡ first.polls
   pub waits : (made : ℕ) × (made ≤ first.blocks + 2) × (s.counts.waits ≡ after_calls made first.waits)
   pub read_faults : s.counts.read_faults ≡ after_call unread 0
   pub faults : s.counts.faults ≡ 0
   pub going : s.books.stopped ≡ false
+  pub written : IsTrue tells → disk.writes_in s.crash.log ≤ first.blocks + 2
   pub held : IsTrue tells → HoldsThroughout first s
 
--- A file system was opened on it: this tree stands in its blocks.
-abbrev pub HasTree : State → Type 0
-HasTree s = (t : Tree) × IsTreeOf s.books.geom s.map t
+-- A file system was opened on it: a session of some tree goes on.
+abbrev pub HasSession : State → Type 0
+HasSession s = (f : Session) × IsSession s f
 
 -- the mark of its disk now, as far as its moment is known
 pub record IsMarkOf (tells : Bool) (s : State) (mark : Mark) : Type 0 where
@@ -126,9 +127,7 @@ MarksFor tells d marks (Err NoMemory) = (marks ≡ []) ⊎ HasMark tells d marks
 
 -- What comes of a disk that was just opened: the disk as it goes back, its marks, and the answer.
 pub record ShowsDisk {T : Type 0} (tells : Bool) (first last : disk.State) (marks : List Mark) (before after : Option (List ℕ)) (answer : Result T ShowRefusal) : Type 0 where
-  pub same : disk.SameDisk first last
-  pub waits : (made : ℕ) × (made ≤ first.blocks + 2) × (last.waits ≡ after_calls made first.waits)
-  pub polls : last.polls ≡ first.polls
+  pub spends : SpendsAtMost tells first last
   pub faults : has_faults last ≡ is_fault answer
   pub crash : IsTrue tells → StandsThroughout last
   pub marked : MarksFor tells last marks answer

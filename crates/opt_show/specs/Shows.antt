@@ -8,7 +8,7 @@ use Rattle.opt_disk.specs.declared.bay.Mark.{Mark}
 use Rattle.opt_disk.specs.declared.bay.BayFault.{BayFault}
 use Rattle.opt_disk.specs.Bay.{Kept, BayState, Opens, Closes}
 use Rattle.opt_disk.specs.Crash.{Window}
-use Rattle.opt_disk.specs.Disk.{State, SameDisk}
+use Rattle.opt_disk.specs.Disk.{State, writes_in}
 use Rattle.opt_tree.specs.Tree.{Tree}
 use Rattle.opt_tree.specs.Listing.{listing}
 use Rattle.opt_stands.specs.Stands.{StandsFor}
@@ -87,6 +87,15 @@ abbrev pub HasMarks : Bool → Bool → State → List Mark → Type 0
 HasMarks tells true d marks = HasMark tells d marks
 HasMarks tells false d marks = marks ≡ []
 
+-- What a showing spends of its disk, which is the same one afterwards: it waits at most two times more than there are blocks, writes at most as often, and doesn't poll.
+pub record SpendsAtMost (tells : Bool) (first last : State) : Type 0 where
+  pub blocks : last.blocks ≡ first.blocks
+  pub base : IsTrue tells → last.base ≡ first.base
+  pub manner : last.manner ≡ first.manner
+  pub polls : last.polls ≡ first.polls
+  pub waits : (made : ℕ) × (made ≤ first.blocks + 2) × (last.waits ≡ after_calls made first.waits)
+  pub written : IsTrue tells → writes_in last.log ≤ first.blocks + 2
+
 -- The bay.
 
 -- No disk was handed out: what is under each name is as it was.
@@ -95,7 +104,7 @@ pub record HandsOutNone (tells : Bool) (old new : BayState) : Type 0 where
   pub handed : new.handed ≡ old.handed
   pub closed : new.closed ≡ old.closed
 
--- A disk was handed out under the name, and the same disk was handed back, with these marks; `back` is what the bay answered. It waited at most two times more than it has blocks, and wasn't polled. What a crash might have left of it at any moment stands for the same tree as its image, or for none as that.
+-- A disk was handed out under the name, and the same disk was handed back, with these marks; `back` is what the bay answered. What a crash might have left of it at any moment stands for the tree for which its image stood, or for none as that.
 pub record HandsBack (tells opened : Bool) (name : List ℕ) (old new : BayState) : Type 0 where
   pub first : State
   pub last : State
@@ -104,9 +113,7 @@ pub record HandsBack (tells opened : Bool) (name : List ℕ) (old new : BayState
   pub back : Result (Unit {0}) BayFault
   pub opens : Opens tells (λ (d : State). d) name (Ok first) old between
   pub closes : Closes tells name last marks back between new
-  pub same : SameDisk first last
-  pub waits : (made : ℕ) × (made ≤ first.blocks + 2) × (last.waits ≡ after_calls made first.waits)
-  pub polls : last.polls ≡ first.polls
+  pub spends : SpendsAtMost tells first last
   pub marked : HasMarks tells opened last marks
   pub crash : IsTrue tells → StandsThroughout last
 

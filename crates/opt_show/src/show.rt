@@ -11,7 +11,7 @@ ghost use Rattle.opt_fs.specs.Listing.{CountsPushes};
 ghost use Rattle.opt_fs.specs.Opened.{blocks_in, used_to};
 ghost use Rattle.opt_fs.specs.Sessions.{IsBetween};
 ghost use Rattle.opt_show.specs.declared.refusal.ShowRefusal.TheVariants.{NoMemory as OutOfMemory};
-ghost use Rattle.opt_show.specs.Mounted.{IsFresh, IsMarkOf, IsMountedOn, HasTree, ShowsDisk, answer_of, of_bay};
+ghost use Rattle.opt_show.specs.Mounted.{IsFresh, IsMarkOf, IsMountedOn, HasSession, ShowsDisk, answer_of, of_bay};
 ghost use Rattle.opt_show.specs.Shows.{HasImage, HasShowCause, LeavesBay, Lists, Refuses, fails_pushing, says_nothing};
 
 use crate::lent::LentDisk;
@@ -152,7 +152,7 @@ fn list_shown<D: Disk + Drop, K: Sink>(
     requires between { IsBetween D.tells (state_of D.state (blocks_in fs)) (used_to fs) }
     requires empty { marks.items ≡ [] }
     requires room { vec_len marks < vec_capacity marks }
-    ensures shows { (first : State) → IsMountedOn D.tells false first (state_of D.state (blocks_in fs)) → (IsTrue D.tells → HasTree (state_of D.state (blocks_in fs))) → IsMarkOf D.tells (state_of D.state (blocks_in fs)) mark
+    ensures shows { (first : State) → IsMountedOn D.tells false first (state_of D.state (blocks_in fs)) → (IsTrue D.tells → HasSession (state_of D.state (blocks_in fs))) → IsMarkOf D.tells (state_of D.state (blocks_in fs)) mark
         → ShowsDisk D.tells first (D.state result.disk) result.marks.items (K.taken out.old) (K.taken out.new) result.answer }
     ensures silent { (state_of D.state (blocks_in fs)).books.stopped ≡ false → says_nothing result.answer ≡ false }
     ensures pushes { CountsPushes (fails_pushing result.answer) (K.faults out.old) (K.faults out.new) }
