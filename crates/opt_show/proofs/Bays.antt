@@ -140,7 +140,7 @@ module _ {D : Type 0} (state : D → State) (tells : Bool) (name : List ℕ) (ol
   rose (most, inr end) = inl (inr end)
 
   pub shows_bay : (back : Result (Unit {0}) BayFault) → Closes tells name (state last) marks back between new → (answer : Result (Unit {0}) ShowRefusal) → ShowsDisk tells (state first) (state last) marks before after answer → ShowsBay tells name before after answer (answer_of answer back) old new
-    unfolding hands
+  unfolding hands
   shows_bay back closes answer shows = by answer back shows closes
     where
       whole : (x : Unit {0}) → ShowsDisk tells (state first) (state last) marks before after (Ok x) → IsTrue tells → HasImage (old.kept name) (Lists before after)
