@@ -33,16 +33,14 @@ use Rattle.opt_fsck.specs.declared.checking.Damage.{Damage}
 use Rattle.opt_fsck.specs.declared.checking.CheckRefusal.{CheckRefusal}
 use Rattle.opt_fsck.specs.declared.checking.CheckRefusal.TheVariants as check
 use Rattle.opt_fsck.specs.Whole.{IsDamaged, OnDamage, fails_by}
-use Rattle.opt_fs.specs.declared.listing.ListRefusal.{ListRefusal}
-use Rattle.opt_fs.specs.declared.listing.ListRefusal.TheVariants as list
-use Rattle.opt_fs.specs.Listing.{ended_by_read, ended_by_stop}
 use Rattle.opt_fs.specs.Sessions.{IsSession}
 use Rattle.opt_show.specs.declared.refusal.ShowRefusal.{ShowRefusal}
+use Rattle.opt_show.specs.declared.refusal.ShowRefusal.TheVariants.{Fault, Damaged, Spent, SinkFault, NoMemory}
 use Rattle.opt_show.specs.declared.refusal.ImageDamage.{ImageDamage}
 use Rattle.opt_show.specs.declared.refusal.ImageDamage.TheVariants.{NoHeader, BadBit, Broken}
 use Rattle.opt_show.specs.Images.{CanBeMounted, HasDamage, StandsForNone, StandsMounted}
-use Rattle.opt_show.specs.Mounted.{HasSession, HoldsThroughout, IsFresh, IsMarkOf, IsMountedOn, MarksFor, SaysOn, ShowsDisk, is_fault, of_check, of_listing, of_store}
-use Rattle.opt_show.specs.Shows.{HasMark, ListsFront, RefusesOn}
+use Rattle.opt_show.specs.Mounted.{HasSession, HoldsThroughout, IsFresh, IsMarkOf, IsMountedOn, MarksFor, SaysOn, ShowsDisk, is_fault, of_check, of_store}
+use Rattle.opt_show.specs.Shows.{HasMark, ListsFront, RefusesOn, says_nothing}
 use Rattle.opt_show.proofs.Standing.{HoldsSome, StandsAsBase, StandingLaws, all_alike, all_held, bad_image, holds_some, mountable_image, settled_is, throughout, tree_in, tree_out}
 
 keeps : (taken : Option (List ℕ)) → Keeps taken taken
@@ -232,54 +230,41 @@ module _ (laws : StandingLaws) where
 
   -- The listing.
 
-  list_faults : (r : Result (Unit {0}) ListRefusal) → ended_by_stop r ≡ false → is_fault (of_listing r) ≡ ended_by_read r
-  list_faults (Ok x) going = refl
-  list_faults (Err list.Stopped) going = absurd (true≢false going)
-  list_faults (Err list.ReadFault) going = refl
-  list_faults (Err list.SinkFault) going = refl
-  list_faults (Err list.NoMemory) going = refl
+  list_marked : (tells : Bool) (d : disk.State) (marks : List Mark) (a : Result (Unit {0}) ShowRefusal) → says_nothing a ≡ false → HasMark tells d marks → MarksFor tells d marks a
+  list_marked tells d marks (Ok x) says has = has
+  list_marked tells d marks (Err Fault) says has = inr has
+  list_marked tells d marks (Err (Damaged damage)) says has = absurd (true≢false says)
+  list_marked tells d marks (Err Spent) says has = absurd (true≢false says)
+  list_marked tells d marks (Err SinkFault) says has = has
+  list_marked tells d marks (Err NoMemory) says has = inr has
 
-  list_marked : (tells : Bool) (d : disk.State) (marks : List Mark) (r : Result (Unit {0}) ListRefusal) → HasMark tells d marks → MarksFor tells d marks (of_listing r)
-  list_marked tells d marks (Ok x) has = has
-  list_marked tells d marks (Err list.Stopped) has = inr has
-  list_marked tells d marks (Err list.ReadFault) has = inr has
-  list_marked tells d marks (Err list.SinkFault) has = has
-  list_marked tells d marks (Err list.NoMemory) has = inr has
-
-  list_says : (first : disk.State) (s : State) (before after : Option (List ℕ)) (r : Result (Unit {0}) ListRefusal) (f : Session) → HoldsThroughout first s → IsSession s f → OnOk r (Appends before after (listing f.tree)) → OnErr r (TakesPrefix before after (listing f.tree))
-      → SaysOn before after (of_listing r) first.blocks first.base
-  list_says first s before after r f h is all front = by r all front
+  list_says : (first : disk.State) (s : State) (before after : Option (List ℕ)) (a : Result (Unit {0}) ShowRefusal) (f : Session) → says_nothing a ≡ false → HoldsThroughout first s → IsSession s f
+      → OnOk a ((f : Session) → IsSession s f → Appends before after (listing f.tree)) → OnErr a ((f : Session) → IsSession s f → TakesPrefix before after (listing f.tree)) → SaysOn before after a first.blocks first.base
+  list_says first s before after a f says h is all front = by a says all front
     where
       stands : StandsMounted first.blocks first.base f.tree
       stands = record { mountable = h.mountable; stands = tree_out first.blocks s.books.geom first.base s.map f.tree h.holds is.tree }
 
-      some : TakesPrefix before after (listing f.tree) → ListsFront before after first.blocks first.base
-      some took = record { tree = f.tree; stands = stands; took = took }
+      some : ((f : Session) → IsSession s f → TakesPrefix before after (listing f.tree)) → ListsFront before after first.blocks first.base
+      some took = record { tree = f.tree; stands = stands; took = took f is }
 
-      by : (r : Result (Unit {0}) ListRefusal) → OnOk r (Appends before after (listing f.tree)) → OnErr r (TakesPrefix before after (listing f.tree)) → SaysOn before after (of_listing r) first.blocks first.base
-      by (Ok x) all front = record { tree = f.tree; stands = stands; took = all }
-      by (Err list.Stopped) all front = inr (some front)
-      by (Err list.ReadFault) all front = inr (some front)
-      by (Err list.SinkFault) all front = some front
-      by (Err list.NoMemory) all front = inr (some front)
+      by : (a : Result (Unit {0}) ShowRefusal) → says_nothing a ≡ false → OnOk a ((f : Session) → IsSession s f → Appends before after (listing f.tree)) → OnErr a ((f : Session) → IsSession s f → TakesPrefix before after (listing f.tree)) → SaysOn before after a first.blocks first.base
+      by (Ok x) says all front = record { tree = f.tree; stands = stands; took = all f is }
+      by (Err Fault) says all front = inr (some front)
+      by (Err (Damaged damage)) says all front = absurd (true≢false says)
+      by (Err Spent) says all front = absurd (true≢false says)
+      by (Err SinkFault) says all front = some front
+      by (Err NoMemory) says all front = inr (some front)
 
-  pub listed : {D : Type 0} {k : Ghosts D} (known : D → disk.State) (tells : Bool) (first : disk.State) (s : State) (store : Store D k) (mark : Mark) (before after : Option (List ℕ)) (r : Result (Unit {0}) ListRefusal)
-      → IsMountedOn tells false first s → LooksOnly tells (ended_by_read r) s (state_of known store) → (known (disk_in store)).blocks ≡ (state_of known store).books.geom.n → ended_by_stop r ≡ s.books.stopped → IsMarkOf tells s mark → (IsTrue tells → HasSession s)
-      → (IsTrue tells → OnOk r ((f : Session) → IsSession s f → Appends before after (listing f.tree))) → (IsTrue tells → OnErr r ((f : Session) → IsSession s f → TakesPrefix before after (listing f.tree)))
-      → ShowsDisk tells first (known (disk_in store)) (mark ∷ []) before after (of_listing r)
-  listed known tells first s store mark before after r is looks size stopped marks session all front =
-      goes_back known tells (ended_by_read r) first store (mark ∷ []) before after (of_listing r) (still_mounted tells (ended_by_read r) first s (state_of known store) is looks) size (list_faults r (stopped ∙ is.going))
-      (list_marked tells (known (disk_in store)) (mark ∷ []) r (record {
+  pub listed : {D : Type 0} {k : Ghosts D} (known : D → disk.State) (tells : Bool) (first : disk.State) (s : State) (store : Store D k) (mark : Mark) (before after : Option (List ℕ)) (a : Result (Unit {0}) ShowRefusal)
+      → IsMountedOn tells false first s → LooksOnly tells (is_fault a) s (state_of known store) → (known (disk_in store)).blocks ≡ (state_of known store).books.geom.n → says_nothing a ≡ false → IsMarkOf tells s mark → (IsTrue tells → HasSession s)
+      → (IsTrue tells → OnOk a ((f : Session) → IsSession s f → Appends before after (listing f.tree))) → (IsTrue tells → OnErr a ((f : Session) → IsSession s f → TakesPrefix before after (listing f.tree)))
+      → ShowsDisk tells first (known (disk_in store)) (mark ∷ []) before after a
+  listed known tells first s store mark before after a is looks size says marks session all front =
+      goes_back known tells (is_fault a) first store (mark ∷ []) before after a (still_mounted tells (is_fault a) first s (state_of known store) is looks) size refl
+      (list_marked tells (known (disk_in store)) (mark ∷ []) a says (record {
         moment = mark.moment;
-        only = ap₂ (λ (a b : ℕ). record { moment = mark.moment; read_faults = a; faults = b } ∷ []) marks.read_faults marks.faults;
+        only = ap₂ (λ (r f : ℕ). record { moment = mark.moment; read_faults = r; faults = f } ∷ []) marks.read_faults marks.faults;
         last = λ t. marks.moment t ∙ ap (λ (es : List Event). length es) (sym (looks.crash t).log);
       }))
-      (λ t. let f = session t in list_says first s before after r f.0 (is.held t) f.1 (on_ok r f.0 f.1 (all t)) (on_err r f.0 f.1 (front t)))
-    where
-      on_ok : (r : Result (Unit {0}) ListRefusal) (f : Session) → IsSession s f → OnOk r ((f : Session) → IsSession s f → Appends before after (listing f.tree)) → OnOk r (Appends before after (listing f.tree))
-      on_ok (Ok x) f is all = all f is
-      on_ok (Err why) f is all = tt
-
-      on_err : (r : Result (Unit {0}) ListRefusal) (f : Session) → IsSession s f → OnErr r ((f : Session) → IsSession s f → TakesPrefix before after (listing f.tree)) → OnErr r (TakesPrefix before after (listing f.tree))
-      on_err (Ok x) f is front = tt
-      on_err (Err why) f is front = front f is
+      (λ t. let f = session t in list_says first s before after a f.0 says (is.held t) f.1 (all t) (front t))

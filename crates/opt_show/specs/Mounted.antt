@@ -16,8 +16,6 @@ use Rattle.opt_store.specs.declared.refusal.StoreRefusal.TheVariants as store
 use Rattle.opt_fsck.specs.declared.checking.CheckRefusal.{CheckRefusal}
 use Rattle.opt_fsck.specs.declared.checking.CheckRefusal.TheVariants as check
 use Rattle.opt_fs.specs.Sessions.{IsSession}
-use Rattle.opt_fs.specs.declared.listing.ListRefusal.{ListRefusal}
-use Rattle.opt_fs.specs.declared.listing.ListRefusal.TheVariants as list
 use Rattle.opt_show.specs.declared.refusal.ImageDamage.TheVariants.{NoHeader, BadBit, Broken}
 use Rattle.opt_show.specs.declared.refusal.ShowRefusal.{ShowRefusal}
 use Rattle.opt_show.specs.declared.refusal.ShowRefusal.TheVariants.{Fault, Damaged, Spent, SinkFault, NoMemory}
@@ -45,18 +43,6 @@ abbrev pub of_check : CheckRefusal → ShowRefusal
 of_check (check.Damaged what) = Damaged (Broken what)
 of_check check.ReadFault = Fault
 of_check check.NoMemory = NoMemory
-
--- the refusal for a listing
-abbrev pub of_list : ListRefusal → ShowRefusal
-of_list list.Stopped = Fault
-of_list list.ReadFault = Fault
-of_list list.SinkFault = SinkFault
-of_list list.NoMemory = NoMemory
-
--- the answer for a listing
-abbrev pub of_listing : Result (Unit {0}) ListRefusal → Result (Unit {0}) ShowRefusal
-of_listing (Ok x) = Ok x
-of_listing (Err why) = Err (of_list why)
 
 -- the answer where the bay answered so to the disk's return: an earlier refusal counts first
 abbrev pub answer_of : Result (Unit {0}) ShowRefusal → Result (Unit {0}) BayFault → Result (Unit {0}) ShowRefusal

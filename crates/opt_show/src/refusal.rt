@@ -2,10 +2,9 @@
 //! When each comes is described by the clauses of the calls.
 
 ghost use Rattle.std.specs.Prelude.{◌≡◌};
-ghost use Rattle.opt_show.specs.Mounted.{of_bay, of_check, of_listing, of_store};
+ghost use Rattle.opt_show.specs.Mounted.{of_bay, of_check, of_store};
 
 use opt_disk::BayFault;
-use opt_fs::ListRefusal;
 use opt_fsck::{CheckRefusal, Damage};
 use opt_store::StoreRefusal;
 use std::error::Error;
@@ -111,18 +110,5 @@ pub(crate) fn of_check(why: CheckRefusal) -> ShowRefusal
         },
         CheckRefusal::ReadFault => ShowRefusal::Fault,
         CheckRefusal::NoMemory => ShowRefusal::NoMemory,
-    }
-}
-
-/// The answer for a listing.
-pub(crate) fn of_listing(listed: Result<(), ListRefusal>) -> Result<(), ShowRefusal>
-    ensures { result ≡ of_listing listed }
-{
-    match listed {
-        Ok(()) => Ok(()),
-        Err(ListRefusal::Stopped) => Err(ShowRefusal::Fault),
-        Err(ListRefusal::ReadFault) => Err(ShowRefusal::Fault),
-        Err(ListRefusal::SinkFault) => Err(ShowRefusal::SinkFault),
-        Err(ListRefusal::NoMemory) => Err(ShowRefusal::NoMemory),
     }
 }

@@ -1,23 +1,28 @@
 //! Shows the tree of the image under a name: a disk is opened on it, mounted, and its file system is opened and listed;
 //! then the disk goes back. Each step hands the disk on, so that it is handed back once, whatever comes.
 
-ghost use Rattle.std.specs.Prelude.{◌≡◌, ◌<◌, ℕ, true, false, IsTrue, [], length, vec_len, vec_capacity, Ok, Err, Result, IfOk, IfErr, OnOk};
+ghost use Rattle.std.specs.Prelude.{◌≡◌, ◌<◌, ℕ, true, false, IsTrue, [], length, vec_len, vec_capacity, Ok, Err, Result, IfOk, IfErr, OnOk, OnErr};
+ghost use Rattle.std.specs.Io.KnownBytes.{Appends};
 ghost use Rattle.opt_disk.specs.declared.bay.BayFault.{BayFault as Failure};
 ghost use Rattle.opt_disk.specs.Bay.{Opens, Closes, HasNoCounts};
 ghost use Rattle.opt_disk.specs.Disk.{State};
+ghost use Rattle.opt_io.specs.Prefix.{TakesPrefix};
+ghost use Rattle.opt_tree.specs.Listing.{listing};
+ghost use Rattle.opt_tree.specs.Step.{Session};
 ghost use Rattle.opt_blocks.specs.Crashes.{IsBegun};
+ghost use Rattle.opt_files.specs.Effects.{LooksOnly};
 ghost use Rattle.opt_store.specs.StoreOf.{disk_in, state_of};
 ghost use Rattle.opt_fs.specs.Listing.{CountsPushes};
 ghost use Rattle.opt_fs.specs.Opened.{blocks_in, used_to};
-ghost use Rattle.opt_fs.specs.Sessions.{IsBetween};
+ghost use Rattle.opt_fs.specs.Sessions.{IsBetween, IsSession};
 ghost use Rattle.opt_show.specs.declared.refusal.ShowRefusal.TheVariants.{NoMemory as OutOfMemory};
-ghost use Rattle.opt_show.specs.Mounted.{IsFresh, IsMarkOf, IsMountedOn, HasSession, ShowsDisk, answer_of, of_bay};
+ghost use Rattle.opt_show.specs.Mounted.{IsFresh, IsMarkOf, IsMountedOn, HasSession, ShowsDisk, answer_of, is_fault, of_bay};
 ghost use Rattle.opt_show.specs.Shows.{HasImage, HasShowCause, LeavesBay, Lists, Refuses, fails_pushing, says_nothing};
 
 use crate::lent::LentDisk;
-use crate::refusal::{ShowRefusal, of_bay, of_check, of_listing, of_store};
+use crate::refusal::{ShowRefusal, of_bay, of_check, of_store};
 use opt_disk::{Bay, Disk, Mark};
-use opt_fs::Fs;
+use opt_fs::{Fs, ListRefusal};
 use opt_io::Sink;
 use opt_journal::an_image_holds_one_map;
 use opt_stands::images_alike_below_n_stand_for_the_same;
@@ -149,21 +154,50 @@ fn list_shown<D: Disk + Drop, K: Sink>(
     mut marks: Vec<Mark>,
     out: &mut K,
 ) -> Left<D>
+    requires going { (state_of D.state (blocks_in fs)).books.stopped ≡ false }
     requires between { IsBetween D.tells (state_of D.state (blocks_in fs)) (used_to fs) }
     requires empty { marks.items ≡ [] }
     requires room { vec_len marks < vec_capacity marks }
     ensures shows { (first : State) → IsMountedOn D.tells false first (state_of D.state (blocks_in fs)) → (IsTrue D.tells → HasSession (state_of D.state (blocks_in fs))) → IsMarkOf D.tells (state_of D.state (blocks_in fs)) mark
         → ShowsDisk D.tells first (D.state result.disk) result.marks.items (K.taken out.old) (K.taken out.new) result.answer }
-    ensures silent { (state_of D.state (blocks_in fs)).books.stopped ≡ false → says_nothing result.answer ≡ false }
+    ensures says { says_nothing result.answer ≡ false }
     ensures pushes { CountsPushes (fails_pushing result.answer) (K.faults out.old) (K.faults out.new) }
 {
     an_image_holds_one_map();
-    let answer = of_listing(fs.listing(alloc, out));
+    let answer = write_listing(alloc, &mut fs, out);
     marks.push_reserved(mark);
     Left {
         disk: disk_back(fs.into_blocks()),
         marks,
         answer,
+    }
+}
+
+/// Writes the listing of a file system on whose disk no call but a read has failed.
+///
+/// # Errors
+/// `Fault`, where a read failed, which the disk has counted; `SinkFault`, which the sink has counted; or `NoMemory`. By
+/// then the sink took a prefix of the listing.
+fn write_listing<D: Disk + Drop, K: Sink>(
+    alloc: Global,
+    fs: &mut Fs<Store<D>>,
+    out: &mut K,
+) -> Result<(), ShowRefusal>
+    requires going { (state_of D.state (blocks_in fs.old)).books.stopped ≡ false }
+    requires between { IsBetween D.tells (state_of D.state (blocks_in fs.old)) (used_to fs.old) }
+    ensures all { IsTrue D.tells → OnOk result ((f : Session) → IsSession (state_of D.state (blocks_in fs.old)) f → Appends (K.taken out.old) (K.taken out.new) (listing f.tree)) }
+    ensures front { IsTrue D.tells → OnErr result ((f : Session) → IsSession (state_of D.state (blocks_in fs.old)) f → TakesPrefix (K.taken out.old) (K.taken out.new) (listing f.tree)) }
+    ensures looks { LooksOnly D.tells (is_fault result) (state_of D.state (blocks_in fs.old)) (state_of D.state (blocks_in fs.new)) }
+    ensures says { says_nothing result ≡ false }
+    ensures pushes { CountsPushes (fails_pushing result) (K.faults out.old) (K.faults out.new) }
+{
+    let listed = fs.listing(alloc, out);
+    match listed {
+        Ok(()) => Ok(()),
+        Err(ListRefusal::Stopped) => unreachable!(),
+        Err(ListRefusal::ReadFault) => Err(ShowRefusal::Fault),
+        Err(ListRefusal::SinkFault) => Err(ShowRefusal::SinkFault),
+        Err(ListRefusal::NoMemory) => Err(ShowRefusal::NoMemory),
     }
 }
 
