@@ -33,6 +33,7 @@ use Rattle.opt_fsck.specs.declared.checking.Damage.{Damage}
 use Rattle.opt_fsck.specs.declared.checking.CheckRefusal.{CheckRefusal}
 use Rattle.opt_fsck.specs.declared.checking.CheckRefusal.TheVariants as check
 use Rattle.opt_fsck.specs.Whole.{IsDamaged, OnDamage, fails_by}
+use Rattle.opt_fs.specs.Listing.{CountsPushes}
 use Rattle.opt_fs.specs.Sessions.{IsSession}
 use Rattle.opt_show.specs.declared.refusal.ShowRefusal.{ShowRefusal}
 use Rattle.opt_show.specs.declared.refusal.ShowRefusal.TheVariants.{Fault, Damaged, Spent, SinkFault, NoMemory}
@@ -40,7 +41,7 @@ use Rattle.opt_show.specs.declared.refusal.ImageDamage.{ImageDamage}
 use Rattle.opt_show.specs.declared.refusal.ImageDamage.TheVariants.{NoHeader, BadBit, Broken}
 use Rattle.opt_show.specs.Images.{CanBeMounted, HasDamage, StandsForNone, StandsMounted}
 use Rattle.opt_show.specs.Mounted.{HasSession, HoldsThroughout, IsFresh, IsMarkOf, IsMountedOn, MarksFor, SaysOn, ShowsDisk, is_fault, of_check, of_store}
-use Rattle.opt_show.specs.Shows.{HasMark, ListsFront, RefusesOn, says_nothing}
+use Rattle.opt_show.specs.Shows.{HasMark, ListsFront, RefusesOn, fails_pushing, says_nothing}
 use Rattle.opt_show.proofs.Standing.{HoldsSome, StandsAsBase, StandingLaws, all_alike, all_held, bad_image, holds_some, mountable_image, settled_is, throughout, tree_in, tree_out}
 
 keeps : (taken : Option (List ℕ)) → Keeps taken taken
@@ -268,3 +269,37 @@ module _ (laws : StandingLaws) where
         last = λ t. marks.moment t ∙ ap (λ (es : List Event). length es) (sym (looks.crash t).log);
       }))
       (λ t. let f = session t in list_says first s before after a f.0 says (is.held t) f.1 (all t) (front t))
+
+  -- the same of the disk, the store and the marks as the function has them
+  pub listed_back : {D : Type 0} {k : Ghosts D} (known : D → disk.State) (tells : Bool) (first : disk.State) (s : State) (new store : Store D k) (last : D) (mark : Mark) (old marks : List Mark) (before after : Option (List ℕ)) (a : Result (Unit {0}) ShowRefusal)
+      → store ≡ new → last ≡ disk_in store → old ≡ [] → marks ≡ old ++ mark ∷ [] → IsMountedOn tells false first s → LooksOnly tells (is_fault a) s (state_of known new) → (known (disk_in store)).blocks ≡ (state_of known store).books.geom.n → says_nothing a ≡ false → IsMarkOf tells s mark
+      → (IsTrue tells → HasSession s) → (IsTrue tells → OnOk a ((f : Session) → IsSession s f → Appends before after (listing f.tree))) → (IsTrue tells → OnErr a ((f : Session) → IsSession s f → TakesPrefix before after (listing f.tree))) → ShowsDisk tells first (known last) marks before after a
+  listed_back {D = D} {k = k} known tells first s new store last mark old marks before after a store_is last_is none marks_are is looks size says mark_is session all front =
+      subst (λ (x : D). ShowsDisk tells first (known x) marks before after a) (sym last_is)
+      (subst (λ (xs : List Mark). ShowsDisk tells first (known (disk_in store)) xs before after a) (sym (marks_are ∙ ap (λ (xs : List Mark). xs ++ mark ∷ []) none))
+      (listed known tells first s store mark before after a is (subst (λ (x : Store D k). LooksOnly tells (is_fault a) s (state_of known x)) (sym store_is) looks) size says mark_is session all front))
+
+  pub unopened_back : {D : Type 0} {k : Ghosts D} (known : D → disk.State) (tells : Bool) (first : disk.State) (s : State) (store : Store D k) (last : D) (marks : List Mark) (taken : Option (List ℕ)) (why : CheckRefusal) (answer : ShowRefusal)
+      → last ≡ disk_in store → marks ≡ [] → answer ≡ of_check why → IsMountedOn tells false first s → LooksOnly tells (fails_by why) s (state_of known store) → (known (disk_in store)).blocks ≡ (state_of known store).books.geom.n
+      → (IsTrue tells → OnDamage why (IsDamaged s.books.geom s.map)) → (IsTrue tells → OnDamage why (λ _. (t : Tree) → IsTreeOf s.books.geom s.map t → ⊥)) → ShowsDisk {T = Unit {0}} tells first (known last) marks taken taken (Err answer)
+  unopened_back {D = D} known tells first s store last marks taken why answer last_is none answer_is is looks size damage no_tree =
+      subst (λ (x : D). ShowsDisk {T = Unit {0}} tells first (known x) marks taken taken (Err answer)) (sym last_is)
+      (subst (λ (xs : List Mark). ShowsDisk {T = Unit {0}} tells first (known (disk_in store)) xs taken taken (Err answer)) (sym none)
+      (subst (λ (w : ShowRefusal). ShowsDisk {T = Unit {0}} tells first (known (disk_in store)) [] taken taken (Err w)) (sym answer_is)
+      (unopened known tells first s store taken why is looks size damage no_tree)))
+
+  pub unmounted_back : (tells : Bool) (first new : disk.State) (marks : List Mark) (taken : Option (List ℕ)) (why : StoreRefusal) (answer : ShowRefusal) → marks ≡ [] → answer ≡ of_store why → IsFresh tells first → ((what : ImageDamage) → HasDamage first.blocks first.base what → StandsForNone first.blocks first.base)
+      → (IsTrue tells → RefusalSays first new why) → LeavesDisk tells (is_read_fault why) (is_disk_fault why) first new → ShowsDisk {T = Unit {0}} tells first new marks taken taken (Err answer)
+  unmounted_back tells first new marks taken why answer none answer_is fresh damaged says leaves =
+      subst (λ (xs : List Mark). ShowsDisk {T = Unit {0}} tells first new xs taken taken (Err answer)) (sym none)
+      (subst (λ (w : ShowRefusal). ShowsDisk {T = Unit {0}} tells first new [] taken taken (Err w)) (sym answer_is)
+      (unmounted tells first new taken why fresh damaged says leaves))
+
+-- a check pushes nothing
+pub check_pushes : (why : CheckRefusal) (answer : ShowRefusal) (n : ℕ) → answer ≡ of_check why → CountsPushes (fails_pushing {T = Unit {0}} (Err answer)) n n
+check_pushes why answer n is = (omega arith, ap (λ (failed : Bool). after_call failed n) (sym (ap (λ (w : ShowRefusal). fails_pushing {T = Unit {0}} (Err w)) is ∙ by why)))
+  where
+    by : (why : CheckRefusal) → fails_pushing {T = Unit {0}} (Err (of_check why)) ≡ false
+    by (check.Damaged what) = refl
+    by check.ReadFault = refl
+    by check.NoMemory = refl

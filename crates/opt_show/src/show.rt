@@ -4,7 +4,7 @@
 ghost use Rattle.std.specs.Prelude.{◌≡◌, ◌<◌, ℕ, true, false, IsTrue, [], length, vec_len, vec_capacity, Ok, Err, Result, IfOk, IfErr, OnOk, OnErr};
 ghost use Rattle.std.specs.Io.KnownBytes.{Appends};
 ghost use Rattle.opt_disk.specs.declared.bay.BayFault.{BayFault as Failure};
-ghost use Rattle.opt_disk.specs.Bay.{Opens, Closes, HasNoCounts};
+ghost use Rattle.opt_disk.specs.Bay.{Opens, Closes};
 ghost use Rattle.opt_disk.specs.Disk.{State};
 ghost use Rattle.opt_io.specs.Prefix.{TakesPrefix};
 ghost use Rattle.opt_tree.specs.Listing.{listing};
@@ -19,6 +19,7 @@ ghost use Rattle.opt_show.specs.declared.refusal.ShowRefusal.TheVariants.{NoMemo
 ghost use Rattle.opt_show.specs.Mounted.{IsFresh, IsMarkOf, IsMountedOn, HasSession, ShowsDisk, answer_of, is_fault, of_bay};
 ghost use Rattle.opt_show.specs.Shows.{HasImage, HasShowCause, LeavesBay, Lists, Refuses, fails_pushing, says_nothing};
 
+use crate::laws::a_damaged_image_stands_for_no_tree;
 use crate::lent::LentDisk;
 use crate::refusal::{ShowRefusal, of_bay, of_check, of_store};
 use opt_disk::{Bay, Disk, Mark};
@@ -110,8 +111,13 @@ fn show_disk<D: Disk + Drop, K: Sink>(
 {
     an_image_holds_one_map();
     images_alike_below_n_stand_for_the_same();
+    a_damaged_image_stands_for_no_tree();
     match Store::mount(alloc, disk) {
-        Ok(store) => show_store(alloc, store, marks, out),
+        Ok(store) => {
+            // a call for its clause alone: how many blocks the disk has
+            let _ = store.disk();
+            show_store(alloc, store, marks, out)
+        }
         Err((disk, why)) => Left {
             disk,
             marks,
@@ -130,11 +136,12 @@ fn show_store<D: Disk + Drop, K: Sink>(
     requires begun { IsBegun (state_of D.state store) }
     requires empty { marks.items ≡ [] }
     requires room { vec_len marks < vec_capacity marks }
-    ensures shows { (first : State) → HasNoCounts first → IsMountedOn D.tells false first (state_of D.state store) → ShowsDisk D.tells first (D.state result.disk) result.marks.items (K.taken out.old) (K.taken out.new) result.answer }
+    ensures shows { (first : State) → IsMountedOn D.tells false first (state_of D.state store) → ShowsDisk D.tells first (D.state result.disk) result.marks.items (K.taken out.old) (K.taken out.new) result.answer }
     ensures silent { says_nothing result.answer ≡ true → out.new ≡ out.old }
     ensures pushes { CountsPushes (fails_pushing result.answer) (K.faults out.old) (K.faults out.new) }
 {
     an_image_holds_one_map();
+    images_alike_below_n_stand_for_the_same();
     let mark = mark_of(store.disk());
     match Fs::open(alloc, store) {
         Ok(fs) => list_shown(alloc, fs, mark, marks, out),
@@ -164,6 +171,7 @@ fn list_shown<D: Disk + Drop, K: Sink>(
     ensures pushes { CountsPushes (fails_pushing result.answer) (K.faults out.old) (K.faults out.new) }
 {
     an_image_holds_one_map();
+    images_alike_below_n_stand_for_the_same();
     let answer = write_listing(alloc, &mut fs, out);
     marks.push_reserved(mark);
     Left {
