@@ -83,7 +83,7 @@ holds_of first s g m may geom map both =
 
 -- how many writes a mount adds at most, from the first one on
 written_by : (tells unread failed : Bool) (first last : disk.State) → IsTrue tells → first.log ≡ [] → LeavesDisk tells unread failed first last → writes_in last.log ≤ first.blocks + 2
-written_by tells unread failed first last t none leaves = ?
+written_by tells unread failed first last t none leaves = omega (arith, leaves.written t, ap (λ (es : List Event). writes_in es) none)
 
 -- a store that was mounted on a disk that was just opened
 pub mounted : {D : Type 0} {k : Ghosts D} (known : D → disk.State) (tells : Bool) (first : disk.State) (store : Store D k) → IsFresh tells first → (known (disk_in store)).blocks ≡ (state_of known store).books.geom.n → IsBegun (state_of known store)
@@ -149,7 +149,7 @@ module _ (laws : StandingLaws) where
   rests_by first new refused.NoHeader says = inl says.1
   rests_by first new (refused.BadBit b) says = inl says.1
   rests_by first new refused.Spent says = inl says.1
-  rests_by first new refused.ReadFault says = ?
+  rests_by first new refused.ReadFault says = says
   rests_by first new refused.DiskFault says = inr says
   rests_by first new refused.NoMemory says = inl says
 

@@ -1,4 +1,4 @@
-use Rattle.std.proofs.Common.{length, List, ap, sym, ◌∙◌}
+use Rattle.std.proofs.Common.{false, length, List, ap, sym, ◌∙◌}
 use Rattle.opt_disk.specs.declared.event.Event.{Event}
 use Rattle.opt_fs.specs.Opened.{blocks_in}
 use Rattle.opt_store.specs.StoreOf.{state_of}
