@@ -1,9 +1,8 @@
 -- What becomes of the bay, and what is said of the image under the name, once a disk of it was shown and handed back.
-use Rattle.std.proofs.Common.{◌≡◌, ◌≢◌, ◌⊎◌, inl, inr, ℕ, ◌<◌, ◌≤◌, Bool, true, false, IsTrue, if◌then◌else◌, List, [], length, take, take_all, Option, Some, None, Result, Ok, Err, OnOk, IfErr, is_ok, refl, sym, ap, ◌∙◌, subst, arith}
+use Rattle.std.proofs.Common.{◌≡◌, ◌⊎◌, inl, inr, ℕ, ◌<◌, ◌≤◌, Bool, true, false, IsTrue, if◌then◌else◌, List, [], length, take_all, Option, Some, None, Result, Ok, Err, OnOk, IfErr, refl, sym, ap, ◌∙◌, subst, arith}
 use Rattle.std.specs.Io.KnownBytes.{Appends, Keeps}
 use Rattle.opt_base.specs.Counts.{next_count}
-use Rattle.opt_base.specs.Seal.{Blocks, blocks_of}
-use Rattle.opt_io.specs.Prefix.{TakesPrefix}
+use Rattle.opt_base.specs.Seal.{Blocks}
 use Rattle.opt_disk.specs.declared.bay.Mark.{Mark}
 use Rattle.opt_disk.specs.declared.bay.BayFault.{BayFault}
 use Rattle.opt_disk.specs.declared.bay.BayFault.TheVariants as bay
@@ -12,7 +11,7 @@ use Rattle.opt_disk.specs.Disk.{State}
 use Rattle.opt_tree.specs.Listing.{listing}
 use Rattle.opt_show.specs.declared.refusal.ShowRefusal.{ShowRefusal}
 use Rattle.opt_show.specs.declared.refusal.ShowRefusal.TheVariants.{Fault, Damaged, Spent, SinkFault, NoMemory}
-use Rattle.opt_show.specs.Mounted.{IsFresh, MarksFor, SaysOn, ShowsDisk, answer_of, is_fault, of_bay}
+use Rattle.opt_show.specs.Mounted.{IsFresh, ShowsDisk, answer_of, is_fault, of_bay}
 use Rattle.opt_show.specs.Shows.{CountsFault, HandsBack, HandsOutNone, HasImage, HasMarks, HasShowCause, LeavesBay, Lists, ListsFront, Refuses, RefusesOn, fails_pushing, says_nothing}
 
 keeps : (taken : Option (List ℕ)) → Keeps taken taken
@@ -32,7 +31,7 @@ pub record RefusesUnopened (tells : Bool) (why : ShowRefusal) (taken : Option (L
 pub unasked : (tells : Bool) (taken : Option (List ℕ)) (name : List ℕ) (old : BayState) → RefusesUnopened tells NoMemory taken name old old
 unasked tells taken name old = record {
   says = inl (keeps taken);
-  back = inl (record { kept = λ t each. refl; handed = refl; closed = refl });
+  back = inl (record { kept = λ t each. refl; faults = omega arith; disk_faults = refl; handed = refl; closed = refl });
   cause = refl;
   pushes = refl;
 }
@@ -41,13 +40,13 @@ unasked tells taken name old = record {
 pub unopened : {D : Type 0} (state : D → State) (tells : Bool) (taken : Option (List ℕ)) (name : List ℕ) (fault : BayFault) (old new : BayState) → Opens tells state name (Err fault) old new → RefusesUnopened tells (of_bay fault) taken name old new
 unopened state tells taken name bay.Fault old new opens = record {
   says = inl (keeps taken);
-  back = inl (record { kept = opens.kept; handed = opens.handed; closed = opens.closed });
+  back = inl (record { kept = opens.kept; faults = opens.cause.0; disk_faults = opens.disk_faults; handed = opens.handed; closed = opens.closed });
   cause = inl opens.cause.1;
   pushes = refl;
 }
 unopened state tells taken name bay.NoMemory old new opens = record {
   says = inl (keeps taken);
-  back = inl (record { kept = opens.kept; handed = opens.handed; closed = opens.closed });
+  back = inl (record { kept = opens.kept; faults = opens.cause.0; disk_faults = opens.disk_faults; handed = opens.handed; closed = opens.closed });
   cause = opens.disk_faults;
   pushes = refl;
 }

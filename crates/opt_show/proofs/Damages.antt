@@ -1,5 +1,5 @@
 -- An image in which something is broken stands for no tree, and what is said of an image by one answer isn't said by another.
-use Rattle.std.proofs.Common.{◌≡◌, ◌⊎◌, inl, inr, ⊎_elim, ℕ, ◌+◌, ◌*◌, ◌/◌, ◌%◌, ◌&&◌, ◌||◌, not, nat_le, nat_lt, ◌==◌, slice_index, ◌<◌, ◌≤◌, Bool, true, false, List, [], Some, if◌then◌else◌, refl, sym, ◌∙◌, ap, ap₂, subst, arith}
+use Rattle.std.proofs.Common.{◌≡◌, ⊎_elim, ℕ, ◌+◌, ◌*◌, ◌/◌, ◌%◌, ◌&&◌, ◌||◌, not, nat_le, nat_lt, ◌==◌, slice_index, ◌<◌, ◌≤◌, Bool, true, false, List, [], Some, refl, sym, ◌∙◌, ap, ap₂, subst, arith}
 use Rattle.std.proofs.lemmas.Bool.{and_from, cases_lt, cond-true, le-leb, le-ltb, lt-ltb}
 use Rattle.std.specs.Int.{bit_at}
 use mathlib.Core.Path.{fun_ext}
@@ -10,11 +10,11 @@ use Rattle.opt_bitmap.specs.Bits.{bit_in, is_bad_bit}
 use Rattle.opt_journal.specs.declared.header.Header.{Header}
 use Rattle.opt_journal.specs.Layout.{header_of, IsWithinDisk}
 use Rattle.opt_journal.specs.Run.{Newest, Record, HeldIs, IsRun, is_live, live_part, replayed}
-use Rattle.opt_mount.specs.Mount.{FoundDisk, IsUsedUp, settled_on}
+use Rattle.opt_mount.specs.Mount.{FoundDisk, IsUsedUp}
 use Rattle.opt_store.specs.Refusal as store
 use Rattle.opt_tree.specs.Tree.{Tree}
 use Rattle.opt_stands.specs.Files.{files_of}
-use Rattle.opt_stands.specs.Stands.{IsTreeOf, StandsFor}
+use Rattle.opt_stands.specs.Stands.{IsTreeOf}
 use Rattle.opt_fsck.specs.declared.block_damage.BlockDamage.{BlockDamage}
 use Rattle.opt_fsck.specs.declared.block_damage.BlockDamage.TheVariants.{WrongBit}
 use Rattle.opt_fsck.specs.declared.damage.TreeDamage.{TreeDamage}
@@ -25,7 +25,7 @@ use Rattle.opt_fsck.specs.Damage.{IsBroken as IsBrokenTree}
 use Rattle.opt_fsck.specs.Whole as fsck
 use Rattle.opt_show.specs.declared.refusal.ImageDamage.{ImageDamage}
 use Rattle.opt_show.specs.declared.refusal.ImageDamage.TheVariants.{NoHeader, BadBit, Broken}
-use Rattle.opt_show.specs.Images.{CanBeMounted, HasBadBit, HasBroken, HasDamage, IsDamaged, StandsForNone, StandsMounted, resting}
+use Rattle.opt_show.specs.Images.{CanBeMounted, HasBadBit, HasDamage, IsDamaged, StandsForNone, resting}
 
 -- What opt_journal says of images, opt_geom of geometries, and opt_fsck of what is broken.
 pub record ImageLaws : Type 0 where

@@ -1,7 +1,7 @@
 -- What each step of a showing leaves: the mount, the opening, and the listing.
-use Rattle.std.proofs.Common.{◌≡◌, ◌⊎◌, inl, inr, ℕ, ◌+◌, ◌<◌, ◌≤◌, nat_lt, ◌||◌, Bool, true, false, true≢false, IsTrue, List, [], ◌∷◌, ◌++◌, length, take, Option, Some, None, Result, Ok, Err, OnOk, OnErr, refl, sym, ap, ap₂, ◌∙◌, subst, arith}
+use Rattle.std.proofs.Common.{◌≡◌, ◌⊎◌, inl, inr, ℕ, ◌+◌, ◌≤◌, nat_lt, ◌||◌, Bool, true, false, true≢false, IsTrue, List, [], ◌∷◌, ◌++◌, length, Option, Some, None, Result, Ok, Err, OnOk, OnErr, refl, sym, ap, ap₂, ◌∙◌, subst, arith}
 use Rattle.std.specs.Io.KnownBytes.{Appends, Keeps}
-use Rattle.opt_base.specs.Counts.{after_call, after_calls}
+use Rattle.opt_base.specs.Counts.{after_call}
 use Rattle.opt_base.specs.Seal.{Blocks}
 use Rattle.opt_io.specs.Prefix.{TakesPrefix}
 use Rattle.opt_disk.specs.declared.bay.Mark.{Mark}
@@ -29,7 +29,6 @@ use Rattle.opt_store.specs.Mounting.{BeginsWith, LeavesDisk}
 use Rattle.opt_store.specs.Refusal.{MayBeMounted, RefusalSays, is_disk_fault, is_read_fault}
 use Rattle.opt_store.specs.StoreOf.{disk_in, state_of}
 use Rattle.opt_files.specs.Effects.{LooksOnly}
-use Rattle.opt_fsck.specs.declared.checking.Damage.{Damage}
 use Rattle.opt_fsck.specs.declared.checking.CheckRefusal.{CheckRefusal}
 use Rattle.opt_fsck.specs.declared.checking.CheckRefusal.TheVariants as check
 use Rattle.opt_fsck.specs.Whole.{IsDamaged, OnDamage, fails_by}
@@ -38,7 +37,7 @@ use Rattle.opt_fs.specs.Sessions.{IsSession}
 use Rattle.opt_show.specs.declared.refusal.ShowRefusal.{ShowRefusal}
 use Rattle.opt_show.specs.declared.refusal.ShowRefusal.TheVariants.{Fault, Damaged, Spent, SinkFault, NoMemory}
 use Rattle.opt_show.specs.declared.refusal.ImageDamage.{ImageDamage}
-use Rattle.opt_show.specs.declared.refusal.ImageDamage.TheVariants.{NoHeader, BadBit, Broken}
+use Rattle.opt_show.specs.declared.refusal.ImageDamage.TheVariants.{NoHeader, BadBit}
 use Rattle.opt_show.specs.Images.{CanBeMounted, HasDamage, StandsForNone, StandsMounted}
 use Rattle.opt_show.specs.Mounted.{HasSession, HoldsThroughout, IsFresh, IsMarkOf, IsMountedOn, MarksFor, SaysOn, ShowsDisk, is_fault, of_check, of_store}
 use Rattle.opt_show.specs.Shows.{HasMark, ListsFront, RefusesOn, fails_pushing, says_nothing}

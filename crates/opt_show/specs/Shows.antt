@@ -98,9 +98,11 @@ pub record SpendsAtMost (tells : Bool) (first last : State) : Type 0 where
 
 -- The bay.
 
--- No disk was handed out: what is under each name is as it was.
+-- No disk was handed out: what is under each name is as it was, and no disk was counted.
 pub record HandsOutNone (tells : Bool) (old new : BayState) : Type 0 where
   pub kept : IsTrue tells → (each : List ℕ) → new.kept each ≡ old.kept each
+  pub faults : old.faults ≤ new.faults
+  pub disk_faults : new.disk_faults ≡ old.disk_faults
   pub handed : new.handed ≡ old.handed
   pub closed : new.closed ≡ old.closed
 

@@ -247,8 +247,8 @@ fn close_shown<B: Bay>(bay: &mut B, name: &str, left: Left<LentDisk<B>>) -> Resu
     } = left;
     let back = bay.close(name, disk, marks);
     answer?;
-    match back {
-        Ok(()) => Ok(()),
-        Err(fault) => Err(of_bay(fault)),
+    if let Err(fault) = back {
+        return Err(of_bay(fault));
     }
+    Ok(())
 }
