@@ -287,12 +287,12 @@ module _ (laws : StandingLaws) where
       (subst (λ (w : ShowRefusal). ShowsDisk {T = Unit {0}} tells first (known (disk_in store)) [] taken taken (Err w)) (sym answer_is)
       (unopened known tells first s store taken why is looks size damage no_tree)))
 
-  pub unmounted_back : (tells : Bool) (first new : disk.State) (marks : List Mark) (taken : Option (List ℕ)) (why : StoreRefusal) (answer : ShowRefusal) → marks ≡ [] → answer ≡ of_store why → IsFresh tells first → ((what : ImageDamage) → HasDamage first.blocks first.base what → StandsForNone first.blocks first.base)
+  pub unmounted_back : (tells : Bool) (first new : disk.State) (marks : List Mark) (taken : Option (List ℕ)) (why : StoreRefusal) (answer : ShowRefusal) → marks ≡ [] → answer ≡ of_store why → IsFresh tells first → ((n : ℕ) (at : Blocks) (what : ImageDamage) → HasDamage n at what → StandsForNone n at)
       → (IsTrue tells → RefusalSays first new why) → LeavesDisk tells (is_read_fault why) (is_disk_fault why) first new → ShowsDisk {T = Unit {0}} tells first new marks taken taken (Err answer)
   unmounted_back tells first new marks taken why answer none answer_is fresh damaged says leaves =
       subst (λ (xs : List Mark). ShowsDisk {T = Unit {0}} tells first new xs taken taken (Err answer)) (sym none)
       (subst (λ (w : ShowRefusal). ShowsDisk {T = Unit {0}} tells first new [] taken taken (Err w)) (sym answer_is)
-      (unmounted tells first new taken why fresh damaged says leaves))
+      (unmounted tells first new taken why fresh (damaged first.blocks first.base) says leaves))
 
 -- a check pushes nothing
 pub check_pushes : (why : CheckRefusal) (answer : ShowRefusal) (n : ℕ) → answer ≡ of_check why → CountsPushes (fails_pushing {T = Unit {0}} (Err answer)) n n

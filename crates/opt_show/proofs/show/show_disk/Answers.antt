@@ -9,4 +9,4 @@ pub returns-in-Err-clause-shows : goal.returns-in-Err-clause-shows
 returns-in-Err-clause-shows g c =
     let first = g.D.Disk.state c.args.disk in
     unmounted_back (record { newest = c.an_image_holds_one_map.ensures.newest; maps = c.an_image_holds_one_map.ensures.maps; alike = c.images_alike_below_n_stand_for_the_same.ensures }) g.D.Disk.tells first (g.D.Disk.state c.in-Err.disk) c.args.marks.items
-    (g.K.Sink.taken c.args.out.now) c.in-Err.why c.of_store.result c.requires.empty c.of_store.ensures c.requires.fresh (c.a_damaged_image_stands_for_no_tree.ensures first.blocks first.base) c.in-Err.ensures.refused c.in-Err.ensures.back
+    (g.K.Sink.taken c.args.out.now) c.in-Err.why c.of_store.result c.requires.empty c.of_store.ensures c.requires.fresh c.a_damaged_image_stands_for_no_tree.ensures c.in-Err.ensures.refused c.in-Err.ensures.back
