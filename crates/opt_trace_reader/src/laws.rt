@@ -1,11 +1,13 @@
-//! Laws: the lines that may come are those of traces, bytes have one wrong line, and a trace is of a run. They run
-//! nothing.
+//! Laws: the lines that may come are those of traces, bytes have one wrong line, a trace is of a run, and which point a
+//! reply tells. They run nothing.
 
 ghost use Rattle.std.specs.Prelude.{◌≡◌, ◌↔◌, true, List, [], ◌++◌, ℕ, Option, Some, None};
-ghost use Rattle.opt_tree.specs.Step.{Session, start};
+ghost use Rattle.opt_tree.specs.declared.command.Cmd.{Cmd};
+ghost use Rattle.opt_tree.specs.Step.{Session, start, step};
 ghost use Rattle.opt_tree.specs.Run.{Run, StopsAfterFault, is_of_disk};
 ghost use Rattle.opt_trace.specs.Contents.{Contents, text_of};
 ghost use Rattle.opt_trace_reader.specs.Reading.{State, ComeEach, contents_of, has_ended, is_ended};
+ghost use Rattle.opt_trace_reader.specs.Replies.{points_by};
 ghost use Rattle.opt_trace_reader.specs.Traces.{IsTrace, BeginsTrace, AreTrace, AreLines, IsWrongAt, is_line, text_of_lines};
 
 use opt_geom::geometries_are_within_limits;
@@ -44,3 +46,8 @@ pub fn a_trace_is_a_run()
 {
     a_reply_tells_the_session();
 }
+
+/// The last point behind a command of a session is the one that the reply tells, and where it tells none the one before.
+pub fn a_reply_tells_the_last_point()
+    ensures { (s : Session) (cmd : Cmd) → (step s cmd).0.points ≡ points_by (step s cmd).1 s.points }
+{}

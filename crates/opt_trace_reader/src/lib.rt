@@ -14,7 +14,11 @@ mod trace;
 
 pub use event_log::EventLog;
 pub use input::{TraceRefusal, read_trace};
-pub use laws::{a_trace_is_a_run, bytes_go_wrong_at_one_line, lines_come_as_traces_go};
+pub use kinds::{is_out_of_memory, numbers_by};
+pub use laws::{
+    a_reply_tells_the_last_point, a_trace_is_a_run, bytes_go_wrong_at_one_line,
+    lines_come_as_traces_go,
+};
 pub use reader::Reader;
 pub use replay::Replay;
 pub use trace::Trace;

@@ -1,12 +1,14 @@
 //! A trace that was read: its geometry, its events, and its commands with their replies and marks. How a text is read
 //! isn't described here.
 
-ghost use Rattle.std.specs.Prelude.{◌≡◌};
+ghost use Rattle.std.specs.Prelude.{◌≡◌, []};
 
 use opt_disk::Event;
 use opt_geom::Geom;
 use opt_tree::{Cmd, Reply};
+use std::alloc::Global;
 use std::marker::Model;
+use std::mem;
 
 /// What a trace says.
 #[derive(Drop)]
@@ -75,6 +77,14 @@ impl Trace {
         ensures { result.now ≡ self.now.log }
     {
         self.log.as_slice()
+    }
+
+    /// Takes the events out, in their order, and leaves none. It takes no memory.
+    pub fn take_log(&mut self, alloc: Global) -> Vec<Event>
+        ensures log { result.items ≡ self.old.log }
+        ensures rest { self.new ≡ record self.old { log = [] } }
+    {
+        mem::replace(&mut self.log, Vec::new(alloc))
     }
 
     /// The events, in their order, without the rest.

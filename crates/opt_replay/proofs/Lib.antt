@@ -1,0 +1,11 @@
+pub mod Comparisons
+pub mod Steps
+pub mod Lists
+pub mod Newests
+pub mod Walks
+pub mod telling
+pub mod lawful
+mod SameTrees
+mod FormattedImages
+mod CrashImages
+pub mod Mounting

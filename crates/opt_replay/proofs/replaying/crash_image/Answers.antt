@@ -1,0 +1,16 @@
+-- The disk of the log began as the formatted one, so its image is that of the crash.
+use Rattle.std.proofs.Common.{◌≡◌, List, ℕ, Ok, sym, ap, subst}
+use Rattle.opt_disk.specs.declared.event.Event.{Event}
+use Rattle.opt_memdisk.specs.Choice.{GivesImage}
+use Rattle.opt_memdisk.specs.Log.{AreWithin}
+use Rattle.opt_memdisk.specs.MemDisk.{MemDiskState}
+use Rattle.opt_replay.proofs.CrashImages.{leaves, within}
+use Rattle.opt_replay.proofs.replaying.crash_image.Goals as goal
+
+pub of_log-requires-clause-within : goal.of_log-requires-clause-within
+of_log-requires-clause-within c = subst (λ (n : ℕ). AreWithin n c.args.log.items) (sym c.in_ok-image.ensures.size) (within c.args.geom.now.n c.args.log.items c.requires.events)
+
+pub returns-clause-image : goal.returns-clause-image
+returns-clause-image c =
+    leaves c.args.geom.now c.in_ok-image.image c.args.log.items c.args.moment c.args.choice.now c.in_ok-chosen.chosen c.in_ok-image.ensures.size c.in_ok-image.ensures.blocks
+    (subst (λ (d : MemDiskState). GivesImage d.base d.log c.args.moment c.args.choice.now (Ok c.in_ok-chosen.chosen)) c.in_ok-disk.ensures c.in_ok-chosen.ensures.image)

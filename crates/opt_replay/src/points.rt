@@ -1,0 +1,96 @@
+//! The newest sync point of a trace, of those that a crash after some events may leave, whose tree has a listing.
+//! Neither a disk nor an image is known here.
+
+ghost use Rattle.std.specs.Prelude.{◌≡◌, IfOk};
+ghost use Rattle.opt_tree.specs.Points.{floor, promised_by};
+ghost use Rattle.opt_replay.specs.Newest.{IsNewest};
+ghost use Rattle.opt_replay.specs.Points.{IsMarked, floor_at, points_in, top_at};
+ghost use Rattle.opt_replay.specs.Walking.{IsListedAs};
+
+use crate::walk::{Tally, Walk};
+use opt_base::NoMemory;
+use opt_trace_reader::Trace;
+use opt_tree::Reply;
+use std::alloc::Global;
+
+/// The newest of the points that a crash after `moment` events may leave whose tree has this listing. The commands of
+/// the trace are run once to find the newest point, and then again: the newest point is compared alone at first.
+///
+/// # Errors
+/// Out of memory.
+pub fn newest_point(
+    alloc: Global,
+    trace: &Trace,
+    moment: u64,
+    text: &[u8],
+) -> Result<Option<u64>, NoMemory>
+    requires { IsMarked trace.now }
+    ensures { IfOk result (λ newest. IsNewest (IsListedAs text.now) (points_in trace.now) (floor_at moment trace.now) (top_at moment trace.now) newest) }
+{
+    let floor = floor_by(trace.replies(), trace.marks(), moment);
+    let top = search(alloc, trace, moment, u64::MAX, text)?.last;
+    let at_top = search(alloc, trace, moment, top.max(floor), text)?;
+    if at_top.newest.is_some() || top <= floor {
+        return Ok(at_top.newest);
+    }
+    let found = search(alloc, trace, moment, floor, text)?;
+    Ok(found.newest)
+}
+
+// Counts the points that began by `moment`, and finds the newest from `low` on whose tree has this listing.
+fn search(
+    alloc: Global,
+    trace: &Trace,
+    moment: u64,
+    low: u64,
+    text: &[u8],
+) -> Result<Tally, NoMemory>
+    requires { IsMarked trace.now }
+    ensures { IfOk result (λ y. (y.last ≡ top_at moment trace.now) × IsNewest (IsListedAs text.now) (points_in trace.now) low y.last y.newest) }
+{
+    let geom = trace.geom();
+    geom.lawful();
+    let cmds = trace.commands();
+    let replies = trace.replies();
+    let marks = trace.marks();
+    let mut walk = Walk::begin(alloc, geom.i(), low, text)?;
+    let mut begun = trace.mounted();
+    let mut i = 0;
+    while i < cmds.len() && begun <= moment {
+        walk.take(alloc, &cmds[i], &replies[i], low, text)?;
+        begun = marks[i];
+        i += 1;
+    }
+    Ok(walk.tally())
+}
+
+// The greatest point that these replies promised by `moment`.
+fn floor_by(replies: &[Reply], marks: &[u64], moment: u64) -> u64
+    ensures { result ≡ floor moment replies.now marks.now }
+{
+    let mut greatest = 0;
+    let mut i = 0;
+    while i < replies.len() && i < marks.len() {
+        if marks[i] <= moment {
+            greatest = promised_by(&replies[i]).max(greatest);
+        }
+        i += 1;
+    }
+    greatest
+}
+
+// The point that a reply promises to be on the disk from then on.
+fn promised_by(reply: &Reply) -> u64
+    ensures { result ≡ promised_by reply.now }
+{
+    match reply {
+        Reply::DurableAt(point) | Reply::Known(point) => *point,
+        Reply::Ok
+        | Reply::Bytes(_)
+        | Reply::Stat(_)
+        | Reply::Names(_)
+        | Reply::Synced(_)
+        | Reply::Bad
+        | Reply::Refused(_) => 0,
+    }
+}

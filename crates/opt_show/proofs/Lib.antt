@@ -1,0 +1,4 @@
+pub mod Damages
+pub mod Standing
+pub mod Steps
+pub mod Bays
