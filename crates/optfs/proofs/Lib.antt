@@ -10,7 +10,6 @@ pub mod ReadingLemmas
 pub mod ProgramLemmas
 mod Requests
 mod Quiet
-mod FormattedImages
 mod FormattedFound
 mod MountLemmas
 mod OpenLemmas

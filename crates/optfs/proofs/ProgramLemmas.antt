@@ -17,7 +17,8 @@ use Rattle.optfs.specs.Disks.{FailedToMount}
 use Rattle.optfs.specs.Output.{ServesBy, Setting, IsWhole, FailsToMount, longest, disk_line, source_line, long_line}
 use Rattle.optfs.specs.Reading.{AtEnding, Halted, ReadsAll, ReadsSome, ReadsTooMuch}
 use Rattle.optfs.specs.Lines.{commands_of_line, commands_of, whole_commands, whole_lines, parts_of}
-use Rattle.optfs.specs.Program.{HasFault, RecordsTo, Tells}
+use Rattle.optfs.specs.Endings.{HasFault, Tells}
+use Rattle.optfs.specs.Program.{RecordsTo}
 use Rattle.optfs.proofs.ReadingLemmas.{rose_before}
 use Rattle.optfs.proofs.Runs.{each_append, front_at_first, small}
 use Rattle.optfs.specs.declared.reading.Ending.{Ending}

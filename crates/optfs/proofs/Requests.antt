@@ -14,7 +14,8 @@ use Rattle.opt_words.specs.declared.request.Request.TheVariants.{Record}
 use Rattle.opt_words.specs.Words.{IsInRange}
 use Rattle.optfs.specs.Behaving.{MountFails, fails_of, rule_of}
 use Rattle.optfs.specs.Output.{Setting, usage_line, shape_line}
-use Rattle.optfs.specs.Program.{Completes, Does, EndsSo, HasFault, RecordsWhere, RecordsTo, Refuses, Tells, is_recording, setting_of, shape_of}
+use Rattle.optfs.specs.Endings.{HasFault, Tells}
+use Rattle.optfs.specs.Program.{Completes, Does, EndsSo, RecordsWhere, RecordsTo, Refuses, is_recording, setting_of, shape_of}
 use Rattle.optfs.specs.declared.status.Status.{Status}
 use Rattle.optfs.specs.declared.status.Status.TheVariants.{Done, Usage, NoMemory, DiskFault, SourceFault, SinkFault, BadShape, LongInput}
 use Rattle.optfs.proofs.ProgramLemmas.{never_begun}

@@ -1,3 +1,4 @@
+pub mod Endings
 pub mod Lines
 pub mod Behaving
 pub mod Running
@@ -5,6 +6,8 @@ pub mod Disks
 pub mod Mounting
 pub mod Output
 pub mod Follows
+pub mod Replaying
+pub mod Showing
 pub mod Program
 pub mod Reading
 pub mod Statuses

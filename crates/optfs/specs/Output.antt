@@ -1,5 +1,5 @@
 -- What the program writes for the bytes that it read, status by status. It is described in docs/TRACE.md.
-use Rattle.std.specs.Prelude.{◌≡◌, ℕ, ◌^◌, ◌⊎◌, List, [], ◌++◌, codes, length}
+use Rattle.std.specs.Prelude.{◌≡◌, ℕ, ◌^◌, ◌⊎◌, List, [], ◌++◌, length}
 use Rattle.opt_disk.specs.declared.event.Event.{Event}
 use Rattle.opt_disk.specs.Manner.{Manner, GoesBy}
 use Rattle.opt_geom.specs.Geometry.{Geometry, bitmap_blocks}
@@ -18,9 +18,10 @@ use Rattle.opt_session.specs.Budget.{budget_of}
 use Rattle.opt_session.specs.Crashes.{IsCrashConsistent}
 use Rattle.opt_session.specs.Issued.{IssuesLast}
 use Rattle.optfs.specs.Behaving.{MountFails, RunsBy}
+use Rattle.optfs.specs.Endings.{disk_line, source_line, long_line}
 use Rattle.optfs.specs.Lines.{whole_commands, commands_of}
 use Rattle.optfs.specs.declared.status.Status.{Status}
-use Rattle.optfs.specs.declared.status.Status.TheVariants.{Done, Usage, NoMemory, DiskFault, SourceFault, SinkFault, BadShape, LongInput}
+use Rattle.optfs.specs.declared.status.Status.TheVariants.{Done, NoMemory, DiskFault, SourceFault, SinkFault, LongInput}
 
 -- the disk of a recording: its geometry, and how it behaves
 pub record Setting : Type 0 where
@@ -80,9 +81,6 @@ pub record IsCutShort (S : List Cmd → List ℕ → Type 0) (seen last text : L
   pub served : S (whole_commands longest seen) body
   pub is : text ≡ body ++ last
 
-abbrev pub disk_line : List ℕ
-disk_line = codes "error 5 disk\n"
-
 -- The text is that of a mount that the disk failed: the events so far, and then the last line. Every crash of it leaves the root alone. The disk went by its manner, which lets the mount fail so.
 pub record FailsToMount (set : Setting) (text : List ℕ) : Type 0 where
   pub log : List Event
@@ -92,18 +90,6 @@ pub record FailsToMount (set : Setting) (text : List ℕ) : Type 0 where
   pub writes : GoesBy set.manner log
   pub cause : MountFails set.manner log
   pub is : text ≡ (front_of (says set.shape log (length log) [] [] []) ++ end_line) ++ disk_line
-
-abbrev pub source_line : List ℕ
-source_line = codes "error 7 source\n"
-
-abbrev pub long_line : List ℕ
-long_line = codes "error 12 long input\n"
-
-abbrev pub usage_line : List ℕ
-usage_line = codes "error 2 usage\n"
-
-abbrev pub shape_line : List ℕ
-shape_line = codes "error 11 shape\n"
 
 -- The text is a whole output of a recording that read these bytes: the trace, or the one after a fault of the source, where it failed, or the one of an input that is too long, where these bytes are as many as an input may have.
 abbrev pub IsWhole : (List Cmd → List ℕ → Type 0) → Type 0 → List ℕ → List ℕ → Type 0
@@ -135,7 +121,6 @@ Recorded set Done source_failed seen text = IsTrace (ServesBy set) seen text
 Recorded set DiskFault source_failed seen text = FailsToMount set text
 Recorded set SourceFault source_failed seen text = IsCutShort (ServesBy set) seen source_line text
 Recorded set LongInput source_failed seen text = IsCutShort (ServesBy set) seen long_line text
-Recorded set Usage source_failed seen text = ⊥
-Recorded set BadShape source_failed seen text = ⊥
 Recorded set NoMemory source_failed seen text = (text ≡ []) ⊎ IsBrokenOff set seen text
 Recorded set SinkFault source_failed seen text = IsFront (IsWhole (ServesBy set) source_failed seen) text ⊎ (IsBrokenOff set seen text ⊎ IsFront (FailsToMount set) text)
+Recorded set _ source_failed seen text = ⊥

@@ -3,13 +3,18 @@ use Rattle.std.specs.Prelude.{◌≡◌, ℕ, ◌^◌, ◌≤◌, ◌⊎◌, ⊤
 use Rattle.std.specs.Io.KnownBytes.{Appends, Consumes, IsAtEnd}
 use Rattle.opt_base.specs.Counts.{Rose}
 use Rattle.opt_geom.specs.Geometry.{Geometry, geometry_fits}
+use Rattle.opt_words.specs.declared.request.Notices.{Notices}
 use Rattle.opt_words.specs.declared.request.Request.{Request}
-use Rattle.opt_words.specs.declared.request.Request.TheVariants.{Record}
+use Rattle.opt_words.specs.declared.request.Request.TheVariants.{Record, Replay, Tree}
 use Rattle.opt_memdisk.specs.MemDisk.{manner_by}
 use Rattle.optfs.specs.Behaving.{fails_of, rule_of}
-use Rattle.optfs.specs.Output.{Recorded, Setting, usage_line, shape_line}
+use Rattle.opt_show.specs.Shows.{CountsFault}
+use Rattle.optfs.specs.Endings.{Met, EndsBehind, EndsSilent, usage_line, shape_line}
+use Rattle.optfs.specs.Output.{Recorded, Setting}
+use Rattle.optfs.specs.Replaying.{ReplaysTo}
+use Rattle.optfs.specs.Showing.{ShowsTo}
 use Rattle.optfs.specs.declared.status.Status.{Status}
-use Rattle.optfs.specs.declared.status.Status.TheVariants.{Done, Usage, NoMemory, DiskFault, SourceFault, SinkFault, BadShape, LongInput}
+use Rattle.optfs.specs.declared.status.Status.TheVariants.{Done, Usage, NoMemory, DiskFault, Damaged, SourceFault, SinkFault, Spent, BadShape, LongInput}
 
 -- these bytes were read, which are no more than an input may have
 abbrev pub ReadsWithin : List ℕ → Option (List ℕ) → Option (List ℕ) → Type 0
@@ -22,13 +27,12 @@ ReadsPast seen left left_now = (next : ℕ) × Consumes left left_now (seen ++ n
 -- what a recording that ended with this status read
 abbrev pub Reads : Status → List ℕ → Option (List ℕ) → Option (List ℕ) → Type 0
 Reads Done seen left left_now = ReadsWithin seen left left_now × IsAtEnd left_now
-Reads Usage seen left left_now = ⊥
-Reads BadShape seen left left_now = ⊥
 Reads NoMemory seen left left_now = ReadsWithin seen left left_now
 Reads DiskFault seen left left_now = (seen ≡ []) × ReadsWithin seen left left_now
 Reads SourceFault seen left left_now = ReadsWithin seen left left_now
 Reads SinkFault seen left left_now = ReadsWithin seen left left_now ⊎ ReadsPast seen left left_now
 Reads LongInput seen left left_now = ReadsPast seen left left_now
+Reads _ seen left left_now = ⊥
 
 -- A recording on such a disk, ended with this status: what it read and wrote.
 pub record RecordsTo (set : Setting) (status : Status) (left left_now taken taken_now : Option (List ℕ)) (source source_now : ℕ) : Type 0 where
@@ -40,39 +44,41 @@ pub record RecordsTo (set : Setting) (status : Status) (left left_now taken take
 
 -- The line of this refusal is written; where the sink fails it has a front of that line, and where no memory is found nothing is written.
 abbrev pub Refuses : Status → List ℕ → Status → Option (List ℕ) → Option (List ℕ) → Type 0
-Refuses refusal line status taken taken_now =
-    ((status ≡ refusal) × Appends taken taken_now line)
-    ⊎ (((status ≡ SinkFault) × ((n : ℕ) × Appends taken taken_now (take n line)))
-    ⊎ ((status ≡ NoMemory) × (taken_now ≡ taken)))
+Refuses refusal line status taken taken_now = EndsBehind refusal line status taken taken_now ⊎ EndsSilent NoMemory status taken taken_now
 
 abbrev pub RecordsWhere : Bool → Setting → Status → Option (List ℕ) → Option (List ℕ) → Option (List ℕ) → Option (List ℕ) → ℕ → ℕ → Type 0
 RecordsWhere true set status left left_now taken taken_now source source_now = RecordsTo set status left left_now taken taken_now source source_now
 RecordsWhere false set status left left_now taken taken_now source source_now = Refuses BadShape shape_line status taken taken_now
 
--- the geometry that a request asks for
-abbrev pub shape_of : Request → Geometry
-shape_of (Record blocks journal nodes notices room fail) = record { n = blocks; j = journal; i = nodes }
+-- the geometry that the words ask for
+abbrev pub shape_of : ℕ → ℕ → ℕ → Geometry
+shape_of blocks journal nodes = record { n = blocks; j = journal; i = nodes }
 
--- the disk that it asks for: of this geometry, with its room, its rule of notices, and the write that is to be lost
-abbrev pub setting_of : Request → Setting
-setting_of (Record blocks journal nodes notices room fail) = record { shape = record { n = blocks; j = journal; i = nodes }; manner = manner_by room (fails_of fail) (rule_of notices) }
+-- the disk that they ask for: of this geometry, with its room, its rule of notices, and the write that is to be lost
+abbrev pub setting_of : ℕ → ℕ → ℕ → Notices → ℕ → Option ℕ → Setting
+setting_of blocks journal nodes notices room fail = record { shape = shape_of blocks journal nodes; manner = manner_by room (fails_of fail) (rule_of notices) }
 
--- What the program does for what its words ask: it records on a disk of the geometry, where that fits, and else says so; words that ask for nothing are told the usage.
-abbrev pub Does : Option Request → Status → Option (List ℕ) → Option (List ℕ) → Option (List ℕ) → Option (List ℕ) → ℕ → ℕ → Type 0
-Does None status left left_now taken taken_now source source_now = Refuses Usage usage_line status taken taken_now
-Does (Some request) status left left_now taken taken_now source source_now =
-    RecordsWhere (geometry_fits (shape_of request)) (setting_of request) status left left_now taken taken_now source source_now
+-- What the program does for what its words ask, over a bay that tells or doesn't. It records on a disk of the geometry, where that fits, and else says so. It replays a crash of the trace that is its input. It shows the tree of an image of the bay. Words that ask for nothing are told the usage.
+abbrev pub Does : Bool → Option Request → Status → Met → Type 0
+Does tells None status m = Refuses Usage usage_line status m.taken m.taken_now
+Does tells (Some (Record blocks journal nodes notices room fail)) status m =
+    RecordsWhere (geometry_fits (shape_of blocks journal nodes)) (setting_of blocks journal nodes notices room fail) status m.left m.left_now m.taken m.taken_now m.source m.source_now
+Does tells (Some (Replay moment choice)) status m = ReplaysTo moment choice status m
+Does tells (Some (Tree image)) status m = ShowsTo tells image status m
 
--- the words ask for a recording on a disk of a geometry that fits
-abbrev pub is_recording : Option Request → Bool
-is_recording None = false
-is_recording (Some request) = geometry_fits (shape_of request)
+-- the words ask for something that reads the input: a recording on a disk of a geometry that fits, or a replay
+abbrev pub reads_input : Option Request → Bool
+reads_input None = false
+reads_input (Some (Record blocks journal nodes notices room fail)) = geometry_fits (shape_of blocks journal nodes)
+reads_input (Some (Replay moment choice)) = true
+reads_input (Some (Tree image)) = false
 
--- a fault comes only where the count of the one that failed rose
-abbrev pub HasFault : Status → ℕ → ℕ → ℕ → ℕ → Type 0
-HasFault SourceFault source source_now sink sink_now = Rose source source_now
-HasFault SinkFault source source_now sink sink_now = Rose sink sink_now
-HasFault _ source source_now sink sink_now = Unit
+-- they name an image of the bay
+abbrev pub opens_bay : Option Request → Bool
+opens_bay None = false
+opens_bay (Some (Record blocks journal nodes notices room fail)) = false
+opens_bay (Some (Replay moment choice)) = false
+opens_bay (Some (Tree image)) = true
 
 -- how a recording may end where neither source nor sink failed and this write is to be lost: as it should, out of memory, or behind an input that is too long; and by a fault of the disk exactly where the first write is lost
 abbrev pub EndsSo : Option ℕ → Status → Type 0
@@ -82,14 +88,28 @@ EndsSo fail LongInput = (fail ≡ Some 1) → ⊥
 EndsSo fail DiskFault = fail ≡ Some 1
 EndsSo fail _ = ⊥
 
--- Completeness: a recording on a disk of a geometry that fits ends so, unless the source or the sink failed.
-abbrev pub Completes : Option Request → Status → Type 0 → Type 0 → Type 0
-Completes None status source_failed sink_failed = ⊤
-Completes (Some (Record blocks journal nodes notices room fail)) status source_failed sink_failed =
-    geometry_fits (record { n = blocks; j = journal; i = nodes }) ≡ true → ¬ source_failed → ¬ sink_failed → EndsSo fail status
+-- how a replay may end where neither source nor sink failed: not by words, by a geometry, by a fault of a disk, or by one of them
+abbrev pub EndsReplay : Status → Type 0
+EndsReplay Usage = ⊥
+EndsReplay BadShape = ⊥
+EndsReplay DiskFault = ⊥
+EndsReplay SourceFault = ⊥
+EndsReplay SinkFault = ⊥
+EndsReplay _ = ⊤
 
--- The sink took the line and the status stands; or it failed, and took a front of the line.
-abbrev pub Tells : Status → Status → List ℕ → Option (List ℕ) → Option (List ℕ) → ℕ → ℕ → Type 0
-Tells status result line taken taken_now sink sink_now =
-    ((result ≡ status) × Appends taken taken_now line)
-    ⊎ ((result ≡ SinkFault) × ((n : ℕ) × Appends taken taken_now (take n line)) × Rose sink sink_now)
+-- how a showing may end where the sink didn't fail: by a fault of the disk only where the bay counted one
+abbrev pub EndsShow : Type 0 → Status → Type 0
+EndsShow bay_failed Done = ⊤
+EndsShow bay_failed NoMemory = ⊤
+EndsShow bay_failed DiskFault = bay_failed
+EndsShow bay_failed Damaged = ⊤
+EndsShow bay_failed Spent = ⊤
+EndsShow bay_failed _ = ⊥
+
+-- Completeness: unless the source or the sink failed, a recording on a disk of a geometry that fits ends so, and so do a replay and a showing.
+abbrev pub Completes : Option Request → Status → Met → Type 0
+Completes None status m = ⊤
+Completes (Some (Record blocks journal nodes notices room fail)) status m =
+    geometry_fits (shape_of blocks journal nodes) ≡ true → ¬ Rose m.source m.source_now → ¬ Rose m.sink m.sink_now → EndsSo fail status
+Completes (Some (Replay moment choice)) status m = ¬ Rose m.source m.source_now → ¬ Rose m.sink m.sink_now → EndsReplay status
+Completes (Some (Tree image)) status m = ¬ Rose m.sink m.sink_now → EndsShow (CountsFault m.bay m.bay_now) status

@@ -5,15 +5,17 @@
 
 mod disk;
 mod events;
-mod formatting;
 mod laws;
 mod lines;
 mod mounting;
 mod program;
 mod reading;
 mod recording;
+mod replaying;
 mod running;
+mod showing;
 mod status;
+mod telling;
 #[cfg(test)]
 mod tests;
 #[cfg(test)]

@@ -12,11 +12,12 @@ ghost use Rattle.opt_memdisk.specs.MemDisk.{state_of as disk_state};
 ghost use Rattle.opt_store.specs.StoreOf.{state_of};
 ghost use Rattle.opt_fs.specs.Opened.{blocks_in};
 ghost use Rattle.opt_trace.specs.Line.{geometry_line, event_lines, end_line};
-ghost use Rattle.opt_words.specs.Words.{request_of};
+ghost use Rattle.opt_words.specs.Words.{IsInRange, request_of};
 ghost use Rattle.optfs.specs.Disks.{FailedToMount, IsOpened, setting_on};
 ghost use Rattle.optfs.specs.Follows.{StopsByCause};
 ghost use Rattle.optfs.specs.Mounting.{Mounts};
-ghost use Rattle.optfs.specs.Program.{Completes, Does, HasFault, RecordsTo, Tells, is_recording, setting_of, shape_of};
+ghost use Rattle.optfs.specs.Endings.{HasFault, met};
+ghost use Rattle.optfs.specs.Program.{Completes, Does, EndsSo, RecordsTo, RecordsWhere, opens_bay, reads_input, shape_of};
 ghost use Rattle.optfs.specs.Reading.{AtEnding, Halted};
 
 use crate::disk::{Behaviour, formatted_disk};
@@ -24,11 +25,14 @@ use crate::events::write_head;
 use crate::mounting::{Mounted, System, mount};
 use crate::reading::{Ending, read_lines};
 use crate::recording::{Recording, Stop};
+use crate::replaying::replay;
+use crate::showing::show;
 use crate::status::Status;
+use crate::telling::{DISK, END, LONG, SHAPE, SOURCE, USAGE, tell};
 use opt_base::NoMemory;
 use opt_disk::Bay;
 use opt_geom::{BadShape, Geom};
-use opt_io::{Sink, SinkFault, Source, push_all};
+use opt_io::{Sink, SinkFault, Source};
 use opt_memdisk::MemDisk;
 use opt_script::lines_are_commands;
 use opt_stands::the_formatted_disk_stands_for_the_root;
@@ -38,10 +42,12 @@ use std::alloc::Global;
 
 /// Runs the program with these words.
 ///
-/// The words `record N J I` format a disk in memory and mount it. They read a script from `input`, answer its
-/// commands by a file system on this disk, and write the trace to `out`: each command, the events that the disk had
-/// meanwhile, and the reply. The options `--notices`, `--room` and `--fail` say how the disk behaves. The bay is for
-/// words that name an image; none of these is built yet.
+/// - `record N J I` formats a disk in memory and mounts it. It reads a script from `input`, answers its commands by a file
+///   system on this disk, and writes the trace to `out`: each command, the events that the disk had meanwhile, and the
+///   reply. The options `--notices`, `--room` and `--fail` say how the disk behaves.
+/// - `replay --at K` reads a trace from `input`. It writes to `out` which sync point a crash after the first K events
+///   leaves, and its tree. The options `--stand` and `--tear` say what becomes of the writes that were pending then.
+/// - `tree IMAGE` mounts the image of the bay and writes its tree to `out`.
 pub fn optfs<S: Source, K: Sink, Y: Bay>(
     alloc: Global,
     words: &[String],
@@ -49,62 +55,87 @@ pub fn optfs<S: Source, K: Sink, Y: Bay>(
     out: &mut K,
     bay: &mut Y,
 ) -> Status
-    ensures does { Does (request_of words.now) result (S.remaining input.old) (S.remaining input.new)
-        (K.taken out.old) (K.taken out.new) (S.faults input.old) (S.faults input.new) }
-    ensures untouched { is_recording (request_of words.now) ≡ false → input.new ≡ input.old }
+    ensures does { Does Y.tells (request_of words.now) result (met (S.remaining input.old) (S.remaining input.new) (K.taken out.old) (K.taken out.new)
+        (S.faults input.old) (S.faults input.new) (K.faults out.old) (K.faults out.new) (Y.state bay.old) (Y.state bay.new)) }
+    ensures untouched { (reads_input (request_of words.now) ≡ false → input.new ≡ input.old) × (opens_bay (request_of words.now) ≡ false → bay.new ≡ bay.old) }
 
-    // A fault comes only where the count of the one that failed rose.
+    // A fault of the source or of the sink comes only where its count rose.
     ensures faults { HasFault result (S.faults input.old) (S.faults input.new) (K.faults out.old) (K.faults out.new) }
     ensures counts { (S.faults input.old ≤ S.faults input.new) × (K.faults out.old ≤ K.faults out.new) }
 
-    // Completeness: a recording that is asked for ends as it should, but for such faults and for want of memory.
-    ensures completes { Completes (request_of words.now) result (Rose (S.faults input.old) (S.faults input.new)) (Rose (K.faults out.old) (K.faults out.new)) }
-
-    ensures bay { bay.new ≡ bay.old }
+    // Completeness: what is asked for ends as it should, but for such faults and for want of memory.
+    ensures completes { Completes (request_of words.now) result (met (S.remaining input.old) (S.remaining input.new) (K.taken out.old) (K.taken out.new)
+        (S.faults input.old) (S.faults input.new) (K.faults out.old) (K.faults out.new) (Y.state bay.old) (Y.state bay.new)) }
 {
     match read_words(alloc, words) {
         Err(NoMemory) => Status::NoMemory,
         Ok(None) => tell(out, USAGE, Status::Usage),
-        Ok(Some(request)) => match geometry(request) {
-            Err(BadShape) => tell(out, SHAPE, Status::BadShape),
-            Ok(geom) => record(alloc, &geom, &behaviour(request), input, out),
-        },
+        Ok(Some(request)) => serve(alloc, &request, input, out, bay),
     }
 }
 
-/// The geometry that a request asks for.
-///
-/// # Errors
-/// `BadShape` exactly where its numbers don't fit together.
-fn geometry(request: Request) -> Result<Geom, BadShape>
-    ensures exact { IsOk result ↔ (geometry_fits (shape_of request) ≡ true) }
-    ensures value { IfOk result (λ geom. geom ≡ shape_of request) }
+/// Does what a request asks for.
+fn serve<S: Source, K: Sink, Y: Bay>(
+    alloc: Global,
+    request: &Request,
+    input: &mut S,
+    out: &mut K,
+    bay: &mut Y,
+) -> Status
+    requires range { IsInRange (Some request.now) }
+    ensures does { Does Y.tells (Some request.now) result (met (S.remaining input.old) (S.remaining input.new) (K.taken out.old) (K.taken out.new)
+        (S.faults input.old) (S.faults input.new) (K.faults out.old) (K.faults out.new) (Y.state bay.old) (Y.state bay.new)) }
+    ensures untouched { (reads_input (Some request.now) ≡ false → input.new ≡ input.old) × (opens_bay (Some request.now) ≡ false → bay.new ≡ bay.old) }
+
+    // A fault of the source or of the sink comes only where its count rose.
+    ensures faults { HasFault result (S.faults input.old) (S.faults input.new) (K.faults out.old) (K.faults out.new) }
+    ensures counts { (S.faults input.old ≤ S.faults input.new) × (K.faults out.old ≤ K.faults out.new) }
+
+    // Completeness: what is asked for ends as it should, but for such faults and for want of memory.
+    ensures completes { Completes (Some request.now) result (met (S.remaining input.old) (S.remaining input.new) (K.taken out.old) (K.taken out.new)
+        (S.faults input.old) (S.faults input.new) (K.faults out.old) (K.faults out.new) (Y.state bay.old) (Y.state bay.new)) }
 {
     match request {
         Request::Record {
             blocks,
             journal,
             nodes,
-            ..
-        } => Geom::new(blocks, journal, nodes),
+            notices,
+            room,
+            fail,
+        } => {
+            let behaviour = Behaviour {
+                notices: *notices,
+                room: *room,
+                fail: *fail,
+            };
+            record_asked(alloc, (*blocks, *journal, *nodes), &behaviour, input, out)
+        }
+        Request::Replay { moment, choice } => replay(alloc, *moment, choice, input, out),
+        Request::Tree { image } => show(alloc, image.as_str(), out, bay),
     }
 }
 
-/// How the disk is to behave that a request asks for.
-fn behaviour(request: Request) -> Behaviour
-    ensures { setting_on (shape_of request) result ≡ setting_of request }
+/// Makes a recording on a disk with so many blocks, journal blocks and nodes, where they fit together.
+fn record_asked<S: Source, K: Sink>(
+    alloc: Global,
+    shape: (u32, u32, u32),
+    behaviour: &Behaviour,
+    input: &mut S,
+    out: &mut K,
+) -> Status
+    ensures does { RecordsWhere (geometry_fits (shape_of shape.0 shape.1 shape.2)) (setting_on (shape_of shape.0 shape.1 shape.2) behaviour.now) result
+        (S.remaining input.old) (S.remaining input.new) (K.taken out.old) (K.taken out.new) (S.faults input.old) (S.faults input.new) }
+    ensures untouched { geometry_fits (shape_of shape.0 shape.1 shape.2) ≡ false → input.new ≡ input.old }
+    ensures faults { HasFault result (S.faults input.old) (S.faults input.new) (K.faults out.old) (K.faults out.new) }
+    ensures counts { (S.faults input.old ≤ S.faults input.new) × (K.faults out.old ≤ K.faults out.new) }
+    ensures completes { 1 ≤ behaviour.now.room → geometry_fits (shape_of shape.0 shape.1 shape.2) ≡ true
+        → ¬ Rose (S.faults input.old) (S.faults input.new) → ¬ Rose (K.faults out.old) (K.faults out.new) → EndsSo behaviour.now.fail result }
 {
-    match request {
-        Request::Record {
-            notices,
-            room,
-            fail,
-            ..
-        } => Behaviour {
-            notices,
-            room,
-            fail,
-        },
+    let (blocks, journal, nodes) = shape;
+    match Geom::new(blocks, journal, nodes) {
+        Err(BadShape) => tell(out, SHAPE, Status::BadShape),
+        Ok(geom) => record(alloc, &geom, behaviour, input, out),
     }
 }
 
@@ -243,27 +274,3 @@ fn write_lines<S: Source, K: Sink>(
     let ending = read_lines(alloc, recording, input, out)?;
     Ok(ending)
 }
-
-/// Writes the last line of a status.
-fn tell<K: Sink>(out: &mut K, line: &[u8], status: Status) -> Status
-    ensures told { Tells status result line.now (K.taken out.old) (K.taken out.new) (K.faults out.old) (K.faults out.new) }
-    ensures counts { K.faults out.old ≤ K.faults out.new }
-{
-    match push_all(out, line) {
-        Ok(()) => status,
-        Err(SinkFault) => Status::SinkFault,
-    }
-}
-
-/// The last line of a whole trace, and of each status that has one.
-const END: &[u8] = b"end\n";
-
-const USAGE: &[u8] = b"error 2 usage\n";
-
-const DISK: &[u8] = b"error 5 disk\n";
-
-const SOURCE: &[u8] = b"error 7 source\n";
-
-const SHAPE: &[u8] = b"error 11 shape\n";
-
-const LONG: &[u8] = b"error 12 long input\n";

@@ -8,6 +8,7 @@ mod events;
 mod lines;
 mod outline;
 mod replies;
+mod crashes;
 mod room;
 
 use crate::{Status, optfs};
