@@ -97,6 +97,11 @@ parsed_request p words own sub is kinds matches =
       asks = line.asks;
     }
 
+-- the first of each two
+pub name_is : {A : Type 0} (f : A → Text) (g : A → List Row) (o : Option A) → option_map f o ≡ option_map (λ (q : Text × List Row). q.0) (option_map (λ a. (f a, g a)) o)
+name_is f g None = refl
+name_is f g (Some a) = refl
+
 named_command : (k : Wanted) → command_of (name_of k) ≡ Some k
 named_command to_record = refl
 named_command to_replay = refl
