@@ -2,7 +2,8 @@
 
 ghost use Rattle.std.specs.Prelude.{◌≡◌, IfOk};
 
-use std::alloc::{AllocError, Global};
+use opt_base::NoMemory;
+use std::alloc::Global;
 use std::marker::Model;
 
 /// A word of the command line.
@@ -24,7 +25,7 @@ impl Word {
     ///
     /// # Errors
     /// Out of memory.
-    pub fn from_str(alloc: Global, text: &str) -> Result<Word, AllocError>
+    pub fn from_str(alloc: Global, text: &str) -> Result<Word, NoMemory>
         ensures { IfOk result (λ word. word ≡ text.now) }
     {
         let text = String::from_str(alloc, text)?;
