@@ -1,7 +1,8 @@
 //! Lists of words and what they ask for, by the grammar of docs/WORDS.md.
 
 use opt_base::NoMemory;
-use opt_words::{Notices, Request, read_words};
+use opt_memdisk::{Choice, WriteName};
+use opt_words::{Notices, Request, Word, read_words};
 use std::alloc::Global;
 
 fn read(alloc: Global, words: &[&str]) -> Result<Option<Request>, NoMemory> {
@@ -386,6 +387,153 @@ fn other_options_are_outside_the_grammar(rt: HostRuntime) -> Result<(), NoMemory
     ];
     for text in cases {
         assert_eq!(rt; read_text(rt.alloc(), text)?, None);
+    }
+    Ok(())
+}
+
+/// A choice in which these writes stand, and the accepted ones of these tickets are torn behind so many bytes.
+fn choice_of(
+    alloc: Global,
+    stands: &[WriteName],
+    tears: &[(u64, u16)],
+) -> Result<Choice, NoMemory> {
+    let mut choice = Choice::none(alloc);
+    for write in stands {
+        choice.stand(*write)?;
+    }
+    for (ticket, bytes) in tears {
+        choice.tear(WriteName::Accepted { ticket: *ticket }, *bytes)?;
+    }
+    Ok(choice)
+}
+
+#[test]
+fn a_replay_has_a_moment(rt: HostRuntime) -> Result<(), NoMemory> {
+    let alloc = rt.alloc();
+    let cases = [
+        ("replay --at 0", 0),
+        ("replay --at=12", 12),
+        ("replay --at 12 --stand none", 12),
+        ("replay --stand=none --at 12 --", 12),
+        (
+            "replay --at 18446744073709551615",
+            18_446_744_073_709_551_615,
+        ),
+    ];
+    for (text, moment) in cases {
+        let choice = Choice::none(alloc);
+        let wanted = Request::Replay { moment, choice };
+        assert_eq!(rt; read_text(alloc, text)?, Some(wanted));
+    }
+    Ok(())
+}
+
+#[test]
+fn a_replay_may_have_a_choice(rt: HostRuntime) -> Result<(), NoMemory> {
+    let alloc = rt.alloc();
+    let second = WriteName::Accepted { ticket: 2 };
+    let lost = WriteName::Lost { number: 1 };
+    let cases: [(&str, &[WriteName], &[(u64, u16)]); 5] = [
+        ("replay --at 12 --stand 2", &[second], &[]),
+        ("replay --at 12 --tear 2:1023", &[], &[(2, 1023)]),
+        ("replay --at=12 --tear=2:1,2:512", &[], &[(2, 1), (2, 512)]),
+        (
+            "replay --at 12 --stand f1,2 --tear 3:7",
+            &[lost, second],
+            &[(3, 7)],
+        ),
+        (
+            "replay --tear=3:7 --stand=f1,2 --at=12",
+            &[lost, second],
+            &[(3, 7)],
+        ),
+    ];
+    for (text, stands, tears) in cases {
+        let choice = choice_of(alloc, stands, tears)?;
+        let wanted = Request::Replay { moment: 12, choice };
+        assert_eq!(rt; read_text(alloc, text)?, Some(wanted));
+    }
+    for text in ["replay --at 12 --stand all", "replay --stand=all --at=12"] {
+        let choice = Choice::all(alloc);
+        let wanted = Request::Replay { moment: 12, choice };
+        assert_eq!(rt; read_text(alloc, text)?, Some(wanted));
+    }
+    Ok(())
+}
+
+#[test]
+fn other_replays_are_outside_the_grammar(rt: HostRuntime) -> Result<(), NoMemory> {
+    let cases = [
+        "replay",
+        "replay 12",
+        "replay --",
+        "replay --stand all",
+        "replay --at",
+        "replay --at 12 12",
+        "replay --at 12 --at 12",
+        "replay --at 12 --at=13",
+        "replay --at -- 12",
+        "replay --at=",
+        "replay --at 012",
+        "replay --at +12",
+        "replay --at -1",
+        "replay --at 18446744073709551616",
+        "replay --at 12 --stand",
+        "replay --at 12 --stand=",
+        "replay --at 12 --stand 2,,3",
+        "replay --at 12 --stand all,2",
+        "replay --at 12 --stand 0",
+        "replay --at 12 --stand 2:5",
+        "replay --at 12 --stand all --stand all",
+        "replay --at 12 --tear",
+        "replay --at 12 --tear 2",
+        "replay --at 12 --tear 2:0",
+        "replay --at 12 --tear 2:1024",
+        "replay --at 12 --tear f1:5",
+        "replay --at 12 --tear none",
+        "replay --at 12 --room 5",
+        "replay --at 12 -s all",
+        "record 64 16 16 --at 12",
+        "Replay --at 12",
+        "--at 12 replay",
+    ];
+    for text in cases {
+        assert_eq!(rt; read_text(rt.alloc(), text)?, None);
+    }
+    Ok(())
+}
+
+#[test]
+fn a_tree_has_one_word(rt: HostRuntime) -> Result<(), NoMemory> {
+    let alloc = rt.alloc();
+    let taken: [(&[&str], &str); 9] = [
+        (&["tree", "a"], "a"),
+        (&["tree", ""], ""),
+        (&["tree", "-"], "-"),
+        (&["tree", "b c"], "b c"),
+        (&["tree", "tree"], "tree"),
+        (&["tree", "disk.img", "--"], "disk.img"),
+        (&["tree", "--", "-x"], "-x"),
+        (&["tree", "--", "--"], "--"),
+        (&["tree", "é"], "é"),
+    ];
+    for (words, text) in taken {
+        let image = Word::from_str(alloc, text)?;
+        let wanted = Request::Tree { image };
+        assert_eq!(rt; read(alloc, words)?, Some(wanted));
+    }
+    let refused: [&[&str]; 8] = [
+        &["tree"],
+        &["tree", "a", "b"],
+        &["tree", "--"],
+        &["tree", "-x"],
+        &["tree", "-é"],
+        &["tree", "--image=a"],
+        &["tree", "--image", "a"],
+        &["Tree", "a"],
+    ];
+    for words in refused {
+        assert_eq!(rt; read(alloc, words)?, None);
     }
     Ok(())
 }

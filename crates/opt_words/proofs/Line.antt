@@ -1,6 +1,6 @@
--- What `clap` makes of a whole list of words: `record` and the texts that the definition names, or a fault.
+-- What `clap` makes of a whole list of words: a command and the texts that the definition names, or a fault.
 use Rattle.std.proofs.Common.{subst, ◌≡◌, ◌||◌, ℕ, Bool, true, false, cond, List, [], ◌∷◌, length, Option, Some, None, is_some, refl, sym, ap, ap₂, ◌∙◌, codes, fold}
-use Rattle.std.specs.Prelude.{slice_get, if◌then◌else◌, option_map}
+use Rattle.std.specs.Prelude.{slice_get, if◌then◌else◌, option_and_then, option_map}
 use Rattle.std.specs.Option.{option_map_or}
 use Rattle.std.specs.Str.{bytes_eq, chars}
 use Rattle.clap.specs.Lexer.{long_of, short_of}
@@ -11,9 +11,9 @@ use Rattle.clap.specs.Simple.{Shape, built, entered, names_of, subcommand_of}
 use Rattle.clap.proofs.WalkLemmas.{walk_stopped}
 use Rattle.clap.proofs.FaultLemmas.{stopped_fault}
 use Rattle.opt_words.specs.Program.{program}
-use Rattle.opt_words.specs.Words.{Named, are_apart, named, numbers}
+use Rattle.opt_words.specs.Words.{Command, to_record, to_replay, to_show, name_of, words_of, options_of, command_of, Named, are_apart, named}
 use Rattle.opt_words.proofs.Apart.{rows}
-use Rattle.opt_words.proofs.Steps.{is_clean, unclean_first, or_else_nil, Refused, Fate}
+use Rattle.opt_words.proofs.Steps.{is_clean, unclean_first, or_else_nil, AsksNothing, Fate}
 use Rattle.opt_words.proofs.Walk.{faults_from, rows_from, none_yet, words_go}
 
 abbrev top : Shape
@@ -30,17 +30,25 @@ end_faults w = or_else (entered_fault (built program) w.stopped) (or_else (settl
 abbrev faults_behind : Kinds → Walk → List Text → Kinds
 faults_behind turn next words = or_else (or_else turn (walk_fault top names next words)) (end_faults (fold (walked top.rules names) next words))
 
--- the texts that the words say
-abbrev pub from_line : List Text → Option (List Named)
+-- the texts that these words say behind the command
+abbrev pub behind_command : List Text → Command → Option (Command × List Named)
+behind_command words k = option_map (λ texts. (k, texts)) (named (options_of k) words None (words_of k))
+
+-- the command and the texts that the words say
+abbrev pub from_line : List Text → Option (Command × List Named)
 from_line [] = None
-from_line (word ∷ words) = if bytes_eq (codes "record") word then named words None numbers else None
+from_line (word ∷ words) = option_and_then (behind_command words) (command_of word)
 
--- the words have no fault, and `record` is entered and keeps the texts that they say; or they have one, and say none, or some that ask for nothing
-abbrev pub LineFate : Bool → Option (Text × List Row) → Option (List Named) → Type 0
-LineFate true entered want = (texts : List Named) × (want ≡ Some texts) × (are_apart texts ≡ true) × (entered ≡ Some (codes "record", rows texts))
-LineFate false entered want = Refused want
+abbrev pub LineRefused : Option (Command × List Named) → Type 0
+LineRefused None = Unit {0}
+LineRefused (Some p) = AsksNothing p.0 p.1
 
--- ---- a first word that isn't `record`
+-- the words have no fault, and a command is entered and keeps the texts that they say; or they have one, and say none, or some that ask for nothing
+abbrev pub LineFate : Bool → Option (Text × List Row) → Option (Command × List Named) → Type 0
+LineFate true entered want = (k : Command) × (texts : List Named) × (want ≡ Some (k, texts)) × (are_apart texts ≡ true) × (entered ≡ Some (name_of k, rows texts))
+LineFate false entered want = LineRefused want
+
+-- ---- a first word that names no command
 
 refused-turn : (turn : Kinds) (next : Walk) (words : List Text) → is_clean turn ≡ false → is_clean (faults_behind turn next words) ≡ false
 refused-turn turn next words bad = unclean_first (or_else turn (walk_fault top names next words)) _ (unclean_first turn _ bad)
@@ -94,58 +102,79 @@ other_refused false word words = refused-turn (other_faults false word) (other_n
 other_refused true word [] = refl
 other_refused true word (next ∷ words) = refl
 
--- ---- `record`
+-- ---- a command
 
-abbrev stopped_with : List Text → Walk
-stopped_with words = record start { stopped = Some (codes "record", words) }
+abbrev stopped_with : Command → List Text → Walk
+stopped_with k words = record start { stopped = Some (name_of k, words) }
 
-record_end : (words : List Text) → fold (walked top.rules names) (stopped_with []) words ≡ stopped_with words
-record_end words = sym (walk_stopped top.rules names start (codes "record") [] words)
+command_end : (k : Command) (words : List Text) → fold (walked top.rules names) (stopped_with k []) words ≡ stopped_with k words
+command_end k words = sym (walk_stopped top.rules names start (name_of k) [] words)
+
+-- the faults of the line where the walk has ended
+abbrev ended_faults : Command → List Text → Kinds
+ended_faults k words = or_else [] (end_faults (stopped_with k words))
 
 -- the faults are those of the words behind it
-record_faults : (words : List Text) → is_clean (faults_behind [] (stopped_with []) words) ≡ is_clean (faults_from (none_yet) words)
+end_is : (k : Command) (words : List Text) → ended_faults k words ≡ or_else (faults_from k none_yet words) []
 unfolding defaults_fault
-record_faults words =
-    ap is_clean (ap₂ (λ (later : Kinds) (w : Walk). or_else later (end_faults w)) (stopped_fault top names start (codes "record", []) words) (record_end words)
-    ∙ or_else_nil (faults_from (none_yet) words))
+end_is to_record words = refl
+end_is to_replay words = refl
+end_is to_show words = refl
+
+command_faults : (k : Command) (words : List Text) → is_clean (faults_behind [] (stopped_with k []) words) ≡ is_clean (faults_from k none_yet words)
+command_faults k words =
+    ap is_clean (ap₂ (λ (later : Kinds) (w : Walk). or_else later (end_faults w)) (stopped_fault top names start (name_of k, []) words) (command_end k words)
+    ∙ end_is k words ∙ or_else_nil (faults_from k none_yet words))
 
 -- and so is what is found
-record_found : (words : List Text) → entered (built program) (fold (walked top.rules names) (stopped_with []) words).stopped
-    ≡ Some (codes "record", rows_from (none_yet) words)
-record_found words = ap (λ (w : Walk). entered (built program) w.stopped) (record_end words)
+found_is : (k : Command) (words : List Text) → entered (built program) (Some (name_of k, words)) ≡ Some (name_of k, rows_from k none_yet words)
+found_is to_record words = refl
+found_is to_replay words = refl
+found_is to_show words = refl
+
+command_found : (k : Command) (words : List Text) → entered (built program) (fold (walked top.rules names) (stopped_with k []) words).stopped
+    ≡ Some (name_of k, rows_from k none_yet words)
+command_found k words = ap (λ (w : Walk). entered (built program) w.stopped) (command_end k words) ∙ found_is k words
 
 -- ---- the line
 
 pub line_goes : (words : List Text) → LineFate (is_clean (fault_of program words)) (subcommand_of program words) (from_line words)
 unfolding walked walk_fault defaults_fault
 line_goes [] = tt
-line_goes (word ∷ words) = by_record (bytes_eq (codes "record") word)
+line_goes (word ∷ words) = by_names (bytes_eq (codes "record") word) (bytes_eq (codes "replay") word) (bytes_eq (codes "tree") word)
   where
-    name_of : Bool → Option Text
-    name_of found = option_map (λ (s : Text × List Text). s.0) (cond (found || false) (Some (codes "record", [])) None)
+    name_by : Bool → Bool → Bool → Option Text
+    name_by a b c = option_map (λ (s : Text × List Text). s.0)
+        (cond (a || false) (Some (codes "record", [])) (cond (b || false) (Some (codes "replay", [])) (cond (c || false) (Some (codes "tree", [])) None)))
 
-    met : Bool → Held × Step
-    met found = subcommand_or_other top.rules (name_of found) idle 1 word nothing_held
+    met : Option Text → Held × Step
+    met name = subcommand_or_other top.rules name idle 1 word nothing_held
 
-    turn : Bool → Kinds
-    turn found = or_else (other_fault top (name_of found) word nothing_held)
-        (step_fault top 1 (met found).0 (met found).1)
+    turn : Option Text → Kinds
+    turn name = or_else (other_fault top name word nothing_held) (step_fault top 1 (met name).0 (met name).1)
 
-    next : Bool → Walk
-    next found = after_step top.rules word start (met found).0 (met found).1
+    next : Option Text → Walk
+    next name = after_step top.rules word start (met name).0 (met name).1
 
-    LineGoes : Bool → Option (List Named) → Type 0
-    LineGoes found want = LineFate (is_clean (faults_behind (turn found) (next found) words)) (entered (built program) (fold (walked top.rules names) (next found) words).stopped) want
+    LineGoes : Option Text → Option (Command × List Named) → Type 0
+    LineGoes name want = LineFate (is_clean (faults_behind (turn name) (next name) words)) (entered (built program) (fold (walked top.rules names) (next name) words).stopped) want
 
-    of_fate : (clean : Bool) (sub : Option (Text × List Row)) (found : List Row) (want : Option (List Named)) → sub ≡ Some (codes "record", found) → Fate clean found want → LineFate clean sub want
-    of_fate true sub found want same fate = (fate.0, fate.1, fate.2, same ∙ ap (λ (r : List Row). Some (codes "record", r)) fate.3)
-    of_fate false sub found want same fate = fate
+    of_fate : (k : Command) (clean : Bool) (sub : Option (Text × List Row)) (found : List Row) (want : Option (List Named)) → sub ≡ Some (name_of k, found) → Fate k clean found want
+        → LineFate clean sub (option_map (λ texts. (k, texts)) want)
+    of_fate k true sub found want same fate = (k, fate.0, ap (option_map (λ texts. (k, texts))) fate.1, fate.2, same ∙ ap (λ (r : List Row). Some (name_of k, r)) fate.3)
+    of_fate k false sub found None same fate = tt
+    of_fate k false sub found (Some texts) same fate = fate
 
-    by_record : (found : Bool) → LineGoes found (if found then named words None numbers else None)
-    by_record true =
-        let sub : Option (Text × List Row) = entered (built program) (fold (walked top.rules names) (next true) words).stopped in
-        subst (λ (b : Bool). LineFate b sub (named words None numbers)) (sym (record_faults words))
-        (of_fate (is_clean (faults_from none_yet words)) sub (rows_from none_yet words) (named words None numbers) (record_found words) (words_go words))
-    by_record false =
-        subst (λ (b : Bool). LineFate b (entered (built program) (fold (walked top.rules names) (next false) words).stopped) None)
+    command_goes : (k : Command) → LineFate (is_clean (faults_behind [] (stopped_with k []) words)) (entered (built program) (fold (walked top.rules names) (stopped_with k []) words).stopped) (behind_command words k)
+    command_goes k =
+        let sub : Option (Text × List Row) = entered (built program) (fold (walked top.rules names) (stopped_with k []) words).stopped in
+        subst (λ (b : Bool). LineFate b sub (behind_command words k)) (sym (command_faults k words))
+        (of_fate k (is_clean (faults_from k none_yet words)) sub (rows_from k none_yet words) (named (options_of k) words None (words_of k)) (command_found k words) (words_go k words))
+
+    by_names : (a b c : Bool) → LineGoes (name_by a b c) (option_and_then (behind_command words) (if a then Some to_record else if b then Some to_replay else if c then Some to_show else None))
+    by_names true b c = command_goes to_record
+    by_names false true c = command_goes to_replay
+    by_names false false true = command_goes to_show
+    by_names false false false =
+        subst (λ (b : Bool). LineFate b (entered (built program) (fold (walked top.rules names) (next None) words).stopped) None)
         (sym (other_refused (bytes_eq word (codes "--")) word words)) tt

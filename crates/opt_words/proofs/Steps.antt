@@ -1,23 +1,22 @@
--- What `clap` makes of one word behind `record`, and of the end: which faults they have, and which rows are kept.
+-- What `clap` makes of one word behind the name of a command, and of the end: which faults they have, and which rows are kept.
 use Rattle.std.proofs.Common.{◌≡◌, ◌⊎◌, inl, inr, ◌&&◌, ◌||◌, ℕ, Bool, true, false, cond, List, [], ◌∷◌, ◌++◌, Option, Some, None, refl, sym, ap, ap₂, subst, ◌∙◌, arith, codes, fold, length}
 use Rattle.std.specs.Prelude.{IfSome, find, not, if◌then◌else◌, option_map}
 use Rattle.std.specs.Option.{option_map_or}
-use Rattle.std.specs.List.{list_all, list_any}
+use Rattle.std.specs.List.{list_all}
 use Rattle.std.specs.Str.{bytes_eq}
-use Rattle.std.specs.Str.Parse.{starts_with_minus}
 use Rattle.std.proofs.lemmas.Bool.{and_parts, eqb-true, false≢true}
 use Rattle.std.proofs.lemmas.List.{append-nil, append_assoc}
 use Rattle.clap.specs.Facts.{explicit_source}
 use Rattle.clap.specs.Kinds.{Kinds, check_kinds, or_else}
 use Rattle.clap.specs.Faults.{settle_fault, default_fault, defaults_fault, given_default_fault, check_fault, repeat_fault}
 use Rattle.clap.specs.Walk.{Held, Row, Rule, Text, Waiting, Walk, finished, settled, settled_rows, idle, option, next, plain_word, default_rows, reading_by, with_default, with_values, without, is_empty, has_row}
-use Rattle.clap.specs.Simple.{Shape, built}
+use Rattle.clap.specs.Simple.{App, Shape, filled_from, new_shape}
 use Rattle.clap.specs.Takes.{is_given}
 use Rattle.clap.specs.declared.builder.value_parser.Reading.TheVariants.{AsWritten}
 use Rattle.clap.specs.declared.error.kind.ErrorKind.TheVariants.{ArgumentConflict}
 use Rattle.clap.specs.declared.parser.matches.ValueSource.TheVariants.{CommandLine}
-use Rattle.opt_words.specs.Program.{program, recording, kept}
-use Rattle.opt_words.specs.Words.{Named, numbers, options, has_name, are_apart}
+use Rattle.opt_words.specs.Program.{recording, replaying, showing, kept}
+use Rattle.opt_words.specs.Words.{Command, to_record, to_replay, to_show, name_of, Named, has_name, are_apart}
 use Rattle.opt_words.proofs.Apart.{rows, has_row_is, without_fresh, with_fresh, apart_repeat, apart_more}
 
 -- ---- lists of kinds
@@ -46,18 +45,24 @@ pub or_else_assoc : (a b c : Kinds) → or_else (or_else a b) c ≡ or_else a (o
 or_else_assoc [] b c = refl
 or_else_assoc (k ∷ a) b c = refl
 
--- ---- the command behind `record`
+-- ---- the commands as `clap` builds them
 
-abbrev first_sub : List Shape → Shape
-first_sub [] = recording.top
-first_sub (s ∷ subs) = s
+abbrev pub made : Command → App
+made to_record = recording
+made to_replay = replaying
+made to_show = showing
 
--- as `clap` builds it
-abbrev pub shape : Shape
-shape = first_sub (built program).subs
+abbrev pub rules : Command → List Rule
+rules k = filled_from 1 (made k).top.rules
 
-abbrev pub rules : List Rule
-rules = shape.rules
+abbrev pub shape : Command → Shape
+shape k = record (new_shape (name_of k)) {
+  rules = rules k;
+  no_binary_name = true;
+  disable_help_flag = true;
+  disable_help_subcommand = true;
+  is_built = true;
+}
 
 abbrev pub held_at : List Named → Option (Text × List Text) → Held
 held_at texts pending = record { rows = rows texts; pending = pending; skip = 0 }
@@ -82,60 +87,68 @@ listed (Some text) = text ∷ []
 
 -- ---- the names of the arguments
 
-abbrev pub is_known : Text → Bool
-is_known name = list_any (λ known. bytes_eq known name) (numbers ++ options)
-
 -- what `clap` makes of an argument that waits for its value, and of one that has it
-pub record IsArg (name : Text) : Type 0 where
-  pub known : is_known name ≡ true
+pub record IsArg (k : Command) (name : Text) : Type 0 where
   pub fault : (word : Text) (rs : List Row)
-      → settle_fault rules false (record { rows = rs; pending = Some (name, word ∷ []); skip = 0 }) ≡ or_else (repeat_fault false name rs) []
+      → settle_fault (rules k) false (record { rows = rs; pending = Some (name, word ∷ []); skip = 0 }) ≡ or_else (repeat_fault false name rs) []
   pub keeps : (word : Text) (rs : List Row)
-      → settled_rows rules (Some (name, word ∷ [])) rs ≡ with_values name AsWritten CommandLine (word ∷ []) (without name rs)
-  pub lacks : (rs : List Row) → is_clean (settle_fault rules false (record { rows = rs; pending = Some (name, []); skip = 0 })) ≡ false
-  pub takes : (word : Text) (rs : List Row) → plain_word rules (option name) word (record { rows = rs; pending = Some (name, []); skip = 0 })
+      → settled_rows (rules k) (Some (name, word ∷ [])) rs ≡ with_values name AsWritten CommandLine (word ∷ []) (without name rs)
+  pub lacks : (rs : List Row) → is_clean (settle_fault (rules k) false (record { rows = rs; pending = Some (name, []); skip = 0 })) ≡ false
+  pub takes : (word : Text) (rs : List Row) → plain_word (rules k) (option name) word (record { rows = rs; pending = Some (name, []); skip = 0 })
       ≡ (record { rows = rs; pending = Some (name, word ∷ []); skip = 0 }, next idle)
 
-pub blocks_is : IsArg (codes "blocks")
-blocks_is = record { known = refl; fault = λ word rs. refl; keeps = λ word rs. refl; lacks = λ rs. refl; takes = λ word rs. refl }
+pub blocks_is : IsArg to_record (codes "blocks")
+blocks_is = record { fault = λ word rs. refl; keeps = λ word rs. refl; lacks = λ rs. refl; takes = λ word rs. refl }
 
-pub journal_is : IsArg (codes "journal")
-journal_is = record { known = refl; fault = λ word rs. refl; keeps = λ word rs. refl; lacks = λ rs. refl; takes = λ word rs. refl }
+pub journal_is : IsArg to_record (codes "journal")
+journal_is = record { fault = λ word rs. refl; keeps = λ word rs. refl; lacks = λ rs. refl; takes = λ word rs. refl }
 
-pub nodes_is : IsArg (codes "nodes")
-nodes_is = record { known = refl; fault = λ word rs. refl; keeps = λ word rs. refl; lacks = λ rs. refl; takes = λ word rs. refl }
+pub nodes_is : IsArg to_record (codes "nodes")
+nodes_is = record { fault = λ word rs. refl; keeps = λ word rs. refl; lacks = λ rs. refl; takes = λ word rs. refl }
 
-pub notices_is : IsArg (codes "notices")
-notices_is = record { known = refl; fault = λ word rs. refl; keeps = λ word rs. refl; lacks = λ rs. refl; takes = λ word rs. refl }
+pub notices_is : IsArg to_record (codes "notices")
+notices_is = record { fault = λ word rs. refl; keeps = λ word rs. refl; lacks = λ rs. refl; takes = λ word rs. refl }
 
-pub room_is : IsArg (codes "room")
-room_is = record { known = refl; fault = λ word rs. refl; keeps = λ word rs. refl; lacks = λ rs. refl; takes = λ word rs. refl }
+pub room_is : IsArg to_record (codes "room")
+room_is = record { fault = λ word rs. refl; keeps = λ word rs. refl; lacks = λ rs. refl; takes = λ word rs. refl }
 
-pub fail_is : IsArg (codes "fail")
-fail_is = record { known = refl; fault = λ word rs. refl; keeps = λ word rs. refl; lacks = λ rs. refl; takes = λ word rs. refl }
+pub fail_is : IsArg to_record (codes "fail")
+fail_is = record { fault = λ word rs. refl; keeps = λ word rs. refl; lacks = λ rs. refl; takes = λ word rs. refl }
+
+pub at_is : IsArg to_replay (codes "at")
+at_is = record { fault = λ word rs. refl; keeps = λ word rs. refl; lacks = λ rs. refl; takes = λ word rs. refl }
+
+pub stand_is : IsArg to_replay (codes "stand")
+stand_is = record { fault = λ word rs. refl; keeps = λ word rs. refl; lacks = λ rs. refl; takes = λ word rs. refl }
+
+pub tear_is : IsArg to_replay (codes "tear")
+tear_is = record { fault = λ word rs. refl; keeps = λ word rs. refl; lacks = λ rs. refl; takes = λ word rs. refl }
+
+pub image_is : IsArg to_show (codes "image")
+image_is = record { fault = λ word rs. refl; keeps = λ word rs. refl; lacks = λ rs. refl; takes = λ word rs. refl }
 
 -- ---- the text whose word was the last is kept, unless its name stands before
 
-abbrev pub IsKept : List Named → Option Named → Type 0
-IsKept texts pending = (is_clean (settle_fault rules false (held_at texts (pends pending))) ≡ true)
-    × (settled rules (held_at texts (pends pending)) ≡ held_at (texts ++ listed pending) None)
+abbrev pub IsKept : Command → List Named → Option Named → Type 0
+IsKept k texts pending = (is_clean (settle_fault (rules k) false (held_at texts (pends pending))) ≡ true)
+    × (settled (rules k) (held_at texts (pends pending)) ≡ held_at (texts ++ listed pending) None)
     × (are_apart (texts ++ listed pending) ≡ true)
 
-abbrev pub IsRepeated : List Named → Option Named → Type 0
-IsRepeated texts pending = (is_clean (settle_fault rules false (held_at texts (pends pending))) ≡ false)
+abbrev pub IsRepeated : Command → List Named → Option Named → Type 0
+IsRepeated k texts pending = (is_clean (settle_fault (rules k) false (held_at texts (pends pending))) ≡ false)
     × ((rest : List Named) → are_apart ((texts ++ listed pending) ++ rest) ≡ false)
 
-pub settles : (texts : List Named) (pending : Option Named) → IfSome pending (λ text. IsArg text.0) → are_apart texts ≡ true
-    → IsKept texts pending ⊎ IsRepeated texts pending
-settles texts None arg apart =
+pub settles : (k : Command) (texts : List Named) (pending : Option Named) → IfSome pending (λ text. IsArg k text.0) → are_apart texts ≡ true
+    → IsKept k texts pending ⊎ IsRepeated k texts pending
+settles k texts None arg apart =
     inl (refl, ap (λ ts. held_at ts None) (sym (append-nil texts)), ap are_apart (append-nil texts) ∙ apart)
-settles texts (Some text) arg apart = go (has_name text.0 texts) refl
+settles k texts (Some text) arg apart = go (has_name text.0 texts) refl
   where
     faults : (b : Bool) → has_name text.0 texts ≡ b
-        → is_clean (settle_fault rules false (held_at texts (Some (text.0, text.1 ∷ [])))) ≡ is_clean (or_else (if b && true then ArgumentConflict ∷ [] else []) [])
+        → is_clean (settle_fault (rules k) false (held_at texts (Some (text.0, text.1 ∷ [])))) ≡ is_clean (or_else (if b && true then ArgumentConflict ∷ [] else []) [])
     faults b e = ap is_clean (arg.fault text.1 (rows texts)) ∙ ap (λ (c : Bool). is_clean (or_else (if c && true then ArgumentConflict ∷ [] else []) [])) (has_row_is text.0 texts ∙ e)
 
-    go : (b : Bool) → has_name text.0 texts ≡ b → IsKept texts (Some text) ⊎ IsRepeated texts (Some text)
+    go : (b : Bool) → has_name text.0 texts ≡ b → IsKept k texts (Some text) ⊎ IsRepeated k texts (Some text)
     go false e = inl (
       faults false e,
       ap (λ (rs : List Row). record { rows = rs; pending = None; skip = 0 })
@@ -187,12 +200,24 @@ given_is name (t ∷ texts) = go (given_is name texts) (bytes_eq t.0 name)
     go later true = refl
     go later false = later
 
--- the three numbers are there
-abbrev pub has_numbers : List Named → Bool
-has_numbers texts = has_name (codes "blocks") texts && (has_name (codes "journal") texts && has_name (codes "nodes") texts)
+-- the last check where one argument must stand
+check_one : (a : Bool) → is_clean (check_kinds false false (not a || false)) ≡ a
+check_one true = refl
+check_one false = refl
 
-check_is : (texts : List Named) → is_clean (check_fault shape (rows texts) false) ≡ has_numbers texts
-check_is texts =
+pub no_defaults_in : (k : Command) → no_defaults (rules k) ≡ true
+no_defaults_in to_record = refl
+no_defaults_in to_replay = refl
+no_defaults_in to_show = refl
+
+-- what must stand is there
+abbrev pub has_needed : Command → List Named → Bool
+has_needed to_record texts = has_name (codes "blocks") texts && (has_name (codes "journal") texts && has_name (codes "nodes") texts)
+has_needed to_replay texts = has_name (codes "at") texts
+has_needed to_show texts = has_name (codes "image") texts
+
+check_is : (k : Command) (texts : List Named) → is_clean (check_fault (shape k) (rows texts) false) ≡ has_needed k texts
+check_is to_record texts =
     go (is_given (codes "blocks") (rows texts)) (is_given (codes "journal") (rows texts)) (is_given (codes "nodes") (rows texts))
     ∙ rw (given_is (codes "blocks") texts, given_is (codes "journal") texts, given_is (codes "nodes") texts) refl
   where
@@ -201,35 +226,34 @@ check_is texts =
     go true true false = refl
     go true false c = refl
     go false b c = refl
+check_is to_replay texts = check_one (is_given (codes "at") (rows texts)) ∙ given_is (codes "at") texts
+check_is to_show texts = check_one (is_given (codes "image") (rows texts)) ∙ given_is (codes "image") texts
 
 -- the faults of the end
-abbrev pub end_faults : Held → Kinds
-end_faults h = or_else (settle_fault rules false h)
-    (or_else (defaults_fault (settled rules h).rows rules) (check_fault shape (finished rules h) false))
+abbrev pub end_faults : Command → Held → Kinds
+end_faults k h = or_else (settle_fault (rules k) false h)
+    (or_else (defaults_fault (settled (rules k) h).rows (rules k)) (check_fault (shape k) (finished (rules k) h) false))
 
--- texts that ask for nothing: a name stands twice, a number is missing, or one begins with a minus sign
-abbrev pub has_minus : List Named → Bool
-has_minus = list_any (λ text. starts_with_minus text.1 && is_known text.0)
+-- texts that ask for nothing: a name stands twice, or what must stand is missing
+abbrev pub AsksNothing : Command → List Named → Type 0
+AsksNothing k texts = (are_apart texts ≡ false) ⊎ (has_needed k texts ≡ false)
 
-abbrev pub AsksNothing : List Named → Type 0
-AsksNothing texts = (are_apart texts ≡ false) ⊎ ((has_numbers texts ≡ false) ⊎ (has_minus texts ≡ true))
-
-abbrev pub Refused : Option (List Named) → Type 0
-Refused None = Unit {0}
-Refused (Some texts) = AsksNothing texts
+abbrev pub Refused : Command → Option (List Named) → Type 0
+Refused k None = Unit {0}
+Refused k (Some texts) = AsksNothing k texts
 
 -- words without a fault say these texts, which `clap` keeps; and words with one say none, or some that ask for nothing
-abbrev pub Fate : Bool → List Row → Option (List Named) → Type 0
-Fate true found want = (texts : List Named) × (want ≡ Some texts) × (are_apart texts ≡ true) × (found ≡ rows texts)
-Fate false found want = Refused want
+abbrev pub Fate : Command → Bool → List Row → Option (List Named) → Type 0
+Fate k true found want = (texts : List Named) × (want ≡ Some texts) × (are_apart texts ≡ true) × (found ≡ rows texts)
+Fate k false found want = Refused k want
 
 -- the texts that were met, and those to come
 abbrev pub behind : List Named → Option (List Named) → Option (List Named)
 behind texts = option_map (λ more. texts ++ more)
 
-pub ends : (texts : List Named) (pending : Option Named) → IfSome pending (λ text. IsArg text.0) → are_apart texts ≡ true
-    → Fate (is_clean (end_faults (held_at texts (pends pending)))) (finished rules (held_at texts (pends pending))) (behind (texts ++ listed pending) (Some []))
-ends texts pending arg apart = go (settles texts pending arg apart)
+pub ends : (k : Command) (texts : List Named) (pending : Option Named) → IfSome pending (λ text. IsArg k text.0) → are_apart texts ≡ true
+    → Fate k (is_clean (end_faults k (held_at texts (pends pending)))) (finished (rules k) (held_at texts (pends pending))) (behind (texts ++ listed pending) (Some []))
+ends k texts pending arg apart = go (settles k texts pending arg apart)
   where
     h : Held
     h = held_at texts (pends pending)
@@ -237,15 +261,15 @@ ends texts pending arg apart = go (settles texts pending arg apart)
     all : List Named
     all = texts ++ listed pending
 
-    by_numbers : (found : List Row) → found ≡ rows all → are_apart all ≡ true → (b : Bool) → has_numbers all ≡ b → Fate b found (Some (all ++ []))
-    by_numbers found same apart true e = (all, ap Some (append-nil all), apart, same)
-    by_numbers found same apart false e = inr (inl (ap has_numbers (append-nil all) ∙ e))
+    by_needed : (found : List Row) → found ≡ rows all → are_apart all ≡ true → (b : Bool) → has_needed k all ≡ b → Fate k b found (Some (all ++ []))
+    by_needed found same apart true e = (all, ap Some (append-nil all), apart, same)
+    by_needed found same apart false e = inr (ap (has_needed k) (append-nil all) ∙ e)
 
-    go : IsKept texts pending ⊎ IsRepeated texts pending → Fate (is_clean (end_faults h)) (finished rules h) (Some (all ++ []))
-    go (inl k) =
-        let found : finished rules h ≡ rows all = ap (λ (s : Held). fold with_default s.rows rules) k.1 ∙ default_rows_same rules (rows all) refl in
-        let no_default : defaults_fault (settled rules h).rows rules ≡ [] = defaults_no_fault rules (settled rules h).rows refl in
-        let clean : is_clean (end_faults h) ≡ has_numbers all =
-        clean_first (settle_fault rules false h) _ k.0 ∙ ap is_clean (ap₂ or_else no_default (ap (λ (rs : List Row). check_fault shape rs false) found)) ∙ check_is all in
-        subst (λ (b : Bool). Fate b (finished rules h) (Some (all ++ []))) (sym clean) (by_numbers (finished rules h) found k.2 (has_numbers all) refl)
-    go (inr r) = subst (λ (b : Bool). Fate b (finished rules h) (Some (all ++ []))) (sym (unclean_first (settle_fault rules false h) _ r.0)) (inl (r.1 []))
+    go : IsKept k texts pending ⊎ IsRepeated k texts pending → Fate k (is_clean (end_faults k h)) (finished (rules k) h) (Some (all ++ []))
+    go (inl one) =
+        let found : finished (rules k) h ≡ rows all = ap (λ (s : Held). fold with_default s.rows (rules k)) one.1 ∙ default_rows_same (rules k) (rows all) (no_defaults_in k) in
+        let no_default : defaults_fault (settled (rules k) h).rows (rules k) ≡ [] = defaults_no_fault (rules k) (settled (rules k) h).rows (no_defaults_in k) in
+        let clean : is_clean (end_faults k h) ≡ has_needed k all =
+        clean_first (settle_fault (rules k) false h) _ one.0 ∙ ap is_clean (ap₂ or_else no_default (ap (λ (rs : List Row). check_fault (shape k) rs false) found)) ∙ check_is k all in
+        subst (λ (b : Bool). Fate k b (finished (rules k) h) (Some (all ++ []))) (sym clean) (by_needed (finished (rules k) h) found one.2 (has_needed k all) refl)
+    go (inr r) = subst (λ (b : Bool). Fate k b (finished (rules k) h) (Some (all ++ []))) (sym (unclean_first (settle_fault (rules k) false h) _ r.0)) (inl (r.1 []))

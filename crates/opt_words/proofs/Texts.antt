@@ -1,10 +1,10 @@
 -- Which numbers texts write, and which of them the standard library reads.
-use Rattle.std.proofs.Common.{◌≡◌, ◌<◌, ◌≤◌, ◌^◌, ℕ, Bool, true, false, List, [], ◌∷◌, length, Some, None, refl, sym, ap, subst, ◌∙◌, arith, decimal, bytes_eq}
+use Rattle.std.proofs.Common.{◌≡◌, ◌<◌, ◌≤◌, ◌^◌, ℕ, Bool, true, false, List, length, Some, None, refl, sym, ap, subst, ◌∙◌, arith, decimal, bytes_eq}
 use Rattle.std.specs.Prelude.{Ok, Err, IfSome, ◌&&◌, nat_lt, nat_le, if◌then◌else◌}
 use Rattle.std.specs.Str.{all_ascii_digits}
-use Rattle.std.specs.Str.Parse.{AllDigits, ParsesUnsigned, digits_value, starts_with_minus, without_leading_plus}
-use Rattle.std.proofs.lemmas.Str.Parse.{IsNumeralModel, digit_from_value, numerals_by_value, parse_digits, tells_all_ascii_digits}
-use Rattle.std.proofs.lemmas.Bool.{and_parts, lt-ltb, le-leb, ltb-true, leb-true, eqb-true}
+use Rattle.std.specs.Str.Parse.{ParsesUnsigned, digits_value, without_leading_plus}
+use Rattle.std.proofs.lemmas.Str.Parse.{IsNumeralModel, numerals_by_value, parse_digits, tells_all_ascii_digits}
+use Rattle.std.proofs.lemmas.Bool.{and_parts, lt-ltb, le-leb, ltb-true, leb-true}
 use Rattle.std.proofs.lemmas.Slice.Eq.{bytes_eq-Decides}
 use Rattle.std.proofs.lemmas.Fmt.{decimal_is_IsNumeral, decimal_nonempty, digits_decimal}
 use Rattle.opt_words.specs.Words.{number_in, seed_of}
@@ -59,13 +59,6 @@ number_range low high t = go (is_number_in low high t) refl
     go true e = let range = and_parts _ _ (and_parts _ _ e).1 in (leb-true _ _ range.0, leb-true _ _ range.1)
     go false e = tt
 
--- what begins with a minus sign is no number
-pub minus_no_number : (low high : ℕ) (t : List ℕ) → starts_with_minus t ≡ true → number_in low high t ≡ None
-minus_no_number low high [] e = cc
-minus_no_number low high (x ∷ xs) e =
-    let P : ℕ → Type 0 = λ y. number_in low high (y ∷ xs) ≡ None in
-    subst P (sym (eqb-true x 45 e)) (rw (lt-ltb 0 (length (45 ∷ xs)) (omega arith)) refl)
-
 -- ---- seeds
 
 abbrev is_seed : List ℕ → Bool
@@ -106,16 +99,6 @@ seed_not_read t why read = no_seed t (λ v text some small.
     let same : digits_value 10 (decimal v) ≡ v = (decimal_is_IsNumeral v wide).1 in
     parse_digits own 32 (decimal v) (Err why) (subst (λ u. ParsesUnsigned 32 10 u (Err why)) (sym text) read) (digits_decimal own v wide)
     (decimal_nonempty v wide, subst (λ k. k < 2 ^ 32) (sym same) small))
-
--- what begins with a minus sign is no seed
-pub minus_no_seed : (t : List ℕ) → starts_with_minus t ≡ true → seed_of t ≡ None
-minus_no_seed t minus = sym (no_seed t (λ v text some small.
-    let wide : v < 2 ^ 64 = omega (arith, small) in
-    no_digits (decimal v) (decimal_is_IsNumeral v wide).0.1 (ap starts_with_minus text ∙ minus)))
-  where
-    no_digits : (ds : List ℕ) → AllDigits 10 ds → starts_with_minus ds ≡ true → ⊥
-    no_digits [] all e = absurd (omega (arith, eqb-true 0 45 e))
-    no_digits (d ∷ ds) all e = omega (arith, eqb-true d 45 e, digit_from_value d all.0)
 
 -- a seed is in its range
 pub seed_range : (t : List ℕ) → IfSome (seed_of t) (λ n. (1 ≤ n) × (n ≤ 4294967295))

@@ -7,18 +7,31 @@ use Rattle.clap.specs.declared.parser.matches.ValueSource.TheVariants.{CommandLi
 use Rattle.opt_words.specs.Words.{Named}
 
 -- a word that must stand
-abbrev pub number : List ℕ → Rule
-number id = record (new_rule id) { required = true; action = Some Set }
+abbrev pub word : List ℕ → Rule
+word id = record (new_rule id) { required = true; action = Some Set }
 
 -- an option with one value, which may be missing
 abbrev pub option : List ℕ → Rule
 option id = record (new_rule id) { long = Some id; action = Some Set }
 
+-- an option with one value, which must stand
+abbrev pub needed : List ℕ → Rule
+needed id = record (option id) { required = true }
+
 -- `record` with its three numbers and its options
 abbrev pub recording : App
 recording = with_rule (with_rule (with_rule (with_rule (with_rule (with_rule (new_app (codes "record"))
-    (number (codes "blocks"))) (number (codes "journal"))) (number (codes "nodes")))
+    (word (codes "blocks"))) (word (codes "journal"))) (word (codes "nodes")))
     (option (codes "notices"))) (option (codes "room"))) (option (codes "fail"))
+
+-- `replay` with its options
+abbrev pub replaying : App
+replaying = with_rule (with_rule (with_rule (new_app (codes "replay"))
+    (needed (codes "at"))) (option (codes "stand"))) (option (codes "tear"))
+
+-- `tree` with its word
+abbrev pub showing : App
+showing = with_rule (new_app (codes "tree")) (word (codes "image"))
 
 -- words behind the program's name, of which the first is a subcommand; and no help
 abbrev pub bare : Shape
@@ -31,7 +44,7 @@ bare = record (new_app (codes "optfs")).top {
 
 -- the whole command line
 abbrev pub program : App
-program = with_subcommand (record { top = bare; subs = [] }) recording.top
+program = with_subcommand (with_subcommand (with_subcommand (record { top = bare; subs = [] }) recording.top) replaying.top) showing.top
 
 -- what `clap` keeps of a text with a name
 abbrev pub kept : Named → Row

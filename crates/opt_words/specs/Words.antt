@@ -1,13 +1,16 @@
 -- What the words of the command line ask for. The rules are described in docs/WORDS.md.
-use Rattle.std.specs.Prelude.{◌≤◌, ⊤, ℕ, ◌&&◌, Bool, true, not, List, [], ◌∷◌, Option, Some, None, IfSome, find, map, length, nat_lt, nat_le, if◌then◌else◌, codes, decimal, option_map, option_and_then, string_bytes}
+use Rattle.std.specs.Prelude.{◌≤◌, ⊤, ℕ, ◌==◌, ◌&&◌, Bool, true, false, not, List, [], ◌∷◌, Option, Some, None, IfSome, is_some, find, map, length, nat_lt, nat_le, if◌then◌else◌, codes, decimal, option_map, option_and_then, slice_get, string_bytes, unwrap_or}
 use Rattle.std.specs.List.{list_any}
-use Rattle.std.specs.Str.{bytes_eq, all_ascii_digits}
+use Rattle.std.specs.Str.{bytes_eq, all_ascii_digits, chars}
 use Rattle.std.specs.Str.Parse.{digits_value, without_leading_plus}
 use Rattle.std.specs.declared.string.String.{String}
 use Rattle.std.specs.declared.alloc.Global.{Global}
 use Rattle.clap.specs.Lexer.{long_of}
+use Rattle.opt_decimal.specs.Decimal.{number_of}
+use Rattle.opt_memdisk.specs.Choice.{ChoiceState}
+use Rattle.opt_choice.specs.Texts.{choice_of}
 use Rattle.opt_words.specs.declared.request.Request.{Request}
-use Rattle.opt_words.specs.declared.request.Request.TheVariants.{Record}
+use Rattle.opt_words.specs.declared.request.Request.TheVariants.{Record, Replay, Tree}
 use Rattle.opt_words.specs.declared.request.Notices.{Notices}
 use Rattle.opt_words.specs.declared.request.Notices.TheVariants.{Silent, Fifo, Seed}
 
@@ -34,28 +37,58 @@ notices_of text =
     else if bytes_eq text (codes "fifo") then Some Fifo
     else option_map (λ seed. Seed seed) (seed_of text)
 
--- ---- which texts stand behind `record`
+-- ---- the commands
+
+-- what a run is asked for: to record a script, to replay a trace, or to show the tree of an image
+pub data Command : Type 0 where
+  to_record : Command
+  to_replay : Command
+  to_show : Command
+
+-- the word that names the command
+abbrev pub name_of : Command → List ℕ
+name_of to_record = codes "record"
+name_of to_replay = codes "replay"
+name_of to_show = codes "tree"
+
+-- the words that must stand behind it, in their order
+abbrev pub words_of : Command → List (List ℕ)
+words_of to_record = codes "blocks" ∷ codes "journal" ∷ codes "nodes" ∷ []
+words_of to_replay = []
+words_of to_show = codes "image" ∷ []
+
+-- its options
+abbrev pub options_of : Command → List (List ℕ)
+options_of to_record = codes "notices" ∷ codes "room" ∷ codes "fail" ∷ []
+options_of to_replay = codes "at" ∷ codes "stand" ∷ codes "tear" ∷ []
+options_of to_show = []
+
+-- the command that a word names
+abbrev pub command_of : List ℕ → Option Command
+command_of word =
+    if bytes_eq (codes "record") word then Some to_record
+    else if bytes_eq (codes "replay") word then Some to_replay
+    else if bytes_eq (codes "tree") word then Some to_show else None
+
+-- ---- which texts stand behind the command
 
 -- a name and its text
 abbrev pub Named : Type 0
 Named = List ℕ × List ℕ
 
--- the numbers, in their order
-abbrev pub numbers : List (List ℕ)
-numbers = codes "blocks" ∷ codes "journal" ∷ codes "nodes" ∷ []
-
--- the options
-abbrev pub options : List (List ℕ)
-options = codes "notices" ∷ codes "room" ∷ codes "fail" ∷ []
+-- whether a word is taken for an option: a minus sign, and a character behind it
+abbrev pub is_flag : List ℕ → Bool
+is_flag [] = false
+is_flag (first ∷ rest) = first == 45 && is_some (slice_get (chars rest) 0)
 
 -- one more text with its name
 abbrev pub before : Named → Option (List Named) → Option (List Named)
 before one = option_map (λ texts. one ∷ texts)
 
--- a word that is a number's, with the first of the names that are left
-abbrev pub with_number : List ℕ → List (List ℕ) → (List (List ℕ) → Option (List Named)) → Option (List Named)
-with_number word [] more = None
-with_number word (name ∷ names) more = before (name, word) (more names)
+-- a word that must stand, with the first of the names that are left
+abbrev pub with_next : List ℕ → List (List ℕ) → (List (List ℕ) → Option (List Named)) → Option (List Named)
+with_next word [] more = None
+with_next word (name ∷ names) more = before (name, word) (more names)
 
 -- an option with its value, which is the next word where it isn't in this one
 abbrev pub with_option : Option (List ℕ) → Option (List ℕ) → (Option (List ℕ) → Option (List Named)) → Option (List Named)
@@ -63,25 +96,25 @@ with_option None value more = None
 with_option (Some name) (Some value) more = before (name, value) (more None)
 with_option (Some name) None more = more (Some name)
 
--- a word by its look, which is that of `--name=value` or `--name`, or else of a number
-abbrev pub with_word : List ℕ → Option (List ℕ × Option (List ℕ)) → List (List ℕ)
+-- a word by its look: that of `--name=value` or `--name`; another one that is taken for an option, and there is none such; or else one that must stand
+abbrev pub with_word : List (List ℕ) → List ℕ → Option (List ℕ × Option (List ℕ)) → List (List ℕ)
     → (Option (List ℕ) → List (List ℕ) → Option (List Named)) → Option (List Named)
-with_word word None names more = with_number word names (more None)
-with_word word (Some long) names more = with_option (find (λ name. bytes_eq name long.0) options) long.1 (λ waiting. more waiting names)
+with_word options word None names more = if is_flag word then None else with_next word names (more None)
+with_word options word (Some long) names more = with_option (find (λ name. bytes_eq name long.0) options) long.1 (λ waiting. more waiting names)
 
--- the words behind `--`: each is a number's
-abbrev pub numbered : List (List ℕ) → List (List ℕ) → Option (List Named)
-numbered [] names = Some []
-numbered (word ∷ words) names = with_number word names (numbered words)
+-- the words behind `--`: each is one that must stand
+abbrev pub placed : List (List ℕ) → List (List ℕ) → Option (List Named)
+placed [] names = Some []
+placed (word ∷ words) names = with_next word names (placed words)
 
--- The texts that the words say, each with its name: an option's stands in its word, and a number's is the next of `names`.
+-- The texts that the words say, each with its name: an option's stands in its word, and that of a word that must stand has the next of `names`.
 -- The first word is the value of the option that waits for one, where one does.
-abbrev pub named : List (List ℕ) → Option (List ℕ) → List (List ℕ) → Option (List Named)
-named [] None names = Some []
-named [] (Some option) names = None
-named (word ∷ words) (Some option) names = before (option, word) (named words None names)
-named (word ∷ words) None names =
-    if bytes_eq word (codes "--") then numbered words names else with_word word (long_of word) names (named words)
+abbrev pub named : List (List ℕ) → List (List ℕ) → Option (List ℕ) → List (List ℕ) → Option (List Named)
+named options [] None names = Some []
+named options [] (Some option) names = None
+named options (word ∷ words) (Some option) names = if is_flag word then None else before (option, word) (named options words None names)
+named options (word ∷ words) None names =
+    if bytes_eq word (codes "--") then placed words names else with_word options word (long_of word) names (named options words)
 
 -- ---- what they ask for
 
@@ -119,15 +152,43 @@ recording_of text = record_of
     (value_or 4096 (number_in 1 65536) (text (codes "room")))
     (value_or None (λ t. option_map (λ write. Some write) (number_in 1 4294967295 t)) (text (codes "fail")))
 
--- the recording of texts of which no two have one name
-abbrev pub recording_apart : List Named → Option Request
-recording_apart texts = if are_apart texts then recording_of (text_of texts) else None
+-- the replay up to this moment, with this choice of what a crash leaves then, where both are there
+abbrev pub replay_at : Option ℕ → Option ChoiceState → Option Request
+replay_at (Some moment) (Some choice) = Some (Replay moment choice)
+replay_at _ _ = None
 
--- `record` and what a recording takes, and nothing else
+-- The replay whose options have these texts: the moment; and the choice of which pending writes stand, or none of them do, and of which are torn.
+abbrev pub replay_of : (List ℕ → Option (List ℕ)) → Option Request
+replay_of text = replay_at
+    (option_and_then number_of (text (codes "at")))
+    (choice_of (unwrap_or (text (codes "stand")) (codes "none")) (text (codes "tear")))
+
+-- the tree of the image with this name
+abbrev pub tree_of : (List ℕ → Option (List ℕ)) → Option Request
+tree_of text = option_map (λ image. Tree image) (text (codes "image"))
+
+-- what a command asks for, by the texts of its words and options
+abbrev pub asked : Command → (List ℕ → Option (List ℕ)) → Option Request
+asked to_record = recording_of
+asked to_replay = replay_of
+asked to_show = tree_of
+
+-- the same of the command that a word names
+abbrev pub asked_by : List ℕ → (List ℕ → Option (List ℕ)) → Option Request
+asked_by name text = option_and_then (λ command. asked command text) (command_of name)
+
+-- what a command asks for by texts of which no two have one name
+abbrev pub asked_apart : Command → List Named → Option Request
+asked_apart command texts = if are_apart texts then asked command (text_of texts) else None
+
+-- what a command asks for with these words behind its name
+abbrev pub asked_with : List (List ℕ) → Command → Option Request
+asked_with words command = option_and_then (asked_apart command) (named (options_of command) words None (words_of command))
+
+-- the name of a command and what that takes, and nothing else
 abbrev pub request_of_texts : List (List ℕ) → Option Request
 request_of_texts [] = None
-request_of_texts (command ∷ words) =
-    if bytes_eq (codes "record") command then option_and_then recording_apart (named words None numbers) else None
+request_of_texts (name ∷ words) = option_and_then (asked_with words) (command_of name)
 
 -- the same of the words as the program has them
 abbrev pub request_of : List (String Global) → Option Request
@@ -138,9 +199,11 @@ abbrev pub HasSeedInRange : Notices → Type 0
 HasSeedInRange (Seed seed) = (1 ≤ seed) × (seed ≤ 4294967295)
 HasSeedInRange _ = ⊤
 
--- each number of a request is in its range
+-- each number of a request is in its range; which numbers a choice has is said where it is read
 abbrev pub IsInRange : Option Request → Type 0
 IsInRange None = ⊤
 IsInRange (Some (Record blocks journal nodes notices room fail)) =
     (64 ≤ blocks) × (blocks ≤ 1048576) × (16 ≤ journal) × (journal ≤ 65536) × (16 ≤ nodes) × (nodes ≤ 65536)
     × HasSeedInRange notices × (1 ≤ room) × (room ≤ 65536) × IfSome fail (λ write. (1 ≤ write) × (write ≤ 4294967295))
+IsInRange (Some (Replay moment choice)) = moment ≤ 18446744073709551615
+IsInRange (Some (Tree image)) = ⊤

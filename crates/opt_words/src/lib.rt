@@ -5,5 +5,7 @@
 mod command;
 mod request;
 mod values;
+mod word;
 
 pub use request::{Notices, Request, read_words};
+pub use word::Word;

@@ -1,18 +1,26 @@
 //! The request that words ask for: its type, and how it is read from them. How `clap` is known of the
 //! command line is in the module of the command, and what one text says in that of the values.
 
-ghost use Rattle.std.specs.Prelude.{◌≡◌, IfOk, option_and_then};
+ghost use Rattle.std.specs.Prelude.{◌≡◌, IfOk, codes, option_and_then};
 ghost use Rattle.clap.specs.Words.{first_value, found_of};
-ghost use Rattle.opt_words.specs.Words.{IsInRange, number_in, recording_of, request_of};
+ghost use Rattle.opt_decimal.specs.Decimal.{number_of};
+ghost use Rattle.opt_words.specs.Words.{IsInRange, asked_by, number_in, recording_of, replay_of, request_of, tree_of};
 
-use crate::command::{BLOCKS, FAIL, JOURNAL, NODES, NOTICES, ROOM, program};
+use crate::command::{
+    AT, BLOCKS, FAIL, IMAGE, JOURNAL, NODES, NOTICES, RECORD, REPLAY, ROOM, STAND, TEAR, TREE,
+    program,
+};
 use crate::values::{notices_of, number_in};
+use crate::word::Word;
 use clap::ArgMatches;
 use clap::error::ErrorKind;
 use opt_base::NoMemory;
 use opt_base::limits::{
     LEAST_BLOCKS, LEAST_JOURNAL, LEAST_NODES, MOST_BLOCKS, MOST_JOURNAL, MOST_NODES,
 };
+use opt_choice::{ChoiceRefusal, parse_choice};
+use opt_decimal::number_of;
+use opt_memdisk::Choice;
 use std::alloc::Global;
 
 /// By which rule a disk in memory brings its notices.
@@ -27,7 +35,7 @@ pub enum Notices {
 }
 
 /// What the words ask for.
-#[derive(Clone, Copy, Debug, PartialEq, Eq)]
+#[derive(Debug, PartialEq, Eq, Drop)]
 pub enum Request {
     /// Record a script on a disk in memory, with so many blocks, journal blocks and nodes. Each number
     /// is in its range of `opt_base::limits`.
@@ -42,6 +50,15 @@ pub enum Request {
         /// Which write of the disk fails, counted from 1; or none does.
         fail: Option<u32>,
     },
+    /// Replay a trace up to a moment, which is a number of events, and tell what a crash then leaves by a choice.
+    Replay {
+        moment: u64,
+        choice: Choice,
+    },
+    /// Show the tree of the image with this name.
+    Tree {
+        image: Word,
+    },
 }
 
 /// The room for writes that a recording has without the option.
@@ -49,6 +66,9 @@ const DEFAULT_ROOM: u32 = 4096;
 
 /// The most room for writes.
 const MOST_ROOM: u32 = 65_536;
+
+/// Which pending writes a replay has standing without the option: none of them.
+const DEFAULT_STAND: &str = "none";
 
 /// Reads the words behind the program's name. `None`: they are outside the grammar.
 ///
@@ -61,8 +81,10 @@ pub fn read_words(alloc: Global, words: &[String]) -> Result<Option<Request>, No
     let command = program(alloc)?;
     match command.try_get_matches_from(words) {
         Ok(matches) => match matches.subcommand() {
-            // `record` is the only command.
-            Some((_name, found)) => Ok(recording(found)),
+            Some((name, found)) => {
+                let request = requested(alloc, name, found)?;
+                Ok(request)
+            }
             None => Ok(None),
         },
         Err(error) => match error.kind() {
@@ -70,6 +92,24 @@ pub fn read_words(alloc: Global, words: &[String]) -> Result<Option<Request>, No
             _ => Ok(None),
         },
     }
+}
+
+// What the command of this name asks for whose texts were found.
+fn requested(alloc: Global, name: &str, found: &ArgMatches) -> Result<Option<Request>, NoMemory>
+    ensures { IfOk result (λ request. request ≡ asked_by name.now (first_value (found_of found.now))) }
+{
+    if RECORD == name {
+        return Ok(recording(found));
+    }
+    if REPLAY == name {
+        let request = replaying(alloc, found)?;
+        return Ok(request);
+    }
+    if TREE == name {
+        let request = showing(alloc, found)?;
+        return Ok(request);
+    }
+    Ok(None)
 }
 
 /// The recording whose texts were found.
@@ -109,4 +149,40 @@ fn number(found: &ArgMatches, id: &str, low: u32, high: u32) -> Option<u32>
         Some(text) => number_in(text, low, high),
         None => None,
     }
+}
+
+/// The replay whose texts were found.
+fn replaying(alloc: Global, found: &ArgMatches) -> Result<Option<Request>, NoMemory>
+    ensures { IfOk result (λ request. request ≡ replay_of (first_value (found_of found.now))) }
+{
+    let Some(moment) = moment(found) else {
+        return Ok(None);
+    };
+    let stand = found.get_str(STAND).unwrap_or(DEFAULT_STAND);
+    match parse_choice(alloc, stand, found.get_str(TEAR)) {
+        Ok(choice) => Ok(Some(Request::Replay { moment, choice })),
+        Err(ChoiceRefusal::BadText) => Ok(None),
+        Err(ChoiceRefusal::NoMemory) => Err(NoMemory),
+    }
+}
+
+/// The moment that was found.
+fn moment(found: &ArgMatches) -> Option<u64>
+    ensures { result ≡ option_and_then number_of (first_value (found_of found.now) (codes "at")) }
+{
+    match found.get_str(AT) {
+        Some(text) => number_of(text.as_bytes()),
+        None => None,
+    }
+}
+
+/// The tree whose image was found.
+fn showing(alloc: Global, found: &ArgMatches) -> Result<Option<Request>, NoMemory>
+    ensures { IfOk result (λ request. request ≡ tree_of (first_value (found_of found.now))) }
+{
+    let Some(word) = found.get_str(IMAGE) else {
+        return Ok(None);
+    };
+    let image = Word::from_str(alloc, word)?;
+    Ok(Some(Request::Tree { image }))
 }

@@ -1,22 +1,23 @@
-use Rattle.std.proofs.Common.{subst, sym, map, ◌∙◌}
+use Rattle.std.proofs.Common.{subst, sym, map, ◌≡◌, ◌∙◌}
 use Rattle.std.specs.Prelude.{string_bytes}
 use Rattle.clap.specs.Words.{found_of}
-use Rattle.opt_words.specs.Words.{IsInRange}
+use Rattle.opt_words.specs.Words.{IsInRange, request_of}
 use Rattle.opt_words.proofs.Asked.{asked_range}
-use Rattle.opt_words.proofs.Program.{parsed_request, read_request, refused_request}
+use Rattle.opt_words.proofs.Program.{name_is, parsed_request, read_request, refused_request}
 use Rattle.opt_words.proofs.request.read_words.Goals as goal
 
 pub returns-in-Some-clause-exact : goal.returns-in-Some-clause-exact
 returns-in-Some-clause-exact c =
     let words = map string_bytes c.args.words.now in
     let entered = parsed_request _ words _ _ c.in_ok-command.ensures c.in-Ok.ensures.kinds c.in-Ok.ensures.matches in
-    read_request words _ (found_of c.in-Some.found.now) _ entered c.in-Some.ensures.rows c.recording.ensures
+    read_request words _ c.in-Some.name.now (found_of c.in-Some.found.now) _ entered (c.in-Some.ensures.name ∙ name_is _ _ _) c.in-Some.ensures.rows c.in_ok-request-in-Some.ensures
 
 pub returns-in-Some-clause-range : goal.returns-in-Some-clause-range
 returns-in-Some-clause-range c =
     let words = map string_bytes c.args.words.now in
     let entered = parsed_request _ words _ _ c.in_ok-command.ensures c.in-Ok.ensures.kinds c.in-Ok.ensures.matches in
-    let exact = read_request words _ (found_of c.in-Some.found.now) _ entered c.in-Some.ensures.rows c.recording.ensures in
+    let exact : c.in_ok-request-in-Some.request ≡ request_of c.args.words.now =
+    read_request words _ c.in-Some.name.now (found_of c.in-Some.found.now) _ entered (c.in-Some.ensures.name ∙ name_is _ _ _) c.in-Some.ensures.rows c.in_ok-request-in-Some.ensures in
     subst IsInRange (sym exact) (asked_range words)
 
 pub returns : goal.returns
