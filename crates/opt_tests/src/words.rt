@@ -415,10 +415,9 @@ fn a_replay_has_a_moment(rt: HostRuntime) -> Result<(), NoMemory> {
         ("replay --at=12", 12),
         ("replay --at 12 --stand none", 12),
         ("replay --stand=none --at 12 --", 12),
-        (
-            "replay --at 18446744073709551615",
-            18_446_744_073_709_551_615,
-        ),
+        ("replay --at +12", 12),
+        ("replay --at 0012", 12),
+        ("replay --at 4294967295", 4_294_967_295),
     ];
     for (text, moment) in cases {
         let choice = Choice::none(alloc);
@@ -474,10 +473,8 @@ fn other_replays_are_outside_the_grammar(rt: HostRuntime) -> Result<(), NoMemory
         "replay --at 12 --at=13",
         "replay --at -- 12",
         "replay --at=",
-        "replay --at 012",
-        "replay --at +12",
         "replay --at -1",
-        "replay --at 18446744073709551616",
+        "replay --at 4294967296",
         "replay --at 12 --stand",
         "replay --at 12 --stand=",
         "replay --at 12 --stand 2,,3",

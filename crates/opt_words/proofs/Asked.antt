@@ -6,7 +6,6 @@ use Rattle.std.specs.Char.{is_ascii_digit}
 use Rattle.std.specs.Str.Parse.{digits_value}
 use Rattle.std.proofs.lemmas.Bool.{and_parts, false≢true, ltb-true}
 use Rattle.clap.specs.Walk.{Row, Text, first_of}
-use Rattle.opt_decimal.specs.Decimal.{number_of}
 use Rattle.opt_memdisk.specs.Choice.{ChoiceState}
 use Rattle.opt_choice.specs.Texts.{choice_of}
 use Rattle.opt_words.specs.declared.request.Request.TheVariants.{Tree}
@@ -150,26 +149,10 @@ record_range (Some a) (Some b) (Some c) (Some d) None f ha hb hc hd he hf = tt
 record_range (Some a) (Some b) (Some c) (Some d) (Some e) None ha hb hc hd he hf = tt
 record_range (Some a) (Some b) (Some c) (Some d) (Some e) (Some f) ha hb hc hd he hf = (ha.0, ha.1, hb.0, hb.1, hc.0, hc.1, hd, he.0, he.1, hf)
 
-moment_in_range : (text : Option Text) → IfSome (option_and_then number_of text) (λ n. n ≤ 18446744073709551615)
-moment_in_range None = tt
-moment_in_range (Some t) = go (list_all is_ascii_digit t && is_small) refl
-  where
-    value : ℕ
-    value = digits_value 10 t
-
-    is_small : Bool
-    is_small = nat_lt value (2 ^ 64) && bytes_eq (decimal value) t
-
-    go : (b : Bool) → (list_all is_ascii_digit t && is_small) ≡ b → IfSome (if b then Some value else None) (λ n. n ≤ 18446744073709551615)
-    go true e =
-        let small : value < 2 ^ 64 = ltb-true value (2 ^ 64) (and_parts (nat_lt value (2 ^ 64)) (bytes_eq (decimal value) t) (and_parts (list_all is_ascii_digit t) is_small e).1).0 in
-        omega (arith, small)
-    go false e = tt
-
-replay_range : (moment : Option ℕ) (choice : Option ChoiceState) → IfSome moment (λ n. n ≤ 18446744073709551615) → IsInRange (replay_at moment choice)
+replay_range : (moment : Option ℕ) (choice : Option ChoiceState) → IfSome moment (λ n. (0 ≤ n) × (n ≤ 4294967295)) → IsInRange (replay_at moment choice)
 replay_range None choice range = tt
 replay_range (Some n) None range = tt
-replay_range (Some n) (Some choice) range = range
+replay_range (Some n) (Some choice) range = range.1
 
 pub asked_range : (words : List Text) → IsInRange (request_of_texts words)
 asked_range [] = tt
@@ -178,7 +161,7 @@ asked_range (name ∷ words) = by_command (command_of name)
     text_range : (k : Command) (text : Text → Option Text) → IsInRange (asked k text)
     text_range to_record text = record_range _ _ _ _ _ _ (given_range 64 1048576 (text (codes "blocks"))) (given_range 16 65536 (text (codes "journal")))
         (given_range 16 65536 (text (codes "nodes"))) (notices_in_range (text (codes "notices"))) (room_in_range (text (codes "room"))) (fail_in_range (text (codes "fail")))
-    text_range to_replay text = replay_range (option_and_then number_of (text (codes "at"))) (choice_of (unwrap_or (text (codes "stand")) (codes "none")) (text (codes "tear"))) (moment_in_range (text (codes "at")))
+    text_range to_replay text = replay_range (option_and_then (number_in 0 4294967295) (text (codes "at"))) (choice_of (unwrap_or (text (codes "stand")) (codes "none")) (text (codes "tear"))) (given_range 0 4294967295 (text (codes "at")))
     text_range to_show text = by_image (text (codes "image"))
       where
         by_image : (o : Option Text) → IsInRange (option_map (λ image. Tree image) o)

@@ -6,7 +6,6 @@ use Rattle.std.specs.Str.Parse.{digits_value, without_leading_plus}
 use Rattle.std.specs.declared.string.String.{String}
 use Rattle.std.specs.declared.alloc.Global.{Global}
 use Rattle.clap.specs.Lexer.{long_of}
-use Rattle.opt_decimal.specs.Decimal.{number_of}
 use Rattle.opt_memdisk.specs.Choice.{ChoiceState}
 use Rattle.opt_choice.specs.Texts.{choice_of}
 use Rattle.opt_words.specs.declared.request.Request.{Request}
@@ -160,7 +159,7 @@ replay_at _ _ = None
 -- The replay whose options have these texts: the moment; and the choice of which pending writes stand, or none of them do, and of which are torn.
 abbrev pub replay_of : (List ℕ → Option (List ℕ)) → Option Request
 replay_of text = replay_at
-    (option_and_then number_of (text (codes "at")))
+    (option_and_then (number_in 0 4294967295) (text (codes "at")))
     (choice_of (unwrap_or (text (codes "stand")) (codes "none")) (text (codes "tear")))
 
 -- the tree of the image with this name
@@ -205,5 +204,5 @@ IsInRange None = ⊤
 IsInRange (Some (Record blocks journal nodes notices room fail)) =
     (64 ≤ blocks) × (blocks ≤ 1048576) × (16 ≤ journal) × (journal ≤ 65536) × (16 ≤ nodes) × (nodes ≤ 65536)
     × HasSeedInRange notices × (1 ≤ room) × (room ≤ 65536) × IfSome fail (λ write. (1 ≤ write) × (write ≤ 4294967295))
-IsInRange (Some (Replay moment choice)) = moment ≤ 18446744073709551615
+IsInRange (Some (Replay moment choice)) = moment ≤ 4294967295
 IsInRange (Some (Tree image)) = ⊤

@@ -1,9 +1,8 @@
 //! The request that words ask for: its type, and how it is read from them. How `clap` is known of the
 //! command line is in the module of the command, and what one text says in that of the values.
 
-ghost use Rattle.std.specs.Prelude.{◌≡◌, IfOk, codes, option_and_then};
+ghost use Rattle.std.specs.Prelude.{◌≡◌, IfOk, option_and_then};
 ghost use Rattle.clap.specs.Words.{first_value, found_of};
-ghost use Rattle.opt_decimal.specs.Decimal.{number_of};
 ghost use Rattle.opt_words.specs.Words.{IsInRange, asked_by, number_in, recording_of, replay_of, request_of, tree_of};
 
 use crate::command::{
@@ -19,7 +18,6 @@ use opt_base::limits::{
     LEAST_BLOCKS, LEAST_JOURNAL, LEAST_NODES, MOST_BLOCKS, MOST_JOURNAL, MOST_NODES,
 };
 use opt_choice::{ChoiceRefusal, parse_choice};
-use opt_decimal::number_of;
 use opt_memdisk::Choice;
 use std::alloc::Global;
 
@@ -52,7 +50,7 @@ pub enum Request {
     },
     /// Replay a trace up to a moment, which is a number of events, and tell what a crash then leaves by a choice.
     Replay {
-        moment: u64,
+        moment: u32,
         choice: Choice,
     },
     /// Show the tree of the image with this name.
@@ -155,7 +153,7 @@ fn number(found: &ArgMatches, id: &str, low: u32, high: u32) -> Option<u32>
 fn replaying(alloc: Global, found: &ArgMatches) -> Result<Option<Request>, NoMemory>
     ensures { IfOk result (λ request. request ≡ replay_of (first_value (found_of found.now))) }
 {
-    let Some(moment) = moment(found) else {
+    let Some(moment) = number(found, AT, 0, u32::MAX) else {
         return Ok(None);
     };
     let stand = found.get_str(STAND).unwrap_or(DEFAULT_STAND);
@@ -163,16 +161,6 @@ fn replaying(alloc: Global, found: &ArgMatches) -> Result<Option<Request>, NoMem
         Ok(choice) => Ok(Some(Request::Replay { moment, choice })),
         Err(ChoiceRefusal::BadText) => Ok(None),
         Err(ChoiceRefusal::NoMemory) => Err(NoMemory),
-    }
-}
-
-/// The moment that was found.
-fn moment(found: &ArgMatches) -> Option<u64>
-    ensures { result ≡ option_and_then number_of (first_value (found_of found.now) (codes "at")) }
-{
-    match found.get_str(AT) {
-        Some(text) => number_of(text.as_bytes()),
-        None => None,
     }
 }
 
