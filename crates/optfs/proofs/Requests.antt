@@ -1,46 +1,55 @@
 -- What the program does for each request that words may be.
-use Rattle.std.proofs.Common.{◌≡◌, ◌↔◌, ℕ, ◌≤◌, ◌==◌, nat_lt, Bool, true, false, not, ◌&&◌, ◌||◌, List, [], Option, None, Some, Result, Err, IsOk, refl, sym, ap, ◌∙◌, subst, inl, inr}
+use Rattle.std.proofs.Common.{◌≡◌, ◌⊎◌, ◌↔◌, ℕ, ◌≤◌, ◌==◌, nat_lt, Bool, true, false, not, ◌&&◌, ◌||◌, List, [], Option, None, Some, Result, Ok, Err, IsOk, refl, sym, ap, ◌∙◌, subst, inl, inr, arith}
+use Rattle.std.specs.Io.KnownBytes.{Keeps}
+use Rattle.std.proofs.KnownBytes.{Consumes-nil}
 use Rattle.std.proofs.lemmas.Bool.{and_right, eqb-true, false≢true, lt-ltb, not_from_true, or_from}
 use Rattle.opt_base.specs.Counts.{Rose}
 use Rattle.opt_disk.specs.declared.event.Event.{Event}
+use Rattle.opt_disk.specs.Bay.{BayState}
 use Rattle.opt_geom.specs.Geometry.{Geometry, geometry_fits}
 use Rattle.opt_memdisk.specs.declared.calls.DiskCall.{DiskCall}
 use Rattle.opt_memdisk.specs.declared.calls.DiskCall.TheVariants as calls
 use Rattle.opt_memdisk.specs.declared.rule.Rule.{Rule}
+use Rattle.opt_memdisk.specs.Choice.{ChoiceState}
 use Rattle.opt_memdisk.specs.MemDisk.{has_listed, is_listed, manner_by, same_call}
-use Rattle.opt_words.specs.declared.request.Notices.{Notices}
+use Rattle.opt_trace.specs.Contents.{Contents}
+use Rattle.opt_trace_reader.specs.declared.input.TraceRefusal.{TraceRefusal}
+use Rattle.opt_trace_reader.specs.declared.input.TraceRefusal.TheVariants as reading
+use Rattle.opt_show.specs.declared.refusal.ShowRefusal.{ShowRefusal}
+use Rattle.opt_show.specs.declared.refusal.ShowRefusal.TheVariants as show
+use Rattle.opt_show.specs.Shows.{CountsFault, HasShowCause}
+use Rattle.opt_replay.specs.declared.refusal.ReplayRefusal.{ReplayRefusal}
+use Rattle.opt_replay.specs.declared.refusal.ReplayRefusal.TheVariants as crash
+use Rattle.opt_replay.specs.Replays.{Found}
 use Rattle.opt_words.specs.declared.request.Request.{Request}
-use Rattle.opt_words.specs.declared.request.Request.TheVariants.{Record}
-use Rattle.opt_words.specs.Words.{IsInRange}
+use Rattle.opt_words.specs.declared.request.Request.TheVariants.{Record, Replay, Tree}
+use Rattle.optfs.specs.declared.disk.Behaviour.{Behaviour}
 use Rattle.optfs.specs.Behaving.{MountFails, fails_of, rule_of}
-use Rattle.optfs.specs.Output.{Setting, usage_line, shape_line}
-use Rattle.optfs.specs.Endings.{HasFault, Tells}
-use Rattle.optfs.specs.Program.{Completes, Does, EndsSo, RecordsWhere, RecordsTo, Refuses, is_recording, setting_of, shape_of}
+use Rattle.optfs.specs.Disks.{setting_on}
+use Rattle.optfs.specs.Endings.{EndsBehind, HasFault, Met, Tells, met, usage_line, disk_line, damaged_line, spent_line, no_prefix_line, shape_line, long_line, choice_line}
+use Rattle.optfs.specs.Output.{Setting}
+use Rattle.optfs.specs.Program.{Completes, Does, EndsReplay, EndsShow, EndsSo, RecordsWhere, RecordsTo, Refuses, setting_of, shape_of}
+use Rattle.optfs.specs.Replaying.{EndsAt, EndsCrash, EndsFound, EndsReading, ReplaysTo, trace_line}
+use Rattle.optfs.specs.Showing.{EndsShowing, ShowsTo}
 use Rattle.optfs.specs.declared.status.Status.{Status}
-use Rattle.optfs.specs.declared.status.Status.TheVariants.{Done, Usage, NoMemory, DiskFault, SourceFault, SinkFault, BadShape, LongInput}
+use Rattle.optfs.specs.declared.status.Status.TheVariants.{Done, Usage, BadTrace, NoMemory, DiskFault, Damaged, SourceFault, SinkFault, Spent, NoPrefix, BadShape, LongInput, BadChoice}
 use Rattle.optfs.proofs.ProgramLemmas.{never_begun}
 
--- a line that was told is a refusal's line
+-- a line that was told ends the run
+pub behind : (status result : Status) (line : List ℕ) (told out : Option (List ℕ)) (sink sink_now : ℕ) → Tells status result line told out sink sink_now → EndsBehind status line result told out
+behind status result line told out sink sink_now (inl t) = inl t
+behind status result line told out sink sink_now (inr t) = inr (t.0, t.1)
+
+-- and is a refusal's line
 pub refused : (refusal result : Status) (line : List ℕ) (told out : Option (List ℕ)) (sink sink_now : ℕ)
     → Tells refusal result line told out sink sink_now → Refuses refusal line result told out
-refused refusal result line told out sink sink_now (inl t) = inl t
-refused refusal result line told out sink sink_now (inr t) = inr (inl (t.0, t.1))
+refused refusal result line told out sink sink_now t = inl (behind refusal result line told out sink sink_now t)
 
--- Where no memory is found before anything was read or written, that may be so for every request.
-memory_where : (fits : Bool) (set : Setting) (left told : Option (List ℕ)) (source source_now : ℕ) → RecordsWhere fits set NoMemory left left told told source source_now
-memory_where true set left told source source_now = never_begun set left told source source_now
-memory_where false set left told source source_now = inr (inr (refl, refl))
-
-pub does_memory : (request : Option Request) (left told : Option (List ℕ)) (source source_now : ℕ) → Does request NoMemory left left told told source source_now
-does_memory None left told source source_now = inr (inr (refl, refl))
-does_memory (Some request) left told source source_now = memory_where (geometry_fits (shape_of request)) (setting_of request) left told source source_now
-
-pub does_usage : (request : Option Request) (result : Status) (left left_now told out : Option (List ℕ)) (source source_now sink sink_now : ℕ) (line : List ℕ)
-    → request ≡ None → line ≡ usage_line → Tells Usage result line told out sink sink_now → Does request result left left_now told out source source_now
-does_usage request result left left_now told out source source_now sink sink_now line none is t =
-    let P : Option Request → Type 0 = λ r. Does r result left left_now told out source source_now in
-    let Q : List ℕ → Type 0 = λ l. Tells Usage result l told out sink sink_now in
-    subst P (sym none) (refused Usage result usage_line told out sink sink_now (subst Q is t))
+-- where the sink failed as a line was told, its count rose
+pub told_fault : (status result : Status) (line : List ℕ) (told out : Option (List ℕ)) (source source_now sink sink_now : ℕ) → HasFault status source source_now sink sink_now
+    → Tells status result line told out sink sink_now → HasFault result source source_now sink sink_now
+told_fault status result line told out source source_now sink sink_now fault (inl t) = subst (λ (s : Status). HasFault s source source_now sink sink_now) (sym t.0) fault
+told_fault status result line told out source source_now sink sink_now fault (inr t) = subst (λ (s : Status). HasFault s source source_now sink sink_now) (sym t.0) t.2
 
 -- a geometry that `new` refused doesn't fit
 pub not_fitting : {E : Type 0} (r : Result Geometry E) (e : E) (fits : Bool) → r ≡ Err e → (IsOk r ↔ (fits ≡ true)) → fits ≡ false
@@ -49,28 +58,15 @@ not_fitting r e true failed exact =
     absurd (false≢true (subst P failed (exact.1 refl)))
 not_fitting r e false failed exact = refl
 
-pub does_shape : (request : Option Request) (asked : Request) (result : Status) (left left_now told out : Option (List ℕ)) (source source_now sink sink_now : ℕ) (line : List ℕ)
-    → request ≡ Some asked → geometry_fits (shape_of asked) ≡ false → line ≡ shape_line
-    → Tells BadShape result line told out sink sink_now → Does request result left left_now told out source source_now
-does_shape request asked result left left_now told out source source_now sink sink_now line some fits is t =
-    let P : Option Request → Type 0 = λ r. Does r result left left_now told out source source_now in
-    let Q : List ℕ → Type 0 = λ l. Tells BadShape result l told out sink sink_now in
-    let R : Bool → Type 0 = λ b. RecordsWhere b (setting_of asked) result left left_now told out source source_now in
-    subst P (sym some) (subst R (sym fits) (refused BadShape result shape_line told out sink sink_now (subst Q is t)))
+pub where_shape : (fits : Bool) (set : Setting) (result : Status) (left left_now told out : Option (List ℕ)) (source source_now sink sink_now : ℕ)
+    → fits ≡ false → Tells BadShape result shape_line told out sink sink_now → RecordsWhere fits set result left left_now told out source source_now
+where_shape fits set result left left_now told out source source_now sink sink_now not_so t =
+    subst (λ (b : Bool). RecordsWhere b set result left left_now told out source source_now) (sym not_so) (refused BadShape result shape_line told out sink sink_now t)
 
-pub does_record : (request : Option Request) (asked : Request) (set : Setting) (result : Status) (left left_now told out : Option (List ℕ)) (source source_now : ℕ)
-    → request ≡ Some asked → geometry_fits (shape_of asked) ≡ true → set ≡ setting_of asked
-    → RecordsTo set result left left_now told out source source_now → Does request result left left_now told out source source_now
-does_record request asked set result left left_now told out source source_now some fits is t =
-    let P : Option Request → Type 0 = λ r. Does r result left left_now told out source source_now in
-    let Q : Setting → Type 0 = λ k. RecordsTo k result left left_now told out source source_now in
-    let R : Bool → Type 0 = λ b. RecordsWhere b (setting_of asked) result left left_now told out source source_now in
-    subst P (sym some) (subst R (sym fits) (subst Q is t))
-
--- a request for a recording of a geometry that fits is one
-pub is_asked : (request : Option Request) (asked : Request) → request ≡ Some asked
-    → geometry_fits (shape_of asked) ≡ true → is_recording request ≡ true
-is_asked request asked some fits = ap is_recording some ∙ fits
+pub where_fits : (fits : Bool) (set : Setting) (result : Status) (left left_now told out : Option (List ℕ)) (source source_now : ℕ)
+    → fits ≡ true → RecordsTo set result left left_now told out source source_now → RecordsWhere fits set result left left_now told out source source_now
+where_fits fits set result left left_now told out source source_now does t =
+    subst (λ (b : Bool). RecordsWhere b set result left left_now told out source source_now) (sym does) t
 
 -- The first write.
 
@@ -105,38 +101,118 @@ not_listed room fail rule may is = absurd (false≢true (sym (and_right (nat_lt 
 
 -- How a recording ends where nothing but the disk failed.
 
-ends_so : (blocks journal nodes : ℕ) (notices : Notices) (room : ℕ) (fail : Option ℕ) (status : Status) (left left_now told out : Option (List ℕ)) (source source_now sink sink_now : ℕ) → 1 ≤ room
-    → RecordsTo (setting_of (Record blocks journal nodes notices room fail)) status left left_now told out source source_now → HasFault status source source_now sink sink_now → ¬ Rose source source_now → ¬ Rose sink sink_now → EndsSo fail status
-ends_so blocks journal nodes notices room fail Done left left_now told out source source_now sink sink_now some r fault no_source no_sink = not_listed room fail (rule_of notices) r.output.served.goes.opens
-ends_so blocks journal nodes notices room fail LongInput left left_now told out source source_now sink sink_now some r fault no_source no_sink = not_listed room fail (rule_of notices) r.output.served.goes.opens
-ends_so blocks journal nodes notices room fail NoMemory left left_now told out source source_now sink sink_now some r fault no_source no_sink = tt
-ends_so blocks journal nodes notices room fail DiskFault left left_now told out source source_now sink sink_now some r fault no_source no_sink = fails_so room fail (rule_of notices) r.output.log some r.output.cause
-ends_so blocks journal nodes notices room fail Usage left left_now told out source source_now sink sink_now some r fault no_source no_sink = absurd r.reads
-ends_so blocks journal nodes notices room fail BadShape left left_now told out source source_now sink sink_now some r fault no_source no_sink = absurd r.reads
-ends_so blocks journal nodes notices room fail SourceFault left left_now told out source source_now sink sink_now some r fault no_source no_sink = no_source fault
-ends_so blocks journal nodes notices room fail SinkFault left left_now told out source source_now sink sink_now some r fault no_source no_sink = no_sink fault
+pub ends_so : (g : Geometry) (b : Behaviour) (status : Status) (left left_now told out : Option (List ℕ)) (source source_now sink sink_now : ℕ) → 1 ≤ b.room
+    → RecordsTo (setting_on g b) status left left_now told out source source_now → HasFault status source source_now sink sink_now → ¬ Rose source source_now → ¬ Rose sink sink_now → EndsSo b.fail status
+ends_so g b Done left left_now told out source source_now sink sink_now some r fault no_source no_sink = not_listed b.room b.fail (rule_of b.notices) r.output.served.goes.opens
+ends_so g b LongInput left left_now told out source source_now sink sink_now some r fault no_source no_sink = not_listed b.room b.fail (rule_of b.notices) r.output.served.goes.opens
+ends_so g b NoMemory left left_now told out source source_now sink sink_now some r fault no_source no_sink = tt
+ends_so g b DiskFault left left_now told out source source_now sink sink_now some r fault no_source no_sink = fails_so b.room b.fail (rule_of b.notices) r.output.log some r.output.cause
+ends_so g b SourceFault left left_now told out source source_now sink sink_now some r fault no_source no_sink = no_source fault
+ends_so g b SinkFault left left_now told out source source_now sink sink_now some r fault no_source no_sink = no_sink fault
+ends_so g b Usage left left_now told out source source_now sink sink_now some r fault no_source no_sink = absurd r.reads
+ends_so g b BadTrace left left_now told out source source_now sink sink_now some r fault no_source no_sink = absurd r.reads
+ends_so g b Damaged left left_now told out source source_now sink sink_now some r fault no_source no_sink = absurd r.reads
+ends_so g b Spent left left_now told out source source_now sink sink_now some r fault no_source no_sink = absurd r.reads
+ends_so g b NoPrefix left left_now told out source source_now sink sink_now some r fault no_source no_sink = absurd r.reads
+ends_so g b BadShape left left_now told out source source_now sink sink_now some r fault no_source no_sink = absurd r.reads
+ends_so g b BadChoice left left_now told out source source_now sink sink_now some r fault no_source no_sink = absurd r.reads
 
-completes_asked : (asked : Request) (status : Status) (left left_now told out : Option (List ℕ)) (source source_now sink sink_now : ℕ) → IsInRange (Some asked)
-    → RecordsTo (setting_of asked) status left left_now told out source source_now → HasFault status source source_now sink sink_now → Completes (Some asked) status (Rose source source_now) (Rose sink sink_now)
-completes_asked (Record blocks journal nodes notices room fail) status left left_now told out source source_now sink sink_now range r fault = λ fits no_source no_sink.
-    ends_so blocks journal nodes notices room fail status left left_now told out source source_now sink sink_now range.7 r fault no_source no_sink
+-- Want of memory before anything was read or written.
 
-pub completes_record : (request : Option Request) (asked : Request) (set : Setting) (status : Status) (left left_now told out : Option (List ℕ)) (source source_now sink sink_now : ℕ) → request ≡ Some asked → set ≡ setting_of asked → IsInRange (Some asked)
-    → RecordsTo set status left left_now told out source source_now → HasFault status source source_now sink sink_now → Completes request status (Rose source source_now) (Rose sink sink_now)
-completes_record request asked set status left left_now told out source source_now sink sink_now some is range r fault =
-    subst (λ (q : Option Request). Completes q status (Rose source source_now) (Rose sink sink_now)) (sym some)
-    (completes_asked asked status left left_now told out source source_now sink sink_now range (subst (λ (k : Setting). RecordsTo k status left left_now told out source source_now) is r) fault)
+keeps_same : (taken : Option (List ℕ)) → Keeps taken taken
+keeps_same None = tt
+keeps_same (Some xs) = refl
 
--- words that ask for nothing, or for a geometry that doesn't fit, promise nothing of a recording; and memory may always be short
-pub completes_none : (request : Option Request) (status : Status) (P Q : Type 0) → request ≡ None → Completes request status P Q
-completes_none request status P Q none = subst (λ (q : Option Request). Completes q status P Q) (sym none) tt
-
-pub completes_shape : (request : Option Request) (asked : Request) (status : Status) (P Q : Type 0) → request ≡ Some asked → geometry_fits (shape_of asked) ≡ false → Completes request status P Q
-completes_shape request asked status P Q some fits = subst (λ (q : Option Request). Completes q status P Q) (sym some) (by asked fits)
+-- Where no memory is found before anything was read or written, that may be so for every request.
+pub does_memory : (tells : Bool) (request : Option Request) (left told : Option (List ℕ)) (source source_now sink sink_now : ℕ) (bay : BayState)
+    → Does tells request NoMemory (met left left told told source source_now sink sink_now bay bay)
+does_memory tells None left told source source_now sink sink_now bay = inr (refl, refl)
+does_memory tells (Some (Record blocks journal nodes notices room fail)) left told source source_now sink sink_now bay = by (geometry_fits (shape_of blocks journal nodes))
   where
-    by : (r : Request) → geometry_fits (shape_of r) ≡ false → Completes (Some r) status P Q
-    by (Record blocks journal nodes notices room fail) not = λ is no_source no_sink. absurd (false≢true (sym not ∙ is))
+    by : (fits : Bool) → RecordsWhere fits (setting_of blocks journal nodes notices room fail) NoMemory left left told told source source_now
+    by true = never_begun (setting_of blocks journal nodes notices room fail) left told source source_now
+    by false = inr (refl, refl)
+does_memory tells (Some (Replay moment choice)) left told source source_now sink sink_now bay = record {
+  told = Err reading.NoMemory;
+  tells = record { bytes = []; read = Consumes-nil left; short = omega arith };
+  ends = (refl, refl);
+}
+does_memory tells (Some (Tree image)) left told source source_now sink sink_now bay = record {
+  answer = Err show.NoMemory;
+  between = told;
+  shown = λ known. tt;
+  refused = λ known. inl (keeps_same told);
+  silent = λ e. refl;
+  back = inl (record { kept = λ known each. refl; faults = omega arith; disk_faults = refl; handed = refl; closed = refl });
+  cause = refl;
+  ends = (refl, refl);
+}
 
-pub completes_memory : (request : Option Request) (P Q : Type 0) → Completes request NoMemory P Q
-completes_memory None P Q = tt
-completes_memory (Some (Record blocks journal nodes notices room fail)) P Q = λ fits no_source no_sink. tt
+pub completes_memory : (request : Option Request) (m : Met) → Completes request NoMemory m
+completes_memory None m = tt
+completes_memory (Some (Record blocks journal nodes notices room fail)) m = λ fits no_source no_sink. tt
+completes_memory (Some (Replay moment choice)) m = λ no_source no_sink. tt
+completes_memory (Some (Tree image)) m = λ no_sink. tt
+
+-- Words that ask for nothing.
+pub does_usage : (tells : Bool) (request : Option Request) (result : Status) (m : Met) → request ≡ None → Tells Usage result usage_line m.taken m.taken_now m.sink m.sink_now → Does tells request result m
+does_usage tells request result m none t = subst (λ (r : Option Request). Does tells r result m) (sym none) (refused Usage result usage_line m.taken m.taken_now m.sink m.sink_now t)
+
+pub completes_none : (request : Option Request) (status : Status) (m : Met) → request ≡ None → Completes request status m
+completes_none request status m none = subst (λ (q : Option Request). Completes q status m) (sym none) tt
+
+-- How a replay and a showing end where nothing failed.
+
+ends_replay : (X status : Status) (line : List ℕ) (told out : Option (List ℕ)) (source source_now sink sink_now : ℕ) → EndsReplay X → EndsBehind X line status told out → HasFault status source source_now sink sink_now
+    → ¬ Rose sink sink_now → EndsReplay status
+ends_replay X status line told out source source_now sink sink_now may (inl t) fault no_sink = subst EndsReplay (sym t.0) may
+ends_replay X status line told out source source_now sink sink_now may (inr t) fault no_sink = absurd (no_sink (subst (λ (s : Status). HasFault s source source_now sink sink_now) t.0 fault))
+
+ends_found : (found : Found) (status : Status) (told out : Option (List ℕ)) (source source_now sink sink_now : ℕ) → EndsFound found status told out → HasFault status source source_now sink sink_now
+    → ¬ Rose sink sink_now → EndsReplay status
+ends_found found status told out source source_now sink sink_now (inl (between, took, ends)) fault no_sink = by found.point ends
+  where
+    by : (point : Option ℕ) → EndsAt point status between out → EndsReplay status
+    by None e = ends_replay NoPrefix status no_prefix_line between out source source_now sink sink_now tt e fault no_sink
+    by (Some p) e = subst EndsReplay (sym e.0) tt
+ends_found found status told out source source_now sink sink_now (inr t) fault no_sink = absurd (no_sink (subst (λ (s : Status). HasFault s source source_now sink sink_now) t.0 fault))
+
+ends_crash : (answer : Result Found ReplayRefusal) (status : Status) (told out : Option (List ℕ)) (source source_now sink sink_now : ℕ) → EndsCrash answer status told out → HasFault status source source_now sink sink_now
+    → ¬ Rose sink sink_now → EndsReplay status
+ends_crash (Ok found) status told out source source_now sink sink_now e fault no_sink = ends_found found status told out source source_now sink sink_now e fault no_sink
+ends_crash (Err crash.Choice) status told out source source_now sink sink_now e fault no_sink = ends_replay BadChoice status choice_line told out source source_now sink sink_now tt e fault no_sink
+ends_crash (Err (crash.Damaged damage)) status told out source source_now sink sink_now e fault no_sink = ends_replay Damaged status damaged_line told out source source_now sink sink_now tt e fault no_sink
+ends_crash (Err crash.Spent) status told out source source_now sink sink_now e fault no_sink = ends_replay Spent status spent_line told out source source_now sink sink_now tt e fault no_sink
+ends_crash (Err crash.NoMemory) status told out source source_now sink sink_now e fault no_sink = subst EndsReplay (sym e.0) tt
+
+pub completes_replay : (moment : ℕ) (choice : ChoiceState) (status : Status) (m : Met) → ReplaysTo moment choice status m → HasFault status m.source m.source_now m.sink m.sink_now
+    → ¬ Rose m.source m.source_now → ¬ Rose m.sink m.sink_now → EndsReplay status
+completes_replay moment choice status m r fault no_source no_sink = by r.told r.ends
+  where
+    by : (told : Result Contents TraceRefusal) → EndsReading moment choice told status m.taken m.taken_now → EndsReplay status
+    by (Ok c) e = ends_crash e.answer status m.taken m.taken_now m.source m.source_now m.sink m.sink_now e.ends fault no_sink
+    by (Err (reading.BadTrace line)) e = ends_replay BadTrace status (trace_line line) m.taken m.taken_now m.source m.source_now m.sink m.sink_now tt e fault no_sink
+    by (Err reading.SourceFault) (inl t) = absurd (no_source (subst (λ (s : Status). HasFault s m.source m.source_now m.sink m.sink_now) t.0 fault))
+    by (Err reading.SourceFault) (inr t) = absurd (no_sink (subst (λ (s : Status). HasFault s m.source m.source_now m.sink m.sink_now) t.0 fault))
+    by (Err reading.LongInput) e = ends_replay LongInput status long_line m.taken m.taken_now m.source m.source_now m.sink m.sink_now tt e fault no_sink
+    by (Err reading.NoMemory) e = subst EndsReplay (sym e.0) tt
+
+ends_show : (P : Type 0) (X status : Status) (line : List ℕ) (told out : Option (List ℕ)) (source source_now sink sink_now : ℕ) → EndsShow P X → EndsBehind X line status told out → HasFault status source source_now sink sink_now
+    → ¬ Rose sink sink_now → EndsShow P status
+ends_show P X status line told out source source_now sink sink_now may (inl t) fault no_sink = subst (EndsShow P) (sym t.0) may
+ends_show P X status line told out source source_now sink sink_now may (inr t) fault no_sink = absurd (no_sink (subst (λ (s : Status). HasFault s source source_now sink sink_now) t.0 fault))
+
+pub completes_show : (tells : Bool) (image : List ℕ) (status : Status) (m : Met) → ShowsTo tells image status m → HasFault status m.source m.source_now m.sink m.sink_now
+    → ¬ Rose m.sink m.sink_now → EndsShow (CountsFault m.bay m.bay_now) status
+completes_show tells image status m s fault no_sink = by s.answer s.cause s.ends
+  where
+    P : Type 0
+    P = CountsFault m.bay m.bay_now
+
+    by : (answer : Result (Unit {0}) ShowRefusal) → HasShowCause answer m.bay m.bay_now → EndsShowing answer status s.between m.taken_now → EndsShow P status
+    by (Ok x) cause e = subst (EndsShow P) (sym e.0) tt
+    by (Err show.Fault) cause e = ends_show P DiskFault status disk_line s.between m.taken_now m.source m.source_now m.sink m.sink_now cause e fault no_sink
+    by (Err (show.Damaged damage)) cause e = ends_show P Damaged status damaged_line s.between m.taken_now m.source m.source_now m.sink m.sink_now tt e fault no_sink
+    by (Err show.Spent) cause e = ends_show P Spent status spent_line s.between m.taken_now m.source m.source_now m.sink m.sink_now tt e fault no_sink
+    by (Err show.SinkFault) cause e = absurd (no_sink (subst (λ (x : Status). HasFault x m.source m.source_now m.sink m.sink_now) e.0 fault))
+    by (Err show.NoMemory) cause e = subst (EndsShow P) (sym e.0) tt

@@ -1,5 +1,5 @@
 -- What the program does where its words ask for a crash of the trace that is its input. It is described in docs/PROMISES.md.
-use Rattle.std.specs.Prelude.{◌≡◌, ℕ, ◌⊎◌, List, ◌++◌, codes, decimal, Option, None, Some, Result, Ok, Err, IfOk, IfErr}
+use Rattle.std.specs.Prelude.{◌≡◌, ℕ, ◌⊎◌, List, ◌++◌, codes, decimal, Option, None, Some, Result, Ok, Err}
 use Rattle.std.specs.Io.KnownBytes.{Appends}
 use Rattle.opt_io.specs.Prefix.{TakesPrefix}
 use Rattle.opt_memdisk.specs.Choice.{ChoiceState}
@@ -9,7 +9,7 @@ use Rattle.opt_trace_reader.specs.declared.input.TraceRefusal.TheVariants as rea
 use Rattle.opt_trace_reader.specs.Inputs as input
 use Rattle.opt_replay.specs.declared.refusal.ReplayRefusal.{ReplayRefusal}
 use Rattle.opt_replay.specs.declared.refusal.ReplayRefusal.TheVariants as crash
-use Rattle.opt_replay.specs.Replaying.{Found, OfImage, Refuses, StandsForFound, found_text}
+use Rattle.opt_replay.specs.Replays.{Found, Answers, found_text}
 use Rattle.optfs.specs.Endings.{Met, EndsBehind, EndsSilent, damaged_line, source_line, spent_line, no_prefix_line, long_line, choice_line}
 use Rattle.optfs.specs.declared.status.Status.{Status}
 use Rattle.optfs.specs.declared.status.Status.TheVariants.{Done, BadTrace, NoMemory, Damaged, SourceFault, SinkFault, Spent, NoPrefix, LongInput, BadChoice}
@@ -40,8 +40,7 @@ EndsCrash (Err crash.NoMemory) = EndsSilent NoMemory
 -- A crash of the trace with these contents was replayed, with this answer; then the run ended with this status.
 pub record ShowsCrash (moment : ℕ) (choice : ChoiceState) (c : Contents) (status : Status) (taken taken_now : Option (List ℕ)) : Type 0 where
   pub answer : Result Found ReplayRefusal
-  pub found : IfOk answer (λ found. OfImage c moment choice (λ at. StandsForFound c moment at found))
-  pub refused : IfErr answer (Refuses c moment choice)
+  pub answers : Answers c moment choice answer
   pub ends : EndsCrash answer status taken taken_now
 
 -- how the run ends where that was told of the input

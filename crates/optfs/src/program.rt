@@ -111,7 +111,7 @@ fn serve<S: Source, K: Sink, Y: Bay>(
             };
             record_asked(alloc, (*blocks, *journal, *nodes), &behaviour, input, out)
         }
-        Request::Replay { moment, choice } => replay(alloc, *moment, choice, input, out),
+        Request::Replay { moment, choice } => replay(alloc, u64::from(*moment), choice, input, out),
         Request::Tree { image } => show(alloc, image.as_str(), out, bay),
     }
 }
