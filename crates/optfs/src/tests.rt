@@ -5,6 +5,7 @@
 
 mod disks;
 mod events;
+mod images;
 mod lines;
 mod outline;
 mod replies;
@@ -13,7 +14,7 @@ mod room;
 
 use crate::{Status, optfs};
 use opt_io::{MemSink, MemSource};
-use opt_memdisk::MemBay;
+use opt_membay::MemBay;
 use outline::{answers, shown};
 use std::alloc::Global;
 use std::test::Fail;
