@@ -48,10 +48,10 @@ abbrev pub Tells : Option (List ℕ) → Option (List ℕ) → Result Contents T
 Tells first left (Ok contents) = ReadsTrace first left contents
 Tells first left (Err why) = Refuses first left why
 
--- the count of faults of the source: it rises by one where the source is to blame, and else it stays
+-- the count of faults of the source: it never falls; it rises by one, up to its last value, where the source is to blame, and else it stays
 abbrev pub Blames : {T : Type 0} → Result T TraceRefusal → ℕ → ℕ → Type 0
 Blames (Ok told) before now = now ≡ before
-Blames (Err SourceFault) before now = now ≡ next_count before
+Blames (Err SourceFault) before now = (before ≤ now) × (now ≡ next_count before)
 Blames (Err (BadTrace line)) before now = now ≡ before
 Blames (Err LongInput) before now = now ≡ before
 Blames (Err NoMemory) before now = now ≡ before
