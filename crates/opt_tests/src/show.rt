@@ -25,7 +25,9 @@ fn image_with(alloc: Global, block: u32, at: usize, byte: u8) -> Result<Image, F
         if b == block && at < bytes.len() {
             bytes[at] = byte;
         }
-        image.set(alloc, b, &bytes)?;
+        if b < image.blocks() {
+            image.set(alloc, b, &bytes)?;
+        }
     }
     Ok(image)
 }
