@@ -1,5 +1,5 @@
 -- What was found in the image of the crash, and of the points with its listing those with its tree.
-use Rattle.std.proofs.Common.{◌≡◌, ℕ, List, [], ap, ◌∙◌, subst}
+use Rattle.std.proofs.Common.{◌≡◌, List, ap, ◌∙◌, subst}
 use Rattle.opt_disk.specs.declared.event.Event.{Event}
 use Rattle.opt_geom.specs.Geometry.{Geometry}
 use Rattle.opt_trace.specs.Contents.{Contents}
@@ -18,20 +18,23 @@ returns c =
     let trace : Contents = c.args.trace in
     let geom : c.geom.result.now ≡ trace.geometry = c.geom.ensures ∙ ap (λ (k : Contents). k.geometry) c.take_log-log.ensures.rest in
     let leaves = subst (λ (g : Geometry). LeavesImage g trace.log moment choice image) geom
-        (subst (λ (l : List Event). LeavesImage c.geom.result.now l moment choice image) c.take_log-log.ensures.log c.in_ok-image.ensures.image) in
+    (subst (λ (l : List Event). LeavesImage c.geom.result.now l moment choice image) c.take_log-log.ensures.log c.in_ok-image.ensures.image) in
     let listed = c.in_ok-text.ensures.listed in
-    let found = subst (λ (k : Contents). IsNewest (IsListedAs c.as_slice.result.now) (points_in k) (floor_at moment k) (top_at moment k) c.in_ok-point.point) c.take_log-log.ensures.rest c.in_ok-point.ensures in
-    (image, leaves, record {
-      tree = listed.0;
-      stands = listed.1;
-      text = listed.2;
-      newest = newest trace c.requires
-          (record {
-            listings = c.a_listing_says_the_tree.ensures;
-            sound = c.points_of_a_trace_have_lawful_names.ensures.sound trace c.requires;
-            names = c.points_of_a_trace_have_lawful_names.ensures.names trace c.requires;
-            bytes = c.points_of_a_trace_have_lawful_names.ensures.bytes trace c.requires;
-            stands = c.what_stands_has_lawful_names.ensures.names;
-          })
-          _ _ listed.0 c.as_slice.result.now listed.1.stands (c.as_slice.ensures.value ∙ listed.2) _ _ c.in_ok-point.point found;
-    })
+    let found = subst (λ (k : Contents). IsNewest (IsListedAs c.as_slice.result.now) (points_in k) (floor_at moment k) (top_at moment k) c.in_ok-point.point) c.take_log-log.ensures.rest c.in_ok-point.ensures in (
+      image,
+      leaves,
+      record {
+        tree = listed.0;
+        stands = listed.1;
+        text = listed.2;
+        newest = newest trace c.requires
+            (record {
+              listings = c.a_listing_says_the_tree.ensures;
+              sound = c.points_of_a_trace_have_lawful_names.ensures.sound trace c.requires;
+              names = c.points_of_a_trace_have_lawful_names.ensures.names trace c.requires;
+              bytes = c.points_of_a_trace_have_lawful_names.ensures.bytes trace c.requires;
+              stands = c.what_stands_has_lawful_names.ensures.names;
+            })
+            _ _ listed.0 c.as_slice.result.now listed.1.stands (c.as_slice.ensures.value ∙ listed.2) _ _ c.in_ok-point.point found;
+      },
+    )
