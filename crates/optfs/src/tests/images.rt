@@ -64,11 +64,36 @@ fn an_image_is_shown_or_why_not(rt: HostRuntime) -> Result<(), Fail> {
     // that is clear before the data.
     let cases: [(Image, &str, Status, &[u8]); 6] = [
         (image_of_turn(alloc, 1)?, "disk", Status::Done, b"dir / 1\n"),
-        (image_of_turn(alloc, 9_223_372_036_854_775_791)?, "disk", Status::Done, b"dir / 1\n"),
-        (image_of_turn(alloc, 9_223_372_036_854_775_792)?, "disk", Status::Spent, b"error 9 spent\n"),
-        (Image::zeros(alloc, 64)?, "disk", Status::Damaged, b"error 6 damaged\n"),
-        (with_block(alloc, 18, &[0u8; 1024])?, "disk", Status::Damaged, b"error 6 damaged\n"),
-        (Image::zeros(alloc, 64)?, "other", Status::DiskFault, b"error 5 disk\n"),
+        (
+            image_of_turn(alloc, 9_223_372_036_854_775_791)?,
+            "disk",
+            Status::Done,
+            b"dir / 1\n",
+        ),
+        (
+            image_of_turn(alloc, 9_223_372_036_854_775_792)?,
+            "disk",
+            Status::Spent,
+            b"error 9 spent\n",
+        ),
+        (
+            Image::zeros(alloc, 64)?,
+            "disk",
+            Status::Damaged,
+            b"error 6 damaged\n",
+        ),
+        (
+            with_block(alloc, 18, &[0u8; 1024])?,
+            "disk",
+            Status::Damaged,
+            b"error 6 damaged\n",
+        ),
+        (
+            Image::zeros(alloc, 64)?,
+            "other",
+            Status::DiskFault,
+            b"error 5 disk\n",
+        ),
     ];
     for (image, name, wanted, text) in cases {
         let (status, found) = shown(alloc, image, name)?;
