@@ -1,5 +1,5 @@
 -- What is claimed of crashes of a trace that a recording wrote. It is described in docs/CRASHES.md.
-use Rattle.std.specs.Prelude.{◌≡◌, ℕ, ⊤, List, take, Option, Some, Result, Ok, Err}
+use Rattle.std.specs.Prelude.{◌≡◌, ℕ, ⊤, List, take, Some, Result, Ok, Err}
 use Rattle.opt_base.specs.Seal.{blocks_of}
 use Rattle.opt_disk.specs.Crash.{IsHonest}
 use Rattle.opt_journal.specs.Formatted.{formatted}
