@@ -1,5 +1,5 @@
 -- The image of a crash: it is that of the formatted disk with the log, and where there is none the choice can't be made.
-use Rattle.std.proofs.Common.{◌≡◌, ℕ, ◌<◌, ◌&&◌, ◌⊎◌, inl, inr, nat_le, Bool, true, false, not, if◌then◌else◌, List, [], ◌∷◌, length, take, Option, None, Some, option_map, Result, Ok, Err, refl, sym, ap, ◌∙◌, subst}
+use Rattle.std.proofs.Common.{◌≡◌, ℕ, ◌<◌, ◌&&◌, ◌⊎◌, inl, inr, nat_le, Bool, true, false, not, if◌then◌else◌, List, [], ◌∷◌, length, take, Option, None, Some, option_map, Ok, refl, sym, ap, ◌∙◌, subst}
 use Rattle.std.specs.List.{list_all, find}
 use Rattle.std.proofs.lemmas.Bool.{cases_Bool}
 use Rattle.std.proofs.lemmas.Option.{none-some}

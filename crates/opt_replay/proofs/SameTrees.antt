@@ -1,5 +1,5 @@
 -- Of the points of a trace those whose tree has the listing of a tree that stands are those whose tree is that one.
-use Rattle.std.proofs.Common.{◌≡◌, ℕ, ◌<◌, ◌≤◌, ◌^◌, List, slice_get, Option, None, Some, sym, ap, ◌∙◌}
+use Rattle.std.proofs.Common.{◌≡◌, ℕ, ◌<◌, ◌^◌, List, slice_get, Option, None, Some, sym, ap, ◌∙◌}
 use Rattle.opt_base.specs.Seal.{Blocks}
 use Rattle.opt_stands.specs.Stands.{StandsFor}
 use Rattle.opt_tree.specs.Listing.{listing}

@@ -1,5 +1,5 @@
 -- What a step of the tree does to the number of its last point, and what a command does to a walk.
-use Rattle.std.proofs.Common.{◌≡◌, ◌⊎◌, inl, inr, ⊎_elim, sym, ap, refl, ◌∙◌, subst, arith, ℕ, ◌+◌, ◌-◌, ◌^◌, ◌<◌, ◌≤◌, min, Bool, true, false, ◌==◌, not, ◌&&◌, if◌then◌else◌, List, Option, Some, None}
+use Rattle.std.proofs.Common.{◌≡◌, ◌⊎◌, inl, inr, sym, ap, refl, ◌∙◌, arith, ℕ, ◌+◌, ◌-◌, ◌^◌, ◌<◌, ◌≤◌, Bool, true, false, ◌==◌, not, List, Option, Some, None}
 use Rattle.std.specs.Prelude.{replicate}
 use Rattle.opt_tree.specs.declared.command.Cmd.{Cmd}
 use Rattle.opt_tree.specs.declared.command.Cmd.TheVariants.{Mkdir, Create, Write, Fill, Read, Truncate, Link, Unlink, Rmdir, Rename, Stat, List as ListNames, Osync, Dsync, Durable, Poll, Bad}
@@ -8,11 +8,9 @@ use Rattle.opt_tree.specs.declared.command.Reply.TheVariants.{Refused}
 use Rattle.opt_tree.specs.declared.command.Refusal.{Refusal}
 use Rattle.opt_tree.specs.declared.command.Refusal.TheVariants.{NoMemory}
 use Rattle.opt_tree.specs.Conditions.{refusal}
-use Rattle.opt_tree.specs.Points.{after_reply, is_refusal, is_sync, may_have_written}
-use Rattle.opt_tree.specs.Step.{Session, step, answered, write, truncate, rename, osync, dsync, next_point}
+use Rattle.opt_tree.specs.Points.{is_sync}
+use Rattle.opt_tree.specs.Step.{Session, step, answered, write, truncate, rename, osync, dsync}
 use Rattle.opt_trace_reader.specs.Replies.{is_out_of_memory, points_by}
-use Rattle.opt_replay.specs.declared.walk.Walk.{Walk}
-use Rattle.opt_replay.specs.Walking.{WalksOn, makes_point, with_point}
 
 -- one point more at most
 abbrev IsNear : Session → Session × Reply → Type 0

@@ -1,5 +1,5 @@
 -- A sink that compares what it is pushed with a text, as a value. Only private contracts speak of it.
-use Rattle.std.specs.Prelude.{◌≡◌, ℕ, ◌<◌, ◌≤◌, Bool, true, false, ◌==◌, ◌&&◌, List, [], ◌∷◌, ◌++◌, length, take, slice_get, Option, Some, None}
+use Rattle.std.specs.Prelude.{◌≡◌, ℕ, ◌≤◌, List, [], ◌∷◌, ◌++◌, length, take, slice_get, Option, Some, None}
 
 -- the text, how many bytes of it came, the first byte that came in place of another, and how many pushes failed
 pub record ComparingState : Type 0 where

@@ -1,5 +1,5 @@
 -- The sync points of a trace, and which of them a crash may leave. They are described in docs/REPLAY.md.
-use Rattle.std.specs.Prelude.{◌≡◌, ℕ, ◌≤◌, List, length}
+use Rattle.std.specs.Prelude.{◌≡◌, ℕ, List, length}
 use Rattle.opt_tree.specs.Points.{Point, points_of, floor, top}
 use Rattle.opt_tree.specs.Step.{start}
 use Rattle.opt_trace.specs.Contents.{Contents}

@@ -1,5 +1,5 @@
 -- What is told of a crash of a trace. It is described in docs/REPLAY.md.
-use Rattle.std.specs.Prelude.{◌≡◌, ℕ, Bool, false, IsTrue, List, ◌++◌, codes, decimal, length, take, Option, None, Some, Result, Ok, Err}
+use Rattle.std.specs.Prelude.{◌≡◌, ℕ, false, IsTrue, List, ◌++◌, codes, decimal, length, take, Option, None, Some, Result, Ok, Err}
 use Rattle.opt_base.specs.Seal.{blocks_of}
 use Rattle.opt_disk.specs.declared.event.Event.{Event}
 use Rattle.opt_geom.specs.Geometry.{Geometry}

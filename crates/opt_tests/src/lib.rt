@@ -35,6 +35,8 @@ mod ranks;
 #[cfg(test)]
 mod recover;
 #[cfg(test)]
+mod show;
+#[cfg(test)]
 mod store;
 #[cfg(test)]
 mod trace;

@@ -6,10 +6,10 @@ ghost use Rattle.opt_memdisk.specs.declared.calls.DiskCall.TheVariants.{Write};
 ghost use Rattle.optfs.specs.Behaving.{fails_of, rule_of};
 ghost use Rattle.optfs.specs.Disks.{IsFormattedDisk};
 
-use opt_replay::formatted_image;
 use opt_base::NoMemory;
 use opt_geom::Geom;
 use opt_memdisk::{DiskCall, Fail, MemDisk, Rule};
+use opt_replay::formatted_image;
 use opt_words::Notices;
 use std::alloc::Global;
 

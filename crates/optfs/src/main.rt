@@ -1,6 +1,6 @@
-//! The program `optfs`: words and a script in, a trace out. The crates below hold the parts; here are
-//! the formatted disk and its mount, the reading of lines, the recording of their commands, and the exit status. The
-//! rules are described in docs/SCRIPT.md, docs/TRACE.md and docs/CRASHES.md.
+//! The program `optfs`: words and an input in, an output out. The crates below hold the parts; here are the formatted
+//! disk of a recording and its mount, the reading of lines, the recording of their commands, the endings of a replay and
+//! of a showing, and the exit status. The rules are described in docs/SCRIPT.md, docs/TRACE.md and docs/CRASHES.md.
 #![tactic(auto)]
 
 mod disk;
@@ -22,8 +22,8 @@ mod tests;
 mod tree_tests;
 
 pub use laws::{a_crash_of_a_recording_is_found, a_disk_at_rest_is_crash_consistent, a_text_is_served_in_one_way};
+use opt_filedisk::FileBay;
 use opt_io::{ReadSource, WriteSink};
-use opt_memdisk::MemBay;
 pub use program::optfs;
 pub use status::Status;
 use std::env;
@@ -50,7 +50,7 @@ fn run_into<W: Write + Drop>(rt: &HostRuntime, writer: W) -> io::Result<Status> 
     let words = words_of(rt)?;
     let mut input = ReadSource::new(rt.stdin());
     let mut out = WriteSink::new(writer);
-    let mut bay = MemBay::new(rt.alloc(), ROOM);
+    let mut bay = FileBay::new(rt);
     let status = optfs(rt.alloc(), words.as_slice(), &mut input, &mut out, &mut bay);
     if out.flush().is_err() {
         return Ok(Status::SinkFault);
@@ -73,6 +73,3 @@ fn words_of(rt: &HostRuntime) -> io::Result<Vec<String>> {
     }
     Ok(words)
 }
-
-/// For how many writes a disk of the bay has room.
-const ROOM: u32 = 4096;

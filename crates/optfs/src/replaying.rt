@@ -2,11 +2,14 @@
 //! with the status of the answer. How a trace is read is in `opt_trace_reader`, and how a crash is replayed in
 //! `opt_replay`.
 
-ghost use Rattle.std.specs.Prelude.{◌≡◌, ℕ, ◌≤◌, List, Option};
+ghost use Rattle.std.specs.Prelude.{ℕ, ◌≤◌, Err};
 ghost use Rattle.opt_disk.specs.Bay.{BayState};
+ghost use Rattle.opt_memdisk.specs.Choice.{ChoiceState};
+ghost use Rattle.opt_trace.specs.Contents.{Contents};
+ghost use Rattle.opt_trace_reader.specs.Inputs.{Blames};
 ghost use Rattle.opt_trace_reader.specs.Traces.{IsTrace};
 ghost use Rattle.optfs.specs.Endings.{HasFault, Tells, met};
-ghost use Rattle.optfs.specs.Replaying.{EndsFound, ReplaysTo, ShowsCrash, trace_line};
+ghost use Rattle.optfs.specs.Replaying.{EndsFound, EndsReading, ReplaysTo, ShowsCrash, trace_line};
 ghost use Rattle.optfs.specs.declared.status.Status.TheVariants.{BadTrace};
 
 use crate::status::Status;
@@ -34,10 +37,21 @@ pub fn replay<S: Source, K: Sink>(
 {
     match read_trace(alloc, input) {
         Ok(trace) => show_crash(alloc, trace, moment, choice, out),
-        Err(TraceRefusal::BadTrace { line }) => tell_wrong_line(out, line),
-        Err(TraceRefusal::SourceFault) => tell(out, SOURCE, Status::SourceFault),
-        Err(TraceRefusal::LongInput) => tell(out, LONG, Status::LongInput),
-        Err(TraceRefusal::NoMemory) => Status::NoMemory,
+        Err(why) => end_reading(why, out),
+    }
+}
+
+/// Ends the run where the input wasn't read as a trace.
+fn end_reading<K: Sink>(why: TraceRefusal, out: &mut K) -> Status
+    ensures ends { (moment : ℕ) (choice : ChoiceState) → EndsReading moment choice (Err why) result (K.taken out.old) (K.taken out.new) }
+    ensures faults { (source source_now : ℕ) → Blames {T = Contents} (Err why) source source_now → HasFault result source source_now (K.faults out.old) (K.faults out.new) }
+    ensures counts { K.faults out.old ≤ K.faults out.new }
+{
+    match why {
+        TraceRefusal::BadTrace { line } => tell_wrong_line(out, line),
+        TraceRefusal::SourceFault => tell(out, SOURCE, Status::SourceFault),
+        TraceRefusal::LongInput => tell(out, LONG, Status::LongInput),
+        TraceRefusal::NoMemory => Status::NoMemory,
     }
 }
 

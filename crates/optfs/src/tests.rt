@@ -3,17 +3,18 @@
 //! answer is tested by the module of the room and by the rows of `opt_fs_rows`, what the disk has meanwhile by the
 //! module of the events, and a whole trace by the files `stdin` and `stdout`.
 
+mod crashes;
 mod disks;
 mod events;
+mod images;
 mod lines;
 mod outline;
 mod replies;
-mod crashes;
 mod room;
 
 use crate::{Status, optfs};
 use opt_io::{MemSink, MemSource};
-use opt_memdisk::MemBay;
+use opt_membay::MemBay;
 use outline::{answers, shown};
 use std::alloc::Global;
 use std::test::Fail;

@@ -1,4 +1,4 @@
-use Rattle.std.proofs.Common.{◌∙◌, sym, ap, subst, arith, bytes_eq, List, ℕ, ◌++◌, take}
+use Rattle.std.proofs.Common.{◌∙◌, ap, arith, ◌++◌, take}
 use Rattle.opt_tree.specs.Listing.{listing}
 use Rattle.opt_replay.specs.Comparing.{ComparingState, taken_by}
 use Rattle.opt_replay.proofs.Comparisons.{broken_tells, whole_tells}

@@ -1,5 +1,5 @@
 -- A front of the line comes of a front of one of its pieces, behind those before it.
-use Rattle.std.proofs.Common.{◌≡◌, ◌++◌, ℕ, List, decimal, codes, Result, Ok, Err, OnErr, rules, subst}
+use Rattle.std.proofs.Common.{◌≡◌, decimal, Result, Ok, Err, OnErr, rules, subst}
 use Rattle.std.specs.Io.KnownBytes.{Appends}
 use Rattle.opt_io.specs.Prefix.{TakesPrefix}
 use Rattle.opt_replay.proofs.numbered.write_numbered_line.Goals as goal

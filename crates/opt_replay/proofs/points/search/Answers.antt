@@ -6,7 +6,6 @@ use Rattle.opt_replay.specs.Newest.{IsNewest}
 use Rattle.opt_replay.specs.Points.{points_in, top_at}
 use Rattle.opt_replay.specs.Walking.{HasCome, IsListedAs, first_tally}
 use Rattle.opt_replay.specs.declared.walk.Tally.{Tally}
-use Rattle.opt_replay.specs.declared.walk.Walk.{Walk}
 use Rattle.opt_replay.proofs.Lists.{left_from, number_from}
 use Rattle.opt_replay.proofs.Walks.{begun_walk, walk_ends, walked_on}
 use Rattle.opt_replay.proofs.points.search.Goals.{then-loop-i-test+else-begun-moment, else-loop-i-test}

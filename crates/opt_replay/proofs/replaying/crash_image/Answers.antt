@@ -1,6 +1,5 @@
 -- The disk of the log began as the formatted one, so its image is that of the crash.
-use Rattle.std.proofs.Common.{◌≡◌, List, ℕ, Ok, sym, ap, subst}
-use Rattle.opt_disk.specs.declared.event.Event.{Event}
+use Rattle.std.proofs.Common.{ℕ, Ok, sym, subst}
 use Rattle.opt_memdisk.specs.Choice.{GivesImage}
 use Rattle.opt_memdisk.specs.Log.{AreWithin}
 use Rattle.opt_memdisk.specs.MemDisk.{MemDiskState}

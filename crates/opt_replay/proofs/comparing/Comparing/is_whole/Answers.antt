@@ -1,4 +1,4 @@
-use Rattle.std.proofs.Common.{◌≡◌, Bool, bytes_eq, sym, subst, ap, false, ◌==◌, length}
+use Rattle.std.proofs.Common.{◌≡◌, bytes_eq, subst, false, ◌==◌, length}
 use Rattle.opt_replay.specs.Comparing.{ComparingState, came}
 use Rattle.opt_replay.proofs.Comparisons.{not_where_some, whole_where_none}
 use Rattle.opt_replay.proofs.comparing.Comparing.is_whole.Goals as goal

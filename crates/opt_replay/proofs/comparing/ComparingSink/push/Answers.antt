@@ -1,4 +1,4 @@
-use Rattle.std.proofs.Common.{◌∙◌, ◌≡◌, ℕ, ◌+◌, Bool, true, false, sym, ap, subst, length, take, take_all, drop, bytes_eq, ◌++◌}
+use Rattle.std.proofs.Common.{◌∙◌, ◌≡◌, ◌+◌, true, false, sym, ap, subst, length, take, drop, bytes_eq, ◌++◌}
 use Rattle.opt_replay.specs.Comparing.{ComparingState, taken_by}
 use Rattle.opt_replay.proofs.Comparisons.{all_bytes, first_differs, next_came, one_byte, some_differ, takes_more}
 use Rattle.opt_replay.proofs.comparing.ComparingSink.push.Goals as goal
