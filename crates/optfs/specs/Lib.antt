@@ -11,3 +11,4 @@ pub mod Showing
 pub mod Program
 pub mod Reading
 pub mod Statuses
+pub mod Recordings

@@ -1,17 +1,23 @@
 //! Laws of what the program writes, and of disks that nothing is written to. They run nothing.
 
-ghost use Rattle.std.specs.Prelude.{◌≡◌, ℕ, List, []};
+ghost use Rattle.std.specs.Prelude.{◌≡◌, ℕ, List, [], Result};
 ghost use Rattle.opt_base.specs.Seal.{Blocks};
 ghost use Rattle.opt_geom.specs.Geometry.{Geometry};
+ghost use Rattle.opt_memdisk.specs.Choice.{ChoiceState};
+ghost use Rattle.opt_replay.specs.Replays.{Answers, Found};
+ghost use Rattle.opt_replay.specs.declared.refusal.ReplayRefusal.{ReplayRefusal};
 ghost use Rattle.opt_tree.specs.declared.command.Cmd.{Cmd};
 ghost use Rattle.opt_tree.specs.declared.command.Reply.{Reply};
 ghost use Rattle.opt_tree.specs.Points.{floor};
 ghost use Rattle.opt_session.specs.Crashes.{IsCrashConsistent};
+ghost use Rattle.opt_trace.specs.Contents.{Contents, text_of};
+ghost use Rattle.opt_trace_reader.specs.Traces as reader;
 ghost use Rattle.optfs.specs.Output.{Serves, IsTrace, contents};
 ghost use Rattle.optfs.specs.Lines.{commands_of};
 ghost use Rattle.optfs.specs.Output.{longest};
+ghost use Rattle.optfs.specs.Recordings.{IsHonestCrash, IsPlaced};
 
-use opt_stands::images_alike_below_n_stand_for_the_same;
+use opt_stands::{an_image_stands_for_one_tree, images_alike_below_n_stand_for_the_same};
 use opt_trace::equal_traces_have_equal_contents;
 
 /// Whoever has the text has the geometry, the events of the disk and how many of them are the mount's, the
@@ -33,4 +39,16 @@ pub fn a_disk_at_rest_is_crash_consistent()
         → ((k : ℕ) → floor k replies marks ≡ 0) → IsCrashConsistent n limit base [] 0 cmds replies marks }
 {
     images_alike_below_n_stand_for_the_same();
+}
+
+/// Of a whole trace that a recording wrote, a crash whose image is honest is never answered as damaged; and where a
+/// tree is found, so is a sync point that has it. So it is with each answer that a replay may give of the contents
+/// that are read from the text, at any moment and by any choice.
+pub fn a_crash_of_a_recording_is_found()
+    ensures { (g : Geometry) (seen text : List ℕ) → IsTrace (Serves g) seen text → (c : Contents) → reader.IsTrace c → text_of c ≡ text
+        → (moment : ℕ) (choice : ChoiceState) → IsHonestCrash c moment choice
+        → (answer : Result Found ReplayRefusal) → Answers c moment choice answer → IsPlaced answer }
+{
+    equal_traces_have_equal_contents();
+    an_image_stands_for_one_tree();
 }

@@ -21,7 +21,10 @@ mod tests;
 #[cfg(test)]
 mod tree_tests;
 
-pub use laws::{a_disk_at_rest_is_crash_consistent, a_text_is_served_in_one_way};
+pub use laws::{
+    a_crash_of_a_recording_is_found, a_disk_at_rest_is_crash_consistent,
+    a_text_is_served_in_one_way,
+};
 use opt_filedisk::FileBay;
 use opt_io::{ReadSource, WriteSink};
 pub use program::optfs;

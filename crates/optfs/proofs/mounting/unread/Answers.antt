@@ -1,4 +1,4 @@
-use Rattle.std.proofs.Common.{inl, sym, ap, ◌∙◌, subst, ◌<◌}
+use Rattle.std.proofs.Common.{inl, sym, ap, ◌∙◌, subst}
 use Rattle.opt_geom.specs.Geometry.{Geometry}
 use Rattle.opt_memdisk.specs.MemDisk.{MemDiskState, state_of as disk_state}
 use Rattle.optfs.specs.Disks.{HasFault, HoldsRoot}

@@ -1,5 +1,5 @@
 -- The run ends by what is told of the input.
-use Rattle.std.proofs.Common.{Result, Ok, Err, sym, subst}
+use Rattle.std.proofs.Common.{Result, sym, subst}
 use Rattle.opt_trace.specs.Contents.{Contents}
 use Rattle.opt_trace_reader.specs.declared.input.TraceRefusal.{TraceRefusal}
 use Rattle.optfs.specs.Replaying.{EndsReading}

@@ -1,5 +1,5 @@
 -- What was shown is as the showing of the image says, and then the line of its answer was told.
-use Rattle.std.proofs.Common.{Result, Ok, Err, refl, sym, ap, ◌∙◌, subst}
+use Rattle.std.proofs.Common.{Result, Err, refl, sym, ap, ◌∙◌, subst}
 use Rattle.opt_show.specs.declared.refusal.ShowRefusal.{ShowRefusal}
 use Rattle.optfs.specs.Showing.{EndsShowing}
 use Rattle.optfs.specs.declared.status.Status.TheVariants.{Done}
