@@ -14,7 +14,8 @@ use opt_tree::Reply;
 use std::alloc::Global;
 
 /// The newest of the points that a crash after `moment` events may leave whose tree has this listing. The commands of
-/// the trace are run once to find the newest point, and then again: the newest point is compared alone at first.
+/// the trace are run once, and the last points alone are compared; where none of them has it, they are run again, and
+/// all are.
 ///
 /// # Errors
 /// Out of memory.
@@ -28,10 +29,10 @@ pub fn newest_point(
     ensures { IfOk result (λ newest. IsNewest (IsListedAs text.now) (points_in trace.now) (floor_at moment trace.now) (top_at moment trace.now) newest) }
 {
     let floor = floor_by(trace.replies(), trace.marks(), moment);
-    let top = search(alloc, trace, moment, u64::MAX, text)?.last;
-    let at_top = search(alloc, trace, moment, top.max(floor), text)?;
-    if at_top.newest.is_some() || top <= floor {
-        return Ok(at_top.newest);
+    let late = last_told_by(trace.replies(), trace.marks(), moment).max(floor);
+    let at_last = search(alloc, trace, moment, late, text)?;
+    if at_last.newest.is_some() || late <= floor {
+        return Ok(at_last.newest);
     }
     let found = search(alloc, trace, moment, floor, text)?;
     Ok(found.newest)
@@ -62,6 +63,32 @@ fn search(
         i += 1;
     }
     Ok(walk.tally())
+}
+
+// The greatest point that a reply to a sync told by `moment`. From it on there are few points or none, so it decides how
+// soon a search ends. What the search finds doesn't depend on it.
+fn last_told_by(replies: &[Reply], marks: &[u64], moment: u64) -> u64 {
+    let mut greatest = 0;
+    for (reply, mark) in replies.iter().zip(marks.iter()) {
+        if *mark <= moment {
+            greatest = told_by(reply).max(greatest);
+        }
+    }
+    greatest
+}
+
+// The point that the reply to a sync tells.
+fn told_by(reply: &Reply) -> u64 {
+    match reply {
+        Reply::Synced(point) | Reply::DurableAt(point) => *point,
+        Reply::Ok
+        | Reply::Bytes(_)
+        | Reply::Stat(_)
+        | Reply::Names(_)
+        | Reply::Known(_)
+        | Reply::Bad
+        | Reply::Refused(_) => 0,
+    }
 }
 
 // The greatest point that these replies promised by `moment`.
