@@ -4,6 +4,7 @@
 use crate::Status;
 use crate::tests::{Outcome, WORDS, run_words};
 use std::alloc::Global;
+use std::process::Abort;
 use std::test::Fail;
 
 /// Two points: a file of two bytes, and then of three.
@@ -25,117 +26,78 @@ const FIRST: &[u8] = b"prefix 1\ndir / 1\nfile /a 2 2 6869\n";
 
 const SECOND: &[u8] = b"prefix 2\ndir / 1\nfile /a 2 3 68696a\n";
 
-/// What a replay of the trace of a script answers with these words.
-fn crash(
+/// What a replay of the trace of a script answers with these options.
+fn crash(alloc: Global, recording: &[&str], script: &[u8], options: &str) -> Result<Outcome, Fail> {
+    let trace = run_words(alloc, recording, script)?;
+    let mut words = Vec::new(alloc);
+    words.push("replay")?;
+    for option in options.split(' ') {
+        words.push(option)?;
+    }
+    run_words(alloc, words.as_slice(), trace.text.as_slice())
+}
+
+/// Compares the trees that crashes of a recording leave.
+fn compare(
+    rt: &impl Abort,
     alloc: Global,
     recording: &[&str],
     script: &[u8],
-    words: &[&str],
-) -> Result<Outcome, Fail> {
-    let trace = run_words(alloc, recording, script)?;
-    run_words(alloc, words, trace.text.as_slice())
+    cases: &[(&str, &[u8])],
+) -> Result<(), Fail> {
+    for (options, tree) in cases {
+        let outcome = crash(alloc, recording, script, options)?;
+        assert_eq!(rt; outcome.status, Status::Done);
+        assert_eq!(rt; outcome.text.as_slice(), *tree);
+    }
+    Ok(())
 }
 
 #[test]
 fn a_crash_leaves_the_tree_of_a_point(rt: HostRuntime) -> Result<(), Fail> {
-    let cases: [(&[u8], &[&str], &[u8]); 17] = [
-        (TWO_POINTS, &["replay", "--at", "0"], NONE),
-        (
-            TWO_POINTS,
-            &["replay", "--at", "1", "--tear", "1:500"],
-            NONE,
-        ),
-        (TWO_POINTS, &["replay", "--at", "12"], NONE),
-        (
-            TWO_POINTS,
-            &["replay", "--at", "12", "--stand", "none"],
-            NONE,
-        ),
-        (
-            TWO_POINTS,
-            &["replay", "--at", "12", "--stand", "all"],
-            SECOND,
-        ),
-        (TWO_POINTS, &["replay", "--at=8", "--stand=all"], FIRST),
-        (
-            TWO_POINTS,
-            &["replay", "--stand", "2,3,4,5,6,7", "--at", "12"],
-            FIRST,
-        ),
-        (
-            TWO_POINTS,
-            &["replay", "--at", "12", "--stand", "8,9,10,11"],
-            NONE,
-        ),
-        (
-            TWO_POINTS,
-            &["replay", "--at", "12", "--stand", "2,3,4,5,6,8,9,10,11"],
-            NONE,
-        ),
-        (
-            TWO_POINTS,
-            &["replay", "--at", "12", "--stand", "all", "--tear", "2:1"],
-            NONE,
-        ),
-        (
-            TWO_POINTS,
-            &["replay", "--at", "12", "--stand", "all", "--tear", "4:1"],
-            NONE,
-        ),
-        (
-            TWO_POINTS,
-            &["replay", "--at", "12", "--stand", "all", "--tear", "2:512"],
-            SECOND,
-        ),
-        (
-            FIRST_PROMISED,
-            &["replay", "--at", "14", "--stand", "none"],
-            FIRST,
-        ),
-        (
-            FIRST_PROMISED,
-            &["replay", "--at", "19", "--stand", "none"],
-            FIRST,
-        ),
-        (
-            FIRST_PROMISED,
-            &["replay", "--at", "19", "--stand", "all"],
-            SECOND,
-        ),
-        (
-            LOOKS_LIKE_A_RECORD,
-            &["replay", "--at", "12", "--stand", "all"],
-            b"prefix 2\ndir / 1\nfile /a 2 3 4f5054\n",
-        ),
-        (b"", &["replay", "--at", "2"], NONE),
+    let cases: [(&str, &[u8]); 13] = [
+        ("--at 0", NONE),
+        ("--at 1 --tear 1:500", NONE),
+        ("--at 12", NONE),
+        ("--at 12 --stand none", NONE),
+        ("--at 12 --stand all", SECOND),
+        ("--at=8 --stand=all", FIRST),
+        ("--stand 2,3,4,5,6,7 --at 12", FIRST),
+        ("--at 12 --stand 8,9,10,11", NONE),
+        ("--at 12 --stand 2,3,4,5,6,8,9,10,11", NONE),
+        ("--at 12 --stand all --tear 2:1", NONE),
+        ("--at 12 --stand all --tear 4:1", NONE),
+        ("--at 12 --stand all --tear 2:512", SECOND),
+        ("--at 12 --stand all --tear 11:100", FIRST),
     ];
-    for (script, words, tree) in cases {
-        let outcome = crash(rt.alloc(), &WORDS, script, words)?;
-        assert_eq!(rt; outcome.status, Status::Done);
-        assert_eq!(rt; outcome.text.as_slice(), tree);
-    }
-    Ok(())
+    compare(&rt, rt.alloc(), &WORDS, TWO_POINTS, &cases)?;
+    let promised: [(&str, &[u8]); 3] = [
+        ("--at 14 --stand none", FIRST),
+        ("--at 19 --stand none", FIRST),
+        ("--at 19 --stand all", SECOND),
+    ];
+    compare(&rt, rt.alloc(), &WORDS, FIRST_PROMISED, &promised)?;
+    let like: [(&str, &[u8]); 1] = [(
+        "--at 12 --stand all",
+        b"prefix 2\ndir / 1\nfile /a 2 3 4f5054\n",
+    )];
+    compare(&rt, rt.alloc(), &WORDS, LOOKS_LIKE_A_RECORD, &like)?;
+    compare(&rt, rt.alloc(), &WORDS, b"", &[("--at 2", NONE)])
 }
 
 #[test]
 fn a_write_that_was_lost_may_stand(rt: HostRuntime) -> Result<(), Fail> {
     let recording = ["record", "64", "16", "16", "--fail", "4"];
-    let cases: [(&[&str], &[u8]); 2] = [
-        (&["replay", "--at", "5", "--stand", "2,3,f1"], NONE),
-        (&["replay", "--at", "5", "--stand", "all"], NONE),
+    let cases: [(&str, &[u8]); 2] = [
+        ("--at 5 --stand 2,3,f1", NONE),
+        ("--at 5 --stand all", NONE),
     ];
-    for (words, tree) in cases {
-        let outcome = crash(rt.alloc(), &recording, TWO_POINTS, words)?;
-        assert_eq!(rt; outcome.status, Status::Done);
-        assert_eq!(rt; outcome.text.as_slice(), tree);
-    }
-    Ok(())
+    compare(&rt, rt.alloc(), &recording, TWO_POINTS, &cases)
 }
 
 #[test]
 fn a_home_write_may_be_torn(rt: HostRuntime) -> Result<(), Fail> {
-    let words = ["replay", "--at", "110", "--tear", "57:1"];
-    let outcome = crash(rt.alloc(), &WORDS, SHRUNK, &words)?;
+    let outcome = crash(rt.alloc(), &WORDS, SHRUNK, "--at 110 --tear 57:1")?;
     assert_eq!(rt; outcome.status, Status::Done);
     assert!(rt;
         outcome
@@ -149,15 +111,15 @@ fn a_home_write_may_be_torn(rt: HostRuntime) -> Result<(), Fail> {
 #[test]
 fn a_choice_names_pending_writes_of_the_log(rt: HostRuntime) -> Result<(), Fail> {
     // Ticket 1 is noticed by then, ticket 13 and a lost write aren't in the log.
-    let cases: [&[&str]; 5] = [
-        &["replay", "--at", "13"],
-        &["replay", "--at", "12", "--stand", "1"],
-        &["replay", "--at", "12", "--stand", "13"],
-        &["replay", "--at", "12", "--stand", "f1"],
-        &["replay", "--at", "12", "--tear", "1:5"],
+    let cases = [
+        "--at 13",
+        "--at 12 --stand 1",
+        "--at 12 --stand 13",
+        "--at 12 --stand f1",
+        "--at 12 --tear 1:5",
     ];
-    for words in cases {
-        let outcome = crash(rt.alloc(), &WORDS, TWO_POINTS, words)?;
+    for options in cases {
+        let outcome = crash(rt.alloc(), &WORDS, TWO_POINTS, options)?;
         assert_eq!(rt; outcome.status, Status::BadChoice);
         assert_eq!(rt; outcome.text.as_slice(), b"error 13 choice\n".as_slice());
     }
