@@ -1,5 +1,5 @@
 -- What becomes of the bay, once a disk of it was formatted and handed back.
-use Rattle.std.proofs.Common.{◌≡◌, ◌⊎◌, inl, inr, ℕ, ◌+◌, ◌<◌, ◌≤◌, ◌||◌, Bool, true, false, IsTrue, if◌then◌else◌, nat_lt, List, [], Option, Some, Result, Ok, Err, IfOk, OnOk, refl, sym, ap, ap₂, ◌∙◌, subst, arith}
+use Rattle.std.proofs.Common.{◌≡◌, ◌⊎◌, inl, inr, ℕ, ◌+◌, ◌<◌, ◌≤◌, ◌||◌, Bool, true, false, IsTrue, if◌then◌else◌, nat_lt, List, [], Option, Result, Ok, Err, OnOk, refl, ap, ap₂, ◌∙◌, subst, arith}
 use Rattle.opt_base.specs.Counts.{after_call, next_count}
 use Rattle.opt_disk.specs.declared.bay.BayFault.{BayFault}
 use Rattle.opt_disk.specs.declared.bay.BayFault.TheVariants as bay

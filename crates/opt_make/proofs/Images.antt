@@ -1,5 +1,5 @@
 -- What a disk of zeros leaves, once it was formatted: the image of the formatted disk.
-use Rattle.std.proofs.Common.{◌≡◌, ◌⊎◌, inl, inr, ℕ, ◌<◌, ◌≤◌, false, true, List, [], length, replicate, Option, Some, None, refl, sym, ap, ◌∙◌, subst, arith}
+use Rattle.std.proofs.Common.{◌≡◌, ◌⊎◌, inl, inr, ℕ, ◌<◌, ◌≤◌, false, true, List, [], length, replicate, Option, Some, None, sym, ap, ◌∙◌, subst, arith}
 use Rattle.std.proofs.lemmas.Bool.{cases_lt}
 use Rattle.std.proofs.lemmas.List.{get_or-replicate}
 use Rattle.opt_base.specs.Seal.{Blocks, blocks_of}
@@ -12,7 +12,6 @@ use Rattle.opt_geom.specs.Geometry.{Geometry, data_start, geometry_fits}
 use Rattle.opt_journal.specs.Formatted.{formatted}
 use Rattle.opt_tree.specs.Step.{start}
 use Rattle.opt_stands.specs.Stands.{StandsFor}
-use Rattle.opt_crash.specs.Ledger.{cells_of}
 use Rattle.opt_mount.specs.Mount.{IsIdle, settled_on}
 use Rattle.opt_store.specs.Formatting.{IsFormattedOver}
 use Rattle.opt_show.specs.Shows.{HasImage}

@@ -1,14 +1,15 @@
 //! Makes an image of the formatted disk under a name: a disk of zeros is made there and formatted, and it goes back
 //! whatever the formatting answers.
 
-ghost use Rattle.std.specs.Prelude.{◌≡◌, IsTrue, OnOk};
-ghost use Rattle.opt_disk.specs.Bay.{SameElsewhere};
+ghost use Rattle.std.specs.Prelude.{◌≡◌, IsTrue, [], Ok, Err, Result, IfOk, IfErr, OnOk};
+ghost use Rattle.opt_disk.specs.declared.bay.BayFault.{BayFault as Failure};
+ghost use Rattle.opt_disk.specs.Bay.{Closes, Makes, SameElsewhere};
 ghost use Rattle.opt_show.specs.Shows.{HasImage};
-ghost use Rattle.opt_make.specs.Makes.{HasMakeCause, IsFormattedImage, LeavesBay, answer_of};
+ghost use Rattle.opt_make.specs.Makes.{HasMakeCause, IsFormattedImage, LeavesBay, answer_of, of_bay};
 
 use crate::refusal::{MakeRefusal, of_bay, of_mkfs};
 use opt_crash::a_read_gives_what_was_written_last;
-use opt_disk::{Bay, BayFault};
+use opt_disk::Bay;
 use opt_format::the_formatted_disk_is_empty;
 use opt_geom::Geom;
 use opt_stands::the_formatted_disk_stands_for_the_root;
@@ -38,31 +39,44 @@ pub fn make_image<B: Bay>(
     the_formatted_disk_is_empty();
     the_formatted_disk_stands_for_the_root();
     a_read_gives_what_was_written_last();
+    let mut disk = make_disk(bay, name, geom)?;
+    let written = mkfs(alloc, &mut disk, geom);
+    close_made(alloc, bay, name, disk, written)
+}
+
+/// Makes a disk of zeros under the name, of as many blocks as the geometry says.
+///
+/// # Errors
+/// `Fault`, which the bay has counted, or `NoMemory`.
+fn make_disk<B: Bay>(bay: &mut B, name: &str, geom: &Geom) -> Result<B::D, MakeRefusal>
+    ensures makes { IfOk result (λ disk. Makes B.tells B.D.state name.now geom.now.n (Ok disk) (B.state bay.old) (B.state bay.new)) }
+    ensures refused { IfErr result (λ why. (fault : Failure) × (why ≡ of_bay fault) × Makes B.tells B.D.state name.now geom.now.n (Err fault) (B.state bay.old) (B.state bay.new)) }
+{
     match bay.make(name, geom.n()) {
-        Ok(mut disk) => {
-            let formatted = mkfs(alloc, &mut disk, geom);
-            let back = bay.close(name, disk, Vec::new(alloc));
-            answer_of(formatted, back)
-        }
+        Ok(disk) => Ok(disk),
         Err(fault) => Err(of_bay(fault)),
     }
 }
 
-/// The answer where the formatting and the disk's return were answered so: a refusal of the formatting counts first.
+/// Hands a disk back under the name, with no mark, and gives the answer where its formatting was answered so.
 ///
 /// # Errors
-/// The refusal for that of the formatting, or else for that of the return.
-fn answer_of(
-    formatted: Result<(), MkfsRefusal>,
-    back: Result<(), BayFault>,
+/// The refusal for that of the formatting; else `Fault`, which the bay has counted, or `NoMemory`.
+fn close_made<B: Bay>(
+    alloc: Global,
+    bay: &mut B,
+    name: &str,
+    disk: B::D,
+    written: Result<(), MkfsRefusal>,
 ) -> Result<(), MakeRefusal>
-    ensures { result ≡ answer_of formatted back }
+    ensures { (back : Result (Unit {0}) Failure) × Closes B.tells name.now (B.D.state disk) [] back (B.state bay.old) (B.state bay.new) × (result ≡ answer_of written back) }
 {
-    match formatted {
-        Ok(()) => match back {
-            Ok(()) => Ok(()),
-            Err(fault) => Err(of_bay(fault)),
-        },
-        Err(why) => Err(of_mkfs(why)),
+    let back = bay.close(name, disk, Vec::new(alloc));
+    if let Err(why) = written {
+        return Err(of_mkfs(why));
     }
+    if let Err(fault) = back {
+        return Err(of_bay(fault));
+    }
+    Ok(())
 }
