@@ -3,8 +3,10 @@
 //! `opt_format`. The rules are described in docs/FORMATTING.md, "An image under a name".
 #![tactic(auto)]
 
+mod laws;
 mod make;
 mod refusal;
 
+pub use laws::a_formatted_image_can_be_mounted;
 pub use make::make_image;
 pub use refusal::MakeRefusal;
