@@ -80,11 +80,11 @@ module _ {D : Type 0} (state : D → State) (tells : Bool) (name : List ℕ) (g 
   }
 
   -- what is under the name
-  pub made : FormattedLaws → geometry_fits g ≡ true → IsTrue tells → (IsIdle (state first) → OnOk written (IsFormattedOver g (state first) (state last))) → OnOk (answer_of written back) (HasImage (new.kept name) (IsFormattedImage g))
-  made laws fits t formats = by written back calls.spends calls.closes (formats (rests (zero_blocks g.n) (state first) (calls.makes.disk t)))
+  pub made : FormattedLaws → geometry_fits g ≡ true → data_start g ≤ g.n → IsTrue tells → (IsIdle (state first) → OnOk written (IsFormattedOver g (state first) (state last))) → OnOk (answer_of written back) (HasImage (new.kept name) (IsFormattedImage g))
+  made laws fits room t formats = by written back calls.spends calls.closes (formats (rests (zero_blocks g.n) (state first) (calls.makes.disk t)))
     where
       by : (w : Result (Unit {0}) MkfsRefusal) (b : Result (Unit {0}) BayFault) → MkfsSpends w (data_start g + 1) (state first) (state last) → Closes tells name (state last) [] b between new → OnOk w (IsFormattedOver g (state first) (state last)) → OnOk (answer_of w b) (HasImage (new.kept name) (IsFormattedImage g))
       by (Ok x) (Ok y) spent closed over =
-          under laws g fits (state first) (state last) (calls.makes.disk t) (spent.same.blocks ∙ calls.makes.size) over [] (fresh (zero_blocks g.n)) (new.kept name) (subst (λ (kept : Option Kept). TakesBack (state last) [] kept (new.kept name)) (calls.makes.kept t) (closed.kept t))
+          under laws g fits room (state first) (state last) (calls.makes.disk t) (spent.same.blocks ∙ calls.makes.size) over [] (fresh (zero_blocks g.n)) (new.kept name) (subst (λ (kept : Option Kept). TakesBack (state last) [] kept (new.kept name)) (calls.makes.kept t) (closed.kept t))
       by (Ok x) (Err _) spent closed over = tt
       by (Err _) b spent closed over = tt

@@ -1,11 +1,10 @@
 -- An image that has the formatted disk's blocks before the data can be mounted: its first header is the newest, its journal is empty, and no bit is wrong.
-use Rattle.std.proofs.Common.{◌≡◌, ◌⊎◌, inl, inr, ℕ, zero, suc, ◌+◌, ◌*◌, ◌/◌, ◌<◌, ◌≤◌, Bool, true, false, not, List, ◌&&◌, ◌||◌, nat_lt, nat_le, [], Some, None, Option, replicate, slice_index, refl, sym, ap, ◌∙◌, subst, arith}
+use Rattle.std.proofs.Common.{◌≡◌, ◌⊎◌, inl, inr, ℕ, zero, suc, ◌+◌, ◌*◌, ◌/◌, ◌<◌, ◌≤◌, Bool, true, false, not, List, ◌&&◌, ◌||◌, nat_lt, nat_le, [], Some, None, replicate, refl, sym, ap, ◌∙◌, subst, arith}
 use Rattle.std.proofs.lemmas.Bool.{cases_lt, lt-ltb, le-ltb, lt-leb}
 use Rattle.std.proofs.lemmas.Nat.{mod_below}
 use Rattle.std.proofs.lemmas.Option.{none-some, same_Some}
-use Rattle.std.specs.Int.{bit_at}
 use Rattle.opt_base.specs.Seal.{Blocks}
-use Rattle.opt_geom.specs.Geometry.{Geometry, IsGeometry, bitmap_blocks, bitmap_start, data_start, geometry_fits, ring_block, table_start}
+use Rattle.opt_geom.specs.Geometry.{Geometry, IsGeometry, bitmap_blocks, bitmap_start, data_start, geometry_fits, ring_block}
 use Rattle.opt_layout.specs.Bitmap.{bit_in, is_set}
 use Rattle.opt_bitmap.specs.Bits.{is_bad_bit}
 use Rattle.opt_journal.specs.declared.header.Header.{Header}
@@ -14,7 +13,7 @@ use Rattle.opt_journal.specs.Formatted.{empty_header, formatted}
 use Rattle.opt_journal.specs.Layout.{commit_of, header_of, is_stored}
 use Rattle.opt_journal.specs.Run.{IsRun, Newest}
 use Rattle.opt_journal.specs.Spelling.{IsHeader, fits_in, header_block}
-use Rattle.opt_recover.specs.Epoch.{IsGreatestEpoch, IsHeaderEpoch, IsRecordEpoch, is_of_record}
+use Rattle.opt_recover.specs.Epoch.{IsGreatestEpoch, is_of_record}
 use Rattle.opt_show.specs.Images.{CanBeMounted}
 
 -- What opt_format says of the formatted disk, and opt_journal of its own blocks and of those that may stand as a payload.

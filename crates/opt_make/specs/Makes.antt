@@ -8,22 +8,22 @@ use Rattle.opt_disk.specs.Disk.{State}
 use Rattle.opt_geom.specs.Geometry.{Geometry, data_start}
 use Rattle.opt_journal.specs.Formatted.{formatted}
 use Rattle.opt_tree.specs.Step.{start}
-use Rattle.opt_stands.specs.Stands.{StandsFor}
 use Rattle.opt_store.specs.declared.formatting.MkfsRefusal.{MkfsRefusal}
 use Rattle.opt_store.specs.declared.formatting.MkfsRefusal.TheVariants as mkfs
 use Rattle.opt_store.specs.Formatting.{AddsFormatting, MkfsSpends, WritesBelow}
+use Rattle.opt_show.specs.Images.{StandsMounted}
 use Rattle.opt_show.specs.Shows.{CountsFault}
 use Rattle.opt_make.specs.declared.refusal.MakeRefusal.{MakeRefusal}
 use Rattle.opt_make.specs.declared.refusal.MakeRefusal.TheVariants.{Fault, NoMemory}
 
 -- The image.
 
--- An image has as many blocks as the geometry says, and they are those of the formatted disk; its data blocks are zeros. It stands for the root alone.
+-- An image has as many blocks as the geometry says, and they are those of the formatted disk; its data blocks are zeros. It can be mounted, and stands for the root alone.
 pub record IsFormattedImage (g : Geometry) (n : ℕ) (at : Blocks) : Type 0 where
   pub size : n ≡ g.n
   pub blocks : (b : ℕ) → b < n → at b ≡ formatted g b
   pub zeros : (b : ℕ) → data_start g ≤ b → b < n → at b ≡ replicate 1024 0
-  pub stands : StandsFor n at (start g.i).tree
+  pub stands : StandsMounted n at (start g.i).tree
 
 -- The refusals.
 

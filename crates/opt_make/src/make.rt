@@ -7,6 +7,7 @@ ghost use Rattle.opt_disk.specs.Bay.{Closes, Makes, SameElsewhere};
 ghost use Rattle.opt_show.specs.Shows.{HasImage};
 ghost use Rattle.opt_make.specs.Makes.{HasMakeCause, IsFormattedImage, LeavesBay, answer_of, of_bay};
 
+use crate::laws::a_formatted_image_can_be_mounted;
 use crate::refusal::{MakeRefusal, of_bay, of_mkfs};
 use opt_crash::a_read_gives_what_was_written_last;
 use opt_disk::Bay;
@@ -38,6 +39,7 @@ pub fn make_image<B: Bay>(
     geom.lawful();
     the_formatted_disk_is_empty();
     the_formatted_disk_stands_for_the_root();
+    a_formatted_image_can_be_mounted();
     a_read_gives_what_was_written_last();
     let mut disk = make_disk(bay, name, geom)?;
     let written = mkfs(alloc, &mut disk, geom);
