@@ -1,0 +1,3 @@
+pub mod Mountable
+pub mod Images
+pub mod Bays
