@@ -1,0 +1,5 @@
+mod Lists
+mod Parts
+mod Giving
+mod Feeds
+mod Calling
