@@ -84,6 +84,10 @@ holds_of first s g m may geom map both =
 written_by : (tells unread failed : Bool) (first last : disk.State) → IsTrue tells → first.log ≡ [] → LeavesDisk tells unread failed first last → writes_in last.log ≤ first.blocks + 2
 written_by tells unread failed first last t none leaves = omega (arith, leaves.written t, ap (λ (es : List Event). writes_in es) none)
 
+-- what a mount says of the map that is settled on a disk, it says of the map that its image holds, where the disk has no event
+pub begins_at : (first : disk.State) (P : Geometry → Blocks → Type 0) → first.log ≡ [] → ((g : Geometry) (m : Blocks) → HoldsUnder first.blocks g (settled_on first) m → P g m) → (g : Geometry) (m : Blocks) → HoldsUnder first.blocks g first.base m → P g m
+begins_at first P none begins g m held = begins g m (subst (λ (x : Blocks). HoldsUnder first.blocks g x m) (sym (settled_is first none)) held)
+
 -- a store that was mounted on a disk that was just opened
 pub mounted : {D : Type 0} {k : Ghosts D} (known : D → disk.State) (tells : Bool) (first : disk.State) (store : Store D k) → IsFresh tells first → (known (disk_in store)).blocks ≡ (state_of known store).books.geom.n → IsBegun (state_of known store)
     → LeavesDisk tells false false first (known (disk_in store)) → (IsTrue tells → MayBeMounted first) → (IsTrue tells → (g : Geometry) (m : Blocks) → HoldsUnder first.blocks g (settled_on first) m → BeginsWith g m (state_of known store)) → IsMountedOn tells false first (state_of known store)
@@ -221,12 +225,12 @@ module _ (laws : StandingLaws) where
   check_says first s taken check.ReadFault h damage none = inl (keeps taken)
   check_says first s taken check.NoMemory h damage none = inl (keeps taken)
 
-  pub unopened : {D : Type 0} {k : Ghosts D} (known : D → disk.State) (tells : Bool) (first : disk.State) (s : State) (store : Store D k) (taken : Option (List ℕ)) (why : CheckRefusal)
-      → IsMountedOn tells false first s → LooksOnly tells (fails_by why) s (state_of known store) → (known (disk_in store)).blocks ≡ (state_of known store).books.geom.n
-      → (IsTrue tells → OnDamage why (IsDamaged s.books.geom s.map)) → (IsTrue tells → OnDamage why (λ _. (t : Tree) → IsTreeOf s.books.geom s.map t → ⊥)) → ShowsDisk {T = Unit {0}} tells first (known (disk_in store)) [] taken taken (Err (of_check why))
-  unopened known tells first s store taken why is looks size damage none =
-      goes_back known tells (fails_by why) first store [] taken taken (Err (of_check why)) (still_mounted tells (fails_by why) first s (state_of known store) is looks) size (check_faults why) (check_unmarked tells (known (disk_in store)) why)
-      (λ t. check_says first s taken why (is.held t) (damage t) (none t))
+  pub unopened : {D : Type 0} {k : Ghosts D} (known : D → disk.State) (tells : Bool) (first : disk.State) (store : Store D k) (taken : Option (List ℕ)) (why : CheckRefusal)
+      → IsMountedOn tells (fails_by why) first (state_of known store) → (known (disk_in store)).blocks ≡ (state_of known store).books.geom.n
+      → (IsTrue tells → OnDamage why (IsDamaged (state_of known store).books.geom (state_of known store).map)) → (IsTrue tells → OnDamage why (λ _. (t : Tree) → IsTreeOf (state_of known store).books.geom (state_of known store).map t → ⊥)) → ShowsDisk {T = Unit {0}} tells first (known (disk_in store)) [] taken taken (Err (of_check why))
+  unopened known tells first store taken why is size damage none =
+      goes_back known tells (fails_by why) first store [] taken taken (Err (of_check why)) is size (check_faults why) (check_unmarked tells (known (disk_in store)) why)
+      (λ t. check_says first (state_of known store) taken why (is.held t) (damage t) (none t))
 
   -- The listing.
 
@@ -278,14 +282,13 @@ module _ (laws : StandingLaws) where
       (subst (λ (xs : List Mark). ShowsDisk tells first (known (disk_in store)) xs before after a) (sym (marks_are ∙ ap (λ (xs : List Mark). xs ++ mark ∷ []) none))
       (listed known tells first s store mark before after a is (subst (λ (x : Store D k). LooksOnly tells (is_fault a) s (state_of known x)) (sym store_is) looks) size says mark_is session all front))
 
-  pub unopened_back : {D : Type 0} {k : Ghosts D} (known : D → disk.State) (tells : Bool) (first : disk.State) (s : State) (store : Store D k) (last : D) (marks : List Mark) (taken : Option (List ℕ)) (why : CheckRefusal) (answer : ShowRefusal)
-      → last ≡ disk_in store → marks ≡ [] → answer ≡ of_check why → IsMountedOn tells false first s → LooksOnly tells (fails_by why) s (state_of known store) → (known (disk_in store)).blocks ≡ (state_of known store).books.geom.n
-      → (IsTrue tells → OnDamage why (IsDamaged s.books.geom s.map)) → (IsTrue tells → OnDamage why (λ _. (t : Tree) → IsTreeOf s.books.geom s.map t → ⊥)) → ShowsDisk {T = Unit {0}} tells first (known last) marks taken taken (Err answer)
-  unopened_back {D = D} known tells first s store last marks taken why answer last_is none answer_is is looks size damage no_tree =
-      subst (λ (x : D). ShowsDisk {T = Unit {0}} tells first (known x) marks taken taken (Err answer)) (sym last_is)
-      (subst (λ (xs : List Mark). ShowsDisk {T = Unit {0}} tells first (known (disk_in store)) xs taken taken (Err answer)) (sym none)
+  pub unopened_back : {D : Type 0} {k : Ghosts D} (known : D → disk.State) (tells : Bool) (first : disk.State) (store : Store D k) (last : D) (taken : Option (List ℕ)) (why : CheckRefusal) (answer : ShowRefusal)
+      → last ≡ disk_in store → answer ≡ of_check why → IsMountedOn tells (fails_by why) first (state_of known store) → (known (disk_in store)).blocks ≡ (state_of known store).books.geom.n
+      → (IsTrue tells → OnDamage why (IsDamaged (state_of known store).books.geom (state_of known store).map)) → (IsTrue tells → OnDamage why (λ _. (t : Tree) → IsTreeOf (state_of known store).books.geom (state_of known store).map t → ⊥)) → ShowsDisk {T = Unit {0}} tells first (known last) [] taken taken (Err answer)
+  unopened_back {D = D} known tells first store last taken why answer last_is answer_is is size damage no_tree =
+      subst (λ (x : D). ShowsDisk {T = Unit {0}} tells first (known x) [] taken taken (Err answer)) (sym last_is)
       (subst (λ (w : ShowRefusal). ShowsDisk {T = Unit {0}} tells first (known (disk_in store)) [] taken taken (Err w)) (sym answer_is)
-      (unopened known tells first s store taken why is looks size damage no_tree)))
+      (unopened known tells first store taken why is size damage no_tree))
 
   pub unmounted_back : (tells : Bool) (first new : disk.State) (marks : List Mark) (taken : Option (List ℕ)) (why : StoreRefusal) (answer : ShowRefusal) → marks ≡ [] → answer ≡ of_store why → IsFresh tells first → ((n : ℕ) (at : Blocks) (what : ImageDamage) → HasDamage n at what → StandsForNone n at)
       → (IsTrue tells → RefusalSays first new why) → LeavesDisk tells (is_read_fault why) (is_disk_fault why) first new → ShowsDisk {T = Unit {0}} tells first new marks taken taken (Err answer)
@@ -294,9 +297,16 @@ module _ (laws : StandingLaws) where
       (subst (λ (w : ShowRefusal). ShowsDisk {T = Unit {0}} tells first new [] taken taken (Err w)) (sym answer_is)
       (unmounted tells first new taken why fresh (damaged first.blocks first.base) says leaves))
 
+-- what is said of the damage where blocks were only read, of the blocks as they are now
+pub damage_stays : (g k : Geometry) (m q : Blocks) (why : CheckRefusal) → k ≡ g → q ≡ m → OnDamage why (IsDamaged g m) → OnDamage why (IsDamaged k q)
+damage_stays g k m q why geom map damage = subst (λ (x : Geometry). OnDamage why (IsDamaged x q)) (sym geom) (subst (λ (x : Blocks). OnDamage why (IsDamaged g x)) (sym map) damage)
+
+pub none_stays : (g k : Geometry) (m q : Blocks) (why : CheckRefusal) → k ≡ g → q ≡ m → OnDamage why (λ _. (t : Tree) → IsTreeOf g m t → ⊥) → OnDamage why (λ _. (t : Tree) → IsTreeOf k q t → ⊥)
+none_stays g k m q why geom map none = subst (λ (x : Geometry). OnDamage why (λ _. (t : Tree) → IsTreeOf x q t → ⊥)) (sym geom) (subst (λ (x : Blocks). OnDamage why (λ _. (t : Tree) → IsTreeOf g x t → ⊥)) (sym map) none)
+
 -- a check pushes nothing
-pub check_pushes : (why : CheckRefusal) (answer : ShowRefusal) (n : ℕ) → answer ≡ of_check why → CountsPushes (fails_pushing {T = Unit {0}} (Err answer)) n n
-check_pushes why answer n is = (omega arith, ap (λ (failed : Bool). after_call failed n) (sym (ap (λ (w : ShowRefusal). fails_pushing {T = Unit {0}} (Err w)) is ∙ by why)))
+pub check_silent : (why : CheckRefusal) (answer : ShowRefusal) → answer ≡ of_check why → fails_pushing {T = Unit {0}} (Err answer) ≡ false
+check_silent why answer is = ap (λ (w : ShowRefusal). fails_pushing {T = Unit {0}} (Err w)) is ∙ by why
   where
     by : (why : CheckRefusal) → fails_pushing {T = Unit {0}} (Err (of_check why)) ≡ false
     by (check.Damaged what) = refl

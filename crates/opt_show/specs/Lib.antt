@@ -1,3 +1,4 @@
+pub mod Lent
 pub mod Images
 pub mod Shows
 pub mod Mounted

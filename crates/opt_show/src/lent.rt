@@ -5,7 +5,7 @@ use opt_disk::{Bay, Disk, DiskFault};
 
 /// A disk that a bay handed out. It tells where the bay does.
 #[derive(Drop)]
-pub(crate) struct LentDisk<B: Bay> {
+pub struct LentDisk<B: Bay> {
     pub(crate) disk: B::D,
 }
 

@@ -6,9 +6,16 @@
 
 mod laws;
 mod lent;
+mod mounting;
 mod refusal;
 mod show;
 
-pub use laws::{a_damaged_image_stands_for_no_tree, an_image_has_one_answer};
+pub use laws::{
+    a_damaged_image_stands_for_no_tree, an_image_has_one_answer, what_is_read_stays_mounted,
+};
+pub use lent::LentDisk;
+pub use mounting::{
+    close_lent, disk_back, mark_of, mount_lent, open_lent, room_for_a_mark, unopened,
+};
 pub use refusal::{ImageDamage, ShowRefusal};
 pub use show::show_tree;

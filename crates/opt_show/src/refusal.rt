@@ -4,6 +4,7 @@
 ghost use Rattle.std.specs.Prelude.{◌≡◌};
 ghost use Rattle.opt_show.specs.Mounted.{of_bay, of_check, of_store};
 
+use opt_base::NoMemory;
 use opt_disk::BayFault;
 use opt_fsck::{CheckRefusal, Damage};
 use opt_store::StoreRefusal;
@@ -71,6 +72,28 @@ impl fmt::Display for ShowRefusal {
 }
 
 impl Error for ShowRefusal {}
+
+impl From<NoMemory> for ShowRefusal {
+    ghost use Rattle.std.specs.Prelude.{◌≡◌};
+    ghost use Rattle.opt_show.specs.declared.refusal.ShowRefusal.TheVariants.{NoMemory as OutOfMemory};
+
+    ghost from_gives = { λ _ why. why ≡ OutOfMemory };
+
+    fn from(_want: NoMemory) -> ShowRefusal {
+        ShowRefusal::NoMemory
+    }
+}
+
+impl From<BayFault> for ShowRefusal {
+    ghost use Rattle.std.specs.Prelude.{◌≡◌};
+    ghost use Rattle.opt_show.specs.Mounted.{of_bay};
+
+    ghost from_gives = { λ fault why. why ≡ of_bay fault };
+
+    fn from(fault: BayFault) -> ShowRefusal {
+        of_bay(fault)
+    }
+}
 
 /// The refusal for a call of the bay.
 pub(crate) fn of_bay(fault: BayFault) -> ShowRefusal

@@ -19,9 +19,11 @@ ghost use Rattle.opt_show.specs.declared.refusal.ShowRefusal.TheVariants.{NoMemo
 ghost use Rattle.opt_show.specs.Mounted.{IsFresh, IsMarkOf, IsMountedOn, HasSession, ShowsDisk, answer_of, is_fault, of_bay};
 ghost use Rattle.opt_show.specs.Shows.{HasImage, HasShowCause, LeavesBay, Lists, Refuses, fails_pushing, says_nothing};
 
-use crate::laws::a_damaged_image_stands_for_no_tree;
 use crate::lent::LentDisk;
-use crate::refusal::{ShowRefusal, of_bay, of_check, of_store};
+use crate::mounting::{
+    close_lent, disk_back, mark_of, mount_lent, open_lent, room_for_a_mark, unopened,
+};
+use crate::refusal::{ShowRefusal, of_bay};
 use opt_disk::{Bay, Disk, Mark};
 use opt_fs::{Fs, ListRefusal};
 use opt_io::Sink;
@@ -53,38 +55,9 @@ pub fn show_tree<B: Bay, K: Sink>(
     ensures pushes { CountsPushes (fails_pushing result) (K.faults out.old) (K.faults out.new) }
 {
     let marks = room_for_a_mark(alloc)?;
-    let disk = open_shown(bay, name)?;
+    let disk = open_lent(bay, name)?;
     let left = show_disk(alloc, disk, marks, out);
     close_shown(bay, name, left)
-}
-
-/// No mark, with room for one.
-///
-/// # Errors
-/// Out of memory.
-fn room_for_a_mark(alloc: Global) -> Result<Vec<Mark>, ShowRefusal>
-    ensures empty { IfOk result (λ marks. marks.items ≡ []) }
-    ensures room { IfOk result (λ marks. vec_len marks < vec_capacity marks) }
-    ensures memory { IfErr result (λ why. why ≡ OutOfMemory) }
-{
-    match Vec::with_capacity(alloc, 1) {
-        Ok(marks) => Ok(marks),
-        Err(_) => Err(ShowRefusal::NoMemory),
-    }
-}
-
-/// Opens a disk on the image under the name.
-///
-/// # Errors
-/// `Fault`, which the bay has counted, or `NoMemory`.
-fn open_shown<B: Bay>(bay: &mut B, name: &str) -> Result<LentDisk<B>, ShowRefusal>
-    ensures opens { IfOk result (λ lent. Opens B.tells B.D.state name.now (Ok lent.disk) (B.state bay.old) (B.state bay.new)) }
-    ensures refused { IfErr result (λ why. (fault : Failure) × (why ≡ of_bay fault) × Opens B.tells B.D.state name.now (Err fault) (B.state bay.old) (B.state bay.new)) }
-{
-    match bay.open(name) {
-        Ok(disk) => Ok(LentDisk { disk }),
-        Err(fault) => Err(of_bay(fault)),
-    }
 }
 
 /// A disk that was shown, on its way back.
@@ -109,19 +82,12 @@ fn show_disk<D: Disk + Drop, K: Sink>(
     ensures silent { says_nothing result.answer ≡ true → out.new ≡ out.old }
     ensures pushes { CountsPushes (fails_pushing result.answer) (K.faults out.old) (K.faults out.new) }
 {
-    an_image_holds_one_map();
-    images_alike_below_n_stand_for_the_same();
-    a_damaged_image_stands_for_no_tree();
-    match Store::mount(alloc, disk) {
-        Ok(store) => {
-            // a call for its clause alone: how many blocks the disk has
-            let _ = store.disk();
-            show_store(alloc, store, marks, out)
-        }
+    match mount_lent(alloc, disk) {
+        Ok(store) => show_store(alloc, store, marks, out),
         Err((disk, why)) => Left {
             disk,
             marks,
-            answer: Err(of_store(why)),
+            answer: Err(why),
         },
     }
 }
@@ -140,16 +106,17 @@ fn show_store<D: Disk + Drop, K: Sink>(
     ensures silent { says_nothing result.answer ≡ true → out.new ≡ out.old }
     ensures pushes { CountsPushes (fails_pushing result.answer) (K.faults out.old) (K.faults out.new) }
 {
-    an_image_holds_one_map();
-    images_alike_below_n_stand_for_the_same();
     let mark = mark_of(store.disk());
     match Fs::open(alloc, store) {
         Ok(fs) => list_shown(alloc, fs, mark, marks, out),
-        Err((store, why)) => Left {
-            disk: disk_back(store),
-            marks,
-            answer: Err(of_check(why)),
-        },
+        Err((store, why)) => {
+            let (disk, why) = unopened(store, why);
+            Left {
+                disk,
+                marks,
+                answer: Err(why),
+            }
+        }
     }
 }
 
@@ -209,30 +176,6 @@ fn write_listing<D: Disk + Drop, K: Sink>(
     }
 }
 
-/// The mark of this moment.
-fn mark_of<D: Disk>(disk: &D) -> Mark
-    ensures moment { IsTrue D.tells → result.moment ≡ length (D.state disk.now).log }
-    ensures read_faults { result.read_faults ≡ (D.state disk.now).read_faults }
-    ensures faults { result.faults ≡ (D.state disk.now).faults }
-{
-    let (read_faults, faults) = disk.counts();
-    Mark {
-        moment: disk.moment(),
-        read_faults,
-        faults,
-    }
-}
-
-/// The disk of a store, which has as many blocks as the geometry says.
-fn disk_back<D: Disk + Drop>(store: Store<D>) -> D
-    ensures disk { result ≡ disk_in store }
-    ensures size { (D.state (disk_in store)).blocks ≡ (state_of D.state store).books.geom.n }
-{
-    // a call for its clause alone: how many blocks the disk has
-    let _ = store.disk();
-    store.into_disk()
-}
-
 /// Hands a disk back under the name.
 ///
 /// # Errors
@@ -241,11 +184,11 @@ fn close_shown<B: Bay>(bay: &mut B, name: &str, left: Left<LentDisk<B>>) -> Resu
     ensures { (back : Result (Unit {0}) Failure) × Closes B.tells name.now (B.D.state left.disk.disk) left.marks.items back (B.state bay.old) (B.state bay.new) × (result ≡ answer_of left.answer back) }
 {
     let Left {
-        disk: LentDisk { disk },
+        disk,
         marks,
         answer,
     } = left;
-    let back = bay.close(name, disk, marks);
+    let back = close_lent(bay, name, disk, marks);
     answer?;
     if let Err(fault) = back {
         return Err(of_bay(fault));

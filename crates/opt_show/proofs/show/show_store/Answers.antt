@@ -1,9 +1,13 @@
-use Rattle.std.proofs.Common.{false, length, List, ap, sym, ◌∙◌}
+use Rattle.std.proofs.Common.{Err, false, length, List, ap, subst, sym, ◌∙◌}
+use Rattle.opt_disk.specs.declared.bay.Mark.{Mark}
 use Rattle.opt_disk.specs.declared.event.Event.{Event}
+use Rattle.opt_blocks.specs.State.{Bookkeeping}
+use Rattle.opt_fsck.specs.Whole.{fails_by}
 use Rattle.opt_fs.specs.Opened.{blocks_in}
 use Rattle.opt_store.specs.StoreOf.{state_of}
 use Rattle.opt_tree.specs.Step.{session_on}
-use Rattle.opt_show.proofs.Steps.{check_pushes, still_mounted, unopened_back}
+use Rattle.opt_show.specs.Mounted.{ShowsDisk}
+use Rattle.opt_show.proofs.Steps.{damage_stays, none_stays, still_mounted}
 use Rattle.opt_show.proofs.show.show_store.Goals as goal
 
 pub returns-in-Ok-clause-shows : goal.returns-in-Ok-clause-shows
@@ -20,8 +24,13 @@ returns-in-Ok-clause-shows g c = λ first is.
 
 pub returns-in-Err-clause-shows : goal.returns-in-Err-clause-shows
 returns-in-Err-clause-shows g c = λ first is.
-    unopened_back (record { newest = c.an_image_holds_one_map.ensures.newest; maps = c.an_image_holds_one_map.ensures.maps; alike = c.images_alike_below_n_stand_for_the_same.ensures }) g.D.Disk.state g.D.Disk.tells first (state_of g.D.Disk.state c.args.store) c.in-Err.store
-    c.disk_back.result c.args.marks.items (g.K.Sink.taken c.args.out.now) c.in-Err.why c.of_check.result c.disk_back.ensures.disk c.requires.empty c.of_check.ensures is c.in-Err.ensures.back c.disk_back.ensures.size c.in-Err.ensures.damage c.in-Err.ensures.none
-
-pub returns-in-Err-clause-pushes : goal.returns-in-Err-clause-pushes
-returns-in-Err-clause-pushes g c = check_pushes c.in-Err.why c.of_check.result (g.K.Sink.faults c.args.out.now) c.of_check.ensures
+    let s = state_of g.D.Disk.state c.args.store in
+    let u = state_of g.D.Disk.state c.in-Err.store in
+    let why = c.in-Err.why in
+    let looks = c.in-Err.ensures.back in
+    let taken = g.K.Sink.taken c.args.out.now in
+    let geom = ap (λ (k : Bookkeeping). k.geom) looks.books in
+    subst (λ (ms : List Mark). ShowsDisk {T = Unit {0}} g.D.Disk.tells first (g.D.Disk.state c.unopened-disk.result.0) ms taken taken (Err c.unopened-disk.result.1)) (sym c.requires.empty)
+    (c.unopened-disk.ensures.back first taken (still_mounted g.D.Disk.tells (fails_by why) first s u is looks)
+    (λ t. damage_stays s.books.geom u.books.geom s.map u.map why geom (looks.map t) (c.in-Err.ensures.damage t))
+    (λ t. none_stays s.books.geom u.books.geom s.map u.map why geom (looks.map t) (c.in-Err.ensures.none t)))

@@ -1,5 +1,6 @@
 use Rattle.std.proofs.Common.{Result, subst, sym}
 use Rattle.opt_show.specs.declared.refusal.ShowRefusal.{ShowRefusal}
+use Rattle.opt_show.specs.Lent.{disk_of}
 use Rattle.opt_show.proofs.Bays.{ShowsBay, shows_bay}
 use Rattle.opt_show.proofs.show.show_tree.Given.{Over}
 use Rattle.opt_show.proofs.show.show_tree.Goals as goal
@@ -10,8 +11,8 @@ whole : (g : Over) (c : After-close_shown g) → ShowsBay g.B.Bay.tells c.args.n
 whole g c =
     let close = c.close_shown.ensures in
     subst (λ (r : Result (Unit {0}) ShowRefusal). ShowsBay g.B.Bay.tells c.args.name.now (g.K.Sink.taken c.args.out.now) (g.K.Sink.taken c.show_disk-left.new.out) c.show_disk-left.result.answer r (g.B.Bay.state c.args.bay.now) (g.B.Bay.state c.close_shown.new.bay)) (sym close.2)
-    (shows_bay g.B.D.Disk.state g.B.Bay.tells c.args.name.now (g.B.Bay.state c.args.bay.now) (g.B.Bay.state c.open_shown.new.bay) (g.B.Bay.state c.close_shown.new.bay) c.in_ok-disk.disk.disk c.show_disk-left.result.disk.disk c.show_disk-left.result.marks.items
-    (g.K.Sink.taken c.args.out.now) (g.K.Sink.taken c.show_disk-left.new.out) c.in_ok-disk.ensures.opens close.0 close.1 c.show_disk-left.result.answer c.show_disk-left.ensures.shows)
+    (shows_bay (λ lent. g.B.D.Disk.state (disk_of lent)) g.B.Bay.tells c.args.name.now (g.B.Bay.state c.args.bay.now) (g.B.Bay.state c.open_lent.new.bay) (g.B.Bay.state c.close_shown.new.bay) c.in_ok-disk.disk c.show_disk-left.result.disk c.show_disk-left.result.marks.items
+    (g.K.Sink.taken c.args.out.now) (g.K.Sink.taken c.show_disk-left.new.out) c.in_ok-disk.ensures close.0 close.1 c.show_disk-left.result.answer c.show_disk-left.ensures.shows)
 
 pub returns-clause-refused : goal.returns-clause-refused
 returns-clause-refused g c = (whole g c).refused
