@@ -1,0 +1,134 @@
+-- What becomes of the bay once a script was run over a disk of it, which went back; and where none was handed out.
+use Rattle.std.proofs.Common.{◌≡◌, ◌⊎◌, inl, inr, ℕ, ◌<◌, ◌≤◌, Bool, true, false, if◌then◌else◌, List, [], Option, None, Some, Result, Ok, Err, refl, sym, ap, ◌∙◌, subst, arith}
+use Rattle.std.proofs.lemmas.Result.{err_from_is_err_and}
+use Rattle.std.specs.Result.{IsErrAnd}
+use Rattle.opt_base.specs.Counts.{next_count}
+use Rattle.opt_disk.specs.declared.bay.Mark.{Mark}
+use Rattle.opt_disk.specs.declared.bay.BayFault.{BayFault}
+use Rattle.opt_disk.specs.declared.bay.BayFault.TheVariants as bay
+use Rattle.opt_disk.specs.Bay.{BayState, BeginsWith, Closes, Kept, Opens, has_faults}
+use Rattle.opt_disk.specs.Disk.{State}
+use Rattle.opt_show.specs.Mounted.{IsFresh}
+use Rattle.opt_show.specs.Shows.{CountsFault}
+use Rattle.opt_run.specs.declared.ending.Ending.{Ending}
+use Rattle.opt_run.specs.declared.ending.Ending.TheVariants.{End, SourceFault, LongInput}
+use Rattle.opt_run.specs.declared.ending.RunRefusal.{RunRefusal}
+use Rattle.opt_run.specs.declared.ending.RunRefusal.TheVariants.{Fault, Damaged, Spent, SinkFault, NoMemory}
+use Rattle.opt_run.specs.Refusals.{answer_of, fails_pushing, of_bay, opens_nothing}
+use Rattle.opt_run.specs.Runs.{ComesOf, ComesOfDisk, CountsFaults, HasRunCause, Streams}
+
+-- No disk was handed out.
+
+-- a refusal before a disk came says so much
+pub record RefusesUnlent (tells : Bool) (why : RunRefusal) (name : List ℕ) (old new : BayState) (streams : Streams) : Type 0 where
+  pub comes : ComesOf tells name (Err why) old new streams streams
+  pub cause : HasRunCause (Err why) old new
+  pub counts : CountsFaults (Err why) streams streams
+  pub opened : opens_nothing (Err why) ≡ false
+
+-- a bay that nothing was asked
+pub unasked : (tells : Bool) (name : List ℕ) (old : BayState) (streams : Streams) → RefusesUnlent tells NoMemory name old old streams
+unasked tells name old streams = record {
+  comes = inl (record { none = record { kept = λ t each. refl; faults = omega arith; disk_faults = refl; handed = refl; closed = refl }; same = refl; answer = inr refl });
+  cause = tt;
+  counts = record { source = omega arith; rises = omega arith; sink = refl };
+  opened = refl;
+}
+
+-- a bay that opened no disk
+pub unlent : {D : Type 0} (state : D → State) (tells : Bool) (name : List ℕ) (fault : BayFault) (old new : BayState) (streams : Streams) → Opens tells state name (Err fault) old new → RefusesUnlent tells (of_bay fault) name old new streams
+unlent state tells name bay.Fault old new streams opens = record {
+  comes = inl (record { none = record { kept = opens.kept; faults = opens.cause.0; disk_faults = opens.disk_faults; handed = opens.handed; closed = opens.closed }; same = refl; answer = inl refl });
+  cause = inl opens.cause.1;
+  counts = record { source = omega arith; rises = omega arith; sink = refl };
+  opened = refl;
+}
+unlent state tells name bay.NoMemory old new streams opens = record {
+  comes = inl (record { none = record { kept = opens.kept; faults = opens.cause.0; disk_faults = opens.disk_faults; handed = opens.handed; closed = opens.closed }; same = refl; answer = inr refl });
+  cause = tt;
+  counts = record { source = omega arith; rises = omega arith; sink = refl };
+  opened = refl;
+}
+
+-- the same of the answer as the function has it
+pub record AnswersUnlent (tells : Bool) (result : Result Ending RunRefusal) (name : List ℕ) (old new : BayState) (streams : Streams) : Type 0 where
+  pub comes : ComesOf tells name result old new streams streams
+  pub cause : HasRunCause result old new
+  pub counts : CountsFaults result streams streams
+  pub opened : opens_nothing result ≡ false
+
+answers_unlent : (tells : Bool) (result : Result Ending RunRefusal) (why : RunRefusal) (name : List ℕ) (old new : BayState) (streams : Streams) → result ≡ Err why → RefusesUnlent tells why name old new streams → AnswersUnlent tells result name old new streams
+answers_unlent tells result why name old new streams is h = subst (λ (r : Result Ending RunRefusal). AnswersUnlent tells r name old new streams) (sym is) (record { comes = h.comes; cause = h.cause; counts = h.counts; opened = h.opened })
+
+pub unasked_by : (tells : Bool) (result : Result Ending RunRefusal) (name : List ℕ) (old : BayState) (streams : Streams) → IsErrAnd result (λ w. w ≡ NoMemory) → AnswersUnlent tells result name old old streams
+unasked_by tells result name old streams is =
+    let p = err_from_is_err_and result is in
+    answers_unlent tells result NoMemory name old old streams (p.1 ∙ ap (λ (w : RunRefusal). Err w) p.2) (unasked tells name old streams)
+
+pub unlent_by : {D : Type 0} (state : D → State) (tells : Bool) (result : Result Ending RunRefusal) (name : List ℕ) (fault : BayFault) (old new : BayState) (streams : Streams) → IsErrAnd result (λ w. w ≡ of_bay fault) → Opens tells state name (Err fault) old new → AnswersUnlent tells result name old new streams
+unlent_by state tells result name fault old new streams is opens =
+    let p = err_from_is_err_and result is in
+    answers_unlent tells result (of_bay fault) name old new streams (p.1 ∙ ap (λ (w : RunRefusal). Err w) p.2) (unlent state tells name fault old new streams opens)
+
+-- A disk that was handed out.
+
+fresh_by : (kept : Option Kept) (d : State) → BeginsWith kept d → d.log ≡ []
+fresh_by None d none = absurd none
+fresh_by (Some kept) d begins = begins.log
+
+-- it has no event yet
+pub fresh : {D : Type 0} (state : D → State) (tells : Bool) (name : List ℕ) (d : D) (old new : BayState) → Opens tells state name (Ok d) old new → IsFresh tells (state d)
+fresh state tells name d old new opens = record { counts = opens.counts; nothing = λ t. fresh_by (old.kept name) (state d) (opens.disk t) }
+
+-- All that is said of a run whose disk went back.
+pub record RunsBay (tells : Bool) (name : List ℕ) (answer result : Result Ending RunRefusal) (old new : BayState) (before after : Streams) : Type 0 where
+  pub comes : ComesOf tells name result old new before after
+  pub cause : HasRunCause result old new
+  pub pushing : fails_pushing result ≡ fails_pushing answer
+  pub opened : opens_nothing result ≡ opens_nothing answer
+
+module _ {D : Type 0} (state : D → State) (tells : Bool) (name : List ℕ) (old between new : BayState) (first last : D) (marks : List Mark) (before after : Streams) (opens : Opens tells state name (Ok first) old between) where
+  comes_of : (answer : Result Ending RunRefusal) (back : Result (Unit {0}) BayFault) → ComesOfDisk tells (state first) (state last) marks answer before after → Closes tells name (state last) marks back between new → ComesOf tells name (answer_of answer back) old new before after
+  comes_of answer back comes closes = inr (record {
+    first = state first;
+    last = state last;
+    marks = marks;
+    between = between;
+    answer = answer;
+    back = back;
+    opens = record { counts = opens.counts; disk = opens.disk; kept = opens.kept; cause = opens.cause; disk_faults = opens.disk_faults; handed = opens.handed; closed = opens.closed };
+    comes = comes;
+    closes = closes;
+    answered = refl;
+  })
+
+  counted : (back : Result (Unit {0}) BayFault) (closes : Closes tells name (state last) marks back between new) (failed : Bool) → has_faults (state last) ≡ failed → new.disk_faults ≡ (if failed then next_count old.disk_faults else old.disk_faults)
+  counted back closes failed is =
+      closes.disk_faults ∙ ap (λ (t : Bool). if t then next_count between.disk_faults else between.disk_faults) is ∙ ap (λ (n : ℕ). if failed then next_count n else n) opens.disk_faults
+
+  rose : (between.faults ≤ new.faults) × ((between.faults < new.faults) ⊎ (new.faults ≡ 18446744073709551615)) → CountsFault old new
+  rose (most, inl more) = inl (inl (omega (arith, opens.cause.0, more)))
+  rose (most, inr end) = inl (inr end)
+
+  causes : (answer : Result Ending RunRefusal) (back : Result (Unit {0}) BayFault) → ComesOfDisk tells (state first) (state last) marks answer before after → Closes tells name (state last) marks back between new → HasRunCause (answer_of answer back) old new
+  causes (Ok End) (Ok y) comes closes = tt
+  causes (Ok End) (Err bay.Fault) comes closes = rose closes.cause
+  causes (Ok End) (Err bay.NoMemory) comes closes = tt
+  causes (Ok SourceFault) back comes closes = tt
+  causes (Ok LongInput) back comes closes = tt
+  causes (Err Fault) back comes closes = inr (counted back closes true comes.faults)
+  causes (Err (Damaged damage)) back comes closes = counted back closes false comes.faults
+  causes (Err Spent) back comes closes = counted back closes false comes.faults
+  causes (Err SinkFault) back comes closes = tt
+  causes (Err NoMemory) back comes closes = tt
+
+  pushing : (answer : Result Ending RunRefusal) (back : Result (Unit {0}) BayFault) → (fails_pushing (answer_of answer back) ≡ fails_pushing answer) × (opens_nothing (answer_of answer back) ≡ opens_nothing answer)
+  pushing (Ok End) (Ok y) = (refl, refl)
+  pushing (Ok End) (Err bay.Fault) = (refl, refl)
+  pushing (Ok End) (Err bay.NoMemory) = (refl, refl)
+  pushing (Ok SourceFault) back = (refl, refl)
+  pushing (Ok LongInput) back = (refl, refl)
+  pushing (Err why) back = (refl, refl)
+
+  pub runs_bay : (answer : Result Ending RunRefusal) (back : Result (Unit {0}) BayFault) → ComesOfDisk tells (state first) (state last) marks answer before after → Closes tells name (state last) marks back between new → RunsBay tells name answer (answer_of answer back) old new before after
+  runs_bay answer back comes closes = record { comes = comes_of answer back comes closes; cause = causes answer back comes closes; pushing = (pushing answer back).0; opened = (pushing answer back).1 }

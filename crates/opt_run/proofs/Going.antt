@@ -1,0 +1,134 @@
+-- A run of one command more.
+use Rattle.std.proofs.Common.{◌≡◌, ◌⊎◌, inl, inr, ℕ, ◌+◌, ◌-◌, ◌*◌, ◌^◌, ◌≤◌, Bool, true, IsTrue, List, [], ◌∷◌, ◌++◌, length, length-append, take, slice_get, Some, refl, sym, ap, ap₂, ◌∙◌, subst, arith}
+use Rattle.std.proofs.lemmas.List.{take-append-le}
+use Rattle.std.proofs.lemmas.Bool.{leb-true}
+use Rattle.opt_disk.specs.declared.bay.Mark.{Mark}
+use Rattle.opt_disk.specs.declared.event.Event.{Event}
+use Rattle.opt_disk.specs.Disk as disk
+use Rattle.opt_disk.specs.Disk.{Grows, writes_in}
+use Rattle.opt_geom.specs.Geometry.{Geometry}
+use Rattle.opt_tree.specs.declared.command.Cmd.{Cmd}
+use Rattle.opt_tree.specs.declared.command.Refusal.TheVariants as because
+use Rattle.opt_tree.specs.declared.command.Reply.{Reply}
+use Rattle.opt_tree.specs.declared.command.Reply.TheVariants.{Refused}
+use Rattle.opt_tree.specs.Step.{Session, session_on}
+use Rattle.opt_tree.specs.Tree.{Tree}
+use Rattle.opt_blocks.specs.State.{Bookkeeping, State}
+use Rattle.opt_fs.specs.Applying.{is_spent}
+use Rattle.opt_fs.specs.DiskRoom.{AnswersOn, RunsOn}
+use Rattle.opt_fs.specs.Memory.{room_of}
+use Rattle.opt_fs.specs.Room.{Room}
+use Rattle.opt_fs.specs.Sessions.{IsSession}
+use Rattle.opt_session.specs.Budget.{KeepsBudget}
+use Rattle.opt_session.specs.Serving.{HasServed}
+use Rattle.opt_run.specs.Runs.{IsSpentByNumbers, Marks, MarksGo, is_failed, is_unread}
+use Rattle.opt_run.specs.Steps.{KnownSoFar, SoFar, mark_in}
+use Rattle.opt_run.proofs.Counting.{Counted}
+use Rattle.opt_run.proofs.Lists.{get_split_at}
+
+-- runs joined
+runs_on : (g : Geometry) (f t u : Session) (r q v : Room) (cmds : List Cmd) (replies : List Reply) (more : List Cmd) (later : List Reply)
+    → RunsOn g f r cmds replies t q → RunsOn g t q more later u v → RunsOn g f r (cmds ++ more) (replies ++ later) u v
+runs_on g f t u r q v [] [] more later run next = subst (λ x. RunsOn g x r more later u v) run.0 (subst (λ y. RunsOn g t y more later u v) run.1 next)
+runs_on g f t u r q v [] (x ∷ replies) more later run next = absurd run
+runs_on g f t u r q v (c ∷ cmds) [] more later run next = absurd run
+runs_on g f t u r q v (c ∷ cmds) (x ∷ replies) more later run next = (run.0, run.1, run.2, runs_on g run.0 t u run.1 q v cmds replies more later run.3 next)
+
+-- marks with one more
+marks_on : (before mid now : Mark) (replies : List Reply) (moments : List ℕ) (marks : List Mark) (reply : Reply) (moment : ℕ)
+    → MarksGo before replies moments marks mid → Marks mid reply moment now → MarksGo before (replies ++ reply ∷ []) (moments ++ moment ∷ []) (marks ++ now ∷ []) now
+marks_on before mid now [] [] [] reply moment go next = (subst (λ (m : Mark). Marks m reply moment now) go next, refl)
+marks_on before mid now [] [] (m ∷ marks) reply moment go next = absurd go
+marks_on before mid now [] (k ∷ moments) marks reply moment go next = absurd go
+marks_on before mid now (r ∷ replies) [] marks reply moment go next = absurd go
+marks_on before mid now (r ∷ replies) (k ∷ moments) [] reply moment go next = absurd go
+marks_on before mid now (r ∷ replies) (k ∷ moments) (m ∷ marks) reply moment go next = (go.0, marks_on m mid now replies moments marks reply moment go.1 next)
+
+-- What is known of one command that was answered over blocks that tell.
+pub record Stepped (cmd : Cmd) (reply : Reply) (mark : Mark) (s u : State) : Type 0 where
+  pub serves : (g : Geometry) (t : Tree) (mounted : ℕ) (cmds : List Cmd) (replies : List Reply) (moments : List ℕ) → HasServed g t mounted cmds replies moments s → HasServed g t mounted (cmds ++ cmd ∷ []) (replies ++ reply ∷ []) (moments ++ length u.crash.log ∷ []) u
+  pub budget : (g : Geometry) (t : Tree) (mounted begun : ℕ) (cmds : List Cmd) (replies : List Reply) (moments : List ℕ) → HasServed g t mounted cmds replies moments s → KeepsBudget g t begun cmds replies s → KeepsBudget g t begun (cmds ++ cmd ∷ []) (replies ++ reply ∷ []) u
+  pub room : (f : Session) → IsSession s f → (next : Session) × IsSession u next × (u.books.geom ≡ s.books.geom) × AnswersOn s.books.geom f (room_of s) cmd reply next (room_of u)
+  pub base : u.crash.base ≡ s.crash.base
+  pub grows : Grows s.crash.log u.crash.log
+  pub turns : u.books.turns ≤ s.books.turns + 2 ^ 20
+  pub counted : (f : Session) → IsSession s f → Counted (is_unread reply) (is_failed reply) s u
+  pub stopped : (f : Session) → IsSession s f → reply ≡ Refused because.Stopped → s.books.stopped ≡ true
+  pub spent : (f : Session) → IsSession s f → reply ≡ Refused because.Spent → is_spent s.books ≡ true
+  pub is_mark : mark ≡ mark_in u
+
+module _ (first : disk.State) (cmd : Cmd) (reply : Reply) (mark : Mark) (s u : State) (cmds : List Cmd) (replies : List Reply) (marks : List Mark) (step : Stepped cmd reply mark s u) (h : KnownSoFar first cmds replies marks s) where
+  -- the first events are the same
+  front : take h.mounted u.crash.log ≡ take h.mounted s.crash.log
+  front = ap (λ (es : List Event). take h.mounted es) step.grows.log ∙ take-append-le h.mounted s.crash.log step.grows.more h.within
+
+  budget_on : KeepsBudget h.geom h.tree (writes_in (take h.mounted u.crash.log)) (cmds ++ cmd ∷ []) (replies ++ reply ∷ []) u
+  budget_on = subst (λ (es : List Event). KeepsBudget h.geom h.tree (writes_in es) (cmds ++ cmd ∷ []) (replies ++ reply ∷ []) u) (sym front)
+      (step.budget h.geom h.tree h.mounted (writes_in (take h.mounted s.crash.log)) cmds replies h.moments h.served h.budget)
+
+  -- the reply's mark, behind that of the blocks before it
+  marks_now : Marks (mark_in s) reply (length u.crash.log) (mark_in u)
+  marks_now = record {
+    moment = refl;
+    read_faults = (step.counted h.after h.session).read_faults;
+    faults = (step.counted h.after h.session).faults;
+    stopped = λ is. h.over (step.stopped h.after h.session is);
+  }
+
+  -- numbers that are used up are far
+  spent_far : (k : Bookkeeping) → is_spent k ≡ true → 2 ^ 63 - 8 ≤ k.turns
+  spent_far k is = leb-true (2 ^ 63 - 8) k.turns is
+
+  spent_on : IsSpentByNumbers h.turns (replies ++ reply ∷ [])
+  spent_on i at = by (get_split_at replies reply (Refused because.Spent) i at)
+    where
+      by : (slice_get replies i ≡ Some (Refused because.Spent)) ⊎ ((reply ≡ Refused because.Spent) × (i ≡ length replies)) → 2 ^ 63 - 8 ≤ h.turns + i * 2 ^ 20
+      by (inl earlier) = h.spent i earlier
+      by (inr now) = omega (arith, now.1, h.rises, spent_far s.books (step.spent h.after h.session now.0))
+
+  pub known_more : KnownSoFar first (cmds ++ cmd ∷ []) (replies ++ reply ∷ []) (marks ++ mark ∷ []) u
+  known_more =
+      let next = step.room h.after h.session in
+      record {
+        geom = h.geom;
+        tree = h.tree;
+        image = h.image;
+        shape = h.shape;
+        base = step.base ∙ h.base;
+        mounted = h.mounted;
+        moments = h.moments ++ length u.crash.log ∷ [];
+        served = step.serves h.geom h.tree h.mounted cmds replies h.moments h.served;
+        first_room = h.first_room;
+        begins = h.begins;
+        after = next.0;
+        session = next.1;
+        rooms = runs_on h.geom (session_on h.geom.i h.tree) h.after next.0 h.first_room (room_of s) (room_of u) cmds replies (cmd ∷ []) (reply ∷ []) h.rooms
+            (next.0, room_of u, subst (λ (g : Geometry). AnswersOn g h.after (room_of s) cmd reply next.0 (room_of u)) h.served.geom next.3, (refl, refl));
+        budget = budget_on;
+        within = omega (arith, h.within, ap (λ (es : List Event). length es) step.grows.log, length-append s.crash.log step.grows.more);
+        marked = record {
+          later = h.marked.later ++ mark ∷ [];
+          is = ap (λ (ms : List Mark). ms ++ mark ∷ []) h.marked.is;
+          go = subst (λ (m : Mark). MarksGo (record { moment = h.mounted; read_faults = 0; faults = 0 }) (replies ++ reply ∷ []) (h.moments ++ length u.crash.log ∷ []) (h.marked.later ++ m ∷ []) (mark_in u)) (sym step.is_mark)
+              (marks_on (record { moment = h.mounted; read_faults = 0; faults = 0 }) (mark_in s) (mark_in u) replies h.moments h.marked.later reply (length u.crash.log) h.marked.go marks_now);
+        };
+        over = (step.counted h.after h.session).over h.over;
+        turns = h.turns;
+        numbers = h.numbers;
+        rises = omega (arith, step.turns, h.rises, length-append replies (reply ∷ []));
+        spent = spent_on;
+      }
+
+-- the same of blocks that may tell or not
+pub more_so_far : (tells : Bool) (first : disk.State) (cmd : Cmd) (reply : Reply) (mark : Mark) (s u : State) (cmds : List Cmd) (replies : List Reply) (marks : List Mark) → (unread failed : Bool) → Counted unread failed s u → (IsTrue tells → Stepped cmd reply mark s u) → SoFar tells first cmds replies marks s
+    → SoFar tells first (cmds ++ cmd ∷ []) (replies ++ reply ∷ []) (marks ++ mark ∷ []) u
+more_so_far tells first cmd reply mark s u cmds replies marks unread failed moved step h = record {
+  blocks = ap (λ (g : Geometry). g.n) moved.geom ∙ h.blocks;
+  known = λ t. known_more first cmd reply mark s u cmds replies marks (step t) (h.known t);
+}
+
+-- the mark of blocks, by its parts
+pub is_mark_in : (mark : Mark) (s : State) → mark.moment ≡ length s.crash.log → mark.read_faults ≡ s.counts.read_faults → mark.faults ≡ s.counts.faults → mark ≡ mark_in s
+is_mark_in mark s moment reads others =
+    ap (λ (n : ℕ). record { moment = n; read_faults = mark.read_faults; faults = mark.faults }) moment
+    ∙ ap₂ (λ (r q : ℕ). record { moment = length s.crash.log; read_faults = r; faults = q }) reads others

@@ -1,0 +1,7 @@
+pub mod Lists
+pub mod Counting
+pub mod Going
+pub mod Beginning
+pub mod Finishing
+pub mod Bays
+pub mod Reading

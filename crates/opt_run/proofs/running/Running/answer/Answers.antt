@@ -1,0 +1,38 @@
+-- How a command is answered, by what the file system, the store and the disk say.
+use Rattle.std.proofs.Common.{[], ◌∷◌, ◌++◌, List, length, subst, sym, ap, ◌∙◌}
+use Rattle.opt_disk.specs.declared.bay.Mark.{Mark}
+use Rattle.opt_fs.specs.Opened.{blocks_in}
+use Rattle.opt_store.specs.StoreOf.{disk_in, state_of}
+use Rattle.opt_run.specs.Steps.{SoFar}
+use Rattle.opt_run.proofs.Beginning.{drawn}
+use Rattle.opt_run.proofs.Counting.{counts_by_reply, moved}
+use Rattle.opt_run.proofs.Going.{is_mark_in, more_so_far}
+use Rattle.opt_run.proofs.running.Running.answer.Goals as goal
+
+pub returns-clause-answers : goal.returns-clause-answers
+returns-clause-answers g c = λ first cmds replies h.
+    let known = g.D.Disk.state in
+    let tells = g.D.Disk.tells in
+    let old = blocks_in c.args.self.now.served in
+    let new = blocks_in c.apply-reply.new.self in
+    let cmd = c.args.cmd.now in
+    let reply = c.apply-reply.result in
+    let applies = c.apply-reply.ensures.applies in
+    let on = c.disk.ensures.value ∙ ap disk_in c.blocks-2.ensures in
+    let move = moved tells (λ s. state_of known s) cmd reply old new applies in
+    subst (λ (ms : List Mark). SoFar tells first (cmds ++ cmd ∷ []) (replies ++ reply ∷ []) ms (state_of known new)) (sym c.push_reserved.ensures.items)
+    (more_so_far tells first cmd reply c.mark_of-mark.result (state_of known old) (state_of known new) cmds replies c.args.self.now.marks.items move.unread move.failed move.counted (λ t. record {
+      serves = c.apply-reply.ensures.serves t (λ s. drawn known s);
+      budget = c.apply-reply.ensures.budget t;
+      room = λ f is. c.a_command_is_answered_in_a_room_that_came_back.ensures.answers t old new f cmd reply is applies;
+      base = (c.apply-reply.ensures.time t).advances.base;
+      grows = (c.apply-reply.ensures.time t).advances.grows;
+      turns = c.a_command_raises_the_numbers_little.ensures old new cmd reply applies;
+      counted = λ f session. counts_by_reply tells (λ s. state_of known s) cmd reply old new applies t c.a_tree_in_memory_refuses_for_no_disk.ensures.alone f session;
+      stopped = λ f session late. c.a_refusal_for_the_disk_has_its_cause.ensures.stopped t old new f cmd reply session applies late;
+      spent = λ f session late. c.a_refusal_for_the_disk_has_its_cause.ensures.spent t old new f cmd reply session applies late;
+      is_mark = is_mark_in c.mark_of-mark.result (state_of known new)
+          (c.mark_of-mark.ensures.moment t ∙ ap (λ d. length (known d).log) on)
+          (c.mark_of-mark.ensures.read_faults ∙ ap (λ d. (known d).read_faults) on)
+          (c.mark_of-mark.ensures.faults ∙ ap (λ d. (known d).faults) on);
+    }) h)

@@ -1,0 +1,47 @@
+-- Which refusal of a run comes of which of the layers below, and how a run is answered once its disk went back.
+use Rattle.std.specs.Prelude.{Bool, true, false, Result, Ok, Err}
+use Rattle.opt_disk.specs.declared.bay.BayFault.{BayFault}
+use Rattle.opt_disk.specs.declared.bay.BayFault.TheVariants as bay
+use Rattle.opt_show.specs.declared.refusal.ShowRefusal.{ShowRefusal}
+use Rattle.opt_show.specs.declared.refusal.ShowRefusal.TheVariants as show
+use Rattle.opt_run.specs.declared.ending.Ending.{Ending}
+use Rattle.opt_run.specs.declared.ending.Ending.TheVariants.{End, SourceFault, LongInput}
+use Rattle.opt_run.specs.declared.ending.RunRefusal.{RunRefusal}
+use Rattle.opt_run.specs.declared.ending.RunRefusal.TheVariants.{Fault, Damaged, Spent, SinkFault, NoMemory}
+
+-- the refusal for a call of the bay
+abbrev pub of_bay : BayFault → RunRefusal
+of_bay bay.Fault = Fault
+of_bay bay.NoMemory = NoMemory
+
+-- the refusal for a mount, or for the opening of the file system
+abbrev pub of_show : ShowRefusal → RunRefusal
+of_show show.Fault = Fault
+of_show (show.Damaged damage) = Damaged damage
+of_show show.Spent = Spent
+of_show show.SinkFault = SinkFault
+of_show show.NoMemory = NoMemory
+
+-- The answer where the bay answered so to the disk's return: a fault of it counts only behind the end of the input.
+abbrev pub answer_of : {T : Type 0} → Result Ending RunRefusal → Result T BayFault → Result Ending RunRefusal
+answer_of (Err why) back = Err why
+answer_of (Ok SourceFault) back = Ok SourceFault
+answer_of (Ok LongInput) back = Ok LongInput
+answer_of (Ok End) (Ok y) = Ok End
+answer_of (Ok End) (Err fault) = Err (of_bay fault)
+
+-- whether a call failed, of the bay or of the disk outside a command
+abbrev pub is_fault : RunRefusal → Bool
+is_fault Fault = true
+is_fault _ = false
+
+-- whether a push failed
+abbrev pub fails_pushing : Result Ending RunRefusal → Bool
+fails_pushing (Err SinkFault) = true
+fails_pushing _ = false
+
+-- a refusal for what is on the image, by which no file system was opened
+abbrev pub opens_nothing : Result Ending RunRefusal → Bool
+opens_nothing (Err (Damaged damage)) = true
+opens_nothing (Err Spent) = true
+opens_nothing _ = false
