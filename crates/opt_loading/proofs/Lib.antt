@@ -1,0 +1,11 @@
+pub mod Entries
+pub mod Trees
+pub mod Fullness
+pub mod Rooms
+pub mod Folds
+pub mod Commands
+pub mod Steps
+pub mod Loads
+pub mod Shape
+pub mod Found
+pub mod Mounts
