@@ -7,21 +7,19 @@ ghost use Rattle.opt_disk.specs.Bay.{HasBayCause, counted_ok};
 ghost use Rattle.opt_filedisk.specs.FileBay.{bay_of};
 ghost use Rattle.opt_filedisk.specs.FileDisk.{opened};
 
-use crate::FileDisk;
+use crate::files::{block_file, new_file};
+use crate::{FileDisk, FileFault};
 use opt_disk::{Bay, BayFault, Disk, Mark};
-use std::fs::{File, OpenOptions};
+use std::fs::File;
 use std::io;
 use std::marker::Model;
 use std::rt::HostRuntime;
-
-/// The bytes of a block.
-const BLOCK: u64 = 1024;
 
 /// A bay of image files. Contracts see its counts alone.
 #[derive(Drop)]
 pub struct FileBay {
     rt: HostRuntime,
-    why: Option<io::Error>,
+    why: Option<FileFault>,
     faults: u64,
     disk_faults: u64,
     handed: u64,
@@ -51,57 +49,48 @@ impl FileBay {
         }
     }
 
-    /// What the system said when a call failed last, for a message to people.
-    pub fn why(&self) -> Option<&io::Error> {
+    /// What the system said when a call of the bay failed last, or a call of a disk that was handed back by now, for a
+    /// message to people.
+    pub fn why(&self) -> Option<&FileFault> {
         self.why.as_ref()
     }
 
-    // Counts a failed call, and keeps what the system said.
-    fn fault(&mut self, why: io::Error) -> BayFault
+    // Keeps what the system said of the file at a path.
+    fn keep(&mut self, path: &str, why: io::Error)
+        ensures { self.new ≡ self.old }
+    {
+        self.why = Some(FileFault::new(self.rt.alloc(), path, why));
+    }
+
+    // Counts a failed call, and keeps what the system said of the file at a path.
+    fn fault(&mut self, path: &str, why: io::Error) -> BayFault
         ensures fault { result ≡ Fault }
         ensures cause { HasBayCause {T = ℕ} (Err result) self.old.faults self.new.faults }
         ensures state { self.new ≡ record self.old { faults = next_count self.old.faults } }
     {
-        self.why = Some(why);
+        self.keep(path, why);
         self.faults = self.faults.saturating_add(1);
         BayFault::Fault
     }
 
-    // Hands out the disk of a file's first blocks.
-    fn hand_out(&mut self, file: File, blocks: u32) -> Result<FileDisk, BayFault>
+    // Hands out the disk of a file's first blocks; a file that was made lies aside, at this path.
+    fn hand_out(
+        &mut self,
+        file: File,
+        blocks: u32,
+        aside: Option<String>,
+    ) -> Result<FileDisk, BayFault>
         ensures disk { IfOk result (λ disk. disk ≡ opened blocks) }
         ensures err { OnErr result (result ≡ Err NoMemory) }
         ensures state { self.new ≡ record self.old { handed = counted_ok result self.old.handed } }
     {
-        match FileDisk::new(self.rt.alloc(), file, blocks) {
+        match FileDisk::new(self.rt.alloc(), file, blocks, aside) {
             Err(_) => Err(BayFault::NoMemory),
             Ok(disk) => {
                 self.handed = self.handed.saturating_add(1);
                 Ok(disk)
             }
         }
-    }
-}
-
-// The file at a path, as it is to have so many blocks of zeros.
-fn zero_file(rt: &HostRuntime, path: &str, blocks: u32) -> io::Result<File> {
-    let mut options = OpenOptions::new();
-    options.read(true).write(true).create(true);
-    let file = options.open(rt, path)?;
-    file.set_len(0)?;
-    file.set_len(u64::from(blocks) * BLOCK)?;
-    Ok(file)
-}
-
-// The file at a path, which must be there, and how many whole blocks it has.
-fn block_file(rt: &HostRuntime, path: &str) -> io::Result<(File, u32)> {
-    let mut options = OpenOptions::new();
-    options.read(true).write(true);
-    let file = options.open(rt, path)?;
-    let blocks = file.metadata()?.len() / BLOCK;
-    match u32::try_from(blocks) {
-        Ok(blocks) => Ok((file, blocks)),
-        Err(_) => Err(io::Error::from(io::ErrorKind::FileTooLarge)),
     }
 }
 
@@ -115,26 +104,34 @@ impl Bay for FileBay {
     fn lawful(&self) {}
 
     fn make(&mut self, name: &str, blocks: u32) -> Result<FileDisk, BayFault> {
-        match zero_file(&self.rt, name, blocks) {
-            Err(why) => Err(self.fault(why)),
-            Ok(file) => self.hand_out(file, blocks),
+        match new_file(&self.rt, name, blocks) {
+            Err(why) => Err(self.fault(name, why)),
+            Ok((file, aside)) => self.hand_out(file, blocks, Some(aside)),
         }
     }
 
     fn open(&mut self, name: &str) -> Result<FileDisk, BayFault> {
         match block_file(&self.rt, name) {
-            Err(why) => Err(self.fault(why)),
-            Ok((file, blocks)) => self.hand_out(file, blocks),
+            Err(why) => Err(self.fault(name, why)),
+            Ok((file, blocks)) => self.hand_out(file, blocks, None),
         }
     }
 
-    fn close(&mut self, _name: &str, disk: FileDisk, _marks: Vec<Mark>) -> Result<(), BayFault> {
+    fn close(&mut self, name: &str, disk: FileDisk, _marks: Vec<Mark>) -> Result<(), BayFault> {
         let (read_faults, faults) = disk.counts();
         if read_faults > 0 || faults > 0 {
             self.disk_faults = self.disk_faults.saturating_add(1);
         }
-        self.closed = self.closed.saturating_add(1);
-        Ok(())
+        match disk.end(&self.rt, name) {
+            Err(why) => Err(self.fault(name, why)),
+            Ok(why) => {
+                if let Some(why) = why {
+                    self.keep(name, why);
+                }
+                self.closed = self.closed.saturating_add(1);
+                Ok(())
+            }
+        }
     }
 
     ghost told = { λ tells. tells };

@@ -7,27 +7,31 @@ ghost use Rattle.opt_disk.specs.Disk.{OnlyReads, OnlyWrites, OnlyPolls, OnlyWait
 ghost use Rattle.opt_filedisk.specs.FileDisk.{state_of, opened};
 ghost use Rattle.opt_filedisk.specs.Notices.{is_over, StaysOver};
 
+use crate::files::{BLOCK, put_in_place};
 use crate::notices::Notices;
 use opt_base::{Block, NoMemory};
 use opt_disk::{Disk, DiskFault};
 use std::alloc::Global;
-use std::fs::File;
+use std::fs::{self, File};
+use std::io;
 use std::marker::Model;
 use std::os::unix::fs::FileExt;
-
-/// The bytes of a block.
-const BLOCK: u64 = 1024;
+use std::rt::HostRuntime;
 
 /// A disk on an image file. Contracts see its numbers, and nothing of what the file holds.
 #[derive(Drop)]
 pub struct FileDisk {
     file: File,
+    /// Where the file lies until it is put in its place, if it was made.
+    aside: Option<String>,
     blocks: u32,
     last: u64,
     synced: u64,
     /// Whether a sync failed. The system may then have forgotten what it didn't write, so no later sync counts.
     is_lost: bool,
     notices: Notices,
+    /// What the system said when a call failed last.
+    why: Option<io::Error>,
     faults: u64,
     read_faults: u64,
     waits: u64,
@@ -46,25 +50,58 @@ impl Model for FileDisk {
 }
 
 impl FileDisk {
-    /// The disk of a file's first blocks, on which nothing was done.
+    /// The disk of a file's first blocks, on which nothing was done. A file that was made lies aside, at this path.
     ///
     /// # Errors
     /// Out of memory.
-    pub(crate) fn new(alloc: Global, file: File, blocks: u32) -> Result<FileDisk, NoMemory>
+    pub(crate) fn new(
+        alloc: Global,
+        file: File,
+        blocks: u32,
+        aside: Option<String>,
+    ) -> Result<FileDisk, NoMemory>
         ensures { IfOk result (λ disk. disk ≡ opened blocks) }
     {
         Ok(FileDisk {
             file,
+            aside,
             blocks,
             last: 0,
             synced: 0,
             is_lost: false,
             notices: Notices::new(alloc)?,
+            why: None,
             faults: 0,
             read_faults: 0,
             waits: 0,
             polls: 0,
         })
+    }
+
+    /// Ends the use of the file, and gives what the system said when a call failed last. A file that was made is put in
+    /// the place of that at the path, where something was written, all of it was synced, and no call failed. Else it's
+    /// gone, which is an error, and what is at the path is as it was.
+    pub(crate) fn end(self, rt: &HostRuntime, path: &str) -> io::Result<Option<io::Error>> {
+        let is_whole = self.last > 0 && self.synced == self.last && self.why.is_none();
+        let FileDisk {
+            file,
+            aside,
+            why,
+            ..
+        } = self;
+        let Some(aside) = aside else {
+            return Ok(why);
+        };
+        let placed = if is_whole {
+            put_in_place(rt, &file, aside.as_str(), path)
+        } else {
+            Err(why.unwrap_or(unfinished()))
+        };
+        if placed.is_err() {
+            let _ = fs::remove_file(rt, aside.as_str());
+        }
+        placed?;
+        Ok(None)
     }
 
     // Counts a failed call that isn't a read.
@@ -83,13 +120,19 @@ impl FileDisk {
         if self.is_lost {
             return false;
         }
-        if self.file.sync_data().is_err() {
+        if let Err(why) = self.file.sync_data() {
+            self.why = Some(why);
             self.is_lost = true;
             return false;
         }
         self.synced = self.last;
         true
     }
+}
+
+// What is said of a new image that was given up.
+fn unfinished() -> io::Error {
+    io::Error::new(io::ErrorKind::Other, "The new image wasn't finished")
 }
 
 impl Disk for FileDisk {
@@ -121,7 +164,8 @@ impl Disk for FileDisk {
         ensures spends { OnlyReads (is_err result) (state_of self.old) (state_of self.new) }
     {
         let place = u64::from(b) * BLOCK;
-        if self.file.read_exact_at(into.as_mut_slice(), place).is_err() {
+        if let Err(why) = self.file.read_exact_at(into.as_mut_slice(), place) {
+            self.why = Some(why);
             self.read_faults = self.read_faults.saturating_add(1);
             return Err(DiskFault);
         }
@@ -139,7 +183,8 @@ impl Disk for FileDisk {
         if self.last == u64::MAX {
             return Err(self.fault());
         }
-        if self.file.write_all_at(from.as_slice(), place).is_err() {
+        if let Err(why) = self.file.write_all_at(from.as_slice(), place) {
+            self.why = Some(why);
             return Err(self.fault());
         }
         self.last += 1;

@@ -5,7 +5,10 @@
 
 mod bay;
 mod disk;
+mod fault;
+mod files;
 mod notices;
 
 pub use bay::FileBay;
 pub use disk::FileDisk;
+pub use fault::FileFault;
