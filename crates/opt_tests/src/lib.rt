@@ -19,6 +19,8 @@ mod draw;
 #[cfg(test)]
 mod extent;
 #[cfg(test)]
+mod filedisk;
+#[cfg(test)]
 mod format;
 #[cfg(test)]
 mod geom;
@@ -26,6 +28,12 @@ mod geom;
 mod io;
 #[cfg(test)]
 mod journal;
+#[cfg(test)]
+mod load;
+#[cfg(test)]
+mod make;
+#[cfg(test)]
+mod membay;
 #[cfg(test)]
 mod node;
 #[cfg(test)]

@@ -534,3 +534,184 @@ fn a_tree_has_one_word(rt: HostRuntime) -> Result<(), NoMemory> {
     }
     Ok(())
 }
+
+/// The making of the image `a` with these numbers.
+fn making(
+    alloc: Global,
+    blocks: u32,
+    journal: u32,
+    nodes: u32,
+) -> Result<Option<Request>, NoMemory> {
+    let image = Word::from_str(alloc, "a")?;
+    Ok(Some(Request::Make {
+        image,
+        blocks,
+        journal,
+        nodes,
+    }))
+}
+
+#[test]
+fn a_making_has_an_image_and_three_numbers(rt: HostRuntime) -> Result<(), NoMemory> {
+    let alloc = rt.alloc();
+    let cases = [
+        ("mkfs a 64 16 16", [64, 16, 16]),
+        ("mkfs a 64 17 18", [64, 17, 18]),
+        ("mkfs a 1048576 65536 65535", [1_048_576, 65_536, 65_535]),
+        ("mkfs a 65 16 65536", [65, 16, 65_536]),
+        ("mkfs a +64 016 +0017", [64, 16, 17]),
+        ("mkfs -- a 64 16 17", [64, 16, 17]),
+        ("mkfs a -- 64 16 17", [64, 16, 17]),
+        ("mkfs a 64 16 -- 17", [64, 16, 17]),
+        ("mkfs a 64 16 17 --", [64, 16, 17]),
+    ];
+    for (text, numbers) in cases {
+        let wanted = making(alloc, numbers[0], numbers[1], numbers[2])?;
+        assert_eq!(rt; read_text(alloc, text)?, wanted);
+    }
+    let names: [(&[&str], &str); 5] = [
+        (&["mkfs", "", "64", "16", "17"], ""),
+        (&["mkfs", "64", "64", "16", "17"], "64"),
+        (&["mkfs", "mkfs", "64", "16", "17"], "mkfs"),
+        (&["mkfs", "b c", "64", "16", "17"], "b c"),
+        (&["mkfs", "--", "-x", "64", "16", "17"], "-x"),
+    ];
+    for (words, text) in names {
+        let image = Word::from_str(alloc, text)?;
+        let wanted = Request::Make {
+            image,
+            blocks: 64,
+            journal: 16,
+            nodes: 17,
+        };
+        assert_eq!(rt; read(alloc, words)?, Some(wanted));
+    }
+    Ok(())
+}
+
+#[test]
+fn other_makings_are_outside_the_grammar(rt: HostRuntime) -> Result<(), NoMemory> {
+    let cases = [
+        "mkfs",
+        "mkfs a",
+        "mkfs a 64",
+        "mkfs a 64 16",
+        "mkfs 64 16 17",
+        "mkfs a 64 16 17 18",
+        "mkfs 64 16 17 a",
+        "mkfs a 63 16 17",
+        "mkfs a 1048577 16 17",
+        "mkfs a 64 15 17",
+        "mkfs a 64 65537 17",
+        "mkfs a 64 16 15",
+        "mkfs a 64 16 65537",
+        "mkfs a 0x40 16 17",
+        "mkfs a -64 16 17",
+        "mkfs a 64 16 -17",
+        "mkfs a 64  17",
+        "mkfs -a 64 16 17",
+        "mkfs -- a 64 16 17 --",
+        "mkfs a 64 16 17 --room=5",
+        "mkfs a 64 16 17 --room 5",
+        "mkfs --image=a 64 16 17",
+        "mkfs --image a 64 16 17",
+        "mkfs a --blocks 64 16 17",
+        "Mkfs a 64 16 17",
+        "mkfs.a 64 16 17",
+        "-- mkfs a 64 16 17",
+    ];
+    for text in cases {
+        assert_eq!(rt; read_text(rt.alloc(), text)?, None);
+    }
+    Ok(())
+}
+
+#[test]
+fn a_run_has_one_word(rt: HostRuntime) -> Result<(), NoMemory> {
+    let alloc = rt.alloc();
+    let taken: [(&[&str], &str); 7] = [
+        (&["run", "a"], "a"),
+        (&["run", ""], ""),
+        (&["run", "-"], "-"),
+        (&["run", "run"], "run"),
+        (&["run", "disk.img", "--"], "disk.img"),
+        (&["run", "--", "-x"], "-x"),
+        (&["run", "--", "--"], "--"),
+    ];
+    for (words, text) in taken {
+        let image = Word::from_str(alloc, text)?;
+        let wanted = Request::Run { image };
+        assert_eq!(rt; read(alloc, words)?, Some(wanted));
+    }
+    let refused: [&[&str]; 9] = [
+        &["run"],
+        &["run", "a", "b"],
+        &["run", "--"],
+        &["run", "-x"],
+        &["run", "--image=a"],
+        &["run", "--image", "a"],
+        &["run", "a", "--room=5"],
+        &["runs", "a"],
+        &["Run", "a"],
+    ];
+    for words in refused {
+        assert_eq!(rt; read(alloc, words)?, None);
+    }
+    Ok(())
+}
+
+#[test]
+fn a_load_has_a_seed_and_a_count(rt: HostRuntime) -> Result<(), NoMemory> {
+    let cases = [
+        ("load --seed 5 --count 100", 5, 100),
+        ("load --count 100 --seed 5", 5, 100),
+        ("load --seed=5 --count=100", 5, 100),
+        ("load --count=100 --seed 5 --", 5, 100),
+        ("load --seed +5 --count 0100", 5, 100),
+        ("load --seed 0 --count 0", 0, 0),
+        ("load --seed 4294967295 --count 2000", 4_294_967_295, 2000),
+        ("load --seed 2000 --count 1", 2000, 1),
+    ];
+    for (text, seed, count) in cases {
+        let wanted = Request::Load { seed, count };
+        assert_eq!(rt; read_text(rt.alloc(), text)?, Some(wanted));
+    }
+    Ok(())
+}
+
+#[test]
+fn other_loads_are_outside_the_grammar(rt: HostRuntime) -> Result<(), NoMemory> {
+    let cases = [
+        "load",
+        "load --seed 5",
+        "load --count 100",
+        "load 5 100",
+        "load --",
+        "load --seed 5 --count",
+        "load --seed --count 100",
+        "load --seed 5 --count=",
+        "load --seed= --count 100",
+        "load --seed 4294967296 --count 1",
+        "load --seed 5 --count 2001",
+        "load --seed 5 --count 4294967297",
+        "load --seed -1 --count 1",
+        "load --seed fifo --count 1",
+        "load --seed 5 --count 1.0",
+        "load --seed 5 --count 1 --seed 5",
+        "load --seed 5 --count 1 --count=1",
+        "load --seed 5 --count 1 a",
+        "load --seed 5 -- --count 1",
+        "load --seed 5 --count 1 --room 5",
+        "load --notices 5 --count 1",
+        "load --seeds 5 --count 1",
+        "load -s 5 -c 1",
+        "Load --seed 5 --count 1",
+        "--seed 5 --count 1 load",
+        "record 64 16 16 --count 1",
+        "tree a --seed 5",
+    ];
+    for text in cases {
+        assert_eq!(rt; read_text(rt.alloc(), text)?, None);
+    }
+    Ok(())
+}

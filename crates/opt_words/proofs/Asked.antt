@@ -1,18 +1,15 @@
 -- The request of texts with their names: how it is read from what `clap` keeps, which texts ask for nothing, and the ranges.
-use Rattle.std.proofs.Common.{◌≡◌, arith, inl, inr, ◌<◌, ◌≤◌, ◌^◌, ◌&&◌, ◌||◌, ℕ, Bool, true, false, cond, List, [], ◌∷◌, Option, Some, None, refl, sym, ◌∙◌, codes, decimal, bytes_eq}
-use Rattle.std.specs.Prelude.{IfSome, find, if◌then◌else◌, nat_lt, option_and_then, option_map, slice_get, unwrap_or}
-use Rattle.std.specs.List.{list_all}
-use Rattle.std.specs.Char.{is_ascii_digit}
-use Rattle.std.specs.Str.Parse.{digits_value}
-use Rattle.std.proofs.lemmas.Bool.{and_parts, false≢true, ltb-true}
+use Rattle.std.proofs.Common.{◌≡◌, arith, inl, inr, ◌≤◌, ◌&&◌, ◌||◌, ℕ, Bool, true, false, cond, List, [], ◌∷◌, Option, Some, None, refl, sym, ◌∙◌, codes, bytes_eq}
+use Rattle.std.specs.Prelude.{IfSome, find, if◌then◌else◌, option_and_then, option_map, slice_get, unwrap_or}
+use Rattle.std.proofs.lemmas.Bool.{false≢true}
 use Rattle.clap.specs.Walk.{Row, Text, first_of}
 use Rattle.opt_memdisk.specs.Choice.{ChoiceState}
 use Rattle.opt_choice.specs.Texts.{choice_of}
-use Rattle.opt_words.specs.declared.request.Request.TheVariants.{Tree}
+use Rattle.opt_words.specs.declared.request.Request.TheVariants.{Run, Tree}
 use Rattle.opt_words.specs.declared.request.Notices.{Notices}
 use Rattle.opt_words.specs.declared.request.Notices.TheVariants.{Silent, Fifo, Seed}
 use Rattle.opt_words.specs.Program.{kept}
-use Rattle.opt_words.specs.Words.{Command, to_record, to_replay, to_show, words_of, options_of, command_of, HasSeedInRange, IsInRange, Named, are_apart, has_name, named, notices_of, number_in, record_of, recording_of, replay_at, asked, asked_apart, asked_with, request_of_texts, seed_of, text_of, value_or}
+use Rattle.opt_words.specs.Words.{Command, to_record, to_replay, to_show, to_make, to_run, to_load, words_of, options_of, command_of, HasSeedInRange, IsInRange, Named, are_apart, has_name, load_of, load_with, make_of, make_with, named, notices_of, number_in, record_of, recording_of, replay_at, asked, asked_apart, asked_with, request_of_texts, seed_of, text_of, value_or}
 use Rattle.opt_words.proofs.Apart.{rows}
 use Rattle.opt_words.proofs.Steps.{AsksNothing, Refused, has_needed}
 use Rattle.opt_words.proofs.Texts.{number_range, seed_range}
@@ -37,6 +34,9 @@ pub asked_same : (k : Command) (one other : Text → Option Text) → ((name : T
 asked_same to_record one other same = recording_same one other same
 asked_same to_replay one other same = rw (same (codes "at"), same (codes "stand"), same (codes "tear")) refl
 asked_same to_show one other same = rw (same (codes "image")) refl
+asked_same to_make one other same = rw (same (codes "image"), same (codes "blocks"), same (codes "journal"), same (codes "nodes")) refl
+asked_same to_run one other same = rw (same (codes "image")) refl
+asked_same to_load one other same = rw (same (codes "seed"), same (codes "count")) refl
 
 -- ---- texts that ask for nothing
 
@@ -49,6 +49,26 @@ lacks_nodes : (a b : Option ℕ) (d : Option Notices) (e : Option ℕ) (f : Opti
 lacks_nodes None b d e f = refl
 lacks_nodes (Some a) None d e f = refl
 lacks_nodes (Some a) (Some b) d e f = refl
+
+-- and neither is a making, or a load
+made_lacks_blocks : (a : Option Text) (c d : Option ℕ) → make_with a None c d ≡ None
+made_lacks_blocks None c d = refl
+made_lacks_blocks (Some a) c d = refl
+
+made_lacks_journal : (a : Option Text) (b d : Option ℕ) → make_with a b None d ≡ None
+made_lacks_journal None b d = refl
+made_lacks_journal (Some a) None d = refl
+made_lacks_journal (Some a) (Some b) d = refl
+
+made_lacks_nodes : (a : Option Text) (b c : Option ℕ) → make_with a b c None ≡ None
+made_lacks_nodes None b c = refl
+made_lacks_nodes (Some a) None c = refl
+made_lacks_nodes (Some a) (Some b) None = refl
+made_lacks_nodes (Some a) (Some b) (Some c) = refl
+
+load_lacks_count : (a : Option ℕ) → load_with a None ≡ None
+load_lacks_count None = refl
+load_lacks_count (Some a) = refl
 
 -- the texts in their places
 abbrev blocks_in : Option Text → Option ℕ
@@ -91,10 +111,40 @@ numbers_missing texts h = by_blocks (has_name (codes "blocks") texts) refl
     by_blocks true e = by_journal (has_name (codes "journal") texts) refl (rw e at h)
     by_blocks false e = rw (no_name texts (codes "blocks") e) refl
 
+made_missing : (texts : List Named) → has_needed to_make texts ≡ false → make_of (text_of texts) ≡ None
+made_missing texts h = go (has_name (codes "image") texts) (has_name (codes "blocks") texts) (has_name (codes "journal") texts) (has_name (codes "nodes") texts) refl refl refl refl h
+  where
+    text : Text → Option Text
+    text = text_of texts
+
+    go : (a b c d : Bool) → has_name (codes "image") texts ≡ a → has_name (codes "blocks") texts ≡ b → has_name (codes "journal") texts ≡ c → has_name (codes "nodes") texts ≡ d
+        → (a && (b && (c && d))) ≡ false → make_of text ≡ None
+    go false b c d x y z w e = rw (no_name texts (codes "image") x) refl
+    go true false c d x y z w e = rw (no_name texts (codes "blocks") y)
+        (made_lacks_blocks (text (codes "image")) (count_in (text (codes "journal"))) (count_in (text (codes "nodes"))))
+    go true true false d x y z w e = rw (no_name texts (codes "journal") z)
+        (made_lacks_journal (text (codes "image")) (blocks_in (text (codes "blocks"))) (count_in (text (codes "nodes"))))
+    go true true true false x y z w e = rw (no_name texts (codes "nodes") w)
+        (made_lacks_nodes (text (codes "image")) (blocks_in (text (codes "blocks"))) (count_in (text (codes "journal"))))
+    go true true true true x y z w e = absurd (false≢true (sym e))
+
+load_missing : (texts : List Named) → has_needed to_load texts ≡ false → load_of (text_of texts) ≡ None
+load_missing texts h = go (has_name (codes "seed") texts) refl h
+  where
+    text : Text → Option Text
+    text = text_of texts
+
+    go : (a : Bool) → has_name (codes "seed") texts ≡ a → (a && has_name (codes "count") texts) ≡ false → load_of text ≡ None
+    go false x e = rw (no_name texts (codes "seed") x) refl
+    go true x e = rw (no_name texts (codes "count") e) (load_lacks_count (option_and_then (number_in 0 4294967295) (text (codes "seed"))))
+
 needed_missing : (k : Command) (texts : List Named) → has_needed k texts ≡ false → asked k (text_of texts) ≡ None
 needed_missing to_record texts h = numbers_missing texts h
 needed_missing to_replay texts h = rw (no_name texts (codes "at") h) refl
 needed_missing to_show texts h = rw (no_name texts (codes "image") h) refl
+needed_missing to_make texts h = made_missing texts h
+needed_missing to_run texts h = rw (no_name texts (codes "image") h) refl
+needed_missing to_load texts h = load_missing texts h
 
 pub refused_none : (k : Command) (want : Option (List Named)) → Refused k want → option_and_then (asked_apart k) want ≡ None
 refused_none k None refused = refl
@@ -154,6 +204,19 @@ replay_range None choice range = tt
 replay_range (Some n) None range = tt
 replay_range (Some n) (Some choice) range = range.1
 
+make_range : (a : Option Text) (b c d : Option ℕ) → IfSome b (λ n. (64 ≤ n) × (n ≤ 1048576)) → IfSome c (λ n. (16 ≤ n) × (n ≤ 65536)) → IfSome d (λ n. (16 ≤ n) × (n ≤ 65536))
+    → IsInRange (make_with a b c d)
+make_range None b c d hb hc hd = tt
+make_range (Some a) None c d hb hc hd = tt
+make_range (Some a) (Some b) None d hb hc hd = tt
+make_range (Some a) (Some b) (Some c) None hb hc hd = tt
+make_range (Some a) (Some b) (Some c) (Some d) hb hc hd = (hb.0, hb.1, hc.0, hc.1, hd.0, hd.1)
+
+load_range : (a b : Option ℕ) → IfSome a (λ n. (0 ≤ n) × (n ≤ 4294967295)) → IfSome b (λ n. (0 ≤ n) × (n ≤ 2000)) → IsInRange (load_with a b)
+load_range None b ha hb = tt
+load_range (Some a) None ha hb = tt
+load_range (Some a) (Some b) ha hb = (ha.1, hb.1)
+
 pub asked_range : (words : List Text) → IsInRange (request_of_texts words)
 asked_range [] = tt
 asked_range (name ∷ words) = by_command (command_of name)
@@ -167,6 +230,15 @@ asked_range (name ∷ words) = by_command (command_of name)
         by_image : (o : Option Text) → IsInRange (option_map (λ image. Tree image) o)
         by_image None = tt
         by_image (Some image) = tt
+    text_range to_make text = make_range (text (codes "image")) _ _ _ (given_range 64 1048576 (text (codes "blocks")))
+        (given_range 16 65536 (text (codes "journal"))) (given_range 16 65536 (text (codes "nodes")))
+    text_range to_run text = by_image (text (codes "image"))
+      where
+        by_image : (o : Option Text) → IsInRange (option_map (λ image. Run image) o)
+        by_image None = tt
+        by_image (Some image) = tt
+    text_range to_load text = load_range (option_and_then (number_in 0 4294967295) (text (codes "seed"))) (option_and_then (number_in 0 2000) (text (codes "count")))
+        (given_range 0 4294967295 (text (codes "seed"))) (given_range 0 2000 (text (codes "count")))
 
     apart_range : (k : Command) (b : Bool) (texts : List Named) → IsInRange (if b then asked k (text_of texts) else None)
     apart_range k true texts = text_range k (text_of texts)

@@ -11,7 +11,7 @@ use Rattle.clap.specs.Simple.{Shape, built, entered, names_of, subcommand_of}
 use Rattle.clap.proofs.WalkLemmas.{walk_stopped}
 use Rattle.clap.proofs.FaultLemmas.{stopped_fault}
 use Rattle.opt_words.specs.Program.{program}
-use Rattle.opt_words.specs.Words.{Command, to_record, to_replay, to_show, name_of, words_of, options_of, command_of, Named, are_apart, named}
+use Rattle.opt_words.specs.Words.{Command, to_record, to_replay, to_show, to_make, to_run, to_load, name_of, words_of, options_of, command_of, Named, are_apart, named}
 use Rattle.opt_words.proofs.Apart.{rows}
 use Rattle.opt_words.proofs.Steps.{is_clean, unclean_first, or_else_nil, AsksNothing, Fate}
 use Rattle.opt_words.proofs.Walk.{faults_from, rows_from, none_yet, words_go}
@@ -120,6 +120,9 @@ unfolding defaults_fault
 end_is to_record words = refl
 end_is to_replay words = refl
 end_is to_show words = refl
+end_is to_make words = refl
+end_is to_run words = refl
+end_is to_load words = refl
 
 command_faults : (k : Command) (words : List Text) → is_clean (faults_behind [] (stopped_with k []) words) ≡ is_clean (faults_from k none_yet words)
 command_faults k words =
@@ -131,6 +134,9 @@ found_is : (k : Command) (words : List Text) → entered (built program) (Some (
 found_is to_record words = refl
 found_is to_replay words = refl
 found_is to_show words = refl
+found_is to_make words = refl
+found_is to_run words = refl
+found_is to_load words = refl
 
 command_found : (k : Command) (words : List Text) → entered (built program) (fold (walked top.rules names) (stopped_with k []) words).stopped
     ≡ Some (name_of k, rows_from k none_yet words)
@@ -141,11 +147,19 @@ command_found k words = ap (λ (w : Walk). entered (built program) w.stopped) (c
 pub line_goes : (words : List Text) → LineFate (is_clean (fault_of program words)) (subcommand_of program words) (from_line words)
 unfolding walked walk_fault defaults_fault
 line_goes [] = tt
-line_goes (word ∷ words) = by_names (bytes_eq (codes "record") word) (bytes_eq (codes "replay") word) (bytes_eq (codes "tree") word)
+line_goes (word ∷ words) =
+    by_names (bytes_eq (codes "record") word) (bytes_eq (codes "replay") word) (bytes_eq (codes "tree") word)
+    (bytes_eq (codes "mkfs") word) (bytes_eq (codes "run") word) (bytes_eq (codes "load") word)
   where
-    name_by : Bool → Bool → Bool → Option Text
-    name_by a b c = option_map (λ (s : Text × List Text). s.0)
-        (cond (a || false) (Some (codes "record", [])) (cond (b || false) (Some (codes "replay", [])) (cond (c || false) (Some (codes "tree", [])) None)))
+    name_by : Bool → Bool → Bool → Bool → Bool → Bool → Option Text
+    name_by a b c d e f = option_map (λ (s : Text × List Text). s.0)
+        (cond (a || false) (Some (codes "record", [])) (cond (b || false) (Some (codes "replay", [])) (cond (c || false) (Some (codes "tree", []))
+        (cond (d || false) (Some (codes "mkfs", [])) (cond (e || false) (Some (codes "run", [])) (cond (f || false) (Some (codes "load", [])) None))))))
+
+    command_by : Bool → Bool → Bool → Bool → Bool → Bool → Option Command
+    command_by a b c d e f =
+        if a then Some to_record else if b then Some to_replay else if c then Some to_show
+        else if d then Some to_make else if e then Some to_run else if f then Some to_load else None
 
     met : Option Text → Held × Step
     met name = subcommand_or_other top.rules name idle 1 word nothing_held
@@ -171,10 +185,13 @@ line_goes (word ∷ words) = by_names (bytes_eq (codes "record") word) (bytes_eq
         subst (λ (b : Bool). LineFate b sub (behind_command words k)) (sym (command_faults k words))
         (of_fate k (is_clean (faults_from k none_yet words)) sub (rows_from k none_yet words) (named (options_of k) words None (words_of k)) (command_found k words) (words_go k words))
 
-    by_names : (a b c : Bool) → LineGoes (name_by a b c) (option_and_then (behind_command words) (if a then Some to_record else if b then Some to_replay else if c then Some to_show else None))
-    by_names true b c = command_goes to_record
-    by_names false true c = command_goes to_replay
-    by_names false false true = command_goes to_show
-    by_names false false false =
+    by_names : (a b c d e f : Bool) → LineGoes (name_by a b c d e f) (option_and_then (behind_command words) (command_by a b c d e f))
+    by_names true b c d e f = command_goes to_record
+    by_names false true c d e f = command_goes to_replay
+    by_names false false true d e f = command_goes to_show
+    by_names false false false true e f = command_goes to_make
+    by_names false false false false true f = command_goes to_run
+    by_names false false false false false true = command_goes to_load
+    by_names false false false false false false =
         subst (λ (b : Bool). LineFate b (entered (built program) (fold (walked top.rules names) (next None) words).stopped) None)
         (sym (other_refused (bytes_eq word (codes "--")) word words)) tt

@@ -17,7 +17,7 @@ use Rattle.clap.proofs.OnLiterals.{clap_on_literals}
 use Rattle.clap.proofs.WalkLemmas.{first_value-rows}
 use Rattle.opt_words.specs.declared.request.Request.{Request}
 use Rattle.opt_words.specs.Program.{bare, program}
-use Rattle.opt_words.specs.Words.{Command as Wanted, to_record, to_replay, to_show, name_of, words_of, options_of, command_of, Named, named, asked, asked_apart, asked_by, asked_with, request_of_texts, text_of}
+use Rattle.opt_words.specs.Words.{Command as Wanted, to_record, to_replay, to_show, to_make, to_run, to_load, name_of, words_of, options_of, command_of, Named, named, asked, asked_apart, asked_by, asked_with, request_of_texts, text_of}
 use Rattle.opt_words.proofs.Apart.{rows}
 use Rattle.opt_words.proofs.Asked.{first_is, asked_same, refused_none}
 use Rattle.opt_words.proofs.Line.{LineFate, LineRefused, behind_command, from_line, line_goes}
@@ -106,6 +106,9 @@ named_command : (k : Wanted) → command_of (name_of k) ≡ Some k
 named_command to_record = refl
 named_command to_replay = refl
 named_command to_show = refl
+named_command to_make = refl
+named_command to_run = refl
+named_command to_load = refl
 
 -- what is read of them is the request
 pub read_request : (words : List Text) (sub : Option (Text × List Row)) (name : Text) (found : Found) (result : Option Request)

@@ -15,8 +15,8 @@ use Rattle.clap.specs.Takes.{is_given}
 use Rattle.clap.specs.declared.builder.value_parser.Reading.TheVariants.{AsWritten}
 use Rattle.clap.specs.declared.error.kind.ErrorKind.TheVariants.{ArgumentConflict}
 use Rattle.clap.specs.declared.parser.matches.ValueSource.TheVariants.{CommandLine}
-use Rattle.opt_words.specs.Program.{recording, replaying, showing, kept}
-use Rattle.opt_words.specs.Words.{Command, to_record, to_replay, to_show, name_of, Named, has_name, are_apart}
+use Rattle.opt_words.specs.Program.{loading, making, recording, replaying, running, showing, kept}
+use Rattle.opt_words.specs.Words.{Command, to_record, to_replay, to_show, to_make, to_run, to_load, name_of, Named, has_name, are_apart}
 use Rattle.opt_words.proofs.Apart.{rows, has_row_is, without_fresh, with_fresh, apart_repeat, apart_more}
 
 -- ---- lists of kinds
@@ -51,6 +51,9 @@ abbrev pub made : Command → App
 made to_record = recording
 made to_replay = replaying
 made to_show = showing
+made to_make = making
+made to_run = running
+made to_load = loading
 
 abbrev pub rules : Command → List Rule
 rules k = filled_from 1 (made k).top.rules
@@ -126,6 +129,27 @@ tear_is = record { fault = λ word rs. refl; keeps = λ word rs. refl; lacks = �
 
 pub image_is : IsArg to_show (codes "image")
 image_is = record { fault = λ word rs. refl; keeps = λ word rs. refl; lacks = λ rs. refl; takes = λ word rs. refl }
+
+pub made_image_is : IsArg to_make (codes "image")
+made_image_is = record { fault = λ word rs. refl; keeps = λ word rs. refl; lacks = λ rs. refl; takes = λ word rs. refl }
+
+pub made_blocks_is : IsArg to_make (codes "blocks")
+made_blocks_is = record { fault = λ word rs. refl; keeps = λ word rs. refl; lacks = λ rs. refl; takes = λ word rs. refl }
+
+pub made_journal_is : IsArg to_make (codes "journal")
+made_journal_is = record { fault = λ word rs. refl; keeps = λ word rs. refl; lacks = λ rs. refl; takes = λ word rs. refl }
+
+pub made_nodes_is : IsArg to_make (codes "nodes")
+made_nodes_is = record { fault = λ word rs. refl; keeps = λ word rs. refl; lacks = λ rs. refl; takes = λ word rs. refl }
+
+pub run_image_is : IsArg to_run (codes "image")
+run_image_is = record { fault = λ word rs. refl; keeps = λ word rs. refl; lacks = λ rs. refl; takes = λ word rs. refl }
+
+pub seed_is : IsArg to_load (codes "seed")
+seed_is = record { fault = λ word rs. refl; keeps = λ word rs. refl; lacks = λ rs. refl; takes = λ word rs. refl }
+
+pub count_is : IsArg to_load (codes "count")
+count_is = record { fault = λ word rs. refl; keeps = λ word rs. refl; lacks = λ rs. refl; takes = λ word rs. refl }
 
 -- ---- the text whose word was the last is kept, unless its name stands before
 
@@ -209,12 +233,18 @@ pub no_defaults_in : (k : Command) → no_defaults (rules k) ≡ true
 no_defaults_in to_record = refl
 no_defaults_in to_replay = refl
 no_defaults_in to_show = refl
+no_defaults_in to_make = refl
+no_defaults_in to_run = refl
+no_defaults_in to_load = refl
 
 -- what must stand is there
 abbrev pub has_needed : Command → List Named → Bool
 has_needed to_record texts = has_name (codes "blocks") texts && (has_name (codes "journal") texts && has_name (codes "nodes") texts)
 has_needed to_replay texts = has_name (codes "at") texts
 has_needed to_show texts = has_name (codes "image") texts
+has_needed to_make texts = has_name (codes "image") texts && (has_name (codes "blocks") texts && (has_name (codes "journal") texts && has_name (codes "nodes") texts))
+has_needed to_run texts = has_name (codes "image") texts
+has_needed to_load texts = has_name (codes "seed") texts && has_name (codes "count") texts
 
 check_is : (k : Command) (texts : List Named) → is_clean (check_fault (shape k) (rows texts) false) ≡ has_needed k texts
 check_is to_record texts =
@@ -228,6 +258,25 @@ check_is to_record texts =
     go false b c = refl
 check_is to_replay texts = check_one (is_given (codes "at") (rows texts)) ∙ given_is (codes "at") texts
 check_is to_show texts = check_one (is_given (codes "image") (rows texts)) ∙ given_is (codes "image") texts
+check_is to_make texts =
+    go (is_given (codes "image") (rows texts)) (is_given (codes "blocks") (rows texts)) (is_given (codes "journal") (rows texts)) (is_given (codes "nodes") (rows texts))
+    ∙ rw (given_is (codes "image") texts, given_is (codes "blocks") texts, given_is (codes "journal") texts, given_is (codes "nodes") texts) refl
+  where
+    go : (a b c d : Bool) → is_clean (check_kinds false false (not a || (not b || (not c || (not d || false))))) ≡ (a && (b && (c && d)))
+    go true true true true = refl
+    go true true true false = refl
+    go true true false d = refl
+    go true false c d = refl
+    go false b c d = refl
+check_is to_run texts = check_one (is_given (codes "image") (rows texts)) ∙ given_is (codes "image") texts
+check_is to_load texts =
+    go (is_given (codes "seed") (rows texts)) (is_given (codes "count") (rows texts))
+    ∙ rw (given_is (codes "seed") texts, given_is (codes "count") texts) refl
+  where
+    go : (a b : Bool) → is_clean (check_kinds false false (not a || (not b || false))) ≡ (a && b)
+    go true true = refl
+    go true false = refl
+    go false b = refl
 
 -- the faults of the end
 abbrev pub end_faults : Command → Held → Kinds

@@ -12,9 +12,9 @@ use Rattle.clap.specs.Faults.{turn_fault, walk_fault, settle_fault, flags_fault,
 use Rattle.clap.specs.Walk.{Held, Row, Rule, Step, Text, Waiting, Walk, bundle_met, finished, settled, walked, after_flag, after_step, arg_by_id, arg_by_long, arg_by_short, bundle_step, long_met, long_or_other, idle, option, plain_word, pushed, value, trailing, short_or_plain, takes_values, plain as plain_outcome}
 use Rattle.clap.specs.Simple.{new_rule}
 use Rattle.clap.specs.declared.error.kind.ErrorKind.TheVariants.{TooManyValues}
-use Rattle.opt_words.specs.Words.{Command, to_record, to_replay, to_show, words_of, options_of, Named, is_flag, before, with_next, with_option, with_word, placed, named, are_apart}
+use Rattle.opt_words.specs.Words.{Command, to_record, to_replay, to_show, to_make, to_run, to_load, words_of, options_of, Named, is_flag, before, with_next, with_option, with_word, placed, named, are_apart}
 use Rattle.opt_words.proofs.Apart.{rows}
-use Rattle.opt_words.proofs.Steps.{is_clean, unclean_first, unclean_second, clean_first, or_else_nil, or_else_assoc, shape, rules, held_at, at, pends, listed, IsArg, blocks_is, journal_is, nodes_is, notices_is, room_is, fail_is, at_is, stand_is, tear_is, image_is, IsKept, IsRepeated, settles, end_faults, Refused, Fate, behind, ends}
+use Rattle.opt_words.proofs.Steps.{is_clean, unclean_first, unclean_second, clean_first, or_else_nil, or_else_assoc, shape, rules, held_at, at, pends, listed, IsArg, blocks_is, journal_is, nodes_is, notices_is, room_is, fail_is, at_is, stand_is, tear_is, image_is, made_image_is, made_blocks_is, made_journal_is, made_nodes_is, run_image_is, seed_is, count_is, IsKept, IsRepeated, settles, end_faults, Refused, Fate, behind, ends}
 
 -- ---- the words that are left
 
@@ -66,25 +66,40 @@ data Place : Type 0 where
   first : Place
   second : Place
   third : Place
+  fourth : Place
   past : Place
 
 abbrev position : Place → ℕ
 position first = 1
 position second = 2
 position third = 3
-position past = 4
+position fourth = 4
+position past = 5
 
 -- the names of the words that are still to come
 abbrev names_from : Command → Place → List Text
 names_from to_record first = words_of to_record
 names_from to_record second = codes "journal" ∷ codes "nodes" ∷ []
 names_from to_record third = codes "nodes" ∷ []
+names_from to_record fourth = []
 names_from to_record past = []
 names_from to_replay place = []
 names_from to_show first = words_of to_show
 names_from to_show second = []
 names_from to_show third = []
+names_from to_show fourth = []
 names_from to_show past = []
+names_from to_make first = words_of to_make
+names_from to_make second = codes "blocks" ∷ codes "journal" ∷ codes "nodes" ∷ []
+names_from to_make third = codes "journal" ∷ codes "nodes" ∷ []
+names_from to_make fourth = codes "nodes" ∷ []
+names_from to_make past = []
+names_from to_run first = words_of to_run
+names_from to_run second = []
+names_from to_run third = []
+names_from to_run fourth = []
+names_from to_run past = []
+names_from to_load place = []
 
 -- the walk over these words finds what `rest` says of them, wherever it stands
 abbrev Later : Command → Bool → List Text → (List Text → Option (List Named)) → Type 0
@@ -155,7 +170,8 @@ number_turn to_record true second texts pending arg apart word words rest later 
     (number_goes to_record true (codes "journal") journal_is third texts pending arg apart word words rest later)
 number_turn to_record true third texts pending arg apart word words rest later =
     by_pending to_record (is_last (codes "nodes") (pends pending)) true (codes "nodes") word (held_at texts (pends pending)) 4 words _
-    (number_goes to_record true (codes "nodes") nodes_is past texts pending arg apart word words rest later)
+    (number_goes to_record true (codes "nodes") nodes_is fourth texts pending arg apart word words rest later)
+number_turn to_record true fourth texts pending arg apart word words rest later = tt
 number_turn to_record true past texts pending arg apart word words rest later = tt
 number_turn to_record false first texts pending arg apart word words rest later =
     by_pending to_record (is_last (codes "blocks") (pends pending)) false (codes "blocks") word (held_at texts (pends pending)) 2 words _
@@ -165,7 +181,8 @@ number_turn to_record false second texts pending arg apart word words rest later
     (number_goes to_record false (codes "journal") journal_is third texts pending arg apart word words rest later)
 number_turn to_record false third texts pending arg apart word words rest later =
     by_pending to_record (is_last (codes "nodes") (pends pending)) false (codes "nodes") word (held_at texts (pends pending)) 4 words _
-    (number_goes to_record false (codes "nodes") nodes_is past texts pending arg apart word words rest later)
+    (number_goes to_record false (codes "nodes") nodes_is fourth texts pending arg apart word words rest later)
+number_turn to_record false fourth texts pending arg apart word words rest later = tt
 number_turn to_record false past texts pending arg apart word words rest later = tt
 number_turn to_replay true place texts pending arg apart word words rest later = tt
 number_turn to_replay false place texts pending arg apart word words rest later = tt
@@ -174,13 +191,57 @@ number_turn to_show true first texts pending arg apart word words rest later =
     (number_goes to_show true (codes "image") image_is second texts pending arg apart word words rest later)
 number_turn to_show true second texts pending arg apart word words rest later = tt
 number_turn to_show true third texts pending arg apart word words rest later = tt
+number_turn to_show true fourth texts pending arg apart word words rest later = tt
 number_turn to_show true past texts pending arg apart word words rest later = tt
 number_turn to_show false first texts pending arg apart word words rest later =
     by_pending to_show (is_last (codes "image") (pends pending)) false (codes "image") word (held_at texts (pends pending)) 2 words _
     (number_goes to_show false (codes "image") image_is second texts pending arg apart word words rest later)
 number_turn to_show false second texts pending arg apart word words rest later = tt
 number_turn to_show false third texts pending arg apart word words rest later = tt
+number_turn to_show false fourth texts pending arg apart word words rest later = tt
 number_turn to_show false past texts pending arg apart word words rest later = tt
+number_turn to_make true first texts pending arg apart word words rest later =
+    by_pending to_make (is_last (codes "image") (pends pending)) true (codes "image") word (held_at texts (pends pending)) 2 words _
+    (number_goes to_make true (codes "image") made_image_is second texts pending arg apart word words rest later)
+number_turn to_make true second texts pending arg apart word words rest later =
+    by_pending to_make (is_last (codes "blocks") (pends pending)) true (codes "blocks") word (held_at texts (pends pending)) 3 words _
+    (number_goes to_make true (codes "blocks") made_blocks_is third texts pending arg apart word words rest later)
+number_turn to_make true third texts pending arg apart word words rest later =
+    by_pending to_make (is_last (codes "journal") (pends pending)) true (codes "journal") word (held_at texts (pends pending)) 4 words _
+    (number_goes to_make true (codes "journal") made_journal_is fourth texts pending arg apart word words rest later)
+number_turn to_make true fourth texts pending arg apart word words rest later =
+    by_pending to_make (is_last (codes "nodes") (pends pending)) true (codes "nodes") word (held_at texts (pends pending)) 5 words _
+    (number_goes to_make true (codes "nodes") made_nodes_is past texts pending arg apart word words rest later)
+number_turn to_make true past texts pending arg apart word words rest later = tt
+number_turn to_make false first texts pending arg apart word words rest later =
+    by_pending to_make (is_last (codes "image") (pends pending)) false (codes "image") word (held_at texts (pends pending)) 2 words _
+    (number_goes to_make false (codes "image") made_image_is second texts pending arg apart word words rest later)
+number_turn to_make false second texts pending arg apart word words rest later =
+    by_pending to_make (is_last (codes "blocks") (pends pending)) false (codes "blocks") word (held_at texts (pends pending)) 3 words _
+    (number_goes to_make false (codes "blocks") made_blocks_is third texts pending arg apart word words rest later)
+number_turn to_make false third texts pending arg apart word words rest later =
+    by_pending to_make (is_last (codes "journal") (pends pending)) false (codes "journal") word (held_at texts (pends pending)) 4 words _
+    (number_goes to_make false (codes "journal") made_journal_is fourth texts pending arg apart word words rest later)
+number_turn to_make false fourth texts pending arg apart word words rest later =
+    by_pending to_make (is_last (codes "nodes") (pends pending)) false (codes "nodes") word (held_at texts (pends pending)) 5 words _
+    (number_goes to_make false (codes "nodes") made_nodes_is past texts pending arg apart word words rest later)
+number_turn to_make false past texts pending arg apart word words rest later = tt
+number_turn to_run true first texts pending arg apart word words rest later =
+    by_pending to_run (is_last (codes "image") (pends pending)) true (codes "image") word (held_at texts (pends pending)) 2 words _
+    (number_goes to_run true (codes "image") run_image_is second texts pending arg apart word words rest later)
+number_turn to_run true second texts pending arg apart word words rest later = tt
+number_turn to_run true third texts pending arg apart word words rest later = tt
+number_turn to_run true fourth texts pending arg apart word words rest later = tt
+number_turn to_run true past texts pending arg apart word words rest later = tt
+number_turn to_run false first texts pending arg apart word words rest later =
+    by_pending to_run (is_last (codes "image") (pends pending)) false (codes "image") word (held_at texts (pends pending)) 2 words _
+    (number_goes to_run false (codes "image") run_image_is second texts pending arg apart word words rest later)
+number_turn to_run false second texts pending arg apart word words rest later = tt
+number_turn to_run false third texts pending arg apart word words rest later = tt
+number_turn to_run false fourth texts pending arg apart word words rest later = tt
+number_turn to_run false past texts pending arg apart word words rest later = tt
+number_turn to_load true place texts pending arg apart word words rest later = tt
+number_turn to_load false place texts pending arg apart word words rest later = tt
 
 -- behind `--` each word is one that must stand
 behind_dashes : (k : Command) (words : List Text) → Later k true words (placed words)
@@ -310,6 +371,13 @@ rule_by k x y z a b c = cond (a || false) (Some (rule_named k x)) (cond (b || fa
 abbrev name_by : Text → Text → Text → Bool → Bool → Bool → Option Text
 name_by x y z a b c = cond a (Some x) (cond b (Some y) (cond c (Some z) None))
 
+-- the same of two
+abbrev rule_of_two : Command → Text → Text → Bool → Bool → Option Rule
+rule_of_two k x y a b = cond (a || false) (Some (rule_named k x)) (cond (b || false) (Some (rule_named k y)) None)
+
+abbrev name_of_two : Text → Text → Bool → Bool → Option Text
+name_of_two x y a b = cond a (Some x) (cond b (Some y) None)
+
 abbrev long_step : Command → Waiting → Text → Option Rule → Option Text → Held → Held × Step
 long_step k waiting word rule given h = after_flag (rules k) waiting word (long_met (rules k) rule given h).0 (long_met (rules k) rule given h).1
 
@@ -357,13 +425,27 @@ replay_long false false true None place texts pending arg apart word words rest 
     wait_goes to_replay (codes "tear") tear_is place texts pending arg apart words (λ name. rest (Some name)) waits
 replay_long false false false given place texts pending arg apart word words rest later waits = tt
 
-no_long : (given : Option Text) → LongGoes to_show None None given
-no_long given place texts pending arg apart word words rest later waits = tt
+load_long : (a b : Bool) (given : Option Text) → LongGoes to_load (rule_of_two to_load (codes "seed") (codes "count") a b) (name_of_two (codes "seed") (codes "count") a b) given
+load_long true b (Some text) place texts pending arg apart word words rest later waits =
+    value_goes to_load (codes "seed") seed_is place texts pending arg apart text words (rest None) later
+load_long true b None place texts pending arg apart word words rest later waits =
+    wait_goes to_load (codes "seed") seed_is place texts pending arg apart words (λ name. rest (Some name)) waits
+load_long false true (Some text) place texts pending arg apart word words rest later waits =
+    value_goes to_load (codes "count") count_is place texts pending arg apart text words (rest None) later
+load_long false true None place texts pending arg apart word words rest later waits =
+    wait_goes to_load (codes "count") count_is place texts pending arg apart words (λ name. rest (Some name)) waits
+load_long false false given place texts pending arg apart word words rest later waits = tt
+
+no_long : (k : Command) (given : Option Text) → LongGoes k None None given
+no_long k given place texts pending arg apart word words rest later waits = tt
 
 long_turn : (k : Command) (name : Text) (given : Option Text) → LongGoes k (arg_by_long (rules k) name) (find (λ known. bytes_eq known name) (options_of k)) given
 long_turn to_record name given = record_long (bytes_eq (codes "notices") name) (bytes_eq (codes "room") name) (bytes_eq (codes "fail") name) given
 long_turn to_replay name given = replay_long (bytes_eq (codes "at") name) (bytes_eq (codes "stand") name) (bytes_eq (codes "tear") name) given
-long_turn to_show name given = no_long given
+long_turn to_show name given = no_long to_show given
+long_turn to_make name given = no_long to_make given
+long_turn to_run name given = no_long to_run given
+long_turn to_load name given = load_long (bytes_eq (codes "seed") name) (bytes_eq (codes "count") name) given
 
 -- ---- one word where `--` was not met yet
 
@@ -447,6 +529,9 @@ no_short : (k : Command) (x : ℕ) → arg_by_short (rules k) x ≡ None
 no_short to_record x = refl
 no_short to_replay x = refl
 no_short to_show x = refl
+no_short to_make x = refl
+no_short to_run x = refl
+no_short to_load x = refl
 
 -- A word that is neither `--` nor an option's goes where words go, or is taken for an option that isn't there.
 plain_turn : (k : Command) (waiting : Waiting) (texts : List Named) (pending : Option (Text × List Text)) (p : ℕ) (word : Text) (words : List Text) (want : Option (List Named))
@@ -528,12 +613,25 @@ step_refused : (k : Command) (name : Text) → IsArg k name → (place : Place) 
 step_refused to_record name is first texts = number_refused to_record (bytes_eq name (codes "blocks")) (held_at texts (Some (name, []))) (is.lacks (rows texts))
 step_refused to_record name is second texts = number_refused to_record (bytes_eq name (codes "journal")) (held_at texts (Some (name, []))) (is.lacks (rows texts))
 step_refused to_record name is third texts = number_refused to_record (bytes_eq name (codes "nodes")) (held_at texts (Some (name, []))) (is.lacks (rows texts))
+step_refused to_record name is fourth texts = refl
 step_refused to_record name is past texts = refl
 step_refused to_replay name is place texts = refl
 step_refused to_show name is first texts = number_refused to_show (bytes_eq name (codes "image")) (held_at texts (Some (name, []))) (is.lacks (rows texts))
 step_refused to_show name is second texts = refl
 step_refused to_show name is third texts = refl
+step_refused to_show name is fourth texts = refl
 step_refused to_show name is past texts = refl
+step_refused to_make name is first texts = number_refused to_make (bytes_eq name (codes "image")) (held_at texts (Some (name, []))) (is.lacks (rows texts))
+step_refused to_make name is second texts = number_refused to_make (bytes_eq name (codes "blocks")) (held_at texts (Some (name, []))) (is.lacks (rows texts))
+step_refused to_make name is third texts = number_refused to_make (bytes_eq name (codes "journal")) (held_at texts (Some (name, []))) (is.lacks (rows texts))
+step_refused to_make name is fourth texts = number_refused to_make (bytes_eq name (codes "nodes")) (held_at texts (Some (name, []))) (is.lacks (rows texts))
+step_refused to_make name is past texts = refl
+step_refused to_run name is first texts = number_refused to_run (bytes_eq name (codes "image")) (held_at texts (Some (name, []))) (is.lacks (rows texts))
+step_refused to_run name is second texts = refl
+step_refused to_run name is third texts = refl
+step_refused to_run name is fourth texts = refl
+step_refused to_run name is past texts = refl
+step_refused to_load name is place texts = refl
 
 -- `--` has no value
 dashes_refused : (k : Command) (name : Text) → IsArg k name → (place : Place) (texts : List Named) (words : List Text)
@@ -636,6 +734,9 @@ first_names : (k : Command) → names_from k first ≡ words_of k
 first_names to_record = refl
 first_names to_replay = refl
 first_names to_show = refl
+first_names to_make = refl
+first_names to_run = refl
+first_names to_load = refl
 
 pub words_go : (k : Command) (words : List Text) → Goes k none_yet words (named (options_of k) words None (words_of k))
 words_go k words =

@@ -33,6 +33,19 @@ replaying = with_rule (with_rule (with_rule (new_app (codes "replay"))
 abbrev pub showing : App
 showing = with_rule (new_app (codes "tree")) (word (codes "image"))
 
+-- `mkfs` with its word and its three numbers
+abbrev pub making : App
+making = with_rule (with_rule (with_rule (with_rule (new_app (codes "mkfs"))
+    (word (codes "image"))) (word (codes "blocks"))) (word (codes "journal"))) (word (codes "nodes"))
+
+-- `run` with its word
+abbrev pub running : App
+running = with_rule (new_app (codes "run")) (word (codes "image"))
+
+-- `load` with its options
+abbrev pub loading : App
+loading = with_rule (with_rule (new_app (codes "load")) (needed (codes "seed"))) (needed (codes "count"))
+
 -- words behind the program's name, of which the first is a subcommand; and no help
 abbrev pub bare : Shape
 bare = record (new_app (codes "optfs")).top {
@@ -44,7 +57,8 @@ bare = record (new_app (codes "optfs")).top {
 
 -- the whole command line
 abbrev pub program : App
-program = with_subcommand (with_subcommand (with_subcommand (record { top = bare; subs = [] }) recording.top) replaying.top) showing.top
+program = with_subcommand (with_subcommand (with_subcommand (with_subcommand (with_subcommand (with_subcommand (record { top = bare; subs = [] })
+    recording.top) replaying.top) showing.top) making.top) running.top) loading.top
 
 -- what `clap` keeps of a text with a name
 abbrev pub kept : Named → Row

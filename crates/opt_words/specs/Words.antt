@@ -9,7 +9,7 @@ use Rattle.clap.specs.Lexer.{long_of}
 use Rattle.opt_memdisk.specs.Choice.{ChoiceState}
 use Rattle.opt_choice.specs.Texts.{choice_of}
 use Rattle.opt_words.specs.declared.request.Request.{Request}
-use Rattle.opt_words.specs.declared.request.Request.TheVariants.{Record, Replay, Tree}
+use Rattle.opt_words.specs.declared.request.Request.TheVariants.{Record, Replay, Tree, Make, Run, Load}
 use Rattle.opt_words.specs.declared.request.Notices.{Notices}
 use Rattle.opt_words.specs.declared.request.Notices.TheVariants.{Silent, Fifo, Seed}
 
@@ -38,36 +38,51 @@ notices_of text =
 
 -- ---- the commands
 
--- what a run is asked for: to record a script, to replay a trace, or to show the tree of an image
+-- what a run is asked for: to record a script, to replay a trace, to show the tree of an image, to make an image, to run a script on one, or a load
 pub data Command : Type 0 where
   to_record : Command
   to_replay : Command
   to_show : Command
+  to_make : Command
+  to_run : Command
+  to_load : Command
 
 -- the word that names the command
 abbrev pub name_of : Command → List ℕ
 name_of to_record = codes "record"
 name_of to_replay = codes "replay"
 name_of to_show = codes "tree"
+name_of to_make = codes "mkfs"
+name_of to_run = codes "run"
+name_of to_load = codes "load"
 
 -- the words that must stand behind it, in their order
 abbrev pub words_of : Command → List (List ℕ)
 words_of to_record = codes "blocks" ∷ codes "journal" ∷ codes "nodes" ∷ []
 words_of to_replay = []
 words_of to_show = codes "image" ∷ []
+words_of to_make = codes "image" ∷ codes "blocks" ∷ codes "journal" ∷ codes "nodes" ∷ []
+words_of to_run = codes "image" ∷ []
+words_of to_load = []
 
 -- its options
 abbrev pub options_of : Command → List (List ℕ)
 options_of to_record = codes "notices" ∷ codes "room" ∷ codes "fail" ∷ []
 options_of to_replay = codes "at" ∷ codes "stand" ∷ codes "tear" ∷ []
 options_of to_show = []
+options_of to_make = []
+options_of to_run = []
+options_of to_load = codes "seed" ∷ codes "count" ∷ []
 
 -- the command that a word names
 abbrev pub command_of : List ℕ → Option Command
 command_of word =
     if bytes_eq (codes "record") word then Some to_record
     else if bytes_eq (codes "replay") word then Some to_replay
-    else if bytes_eq (codes "tree") word then Some to_show else None
+    else if bytes_eq (codes "tree") word then Some to_show
+    else if bytes_eq (codes "mkfs") word then Some to_make
+    else if bytes_eq (codes "run") word then Some to_run
+    else if bytes_eq (codes "load") word then Some to_load else None
 
 -- ---- which texts stand behind the command
 
@@ -166,11 +181,42 @@ replay_of text = replay_at
 abbrev pub tree_of : (List ℕ → Option (List ℕ)) → Option Request
 tree_of text = option_map (λ image. Tree image) (text (codes "image"))
 
+-- the making of this image with these numbers, where each of them is one
+abbrev pub make_with : Option (List ℕ) → Option ℕ → Option ℕ → Option ℕ → Option Request
+make_with (Some image) (Some blocks) (Some journal) (Some nodes) = Some (Make image blocks journal nodes)
+make_with _ _ _ _ = None
+
+-- the making whose words have these texts: the name of the image; and blocks, journal blocks, nodes, in the ranges that a recording has
+abbrev pub make_of : (List ℕ → Option (List ℕ)) → Option Request
+make_of text = make_with
+    (text (codes "image"))
+    (option_and_then (number_in 64 1048576) (text (codes "blocks")))
+    (option_and_then (number_in 16 65536) (text (codes "journal")))
+    (option_and_then (number_in 16 65536) (text (codes "nodes")))
+
+-- the run on the image with this name
+abbrev pub run_of : (List ℕ → Option (List ℕ)) → Option Request
+run_of text = option_map (λ image. Run image) (text (codes "image"))
+
+-- the load of this seed with so many commands, where both are there
+abbrev pub load_with : Option ℕ → Option ℕ → Option Request
+load_with (Some seed) (Some count) = Some (Load seed count)
+load_with _ _ = None
+
+-- the load whose options have these texts: the seed, and how many commands it has
+abbrev pub load_of : (List ℕ → Option (List ℕ)) → Option Request
+load_of text = load_with
+    (option_and_then (number_in 0 4294967295) (text (codes "seed")))
+    (option_and_then (number_in 0 2000) (text (codes "count")))
+
 -- what a command asks for, by the texts of its words and options
 abbrev pub asked : Command → (List ℕ → Option (List ℕ)) → Option Request
 asked to_record = recording_of
 asked to_replay = replay_of
 asked to_show = tree_of
+asked to_make = make_of
+asked to_run = run_of
+asked to_load = load_of
 
 -- the same of the command that a word names
 abbrev pub asked_by : List ℕ → (List ℕ → Option (List ℕ)) → Option Request
@@ -206,3 +252,7 @@ IsInRange (Some (Record blocks journal nodes notices room fail)) =
     × HasSeedInRange notices × (1 ≤ room) × (room ≤ 65536) × IfSome fail (λ write. (1 ≤ write) × (write ≤ 4294967295))
 IsInRange (Some (Replay moment choice)) = moment ≤ 4294967295
 IsInRange (Some (Tree image)) = ⊤
+IsInRange (Some (Make image blocks journal nodes)) =
+    (64 ≤ blocks) × (blocks ≤ 1048576) × (16 ≤ journal) × (journal ≤ 65536) × (16 ≤ nodes) × (nodes ≤ 65536)
+IsInRange (Some (Run image)) = ⊤
+IsInRange (Some (Load seed count)) = (seed ≤ 4294967295) × (count ≤ 2000)

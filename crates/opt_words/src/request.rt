@@ -1,13 +1,13 @@
 //! The request that words ask for: its type, and how it is read from them. How `clap` is known of the
 //! command line is in the module of the command, and what one text says in that of the values.
 
-ghost use Rattle.std.specs.Prelude.{◌≡◌, IfOk, option_and_then};
+ghost use Rattle.std.specs.Prelude.{◌≡◌, IfOk, codes, option_and_then};
 ghost use Rattle.clap.specs.Words.{first_value, found_of};
-ghost use Rattle.opt_words.specs.Words.{IsInRange, asked_by, number_in, recording_of, replay_of, request_of, tree_of};
+ghost use Rattle.opt_words.specs.Words.{IsInRange, asked_by, load_of, make_of, number_in, recording_of, replay_of, request_of, run_of, tree_of};
 
 use crate::command::{
-    AT, BLOCKS, FAIL, IMAGE, JOURNAL, NODES, NOTICES, RECORD, REPLAY, ROOM, STAND, TEAR, TREE,
-    program,
+    AT, BLOCKS, COUNT, FAIL, IMAGE, JOURNAL, LOAD, MKFS, NODES, NOTICES, RECORD, REPLAY, ROOM, RUN,
+    SEED, STAND, TEAR, TREE, program,
 };
 use crate::values::{notices_of, number_in};
 use crate::word::Word;
@@ -57,6 +57,24 @@ pub enum Request {
     Tree {
         image: Word,
     },
+    /// Make the image with this name, with so many blocks, journal blocks and nodes. Each number is in its
+    /// range of `opt_base::limits`.
+    Make {
+        image: Word,
+        blocks: u32,
+        journal: u32,
+        nodes: u32,
+    },
+    /// Run a script on the image with this name.
+    Run {
+        image: Word,
+    },
+    /// The load of this seed: the commands that it decides (docs/LOADS.md).
+    Load {
+        seed: u32,
+        /// How many commands the load has, from 0 to 2,000.
+        count: u32,
+    },
 }
 
 /// The room for writes that a recording has without the option.
@@ -67,6 +85,9 @@ const MOST_ROOM: u32 = 65_536;
 
 /// Which pending writes a replay has standing without the option: none of them.
 const DEFAULT_STAND: &str = "none";
+
+/// The most commands of a load.
+const MOST_COUNT: u32 = 2000;
 
 /// Reads the words behind the program's name. `None`: they are outside the grammar.
 ///
@@ -106,6 +127,17 @@ fn requested(alloc: Global, name: &str, found: &ArgMatches) -> Result<Option<Req
     if TREE == name {
         let request = showing(alloc, found)?;
         return Ok(request);
+    }
+    if MKFS == name {
+        let request = making(alloc, found)?;
+        return Ok(request);
+    }
+    if RUN == name {
+        let request = running(alloc, found)?;
+        return Ok(request);
+    }
+    if LOAD == name {
+        return Ok(loading(found));
     }
     Ok(None)
 }
@@ -168,9 +200,62 @@ fn replaying(alloc: Global, found: &ArgMatches) -> Result<Option<Request>, NoMem
 fn showing(alloc: Global, found: &ArgMatches) -> Result<Option<Request>, NoMemory>
     ensures { IfOk result (λ request. request ≡ tree_of (first_value (found_of found.now))) }
 {
+    match image_in(alloc, found)? {
+        Some(image) => Ok(Some(Request::Tree { image })),
+        None => Ok(None),
+    }
+}
+
+/// The making whose image and numbers were found.
+fn making(alloc: Global, found: &ArgMatches) -> Result<Option<Request>, NoMemory>
+    ensures { IfOk result (λ request. request ≡ make_of (first_value (found_of found.now))) }
+{
+    let Some(image) = image_in(alloc, found)? else {
+        return Ok(None);
+    };
+    let Some(blocks) = number(found, BLOCKS, LEAST_BLOCKS, MOST_BLOCKS) else {
+        return Ok(None);
+    };
+    let Some(journal) = number(found, JOURNAL, LEAST_JOURNAL, MOST_JOURNAL) else {
+        return Ok(None);
+    };
+    let Some(nodes) = number(found, NODES, LEAST_NODES, MOST_NODES) else {
+        return Ok(None);
+    };
+    Ok(Some(Request::Make {
+        image,
+        blocks,
+        journal,
+        nodes,
+    }))
+}
+
+/// The run whose image was found.
+fn running(alloc: Global, found: &ArgMatches) -> Result<Option<Request>, NoMemory>
+    ensures { IfOk result (λ request. request ≡ run_of (first_value (found_of found.now))) }
+{
+    match image_in(alloc, found)? {
+        Some(image) => Ok(Some(Request::Run { image })),
+        None => Ok(None),
+    }
+}
+
+/// The name of an image that was found.
+fn image_in(alloc: Global, found: &ArgMatches) -> Result<Option<Word>, NoMemory>
+    ensures { IfOk result (λ image. image ≡ first_value (found_of found.now) (codes "image")) }
+{
     let Some(word) = found.get_str(IMAGE) else {
         return Ok(None);
     };
     let image = Word::from_str(alloc, word)?;
-    Ok(Some(Request::Tree { image }))
+    Ok(Some(image))
+}
+
+/// The load whose numbers were found.
+fn loading(found: &ArgMatches) -> Option<Request>
+    ensures { result ≡ load_of (first_value (found_of found.now)) }
+{
+    let seed = number(found, SEED, 0, u32::MAX)?;
+    let count = number(found, COUNT, 0, MOST_COUNT)?;
+    Some(Request::Load { seed, count })
 }

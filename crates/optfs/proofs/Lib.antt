@@ -9,6 +9,7 @@ pub mod RecordingLemmas
 pub mod ReadingLemmas
 pub mod ProgramLemmas
 mod Requests
+mod Scripts
 mod Quiet
 mod FormattedFound
 mod MountLemmas

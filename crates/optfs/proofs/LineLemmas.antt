@@ -3,7 +3,7 @@ use Rattle.std.proofs.Common.{append-nil, arith, ◌≡◌, ℕ, Bool, true, fal
 use Rattle.std.specs.List.{onto_first, flat_map}
 use Rattle.std.proofs.lemmas.Grind.{flat_map-append}
 use Rattle.opt_tree.specs.declared.command.Cmd.{Cmd}
-use Rattle.optfs.specs.Lines.{parts_of, all_but_last, last_of, whole_lines, open_line, commands_of_line, whole_commands, commands_of}
+use Rattle.opt_lines.specs.Lines.{parts_of, all_but_last, last_of, whole_lines, open_line, commands_of_line, whole_commands, commands_of}
 
 -- the parts after one byte that is no line feed
 abbrev grow : ℕ → List (List ℕ) → List (List ℕ)

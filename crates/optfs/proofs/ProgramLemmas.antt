@@ -14,9 +14,9 @@ use Rattle.opt_trace.specs.Line.{geometry_line, event_lines, end_line}
 use Rattle.opt_tree.specs.declared.command.Cmd.TheVariants.{Bad}
 use Rattle.opt_tree.specs.Step.{start}
 use Rattle.optfs.specs.Disks.{FailedToMount}
-use Rattle.optfs.specs.Output.{ServesBy, Setting, IsWhole, FailsToMount, longest}
+use Rattle.optfs.specs.Output.{ServesBy, Setting, IsWhole, FailsToMount}
 use Rattle.optfs.specs.Reading.{AtEnding, Halted, ReadsAll, ReadsSome, ReadsTooMuch}
-use Rattle.optfs.specs.Lines.{commands_of_line, commands_of, whole_commands, whole_lines, parts_of}
+use Rattle.opt_lines.specs.Lines.{longest, commands_of_line, commands_of, whole_commands, whole_lines, parts_of}
 use Rattle.optfs.specs.Endings.{HasFault, Tells, disk_line, source_line, long_line}
 use Rattle.optfs.specs.Program.{RecordsTo}
 use Rattle.optfs.proofs.ReadingLemmas.{rose_before}

@@ -4,12 +4,12 @@ use Rattle.std.proofs.lemmas.List.{length-take-le, length-append}
 use Rattle.std.specs.Io.KnownBytes.{Appends, Consumes, IsAtEnd, Keeps}
 use Rattle.std.proofs.KnownBytes.{Consumes-trans, Consumes-kept, Consumes-nil}
 use Rattle.opt_base.specs.Counts.{Rose, next_count}
-use Rattle.optfs.specs.Lines.{commands_of, open_line}
+use Rattle.opt_lines.specs.Lines.{longest, commands_of, open_line}
 use Rattle.opt_trace.specs.Line.{end_line}
 use Rattle.opt_disk.specs.Manner.{Manner}
 use Rattle.opt_geom.specs.Geometry.{Geometry}
 use Rattle.optfs.specs.Disks.{IsOpened}
-use Rattle.optfs.specs.Output.{ServesBy, Setting, longest}
+use Rattle.optfs.specs.Output.{ServesBy, Setting}
 use Rattle.opt_blocks.specs.State.{State}
 use Rattle.optfs.specs.Follows.{Follows, Stopped, ServesTo, StopsByCause}
 use Rattle.optfs.specs.declared.recording.Stop.{Stop}

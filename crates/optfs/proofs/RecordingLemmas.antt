@@ -17,8 +17,8 @@ use Rattle.opt_trace.specs.Line.{command_line, event_lines, reply_line, end_line
 use Rattle.opt_trace.specs.Trace.{entry}
 use Rattle.opt_disk.specs.declared.event.Event.{Event}
 use Rattle.opt_tree.specs.declared.command.Reply.{Reply}
-use Rattle.optfs.specs.Lines.{open_line, whole_commands, commands_of, commands_of_line}
-use Rattle.optfs.specs.Output.{BeginsFirst, Serves, ServesBy, Setting, longest}
+use Rattle.opt_lines.specs.Lines.{longest, open_line, whole_commands, commands_of, commands_of_line}
+use Rattle.optfs.specs.Output.{BeginsFirst, Serves, ServesBy, Setting}
 use Rattle.optfs.specs.Running.{Records, BreaksOff, ServesFrom, TriesFrom}
 use Rattle.optfs.specs.Follows.{Follows, Stopped, ServesTo}
 use Rattle.optfs.proofs.LineLemmas.{open-byte, open-feed, commands-byte, commands-feed, commands-end, commands-more}

@@ -5,6 +5,7 @@ use Rattle.std.proofs.KnownBytes.{Consumes-nil}
 use Rattle.std.proofs.lemmas.Bool.{and_right, eqb-true, false≢true, lt-ltb, not_from_true, or_from}
 use Rattle.opt_base.specs.Counts.{Rose}
 use Rattle.opt_disk.specs.declared.event.Event.{Event}
+use Rattle.opt_disk.specs.declared.bay.BayFault.TheVariants as failed
 use Rattle.opt_disk.specs.Bay.{BayState}
 use Rattle.opt_geom.specs.Geometry.{Geometry, geometry_fits}
 use Rattle.opt_memdisk.specs.declared.calls.DiskCall.{DiskCall}
@@ -18,18 +19,30 @@ use Rattle.opt_trace_reader.specs.declared.input.TraceRefusal.TheVariants as rea
 use Rattle.opt_show.specs.declared.refusal.ShowRefusal.{ShowRefusal}
 use Rattle.opt_show.specs.declared.refusal.ShowRefusal.TheVariants as show
 use Rattle.opt_show.specs.Shows.{CountsFault, HasShowCause}
+use Rattle.opt_loading.specs.Summary.{summary_of, summary_text}
+use Rattle.opt_make.specs.declared.refusal.MakeRefusal.{MakeRefusal}
+use Rattle.opt_make.specs.declared.refusal.MakeRefusal.TheVariants as make
+use Rattle.opt_make.specs.Makes.{HasMakeCause}
 use Rattle.opt_replay.specs.declared.refusal.ReplayRefusal.{ReplayRefusal}
 use Rattle.opt_replay.specs.declared.refusal.ReplayRefusal.TheVariants as crash
 use Rattle.opt_replay.specs.Replays.{Found}
+use Rattle.opt_run.specs.declared.ending.Ending.{Ending}
+use Rattle.opt_run.specs.declared.ending.Ending.TheVariants as script
+use Rattle.opt_run.specs.declared.ending.RunRefusal.{RunRefusal}
+use Rattle.opt_run.specs.declared.ending.RunRefusal.TheVariants as run
+use Rattle.opt_run.specs.Runs.{HasRunCause}
 use Rattle.opt_words.specs.declared.request.Request.{Request}
-use Rattle.opt_words.specs.declared.request.Request.TheVariants.{Record, Replay, Tree}
+use Rattle.opt_words.specs.declared.request.Request.TheVariants.{Record, Replay, Tree, Make, Run, Load}
 use Rattle.optfs.specs.declared.disk.Behaviour.{Behaviour}
 use Rattle.optfs.specs.Behaving.{MountFails, fails_of, rule_of}
 use Rattle.optfs.specs.Disks.{setting_on}
 use Rattle.optfs.specs.Endings.{EndsBehind, HasFault, Met, Tells, met, usage_line, disk_line, damaged_line, spent_line, no_prefix_line, shape_line, long_line, choice_line}
+use Rattle.optfs.specs.Loading.{LoadsTo}
+use Rattle.optfs.specs.Making.{EndsMaking, MakesTo}
 use Rattle.optfs.specs.Output.{Setting}
-use Rattle.optfs.specs.Program.{Completes, Does, EndsReplay, EndsShow, EndsSo, RecordsWhere, RecordsTo, Refuses, setting_of, shape_of}
+use Rattle.optfs.specs.Program.{Completes, Does, EndsLoad, EndsMake, EndsReplay, EndsRun, EndsShow, EndsSo, MakesWhere, RecordsWhere, RecordsTo, Refuses, setting_of, shape_of}
 use Rattle.optfs.specs.Replaying.{EndsAt, EndsCrash, EndsFound, EndsReading, ReplaysTo, trace_line}
+use Rattle.optfs.specs.Scripting.{EndsScript, RunsTo}
 use Rattle.optfs.specs.Showing.{EndsShowing, ShowsTo}
 use Rattle.optfs.specs.declared.status.Status.{Status}
 use Rattle.optfs.specs.declared.status.Status.TheVariants.{Done, Usage, BadTrace, NoMemory, DiskFault, Damaged, SourceFault, SinkFault, Spent, NoPrefix, BadShape, LongInput, BadChoice}
@@ -67,6 +80,13 @@ pub where_fits : (fits : Bool) (set : Setting) (result : Status) (left left_now 
     → fits ≡ true → RecordsTo set result left left_now told out source source_now → RecordsWhere fits set result left left_now told out source source_now
 where_fits fits set result left left_now told out source source_now does t =
     subst (λ (b : Bool). RecordsWhere b set result left left_now told out source source_now) (sym does) t
+
+pub made_shape : (fits tells : Bool) (image : List ℕ) (g : Geometry) (result : Status) (m : Met) → fits ≡ false → Tells BadShape result shape_line m.taken m.taken_now m.sink m.sink_now → MakesWhere fits tells image g result m
+made_shape fits tells image g result m not_so t =
+    subst (λ (b : Bool). MakesWhere b tells image g result m) (sym not_so) (refused BadShape result shape_line m.taken m.taken_now m.sink m.sink_now t)
+
+pub made_fits : (fits tells : Bool) (image : List ℕ) (g : Geometry) (result : Status) (m : Met) → fits ≡ true → MakesTo tells image g result m → MakesWhere fits tells image g result m
+made_fits fits tells image g result m does t = subst (λ (b : Bool). MakesWhere b tells image g result m) (sym does) t
 
 -- The first write.
 
@@ -124,20 +144,20 @@ keeps_same None = tt
 keeps_same (Some xs) = refl
 
 -- Where no memory is found before anything was read or written, that may be so for every request.
-pub does_memory : (tells : Bool) (request : Option Request) (left told : Option (List ℕ)) (source source_now sink sink_now : ℕ) (bay : BayState)
-    → Does tells request NoMemory (met left left told told source source_now sink sink_now bay bay)
-does_memory tells None left told source source_now sink sink_now bay = inr (refl, refl)
-does_memory tells (Some (Record blocks journal nodes notices room fail)) left told source source_now sink sink_now bay = by (geometry_fits (shape_of blocks journal nodes))
+pub does_memory : (tells : Bool) (request : Option Request) (left told : Option (List ℕ)) (source sink : ℕ) (bay : BayState)
+    → Does tells request NoMemory (met left left told told source source sink sink bay bay)
+does_memory tells None left told source sink bay = inr (refl, refl)
+does_memory tells (Some (Record blocks journal nodes notices room fail)) left told source sink bay = by (geometry_fits (shape_of blocks journal nodes))
   where
-    by : (fits : Bool) → RecordsWhere fits (setting_of blocks journal nodes notices room fail) NoMemory left left told told source source_now
-    by true = never_begun (setting_of blocks journal nodes notices room fail) left told source source_now
+    by : (fits : Bool) → RecordsWhere fits (setting_of blocks journal nodes notices room fail) NoMemory left left told told source source
+    by true = never_begun (setting_of blocks journal nodes notices room fail) left told source source
     by false = inr (refl, refl)
-does_memory tells (Some (Replay moment choice)) left told source source_now sink sink_now bay = record {
+does_memory tells (Some (Replay moment choice)) left told source sink bay = record {
   told = Err reading.NoMemory;
   tells = record { bytes = []; read = Consumes-nil left; short = omega arith };
   ends = (refl, refl);
 }
-does_memory tells (Some (Tree image)) left told source source_now sink sink_now bay = record {
+does_memory tells (Some (Tree image)) left told source sink bay = record {
   answer = Err show.NoMemory;
   between = told;
   shown = λ known. tt;
@@ -147,12 +167,59 @@ does_memory tells (Some (Tree image)) left told source source_now sink sink_now 
   cause = refl;
   ends = (refl, refl);
 }
+does_memory tells (Some (Make image blocks journal nodes)) left told source sink bay = by (geometry_fits (shape_of blocks journal nodes))
+  where
+    g : Geometry
+    g = shape_of blocks journal nodes
+
+    by : (fits : Bool) → MakesWhere fits tells image g NoMemory (met left left told told source source sink sink bay bay)
+    by true = record {
+      answer = Err make.NoMemory;
+      made = λ known. tt;
+      back = inl (record {
+        fault = failed.NoMemory;
+        makes = record {
+          size = tt;
+          counts = tt;
+          disk = λ known. tt;
+          kept = λ known. tt;
+          image = λ known. refl;
+          others = λ known other apart. refl;
+          cause = (omega arith, tt);
+          disk_faults = refl;
+          handed = refl;
+          closed = refl;
+        };
+        answer = refl;
+      });
+      others = λ known other apart. refl;
+      cause = refl;
+      ends = (refl, refl);
+    }
+    by false = inr (refl, refl)
+does_memory tells (Some (Run image)) left told source sink bay = record {
+  answer = Err run.NoMemory;
+  between = told;
+  sink_between = sink;
+  comes = inl (record {
+    none = record { kept = λ known each. refl; faults = omega arith; disk_faults = refl; handed = refl; closed = refl };
+    same = refl;
+    answer = inr refl;
+  });
+  counts = record { source = omega arith; rises = omega arith; sink = refl };
+  cause = tt;
+  ends = (refl, refl);
+}
+does_memory tells (Some (Load seed count)) left told source sink bay = inr (refl, refl)
 
 pub completes_memory : (request : Option Request) (m : Met) → Completes request NoMemory m
 completes_memory None m = tt
 completes_memory (Some (Record blocks journal nodes notices room fail)) m = λ fits no_source no_sink. tt
 completes_memory (Some (Replay moment choice)) m = λ no_source no_sink. tt
 completes_memory (Some (Tree image)) m = λ no_sink. tt
+completes_memory (Some (Make image blocks journal nodes)) m = λ fits no_sink. tt
+completes_memory (Some (Run image)) m = λ no_source no_sink. tt
+completes_memory (Some (Load seed count)) m = λ no_sink. tt
 
 -- Words that ask for nothing.
 pub does_usage : (tells : Bool) (request : Option Request) (result : Status) (m : Met) → request ≡ None → Tells Usage result usage_line m.taken m.taken_now m.sink m.sink_now → Does tells request result m
@@ -161,28 +228,29 @@ does_usage tells request result m none t = subst (λ (r : Option Request). Does 
 pub completes_none : (request : Option Request) (status : Status) (m : Met) → request ≡ None → Completes request status m
 completes_none request status m none = subst (λ (q : Option Request). Completes q status m) (sym none) tt
 
--- How a replay and a showing end where nothing failed.
+-- How a replay, a showing, a making, a load and a run end where nothing failed.
 
-ends_replay : (X status : Status) (line : List ℕ) (told out : Option (List ℕ)) (source source_now sink sink_now : ℕ) → EndsReplay X → EndsBehind X line status told out → HasFault status source source_now sink sink_now
-    → ¬ Rose sink sink_now → EndsReplay status
-ends_replay X status line told out source source_now sink sink_now may (inl t) fault no_sink = subst EndsReplay (sym t.0) may
-ends_replay X status line told out source source_now sink sink_now may (inr t) fault no_sink = absurd (no_sink (subst (λ (s : Status). HasFault s source source_now sink sink_now) t.0 fault))
+-- what may be of the status of a line may be of the end behind the line where the sink didn't fail
+ends_so_behind : (May : Status → Type 0) (X status : Status) (line : List ℕ) (told out : Option (List ℕ)) (source source_now sink sink_now : ℕ) → May X → EndsBehind X line status told out
+    → HasFault status source source_now sink sink_now → ¬ Rose sink sink_now → May status
+ends_so_behind May X status line told out source source_now sink sink_now may (inl t) fault no_sink = subst May (sym t.0) may
+ends_so_behind May X status line told out source source_now sink sink_now may (inr t) fault no_sink = absurd (no_sink (subst (λ (s : Status). HasFault s source source_now sink sink_now) t.0 fault))
 
 ends_found : (found : Found) (status : Status) (told out : Option (List ℕ)) (source source_now sink sink_now : ℕ) → EndsFound found status told out → HasFault status source source_now sink sink_now
     → ¬ Rose sink sink_now → EndsReplay status
 ends_found found status told out source source_now sink sink_now (inl (between, took, ends)) fault no_sink = by found.point ends
   where
     by : (point : Option ℕ) → EndsAt point status between out → EndsReplay status
-    by None e = ends_replay NoPrefix status no_prefix_line between out source source_now sink sink_now tt e fault no_sink
+    by None e = ends_so_behind EndsReplay NoPrefix status no_prefix_line between out source source_now sink sink_now tt e fault no_sink
     by (Some p) e = subst EndsReplay (sym e.0) tt
 ends_found found status told out source source_now sink sink_now (inr t) fault no_sink = absurd (no_sink (subst (λ (s : Status). HasFault s source source_now sink sink_now) t.0 fault))
 
 ends_crash : (answer : Result Found ReplayRefusal) (status : Status) (told out : Option (List ℕ)) (source source_now sink sink_now : ℕ) → EndsCrash answer status told out → HasFault status source source_now sink sink_now
     → ¬ Rose sink sink_now → EndsReplay status
 ends_crash (Ok found) status told out source source_now sink sink_now e fault no_sink = ends_found found status told out source source_now sink sink_now e fault no_sink
-ends_crash (Err crash.Choice) status told out source source_now sink sink_now e fault no_sink = ends_replay BadChoice status choice_line told out source source_now sink sink_now tt e fault no_sink
-ends_crash (Err (crash.Damaged damage)) status told out source source_now sink sink_now e fault no_sink = ends_replay Damaged status damaged_line told out source source_now sink sink_now tt e fault no_sink
-ends_crash (Err crash.Spent) status told out source source_now sink sink_now e fault no_sink = ends_replay Spent status spent_line told out source source_now sink sink_now tt e fault no_sink
+ends_crash (Err crash.Choice) status told out source source_now sink sink_now e fault no_sink = ends_so_behind EndsReplay BadChoice status choice_line told out source source_now sink sink_now tt e fault no_sink
+ends_crash (Err (crash.Damaged damage)) status told out source source_now sink sink_now e fault no_sink = ends_so_behind EndsReplay Damaged status damaged_line told out source source_now sink sink_now tt e fault no_sink
+ends_crash (Err crash.Spent) status told out source source_now sink sink_now e fault no_sink = ends_so_behind EndsReplay Spent status spent_line told out source source_now sink sink_now tt e fault no_sink
 ends_crash (Err crash.NoMemory) status told out source source_now sink sink_now e fault no_sink = subst EndsReplay (sym e.0) tt
 
 pub completes_replay : (moment : ℕ) (choice : ChoiceState) (status : Status) (m : Met) → ReplaysTo moment choice status m → HasFault status m.source m.source_now m.sink m.sink_now
@@ -191,16 +259,11 @@ completes_replay moment choice status m r fault no_source no_sink = by r.told r.
   where
     by : (told : Result Contents TraceRefusal) → EndsReading moment choice told status m.taken m.taken_now → EndsReplay status
     by (Ok c) e = ends_crash e.answer status m.taken m.taken_now m.source m.source_now m.sink m.sink_now e.ends fault no_sink
-    by (Err (reading.BadTrace line)) e = ends_replay BadTrace status (trace_line line) m.taken m.taken_now m.source m.source_now m.sink m.sink_now tt e fault no_sink
+    by (Err (reading.BadTrace line)) e = ends_so_behind EndsReplay BadTrace status (trace_line line) m.taken m.taken_now m.source m.source_now m.sink m.sink_now tt e fault no_sink
     by (Err reading.SourceFault) (inl t) = absurd (no_source (subst (λ (s : Status). HasFault s m.source m.source_now m.sink m.sink_now) t.0 fault))
     by (Err reading.SourceFault) (inr t) = absurd (no_sink (subst (λ (s : Status). HasFault s m.source m.source_now m.sink m.sink_now) t.0 fault))
-    by (Err reading.LongInput) e = ends_replay LongInput status long_line m.taken m.taken_now m.source m.source_now m.sink m.sink_now tt e fault no_sink
+    by (Err reading.LongInput) e = ends_so_behind EndsReplay LongInput status long_line m.taken m.taken_now m.source m.source_now m.sink m.sink_now tt e fault no_sink
     by (Err reading.NoMemory) e = subst EndsReplay (sym e.0) tt
-
-ends_show : (P : Type 0) (X status : Status) (line : List ℕ) (told out : Option (List ℕ)) (source source_now sink sink_now : ℕ) → EndsShow P X → EndsBehind X line status told out → HasFault status source source_now sink sink_now
-    → ¬ Rose sink sink_now → EndsShow P status
-ends_show P X status line told out source source_now sink sink_now may (inl t) fault no_sink = subst (EndsShow P) (sym t.0) may
-ends_show P X status line told out source source_now sink sink_now may (inr t) fault no_sink = absurd (no_sink (subst (λ (s : Status). HasFault s source source_now sink sink_now) t.0 fault))
 
 pub completes_show : (tells : Bool) (image : List ℕ) (status : Status) (m : Met) → ShowsTo tells image status m → HasFault status m.source m.source_now m.sink m.sink_now
     → ¬ Rose m.sink m.sink_now → EndsShow (CountsFault m.bay m.bay_now) status
@@ -211,8 +274,47 @@ completes_show tells image status m s fault no_sink = by s.answer s.cause s.ends
 
     by : (answer : Result (Unit {0}) ShowRefusal) → HasShowCause answer m.bay m.bay_now → EndsShowing answer status s.between m.taken_now → EndsShow P status
     by (Ok x) cause e = subst (EndsShow P) (sym e.0) tt
-    by (Err show.Fault) cause e = ends_show P DiskFault status disk_line s.between m.taken_now m.source m.source_now m.sink m.sink_now cause e fault no_sink
-    by (Err (show.Damaged damage)) cause e = ends_show P Damaged status damaged_line s.between m.taken_now m.source m.source_now m.sink m.sink_now tt e fault no_sink
-    by (Err show.Spent) cause e = ends_show P Spent status spent_line s.between m.taken_now m.source m.source_now m.sink m.sink_now tt e fault no_sink
+    by (Err show.Fault) cause e = ends_so_behind (EndsShow P) DiskFault status disk_line s.between m.taken_now m.source m.source_now m.sink m.sink_now cause e fault no_sink
+    by (Err (show.Damaged damage)) cause e = ends_so_behind (EndsShow P) Damaged status damaged_line s.between m.taken_now m.source m.source_now m.sink m.sink_now tt e fault no_sink
+    by (Err show.Spent) cause e = ends_so_behind (EndsShow P) Spent status spent_line s.between m.taken_now m.source m.source_now m.sink m.sink_now tt e fault no_sink
     by (Err show.SinkFault) cause e = absurd (no_sink (subst (λ (x : Status). HasFault x m.source m.source_now m.sink m.sink_now) e.0 fault))
     by (Err show.NoMemory) cause e = subst (EndsShow P) (sym e.0) tt
+
+completes_made : (tells : Bool) (image : List ℕ) (g : Geometry) (status : Status) (m : Met) → MakesTo tells image g status m → HasFault status m.source m.source_now m.sink m.sink_now
+    → ¬ Rose m.sink m.sink_now → EndsMake (CountsFault m.bay m.bay_now) status
+completes_made tells image g status m s fault no_sink = by s.answer s.cause s.ends
+  where
+    P : Type 0
+    P = CountsFault m.bay m.bay_now
+
+    by : (answer : Result (Unit {0}) MakeRefusal) → HasMakeCause answer m.bay m.bay_now → EndsMaking answer status m.taken m.taken_now → EndsMake P status
+    by (Ok x) cause e = subst (EndsMake P) (sym e.0) tt
+    by (Err make.Fault) cause e = ends_so_behind (EndsMake P) DiskFault status disk_line m.taken m.taken_now m.source m.source_now m.sink m.sink_now cause e fault no_sink
+    by (Err make.NoMemory) cause e = subst (EndsMake P) (sym e.0) tt
+
+pub completes_make : (fits tells : Bool) (image : List ℕ) (g : Geometry) (status : Status) (m : Met) → MakesWhere fits tells image g status m → HasFault status m.source m.source_now m.sink m.sink_now
+    → fits ≡ true → ¬ Rose m.sink m.sink_now → EndsMake (CountsFault m.bay m.bay_now) status
+completes_make true tells image g status m s fault does no_sink = completes_made tells image g status m s fault no_sink
+completes_make false tells image g status m s fault does no_sink = absurd (false≢true does)
+
+pub completes_load : (seed count : ℕ) (status : Status) (m : Met) → LoadsTo seed count status m.taken m.taken_now → HasFault status m.source m.source_now m.sink m.sink_now → ¬ Rose m.sink m.sink_now → EndsLoad status
+completes_load seed count status m (inl e) fault no_sink = ends_so_behind EndsLoad Done status (summary_text (summary_of seed count)) m.taken m.taken_now m.source m.source_now m.sink m.sink_now tt e fault no_sink
+completes_load seed count status m (inr e) fault no_sink = subst EndsLoad (sym e.0) tt
+
+pub completes_run : (tells : Bool) (image : List ℕ) (status : Status) (m : Met) → RunsTo tells image status m → HasFault status m.source m.source_now m.sink m.sink_now
+    → ¬ Rose m.source m.source_now → ¬ Rose m.sink m.sink_now → EndsRun (CountsFault m.bay m.bay_now) status
+completes_run tells image status m r fault no_source no_sink = by r.answer r.cause r.ends
+  where
+    P : Type 0
+    P = CountsFault m.bay m.bay_now
+
+    by : (answer : Result Ending RunRefusal) → HasRunCause answer m.bay m.bay_now → EndsScript answer status r.between m.taken_now → EndsRun P status
+    by (Ok script.End) cause e = subst (EndsRun P) (sym e.0) tt
+    by (Ok script.SourceFault) cause (inl t) = absurd (no_source (subst (λ (s : Status). HasFault s m.source m.source_now m.sink m.sink_now) t.0 fault))
+    by (Ok script.SourceFault) cause (inr t) = absurd (no_sink (subst (λ (s : Status). HasFault s m.source m.source_now m.sink m.sink_now) t.0 fault))
+    by (Ok script.LongInput) cause e = ends_so_behind (EndsRun P) LongInput status long_line r.between m.taken_now m.source m.source_now m.sink m.sink_now tt e fault no_sink
+    by (Err run.Fault) cause e = ends_so_behind (EndsRun P) DiskFault status disk_line r.between m.taken_now m.source m.source_now m.sink m.sink_now cause e fault no_sink
+    by (Err (run.Damaged damage)) cause e = ends_so_behind (EndsRun P) Damaged status damaged_line r.between m.taken_now m.source m.source_now m.sink m.sink_now tt e fault no_sink
+    by (Err run.Spent) cause e = ends_so_behind (EndsRun P) Spent status spent_line r.between m.taken_now m.source m.source_now m.sink m.sink_now tt e fault no_sink
+    by (Err run.SinkFault) cause e = absurd (no_sink (subst (λ (s : Status). HasFault s m.source m.source_now m.sink m.sink_now) e.0 fault))
+    by (Err run.NoMemory) cause e = subst (EndsRun P) (sym e.0) tt

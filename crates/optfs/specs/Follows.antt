@@ -6,8 +6,8 @@ use Rattle.opt_tree.specs.declared.command.Cmd.{Cmd}
 use Rattle.opt_blocks.specs.State.{State}
 use Rattle.opt_script.specs.Values.{IsCommand}
 use Rattle.opt_trace.specs.Contents.{Each}
-use Rattle.optfs.specs.Lines.{open_line, whole_commands, commands_of}
-use Rattle.optfs.specs.Output.{IsBrokenOff, ServesBy, Setting, longest}
+use Rattle.opt_lines.specs.Lines.{longest, open_line, whole_commands, commands_of}
+use Rattle.optfs.specs.Output.{IsBrokenOff, ServesBy, Setting}
 use Rattle.optfs.specs.Running.{Records}
 use Rattle.optfs.specs.declared.recording.Stop.{Stop}
 use Rattle.optfs.specs.declared.recording.Stop.TheVariants.{NoMemory, SinkFault}

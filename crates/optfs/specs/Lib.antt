@@ -1,5 +1,4 @@
 pub mod Endings
-pub mod Lines
 pub mod Behaving
 pub mod Running
 pub mod Disks
@@ -8,6 +7,9 @@ pub mod Output
 pub mod Follows
 pub mod Replaying
 pub mod Showing
+pub mod Making
+pub mod Loading
+pub mod Scripting
 pub mod Program
 pub mod Reading
 pub mod Statuses

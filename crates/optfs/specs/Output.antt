@@ -19,7 +19,7 @@ use Rattle.opt_session.specs.Crashes.{IsCrashConsistent}
 use Rattle.opt_session.specs.Issued.{IssuesLast}
 use Rattle.optfs.specs.Behaving.{MountFails, RunsBy}
 use Rattle.optfs.specs.Endings.{disk_line, source_line, long_line}
-use Rattle.optfs.specs.Lines.{whole_commands, commands_of}
+use Rattle.opt_lines.specs.Lines.{longest, whole_commands, commands_of}
 use Rattle.optfs.specs.declared.status.Status.{Status}
 use Rattle.optfs.specs.declared.status.Status.TheVariants.{Done, NoMemory, DiskFault, SourceFault, SinkFault, LongInput}
 
@@ -62,10 +62,6 @@ contents g cmds text s = says g s.log s.mounted cmds s.replies s.marks
 pub record ServesBy (set : Setting) (cmds : List Cmd) (text : List ℕ) : Type 0 where
   pub served : Serves set.shape cmds text
   pub goes : RunsBy set.shape set.manner served.log served.mounted cmds served.replies served.marks
-
--- the longest line, in bytes
-unfoldable pub longest : ℕ
-longest = 262144
 
 -- In what follows, S says of a text that it begins a trace of some commands.
 

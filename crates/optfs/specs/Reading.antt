@@ -2,8 +2,8 @@
 use Rattle.std.specs.Prelude.{◌≡◌, ℕ, ◌+◌, ◌^◌, ◌<◌, ◌≤◌, List, [], ◌∷◌, ◌++◌, length, Option}
 use Rattle.std.specs.Io.KnownBytes.{Consumes, IsAtEnd}
 use Rattle.opt_base.specs.Counts.{Rose}
-use Rattle.optfs.specs.Lines.{commands_of, whole_commands}
-use Rattle.optfs.specs.Output.{Setting, longest}
+use Rattle.opt_lines.specs.Lines.{longest, commands_of, whole_commands}
+use Rattle.optfs.specs.Output.{Setting}
 use Rattle.opt_blocks.specs.State.{State}
 use Rattle.optfs.specs.Follows.{Follows, Stopped, ServesTo}
 use Rattle.optfs.specs.declared.reading.Turn.{Turn}

@@ -10,11 +10,10 @@ ghost use Rattle.opt_tree.specs.declared.command.Cmd.{Cmd};
 ghost use Rattle.opt_tree.specs.declared.command.Reply.{Reply};
 ghost use Rattle.opt_tree.specs.Points.{floor};
 ghost use Rattle.opt_session.specs.Crashes.{IsCrashConsistent};
+ghost use Rattle.opt_lines.specs.Lines.{longest, commands_of};
 ghost use Rattle.opt_trace.specs.Contents.{Contents, text_of};
 ghost use Rattle.opt_trace_reader.specs.Traces as reader;
 ghost use Rattle.optfs.specs.Output.{Serves, IsTrace, contents};
-ghost use Rattle.optfs.specs.Lines.{commands_of};
-ghost use Rattle.optfs.specs.Output.{longest};
 ghost use Rattle.optfs.specs.Recordings.{IsHonestCrash, IsPlaced};
 
 use opt_stands::{an_image_stands_for_one_tree, images_alike_below_n_stand_for_the_same};

@@ -6,15 +6,18 @@
 mod disk;
 mod events;
 mod laws;
-mod lines;
+mod loading;
+mod making;
 mod mounting;
 mod program;
 mod reading;
 mod recording;
 mod replaying;
 mod running;
+mod scripting;
 mod showing;
 mod status;
+mod streams;
 mod telling;
 #[cfg(test)]
 mod tests;
@@ -29,36 +32,34 @@ use opt_filedisk::FileBay;
 use opt_io::{ReadSource, WriteSink};
 pub use program::optfs;
 pub use status::Status;
+use std::cell::RefCell;
 use std::env;
-use std::io::{self, BufWriter, ErrorKind, IsTerminal, LineWriter, Write};
+use std::io::{self, BufWriter, ErrorKind};
 use std::process::ExitCode;
+use streams::{BufferedOutput, PromptInput};
 
 /// Gives the program the words, the standard input and the standard output, and exits with its status.
 fn main(rt: HostRuntime) -> ExitCode {
     ExitCode::from(run(&rt).unwrap_or(Status::NoMemory).number())
 }
 
-/// A terminal shows each line when it is made. A file or a pipe gets them from a buffer.
+/// Runs the program. What the output holds back is written at the end; where that fails, the sink failed. What the system
+/// said of an image file that failed is then told on standard error.
 fn run(rt: &HostRuntime) -> io::Result<Status> {
-    let out = rt.stdout();
-    if out.is_terminal() {
-        run_into(rt, LineWriter::new(rt.alloc(), out)?)
-    } else {
-        run_into(rt, BufWriter::new(rt.alloc(), out)?)
-    }
-}
-
-/// Runs the program. What the writer holds back is written at the end; where that fails, the sink failed.
-fn run_into<W: Write + Drop>(rt: &HostRuntime, writer: W) -> io::Result<Status> {
     let words = words_of(rt)?;
-    let mut input = ReadSource::new(rt.stdin());
-    let mut out = WriteSink::new(writer);
+    let buffer = RefCell::new(BufWriter::new(rt.alloc(), rt.stdout())?);
+    let mut input = ReadSource::new(PromptInput::new(rt.stdin(), &buffer));
+    let mut out = WriteSink::new(BufferedOutput::new(&buffer));
     let mut bay = FileBay::new(rt);
     let status = optfs(rt.alloc(), words.as_slice(), &mut input, &mut out, &mut bay);
-    if out.flush().is_err() {
-        return Ok(Status::SinkFault);
+    let written = out.flush();
+    if let Some(why) = bay.why() {
+        let _ = eprintln!(rt; "optfs: {why}");
     }
-    Ok(status)
+    match written {
+        Ok(()) => Ok(status),
+        Err(_) => Ok(Status::SinkFault),
+    }
 }
 
 /// The words behind the program's name. There are none where one of them isn't UTF-8: no request has such

@@ -22,10 +22,13 @@ ghost use Rattle.optfs.specs.Reading.{AtEnding, Halted};
 
 use crate::disk::{Behaviour, formatted_disk};
 use crate::events::write_head;
+use crate::loading::load;
+use crate::making::make;
 use crate::mounting::{Mounted, System, mount};
 use crate::reading::{Ending, read_lines};
 use crate::recording::{Recording, Stop};
 use crate::replaying::replay;
+use crate::scripting::run;
 use crate::showing::show;
 use crate::status::Status;
 use crate::telling::{DISK, END, LONG, SHAPE, SOURCE, USAGE, tell};
@@ -48,6 +51,11 @@ use std::alloc::Global;
 /// - `replay --at K` reads a trace from `input`. It writes to `out` which sync point a crash after the first K events
 ///   leaves, and its tree. The options `--stand` and `--tear` say what becomes of the writes that were pending then.
 /// - `tree IMAGE` mounts the image of the bay and writes its tree to `out`.
+/// - `mkfs IMAGE N J I` makes the image of a formatted disk of this geometry under the name, in place of what stood there.
+/// - `load --seed S --count C` answers the first C commands of the seed's load on a disk in memory, and writes four lines of
+///   what they came to.
+/// - `run IMAGE` mounts the image of the bay and reads a script from `input`. It answers its commands by a file system on this
+///   image, and writes their replies to `out`.
 pub fn optfs<S: Source, K: Sink, Y: Bay>(
     alloc: Global,
     words: &[String],
@@ -113,6 +121,14 @@ fn serve<S: Source, K: Sink, Y: Bay>(
         }
         Request::Replay { moment, choice } => replay(alloc, u64::from(*moment), choice, input, out),
         Request::Tree { image } => show(alloc, image.as_str(), out, bay),
+        Request::Make {
+            image,
+            blocks,
+            journal,
+            nodes,
+        } => make(alloc, image.as_str(), (*blocks, *journal, *nodes), out, bay),
+        Request::Run { image } => run(alloc, image.as_str(), input, out, bay),
+        Request::Load { seed, count } => load(alloc, *seed, *count, out),
     }
 }
 

@@ -8,9 +8,12 @@ mod disks;
 mod events;
 mod images;
 mod lines;
+mod loading;
+mod making;
 mod outline;
 mod replies;
 mod room;
+mod scripting;
 
 use crate::{Status, optfs};
 use opt_io::{MemSink, MemSource};

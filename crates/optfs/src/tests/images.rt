@@ -20,7 +20,7 @@ fn geometry() -> Result<Geom, Fail> {
 }
 
 /// The image of a formatted disk, with this turn in its header.
-fn image_of_turn(alloc: Global, turn: u64) -> Result<Image, Fail> {
+pub fn image_of_turn(alloc: Global, turn: u64) -> Result<Image, Fail> {
     let geom = geometry()?;
     let header = Header {
         epoch: 1,

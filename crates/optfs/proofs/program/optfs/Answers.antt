@@ -4,7 +4,7 @@ use Rattle.optfs.proofs.Requests.{completes_memory, completes_none, does_memory,
 use Rattle.optfs.proofs.program.optfs.Goals as goal
 
 pub returns-in-Err-clause-does : goal.returns-in-Err-clause-does
-returns-in-Err-clause-does g c = does_memory _ _ _ _ _ _ _ _ _
+returns-in-Err-clause-does g c = does_memory _ _ _ _ _ _ _
 
 pub returns-in-Err-clause-completes : goal.returns-in-Err-clause-completes
 returns-in-Err-clause-completes g c = completes_memory _ _

@@ -4,7 +4,7 @@ use Rattle.opt_words.specs.declared.request.Request.{Request}
 use Rattle.opt_words.specs.Words.{IsInRange}
 use Rattle.optfs.specs.Endings.{Met, met}
 use Rattle.optfs.specs.Program.{Completes}
-use Rattle.optfs.proofs.Requests.{completes_replay, completes_show}
+use Rattle.optfs.proofs.Requests.{completes_load, completes_make, completes_replay, completes_run, completes_show}
 use Rattle.optfs.proofs.program.serve.Goals as goal
 
 pub returns-in-Record-clause-completes : goal.returns-in-Record-clause-completes
@@ -27,3 +27,24 @@ returns-in-Tree-clause-completes g c =
     (g.S.Source.faults c.args.input.now) (g.S.Source.faults c.args.input.now) (g.K.Sink.faults c.args.out.now) (g.K.Sink.faults c.show.new.out) (g.Y.Bay.state c.args.bay.now) (g.Y.Bay.state c.show.new.bay) in
     subst (λ (r : Request). Completes (Some r) c.show.result m) (sym c.in-Tree.is)
     (completes_show _ _ c.show.result m (c.show.ensures.shows (g.S.Source.remaining c.args.input.now) (g.S.Source.faults c.args.input.now)) (c.show.ensures.faults (g.S.Source.faults c.args.input.now)))
+
+pub returns-in-Make-clause-completes : goal.returns-in-Make-clause-completes
+returns-in-Make-clause-completes g c =
+    let m : Met = met (g.S.Source.remaining c.args.input.now) (g.S.Source.remaining c.args.input.now) (g.K.Sink.taken c.args.out.now) (g.K.Sink.taken c.make.new.out)
+    (g.S.Source.faults c.args.input.now) (g.S.Source.faults c.args.input.now) (g.K.Sink.faults c.args.out.now) (g.K.Sink.faults c.make.new.out) (g.Y.Bay.state c.args.bay.now) (g.Y.Bay.state c.make.new.bay) in
+    subst (λ (r : Request). Completes (Some r) c.make.result m) (sym c.in-Make.is)
+    (completes_make _ _ _ _ c.make.result m (c.make.ensures.makes (g.S.Source.remaining c.args.input.now) (g.S.Source.faults c.args.input.now)) (c.make.ensures.faults (g.S.Source.faults c.args.input.now)))
+
+pub returns-in-Load-clause-completes : goal.returns-in-Load-clause-completes
+returns-in-Load-clause-completes g c =
+    let m : Met = met (g.S.Source.remaining c.args.input.now) (g.S.Source.remaining c.args.input.now) (g.K.Sink.taken c.args.out.now) (g.K.Sink.taken c.load.new.out)
+    (g.S.Source.faults c.args.input.now) (g.S.Source.faults c.args.input.now) (g.K.Sink.faults c.args.out.now) (g.K.Sink.faults c.load.new.out) (g.Y.Bay.state c.args.bay.now) (g.Y.Bay.state c.args.bay.now) in
+    subst (λ (r : Request). Completes (Some r) c.load.result m) (sym c.in-Load.is)
+    (completes_load _ _ c.load.result m c.load.ensures.loads (c.load.ensures.faults (g.S.Source.faults c.args.input.now)))
+
+pub returns-in-Run-clause-completes : goal.returns-in-Run-clause-completes
+returns-in-Run-clause-completes g c =
+    let m : Met = met (g.S.Source.remaining c.args.input.now) (g.S.Source.remaining c.run.new.input) (g.K.Sink.taken c.args.out.now) (g.K.Sink.taken c.run.new.out)
+    (g.S.Source.faults c.args.input.now) (g.S.Source.faults c.run.new.input) (g.K.Sink.faults c.args.out.now) (g.K.Sink.faults c.run.new.out) (g.Y.Bay.state c.args.bay.now) (g.Y.Bay.state c.run.new.bay) in
+    subst (λ (r : Request). Completes (Some r) c.run.result m) (sym c.in-Run.is)
+    (completes_run _ _ c.run.result m c.run.ensures.runs c.run.ensures.faults)
