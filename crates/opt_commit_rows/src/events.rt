@@ -2,7 +2,7 @@
 
 use anyhow::Result;
 use opt_base::{Block, digest};
-use opt_disk::Event;
+use opt_memdisk::Logged;
 use std::alloc::{AllocError, Global};
 use std::io::Write;
 
@@ -13,23 +13,23 @@ use std::io::Write;
 pub(crate) fn write_event<W: Write>(
     alloc: Global,
     out: &mut W,
-    event: &Event,
+    event: Logged<'_>,
     in_full: bool,
 ) -> Result<()> {
     match event {
-        Event::Wrote {
+        Logged::Wrote {
             ticket,
             block,
             bytes,
         } => {
-            let text = text_of(alloc, bytes.bytes(), in_full)?;
+            let text = text_of(alloc, bytes, in_full)?;
             writeln!(out, "w {ticket} {block} {text}")?;
         }
-        Event::Lost { block, bytes } => {
-            let text = text_of(alloc, bytes.bytes(), in_full)?;
+        Logged::Lost { block, bytes } => {
+            let text = text_of(alloc, bytes, in_full)?;
             writeln!(out, "f {block} {text}")?;
         }
-        Event::Noticed { ticket } => writeln!(out, "d {ticket}")?,
+        Logged::Noticed { ticket } => writeln!(out, "d {ticket}")?,
     }
     Ok(())
 }

@@ -1,3 +1,4 @@
+pub mod kept_events
 pub mod log_rows
 pub mod disk_calls
 pub mod settled_places

@@ -1,8 +1,10 @@
 pub mod Choice
 pub mod Crash
+pub mod Events
 pub mod Image
 pub mod ImageBlock
 pub mod Log
+pub mod Logged
 pub mod MemBay
 pub mod MemDisk
 pub mod Settled

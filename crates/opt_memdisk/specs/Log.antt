@@ -7,11 +7,11 @@ use Rattle.opt_disk.specs.Cell.{greatest_ticket, is_noticed}
 use Rattle.opt_disk.specs.Lawful.{IsLawful, AreEventsOf}
 use Rattle.opt_ranks.specs.Ranks.{RanksState}
 
--- a log: its events, how many writes it has room for, accepted and lost, and how many boxes are ready for their bytes
+-- a log: its events, how many writes it has room for, accepted and lost, and for how many of them the room for their bytes is still free
 pub record LogState : Type 0 where
   pub events : List Event
   pub room : ℕ
-  pub boxes : ℕ
+  pub ready : ℕ
 
 -- the tickets of the accepted writes, in the order of the log
 abbrev pub tickets : List Event → List ℕ
@@ -64,11 +64,11 @@ AreWithin n (Lost block bytes ∷ es) = block < n × AreWithin n es
 AreWithin n (Noticed ticket ∷ es) = AreWithin n es
 
 -- each event is one of some disk, the rows fit one another and the events, and each has room for what may come
-pub record IsKept (events : List Event) (row places lost : List ℕ) (ranks : RanksState) (room boxes most_events most_tickets most_places most_lost : ℕ) : Type 0 where
+pub record IsKept (events : List Event) (row places lost : List ℕ) (ranks : RanksState) (room ready most_events most_tickets most_places most_lost : ℕ) : Type 0 where
   pub lawful : IsLawful events
   pub whole : AreEventsOf (2 ^ 32) events
-  pub next : 0 < boxes → greatest_ticket events ≡ length row
-  pub few : write_count events + boxes ≤ room
+  pub next : 0 < ready → greatest_ticket events ≡ length row
+  pub few : write_count events + ready ≤ room
   pub short : room < 4294967296
   pub row_is : row ≡ tickets events
   pub places_are : places ≡ accepted_places 0 events

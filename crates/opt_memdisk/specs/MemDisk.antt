@@ -1,5 +1,5 @@
 -- A disk in memory as a value, and what each call makes of it. The rules are described in docs/DISK.md.
-use Rattle.std.specs.Prelude.{◌≡◌, ℕ, zero, suc, ◌+◌, ◌<◌, ◌==◌, ◌&&◌, ◌||◌, ◌/◌, ◌%◌, ◌-◌, ◌^◌, nat_lt, IsTrue, IfSome, Bool, true, false, not, if◌then◌else◌, List, [], ◌∷◌, ◌++◌, length, slice_index_or, Option, Some, None}
+use Rattle.std.specs.Prelude.{◌≡◌, ℕ, zero, suc, ◌+◌, ◌<◌, ◌==◌, ◌&&◌, ◌||◌, ◌/◌, ◌%◌, ◌-◌, ◌^◌, nat_lt, Bool, true, false, not, if◌then◌else◌, List, [], ◌∷◌, ◌++◌, length, slice_index_or, Option, Some, None}
 use Rattle.std.specs.List.{slice_get, list_any}
 use Rattle.opt_base.specs.Seal.{Blocks, blocks_of}
 use Rattle.opt_draw.specs.Draws.{next_state, drawn}
@@ -227,4 +227,4 @@ pub record AreLast (base : List (List ℕ)) (log : List Event) (places : List �
 pub record IsDisk (base : List (List ℕ)) (log : LogState) (last : List ℕ) : Type 0 where
   pub places : AreLast base log.events last
   pub within : AreWithin (length base) log.events
-  pub boxes : write_count log.events + log.boxes ≡ log.room
+  pub ready : write_count log.events + log.ready ≡ log.room

@@ -8,17 +8,17 @@ ghost use Rattle.opt_disk.specs.Cell.{cell_of};
 ghost use Rattle.opt_disk.specs.declared.event.Event.{Event};
 ghost use Rattle.opt_disk.specs.Lawful.{IsLawful};
 ghost use Rattle.opt_memdisk.specs.Log.{AreWithin};
+ghost use Rattle.opt_memdisk.specs.Logged.{event_of};
 ghost use Rattle.opt_memdisk.specs.declared.choice.Named.{Named};
 ghost use Rattle.opt_memdisk.specs.Choice.{ChoiceState, chosen, is_pending, joined, left_by, AreBlocksOf, GivesImage, Refuses};
 ghost use Rattle.opt_memdisk.specs.Crash.{first_fate, pending_answer, is_past, put_event};
 ghost use Rattle.opt_memdisk.specs.Settled.{AreSettledPlaces, AreFates};
 
-use crate::Image;
 use crate::choice::{Choice, Fate, ImageRefusal, Named};
 use crate::log::Log;
 use crate::settled::{settled_bytes, settled_image, settled_places};
+use crate::{Image, Logged};
 use opt_base::{Block, NoMemory};
-use opt_disk::Event;
 use std::alloc::Global;
 
 /// The image that a crash after the first `moment` events leaves by a choice.
@@ -36,12 +36,11 @@ pub(crate) fn image_at(
     requires { AreWithin (length base.now) log.now.events }
     ensures { GivesImage base.now log.now.events moment choice.now result }
 {
-    let events = log.events();
-    if moment > events.len() as u64 {
-        return Err(ImageRefusal::PastTheLog {
-            moment,
-            events: events.len() as u64,
-        });
+    // a call for its clause alone: that the log is lawful
+    log.lawful();
+    let events = log.len();
+    if moment > events {
+        return Err(ImageRefusal::PastTheLog { moment, events });
     }
     let moment = moment as usize;
     let places = settled_places(alloc, log, base.blocks(), moment)?;
@@ -92,20 +91,21 @@ fn fates_at_first(
     ensures { IfOk result (λ fates. AreFates (take moment log.now.events) all [] fates.items) }
 {
     let mut fates = Vec::with_capacity(alloc, moment)?;
-    for event in &log.events()[..moment] {
-        fates.push(fate_at_first(event, all)).unwrap();
+    for place in 0..moment {
+        let fate = fate_at_first(log.event(place), all);
+        fates.push(fate).unwrap();
     }
     Ok(fates)
 }
 
 // What is said of one event before single ones are named.
-fn fate_at_first(event: &Event, all: bool) -> Option<Fate>
-    ensures { result ≡ first_fate event.now all }
+fn fate_at_first(event: Logged<'_>, all: bool) -> Option<Fate>
+    ensures { result ≡ first_fate (event_of event.entry) all }
 {
     match event {
-        Event::Wrote { .. } => all.then_some(Fate::Stands),
-        Event::Lost { .. } => None,
-        Event::Noticed { .. } => None,
+        Logged::Wrote { .. } => all.then_some(Fate::Stands),
+        Logged::Lost { .. } => None,
+        Logged::Noticed { .. } => None,
     }
 }
 
@@ -130,30 +130,22 @@ fn name_fate(
     if place >= fates.len() {
         return Err(refusal);
     }
-    if !is_pending_at(event_at(log, place), places, place) {
+    if !is_pending_at(log.event(place), places, place) {
         return Err(refusal);
     }
     fates[place] = Some(joined(fates[place], named.fate));
     Ok(())
 }
 
-// The event at this place, which there must be.
-fn event_at(log: &Log, place: usize) -> &Event
-    requires { place < length log.now.events }
-    ensures { slice_get log.now.events place ≡ Some result.now }
-{
-    &log.events()[place]
-}
-
 // Whether the event of this place is a write after what is settled of its block.
-fn is_pending_at(event: &Event, places: &[usize], place: usize) -> bool
-    requires { AreWithin (length places.now) (event.now ∷ []) }
-    ensures { result ≡ is_past places.now place event.now }
+fn is_pending_at(event: Logged<'_>, places: &[usize], place: usize) -> bool
+    requires { AreWithin (length places.now) (event_of event ∷ []) }
+    ensures { result ≡ is_past places.now place (event_of event.entry) }
 {
     match event {
-        Event::Wrote { block, .. } => places[*block as usize] <= place,
-        Event::Lost { block, .. } => places[*block as usize] <= place,
-        Event::Noticed { .. } => false,
+        Logged::Wrote { block, .. } => places[block as usize] <= place,
+        Logged::Lost { block, .. } => places[block as usize] <= place,
+        Logged::Noticed { .. } => false,
     }
 }
 
@@ -208,22 +200,22 @@ fn put_event(
     requires places { length places.now ≡ length base.now }
     ensures { OnOk result ((moment : ℕ) (event : Event) → AreSettledPlaces (length base.now) (take moment log.now.events) places.now → slice_get log.now.events place ≡ Some event → image.new ≡ put_event (λ b. (cell_of (blocks_of base.now) (take moment log.now.events) b).settled) places.now place event fate image.old) }
 {
-    match event_at(log, place) {
-        Event::Wrote { block, bytes, .. } => {
-            let settled = places[*block as usize];
+    match log.event(place) {
+        Logged::Wrote { block, bytes, .. } => {
+            let settled = places[block as usize];
             if settled <= place {
-                let settled = settled_bytes(base, log, *block, settled);
-                put_write(alloc, image, *block, bytes.bytes(), settled, fate)?;
+                let settled = settled_bytes(base, log, block, settled);
+                put_write(alloc, image, block, bytes, settled, fate)?;
             }
         }
-        Event::Lost { block, bytes } => {
-            let settled = places[*block as usize];
+        Logged::Lost { block, bytes } => {
+            let settled = places[block as usize];
             if settled <= place {
-                let settled = settled_bytes(base, log, *block, settled);
-                put_write(alloc, image, *block, bytes.bytes(), settled, fate)?;
+                let settled = settled_bytes(base, log, block, settled);
+                put_write(alloc, image, block, bytes, settled, fate)?;
             }
         }
-        Event::Noticed { .. } => {}
+        Logged::Noticed { .. } => {}
     }
     Ok(())
 }

@@ -16,6 +16,7 @@ ghost use Rattle.opt_disk.specs.declared.event.Event.{Event};
 ghost use Rattle.opt_disk.specs.declared.event.Event.TheVariants.{Wrote, Lost, Noticed};
 ghost use Rattle.opt_memdisk.specs.Choice.{GivesImage};
 ghost use Rattle.opt_memdisk.specs.Log.{AreWithin, write_count};
+ghost use Rattle.opt_memdisk.specs.Logged.{event_of};
 ghost use Rattle.opt_memdisk.specs.MemDisk.{begun, with_log, state_of, manner_of, is_untouched, turned, has_room, next_ticket, next_call, fails_next, with_event, room_and_counts, counted, faulted, after_read, after_write, after_poll, after_wait, poll_answer, can_wait, by_rule, AreLast};
 ghost use Rattle.opt_memdisk.specs.declared.calls.DiskCall.TheVariants.{Read, Write, Poll, Wait};
 ghost use Rattle.opt_memdisk.specs.declared.rule.Rule.TheVariants.{Silent};
@@ -25,7 +26,7 @@ use crate::crash::image_at;
 use crate::laws::pending_writes_are_those_of_the_cells;
 use crate::log::Log;
 use crate::rule::Notices;
-use crate::{Choice, DiskCall, Fail, Image, ImageRefusal, Rule};
+use crate::{Choice, DiskCall, Fail, Image, ImageRefusal, Logged, Rule};
 use opt_base::{Block, NoMemory};
 use opt_disk::{Disk, DiskFault, Event};
 use std::alloc::{AllocError, Global};
@@ -110,7 +111,7 @@ impl MemDisk {
     ) -> MemDisk
         requires places { AreLast base log.events last.items }
         requires within { AreWithin (length base) log.events }
-        requires boxes { write_count log.events + log.boxes ≡ log.room }
+        requires ready { write_count log.events + log.ready ≡ log.room }
         requires known { IfSome known (λ rule. (log.events ≡ []) × (rule ≡ Silent)) }
         ensures { result ≡ record (begun base log.room) { log = log.events; known = known } }
     {
@@ -177,11 +178,11 @@ impl MemDisk {
     }
 
     /// The event at this place of the log, the first of which is 0, where there is one.
-    pub fn event(&self, i: u64) -> Option<&Event>
-        ensures { option_map (λ event. event.now) result ≡ slice_get self.now.log i }
+    pub fn event(&self, i: u64) -> Option<Logged<'_>>
+        ensures { option_map event_of result ≡ slice_get self.now.log i }
     {
         let i = usize::try_from(i).ok()?;
-        self.log.events().get(i)
+        self.log.at(i)
     }
 
     /// The image that a crash after the first `moment` events leaves by a choice.
@@ -195,7 +196,7 @@ impl MemDisk {
     {
         // calls for their clauses alone: which writes are pending, that the log is lawful, what blocks are
         pending_writes_are_those_of_the_cells();
-        let _ = self.log.events();
+        self.log.lawful();
         let image = image_at(alloc, &self.base, &self.log, moment, choice)?;
         image.lawful();
         Ok(image)
@@ -214,7 +215,7 @@ impl MemDisk {
     {
         match call {
             DiskCall::Read => self.reads.saturating_add(1),
-            DiskCall::Write => u64::from(self.log.room() - self.log.boxes()) + 1,
+            DiskCall::Write => u64::from(self.log.room() - self.log.ready()) + 1,
             DiskCall::Poll => self.polls.saturating_add(1),
             DiskCall::Wait => self.waits.saturating_add(1),
         }
@@ -238,10 +239,11 @@ impl MemDisk {
         if last == 0 {
             return self.base.block(b);
         }
-        match &self.log.events()[last - 1] {
-            Event::Wrote { bytes, .. } => bytes.bytes(),
-            Event::Lost { .. } => self.base.block(b),
-            Event::Noticed { .. } => self.base.block(b),
+        match self.log.at(last - 1) {
+            Some(Logged::Wrote { bytes, .. }) => bytes,
+            Some(Logged::Lost { .. }) => self.base.block(b),
+            Some(Logged::Noticed { .. }) => self.base.block(b),
+            None => self.base.block(b),
         }
     }
 
@@ -272,7 +274,7 @@ impl MemDisk {
     fn has_room(&self) -> bool
         ensures { result ≡ has_room self.now }
     {
-        self.log.has_box()
+        self.log.is_ready()
     }
 
     // Adds a write, for which there must be room, and gives its ticket.
@@ -285,7 +287,9 @@ impl MemDisk {
         ensures unnoticed { is_noticed result self.old.log ≡ false }
         ensures state { self.new ≡ with_event (Wrote result b from.now) self.old }
     {
-        let place = self.log.events().len() + 1;
+        // a call for its clause alone: that the events are few
+        self.log.lawful();
+        let place = self.log.len() as usize + 1;
         let ticket = self.log.add_write(b, from);
         self.last[b as usize] = place;
         ticket
@@ -332,7 +336,7 @@ impl PartialEq for MemDisk {
 
     fn eq(&self, other: &MemDisk) -> bool {
         self.base == other.base
-            && self.log.events() == other.log.events()
+            && self.log.has_same_events(&other.log)
             && self.notices == other.notices
             && self.fails.as_slice() == other.fails.as_slice()
             && self.room_and_counts() == other.room_and_counts()
@@ -394,7 +398,7 @@ impl Disk for MemDisk {
 
     fn lawful(&self) {
         // calls for their clauses alone: what the events are, and what the blocks are
-        let _ = self.log.events();
+        self.log.lawful();
         self.base.lawful();
     }
 

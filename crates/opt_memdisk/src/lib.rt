@@ -8,10 +8,12 @@ mod calls;
 mod choice;
 mod crash;
 mod disk;
+mod events;
 mod image;
 mod image_block;
 mod laws;
 mod log;
+mod logged;
 mod rule;
 mod settled;
 
@@ -21,4 +23,5 @@ pub use choice::{Choice, Fate, ImageRefusal, Named, WriteName};
 pub use disk::MemDisk;
 pub use image::Image;
 pub use laws::{a_choice_makes_each_torn_image, pending_writes_are_those_of_the_cells};
+pub use logged::Logged;
 pub use rule::Rule;

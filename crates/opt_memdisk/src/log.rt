@@ -1,21 +1,25 @@
 //! The log of a disk in memory: its events as they came, and rows by which a ticket, a lost write and an
-//! open ticket are found without a walk over it. The boxes for the bytes of writes, and room for all
-//! events that may come, are made ready at the start: no event takes memory. What blocks there are is not
-//! its matter.
+//! open ticket are found without a walk over it. Room for all events that may come, and for the bytes of
+//! writes, is taken at the start: no event takes memory. What blocks there are, and where the bytes lie, is
+//! not its matter.
 
-ghost use Rattle.std.specs.Prelude.{◌≡◌, ◌<◌, ◌≤◌, ◌+◌, ◌-◌, ◌^◌, ◌++◌, ℕ, [], ◌∷◌, false, length, nat_lt, Option, Some, IfSome, IfNone, IfOk, vec_capacity};
+ghost use Rattle.std.specs.Prelude.{◌≡◌, ◌<◌, ◌≤◌, ◌+◌, ◌-◌, ◌^◌, ◌++◌, ℕ, [], ◌∷◌, false, length, nat_lt, Option, Some, IfSome, IfNone, IfOk, option_map};
 ghost use Rattle.std.specs.List.{slice_get};
 ghost use Rattle.std.specs.List.Sorted.{IsNonDecreasing};
+ghost use Rattle.std.specs.Cmp.Lexicographic.{pointwise};
+ghost use Rattle.opt_disk.specs.contracts.event.EventPartialEq.TheImpl as event;
 ghost use Rattle.opt_disk.specs.declared.event.Event.TheVariants.{Wrote, Lost, Noticed};
 ghost use Rattle.opt_disk.specs.Cell.{greatest_ticket, is_accepted, is_noticed, IsAccepted};
 ghost use Rattle.opt_disk.specs.Disk.{IsOpen};
 ghost use Rattle.opt_disk.specs.Lawful.{MayCome, IsLawful, AreEventsOf};
 ghost use Rattle.opt_memdisk.specs.Log.{tickets, open_tickets, write_count, writes_in};
+ghost use Rattle.opt_memdisk.specs.Logged.{event_of};
 ghost use Rattle.opt_memdisk.specs.Settled.{name_at};
 
-use crate::WriteName;
+use crate::events::{Events, with_room};
+use crate::{Logged, WriteName};
 use opt_base::{Block, NoMemory};
-use opt_disk::{BoxedBlock, Event};
+use opt_disk::{BoxedBlock, Event, a_block_has_its_bytes};
 use opt_ranks::Ranks;
 use std::alloc::{AllocError, Global};
 use std::fmt;
@@ -24,9 +28,7 @@ use std::marker::Model;
 /// The events of a disk.
 #[derive(Drop)]
 pub(crate) struct Log {
-    events: Vec<Event>,
-    /// The boxes for the bytes of writes to come.
-    boxes: Vec<BoxedBlock>,
+    events: Events,
     /// The tickets of accepted writes, which ascend.
     tickets: Vec<u64>,
     /// Where in the log they stand.
@@ -41,16 +43,16 @@ pub(crate) struct Log {
 
 impl Model for Log {
     ghost use Rattle.opt_memdisk.specs.Log.{LogState, IsKept};
-    ghost use Rattle.std.specs.Prelude.{length, vec_capacity};
+    ghost use Rattle.std.specs.Prelude.{vec_capacity};
 
     ghost Value = { LogState };
 
-    ghost view = { λ l. record { events = l.events.items; room = l.room; boxes = length l.boxes.items } };
+    ghost view = { λ l. record { events = l.events.events; room = l.room; ready = l.events.ready } };
 
-    ghost invariant = { λ l. IsKept l.events.items l.tickets.items l.places.items l.lost.items l.unnoticed l.room (length l.boxes.items) (vec_capacity l.events) (vec_capacity l.tickets) (vec_capacity l.places) (vec_capacity l.lost) };
+    ghost invariant = { λ l. IsKept l.events.events l.tickets.items l.places.items l.lost.items l.unnoticed l.room l.events.ready l.events.most (vec_capacity l.tickets) (vec_capacity l.places) (vec_capacity l.lost) };
 }
 
-/// The events and the room alone.
+/// What is kept of the events, and the room alone.
 impl fmt::Debug for Log {
     fn fmt<W: fmt::Write>(&self, f: &mut fmt::Formatter<W>) -> fmt::Result {
         f.debug_struct("Log")
@@ -61,15 +63,14 @@ impl fmt::Debug for Log {
 }
 
 impl Log {
-    /// No events, and room for so many writes and a notice of each, with boxes for their bytes.
+    /// No events, and room for so many writes and a notice of each.
     ///
     /// # Errors
     /// Out of memory for all of the room.
     pub(crate) fn new(alloc: Global, room: u32) -> Result<Log, NoMemory>
-        ensures { IfOk result (λ log. log ≡ record { events = []; room = room; boxes = room }) }
+        ensures { IfOk result (λ log. log ≡ record { events = []; room = room; ready = room }) }
     {
-        let mut log = Log::without_boxes(alloc, room)?;
-        log.boxes = boxes(alloc, room)?;
+        let log = Log::with_ready(alloc, room, room)?;
         Ok(log)
     }
 
@@ -79,30 +80,30 @@ impl Log {
     /// Out of memory.
     pub(crate) fn of_events(alloc: Global, events: Vec<Event>) -> Result<Log, NoMemory>
         requires { IsLawful events.items }
-        ensures { IfOk result (λ log. log ≡ record { events = events.items; room = write_count events.items; boxes = 0 }) }
+        ensures { IfOk result (λ log. log ≡ record { events = events.items; room = write_count events.items; ready = 0 }) }
     {
         let room = write_count(events.as_slice());
         let room = u32::try_from(room).map_err(|_| NoMemory)?;
-        let mut log = Log::without_boxes(alloc, room)?;
+        let mut log = Log::with_ready(alloc, room, 0)?;
         for event in events {
             log.add(event);
         }
         Ok(log)
     }
 
-    // No events, and room for so many writes, but no boxes.
-    fn without_boxes(alloc: Global, room: u32) -> Result<Log, NoMemory>
-        ensures { IfOk result (λ log. log ≡ record { events = []; room = room; boxes = 0 }) }
+    // No events, and room for so many writes, for the bytes of so many of which there is room too.
+    fn with_ready(alloc: Global, room: u32, ready: u32) -> Result<Log, NoMemory>
+        requires { ready ≤ room }
+        ensures { IfOk result (λ log. log ≡ record { events = []; room = room; ready = ready }) }
     {
         let most = usize::try_from(u64::from(room) * 2).map_err(|_| NoMemory)?;
-        let events = Vec::with_capacity(alloc, most)?;
+        let events = Events::new(alloc, most, ready)?;
         let tickets = Vec::with_capacity(alloc, room as usize)?;
         let places = Vec::with_capacity(alloc, room as usize)?;
         let lost = Vec::with_capacity(alloc, room as usize)?;
         let unnoticed = Ranks::new(alloc, room)?;
         Ok(Log {
             events,
-            boxes: Vec::new(alloc),
             tickets,
             places,
             lost,
@@ -125,27 +126,49 @@ impl Log {
         self.room
     }
 
-    /// All events, in their order.
-    pub(crate) fn events(&self) -> &[Event]
-        ensures value { result.now ≡ self.now.events }
+    /// Does nothing. A proof learns from the call that the events are lawful ones of some disk, and few.
+    pub(crate) fn lawful(&self)
         ensures lawful { IsLawful self.now.events }
         ensures whole { AreEventsOf (2 ^ 32) self.now.events }
+        ensures few { length self.now.events < 2 ^ 33 }
     {
-        self.events.as_slice()
+        let _ = &self.events;
     }
 
-    /// How many boxes are ready for the bytes of writes.
-    pub(crate) fn boxes(&self) -> u32
-        ensures { result ≡ self.now.boxes }
+    /// The event at this place, the first of which is 0, where there is one.
+    pub(crate) fn at(&self, place: usize) -> Option<Logged<'_>>
+        ensures { option_map event_of result ≡ slice_get self.now.events place }
     {
-        self.boxes.len() as u32
+        self.events.at(place)
     }
 
-    /// Whether a box is ready for one more write.
-    pub(crate) fn has_box(&self) -> bool
-        ensures { result ≡ nat_lt 0 self.now.boxes }
+    /// The event at this place, which there must be.
+    pub(crate) fn event(&self, place: usize) -> Logged<'_>
+        requires { place < length self.now.events }
+        ensures { slice_get self.now.events place ≡ Some (event_of result) }
     {
-        !self.boxes.is_empty()
+        self.events.at(place).unwrap()
+    }
+
+    /// Whether these are the same events in the same order.
+    pub(crate) fn has_same_events(&self, other: &Log) -> bool
+        ensures { result ≡ pointwise event.ghosts.eq self.now.events other.now.events }
+    {
+        self.events.is_same(&other.events)
+    }
+
+    /// For how many writes there is room for the bytes yet.
+    pub(crate) fn ready(&self) -> u32
+        ensures { result ≡ self.now.ready }
+    {
+        self.events.ready()
+    }
+
+    /// Whether there is room for the bytes of one more write.
+    pub(crate) fn is_ready(&self) -> bool
+        ensures { result ≡ nat_lt 0 self.now.ready }
+    {
+        self.events.ready() > 0
     }
 
     /// Whether a write has this ticket.
@@ -218,27 +241,33 @@ impl Log {
         Some(self.tickets[(number - 1) as usize])
     }
 
-    /// Adds a write, for which a box must be ready, and gives its ticket.
+    /// Adds a write, for whose bytes there must be room, and gives its ticket.
     pub(crate) fn add_write(&mut self, block: u32, bytes: &Block) -> u64
-        requires { 0 < self.old.boxes }
+        requires { 0 < self.old.ready }
         ensures ticket { result ≡ length (tickets self.old.events) + 1 }
         ensures above { greatest_ticket self.old.events < result }
         ensures unnoticed { is_noticed result self.old.events ≡ false }
-        ensures state { self.new ≡ record self.old { events = self.old.events ++ Wrote result block bytes.now ∷ []; boxes = self.old.boxes - 1 } }
+        ensures state { self.new ≡ record self.old { events = self.old.events ++ Wrote result block bytes.now ∷ []; ready = self.old.ready - 1 } }
     {
+        // a call for its clause alone: what the bytes of a block are
+        a_block_has_its_bytes(bytes);
         let ticket = self.tickets.len() as u64 + 1;
-        let bytes = self.boxed(bytes);
-        self.push_wrote(ticket, block, bytes);
+        self.tickets.push(ticket).unwrap();
+        self.places.push(self.events.len()).unwrap();
+        self.unnoticed.join();
+        self.events.push_wrote(ticket, block, bytes);
         ticket
     }
 
-    /// Adds a lost write, for which a box must be ready.
+    /// Adds a lost write, for whose bytes there must be room.
     pub(crate) fn add_lost(&mut self, block: u32, bytes: &Block)
-        requires { 0 < self.old.boxes }
-        ensures { self.new ≡ record self.old { events = self.old.events ++ Lost block bytes.now ∷ []; boxes = self.old.boxes - 1 } }
+        requires { 0 < self.old.ready }
+        ensures { self.new ≡ record self.old { events = self.old.events ++ Lost block bytes.now ∷ []; ready = self.old.ready - 1 } }
     {
-        let bytes = self.boxed(bytes);
-        self.push_lost(block, bytes);
+        // a call for its clause alone: what the bytes of a block are
+        a_block_has_its_bytes(bytes);
+        self.lost.push(self.events.len()).unwrap();
+        self.events.push_lost(block, bytes);
     }
 
     /// Adds the notice of a ticket that is open.
@@ -248,26 +277,14 @@ impl Log {
     {
         let number = self.number_of(ticket);
         self.unnoticed.take_out(number);
-        self.events.push(Event::Noticed { ticket }).unwrap();
+        self.events.push_noticed(ticket);
     }
 
-    // One of the boxes that are ready, with these bytes. There is room for the writes of all of them.
-    fn boxed(&mut self, bytes: &Block) -> BoxedBlock
-        requires { 0 < self.old.boxes }
-        ensures bytes { result ≡ bytes.now }
-        ensures room { write_count self.old.events + self.old.boxes ≤ self.old.room }
-        ensures state { self.new ≡ record self.old { boxes = self.old.boxes - 1 } }
-    {
-        let mut boxed = self.boxes.pop().unwrap();
-        boxed.set(bytes);
-        boxed
-    }
-
-    // Adds an event that may come, for which there must be room, where no boxes are ready.
+    // Adds an event that may come, for which there must be room, where no room for bytes is ready.
     fn add(&mut self, event: Event)
         requires may { MayCome self.old.events event }
         requires room { write_count self.old.events + writes_in event ≤ self.old.room }
-        requires boxes { self.old.boxes ≡ 0 }
+        requires ready { self.old.ready ≡ 0 }
         ensures { self.new ≡ record self.old { events = self.old.events ++ event ∷ [] } }
     {
         match event {
@@ -275,17 +292,17 @@ impl Log {
                 ticket,
                 block,
                 bytes,
-            } => self.push_wrote(ticket, block, bytes),
-            Event::Lost { block, bytes } => self.push_lost(block, bytes),
+            } => self.take_wrote(ticket, block, bytes),
+            Event::Lost { block, bytes } => self.take_lost(block, bytes),
             Event::Noticed { ticket } => self.add_notice(ticket),
         }
     }
 
-    // Adds a write, whose ticket is the next one where boxes are ready, and for which there must be room.
-    fn push_wrote(&mut self, ticket: u64, block: u32, bytes: BoxedBlock)
+    // Adds a write with its own bytes, for which there must be room, where no room for bytes is ready.
+    fn take_wrote(&mut self, ticket: u64, block: u32, bytes: BoxedBlock)
         requires above { greatest_ticket self.old.events < ticket }
-        requires next { 0 < self.old.boxes → ticket ≡ length (tickets self.old.events) + 1 }
-        requires room { write_count self.old.events + 1 + self.old.boxes ≤ self.old.room }
+        requires room { write_count self.old.events + 1 ≤ self.old.room }
+        requires ready { self.old.ready ≡ 0 }
         ensures { self.new ≡ record self.old { events = self.old.events ++ Wrote ticket block bytes ∷ [] } }
     {
         // a call for its clause alone: the box has the bytes of a block
@@ -298,18 +315,19 @@ impl Log {
             block,
             bytes,
         };
-        self.events.push(event).unwrap();
+        self.events.push_given(event);
     }
 
-    // Adds a lost write, for which there must be room.
-    fn push_lost(&mut self, block: u32, bytes: BoxedBlock)
-        requires { write_count self.old.events + 1 + self.old.boxes ≤ self.old.room }
+    // Adds a lost write with its own bytes, for which there must be room, where no room for bytes is ready.
+    fn take_lost(&mut self, block: u32, bytes: BoxedBlock)
+        requires room { write_count self.old.events + 1 ≤ self.old.room }
+        requires ready { self.old.ready ≡ 0 }
         ensures { self.new ≡ record self.old { events = self.old.events ++ Lost block bytes ∷ [] } }
     {
         // a call for its clause alone: the box has the bytes of a block
         bytes.lawful();
         self.lost.push(self.events.len()).unwrap();
-        self.events.push(Event::Lost { block, bytes }).unwrap();
+        self.events.push_given(Event::Lost { block, bytes });
     }
 }
 
@@ -320,13 +338,9 @@ impl Clone for Log {
     ghost is_clone = { λ log clone. clone ≡ log };
 
     fn clone(&self) -> Result<Log, AllocError> {
-        let alloc = *self.events.allocator();
-        let most = usize::try_from(u64::from(self.room) * 2).map_err(|_| AllocError)?;
-        let ready = self.boxes.len() as u32;
-        let boxes = boxes(alloc, ready).map_err(|_| AllocError)?;
+        let alloc = *self.tickets.allocator();
         Ok(Log {
-            events: events_with_room(alloc, self.events.as_slice(), most)?,
-            boxes,
+            events: self.events.clone()?,
             tickets: with_room(alloc, self.tickets.as_slice(), self.room as usize)?,
             places: with_room(alloc, self.places.as_slice(), self.room as usize)?,
             lost: with_room(alloc, self.lost.as_slice(), self.room as usize)?,
@@ -334,38 +348,6 @@ impl Clone for Log {
             room: self.room,
         })
     }
-}
-
-// A copy of these events, with room for so many in all.
-fn events_with_room(alloc: Global, events: &[Event], most: usize) -> Result<Vec<Event>, AllocError>
-    ensures events { IfOk result (λ copy. copy.items ≡ events.now) }
-    ensures room { IfOk result (λ copy. most ≤ vec_capacity copy) }
-{
-    let mut copy = Vec::with_capacity(alloc, most)?;
-    copy.extend_with_clones(events)?;
-    Ok(copy)
-}
-
-// A copy of these items, with room for so many in all.
-fn with_room<T: Copy + Drop>(alloc: Global, items: &[T], most: usize) -> Result<Vec<T>, AllocError>
-    ensures items { IfOk result (λ copy. copy.items ≡ items.now) }
-    ensures room { IfOk result (λ copy. most ≤ vec_capacity copy) }
-{
-    let mut copy = Vec::with_capacity(alloc, most)?;
-    copy.extend_from_slice(items)?;
-    Ok(copy)
-}
-
-// So many boxes.
-fn boxes(alloc: Global, n: u32) -> Result<Vec<BoxedBlock>, NoMemory>
-    ensures { IfOk result (λ boxes. length boxes.items ≡ n) }
-{
-    let mut boxes = Vec::with_capacity(alloc, n as usize)?;
-    while boxes.len() < n as usize {
-        let ready = BoxedBlock::new(alloc, &[0; 1024])?;
-        boxes.push(ready).unwrap();
-    }
-    Ok(boxes)
 }
 
 // How many of these events are writes, accepted and lost.

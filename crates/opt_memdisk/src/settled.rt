@@ -6,15 +6,14 @@ ghost use Rattle.std.specs.List.{slice_get};
 ghost use Rattle.opt_base.specs.Seal.{blocks_of};
 ghost use Rattle.opt_disk.specs.declared.event.Event.TheVariants.{Noticed};
 ghost use Rattle.opt_disk.specs.Cell.{cell_of};
-ghost use Rattle.opt_disk.specs.Lawful.{IsLawful};
 ghost use Rattle.opt_memdisk.specs.Log.{AreWithin};
 ghost use Rattle.opt_memdisk.specs.Settled.{IsSettledPlace, AreSettledPlaces};
 ghost use Rattle.opt_memdisk.specs.Choice.{AreBlocksOf};
 
 use crate::log::Log;
-use crate::{Image, WriteName};
+use crate::{Image, Logged, WriteName};
 use opt_base::{Block, NoMemory};
-use opt_disk::{Event, settled_is_the_newest_noticed};
+use opt_disk::{a_block_has_its_bytes, settled_is_the_newest_noticed};
 use std::alloc::Global;
 
 /// For each of so many blocks one more than the place in the log of its newest write whose notice is among
@@ -33,22 +32,24 @@ pub(crate) fn settled_places(
     ensures { IfOk result (λ places. AreSettledPlaces blocks (take moment log.now.events) places.items) }
 {
     let mut places = vec![in alloc; 0usize; blocks as usize]?;
-    for event in &log.events()[..moment] {
-        pass(places.as_mut_slice(), log, event);
+    for place in 0..moment {
+        pass(places.as_mut_slice(), log, place);
     }
     Ok(places)
 }
 
-// Makes the places those that are settled after one more event of the log.
-fn pass(places: &mut [usize], log: &Log, event: &Event)
-    requires lawful { IsLawful log.now.events }
+// Makes the places those that are settled after the event at this place of the log.
+fn pass(places: &mut [usize], log: &Log, place: usize)
     requires within { AreWithin (length places.old) log.now.events }
-    ensures { (moment : ℕ) → slice_get log.now.events moment ≡ Some event.now → AreSettledPlaces (length places.old) (take moment log.now.events) places.old → AreSettledPlaces (length places.old) (take (moment + 1) log.now.events) places.new }
+    requires there { place < length log.now.events }
+    ensures { AreSettledPlaces (length places.old) (take place log.now.events) places.old → AreSettledPlaces (length places.old) (take (place + 1) log.now.events) places.new }
 {
-    match event {
-        Event::Wrote { .. } => {}
-        Event::Lost { .. } => {}
-        Event::Noticed { ticket } => note(places, log, *ticket),
+    // a call for its clause alone: that the log is lawful
+    log.lawful();
+    match log.event(place) {
+        Logged::Wrote { .. } => {}
+        Logged::Lost { .. } => {}
+        Logged::Noticed { ticket } => note(places, log, ticket),
     }
 }
 
@@ -57,11 +58,12 @@ fn note(places: &mut [usize], log: &Log, ticket: u64)
     requires { AreWithin (length places.old) log.now.events }
     ensures { (moment : ℕ) → slice_get log.now.events moment ≡ Some (Noticed ticket) → AreSettledPlaces (length places.old) (take moment log.now.events) places.old → AreSettledPlaces (length places.old) (take (moment + 1) log.now.events) places.new }
 {
-    let events = log.events();
+    // a call for its clauses alone: that the log is lawful, and has few events
+    log.lawful();
     if let Some(place) = log.place_of(WriteName::Accepted { ticket }) {
-        if let Event::Wrote { block, .. } = &events[place] {
-            if places[*block as usize] <= place {
-                places[*block as usize] = place + 1;
+        if let Logged::Wrote { block, .. } = log.event(place) {
+            if places[block as usize] <= place {
+                places[block as usize] = place + 1;
             }
         }
     }
@@ -78,15 +80,20 @@ pub(crate) fn settled_bytes<'a>(
     ensures bytes { (moment : ℕ) → IsSettledPlace (take moment log.now.events) block place → result.now ≡ (cell_of (blocks_of base.now) (take moment log.now.events) block).settled }
     ensures size { length result.now ≡ 1024 }
 {
+    // calls for their clauses alone: what is settled where no write was noticed, that the log is lawful, and
+    // what the bytes of a block are
     settled_is_the_newest_noticed();
-    let events = log.events();
+    log.lawful();
     if place == 0 {
         return base.block(block);
     }
-    match events.get(place - 1) {
-        Some(Event::Wrote { bytes, .. }) => bytes.bytes(),
-        Some(Event::Lost { .. }) => base.block(block),
-        Some(Event::Noticed { .. }) => base.block(block),
+    match log.at(place - 1) {
+        Some(Logged::Wrote { bytes, .. }) => {
+            a_block_has_its_bytes(bytes);
+            bytes
+        }
+        Some(Logged::Lost { .. }) => base.block(block),
+        Some(Logged::Noticed { .. }) => base.block(block),
         None => base.block(block),
     }
 }
@@ -106,7 +113,7 @@ pub(crate) fn settled_image(
 {
     // calls for their clauses alone: what is settled where no write was noticed, and that the log is lawful
     settled_is_the_newest_noticed();
-    let _ = log.events();
+    log.lawful();
     let mut image = base.copy(alloc)?;
     for block in 0..base.blocks() {
         let place = places[block as usize];

@@ -3,8 +3,8 @@
 use crate::texts::{short_of, write_header_text};
 use anyhow::Result;
 use opt_base::NoMemory;
-use opt_disk::{Disk, Event};
-use opt_memdisk::{Choice, Fail, Image, MemDisk};
+use opt_disk::Disk;
+use opt_memdisk::{Choice, Fail, Image, Logged, MemDisk};
 use opt_mount::{MountRefusal, Mounted, mount};
 use std::alloc::Global;
 use std::io::Write;
@@ -60,21 +60,21 @@ fn write_tried<W: Write>(alloc: Global, tried: &Tried, out: &mut W) -> Result<()
     Ok(())
 }
 
-fn write_event<W: Write>(alloc: Global, event: &Event, out: &mut W) -> Result<()> {
+fn write_event<W: Write>(alloc: Global, event: Logged<'_>, out: &mut W) -> Result<()> {
     match event {
-        Event::Wrote {
+        Logged::Wrote {
             ticket,
             block,
             bytes,
         } => {
-            let text = short_of(alloc, bytes.bytes())?;
+            let text = short_of(alloc, bytes)?;
             writeln!(out, "w {ticket} {block} {text}")?;
         }
-        Event::Lost { block, bytes } => {
-            let text = short_of(alloc, bytes.bytes())?;
+        Logged::Lost { block, bytes } => {
+            let text = short_of(alloc, bytes)?;
             writeln!(out, "f {block} {text}")?;
         }
-        Event::Noticed { ticket } => writeln!(out, "d {ticket}")?,
+        Logged::Noticed { ticket } => writeln!(out, "d {ticket}")?,
     }
     Ok(())
 }

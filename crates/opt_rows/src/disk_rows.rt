@@ -6,7 +6,7 @@ use crate::disk_text::{Answer, choice_of, content_of, fails_of};
 use crate::words::{byte, long_number, number};
 use opt_base::NoMemory;
 use opt_disk::{BoxedBlock, Disk, Event};
-use opt_memdisk::{Image, ImageRefusal, MemDisk, Rule};
+use opt_memdisk::{Image, ImageRefusal, Logged, MemDisk, Rule};
 use std::alloc::Global;
 
 /// What a row of a disk asks.
@@ -274,17 +274,17 @@ fn rule_of(words: &[&str]) -> Option<Rule> {
     }
 }
 
-fn told(event: Option<&Event>) -> Answer {
+fn told(event: Option<Logged<'_>>) -> Answer {
     match event {
         None => Answer::Nothing,
         Some(
-            Event::Wrote {
+            Logged::Wrote {
                 ticket,
                 block,
                 bytes,
             },
-        ) => Answer::Wrote(*ticket, *block, content_of(bytes.bytes())),
-        Some(Event::Lost { block, bytes }) => Answer::Lost(*block, content_of(bytes.bytes())),
-        Some(Event::Noticed { ticket }) => Answer::Noticed(*ticket),
+        ) => Answer::Wrote(ticket, block, content_of(bytes)),
+        Some(Logged::Lost { block, bytes }) => Answer::Lost(block, content_of(bytes)),
+        Some(Logged::Noticed { ticket }) => Answer::Noticed(ticket),
     }
 }

@@ -8,4 +8,7 @@ mod line;
 mod write;
 
 pub use laws::equal_traces_have_equal_contents;
-pub use write::{write_command, write_end, write_event, write_geom, write_reply};
+pub use write::{
+    write_command, write_end, write_event, write_geom, write_lost, write_noticed, write_reply,
+    write_wrote,
+};

@@ -6,6 +6,7 @@ ghost use Rattle.std.specs.Io.KnownBytes.{Appends};
 ghost use Rattle.hex.specs.Hex.{encode_lower};
 ghost use Rattle.arrayvec.specs.ArrayVec.{array_vec_len};
 ghost use Rattle.opt_base.specs.Counts.{HasCause};
+ghost use Rattle.opt_disk.specs.declared.event.Event.TheVariants.{Wrote, Lost, Noticed};
 ghost use Rattle.opt_trace.specs.Line.{geometry_line, event_line, command_line, reply_line, end_line};
 
 use crate::line::{Line, put, put_digits, put_number};
@@ -35,6 +36,56 @@ pub fn write_geom<K: Sink>(out: &mut K, geom: &Geom) -> Result<(), SinkFault>
     Ok(())
 }
 
+/// Writes the line of a write that was accepted.
+///
+/// # Errors
+/// The first fault of the sink, which by then took a front of the line and nothing else.
+pub fn write_wrote<K: Sink>(
+    out: &mut K,
+    ticket: u64,
+    block: u32,
+    bytes: &Block,
+) -> Result<(), SinkFault>
+    ensures all { OnOk result (Appends (K.taken out.old) (K.taken out.new) (event_line (Wrote ticket block bytes.now))) }
+    ensures front { OnErr result ((n : ℕ) × Appends (K.taken out.old) (K.taken out.new) (take n (event_line (Wrote ticket block bytes.now)))) }
+    ensures cause { HasCause result (K.faults out.old) (K.faults out.new) }
+{
+    let mut line = Line::new();
+    put_wrote(&mut line, ticket, block, bytes);
+    push_all(out, line.as_slice())?;
+    Ok(())
+}
+
+/// Writes the line of a write that was lost.
+///
+/// # Errors
+/// The first fault of the sink, which by then took a front of the line and nothing else.
+pub fn write_lost<K: Sink>(out: &mut K, block: u32, bytes: &Block) -> Result<(), SinkFault>
+    ensures all { OnOk result (Appends (K.taken out.old) (K.taken out.new) (event_line (Lost block bytes.now))) }
+    ensures front { OnErr result ((n : ℕ) × Appends (K.taken out.old) (K.taken out.new) (take n (event_line (Lost block bytes.now)))) }
+    ensures cause { HasCause result (K.faults out.old) (K.faults out.new) }
+{
+    let mut line = Line::new();
+    put_lost(&mut line, block, bytes);
+    push_all(out, line.as_slice())?;
+    Ok(())
+}
+
+/// Writes the line of a notice.
+///
+/// # Errors
+/// The first fault of the sink, which by then took a front of the line and nothing else.
+pub fn write_noticed<K: Sink>(out: &mut K, ticket: u64) -> Result<(), SinkFault>
+    ensures all { OnOk result (Appends (K.taken out.old) (K.taken out.new) (event_line (Noticed ticket))) }
+    ensures front { OnErr result ((n : ℕ) × Appends (K.taken out.old) (K.taken out.new) (take n (event_line (Noticed ticket)))) }
+    ensures cause { HasCause result (K.faults out.old) (K.faults out.new) }
+{
+    let mut line = Line::new();
+    put_noticed(&mut line, ticket);
+    push_all(out, line.as_slice())?;
+    Ok(())
+}
+
 /// Writes the line of an event: a write that was accepted, one that was lost, or a notice.
 ///
 /// # Errors
@@ -59,21 +110,38 @@ fn put_event(line: &mut Line, event: &Event)
             ticket,
             block,
             bytes,
-        } => {
-            put(line, b"w ");
-            put_number(line, *ticket);
-            put(line, b" ");
-            put_block(line, *block, bytes.bytes());
-        }
-        Event::Lost { block, bytes } => {
-            put(line, b"f ");
-            put_block(line, *block, bytes.bytes());
-        }
-        Event::Noticed { ticket } => {
-            put(line, b"d ");
-            put_number(line, *ticket);
-        }
+        } => put_wrote(line, *ticket, *block, bytes.bytes()),
+        Event::Lost { block, bytes } => put_lost(line, *block, bytes.bytes()),
+        Event::Noticed { ticket } => put_noticed(line, *ticket),
     }
+}
+
+fn put_wrote(line: &mut Line, ticket: u64, block: u32, bytes: &Block)
+    requires { line.old.items ≡ [] }
+    ensures { line.new.items ≡ event_line (Wrote ticket block bytes.now) }
+{
+    put(line, b"w ");
+    put_number(line, ticket);
+    put(line, b" ");
+    put_block(line, block, bytes);
+    put(line, b"\n");
+}
+
+fn put_lost(line: &mut Line, block: u32, bytes: &Block)
+    requires { line.old.items ≡ [] }
+    ensures { line.new.items ≡ event_line (Lost block bytes.now) }
+{
+    put(line, b"f ");
+    put_block(line, block, bytes);
+    put(line, b"\n");
+}
+
+fn put_noticed(line: &mut Line, ticket: u64)
+    requires { line.old.items ≡ [] }
+    ensures { line.new.items ≡ event_line (Noticed ticket) }
+{
+    put(line, b"d ");
+    put_number(line, ticket);
     put(line, b"\n");
 }
 

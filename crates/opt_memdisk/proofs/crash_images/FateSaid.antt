@@ -1,7 +1,7 @@
 -- What is said of each write of a log: before any is named, and after one more is.
-use Rattle.std.proofs.Common.{◌≡◌, ℕ, zero, suc, ◌+◌, ◌<◌, ◌≤◌, Bool, if◌then◌else◌, List, [], ◌∷◌, ◌++◌, length, map, take, get_or, slice_set, slice_get, Option, Some, refl, sym, ◌∙◌, ap, subst, arith, ⊎_elim, length-set}
+use Rattle.std.proofs.Common.{◌≡◌, ℕ, zero, suc, ◌+◌, ◌<◌, Bool, if◌then◌else◌, List, [], ◌∷◌, ◌++◌, length, map, take, slice_set, slice_get, Option, Some, refl, sym, ◌∙◌, ap, ap₂, subst, arith, ⊎_elim, length-set}
 use Rattle.std.proofs.lemmas.Bool.{cases_eq, cond-true, cond-false, false_from_ne_true}
-use Rattle.std.proofs.lemmas.List.{length-map, map_more, take_all}
+use Rattle.std.proofs.lemmas.List.{length-map, map-append}
 use Rattle.std.proofs.lemmas.Option.{none-some, same_Some, slice_get_within}
 use Rattle.opt_disk.specs.declared.event.Event.{Event}
 use Rattle.opt_disk.specs.declared.event.Event.TheVariants.{Wrote, Lost, Noticed}
@@ -15,6 +15,7 @@ use Rattle.opt_memdisk.specs.Crash.{first_fate}
 use Rattle.opt_memdisk.specs.Settled.{name_from, name_at, AreFates}
 use Rattle.opt_memdisk.proofs.crash_images.FateNames.{same_place}
 use Rattle.opt_memdisk.proofs.crash_images.FatePending.{same_name-true, same_name-same}
+use Rattle.opt_memdisk.proofs.log_rows.Events.{take_event}
 
 -- before any write is named, what is said of it is described by its event
 first_said : (all : Bool) (lost : ℕ) (es : List Event) (p : ℕ) (name : WriteName) → name_from lost es p ≡ Some name → slice_get (map (λ e. first_fate e all) es) p ≡ Some (said_at_first all name)
@@ -86,12 +87,11 @@ fates_more log all said fates p write fate now after lawful were here old is = r
         set_other fates p q after e ∙ were.each q name its ∙ ap Some (sym (said_other said write name fate (said_at_first all name) differ))
 
 -- one event more has its first fate
-pub first_step : (all : Bool) (es : List Event) (i : ℕ) (e : Event) (old new : List (Option Fate)) (f : Option Fate) → old ≡ map (λ e. first_fate e all) (take i es) → i < length es → e ≡ get_or es i e → f ≡ first_fate e all
+pub first_step : (all : Bool) (es : List Event) (i : ℕ) (e : Event) (old new : List (Option Fate)) (f : Option Fate) → old ≡ map (λ e. first_fate e all) (take i es) → slice_get es i ≡ Some e → f ≡ first_fate e all
     → new ≡ old ++ f ∷ [] → new ≡ map (λ e. first_fate e all) (take (i + 1) es)
-first_step all es i e old new f were more is its grown =
-    grown ∙ ap (λ (l : List (Option Fate)). l ++ f ∷ []) were ∙ ap (λ o. map (λ e. first_fate e all) (take i es) ++ o ∷ []) (its ∙ ap (λ a. first_fate a all) is) ∙ sym (map_more (λ e. first_fate e all) es i e more)
+first_step all es i e old new f were at its grown =
+    grown ∙ ap₂ (λ (l : List (Option Fate)) o. l ++ o ∷ []) were its ∙ sym (map-append (λ e. first_fate e all) (take i es) (e ∷ [])) ∙ ap (map (λ e. first_fate e all)) (sym (take_event es i e at))
 
 -- behind the last event all have theirs
-pub first_end : (all : Bool) (es log : List Event) (i : ℕ) (fates : List (Option Fate)) → fates ≡ map (λ e. first_fate e all) (take i es) → length es ≤ i → es ≡ log → AreFates log all [] fates
-first_end all es log i fates are past same =
-    subst (AreFates log all []) (sym (are ∙ ap (λ l. map (λ e. first_fate e all) l) (take_all i es past ∙ same))) (fates_first all log)
+pub first_end : (all : Bool) (es : List Event) (i moment : ℕ) (fates : List (Option Fate)) → fates ≡ map (λ e. first_fate e all) (take i es) → i ≡ moment → AreFates (take moment es) all [] fates
+first_end all es i moment fates are done = subst (AreFates (take moment es) all []) (sym (are ∙ ap (λ k. map (λ e. first_fate e all) (take k es)) done)) (fates_first all (take moment es))

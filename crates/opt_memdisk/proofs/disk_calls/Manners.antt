@@ -1,7 +1,6 @@
 -- A disk in memory goes by its manner: what its log is, which calls fail, and what its polls answer.
-use Rattle.std.proofs.Common.{◌≡◌, ◌⊎◌, inl, inr, ℕ, zero, suc, ◌+◌, ◌-◌, ◌^◌, ◌<◌, ◌==◌, ◌&&◌, ◌||◌, Bool, true, false, not, nat_lt, List, [], ◌∷◌, ◌++◌, length, Option, Some, None, Result, Ok, Err, OnErr, is_ok, if◌then◌else◌, refl, sym, ◌∙◌, ap, ap₂, subst, arith, append-nil, append_assoc}
+use Rattle.std.proofs.Common.{◌≡◌, inl, inr, ℕ, suc, ◌+◌, ◌-◌, ◌^◌, ◌<◌, ◌==◌, ◌&&◌, ◌||◌, Bool, true, false, not, nat_lt, List, [], ◌∷◌, ◌++◌, length, Option, Some, None, Result, Ok, Err, OnErr, is_ok, if◌then◌else◌, refl, sym, ◌∙◌, ap, ap₂, subst, arith, append-nil, append_assoc}
 use Rattle.std.proofs.lemmas.Bool.{and_parts, cond-true, cond-false, false≢true, or_left, or_right, ltb-true, eqb-true}
-use Rattle.std.specs.List.{list_any}
 use Rattle.opt_base.specs.Counts.{next_count}
 use Rattle.opt_disk.specs.declared.event.Event.{Event}
 use Rattle.opt_disk.specs.declared.event.Event.TheVariants.{Wrote, Lost, Noticed}
@@ -13,7 +12,7 @@ use Rattle.opt_memdisk.specs.declared.rule.Rule.{Rule}
 use Rattle.opt_memdisk.specs.declared.rule.Notices.{Notices}
 use Rattle.opt_memdisk.specs.Log.{write_count, open_tickets}
 use Rattle.opt_disk.specs.Cell.{IsAccepted}
-use Rattle.opt_memdisk.specs.MemDisk.{MemDiskState, next_call, fails_next, has_room, can_wait, manner_of, after_write, after_poll, after_wait, same_call, is_listed, has_listed, polled, turned, turns, by_rule, ruled, manner_by, manner_known, GoesByRule, GoesAsKnown}
+use Rattle.opt_memdisk.specs.MemDisk.{MemDiskState, next_call, fails_next, has_room, can_wait, manner_of, after_write, after_poll, after_wait, same_call, is_listed, has_listed, polled, turned, turns, by_rule, manner_by, manner_known, GoesAsKnown}
 
 -- any log goes by the manner of a disk of which nothing is known
 any_goes : (before log : List Event) → MayAllComeBy any_manner before log

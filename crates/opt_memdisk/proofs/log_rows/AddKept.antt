@@ -24,8 +24,8 @@ noticed_others : (log : List Event) (t u : ℕ) → (u ≡ t → ⊥) → unnoti
 noticed_others log t u apart = ap not (noticed-append u log (Noticed t ∷ []) ∙ ap (λ v. is_noticed u log || (v || false)) (ne_eqb t u (λ e. apart (sym e))) ∙ or-false (is_noticed u log))
 
 -- rows that fit their log
-module _ {events : List Event} {row places lost : List ℕ} {ranks : RanksState} {room boxes most_events most_tickets most_places most_lost : ℕ}
-    (kept : IsKept events row places lost ranks room boxes most_events most_tickets most_places most_lost) where
+module _ {events : List Event} {row places lost : List ℕ} {ranks : RanksState} {room ready most_events most_tickets most_places most_lost : ℕ}
+    (kept : IsKept events row places lost ranks room ready most_events most_tickets most_places most_lost) where
   -- are as long as there are accepted writes, and writes that were lost
   pub lengths : (length places ≡ length row) × (length row + length lost ≡ write_count events)
   lengths =
@@ -36,13 +36,13 @@ module _ {events : List Event} {row places lost : List ℕ} {ranks : RanksState}
       (omega (arith, counts.0), omega (arith, counts.0, counts.1))
 
   -- where one more write has room, each row has room for it
-  pub room_for_wrote : write_count events + 1 + boxes ≤ room → (length events < most_events) × (length row < most_tickets) × (length places < most_places) × (ranks.joined < ranks.most)
+  pub room_for_wrote : write_count events + 1 ≤ room → (length events < most_events) × (length row < most_tickets) × (length places < most_places) × (ranks.joined < ranks.most)
   room_for_wrote more =
       let all = lengths in
       (omega (arith, kept.count, kept.events_fit), omega (arith, all.1, kept.tickets_fit), omega (arith, all.0, all.1, kept.places_fit), omega (arith, all.1, kept.joined, kept.open_fit))
 
   -- also where it is a lost one
-  pub room_for_lost : write_count events + 1 + boxes ≤ room → (length events < most_events) × (length lost < most_lost)
+  pub room_for_lost : write_count events + 1 ≤ room → (length events < most_events) × (length lost < most_lost)
   room_for_lost more =
       let all = lengths in
       (omega (arith, kept.count, kept.events_fit), omega (arith, all.1, kept.lost_fit))
@@ -73,12 +73,12 @@ module _ {events : List Event} {row places lost : List ℕ} {ranks : RanksState}
       sym (numbers_of_same (unnoticed events) (unnoticed (events ++ e ∷ [])) (λ u. ap not (noticed-append u events (e ∷ []) ∙ ap (λ v. is_noticed u events || v) (quiet u) ∙ or-false (is_noticed u events))) 1 (tickets events))
       ∙ ap (numbers_of (unnoticed (events ++ e ∷ [])) 1) same_tickets
 
-  -- the rows with one more accepted write
-  pub kept_wrote : (t b : ℕ) (x : List ℕ) (more_events more_tickets more_places : ℕ) → greatest_ticket events < t → (0 < boxes → t ≡ length (tickets events) + 1) → write_count events + 1 + boxes ≤ room
-      → most_events ≤ more_events → most_tickets ≤ more_tickets → most_places ≤ more_places
+  -- the rows with one more accepted write, where room for the bytes of so many is left
+  pub kept_wrote : (t b : ℕ) (x : List ℕ) (left more_tickets more_places : ℕ) → greatest_ticket events < t → (0 < left → t ≡ length (tickets events) + 1) → write_count events + 1 + left ≤ room
+      → most_tickets ≤ more_tickets → most_places ≤ more_places
       → IsEventOf (2 ^ 32) (Wrote t b x)
-      → IsKept (events ++ Wrote t b x ∷ []) (row ++ t ∷ []) (places ++ length events ∷ []) lost (with_next ranks) room boxes more_events more_tickets more_places most_lost
-  kept_wrote t b x more_events more_tickets more_places above next more events_fit tickets_fit places_fit event =
+      → IsKept (events ++ Wrote t b x ∷ []) (row ++ t ∷ []) (places ++ length events ∷ []) lost (with_next ranks) room left most_events more_tickets more_places most_lost
+  kept_wrote t b x left more_tickets more_places above next more tickets_fit places_fit event =
       let long = ap length kept.row_is in
       let all = length-append row (t ∷ []) in
       let events_long = length-append events (Wrote t b x ∷ []) in
@@ -103,24 +103,24 @@ module _ {events : List Event} {row places lost : List ℕ} {ranks : RanksState}
         joined = omega (arith, kept.joined);
         open_fit = kept.open_fit;
         count = omega (arith, kept.count);
-        events_fit = omega (arith, kept.events_fit);
+        events_fit = kept.events_fit;
         tickets_fit = omega (arith, kept.tickets_fit);
         places_fit = omega (arith, kept.places_fit);
         lost_fit = kept.lost_fit;
       }
 
-  -- the rows with one more write that was lost
-  pub kept_lost : (b : ℕ) (x : List ℕ) (more_events more_lost : ℕ) → write_count events + 1 + boxes ≤ room → most_events ≤ more_events → most_lost ≤ more_lost
+  -- the rows with one more write that was lost, where room for the bytes of so many is left
+  pub kept_lost : (b : ℕ) (x : List ℕ) (left more_lost : ℕ) → left ≤ ready → write_count events + 1 + left ≤ room → most_lost ≤ more_lost
       → IsEventOf (2 ^ 32) (Lost b x)
-      → IsKept (events ++ Lost b x ∷ []) row places (lost ++ length events ∷ []) ranks room boxes more_events most_tickets most_places more_lost
-  kept_lost b x more_events more_lost more events_fit lost_fit event =
+      → IsKept (events ++ Lost b x ∷ []) row places (lost ++ length events ∷ []) ranks room left most_events most_tickets most_places more_lost
+  kept_lost b x left more_lost fewer more lost_fit event =
       let events_long = length-append events (Lost b x ∷ []) in
       let writes = write_count_of_more events (Lost b x) in
       let same_tickets : tickets events ≡ tickets (events ++ Lost b x ∷ []) = sym (append-nil (tickets events)) ∙ sym (tickets-append events (Lost b x ∷ [])) in
       record {
         lawful = lawful_more events (Lost b x) kept.lawful tt;
         whole = events_more (2 ^ 32) events (Lost b x) kept.whole event;
-        next = λ some. greatest_lost events b x ∙ kept.next some;
+        next = λ some. greatest_lost events b x ∙ kept.next (omega (arith, some, fewer));
         few = omega arith;
         short = kept.short;
         row_is = kept.row_is ∙ same_tickets;
@@ -130,17 +130,17 @@ module _ {events : List Event} {row places lost : List ℕ} {ranks : RanksState}
         joined = kept.joined;
         open_fit = kept.open_fit;
         count = omega (arith, kept.count);
-        events_fit = omega (arith, kept.events_fit);
+        events_fit = kept.events_fit;
         tickets_fit = kept.tickets_fit;
         places_fit = kept.places_fit;
         lost_fit = omega (arith, kept.lost_fit);
       }
 
   -- the rows with the notice of an open ticket, whose number is none of the open ones any more
-  pub kept_notice : (t number more_events : ℕ) → IsOpen t events → 0 < number → slice_get (tickets events) (number - 1) ≡ Some t → most_events ≤ more_events
+  pub kept_notice : (t number : ℕ) → IsOpen t events → 0 < number → slice_get (tickets events) (number - 1) ≡ Some t
       → IsEventOf (2 ^ 32) (Noticed t)
-      → IsKept (events ++ Noticed t ∷ []) row places lost (without number ranks) room boxes more_events most_tickets most_places most_lost
-  kept_notice t number more_events is_open some at events_fit event =
+      → IsKept (events ++ Noticed t ∷ []) row places lost (without number ranks) room ready most_events most_tickets most_places most_lost
+  kept_notice t number is_open some at event =
       let events_long = length-append events (Noticed t ∷ []) in
       let writes = write_count_of_more events (Noticed t) in
       let same_tickets : tickets events ≡ tickets (events ++ Noticed t ∷ []) = sym (append-nil (tickets events)) ∙ sym (tickets-append events (Noticed t ∷ [])) in
@@ -159,7 +159,7 @@ module _ {events : List Event} {row places lost : List ℕ} {ranks : RanksState}
         joined = kept.joined;
         open_fit = kept.open_fit;
         count = omega (arith, kept.count, fewer, ap length members);
-        events_fit = omega (arith, kept.events_fit);
+        events_fit = kept.events_fit;
         tickets_fit = kept.tickets_fit;
         places_fit = kept.places_fit;
         lost_fit = kept.lost_fit;

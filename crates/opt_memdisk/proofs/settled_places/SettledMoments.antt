@@ -1,10 +1,10 @@
 -- How the settled places of all blocks go on with the event at a moment of a lawful log.
-use Rattle.std.proofs.Common.{◌≡◌, inl, inr, ℕ, suc, ◌+◌, ◌<◌, ◌≤◌, List, [], ◌∷◌, ◌++◌, length, take, drop, replicate, Some, refl, sym, ◌∙◌, ap, subst, arith}
+use Rattle.std.proofs.Common.{◌≡◌, inl, inr, ℕ, suc, ◌+◌, ◌<◌, ◌≤◌, List, [], ◌∷◌, ◌++◌, length, take, drop, replicate, Some, sym, ◌∙◌, ap, subst, arith}
 use Rattle.std.specs.Prelude.{slice_index_or, slice_set}
 use Rattle.std.specs.List.{slice_get}
 use Rattle.std.proofs.lemmas.Bool.{cases_eq}
-use Rattle.std.proofs.lemmas.List.{length-take-le, take_at, get_or-replicate, get_or-set_same, get_or-set_other, length-replicate, length-set}
-use Rattle.std.proofs.lemmas.Option.{slice_get_read, get_or_from_slice_get}
+use Rattle.std.proofs.lemmas.List.{take_at, get_or-replicate, get_or-set_same, get_or-set_other, length-replicate, length-set}
+use Rattle.std.proofs.lemmas.Option.{same_Some}
 use Rattle.opt_disk.specs.declared.event.Event.{Event}
 use Rattle.opt_disk.specs.declared.event.Event.TheVariants.{Wrote, Lost, Noticed}
 use Rattle.opt_disk.specs.Lawful.{IsLawful}
@@ -12,7 +12,7 @@ use Rattle.opt_memdisk.specs.declared.choice.WriteName.TheVariants as names
 use Rattle.opt_memdisk.specs.Settled.{IsSettledPlace, AreSettledPlaces, name_at}
 use Rattle.opt_memdisk.proofs.settled_places.SettledWrites.{accepted_place, once}
 use Rattle.opt_memdisk.proofs.settled_places.SettledSteps.{settled_wrote, settled_lost, settled_other, settled_later, settled_here}
-use Rattle.opt_memdisk.proofs.log_rows.Events.{get_taken, take_event, lawful_behind, lawful_taken}
+use Rattle.opt_memdisk.proofs.log_rows.Events.{take_event, get_taken, lawful_behind, lawful_taken}
 use Rattle.opt_memdisk.proofs.crash_images.FateBehind.{behind_wrote, name_there}
 
 -- at first no write is settled
@@ -77,38 +77,26 @@ module _ (log : List Event) (k n t p d : ℕ) (x : List ℕ) (old : List ℕ) (h
         subst (IsSettledPlace (take k log ++ Noticed t ∷ []) b) (sym kept) (settled_other (take k log) t d p x (lawful_taken log k h) before b (slice_index_or old b 0) apart (s.each b below))
   ])
 
--- the event that was read where the name of an accepted write is told is that write
-pub read_there : (events log : List Event) (p t u b : ℕ) (x : List ℕ) (e : Event) → events ≡ log → e ≡ slice_index_or events p e → e ≡ Wrote u b x → name_at log p ≡ Some (names.Accepted t) → slice_get log p ≡ Some (Wrote t b x)
-read_there events log p t u b x e same read is name =
+-- the event where the name of an accepted write is told is that write
+pub read_there : (log : List Event) (p t u b : ℕ) (x : List ℕ) → slice_get log p ≡ Some (Wrote u b x) → name_at log p ≡ Some (names.Accepted t) → slice_get log p ≡ Some (Wrote t b x)
+read_there log p t u b x at name =
     let there = name_there 0 log p t name in
-    let found : Wrote t there.0 there.1 ≡ Wrote u b x = sym (get_or_from_slice_get log p (Wrote t there.0 there.1) e there.2) ∙ ap (λ (l : List Event). slice_index_or l p e) (sym same) ∙ sym read ∙ is in
-    one there.0 there.1 found there.2
+    at ∙ ap (λ k. Some (Wrote k b x)) (own there.0 there.1 (same_Some (Wrote u b x) (Wrote t there.0 there.1) (sym at ∙ there.2)))
   where
-    one : (d : ℕ) (y : List ℕ) → Wrote t d y ≡ Wrote u b x → slice_get log p ≡ Some (Wrote t d y) → slice_get log p ≡ Some (Wrote t b x)
-    one d y found at =
-        let block : d ≡ b = cc in
-        let bytes : y ≡ x = cc in
-        at ∙ ap (λ k. Some (Wrote t k y)) block ∙ ap (λ (z : List ℕ). Some (Wrote t b z)) bytes
+    own : (d : ℕ) (y : List ℕ) → Wrote u b x ≡ Wrote t d y → u ≡ t
+    own d y found = cc
 
 -- it is no other event
-pub read_other : (events log : List Event) (p t : ℕ) (e : Event) → events ≡ log → e ≡ slice_index_or events p e → name_at log p ≡ Some (names.Accepted t) → (u : ℕ) × (b : ℕ) × (x : List ℕ) × (e ≡ Wrote u b x)
-read_other events log p t e same read name =
+pub read_other : (log : List Event) (p t : ℕ) (e : Event) → slice_get log p ≡ Some e → name_at log p ≡ Some (names.Accepted t) → (u : ℕ) × (b : ℕ) × (x : List ℕ) × (e ≡ Wrote u b x)
+read_other log p t e at name =
     let there = name_there 0 log p t name in
-    (t, there.0, there.1, read ∙ ap (λ (l : List Event). slice_index_or l p e) same ∙ get_or_from_slice_get log p (Wrote t there.0 there.1) e there.2)
+    (t, there.0, there.1, same_Some e (Wrote t there.0 there.1) (sym at ∙ there.2))
 
 -- the places are settled after one more event, once it has passed
-pub places_passed : (log events : List Event) (k moment n len : ℕ) (e : Event) (old lent new : List ℕ) → events ≡ log → k < length (take moment events) → e ≡ slice_index_or (take moment events) k e → lent ≡ old → len ≡ length old → length new ≡ length lent
-    → ((m : ℕ) → slice_get log m ≡ Some e → AreSettledPlaces (length lent) (take m log) lent → AreSettledPlaces (length lent) (take (m + 1) log) new)
+pub places_passed : (log : List Event) (k n len : ℕ) (old lent new : List ℕ) → lent ≡ old → len ≡ length old → length new ≡ length lent
+    → (AreSettledPlaces (length lent) (take k log) lent → AreSettledPlaces (length lent) (take (k + 1) log) new)
     → AreSettledPlaces n (take k log) old → AreSettledPlaces n (take (k + 1) log) (take len (new ++ drop (length new) old))
-places_passed log events k moment n len e old lent new same below read whole long kept passes s =
+places_passed log k n len old lent new whole long kept passes s =
     let size : length lent ≡ n = ap length whole ∙ s.size in
-    let here = subst (λ (l : List Event). slice_get l k ≡ Some e) same (get_taken events moment k e (slice_get_read (take moment events) (length (take moment events)) k e refl below read)) in
-    let now = passes k here (subst (λ m. AreSettledPlaces m (take k log) lent) (sym size) (subst (AreSettledPlaces n (take k log)) (sym whole) s)) in
+    let now = passes (subst (λ m. AreSettledPlaces m (take k log) lent) (sym size) (subst (AreSettledPlaces n (take k log)) (sym whole) s)) in
     subst (AreSettledPlaces n (take (k + 1) log)) (sym (take_at new (drop (length new) old) len (kept ∙ ap length whole ∙ sym long))) (subst (λ m. AreSettledPlaces m (take (k + 1) log) new) size now)
-
--- the walk ends with the moment
-pub places_walked : (log events : List Event) (k moment n : ℕ) (places : List ℕ) → events ≡ log → moment ≤ length log → length (take moment events) ≤ k → k ≤ length (take moment events) → AreSettledPlaces n (take k log) places → AreSettledPlaces n (take moment log) places
-places_walked log events k moment n places same there most least s =
-    let long = length-take-le moment events (subst (λ (l : List Event). moment ≤ length l) (sym same) there) in
-    let done : k ≡ moment = omega arith in
-    subst (λ m. AreSettledPlaces n (take m log) places) done s

@@ -18,7 +18,7 @@ loop-block-preserved c = elim c.if-place-gt0.branch [
       (image_more c.args.base.now c.args.log.now.events c.args.places.now c.loop-block.image w.set.new.self c.loop-block.block w.settled_bytes-bytes.result.now (omega arith) w.in_ok-set.ensures.done w.settled_bytes-bytes.ensures.bytes c.loop-block.invariant)
   | else-place-gt0 w ↦ subst (λ image. AreSettledTo c.args.base.now c.args.log.now.events c.args.places.now image (c.loop-block.block + 1)) (sym w.image-is)
       (image_kept c.args.base.now c.args.log.now.events c.args.places.now c.loop-block.image c.loop-block.block (omega arith)
-      (λ moment settled. bytes_zero c.settled_is_the_newest_noticed.ensures.noticed c.settled_is_the_newest_noticed.ensures.none (blocks_of c.args.base.now) c.args.log.now.events moment c.loop-block.block _ _ c.events.ensures.lawful (omega (arith, w.if-place-gt0.false)) refl settled) c.loop-block.invariant)
+      (λ moment settled. bytes_zero c.settled_is_the_newest_noticed.ensures.noticed c.settled_is_the_newest_noticed.ensures.none (blocks_of c.args.base.now) c.args.log.now.events moment c.loop-block.block _ _ c.lawful.ensures.lawful (omega (arith, w.if-place-gt0.false)) refl settled) c.loop-block.invariant)
 ]
 
 pub returns : goal.returns

@@ -1,5 +1,4 @@
-use Rattle.std.proofs.Common.{◌≡◌, ◌<◌, ◌+◌, true, false, nat_lt, List, length, slice_set, ap, subst, sym, rules}
-use Rattle.opt_disk.specs.declared.event.Event.{Event}
+use Rattle.std.proofs.Common.{◌≡◌, ◌<◌, ◌+◌, true, false, nat_lt, length, slice_set, ap, subst, sym, rules}
 use Rattle.opt_memdisk.specs.declared.calls.DiskCall.TheVariants.{Write}
 use Rattle.opt_memdisk.specs.Log.{LogState, write_count}
 use Rattle.opt_memdisk.specs.MemDisk.{IsDisk, GoesAsKnown, is_listed}
@@ -10,12 +9,12 @@ use Rattle.opt_memdisk.proofs.disk.MemDisk.accept.Goals as goal
 pub invariant_of-self : goal.invariant_of-self
 invariant_of-self c =
     let d = c.self.inside in
-    let place = length c.events.result.now + 1 in
+    let place = c.len.result + 1 in
     let low : c.args.b < length d.base = search rules in
-    let some : 0 < d.log.boxes = search rules in
+    let some : 0 < d.log.ready = search rules in
     let room : nat_lt (write_count d.log.events) d.log.room ≡ true = search rules in
     let unlisted : is_listed Write (write_count d.log.events + 1) d.fails.items ≡ false = search rules in
-    let at : place ≡ length d.log.events + 1 = ap (λ (events : List Event). length events + 1) c.events.ensures.value in (
+    let at : place ≡ length d.log.events + 1 = ap (λ n. n + 1) c.len.ensures in (
       subst (λ log. IsDisk d.base log (slice_set d.last.items c.args.b place)) (sym c.add_write-ticket.ensures.state)
           (disk_wrote d.base d.log d.last.items c.add_write-ticket.result c.args.b place c.args.from.now low some at c.self.invariant.0),
       subst (λ (log : LogState). GoesAsKnown log.room log.events d.notices d.fails.items d.read_faults d.polls d.known) (sym c.add_write-ticket.ensures.state)

@@ -11,4 +11,4 @@ returns-clause-crash c =
     let image = c.in_ok-image.image in
     let cells = c.pending_writes_are_those_of_the_cells.ensures in
     subst (λ (d : MemDiskState). IsImage (length d.base) (blocks_of d.base) (take c.args.moment d.log) (blocks_of image)) c.self.view_is
-    (left_is_image cells (length base) (blocks_of base) c.self.inside.log.events c.args.moment c.args.choice.now image c.events.ensures.lawful (c.in_ok-image.ensures).1 c.lawful.ensures)
+    (left_is_image cells (length base) (blocks_of base) c.self.inside.log.events c.args.moment c.args.choice.now image c.lawful.ensures.lawful (c.in_ok-image.ensures).1 c.lawful-2.ensures)

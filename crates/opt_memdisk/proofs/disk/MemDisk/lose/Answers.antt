@@ -10,7 +10,7 @@ pub invariant_of-self : goal.invariant_of-self
 invariant_of-self c =
     let d = c.self.inside in
     let low : c.args.b < length d.base = search rules in
-    let some : 0 < d.log.boxes = search rules in
+    let some : 0 < d.log.ready = search rules in
     let room : nat_lt (write_count d.log.events) d.log.room ≡ true = search rules in
     let listed : is_listed Write (write_count d.log.events + 1) d.fails.items ≡ true = search rules in (
       subst (λ log. IsDisk d.base log d.last.items) (sym c.add_lost.ensures) (disk_lost d.base d.log d.last.items c.args.b c.args.from.now low some c.self.invariant.0),

@@ -1,6 +1,6 @@
 use Rattle.std.proofs.Common.{◌≡◌, true, rules}
 use Rattle.opt_memdisk.specs.declared.calls.DiskCall.TheVariants.{Read}
-use Rattle.opt_memdisk.specs.MemDisk.{MemDiskState, is_listed, fails_next, next_call}
+use Rattle.opt_memdisk.specs.MemDisk.{is_listed, next_call}
 use Rattle.opt_memdisk.proofs.disk_calls.Manners.{goes_unread}
 use Rattle.opt_memdisk.proofs.disk.MemDiskDisk.read.Goals as goal
 

@@ -10,7 +10,7 @@ place_in-requires c = subst IsNonDecreasing (sym (c.as_slice.ensures.value ∙ c
 
 pub returns-clause-short : goal.returns-clause-short
 returns-clause-short c =
-    place_short _ c.self.inside.events.items c.self.inside.room c.args.ticket c.place_in.result (c.as_slice.ensures.value ∙ c.self.invariant.row_is)
+    place_short _ c.self.inside.events.events c.self.inside.room c.args.ticket c.place_in.result (c.as_slice.ensures.value ∙ c.self.invariant.row_is)
     (omega (arith, c.self.invariant.few)) c.self.invariant.short c.place_in.ensures.there
 
 pub returns-clause-none : goal.returns-clause-none

@@ -11,7 +11,7 @@ pub loop-event-init : goal.loop-event-init
 loop-event-init c =
     let whole : c.in_ok-room.room ≡ c.write_count-room.result = search rules in
     let count = whole ∙ c.write_count-room.ensures ∙ ap write_count c.as_slice.ensures.value in
-    (c.in_ok-log.ensures ∙ ap (λ room. record { events = []; room = room; boxes = 0 }) count, c.into_iter-event-iterator.ensures.into_iter_gives.0)
+    (c.in_ok-log.ensures ∙ ap (λ room. record { events = []; room = room; ready = 0 }) count, c.into_iter-event-iterator.ensures.into_iter_gives.0)
 
 pub add-requires-clause-may : goal.add-requires-clause-may
 add-requires-clause-may c =
@@ -37,4 +37,4 @@ returns c =
     let rest = c.loop-event.event-iterator.rest in
     let none = nil_from_length rest.items (omega (arith, c.in-None.ensures.steps.0, rest.ok)) in
     let all = sym (append-nil c.loop-event.yielded) ∙ ap (λ (l : List Event). c.loop-event.yielded ++ l) (sym none) ∙ so.1 in
-    so.0 ∙ ap (λ (l : List Event). record { events = l; room = write_count c.args.events.items; boxes = 0 }) all
+    so.0 ∙ ap (λ (l : List Event). record { events = l; room = write_count c.args.events.items; ready = 0 }) all
