@@ -16,7 +16,7 @@ use Rattle.opt_crash.specs.PipelineData.{PipelineData, DataAgree, AreFreed, with
 use Rattle.opt_notes.specs.Notes.{Expected, is_expected, is_noticed, are_expected}
 use Rattle.opt_tx.specs.declared.commit.Committed.{Committed}
 use Rattle.opt_checkpoint.specs.declared.pipeline.Pipeline.{Pipeline}
-use Rattle.opt_checkpoint.specs.Agree.{PipelineAgrees, AreApart, AreNewTickets, IsRecordAt, KeepsRecord, HasFreed, data_of, durable_count, no_tickets, tickets_in}
+use Rattle.opt_checkpoint.specs.Agree.{PipelineAgrees, AreApart, AreNewTickets, HomeIsSent, IsRecordAt, KeepsRecord, HasFreed, data_of, durable_count, home_pair, no_tickets, tickets_in}
 use Rattle.opt_checkpoint.proofs.Lists.{choose_true, choose_false, map_push, last_or, get_old, get_new}
 use Rattle.opt_checkpoint.proofs.Apart.{none_new, one_or}
 use Rattle.opt_checkpoint.proofs.Expected.{ExpectMore, are_more, home_more}
@@ -47,7 +47,8 @@ module _ (base : Blocks) (old new : List Event) (l : Ledger) (v : Pipeline) (rin
     -- what the commit left
     (joined : (freed : List ℕ) → AreFreed l w m freed → DataAgree base new (with_record l w m) (with_committed (data_of v ring waiting) l w c.tickets.items freed))
     (idle : NoneIsBeingWritten (cell_of base new) (with_record l w m))
-    (one : (freed : List ℕ) → HasOnePending base new (with_record l w m) (with_committed (data_of v ring waiting) l w c.tickets.items freed) []) where
+    (one : (freed : List ℕ) → HasOnePending base new (with_record l w m) (with_committed (data_of v ring waiting) l w c.tickets.items freed) [])
+    (sent : HomeIsSent l.geom new (map home_pair v.home.items)) where
   abbrev next : Pipeline
   next = record v { committed = out.committed; notes = notes; last = out.last; unplaced = out.unplaced; newest = out.newest; ready = out.ready }
 
@@ -173,6 +174,7 @@ module _ (base : Blocks) (old new : List Event) (l : Ledger) (v : Pipeline) (rin
       records_upto = λ k t x is own. ⊎_elim (λ here. later t (a.apart.records_upto k t x here own)) (λ there. fresh.upto t (subst (λ (q : Committed). is_one_of t q.tickets.items ≡ true) (sym there.1) own)) (of k x is);
       beside_upto = λ t held. later t (a.apart.beside_upto t held);
     };
+    sent = sent;
     free = λ b none. absurd (false≢true none);
     idle = idle;
     one = subst (λ (p : PipelineData). HasOnePending base new (with_record l w m) p []) same_data (one c.freed.items);

@@ -81,6 +81,7 @@ module _ (base : Blocks) (old new : List Event) (l : Ledger) (v : Pipeline) (rin
       records_upto = λ k t c is own. omega (arith, fresh.grows, a.apart.records_upto k t c is own);
       beside_upto = λ t held. ⊎_elim (λ r. subst (λ n. n ≤ greatest_ticket new) r.3 (fresh.upto r.1.ticket (one_of_home w.home.items r.0 r.1 r.2))) (λ r. later t (a.apart.beside_upto t (inr r))) held;
     };
+    sent = home.sent;
     free = home.free;
     idle = home.idle;
     one = subst (λ (p : PipelineData). Rattle.opt_crash.specs.OnePending.HasOnePending base new l p []) data_is home.one;
@@ -105,4 +106,4 @@ agrees_or_failed base base2 old new l v ring waiting taken a some w e ws (Err x)
 pub batch_begins : (base : Blocks) (log : List Event) (l : Ledger) (v : Pipeline) (ring : RingPlaces) (waiting : List (ℕ × ℕ)) (taken : List ℕ) (a : PipelineAgrees base log l v ring waiting taken) (count : ℕ) → count ≡ length v.sure.items
     → Rattle.opt_crash.specs.PipelineData.DataAgree base log l (with_batch (data_of v ring waiting) count) → Rattle.opt_crash.specs.OnePending.HasOnePending base log l (with_batch (data_of v ring waiting) count) []
     → HomeState base log l (with_batch (data_of v ring waiting) count) a.freed taken
-batch_begins base log l v ring waiting taken a count count_is agree one = record { agree = agree; freed_by = a.freed_by; ends = omega (arith, a.sure, count_is); idle = a.idle; one = one; free = λ b own. ((a.free b own).0, λ k t is. absurd (none-some (b, t) is)) }
+batch_begins base log l v ring waiting taken a count count_is agree one = record { agree = agree; freed_by = a.freed_by; ends = omega (arith, a.sure, count_is); idle = a.idle; one = one; sent = λ k b t is. absurd (none-some (b, t) is); free = λ b own. ((a.free b own).0, λ k t is. absurd (none-some (b, t) is)) }

@@ -157,6 +157,7 @@ module _ (base : Blocks) (log : List Event) (l : Ledger) (v : Pipeline) (ring : 
         records_upto = λ k t x is own. a.apart.records_upto (suc k) t x (committed_is k x is) own;
         beside_upto = a.apart.beside_upto;
       };
+      sent = a.sent;
       free = known_free;
       idle = record { each = a.idle.each };
       one = record { one = known_one.one; slot = known_one.slot; ring = known_one.ring; block = λ b low e. ⊎_elim inl (λ r. inr (⊎_elim inl (λ w. inr (record { at = w.at; ticket = w.ticket; bytes = w.bytes; listed = w.listed; last = w.last })) r)) (known_one.block b low e); below = known_one.below; none = known_one.none };

@@ -142,6 +142,7 @@ agrees_served base log l c ring waiting few taken bs a now = record {
   given = a.given;
   expected = record { records = a.expected.records; home = a.expected.home; header = a.expected.header };
   apart = record { records = a.apart.records; beside = a.apart.beside; header_apart = a.apart.header_apart; records_upto = a.apart.records_upto; beside_upto = a.apart.beside_upto };
+  sent = a.sent;
   idle = a.idle;
   one = record {
     one = a.one.one;

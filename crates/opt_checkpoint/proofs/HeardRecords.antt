@@ -1,27 +1,30 @@
 -- Which notices came, and that the notes know those of committed records.
 use Rattle.std.proofs.Common.{◌≡◌, ◌⊎◌, inl, inr, ⊎_elim, ℕ, zero, suc, ◌+◌, ◌-◌, ◌==◌, ◌&&◌, ◌||◌, Bool, true, false, if◌then◌else◌, List, [], ◌∷◌, ◌++◌, map, slice_get, Some, Result, Ok, Err, IsErr, refl, sym, ◌∙◌, ap, subst, append_assoc, append-nil}
-use Rattle.std.proofs.lemmas.Bool.{false≢true, and_parts, eqb-true, eq-eqb}
+use Rattle.std.proofs.lemmas.Bool.{false≢true, eqb-true, eq-eqb}
 use Rattle.std.proofs.lemmas.Option.{none-some, same_Some}
 use Rattle.opt_journal.specs.Ring.{RingPlaces}
 use Rattle.opt_journal.specs.Spelling.{header_block}
 use Rattle.opt_disk.specs.declared.event.Event.{Event}
 use Rattle.opt_disk.specs.declared.event.Event.TheVariants.{Wrote, Lost, Noticed}
+use Rattle.opt_disk.specs.declared.disk.DiskFault.{DiskFault}
 use Rattle.opt_disk.specs.Cell.{IsNoticed, notices}
 use Rattle.opt_disk.specs.Disk.{State, AreWrites, GrowsByWrites, HearsAlone}
 use Rattle.opt_disk.specs.Manner.{Manner}
 use Rattle.opt_crash.specs.HomeTest.{is_one_of}
 use Rattle.opt_crash.specs.Writes.{AddsWrites, AddsFront, AddsAll}
 use Rattle.opt_notes.specs.declared.notes.Note.{Note}
-use Rattle.opt_notes.specs.Notes.{Expected, is_expected, is_noticed, is_open, are_expected}
-use Rattle.opt_tx.specs.declared.commit.Committed.{Committed}
+use Rattle.opt_notes.specs.Notes.{Expected, is_expected, is_noticed, is_open}
 use Rattle.opt_tx.specs.Writes.{fresh_write}
+use Rattle.opt_checkpoint.specs.declared.pipeline.Pending.{Pending}
 use Rattle.opt_checkpoint.specs.declared.pipeline.Pipeline.{Pipeline}
-use Rattle.opt_checkpoint.specs.Agree.{OpenAreExpected, home_ticket}
+use Rattle.opt_checkpoint.specs.Agree.{home_ticket}
 use Rattle.opt_checkpoint.specs.Steps.{TakesAll}
-use Rattle.opt_checkpoint.specs.Turns.{AddsBatch, AddsHeader, due_header}
-use Rattle.opt_checkpoint.specs.Waits.{ForgetsSome, HearsMore, HearsOnly, HearsRecords, LosesCommitted, StaysHeard}
+use Rattle.opt_checkpoint.specs.Turns.{AddsBatch, AddsHeader, BatchAdds, HeaderAdds, due_header}
+use Rattle.opt_checkpoint.specs.Waits.{ForgetsSome, HearsAll, HearsMore, HearsOnly, StaysHeard}
+use Rattle.opt_checkpoint.proofs.Apart.{one_or}
 use Rattle.opt_checkpoint.proofs.Given.{open_expected}
-use Rattle.opt_checkpoint.proofs.Lists.{get_drop}
+use Rattle.opt_checkpoint.proofs.Hears.{expected_same}
+use Rattle.opt_checkpoint.proofs.HomeSent.{noticed_on}
 use Rattle.opt_checkpoint.proofs.Spent.{holds_ok}
 
 -- Notices in a log that grew.
@@ -156,43 +159,63 @@ one_at (u ∷ ts) (suc k) t is = by (u == t) (one_at ts k t is)
     by true e = refl
     by false e = e
 
--- each ticket of a list is expected, where all are
-one_expected : (ts : List ℕ) (notes : List Note) (t : ℕ) → are_expected ts notes ≡ true → is_one_of t ts ≡ true → is_expected t notes ≡ true
-one_expected [] notes t all own = absurd (false≢true own)
-one_expected (u ∷ ts) notes t all own = let p = and_parts (is_expected u notes) (are_expected ts notes) all in by (u == t) refl own (one_expected ts notes t p.1) p.0
-  where
-    by : (b : Bool) → (u == t) ≡ b → (if b then true else is_one_of t ts) ≡ true → (is_one_of t ts ≡ true → is_expected t notes ≡ true) → is_expected u notes ≡ true → is_expected t notes ≡ true
-    by true same e rest first = subst (λ n. is_expected n notes ≡ true) (eqb-true u t same) first
-    by false other e rest first = rest e
-
--- The notes know what they knew of the records that are left, where no notice came and of the tickets that they expect still the same is known.
-pub heard_left : (old new : List Event) (v w y : Pipeline) → LosesCommitted v w → y.committed.items ≡ w.committed.items → ForgetsSome v.notes.notes w.notes.notes → ((u : ℕ) → is_noticed u y.notes.notes ≡ is_noticed u w.notes.notes) → OpenAreExpected w → ((u : ℕ) → IsNoticed u new → IsNoticed u old) → HearsRecords old v → HearsRecords new y
-heard_left old new v w y lost same forgets known expected none heard k t c is own came =
-    known t ∙ forgets.noticed t (one_expected c.tickets.items w.notes.notes t (expected.records k c there) own) ∙ heard (lost.count + k) t c before own (none t came)
-  where
-    there : slice_get w.committed.items k ≡ Some c
-    there = ap (λ (cs : List Committed). slice_get cs k) (sym same) ∙ is
-
-    before : slice_get v.committed.items (lost.count + k) ≡ Some c
-    before = sym (get_drop lost.count v.committed.items k) ∙ ap (λ (cs : List Committed). slice_get cs k) (sym lost.left) ∙ there
+-- The notes know what they knew where no notice came and of the tickets that they expect still the same is known; of a ticket that they expect newly no notice came.
+pub heard_left : (old new : List Event) (v w y : Pipeline) → ForgetsSome v.notes.notes w.notes.notes → ((u : ℕ) → is_noticed u y.notes.notes ≡ is_noticed u w.notes.notes) → ((u : ℕ) → is_expected u y.notes.notes ≡ true → (is_expected u w.notes.notes ≡ true) ⊎ (¬ IsNoticed u new)) → ((u : ℕ) → IsNoticed u new → IsNoticed u old)
+    → HearsAll old v → HearsAll new y
+heard_left old new v w y forgets known expects none heard t expected came = ⊎_elim (λ was. known t ∙ forgets.noticed t was ∙ heard t (forgets.expected t was) (none t came)) (λ never. absurd (never came)) (expects t expected)
 
 -- They know them after waits that brought no other notices than they know, and after notices that they took.
 
-pub heard_waited : {P : ℕ → Type 0} {A E : Type 0} (x : A) (old new : List Event) (v w : Pipeline) → w ≡ record v { notes = w.notes } → HearsMore v.notes w.notes → HearsOnly {A = A} {E = E} P (Ok x) old new w.notes.notes → HearsRecords old v → HearsRecords new w
-heard_waited x old new v w rest hears h heard k t c is own came = ⊎_elim (λ was. hears.noticed t (heard k t c (sym (ap (λ (p : Pipeline). slice_get p.committed.items k) rest) ∙ is) own was)) (λ known. known) (h.heard t came)
+pub heard_waited : {P : ℕ → Type 0} {A E : Type 0} (x : A) (old new : List Event) (v w : Pipeline) → HearsMore v.notes w.notes → HearsOnly {A = A} {E = E} P (Ok x) old new w.notes.notes → HearsAll old v → HearsAll new w
+heard_waited x old new v w hears h heard t expected came = ⊎_elim (λ was. hears.noticed t (heard t (sym (expected_same v.notes.notes w.notes.notes hears.tickets t) ∙ expected) was)) (λ known. known) (h.heard t came)
 
-pub heard_taken : (ts : List ℕ) (old new : List Event) (v w : Pipeline) → w ≡ record v { notes = w.notes } → HearsMore v.notes w.notes → OpenAreExpected v → new ≡ old ++ notices ts → TakesAll ts v.notes.notes w.notes.notes → HearsRecords old v → HearsRecords new w
-heard_taken ts old new v w rest hears expected log takes heard k t c is own came = ⊎_elim (λ was. hears.noticed t (heard k t c there own was)) known (noticed_in t old (notices ts) (subst (λ (l : List Event). IsNoticed t l) log came))
+pub heard_taken : (ts : List ℕ) (old new : List Event) (v w : Pipeline) → HearsMore v.notes w.notes → new ≡ old ++ notices ts → TakesAll ts v.notes.notes w.notes.notes → HearsAll old v → HearsAll new w
+heard_taken ts old new v w hears log takes heard t expected came = ⊎_elim (λ was. hears.noticed t (heard t before was)) known (noticed_in t old (notices ts) (subst (λ (l : List Event). IsNoticed t l) log came))
   where
-    there : slice_get v.committed.items k ≡ Some c
-    there = sym (ap (λ (p : Pipeline). slice_get p.committed.items k) rest) ∙ is
+    before : is_expected t v.notes.notes ≡ true
+    before = sym (takes.expected t) ∙ expected
 
     known : IsNoticed t (notices ts) → is_noticed t w.notes.notes ≡ true
-    known now = takes.noticed t ∙ ap (λ b. is_noticed t v.notes.notes || (b && is_expected t v.notes.notes)) (noticed_one t ts now) ∙ ap (λ b. is_noticed t v.notes.notes || b) (one_expected c.tickets.items v.notes.notes t (expected.records k c there) own) ∙ full (is_noticed t v.notes.notes)
+    known now = takes.noticed t ∙ ap (λ b. is_noticed t v.notes.notes || (b && is_expected t v.notes.notes)) (noticed_one t ts now) ∙ ap (λ b. is_noticed t v.notes.notes || b) before ∙ full (is_noticed t v.notes.notes)
       where
         full : (b : Bool) → (b || true) ≡ true
         full true = refl
         full false = refl
+
+-- The tickets of writes that came.
+
+-- none was noticed before
+never_before : (ws : List (ℕ × List ℕ)) (ts : List ℕ) (old new : List Event) (u : ℕ) → AddsWrites ws ts old new → is_one_of u ts ≡ true → ¬ IsNoticed u old
+never_before [] [] old new u adds own came = false≢true own
+never_before [] (t ∷ ts) old new u bad own came = bad
+never_before (w ∷ ws) [] old new u bad own came = bad
+never_before (w ∷ ws) (t ∷ ts) old new u adds own came = by (t == u) refl own (λ e. never_before ws ts (old ++ Wrote t w.0 w.1 ∷ []) new u adds.2 e (noticed_on u old (Wrote t w.0 w.1 ∷ []) came))
+  where
+    by : (b : Bool) → (t == u) ≡ b → (if b then true else is_one_of u ts) ≡ true → (is_one_of u ts ≡ true → ⊥) → ⊥
+    by true same e rest = adds.1 (subst (λ n. IsNoticed n old) (sym (eqb-true t u same)) came)
+    by false other e rest = rest e
+
+-- what is expected once a batch began was expected before, or no notice of it had come
+begun_expected : {A : Type 0} (due : Bool) (a : A) (w x : Pipeline) (old new : List Event) → BatchAdds {A = A} {E = DiskFault} due (Ok a) w x → AddsBatch {A = A} {E = DiskFault} due (Ok a) w x old new → (u : ℕ) → is_expected u x.notes.notes ≡ true → (is_expected u w.notes.notes ≡ true) ⊎ (¬ IsNoticed u old)
+begun_expected true a w x old new begins adds u expected = ⊎_elim (λ own. inr (never_before (map fresh_write adds.0) adds.2.0 old new u adds.2.2 (subst (λ (ts : List ℕ). is_one_of u ts ≡ true) adds.2.1 own))) inl
+    (one_or (is_one_of u (map home_ticket x.home.items)) (is_expected u w.notes.notes) (sym (begins.0.expected u) ∙ expected))
+begun_expected false a w x old new same adds u expected = inl (ap (λ (p : Pipeline). is_expected u p.notes.notes) (sym same) ∙ expected)
+
+made_expected : {A : Type 0} (due : Bool) (a : A) (x y : Pipeline) (ring : RingPlaces) (old new : List Event) → HeaderAdds {A = A} {E = DiskFault} due (Ok a) x y ring → AddsHeader {A = A} {E = DiskFault} due (Ok a) x y ring old new → (u : ℕ) → is_expected u y.notes.notes ≡ true → (is_expected u x.notes.notes ≡ true) ⊎ (¬ IsNoticed u old)
+made_expected true a x y ring old new writes adds u expected = ⊎_elim (λ own. inr (λ came. adds.2.1 (subst (λ n. IsNoticed n old) (sym (own_ticket own)) came))) inl
+    (one_or (writes.pending.ticket == u) (is_expected u x.notes.notes) (sym (writes.expected u) ∙ expected))
+  where
+    own_ticket : (writes.pending.ticket == u) ≡ true → adds.0.ticket ≡ u
+    own_ticket own = ap (λ (q : Pending). q.ticket) (same_Some adds.0 writes.pending (sym adds.1 ∙ writes.is_next)) ∙ eqb-true writes.pending.ticket u own
+made_expected false a x y ring old new same adds u expected = inl (ap (λ (p : Pipeline). is_expected u p.notes.notes) (sym same) ∙ expected)
+
+-- both, where the log grew by writes alone
+pub written_expected : {A B : Type 0} (batch header : Bool) (a : A) (b : B) (w x y : Pipeline) (ring : RingPlaces) (old mid new : List Event) → BatchAdds {A = A} {E = DiskFault} batch (Ok a) w x → HeaderAdds {A = B} {E = DiskFault} header (Ok b) x y ring
+    → AddsBatch {A = A} {E = DiskFault} batch (Ok a) w x old mid → AddsHeader {A = B} {E = DiskFault} header (Ok b) x y ring mid new → (u : ℕ) → is_expected u y.notes.notes ≡ true → (is_expected u w.notes.notes ≡ true) ⊎ (¬ IsNoticed u new)
+written_expected batch header a b w x y ring old mid new begins writes adds makes u expected = ⊎_elim
+    (λ was. ⊎_elim inl (λ never. inr (λ came. never (none_came old mid (grows_batch batch (Ok a) w x old mid adds) u (none_came mid new (grows_header header (Ok b) x y ring mid new makes) u came)))) (begun_expected batch a w x old mid begins adds u was))
+    (λ never. inr (λ came. never (none_came mid new (grows_header header (Ok b) x y ring mid new makes) u came)))
+    (made_expected header b x y ring mid new writes makes u expected)
 
 -- calls one after the other, on a disk that has the same manner all the time
 pub stays_heard_on : (d e f : State) (u v w : Pipeline) → e.manner ≡ d.manner → StaysHeard d e u v → StaysHeard e f v w → StaysHeard d f u w

@@ -135,6 +135,7 @@ module _ (base : Blocks) (log : List Event) (l : Ledger) (v : Pipeline) (ring : 
       records_upto = a.apart.records_upto;
       beside_upto = λ t held. a.apart.beside_upto t (open_before t held);
     };
+    sent = λ k b t is. absurd (none-some (b, t) (sym (ap (λ (hw : List HomeWrite). slice_get (map home_pair hw) k) e.home) ∙ is));
     free = λ b own. ((a.free b own).0, λ k t is. absurd (none-some (b, t) (sym (ap (λ (hw : List HomeWrite). slice_get (map home_pair hw) k) e.home) ∙ is)));
     idle = a.idle;
     one = record {

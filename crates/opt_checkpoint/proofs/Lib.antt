@@ -1,4 +1,7 @@
 pub mod Lists
+pub mod HomeSent
+pub mod PendingCells
+pub mod Serving
 pub mod Dropped
 pub mod Orders
 pub mod Notices

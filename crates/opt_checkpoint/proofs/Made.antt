@@ -20,6 +20,7 @@ use Rattle.opt_tx.specs.declared.states.Durable.{Durable}
 use Rattle.opt_tx.specs.declared.states.Sure.{Sure}
 use Rattle.opt_tx.specs.declared.states.Placed.{Placed}
 use Rattle.opt_checkpoint.specs.declared.pipeline.Pending.{Pending}
+use Rattle.opt_checkpoint.specs.declared.pipeline.HomeWrite.{HomeWrite}
 use Rattle.opt_checkpoint.specs.declared.pipeline.Pipeline.{Pipeline}
 use Rattle.opt_checkpoint.specs.Agree.{PipelineAgrees, data_of, durable_count, header_in, ticket_in, home_pair, no_tickets, tickets_in}
 use Rattle.opt_checkpoint.specs.Steps.{HasNoRecord}
@@ -104,6 +105,7 @@ module _ (g : Geometry) (h : Header) (slot : ℕ) (v : Pipeline) (e : HasNoRecor
         records_upto = λ k t c is own. absurd (in_none v.committed.items k c e.committed is);
         beside_upto = λ t held. ⊎_elim (λ p. absurd (in_none v.home.items p.0 p.1 e.home p.2)) (λ p. unpending p.0 p.1) held;
       };
+      sent = λ k b t is. absurd (none-some (b, t) (sym (ap (λ (hw : List HomeWrite). slice_get (map home_pair hw) k) e.home) ∙ is));
       idle = idle;
       one = subst (λ p. HasOnePending base log l p []) same_data one;
       free = λ b is. absurd (false≢true is);

@@ -38,15 +38,16 @@ turn_is_written v o = by v.next refl
 -- Steps after one another.
 
 pub moves_none : (v : Pipeline) (ring : RingPlaces) (dead : DeadBlocks) → Moves 0 v v ring ring dead dead
-moves_none v ring dead = record { geom = refl; epoch = refl; last = refl; ready = refl; turn = omega arith; durable = omega arith; ring_geom = refl; next_place = refl; taken = omega arith; held = refl; room = refl; dead_geom = refl; reusable = λ b is. is; waiting = omega arith; all_dead = λ b. refl }
+moves_none v ring dead = record { geom = refl; epoch = refl; sure = omega arith; last = refl; ready = refl; turn = omega arith; durable = omega arith; ring_geom = refl; next_place = refl; taken = omega arith; held = refl; room = refl; dead_geom = refl; reusable = λ b is. is; waiting = omega arith; all_dead = λ b. refl }
 
 pub moves_more : (n m : ℕ) (v w : Pipeline) (ring next_ring : RingPlaces) (dead next_dead : DeadBlocks) → n ≤ m → Moves n v w ring next_ring dead next_dead → Moves m v w ring next_ring dead next_dead
-moves_more n m v w ring next_ring dead next_dead le s = record { geom = s.geom; epoch = s.epoch; last = s.last; ready = s.ready; turn = omega (arith, s.turn, le); durable = s.durable; ring_geom = s.ring_geom; next_place = s.next_place; taken = s.taken; held = s.held; room = s.room; dead_geom = s.dead_geom; reusable = s.reusable; waiting = s.waiting; all_dead = s.all_dead }
+moves_more n m v w ring next_ring dead next_dead le s = record { geom = s.geom; epoch = s.epoch; sure = s.sure; last = s.last; ready = s.ready; turn = omega (arith, s.turn, le); durable = s.durable; ring_geom = s.ring_geom; next_place = s.next_place; taken = s.taken; held = s.held; room = s.room; dead_geom = s.dead_geom; reusable = s.reusable; waiting = s.waiting; all_dead = s.all_dead }
 
 pub moves_on : (m n : ℕ) (v w x : Pipeline) (r0 r1 r2 : RingPlaces) (d0 d1 d2 : DeadBlocks) → Moves m v w r0 r1 d0 d1 → Moves n w x r1 r2 d1 d2 → Moves (m + n) v x r0 r2 d0 d2
 moves_on m n v w x r0 r1 r2 d0 d1 d2 s t = record {
   geom = t.geom ∙ s.geom;
   epoch = t.epoch ∙ s.epoch;
+  sure = omega (arith, s.sure, t.sure);
   last = t.last ∙ s.last;
   ready = t.ready ∙ s.ready;
   turn = omega (arith, s.turn, t.turn);
@@ -70,6 +71,7 @@ pub moves_heard : (v w : Pipeline) (ring : RingPlaces) (dead : DeadBlocks) → w
 moves_heard v w ring dead rest = record {
   geom = ap (λ (p : Pipeline). p.geom) rest;
   epoch = ap (λ (p : Pipeline). p.header.epoch) rest;
+  sure = omega (arith, ap (λ (p : Pipeline). p.header.sure) rest);
   last = ap (λ (p : Pipeline). p.last) rest;
   ready = ap (λ (p : Pipeline). p.ready) rest;
   turn = omega (arith, ap (λ (p : Pipeline). p.written.turn) rest);
@@ -91,6 +93,7 @@ pub moves_settled : (count : ℕ) (v w : Pipeline) (ring : RingPlaces) (dead : D
 moves_settled count v w ring dead s = record {
   geom = ap (λ (p : Pipeline). p.geom) s.rest;
   epoch = ap (λ (p : Pipeline). p.header.epoch) s.rest;
+  sure = omega (arith, ap (λ (p : Pipeline). p.header.sure) s.rest);
   last = ap (λ (p : Pipeline). p.last) s.rest;
   ready = ap (λ (p : Pipeline). p.ready) s.rest;
   turn = omega (arith, ap (λ (p : Pipeline). p.written.turn) s.rest);
@@ -119,6 +122,7 @@ moves_turned true v w ring next_ring dead t o = by (o.next t.pending t.was)
     by m = record {
       geom = ap (λ (p : Pipeline). p.geom) t.rest;
       epoch = ap (λ (p : Pipeline). p.header.epoch) t.rest ∙ m.epoch;
+      sure = omega (arith, ap (λ (p : Pipeline). p.header.sure) t.rest, m.sure);
       last = ap (λ (p : Pipeline). p.last) t.rest;
       ready = ap (λ (p : Pipeline). p.ready) t.rest;
       turn = omega (arith, ap (λ (p : Pipeline). p.written.turn) t.rest);
@@ -156,6 +160,7 @@ moves_ended false v w ring dead same = moves_as v w ring ring dead same refl
 moves_ended true v w ring dead e = record {
   geom = ap (λ (p : Pipeline). p.geom) e.rest;
   epoch = ap (λ (p : Pipeline). p.header.epoch) e.rest;
+  sure = omega (arith, ap (λ (p : Pipeline). p.header.sure) e.rest);
   last = ap (λ (p : Pipeline). p.last) e.rest;
   ready = ap (λ (p : Pipeline). p.ready) e.rest;
   turn = omega (arith, ap (λ (p : Pipeline). p.written.turn) e.rest);
@@ -222,6 +227,7 @@ pub moves_served : (v w : Pipeline) (ring : RingPlaces) (dead next_dead : DeadBl
 moves_served v w ring dead next_dead law sound is rest = record {
   geom = ap (λ (p : Pipeline). p.geom) rest;
   epoch = ap (λ (p : Pipeline). p.header.epoch) rest;
+  sure = omega (arith, ap (λ (p : Pipeline). p.header.sure) rest);
   last = ap (λ (p : Pipeline). p.last) rest;
   ready = ap (λ (p : Pipeline). p.ready) rest;
   turn = omega (arith, ap (λ (p : Pipeline). p.written.turn) rest);
@@ -259,6 +265,7 @@ moves_begun : (v w : Pipeline) (ring : RingPlaces) (dead : DeadBlocks) → Begin
 moves_begun v w ring dead e = record {
   geom = ap (λ (p : Pipeline). p.geom) e.rest;
   epoch = ap (λ (p : Pipeline). p.header.epoch) e.rest;
+  sure = omega (arith, ap (λ (p : Pipeline). p.header.sure) e.rest);
   last = ap (λ (p : Pipeline). p.last) e.rest;
   ready = ap (λ (p : Pipeline). p.ready) e.rest;
   turn = omega (arith, ap (λ (p : Pipeline). p.written.turn) e.rest);
@@ -303,6 +310,7 @@ pub moves_header : {A E : Type 0} (due : Bool) (r : Result A E) (v w : Pipeline)
 moves_header true (Ok a) v w ring dead o adds = record {
   geom = ap (λ (p : Pipeline). p.geom) adds.rest;
   epoch = ap (λ (p : Pipeline). p.header.epoch) adds.rest;
+  sure = omega (arith, ap (λ (p : Pipeline). p.header.sure) adds.rest);
   last = ap (λ (p : Pipeline). p.last) adds.rest;
   ready = ap (λ (p : Pipeline). p.ready) adds.rest;
   turn = omega (arith, ap (λ (p : Pipeline). p.written.turn) adds.rest, turn_is_written v o);
@@ -320,6 +328,7 @@ moves_header true (Ok a) v w ring dead o adds = record {
 moves_header true (Err e) v w ring dead o is = record {
   geom = ap (λ (p : Pipeline). p.geom) is;
   epoch = ap (λ (p : Pipeline). p.header.epoch) is;
+  sure = omega (arith, ap (λ (p : Pipeline). p.header.sure) is);
   last = ap (λ (p : Pipeline). p.last) is;
   ready = ap (λ (p : Pipeline). p.ready) is;
   turn = omega (arith, ap (λ (p : Pipeline). p.written.turn) is, turn_is_written v o);

@@ -1,12 +1,12 @@
 -- The next header is written beside the durable one.
-use Rattle.std.proofs.Common.{◌≡◌, ◌≢◌, inl, ⊎_elim, ℕ, ◌+◌, ◌-◌, ◌<◌, ◌≤◌, ◌%◌, ◌==◌, ◌||◌, true, List, [], ◌∷◌, ◌++◌, length, Some, refl, sym, ◌∙◌, subst, ap, arith}
+use Rattle.std.proofs.Common.{◌≡◌, ◌≢◌, inl, inr, ⊎_elim, ℕ, ◌+◌, ◌-◌, ◌<◌, ◌≤◌, ◌%◌, ◌==◌, ◌||◌, true, List, [], ◌∷◌, ◌++◌, length, map, Some, refl, sym, ◌∙◌, subst, ap, arith}
 use Rattle.std.proofs.lemmas.Bool.{eq-eqb, eqb-true}
 use Rattle.std.proofs.lemmas.Option.{same_Some}
 use Rattle.opt_base.specs.Seal.{Blocks}
 use Rattle.opt_disk.specs.declared.event.Event.{Event}
 use Rattle.opt_disk.specs.declared.event.Event.TheVariants.{Wrote}
 use Rattle.opt_disk.specs.Cell.{cell_of, greatest_ticket, IsAccepted}
-use Rattle.opt_geom.specs.Geometry.{ring_block}
+use Rattle.opt_geom.specs.Geometry.{bitmap_start, ring_block}
 use Rattle.opt_journal.specs.declared.header.Header.{Header}
 use Rattle.opt_journal.specs.Ring.{RingPlaces}
 use Rattle.opt_crash.specs.Ledger.{Ledger, IsConsistentWith}
@@ -16,9 +16,10 @@ use Rattle.opt_crash.specs.PipelineData.{DataAgree, next_header, with_pending}
 use Rattle.opt_notes.specs.Notes.{Expected, is_expected, is_noticed}
 use Rattle.opt_checkpoint.specs.declared.pipeline.Pending.{Pending}
 use Rattle.opt_checkpoint.specs.declared.pipeline.Pipeline.{Pipeline}
-use Rattle.opt_checkpoint.specs.Agree.{PipelineAgrees, IsRecordAt, data_of}
+use Rattle.opt_checkpoint.specs.Agree.{PipelineAgrees, IsRecordAt, data_of, home_pair}
 use Rattle.opt_checkpoint.proofs.Apart.{accepted_last, accepted_more, greatest_more, greatest_last, not_old, one_or}
 use Rattle.opt_checkpoint.proofs.Expected.{are_more, home_more, with_one, with_old}
+use Rattle.opt_checkpoint.proofs.HomeSent.{sent_on}
 use Rattle.opt_checkpoint.proofs.Notices.{noticed_before}
 
 -- records stay where they are under another header
@@ -71,6 +72,7 @@ module _ (base : Blocks) (log : List Event) (l : Ledger) (v : Pipeline) (ring : 
       records_upto = λ k u c is mine. omega (arith, grows, a.apart.records_upto k u c is mine);
       beside_upto = λ u held. ⊎_elim (λ r. later u (a.apart.beside_upto u (inl r))) (λ r. subst (λ n. n ≤ greatest_ticket (log ++ Wrote t (1 - l.slot) x ∷ [])) (own r.0 r.1 ∙ r.2) (greatest_last log t (1 - l.slot) x)) held;
     };
+    sent = sent_on l.geom log (Wrote t (1 - l.slot) x ∷ []) (map home_pair v.home.items) a.sent (λ k b u is low. inr (slot_below l.slot b low, tt));
     free = free;
     idle = record { each = (idle_wrote (1 - l.slot) (λ place same. slot_apart l.slot (place % l.geom.j) same) a.idle).each };
     one = one;
@@ -93,3 +95,6 @@ module _ (base : Blocks) (log : List Event) (l : Ledger) (v : Pipeline) (ring : 
 
       slot_apart : (s k : ℕ) → 2 + k ≡ 1 - s → ⊥
       slot_apart s k e = omega (arith, e)
+
+      slot_below : (s b : ℕ) → bitmap_start l.geom ≤ b → 1 - s ≢ b
+      slot_below s b low e = omega (arith, low, e)

@@ -1,5 +1,5 @@
 -- A notice leaves all that the pipeline keeps.
-use Rattle.std.proofs.Common.{◌≡◌, ◌⊎◌, inl, inr, ⊎_elim, ℕ, ◌≤◌, ◌&&◌, ◌||◌, ◌==◌, Bool, true, false, List, [], ◌∷◌, ◌++◌, Option, Some, None, Result, Ok, Err, IsErr, refl, sym, ◌∙◌, subst, ap}
+use Rattle.std.proofs.Common.{◌≡◌, ◌⊎◌, inl, inr, ⊎_elim, ℕ, ◌≤◌, ◌&&◌, ◌||◌, ◌==◌, Bool, true, false, List, [], ◌∷◌, ◌++◌, map, Option, Some, None, Result, Ok, Err, IsErr, refl, sym, ◌∙◌, subst, ap}
 use Rattle.std.proofs.lemmas.Bool.{eq-eqb, eqb-true, and_parts, false≢true}
 use Rattle.std.proofs.lemmas.Option.{same_Some, none-some}
 use Rattle.opt_base.specs.Seal.{Blocks}
@@ -15,10 +15,11 @@ use Rattle.opt_crash.specs.PipelineData.{PipelineData, DataAgree}
 use Rattle.opt_notes.specs.declared.notes.Note.{Note}
 use Rattle.opt_notes.specs.Notes.{Expected, is_expected, is_noticed}
 use Rattle.opt_checkpoint.specs.declared.pipeline.Pipeline.{Pipeline}
-use Rattle.opt_checkpoint.specs.Agree.{PipelineAgrees, NotesAreTrue, data_of}
+use Rattle.opt_checkpoint.specs.Agree.{HomeIsSent, PipelineAgrees, NotesAreTrue, data_of, home_pair}
 use Rattle.opt_checkpoint.specs.Steps.{TakesOne}
 use Rattle.opt_checkpoint.proofs.Apart.{accepted_more, greatest_more, apart_on}
 use Rattle.opt_checkpoint.proofs.Expected.{expected_with, same_more}
+use Rattle.opt_checkpoint.proofs.HomeSent.{sent_noticed}
 
 or_right : (p q : Bool) → q ≡ true → (p || q) ≡ true
 or_right true q e = refl
@@ -60,8 +61,8 @@ with_notes v notes = record v { notes = notes }
 
 module _ (base : Blocks) (log new : List Event) (l : Ledger) (v : Pipeline) (ring : RingPlaces) (waiting : List (ℕ × ℕ)) (taken : List ℕ) (a : PipelineAgrees base log l v ring waiting taken) where
   pub moved : (notes : Expected) → DataAgree base new l (data_of v ring waiting) → NoneIsBeingWritten (cell_of base new) l → HasOnePending base new l (data_of v ring waiting) [] → NotesAreTrue new notes.notes → ((u : ℕ) → is_expected u notes.notes ≡ is_expected u v.notes.notes)
-      → MayWriteAllFresh new l (data_of v ring waiting) taken → greatest_ticket log ≤ greatest_ticket new → ((u : ℕ) → IsAccepted u log → IsAccepted u new) → PipelineAgrees base new l (with_notes v notes) ring waiting taken
-  moved notes agree idle one true_now same free grows stays = record {
+      → MayWriteAllFresh new l (data_of v ring waiting) taken → greatest_ticket log ≤ greatest_ticket new → ((u : ℕ) → IsAccepted u log → IsAccepted u new) → HomeIsSent l.geom new (map home_pair v.home.items) → PipelineAgrees base new l (with_notes v notes) ring waiting taken
+  moved notes agree idle one true_now same free grows stays sent = record {
     geom = a.geom;
     ring_geom = a.ring_geom;
     slot = a.slot;
@@ -83,6 +84,7 @@ module _ (base : Blocks) (log new : List Event) (l : Ledger) (v : Pipeline) (rin
     given = λ u e. stays u (a.given u (sym (same u) ∙ e));
     expected = expected_with v notes (same_more v.notes.notes notes.notes same) a.expected;
     apart = apart_on log new v notes grows a.apart;
+    sent = sent;
     idle = idle;
     one = one;
     free = free;
@@ -103,6 +105,7 @@ module _ (base : Blocks) (log new : List Event) (l : Ledger) (v : Pipeline) (rin
       (subst (λ (lg : List Event). MayWriteAllFresh lg l (data_of v ring waiting) taken) (sym is) (free log (Noticed t ∷ []) l (data_of v ring waiting) taken a.free))
       (subst (λ (lg : List Event). greatest_ticket log ≤ greatest_ticket lg) (sym is) (greatest_more log (Noticed t ∷ [])))
       (λ u given. subst (λ (lg : List Event). IsAccepted u lg) (sym is) (accepted_more u log (Noticed t ∷ []) given))
+      (subst (λ (lg : List Event). HomeIsSent l.geom lg (map home_pair v.home.items)) (sym is) (sent_noticed l.geom log (t ∷ []) (map home_pair v.home.items) a.sent))
 
 -- under other names of the disk's base and log
 pub agrees_moved : (base base2 : Blocks) (log new : List Event) (l : Ledger) (v : Pipeline) (ring : RingPlaces) (waiting : List (ℕ × ℕ)) (taken : List ℕ) → base2 ≡ base → new ≡ log → PipelineAgrees base log l v ring waiting taken → PipelineAgrees base2 new l v ring waiting taken

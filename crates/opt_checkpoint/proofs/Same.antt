@@ -266,6 +266,7 @@ module _ (v w : Pipeline) (s : SamePipeline v w) where
       records_upto = λ k t c is own. a.apart.records_upto k t c (in_old w.committed.items v.committed.items k c s.committed is) own;
       beside_upto = λ t held. a.apart.beside_upto t (beside_old t held);
     };
+    sent = λ k b t is. a.sent k b t (ap (λ (hs : List HomeWrite). slice_get (map home_pair hs) k) (sym s.home) ∙ is);
     idle = a.idle;
     one = subst (λ p. HasOnePending base log l p []) (data_same ring waiting) a.one;
     free = subst (λ p. MayWriteAllFresh log l p taken) (data_same ring waiting) a.free;

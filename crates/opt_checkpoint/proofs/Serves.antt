@@ -26,7 +26,7 @@ use Rattle.opt_checkpoint.proofs.HomeLives.{live_then}
 pub among_left : (b : ℕ) (xs ys : List ℕ) → is_among b xs ≡ true → is_among b (xs ++ ys) ≡ true
 among_left b xs ys e = list_any-append (λ x. x == b) xs ys ∙ ap (λ v. v || is_among b ys) e
 
-or_right : (p q : Bool) → q ≡ true → (p || q) ≡ true
+pub or_right : (p q : Bool) → q ≡ true → (p || q) ≡ true
 or_right true q e = refl
 or_right false q e = e
 

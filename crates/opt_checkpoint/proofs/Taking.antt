@@ -56,7 +56,7 @@ left_not : (p : ℕ → Bool) (b : ℕ) (xs : List ℕ) → is_among b xs ≡ fa
 left_not p b xs e = filtered p b xs ∙ and_not (p b) (is_among b xs) e
 
 -- the checkpoint write of a pair
-home_at : (hs : List HomeWrite) (k b t : ℕ) → slice_get (map home_pair hs) k ≡ Some (b, t) → (h : HomeWrite) × (slice_get hs k ≡ Some h) × (h.block ≡ b) × (h.ticket ≡ t)
+pub home_at : (hs : List HomeWrite) (k b t : ℕ) → slice_get (map home_pair hs) k ≡ Some (b, t) → (h : HomeWrite) × (slice_get hs k ≡ Some h) × (h.block ≡ b) × (h.ticket ≡ t)
 home_at [] k b t is = absurd (none-some (b, t) is)
 home_at (h ∷ hs) zero b t is =
     let same = same_Some (home_pair h) (b, t) is in
@@ -100,6 +100,7 @@ agrees_taken base log l v ring waiting taken now a may = record {
   given = a.given;
   expected = a.expected;
   apart = a.apart;
+  sent = a.sent;
   idle = a.idle;
   one = a.one;
   free = may;

@@ -203,6 +203,7 @@ module _ (base : Blocks) (log : List Event) (l : Ledger) (v : Pipeline) (ring : 
         records_upto = a.apart.records_upto;
         beside_upto = λ t held. a.apart.beside_upto t (open_before t held);
       };
+      sent = a.sent;
       free = known_free;
       idle = known_idle;
       one = record { one = known_one.one; slot = known_one.slot; ring = known_one.ring; block = λ b low e. ⊎_elim inl (λ r. inr (⊎_elim inl (λ w. inr (record { at = w.at; ticket = w.ticket; bytes = w.bytes; listed = w.listed; last = w.last })) r)) (known_one.block b low e); below = known_one.below; none = known_one.none };

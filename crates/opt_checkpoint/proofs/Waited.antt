@@ -1,5 +1,5 @@
 -- Notices that came with a wait leave all that the pipeline keeps.
-use Rattle.std.proofs.Common.{◌≡◌, ◌⊎◌, inl, inr, ⊎_elim, ℕ, ◌≤◌, ◌==◌, ◌&&◌, ◌||◌, Bool, true, false, List, [], ◌∷◌, ◌++◌, refl, sym, subst, append_assoc, append-nil}
+use Rattle.std.proofs.Common.{◌≡◌, ◌⊎◌, inl, inr, ⊎_elim, ℕ, ◌≤◌, ◌==◌, ◌&&◌, ◌||◌, Bool, true, false, List, [], ◌∷◌, ◌++◌, map, refl, sym, subst, append_assoc, append-nil}
 use Rattle.std.proofs.lemmas.Bool.{eqb-true, and_parts}
 use Rattle.opt_base.specs.Seal.{Blocks}
 use Rattle.opt_disk.specs.declared.event.Event.{Event}
@@ -12,8 +12,9 @@ use Rattle.opt_crash.specs.OnePending.{HasOnePending, MayWriteAllFresh}
 use Rattle.opt_crash.specs.PipelineData.{PipelineData, DataAgree}
 use Rattle.opt_notes.specs.Notes.{Expected, is_expected, is_noticed}
 use Rattle.opt_checkpoint.specs.declared.pipeline.Pipeline.{Pipeline}
-use Rattle.opt_checkpoint.specs.Agree.{PipelineAgrees, data_of}
+use Rattle.opt_checkpoint.specs.Agree.{HomeIsSent, PipelineAgrees, data_of, home_pair}
 use Rattle.opt_checkpoint.proofs.Apart.{accepted_more, greatest_more}
+use Rattle.opt_checkpoint.proofs.HomeSent.{sent_noticed}
 use Rattle.opt_checkpoint.proofs.Notices.{moved, noticed_before, with_notes}
 
 -- what one notice keeps, a row of them keeps
@@ -42,3 +43,4 @@ module _ (base : Blocks) (log new : List Event) (l : Ledger) (v : Pipeline) (rin
       (subst (λ (lg : List Event). MayWriteAllFresh lg l (data_of v ring waiting) taken) (sym is) (free log (notices ts) l (data_of v ring waiting) taken a.free))
       (subst (λ (lg : List Event). greatest_ticket log ≤ greatest_ticket lg) (sym is) (greatest_more log (notices ts)))
       (λ u given. subst (λ (lg : List Event). IsAccepted u lg) (sym is) (accepted_more u log (notices ts) given))
+      (subst (λ (lg : List Event). HomeIsSent l.geom lg (map home_pair v.home.items)) (sym is) (sent_noticed l.geom log ts (map home_pair v.home.items) a.sent))

@@ -88,10 +88,11 @@ pub record LeavesTurns (headers : ℕ) (v : Pipeline) : Type 0 where
 abbrev pub writes_owed : Pipeline → ℕ
 writes_owed v = payloads_in (behind_batch v) + (v.last - v.written.sure) + (v.last + 1 - v.written.start)
 
--- The pipeline has moved on, by so many headers at most: no record has come, no fewer are durable, no more ring places are taken, what may be taken still may, and no more blocks wait.
+-- The pipeline has moved on, by so many headers at most: no record has come, no fewer are sure or durable, no more ring places are taken, what may be taken still may, and no more blocks wait.
 pub record Moves (headers : ℕ) (v w : Pipeline) (ring next_ring : RingPlaces) (dead next_dead : DeadBlocks) : Type 0 where
   pub geom : w.geom ≡ v.geom
   pub epoch : w.header.epoch ≡ v.header.epoch
+  pub sure : v.header.sure ≤ w.header.sure
   pub last : w.last ≡ v.last
   pub ready : w.ready ≡ v.ready
   pub turn : w.written.turn ≤ v.written.turn + headers

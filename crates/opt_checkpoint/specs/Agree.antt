@@ -5,9 +5,10 @@ use Rattle.opt_disk.specs.declared.event.Event.{Event}
 use Rattle.opt_disk.specs.Cell.{cell_of, greatest_ticket, IsAccepted, IsNoticed}
 use Rattle.opt_journal.specs.declared.header.Header.{Header}
 use Rattle.opt_journal.specs.Ring.{RingPlaces}
-use Rattle.opt_geom.specs.Geometry.{data_start}
+use Rattle.opt_geom.specs.Geometry.{Geometry, bitmap_start, data_start}
 use Rattle.opt_journal.specs.Run.{places, names_block, is_live}
 use Rattle.opt_crash.specs.Ledger.{Ledger, WrittenRecord, IsStanding, payload_in, next_number}
+use Rattle.opt_crash.specs.LastWrites.{IsLastWrite}
 use Rattle.opt_crash.specs.Steps.{NoneIsBeingWritten}
 use Rattle.opt_crash.specs.HomeTest.{is_one_of, AreFreedBy}
 use Rattle.opt_crash.specs.OnePending.{HasOnePending, MayWriteAllFresh}
@@ -104,6 +105,16 @@ pub record OpenAreExpected (v : Pipeline) : Type 0 where
   pub home : AreExpectedHome v.home.items v.notes.notes
   pub header : (q : Pending) → v.next ≡ Some q → is_expected q.ticket v.notes.notes ≡ true
 
+-- the last write to the block, which is none of a header or the ring, has this ticket
+pub record IsSentTo (g : Geometry) (log : List Event) (b t : ℕ) : Type 0 where
+  pub from : bitmap_start g ≤ b
+  pub bytes : List ℕ
+  pub last : IsLastWrite log b t bytes
+
+-- each of these checkpoint writes, block and ticket, is noticed, or is the last write to its block
+abbrev pub HomeIsSent : Geometry → List Event → List (ℕ × ℕ) → Type 0
+HomeIsSent g log home = (k b t : ℕ) → slice_get home k ≡ Some (b, t) → IsNoticed t log ⊎ IsSentTo g log b t
+
 -- no ticket is one of both
 abbrev pub AreApart : List ℕ → List ℕ → Type 0
 AreApart ts us = (t : ℕ) → is_one_of t ts ≡ true → is_one_of t us ≡ false
@@ -154,6 +165,8 @@ pub record PipelineAgrees (base : Blocks) (log : List Event) (l : Ledger) (v : P
   pub given : NotesAreGiven log v.notes.notes
   pub expected : OpenAreExpected v
   pub apart : OpenAreApart log v
+  -- so each checkpoint write that isn't noticed is pending
+  pub sent : HomeIsSent l.geom log (map home_pair v.home.items)
   -- no record is under way, and no block has two writes pending
   pub idle : NoneIsBeingWritten (cell_of base log) l
   pub one : HasOnePending base log l (data_of v ring waiting) []

@@ -11,6 +11,7 @@ use Rattle.opt_crash.specs.OnePending.{HasOnePending, MayWriteAllFresh}
 use Rattle.opt_crash.specs.PipelineData.{PipelineData, DataAgree, with_home}
 use Rattle.opt_tx.specs.declared.put.Put.{Put}
 use Rattle.opt_crash.specs.Points.{MountedSession, IsSafe}
+use Rattle.opt_checkpoint.specs.Agree.{HomeIsSent}
 
 -- the bytes of the checkpoint write that a block is to have
 abbrev pub home_of : Ledger → PipelineData → List (List ℕ) → ℕ → Option (List ℕ)
@@ -23,6 +24,7 @@ pub record HomeState (base : Blocks) (log : List Event) (l : Ledger) (p : Pipeli
   pub ends : l.header.start + p.placed + p.batch ≡ l.header.sure + 1
   pub idle : NoneIsBeingWritten (cell_of base log) l
   pub one : HasOnePending base log l p []
+  pub sent : HomeIsSent l.geom log p.home
   pub free : MayWriteAllFresh log l p taken
 
 -- one above the last block of a row, or this number

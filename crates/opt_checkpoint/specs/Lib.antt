@@ -9,6 +9,7 @@ pub mod Order
 pub mod Room
 pub mod Turns
 pub mod Waits
+pub mod Serving
 pub mod Stages
 pub mod Advance
 pub mod Adds

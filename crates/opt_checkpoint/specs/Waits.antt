@@ -27,13 +27,13 @@ pub record IsOfRecord (v : Pipeline) (upto t : ℕ) : Type 0 where
   pub within : committed.number ≤ upto
   pub own : is_one_of t committed.tickets.items ≡ true
 
--- the notes know each notice in the log that is of a committed record's ticket
-abbrev pub HearsRecords : List Event → Pipeline → Type 0
-HearsRecords log v = (k t : ℕ) (c : Committed) → slice_get v.committed.items k ≡ Some c → is_one_of t c.tickets.items ≡ true → IsNoticed t log → is_noticed t v.notes.notes ≡ true
+-- the notes know each notice in the log that is of a ticket which they expect
+abbrev pub HearsAll : List Event → Pipeline → Type 0
+HearsAll log v = (t : ℕ) → is_expected t v.notes.notes ≡ true → IsNoticed t log → is_noticed t v.notes.notes ≡ true
 
 -- where the disk's waits bring the notice of their own ticket alone: if the notes knew those notices before a call, they do after it
 abbrev pub StaysHeard : State → State → Pipeline → Pipeline → Type 0
-StaysHeard d e v w = d.manner.waits_alone ≡ true → HearsRecords d.log v → HearsRecords e.log w
+StaysHeard d e v w = d.manner.waits_alone ≡ true → HearsAll d.log v → HearsAll e.log w
 
 -- some of the committed records, the oldest, aren't committed ones any more, and no other has come
 pub record LosesCommitted (v w : Pipeline) : Type 0 where

@@ -15,6 +15,7 @@ ghost use Rattle.opt_checkpoint.specs.Bytes.{LeavesBytes};
 ghost use Rattle.opt_reuse.specs.Dead.{DeadBlocks};
 ghost use Rattle.opt_checkpoint.specs.Kept.{kept};
 ghost use Rattle.opt_checkpoint.specs.Order.{IsInOrder, HasRoom};
+ghost use Rattle.opt_checkpoint.specs.Serving.{ServesKnown};
 ghost use Rattle.opt_checkpoint.specs.Steps.{is_first_settled, SettlesSome};
 ghost use Rattle.opt_checkpoint.specs.Stages.{IsAtStage};
 ghost use Rattle.opt_checkpoint.specs.Waits.{AreAllNoticed, IsOfRecord, LosesCommitted, OnlyNotices, StaysHeard, WaitsSome};
@@ -63,6 +64,7 @@ impl Pipeline {
         ensures front { LosesFront (kept self.old) (kept self.new) }
         ensures lost { OnOk result (LosesCommitted self.old self.new) }
         ensures heard { IsTrue D.tells → (s : MountedSession) (l : Ledger) (t floor : ℕ) (taken : List ℕ) → IsRightOn s (D.state disk.old) l t floor self.old ring.old reuse.old taken → OnOk result (StaysHeard (D.state disk.old) (D.state disk.new) self.old self.new) }
+        ensures serves { IsTrue D.tells → (s : MountedSession) (l : Ledger) (t floor : ℕ) (taken : List ℕ) → IsRightOn s (D.state disk.old) l t floor self.old ring.old reuse.old taken → OnOk result (ServesKnown (D.state disk.old) (D.state disk.new) self.old self.new reuse.old reuse.new) }
         ensures bytes { IsTrue D.tells → (s : MountedSession) (l : Ledger) (t floor : ℕ) (taken : List ℕ) → IsRightOn s (D.state disk.old) l t floor self.old ring.old reuse.old taken → LeavesBytes l self.old self.new (D.state disk.old) (D.state disk.new) }
         ensures spends { AdvanceSpends result (D.state disk.old) (D.state disk.new) }
         ensures polled { IsTrue D.tells → PollsThenWrites (D.state disk.old).manner 64 (D.state disk.old).polls (D.state disk.old).log (D.state disk.new).polls (D.state disk.new).log }
@@ -192,6 +194,7 @@ fn go_on<D: Disk>(
     ensures front { LosesFront (kept pipeline.old) (kept pipeline.new) }
     ensures lost { OnOk result (LosesCommitted pipeline.old pipeline.new) }
     ensures heard { IsTrue D.tells → (s : MountedSession) (l : Ledger) (t floor : ℕ) (taken : List ℕ) → IsRightOn s (D.state disk.old) l t floor pipeline.old ring.old reuse.old taken → OnOk result (StaysHeard (D.state disk.old) (D.state disk.new) pipeline.old pipeline.new) }
+    ensures serves { IsTrue D.tells → (s : MountedSession) (l : Ledger) (t floor : ℕ) (taken : List ℕ) → IsRightOn s (D.state disk.old) l t floor pipeline.old ring.old reuse.old taken → OnOk result (ServesKnown (D.state disk.old) (D.state disk.new) pipeline.old pipeline.new reuse.old reuse.new) }
     ensures writes { IsTrue D.tells → GrowsByWrites (D.state disk.old).log (D.state disk.new).log }
     ensures bytes { IsTrue D.tells → (s : MountedSession) (l : Ledger) (t floor : ℕ) (taken : List ℕ) → IsRightOn s (D.state disk.old) l t floor pipeline.old ring.old reuse.old taken → LeavesBytes l pipeline.old pipeline.new (D.state disk.old) (D.state disk.new) }
     ensures spends { OnlyWrites (is_err result) (D.state disk.old) (D.state disk.new) }

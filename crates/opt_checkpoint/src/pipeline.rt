@@ -2,7 +2,7 @@
 //! write: notices are taken, the oldest record becomes durable, a commit joins. Headers and batches are steps
 //! of other modules.
 
-ghost use Rattle.std.specs.Prelude.{◌≡◌, ◌≤◌, ◌<◌, ◌+◌, ◌||◌, ℕ, List, [], ◌∷◌, ◌++◌, length, IsTrue, OnErr, if◌then◌else◌, is_err};
+ghost use Rattle.std.specs.Prelude.{◌≡◌, ◌≤◌, ◌<◌, ◌+◌, ◌||◌, ℕ, List, [], ◌∷◌, ◌++◌, length, map, IsTrue, OnErr, if◌then◌else◌, is_err};
 ghost use Rattle.opt_base.specs.Seal.{Blocks};
 ghost use Rattle.opt_disk.specs.declared.event.Event.{Event};
 ghost use Rattle.opt_disk.specs.Cell.{IsNoticed};
@@ -20,7 +20,7 @@ ghost use Rattle.opt_notes.specs.Notes.{is_expected, is_noticed};
 ghost use Rattle.opt_tx.specs.Record.{written_of, AreBelow};
 ghost use Rattle.opt_tx.specs.Commits.{IsCommitOf};
 ghost use Rattle.opt_tx.specs.Running.{Changes};
-ghost use Rattle.opt_checkpoint.specs.Agree.{PipelineAgrees, AreNewTickets, HasFreed, data_of};
+ghost use Rattle.opt_checkpoint.specs.Agree.{PipelineAgrees, AreNewTickets, HasFreed, HomeIsSent, data_of, home_pair};
 ghost use Rattle.opt_checkpoint.specs.Advance.{writes_owed};
 ghost use Rattle.opt_checkpoint.specs.Index.{IndexIsRight};
 ghost use Rattle.opt_checkpoint.specs.Kept.{kept, of_committed, places_taken};
@@ -192,7 +192,7 @@ pub fn accept(pipeline: &mut Pipeline, committed: Committed)
     ensures agrees { (s : MountedSession) (base : Blocks) (old new : List Event) (l : Ledger) (m : Blocks) (t floor epoch : ℕ) (ring : RingPlaces) (waiting : List (ℕ × ℕ)) (taken : List ℕ) (running : Changes) → PipelineAgrees base old l pipeline.old ring waiting taken → IsSafe s base old l t floor
         → IsCommitOf running (next_number l) ring.next committed → ((u : ℕ) → IsNoticed u old → IsNoticed u new) → AreNewTickets old new committed.tickets.items → HasFreed l m committed.freed.items
         → IsInLedger s base new l (data_of pipeline.old ring waiting) (written_of epoch (next_number l) ring.next running.paid running.laid) m t floor committed.tickets.items
-        → ((freed : List ℕ) → HasOnePending base new (with_record l (written_of epoch (next_number l) ring.next running.paid running.laid) m) (with_committed (data_of pipeline.old ring waiting) l (written_of epoch (next_number l) ring.next running.paid running.laid) committed.tickets.items freed) [])
+        → ((freed : List ℕ) → HasOnePending base new (with_record l (written_of epoch (next_number l) ring.next running.paid running.laid) m) (with_committed (data_of pipeline.old ring waiting) l (written_of epoch (next_number l) ring.next running.paid running.laid) committed.tickets.items freed) []) → HomeIsSent l.geom new (map home_pair pipeline.old.home.items)
         → PipelineAgrees base new (with_record l (written_of epoch (next_number l) ring.next running.paid running.laid) m) pipeline.new (with_places ring (places (written_of epoch (next_number l) ring.next running.paid running.laid).says)) (waiting ++ pairs_of (next_number l) committed.freed.items) [] }
     ensures accepts { Accepts committed pipeline.old pipeline.new }
     ensures order { IsInOrder pipeline.new }

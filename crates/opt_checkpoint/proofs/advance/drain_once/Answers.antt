@@ -113,6 +113,6 @@ returns-clause-heard g c = λ tells s l t floor taken right.
     let old = g.D.Disk.state c.args.disk.now in
     let middle = g.D.Disk.state c.wait_for_all.new.disk in
     let waited = c.wait_for_all.ensures.agrees tells s l t floor c.args.ring.now c.args.reuse.now.waiting taken right.safe right.agrees in
-    let known = λ (alone : old.manner.waits_alone ≡ true). heard_waited c.in_ok-wait_for_all.field-0 old.log middle.log v w c.wait_for_all.ensures.rest c.wait_for_all.ensures.hears (c.in_ok-wait_for_all.ensures.only tells alone) in
+    let known = λ (alone : old.manner.waits_alone ≡ true). heard_waited c.in_ok-wait_for_all.field-0 old.log middle.log v w c.wait_for_all.ensures.hears (c.in_ok-wait_for_all.ensures.only tells alone) in
     on_ok c.go_on.result (c.go_on.ensures.heard tells s l t floor taken (record { safe = waited.0; agrees = waited.1; serves = serves_heard l v w c.args.reuse.now c.wait_for_all.ensures.rest c.wait_for_all.ensures.hears right.serves }))
     (stays_heard_on old middle (g.D.Disk.state c.go_on.new.disk) v w c.go_on.new.pipeline c.wait_for_all.ensures.spends.spends.same.manner known)

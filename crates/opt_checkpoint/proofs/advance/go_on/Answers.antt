@@ -1,18 +1,24 @@
 -- One step after the other: all stays right, and each write was owed.
-use Rattle.std.proofs.Common.{◌∙◌, Ok, refl, arith}
+use Rattle.std.proofs.Common.{◌∙◌, Ok, refl, sym, ap, arith}
+use Rattle.opt_geom.specs.Geometry.{Geometry}
+use Rattle.opt_journal.specs.declared.header.Header.{Header}
+use Rattle.opt_reuse.specs.Calls.{with_released}
+use Rattle.opt_reuse.specs.Dead.{DeadBlocks}
+use Rattle.opt_checkpoint.specs.declared.pipeline.Pipeline.{Pipeline}
 use Rattle.opt_checkpoint.specs.Advance.{MayServe}
 use Rattle.opt_checkpoint.specs.Kept.{kept}
-use Rattle.opt_checkpoint.specs.Turns.{is_batch_due, is_header_due, due_header, header_made}
+use Rattle.opt_checkpoint.specs.Turns.{is_batch_due, is_header_due, due_header, going_home, header_made}
 use Rattle.opt_checkpoint.proofs.Added.{home_before, home_failed, home_went, home_batch, home_stepped, loses_on, loses_batch, loses_header, kept_begun, kept_made}
 use Rattle.opt_checkpoint.proofs.EventRows.{adds_on}
 use Rattle.opt_checkpoint.proofs.Forgotten.{committed_on, committed_same, forward_forgets, forward_loses, written_committed, written_noticed}
-use Rattle.opt_checkpoint.proofs.HeardRecords.{grows_batch, grows_header, grows_on, heard_left, none_came}
+use Rattle.opt_checkpoint.proofs.HeardRecords.{grows_batch, grows_header, grows_on, heard_left, none_came, written_expected}
 use Rattle.opt_checkpoint.proofs.HomeLives.{home_lives}
 use Rattle.opt_checkpoint.proofs.LiveBytes.{Covered, leaves_on, batch_covered, header_covered}
 use Rattle.opt_checkpoint.proofs.MovesRows.{turns_left, moves_more, moves_upto_batch, moves_whole, sound_batch, sound_header}
 use Rattle.opt_checkpoint.proofs.StageRows.{stage_on}
 use Rattle.opt_checkpoint.proofs.DueRows.{nothing_due}
 use Rattle.opt_checkpoint.proofs.Serves.{serves_batch}
+use Rattle.opt_checkpoint.proofs.Serving.{goes_on, header_stays, serves_by_log}
 use Rattle.opt_checkpoint.proofs.StepsRight.{leaves_failed, header_failed, serves_header, right_header, owed_header}
 use Rattle.opt_checkpoint.proofs.advance.go_on.Goals as goal
 
@@ -221,13 +227,12 @@ returns-clause-heard g c = λ tells s l t floor taken right alone.
     let old = g.D.Disk.state c.args.disk.now in
     let middle = g.D.Disk.state c.begin_batch.new.disk in
     let new = g.D.Disk.state c.write_next_header.new.disk in
-    let on = c.go_forward.ensures.right s old.base old.log l t floor taken right in
     let grows = grows_on old.log middle.log new.log (grows_batch (is_batch_due w) c.begin_batch.result w x old.log middle.log (c.begin_batch.ensures.log tells)) (grows_header (is_header_due x) c.write_next_header.result x y c.go_forward.new.ring middle.log new.log (c.write_next_header.ensures.log tells)) in
-    heard_left old.log new.log v w y (forward_loses v f.0 f.1 f.2 w c.args.ring.now c.go_forward.new.ring c.args.reuse.now c.go_forward.new.reuse f.3)
-    (written_committed (is_batch_due w) (is_header_due x) c.begin_batch.result c.write_next_header.result w x y c.go_forward.new.ring c.begin_batch.ensures.begins c.write_next_header.ensures.adds)
+    heard_left old.log new.log v w y
     (forward_forgets v f.0 f.1 f.2 w c.args.ring.now c.go_forward.new.ring c.args.reuse.now c.go_forward.new.reuse f.3)
     (written_noticed (is_batch_due w) (is_header_due x) c.begin_batch.result c.write_next_header.result w x y c.go_forward.new.ring c.begin_batch.ensures.begins c.write_next_header.ensures.adds)
-    on.right.agrees.expected (none_came old.log new.log grows)
+    (written_expected (is_batch_due w) (is_header_due x) c.in_ok-begin_batch.field-0 c.in_ok-write_next_header.field-0 w x y c.go_forward.new.ring old.log middle.log new.log c.in_ok-begin_batch.ensures.begins c.in_ok-write_next_header.ensures.adds (c.in_ok-begin_batch.ensures.log tells) (c.in_ok-write_next_header.ensures.log tells))
+    (none_came old.log new.log grows)
 
 pub returns-in_err-begin_batch-clause-writes : goal.returns-in_err-begin_batch-clause-writes
 returns-in_err-begin_batch-clause-writes g c = λ tells. grows_batch (is_batch_due c.go_forward.new.pipeline) c.begin_batch.result c.go_forward.new.pipeline c.begin_batch.new.pipeline (g.D.Disk.state c.args.disk.now).log (g.D.Disk.state c.begin_batch.new.disk).log (c.begin_batch.ensures.log tells)
@@ -249,3 +254,26 @@ returns-clause-writes g c = λ tells.
     let middle = (g.D.Disk.state c.begin_batch.new.disk).log in
     let new = (g.D.Disk.state c.write_next_header.new.disk).log in
     grows_on old middle new (grows_batch (is_batch_due w) c.begin_batch.result w x old middle (c.begin_batch.ensures.log tells)) (grows_header (is_header_due x) c.write_next_header.result x c.write_next_header.new.pipeline c.go_forward.new.ring middle new (c.write_next_header.ensures.log tells))
+
+pub returns-clause-serves : goal.returns-clause-serves
+returns-clause-serves g c = λ tells s l t floor taken right alone heard.
+    let f = c.go_forward.ensures.forward in
+    let w = c.go_forward.new.pipeline in
+    let x = c.begin_batch.new.pipeline in
+    let y = c.write_next_header.new.pipeline in
+    let ring = c.go_forward.new.ring in
+    let served : DeadBlocks = c.go_forward.new.reuse in
+    let dead : DeadBlocks = c.args.reuse.now in
+    let new = g.D.Disk.state c.write_next_header.new.disk in
+    let on = returns-clause-right g c tells s l t floor taken right in
+    let a = on.right.agrees in
+    let due = returns-clause-due g c tells s l t floor taken right in
+    let knows = returns-clause-heard g c tells s l t floor taken right alone heard in
+    let moved = returns-clause-moves g c in
+    let sound = returns-clause-sound g c in
+    serves_by_log new.base new.log on.now y ring served taken on.right.safe.keeps a on.right.serves c.lawful-2.ensures (sound.goes_with.dead_geom ∙ a.geom)
+    (λ k u is. c.records_stand_in_order.ensures.numbers new.base new.log on.now k u on.right.safe.keeps is) c.a_freed_block_waits.ensures.waits knows due.pending dead c.lawful.ensures w.header.sure (going_home w.home.items w.notes.notes)
+    (f.3.serves ∙ sym (ap (λ (p : Pipeline). with_released dead p.header.sure (going_home p.home.items p.notes.notes)) f.3.rest))
+    (sym (ap (λ (h : Header). h.sure) (header_stays (is_batch_due w) (is_header_due x) c.in_ok-begin_batch.field-0 c.in_ok-write_next_header.field-0 w x y ring refl c.go_forward.ensures.sound.order.none c.in_ok-begin_batch.ensures.begins c.in_ok-write_next_header.ensures.adds)) ∙ ap (λ (h : Header). h.sure) a.header)
+    (goes_on (is_batch_due w) (is_header_due x) c.in_ok-begin_batch.field-0 c.in_ok-write_next_header.field-0 w x y ring refl c.go_forward.ensures.sound.order.none c.in_ok-begin_batch.ensures.begins c.in_ok-write_next_header.ensures.adds)
+    c.a_freed_block_waits.ensures.exact c.args.pipeline.now.geom.n (sym (ap (λ (k : Geometry). k.n) a.geom) ∙ ap (λ (k : Geometry). k.n) moved.geom)

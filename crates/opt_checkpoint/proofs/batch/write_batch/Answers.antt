@@ -127,6 +127,7 @@ returns-clause-home g c = λ tells row home same s l p freed taken t floor safe 
         ends = was.1.ends;
         idle = was.1.idle;
         one = c.one_write_stays_pending.ensures.sent base log l q [] n was.1.one (sent_below n row (row_below row c.args.blocks.now n same c.requires.below) k all);
+        sent = was.1.sent;
         free = was.1.free;
       },
     )

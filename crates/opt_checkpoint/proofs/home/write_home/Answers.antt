@@ -8,6 +8,7 @@ use Rattle.opt_crash.specs.Ledger.{WrittenRecord}
 use Rattle.opt_crash.specs.HomeTest.{goes_home}
 use Rattle.opt_crash.specs.PipelineData.{with_home}
 use Rattle.opt_checkpoint.specs.HomeState.{HomeState}
+use Rattle.opt_checkpoint.proofs.HomeSent.{sent_home}
 use Rattle.opt_checkpoint.proofs.HomeWrites.{no_place, not_empty, home_failed}
 use Rattle.opt_checkpoint.proofs.home.write_home.Goals as goal
 
@@ -41,7 +42,8 @@ returns-clause-home g c = λ tells s l p freed taken t floor safe st from test b
     let calm = c.blocks_to_be_written_are_idle.ensures.home base log l p [] b x st.one st.agree safe.keeps refl from needs in
     let one = c.a_write_to_an_idle_block_is_the_one.ensures.home base log l p [] ticket b x st.one adds.0 adds.1 safe.keeps.headers.is_slot safe.keeps.ring may.outside from (not_empty l st.agree.batch b p.batch x st.agree.batch_is needs) calm in
     let free = c.taken_blocks_stay_dead.ensures.events log (Wrote ticket b x ∷ []) l (with_home p b ticket) taken (c.taken_blocks_stay_dead.ensures.home base log l p taken st.agree.batch b ticket x safe.keeps needs st.free) in
-    let here : HomeState base (log ++ Wrote ticket b x ∷ []) l (with_home p b ticket) freed taken = record { agree = agree; freed_by = st.freed_by; ends = st.ends; idle = idle; one = one; free = free } in (
+    let sent = sent_home l.geom log p.home ticket b x p.sent may.outside adds.0 adds.1 from st.one.below st.sent in
+    let here : HomeState base (log ++ Wrote ticket b x ∷ []) l (with_home p b ticket) freed taken = record { agree = agree; freed_by = st.freed_by; ends = st.ends; idle = idle; one = one; sent = sent; free = free } in (
       c.write_in_place.ensures.safe tells s l t floor may safe,
       subst (λ (bs : Blocks). HomeState bs (g.D.Disk.state c.write_in_place.new.disk).log l (with_home p b ticket) freed taken) (sym c.write_in_place.ensures.spends.same.base)
           (subst (λ (lg : List Event). HomeState base lg l (with_home p b ticket) freed taken) (sym adds.2) here),

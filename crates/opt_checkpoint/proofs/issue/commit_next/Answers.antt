@@ -13,6 +13,7 @@ use Rattle.opt_tx.specs.Record.{record_of, written_of}
 use Rattle.opt_tx.specs.Commits.{IsCommitOf, AreNotOnTheirWay}
 use Rattle.opt_checkpoint.specs.Agree.{PipelineAgrees, HasFreed, data_of}
 use Rattle.opt_checkpoint.proofs.Apart.{new_tickets}
+use Rattle.opt_checkpoint.proofs.HomeSent.{sent_committed}
 use Rattle.opt_checkpoint.proofs.issue.commit_next.Goals as goal
 
 pub returns-clause-agrees : goal.returns-clause-agrees
@@ -38,7 +39,8 @@ returns-clause-agrees g c = λ tells s l m t floor waiting taken safe a may in_t
     (new_tickets _ tx.tickets.items old new (c.in-Ok.ensures.log tells))
     (subst (λ (fs : List ℕ). HasFreed l m fs) (sym made.freed) freed)
     (subst (λ n. IsInLedger s base new l p (written_of c.args.epoch n ring.next r.paid r.laid) m t floor tx.tickets.items) is_next left)
-    (subst (λ n. (freed : List ℕ) → HasOnePending base new (with_record l (written_of c.args.epoch n ring.next r.paid r.laid) m) (with_committed p l (written_of c.args.epoch n ring.next r.paid r.laid) tx.tickets.items freed) []) is_next one) in
+    (subst (λ n. (freed : List ℕ) → HasOnePending base new (with_record l (written_of c.args.epoch n ring.next r.paid r.laid) m) (with_committed p l (written_of c.args.epoch n ring.next r.paid r.laid) tx.tickets.items freed) []) is_next one)
+    (sent_committed l.geom ring.geom a.ring_geom safe.keeps.ring c.args.epoch c.args.number ring.next r.paid r.laid tx.tickets.items old new p.home (c.in-Ok.ensures.log tells) off a.sent) in
     let numbered = subst (λ n. PipelineAgrees base new (with_record l (written_of c.args.epoch n ring.next r.paid r.laid) m) c.accept.new.pipeline (with_places ring (places (record_of n ring.next r.paid r.laid))) (waiting ++ pairs_of n tx.freed.items) []) (sym is_next) joined in (
       left.safe,
       subst (λ (q : RingPlaces). PipelineAgrees base new (with_record l (written_of c.args.epoch c.args.number ring.next r.paid r.laid) m) c.accept.new.pipeline q (waiting ++ pairs_of c.args.number r.freed) []) (sym c.in-Ok.ensures.ring)

@@ -17,7 +17,7 @@ use Rattle.opt_checkpoint.proofs.NoticeRows.{all_expected}
 use Rattle.opt_checkpoint.proofs.pipeline.accept.Goals as goal
 
 pub returns-clause-agrees : goal.returns-clause-agrees
-returns-clause-agrees c = λ s base old new l m t floor epoch ring waiting taken running a safe made stays fresh freed left one.
+returns-clause-agrees c = λ s base old new l m t floor epoch ring waiting taken running a safe made stays fresh freed left one sent.
     let n = next_number l in
     let tx = c.args.committed in
     let w = written_of epoch n ring.next running.paid running.laid in
@@ -33,7 +33,7 @@ returns-clause-agrees c = λ s base old new l m t floor epoch ring waiting taken
     (λ u e. c.expect_all.ensures.expected u ∙ with_old (is_one_of u c.as_slice.result.now) (is_expected u c.args.pipeline.now.notes.notes) e)
     (all_expected tx.tickets.items c.as_slice.result.now c.args.pipeline.now.notes.notes c.expect_all.new.notes.notes c.expect_all.ensures.expected (λ u e. ap (is_one_of u) c.as_slice.ensures.value ∙ e))
     (λ u. c.expect_all.ensures.expected u ∙ ap (λ (ts : List ℕ). is_one_of u ts || is_expected u c.args.pipeline.now.notes.notes) c.as_slice.ensures.value)
-    fresh left.joined left.idle one
+    fresh left.joined left.idle one sent
 
 pub returns-clause-accepts : goal.returns-clause-accepts
 returns-clause-accepts c =

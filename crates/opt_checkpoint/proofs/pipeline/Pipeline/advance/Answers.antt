@@ -1,7 +1,10 @@
 -- The notices are taken, and then the steps that are due are made.
-use Rattle.std.proofs.Common.{◌≡◌, true, is_err, ap, arith}
+use Rattle.std.proofs.Common.{◌≡◌, true, is_err, subst, ap, ◌∙◌, arith}
 use Rattle.opt_disk.specs.Disk.{writes_in}
+use Rattle.opt_disk.specs.Manner.{Manner}
+use Rattle.opt_checkpoint.specs.declared.pipeline.Pipeline.{Pipeline}
 use Rattle.opt_checkpoint.specs.Kept.{kept}
+use Rattle.opt_checkpoint.specs.Serving.{ServesByLog}
 use Rattle.opt_checkpoint.proofs.Added.{home_noticed, home_heard, loses_on, loses_heard}
 use Rattle.opt_checkpoint.proofs.Heard.{sound_heard, turns_heard, has_turns, serves_heard, owed_heard, due_heard, writes_noticed}
 use Rattle.opt_checkpoint.proofs.Forgotten.{committed_heard, committed_on}
@@ -105,6 +108,19 @@ returns-clause-heard g c = λ tells s l t floor taken right.
     let middle = g.D.Disk.state c.take_notices.new.disk in
     let taken_in = c.take_notices.ensures.takes tells in
     let heard = c.take_notices.ensures.agrees tells s l t floor c.args.ring.now c.args.reuse.now.waiting taken right.safe right.agrees in
-    let known = λ (alone : old.manner.waits_alone ≡ true). heard_taken taken_in.tickets old.log middle.log v w c.take_notices.ensures.rest c.take_notices.ensures.hears right.agrees.expected taken_in.log taken_in.notes in
+    let known = λ (alone : old.manner.waits_alone ≡ true). heard_taken taken_in.tickets old.log middle.log v w c.take_notices.ensures.hears taken_in.log taken_in.notes in
     on_ok c.go_on.result (c.go_on.ensures.heard tells s l t floor taken (record { safe = heard.0; agrees = heard.1; serves = serves_heard l v w c.args.reuse.now c.take_notices.ensures.rest c.take_notices.ensures.hears right.serves }))
     (stays_heard_on old middle (g.D.Disk.state c.go_on.new.disk) v w c.go_on.new.pipeline c.take_notices.ensures.spends.spends.same.manner known)
+
+pub returns-clause-serves : goal.returns-clause-serves
+returns-clause-serves g c = λ tells s l t floor taken right.
+    let v = c.args.self.now in
+    let w = c.take_notices.new.pipeline in
+    let old = g.D.Disk.state c.args.disk.now in
+    let middle = g.D.Disk.state c.take_notices.new.disk in
+    let new = g.D.Disk.state c.go_on.new.disk in
+    let taken_in = c.take_notices.ensures.takes tells in
+    let heard = c.take_notices.ensures.agrees tells s l t floor c.args.ring.now c.args.reuse.now.waiting taken right.safe right.agrees in
+    on_ok c.go_on.result (c.go_on.ensures.serves tells s l t floor taken (record { safe = heard.0; agrees = heard.1; serves = serves_heard l v w c.args.reuse.now c.take_notices.ensures.rest c.take_notices.ensures.hears right.serves }))
+    (λ known alone knew. subst (λ (p : Pipeline). ServesByLog p.geom.n new.base new.log c.go_on.new.pipeline.header c.args.reuse.now c.go_on.new.reuse) c.take_notices.ensures.rest
+    (known (ap (λ (m : Manner). m.waits_alone) c.take_notices.ensures.spends.spends.same.manner ∙ alone) (heard_taken taken_in.tickets old.log middle.log v w c.take_notices.ensures.hears taken_in.log taken_in.notes knew)))

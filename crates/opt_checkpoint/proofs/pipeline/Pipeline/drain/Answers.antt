@@ -1,7 +1,7 @@
 -- Round after round, and then blocks serve again.
 use Rattle.std.proofs.Common.{rules, ◌+◌, true, false, Ok, is_err, refl, sym, subst, ap, arith}
 use Rattle.opt_checkpoint.specs.Kept.{kept}
-use Rattle.opt_checkpoint.specs.Waits.{HearsRecords, WaitsSome}
+use Rattle.opt_checkpoint.specs.Waits.{HearsAll, WaitsSome}
 use Rattle.opt_checkpoint.proofs.Added.{home_then, home_failed, home_went, loses_on, loses_served}
 use Rattle.opt_checkpoint.specs.declared.pipeline.Pipeline.{Pipeline}
 use Rattle.opt_checkpoint.proofs.Forgotten.{committed_on, committed_same}
@@ -120,4 +120,4 @@ pub returns-clause-lost : goal.returns-clause-lost
 returns-clause-lost g c = committed_on c.args.self.now c.loop-round.self c.serve_blocks.new.pipeline c.loop-round.invariant.lost (committed_same c.loop-round.self c.serve_blocks.new.pipeline (ap (λ (p : Pipeline). p.committed.items) c.serve_blocks.ensures.rest))
 
 pub returns-clause-heard : goal.returns-clause-heard
-returns-clause-heard g c = λ tells s l t floor taken right alone heard. subst (λ (p : Pipeline). HearsRecords (g.D.Disk.state c.loop-round.disk).log p) (sym c.serve_blocks.ensures.rest) (c.loop-round.invariant.heard tells s l t floor taken right alone heard)
+returns-clause-heard g c = λ tells s l t floor taken right alone heard. subst (λ (p : Pipeline). HearsAll (g.D.Disk.state c.loop-round.disk).log p) (sym c.serve_blocks.ensures.rest) (c.loop-round.invariant.heard tells s l t floor taken right alone heard)

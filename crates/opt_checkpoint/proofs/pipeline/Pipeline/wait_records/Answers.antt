@@ -1,5 +1,5 @@
 -- The tickets are waited for, and then records become durable.
-use Rattle.std.proofs.Common.{◌∙◌, refl, sym, ap, subst, arith}
+use Rattle.std.proofs.Common.{◌∙◌, inl, refl, sym, ap, subst, arith}
 use Rattle.opt_checkpoint.specs.Kept.{kept}
 use Rattle.opt_checkpoint.specs.Order.{HasRoom}
 use Rattle.opt_checkpoint.specs.declared.pipeline.Pipeline.{Pipeline}
@@ -72,10 +72,8 @@ returns-clause-heard g c = λ tells s l t floor ring dead taken right alone hear
     let x = c.settle_all.new.pipeline in
     let old = g.D.Disk.state c.args.disk.now in
     let new = g.D.Disk.state c.wait_upto.new.disk in
-    let waited = c.wait_upto.ensures.agrees tells s l t floor ring dead.waiting taken right.safe right.agrees in
-    let settled = c.settle_all.ensures.agrees s new.base new.log l t floor ring dead.waiting taken waited.0 waited.1 in
-    let known = heard_waited c.in_ok-wait_upto.field-0 old.log new.log v w c.wait_upto.ensures.rest c.wait_upto.ensures.hears (c.in_ok-wait_upto.ensures.only tells alone) heard in
-    heard_left new.log new.log w x x (committed_settled c.settle_all.ensures.settles.0 w x c.settle_all.ensures.settles.1) refl c.settle_all.ensures.settles.1.forgets (λ u. refl) settled.agrees.expected (λ u came. came) known
+    let known = heard_waited c.in_ok-wait_upto.field-0 old.log new.log v w c.wait_upto.ensures.hears (c.in_ok-wait_upto.ensures.only tells alone) heard in
+    heard_left new.log new.log w x x c.settle_all.ensures.settles.1.forgets (λ u. refl) (λ u expected. inl expected) (λ u came. came) known
 
 pub returns-in_err-wait_upto-clause-only : goal.returns-in_err-wait_upto-clause-only
 returns-in_err-wait_upto-clause-only g c = λ tells alone. (c.wait_upto.ensures.only tells alone).only
