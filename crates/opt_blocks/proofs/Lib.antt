@@ -10,6 +10,7 @@ pub mod Fronts
 pub mod Ends
 pub mod PlainPoints
 pub mod PlainSyncs
+pub mod PlainServes
 pub mod Begins
 pub mod Fills
 pub mod DefinedSteps

@@ -19,6 +19,7 @@ nothing_issued old new e f = record {
   point = λ p m. (λ is. subst (λ ps. IsKeptPoint ps p m) e is, λ is. subst (λ ps. IsKeptPoint ps p m) (sym e) is);
   left = λ t m. (λ is. subst (λ ps. IsKeptFrom ps old.floor m) e (subst (λ k. IsKeptFrom new.history.points k m) f is), λ is. subst (λ k. IsKeptFrom new.history.points k m) (sym f) (subst (λ ps. IsKeptFrom ps old.floor m) (sym e) is));
   holds = λ img m. (λ is. is, λ is. is);
+  sure = λ log p. (λ is. is, λ is. is);
   issued = λ m. (λ is. subst (λ ps. IsKeptPoint ps (length ps - 1) m) e is, λ is. subst (λ ps. IsKeptPoint ps (length ps - 1) m) (sym e) is);
   awaits = λ p t. (λ is. is, λ is. is);
 }
@@ -41,6 +42,7 @@ advances_parts p s points more floor e rises = record {
         λ is. record { below = omega (arith, below, ap length e, length-append p.history.points more); is = is.is ∙ sym (among p.history.points more k below) ∙ sym (ap (λ ps. blocks_of (get_or ps k [])) e) },
       );
   holds = λ img m. (λ is. is, λ is. is);
+  sure = λ log p. (λ is. is, λ is. is);
   last = omega (arith, ap length e, length-append p.history.points more);
   floor = rises;
   awaits = λ q t waits. absurd waits;

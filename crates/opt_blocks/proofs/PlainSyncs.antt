@@ -98,7 +98,7 @@ syncs_changed old new point some filled is books reusable now points ticks = rec
     none = subst HasNoBare (sym (ap (λ k. k.running) books)) (λ b. refl)
 
 -- the map of blocks with another floor
-abbrev with_floor : PlainBlocks → ℕ → State
+abbrev pub with_floor : PlainBlocks → ℕ → State
 with_floor p floor = record (state_of p) { books = record (books_of p) { floor = floor }; crash = crash_of p.history.points floor }
 
 pub syncs_durably : (old mid : PlainBlocks) (point floor : ℕ) → mid.floor ≤ floor → Syncs true (Ok point) (state_of old) (state_of mid) → Syncs true (Ok point) (state_of old) (with_floor mid floor)

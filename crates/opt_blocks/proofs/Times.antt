@@ -52,6 +52,7 @@ advances_on old mid new a b = record {
       (b.earlier t m (omega (arith, before, later old.crash.log mid.crash.log a.grows)) left);
   point = λ p m low. (λ is. (a.point p m low).0 ((b.point p m (omega (arith, low, a.last))).0 is), λ is. (b.point p m (omega (arith, low, a.last))).1 ((a.point p m low).1 is));
   holds = λ img m. (λ is. (a.holds img m).0 ((b.holds img m).0 is), λ is. (b.holds img m).1 ((a.holds img m).1 is));
+  sure = λ log p. (λ is. (a.sure log p).0 ((b.sure log p).0 is), λ is. (b.sure log p).1 ((a.sure log p).1 is));
   last = omega (arith, a.last, b.last);
   floor = omega (arith, a.floor, b.floor);
   awaits = λ p t waits. ⊎_elim (a.awaits p t) (λ since. inr (since_before old mid a p t since)) (b.awaits p t waits);
@@ -65,6 +66,7 @@ nothing_on old mid new a b = record {
   point = λ p m. (λ is. (a.point p m).0 ((b.point p m).0 is), λ is. (b.point p m).1 ((a.point p m).1 is));
   left = λ t m. (λ is. (a.left t m).0 ((b.left t m).0 is), λ is. (b.left t m).1 ((a.left t m).1 is));
   holds = λ img m. (λ is. (a.holds img m).0 ((b.holds img m).0 is), λ is. (b.holds img m).1 ((a.holds img m).1 is));
+  sure = λ log p. (λ is. (a.sure log p).0 ((b.sure log p).0 is), λ is. (b.sure log p).1 ((a.sure log p).1 is));
   issued = λ m. (λ is. (a.issued m).0 ((b.issued m).0 is), λ is. (b.issued m).1 ((a.issued m).1 is));
   awaits = λ p t. (λ is. (a.awaits p t).0 ((b.awaits p t).0 is), λ is. (b.awaits p t).1 ((a.awaits p t).1 is));
 }
@@ -76,6 +78,7 @@ nothing_not s = record {
   point = λ p m. (λ is. is, λ is. is);
   left = λ t m. (λ is. is, λ is. is);
   holds = λ img m. (λ is. is, λ is. is);
+  sure = λ log p. (λ is. is, λ is. is);
   issued = λ m. (λ is. is, λ is. is);
   awaits = λ p t. (λ is. is, λ is. is);
 }
@@ -96,6 +99,7 @@ nothing_advances old new told e f a = record {
   earlier = λ t m before left. inl ((a.left t m).0 left);
   point = λ p m low. a.point p m;
   holds = λ img m. a.holds img m;
+  sure = λ log p. a.sure log p;
   last = omega (arith, e);
   floor = omega (arith, f);
   awaits = λ p t waits. inl ((a.awaits p t).0 waits);

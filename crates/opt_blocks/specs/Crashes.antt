@@ -1,6 +1,7 @@
 -- What a crash may leave of a map of blocks, before and after a call. It is described in docs/BLOCKS.md.
-use Rattle.std.specs.Prelude.{◌≡◌, ◌↔◌, ◌⊎◌, ℕ, ◌+◌, ◌<◌, ◌≤◌, false, true, IsTrue, [], length}
+use Rattle.std.specs.Prelude.{◌≡◌, ◌↔◌, ◌⊎◌, ℕ, ◌+◌, ◌<◌, ◌≤◌, false, true, IsTrue, List, [], length}
 use Rattle.opt_base.specs.Seal.{Blocks}
+use Rattle.opt_disk.specs.declared.event.Event.{Event}
 use Rattle.opt_disk.specs.Cell.{is_accepted, IsAccepted, IsNoticed}
 use Rattle.opt_disk.specs.Disk.{Grows, writes_in}
 use Rattle.opt_geom.specs.Geometry.{Geometry}
@@ -31,6 +32,7 @@ pub record IssuesNothing (old new : State) : Type 0 where
   pub holds : (img m : Blocks) → new.crash.holds img m ↔ old.crash.holds img m
   pub issued : (m : Blocks) → new.crash.issued m ↔ old.crash.issued m
   pub awaits : (p t : ℕ) → new.crash.awaits p t ↔ old.crash.awaits p t
+  pub sure : (log : List Event) (p : ℕ) → new.crash.sure log p ↔ old.crash.sure log p
 
 -- a point that came since waits for the ticket of a write that came since
 pub record AwaitsSince (old : State) (p t : ℕ) : Type 0 where
@@ -46,6 +48,8 @@ pub record Advances (old new : State) : Type 0 where
   pub earlier : (t : ℕ) (img : Blocks) → t ≤ length old.crash.log → new.crash.left_since t img → old.crash.left_since t img ⊎ ∥ HoldsPointBetween new old.books.floor new.books.point img ∥₁
   -- which map an image holds is for ever
   pub holds : (img m : Blocks) → new.crash.holds img m ↔ old.crash.holds img m
+  -- and by which events a point is sure
+  pub sure : (log : List Event) (p : ℕ) → new.crash.sure log p ↔ old.crash.sure log p
   -- a point is for ever
   pub point : (p : ℕ) (m : Blocks) → p ≤ old.books.point → new.crash.is_point p m ↔ old.crash.is_point p m
   pub last : old.books.point ≤ new.books.point

@@ -5,6 +5,7 @@ pub mod Crashes
 pub mod Effects
 pub mod History
 pub mod Puts
+pub mod Serving
 pub mod Plain
 pub mod PlainOf
 pub mod Ranges

@@ -40,7 +40,7 @@ pub record IsKeptFrom (points : List (List (List ℕ))) (floor : ℕ) (m : Block
   pub from : floor ≤ point
   pub kept : IsKeptPoint points point m
 
--- memory has no events: a crash leaves the map itself of any point from the floor on, and all that was issued is the last one
+-- memory has no events, and each point is sure at once: a crash leaves the map itself of any point from the floor on, and all that was issued is the last one
 abbrev pub crash_of : List (List (List ℕ)) → ℕ → CrashView
 crash_of points floor = record {
   base = λ b. [];
@@ -50,4 +50,5 @@ crash_of points floor = record {
   holds = λ img m. img ≡ m;
   issued = λ m. IsKeptPoint points (length points - 1) m;
   awaits = λ p t. ⊥;
+  sure = λ log p. Unit {0};
 }

@@ -1,5 +1,5 @@
 -- What is known of a map of blocks in memory.
-use Rattle.std.specs.Prelude.{◌-◌, ◌*◌, false, length}
+use Rattle.std.specs.Prelude.{◌-◌, ◌*◌, false, length, None}
 use Rattle.opt_base.specs.Seal.{blocks_of}
 use Rattle.opt_disk.specs.Manner.{any_manner}
 use Rattle.opt_geom.specs.Geometry.{data_start}
@@ -16,6 +16,7 @@ books_of p = record {
   marked = marks_of p.geom (blocks_of p.history.now);
   reusable = clear_in (blocks_of p.busy.items);
   waiting = 0;
+  since = λ b. None;
   area = p.geom.n - data_start p.geom;
   room = 24 * (p.geom.j - 2);
   free_places = p.geom.j;

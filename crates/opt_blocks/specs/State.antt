@@ -1,5 +1,5 @@
 -- What is known of a map of blocks with sync points: its bookkeeping, its counts, its blocks, and what a crash may leave of them. It is described in docs/BLOCKS.md.
-use Rattle.std.specs.Prelude.{◌≡◌, ◌≢◌, ℕ, ◌+◌, ◌-◌, ◌<◌, ◌≤◌, Bool, true, false, not, nat_le, nat_lt, ◌==◌, ◌&&◌, ◌||◌, if◌then◌else◌, List, [], length}
+use Rattle.std.specs.Prelude.{◌≡◌, ◌≢◌, ℕ, ◌+◌, ◌-◌, ◌<◌, ◌≤◌, Bool, true, false, not, nat_le, nat_lt, ◌==◌, ◌&&◌, ◌||◌, if◌then◌else◌, List, [], length, Option}
 use Rattle.std.specs.List.{filter, range_with_len, All, AllPairs}
 use Rattle.opt_base.specs.Seal.{Blocks}
 use Rattle.opt_base.specs.declared.words.Class.{Class}
@@ -30,6 +30,8 @@ pub record Bookkeeping : Type 0 where
   -- the numbers that may be taken, and how many wait to be so again
   pub reusable : ℕ → Bool
   pub waiting : ℕ
+  -- of each block that waits, the point whose transaction freed it
+  pub since : ℕ → Option ℕ
   -- how many data blocks there are, and how much weight a transaction may have
   pub area : ℕ
   pub room : ℕ
@@ -43,7 +45,7 @@ pub record Bookkeeping : Type 0 where
   -- a call of the disk failed in a write, a poll or a wait, and nothing is written any more
   pub stopped : Bool
 
--- What is known of crashes: what the disk's blocks were as it began, and its events since, whose number is the moment; which maps are those of a point, which images a crash at some moment from one on may leave, which map an image holds, and what stands where all accepted writes stand; and which tickets a point waits for, those of the writes of its record, until it is known to be durable. Of blocks in memory there is no event.
+-- What is known of crashes: what the disk's blocks were as it began, and its events since, whose number is the moment; which maps are those of a point, which images a crash at some moment from one on may leave, which map an image holds, and what stands where all accepted writes stand; and which tickets a point waits for, those of the writes of its record, until it is known to be durable. After events like these a point is sure where the newest header at rest then says that all records up to its own are durable. Of blocks in memory there is no event.
 pub record CrashView : Type 1 where
   pub base : Blocks
   pub log : List Event
@@ -52,6 +54,7 @@ pub record CrashView : Type 1 where
   pub holds : Blocks → Blocks → Type 0
   pub issued : Blocks → Type 0
   pub awaits : ℕ → ℕ → Type 0
+  pub sure : List Event → ℕ → Type 0
 
 -- The whole. The map has the bytes of each block on which it is defined, and nothing elsewhere; where contents aren't known, it and `crash` say nothing.
 pub record State : Type 1 where

@@ -9,6 +9,7 @@ ghost use Rattle.opt_layout.specs.Bitmap.{is_set};
 ghost use Rattle.opt_blocks.specs.State.{State, reusable_blocks, is_defined, MayBeTaken, after_put, after_take, after_free, after_weigh};
 ghost use Rattle.opt_blocks.specs.Calls.{IsWithBlock, IsWithTaken, IsWithFreed, OnNoMemory, AreLowest, LowestRefused, lowest_fails, CountsReads, MaySync, HasTurns, AreFigures, IsReady, IsSound};
 ghost use Rattle.opt_blocks.specs.Crashes.{HearsRecords, IssuesNothing, IsTold};
+ghost use Rattle.opt_blocks.specs.Serving.{EndsFrees, SameFreed, ServesSure, with_all_served};
 ghost use Rattle.opt_blocks.specs.Effects.{LeavesDisk, ChangesNothing, FitsRing, RunsPipeline, Syncs, Ticked, WritesItsRecord};
 
 use crate::{Figures, LowestRefusal, SyncRefusal};
@@ -77,7 +78,8 @@ pub trait Blocks {
         ensures refused { IfErr result (λ why. LowestRefused n (state self.old).books (state self.new).books why) }
         ensures moves { RunsPipeline tells (lowest_fails result) (state self.old) (state self.new) }
         ensures ticks { (state self.new).counts.ticks ≡ (state self.old).counts.ticks }
-        ensures looks { n ≤ length (reusable_blocks (state self.old).books) → ChangesNothing tells (state self.old) (state self.new) };
+        ensures looks { n ≤ length (reusable_blocks (state self.old).books) → ChangesNothing tells (state self.old) (state self.new) }
+        ensures serves { length (reusable_blocks (state self.old).books) < n → lowest_fails result ≡ false → SameFreed (with_all_served (state self.old).books) (state self.new).books };
 
     /// Takes these numbers, of those made ready: their bits are set, and each is to be put or freed
     /// before the next sync.
@@ -118,7 +120,8 @@ pub trait Blocks {
         ensures disk { LeavesDisk tells (state self.old) (state self.new) };
 
     /// Takes the durability notifications that have come, at most 64, and moves the pipeline by a step. It
-    /// doesn't wait: behind those notifications come writes alone.
+    /// doesn't wait: behind those notifications come writes alone. Where waits bring no notice but their own, just
+    /// those blocks serve again that wait for a point which is sure now and on which nothing is pending.
     ///
     /// # Errors
     /// The disk failed.
@@ -128,7 +131,8 @@ pub trait Blocks {
         ensures moves { RunsPipeline tells (is_err result) (state self.old) (state self.new) }
         ensures waits { (state self.new).counts.waits ≡ (state self.old).counts.waits }
         ensures ticks { Ticked tells (state self.old) (state self.new) }
-        ensures writes { IsTrue tells → PollsThenWrites (state self.old).counts.ticks.manner 64 (state self.old).counts.ticks.polls (state self.old).crash.log (state self.new).counts.ticks.polls (state self.new).crash.log };
+        ensures writes { IsTrue tells → PollsThenWrites (state self.old).counts.ticks.manner 64 (state self.old).counts.ticks.polls (state self.old).crash.log (state self.new).counts.ticks.polls (state self.new).crash.log }
+        ensures serves { IsTrue tells → (state self.old).counts.ticks.manner.waits_alone ≡ true → OnOk result (ServesSure (state self.old) (state self.new)) };
 
     /// Waits until nothing waits in the pipeline any more, and all blocks that earlier transactions freed
     /// may be taken.
@@ -139,6 +143,7 @@ pub trait Blocks {
         requires going { (state self.old).books.stopped ≡ false }
         requires turns { HasTurns (state self.old).books }
         ensures settled { OnOk result ((state self.new).books.waiting ≡ 0) }
+        ensures serves { OnOk result (SameFreed (with_all_served (state self.old).books) (state self.new).books) }
         ensures moves { RunsPipeline tells (is_err result) (state self.old) (state self.new) }
         ensures ticks { (state self.new).counts.ticks ≡ (state self.old).counts.ticks };
 
@@ -153,6 +158,7 @@ pub trait Blocks {
         requires turns { HasTurns (state self.old).books }
         requires sound { MaySync (state self.old).books }
         ensures syncs { Syncs tells result (state self.old) (state self.new) }
+        ensures frees { IsTrue tells → OnOk result (EndsFrees (state self.old) (state self.new)) }
         ensures order { FitsRing (state self.old).books → (state self.new).counts.waits ≡ (state self.old).counts.waits }
         ensures writes { IsTrue tells → FitsRing (state self.old).books → GrowsByWrites (state self.old).crash.log (state self.new).crash.log }
         ensures written { IsTrue tells → FitsRing (state self.old).books → OnOk result (WritesItsRecord (state self.old) (state self.new)) }
@@ -171,6 +177,7 @@ pub trait Blocks {
         requires turns { HasTurns (state self.old).books }
         requires sound { MaySync (state self.old).books }
         ensures syncs { Syncs tells result (state self.old) (state self.new) }
+        ensures frees { IsTrue tells → OnOk result (EndsFrees (state self.old) (state self.new)) }
         ensures durable { OnOk result ((state self.new).books.floor ≡ (state self.new).books.point) }
         ensures written { IsTrue tells → FitsRing (state self.old).books → OnOk result (WritesItsRecord (state self.old) (state self.new)) }
         ensures waits { IsTrue tells → (state self.old).counts.ticks.manner.waits_alone ≡ true → FitsRing (state self.old).books → HearsRecords (state self.old) (state self.new) }

@@ -192,6 +192,7 @@ impl PlainBlocks {
     ghost use Rattle.opt_blocks.specs.Plain.{clear_in};
     ghost use Rattle.opt_blocks.specs.State.{reusable_blocks, live_blocks, IsReusable, after_take};
     ghost use Rattle.opt_blocks.specs.Crashes.{IsBegun, HasMapOfPoint};
+    ghost use Rattle.opt_blocks.specs.Puts.{IsData};
     ghost use Rattle.opt_blocks.specs.PlainOf.{books_of, state_of};
 
     /// The blocks of a disk that was just formatted, of which this is point 0. Of the headers and the
@@ -276,6 +277,7 @@ impl PlainBlocks {
     fn end_transaction(&mut self) -> Result<(), NoMemory>
         ensures books { OnOk result (books_of self.new ≡ record (books_of self.old) { running = nothing_running; reusable = (books_of self.new).reusable; point = (books_of self.old).point + 1 }) }
         ensures reusable { (b : ℕ) → IsReusable self.old.geom (books_of self.old).reusable b → (books_of self.new).reusable b ≡ true }
+        ensures clears { OnOk result ((b : ℕ) → IsData self.old.geom b → (books_of self.new).reusable b ≡ not ((books_of self.old).marked b)) }
         ensures map { self.new.history.now ≡ self.old.history.now }
         ensures points { OnOk result (self.new.history.points ≡ self.old.history.points ++ self.old.history.now ∷ []) }
         ensures err { OnErr result (self.new ≡ self.old) }

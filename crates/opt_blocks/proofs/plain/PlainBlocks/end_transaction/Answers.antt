@@ -1,5 +1,5 @@
-use Rattle.std.proofs.Common.{◌≡◌, ◌∙◌, ◌+◌, ◌<◌, not, ℕ, sym, ap, arith, length}
-use Rattle.std.proofs.lemmas.Bool.{not-true}
+use Rattle.std.proofs.Common.{◌≡◌, ◌∙◌, ◌+◌, ◌<◌, ◌&&◌, not, ℕ, sym, ap, arith, length}
+use Rattle.std.proofs.lemmas.Bool.{not-true, lt-ltb}
 use Rattle.std.proofs.lemmas.List.{with_items_is, length_push, length-replicate}
 use Rattle.std.specs.Vec.{with_items}
 use Rattle.opt_base.specs.Seal.{blocks_of}
@@ -47,6 +47,18 @@ returns-clause-books c =
     (untouched (with_items p.roles c.forget.new.roles).items (length c.as_mut_slice-2.result.now) (roles_are ∙ c.forget.ensures))
     (ap (λ l. marks_of p.geom (blocks_of l)) c.make_point.ensures.now)
     (omega (arith, p.floor_is, ap length c.in_ok-make_point.ensures.points, length_push p.history.points p.history.now))
+
+pub returns-clause-clears : goal.returns-clause-clears
+returns-clause-clears c =
+    let p = c.args.self.now in
+    let g = p.geom in
+    let m = blocks_of p.history.now in
+    let size : length c.read_bits.new.into ≡ p.busy.len = c.read_bits.ensures.size ∙ c.as_mut_slice.ensures.len in
+    let copied = with_items_is p.busy c.read_bits.new.into size in
+    let after = (with_items p.busy c.read_bits.new.into).items in
+    let busy : (k : ℕ) → k < bitmap_blocks g → blocks_of after k ≡ m (bitmap_start g + k) =
+    λ k low. ap (λ l. blocks_of l k) copied ∙ c.read_bits.ensures.bits k low ∙ ap (λ l. blocks_of l (bitmap_start g + k)) c.make_point.ensures.now in
+    λ b at. ap not (copied_bit g m after busy b at.below ∙ sym (ap (λ x. x && is_set g m b) (lt-ltb b g.n at.below)))
 
 pub returns-clause-reusable : goal.returns-clause-reusable
 returns-clause-reusable c =

@@ -1,4 +1,4 @@
-use Rattle.std.proofs.Common.{◌≡◌, ◌∙◌, ◌+◌, ◌-◌, ◌/◌, ◌<◌, ◌≤◌, ◌&&◌, nat_lt, ℕ, false, List, [], get_or, refl, sym, ap, arith, length}
+use Rattle.std.proofs.Common.{◌≡◌, ◌∙◌, ◌+◌, ◌-◌, ◌/◌, ◌<◌, ◌≤◌, ◌&&◌, nat_lt, ℕ, false, List, [], None, get_or, refl, sym, ap, arith, length}
 use Rattle.std.proofs.lemmas.Bool.{lt-ltb}
 use Rattle.opt_blocks.proofs.DefinedSteps.{kept_live}
 use Rattle.opt_blocks.specs.Defined.{defined_at, table_defined}
@@ -27,6 +27,7 @@ begun g now roles = record {
   marked = marks_of g (blocks_of now);
   reusable = λ b. false;
   waiting = 0;
+  since = λ b. None;
   area = 0;
   room = 0;
   free_places = 0;

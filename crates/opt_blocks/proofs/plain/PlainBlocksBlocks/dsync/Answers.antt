@@ -1,4 +1,5 @@
 use Rattle.std.proofs.Common.{◌∙◌, sym, ap, arith}
+use Rattle.opt_blocks.proofs.PlainServes.{ends_floor}
 use Rattle.opt_blocks.proofs.PlainSyncs.{syncs_durably, floor_stays}
 use Rattle.opt_blocks.proofs.plain.PlainBlocksBlocks.dsync.Goals as goal
 
@@ -9,3 +10,6 @@ pub returns-clause-idles : goal.returns-clause-idles
 returns-clause-idles c = λ none known.
     let books = (c.osync.ensures.idles none).books in
     floor_stays c.args.self.now c.osync.new.self c.in_ok-point.point (c.in_ok-point.ensures.syncs.point ∙ ap (λ k. k.point) books ∙ sym known ∙ sym (ap (λ k. k.floor) books)) (c.osync.ensures.idles none)
+
+pub returns-clause-frees : goal.returns-clause-frees
+returns-clause-frees c = λ tells. ends_floor c.args.self.now c.osync.new.self c.in_ok-point.point (c.in_ok-point.ensures.frees tells)

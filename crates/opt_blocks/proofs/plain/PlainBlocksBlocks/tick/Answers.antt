@@ -8,3 +8,6 @@ returns-clause-ticks c = record { made = search rules; manner = refl; polled = �
 
 pub returns-clause-writes : goal.returns-clause-writes
 returns-clause-writes c = λ tells p known. absurd (none-some p known)
+
+pub returns-clause-serves : goal.returns-clause-serves
+returns-clause-serves c = λ tells alone. record { serves = λ b p at waits. absurd (none-some p waits); others = λ b at none. refl; serving = λ b at may. refl; waiting = λ b at not_yet. refl }
