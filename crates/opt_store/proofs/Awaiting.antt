@@ -1,6 +1,6 @@
 -- For which tickets points wait: a call of the pipeline takes some away, and a commit brings those of its record. What the notes know of them.
 use Rattle.std.proofs.Common.{◌≡◌, ◌↔◌, ◌⊎◌, inl, inr, ⊎_elim, ℕ, zero, suc, ◌+◌, ◌-◌, ◌<◌, ◌≤◌, ◌==◌, not, Bool, true, false, if◌then◌else◌, List, [], ◌∷◌, ◌++◌, drop, slice_get, Some, Result, Ok, Err, OnOk, is_err, refl, sym, ◌∙◌, ap, subst, arith}
-use Rattle.std.proofs.lemmas.Bool.{and_parts, eqb-true, false≢true}
+use Rattle.std.proofs.lemmas.Bool.{and_parts, eqb-true, false≢true, or_cases}
 use Rattle.std.proofs.lemmas.Option.{same_Some, none-some}
 use Rattle.opt_disk.specs.declared.disk.DiskFault.{DiskFault}
 use Rattle.opt_disk.specs.declared.event.Event.{Event}
@@ -14,7 +14,7 @@ use Rattle.opt_tx.specs.declared.commit.Committed.{Committed}
 use Rattle.opt_checkpoint.specs.declared.pipeline.Pipeline.{Pipeline}
 use Rattle.opt_checkpoint.specs.Agree.{NotesAreGiven, OpenAreExpected}
 use Rattle.opt_checkpoint.specs.Steps.{is_first_settled}
-use Rattle.opt_checkpoint.specs.Waits.{HearsRecords, IsOfRecord, LosesCommitted}
+use Rattle.opt_checkpoint.specs.Waits.{HearsAll, IsOfRecord, LosesCommitted}
 use Rattle.opt_blocks.specs.Crashes as blocks
 use Rattle.opt_store.specs.declared.parts.StoreParts.{StoreParts}
 use Rattle.opt_store.specs.Committing.{JoinsCommitted}
@@ -108,11 +108,11 @@ joined_awaits number ws tickets v w old new joins adds next first going p t a =
     (λ late. inr (omega (arith, a.number, first, late.0, next), (new_ticket ws tickets old new t adds late.1).write))
     (record_or number tickets v.pipeline w.pipeline a.place t a.committed joins a.is a.own)
 
--- of records' tickets the notes know as much as came
-pub joined_heard : (number : ℕ) (ws : List (ℕ × List ℕ)) (tickets : List ℕ) (v w : Pipeline) (old new : List Event) → GrowsByWrites old new → JoinsCommitted number tickets v w → AddsWrites ws tickets old new → HearsRecords old v → HearsRecords new w
-joined_heard number ws tickets v w old new grows joins adds heard k t c is own came =
+-- of the tickets that they expect the notes know as much as came
+pub joined_heard : (number : ℕ) (ws : List (ℕ × List ℕ)) (tickets : List ℕ) (v w : Pipeline) (old new : List Event) → GrowsByWrites old new → JoinsCommitted number tickets v w → AddsWrites ws tickets old new → HearsAll old v → HearsAll new w
+joined_heard number ws tickets v w old new grows joins adds heard t expected came =
     let was : IsNoticed t old = noticed_before t old new grows came in
-    joins.noticed t ∙ ⊎_elim (λ before. heard k t c before own was) (λ late. absurd ((new_ticket ws tickets old new t adds late.1).notice was)) (record_or number tickets v w k t c joins is own)
+    joins.noticed t ∙ ⊎_elim (λ late. absurd ((new_ticket ws tickets old new t adds late).notice was)) (λ before. heard t before was) (or_cases (is_one_of t tickets) (is_expected t v.notes.notes) (sym (joins.expected t) ∙ expected))
 
 -- What is known of the points that wait.
 
@@ -133,11 +133,11 @@ pub waited_hears : (v w : StoreParts) (d e : State) (ticks later upto : ℕ) →
 waited_hears v w d e ticks later upto g going only t came = ⊎_elim (λ was. inl was) (λ of. inr (inl ∣ awaited_record v upto t g going of ∣₁)) (only t came)
 
 -- where the floor isn't the last point, the next one waits for a ticket still
-pub still_awaits : (v : StoreParts) (ticks : ℕ) (d : State) → IsGoing v → v.stopped ≡ false → is_first_settled v.pipeline.committed.items v.pipeline.notes.notes ≡ false → (d.manner.waits_alone ≡ true → HearsRecords d.log v.pipeline) → v.floor < v.point → blocks.StillAwaits (store_state v ticks d) (v.floor + 1)
+pub still_awaits : (v : StoreParts) (ticks : ℕ) (d : State) → IsGoing v → v.stopped ≡ false → is_first_settled v.pipeline.committed.items v.pipeline.notes.notes ≡ false → (d.manner.waits_alone ≡ true → HearsAll d.log v.pipeline) → v.floor < v.point → blocks.StillAwaits (store_state v ticks d) (v.floor + 1)
 still_awaits v ticks d g going due heard below = record {
   ticket = first.2.0;
   awaits = record { going = going; place = 0; committed = first.0; is = first.1; number = omega (arith, number_at v.pipeline g.sound.order 0 first.0 first.1, g.floor); own = first.2.1 };
-  not_yet = λ alone came. false≢true (sym (not_true (is_noticed first.2.0 v.pipeline.notes.notes) (and_parts (is_expected first.2.0 v.pipeline.notes.notes) (not (is_noticed first.2.0 v.pipeline.notes.notes)) first.2.2).1) ∙ heard alone 0 first.2.0 first.0 first.1 first.2.1 came);
+  not_yet = λ alone came. false≢true (sym (not_true (is_noticed first.2.0 v.pipeline.notes.notes) (and_parts (is_expected first.2.0 v.pipeline.notes.notes) (not (is_noticed first.2.0 v.pipeline.notes.notes)) first.2.2).1) ∙ heard alone first.2.0 (and_parts (is_expected first.2.0 v.pipeline.notes.notes) (not (is_noticed first.2.0 v.pipeline.notes.notes)) first.2.2).0 came);
 }
   where
     first : (c : Committed) × (slice_get v.pipeline.committed.items 0 ≡ Some c) × ((t : ℕ) × (is_one_of t c.tickets.items ≡ true) × (is_open t v.pipeline.notes.notes ≡ true))

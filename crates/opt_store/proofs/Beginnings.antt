@@ -1,10 +1,9 @@
 -- What a store keeps as it begins, and with which map: new parts on a disk on which a session has begun.
-use Rattle.std.proofs.Common.{◌≡◌, ⊎_elim, ℕ, zero, suc, ◌+◌, ◌-◌, ◌^◌, ◌<◌, ◌≤◌, nat_le, nat_lt, ◌&&◌, ◌||◌, not, ◌==◌, if◌then◌else◌, Bool, true, false, IsTrue, List, [], ◌∷◌, ◌++◌, length, map, drop, slice_get, None, refl, sym, ◌∙◌, ap, ap₂, subst, arith}
+use Rattle.std.proofs.Common.{◌≡◌, ⊎_elim, ℕ, zero, suc, ◌+◌, ◌-◌, ◌^◌, ◌<◌, ◌≤◌, nat_le, nat_lt, ◌&&◌, ◌||◌, not, ◌==◌, if◌then◌else◌, Bool, true, false, IsTrue, List, [], ◌∷◌, ◌++◌, length, map, drop, None, option_map, refl, sym, ◌∙◌, ap, ap₂, subst, arith}
 use Rattle.std.proofs.lemmas.Bool.{cases_lt, le-ltb, lt-ltb, false≢true}
 use Rattle.std.specs.List.{filter, range_with_len}
 use Rattle.std.proofs.Props.{props}
 use Rattle.std.proofs.Math.Logic.{∥∥₁_elim}
-use Rattle.std.proofs.lemmas.Option.{none-some}
 use mathlib.Core.Path.{fun_ext}
 use Rattle.opt_base.specs.Counts.{after_calls}
 use Rattle.opt_base.specs.Seal.{Blocks}
@@ -22,6 +21,8 @@ use Rattle.opt_crash.specs.HomeTest.{is_one_of}
 use Rattle.opt_crash.specs.Ledger.{Ledger}
 use Rattle.opt_crash.specs.Mounting.{HasBegun}
 use Rattle.opt_crash.specs.Points.{MountedSession, IsPoint, IsSafe, session_at_mount}
+use Rattle.opt_notes.specs.declared.notes.Note.{Note}
+use Rattle.opt_notes.specs.Notes.{is_expected}
 use Rattle.opt_tx.specs.declared.put.Put.{Put}
 use Rattle.opt_tx.specs.declared.commit.Committed.{Committed}
 use Rattle.opt_tx.specs.declared.states.Durable.{Durable}
@@ -46,7 +47,7 @@ use Rattle.opt_books.specs.Point.{BeganAt, HasBitmap}
 use Rattle.opt_store.specs.declared.parts.StoreParts.{StoreParts}
 use Rattle.opt_store.specs.Mounting.{AreNewParts, BeginsWith}
 use Rattle.opt_store.specs.Opening.{AreNewBooks, IsNewPipeline, empty_ring, first_ledger, first_map}
-use Rattle.opt_store.specs.Store.{IsGoing, StoreIsSound}
+use Rattle.opt_store.specs.Store.{IsGoing, StoreIsSound, point_of, waits_for}
 use Rattle.opt_store.specs.Told.{IsKeptOn, IsToldBy, last_map, map_now, session_of, store_state}
 use Rattle.opt_store.proofs.OnePoint.{live_below, one_point}
 use Rattle.opt_store.proofs.Windows.{OneMap}
@@ -185,6 +186,7 @@ module _ (g : Geometry) (slot : ℕ) (h : Header) (moment : ℕ) (v : StoreParts
   going_at_once laws released = record {
     sound = subst (λ ring. IsSound v.pipeline ring v.books.dead) (sym new.ring) (laws.sound g slot h v.pipeline v.books new.pipeline new.books);
     number = omega (arith, new.first, new.point, new.pipeline.none.last, released);
+    first = omega (arith, new.first, released, ap (λ (k : Header). k.sure) new.pipeline.none.header);
     floor = omega (arith, new.first, new.floor, ap (λ (k : Header). k.start) new.pipeline.none.header, none_durable g slot h v.pipeline new.pipeline);
   }
 
@@ -229,7 +231,7 @@ module _ (g : Geometry) (slot : ℕ) (h : Header) (moment : ℕ) (v : StoreParts
       serves = right.serves;
       next = omega (arith, new.first, new.point);
       due = ap (λ (cs : List Committed). is_first_settled cs v.pipeline.notes.notes) new.pipeline.none.committed;
-      heard = λ alone k t c is own came. absurd (none-some c (ap (λ (cs : List Committed). slice_get cs k) (sym new.pipeline.none.committed) ∙ is));
+      heard = λ alone t expected came. absurd (false≢true (sym (ap (λ (ns : List Note). is_expected t ns) new.pipeline.none.notes) ∙ expected));
       cache = record {
         newest = λ b lives is. ap (λ ks. newest_in None ks b) (kept_none g slot h v.pipeline new.pipeline);
         same = λ b lives. subst (λ (k : Cache). Agrees k d) (sym new.cache) (laws.cache v.cache.capacity d) b;
@@ -268,6 +270,7 @@ module _ (g : Geometry) (slot : ℕ) (h : Header) (moment : ℕ) (v : StoreParts
     only = λ q is b live. ∥∥₁_elim is (search props) (λ (other : IsPoint (session_of v) d.base d.log 0 q).
         one_point laws.one (session_of v) d.base d.log 0 q m other first b ∙ sym (ap (λ (x : Blocks). x b) map_is));
     waiting = ap (λ (x : DeadBlocks). length x.waiting) new.books.dead;
+    since = λ b. ap (λ (x : DeadBlocks). option_map (point_of v.first) (waits_for x.waiting b)) new.books.dead;
     free_places = omega (arith, ap (λ ring. ring.geom.j) new.ring, ap (λ ring. ring.taken) new.ring);
     owed = omega (arith, none_left, ap (λ (x : Header). x.sure) new.pipeline.none.written, ap (λ (x : Header). x.start) new.pipeline.none.written, new.pipeline.none.last, released);
   }

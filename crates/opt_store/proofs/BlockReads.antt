@@ -109,7 +109,7 @@ sound_still v w s = record {
   ring_geom = s.ring_geom;
   pipeline_geom = s.pipeline_geom;
   floor = s.floor;
-  going = λ going. let g = s.going going in record { sound = g.sound; number = g.number; floor = g.floor };
+  going = λ going. let g = s.going going in record { sound = g.sound; number = g.number; first = g.first; floor = g.floor };
 }
 
 -- the store keeps what it keeps

@@ -41,7 +41,7 @@ parts_sound v w on s = record {
   ring_geom = s.ring_geom ∙ sym on.geom;
   pipeline_geom = s.pipeline_geom ∙ sym on.geom;
   floor = s.floor;
-  going = λ going. let g = s.going going in record { sound = on.sound g.sound; number = g.number; floor = g.floor };
+  going = λ going. let g = s.going going in record { sound = on.sound g.sound; number = g.number; first = g.first; floor = g.floor };
 }
 
 parts_told : (v : StoreParts) (w : TransactionBooks) (d : disk.State) (l : Ledger) → BooksGoOn v w → BeganAt w (last_map v d) → IsToldBy v d l → IsToldBy (record v { books = w }) d l

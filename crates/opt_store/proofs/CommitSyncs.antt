@@ -139,6 +139,7 @@ module _ (laws : Laws) (tells : Bool) (v : StoreParts) (d e : State) (r : Commit
     going = λ still. record {
       sound = s.becomes.sound;
       number = omega (arith, s.becomes.last);
+      first = omega (arith, (k.sound.going going).first, ap (λ (h : Header). h.sure) s.becomes.header);
       floor = omega (arith, (k.sound.going going).floor, ap (λ (h : Header). h.start) s.becomes.header, s.becomes.durable);
     };
   }

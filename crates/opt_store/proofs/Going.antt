@@ -85,7 +85,7 @@ goes_on law v w headers s going m sound is = record {
   ring_geom = m.moves.ring_geom ∙ s.ring_geom ∙ sym books_geom;
   pipeline_geom = m.moves.geom ∙ s.pipeline_geom ∙ sym books_geom;
   floor = omega (arith, floor, number, durable_few w.pipeline sound.order);
-  going = λ e. record { sound = sound; number = number; floor = floor };
+  going = λ e. record { sound = sound; number = number; first = omega (arith, (s.going going).first, m.first, m.moves.sure); floor = floor };
 }
   where
     books_geom : w.books.geom ≡ v.books.geom

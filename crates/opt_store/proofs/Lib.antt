@@ -1,4 +1,7 @@
 pub mod Logs
+pub mod WaitingBlocks
+pub mod ServingBlocks
+pub mod Freeing
 pub mod Spending
 pub mod Rows
 pub mod Settling

@@ -29,7 +29,7 @@ use Rattle.opt_store.specs.declared.parts.StoreParts.{StoreParts}
 use Rattle.opt_store.specs.declared.refusal.StoreRefusal.{StoreRefusal}
 use Rattle.opt_store.specs.Mounting.{AreNewParts, GoesOnFrom, HoldsLast}
 use Rattle.opt_store.specs.Refusal.{IsReplayedBitmap, MayBeMounted, RefusalSays, is_disk_fault, is_read_fault, refusal_of}
-use Rattle.opt_store.specs.Told.{store_state}
+use Rattle.opt_store.specs.Told.{session_of, store_state}
 use Rattle.opt_store.proofs.Beginnings.{Starts}
 
 -- What the laws say that are put to use.
@@ -165,6 +165,10 @@ numbers_from g slot h moment v old parts goes ticks new = record {
   is_found = record { is_found = goes.is_found; is_greatest = goes.is_greatest };
   most = at_most v.pipeline.written.turn v.pipeline.last goes.found.header.turn (last_number goes.found.header (length goes.found.records))
       (omega (arith, goes.most, ap (λ (k : Header). k.turn) parts.pipeline.none.written)) (parts.pipeline.none.last ∙ goes.sure);
+  session = session_of v;
+  geom = refl;
+  first = parts.first ∙ goes.start;
+  sure = λ front p. (λ is. is, λ is. is);
 }
   where
     at_most : (t l u m : ℕ) → t ≤ u + 2 → l ≡ m → max t (l + 1) ≤ max (u + 2) (m + 1)

@@ -26,7 +26,7 @@ use Rattle.opt_checkpoint.specs.Agree.{NotesAreGiven, PipelineAgrees, durable_co
 use Rattle.opt_checkpoint.specs.Bytes.{IsLiveNow, LeavesBytes}
 use Rattle.opt_checkpoint.specs.Kept.{kept}
 use Rattle.opt_checkpoint.specs.Steps.{is_first_settled}
-use Rattle.opt_checkpoint.specs.Waits.{HearsRecords, LosesCommitted, OnlyNotices, StaysHeard}
+use Rattle.opt_checkpoint.specs.Waits.{HearsAll, LosesCommitted, OnlyNotices, StaysHeard}
 use Rattle.opt_blocks.specs.State.{Bookkeeping, Counts}
 use Rattle.opt_blocks.specs.Calls.{MovesPipeline}
 use Rattle.opt_blocks.specs.Crashes.{Advances, AwaitsSince, HoldsPointBetween}
@@ -93,6 +93,7 @@ some_advances s base log more j k c d a b v w awaits some = record {
   window = window;
   earlier = λ u img from left. ⊎_elim (λ old. inl old) (λ new. inr (window img new)) (by_moment s base log more u img left);
   holds = λ img m. (λ is. is, λ is. is);
+  sure = λ log p. (λ is. is, λ is. is);
   point = λ p m le. (λ is. ∥∥₁_elim some ∥∥₁_prop (λ go. (go.point p m le).0 is), λ is. ∥∥₁_elim some ∥∥₁_prop (λ go. (go.point p m le).1 is));
   last = ∥∥₁_elim some (search props) (λ go. go.last);
   floor = ∥∥₁_elim some (search props) (λ go. go.floor);
@@ -177,7 +178,7 @@ moved_on (Err x) headers v w m = record { moves = m.moves; books = m.books; dead
 
 -- The store is told behind the call.
 
-told_ok : (laws : Laws) (headers : ℕ) (a : Unit {0}) (v w : StoreParts) (d e : State) (l : Ledger) → StoreIsSound v → IsToldBy v d l → GoesBy v d l → PartsMove headers v w → LosesFront (kept v.pipeline) (kept w.pipeline) → IsSound w.pipeline w.ring w.books.dead → LeavesBytes l v.pipeline w.pipeline d e → w.stopped ≡ false → is_first_settled w.pipeline.committed.items w.pipeline.notes.notes ≡ false → (e.manner.waits_alone ≡ true → HearsRecords e.log w.pipeline)
+told_ok : (laws : Laws) (headers : ℕ) (a : Unit {0}) (v w : StoreParts) (d e : State) (l : Ledger) → StoreIsSound v → IsToldBy v d l → GoesBy v d l → PartsMove headers v w → LosesFront (kept v.pipeline) (kept w.pipeline) → IsSound w.pipeline w.ring w.books.dead → LeavesBytes l v.pipeline w.pipeline d e → w.stopped ≡ false → is_first_settled w.pipeline.committed.items w.pipeline.notes.notes ≡ false → (e.manner.waits_alone ≡ true → HearsAll e.log w.pipeline)
     → (stay : StaysRight (session_of v) e.base e.log l (length d.log) v.floor w.pipeline w.ring w.books.dead v.books.changes.taken) → IsToldBy (settled_up (done a) w) e stay.now
 told_ok laws headers a v w d e l s told goes m front sound bytes still_going due heard stay = record {
   safe = subst (λ (x : MountedSession). IsSafe x e.base e.log stay.now (length e.log) (durable_point w)) (sym (same_session headers v w m))
@@ -401,6 +402,7 @@ moves_more fewer more v w le m = record {
   moves = record {
     geom = m.moves.geom;
     epoch = m.moves.epoch;
+    sure = m.moves.sure;
     last = m.moves.last;
     ready = m.moves.ready;
     turn = omega (arith, m.moves.turn, le);

@@ -1,9 +1,8 @@
 -- Memory is made ready for a commit: how much is needed, and that what is known of the store stays.
-use Rattle.std.proofs.Common.{◌≡◌, ℕ, ◌+◌, ◌-◌, ◌*◌, ◌^◌, ◌<◌, ◌≤◌, max, Bool, List, ◌++◌, length, map, drop, slice_get, Some, None, true, IsTrue, refl, sym, ◌∙◌, ap, ap₂, subst, arith, length-append}
+use Rattle.std.proofs.Common.{◌≡◌, ℕ, ◌+◌, ◌-◌, ◌*◌, ◌^◌, ◌<◌, ◌≤◌, max, Bool, List, ◌++◌, length, map, drop, slice_get, None, true, IsTrue, refl, sym, ◌∙◌, ap, ap₂, subst, arith, length-append}
 use Rattle.std.proofs.Math.Logic.{∥∥₁_map}
 use Rattle.std.proofs.lemmas.List.{length-map}
 use Rattle.std.specs.List.{All}
-use mathlib.Core.Path.{subst₂}
 use Rattle.opt_base.specs.Seal.{Blocks}
 use Rattle.opt_disk.specs.declared.event.Event.{Event}
 use Rattle.opt_disk.specs.Cell.{accepted, IsNoticed}
@@ -12,11 +11,10 @@ use Rattle.opt_journal.specs.Layout.{descriptor_count}
 use Rattle.opt_journal.specs.declared.header.Header.{Header}
 use Rattle.opt_journal.specs.Ring.{RingPlaces}
 use Rattle.opt_journal.specs.Run.{is_live, otherwise}
-use Rattle.opt_crash.specs.HomeTest.{is_one_of}
 use Rattle.opt_crash.specs.Ledger.{Ledger}
 use Rattle.opt_crash.specs.Points.{MountedSession, IsSafe}
 use Rattle.opt_notes.specs.declared.notes.Note.{Note}
-use Rattle.opt_notes.specs.Notes.{is_noticed, is_open}
+use Rattle.opt_notes.specs.Notes.{is_expected, is_noticed, is_open}
 use Rattle.opt_tx.specs.declared.commit.CommitRoom.{CommitRoom}
 use Rattle.opt_tx.specs.declared.commit.Committed.{Committed}
 use Rattle.opt_tx.specs.Commits.{HasRoomForCommit}
@@ -136,6 +134,7 @@ module _ (v : StoreParts) (q : Pipeline) (same : SamePipeline v.pipeline q) wher
         };
       };
       number = g.number ∙ ap (λ n. n + 1) (sym (last_number v.pipeline q same));
+      first = omega (arith, g.first, ap (λ (h : Header). h.sure) (header_same v.pipeline q same));
       floor = g.floor ∙ ap₂ (λ (h : Header) (n : ℕ). h.start + n) (sym (header_same v.pipeline q same)) (sym (durable_same v.pipeline q same));
     }
 
@@ -159,7 +158,7 @@ module _ (v : StoreParts) (q : Pipeline) (same : SamePipeline v.pipeline q) wher
         serves = still_serves l g.serves;
         next = g.next;
         due = ap₂ (λ (cs : List Committed) (ns : List Note). is_first_settled cs ns) same.committed same.notes ∙ g.due;
-        heard = λ alone. subst₂ (λ (cs : List Committed) (ns : List Note). (k t : ℕ) (c : Committed) → slice_get cs k ≡ Some c → is_one_of t c.tickets.items ≡ true → IsNoticed t d.log → is_noticed t ns ≡ true) (sym same.committed) (sym same.notes) (g.heard alone);
+        heard = λ alone. subst (λ (ns : List Note). (t : ℕ) → is_expected t ns ≡ true → IsNoticed t d.log → is_noticed t ns ≡ true) (sym same.notes) (g.heard alone);
         cache = record {
           newest = λ b live there. ap (λ (ks : List Kept). newest_in None ks b) (kept_same v.pipeline q same) ∙ g.cache.newest b (subst (λ (m : Blocks). IsTrue (is_live v.books.geom m b)) (last_same d) live) there;
           same = λ b live. g.cache.same b (subst (λ (m : Blocks). IsTrue (is_live v.books.geom m b)) (last_same d) live);

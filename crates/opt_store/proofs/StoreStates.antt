@@ -106,6 +106,7 @@ goes_on_itself s told = record {
   window = told.now;
   earlier = λ t img le left. inl left;
   holds = λ img m. (λ is. is, λ is. is);
+  sure = λ log p. (λ is. is, λ is. is);
   point = λ p m le. (λ is. is, λ is. is);
   last = omega arith;
   floor = omega arith;

@@ -1,5 +1,5 @@
 -- A commit of the books' transaction into the pipeline: what it leaves where it succeeded and where the disk failed, and what it writes. It is described in docs/STORE.md.
-use Rattle.std.specs.Prelude.{◌≡◌, ◌⊎◌, ℕ, ◌+◌, ◌≤◌, false, List, [], ◌∷◌, ◌++◌, length, map, None, Result, Ok, Err, OnOk}
+use Rattle.std.specs.Prelude.{◌≡◌, ◌⊎◌, ℕ, ◌+◌, ◌≤◌, false, List, [], ◌∷◌, ◌++◌, length, map, None, Result, Ok, Err, OnOk, ◌||◌}
 use Rattle.opt_disk.specs.declared.event.Event.{Event}
 use Rattle.opt_disk.specs.Cell.{accepted, is_lost}
 use Rattle.opt_disk.specs.Disk.{State, GrowsByWrites, writes_in}
@@ -11,7 +11,7 @@ use Rattle.opt_crash.specs.Ledger.{Ledger, next_number}
 use Rattle.opt_crash.specs.Points.{MountedSession, IsSafe}
 use Rattle.opt_crash.specs.Steps.{with_record}
 use Rattle.opt_crash.specs.Writes.{AddsWrites, AddsFront}
-use Rattle.opt_notes.specs.Notes.{is_noticed}
+use Rattle.opt_notes.specs.Notes.{is_expected, is_noticed}
 use Rattle.opt_tx.specs.declared.commit.Committed.{Committed}
 use Rattle.opt_tx.specs.Record.{record_of, written_of, block_of}
 use Rattle.opt_tx.specs.Rows.{put_of}
@@ -61,12 +61,13 @@ pub record BecomesRecord (number : ℕ) (v w : TransactionBooks) (p q : Pipeline
   pub written : q.written ≡ p.written
   pub durable : durable_count q ≡ durable_count p
 
--- The record of this number, with these tickets, is the last committed one now, and of each ticket the notes know what they knew.
+-- The record of this number, with these tickets, is the last committed one now, its tickets are expected too, and of each ticket the notes know what they knew.
 pub record JoinsCommitted (number : ℕ) (tickets : List ℕ) (p q : Pipeline) : Type 0 where
   pub committed : Committed
   pub joined : q.committed.items ≡ p.committed.items ++ committed ∷ []
   pub number_is : committed.number ≡ number
   pub tickets_are : committed.tickets.items ≡ tickets
+  pub expected : (u : ℕ) → is_expected u q.notes.notes ≡ (is_one_of u tickets || is_expected u p.notes.notes)
   pub noticed : (u : ℕ) → is_noticed u q.notes.notes ≡ is_noticed u p.notes.notes
 
 -- Where it succeeded, the record of this number joined the committed ones, with the tickets of its writes.

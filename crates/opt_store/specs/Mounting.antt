@@ -1,17 +1,20 @@
 -- The parts with which a store begins, with which map it begins, and what a mount leaves of the disk. It is described in docs/STORE.md.
-use Rattle.std.specs.Prelude.{◌≡◌, ℕ, ◌+◌, ◌≤◌, max, Bool, false, true, IsTrue, length}
+use Rattle.std.specs.Prelude.{◌≡◌, ◌↔◌, ℕ, ◌+◌, ◌≤◌, max, Bool, false, true, IsTrue, List, length, None}
 use Rattle.opt_base.specs.Seal.{Blocks}
 use Rattle.opt_cache.specs.Cache.{empty_cache}
+use Rattle.opt_disk.specs.declared.event.Event.{Event}
 use Rattle.opt_disk.specs.Crash.{Window}
 use Rattle.opt_disk.specs.Disk as disk
 use Rattle.opt_geom.specs.Geometry.{Geometry}
 use Rattle.opt_journal.specs.declared.header.Header.{Header}
 use Rattle.opt_recover.specs.Search.{last_number}
 use Rattle.opt_crash.specs.Ledger.{HoldsUnder}
+use Rattle.opt_crash.specs.Points.{MountedSession}
 use Rattle.opt_mount.specs.Mount.{FoundDisk, IsFoundOn, MountSpends, settled_on}
 use Rattle.opt_blocks.specs.State.{State}
 use Rattle.opt_blocks.specs.Crashes.{HasMapOfPoint}
 use Rattle.opt_store.specs.declared.parts.StoreParts.{StoreParts}
+use Rattle.opt_store.specs.SessionView.{IsSure}
 use Rattle.opt_store.specs.Opening.{AreNewBooks, IsNewPipeline, empty_ring}
 
 -- the parts with which a store begins under this header, after so many events of the disk: no record, no block in the cache, an empty transaction without a weight, and no point behind the first
@@ -34,14 +37,19 @@ pub record BeginsWith (g : Geometry) (m : Blocks) (s : State) : Type 0 where
   pub point : s.crash.is_point 0 m
   pub only : HasMapOfPoint s 0
   pub waiting : s.books.waiting ≡ 0
+  pub since : (b : ℕ) → s.books.since b ≡ None
   pub free_places : s.books.free_places ≡ g.j
   pub owed : s.books.owed ≡ 0
 
--- The journal's numbers go on from what was found on the disk: they are at most two above the turn of the newest header there, or at most one above the number of the last record of its run.
+-- The journal's numbers go on from what was found on the disk: they are at most two above the turn of the newest header there, or at most one above the number of the last record of its run. The session's first record has the number behind that one, and by the session's numbers a point is sure.
 pub record GoesOnFrom (d : disk.State) (s : State) : Type 0 where
   pub found : FoundDisk
   pub is_found : IsFoundOn d found
   pub most : s.books.turns ≤ max (found.run.header.turn + 2) (last_number found.run.header (length found.run.records) + 1)
+  pub session : MountedSession
+  pub geom : session.geom ≡ s.books.geom
+  pub first : session.first ≡ last_number found.run.header (length found.run.records) + 1
+  pub sure : (front : List Event) (p : ℕ) → s.crash.sure front p ↔ ∥ IsSure session s.crash.base front p ∥₁
 
 -- What a mount leaves of the disk, whatever comes of it: where the disk tells, each honest image since the call began holds the map that the disk held, a call other than a read failed only for a reason that the disk's manner has, and the writes that it added, lost ones included, are at most as many as the disk has blocks, and two; and so much was spent.
 pub record LeavesDisk (tells unread faulty : Bool) (old new : disk.State) : Type 0 where

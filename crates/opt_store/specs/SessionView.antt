@@ -2,10 +2,14 @@
 use Rattle.std.specs.Prelude.{ℕ, ◌≤◌, List, length, take}
 use Rattle.opt_base.specs.Seal.{Blocks}
 use Rattle.opt_disk.specs.declared.event.Event.{Event}
+use Rattle.opt_disk.specs.Cell.{cell_of}
 use Rattle.opt_disk.specs.Crash.{IsHonest}
+use Rattle.opt_journal.specs.declared.header.Header.{Header}
 use Rattle.opt_crash.specs.Ledger.{HoldsUnder, issued}
 use Rattle.opt_crash.specs.Points.{MountedSession, IsPoint}
+use Rattle.opt_checkpoint.specs.Serving.{IsNewestAtRest}
 use Rattle.opt_blocks.specs.State.{Bookkeeping, Counts, CrashView, State}
+use Rattle.opt_store.specs.Store.{point_of}
 
 -- a crash at some moment from t on may leave this honest image
 pub record LeftImage (s : MountedSession) (base : Blocks) (log : List Event) (t : ℕ) (img : Blocks) : Type 0 where
@@ -13,6 +17,12 @@ pub record LeftImage (s : MountedSession) (base : Blocks) (log : List Event) (t 
   pub from : t ≤ moment
   pub within : moment ≤ length log
   pub honest : IsHonest s.geom.n base (take moment log) img
+
+-- the newest header at rest makes the point sure
+pub record IsSure (s : MountedSession) (base : Blocks) (log : List Event) (p : ℕ) : Type 0 where
+  pub header : Header
+  pub newest : IsNewestAtRest s.geom.n (cell_of base log) header
+  pub upto : p ≤ point_of s.first header.sure
 
 -- Base and log are the disk's, and the points are the session's: of each, some moment has it. An image holds a map under a header of the session's geometry, that in which all that was issued stands as well.
 abbrev pub crash_of : MountedSession → Blocks → List Event → (ℕ → ℕ → Type 0) → CrashView
@@ -24,6 +34,7 @@ crash_of s base log awaits = record {
   holds = λ img m. HoldsUnder s.geom.n s.geom img m;
   issued = λ m. HoldsUnder s.geom.n s.geom (issued base log) m;
   awaits = awaits;
+  sure = λ front p. ∥ IsSure s base front p ∥₁;
 }
 
 -- the whole: a bookkeeping, counts and a map, with this view of crashes, in which points wait for these tickets

@@ -1,6 +1,6 @@
 -- The store's parts, its bookkeeping by them, and what is kept of their numbers over any disk. It is described in docs/STORE.md.
-use Rattle.std.specs.Prelude.{◌≡◌, ℕ, ◌+◌, ◌-◌, ◌≤◌, max, false}
-use Rattle.opt_reuse.specs.Dead.{AreSound}
+use Rattle.std.specs.Prelude.{◌≡◌, ℕ, ◌+◌, ◌-◌, ◌≤◌, ◌==◌, max, false, if◌then◌else◌, List, [], ◌∷◌, Option, None, Some, option_map}
+use Rattle.opt_reuse.specs.Dead.{AreSound, block_of, freed_by}
 use Rattle.opt_checkpoint.specs.Agree.{durable_count}
 use Rattle.opt_checkpoint.specs.Advance.{IsSound, Moves, writes_owed}
 use Rattle.opt_blocks.specs.Running.{nothing_running}
@@ -10,7 +10,16 @@ use Rattle.opt_books.specs.Kept.{AreKept}
 use Rattle.opt_books.specs.Sealing.{nothing_spare}
 use Rattle.opt_store.specs.declared.parts.StoreParts.{StoreParts}
 
--- the bookkeeping but for what the books have of it: of that it has nothing
+-- the record that a block waits for, if it waits
+abbrev pub waits_for : List (ℕ × ℕ) → ℕ → Option ℕ
+waits_for [] b = None
+waits_for (p ∷ ps) b = if block_of p == b then Some (freed_by p) else waits_for ps b
+
+-- the point that this record made, where the first one has this number
+abbrev pub point_of : ℕ → ℕ → ℕ
+point_of first number = number + 1 - first
+
+-- the bookkeeping but for what the books have of it: of that it has nothing but which point a block waits for
 abbrev pub beside_books : StoreParts → Bookkeeping
 beside_books v = record {
   geom = v.ring.geom;
@@ -19,6 +28,7 @@ beside_books v = record {
   marked = λ b. false;
   reusable = λ b. false;
   waiting = 0;
+  since = λ b. option_map (point_of v.first) (waits_for v.books.dead.waiting b);
   area = 0;
   room = 0;
   free_places = v.ring.geom.j - v.ring.taken;
@@ -37,10 +47,11 @@ bookkeeping_of v = with_books (beside_books v) v.books
 abbrev pub durable_point : StoreParts → ℕ
 durable_point v = v.pipeline.header.start + durable_count v.pipeline - 1 + 1 - v.first
 
--- While no call of the disk failed, pipeline, ring and dead blocks are sound, the next record's number is the next point's, and the floor is the last point that is known to be durable.
+-- While no call of the disk failed, pipeline, ring and dead blocks are sound, the next record's number is the next point's, the session's first one isn't behind what is sure by more than one, and the floor is the last point that is known to be durable.
 pub record IsGoing (v : StoreParts) : Type 0 where
   pub sound : IsSound v.pipeline v.ring v.books.dead
   pub number : v.first + v.point ≡ v.pipeline.last + 1
+  pub first : v.first ≤ v.pipeline.header.sure + 1
   pub floor : v.first + v.floor ≡ v.pipeline.header.start + durable_count v.pipeline
 
 -- Always the books are kept, the parts have one geometry, and the floor isn't above the last point.

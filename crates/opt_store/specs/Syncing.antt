@@ -1,5 +1,5 @@
 -- When a commit may be made of the running transaction by a store, and what a cache forgets of it. It is described in docs/STORE.md.
-use Rattle.std.specs.Prelude.{◌≡◌, ℕ, ◌+◌, ◌<◌, ◌≤◌, ◌||◌, is_some, if◌then◌else◌, List, length, None}
+use Rattle.std.specs.Prelude.{◌≡◌, ℕ, ◌+◌, ◌<◌, ◌≤◌, ◌||◌, true, false, is_some, if◌then◌else◌, List, length, Some, None}
 use Rattle.std.specs.FinMap.{get}
 use Rattle.opt_disk.specs.Disk.{State}
 use Rattle.opt_cache.specs.Cache.{Cache}
@@ -9,6 +9,10 @@ use Rattle.opt_tx.specs.declared.put.Put.{Put}
 use Rattle.opt_tx.specs.Commits.{HasRoomForCommit}
 use Rattle.opt_tx.specs.Rows.{put_of}
 use Rattle.opt_blocks.specs.Calls.{MaySync}
+use Rattle.opt_blocks.specs.Effects.{FitsRing}
+use Rattle.opt_blocks.specs.Puts.{IsData}
+use Rattle.opt_blocks.specs.Serving.{SameFreed, is_held, with_all_served}
+use Rattle.opt_blocks.specs.State.{Bookkeeping}
 use Rattle.opt_store.specs.declared.parts.StoreParts.{StoreParts}
 use Rattle.opt_store.specs.Committing.{places_for}
 use Rattle.opt_store.specs.Store.{bookkeeping_of}
@@ -33,3 +37,19 @@ pub record IsSameStore (v w : StoreParts) : Type 0 where
   pub session : session_of w ≡ session_of v
   pub map : (d : State) → map_now w d ≡ map_now v d
   pub awaits : AwaitsTheSame v w
+
+-- What the transaction freed waits for the last point, and of all other data blocks the same is known as by this bookkeeping.
+pub record LetsWait (k new : Bookkeeping) : Type 0 where
+  pub held : (b : ℕ) → is_held k b ≡ true → (new.reusable b ≡ false) × (new.since b ≡ Some new.point)
+  pub reusable : (b : ℕ) → IsData k.geom b → is_held k b ≡ false → new.reusable b ≡ k.reusable b
+  pub since : (b : ℕ) → IsData k.geom b → is_held k b ≡ false → new.since b ≡ k.since b
+
+-- So it is after a commit whose record fits the free ring places; and where it doesn't, over the bookkeeping where all that waited serves again.
+pub record FreesInRing (old new : Bookkeeping) : Type 0 where
+  pub fits : FitsRing old → LetsWait old new
+  pub drains : (FitsRing old → ⊥) → LetsWait (with_all_served old) new
+
+-- The same of a sync, which leaves all as it was where there is nothing to commit.
+pub record SyncFrees (old new : Bookkeeping) : Type 0 where
+  pub idle : old.running.weight ≡ 0 → SameFreed old new
+  pub frees : 0 < old.running.weight → FreesInRing old new

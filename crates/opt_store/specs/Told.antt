@@ -13,7 +13,7 @@ use Rattle.opt_checkpoint.specs.Agree.{PipelineAgrees}
 use Rattle.opt_checkpoint.specs.Bytes.{bytes_now}
 use Rattle.opt_checkpoint.specs.Kept.{kept, newest_in}
 use Rattle.opt_checkpoint.specs.Steps.{is_first_settled}
-use Rattle.opt_checkpoint.specs.Waits.{HearsRecords}
+use Rattle.opt_checkpoint.specs.Waits.{HearsAll}
 use Rattle.opt_blocks.specs.State.{Counts, State, Ticking}
 use Rattle.opt_books.specs.Books.{map_of}
 use Rattle.opt_books.specs.Point.{BeganAt}
@@ -80,13 +80,13 @@ pub record CacheAgrees (v : StoreParts) (d : disk.State) : Type 0 where
   pub newest : (b : ℕ) → IsTrue (is_live v.books.geom (last_map v d) b) → IsKept b v.cache → newest_in None (kept v.pipeline) b ≡ None
   pub same : (b : ℕ) → IsTrue (is_live v.books.geom (last_map v d) b) → IsTheDisks b v.cache d
 
--- While no call of the disk failed, pipeline, ring and dead blocks agree with the ledger, whose last record made the last point; the oldest committed record has an open ticket; where a wait brings the notice of its own ticket alone, the notes know all notices of records' tickets; and the cache agrees with the disk.
+-- While no call of the disk failed, pipeline, ring and dead blocks agree with the ledger, whose last record made the last point; the oldest committed record has an open ticket; where a wait brings the notice of its own ticket alone, the notes know all notices of tickets that they expect; and the cache agrees with the disk.
 pub record GoesBy (v : StoreParts) (d : disk.State) (l : Ledger) : Type 0 where
   pub agrees : PipelineAgrees d.base d.log l v.pipeline v.ring v.books.dead.waiting v.books.changes.taken
   pub serves : MayServe l v.pipeline v.books.dead
   pub next : next_number l ≡ v.first + v.point
   pub due : is_first_settled v.pipeline.committed.items v.pipeline.notes.notes ≡ false
-  pub heard : d.manner.waits_alone ≡ true → HearsRecords d.log v.pipeline
+  pub heard : d.manner.waits_alone ≡ true → HearsAll d.log v.pipeline
   pub cache : CacheAgrees v d
 
 -- Always the disk is safe by the ledger, from now on and from the floor on; the ledger has no point behind the last; the running transaction began at the map of the last point; and each live block of that map is whole. Where a call of the disk failed, it was the last one.

@@ -19,6 +19,7 @@ ghost use Rattle.opt_checkpoint.specs.Waits.{OnlyNotices};
 ghost use Rattle.opt_blocks.specs.Calls.{HasTurns};
 ghost use Rattle.opt_blocks.specs.Crashes.{HearsRecords};
 ghost use Rattle.opt_blocks.specs.Effects.{RunsPipeline};
+ghost use Rattle.opt_blocks.specs.Serving.{SameFreed, ServesSure, with_all_served};
 ghost use Rattle.opt_store.specs.declared.parts.StoreParts as parts;
 ghost use Rattle.opt_store.specs.PipelineCall.{CallsPipeline, settled_up};
 ghost use Rattle.opt_store.specs.Store.{PartsMove, bookkeeping_of};
@@ -33,6 +34,7 @@ use opt_books::{a_release_keeps_the_books, the_map_needs_only_live_blocks};
 use opt_checkpoint::the_newest_payloads_are_the_map;
 use opt_crash::{a_call_begins_safe, a_read_gives_what_was_written_last};
 use opt_disk::{Disk, DiskFault};
+use opt_reuse::a_freed_block_waits;
 
 /// Takes the notices that have come, and makes the steps that are due. It doesn't wait.
 pub(crate) fn advance<D: Disk>(disk: &mut D, parts: &mut StoreParts) -> Result<(), DiskFault>
@@ -44,7 +46,9 @@ pub(crate) fn advance<D: Disk>(disk: &mut D, parts: &mut StoreParts) -> Result<(
     ensures waits { (D.state disk.new).waits ≡ (D.state disk.old).waits }
     ensures manner { (D.state disk.new).manner ≡ (D.state disk.old).manner }
     ensures polled { IsTrue D.tells → PollsThenWrites (D.state disk.old).manner 64 (D.state disk.old).polls (D.state disk.old).log (D.state disk.new).polls (D.state disk.new).log }
+    ensures serves { (before then : ℕ) → IsTrue D.tells → (D.state disk.old).manner.waits_alone ≡ true → OnOk result (ServesSure (store_state parts.old before (D.state disk.old)) (store_state parts.new then (D.state disk.new))) }
 {
+    a_freed_block_waits();
     a_sound_store_has_sound_books();
     a_pipeline_call_keeps_the_store();
     let reuse = parts.books.reuse_mut();
@@ -62,9 +66,11 @@ pub(crate) fn drain<D: Disk>(disk: &mut D, parts: &mut StoreParts) -> Result<(),
     ensures runs { (before then : ℕ) → RunsPipeline D.tells (is_err result) (store_state parts.old before (D.state disk.old)) (store_state parts.new then (D.state disk.new)) }
     ensures moves { PartsMove 4 parts.old parts.new }
     ensures settled { OnOk result ((bookkeeping_of parts.new).waiting ≡ 0) }
+    ensures serves { OnOk result (SameFreed (with_all_served (bookkeeping_of parts.old)) (bookkeeping_of parts.new)) }
     ensures places { OnOk result (parts.new.ring.taken ≡ 0) }
     ensures asks { AsksNothing (D.state disk.old) (D.state disk.new) }
 {
+    a_freed_block_waits();
     a_sound_store_has_sound_books();
     a_pipeline_call_keeps_the_store();
     let reuse = parts.books.reuse_mut();
@@ -82,6 +88,7 @@ pub(crate) fn wait_for_last<D: Disk>(disk: &mut D, parts: &mut StoreParts) -> Re
     ensures runs { (before then : ℕ) → RunsPipeline D.tells (is_err result) (store_state parts.old before (D.state disk.old)) (store_state parts.new then (D.state disk.new)) }
     ensures moves { PartsMove 4 parts.old parts.new }
     ensures durable { OnOk result (parts.new.floor ≡ parts.new.point) }
+    ensures books { parts.new.books ≡ parts.old.books }
     ensures still { IsTrue D.tells → writes_in (D.state disk.new).log ≡ writes_in (D.state disk.old).log }
     ensures waits { (before then : ℕ) → IsTrue D.tells → (D.state disk.old).manner.waits_alone ≡ true → HearsRecords (store_state parts.old before (D.state disk.old)) (store_state parts.new then (D.state disk.new)) }
     ensures asks { AsksNothing (D.state disk.old) (D.state disk.new) }

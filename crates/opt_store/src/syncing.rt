@@ -14,7 +14,7 @@ ghost use Rattle.opt_blocks.specs.Effects.{ChangesNothing, FitsRing, Syncs, Writ
 ghost use Rattle.opt_books.specs.Kept.{AreKept};
 ghost use Rattle.opt_store.specs.Committing.{places_for};
 ghost use Rattle.opt_store.specs.Store.{StoreIsSound, bookkeeping_of};
-ghost use Rattle.opt_store.specs.Syncing.{Forgets, IsSameStore, MayCommit};
+ghost use Rattle.opt_store.specs.Syncing.{Forgets, FreesInRing, IsSameStore, LetsWait, MayCommit, SyncFrees};
 ghost use Rattle.opt_store.specs.Told.{IsKeptOn, store_state};
 
 use crate::moving::{drain, wait_for_last};
@@ -31,6 +31,7 @@ use opt_cache::BlockCache;
 use opt_checkpoint::{Pipeline, the_newest_payloads_are_the_map};
 use opt_crash::a_read_gives_what_was_written_last;
 use opt_disk::{Disk, DiskFault};
+use opt_reuse::a_freed_block_waits;
 use opt_tx::{CommitRoom, Put, places_of};
 use std::alloc::Global;
 
@@ -52,6 +53,7 @@ pub(crate) fn sync<D: Disk>(
     ensures idle { parts.old.books.weight ≡ 0 → result ≡ Ok parts.old.point }
     ensures idles { (ticks : ℕ) → parts.old.books.weight ≡ 0 → ChangesNothing D.tells (store_state parts.old ticks (D.state disk.old)) (store_state parts.new ticks (D.state disk.new)) }
     ensures turns { (bookkeeping_of parts.new).turns ≤ (bookkeeping_of parts.old).turns + 5 }
+    ensures frees { OnOk result (SyncFrees (bookkeeping_of parts.old) (bookkeeping_of parts.new)) }
 {
     a_store_that_is_kept_is_told();
     if parts.books.weight() == 0 {
@@ -78,6 +80,7 @@ pub(crate) fn sync_durably<D: Disk>(
     ensures durable { OnOk result (parts.new.floor ≡ parts.new.point) }
     ensures written { (ticks : ℕ) → IsTrue D.tells → FitsRing (bookkeeping_of parts.old) → OnOk result (WritesItsRecord (store_state parts.old ticks (D.state disk.old)) (store_state parts.new ticks (D.state disk.new))) }
     ensures waits { (ticks : ℕ) → IsTrue D.tells → (D.state disk.old).manner.waits_alone ≡ true → FitsRing (bookkeeping_of parts.old) → HearsRecords (store_state parts.old ticks (D.state disk.old)) (store_state parts.new ticks (D.state disk.new)) }
+    ensures frees { OnOk result (SyncFrees (bookkeeping_of parts.old) (bookkeeping_of parts.new)) }
     ensures idle { parts.old.books.weight ≡ 0 → OnNoMemory result ⊥ }
     ensures idles { (ticks : ℕ) → parts.old.books.weight ≡ 0 → parts.old.floor ≡ parts.old.point → ChangesNothing D.tells (store_state parts.old ticks (D.state disk.old)) (store_state parts.new ticks (D.state disk.new)) }
 {
@@ -145,6 +148,7 @@ fn commit_in_ring<D: Disk>(
     ensures written { (ticks : ℕ) → IsTrue D.tells → FitsRing (bookkeeping_of parts.old) → OnOk result (WritesItsRecord (store_state parts.old ticks (D.state disk.old)) (store_state parts.new ticks (D.state disk.new))) }
     ensures memory { OnNoMemory result ⊥ }
     ensures turns { (bookkeeping_of parts.new).turns ≤ (bookkeeping_of parts.old).turns + 5 }
+    ensures frees { OnOk result (FreesInRing (bookkeeping_of parts.old) (bookkeeping_of parts.new)) }
 {
     a_call_that_stays_safe_advances();
     a_commit_has_what_the_roles_say();
@@ -184,7 +188,9 @@ fn commit<D: Disk>(
     ensures written { (ticks : ℕ) → IsTrue D.tells → OnOk result (WritesItsRecord (store_state parts.old ticks (D.state disk.old)) (store_state parts.new ticks (D.state disk.new))) }
     ensures memory { OnNoMemory result ⊥ }
     ensures turns { (bookkeeping_of parts.new).turns ≤ (bookkeeping_of parts.old).turns + 1 }
+    ensures frees { OnOk result (LetsWait (bookkeeping_of parts.old) (bookkeeping_of parts.new)) }
 {
+    a_freed_block_waits();
     a_call_that_stays_safe_advances();
     a_commit_has_what_the_roles_say();
     a_read_gives_what_was_written_last();

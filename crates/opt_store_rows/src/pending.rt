@@ -2,9 +2,8 @@
 //! drawn.
 
 use opt_base::NoMemory;
-use opt_disk::Event;
 use opt_draw::Draws;
-use opt_memdisk::{Choice, MemDisk, WriteName};
+use opt_memdisk::{Choice, Logged, MemDisk, WriteName};
 use std::alloc::Global;
 
 /// A write of a log.
@@ -93,22 +92,22 @@ fn writes_until(alloc: Global, disk: &MemDisk, moment: u64) -> Result<Vec<Writte
     let mut lost = 0u64;
     for place in 0..moment {
         match disk.event(place) {
-            Some(Event::Wrote { ticket, block, .. }) => {
+            Some(Logged::Wrote { ticket, block, .. }) => {
                 writes.push(Written {
-                    name: WriteName::Accepted { ticket: *ticket },
-                    block: *block,
+                    name: WriteName::Accepted { ticket },
+                    block,
                     noticed: false,
                 })?;
             }
-            Some(Event::Lost { block, .. }) => {
+            Some(Logged::Lost { block, .. }) => {
                 lost = lost.saturating_add(1);
                 writes.push(Written {
                     name: WriteName::Lost { number: lost },
-                    block: *block,
+                    block,
                     noticed: false,
                 })?;
             }
-            Some(Event::Noticed { ticket }) => note(writes.as_mut_slice(), *ticket),
+            Some(Logged::Noticed { ticket }) => note(writes.as_mut_slice(), ticket),
             None => {}
         }
     }

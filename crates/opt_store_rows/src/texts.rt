@@ -4,9 +4,8 @@ use crate::at_hand::System;
 use crate::mounting::Unopened;
 use anyhow::Result;
 use opt_base::NoMemory;
-use opt_disk::Event;
 use opt_io::MemSink;
-use opt_memdisk::MemDisk;
+use opt_memdisk::{Logged, MemDisk};
 use opt_memtree::PlainTree;
 use opt_script::{parse_line, reply_text};
 use opt_tree::Cmd;
@@ -119,11 +118,11 @@ pub(crate) fn events_text(
     Ok(text)
 }
 
-fn event_text(alloc: Global, event: &Event) -> Result<String, NoMemory> {
+fn event_text(alloc: Global, event: Logged<'_>) -> Result<String, NoMemory> {
     let text = match event {
-        Event::Wrote { ticket, block, .. } => format!(in alloc; "w {ticket} {block};")?,
-        Event::Lost { block, .. } => format!(in alloc; "f {block};")?,
-        Event::Noticed { ticket } => format!(in alloc; "d {ticket};")?,
+        Logged::Wrote { ticket, block, .. } => format!(in alloc; "w {ticket} {block};")?,
+        Logged::Lost { block, .. } => format!(in alloc; "f {block};")?,
+        Logged::Noticed { ticket } => format!(in alloc; "d {ticket};")?,
     };
     Ok(text)
 }

@@ -79,6 +79,6 @@ returns-in-Ok-clause-due g c = λ tells.
 pub returns-in-Ok-clause-joins : goal.returns-in-Ok-clause-joins
 returns-in-Ok-clause-joins g c = λ tells. (
   c.in-Ok.ensures.joins.0.tickets.items,
-  record { committed = c.in-Ok.ensures.joins.0; joined = c.in-Ok.ensures.joins.2.committed; number_is = c.in-Ok.ensures.joins.1.number; tickets_are = refl; noticed = c.in-Ok.ensures.joins.2.noticed },
+  record { committed = c.in-Ok.ensures.joins.0; joined = c.in-Ok.ensures.joins.2.committed; number_is = c.in-Ok.ensures.joins.1.number; tickets_are = refl; expected = c.in-Ok.ensures.joins.2.expected; noticed = c.in-Ok.ensures.joins.2.noticed },
   subst (λ (q : Changes). AddsWrites (writes_of c.args.ring.now c.args.epoch c.args.number q) c.in-Ok.ensures.joins.0.tickets.items (g.D.Disk.state c.args.disk.now).log (g.D.Disk.state c.commit_next.new.disk).log) c.take_running-running.ensures.running (c.in-Ok.ensures.joins.3 tells),
 )

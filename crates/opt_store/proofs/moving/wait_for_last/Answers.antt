@@ -1,11 +1,18 @@
-use Rattle.std.proofs.Common.{◌∙◌, ap, arith}
+use Rattle.std.proofs.Common.{◌≡◌, ◌∙◌, Result, Ok, Err, refl, ap, arith}
+use Rattle.opt_disk.specs.declared.disk.DiskFault.{DiskFault}
 use Rattle.opt_disk.specs.Disk.{writes_in}
+use Rattle.opt_store.specs.declared.parts.StoreParts.{StoreParts}
+use Rattle.opt_store.specs.PipelineCall.{settled_up}
 use Rattle.opt_store.proofs.Awaiting.{waited_hears}
 use Rattle.opt_store.proofs.FirstOpen.{due_waited}
 use Rattle.opt_store.proofs.PipelineBytes.{writes_noticed}
 use Rattle.opt_store.proofs.PipelineCalls.{durable_fits, either, ends, last_is_durable, moves_more, waited}
 use Rattle.opt_store.proofs.Spending.{asks_none}
 use Rattle.opt_store.proofs.moving.wait_for_last.Goals as goal
+
+settled_books : (r : Result (Unit {0}) DiskFault) (w : StoreParts) → (settled_up r w).books ≡ w.books
+settled_books (Ok a) w = refl
+settled_books (Err x) w = refl
 
 pub settle_up-requires-clause-order : goal.settle_up-requires-clause-order
 settle_up-requires-clause-order g c = either c.wait_records-waited.result (c.wait_records-waited.ensures.sound c.args.parts.now.ring c.args.parts.now.books.dead (c.requires.kept.sound.going c.requires.going).sound).order
@@ -31,6 +38,7 @@ returns g c =
       runs = after.1;
       moves = moves_more 0 4 v c.settle_up.new.parts (omega arith) after.2;
       durable = last_is_durable g.D.Disk.tells c.settle_up.result call.result w c.settle_up.new.parts new v.pipeline.last after.0 c.requires.going moves.last c.settle_up.ensures.answer c.settle_up.ensures.parts call.ensures.durable;
+      books = ap (λ (x : StoreParts). x.books) c.settle_up.ensures.parts ∙ settled_books call.result w;
       still = λ tells. ap writes_in (call.ensures.log tells).log ∙ writes_noticed old.log (call.ensures.log tells).tickets;
       waits = λ before then tells alone. waited_hears v c.settle_up.new.parts old new before then v.pipeline.last (c.requires.kept.sound.going c.requires.going) c.requires.going (call.ensures.only tells alone);
       asks = asks_none _ _ _ _ call.ensures.spends.spends;

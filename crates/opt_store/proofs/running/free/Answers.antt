@@ -1,13 +1,15 @@
 use Rattle.std.proofs.Props.{props}
-use Rattle.std.proofs.Common.{◌≡◌, ap}
+use Rattle.std.proofs.Common.{◌≡◌, ◌∙◌, ap}
 use Rattle.opt_blocks.specs.State.{Bookkeeping}
+use Rattle.opt_books.specs.Books.{bit_now}
 use Rattle.opt_store.specs.Store.{beside_books}
 use Rattle.opt_store.specs.Told.{last_map}
+use Rattle.opt_store.proofs.WaitingBlocks.{books_beside, waits_freed}
 use Rattle.opt_store.proofs.Changing.{parts_kept, free_on, began_gives}
 use Rattle.opt_store.proofs.running.free.Goals as goal
 
 pub returns-clause-books : goal.returns-clause-books
-returns-clause-books c = c.free.ensures.books (beside_books c.args.parts.now)
+returns-clause-books c = books_beside c.args.parts.now c.free.new.self (waits_freed (bit_now c.args.parts.now.books c.args.b) c.args.parts.now.books.dead c.free.new.self.dead c.args.b c.free.ensures.dead) ∙ c.free.ensures.books (beside_books c.args.parts.now)
 
 pub returns-clause-keeps : goal.returns-clause-keeps
 returns-clause-keeps c = λ tells d k.

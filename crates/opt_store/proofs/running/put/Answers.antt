@@ -1,12 +1,13 @@
-use Rattle.std.proofs.Common.{◌≡◌, ap}
+use Rattle.std.proofs.Common.{◌≡◌, ◌∙◌, ap}
 use Rattle.opt_blocks.specs.State.{Bookkeeping}
 use Rattle.opt_store.specs.Store.{beside_books}
 use Rattle.opt_store.specs.Told.{last_map}
+use Rattle.opt_store.proofs.WaitingBlocks.{books_beside, waits_same}
 use Rattle.opt_store.proofs.Changing.{parts_kept, same_on, bit_is, bit_kept}
 use Rattle.opt_store.proofs.running.put.Goals as goal
 
 pub returns-clause-books : goal.returns-clause-books
-returns-clause-books c = c.put.ensures.books (beside_books c.args.parts.now)
+returns-clause-books c = books_beside c.args.parts.now c.put.new.self (waits_same c.args.parts.now.books.dead c.put.new.self.dead c.put.ensures.dead) ∙ c.put.ensures.books (beside_books c.args.parts.now)
 
 pub returns-clause-keeps : goal.returns-clause-keeps
 returns-clause-keeps c = λ tells d k marked.

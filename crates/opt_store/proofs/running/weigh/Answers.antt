@@ -1,8 +1,13 @@
-use Rattle.std.proofs.Common.{ap}
+use Rattle.std.proofs.Common.{◌∙◌, ap}
 use Rattle.opt_books.specs.Books.{TransactionBooks}
+use Rattle.opt_store.specs.Store.{beside_books}
 use Rattle.opt_store.specs.Told.{last_map}
+use Rattle.opt_store.proofs.WaitingBlocks.{books_beside}
 use Rattle.opt_store.proofs.Changing.{parts_kept, same_on}
 use Rattle.opt_store.proofs.running.weigh.Goals as goal
+
+pub returns-clause-books : goal.returns-clause-books
+returns-clause-books c = books_beside c.args.parts.now c.weigh.new.self (ap (λ (x : TransactionBooks). x.dead.waiting) c.weigh.ensures.value) ∙ c.weigh.ensures.books (beside_books c.args.parts.now)
 
 pub returns-clause-keeps : goal.returns-clause-keeps
 returns-clause-keeps c = λ tells d k.

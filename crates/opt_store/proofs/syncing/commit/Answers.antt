@@ -1,10 +1,11 @@
-use Rattle.std.proofs.Common.{◌+◌, ◌<◌, ℕ, Err, ap, subst, arith}
+use Rattle.std.proofs.Common.{◌+◌, ◌<◌, ℕ, Err, refl, ap, subst, arith}
 use Rattle.opt_disk.specs.declared.disk.DiskFault.{DiskFault}
 use Rattle.opt_journal.specs.declared.header.Header.{Header}
 use Rattle.opt_checkpoint.specs.declared.pipeline.Pipeline.{Pipeline}
 use Rattle.opt_store.specs.Committing.{WritesRecord, writes_of}
 use Rattle.opt_store.proofs.CommitCalls.{Failed, Laws, Succeeded}
 use Rattle.opt_store.proofs.CommitSyncs.{failure, kept_success, record_needed, syncs_success}
+use Rattle.opt_store.proofs.Freeing.{lets_wait}
 use Rattle.opt_store.proofs.LastCommitted.{forgets_record}
 use Rattle.opt_store.proofs.syncing.commit.Goals as goal
 
@@ -50,6 +51,7 @@ returns-in-Ok g c =
       );
       memory = tt;
       turns = omega (arith, ap (λ (h : Header). h.turn) c.in-Ok.ensures.ok.written, c.in-Ok.ensures.ok.last, going.number);
+      frees = lets_wait v call.new.books call.new.pipeline call.new.ring (v.first + v.point) c.requires.kept.sound.kept c.a_freed_block_waits.ensures.held refl c.in-Ok.ensures.ok (record v { ring = call.new.ring; pipeline = call.new.pipeline; books = call.new.books; cache = c.forget_last.new.cache; point = v.point + 1 }) refl refl refl;
     }
 
 pub returns-in-Err : goal.returns-in-Err
@@ -82,4 +84,5 @@ returns-in-Err g c =
       written = λ ticks tells. tt;
       memory = tt;
       turns = omega (arith, ap (λ (q : Pipeline). q.written.turn) c.in-Err.ensures.back.1, ap (λ (q : Pipeline). q.last) c.in-Err.ensures.back.1);
+      frees = tt;
     }

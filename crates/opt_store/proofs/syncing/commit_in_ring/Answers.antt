@@ -1,6 +1,10 @@
 use Rattle.std.proofs.Common.{arith}
+use Rattle.opt_blocks.specs.Effects.{FitsRing}
+use Rattle.opt_blocks.specs.Serving.{with_all_served}
+use Rattle.opt_store.specs.Store.{bookkeeping_of}
 use Rattle.opt_store.specs.Told.{store_state}
 use Rattle.opt_store.proofs.CommitSyncs.{places_needed}
+use Rattle.opt_store.proofs.Freeing.{lets_from, on_ok}
 use Rattle.opt_store.proofs.SyncSteps.{fits_then, kept_fault, may_then, run_then_sync, syncs_fault}
 use Rattle.opt_store.proofs.syncing.commit_in_ring.Goals as goal
 
@@ -63,3 +67,19 @@ returns-then-places_needed-free-clause-writes g c = λ tells fits. c.commit.ensu
 
 pub returns-then-places_needed-free-clause-written : goal.returns-then-places_needed-free-clause-written
 returns-then-places_needed-free-clause-written g c = λ ticks tells fits. c.commit.ensures.written ticks tells
+
+pub returns-then-places_needed-free-clause-frees : goal.returns-then-places_needed-free-clause-frees
+returns-then-places_needed-free-clause-frees g c =
+    let kept = c.requires.kept.sound.kept in
+    let fits : FitsRing (bookkeeping_of c.args.parts.now) = omega (arith, places_needed c.args.parts.now (c.a_commit_has_what_the_roles_say.ensures.payloads c.args.parts.now.books kept) (c.a_commit_has_what_the_roles_say.ensures.fresh c.args.parts.now.books kept), c.places_needed.ensures.places, c.free.ensures, c.if-places_needed-free.true) in
+    on_ok c.commit.result c.commit.ensures.frees (λ lets. record { fits = λ fits. lets; drains = λ not_fits. absurd (not_fits fits) })
+
+pub returns-in-Ok-clause-frees : goal.returns-in-Ok-clause-frees
+returns-in-Ok-clause-frees g c =
+    let v = c.args.parts.now in
+    let kept = c.requires.kept.sound.kept in
+    let moved = (c.in-Ok.ensures.runs 0 0).pipeline in
+    on_ok c.commit-in-Ok.result c.commit-in-Ok.ensures.frees (λ lets. record {
+      fits = λ few. absurd (omega (arith, few, places_needed v (c.a_commit_has_what_the_roles_say.ensures.payloads v.books kept) (c.a_commit_has_what_the_roles_say.ensures.fresh v.books kept), c.places_needed.ensures.places, c.free.ensures, c.if-places_needed-free.false));
+      drains = λ not_fits. lets_from (with_all_served (bookkeeping_of v)) (bookkeeping_of c.drain.new.parts) (bookkeeping_of c.commit-in-Ok.new.parts) c.in-Ok.ensures.serves moved.geom moved.marked lets;
+    })

@@ -1,6 +1,10 @@
-use Rattle.std.proofs.Common.{◌∙◌, arith, sym, subst}
+use Rattle.std.proofs.Common.{◌∙◌, arith, refl, sym, subst}
 use Rattle.opt_blocks.specs.Effects.{FitsRing}
+use Rattle.opt_blocks.specs.State.{Bookkeeping}
+use Rattle.opt_store.specs.Store.{bookkeeping_of}
+use Rattle.opt_store.specs.Syncing.{FreesInRing}
 use Rattle.opt_store.specs.Told.{store_state}
+use Rattle.opt_store.proofs.Freeing.{frees_none, frees_some, on_ok}
 use Rattle.opt_store.proofs.SyncSteps.{no_memory, record_from_same, syncs_from_same, syncs_nothing}
 use Rattle.opt_store.proofs.TicketLogs.{no_write}
 use Rattle.opt_store.proofs.syncing.sync.Goals as goal
@@ -42,3 +46,10 @@ returns-then-weight-eq0-clause-written g c = λ ticks tells few. omega arith
 pub returns-in-Ok-clause-written : goal.returns-in-Ok-clause-written
 returns-in-Ok-clause-written g c = λ ticks tells few.
     record_from_same c.args.parts.now c.reserve.new.parts ticks (g.D.Disk.state c.args.disk.now) (store_state c.commit_in_ring.new.parts ticks (g.D.Disk.state c.commit_in_ring.new.disk)) c.commit_in_ring.result c.in-Ok.ensures.same (c.commit_in_ring.ensures.written ticks tells (subst FitsRing (sym c.in-Ok.ensures.same.books) few))
+
+pub returns-then-weight-eq0-clause-frees : goal.returns-then-weight-eq0-clause-frees
+returns-then-weight-eq0-clause-frees g c = frees_none (bookkeeping_of c.args.parts.now) (bookkeeping_of c.args.parts.now) refl (sym c.weight.ensures ∙ c.if-weight-eq0.true)
+
+pub returns-in-Ok-clause-frees : goal.returns-in-Ok-clause-frees
+returns-in-Ok-clause-frees g c = on_ok c.commit_in_ring.result c.commit_in_ring.ensures.frees (λ frees. frees_some (bookkeeping_of c.args.parts.now) (bookkeeping_of c.commit_in_ring.new.parts) (λ none. c.if-weight-eq0.false (c.weight.ensures ∙ none))
+    (subst (λ (k : Bookkeeping). FreesInRing k (bookkeeping_of c.commit_in_ring.new.parts)) c.in-Ok.ensures.same.books frees))

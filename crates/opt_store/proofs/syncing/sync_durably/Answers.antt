@@ -1,7 +1,9 @@
-use Rattle.std.proofs.Common.{◌≡◌, true, false, ◌∙◌, ap, arith}
+use Rattle.std.proofs.Common.{◌≡◌, true, false, Result, Ok, Err, is_ok, sym, ◌∙◌, ap, arith}
+use Rattle.std.proofs.lemmas.Bool.{false≢true}
 use Rattle.opt_blocks.specs.State.{Bookkeeping, Ticking}
 use Rattle.opt_store.specs.Store.{bookkeeping_of}
 use Rattle.opt_store.specs.Told.{store_state}
+use Rattle.opt_store.proofs.Freeing.{frees_still, waited_still}
 use Rattle.opt_store.proofs.SyncSteps.{refused, refused_record, sync_then_hears, sync_then_wait, writes_hear}
 use Rattle.opt_store.proofs.syncing.sync_durably.Goals as goal
 
@@ -65,3 +67,18 @@ returns-then-parts-clause-written g c = λ ticks tells fits. c.in_ok-point.ensur
 
 pub returns-in-Ok-clause-written : goal.returns-in-Ok-clause-written
 returns-in-Ok-clause-written g c = λ ticks tells fits. omega (arith, c.in_ok-point.ensures.written ticks tells fits, c.in-Ok.ensures.still tells)
+
+pub returns-then-parts-clause-frees : goal.returns-then-parts-clause-frees
+returns-then-parts-clause-frees g c = c.in_ok-point.ensures.frees
+
+pub returns-in-Ok-clause-frees : goal.returns-in-Ok-clause-frees
+returns-in-Ok-clause-frees g c =
+    let same = waited_still c.sync.new.parts c.wait_for_last.new.parts c.wait_for_last.ensures.books c.in-Ok.ensures.moves.first c.in-Ok.ensures.moves.point in
+    frees_still (bookkeeping_of c.args.parts.now) (bookkeeping_of c.sync.new.parts) (bookkeeping_of c.wait_for_last.new.parts) same.0 same.1 same.2 c.in_ok-point.ensures.frees
+
+-- without a weight the sync isn't refused
+done_then : {A E : Type 0} (r : Result A E) (e : E) (a : A) → r ≡ Err e → r ≡ Ok a → ⊥
+done_then r e a is done = false≢true (sym (ap is_ok is) ∙ ap is_ok done)
+
+pub returns-in_err-point-clause-idle : goal.returns-in_err-point-clause-idle
+returns-in_err-point-clause-idle g c = λ none. absurd (done_then c.sync.result _ c.args.parts.now.point c.in_err-point.was (c.sync.ensures.idle none))

@@ -1,3 +1,5 @@
+use Rattle.opt_store.specs.Told.{store_state}
+use Rattle.opt_store.proofs.Freeing.{ends_frees, on_ok}
 use Rattle.opt_store.proofs.store.StoreBlocks.dsync.Goals as goal
 
 pub invariant_of-self : goal.invariant_of-self
@@ -18,3 +20,6 @@ returns-clause-idles g c = c.sync_durably.ensures.idles c.args.self.now.ticks
 
 pub returns-clause-written : goal.returns-clause-written
 returns-clause-written g c = c.sync_durably.ensures.written c.args.self.now.ticks
+
+pub returns-clause-frees : goal.returns-clause-frees
+returns-clause-frees g c = λ tells. on_ok c.sync_durably.result c.sync_durably.ensures.frees (ends_frees (store_state c.args.self.now.parts c.args.self.now.ticks (g.D.Disk.state c.args.self.now.disk)) (store_state c.sync_durably.new.parts c.args.self.now.ticks (g.D.Disk.state c.sync_durably.new.disk)))

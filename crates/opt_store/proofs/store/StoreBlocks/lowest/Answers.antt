@@ -55,3 +55,9 @@ returns-in-Ok-clause-ticks g c = c.in-Ok.ensures.asks c.args.self.now.ticks
 
 pub returns-in-Err-clause-ticks : goal.returns-in-Err-clause-ticks
 returns-in-Err-clause-ticks g c = c.in-Err.ensures.asks c.args.self.now.ticks
+
+pub returns-in-Ok-clause-serves : goal.returns-in-Ok-clause-serves
+returns-in-Ok-clause-serves g c = λ few done. c.in-Ok.ensures.serves
+
+pub returns-then-reusable-n-clause-serves : goal.returns-then-reusable-n-clause-serves
+returns-then-reusable-n-clause-serves g c = λ few done. absurd (fewer _ _ _ few refl (enough c.args.n c.reusable.result _ (omega (arith, c.if-reusable-n.true)) (c.reusable.ensures (beside_books c.args.self.now.parts))))

@@ -1,3 +1,5 @@
+use Rattle.opt_store.specs.Told.{store_state}
+use Rattle.opt_store.proofs.Freeing.{ends_frees, on_ok}
 use Rattle.opt_store.proofs.store.StoreBlocks.osync.Goals as goal
 
 pub invariant_of-self : goal.invariant_of-self
@@ -18,3 +20,6 @@ returns-clause-writes g c = c.sync.ensures.writes
 
 pub returns-clause-written : goal.returns-clause-written
 returns-clause-written g c = c.sync.ensures.written c.args.self.now.ticks
+
+pub returns-clause-frees : goal.returns-clause-frees
+returns-clause-frees g c = λ tells. on_ok c.sync.result c.sync.ensures.frees (ends_frees (store_state c.args.self.now.parts c.args.self.now.ticks (g.D.Disk.state c.args.self.now.disk)) (store_state c.sync.new.parts c.args.self.now.ticks (g.D.Disk.state c.sync.new.disk)))

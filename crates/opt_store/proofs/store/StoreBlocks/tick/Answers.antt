@@ -17,3 +17,6 @@ returns-clause-ticks g c = record { made = search rules; manner = c.advance.ensu
 
 pub returns-clause-writes : goal.returns-clause-writes
 returns-clause-writes g c = c.advance.ensures.polled
+
+pub returns-clause-serves : goal.returns-clause-serves
+returns-clause-serves g c = c.advance.ensures.serves c.args.self.now.ticks _
