@@ -1,5 +1,6 @@
 -- Calls that look and calls that settle, one behind the other, where what a crash leaves composes.
-use Rattle.std.proofs.Common.{◌≡◌, Bool, false, IsTrue, Result, Ok, Err, sym, ap, subst, arith}
+use Rattle.std.proofs.Common.{◌≡◌, Bool, false, IsTrue, Result, Ok, Err, refl, sym, ap, subst, arith}
+use Rattle.std.specs.Prelude.{IfErr}
 use Rattle.std.specs.Result.{IsErrAnd}
 use Rattle.opt_blocks.specs.State.{Bookkeeping, State}
 use Rattle.opt_blocks.specs.Crashes.{IssuesNothing, Advances}
@@ -45,3 +46,12 @@ pub look_passed : {T U : Type 0} (called : Result U FileRefusal) (r : Result T F
     → LooksAndSettles tells (fails_reading r) (fails_settling r) s u
 look_passed called (Ok x) why tells s u same is h = absurd same
 look_passed {T} {U} called (Err y) why tells s u same is h = subst (λ z. LooksAndSettles tells (fails_reading {T = T} (Err z)) (fails_settling {T = T} (Err z)) s u) (sym same) (look_case T U tells s u why is h)
+
+-- what is done, or refused as a look, settles nothing
+pub settles_none : {T : Type 0} (r : Result T FileRefusal) → IfErr r LookRefused → fails_settling r ≡ false
+settles_none (Ok x) is = refl
+settles_none (Err (refusal.Short need reusable)) is = absurd is
+settles_none (Err (refusal.Scattered runs)) is = absurd is
+settles_none (Err refusal.DiskFault) is = absurd is
+settles_none (Err refusal.ReadFault) is = refl
+settles_none (Err refusal.NoMemory) is = refl

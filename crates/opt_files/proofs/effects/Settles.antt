@@ -1,12 +1,16 @@
 -- Calls that look, or settle, one behind the other.
-use Rattle.std.proofs.Common.{◌≡◌, ℕ, ◌+◌, ◌<◌, ◌≤◌, Bool, false, IsTrue, ap, ◌∙◌, arith}
+use Rattle.std.proofs.Common.{◌≡◌, inl, inr, ⊎_elim, ℕ, ◌+◌, ◌<◌, ◌≤◌, ◌||◌, Bool, true, false, is_some, Option, IsTrue, length, refl, ap, ap₂, ◌∙◌, arith}
+use Rattle.std.proofs.lemmas.Bool.{cases_lt}
 use Rattle.opt_base.specs.Counts.{after_call}
 use Rattle.opt_disk.specs.Disk.{writes_in}
 use Rattle.opt_geom.specs.Geometry.{Geometry, data_start}
-use Rattle.opt_blocks.specs.State.{Bookkeeping, State}
+use Rattle.opt_blocks.specs.State.{Bookkeeping, State, reusable_blocks}
 use Rattle.opt_blocks.specs.Calls.{MovesPipeline}
+use Rattle.opt_blocks.specs.Effects.{ChangesNothing, RunsPipeline}
+use Rattle.opt_blocks.specs.Puts.{IsData}
+use Rattle.opt_blocks.specs.Serving.{SameFreed, with_all_served}
 use Rattle.opt_blocks.specs.Crashes.{Advances}
-use Rattle.opt_files.specs.Effects.{LooksOnly, LooksAndSettles}
+use Rattle.opt_files.specs.Effects.{LooksOnly, LooksAndSettles, ServesAllOrNone}
 
 -- bookkeeping that is the same moves nothing
 same_moves : (old new : Bookkeeping) → new ≡ old → MovesPipeline old new
@@ -25,10 +29,31 @@ same_moves old new e = record {
   floor = omega (arith, ap (λ (k : Bookkeeping). k.floor) e);
 }
 
+same_freed : (old new : Bookkeeping) → new ≡ old → SameFreed old new
+same_freed old new e = record { reusable = λ b at. ap (λ (k : Bookkeeping). k.reusable b) e; since = λ b at. ap (λ (k : Bookkeeping). k.since b) e }
+
+-- what serves again in two calls
+pub serves_on : (a b c : Bookkeeping) → b.geom ≡ a.geom → ServesAllOrNone a b → ServesAllOrNone b c → ServesAllOrNone a c
+serves_on a b c geom one two = by one two
+  where
+    there : (x : ℕ) → IsData a.geom x → IsData b.geom x
+    there x at = record { from = omega (arith, at.from, ap data_start geom); below = omega (arith, at.below, ap (λ (g : Geometry). g.n) geom) }
+
+    or_none : (x : Bool) → (x || false) ≡ x
+    or_none true = refl
+    or_none false = refl
+
+    by : ServesAllOrNone a b → ServesAllOrNone b c → ServesAllOrNone a c
+    by (inl same) (inl more) = inl (record { reusable = λ x at. more.reusable x (there x at) ∙ same.reusable x at; since = λ x at. more.since x (there x at) ∙ same.since x at })
+    by (inl same) (inr all) = inr (record { reusable = λ x at. all.reusable x (there x at) ∙ ap₂ (λ (r : Bool) (o : Option ℕ). r || is_some o) (same.reusable x at) (same.since x at); since = λ x at. all.since x (there x at) })
+    by (inr all) (inl same) = inr (record { reusable = λ x at. same.reusable x (there x at) ∙ all.reusable x at; since = λ x at. same.since x (there x at) ∙ all.since x at })
+    by (inr all) (inr more) = inr (record { reusable = λ x at. more.reusable x (there x at) ∙ ap₂ (λ (r : Bool) (o : Option ℕ). r || is_some o) (all.reusable x at) (all.since x at) ∙ or_none (a.reusable x || is_some (a.since x)); since = λ x at. more.since x (there x at) })
+
 -- a call that only looks may be one that settles
 pub looks_settle : (tells failed : Bool) (old new : State) → old.books.stopped ≡ false → LooksOnly tells failed old new → (IsTrue tells → Advances old new) → LooksAndSettles tells failed false old new
 looks_settle tells failed old new going k later = record {
   pipeline = same_moves old.books new.books k.books;
+  serves = λ well. inl (same_freed old.books new.books k.books);
   read_faults = k.counts.read_faults;
   faults = k.counts.faults;
   stopped = ap (λ (b : Bookkeeping). b.stopped) k.books ∙ going;
@@ -37,6 +62,24 @@ looks_settle tells failed old new going k later = record {
   map = k.map;
   crash = later;
   writes = λ told. omega (arith, ap writes_in (k.crash told).log, ap (λ (b : Bookkeeping). b.owed) k.books);
+}
+
+-- the search for the n lowest numbers settles where fewer may be taken
+pub settles_lowest : (tells failed : Bool) (n : ℕ) (old new : State) → RunsPipeline tells failed old new → new.counts.ticks ≡ old.counts.ticks
+    → (n ≤ length (reusable_blocks old.books) → ChangesNothing tells old new)
+    → (length (reusable_blocks old.books) < n → failed ≡ false → SameFreed (with_all_served old.books) new.books)
+    → LooksAndSettles tells false failed old new
+settles_lowest tells failed n old new runs ticks looks all = record {
+  pipeline = runs.pipeline;
+  serves = λ well. ⊎_elim (λ few. inr (all few well)) (λ enough. inl (same_freed old.books new.books (looks enough).books)) (cases_lt (length (reusable_blocks old.books)) n);
+  read_faults = runs.disk.read_faults;
+  faults = runs.disk.faults;
+  stopped = runs.disk.stopped;
+  waits = runs.disk.waits;
+  ticks = ticks;
+  map = runs.map;
+  crash = runs.crash;
+  writes = runs.writes;
 }
 
 -- two such calls, of which the first failed nowhere
@@ -58,6 +101,7 @@ settles_more tells read_failed failed a b c geom h k compose turns = record {
     point = k.pipeline.point ∙ h.pipeline.point;
     floor = omega (arith, h.pipeline.floor, k.pipeline.floor);
   };
+  serves = λ well. serves_on a.books b.books c.books (h.pipeline.geom) (h.serves refl) (k.serves well);
   read_faults = k.read_faults ∙ ap (after_call read_failed) h.read_faults;
   faults = k.faults ∙ ap (after_call failed) h.faults;
   stopped = k.stopped;

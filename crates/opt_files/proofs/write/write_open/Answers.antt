@@ -5,7 +5,7 @@ use Rattle.opt_files.specs.Bytes.{met}
 use Rattle.opt_files.specs.Content.{WritesContent, fails_reading, fails_settling}
 use Rattle.opt_files.specs.Writing.{HasRoom}
 use Rattle.opt_files.proofs.calling.Opens.{room_data, room_within, wrote}
-use Rattle.opt_files.proofs.calling.WriteLooks.{looks_then, then_looks, look_passed}
+use Rattle.opt_files.proofs.calling.WriteLooks.{looked, looks_then, then_looks, look_passed}
 use Rattle.opt_files.proofs.calling.Extends.{unread_settles}
 use Rattle.opt_files.proofs.drafts.Refused.{same_error}
 use Rattle.opt_files.specs.Effects.{LooksAndSettles}
@@ -22,6 +22,13 @@ pub write_content-requires-clause-within : goal.write_content-requires-clause-wi
 write_content-requires-clause-within g c =
     room_within (g.S.Blocks.state c.make_room.new.blocks).books c.max-size.result (c.args.offset + length c.args.bytes.now) c.args.node.now c.make_room.new.node c.close_gap.new.draft c.make_room.new.draft
     (omega (arith, c.max-size.ensures)) c.in_ok-make_room.ensures.room
+
+pub returns-in_err-close_gap-clause-settles : goal.returns-in_err-close_gap-clause-settles
+returns-in_err-close_gap-clause-settles g c =
+    let tells = g.S.Blocks.tells in
+    let w = c.in_err-close_gap.field-0.0 in
+    look_passed c.close_gap.result c.from_residual.result w tells (g.S.Blocks.state c.args.blocks.now) (g.S.Blocks.state c.close_gap.new.blocks) c.from_residual.ensures.1 c.in_err-close_gap.ensures.refused
+    (looked g.S.Blocks.state tells c.calls_compose.ensures.advances c.calls_compose.ensures.rests _ c.args.blocks.now c.close_gap.new.blocks c.requires.going c.in_err-close_gap.ensures.looks)
 
 pub returns-in_err-write_content-clause-settles : goal.returns-in_err-write_content-clause-settles
 returns-in_err-write_content-clause-settles g c =

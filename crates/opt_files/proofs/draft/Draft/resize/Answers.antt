@@ -1,15 +1,18 @@
-use Rattle.std.proofs.Common.{◌≡◌, IsTrue, option_map, Some, refl, sym, ap, subst, ◌∙◌, arith}
+use Rattle.std.proofs.Common.{◌≡◌, true, false, IsTrue, option_map, Some, refl, sym, ap, subst, ◌∙◌, arith}
 use Rattle.std.specs.Prelude.{IfSome}
 use Rattle.opt_geom.specs.Geometry.{IsGeometry}
 use Rattle.opt_blocks.specs.State.{State}
 use Rattle.opt_stands.specs.Files.{FileNode}
+use Rattle.opt_files.specs.declared.refusal.FileRefusal.TheVariants as refusal
 use Rattle.opt_files.specs.Calls.{files_in}
+use Rattle.opt_files.specs.Content.{fails_reading, fails_settling}
+use Rattle.opt_files.specs.Effects.{LooksAndSettles}
 use Rattle.opt_files.specs.Nodes.{IsOpen, node_of_open}
 use Rattle.opt_files.proofs.bytes.Looks.{looks_more}
 use Rattle.opt_files.proofs.calling.Nodes.{has_table}
 use Rattle.opt_files.proofs.calling.Resized.{IsRead, read_at, read_growth, since_read, same_file, kept_places, cut_places, grown_places, same_resizes, cut_resizes, grown_resizes, grown_refused, few_read}
-use Rattle.opt_files.proofs.drafts.Refused.{ok_maps, ok_both, err_maps}
-use Rattle.opt_files.proofs.calling.WriteLooks.{looks_then}
+use Rattle.opt_files.proofs.drafts.Refused.{ok_maps, ok_both, err_maps, same_error}
+use Rattle.opt_files.proofs.calling.WriteLooks.{looked, looks_then, settles_none}
 use Rattle.opt_files.proofs.draft.Draft.resize.Goals as goal
 use Rattle.opt_files.proofs.draft.Draft.resize.Goals.{In-Some}
 
@@ -124,3 +127,26 @@ returns-clause-looks g c = λ known x at few.
 
 pub returns-clause-settles : goal.returns-clause-settles
 returns-clause-settles g c = looks_then g.S.Blocks.state g.S.Blocks.tells c.calls_compose.ensures.advances c.calls_compose.ensures.rests _ _ c.args.blocks.now c.load.new.blocks c.extend.new.blocks c.requires.going c.in_ok-node.ensures.looks c.extend.ensures.settles
+
+pub returns-in_err-node-clause-settles : goal.returns-in_err-node-clause-settles
+returns-in_err-node-clause-settles g c =
+    same_error c.from_residual.result refusal.ReadFault (λ r. LooksAndSettles g.S.Blocks.tells (fails_reading r) (fails_settling r) (g.S.Blocks.state c.args.blocks.now) (g.S.Blocks.state c.load.new.blocks)) c.from_residual.ensures.1
+    (looked g.S.Blocks.state g.S.Blocks.tells c.calls_compose.ensures.advances c.calls_compose.ensures.rests true c.args.blocks.now c.load.new.blocks c.requires.going c.in_err-node.ensures.looks)
+
+pub returns-in_default-clause-settles : goal.returns-in_default-clause-settles
+returns-in_default-clause-settles g c = looked g.S.Blocks.state g.S.Blocks.tells c.calls_compose.ensures.advances c.calls_compose.ensures.rests false c.args.blocks.now c.load.new.blocks c.requires.going c.in_ok-node.ensures.looks
+
+pub returns-then-size-node-clause-settles : goal.returns-then-size-node-clause-settles
+returns-then-size-node-clause-settles g c = looked g.S.Blocks.state g.S.Blocks.tells c.calls_compose.ensures.advances c.calls_compose.ensures.rests false c.args.blocks.now c.load.new.blocks c.requires.going c.in_ok-node.ensures.looks
+
+pub returns-then-size-node-2-clause-settles : goal.returns-then-size-node-2-clause-settles
+returns-then-size-node-2-clause-settles g c =
+    let tells = g.S.Blocks.tells in
+    let s = g.S.Blocks.state c.args.blocks.now in
+    let one = g.S.Blocks.state c.load.new.blocks in
+    let t = g.S.Blocks.state c.cut.new.blocks in
+    subst (λ b. LooksAndSettles tells (fails_reading c.cut.result) b s t) (sym (settles_none c.cut.result c.cut.ensures.refused))
+    (looked g.S.Blocks.state tells c.calls_compose.ensures.advances c.calls_compose.ensures.rests (fails_reading c.cut.result) c.args.blocks.now c.cut.new.blocks c.requires.going (looks_more tells (fails_reading c.cut.result) s one t c.in_ok-node.ensures.looks c.cut.ensures.looks))
+
+pub returns-then-not-may_grow-clause-settles : goal.returns-then-not-may_grow-clause-settles
+returns-then-not-may_grow-clause-settles g c = looked g.S.Blocks.state g.S.Blocks.tells c.calls_compose.ensures.advances c.calls_compose.ensures.rests false c.args.blocks.now c.load.new.blocks c.requires.going c.in_ok-node.ensures.looks

@@ -1,16 +1,18 @@
-use Rattle.std.proofs.Common.{◌≡◌, ◌+◌, ◌==◌, true, IsTrue, length, Some, refl, sym, ap, subst, ◌∙◌, rules}
+use Rattle.std.proofs.Common.{◌≡◌, ◌+◌, ◌==◌, true, false, IsTrue, length, Some, refl, sym, ap, subst, ◌∙◌, rules}
 use Rattle.opt_geom.specs.Geometry.{IsGeometry}
 use Rattle.opt_blocks.specs.State.{Bookkeeping, State, reusable_blocks}
 use Rattle.opt_stands.specs.Files.{used_node}
 use Rattle.opt_files.specs.Calls.{places_in}
-use Rattle.opt_files.specs.Content.{fails_reading}
+use Rattle.opt_files.specs.declared.refusal.FileRefusal.TheVariants as refusal
+use Rattle.opt_files.specs.Content.{fails_reading, fails_settling}
+use Rattle.opt_files.specs.Effects.{LooksAndSettles}
 use Rattle.opt_files.specs.Drafts.{drafted}
 use Rattle.opt_files.specs.Nodes.{node_of_open, IsOpen}
 use Rattle.opt_files.proofs.bytes.Looks.{looks_more}
 use Rattle.opt_files.proofs.calling.Nodes.{has_table}
 use Rattle.opt_files.proofs.calling.WriteAt.{once_then, slots_then, refused_then, few_then, file_then, grows_then, has_then, among_then, none_come}
-use Rattle.opt_files.proofs.drafts.Refused.{ok_maps, err_maps}
-use Rattle.opt_files.proofs.calling.WriteLooks.{looks_then}
+use Rattle.opt_files.proofs.drafts.Refused.{ok_maps, err_maps, same_error}
+use Rattle.opt_files.proofs.calling.WriteLooks.{looked, looks_then}
 use Rattle.opt_files.proofs.draft.Draft.write_at.Goals as goal
 use Rattle.opt_files.proofs.draft.Draft.write_at.Goals.{In-Some, After-write_loaded}
 
@@ -106,3 +108,11 @@ returns-clause-looks g c = λ told x at few.
 
 pub returns-clause-settles : goal.returns-clause-settles
 returns-clause-settles g c = looks_then g.S.Blocks.state g.S.Blocks.tells c.calls_compose.ensures.advances c.calls_compose.ensures.rests _ _ c.args.blocks.now c.load.new.blocks c.write_loaded.new.blocks c.requires.going c.in_ok-node.ensures.looks c.write_loaded.ensures.settles
+
+pub returns-in_default-clause-settles : goal.returns-in_default-clause-settles
+returns-in_default-clause-settles g c = looked g.S.Blocks.state g.S.Blocks.tells c.calls_compose.ensures.advances c.calls_compose.ensures.rests false c.args.blocks.now c.load.new.blocks c.requires.going c.in_ok-node.ensures.looks
+
+pub returns-in_err-node-clause-settles : goal.returns-in_err-node-clause-settles
+returns-in_err-node-clause-settles g c =
+    same_error c.from_residual.result refusal.ReadFault (λ r. LooksAndSettles g.S.Blocks.tells (fails_reading r) (fails_settling r) (g.S.Blocks.state c.args.blocks.now) (g.S.Blocks.state c.load.new.blocks)) c.from_residual.ensures.1
+    (looked g.S.Blocks.state g.S.Blocks.tells c.calls_compose.ensures.advances c.calls_compose.ensures.rests true c.args.blocks.now c.load.new.blocks c.requires.going c.in_err-node.ensures.looks)
