@@ -2,6 +2,7 @@ pub mod Lists
 pub mod Nodes
 pub mod Same
 pub mod Known
+pub mod Waits
 pub mod Begun
 pub mod Formatted
 pub mod Carried
@@ -9,3 +10,4 @@ pub mod Synced
 pub mod Answered
 pub mod Over
 pub mod Quiet
+pub mod Exactly

@@ -17,8 +17,10 @@ use Rattle.opt_blocks.specs.Running.{has}
 use Rattle.opt_blocks.specs.State.{Bookkeeping, State, reusable_blocks, IsReusable}
 use Rattle.opt_blocks.specs.Calls.{IsSound, MovesPipeline}
 use Rattle.opt_blocks.specs.Crashes.{Advances, WritesAtMost}
+use Rattle.opt_blocks.specs.Serving.{SameFreed}
 use Rattle.opt_files.specs.Calls.{places_in}
 use Rattle.opt_files.specs.Drafts.{nothing_drafted}
+use Rattle.opt_files.specs.Effects.{ServesAllOrNone}
 use Rattle.opt_fs.specs.Sessions.{IsSession, inodes}
 use Rattle.opt_fs.specs.Space.{ArePlaced, HasRoom, LacksRoom, grown_path}
 
@@ -69,9 +71,10 @@ grown_by m cmd = option_and_then (number_at m) (grown_path cmd)
 abbrev pub places_of : State → ℕ → List ℕ
 places_of s k = places_in s nothing_drafted k
 
--- A command finds the blocks that it needs: so many may be taken, once the pipeline has settled where there were fewer.
+-- A command finds the blocks that it needs: so many may be taken, once the pipeline has settled where there were fewer, and then all that waited may be taken.
 pub record FindsBlocks (need : ℕ) (old settled : Bookkeeping) : Type 0 where
   pub moves : MovesPipeline old settled
+  pub serves : ServesAllOrNone old settled
   pub rests : need ≤ length (reusable_blocks old) → settled ≡ old
   pub enough : need ≤ length (reusable_blocks settled)
   pub sound : IsSound settled
@@ -90,6 +93,7 @@ pub record Spends (old : State) (settled : Bookkeeping) (new : State) (f : Figur
   pub weight : new.books.running.weight ≡ old.books.running.weight + f.cost
   pub held : new.books.running.held ≡ old.books.running.held + f.freed
   pub takeable : (b : ℕ) → new.books.reusable b ≡ (not (has (take f.need (reusable_blocks settled)) b) && settled.reusable b)
+  pub since : (b : ℕ) → new.books.since b ≡ settled.since b
   pub placed : ArePlaced (places_of old) (places_of new) (take f.need (reusable_blocks settled))
 
 -- Nothing is spent: the transaction and the blocks are as they were, and what might be taken still may.
@@ -108,10 +112,11 @@ pub record IsDone (old new : State) (f : Session) (cmd : Cmd) (reply : Reply) : 
   pub runs : FindsRuns old settled f cmd
   pub spends : Spends old settled new (figures_on old f cmd)
 
--- The tree accepts the command, and there is no room for it.
-pub record IsOutOfRoom (old : State) (f : Session) (cmd : Cmd) (why : Refusal) : Type 0 where
+-- The tree accepts the command, and there is no room for it. Then none of the blocks that wait serves.
+pub record IsOutOfRoom (old new : State) (f : Session) (cmd : Cmd) (why : Refusal) : Type 0 where
   pub accepted : refusal f.limit f.tree cmd ≡ None
   pub lacks : LacksRoom old.books (figures_on old f cmd) why
+  pub rests : SameFreed old.books new.books
 
 -- There is room, and the blocks of the node that grows would lie in more than 28 runs.
 pub record IsScattered (old new : State) (f : Session) (cmd : Cmd) (why : Refusal) : Type 0 where
@@ -136,11 +141,15 @@ IsCutShort why = (why ≡ because.ReadFault) ⊎ (why ≡ because.NoMemory)
 
 -- why a command that isn't a sync is refused, but for the tree's own reasons
 abbrev pub IsRefusedFor : State → State → Session → Cmd → Refusal → Type 0
-IsRefusedFor old new f cmd why = IsOutOfRoom old f cmd why ⊎ (IsScattered old new f cmd why ⊎ (FailsToSettle old f cmd why ⊎ IsCutShort why))
+IsRefusedFor old new f cmd why = IsOutOfRoom old new f cmd why ⊎ (IsScattered old new f cmd why ⊎ (FailsToSettle old f cmd why ⊎ IsCutShort why))
 
 -- Where as many blocks as are needed may be taken, the disk has no event.
 abbrev pub IsQuiet : ℕ → State → State → Type 0
 IsQuiet need old new = need ≤ length (reusable_blocks old.books) → new.crash.log ≡ old.crash.log
+
+-- and the bookkeeping is as it was
+abbrev pub IsCalm : ℕ → State → State → Type 0
+IsCalm need old new = need ≤ length (reusable_blocks old.books) → (new.books ≡ old.books) × (new.crash.log ≡ old.crash.log)
 
 -- How a command that isn't a sync ends over a map of blocks: done as the tree does it, or refused from outside the tree, and then the session is as it was and nothing is spent.
 pub record Carries (tells : Bool) (cmd : Cmd) (result : Result Reply Refusal) (old new : State) : Type 0 where
@@ -148,6 +157,9 @@ pub record Carries (tells : Bool) (cmd : Cmd) (result : Result Reply Refusal) (o
   pub refused : IsTrue tells → IfErr result (λ why. (f : Session) → IsSession old f → IsRefusedFor old new f cmd why)
   pub kept : IsTrue tells → OnErr result ((f : Session) → IsSession old f → IsSession new f)
   pub unspent : OnErr result (SpendsNothing tells old new)
+  pub serves : is_disk_fault result ≡ false → OnErr result (ServesAllOrNone old.books new.books)
+  -- and none serves where its blocks may be taken
+  pub rests : IsTrue tells → OnErr result ((f : Session) → IsSession old f → (figures_on old f cmd).need ≤ length (reusable_blocks old.books) → SameFreed old.books new.books)
   -- also where it is refused, there is no event of it where its blocks may be taken
   pub quiet : IsTrue tells → (f : Session) → IsSession old f → IsQuiet (figures_on old f cmd).need old new
   pub runs : RunsCommand tells (is_read_fault result) (is_disk_fault result) old new

@@ -12,6 +12,8 @@ pub mod DiskRoom
 pub mod Plans
 pub mod Syncs
 pub mod Applying
+pub mod Serving
+pub mod Moments
 pub mod Making
 pub mod Points
 pub mod Writing

@@ -19,7 +19,7 @@ use Rattle.opt_dirs.specs.Directories.{inodes_in}
 use Rattle.opt_fs.specs.declared.plan.Plan.{Plan}
 use Rattle.opt_fs.specs.declared.plan.Plan.TheVariants.{Answer, Change}
 use Rattle.opt_fs.specs.Changes.{IsWithinCost, Uses}
-use Rattle.opt_fs.specs.Commands.{figures_on, places_of, FindsRuns, IsQuiet, IsRefusedFor, is_read_fault, is_disk_fault}
+use Rattle.opt_fs.specs.Commands.{figures_on, places_of, FindsRuns, IsCalm, IsRefusedFor, is_read_fault, is_disk_fault}
 use Rattle.opt_fs.specs.Refusals.{refusal_of}
 use Rattle.opt_fs.specs.Sessions.{IsSession, AreUsedBelow}
 use Rattle.opt_fs.specs.Space.{HasRoom}
@@ -94,5 +94,5 @@ PlanIs cmd (Err why) old now f = IsRefusedFor old now f cmd why
 pub record Plans (tells : Bool) (cmd : Cmd) (result : Result Plan Refusal) (old now : State) : Type 0 where
   pub is : IsTrue tells → (f : Session) → IsSession old f → PlanIs cmd result old now f
   pub going : old.books.stopped ≡ false
-  pub quiet : IsTrue tells → (f : Session) → IsSession old f → IsQuiet (figures_on old f cmd).need old now
+  pub quiet : IsTrue tells → (f : Session) → IsSession old f → IsCalm (figures_on old f cmd).need old now
   pub settles : LooksAndSettles tells (plan_fails_reading result) (plan_fails_settling result) old now

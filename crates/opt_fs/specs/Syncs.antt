@@ -13,6 +13,7 @@ use Rattle.opt_blocks.specs.State.{Bookkeeping, State, IsReusable}
 use Rattle.opt_blocks.specs.Calls.{HasTurns, UsesDisk, commit_places, commit_writes, if_changed}
 use Rattle.opt_blocks.specs.Crashes.{Advances, HearsRecords, MakesPoint, WritesAtMost}
 use Rattle.opt_blocks.specs.Effects.{FitsRing}
+use Rattle.opt_blocks.specs.Serving.{EndsFrees}
 use Rattle.opt_files.specs.Finish.{MayGoOn}
 use Rattle.opt_fs.specs.Commands.{is_disk_fault}
 use Rattle.opt_fs.specs.Sessions.{IsSession}
@@ -38,6 +39,8 @@ pub record SyncsSession (tells orders : Bool) (cmd : Cmd) (result : Result Reply
   -- done, nothing is weighed or held any more where anything was weighed; and what might be taken still may
   pub ends : OnOk result (new.books.running ≡ if_changed old.books.running nothing_running old.books.running)
   pub takeable : (b : ℕ) → IsReusable old.books.geom old.books.reusable b → new.books.reusable b ≡ true
+  -- done, what the transaction freed waits for the new point
+  pub frees : IsTrue tells → OnOk result (EndsFrees old new)
   pub disk : UsesDisk (is_disk_fault result) old new
   pub geom : new.books.geom ≡ old.books.geom
   pub turns : new.books.turns ≤ old.books.turns + 2 ^ 18

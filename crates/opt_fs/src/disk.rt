@@ -14,11 +14,12 @@ ghost use Rattle.opt_fs.specs.Applying.{Applies};
 ghost use Rattle.opt_fs.specs.DiskRoom.{AnswersOn, IsRoomOf, without_memory};
 ghost use Rattle.opt_fs.specs.Memory.{room_of};
 ghost use Rattle.opt_fs.specs.Room.{Room};
+ghost use Rattle.opt_fs.specs.Serving.{ServesCommand};
 ghost use Rattle.opt_fs.specs.Sessions.{IsSession};
 
 use crate::laws::blocks_have_the_map_of_their_tree;
 use crate::live::as_many_blocks_are_marked_as_the_tree_has;
-use opt_blocks::Blocks;
+use opt_blocks::{Blocks, calls_compose};
 use opt_extent::{a_list_has_its_runs, tidy_runs_are_those_of_their_numbers};
 use opt_inodes::{a_file_reads_as_itself, slots_follow_the_bytes, the_map_gives_the_names};
 
@@ -37,6 +38,23 @@ pub fn a_command_is_answered_in_a_room_that_came_back<S: Blocks>()
     a_file_reads_as_itself();
     a_list_has_its_runs();
     tidy_runs_are_those_of_their_numbers();
+}
+
+/// Over any blocks whose contents are known each command is answered in the room of its session with what waits: the
+/// tick serves those blocks whose point is sure then and on which nothing is pending, and no command another, but for
+/// want of blocks or of ring places, and then all. The moments are those of the blocks behind the tick and at the end.
+pub fn a_command_serves_what_is_sure<S: Blocks>()
+    ensures { IsTrue S.tells → (old new : S) (f : Session) (cmd : Cmd) (reply : Reply) → IsSession (S.state old) f → Applies S.tells S.state cmd reply old new
+        → (next : Session) × IsSession (S.state new) next × ((S.state new).books.geom ≡ (S.state old).books.geom) × ServesCommand S.state f cmd reply next old new }
+{
+    as_many_blocks_are_marked_as_the_tree_has::<S>();
+    blocks_have_the_map_of_their_tree();
+    the_map_gives_the_names();
+    slots_follow_the_bytes();
+    a_file_reads_as_itself();
+    a_list_has_its_runs();
+    tidy_runs_are_those_of_their_numbers();
+    calls_compose::<S>();
 }
 
 /// In each room of a session any command may be answered: out of memory, or as the tree answers it where it takes

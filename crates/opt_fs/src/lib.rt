@@ -31,7 +31,10 @@ mod sizes;
 mod space;
 mod syncs;
 
-pub use disk::{a_command_is_answered_in_a_room_that_came_back, any_command_may_be_answered};
+pub use disk::{
+    a_command_is_answered_in_a_room_that_came_back, a_command_serves_what_is_sure,
+    any_command_may_be_answered,
+};
 pub use fs::Fs;
 pub use laws::{
     a_command_begins_with_a_tick, a_command_raises_the_numbers_little,

@@ -28,7 +28,7 @@ ghost use Rattle.opt_files.specs.Sound.{IsDraftOf};
 ghost use Rattle.opt_dirs.specs.Directories.{IsNumber};
 ghost use Rattle.opt_fs.specs.declared.paths.NodeFound.{NodeFound as FoundValue};
 ghost use Rattle.opt_fs.specs.declared.making.Vacancy.{Vacancy as VacancyValue};
-ghost use Rattle.opt_fs.specs.Commands.{places_of, IsQuiet};
+ghost use Rattle.opt_fs.specs.Commands.{places_of, IsCalm};
 ghost use Rattle.opt_fs.specs.Looks.{ComesTo, IsWithin, LeadsToFound};
 ghost use Rattle.opt_fs.specs.Making.{AcceptsName, AddsName, MayAppear, MayLink, first_thing, make_cmd, node_kind};
 ghost use Rattle.opt_fs.specs.Plans.{MayBeMade, OnChange, Plans};
@@ -423,7 +423,7 @@ fn draft_node<S: Blocks>(
         → inodes (S.state blocks.old) dir ≡ Some (ADir slots) → AddsName (S.state blocks.old) (S.state blocks.new) draft dir slot.now.node slot.now.name (new_inode (first_thing kind)) slots) }
     ensures refused { IsTrue S.tells → IfErr result (λ why. (slots : List SlotValue) → inodes (S.state blocks.old) dir ≡ Some (ADir slots)
         → GrowthRefused (growth (length slots)) (places_of (S.state blocks.old) dir) (S.state blocks.old).books (S.state blocks.new).books why) }
-    ensures quiet { IsTrue S.tells → (slots : List SlotValue) → inodes (S.state blocks.old) dir ≡ Some (ADir slots) → IsQuiet (growth (length slots)) (S.state blocks.old) (S.state blocks.new) }
+    ensures quiet { IsTrue S.tells → (slots : List SlotValue) → inodes (S.state blocks.old) dir ≡ Some (ADir slots) → IsCalm (growth (length slots)) (S.state blocks.old) (S.state blocks.new) }
     ensures settles { LooksAndSettles S.tells (fails_reading result) (fails_settling result) (S.state blocks.old) (S.state blocks.new) }
 {
     a_draft_begins(blocks);
@@ -478,7 +478,7 @@ fn draft_link<S: Blocks>(
         → inodes (S.state blocks.old) dir ≡ Some (ADir slots) → AddsName (S.state blocks.old) (S.state blocks.new) draft dir slot.now.node slot.now.name (AFile links bytes) slots) }
     ensures refused { IsTrue S.tells → IfErr result (λ why. (slots : List SlotValue) → inodes (S.state blocks.old) dir ≡ Some (ADir slots)
         → GrowthRefused (growth (length slots)) (places_of (S.state blocks.old) dir) (S.state blocks.old).books (S.state blocks.new).books why) }
-    ensures quiet { IsTrue S.tells → (slots : List SlotValue) → inodes (S.state blocks.old) dir ≡ Some (ADir slots) → IsQuiet (growth (length slots)) (S.state blocks.old) (S.state blocks.new) }
+    ensures quiet { IsTrue S.tells → (slots : List SlotValue) → inodes (S.state blocks.old) dir ≡ Some (ADir slots) → IsCalm (growth (length slots)) (S.state blocks.old) (S.state blocks.new) }
     ensures settles { LooksAndSettles S.tells (fails_reading result) (fails_settling result) (S.state blocks.old) (S.state blocks.new) }
 {
     a_draft_begins(blocks);

@@ -16,7 +16,7 @@ ghost use Rattle.opt_files.specs.Effects.{LooksOnly, LooksAndSettles};
 ghost use Rattle.opt_files.specs.Sound.{IsDraftOf};
 ghost use Rattle.opt_dirs.specs.Directories.{IsNumber};
 ghost use Rattle.opt_fs.specs.Looks.{MayBeEntry};
-ghost use Rattle.opt_fs.specs.Commands.{GrowsInRuns, places_of, IsQuiet};
+ghost use Rattle.opt_fs.specs.Commands.{GrowsInRuns, places_of, IsCalm};
 ghost use Rattle.opt_fs.specs.Moving.{IsMove, KnowsMove, MayMoveAway, MayMoveOnto, MayRename, MovesName};
 ghost use Rattle.opt_fs.specs.Plans.{MayBeMade, OnChange, Plans};
 ghost use Rattle.opt_fs.specs.Removing.{blocks_gone, first_after};
@@ -183,7 +183,7 @@ fn draft_across<S: Blocks>(
     ensures grows { IsTrue S.tells → IfOk result (λ draft. (count : ℕ) (name : List ℕ) → MayMoveAway (S.state blocks.old) source.now into count name other.now → GrowsInRuns (S.state blocks.old) (S.state blocks.new).books into (growth count)) }
     ensures refused { IsTrue S.tells → IfErr result (λ why. (count : ℕ) (name : List ℕ) → MayMoveAway (S.state blocks.old) source.now into count name other.now
         → GrowthRefused (growth count) (places_of (S.state blocks.old) into) (S.state blocks.old).books (S.state blocks.new).books why) }
-    ensures quiet { IsTrue S.tells → (count : ℕ) (name : List ℕ) → MayMoveAway (S.state blocks.old) source.now into count name other.now → IsQuiet (growth count) (S.state blocks.old) (S.state blocks.new) }
+    ensures quiet { IsTrue S.tells → (count : ℕ) (name : List ℕ) → MayMoveAway (S.state blocks.old) source.now into count name other.now → IsCalm (growth count) (S.state blocks.old) (S.state blocks.new) }
     ensures settles { LooksAndSettles S.tells (fails_reading result) (fails_settling result) (S.state blocks.old) (S.state blocks.new) }
 {
     a_draft_begins(blocks);

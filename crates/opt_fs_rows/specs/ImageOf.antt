@@ -1,5 +1,5 @@
 -- What is known of the blocks of an image: the numbers, and nothing of the contents.
-use Rattle.std.specs.Prelude.{ℕ, ◌-◌, ◌*◌, ⊤, true, false, ◌==◌, if◌then◌else◌, List, [], ◌∷◌, Result, Ok, Err}
+use Rattle.std.specs.Prelude.{ℕ, ◌-◌, ◌*◌, ⊤, true, false, ◌==◌, if◌then◌else◌, List, [], ◌∷◌, None, Result, Ok, Err}
 use Rattle.opt_geom.specs.Geometry.{Geometry, data_start}
 use Rattle.opt_disk.specs.Manner.{any_manner}
 use Rattle.opt_blocks.specs.declared.role.Role.{Role}
@@ -34,6 +34,7 @@ books_of p = record {
   marked = λ b. false;
   reusable = λ b. true;
   waiting = 0;
+  since = λ b. None;
   area = p.image.geom.n - data_start p.image.geom;
   room = 24 * (p.image.geom.j - 2);
   free_places = p.image.geom.j;
@@ -54,6 +55,7 @@ untold = record {
   holds = λ img m. ⊤;
   issued = λ m. ⊤;
   awaits = λ p t. ⊥;
+  sure = λ log p. ⊤;
 }
 
 -- all that is known of the blocks

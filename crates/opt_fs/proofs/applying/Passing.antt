@@ -19,6 +19,7 @@ nothing_issued s = record {
   point = λ p m. (λ x. x, λ x. x);
   left = λ t img. (λ x. x, λ x. x);
   holds = λ img m. (λ x. x, λ x. x);
+  sure = λ log p. (λ x. x, λ x. x);
   issued = λ m. (λ x. x, λ x. x);
   awaits = λ p t. (λ x. x, λ x. x);
 }
@@ -43,7 +44,7 @@ module _ {S : Type 0} (tells : Bool) (state : S → State) (told : IsTrue tells)
   of_synced : (orders : Bool) (cmd : Cmd) (result : Result Reply Refusal) (mid new : S) → SyncsSession tells orders cmd result (state mid) (state new) → PassesTime (state mid) (state new)
   of_synced orders cmd result mid new h = record { advances = h.crash told; made = h.made told; one = h.one; geom = h.geom }
 
-  of_run : (cmd : Cmd) (result : Result Reply Refusal) (mid new : S) → Runs tells state cmd result mid new → PassesTime (state mid) (state new)
+  pub of_run : (cmd : Cmd) (result : Result Reply Refusal) (mid new : S) → Runs tells state cmd result mid new → PassesTime (state mid) (state new)
   of_run Osync result mid new h = of_synced true Osync result mid new h
   of_run Dsync result mid new h = of_synced false Dsync result mid new h
   of_run Durable result mid new h = subst (λ s. PassesTime (state mid) (state s)) (sym h.1) (stays mid)

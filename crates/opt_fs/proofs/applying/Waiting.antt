@@ -34,7 +34,7 @@ module _ (k l : Bookkeeping) (moves : MovesPipeline k l) where
   pub same_places : commit_places l ≡ commit_places k
   same_places = ap₂ (λ (g : Geometry) (r : Running). record_places (payloads g r) (fresh_blocks g r)) moves.geom moves.running
 
-  fits_still : FitsRing k → FitsRing l
+  pub fits_still : FitsRing k → FitsRing l
   fits_still fits = omega (arith, fits, same_places, moves.free_places)
 
 needs_still : (s t : State) (f : Session) (cmd : Cmd) → MovesPipeline s.books t.books → (figures_on s f cmd).need ≤ length (reusable_blocks s.books) → (figures_on t f cmd).need ≤ length (reusable_blocks t.books)

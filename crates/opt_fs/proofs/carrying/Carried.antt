@@ -1,6 +1,6 @@
 -- A plan carried out: what becomes of the session, and of the bookkeeping.
 use Rattle.std.proofs.lemmas.Bool.{lt-ltb, ltb-true, ltb-false, cases_Bool}
-use Rattle.std.proofs.Common.{◌≡◌, ◌⊎◌, inl, inr, ℕ, ◌+◌, nat_lt, Bool, true, false, not, ◌&&◌, ◌||◌, IsTrue, List, ◌++◌, take, length, Ok, Err, sym, subst, ap, ap₂, ◌∙◌, arith}
+use Rattle.std.proofs.Common.{◌≡◌, ◌⊎◌, inl, inr, ℕ, ◌+◌, nat_lt, Bool, true, false, not, ◌&&◌, ◌||◌, IsTrue, List, ◌++◌, take, length, Ok, Err, refl, sym, subst, ap, ap₂, ◌∙◌, arith}
 use Rattle.opt_disk.specs.Disk.{writes_in}
 use Rattle.opt_geom.specs.Geometry.{Geometry, bitmap_blocks}
 use Rattle.opt_tree.specs.declared.command.Cmd.{Cmd}
@@ -18,13 +18,14 @@ use Rattle.opt_stands.specs.Maps.{IsMapOf}
 use Rattle.opt_stands.specs.Stands.{AreSound, IsTreeOf}
 use Rattle.opt_base.specs.Seal.{Blocks}
 use Rattle.opt_blocks.specs.Calls.{IsSound, MovesPipeline}
-use Rattle.opt_blocks.specs.Running.{Running, has}
+use Rattle.opt_blocks.specs.Running.{Running, Spare, has}
 use Rattle.opt_blocks.specs.State.{Bookkeeping, State, reusable_blocks}
 use Rattle.opt_blocks.specs.Crashes.{Advances}
 use Rattle.opt_blocks.specs.Effects.{LeavesDisk}
+use Rattle.opt_blocks.specs.Serving.{SameFreed}
 use Rattle.opt_files.specs.Calls.{files_in, places_in, places_of as blocks_of_node}
 use Rattle.opt_files.specs.Drafts.{DraftState}
-use Rattle.opt_files.specs.Effects.{LooksAndSettles}
+use Rattle.opt_files.specs.Effects.{LooksAndSettles, ServesAllOrNone}
 use Rattle.opt_dirs.specs.Directories.{inodes_in}
 use Rattle.opt_fs.specs.Changes.{IsCarriedOut, KeepsBlocks, ChangeRefused}
 use Rattle.opt_fs.specs.Commands.{RunsCommand, Carries, FindsBlocks, IsDone, Spends, SpendsNothing, figures_on, places_of, is_read_fault, is_disk_fault}
@@ -35,6 +36,7 @@ use Rattle.opt_fs.specs.declared.plan.Plan.{Plan}
 use Rattle.opt_fs.specs.declared.plan.Plan.TheVariants.{Answer, Change}
 use Rattle.opt_fs.proofs.Placing.{placed_same}
 use Rattle.opt_fs.proofs.carrying.Points.{points_stay}
+use Rattle.opt_fs.proofs.planning.Looking.{freed_alike}
 use Rattle.opt_fs.proofs.carrying.Staying.{session_stays, session_settles, between_stays}
 
 -- What a draft that is made leaves of the bookkeeping, and one that isn't.
@@ -147,13 +149,14 @@ kept_unspent tells s t u h kept = record {
 
 -- A command that takes nothing finds it and spends nothing.
 pub finds_nothing : (k l : Bookkeeping) (n : Figures) → n ≡ nothing → MovesPipeline k l → l ≡ k → IsSound l → FindsBlocks n.need k l
-finds_nothing k l n none moves books sound = record { moves = moves; rests = λ enough. books; enough = omega (arith, ap (λ (f : Figures). f.need) none); sound = sound }
+finds_nothing k l n none moves books sound = record { moves = moves; serves = inl (record { reusable = λ b at. ap (λ (x : Bookkeeping). x.reusable b) books; since = λ b at. ap (λ (x : Bookkeeping). x.since b) books }); rests = λ enough. books; enough = omega (arith, ap (λ (f : Figures). f.need) none); sound = sound }
 
 pub spends_nothing : (s t : State) (n : Figures) → n ≡ nothing → t.books ≡ s.books → t.map ≡ s.map → Spends s t.books t n
 spends_nothing s t n none books map = record {
   weight = omega (arith, ap (λ (b : Bookkeeping). b.running.weight) books, ap (λ (f : Figures). f.cost) none);
   held = omega (arith, ap (λ (b : Bookkeeping). b.running.held) books, ap (λ (f : Figures). f.freed) none);
   takeable = λ b. ap (λ (f : Figures). not (has (take f.need (reusable_blocks t.books)) b) && t.books.reusable b) {x = nothing} {y = n} (sym none);
+  since = λ b. refl;
   placed = placed_same (places_of s) (places_of t) (take n.need (reusable_blocks t.books)) (λ k. ap₂ (λ (g : Geometry) (m : Blocks). blocks_of_node g m k) (ap (λ (b : Bookkeeping). b.geom) books) map);
 }
 
@@ -167,6 +170,7 @@ module _ (tells : Bool) (cmd : Cmd) (start mid new : State) (costs : (bitmap : �
         weight = omega (arith, carried.weight, made.costs, ap (λ (r : Running). r.weight) looks.pipeline.running);
         held = omega (arith, finished.held, made.uses.freed_are, ap (λ (r : Running). r.held) looks.pipeline.running);
         takeable = λ b. carried.reusable b ∙ ap (λ (bs : List ℕ). not (has bs b) && mid.books.reusable b) made.uses.taken;
+        since = λ b. ap (λ (x : Bookkeeping). x.since b) carried.same;
         placed = λ k.
             let same : places_of new k ≡ places_in mid d k = ap (λ (g : Geometry). blocks_of_node g new.map k) (made_rests tells d cost mid new carried).geom ∙ finished.places k in
             subst (λ (ps : List ℕ). ps ≡ take (length ps) (places_of start k ++ take n.need (reusable_blocks mid.books))) (sym same) (made.uses.placed k);
@@ -190,7 +194,7 @@ module _ (tells : Bool) (cmd : Cmd) (start mid new : State) (costs : (bitmap : �
         };
         room = made.room;
         settled = mid.books;
-        finds = record { moves = looks.pipeline; rests = made.rests; enough = made.enough; sound = sound };
+        finds = record { moves = looks.pipeline; serves = looks.serves refl; rests = made.rests; enough = made.enough; sound = sound };
         runs = made.runs;
         spends = spends_so d cost f told looks made carried;
       }
@@ -203,7 +207,9 @@ module _ (tells : Bool) (cmd : Cmd) (start mid new : State) (costs : (bitmap : �
     refused = λ told. tt;
     kept = λ told. tt;
     unspent = tt;
-    quiet = λ told f h enough. (disk.crash told).log ∙ plans.quiet told f h enough;
+    serves = λ well. tt;
+    rests = λ told. tt;
+    quiet = λ told f h enough. (disk.crash told).log ∙ (plans.quiet told f h enough).1;
     runs = runs_behind tells start mid new plans.settles (made_rests tells d cost mid new carried) disk advances;
   }
 
@@ -222,9 +228,15 @@ carried_answer tells cmd start mid reply sound plans = record {
   refused = λ told. tt;
   kept = λ told. tt;
   unspent = tt;
-  quiet = plans.quiet;
+  serves = λ well. tt;
+  rests = λ told. tt;
+  quiet = λ told f h enough. (plans.quiet told f h enough).1;
   runs = runs_settled tells false false start mid plans.settles;
 }
+
+-- the same blocks wait where another one is made ready
+freed_still : (old new : Bookkeeping) (spare : Spare) → SameFreed old new → SameFreed old (record new { spare = spare })
+freed_still old new spare same = record { reusable = same.reusable; since = same.since }
 
 -- a draft that isn't made, since memory ran out: past its cost it never is where the blocks are observed
 pub carried_refusal : (tells : Bool) (cmd : Cmd) (start mid new : State) (d : DraftState) (cost first : ℕ) (why : Refusal) → Plans tells cmd (Ok (Change d cost first)) start mid → ChangeRefused mid.books d cost why → KeepsBlocks tells mid new
@@ -235,12 +247,18 @@ carried_refusal tells cmd start mid new d cost first why plans refused kept disk
   kept = λ told f h. session_stays mid new f plans.settles.stopped rest.geom (kept.map told) rest.point (ap (λ (b : Bookkeeping). b.running.weight) kept.books) (omega (arith, rest.floor))
       (session_settles tells false false start mid f plans.going told plans.settles h);
   unspent = kept_unspent tells start mid new plans.settles kept;
-  quiet = λ told f h enough. (disk.crash told).log ∙ plans.quiet told f h enough;
+  serves = λ well. subst (λ (k : Bookkeeping). ServesAllOrNone start.books k) (sym kept.books) (again (plans.settles.serves refl));
+  rests = λ told f h enough. subst (λ (k : Bookkeeping). SameFreed start.books k) (sym kept.books) (freed_still start.books mid.books new.books.spare (freed_alike start.books mid.books (plans.quiet told f h enough).0));
+  quiet = λ told f h enough. (disk.crash told).log ∙ (plans.quiet told f h enough).1;
   runs = counted refused (runs_behind tells start mid new plans.settles rest disk advances);
 }
   where
     rest : LeavesRest mid new
     rest = kept_rests tells mid new kept
+
+    again : ServesAllOrNone start.books mid.books → ServesAllOrNone start.books (record mid.books { spare = new.books.spare })
+    again (inl same) = inl (freed_still start.books mid.books new.books.spare same)
+    again (inr all) = inr (record { reusable = all.reusable; since = all.since })
 
     cut : {f : Session} → MakesTree cmd d cost start mid f → ChangeRefused mid.books d cost why → (why ≡ because.ReadFault) ⊎ (why ≡ because.NoMemory)
     cut made (inl none) = inr none
@@ -256,8 +274,10 @@ refused_plan tells cmd start mid why plans = record {
   done = λ told. tt;
   refused = λ told f h. plans.is told f h;
   kept = λ told f h. session_settles tells (plan_fails_reading {T = Plan} (Err why)) (plan_fails_settling {T = Plan} (Err why)) start mid f plans.going told plans.settles h;
+  serves = plans.settles.serves;
+  rests = λ told f h enough. freed_alike start.books mid.books (plans.quiet told f h enough).0;
   unspent = settled_unspent tells (plan_fails_reading {T = Plan} (Err why)) (plan_fails_settling {T = Plan} (Err why)) start mid plans.settles;
-  quiet = plans.quiet;
+  quiet = λ told f h enough. (plans.quiet told f h enough).1;
   runs = runs_settled tells (plan_fails_reading {T = Plan} (Err why)) (plan_fails_settling {T = Plan} (Err why)) start mid plans.settles;
 }
 

@@ -38,6 +38,7 @@ looks_more tells failed s t u first second = record {
     point = λ p m. iff_on (b.point p m) (a.point p m);
     left = λ n img. iff_on (b.left n img) (a.left n img);
     holds = λ img m. iff_on (b.holds img m) (a.holds img m);
+    sure = λ log p. iff_on (b.sure log p) (a.sure log p);
     issued = λ m. iff_on (b.issued m) (a.issued m);
     awaits = λ p n. iff_on (b.awaits p n) (a.awaits p n);
   };

@@ -17,7 +17,7 @@ use Rattle.opt_files.specs.Effects.{LooksAndSettles}
 use Rattle.opt_dirs.specs.Directories.{inodes_in}
 use Rattle.opt_fs.specs.declared.plan.Plan.TheVariants.{Change}
 use Rattle.opt_fs.specs.Changes.{IsWithinCost, Uses}
-use Rattle.opt_fs.specs.Commands.{figures_on, places_of, GrowsInRuns, IsQuiet, IsRefusedFor}
+use Rattle.opt_fs.specs.Commands.{figures_on, places_of, GrowsInRuns, IsCalm, IsRefusedFor}
 use Rattle.opt_fs.specs.Making.{AcceptsName, AddsName}
 use Rattle.opt_fs.specs.Plans.{Plans, MakesTree}
 use Rattle.opt_fs.specs.Refusals.{refusal_of}
@@ -53,8 +53,8 @@ module _ (old now : State) (f : Session) (cmd : Cmd) (dir count : ℕ) (h : Acce
   }
 
   -- it has no event where the directory's block may be taken
-  pub quiet_so : IsQuiet (growth (length h.slots)) old now → IsQuiet (figures_on old f cmd).need old now
-  quiet_so quiet = subst (λ n. IsQuiet n old now) (sym need_is) quiet
+  pub quiet_so : IsCalm (growth (length h.slots)) old now → IsCalm (figures_on old f cmd).need old now
+  quiet_so quiet = subst (λ n. IsCalm n old now) (sym need_is) quiet
 
   -- the directory couldn't grow
   pub refused_so : IsSound now.books → MovesPipeline old.books now.books → old.books.geom.n ≤ 1048576 → length (places_of old dir) ≤ 1048576 → (why : FileRefusal) → GrowthRefused (growth (length h.slots)) (places_of old dir) old.books now.books why
@@ -72,8 +72,8 @@ pub record Names (old now : State) (f : Session) (cmd : Cmd) (d : DraftState) (d
 
 -- The plans.
 module _ (tells : Bool) (cmd : Cmd) (s t : State) (dir count : ℕ) (v : Figures) (going : s.books.stopped ≡ false) (value : v ≡ adding (growth count)) (room : HasRoom s.books v) (accepts : IsTrue tells → (f : Session) → IsSession s f → AcceptsName s f cmd dir count)
-    (quiet : IsTrue tells → (slots : List Slot) → inodes s dir ≡ Some (ADir slots) → IsQuiet (growth (length slots)) s t) where
-  quiet_is : IsTrue tells → (f : Session) → IsSession s f → IsQuiet (figures_on s f cmd).need s t
+    (quiet : IsTrue tells → (slots : List Slot) → inodes s dir ≡ Some (ADir slots) → IsCalm (growth (length slots)) s t) where
+  quiet_is : IsTrue tells → (f : Session) → IsSession s f → IsCalm (figures_on s f cmd).need s t
   quiet_is told f h = let a = accepts told f h in quiet_so s t f cmd dir count a v value room (quiet told a.slots a.is_dir)
 
   pub named_plan : (d : DraftState) (first : ℕ) → LooksAndSettles tells false false s t → ((told : IsTrue tells) (f : Session) (h : IsSession s f) → Names s t f cmd d dir (accepts told f h).slots) → Plans tells cmd (Ok (Change d v.cost first)) s t

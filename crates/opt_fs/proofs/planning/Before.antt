@@ -9,6 +9,7 @@ use Rattle.opt_tree.specs.Figures.{Figures}
 use Rattle.opt_tree.specs.Step.{Session}
 use Rattle.opt_stands.specs.Inodes.{Inodes}
 use Rattle.opt_blocks.specs.Crashes.{Advances}
+use Rattle.opt_blocks.specs.Serving.{SameFreed}
 use Rattle.opt_blocks.specs.State.{Bookkeeping, State, reusable_blocks}
 use Rattle.opt_files.specs.Calls.{places_in}
 use Rattle.opt_files.specs.Drafts.{DraftState}
@@ -21,7 +22,7 @@ use Rattle.opt_fs.specs.Plans.{Plans, PlanIs, IsRight, plan_fails_reading, plan_
 use Rattle.opt_fs.specs.Sessions.{IsSession, inodes}
 use Rattle.opt_fs.specs.Space.{HasRoom, LacksRoom}
 use Rattle.opt_fs.proofs.carrying.Staying.{session_stays}
-use Rattle.opt_fs.proofs.planning.Looking.{settled_after}
+use Rattle.opt_fs.proofs.planning.Looking.{calm_on, looked_calmly, settled_after}
 
 -- two states with the same bookkeeping and the same blocks
 module _ (s t u : State) (f : Session) (cmd : Cmd) (books : t.books ≡ s.books) (map : t.map ≡ s.map) where
@@ -65,7 +66,7 @@ module _ (s t u : State) (f : Session) (cmd : Cmd) (books : t.books ≡ s.books)
   }
 
   refused_before : (why : Refusal) → IsRefusedFor t u f cmd why → IsRefusedFor s u f cmd why
-  refused_before why (inl room) = inl (record { accepted = room.accepted; lacks = lacks_before why room.lacks })
+  refused_before why (inl room) = inl (record { accepted = room.accepted; lacks = lacks_before why room.lacks; rests = subst (λ (b : Bookkeeping). SameFreed b u.books) books room.rests })
   refused_before why (inr (inl scattered)) = inr (inl (scattered_before why scattered))
   refused_before why (inr (inr (inl fails))) = inr (inr (inl (record {
     accepted = fails.accepted;
@@ -118,7 +119,7 @@ pub plans_behind : (tells : Bool) (cmd : Cmd) (result : Result Plan Refusal) (s 
 plans_behind tells cmd result s t u going looks advances plans = record {
   is = λ told f h. plan_before s t u f cmd looks.books (looks.map told) result (plans.is told f (still told f h));
   going = going;
-  quiet = λ told f h enough. plans.quiet told f (still told f h) (enough_before s t u f cmd looks.books (looks.map told) enough) ∙ (looks.crash told).log;
+  quiet = λ told f h enough. calm_on s t u (looked_calmly tells false s t looks told) (plans.quiet told f (still told f h) (enough_before s t u f cmd looks.books (looks.map told) enough));
   settles = settled_after tells (plan_fails_reading result) (plan_fails_settling result) s t u looks plans.settles advances;
 }
   where

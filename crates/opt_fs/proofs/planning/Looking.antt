@@ -17,10 +17,11 @@ use Rattle.opt_files.specs.declared.refusal.FileRefusal.TheVariants as file
 use Rattle.opt_files.specs.Calls.{GrowthRefused, LookRefused}
 use Rattle.opt_files.specs.Content.{fails_reading, fails_settling}
 use Rattle.opt_files.specs.Drafts.{DraftState}
-use Rattle.opt_files.specs.Effects.{LooksOnly, LooksAndSettles}
+use Rattle.opt_blocks.specs.Serving.{SameFreed}
+use Rattle.opt_files.specs.Effects.{LooksOnly, LooksAndSettles, ServesAllOrNone}
 use Rattle.opt_fs.specs.declared.plan.Plan.{Plan}
 use Rattle.opt_fs.specs.declared.plan.Plan.TheVariants.{Answer, Change}
-use Rattle.opt_fs.specs.Commands.{figures_on, IsCutShort, IsQuiet, IsRefusedFor, is_read_fault, is_disk_fault}
+use Rattle.opt_fs.specs.Commands.{figures_on, IsCalm, IsCutShort, IsRefusedFor, is_read_fault, is_disk_fault}
 use Rattle.opt_fs.specs.Plans.{Plans, MakesTree, plan_fails_reading, plan_fails_settling}
 use Rattle.opt_fs.specs.Refusals.{refusal_of}
 use Rattle.opt_fs.specs.Sessions.{IsSession, inodes}
@@ -57,6 +58,7 @@ still k l e = record {
 pub looked : (tells failed : Bool) (s t : State) → s.books.stopped ≡ false → LooksOnly tells failed s t → (IsTrue tells → Advances s t) → LooksAndSettles tells failed false s t
 looked tells failed s t going h advances = record {
   pipeline = still s.books t.books h.books;
+  serves = λ well. inl (record { reusable = λ b at. ap (λ (k : Bookkeeping). k.reusable b) h.books; since = λ b at. ap (λ (k : Bookkeeping). k.since b) h.books });
   read_faults = h.counts.read_faults;
   faults = h.counts.faults;
   stopped = ap (λ (b : Bookkeeping). b.stopped) h.books ∙ going;
@@ -71,6 +73,7 @@ looked tells failed s t going h advances = record {
 pub settled_after : (tells read_failed failed : Bool) (s t u : State) → LooksOnly tells false s t → LooksAndSettles tells read_failed failed t u → (IsTrue tells → Advances s u) → LooksAndSettles tells read_failed failed s u
 settled_after tells read_failed failed s t u first second advances = record {
   pipeline = subst (λ k. MovesPipeline k u.books) first.books second.pipeline;
+  serves = λ well. subst (λ (k : Bookkeeping). ServesAllOrNone k u.books) first.books (second.serves well);
   read_faults = second.read_faults ∙ ap (λ n. after_call read_failed n) first.counts.read_faults;
   faults = second.faults ∙ ap (λ n. after_call failed n) first.counts.faults;
   stopped = second.stopped;
@@ -85,6 +88,7 @@ settled_after tells read_failed failed s t u first second advances = record {
 pub looked_after : (tells read_failed : Bool) (s t u : State) → LooksAndSettles tells false false s t → LooksOnly tells read_failed t u → (IsTrue tells → Advances s u) → LooksAndSettles tells read_failed false s u
 looked_after tells read_failed s t u first second advances = record {
   pipeline = subst (λ k. MovesPipeline s.books k) (sym second.books) first.pipeline;
+  serves = λ well. subst (λ (k : Bookkeeping). ServesAllOrNone s.books k) (sym second.books) (first.serves refl);
   read_faults = second.counts.read_faults ∙ ap (λ n. after_call read_failed n) first.read_faults;
   faults = second.counts.faults ∙ first.faults;
   stopped = ap (λ (b : Bookkeeping). b.stopped) second.books ∙ first.stopped;
@@ -95,9 +99,20 @@ looked_after tells read_failed s t u first second advances = record {
   writes = λ told. omega (arith, ap writes_in (second.crash told).log, ap (λ (b : Bookkeeping). b.owed) second.books, first.writes told);
 }
 
+-- the same blocks wait where the bookkeeping is the same
+pub freed_alike : (old new : Bookkeeping) → new ≡ old → SameFreed old new
+freed_alike old new e = record { reusable = λ b at. ap (λ (k : Bookkeeping). k.reusable b) e; since = λ b at. ap (λ (k : Bookkeeping). k.since b) e }
+
 -- what was only read has no event, whatever is needed
-pub looked_quietly : (tells failed : Bool) (s t : State) (need : ℕ) → LooksOnly tells failed s t → IsTrue tells → IsQuiet need s t
-looked_quietly tells failed s t need h told enough = (h.crash told).log
+pub looked_calmly : (tells failed : Bool) (s t : State) → LooksOnly tells failed s t → IsTrue tells → (t.books ≡ s.books) × (t.crash.log ≡ s.crash.log)
+looked_calmly tells failed s t h told = (h.books, (h.crash told).log)
+
+pub looked_quietly : (tells failed : Bool) (s t : State) (need : ℕ) → LooksOnly tells failed s t → IsTrue tells → IsCalm need s t
+looked_quietly tells failed s t need h told enough = looked_calmly tells failed s t h told
+
+-- one behind the other
+pub calm_on : (s t u : State) → (t.books ≡ s.books) × (t.crash.log ≡ s.crash.log) → (u.books ≡ t.books) × (u.crash.log ≡ t.crash.log) → (u.books ≡ s.books) × (u.crash.log ≡ s.crash.log)
+calm_on s t u one two = (two.0 ∙ one.0, two.1 ∙ one.1)
 
 -- a refusal of a call on files fails a plan by a read, or by another call of the disk, where it does so itself
 fails_so : (why : FileRefusal) → plan_fails_reading {T = Plan} (Err (refusal_of why)) ≡ fails_reading {T = Plan} (Err why)
@@ -116,7 +131,7 @@ settles_so file.NoMemory = refl
 
 -- a plan whose file or directory couldn't grow
 pub growth_plan : (tells : Bool) (cmd : Cmd) (s t : State) (why : FileRefusal) → s.books.stopped ≡ false → (IsTrue tells → (f : Session) → IsSession s f → IsRefusedFor s t f cmd (refusal_of why))
-    → (IsTrue tells → (f : Session) → IsSession s f → IsQuiet (figures_on s f cmd).need s t)
+    → (IsTrue tells → (f : Session) → IsSession s f → IsCalm (figures_on s f cmd).need s t)
     → LooksAndSettles tells (fails_reading {T = Plan} (Err why)) (fails_settling {T = Plan} (Err why)) s t → Plans tells cmd (Err (refusal_of why)) s t
 growth_plan tells cmd s t why going is quiet settles = record {
   is = is;
@@ -207,7 +222,7 @@ pub full_plan : (tells : Bool) (cmd : Cmd) (s t : State) (n : Figures) (why : Re
     → (IsTrue tells → (f : Session) → IsSession s f → (refusal f.limit f.tree cmd ≡ None) × (figures_on s f cmd ≡ n)) → LooksOnly tells false s t → (IsTrue tells → Advances s t) → Plans tells cmd (Err why) s t
 full_plan tells cmd s t n why going lacks is looks advances =
     room_plan tells cmd s t why going (lacks_quietly s.books n why lacks).0 (lacks_quietly s.books n why lacks).1
-    (λ told f h. let a = is told f h in inl (record { accepted = a.0; lacks = subst (λ (m : Figures). LacksRoom s.books m why) (sym a.1) lacks })) looks advances
+    (λ told f h. let a = is told f h in inl (record { accepted = a.0; lacks = subst (λ (m : Figures). LacksRoom s.books m why) (sym a.1) lacks; rests = freed_alike s.books t.books looks.books })) looks advances
 
 -- a look that was refused says nothing of growth
 pub cut_growth : (n : ℕ) (places : List ℕ) (old new : Bookkeeping) (why : FileRefusal) → LookRefused why → GrowthRefused n places old new why

@@ -34,7 +34,7 @@ module _ {S : Type 0} (tells : Bool) (state : S → State) (known : Known tells 
   in_room : (P : ℕ → ℕ → Type 0) (s : S) (f : Session) → IsSession (state s) f → P (left_of (state s).books) (state s).books.room → P (left_in (state s).books.geom f (room_of (state s))) (most_weight (state s).books.geom)
   in_room P s f h x = subst (λ n. P n (most_weight (state s).books.geom)) (left_is s f h) (subst (λ n. P (left_of (state s).books) n) (known.sound s).room x)
 
-  fits_in : (s : S) (f : Session) (n : Figures) → IsSession (state s) f → HasRoom (state s).books n → FitsIn (left_in (state s).books.geom f (room_of (state s))) (state s).books.running.weight (most_weight (state s).books.geom) n
+  pub fits_in : (s : S) (f : Session) (n : Figures) → IsSession (state s) f → HasRoom (state s).books n → FitsIn (left_in (state s).books.geom f (room_of (state s))) (state s).books.running.weight (most_weight (state s).books.geom) n
   fits_in s f n h room = in_room (λ left most. FitsIn left (state s).books.running.weight most n) s f h room
 
   lacks_in : (s : S) (f : Session) (n : Figures) (why : Refusal) → IsSession (state s) f → LacksRoom (state s).books n why
@@ -72,7 +72,7 @@ module _ {S : Type 0} (tells : Bool) (state : S → State) (known : Known tells 
   }
 
   -- which came back
-  settled_back : (f : Session) (cmd : Cmd) (reply : Reply) (old new : S) → IsSession (state old) f → (d : IsDone (state old) (state new) f cmd reply) → ComesBack (state old).books.geom f (room_of (state old)) (room_with (state old) d.settled)
+  pub settled_back : (f : Session) (cmd : Cmd) (reply : Reply) (old new : S) → IsSession (state old) f → (d : IsDone (state old) (state new) f cmd reply) → ComesBack (state old).books.geom f (room_of (state old)) (room_with (state old) d.settled)
   settled_back f cmd reply old new h d =
       let moves = d.finds.moves in
       record {
@@ -112,37 +112,42 @@ module _ {S : Type 0} (tells : Bool) (state : S → State) (known : Known tells 
   refused_for f cmd why old new h (inr (inr (inr (inl reading)))) = inr (inr reading)
   refused_for f cmd why old new h (inr (inr (inr (inr memory)))) = inl (inr (inr memory))
 
-  -- A command that isn't a sync, over any blocks: in a room that came back.
+  -- A command that isn't a sync, over any blocks, is done or refused in a room.
+  abbrev pub EndsOver : Session → Cmd → Reply → S → Session → S → Room → Type 0
+  EndsOver f cmd reply old next new r =
+      (IsDoneIn (state old).books.geom f r cmd reply next (room_of (state new)) ⊎ RefusesIn (IsRefusedIn (state old).books.geom f r cmd) f r reply next (room_of (state new)))
+      ⊎ RefusesIn (λ why. (why ≡ because.DiskFault) ⊎ ((is_on_tree cmd ≡ true) × (why ≡ because.ReadFault))) f r reply next (room_of (state new))
+
+  module _ (f : Session) (cmd : Cmd) (why : Refusal) (old new : S) (on_tree : is_on_tree cmd ≡ true) (h : IsSession (state old) f) (carries : Carries tells cmd (Err why) (state old) (state new)) where
+    -- refused, the room that it leaves came back
+    pub refused_back : ComesBack (state old).books.geom f (room_of (state old)) (room_of (state new))
+    refused_back = brings_back tells state known old new f (carries.kept known.told f h) carries.runs.geom (carries.unspent.map known.told) carries.unspent.running carries.unspent.takeable
+
+    -- in which it is refused
+    pub refused_over : EndsOver f cmd (reply_for (Err why)) old f new (room_of (state new))
+    refused_over = by (refused_for f cmd why old new h (carries.refused known.told f h))
+      where
+        -- that room has the transaction and the nodes' blocks as they were
+        same : room_with (state old) (state new).books ≡ room_of (state new)
+        same = rooms (room_with (state old) (state new).books) (room_of (state new)) (sym refused_back.weight) (sym refused_back.held) refl (sym refused_back.keeps.places)
+
+        by : IsRefusedIn (state old).books.geom f (room_with (state old) (state new).books) cmd why ⊎ ((why ≡ because.DiskFault) ⊎ (why ≡ because.ReadFault)) → EndsOver f cmd (reply_for (Err why)) old f new (room_of (state new))
+        by (inl own) = inl (inr (why, subst (λ (r : Room). IsRefusedIn (state old).books.geom f r cmd why) same own, refl, refl, refl))
+        by (inr (inl disk)) = inr (why, inl disk, refl, refl, refl)
+        by (inr (inr reading)) = inr (why, inr (on_tree, reading), refl, refl, refl)
+
+  -- so it is in a room that came back
   pub carried_over : (f : Session) (cmd : Cmd) (result : Result Reply Refusal) (old new : S) → is_on_tree cmd ≡ true → IsSession (state old) f → Carries tells cmd result (state old) (state new)
-      → LeavesSession state old new (λ next. (back : Room) × ComesBack (state old).books.geom f (room_of (state old)) back
-      × ((IsDoneIn (state old).books.geom f back cmd (reply_for result) next (room_of (state new)) ⊎ RefusesIn (IsRefusedIn (state old).books.geom f back cmd) f back (reply_for result) next (room_of (state new)))
-      ⊎ RefusesIn (λ why. (why ≡ because.DiskFault) ⊎ ((is_on_tree cmd ≡ true) × (why ≡ because.ReadFault))) f back (reply_for result) next (room_of (state new))))
+      → LeavesSession state old new (λ next. (back : Room) × ComesBack (state old).books.geom f (room_of (state old)) back × EndsOver f cmd (reply_for result) old next new back)
   carried_over f cmd (Ok reply) old new on_tree h carries =
       let d = carries.done known.told f h in
       ((step f cmd).0, d.session, carries.runs.geom, (room_with (state old) d.settled, settled_back f cmd reply old new h d, inl (inl (done_in f cmd reply old new h carries.runs.geom d))))
   carried_over f cmd (Err why) old new on_tree h carries = (
     f,
-    kept,
+    carries.kept known.told f h,
     carries.runs.geom,
-    (room_of (state new), back, by (refused_for f cmd why old new h (carries.refused known.told f h))),
+    (room_of (state new), refused_back f cmd why old new on_tree h carries, refused_over f cmd why old new on_tree h carries),
   )
-    where
-      kept : IsSession (state new) f
-      kept = carries.kept known.told f h
-
-      back : ComesBack (state old).books.geom f (room_of (state old)) (room_of (state new))
-      back = brings_back tells state known old new f kept carries.runs.geom (carries.unspent.map known.told) carries.unspent.running carries.unspent.takeable
-
-      -- the room that it leaves has the transaction and the nodes' blocks as they were
-      same : room_with (state old) (state new).books ≡ room_of (state new)
-      same = rooms (room_with (state old) (state new).books) (room_of (state new)) (sym back.weight) (sym back.held) refl (sym back.keeps.places)
-
-      by : IsRefusedIn (state old).books.geom f (room_with (state old) (state new).books) cmd why ⊎ ((why ≡ because.DiskFault) ⊎ (why ≡ because.ReadFault))
-          → (IsDoneIn (state old).books.geom f (room_of (state new)) cmd (reply_for (Err why)) f (room_of (state new)) ⊎ RefusesIn (IsRefusedIn (state old).books.geom f (room_of (state new)) cmd) f (room_of (state new)) (reply_for (Err why)) f (room_of (state new)))
-          ⊎ RefusesIn (λ why. (why ≡ because.DiskFault) ⊎ ((is_on_tree cmd ≡ true) × (why ≡ because.ReadFault))) f (room_of (state new)) (reply_for (Err why)) f (room_of (state new))
-      by (inl own) = inl (inr (why, subst (λ (r : Room). IsRefusedIn (state old).books.geom f r cmd why) same own, refl, refl, refl))
-      by (inr (inl disk)) = inr (why, inl disk, refl, refl, refl)
-      by (inr (inr reading)) = inr (why, inr (on_tree, reading), refl, refl, refl)
 
 -- What is known of blocks that lie in memory.
 pub record InMemory {S : Type 0} (tells : Bool) (state : S → State) : Type 0 where

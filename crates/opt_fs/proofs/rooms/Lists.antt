@@ -56,7 +56,7 @@ none_kept a zero = refl
 none_kept a (suc n) = none_kept (a + 1) n
 
 -- a number of the range is among those that pass where it passes
-kept_where : (p : ℕ → Bool) (a n b : ℕ) → a ≤ b → b < a + n → has (filter p (range_with_len a n)) b ≡ p b
+pub kept_where : (p : ℕ → Bool) (a n b : ℕ) → a ≤ b → b < a + n → has (filter p (range_with_len a n)) b ≡ p b
 kept_where p a n b from below = by (cases_Bool (p b)) (cases_Bool (has (filter p (range_with_len a n)) b))
   where
     by : (p b ≡ true) ⊎ (p b ≡ false) → (has (filter p (range_with_len a n)) b ≡ true) ⊎ (has (filter p (range_with_len a n)) b ≡ false) → has (filter p (range_with_len a n)) b ≡ p b

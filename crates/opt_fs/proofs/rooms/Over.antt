@@ -27,6 +27,10 @@ use Rattle.opt_fs.proofs.rooms.Known.{Known, LeavesSession, back_again, back_at_
 abbrev pub AnswersBack : {S : Type 0} → (S → State) → Session → Cmd → Reply → S → S → Type 0
 AnswersBack state f cmd reply old new = LeavesSession state old new (λ next. (back : Room) × ComesBack (state old).books.geom f (room_of (state old)) back × AnswersOver (state old).books.geom f back cmd reply next (room_of (state new)))
 
+-- and behind its tick
+abbrev pub BeginsDisk : {S : Type 0} → (S → State) → Session → Cmd → Reply → S → S → Type 0
+BeginsDisk state f cmd reply old new = LeavesSession state old new (λ next. BeginsOver (state old).books.geom f (room_of (state old)) cmd reply next (room_of (state new)))
+
 -- or any command
 abbrev pub AnswersDisk : {S : Type 0} → (S → State) → Session → Cmd → Reply → S → S → Type 0
 AnswersDisk state f cmd reply old new = LeavesSession state old new (λ next. AnswersOn (state old).books.geom f (room_of (state old)) cmd reply next (room_of (state new)))
@@ -89,11 +93,11 @@ held_after r = by (cases_Bool (r.weight == 0))
 
 module _ {S : Type 0} (tells : Bool) (state : S → State) (known : Known tells state) where
   -- a session's room came back to itself
-  itself : (f : Session) (s : S) → IsSession (state s) f → ComesBack (state s).books.geom f (room_of (state s)) (room_of (state s))
+  pub itself : (f : Session) (s : S) → IsSession (state s) f → ComesBack (state s).books.geom f (room_of (state s)) (room_of (state s))
   itself f s h = back_at_once (state s).books.geom f (room_of (state s)) (room_is tells state known s f h)
 
   -- a sync
-  synced_over : (orders : Bool) (f : Session) (cmd : Cmd) (result : Result Reply Refusal) (old new : S) → IsSession (state old) f → SyncsSession tells orders cmd result (state old) (state new)
+  pub synced_over : (orders : Bool) (f : Session) (cmd : Cmd) (result : Result Reply Refusal) (old new : S) → IsSession (state old) f → SyncsSession tells orders cmd result (state old) (state new)
       → LeavesSession state old new (λ next. SyncsOver f (room_of (state old)) cmd (reply_for result) next (room_of (state new)))
   synced_over orders f cmd (Ok reply) old new h syncs =
       let d = syncs.done known.told f h in
@@ -145,49 +149,49 @@ module _ {S : Type 0} (tells : Bool) (state : S → State) (known : Known tells 
     run_over Bad good ran = absurd (good refl)
 
   -- a tick brings the room back
-  tick_back : (failed : Bool) (f : Session) (old mid : S) → Ticks tells failed (state old) (state mid) → IsSession (state mid) f → ComesBack (state old).books.geom f (room_of (state old)) (room_of (state mid))
+  pub tick_back : (failed : Bool) (f : Session) (old mid : S) → Ticks tells failed (state old) (state mid) → IsSession (state mid) f → ComesBack (state old).books.geom f (room_of (state old)) (room_of (state mid))
   tick_back failed f old mid ticks h = brings_back tells state known old mid f h ticks.moves.pipeline.geom (ticks.moves.map known.told) ticks.moves.pipeline.running ticks.moves.pipeline.reusable
 
   -- behind it a command begins
-  behind_tick : (f : Session) (cmd : Cmd) (reply : Reply) (old mid new : S) → cmd ≢ Bad → Ticks tells false (state old) (state mid) → IsSession (state mid) f → AnswersBack state f cmd reply mid new → AnswersDisk state f cmd reply old new
-  behind_tick f cmd reply old mid new good ticks h x = (
+  behind_tick : (f : Session) (cmd : Cmd) (reply : Reply) (old mid new : S) → Ticks tells false (state old) (state mid) → IsSession (state mid) f → AnswersBack state f cmd reply mid new → BeginsDisk state f cmd reply old new
+  behind_tick f cmd reply old mid new ticks h x = (
     x.0,
     x.1,
     x.2 ∙ geom,
-    answers_on (state old).books.geom f (room_of (state old)) cmd reply x.0 (room_of (state new)) good (inr (record {
+    record {
       back = x.3.0;
       comes_back = back_again (state old).books.geom f (room_of (state old)) (room_of (state mid)) x.3.0 (tick_back false f old mid ticks h) (subst (λ (g : Geometry). ComesBack g f (room_of (state mid)) x.3.0) geom x.3.1);
       answers = subst (λ (g : Geometry). AnswersOver g f x.3.0 cmd reply x.0 (room_of (state new))) geom x.3.2;
       is_room = subst (λ (g : Geometry). IsRoomOf g x.0 (room_of (state new))) (x.2 ∙ geom) (room_is tells state known new x.0 x.1);
-    })),
+    },
   )
     where
       geom : (state mid).books.geom ≡ (state old).books.geom
       geom = ticks.moves.pipeline.geom
 
   -- a command that began
-  begun_over : (f : Session) (cmd : Cmd) (reply : Reply) (old new : S) → cmd ≢ Bad → (state old).books.stopped ≡ false → IsSession (state old) f → Began tells state cmd reply old new → AnswersDisk state f cmd reply old new
+  pub begun_over : (f : Session) (cmd : Cmd) (reply : Reply) (old new : S) → cmd ≢ Bad → (state old).books.stopped ≡ false → IsSession (state old) f → Began tells state cmd reply old new → BeginsDisk state f cmd reply old new
   begun_over f cmd reply old new good going h began = by began.ran
     where
-      by : (Ticks tells true (state old) (state new) × (began.result ≡ Err because.DiskFault)) ⊎ (Ticks tells false (state old) (state began.mid) × Runs tells state cmd began.result began.mid new) → AnswersDisk state f cmd reply old new
+      by : (Ticks tells true (state old) (state new) × (began.result ≡ Err because.DiskFault)) ⊎ (Ticks tells false (state old) (state began.mid) × Runs tells state cmd began.result began.mid new) → BeginsDisk state f cmd reply old new
       by (inl failed) =
           let same = session_ticks tells true (state old) (state new) failed.0 f going known.told h in
           let back = tick_back true f old new failed.0 same in
-          subst (λ r. AnswersDisk state f cmd r old new) (sym (began.is ∙ ap reply_for failed.1)) (
+          subst (λ r. BeginsDisk state f cmd r old new) (sym (began.is ∙ ap reply_for failed.1)) (
             f,
             same,
             failed.0.moves.pipeline.geom,
-            answers_on (state old).books.geom f (room_of (state old)) cmd (Refused because.DiskFault) f (room_of (state new)) good (inr (record {
+            record {
               back = room_of (state new);
               comes_back = back;
               answers = tick_failed (state old).books.geom f (room_of (state new)) cmd good;
               is_room = back.is_room;
-            })),
+            },
           )
       by (inr ran) =
           let same = session_ticks tells false (state old) (state began.mid) ran.0 f going known.told h in
-          subst (λ r. AnswersDisk state f cmd r old new) (sym began.is)
-          (behind_tick f cmd (reply_for began.result) old began.mid new good ran.0 same (run_over f began.result began.mid new ran.0.moves.disk.stopped same cmd good ran.1))
+          subst (λ r. BeginsDisk state f cmd r old new) (sym began.is)
+          (behind_tick f cmd (reply_for began.result) old began.mid new ran.0 same (run_over f began.result began.mid new ran.0.moves.disk.stopped same cmd good ran.1))
 
   -- a command that is refused at once
   at_once : (f : Session) (cmd : Cmd) (reply : Reply) (why : Refusal) (old new : S) → cmd ≢ Bad → (why ≡ because.Stopped) ⊎ (why ≡ because.Spent) → IsSession (state old) f → (reply ≡ Refused why) × (new ≡ old) → AnswersDisk state f cmd reply old new
@@ -205,7 +209,9 @@ module _ {S : Type 0} (tells : Bool) (state : S → State) (known : Known tells 
       may : cmd ≢ Bad → ((state old).books.stopped ≡ true) ⊎ ((state old).books.stopped ≡ false) → (is_spent (state old).books ≡ true) ⊎ (is_spent (state old).books ≡ false) → AnswersDisk state f cmd reply old new
       may good (inl stopped) other = at_once f cmd reply because.Stopped old new good (inl refl) h (applies.stopped good stopped)
       may good (inr going) (inl spent) = at_once f cmd reply because.Spent old new good (inr refl) h (applies.spent good going spent)
-      may good (inr going) (inr left) = begun_over f cmd reply old new good going h (applies.began good going left)
+      may good (inr going) (inr left) =
+          let x = begun_over f cmd reply old new good going h (applies.began good going left) in
+          (x.0, x.1, x.2, answers_on (state old).books.geom f (room_of (state old)) cmd reply x.0 (room_of (state new)) good (inr x.3))
 
       by : (cmd ≡ Bad) ⊎ (cmd ≢ Bad) → AnswersDisk state f cmd reply old new
       by (inl bad) = subst (λ c. AnswersDisk state f c reply old new) (sym bad) (bad_in state f reply old new h (applies.bad bad))

@@ -13,6 +13,7 @@ use Rattle.opt_tree.specs.Step.{Session, step, next_point, osync}
 use Rattle.opt_blocks.specs.Running.{Running, nothing_running}
 use Rattle.opt_blocks.specs.State.{Bookkeeping, State}
 use Rattle.opt_blocks.specs.Calls.{if_changed, IsAfterSync, OnNoMemory}
+use Rattle.opt_blocks.specs.Serving.{EndsFrees}
 use Rattle.opt_blocks.specs.Crashes.{HearsRecords}
 use Rattle.opt_blocks.specs.Effects.{FitsRing, Syncs}
 use Rattle.opt_blocks.specs.declared.refusals.SyncRefusal.{SyncRefusal}
@@ -140,6 +141,7 @@ refused_session tells orders cmd s t sync.DiskFault going syncs idle waits = rec
   refused = inl refl;
   unspent = λ none. absurd (no_memory_fault (Err because.DiskFault) refl none);
   ends = tt;
+  frees = λ told. tt;
   takeable = syncs.after.reusable;
   disk = syncs.disk;
   geom = syncs.after.geom;
@@ -162,6 +164,7 @@ refused_session tells orders cmd s t sync.NoMemory going syncs idle waits = reco
   refused = inr refl;
   unspent = λ none. (syncs.none.books, some_weighed s.books.running.weight idle);
   ends = tt;
+  frees = λ told. tt;
   takeable = λ b may. ap (λ (k : Bookkeeping). k.reusable b) syncs.none.books ∙ may.free;
   disk = syncs.disk;
   geom = ap (λ (b : Bookkeeping). b.geom) syncs.none.books;
@@ -180,13 +183,14 @@ refused_session tells orders cmd s t sync.NoMemory going syncs idle waits = reco
 }
 
 -- A sync that was done, as its session sees it.
-pub synced_session : (tells : Bool) (s t : State) (p : ℕ) → s.books.stopped ≡ false → Syncs tells (Ok p) s t → p < 2 ^ 64 → Waits tells true s t → SyncsSession tells true Osync (Ok (Synced p)) s t
-synced_session tells s t p going syncs low waits = record {
+pub synced_session : (tells : Bool) (s t : State) (p : ℕ) → s.books.stopped ≡ false → Syncs tells (Ok p) s t → p < 2 ^ 64 → Waits tells true s t → (IsTrue tells → EndsFrees s t) → SyncsSession tells true Osync (Ok (Synced p)) s t
+synced_session tells s t p going syncs low waits frees = record {
   done = λ told f h. synced tells s t f p told going syncs low h;
   kept = λ told. tt;
   refused = tt;
   unspent = λ none. absurd (ok_err (Synced p) because.NoMemory none);
   ends = syncs.ends.running;
+  frees = frees;
   takeable = syncs.after.reusable;
   disk = syncs.disk;
   geom = syncs.after.geom;
@@ -204,13 +208,14 @@ synced_session tells s t p going syncs low waits = record {
   writes = syncs.writes;
 }
 
-pub dsynced_session : (tells : Bool) (s t : State) (p : ℕ) → s.books.stopped ≡ false → Syncs tells (Ok p) s t → p < 2 ^ 64 → t.books.floor ≡ t.books.point → Waits tells false s t → SyncsSession tells false Dsync (Ok (DurableAt p)) s t
-dsynced_session tells s t p going syncs low floor waits = record {
+pub dsynced_session : (tells : Bool) (s t : State) (p : ℕ) → s.books.stopped ≡ false → Syncs tells (Ok p) s t → p < 2 ^ 64 → t.books.floor ≡ t.books.point → Waits tells false s t → (IsTrue tells → EndsFrees s t) → SyncsSession tells false Dsync (Ok (DurableAt p)) s t
+dsynced_session tells s t p going syncs low floor waits frees = record {
   done = λ told f h. dsynced tells s t f p told going syncs low h floor syncs.disk.stopped;
   kept = λ told. tt;
   refused = tt;
   unspent = λ none. absurd (ok_err (DurableAt p) because.NoMemory none);
   ends = syncs.ends.running;
+  frees = frees;
   takeable = syncs.after.reusable;
   disk = syncs.disk;
   geom = syncs.after.geom;

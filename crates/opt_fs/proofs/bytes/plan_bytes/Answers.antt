@@ -86,7 +86,8 @@ returns-in-Ok-clause-plans g c = λ cmd path may. record {
       let need = need_is s t f cmd path c.args.offset c.args.number c.args.cost c.args.bytes.now x.0 c.write_at.new.self g.S.Blocks.tells false false h so (may.weighed told f h) map leads x.1 x.2 c.requires.some holds count c.touched_blocks_are_counted_by_division.ensures c.small_drafts_are_within_the_cost.ensures.writing in
       let looks = moved_to (λ d n. (x : FileNode) → files_in s d c.args.number ≡ Some x → growth (length x.bytes) (n + length c.args.bytes.now) ≤ length (reusable_blocks s.books) → LooksOnly g.S.Blocks.tells false s t)
       c.new-draft.result nothing_drafted c.from.result c.args.offset c.new-draft.ensures c.from.ensures (c.in-Ok.ensures.looks told) x.0 x.1 in
-      ((looks (omega (arith, enough, need))).crash told).log;
+      let looked = looks (omega (arith, enough, need)) in
+      (looked.books, (looked.crash told).log);
   settles = c.in-Ok.ensures.settles;
 }
 
@@ -122,5 +123,6 @@ returns-in-Err-clause-plans g c = λ cmd path may.
     let need = need_is s t f cmd path c.args.offset c.args.number c.args.cost c.args.bytes.now x.0 c.write_at.new.self g.S.Blocks.tells false false h so (may.weighed told f h) map leads x.1 x.2 c.requires.some holds count c.touched_blocks_are_counted_by_division.ensures c.small_drafts_are_within_the_cost.ensures.writing in
     let looks = moved_to (λ d n. (x : FileNode) → files_in s d c.args.number ≡ Some x → growth (length x.bytes) (n + length c.args.bytes.now) ≤ length (reusable_blocks s.books) → LooksOnly g.S.Blocks.tells (fails_reading {T = Plan} (Err why)) s t)
     c.new-draft.result nothing_drafted c.from.result c.args.offset c.new-draft.ensures c.from.ensures (c.in-Err.ensures.looks told) x.0 x.1 in
-    ((looks (omega (arith, enough, need))).crash told).log)
+    let looked = looks (omega (arith, enough, need)) in
+    (looked.books, (looked.crash told).log))
     c.in-Err.ensures.settles)

@@ -91,14 +91,17 @@ returns-in-Err-new_node-clause-settles g c =
 pub returns-in-Err-clause-quiet : goal.returns-in-Err-clause-quiet
 returns-in-Err-clause-quiet g c = λ told slots at enough.
     let s = g.S.Blocks.state c.args.blocks.now in
-    ((c.in-Err.ensures.looks told slots (subst (λ d. inodes_in s d c.args.dir ≡ Some (ADir slots)) (sym c.new-draft.ensures) at) enough).crash told).log
+    let looked = c.in-Err.ensures.looks told slots (subst (λ d. inodes_in s d c.args.dir ≡ Some (ADir slots)) (sym c.new-draft.ensures) at) enough in
+    (looked.books, (looked.crash told).log)
 
 pub returns-in-Ok-new_node-clause-quiet : goal.returns-in-Ok-new_node-clause-quiet
 returns-in-Ok-new_node-clause-quiet g c = λ told slots at enough.
     let s = g.S.Blocks.state c.args.blocks.now in
-    (c.in-Ok-new_node.ensures.looks.crash told).log ∙ ((c.in-Ok.ensures.looks told slots (subst (λ d. inodes_in s d c.args.dir ≡ Some (ADir slots)) (sym c.new-draft.ensures) at) enough).crash told).log
+    let looked = c.in-Ok.ensures.looks told slots (subst (λ d. inodes_in s d c.args.dir ≡ Some (ADir slots)) (sym c.new-draft.ensures) at) enough in
+    (c.in-Ok-new_node.ensures.looks.books ∙ looked.books, (c.in-Ok-new_node.ensures.looks.crash told).log ∙ (looked.crash told).log)
 
 pub returns-in-Err-new_node-clause-quiet : goal.returns-in-Err-new_node-clause-quiet
 returns-in-Err-new_node-clause-quiet g c = λ told slots at enough.
     let s = g.S.Blocks.state c.args.blocks.now in
-    (c.in-Err-new_node.ensures.looks.crash told).log ∙ ((c.in-Ok.ensures.looks told slots (subst (λ d. inodes_in s d c.args.dir ≡ Some (ADir slots)) (sym c.new-draft.ensures) at) enough).crash told).log
+    let looked = c.in-Ok.ensures.looks told slots (subst (λ d. inodes_in s d c.args.dir ≡ Some (ADir slots)) (sym c.new-draft.ensures) at) enough in
+    (c.in-Err-new_node.ensures.looks.books ∙ looked.books, (c.in-Err-new_node.ensures.looks.crash told).log ∙ (looked.crash told).log)

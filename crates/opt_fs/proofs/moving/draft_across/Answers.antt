@@ -117,16 +117,19 @@ pub returns-in-Err-clause-quiet : goal.returns-in-Err-clause-quiet
 returns-in-Err-clause-quiet g c = λ told count name may enough.
     let s = g.S.Blocks.state c.args.blocks.now in
     let at = ap (λ d. inodes_in s d c.args.into) c.new-draft.ensures ∙ may.into.dir_is in
-    ((c.in-Err.ensures.looks told may.into.slots at (subst (λ n. growth n ≤ length (reusable_blocks s.books)) may.into.many_are enough)).crash told).log
+    let looked = c.in-Err.ensures.looks told may.into.slots at (subst (λ n. growth n ≤ length (reusable_blocks s.books)) may.into.many_are enough) in
+    (looked.books, (looked.crash told).log)
 
 pub returns-in-Ok-take_slot-clause-quiet : goal.returns-in-Ok-take_slot-clause-quiet
 returns-in-Ok-take_slot-clause-quiet g c = λ told count name may enough.
     let s = g.S.Blocks.state c.args.blocks.now in
     let at = ap (λ d. inodes_in s d c.args.into) c.new-draft.ensures ∙ may.into.dir_is in
-    (c.in-Ok-take_slot.ensures.looks.crash told).log ∙ ((c.in-Ok.ensures.looks told may.into.slots at (subst (λ n. growth n ≤ length (reusable_blocks s.books)) may.into.many_are enough)).crash told).log
+    let looked = c.in-Ok.ensures.looks told may.into.slots at (subst (λ n. growth n ≤ length (reusable_blocks s.books)) may.into.many_are enough) in
+    (c.in-Ok-take_slot.ensures.looks.books ∙ looked.books, (c.in-Ok-take_slot.ensures.looks.crash told).log ∙ (looked.crash told).log)
 
 pub returns-in-Err-take_slot-clause-quiet : goal.returns-in-Err-take_slot-clause-quiet
 returns-in-Err-take_slot-clause-quiet g c = λ told count name may enough.
     let s = g.S.Blocks.state c.args.blocks.now in
     let at = ap (λ d. inodes_in s d c.args.into) c.new-draft.ensures ∙ may.into.dir_is in
-    (c.in-Err-take_slot.ensures.looks.crash told).log ∙ ((c.in-Ok.ensures.looks told may.into.slots at (subst (λ n. growth n ≤ length (reusable_blocks s.books)) may.into.many_are enough)).crash told).log
+    let looked = c.in-Ok.ensures.looks told may.into.slots at (subst (λ n. growth n ≤ length (reusable_blocks s.books)) may.into.many_are enough) in
+    (c.in-Err-take_slot.ensures.looks.books ∙ looked.books, (c.in-Err-take_slot.ensures.looks.crash told).log ∙ (looked.crash told).log)

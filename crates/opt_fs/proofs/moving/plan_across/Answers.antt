@@ -9,7 +9,7 @@ use Rattle.opt_figures.specs.Values.{value_of}
 use Rattle.opt_blocks.specs.Running.{Running}
 use Rattle.opt_blocks.specs.State.{reusable_blocks}
 use Rattle.opt_files.specs.Calls.{GrowthRefused}
-use Rattle.opt_fs.specs.Commands.{GrowsInRuns, IsQuiet, places_of}
+use Rattle.opt_fs.specs.Commands.{GrowsInRuns, IsCalm, places_of}
 use Rattle.opt_fs.specs.Plans.{Plans}
 use Rattle.opt_fs.specs.Sessions.{inodes}
 use Rattle.opt_fs.proofs.growing.Refused.{growth_refused}
@@ -73,7 +73,7 @@ returns-in-Ok-draft_across-clause-plans g c = λ from to move.
           let known = c.a_move_is_known.ensures.knows told from to source c.args.into c.args.count None c.args.other.now (move told) in
           let map = subst (λ l. IsMapOf l (inodes s) f.tree) (sym h.limit) (c.blocks_have_the_map_of_their_tree.ensures.map s.books.geom s.map f.tree h.tree) in
           let counted = across_counted s f from to source c.args.other.now map (move told).accepted c.the_map_gives_the_figures.ensures.figures c.args.into c.args.count known c.paths_lead_to_inodes.ensures.in_one c.requires.apart in
-          subst (λ n. IsQuiet n s now) (sym (ap (λ (n : Figures). n.need) counted)) (c.in-Ok-draft_across.ensures.quiet told c.args.count known.name (may_move_away s from to source c.args.into c.args.count c.args.other.now c.requires.apart known));
+          subst (λ n. IsCalm n s now) (sym (ap (λ (n : Figures). n.need) counted)) (c.in-Ok-draft_across.ensures.quiet told c.args.count known.name (may_move_away s from to source c.args.into c.args.count c.args.other.now c.requires.apart known));
       settles = settles;
     }
 
@@ -115,5 +115,5 @@ returns-in-Err-draft_across-clause-plans g c = λ from to move.
     let known = c.a_move_is_known.ensures.knows told from to source c.args.into c.args.count None c.args.other.now (move told) in
     let map = subst (λ l. IsMapOf l (inodes s) f.tree) (sym h.limit) (c.blocks_have_the_map_of_their_tree.ensures.map s.books.geom s.map f.tree h.tree) in
     let counted = across_counted s f from to source c.args.other.now map (move told).accepted c.the_map_gives_the_figures.ensures.figures c.args.into c.args.count known c.paths_lead_to_inodes.ensures.in_one c.requires.apart in
-    subst (λ n. IsQuiet n s now) (sym (ap (λ (n : Figures). n.need) counted)) (c.in-Err-draft_across.ensures.quiet told c.args.count known.name (may_move_away s from to source c.args.into c.args.count c.args.other.now c.requires.apart known)))
+    subst (λ n. IsCalm n s now) (sym (ap (λ (n : Figures). n.need) counted)) (c.in-Err-draft_across.ensures.quiet told c.args.count known.name (may_move_away s from to source c.args.into c.args.count c.args.other.now c.requires.apart known)))
     c.in-Err-draft_across.ensures.settles)

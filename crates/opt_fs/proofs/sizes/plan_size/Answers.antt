@@ -81,7 +81,8 @@ returns-in-Ok-clause-plans g c = λ path may. record {
       let need = need_is s t f path c.args.number c.args.size c.args.cost x.0 (may.weighed told f h) holds (may.other told x.0 x.1) in
       let looks = moved_to (λ d n. (x : FileNode) → files_in s d c.args.number ≡ Some x → growth (length x.bytes) n ≤ length (reusable_blocks s.books) → LooksOnly g.S.Blocks.tells false s t)
       c.new-draft.result nothing_drafted c.from.result c.args.size c.new-draft.ensures c.from.ensures (c.in-Ok.ensures.looks told) x.0 x.1 in
-      ((looks (omega (arith, enough, need))).crash told).log;
+      let looked = looks (omega (arith, enough, need)) in
+      (looked.books, (looked.crash told).log);
   settles = c.in-Ok.ensures.settles;
 }
 
@@ -114,5 +115,6 @@ returns-in-Err-clause-plans g c = λ path may.
     let need = need_is s t f path c.args.number c.args.size c.args.cost x.0 (may.weighed told f h) holds (may.other told x.0 x.1) in
     let looks = moved_to (λ d n. (x : FileNode) → files_in s d c.args.number ≡ Some x → growth (length x.bytes) n ≤ length (reusable_blocks s.books) → LooksOnly g.S.Blocks.tells (fails_reading {T = Plan} (Err why)) s t)
     c.new-draft.result nothing_drafted c.from.result c.args.size c.new-draft.ensures c.from.ensures (c.in-Err.ensures.looks told) x.0 x.1 in
-    ((looks (omega (arith, enough, need))).crash told).log)
+    let looked = looks (omega (arith, enough, need)) in
+    (looked.books, (looked.crash told).log))
     c.in-Err.ensures.settles)

@@ -11,7 +11,7 @@ returns-in-Ok-clause-syncs g c =
     let s = g.S.Blocks.state c.args.blocks.now in
     let t = g.S.Blocks.state c.osync.new.self in
     subst (λ (r : Reply). SyncsSession g.S.Blocks.tells true Osync (Ok r) s t) (sym c.synced.ensures.reply)
-    (synced_session g.S.Blocks.tells s t c.in-Ok.point c.requires.may.going c.in-Ok.ensures.syncs c.synced.ensures.low (orders_so g.S.Blocks.tells s t c.in-Ok.ensures.order c.in-Ok.ensures.writes))
+    (synced_session g.S.Blocks.tells s t c.in-Ok.point c.requires.may.going c.in-Ok.ensures.syncs c.synced.ensures.low (orders_so g.S.Blocks.tells s t c.in-Ok.ensures.order c.in-Ok.ensures.writes) c.in-Ok.ensures.frees)
 
 pub returns-in-Ok-clause-between : goal.returns-in-Ok-clause-between
 returns-in-Ok-clause-between g c =
