@@ -4,9 +4,9 @@
 
 use crate::format::is_right;
 use opt_base::Block;
-use opt_disk::{Disk, Event};
+use opt_disk::Disk;
 use opt_geom::Geom;
-use opt_memdisk::{Choice, DiskCall, Fail as Failing, Image, MemDisk};
+use opt_memdisk::{Choice, DiskCall, Fail as Failing, Image, Logged, MemDisk};
 use opt_mount::mount;
 use opt_store::{MkfsRefusal, mkfs};
 use std::alloc::Global;
@@ -50,7 +50,7 @@ fn settled(alloc: Global, disk: &MemDisk) -> Result<Image, Fail> {
 
 /// Whether this is event `i` of the formatting: 18 writes from block 0 on, the notices of tickets 1 to 18,
 /// five writes from block 18 on, the notices of 19 to 23, the write of block 0, and the notice of 24.
-fn is_wanted(i: u64, event: &Event) -> bool {
+fn is_wanted(i: u64, event: Logged<'_>) -> bool {
     let (first, begin, block) = match i {
         0..36 => (1, 0, 0),
         36..46 => (19, 36, 18),
@@ -63,13 +63,13 @@ fn is_wanted(i: u64, event: &Event) -> bool {
     };
     let place = i.saturating_sub(begin);
     match event {
-        Event::Wrote {
+        Logged::Wrote {
             ticket,
             block: b,
             ..
-        } => place < count && *ticket == first + place && u64::from(*b) == block + place,
-        Event::Lost { .. } => false,
-        Event::Noticed { ticket } => place >= count && *ticket == first + (place - count),
+        } => place < count && ticket == first + place && u64::from(b) == block + place,
+        Logged::Lost { .. } => false,
+        Logged::Noticed { ticket } => place >= count && ticket == first + (place - count),
     }
 }
 

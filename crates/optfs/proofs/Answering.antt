@@ -61,7 +61,7 @@ module _ {S : Type 0} (tells : Bool) (state : S → State) (told : IsTrue tells)
       by (inl none) = inl (applies.bad none).1
       by (inr meant) = by_stopped meant (cases_Bool (state old).books.stopped)
 
-  manner_stays : (state new).counts.ticks.manner ≡ (state old).counts.ticks.manner
+  pub manner_stays : (state new).counts.ticks.manner ≡ (state old).counts.ticks.manner
   manner_stays = by still_or_ticked
     where
       by : (new ≡ old) ⊎ Ticked tells (state old) (state new) → (state new).counts.ticks.manner ≡ (state old).counts.ticks.manner
@@ -95,7 +95,7 @@ module _ {S : Type 0} (tells : Bool) (state : S → State) (told : IsTrue tells)
       by meant run unspent (inr left) = (ticked meant run left).polled told
 
   -- a command that isn't answered as spent isn't one for which the numbers are used up
-  left_over : cmd ≢ Bad → (state old).books.stopped ≡ false → reply ≢ Refused Spent → is_spent (state old).books ≡ false
+  pub left_over : cmd ≢ Bad → (state old).books.stopped ≡ false → reply ≢ Refused Spent → is_spent (state old).books ≡ false
   left_over meant run unspent = by (cases_Bool (is_spent (state old).books))
     where
       by : (is_spent (state old).books ≡ true) ⊎ (is_spent (state old).books ≡ false) → is_spent (state old).books ≡ false

@@ -2,6 +2,8 @@ pub mod LineLemmas
 pub mod Entries
 pub mod EventLines
 pub mod Waiting
+mod Sureness
+pub mod Rooms
 pub mod Paces
 pub mod Answering
 pub mod Runs

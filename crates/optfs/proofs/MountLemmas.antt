@@ -1,5 +1,5 @@
 -- What comes of the mount of a disk that was just formatted, by what a mount, a store and a file system say of any disk.
-use Rattle.std.proofs.Common.{◌≡◌, inl, inr, ℕ, ◌+◌, ◌^◌, ◌<◌, ◌≤◌, max, Bool, true, IsTrue, List, [], ◌∷◌, ◌++◌, length, take, refl, sym, ap, ap₂, ◌∙◌, subst, arith}
+use Rattle.std.proofs.Common.{◌≡◌, ◌↔◌, inl, inr, ℕ, ◌+◌, ◌^◌, ◌<◌, ◌≤◌, max, Bool, true, IsTrue, List, [], ◌∷◌, ◌++◌, length, take, refl, sym, ap, ap₂, ◌∙◌, subst, arith}
 use Rattle.opt_base.specs.Seal.{Blocks, sha256}
 use Rattle.opt_disk.specs.declared.event.Event.{Event}
 use Rattle.opt_disk.specs.declared.event.Event.TheVariants.{Lost}
@@ -26,9 +26,10 @@ use Rattle.opt_store.specs.Refusal.{RefusalSays}
 use Rattle.opt_session.specs.Crashes.{LeavesPoints, IsCrashConsistent}
 use Rattle.opt_memdisk.specs.MemDisk.{MemDiskState, state_of as disk_state}
 use Rattle.optfs.specs.declared.disk.Behaviour.{Behaviour}
-use Rattle.optfs.specs.Behaving.{MountFails}
+use Rattle.optfs.specs.Behaving.{IsSureBy, MountFails}
 use Rattle.optfs.specs.Disks.{BeganFormatted, IsFormatted, IsFormattedDisk, HasFault, HoldsRoot, FailedToMount, setting_on}
 use Rattle.optfs.proofs.FormattedFound.{HasLaws, found_header, found_records, has_header, not_used_up, no_bad_bit}
+use Rattle.optfs.proofs.Sureness.{sure_by}
 
 -- what laws of other crates say of the formatted disk's live blocks, and of each image that has them
 pub record HasRoot (g : Geometry) : Type 0 where
@@ -174,6 +175,17 @@ module _ (g : Geometry) (root : HasRoot g) where
         let header = found_header g laws (settled_on d) settled_same from.found.run found in
         let records = found_records g laws (settled_on d) settled_same from.found.run found in
         subst (λ (n : ℕ). s.books.turns ≤ n) (ap₂ (λ (h : Header) (rs : List Record). max (h.turn + 2) (last_number h (length rs) + 1)) header records) from.most
+
+    -- and by its log points are sure
+    pub sure_of : (s : State) → GoesOnFrom d s → s.books.geom ≡ g → ((b : ℕ) → b < g.n → s.crash.base b ≡ formatted g b) → (front : List Event) (p : ℕ) → s.crash.sure front p ↔ ∥ IsSureBy g front p ∥₁
+    sure_of s from geom same front p =
+        let found = subst (λ (n : ℕ). IsFound n (settled_on d) from.found.run) is.began.size from.is_found.is_found in
+        let header = found_header g laws (settled_on d) settled_same from.found.run found in
+        let records = found_records g laws (settled_on d) settled_same from.found.run found in
+        let first : from.session.first ≡ 1 = from.first ∙ ap₂ (λ (h : Header) (rs : List Record). last_number h (length rs) + 1) header records in
+        let by = sure_by g (omega (arith, laws.limits.data_room)) from.session s.crash.base (from.geom ∙ geom) first same front p in
+        let was = from.sure front p in
+        (λ x. by.0 (was.0 x), λ x. was.1 (by.1 x))
 
     pub left_with : (unread faulty : Bool) (new : disk.State) → LeavesDisk true unread faulty d new → HoldsRoot g new
     left_with unread faulty new left = record { began = left_began unread faulty new left; images = left_images unread faulty new left }

@@ -115,5 +115,7 @@ module _ (g : Geometry) (s : State) (is : IsMounted g s) where
         opens = first_accepted s.counts.ticks.manner t.crash.log (subst (λ (es : List Event). WritesOne [] es) (sym crash.log) is.first) goes_now;
         turns = omega (arith, ap (λ (k : Bookkeeping). k.turns) looks.books, is.turns);
         free = ap (λ (k : Bookkeeping). k.free_places) looks.books ∙ is.begins.free_places;
+        since = λ b. ap (λ (k : Bookkeeping). k.since b) looks.books ∙ is.begins.since b;
+        sure = λ front p. let now = crash.sure front p in let was = is.sure front p in (λ x. was.0 (now.0 x), λ x. now.1 (was.1 x));
         may = told.awaits;
       }

@@ -1,5 +1,5 @@
 -- A run on a disk of some manner, with one command more: it went by the manner still.
-use Rattle.std.proofs.Common.{◌≡◌, ◌≢◌, ◌⊎◌, inl, inr, ⊎_elim, ℕ, zero, suc, ◌+◌, ◌*◌, ◌-◌, ◌^◌, ◌<◌, ◌≤◌, ◌||◌, Bool, true, false, List, [], ◌∷◌, ◌++◌, length, take, Some, unwrap_or, refl, sym, ap, ◌∙◌, subst, arith}
+use Rattle.std.proofs.Common.{◌≡◌, ◌≢◌, ◌↔◌, ◌⊎◌, inl, inr, ⊎_elim, ℕ, zero, suc, ◌+◌, ◌*◌, ◌-◌, ◌^◌, ◌<◌, ◌≤◌, ◌||◌, Bool, true, false, List, [], ◌∷◌, ◌++◌, length, take, Some, unwrap_or, refl, sym, ap, ◌∙◌, subst, arith}
 use Rattle.std.proofs.Math.Seq.{take-append_seam, take-length}
 use Rattle.std.proofs.lemmas.Bool.{cases_Bool, false≢true, leb-true}
 use Rattle.std.proofs.lemmas.List.{take-append-le, length-append}
@@ -21,8 +21,9 @@ use Rattle.opt_blocks.specs.State.{Bookkeeping, State}
 use Rattle.opt_session.specs.Histories.{HasNoFault}
 use Rattle.opt_fs.specs.Applying.{is_spent}
 use Rattle.opt_fs.specs.Sessions.{IsSession}
-use Rattle.optfs.specs.Behaving.{FindsPlaces, FindsRoom, HearsIn, KnowsUpTo, Pace, PacesBy, Span, StepsBy, Taken, between, is_fault, pace_at_first, taken_by}
+use Rattle.optfs.specs.Behaving.{AnswersBy, FindsPlaces, FindsRoom, HearsIn, KnowsUpTo, Pace, PacesBy, Span, StepsBy, Taken, between, is_fault, pace_at_first, taken_by}
 use Rattle.optfs.specs.Running.{KeepsTaken, PacedRun, StepsOn, pace_of}
+use Rattle.optfs.proofs.Rooms.{answered_longer}
 
 -- Lists with one element more.
 
@@ -91,9 +92,10 @@ module _ (g : Geometry) (m : Manner) (log more : List Event) where
   front k low = take-append-le k log more low
 
   steps_longer : (cmd : Cmd) (reply : Reply) (p q : Pace) → p.events ≤ length log → q.events ≤ length log → StepsBy g m log cmd reply p q → StepsBy g m (log ++ more) cmd reply p q
-  steps_longer cmd reply p q low low_next step = record {
+  steps_longer cmd reply p q low low_next step = let longer = answered_longer g m log more cmd reply p q low low_next step.room in record {
     over = step.over;
-    taken = step.taken;
+    room = longer.0;
+    taken = step.taken ∙ ap (λ (k : ℕ). taken_by g p.taken cmd reply (record { begun = k; mark = q.events })) longer.1;
     rests = step.rests;
     ticks = λ meant going unspent.
         subst (λ (es : List Event). PollsFirst m 64 p.polls es q.polls (take q.events (log ++ more))) (sym (front p.events low))
@@ -156,14 +158,15 @@ module _ (cmd : Cmd) (reply : Reply) (old new : State) (s : StepsOn cmd reply ol
     pub hears : cmd ≡ Dsync → old.books.stopped ≡ false → reply ≢ Refused because.Spent → FindsPlaces g t → old.counts.ticks.manner.waits_alone ≡ true → (p : Polled) → after_polls old.counts.ticks.manner 64 old.counts.ticks.polls old.crash.log ≡ Some p → HearsIn (t.spans ++ span ∷ []) p.log new.crash.log
     pub knows : (n : ℕ) → cmd ≡ Durable → reply ≡ replied.Known n → new.counts.ticks.manner.waits_alone ≡ true → KnowsUpTo t.spans new.crash.log n
 
-  step_now : (g : Geometry) (t : Taken) → Waits g t → (m : Manner) (f : Session) → IsSession old f → old.counts.ticks.manner ≡ m → StepsBy g m new.crash.log cmd reply (pace_of t old) (pace_of (taken_by g t cmd reply span) new)
-  step_now g t waits m f session is =
+  step_now : (g : Geometry) (t : Taken) → Waits g t → (m : Manner) (f : Session) → IsSession old f → old.counts.ticks.manner ≡ m → (late : Span) (room : AnswersBy g m new.crash.log cmd reply (pace_of t old) (pace_of (taken_by g t cmd reply late) new)) → late ≡ record { begun = room.behind; mark = length new.crash.log } → StepsBy g m new.crash.log cmd reply (pace_of t old) (pace_of (taken_by g t cmd reply late) new)
+  step_now g t waits m f session is late room span_is =
       let same : new.counts.ticks.manner ≡ m = s.manner ∙ is in
       let all : take (length new.crash.log) new.crash.log ≡ new.crash.log = take-length new.crash.log in
       let earlier : take (length old.crash.log) new.crash.log ≡ old.crash.log = ap (λ (es : List Event). take (length old.crash.log) es) grows.log ∙ take-append_seam old.crash.log grows.more in
       record {
         over = over_now;
-        taken = refl;
+        room = room;
+        taken = ap (taken_by g t cmd reply) span_is;
         rests = λ still. let r = s.rests still in (r.0, ap (λ (es : List Event). length es) r.1.0);
         ticks = λ meant run unspent.
             subst (λ (es : List Event). PollsFirst m 64 old.counts.ticks.polls es new.counts.ticks.polls (take (length new.crash.log) new.crash.log)) (sym earlier)
@@ -193,16 +196,17 @@ module _ (cmd : Cmd) (reply : Reply) (old new : State) (s : StepsOn cmd reply ol
       by (inr now) = absurd (omega (arith, few, now.1, turns, spent_far old.books (s.spent f session now.0)))
 
   pub paced_on : (g : Geometry) (m : Manner) (f : Session) (mounted : ℕ) (cmds : List Cmd) (marks : List ℕ) → IsSession old f → Ascend mounted marks (length old.crash.log) → (run : PacedRun g m mounted cmds replies marks old)
-      → Waits g run.taken → KeepsTaken g (cmds ++ cmd ∷ []) (replies ++ reply ∷ []) new (taken_by g run.taken cmd reply span) → PacedRun g m mounted (cmds ++ cmd ∷ []) (replies ++ reply ∷ []) (marks ++ length new.crash.log ∷ []) new
-  paced_on g m f mounted cmds marks session up run waits keeps = record {
+      → Waits g run.taken → (late : Span) (room : AnswersBy g m new.crash.log cmd reply (pace_of run.taken old) (pace_of (taken_by g run.taken cmd reply late) new)) → late ≡ record { begun = room.behind; mark = length new.crash.log } → ((front : List Event) (p : ℕ) → new.crash.sure front p ↔ old.crash.sure front p) → KeepsTaken g (cmds ++ cmd ∷ []) (replies ++ reply ∷ []) new (taken_by g run.taken cmd reply late) → PacedRun g m mounted (cmds ++ cmd ∷ []) (replies ++ reply ∷ []) (marks ++ length new.crash.log ∷ []) new
+  paced_on g m f mounted cmds marks session up run waits late room span_is sure keeps = record {
     manner = s.manner ∙ run.manner;
     writes = subst (λ (x : Manner). GoesBy x new.crash.log) (s.manner ∙ run.manner) s.writes;
-    taken = taken_by g run.taken cmd reply span;
+    taken = taken_by g run.taken cmd reply late;
     keeps = keeps;
     opens = run.opens;
+    sure = λ front p. let now = sure front p in let was = run.sure front p in (λ is. was.0 (now.0 is), λ is. now.1 (was.1 is));
     turns = omega (arith, s.turns, run.turns, length-append replies (reply ∷ []));
     unspent = unspent_on f session run.turns run.unspent;
-    paces = subst (λ (es : List Event). PacesBy g m es (pace_at_first g mounted) (cmds ++ cmd ∷ []) (replies ++ reply ∷ []) (marks ++ length new.crash.log ∷ []) (pace_of (taken_by g run.taken cmd reply span) new)) (sym grows.log)
-        (paces_longer g m old.crash.log grows.more cmd reply (length new.crash.log) (pace_of run.taken old) (pace_of (taken_by g run.taken cmd reply span) new) (pace_at_first g mounted) cmds replies marks up run.paces refl
-        (subst (λ (es : List Event). StepsBy g m es cmd reply (pace_of run.taken old) (pace_of (taken_by g run.taken cmd reply span) new)) grows.log (step_now g run.taken waits m f session run.manner)));
+    paces = subst (λ (es : List Event). PacesBy g m es (pace_at_first g mounted) (cmds ++ cmd ∷ []) (replies ++ reply ∷ []) (marks ++ length new.crash.log ∷ []) (pace_of (taken_by g run.taken cmd reply late) new)) (sym grows.log)
+        (paces_longer g m old.crash.log grows.more cmd reply (length new.crash.log) (pace_of run.taken old) (pace_of (taken_by g run.taken cmd reply late) new) (pace_at_first g mounted) cmds replies marks up run.paces refl
+        (subst (λ (es : List Event). StepsBy g m es cmd reply (pace_of run.taken old) (pace_of (taken_by g run.taken cmd reply late) new)) grows.log (step_now g run.taken waits m f session run.manner late room span_is)));
   }

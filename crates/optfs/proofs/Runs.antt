@@ -26,6 +26,7 @@ use Rattle.opt_tree.specs.declared.command.Reply.TheVariants.{Bad as NotUndersto
 use Rattle.opt_tree.specs.Step.{Session, start, session_on}
 use Rattle.opt_tree.specs.Tree.{Tree}
 use Rattle.opt_blocks.specs.State.{State}
+use Rattle.opt_fs.specs.Serving.{RoomOn, room_on}
 use Rattle.opt_fs.specs.DiskRoom.{AnswersOn, ComesBack, IsRoomOf, KeepsRoom, RunsOn}
 use Rattle.opt_fs.specs.Memory.{room_of}
 use Rattle.opt_fs.specs.Room.{Room, IsFirstRoom}
@@ -35,13 +36,14 @@ use Rattle.opt_session.specs.Ending.{HasRun, is_none, over_after, ending_reply, 
 use Rattle.opt_session.specs.Histories.{last_mark, session_after}
 use Rattle.opt_session.specs.Issued.{IssuesLast}
 use Rattle.optfs.specs.Disks.{IsOpened}
-use Rattle.optfs.specs.Behaving.{nothing_taken}
+use Rattle.optfs.specs.Behaving.{Span, nothing_taken}
 use Rattle.optfs.specs.Output.{Serves, ServesBy, Setting, says}
 use Rattle.optfs.specs.Running.{Ran, PacedRun, Records, GoesOnWith, RunLaws, KnownRun, IsAnswered, pace_of}
 use Rattle.optfs.proofs.Entries.{front_on, one_entry, first_line}
 use Rattle.optfs.proofs.MountLemmas.{honest_alike}
 use Rattle.optfs.proofs.Paces.{Waits, over_now, paced_on}
-use Rattle.optfs.proofs.Waiting.{calm_on, hears_on, keeps_at_first, keeps_on, knows_on}
+use Rattle.optfs.proofs.Rooms.{answered_by, room_first}
+use Rattle.optfs.proofs.Waiting.{calm_on, fits_ring, hears_on, keeps_at_first, keeps_on, knows_on}
 
 -- Runs joined.
 
@@ -320,8 +322,13 @@ records_on cmd reply old new a laws known lawful set past text r =
       hears = hears_on cmd reply old new a.waits a.grows g r.mounted past r.replies r.marks r.ran.served ran.served r.ran.budget.weight over r.paced.taken r.paced.keeps a.lawful.lawful;
       knows = knows_on cmd reply old new a.waits a.grows g r.mounted past r.replies r.marks r.ran.served ran.served r.ran.budget.weight over r.paced.taken r.paced.keeps;
     } in
-    let keeps = keeps_on cmd reply old new a.waits a.grows g r.mounted past r.replies r.marks r.ran.served ran.served r.ran.budget.weight over r.paced.taken r.paced.keeps answered.0 answers in
-    let paced = paced_on cmd reply old new a.steps a.grows r.replies r.ran.served.goes_on.ended ran.served.goes_on.ended ran.served.goes_on.going g set.manner r.ran.after r.mounted past r.marks r.ran.session r.ran.served.ascend r.paced waits keeps in
+    let f = session_after (start g.i) past r.replies in
+    let in_room = a.rooms f r.ran.served.goes_on.session in
+    let keeps = keeps_on cmd reply old new a.waits a.grows g r.mounted past r.replies r.marks r.ran.served ran.served r.ran.budget.weight over r.paced.taken r.paced.keeps in_room.1.behind in_room.1.goes_on in_room.1.awaits answered.0 answers in
+    let late : Span = record { begun = length in_room.1.behind; mark = length new.crash.log } in
+    let fits = fits_ring cmd reply old new a.waits a.grows g r.mounted past r.replies r.marks r.ran.served ran.served r.ran.budget.weight over r.paced.taken r.paced.keeps in
+    let room = answered_by g (laws g r.ran.fits) set.manner r.paced.taken old r.paced.manner r.paced.sure cmd reply new late f in_room.0 in_room.1 a.grows r.ran.served.geom r.paced.keeps.session (λ both. fits both.0 both.1) in
+    let paced = paced_on cmd reply old new a.steps a.grows r.replies r.ran.served.goes_on.ended ran.served.goes_on.ended ran.served.goes_on.going g set.manner r.ran.after r.mounted past r.marks r.ran.session r.ran.served.ascend r.paced waits late room.0 (ap (λ (k : ℕ). record { begun = k; mark = length new.crash.log }) room.1) a.sure keeps in
     subst (λ (xs : List ℕ). Records set (past ++ cmd ∷ []) xs new)
     (text_on g old.crash.log new.crash.log r.mounted past r.replies r.marks cmd reply a.grows r.ran.served.answered r.ran.served.marked r.ran.served.ascend
     ∙ ap (λ (xs : List ℕ). xs ++ entry (drop (length old.crash.log) new.crash.log) cmd reply (length new.crash.log)) (sym r.is))
@@ -361,7 +368,9 @@ at_first set s fits opened laws known =
       writes = opened.writes;
       taken = nothing_taken g;
       keeps = keeps_at_first g s opened.free opened.room (omega (arith, opened.served.goes_on.exact (opened.served.goes_on.going (λ i is. none_is i _ is)))) opened.may;
-      paces = ap₂ (λ (n : ℕ) (over : Bool). record { polls = n; events = length s.crash.log; over = over; taken = nothing_taken g }) opened.polls (opened.served.goes_on.going (λ i is. none_is i _ is));
+      paces = ap₂ (λ (n : ℕ) (over : Bool). record { polls = n; events = length s.crash.log; over = over; taken = nothing_taken g; room = room_on s }) opened.polls (opened.served.goes_on.going (λ i is. none_is i _ is))
+          ∙ ap (λ (r : RoomOn). record { polls = 0; events = length s.crash.log; over = false; taken = nothing_taken g; room = r }) (room_first g s opened.room opened.since);
+      sure = opened.sure;
       opens = opened.opens;
       turns = omega (arith, opened.turns);
       unspent = λ i few is. none_is i _ is;

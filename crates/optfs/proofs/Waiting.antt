@@ -355,59 +355,70 @@ module _ (cmd : Cmd) (reply : Reply) (old new : State) (w : WaitsOn cmd reply ol
     ap (λ (s : Session). one_if (makes_point s cmd reply)) keeps.session,
   )
 
-  spans_on : new.books.stopped ≡ false → length (taken_by g t cmd reply span).spans ≡ new.books.point
-  spans_on going = omega (
-    arith,
-    length-append t.spans (if makes_point t.session cmd reply then span ∷ [] else []),
-    length_if (makes_point t.session cmd reply) span,
-    keeps.spans (going_before going).0,
-    points_on going,
-  )
+  -- Behind the tick there were these events; a point that is waited for since is a new one, and waits for a write that came later.
+  module _ (behind : List Event) (goes_on : Grows behind new.crash.log) (since : (p ticket : ℕ) → new.crash.awaits p ticket → old.crash.awaits p ticket ⊎ ((old.books.point < p) × (is_accepted ticket behind ≡ false))) where
+    abbrev late : Span
+    late = record { begun = length behind; mark = length new.crash.log }
 
-  abbrev IsIn : ℕ → ℕ → Type 0
-  IsIn p ticket = (s : Span) × (slice_get (taken_by g t cmd reply span).spans (p - 1) ≡ Some s) × (s.begun ≤ length new.crash.log) × CameIn new.crash.log s ticket
+    late_within : length behind ≤ length new.crash.log
+    late_within = omega (arith, ap (λ (es : List Event). length es) goes_on.log, length-append behind goes_on.more)
 
-  awaits_on : new.books.stopped ≡ false → (p ticket : ℕ) → new.crash.awaits p ticket → IsIn p ticket
-  awaits_on going p ticket waits = by (w.awaits p ticket waits)
-    where
-      may : MayAwait new p ticket
-      may = w.may p ticket waits
+    before_late : take (length behind) new.crash.log ≡ behind
+    before_late = ap (λ (es : List Event). take (length behind) es) goes_on.log ∙ take-append_seam behind goes_on.more
 
-      by_made : AwaitsSince old p ticket → (makes_point t.session cmd reply ≡ true) ⊎ (makes_point t.session cmd reply ≡ false) → IsIn p ticket
-      by_made since (inr none) = absurd (omega (arith, since.point, may.upto, points_on going, ap one_if none))
-      by_made since (inl made) =
-          let last : p - 1 ≡ length t.spans = omega (arith, since.point, may.upto, points_on going, ap one_if made, keeps.spans (going_before going).0) in (
-            span,
-            ap (λ (b : Bool). slice_get (t.spans ++ (if b then span ∷ [] else [])) (p - 1)) made ∙ ap (λ (n : ℕ). slice_get (t.spans ++ span ∷ []) n) last ∙ at_end t.spans span,
-            longer,
-            record {
-              not_before = ap (is_accepted ticket) earlier ∙ since.ticket;
-              by_then = ap (is_accepted ticket) (take-length new.crash.log) ∙ may.accepted;
-            },
-          )
+    spans_on : new.books.stopped ≡ false → length (taken_by g t cmd reply late).spans ≡ new.books.point
+    spans_on going = omega (
+      arith,
+      length-append t.spans (if makes_point t.session cmd reply then late ∷ [] else []),
+      length_if (makes_point t.session cmd reply) late,
+      keeps.spans (going_before going).0,
+      points_on going,
+    )
 
-      by : (old.crash.awaits p ticket) ⊎ AwaitsSince old p ticket → IsIn p ticket
-      by (inl was) =
-          let k = keeps.awaits (going_before going).0 p ticket was in
-          (k.0, at_front t.spans (if makes_point t.session cmd reply then span ∷ [] else []) k.0 (p - 1) k.1, omega (arith, k.2, longer), came_still k.0 ticket k.2 k.3)
-      by (inr since) = by_made since (cases_Bool (makes_point t.session cmd reply))
+    abbrev IsIn : ℕ → ℕ → Type 0
+    IsIn p ticket = (s : Span) × (slice_get (taken_by g t cmd reply late).spans (p - 1) ≡ Some s) × (s.begun ≤ length new.crash.log) × CameIn new.crash.log s ticket
 
-  pub keeps_on : (next : Session) → AnswersOn g f (room_of old) cmd reply next (room_of new) → KeepsTaken g (asked ++ cmd ∷ []) (replies ++ reply ∷ []) new (taken_by g t cmd reply span)
-  keeps_on next answers = record {
-    session = ap (λ (s : Session). after_reply s cmd reply) keeps.session ∙ sym (session_more g (start g.i) asked replies cmd reply before.answered);
-    weight = ap (λ (s : Session). weight_by (bitmap_blocks g) s t.weight cmd reply) keeps.session ∙ ap (λ (n : ℕ). weight_by (bitmap_blocks g) f n cmd reply) keeps.weight ∙ sym (weight_more g (start g.i) 0 asked replies cmd reply before.answered);
-    places = places_on;
-    blocks = blocks_on next answers;
-    spans = spans_on;
-    awaits = awaits_on;
-  }
+    awaits_on : new.books.stopped ≡ false → (p ticket : ℕ) → new.crash.awaits p ticket → IsIn p ticket
+    awaits_on going p ticket waits = by (since p ticket waits)
+      where
+        may : MayAwait new p ticket
+        may = w.may p ticket waits
+
+        by_made : (old.books.point < p) × (is_accepted ticket behind ≡ false) → (makes_point t.session cmd reply ≡ true) ⊎ (makes_point t.session cmd reply ≡ false) → IsIn p ticket
+        by_made new_one (inr none) = absurd (omega (arith, new_one.0, may.upto, points_on going, ap one_if none))
+        by_made new_one (inl made) =
+            let last : p - 1 ≡ length t.spans = omega (arith, new_one.0, may.upto, points_on going, ap one_if made, keeps.spans (going_before going).0) in (
+              late,
+              ap (λ (b : Bool). slice_get (t.spans ++ (if b then late ∷ [] else [])) (p - 1)) made ∙ ap (λ (n : ℕ). slice_get (t.spans ++ late ∷ []) n) last ∙ at_end t.spans late,
+              late_within,
+              record {
+                not_before = ap (is_accepted ticket) before_late ∙ new_one.1;
+                by_then = ap (is_accepted ticket) (take-length new.crash.log) ∙ may.accepted;
+              },
+            )
+
+        by : (old.crash.awaits p ticket) ⊎ ((old.books.point < p) × (is_accepted ticket behind ≡ false)) → IsIn p ticket
+        by (inl was) =
+            let k = keeps.awaits (going_before going).0 p ticket was in
+            (k.0, at_front t.spans (if makes_point t.session cmd reply then late ∷ [] else []) k.0 (p - 1) k.1, omega (arith, k.2, longer), came_still k.0 ticket k.2 k.3)
+        by (inr new_one) = by_made new_one (cases_Bool (makes_point t.session cmd reply))
+
+    pub keeps_on : (next : Session) → AnswersOn g f (room_of old) cmd reply next (room_of new) → KeepsTaken g (asked ++ cmd ∷ []) (replies ++ reply ∷ []) new (taken_by g t cmd reply late)
+    keeps_on next answers = record {
+      session = ap (λ (s : Session). after_reply s cmd reply) keeps.session ∙ sym (session_more g (start g.i) asked replies cmd reply before.answered);
+      weight = ap (λ (s : Session). weight_by (bitmap_blocks g) s t.weight cmd reply) keeps.session ∙ ap (λ (n : ℕ). weight_by (bitmap_blocks g) f n cmd reply) keeps.weight ∙ sym (weight_more g (start g.i) 0 asked replies cmd reply before.answered);
+      places = places_on;
+      blocks = blocks_on next answers;
+      spans = spans_on;
+      awaits = awaits_on;
+    }
 
   -- What it waited for.
 
   need_same : (c : Cmd) → (figures_on old f c).need ≡ (figures_in g t.session c).need
   need_same c = ap (λ (k : Geometry). (figures (bitmap_blocks k) f c).need) before.geom ∙ ap (λ (s : Session). (figures (bitmap_blocks g) s c).need) (sym keeps.session)
 
-  fits_ring : old.books.stopped ≡ false → FindsPlaces g t → FitsRing old.books
+  pub fits_ring : old.books.stopped ≡ false → FindsPlaces g t → FitsRing old.books
   fits_ring going finds = omega (arith, keeps.places going, finds, fits_by going)
 
   finds_blocks : (c : Cmd) → old.books.stopped ≡ false → t.blocks + (figures_in g t.session c).need ≤ g.n - data_start g → (figures_on old f c).need ≤ length (reusable_blocks old.books)

@@ -1,11 +1,15 @@
--- What the disk of a run does by its manner: which notices come and when, which writes are lost, and when a reply is a refusal for the disk. It is described in docs/TRACE.md.
+-- What the disk of a run does by its manner: which notices come and when, which writes are lost, when freed blocks may be taken again, and when a reply is a refusal for the disk. It is described in docs/TRACE.md.
 use Rattle.std.specs.Prelude.{◌≡◌, ◌≢◌, ◌⊎◌, ⊤, ℕ, ◌+◌, ◌-◌, ◌||◌, ◌&&◌, ◌^◌, ◌<◌, ◌≤◌, if◌then◌else◌, Bool, true, false, IsTrue, slice_get, List, [], ◌∷◌, ◌++◌, length, take, Option, Some, None}
 use Rattle.opt_disk.specs.declared.event.Event.{Event}
-use Rattle.opt_disk.specs.Cell.{is_accepted, IsAccepted, IsNoticed}
+use Rattle.opt_disk.specs.Cell.{cell_of, is_accepted, IsAccepted, IsNoticed}
 use Rattle.opt_disk.specs.Disk.{PollsFirst, PollsThenWrites}
 use Rattle.opt_disk.specs.Manner.{Manner, GoesBy, HasFailedBy, Polled, after_polls}
 use Rattle.opt_geom.specs.Geometry.{Geometry, bitmap_blocks, data_start}
+use Rattle.opt_journal.specs.declared.header.Header.{Header}
+use Rattle.opt_journal.specs.Formatted.{formatted}
 use Rattle.opt_crash.specs.Opening.{LosesOne}
+use Rattle.opt_checkpoint.specs.Serving.{IsNewestAtRest}
+use Rattle.opt_blocks.specs.State.{data_blocks}
 use Rattle.opt_memdisk.specs.declared.calls.DiskCall.TheVariants.{Write}
 use Rattle.opt_memdisk.specs.declared.calls.Fail.{Fail}
 use Rattle.opt_memdisk.specs.declared.rule.Rule.{Rule}
@@ -20,6 +24,7 @@ use Rattle.opt_tree.specs.declared.command.Reply.TheVariants.{Known, Refused}
 use Rattle.opt_tree.specs.Points.{after_reply, is_refusal, is_sync, may_have_written}
 use Rattle.opt_tree.specs.Step.{Session, start}
 use Rattle.opt_fs.specs.Room.{figures_in}
+use Rattle.opt_fs.specs.Serving.{AnswersAt, Moment, RoomOn}
 use Rattle.opt_session.specs.Budget.{sync_places, weight_by}
 
 -- the rule of a disk in memory that the words name
@@ -33,7 +38,7 @@ abbrev pub fails_of : Option ℕ → List Fail
 fails_of None = []
 fails_of (Some write) = record { kind = Write; nth = write } ∷ []
 
--- The events of one command: those behind the first `begun`, up to the mark of its reply.
+-- Some events of one command: those behind the first `begun`, up to the mark of its reply.
 pub record Span : Type 0 where
   pub begun : ℕ
   pub mark : ℕ
@@ -43,7 +48,7 @@ pub record CameIn (log : List Event) (span : Span) (t : ℕ) : Type 0 where
   pub not_before : is_accepted t (take span.begun log) ≡ false
   pub by_then : IsAccepted t (take span.mark log)
 
--- What a run has taken of its disk so far at most, by its commands and replies alone: its session, and what the transaction weighs; the ring places of all syncs' records, and the data blocks of all commands, as if none had come back. And of each sync point the span of the command that made it.
+-- What a run has taken of its disk so far at most, by its commands and replies alone: its session, and what the transaction weighs; the ring places of all syncs' records, and the data blocks of all commands, as if none had come back. And of each sync point the events behind the tick of the command that made it.
 pub record Taken : Type 0 where
   pub session : Session
   pub weight : ℕ
@@ -86,16 +91,36 @@ FindsRoom g t cmd = t.blocks + (figures_in g t.session cmd).need ≤ g.n - data_
 abbrev pub HearsIn : List Span → List Event → List Event → Type 0
 HearsIn spans before log = (t : ℕ) → IsNoticed t log → IsNoticed t before ⊎ ∥ ((k : ℕ) × (span : Span) × (slice_get spans k ≡ Some span) × CameIn log span t) ∥₁
 
--- Where point n isn't the last one, a write of the command that made the next one has no notice yet. So no later point is known to be durable.
+-- Where point n isn't the last one, a write that came behind the tick of the command that made the next one has no notice yet. So no later point is known to be durable.
 pub record KnowsUpTo (spans : List Span) (log : List Event) (n : ℕ) : Type 0 where
   pub next : n < length spans → ∥ ((span : Span) × (t : ℕ) × (slice_get spans n ≡ Some span) × CameIn log span t × ¬ IsNoticed t log) ∥₁
 
--- how far a run has come on its disk: how often the disk was polled, how many events there are, whether a call of the disk has failed, and what was taken
+-- The newest header at rest after these events makes the point sure. On a disk that was formatted, the records have the numbers of their points.
+pub record IsSureBy (g : Geometry) (front : List Event) (p : ℕ) : Type 0 where
+  pub header : Header
+  pub newest : IsNewestAtRest g.n (cell_of (formatted g) front) header
+  pub upto : p ≤ header.sure
+
+-- what is known of the disk after these events, and this of the ring's places
+abbrev pub moment_by : Geometry → Manner → List Event → Type 0 → Moment
+moment_by g m front fits = record {
+  alone = m.waits_alone;
+  sure = λ p. ∥ IsSureBy g front p ∥₁;
+  rests = λ b. (cell_of (formatted g) front b).pending ≡ [];
+  fits = fits;
+}
+
+-- the room of a disk that was just formatted: each data block may be taken, and none waits
+abbrev pub room_at_first : Geometry → RoomOn
+room_at_first g = record { room = record { weight = 0; held = 0; takeable = data_blocks g; places = λ k. [] }; since = λ b. None }
+
+-- how far a run has come on its disk: how often the disk was polled, how many events there are, whether a call of the disk has failed, what was taken, and the room of the session with what waits
 pub record Pace : Type 0 where
   pub polls : ℕ
   pub events : ℕ
   pub over : Bool
   pub taken : Taken
+  pub room : RoomOn
 
 -- a command was refused since a call of the disk failed
 abbrev pub is_fault : Reply → Bool
@@ -106,10 +131,21 @@ is_fault _ = false
 abbrev pub between : Pace → Pace → Span
 between old new = record { begun = old.events; mark = new.events }
 
+-- One command is answered in the room that the disk's log gives. Behind the notices of its tick, and writes, just those freed blocks may be taken again whose point the newest header at rest makes sure, and on which nothing is pending.
+pub record AnswersBy (g : Geometry) (m : Manner) (log : List Event) (cmd : Cmd) (reply : Reply) (old new : Pace) : Type 0 where
+  -- so many events there are behind the tick, and so many polls
+  pub behind : ℕ
+  pub from : old.events ≤ behind
+  pub upto : behind ≤ new.events
+  pub polls : ℕ
+  pub ticks : cmd ≢ Bad → old.over ≡ false → reply ≢ Refused Spent → PollsThenWrites m 64 old.polls (take old.events log) polls (take behind log)
+  pub answers : AnswersAt g (moment_by g m (take behind log) ((old.over ≡ false) × FindsPlaces g old.taken)) (moment_by g m (take new.events log) ⊥) old.taken.session old.room cmd reply new.taken.session new.room
+
 -- One command of a run on a disk of this geometry and manner. A line that is none brings no event, and nothing does once a call of the disk has failed. Any other command begins with the notices of its tick: those of 64 polls, or of the polls up to the first that has none; and there is no other poll. A command is refused as stopped only then. It is refused for a failed read only where reads may fail, and for another failed call only where a write was lost just now, or the disk's manner lets one fail here.
 pub record StepsBy (g : Geometry) (m : Manner) (log : List Event) (cmd : Cmd) (reply : Reply) (old new : Pace) : Type 0 where
   pub over : new.over ≡ (old.over || is_fault reply)
-  pub taken : new.taken ≡ taken_by g old.taken cmd reply (between old new)
+  pub room : AnswersBy g m log cmd reply old new
+  pub taken : new.taken ≡ taken_by g old.taken cmd reply (record { begun = room.behind; mark = new.events })
   pub rests : (cmd ≡ Bad) ⊎ (old.over ≡ true) → (new.polls ≡ old.polls) × (new.events ≡ old.events)
   pub ticks : cmd ≢ Bad → old.over ≡ false → reply ≢ Refused Spent → PollsFirst m 64 old.polls (take old.events log) new.polls (take new.events log)
   -- with no reason to wait, no notice comes behind those of the tick
@@ -128,9 +164,9 @@ PacesBy g m log p [] [] [] end = end ≡ p
 PacesBy g m log p (cmd ∷ cmds) (reply ∷ replies) (mark ∷ marks) end = (next : Pace) × (next.events ≡ mark) × StepsBy g m log cmd reply p next × PacesBy g m log next cmds replies marks end
 PacesBy g m log p _ _ _ end = ⊥
 
--- as a mount ends that brought so many events: no poll was made yet, and nothing is taken
+-- as a mount ends that brought so many events: no poll was made yet, nothing is taken, and the room is that of a formatted disk
 abbrev pub pace_at_first : Geometry → ℕ → Pace
-pace_at_first g mounted = record { polls = 0; events = mounted; over = false; taken = nothing_taken g }
+pace_at_first g mounted = record { polls = 0; events = mounted; over = false; taken = nothing_taken g; room = room_at_first g }
 
 -- A run went by the manner of its disk: so did each of its commands, and each write is accepted or lost as the manner has it. The first write, which is the mount's, may be accepted. No command is refused as spent, of so many as no input has.
 pub record RunsBy (g : Geometry) (m : Manner) (log : List Event) (mounted : ℕ) (cmds : List Cmd) (replies : List Reply) (marks : List ℕ) : Type 0 where

@@ -1,5 +1,6 @@
 -- The disk of a recording: how it behaves, and what it is before and after its mount. Only private contracts speak of it.
-use Rattle.std.specs.Prelude.{◌≡◌, ◌⊎◌, ℕ, ◌^◌, ◌<◌, ◌≤◌, IsTrue, [], length, Some}
+use Rattle.std.specs.Prelude.{◌≡◌, ◌↔◌, ◌⊎◌, ℕ, ◌^◌, ◌<◌, ◌≤◌, IsTrue, [], List, length, Some, None}
+use Rattle.opt_disk.specs.declared.event.Event.{Event}
 use Rattle.opt_disk.specs.Crash.{Window}
 use Rattle.opt_disk.specs.Disk as disk
 use Rattle.opt_disk.specs.Disk.{writes_in}
@@ -22,7 +23,7 @@ use Rattle.opt_fs.specs.Room.{IsFirstRoom}
 use Rattle.opt_session.specs.Budget.{KeepsBudget}
 use Rattle.opt_session.specs.Crashes.{IsCrashConsistent}
 use Rattle.opt_session.specs.Serving.{HasServed}
-use Rattle.optfs.specs.Behaving.{MountFails, fails_of, rule_of}
+use Rattle.optfs.specs.Behaving.{IsSureBy, MountFails, fails_of, rule_of}
 use Rattle.optfs.specs.Output.{Setting}
 use Rattle.optfs.specs.declared.disk.Behaviour.{Behaviour}
 
@@ -57,13 +58,14 @@ pub record ShowsRoot (g : Geometry) (s : State) : Type 0 where
   pub base : (b : ℕ) → b < g.n → s.crash.base b ≡ formatted g b
   pub images : Window g.n s.crash.base s.crash.log 0 (λ img. HoldsUnder g.n g img (live_part g (formatted g)))
 
--- A map of blocks that was mounted on such a disk: nothing was done yet, the disk wasn't polled, and it begins with those live blocks.
+-- A map of blocks that was mounted on such a disk: nothing was done yet, the disk wasn't polled, and it begins with those live blocks; a point is sure by the log alone.
 pub record IsMounted (g : Geometry) (s : State) : Type 0 where
   pub begun : IsBegun s
   pub begins : BeginsWith g (live_part g (formatted g)) s
   pub shows : ShowsRoot g s
   pub polls : s.counts.ticks.polls ≡ 0
   pub first : WritesOne [] s.crash.log
+  pub sure : (front : List Event) (p : ℕ) → s.crash.sure front p ↔ ∥ IsSureBy g front p ∥₁
   pub turns : s.books.turns ≤ 3
 
 -- A file system that was opened on such blocks: it has answered no command, its writes so far are those of the mount, and nothing is taken.
@@ -80,6 +82,8 @@ pub record IsOpened (set : Setting) (s : State) : Type 0 where
   pub opens : IsTrue (set.manner.accepts [])
   pub turns : s.books.turns ≤ 3
   pub free : s.books.free_places ≡ set.shape.j
+  pub since : (b : ℕ) → s.books.since b ≡ None
+  pub sure : (front : List Event) (p : ℕ) → s.crash.sure front p ↔ ∥ IsSureBy set.shape front p ∥₁
   pub may : (p t : ℕ) → s.crash.awaits p t → MayAwait s p t
 
 -- a call of the disk has failed: some read; or just now another call, at the disk's first write

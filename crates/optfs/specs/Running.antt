@@ -1,8 +1,9 @@
 -- A run of commands on the disk of a recording, as far as it has come. Only proofs and private contracts speak of it.
-use Rattle.std.specs.Prelude.{◌≡◌, ◌≢◌, ◌⊎◌, ℕ, ◌+◌, ◌-◌, ◌*◌, ◌^◌, ◌<◌, ◌≤◌, true, false, IsTrue, slice_get, Some, List, [], ◌∷◌, ◌++◌, length, take, Option}
+use Rattle.std.specs.Prelude.{◌≡◌, ◌≢◌, ◌↔◌, ◌⊎◌, ℕ, ◌+◌, ◌-◌, ◌*◌, ◌^◌, ◌<◌, ◌≤◌, Bool, true, false, IsTrue, slice_get, Some, List, [], ◌∷◌, ◌++◌, length, take, Option}
 use Rattle.std.specs.Io.KnownBytes.{Appends}
 use Rattle.opt_base.specs.Seal.{Blocks}
-use Rattle.opt_disk.specs.Cell.{is_accepted, IsNoticed}
+use Rattle.opt_disk.specs.declared.event.Event.{Event}
+use Rattle.opt_disk.specs.Cell.{cell_of, is_accepted, IsNoticed}
 use Rattle.opt_disk.specs.Disk.{Grows, PollsFirst, PollsThenWrites, writes_in}
 use Rattle.opt_disk.specs.Manner.{Manner, GoesBy, HasFailedBy, Polled, after_polls}
 use Rattle.opt_disk.specs.Lawful.{IsLogOf}
@@ -17,7 +18,9 @@ use Rattle.opt_tree.specs.declared.command.Cmd.TheVariants.{Bad, Dsync, Durable}
 use Rattle.opt_tree.specs.declared.command.Refusal.TheVariants.{DiskFault, ReadFault, Spent, Stopped}
 use Rattle.opt_tree.specs.declared.command.Reply.{Reply}
 use Rattle.opt_tree.specs.declared.command.Reply.TheVariants.{Known, Refused}
-use Rattle.opt_tree.specs.Points.{is_sync}
+use Rattle.opt_tree.specs.Points.{after_reply, is_sync}
+use Rattle.opt_tree.specs.declared.command.Refusal.{Refusal}
+use Rattle.opt_tree.specs.Run.{Answers}
 use Rattle.opt_tree.specs.Step.{Session, start}
 use Rattle.opt_tree.specs.Tree.{Tree}
 use Rattle.opt_stands.specs.Stands.{StandsFor}
@@ -29,13 +32,14 @@ use Rattle.opt_blocks.specs.State.{State, reusable_blocks}
 use Rattle.opt_fs.specs.Memory.{room_of}
 use Rattle.opt_fs.specs.Room.{Room, IsFirstRoom}
 use Rattle.opt_fs.specs.DiskRoom.{AnswersOn, IsRoomOf, RunsOn}
+use Rattle.opt_fs.specs.Serving.{AnswersAt, Moment, room_on}
 use Rattle.opt_fs.specs.Applying.{NeedsNoWait, is_spent}
 use Rattle.opt_fs.specs.Sessions.{IsSession}
 use Rattle.opt_session.specs.Budget.{KeepsBudget, budget_of, sync_places, weight_after}
 use Rattle.opt_session.specs.Ending.{HasRun, ending_marks, ending_replies}
 use Rattle.opt_session.specs.Histories.{session_after}
 use Rattle.opt_session.specs.Serving.{HasServed}
-use Rattle.optfs.specs.Behaving.{CameIn, Pace, PacesBy, Span, Taken, pace_at_first}
+use Rattle.optfs.specs.Behaving.{CameIn, IsSureBy, Pace, PacesBy, Span, Taken, pace_at_first}
 use Rattle.optfs.specs.Output.{BeginsFirst, Serves, ServesBy, Setting, says}
 
 -- These commands were answered with these replies, at these marks, since a disk that was formatted with this geometry was mounted; and so much is known of the blocks now.
@@ -54,11 +58,12 @@ pub record Ran (g : Geometry) (mounted : ℕ) (cmds : List Cmd) (replies : List 
   pub events : length s.crash.log < 2 ^ 64
   pub answers : Each IsReply replies
 
--- What other crates say of the formatted disk, of images, and of runs that end.
+-- What other crates say of the formatted disk, of images, of replies, and of runs that end.
 pub record RunLaws (g : Geometry) : Type 0 where
   pub root : StandsFor g.n (formatted g) (start g.i).tree
   pub one : (n : ℕ) (img : Blocks) (t u : Tree) → StandsFor n img t → StandsFor n img u → t ≡ u
   pub alike : (n : ℕ) (img other : Blocks) (t : Tree) → ((b : ℕ) → b < n → img b ≡ other b) → StandsFor n img t → StandsFor n other t
+  pub replies : (outside : Refusal → Bool) (old new : Session) (cmd : Cmd) (reply : Reply) → Answers outside old cmd reply new → new ≡ after_reply old cmd reply
   pub budget : (cmds : List Cmd) (replies : List Reply) (more : List Cmd) (later : List Reply) → length cmds ≡ length replies
       → budget_of (bitmap_blocks g) (start g.i) 0 cmds replies ≤ budget_of (bitmap_blocks g) (start g.i) 0 (cmds ++ more) (replies ++ later)
 
@@ -79,7 +84,7 @@ pub record KeepsTaken (g : Geometry) (cmds : List Cmd) (replies : List Reply) (s
 
 -- how far a run has come over these blocks
 abbrev pub pace_of : Taken → State → Pace
-pace_of t s = record { polls = s.counts.ticks.polls; events = length s.crash.log; over = s.books.stopped; taken = t }
+pace_of t s = record { polls = s.counts.ticks.polls; events = length s.crash.log; over = s.books.stopped; taken = t; room = room_on s }
 
 -- These commands were answered so on a disk of this geometry and manner, and so far have they come.
 pub record PacedRun (g : Geometry) (m : Manner) (mounted : ℕ) (cmds : List Cmd) (replies : List Reply) (marks : List ℕ) (s : State) : Type 0 where
@@ -89,6 +94,8 @@ pub record PacedRun (g : Geometry) (m : Manner) (mounted : ℕ) (cmds : List Cmd
   pub keeps : KeepsTaken g cmds replies s taken
   pub paces : PacesBy g m s.crash.log (pace_at_first g mounted) cmds replies marks (pace_of taken s)
   pub opens : IsTrue (m.accepts [])
+  -- a point is sure by the log alone
+  pub sure : (front : List Event) (p : ℕ) → s.crash.sure front p ↔ ∥ IsSureBy g front p ∥₁
   -- the journal's numbers rise little with each command, so that none is spent
   pub turns : s.books.turns ≤ 3 + length replies * 2 ^ 20
   pub unspent : (i : ℕ) → i < 2 ^ 40 → slice_get replies i ≡ Some (Refused Spent) → ⊥
@@ -119,11 +126,28 @@ pub record WaitsOn (cmd : Cmd) (reply : Reply) (old new : State) : Type 0 where
   pub known : (n : ℕ) → cmd ≡ Durable → reply ≡ Known n → (n ≡ new.books.floor) × (new.books.stopped ≡ false) × (new.books.point ≡ old.books.point)
   pub still : new.books.stopped ≡ false → new.books.floor < new.books.point → ∥ StillAwaits new (new.books.floor + 1) ∥₁
 
+-- what is known of the disk under these blocks after such events, and this of the ring's places
+abbrev pub moment_over : State → List Event → Type 0 → Moment
+moment_over s front fits = record { alone = s.counts.ticks.manner.waits_alone; sure = λ p. s.crash.sure front p; rests = λ b. (cell_of s.crash.base front b).pending ≡ []; fits = fits }
+
+-- A command was answered in the room of its session with what waits: with these events behind its tick.
+pub record AnsweredIn (f : Session) (cmd : Cmd) (reply : Reply) (next : Session) (old new : State) : Type 0 where
+  pub behind : List Event
+  pub begins : Grows old.crash.log behind
+  pub goes_on : Grows behind new.crash.log
+  pub polls : ℕ
+  pub ticks : cmd ≢ Bad → old.books.stopped ≡ false → reply ≢ Refused Spent → PollsThenWrites old.counts.ticks.manner 64 old.counts.ticks.polls old.crash.log polls behind
+  -- a point that is waited for since is a new one, and waits for a write behind the tick
+  pub awaits : (p t : ℕ) → new.crash.awaits p t → old.crash.awaits p t ⊎ ((old.books.point < p) × (is_accepted t behind ≡ false))
+  pub answers : AnswersAt old.books.geom (moment_over old behind (FitsRing old.books)) (moment_over old new.crash.log ⊥) f (room_on old) cmd reply next (room_on new)
+
 -- how a command was answered, and what came with it
 pub record IsAnswered (cmd : Cmd) (reply : Reply) (old new : State) : Type 0 where
   pub serves : (g : Geometry) (t : Tree) (mounted : ℕ) (cmds : List Cmd) (replies : List Reply) (marks : List ℕ) → HasServed g t mounted cmds replies marks old → HasServed g t mounted (cmds ++ cmd ∷ []) (replies ++ reply ∷ []) (marks ++ length new.crash.log ∷ []) new
   pub budget : (g : Geometry) (t : Tree) (mounted begun : ℕ) (cmds : List Cmd) (replies : List Reply) (marks : List ℕ) → HasServed g t mounted cmds replies marks old → KeepsBudget g t begun cmds replies old → KeepsBudget g t begun (cmds ++ cmd ∷ []) (replies ++ reply ∷ []) new
   pub room : (f : Session) → IsSession old f → (next : Session) × IsSession new next × (new.books.geom ≡ old.books.geom) × AnswersOn old.books.geom f (room_of old) cmd reply next (room_of new)
+  pub rooms : (f : Session) → IsSession old f → (next : Session) × AnsweredIn f cmd reply next old new
+  pub sure : (front : List Event) (p : ℕ) → new.crash.sure front p ↔ old.crash.sure front p
   pub base : new.crash.base ≡ old.crash.base
   pub grows : Grows old.crash.log new.crash.log
   pub lawful : IsLogOf new.books.geom.n new.crash.log

@@ -3,13 +3,14 @@
 ghost use Rattle.std.specs.Prelude.{ℕ, ◌++◌, take, drop, OnOk, OnErr};
 ghost use Rattle.std.specs.Io.KnownBytes.{Appends};
 ghost use Rattle.opt_base.specs.Counts.{HasCause};
-ghost use Rattle.opt_trace.specs.Line.{geometry_line, event_lines};
+ghost use Rattle.opt_memdisk.specs.Logged.{event_of};
+ghost use Rattle.opt_trace.specs.Line.{geometry_line, event_line, event_lines};
 
 use opt_disk::Disk;
 use opt_geom::Geom;
 use opt_io::{Sink, SinkFault};
-use opt_memdisk::MemDisk;
-use opt_trace::{write_event, write_geom};
+use opt_memdisk::{Logged, MemDisk};
+use opt_trace::{write_geom, write_lost, write_noticed, write_wrote};
 
 /// Writes the beginning of a trace: the line of the geometry, and the events of the mount, which are all events of
 /// the disk so far.
@@ -37,9 +38,27 @@ pub fn write_events<K: Sink>(out: &mut K, disk: &MemDisk, from: u64) -> Result<(
 {
     for place in from..disk.moment() {
         match disk.event(place) {
-            Some(event) => write_event(out, event)?,
+            Some(event) => write_logged(out, event)?,
             None => unreachable!(),
         }
+    }
+    Ok(())
+}
+
+// Writes the line of one event.
+fn write_logged<K: Sink>(out: &mut K, event: Logged<'_>) -> Result<(), SinkFault>
+    ensures all { OnOk result (Appends (K.taken out.old) (K.taken out.new) (event_line (event_of event.entry))) }
+    ensures front { OnErr result ((n : ℕ) × Appends (K.taken out.old) (K.taken out.new) (take n (event_line (event_of event.entry)))) }
+    ensures cause { HasCause result (K.faults out.old) (K.faults out.new) }
+{
+    match event {
+        Logged::Wrote {
+            ticket,
+            block,
+            bytes,
+        } => write_wrote(out, ticket, block, bytes)?,
+        Logged::Lost { block, bytes } => write_lost(out, block, bytes)?,
+        Logged::Noticed { ticket } => write_noticed(out, ticket)?,
     }
     Ok(())
 }

@@ -13,9 +13,9 @@ ghost use Rattle.optfs.specs.Running.{IsAnswered, KnownRun, Ran, RunLaws};
 use crate::mounting::{System, the_disk_keeps_to_its_manner};
 use opt_fs::{
     a_command_begins_with_a_tick, a_command_is_answered_in_a_room_that_came_back,
-    a_command_raises_the_numbers_little, a_command_takes_the_places_of_its_record,
-    a_command_that_needs_no_wait_makes_none, a_refusal_for_the_disk_has_its_cause,
-    a_sync_waits_for_records_alone,
+    a_command_raises_the_numbers_little, a_command_serves_what_is_sure,
+    a_command_takes_the_places_of_its_record, a_command_that_needs_no_wait_makes_none,
+    a_refusal_for_the_disk_has_its_cause, a_sync_waits_for_records_alone,
 };
 use opt_memdisk::MemDisk;
 use opt_session::{a_run_may_end_at_once, the_writes_keep_within_the_budget};
@@ -24,7 +24,7 @@ use opt_stands::{
     the_formatted_disk_stands_for_the_root,
 };
 use opt_store::Store;
-use opt_tree::{Cmd, Reply};
+use opt_tree::{Cmd, Reply, a_reply_tells_the_session};
 use std::alloc::Global;
 
 /// Answers one command.
@@ -32,6 +32,7 @@ pub fn answer(alloc: Global, system: &mut System, cmd: &Cmd) -> Reply
     ensures { IsAnswered cmd.now result (state_of disk_state (blocks_in system.old)) (state_of disk_state (blocks_in system.new)) }
 {
     a_command_is_answered_in_a_room_that_came_back::<Store<MemDisk>>();
+    a_command_serves_what_is_sure::<Store<MemDisk>>();
     a_command_begins_with_a_tick::<Store<MemDisk>>();
     a_refusal_for_the_disk_has_its_cause::<Store<MemDisk>>();
     a_command_raises_the_numbers_little::<Store<MemDisk>>();
@@ -52,6 +53,7 @@ pub fn a_run_is_known(system: &System)
 {
     the_formatted_disk_stands_for_the_root();
     an_image_stands_for_one_tree();
+    a_reply_tells_the_session();
     images_alike_below_n_stand_for_the_same();
     a_run_may_end_at_once::<Store<MemDisk>>();
     the_writes_keep_within_the_budget::<Store<MemDisk>>();

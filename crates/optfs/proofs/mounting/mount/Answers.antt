@@ -12,7 +12,7 @@ use Rattle.opt_store.specs.Refusal.{RefusalSays, is_disk_fault, is_read_fault}
 use Rattle.opt_store.specs.declared.refusal.StoreRefusal.{StoreRefusal}
 use Rattle.optfs.specs.Mounting.{Mounts}
 use Rattle.optfs.proofs.FormattedFound.{HasLaws, zeros_are_stored}
-use Rattle.optfs.proofs.MountLemmas.{HasRoot, held_by, holds, header_found, bits_good, unspent, left_faulty, left_unread, left_with, nothing_to_replay, few_turns}
+use Rattle.optfs.proofs.MountLemmas.{HasRoot, held_by, holds, header_found, bits_good, unspent, left_faulty, left_unread, left_with, nothing_to_replay, few_turns, sure_of}
 use Rattle.optfs.proofs.mounting.mount.Goals as goal
 use Rattle.optfs.proofs.mounting.mount.Goals.{After-journal_blocks_are_told_apart}
 
@@ -50,6 +50,7 @@ open-requires c =
       shows = record { geom = begins.geom; base = left.began.base; images = left.images };
       polls = c.in-Ok.ensures.leaves.spends.polls ∙ c.requires.polls;
       first = subst (λ (es : List Event). WritesOne es (disk_state (disk_in c.in-Ok.store)).log) c.requires.nothing (c.in-Ok.ensures.alone refl (nothing_to_replay g (root p) (laws p) d c.requires));
+      sure = sure_of g (root p) (laws p) d c.requires _ (c.in-Ok.ensures.numbers refl) begins.geom left.began.base;
       turns = few_turns g (root p) (laws p) d c.requires _ (c.in-Ok.ensures.numbers refl);
     }
 

@@ -16,6 +16,7 @@ returns-clause-laws c = λ k fits. record {
   root = c.the_formatted_disk_stands_for_the_root.ensures.image k fits;
   one = c.an_image_stands_for_one_tree.ensures.image;
   alike = c.images_alike_below_n_stand_for_the_same.ensures;
+  replies = c.a_reply_tells_the_session.ensures;
   budget = c.a_run_may_end_at_once.ensures.budget k (start k.i).tree;
 }
 

@@ -4,8 +4,9 @@ use Rattle.opt_memdisk.specs.MemDisk.{state_of as disk_state}
 use Rattle.opt_store.specs.StoreOf.{state_of}
 use Rattle.opt_fs.specs.Applying.{Applies}
 use Rattle.opt_fs.specs.Opened.{blocks_in}
-use Rattle.optfs.proofs.Answering.{steps_on, waits_on}
+use Rattle.optfs.proofs.Answering.{left_over, manner_stays, steps_on, waits_on}
 use Rattle.optfs.proofs.OpenLemmas.{drawn}
+use Rattle.optfs.proofs.Rooms.{answered_in}
 use Rattle.optfs.proofs.running.answer.Goals as goal
 
 pub returns : goal.returns
@@ -17,6 +18,13 @@ returns c =
       serves = c.apply-reply.ensures.serves refl (λ s. drawn disk_state s);
       budget = c.apply-reply.ensures.budget refl;
       room = λ f is. c.a_command_is_answered_in_a_room_that_came_back.ensures.answers refl (blocks_in c.args.system.now) (blocks_in c.apply-reply.new.self) f c.args.cmd.now c.apply-reply.result is c.apply-reply.ensures.applies;
+      rooms = λ f is.
+          let x = c.a_command_serves_what_is_sure.ensures refl old new f c.args.cmd.now c.apply-reply.result is c.apply-reply.ensures.applies in (
+            x.0,
+            answered_in (λ s. state_of disk_state s) f c.args.cmd.now c.apply-reply.result x.0 old new x.3 (left_over true (λ s. state_of disk_state s) refl c.args.cmd.now c.apply-reply.result old new c.apply-reply.ensures.applies (λ meant run left. c.a_command_begins_with_a_tick.ensures c.args.cmd.now c.apply-reply.result old new meant run left c.apply-reply.ensures.applies))
+                (manner_stays true (λ s. state_of disk_state s) refl c.args.cmd.now c.apply-reply.result old new c.apply-reply.ensures.applies (λ meant run left. c.a_command_begins_with_a_tick.ensures c.args.cmd.now c.apply-reply.result old new meant run left c.apply-reply.ensures.applies)),
+          );
+      sure = time.advances.sure;
       base = time.advances.base;
       grows = time.advances.grows;
       lawful = c.the_disk_keeps_to_its_manner.ensures.log;
