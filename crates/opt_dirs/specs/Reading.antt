@@ -1,5 +1,6 @@
 -- What the steps of reading a directory need and give.
-use Rattle.std.specs.Prelude.{◌≡◌, ◌≢◌, ℕ, ◌≤◌, ◌<◌, Bool, false, IsTrue, IfOk, List, ◌++◌, map, take, drop, slice_get, Some, Result, Ok}
+use Rattle.std.specs.Prelude.{◌≡◌, ◌≢◌, ℕ, ◌%◌, ◌≤◌, ◌<◌, Bool, false, IsTrue, IfOk, List, ◌++◌, length, map, take, drop, slice_get, Some, Result, Ok}
+use Rattle.std.specs.List.{All}
 use Rattle.opt_layout.specs.declared.slot.Slot.{Slot}
 use Rattle.opt_tree.specs.declared.command.Refusal.{Refusal}
 use Rattle.opt_tree.specs.Tree.{Tree}
@@ -9,9 +10,10 @@ use Rattle.opt_stands.specs.Maps.{IsMapOf}
 use Rattle.opt_stands.specs.Walks.{entry_in}
 use Rattle.opt_inodes.specs.Lookups.{is_dir_inode, walk_on}
 use Rattle.opt_blocks.specs.State.{State}
+use Rattle.opt_blocks.specs.Puts.{IsData}
 use Rattle.opt_files.specs.Drafts.{DraftState}
 use Rattle.opt_files.specs.Sound.{IsDraftOf}
-use Rattle.opt_files.specs.Calls.{files_in, IsUsed}
+use Rattle.opt_files.specs.Calls.{files_in, places_in, IsUsed}
 use Rattle.opt_files.specs.Effects.{LooksOnly}
 use Rattle.opt_dirs.specs.Directories.{inodes_in, IsNumber}
 
@@ -27,6 +29,18 @@ pub record MayRead (tells : Bool) (s : State) (d : DraftState) (k : ℕ) : Type 
   pub look : MayLook tells s d k
   pub used : IsTrue tells → IsUsed (files_in s d) k
 
+-- These blocks of a node may be read.
+pub record MayReadBlocks (tells : Bool) (s : State) (d : DraftState) (node : List ℕ) : Type 0 where
+  pub going : s.books.stopped ≡ false
+  pub draft : IsDraftOf tells s d
+  pub inside : All (IsData s.books.geom) node
+
+-- A directory with these blocks has these slots.
+pub record HasSlots (s : State) (d : DraftState) (node : List ℕ) (slots : List Slot) : Type 0 where
+  pub dir : ℕ
+  pub is : inodes_in s d dir ≡ Some (ADir slots)
+  pub blocks : node ≡ places_in s d dir
+
 -- the slots of the block that begins with a place: at most 16
 abbrev pub slots_from : ℕ → List Slot → List Slot
 slots_from first slots = take 16 (drop first slots)
@@ -35,10 +49,11 @@ slots_from first slots = take 16 (drop first slots)
 abbrev pub MissesBefore : List Slot → List ℕ → ℕ → Type 0
 MissesBefore slots name first = (k : ℕ) (s : Slot) → k < first → slice_get slots k ≡ Some s → s.name ≢ name
 
--- A search has come to this place, and found nothing before it.
-pub record HasSought (tells : Bool) (start now : State) (d : DraftState) (dir : ℕ) (name : List ℕ) (first : ℕ) : Type 0 where
+-- A search in the blocks of a directory of so many slots has come to this place, which begins a block, and found nothing before it.
+pub record HasSought (tells : Bool) (start now : State) (d : DraftState) (node : List ℕ) (count : ℕ) (name : List ℕ) (first : ℕ) : Type 0 where
   pub looks : LooksOnly tells false start now
-  pub misses : IsTrue tells → (slots : List Slot) → inodes_in start d dir ≡ Some (ADir slots) → MissesBefore slots name first
+  pub begins : first % 16 ≡ 0
+  pub misses : IsTrue tells → (slots : List Slot) → HasSlots start d node slots → length slots ≡ count → MissesBefore slots name first
 
 -- What one name more of a walk comes to: the number under the name, which is a node in use, or why there is none.
 pub record EntersOn (m : Inodes) (k : ℕ) (name : List ℕ) (next : Result ℕ Refusal) : Type 0 where
@@ -52,7 +67,8 @@ pub record HasWalked (tells : Bool) (start now : State) (d : DraftState) (names 
   pub walks : IsTrue tells → (t : Tree) → IsMapOf start.books.geom.i (inodes_in start d) t → walk_on (inodes_in start d) 1 names ≡ walk_on (inodes_in start d) k rest
   pub used : IsTrue tells → (t : Tree) → IsMapOf start.books.geom.i (inodes_in start d) t → (x : Inode) × (inodes_in start d k ≡ Some x)
 
--- The names of the slots before this place were appended.
-pub record HasListed (tells : Bool) (start now : State) (d : DraftState) (dir first : ℕ) (before into : List (List ℕ)) : Type 0 where
+-- Of a directory of so many slots the names of those before this place, which begins a block, were appended.
+pub record HasListed (tells : Bool) (start now : State) (d : DraftState) (node : List ℕ) (count first : ℕ) (before into : List (List ℕ)) : Type 0 where
   pub looks : LooksOnly tells false start now
-  pub names : IsTrue tells → (slots : List Slot) → inodes_in start d dir ≡ Some (ADir slots) → into ≡ before ++ map (λ (s : Slot). s.name) (take first slots)
+  pub begins : first % 16 ≡ 0
+  pub names : IsTrue tells → (slots : List Slot) → HasSlots start d node slots → length slots ≡ count → into ≡ before ++ map (λ (s : Slot). s.name) (take first slots)

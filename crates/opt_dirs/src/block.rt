@@ -1,25 +1,22 @@
 //! One block of a directory: its bytes read from the draft, a name found in it, and a slot read from it. Which
 //! block it is, is for its callers to say.
 
-ghost use Rattle.std.specs.Prelude.{◌≡◌, ◌≤◌, ◌<◌, ◌++◌, ℕ, IsTrue, List, length, take, drop, min, replicate, slice_get, slice_index, Some, IfErr, IfSome, OnOk};
+ghost use Rattle.std.specs.Prelude.{◌≡◌, ◌≤◌, ◌<◌, ◌%◌, ℕ, IsTrue, is_err, List, length, slice_get, slice_index, Some, IfSome, OnOk};
 ghost use Rattle.opt_layout.specs.declared.slot.Slot.{Slot as SlotValue};
 ghost use Rattle.opt_layout.specs.Slot.{slot_of, slots_in};
-ghost use Rattle.opt_stands.specs.Inodes.{ADir};
-ghost use Rattle.opt_files.specs.Content.{fails_reading};
 ghost use Rattle.opt_files.specs.Effects.{LooksOnly};
-ghost use Rattle.opt_files.specs.Calls.{LookRefused};
-ghost use Rattle.opt_dirs.specs.Directories.{inodes_in, Finds};
-ghost use Rattle.opt_dirs.specs.Reading.{MayRead, slots_from};
+ghost use Rattle.opt_dirs.specs.Directories.{Finds};
+ghost use Rattle.opt_dirs.specs.Reading.{MayReadBlocks, HasSlots, slots_from};
 
 use crate::lookup::Found;
 use opt_base::limits::BLOCK_LENGTH;
-use opt_base::{Block, Name};
+use opt_base::{Block, Name, ReadFault};
 use opt_blocks::Blocks;
 use opt_dirent::{entries_follow_their_bytes, find, read_slot, slots_read_back};
-use opt_files::{Draft, FileRefusal, a_directory_has_whole_slots};
+use opt_files::{Draft, NodeBlocks, a_directory_has_whole_slots};
 use opt_inodes::{a_name_stands_at_its_place, slots_follow_the_bytes};
 use opt_layout::{SLOT_LENGTH, Slot};
-use std::alloc::Global;
+use std::slice;
 
 /// How many slots a block has.
 pub(crate) const SLOTS_IN_BLOCK: u32 = 16;
@@ -27,48 +24,27 @@ pub(crate) const SLOTS_IN_BLOCK: u32 = 16;
 /// A block of zeros.
 pub(crate) const ZEROS: Block = [0; BLOCK_LENGTH];
 
-/// Reads the block of directory `dir` that begins with place `first`: its slots, and zeros behind the last
-/// one.
+/// Reads one of these blocks, which are those of a directory: its slots from place `first` on, which begins a
+/// block.
 ///
 /// # Errors
-/// As `Draft::read_at`.
-pub(crate) fn read_block<S: Blocks>(
+/// As `Draft::read_block`.
+pub(crate) fn read_slots<S: Blocks>(
     draft: &Draft,
-    alloc: Global,
     blocks: &mut S,
-    dir: u32,
+    node: &NodeBlocks,
     first: u32,
     into: &mut Block,
-) -> Result<(), FileRefusal>
-    requires { MayRead S.tells (S.state blocks.old) draft.now dir }
-    ensures slots { IsTrue S.tells → OnOk result ((slots : List SlotValue) → inodes_in (S.state blocks.old) draft.now dir ≡ Some (ADir slots)
-        → slots_in (length (slots_from first slots)) into.new ≡ Some (slots_from first slots)) }
-    ensures refused { IfErr result LookRefused }
-    ensures looks { LooksOnly S.tells (fails_reading result) (S.state blocks.old) (S.state blocks.new) }
+) -> Result<(), ReadFault>
+    requires read { MayReadBlocks S.tells (S.state blocks.old) draft.now node.now }
+    requires begins { first % 16 ≡ 0 }
+    ensures slots { IsTrue S.tells → OnOk result ((slots : List SlotValue) → HasSlots (S.state blocks.old) draft.now node.now slots → slots_in (length (slots_from first slots)) into.new ≡ Some (slots_from first slots)) }
+    ensures looks { LooksOnly S.tells (is_err result) (S.state blocks.old) (S.state blocks.new) }
 {
     a_directory_has_whole_slots::<S>();
     slots_follow_the_bytes();
-    let offset = SLOT_LENGTH as u64 * u64::from(first);
-    let bytes = draft.read_at(alloc, blocks, dir, offset, BLOCK_LENGTH as u32)?;
-    copy_front(into, bytes.as_slice());
+    draft.read_block(blocks, node, first / SLOTS_IN_BLOCK, into)?;
     Ok(())
-}
-
-/// The block has these bytes from its front on, as many as there is room for, and zeros behind them.
-fn copy_front(into: &mut Block, bytes: &[u8])
-    ensures { into.new ≡ take (min (length bytes.now) 1024) bytes.now ++ drop (min (length bytes.now) 1024) (replicate 1024 0) }
-{
-    *into = ZEROS;
-    let count = bytes.len().min(BLOCK_LENGTH);
-    put_front(into, &bytes[..count]);
-}
-
-/// Writes these bytes over the first ones of the block.
-fn put_front(block: &mut Block, bytes: &[u8])
-    requires { length bytes.now ≤ 1024 }
-    ensures { block.new ≡ bytes.now ++ drop (length bytes.now) block.old }
-{
-    block[..bytes.len()].copy_from_slice(bytes);
 }
 
 /// The slot at a place of the block, or `None` where its bytes are none.
@@ -106,8 +82,7 @@ pub(crate) fn find_in(block: &Block, entries: u32, name: &Name) -> Option<Found>
     ensures low { IfSome result (λ found. found.place < entries) }
 {
     a_name_stands_at_its_place();
-    let dir = [*block];
-    let place = find(dir.as_slice(), entries, name)?;
+    let place = find(slice::from_ref(block), entries, name)?;
     let slot = slot_in(block, place)?;
     Some(Found {
         place,

@@ -16,7 +16,7 @@ ghost use Rattle.opt_dirs.specs.Directories.{inodes_in};
 ghost use Rattle.opt_dirs.specs.Reading.{MayRead};
 ghost use Rattle.opt_dirs.specs.Changing.{Alters, HasPlace, IsWithSlots};
 
-use crate::block::{ZEROS, read_block, slot_in};
+use crate::block::{SLOTS_IN_BLOCK, ZEROS, read_slots, slot_in};
 use crate::lookup::count_slots;
 use opt_blocks::{Blocks, calls_compose};
 use opt_dirent::write_slot;
@@ -94,7 +94,7 @@ pub fn take_slot<S: Blocks>(
     let Some(last) = last_place(draft, blocks, dir)? else {
         return Ok(());
     };
-    let Some(moved) = slot_at(draft, alloc, blocks, dir, last)? else {
+    let Some(moved) = slot_at(draft, blocks, dir, last)? else {
         return Ok(());
     };
     set_slot(draft, alloc, blocks, dir, place, &moved)?;
@@ -133,10 +133,9 @@ fn last_place<S: Blocks>(
 /// The slot at `place` of directory `dir`, or `None` where its bytes are none.
 ///
 /// # Errors
-/// A read of the disk failed, which the disk has counted; or out of memory.
+/// A read of the disk failed, which the disk has counted.
 fn slot_at<S: Blocks>(
     draft: &Draft,
-    alloc: Global,
     blocks: &mut S,
     dir: u32,
     place: u32,
@@ -146,9 +145,12 @@ fn slot_at<S: Blocks>(
     ensures refused { IfErr result LookRefused }
     ensures looks { LooksOnly S.tells (fails_reading result) (S.state blocks.old) (S.state blocks.new) }
 {
+    calls_compose::<S>();
+    let node = draft.blocks_of(blocks, dir)?;
+    let within = place % SLOTS_IN_BLOCK;
     let mut block = ZEROS;
-    read_block(draft, alloc, blocks, dir, place, &mut block)?;
-    Ok(slot_in(&block, 0))
+    read_slots(draft, blocks, &node, place - within, &mut block)?;
+    Ok(slot_in(&block, within))
 }
 
 /// Directory `dir` keeps its first `count` slots, which are fewer than it has.

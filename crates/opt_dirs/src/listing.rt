@@ -1,25 +1,25 @@
 //! The names of a directory of a draft, in their order, as a listing needs them.
 
-ghost use Rattle.std.specs.Prelude.{◌≡◌, ◌≤◌, ◌<◌, ◌^◌, ◌++◌, ℕ, IsTrue, false, List, [], ◌∷◌, map, slice_get, Some, IfOk, IfErr, OnOk};
+ghost use Rattle.std.specs.Prelude.{◌≡◌, ◌≤◌, ◌<◌, ◌^◌, ◌++◌, ℕ, IsTrue, false, List, [], ◌∷◌, length, map, slice_get, Some, IfOk, IfErr, OnOk};
 ghost use Rattle.std.specs.List.Sorted.{IsPermutation, IsSorted};
 ghost use Rattle.std.specs.Ordering.{nat_cmp};
 ghost use Rattle.std.specs.Cmp.Lexicographic.{slice_cmp};
 ghost use Rattle.opt_layout.specs.declared.slot.Slot.{Slot};
 ghost use Rattle.opt_layout.specs.Slot.{slots_in};
-ghost use Rattle.opt_stands.specs.Inodes.{Inode, ADir};
+ghost use Rattle.opt_stands.specs.Inodes.{ADir};
 ghost use Rattle.opt_files.specs.Sound.{IsDraftOf};
 ghost use Rattle.opt_files.specs.Content.{fails_reading};
 ghost use Rattle.opt_files.specs.Effects.{LooksOnly};
 ghost use Rattle.opt_files.specs.Calls.{LookRefused};
-ghost use Rattle.opt_dirs.specs.Directories.{inodes_in, slot_count};
-ghost use Rattle.opt_dirs.specs.Reading.{MayRead};
+ghost use Rattle.opt_dirs.specs.Directories.{inodes_in};
+ghost use Rattle.opt_dirs.specs.Reading.{MayReadBlocks, HasSlots};
 
-use crate::block::{SLOTS_IN_BLOCK, ZEROS, read_block, slot_in};
+use crate::block::{SLOTS_IN_BLOCK, ZEROS, read_slots, slot_in};
 use crate::lookup::count_slots;
 use opt_base::{Block, Name, NoMemory};
 use opt_blocks::{Blocks, calls_compose};
 use opt_dirent::entries_follow_their_bytes;
-use opt_files::{Draft, FileRefusal};
+use opt_files::{Draft, FileRefusal, NodeBlocks};
 use opt_tree::NameList;
 use std::alloc::Global;
 
@@ -48,27 +48,26 @@ pub fn names<S: Blocks>(
         Some(count) => count,
         None => return Ok(NameList::from_names(names)),
     };
-    push_names(draft, alloc, blocks, dir, count, &mut names)?;
+    let node = draft.blocks_of(blocks, dir)?;
+    push_names(draft, blocks, &node, count, &mut names)?;
     names.sort_unstable();
     Ok(NameList::from_names(names))
 }
 
-/// Appends the names of directory `dir`, which has so many slots, in the order of the slots.
+/// Appends the names of the directory with these blocks, which has so many slots, in the order of the slots.
 ///
 /// # Errors
 /// As `names`.
 fn push_names<S: Blocks>(
     draft: &Draft,
-    alloc: Global,
     blocks: &mut S,
-    dir: u32,
+    node: &NodeBlocks,
     count: u32,
     into: &mut Vec<Name>,
 ) -> Result<(), FileRefusal>
-    requires read { MayRead S.tells (S.state blocks.old) draft.now dir }
-    requires count { IsTrue S.tells → (x : Inode) → inodes_in (S.state blocks.old) draft.now dir ≡ Some x → Some count ≡ slot_count x }
+    requires read { MayReadBlocks S.tells (S.state blocks.old) draft.now node.now }
     requires few { count < 2 ^ 24 }
-    ensures names { IsTrue S.tells → OnOk result ((slots : List Slot) → inodes_in (S.state blocks.old) draft.now dir ≡ Some (ADir slots) → into.new.items ≡ into.old.items ++ map (λ s. s.name) slots) }
+    ensures names { IsTrue S.tells → OnOk result ((slots : List Slot) → HasSlots (S.state blocks.old) draft.now node.now slots → length slots ≡ count → into.new.items ≡ into.old.items ++ map (λ s. s.name) slots) }
     ensures refused { IfErr result LookRefused }
     ensures looks { LooksOnly S.tells (fails_reading result) (S.state blocks.old) (S.state blocks.new) }
 {
@@ -76,7 +75,7 @@ fn push_names<S: Blocks>(
     let mut block = ZEROS;
     let mut first = 0;
     while first < count {
-        read_block(draft, alloc, blocks, dir, first, &mut block)?;
+        read_slots(draft, blocks, node, first, &mut block)?;
         let entries = (count - first).min(SLOTS_IN_BLOCK);
         push_block(&block, entries, into)?;
         first += SLOTS_IN_BLOCK;

@@ -12,17 +12,18 @@ ghost use Rattle.opt_files.specs.Content.{fails_reading};
 ghost use Rattle.opt_files.specs.Effects.{LooksOnly};
 ghost use Rattle.opt_files.specs.Calls.{files_in, IsUsed, LookRefused};
 ghost use Rattle.opt_dirs.specs.Directories.{inodes_in, slot_count, Finds, IsNumber};
-ghost use Rattle.opt_dirs.specs.Reading.{MayRead, MayLook};
+ghost use Rattle.opt_dirs.specs.Reading.{MayRead, MayLook, MayReadBlocks, HasSlots};
 
-use crate::block::{SLOTS_IN_BLOCK, ZEROS, find_in, read_block};
+use crate::block::{SLOTS_IN_BLOCK, ZEROS, find_in, read_slots};
 use opt_base::{Name, ReadFault};
 use opt_blocks::{Blocks, calls_compose};
 use opt_dirent::a_name_has_its_first_place;
-use opt_files::{Draft, FileRefusal, a_directory_has_whole_slots, a_file_fits_the_disk};
+use opt_files::{
+    Draft, FileRefusal, NodeBlocks, a_directory_has_whole_slots, a_file_fits_the_disk,
+};
 use opt_inodes::{a_name_stands_at_its_place, slots_follow_the_bytes};
 use opt_layout::{NodeKind, SLOT_LENGTH};
 use opt_stands::slots_name_nodes_in_use;
-use std::alloc::Global;
 
 /// Where a name stands in a directory.
 #[derive(Clone, Copy, Debug, PartialEq, Eq)]
@@ -82,10 +83,9 @@ fn slots_of(kind: NodeKind, size: u64) -> Option<u32>
 /// where the node is no directory.
 ///
 /// # Errors
-/// A read of the disk failed, which the disk has counted; or out of memory.
+/// A read of the disk failed, which the disk has counted.
 pub fn find<S: Blocks>(
     draft: &Draft,
-    alloc: Global,
     blocks: &mut S,
     dir: u32,
     name: &Name,
@@ -105,7 +105,7 @@ pub fn find<S: Blocks>(
     let Some(count) = count_slots(draft, blocks, dir)? else {
         return Ok(None);
     };
-    find_among(draft, alloc, blocks, dir, count, name)
+    find_among(draft, blocks, dir, count, name)
 }
 
 /// What stands under a name in directory `dir`, which has so many slots. A slot that names no number of the
@@ -115,7 +115,6 @@ pub fn find<S: Blocks>(
 /// As `find`.
 pub(crate) fn find_among<S: Blocks>(
     draft: &Draft,
-    alloc: Global,
     blocks: &mut S,
     dir: u32,
     count: u32,
@@ -134,7 +133,7 @@ pub(crate) fn find_among<S: Blocks>(
     slots_name_nodes_in_use();
     a_name_stands_at_its_place();
     let limit = blocks.geom().i();
-    let found = find_slot(draft, alloc, blocks, dir, count, name)?;
+    let found = find_slot(draft, blocks, dir, count, name)?;
     Ok(in_table(found, limit))
 }
 
@@ -160,7 +159,6 @@ fn in_table(found: Option<Found>, limit: u32) -> Option<Found>
 /// As `find`.
 fn find_slot<S: Blocks>(
     draft: &Draft,
-    alloc: Global,
     blocks: &mut S,
     dir: u32,
     count: u32,
@@ -175,12 +173,34 @@ fn find_slot<S: Blocks>(
     ensures looks { LooksOnly S.tells (fails_reading result) (S.state blocks.old) (S.state blocks.new) }
 {
     calls_compose::<S>();
+    let node = draft.blocks_of(blocks, dir)?;
+    Ok(search(draft, blocks, &node, count, name)?)
+}
+
+/// The first slot with this name of the directory with these blocks, which has so many slots.
+///
+/// # Errors
+/// A read of the disk failed, which the disk has counted.
+fn search<S: Blocks>(
+    draft: &Draft,
+    blocks: &mut S,
+    node: &NodeBlocks,
+    count: u32,
+    name: &Name,
+) -> Result<Option<Found>, ReadFault>
+    requires read { MayReadBlocks S.tells (S.state blocks.old) draft.now node.now }
+    requires few { count < 2 ^ 24 }
+    ensures found { IsTrue S.tells → IfOk result (λ found. (slots : List Slot) → HasSlots (S.state blocks.old) draft.now node.now slots → length slots ≡ count → Finds slots name.now found) }
+    ensures place { IfOk result (λ found. IfSome found (λ f. f.place < 2 ^ 24)) }
+    ensures looks { LooksOnly S.tells (is_err result) (S.state blocks.old) (S.state blocks.new) }
+{
+    calls_compose::<S>();
     a_name_has_its_first_place();
     a_name_stands_at_its_place();
     let mut block = ZEROS;
     let mut first = 0;
     while first < count {
-        read_block(draft, alloc, blocks, dir, first, &mut block)?;
+        read_slots(draft, blocks, node, first, &mut block)?;
         let entries = (count - first).min(SLOTS_IN_BLOCK);
         match find_in(&block, entries, name) {
             Some(found) => {

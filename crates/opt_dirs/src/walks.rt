@@ -20,7 +20,6 @@ use opt_files::{Draft, FileRefusal};
 use opt_inodes::a_name_stands_at_its_place;
 use opt_stands::slots_name_nodes_in_use;
 use opt_tree::{Path, Refusal};
-use std::alloc::Global;
 
 /// The number of the root.
 const ROOT: u32 = 1;
@@ -28,10 +27,9 @@ const ROOT: u32 = 1;
 /// The number that a path leads to, or why it leads nowhere.
 ///
 /// # Errors
-/// A read of the disk failed, which the disk has counted; or out of memory.
+/// A read of the disk failed, which the disk has counted.
 pub fn walk<S: Blocks>(
     draft: &Draft,
-    alloc: Global,
     blocks: &mut S,
     path: &Path,
 ) -> Result<Result<u32, Refusal>, FileRefusal>
@@ -42,7 +40,7 @@ pub fn walk<S: Blocks>(
     ensures refused { IfErr result LookRefused }
     ensures looks { LooksOnly S.tells (fails_reading result) (S.state blocks.old) (S.state blocks.new) }
 {
-    walk_names(draft, alloc, blocks, path.names())
+    walk_names(draft, blocks, path.names())
 }
 
 /// The number of the directory above a path, or why nothing can come to be at the path. `None` for the
@@ -52,7 +50,6 @@ pub fn walk<S: Blocks>(
 /// As `walk`.
 pub fn walk_to_parent<S: Blocks>(
     draft: &Draft,
-    alloc: Global,
     blocks: &mut S,
     path: &Path,
 ) -> Result<Result<Option<u32>, Refusal>, FileRefusal>
@@ -70,7 +67,7 @@ pub fn walk_to_parent<S: Blocks>(
         return Ok(Ok(None));
     }
     let up = &names[..count - 1];
-    let number = match walk_names(draft, alloc, blocks, up)? {
+    let number = match walk_names(draft, blocks, up)? {
         Ok(number) => number,
         Err(why) => return Ok(Err(why)),
     };
@@ -86,7 +83,6 @@ pub fn walk_to_parent<S: Blocks>(
 /// As `walk`.
 fn walk_names<S: Blocks>(
     draft: &Draft,
-    alloc: Global,
     blocks: &mut S,
     names: &[Name],
 ) -> Result<Result<u32, Refusal>, FileRefusal>
@@ -102,7 +98,7 @@ fn walk_names<S: Blocks>(
     blocks.geom().lawful();
     let mut number = ROOT;
     for name in names {
-        match enter(draft, alloc, blocks, number, name)? {
+        match enter(draft, blocks, number, name)? {
             Ok(next) => number = next,
             Err(why) => return Ok(Err(why)),
         }
@@ -116,7 +112,6 @@ fn walk_names<S: Blocks>(
 /// As `walk`.
 fn enter<S: Blocks>(
     draft: &Draft,
-    alloc: Global,
     blocks: &mut S,
     number: u32,
     name: &Name,
@@ -137,7 +132,7 @@ fn enter<S: Blocks>(
     let Some(count) = count_slots(draft, blocks, number)? else {
         return Ok(Err(Refusal::NotDir));
     };
-    match find_among(draft, alloc, blocks, number, count, name)? {
+    match find_among(draft, blocks, number, count, name)? {
         Some(found) => Ok(Ok(found.node)),
         None => Ok(Err(Refusal::NotFound)),
     }

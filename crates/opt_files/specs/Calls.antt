@@ -1,5 +1,5 @@
 -- What the calls on files make of the files and of the draft. It is described in docs/FILES.md.
-use Rattle.std.specs.Prelude.{◌≡◌, ◌≢◌, ℕ, ◌+◌, ◌-◌, ◌/◌, ◌<◌, ◌≤◌, nat_le, ⊤, Bool, true, false, ◌||◌, if◌then◌else◌, List, [], ◌∷◌, ◌++◌, length, take, drop, Option, None, Some, is_some}
+use Rattle.std.specs.Prelude.{◌≡◌, ◌≢◌, ℕ, ◌+◌, ◌-◌, ◌*◌, ◌/◌, ◌<◌, ◌≤◌, nat_le, ⊤, Bool, true, false, ◌||◌, if◌then◌else◌, List, [], ◌∷◌, ◌++◌, length, take, drop, Option, None, Some, is_some}
 use Rattle.opt_base.specs.Seal.{Blocks}
 use Rattle.opt_base.specs.Runs.{run_places}
 use Rattle.opt_geom.specs.Geometry.{Geometry}
@@ -36,6 +36,10 @@ places_of g m k = places_or_none (used_node g m k)
 -- the blocks of node k, in order, as a draft has them
 abbrev pub places_in : State → DraftState → ℕ → List ℕ
 places_in s d k = places_of s.books.geom (drafted d s.map) k
+
+-- the bytes that a file has in its block i: at most 1,024
+abbrev pub block_bytes : FileNode → ℕ → List ℕ
+block_bytes x i = take 1024 (drop (1024 * i) x.bytes)
 
 -- a node in use
 abbrev pub IsUsed : Files → ℕ → Type 0

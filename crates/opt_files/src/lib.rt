@@ -11,6 +11,7 @@ mod finish;
 mod grow;
 mod laws;
 mod look;
+mod node_blocks;
 mod nodes;
 mod price;
 mod refusal;
@@ -27,4 +28,5 @@ pub use laws::{
     bytes_lie_in_blocks,
 };
 pub use look::FileFacts;
+pub use node_blocks::NodeBlocks;
 pub use refusal::FileRefusal;

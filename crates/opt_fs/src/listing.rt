@@ -251,7 +251,7 @@ fn turn<S: Blocks, K: Sink>(
     };
     let dir = frame.dir;
     walk.frames.push(frame)?;
-    let Some(found) = find(draft, alloc, blocks, dir, &name)? else {
+    let Some(found) = find(draft, blocks, dir, &name)? else {
         return Ok(());
     };
     walk.path.push(name)?;

@@ -80,7 +80,7 @@ pub(crate) fn find_node<S: Blocks>(
     blocks_have_the_map_of_their_tree();
     walks_are_the_same();
     let draft = Draft::new(alloc);
-    let number = match walk(&draft, alloc, blocks, path)? {
+    let number = match walk(&draft, blocks, path)? {
         Ok(number) => number,
         Err(why) => return Ok(Err(why)),
     };
@@ -110,7 +110,7 @@ pub(crate) fn look_up<S: Blocks>(
     blocks_have_the_map_of_their_tree();
     walks_are_the_same();
     let draft = Draft::new(alloc);
-    let dir = match walk_to_parent(&draft, alloc, blocks, path)? {
+    let dir = match walk_to_parent(&draft, blocks, path)? {
         Ok(Some(dir)) => dir,
         Ok(None) => return Ok(Ok(Spot::Root)),
         Err(why) => return Ok(Err(why)),
@@ -121,17 +121,16 @@ pub(crate) fn look_up<S: Blocks>(
     let Some(count) = count_slots(&draft, blocks, dir)? else {
         return Ok(Err(Refusal::NotDir));
     };
-    let entry = find_entry(&draft, alloc, blocks, dir, name)?;
+    let entry = find_entry(&draft, blocks, dir, name)?;
     Ok(Ok(Spot::Inside { dir, count, entry }))
 }
 
 /// What stands under a name in directory `dir`.
 ///
 /// # Errors
-/// A read of the disk failed, which the disk has counted; or out of memory.
+/// A read of the disk failed, which the disk has counted.
 fn find_entry<S: Blocks>(
     draft: &Draft,
-    alloc: Global,
     blocks: &mut S,
     dir: u32,
     name: &Name,
@@ -148,7 +147,7 @@ fn find_entry<S: Blocks>(
     calls_compose::<S>();
     slots_name_nodes_in_use();
     a_name_stands_at_its_place();
-    let Some(found) = find(draft, alloc, blocks, dir, name)? else {
+    let Some(found) = find(draft, blocks, dir, name)? else {
         return Ok(None);
     };
     let Some(facts) = draft.look(blocks, found.node)? else {

@@ -1,6 +1,6 @@
 -- The slots of one block of a directory.
-use Rattle.std.proofs.Common.{◌≡◌, ℕ, suc, ◌+◌, ◌-◌, ◌*◌, ◌<◌, List, [], ◌∷◌, ◌++◌, length, take, drop, min, get_or, slice_get, slice_index, Option, None, Some, refl, sym, ap, ap₂, ◌∙◌, arith}
-use Rattle.std.proofs.lemmas.List.{length-take, take_all, drop-drop}
+use Rattle.std.proofs.Common.{◌≡◌, ℕ, suc, ◌+◌, ◌-◌, ◌*◌, ◌/◌, ◌%◌, ◌<◌, List, [], ◌∷◌, ◌++◌, length, take, drop, get_or, slice_get, slice_index, Option, None, Some, refl, sym, ap, ap₂, ◌∙◌, arith}
+use Rattle.std.proofs.lemmas.List.{take-append-drop, drop-drop}
 use Rattle.std.proofs.lemmas.Option.{slice_get-get_or}
 use Rattle.opt_layout.specs.declared.slot.Slot.{Slot}
 use Rattle.opt_layout.specs.Slot.{slot_of, slots_in, slot_spelling, then_slot}
@@ -15,23 +15,26 @@ each_reads (s ∷ slots) b each =
     ap₂ then_slot (each 0 s refl) (each_reads slots (drop 64 b) (λ i t at. ap (λ l. slot_of (take 64 l)) (drop-drop (64 * i) 64 b ∙ ap (λ n. drop n b) {x = 64 + 64 * i} {y = 64 * suc i} (omega arith)) ∙ each (suc i) t at))
 
 -- the block that begins with a place has the slots from there on
-pub block_slots : (first offset : ℕ) (xs bytes block : List ℕ) (slots : List Slot) → offset ≡ 64 * first → length xs ≡ 64 * length slots
+pub block_slots : (first index : ℕ) (xs block : List ℕ) (slots : List Slot) → index ≡ first / 16 → first % 16 ≡ 0 → length xs ≡ 64 * length slots
     → ((place : ℕ) (s : Slot) → slice_get slots place ≡ Some s → slot_of (take 64 (drop (64 * place) xs)) ≡ Some s)
-    → bytes ≡ take 1024 (drop offset xs) → (more : List ℕ) → block ≡ take (min (length bytes) 1024) bytes ++ more
+    → take (length (take 1024 (drop (1024 * index) xs))) block ≡ take 1024 (drop (1024 * index) xs)
     → slots_in (length (slots_from first slots)) block ≡ Some (slots_from first slots)
-block_slots first offset xs bytes block slots at size reads bytes_are more block_is =
+block_slots first index xs block slots at begins size reads block_is =
     each_reads (slots_from first slots) block (λ i s here.
     let low = part_within 16 first slots i s here in
     ap (λ b. slot_of (take 64 (drop (64 * i) b))) whole
-    ∙ ap slot_of (cut_out 1024 (64 * i) 64 (64 * first) xs more (omega (arith, low.0)) (omega (arith, low.1, size)))
+    ∙ ap slot_of (cut_out 1024 (64 * i) 64 (64 * first) xs (drop n block) (omega (arith, low.0)) (omega (arith, low.1, size)))
     ∙ ap (λ n. slot_of (take 64 (drop n xs))) {x = 64 * first + 64 * i} {y = 64 * (first + i)} (omega arith)
     ∙ reads (first + i) s (part_at 16 first slots i s here))
   where
-    bytes_is : bytes ≡ take 1024 (drop (64 * first) xs)
-    bytes_is = bytes_are ∙ ap (λ n. take 1024 (drop n xs)) at
+    n : ℕ
+    n = length (take 1024 (drop (1024 * index) xs))
 
-    whole : block ≡ take 1024 (drop (64 * first) xs) ++ more
-    whole = block_is ∙ ap (λ l. l ++ more) (take_all (min (length bytes) 1024) bytes (omega (arith, ap length bytes_is, length-take 1024 (drop (64 * first) xs))) ∙ bytes_is)
+    whole : block ≡ take 1024 (drop (64 * first) xs) ++ drop n block
+    whole =
+        sym (take-append-drop n block)
+        ∙ ap (λ l. l ++ drop n block) block_is
+        ∙ ap (λ k. take 1024 (drop k xs) ++ drop n block) {x = 1024 * index} {y = 64 * first} (omega (arith, at, begins))
 
 -- the slot whose spelling the bytes are is the one that they read as
 pub reads_spelled : ((s : Slot) → IsLawful s → slot_of (slot_spelling s) ≡ Some s) → (b : List ℕ) (s : Slot) → IsSlot b s → Some s ≡ slot_of b

@@ -4,16 +4,11 @@ use Rattle.std.proofs.Math.Seq.{take-add}
 use Rattle.std.proofs.lemmas.List.{map-append}
 use Rattle.std.proofs.lemmas.Option.{slice_get-get_or}
 use Rattle.opt_layout.specs.declared.slot.Slot.{Slot}
-use Rattle.opt_stands.specs.Inodes.{ADir}
 use Rattle.opt_blocks.specs.State.{State}
 use Rattle.opt_files.specs.Drafts.{DraftState}
 use Rattle.opt_files.specs.Effects.{LooksOnly}
-use Rattle.opt_dirs.specs.Directories.{inodes_in, slot_count}
-use Rattle.opt_dirs.specs.Reading.{HasListed, slots_from}
+use Rattle.opt_dirs.specs.Reading.{HasSlots, HasListed, slots_from}
 use Rattle.opt_dirs.proofs.reading.Looks.{looks_more}
-
-some_same : {A : Type 0} (x y : A) → Some x ≡ Some y → x ≡ y
-some_same x y e = cc
 
 -- the name of a slot
 abbrev name_of : Slot → List ℕ
@@ -31,18 +26,19 @@ one_more before old new slots place low is pushed =
     ∙ ap (λ l. before ++ l) (sym (map-append name_of (take place slots) (s ∷ [])) ∙ ap (map name_of) (sym (take-suc slots place d low)) ∙ ap (λ n. map name_of (take n slots)) {x = suc place} {y = place + 1} (omega arith))
 
 -- those of a block more
-pub block_more : (tells : Bool) (start now new : State) (d : DraftState) (dir first : ℕ) (before old all : List (List ℕ)) → HasListed tells start now d dir first before old → LooksOnly tells false now new
-    → (IsTrue tells → (slots : List Slot) → inodes_in start d dir ≡ Some (ADir slots) → all ≡ old ++ map (λ (s : Slot). s.name) (slots_from first slots)) → HasListed tells start new d dir (first + 16) before all
-block_more tells start now new d dir first before old all h looks more = record {
+pub block_more : (tells : Bool) (start now new : State) (d : DraftState) (node : List ℕ) (count first : ℕ) (before old all : List (List ℕ)) → HasListed tells start now d node count first before old → LooksOnly tells false now new
+    → (IsTrue tells → (slots : List Slot) → HasSlots start d node slots → length slots ≡ count → all ≡ old ++ map (λ (s : Slot). s.name) (slots_from first slots)) → HasListed tells start new d node count (first + 16) before all
+block_more tells start now new d node count first before old all h looks more = record {
   looks = looks_more tells false start now new h.looks looks;
-  names = λ told slots is.
-      more told slots is
-      ∙ ap (λ l. l ++ map name_of (slots_from first slots)) (h.names told slots is)
+  begins = omega (arith, h.begins);
+  names = λ told slots has many.
+      more told slots has many
+      ∙ ap (λ l. l ++ map name_of (slots_from first slots)) (h.names told slots has many)
       ∙ append_assoc before (map name_of (take first slots)) (map name_of (slots_from first slots))
       ∙ ap (λ l. before ++ l) (sym (map-append name_of (take first slots) (slots_from first slots)) ∙ ap (map name_of) (sym (take-add first 16 slots)));
 }
 
 -- at the end those of all slots
-pub all_listed : (slots : List Slot) (before into : List (List ℕ)) (count first : ℕ) → Some count ≡ slot_count (ADir slots) → count ≤ first → into ≡ before ++ map (λ (s : Slot). s.name) (take first slots) → into ≡ before ++ map (λ (s : Slot). s.name) slots
+pub all_listed : (slots : List Slot) (before into : List (List ℕ)) (count first : ℕ) → length slots ≡ count → count ≤ first → into ≡ before ++ map (λ (s : Slot). s.name) (take first slots) → into ≡ before ++ map (λ (s : Slot). s.name) slots
 all_listed slots before into count first many all is =
-    is ∙ ap (λ l. before ++ map name_of l) (take_all first slots (omega (arith, all, some_same count (length slots) many)))
+    is ∙ ap (λ l. before ++ map name_of l) (take_all first slots (omega (arith, all, many)))

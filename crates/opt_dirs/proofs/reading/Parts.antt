@@ -25,12 +25,18 @@ module _ {A : Type 0} (n from : ℕ) (xs : List A) where
       let within = slice_get_within xs (from + i) x at in
       slice_get-get_or (take n (drop from xs)) i x (omega (arith, low, within, part_length)) ∙ ap Some (get_or-take n (drop from xs) i x low ∙ get_or-drop from xs i x ∙ get_or_from_slice_get xs (from + i) x x at)
 
--- what is first in a part that isn't empty
-pub part_first : {A : Type 0} (n from : ℕ) (xs : List A) → slice_get (take (suc n) (drop from xs)) 0 ≡ slice_get xs from
-part_first n zero [] = refl
-part_first n zero (x ∷ xs) = refl
-part_first n (suc from) [] = refl
-part_first n (suc from) (x ∷ xs) = part_first n from xs
+-- what is at a place of the first ones, or that nothing is
+first_is : {A : Type 0} (n : ℕ) (xs : List A) (i : ℕ) → i < n → slice_get (take n xs) i ≡ slice_get xs i
+first_is zero xs i low = absurd (omega (arith, low))
+first_is (suc n) [] i low = refl
+first_is (suc n) (x ∷ xs) zero low = refl
+first_is (suc n) (x ∷ xs) (suc i) low = first_is n xs i (omega (arith, low))
+
+-- and of a part that may have the place
+pub part_is : {A : Type 0} (n from : ℕ) (xs : List A) (i : ℕ) → i < n → slice_get (take n (drop from xs)) i ≡ slice_get xs (from + i)
+part_is n zero xs i low = first_is n xs i low ∙ ap (slice_get xs) {x = i} {y = 0 + i} (omega arith)
+part_is n (suc from) [] i low = first_is n [] i low
+part_is n (suc from) (x ∷ xs) i low = part_is n from xs i low ∙ ap (slice_get (x ∷ xs)) {x = suc (from + i)} {y = suc from + i} (omega arith)
 
 -- bytes cut out of a part of others, with more behind it
 pub cut_out : {A : Type 0} (n at count from : ℕ) (xs more : List A) → at + count ≤ n → from + at + count ≤ length xs → take count (drop at (take n (drop from xs) ++ more)) ≡ take count (drop (from + at) xs)

@@ -14,9 +14,9 @@ use Rattle.opt_files.specs.Drafts.{DraftState}
 use Rattle.opt_files.specs.Effects.{LooksOnly}
 use Rattle.opt_inodes.specs.Changes.{slot_of}
 use Rattle.opt_dirs.specs.declared.lookup.Found.{Found}
-use Rattle.opt_dirs.specs.Directories.{inodes_in, slot_count, Finds, IsNumber}
-use Rattle.opt_dirs.specs.Reading.{MissesBefore, HasSought, slots_from}
-use Rattle.opt_dirs.proofs.reading.Looks.{looks_more, same_inodes}
+use Rattle.opt_dirs.specs.Directories.{Finds, IsNumber}
+use Rattle.opt_dirs.specs.Reading.{HasSlots, MissesBefore, HasSought, slots_from}
+use Rattle.opt_dirs.proofs.reading.Looks.{looks_more, same_inodes, same_places}
 use Rattle.opt_dirs.proofs.reading.Names.{finds_slot, finds_nothing}
 use Rattle.opt_dirs.proofs.reading.Parts.{part_at, part_has, part_length}
 
@@ -68,27 +68,36 @@ module _ (first_law : (name : List ℕ) (slots : List Slot) (i k : ℕ) (s : Slo
       (misses_upto slots name first found.place small before (λ k s low at. first_law name (slots_from first slots) found.place k s (sym h.place) low at))
 
   -- the search goes on behind a block in which nothing was found
-  pub sought_more : (tells : Bool) (start now new : State) (d : DraftState) (dir : ℕ) (name : List ℕ) (first : ℕ) → HasSought tells start now d dir name first → LooksOnly tells false now new
-      → (IsTrue tells → (slots : List Slot) → inodes_in start d dir ≡ Some (ADir slots) → Finds (slots_from first slots) name None) → HasSought tells start new d dir name (first + 16)
-  sought_more tells start now new d dir name first h looks none = record {
+  pub sought_more : (tells : Bool) (start now new : State) (d : DraftState) (node : List ℕ) (count : ℕ) (name : List ℕ) (first : ℕ) → HasSought tells start now d node count name first → LooksOnly tells false now new
+      → (IsTrue tells → (slots : List Slot) → HasSlots start d node slots → length slots ≡ count → Finds (slots_from first slots) name None) → HasSought tells start new d node count name (first + 16)
+  sought_more tells start now new d node count name first h looks none = record {
     looks = looks_more tells false start now new h.looks looks;
-    misses = λ told slots is. misses_more slots name first (h.misses told slots is) (none_there (slots_from first slots) name (none told slots is));
+    begins = omega (arith, h.begins);
+    misses = λ told slots has many. misses_more slots name first (h.misses told slots has many) (none_there (slots_from first slots) name (none told slots has many));
   }
 
 -- how many slots the block has
-pub entries_are : (slots : List Slot) (count first entries : ℕ) → Some count ≡ slot_count (ADir slots) → entries ≡ min (count - first) 16 → entries ≡ length (slots_from first slots)
-entries_are slots count first entries many e = omega (arith, e, some_same count (length slots) many, part_length 16 first slots)
+pub entries_are : (slots : List Slot) (count first entries : ℕ) → length slots ≡ count → entries ≡ min (count - first) 16 → entries ≡ length (slots_from first slots)
+entries_are slots count first entries many e = omega (arith, e, many, part_length 16 first slots)
+
+-- a directory with these blocks has its slots still, where blocks were looked at
+pub slots_stay : (tells : Bool) (start now : State) (d : DraftState) (node : List ℕ) (slots : List Slot) → LooksOnly tells false start now → IsTrue tells → HasSlots start d node slots → HasSlots now d node slots
+slots_stay tells start now d node slots looks told h = record {
+  dir = h.dir;
+  is = ap (λ m. m h.dir) (same_inodes tells false start now d looks told) ∙ h.is;
+  blocks = h.blocks ∙ sym (same_places tells false start now d looks h.dir told);
+}
 
 -- the slots of a block that was read, as so many entries
-pub read_entries : (tells : Bool) (start now : State) (d : DraftState) (dir count first entries : ℕ) (block : List ℕ) (slots : List Slot) → LooksOnly tells false start now → IsTrue tells
-    → inodes_in start d dir ≡ Some (ADir slots) → Some count ≡ slot_count (ADir slots) → entries ≡ min (count - first) 16
-    → ((slots : List Slot) → inodes_in now d dir ≡ Some (ADir slots) → slots_in (length (slots_from first slots)) block ≡ Some (slots_from first slots)) → slots_in entries block ≡ Some (slots_from first slots)
-read_entries tells start now d dir count first entries block slots looks told is many e reads =
-    ap (λ n. slots_in n block) (entries_are slots count first entries many e) ∙ reads slots (ap (λ m. m dir) (same_inodes tells false start now d looks told) ∙ is)
+pub read_entries : (tells : Bool) (start now : State) (d : DraftState) (count first entries : ℕ) (node block : List ℕ) (slots : List Slot) → LooksOnly tells false start now → IsTrue tells
+    → HasSlots start d node slots → length slots ≡ count → entries ≡ min (count - first) 16
+    → ((slots : List Slot) → HasSlots now d node slots → slots_in (length (slots_from first slots)) block ≡ Some (slots_from first slots)) → slots_in entries block ≡ Some (slots_from first slots)
+read_entries tells start now d count first entries node block slots looks told has many e reads =
+    ap (λ n. slots_in n block) (entries_are slots count first entries many e) ∙ reads slots (slots_stay tells start now d node slots looks told has)
 
 -- at the end nothing was found
-pub finds_end : (slots : List Slot) (name : List ℕ) (count first : ℕ) → Some count ≡ slot_count (ADir slots) → count ≤ first → MissesBefore slots name first → Finds slots name None
-finds_end slots name count first many all misses = finds_nothing slots name first (omega (arith, all, some_same count (length slots) many)) misses
+pub finds_end : (slots : List Slot) (name : List ℕ) (count first : ℕ) → length slots ≡ count → count ≤ first → MissesBefore slots name first → Finds slots name None
+finds_end slots name count first many all misses = finds_nothing slots name first (omega (arith, all, many)) misses
 
 -- what was found in a directory of a tree's map is a number of the table
 pub number_found : ((slots : List Slot) (name : List ℕ) (place : ℕ) → place_of name slots ≡ Some place → (node : ℕ) × (slice_get slots place ≡ Some (slot_of node name)) × (node_in slots name ≡ Some node))

@@ -1,6 +1,7 @@
 -- A call on a file that reads its bytes, and one that looks up the rest of it.
-use Rattle.std.proofs.Common.{◌≡◌, ℕ, ◌+◌, ◌-◌, ◌%◌, ◌≤◌, Bool, true, min, List, length, take, drop, All, Some, None, option_map, sym, ap, ◌∙◌, arith, subst}
+use Rattle.std.proofs.Common.{◌≡◌, ℕ, zero, suc, ◌+◌, ◌-◌, ◌*◌, ◌%◌, ◌≤◌, Bool, true, min, List, [], ◌∷◌, length, take, drop, All, Some, None, option_map, slice_get, refl, sym, ap, ◌∙◌, arith, subst, drop_of_length-le}
 use Rattle.std.proofs.lemmas.Bool.{eqb-true}
+use Rattle.std.proofs.lemmas.List.{take_all, length-take}
 use Rattle.opt_base.specs.Seal.{Blocks}
 use Rattle.opt_base.specs.Runs.{run_places}
 use Rattle.opt_extent.specs.Runs.{runs_of}
@@ -14,13 +15,13 @@ use Rattle.opt_blocks.specs.State.{Bookkeeping, State}
 use Rattle.opt_stands.specs.Files.{FileNode, file_of, files_of, used_node, joined}
 use Rattle.opt_files.specs.declared.nodes.OpenNode.{OpenNode}
 use Rattle.opt_files.specs.Bytes.{blocks_for}
-use Rattle.opt_files.specs.Calls.{facts_of, files_in}
+use Rattle.opt_files.specs.Calls.{block_bytes, facts_of, files_in, places_of, places_or_none}
 use Rattle.opt_files.specs.Content.{HasContent}
 use Rattle.opt_files.specs.Drafts.{DraftState, drafted, marks_of}
 use Rattle.opt_files.specs.Nodes.{node_of_open}
 use Rattle.opt_files.specs.Sound.{AreSoundBy, IsSoundDraft}
 use Rattle.opt_files.proofs.bytes.Contents.{read_part}
-use Rattle.opt_files.proofs.bytes.Joins.{joined_length}
+use Rattle.opt_files.proofs.bytes.Joins.{of_place, joined_length, joined_part}
 use Rattle.opt_files.proofs.bytes.Known.{content_known}
 use Rattle.opt_files.proofs.bytes.Sizes.{blocks_hold}
 use Rattle.opt_files.proofs.calling.Nodes.{its_file}
@@ -70,3 +71,73 @@ reads k m w d number o x offset len from end got sound inside count runs used at
     ∙ ap (λ n. take (min o.size (n + len) - n) (drop n (joined (drafted d m) o.places))) from_is
     ∙ sym (read_part o.size offset len (joined (drafted d m) o.places) long)
     ∙ ap (λ xs. take len (drop offset xs)) (sym text)
+
+-- the first bytes of a list are those that are as many
+take_length : (n : ℕ) (xs : List ℕ) → take (length (take n xs)) xs ≡ take n xs
+take_length zero xs = refl
+take_length (suc n) [] = refl
+take_length (suc n) (x ∷ xs) = ap (λ ys. x ∷ ys) (take_length n xs)
+
+-- what is behind a place among the first of a list
+drop_of_first : (size at : ℕ) (xs : List ℕ) → drop at (take size xs) ≡ take (size - at) (drop at xs)
+drop_of_first size zero xs = ap (λ n. take n xs) {x = size} {y = size - 0} (omega arith)
+drop_of_first zero (suc at) xs = ap (λ n. take n (drop (suc at) xs)) {x = 0} {y = 0 - suc at} (omega arith)
+drop_of_first (suc size) (suc at) [] = sym (take_all (suc size - suc at) [] (omega arith))
+drop_of_first (suc size) (suc at) (x ∷ xs) = drop_of_first size at xs ∙ ap (λ n. take n (drop at xs)) {x = size - at} {y = suc size - suc at} (omega arith)
+
+-- the first of the first, in either order
+take_swap : (m n : ℕ) (xs : List ℕ) → take m (take n xs) ≡ take n (take m xs)
+take_swap zero n xs = sym (take_all n [] (omega arith))
+take_swap (suc m) zero xs = refl
+take_swap (suc m) (suc n) [] = refl
+take_swap (suc m) (suc n) (x ∷ xs) = ap (λ ys. x ∷ ys) (take_swap m n xs)
+
+-- a part of the first bytes is the first of a part
+part_of_first : (size at : ℕ) (xs : List ℕ) → take 1024 (drop at (take size xs)) ≡ take (size - at) (take 1024 (drop at xs))
+part_of_first size at xs = ap (take 1024) (drop_of_first size at xs) ∙ take_swap 1024 (size - at) (drop at xs)
+
+-- so what is behind some bytes begins with what is behind them among the first ones
+begins : (size at : ℕ) (xs block : List ℕ) → take 1024 (drop at xs) ≡ block → take (length (take 1024 (drop at (take size xs)))) block ≡ take 1024 (drop at (take size xs))
+begins size at xs block is =
+    let first : take 1024 (drop at (take size xs)) ≡ take (size - at) block = part_of_first size at xs ∙ ap (take (size - at)) is in
+    ap (λ ys. take (length ys) block) first ∙ take_length (size - at) block ∙ sym first
+
+-- the places of a node that was loaded are those that it has as the draft has it
+pub node_places : (g : Geometry) (m : Blocks) (number : ℕ) (o : OpenNode) → run_places (runs_of o.places) ≡ o.places → option_map node_of_open (Some o) ≡ used_node g m number → o.places ≡ places_of g m number
+node_places g m number o runs used = sym runs ∙ ap places_or_none used
+
+-- the blocks of a node in use have their bytes
+places_whole : (k : Bookkeeping) (m : Blocks) (d : DraftState) (number : ℕ) (node : Node) (ps : List ℕ) → IsSoundDraft k m d → used_node k.geom (drafted d m) number ≡ Some node → ps ≡ run_places node.runs → All (IsData k.geom) ps → All (λ q. length (drafted d m q) ≡ 1024) ps
+places_whole k m d number node ps sound used same inside =
+    subst (All (λ q. length (drafted d m q) ≡ 1024)) (sym same) (content_known k m d number node sound used (subst (All (IsData k.geom)) same inside)).whole
+
+-- and the first of these are the file's
+text_of : (m : Blocks) (node : Node) (ps : List ℕ) (x : FileNode) → x ≡ file_of m node → ps ≡ run_places node.runs → x.bytes ≡ take node.size (joined m ps)
+text_of m node ps x is same = ap (λ (y : FileNode). y.bytes) is ∙ ap (λ qs. take node.size (joined m qs)) (sym same)
+
+-- a block that was read begins with the bytes that the file has in it
+pub block_begins : (k : Bookkeeping) (m : Blocks) (d : DraftState) (number index : ℕ) (ps block : List ℕ) (x : FileNode) → IsSoundDraft k m d → All (IsData k.geom) ps → files_of k.geom (drafted d m) number ≡ Some x → ps ≡ places_of k.geom (drafted d m) number
+    → (b : ℕ) → slice_get ps index ≡ Some b → (length (drafted d m b) ≡ 1024 → block ≡ drafted d m b)
+    → take (length (block_bytes x index)) block ≡ block_bytes x index
+block_begins k m d number index ps block x sound inside at ps_are b place seen =
+    let r = file_node k.geom (marks_of d k.marked) (drafted d m) number x sound.blocks at in
+    let same : ps ≡ run_places r.0.runs = ps_are ∙ ap places_or_none r.1 in
+    let whole : All (λ q. length (drafted d m q) ≡ 1024) ps = places_whole k m d number r.0 ps sound r.1 same inside in
+    let big : length (drafted d m b) ≡ 1024 = of_place (λ q. length (drafted d m q) ≡ 1024) ps index b whole place in
+    let here : take 1024 (drop (1024 * index) (joined (drafted d m) ps)) ≡ block =
+    ap (λ n. take 1024 (drop n (joined (drafted d m) ps))) {x = 1024 * index} {y = 1024 * index + 0} (omega arith)
+    ∙ joined_part (drafted d m) ps index b 0 1024 whole place (omega arith)
+    ∙ take_all 1024 (drafted d m b) (omega (arith, big))
+    ∙ sym (seen big) in
+    subst (λ bs. take (length (take 1024 (drop (1024 * index) bs))) block ≡ take 1024 (drop (1024 * index) bs)) (sym (text_of (drafted d m) r.0 ps x r.2 same))
+    (begins r.0.size (1024 * index) (joined (drafted d m) ps) block here)
+
+-- and behind its blocks a file has no bytes
+pub block_past : (k : Bookkeeping) (m : Blocks) (d : DraftState) (number index : ℕ) (ps block : List ℕ) (x : FileNode) → IsSoundDraft k m d → All (IsData k.geom) ps → files_of k.geom (drafted d m) number ≡ Some x → ps ≡ places_of k.geom (drafted d m) number
+    → length ps ≤ index → take (length (block_bytes x index)) block ≡ block_bytes x index
+block_past k m d number index ps block x sound inside at ps_are past =
+    let r = file_node k.geom (marks_of d k.marked) (drafted d m) number x sound.blocks at in
+    let same : ps ≡ run_places r.0.runs = ps_are ∙ ap places_or_none r.1 in
+    let long = joined_length (drafted d m) ps (places_whole k m d number r.0 ps sound r.1 same inside) in
+    let few : length x.bytes ≤ 1024 * index = omega (arith, past, long, ap length (text_of (drafted d m) r.0 ps x r.2 same), length-take r.0.size (joined (drafted d m) ps)) in
+    subst (λ ys. take (length (take 1024 ys)) block ≡ take 1024 ys) (sym (drop_of_length-le x.bytes few)) refl
