@@ -181,8 +181,14 @@ impl Session {
     /// # Errors
     /// Out of memory.
     fn settle(&mut self, alloc: Global) -> Result<bool, NoMemory> {
-        self.disk = MemDisk::of_image(alloc, self.image.copy(alloc)?, ROOM)?;
+        let disk = MemDisk::of_image(alloc, self.image.copy(alloc)?, ROOM)?;
+        self.goes_on_with(disk);
         Ok(true)
+    }
+
+    // An assignment to what owns much is dear to prove where a function has other exits.
+    fn goes_on_with(&mut self, disk: MemDisk) {
+        self.disk = disk;
     }
 
     /// Changes a byte of the image that is looked at. Whether there is one.
@@ -257,8 +263,16 @@ impl Session {
     }
 }
 
+/// The geometry that these words spell.
 fn geom_of(n: &str, j: &str, i: &str) -> Option<Geom> {
-    Geom::new(n.parse().ok()?, j.parse().ok()?, i.parse().ok()?).ok()
+    let n = number_of(n)?;
+    let j = number_of(j)?;
+    let i = number_of(i)?;
+    Geom::new(n, j, i).ok()
+}
+
+fn number_of(word: &str) -> Option<u32> {
+    word.parse().ok()
 }
 
 /// The slot and the header that these words spell: slot, epoch, turn, start, sure, place, and `open` or
@@ -347,7 +361,9 @@ fn choice_of(alloc: Global, standing: &str, torn: &str) -> Result<Option<Choice>
 
 fn torn_of(word: &str) -> Option<(u64, u16)> {
     let (ticket, bytes) = word.split_once(':')?;
-    Some((ticket.parse().ok()?, bytes.parse().ok()?))
+    let ticket = ticket.parse().ok()?;
+    let bytes = bytes.parse().ok()?;
+    Some((ticket, bytes))
 }
 
 fn is_sealed(how: &str) -> Option<bool> {

@@ -16,10 +16,19 @@ const SHOWN: usize = 8;
 /// The writer's.
 pub(crate) fn write_header_text<W: Write>(out: &mut W, slot: u32, header: &Header) -> Result<()> {
     let state = if header.closed { "closed" } else { "open" };
-    let (epoch, turn) = (header.epoch, header.turn);
-    write!(out, "slot {slot}, epoch {epoch}, turn {turn}, ")?;
-    let (start, sure, at) = (header.start, header.sure, header.at);
-    writeln!(out, "start {start}, sure {sure}, at {at}, {state}")?;
+    write!(out, "slot {slot}, ")?;
+    write_number(out, "epoch", header.epoch)?;
+    write_number(out, "turn", header.turn)?;
+    write_number(out, "start", header.start)?;
+    write_number(out, "sure", header.sure)?;
+    write_number(out, "at", u64::from(header.at))?;
+    writeln!(out, "{state}")?;
+    Ok(())
+}
+
+/// Writes a number behind its name, and a comma.
+fn write_number<W: Write>(out: &mut W, name: &str, value: u64) -> Result<()> {
+    write!(out, "{name} {value}, ")?;
     Ok(())
 }
 
@@ -65,5 +74,6 @@ pub(crate) fn short(alloc: Global, digest: &[u8]) -> Result<String, AllocError> 
 /// # Errors
 /// Out of memory.
 pub(crate) fn short_of(alloc: Global, bytes: &Block) -> Result<String, AllocError> {
-    short(alloc, digest(bytes).as_slice())
+    let digest = digest(bytes);
+    short(alloc, digest.as_slice())
 }

@@ -12,7 +12,7 @@ use opt_blocks::Blocks;
 use opt_disk::Disk;
 use opt_memdisk::{DiskCall, Fail, Image, ImageRefusal, MemDisk, Rule};
 use opt_plain_recovery::{Recovered, recover};
-use opt_store::Store;
+use opt_store::{Store, StoreRefusal};
 use std::alloc::Global;
 
 /// What a mount of an image and the plain recovery of it find.
@@ -73,16 +73,20 @@ pub(crate) fn look(alloc: Global, image: &Image, word: &str) -> Result<Option<Ve
 }
 
 fn mount_text(alloc: Global, image: &Image) -> Result<Vec<u8>, NoMemory> {
-    let manner = sound_manner(alloc, Rule::Silent, ROOM_FOR_A_MOUNT);
-    let (events, refusal) = match mount_image(alloc, image, &manner, 64)? {
-        Ok(store) => (store.disk().moment(), None),
-        Err((disk, why)) => (disk.moment(), Some(why)),
-    };
-    let text = match refusal {
-        None => format!(in alloc; "ok, {events} events")?,
-        Some(why) => format!(in alloc; "{why:?}, {events} events")?,
+    let text = match outcome_of_mount(alloc, image)? {
+        (events, None) => format!(in alloc; "ok, {events} events")?,
+        (events, Some(why)) => format!(in alloc; "{why:?}, {events} events")?,
     };
     Ok(text.into_bytes())
+}
+
+// How many events a mount makes, and why it fails where it does. The disk is dropped here and nowhere else.
+fn outcome_of_mount(alloc: Global, image: &Image) -> Result<(u64, Option<StoreRefusal>), NoMemory> {
+    let manner = sound_manner(alloc, Rule::Silent, ROOM_FOR_A_MOUNT);
+    match mount_image(alloc, image, &manner, 64)? {
+        Ok(store) => Ok((store.disk().moment(), None)),
+        Err((disk, why)) => Ok((disk.moment(), Some(why))),
+    }
 }
 
 /// Mounts an image, lists its tree, and compares the live blocks with those of the plain recovery.
@@ -183,12 +187,21 @@ fn first_read(alloc: Global, image: &Image, capacity: u32) -> Result<Option<u64>
     requires most { capacity ≤ 65536 }
 {
     for nth in 1..4_096u64 {
-        let manner = reads_fail(alloc, nth)?;
-        if mount_image(alloc, image, &manner, capacity)?.is_ok() {
+        if mounts(alloc, image, capacity, nth)? {
             return Ok(Some(nth));
         }
     }
     Ok(None)
+}
+
+// Whether the image can be mounted where this read fails.
+fn mounts(alloc: Global, image: &Image, capacity: u32, nth: u64) -> Result<bool, NoMemory>
+    requires some { 0 < capacity }
+    requires most { capacity ≤ 65536 }
+{
+    let manner = reads_fail(alloc, nth)?;
+    let mounted = mount_image(alloc, image, &manner, capacity)?;
+    Ok(mounted.is_ok())
 }
 
 fn reads_fail(alloc: Global, nth: u64) -> Result<Manner, NoMemory> {
