@@ -1,2 +1,1 @@
 mod Overs
-mod Failed

@@ -7,11 +7,14 @@ ghost use Rattle.opt_disk.specs.Bay.{HasBayCause, counted_ok};
 ghost use Rattle.opt_filedisk.specs.FileBay.{bay_of};
 ghost use Rattle.opt_filedisk.specs.FileDisk.{opened};
 
-use crate::files::{block_file, new_file};
+use crate::bytes::ImageBytes;
+use crate::fault::Refused;
+use crate::making::new_image;
+use crate::notices::Notices;
+use crate::opening::{Access, open_image};
 use crate::{FileDisk, FileFault};
 use opt_disk::{Bay, BayFault, Disk, Mark};
-use std::fs::File;
-use std::io;
+use std::io::ErrorKind;
 use std::marker::Model;
 use std::rt::HostRuntime;
 
@@ -19,6 +22,8 @@ use std::rt::HostRuntime;
 #[derive(Drop)]
 pub struct FileBay {
     rt: HostRuntime,
+    /// Whether images are only shown.
+    only_shows: bool,
     why: Option<FileFault>,
     faults: u64,
     disk_faults: u64,
@@ -41,12 +46,23 @@ impl FileBay {
     {
         FileBay {
             rt: *rt,
+            only_shows: false,
             why: None,
             faults: 0,
             disk_faults: 0,
             handed: 0,
             closed: 0,
         }
+    }
+
+    /// The same, where images are only shown: a disk that is opened is a copy in memory of the image, and its file stays as
+    /// it is.
+    pub fn to_show(rt: &HostRuntime) -> FileBay
+        ensures { result ≡ record { faults = 0; disk_faults = 0; handed = 0; closed = 0 } }
+    {
+        let mut bay = FileBay::new(rt);
+        bay.only_shows = true;
+        bay
     }
 
     /// What the system said when a call of the bay failed last, or a call of a disk that was handed back by now, for a
@@ -56,14 +72,14 @@ impl FileBay {
     }
 
     // Keeps what the system said of the file at a path.
-    fn keep(&mut self, path: &str, why: io::Error)
+    fn keep(&mut self, path: &str, why: Refused)
         ensures { self.new ≡ self.old }
     {
         self.why = Some(FileFault::new(self.rt.alloc(), path, why));
     }
 
     // Counts a failed call, and keeps what the system said of the file at a path.
-    fn fault(&mut self, path: &str, why: io::Error) -> BayFault
+    fn fault(&mut self, path: &str, why: Refused) -> BayFault
         ensures fault { result ≡ Fault }
         ensures cause { HasBayCause {T = ℕ} (Err result) self.old.faults self.new.faults }
         ensures state { self.new ≡ record self.old { faults = next_count self.old.faults } }
@@ -73,24 +89,23 @@ impl FileBay {
         BayFault::Fault
     }
 
-    // Hands out the disk of a file's first blocks; a file that was made lies aside, at this path.
-    fn hand_out(
-        &mut self,
-        file: File,
-        blocks: u32,
-        aside: Option<String>,
-    ) -> Result<FileDisk, BayFault>
-        ensures disk { IfOk result (λ disk. disk ≡ opened blocks) }
-        ensures err { OnErr result (result ≡ Err NoMemory) }
-        ensures state { self.new ≡ record self.old { handed = counted_ok result self.old.handed } }
+    // Counts a disk that is handed out.
+    fn hand_out(&mut self, disk: FileDisk) -> FileDisk
+        ensures disk { result ≡ disk }
+        ensures state { self.new ≡ record self.old { handed = next_count self.old.handed } }
     {
-        match FileDisk::new(self.rt.alloc(), file, blocks, aside) {
-            Err(_) => Err(BayFault::NoMemory),
-            Ok(disk) => {
-                self.handed = self.handed.saturating_add(1);
-                Ok(disk)
-            }
+        self.handed = self.handed.saturating_add(1);
+        disk
+    }
+
+    // The blocks of the image at a path.
+    fn image_at(&self, path: &str) -> Result<ImageBytes, Refused> {
+        if self.only_shows {
+            let file = open_image(&self.rt, path, Access::Read)?;
+            return Ok(ImageBytes::copied(self.rt.alloc(), &file)?);
         }
+        let file = open_image(&self.rt, path, Access::Write)?;
+        Ok(ImageBytes::of_file(file)?)
     }
 }
 
@@ -104,16 +119,30 @@ impl Bay for FileBay {
     fn lawful(&self) {}
 
     fn make(&mut self, name: &str, blocks: u32) -> Result<FileDisk, BayFault> {
-        match new_file(&self.rt, name, blocks) {
-            Err(why) => Err(self.fault(name, why)),
-            Ok((file, aside)) => self.hand_out(file, blocks, Some(aside)),
+        let Ok(notices) = Notices::new(self.rt.alloc()) else {
+            return Err(BayFault::NoMemory);
+        };
+        match new_image(&self.rt, name, blocks) {
+            Err(why) => Err(self.fault(name, Refused::Call(why))),
+            Ok((file, made)) => {
+                let image = ImageBytes::new(file, blocks);
+                Ok(self.hand_out(FileDisk::new(image, Some(made), notices)))
+            }
         }
     }
 
     fn open(&mut self, name: &str) -> Result<FileDisk, BayFault> {
-        match block_file(&self.rt, name) {
-            Err(why) => Err(self.fault(name, why)),
-            Ok((file, blocks)) => self.hand_out(file, blocks, None),
+        let Ok(notices) = Notices::new(self.rt.alloc()) else {
+            return Err(BayFault::NoMemory);
+        };
+        match self.image_at(name) {
+            Err(why) => {
+                if why.error().kind() == ErrorKind::OutOfMemory {
+                    return Err(BayFault::NoMemory);
+                }
+                Err(self.fault(name, why))
+            }
+            Ok(image) => Ok(self.hand_out(FileDisk::new(image, None, notices))),
         }
     }
 

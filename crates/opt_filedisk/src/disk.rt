@@ -7,31 +7,29 @@ ghost use Rattle.opt_disk.specs.Disk.{OnlyReads, OnlyWrites, OnlyPolls, OnlyWait
 ghost use Rattle.opt_filedisk.specs.FileDisk.{state_of, opened};
 ghost use Rattle.opt_filedisk.specs.Notices.{is_over, StaysOver};
 
-use crate::files::{BLOCK, put_in_place};
+use crate::bytes::ImageBytes;
+use crate::fault::Refused;
+use crate::making::NewImage;
 use crate::notices::Notices;
-use opt_base::{Block, NoMemory};
+use opt_base::Block;
 use opt_disk::{Disk, DiskFault};
-use std::alloc::Global;
-use std::fs::{self, File};
 use std::io;
 use std::marker::Model;
-use std::os::unix::fs::FileExt;
 use std::rt::HostRuntime;
 
 /// A disk on an image file. Contracts see its numbers, and nothing of what the file holds.
 #[derive(Drop)]
 pub struct FileDisk {
-    file: File,
-    /// Where the file lies until it is put in its place, if it was made.
-    aside: Option<String>,
-    blocks: u32,
+    image: ImageBytes,
+    /// What has to be known of a new image until it is finished, if it is one.
+    made: Option<NewImage>,
     last: u64,
     synced: u64,
     /// Whether a sync failed. The system may then have forgotten what it didn't write, so no later sync counts.
     is_lost: bool,
     notices: Notices,
     /// What the system said when a call failed last.
-    why: Option<io::Error>,
+    why: Option<Refused>,
     faults: u64,
     read_faults: u64,
     waits: u64,
@@ -44,64 +42,56 @@ impl Model for FileDisk {
 
     ghost Value = { FileDiskState };
 
-    ghost view = { λ d. record { blocks = d.blocks; last = d.last; synced = d.synced; notices = d.notices; faults = d.faults; read_faults = d.read_faults; waits = d.waits; polls = d.polls } };
+    ghost view = { λ d. record { blocks = d.image.blocks; last = d.last; synced = d.synced; notices = d.notices; faults = d.faults; read_faults = d.read_faults; waits = d.waits; polls = d.polls } };
 
     ghost invariant = { λ d. d.synced ≤ d.last };
 }
 
 impl FileDisk {
-    /// The disk of a file's first blocks, on which nothing was done. A file that was made lies aside, at this path.
-    ///
-    /// # Errors
-    /// Out of memory.
-    pub(crate) fn new(
-        alloc: Global,
-        file: File,
-        blocks: u32,
-        aside: Option<String>,
-    ) -> Result<FileDisk, NoMemory>
-        ensures { IfOk result (λ disk. disk ≡ opened blocks) }
+    /// A disk of these blocks, on which nothing was done. Where the image is a new one, `made` says how it is finished.
+    pub(crate) fn new(image: ImageBytes, made: Option<NewImage>, notices: Notices) -> FileDisk
+        ensures { result ≡ record (opened image.blocks) { notices = notices } }
     {
-        Ok(FileDisk {
-            file,
-            aside,
-            blocks,
+        FileDisk {
+            image,
+            made,
             last: 0,
             synced: 0,
             is_lost: false,
-            notices: Notices::new(alloc)?,
+            notices,
             why: None,
             faults: 0,
             read_faults: 0,
             waits: 0,
             polls: 0,
-        })
+        }
     }
 
-    /// Ends the use of the file, and gives what the system said when a call failed last. A file that was made is put in
-    /// the place of that at the path, where something was written, all of it was synced, and no call failed. Else it's
-    /// gone, which is an error, and what is at the path is as it was.
-    pub(crate) fn end(self, rt: &HostRuntime, path: &str) -> io::Result<Option<io::Error>> {
+    /// Ends the use of the file, and gives what the system said when a call failed last. A new image is finished where
+    /// something was written, all of it was synced, and no call failed. Else it's given up, which is an error.
+    pub(crate) fn end(self, rt: &HostRuntime, path: &str) -> Result<Option<Refused>, Refused> {
         let is_whole = self.last > 0 && self.synced == self.last && self.why.is_none();
         let FileDisk {
-            file,
-            aside,
+            image,
+            made,
             why,
             ..
         } = self;
-        let Some(aside) = aside else {
+        let (Some(made), Some(file)) = (made, image.file()) else {
             return Ok(why);
         };
-        let placed = if is_whole {
-            put_in_place(rt, &file, aside.as_str(), path)
-        } else {
-            Err(why.unwrap_or(unfinished()))
+        let finished = match why {
+            _ if is_whole => made.finish(file),
+            Some(why) => Err(why.error()),
+            None => Err(io::Error::other("The new image wasn't finished")),
         };
-        if placed.is_err() {
-            let _ = fs::remove_file(rt, aside.as_str());
+        match finished {
+            Ok(()) => Ok(None),
+            Err(error) => {
+                made.give_up(rt, path, file);
+                Err(Refused::Call(error))
+            }
         }
-        placed?;
-        Ok(None)
     }
 
     // Counts a failed call that isn't a read.
@@ -120,7 +110,7 @@ impl FileDisk {
         if self.is_lost {
             return false;
         }
-        if let Err(why) = self.file.sync_data() {
+        if let Err(why) = self.image.sync() {
             self.why = Some(why);
             self.is_lost = true;
             return false;
@@ -128,11 +118,6 @@ impl FileDisk {
         self.synced = self.last;
         true
     }
-}
-
-// What is said of a new image that was given up.
-fn unfinished() -> io::Error {
-    io::Error::new(io::ErrorKind::Other, "The new image wasn't finished")
 }
 
 impl Disk for FileDisk {
@@ -145,7 +130,7 @@ impl Disk for FileDisk {
     fn blocks(&self) -> u32
         ensures { result ≡ self.now.blocks }
     {
-        self.blocks
+        self.image.blocks
     }
 
     fn moment(&self) -> u64 {
@@ -163,9 +148,8 @@ impl Disk for FileDisk {
         ensures tickets { (self.new.last ≡ self.old.last) × (self.new.synced ≡ self.old.synced) × (self.new.notices ≡ self.old.notices) }
         ensures spends { OnlyReads (is_err result) (state_of self.old) (state_of self.new) }
     {
-        let place = u64::from(b) * BLOCK;
-        if let Err(why) = self.file.read_exact_at(into.as_mut_slice(), place) {
-            self.why = Some(why);
+        if let Err(why) = self.image.read(b, into) {
+            self.why = Some(Refused::Call(why));
             self.read_faults = self.read_faults.saturating_add(1);
             return Err(DiskFault);
         }
@@ -179,12 +163,11 @@ impl Disk for FileDisk {
         ensures tickets { (self.new.synced ≡ self.old.synced) × (self.new.notices ≡ self.old.notices) }
         ensures spends { OnlyWrites (is_err result) (state_of self.old) (state_of self.new) }
     {
-        let place = u64::from(b) * BLOCK;
         if self.last == u64::MAX {
             return Err(self.fault());
         }
-        if let Err(why) = self.file.write_all_at(from.as_slice(), place) {
-            self.why = Some(why);
+        if let Err(why) = self.image.write(b, from) {
+            self.why = Some(Refused::Call(why));
             return Err(self.fault());
         }
         self.last += 1;

@@ -4,10 +4,13 @@
 #![tactic(auto)]
 
 mod bay;
+mod bytes;
+mod copy;
 mod disk;
 mod fault;
-mod files;
+mod making;
 mod notices;
+mod opening;
 
 pub use bay::FileBay;
 pub use disk::FileDisk;

@@ -19,7 +19,6 @@ mod draw;
 #[cfg(test)]
 mod extent;
 #[cfg(test)]
-mod filedisk;
 #[cfg(test)]
 mod format;
 #[cfg(test)]

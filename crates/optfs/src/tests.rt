@@ -6,6 +6,7 @@
 mod crashes;
 mod disks;
 mod events;
+mod filedisk;
 mod images;
 mod lines;
 mod loading;

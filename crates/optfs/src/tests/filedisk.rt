@@ -1,5 +1,5 @@
 //! A disk on an image file, and the bay that opens it: a file is made, written, synced and opened again, and what
-//! becomes of the file that was there where none is made. The files lie in the folder that the test runs in.
+//! becomes of a file where no image is made. The files lie in the folder that the test runs in.
 
 use opt_base::Block;
 use opt_disk::{Bay, BayFault, Disk, DiskFault};
@@ -105,32 +105,97 @@ fn a_missing_file_and_a_folder_are_faults(rt: HostRuntime) {
         }
     }
     let folder = bay.open("/");
-    assert!(rt; is_fault(&bay, folder, ErrorKind::IsADirectory));
+    assert!(rt; is_fault(&bay, folder, ErrorKind::InvalidInput));
     let made = bay.make("/", 1);
     assert!(rt; is_fault(&bay, made, ErrorKind::InvalidInput));
     let nowhere = bay.make("nothing/at.img", 1);
     assert!(rt; is_fault(&bay, nowhere, ErrorKind::NotFound));
 }
 
+/// The length of a file, or `None` where none is there.
+fn length(rt: &HostRuntime, path: &str) -> Option<u64> {
+    match fs::metadata(rt, path) {
+        Ok(there) => Some(there.len()),
+        Err(_) => None,
+    }
+}
+
+/// Makes an image of four blocks, of which one is written and none synced, and closes it. Whether that was a fault.
+fn is_given_up(rt: &HostRuntime, path: &str) -> bool {
+    let mut bay = FileBay::new(rt);
+    let Ok(mut disk) = bay.make(path, 4) else {
+        return false;
+    };
+    write(&mut disk, 0, 6) == Some(1)
+        && bay.close(path, disk, Vec::new(rt.alloc())) == Err(BayFault::Fault)
+}
+
 #[test]
-fn a_file_stays_where_no_new_one_is_finished(rt: HostRuntime) {
+fn an_image_that_is_not_finished_leaves_nothing(rt: HostRuntime) {
+    assert!(rt; is_given_up(&rt, "fresh.img"));
+    assert_eq!(rt; length(&rt, "fresh.img"), None);
+    assert!(rt; fs::write(&rt, "empty.img", [].as_slice()).is_ok());
+    assert!(rt; is_given_up(&rt, "empty.img"));
+    assert_eq!(rt; length(&rt, "empty.img"), Some(0));
+    assert!(rt; fs::remove_file(&rt, "empty.img").is_ok());
+}
+
+#[test]
+fn a_file_with_bytes_is_not_replaced(rt: HostRuntime) {
     let bytes = [5u8; 1024];
     assert!(rt; fs::write(&rt, "old.img", bytes.as_slice()).is_ok());
     let mut bay = FileBay::new(&rt);
-    let Ok(mut disk) = bay.make("old.img", 4) else {
-        panic!(rt; "no file was made");
-    };
-    assert_eq!(rt; write(&mut disk, 0, 6), Some(1));
-    assert_eq!(rt;
-        bay.close("old.img", disk, Vec::new(rt.alloc())),
-        Err(BayFault::Fault)
-    );
+    let made = bay.make("old.img", 4);
+    assert!(rt; is_fault(&bay, made, ErrorKind::AlreadyExists));
     match fs::read(&rt, "old.img") {
         Err(_) => panic!(rt; "the file isn't there"),
         Ok(now) => assert!(rt; now.as_slice() == bytes.as_slice()),
     }
-    assert!(rt; fs::metadata(&rt, "old.img.optfs-new").is_err());
     assert!(rt; fs::remove_file(&rt, "old.img").is_ok());
+}
+
+#[test]
+fn a_file_that_was_cut_short_is_found_by_a_sync(rt: HostRuntime) {
+    let bytes = [5u8; 4096];
+    assert!(rt; fs::write(&rt, "cut.img", bytes.as_slice()).is_ok());
+    let mut bay = FileBay::new(&rt);
+    let Ok(mut disk) = bay.open("cut.img") else {
+        panic!(rt; "the file wasn't opened");
+    };
+    assert!(rt; reads(&mut disk, 3, 5));
+    assert_eq!(rt; write(&mut disk, 0, 6), Some(1));
+    assert_eq!(rt; disk.wait(1), Ok(()));
+    assert!(rt; fs::write(&rt, "cut.img", [].as_slice()).is_ok());
+    assert_eq!(rt; write(&mut disk, 1, 7), Some(2));
+    assert_eq!(rt; write(&mut disk, 3, 7), None);
+    assert_eq!(rt; disk.wait(2), Err(DiskFault));
+    assert_eq!(rt; disk.counts(), (0, 2));
+    assert_eq!(rt; bay.close("cut.img", disk, Vec::new(rt.alloc())), Ok(()));
+    assert!(rt;
+        bay.why()
+            .is_some_and(|why| why.error().kind() == ErrorKind::UnexpectedEof)
+    );
+    assert!(rt; fs::remove_file(&rt, "cut.img").is_ok());
+}
+
+#[test]
+fn a_file_that_is_shown_stays_as_it_is(rt: HostRuntime) {
+    let bytes = [5u8; 2500];
+    assert!(rt; fs::write(&rt, "shown.img", bytes.as_slice()).is_ok());
+    let mut bay = FileBay::to_show(&rt);
+    let Ok(mut disk) = bay.open("shown.img") else {
+        panic!(rt; "the file wasn't opened");
+    };
+    assert_eq!(rt; disk.blocks(), 2);
+    assert_eq!(rt; write(&mut disk, 0, 0), Some(1));
+    assert_eq!(rt; disk.wait(1), Ok(()));
+    assert!(rt; reads(&mut disk, 0, 0) && reads(&mut disk, 1, 5));
+    assert_eq!(rt; bay.close("shown.img", disk, Vec::new(rt.alloc())), Ok(()));
+    match fs::read(&rt, "shown.img") {
+        Err(_) => panic!(rt; "the file isn't there"),
+        Ok(now) => assert!(rt; now.as_slice() == bytes.as_slice()),
+    }
+    assert!(rt; fs::remove_file(&rt, "shown.img").is_ok());
 }
 
 #[test]

@@ -1,0 +1,102 @@
+//! How the file of a new image is made, and what becomes of it where the image is finished or given up. It replaces no
+//! file that has bytes. Nothing here is in a contract.
+
+use crate::bytes::length_of;
+use crate::opening::{Access, check_plain, check_same, lock, open};
+use std::fs::{self, File, OpenOptions};
+use std::io::{self, ErrorKind};
+use std::path::Path;
+use std::rt::HostRuntime;
+
+/// What has to be known of a new image until it is finished.
+#[derive(Drop)]
+pub(crate) struct NewImage {
+    /// The folder in which it lies.
+    folder: File,
+    /// Whether an empty file was there before.
+    was_there: bool,
+}
+
+/// A file of so many blocks of zeros at a path, where nothing was, or an empty file.
+///
+/// # Errors
+/// What the system said; that another program has the file; that it isn't empty, or no plain file. What was at the path is
+/// as it was.
+pub(crate) fn new_image(rt: &HostRuntime, path: &str, blocks: u32) -> io::Result<(File, NewImage)> {
+    let mut options = OpenOptions::new();
+    options.read(true);
+    let folder = open(rt, folder_of(path), &options)?;
+    options.write(true).create_new(true);
+    let (file, was_there) = match open(rt, path, &options) {
+        Ok(file) => (file, false),
+        Err(why) if why.kind() == ErrorKind::AlreadyExists => (open_there(rt, path)?, true),
+        Err(why) => return Err(why),
+    };
+    let image = NewImage { folder, was_there };
+    if let Err(why) = claim(rt, path, &file) {
+        // a file that was there isn't touched, nor one that another program took meanwhile
+        let is_ours = !was_there && why.kind() != ErrorKind::ResourceBusy;
+        if is_ours && file.metadata().is_ok_and(|data| data.len() == 0) {
+            image.give_up(rt, path, &file);
+        }
+        return Err(why);
+    }
+    match file.set_len(length_of(blocks)) {
+        Ok(()) => Ok((file, image)),
+        Err(why) => {
+            image.give_up(rt, path, &file);
+            Err(why)
+        }
+    }
+}
+
+impl NewImage {
+    /// Makes durable the file, with its length, and that it is in its folder.
+    ///
+    /// # Errors
+    /// What the system said.
+    pub(crate) fn finish(&self, file: &File) -> io::Result<()> {
+        file.sync_all()?;
+        self.folder.sync_all()
+    }
+
+    /// Leaves nothing of the image: its file is gone, or empty where it was there before.
+    pub(crate) fn give_up(&self, rt: &HostRuntime, path: &str, file: &File) {
+        if self.was_there {
+            let _ = file.set_len(0);
+            return;
+        }
+        if let Ok(there) = fs::symlink_metadata(rt, path) {
+            if check_same(file, &there).is_ok() {
+                let _ = fs::remove_file(rt, path);
+            }
+        }
+    }
+}
+
+// Opens the plain file at a path, to which no link leads.
+fn open_there(rt: &HostRuntime, path: &str) -> io::Result<File> {
+    check_plain(&fs::symlink_metadata(rt, path)?)?;
+    let mut options = OpenOptions::new();
+    options.read(true).write(true);
+    open(rt, path, &options)
+}
+
+// Locks a file, which must be empty, and the one at the path.
+fn claim(rt: &HostRuntime, path: &str, file: &File) -> io::Result<()> {
+    lock(file, Access::Write)?;
+    check_same(file, &fs::symlink_metadata(rt, path)?)?;
+    if file.metadata()?.len() == 0 {
+        return Ok(());
+    }
+    let words = "It isn't empty: remove it first, where a new image is to be there";
+    Err(io::Error::new(ErrorKind::AlreadyExists, words))
+}
+
+// The folder in which the file at a path lies.
+fn folder_of(path: &str) -> &str {
+    match Path::new(path).parent() {
+        Some(folder) if !folder.as_str().is_empty() => folder.as_str(),
+        _ => ".",
+    }
+}
