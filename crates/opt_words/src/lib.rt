@@ -3,9 +3,11 @@
 #![tactic(auto)]
 
 mod command;
+mod complaints;
 mod request;
 mod values;
 mod word;
 
+pub use complaints::complaint;
 pub use request::{Notices, Request, read_words};
 pub use word::Word;

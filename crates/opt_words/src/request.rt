@@ -81,13 +81,13 @@ pub enum Request {
 const DEFAULT_ROOM: u32 = 4096;
 
 /// The most room for writes.
-const MOST_ROOM: u32 = 65_536;
+pub const MOST_ROOM: u32 = 65_536;
 
 /// Which pending writes a replay has standing without the option: none of them.
 const DEFAULT_STAND: &str = "none";
 
 /// The most commands of a load.
-const MOST_COUNT: u32 = 2000;
+pub const MOST_COUNT: u32 = 2000;
 
 /// Reads the words behind the program's name. `None`: they are outside the grammar.
 ///

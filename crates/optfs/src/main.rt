@@ -8,11 +8,13 @@ mod events;
 mod laws;
 mod loading;
 mod making;
+mod messages;
 mod mounting;
 mod program;
 mod reading;
 mod recording;
 mod replaying;
+mod replies;
 mod running;
 mod scripting;
 mod showing;
@@ -28,38 +30,60 @@ pub use laws::{
     a_crash_of_a_recording_is_found, a_disk_at_rest_is_crash_consistent,
     a_text_is_served_in_one_way,
 };
+use messages::say_why;
 use opt_filedisk::FileBay;
 use opt_io::{ReadSource, WriteSink};
 pub use program::optfs;
+use replies::Replies;
 pub use status::Status;
 use std::cell::RefCell;
 use std::env;
-use std::io::{self, BufWriter, ErrorKind};
+use std::io::{self, ErrorKind};
 use std::process::ExitCode;
-use streams::{BufferedOutput, PromptInput};
+use streams::{BufferedOutput, PromptInput, Streams};
 
 /// Gives the program the words, the standard input and the standard output, and exits with its status.
 fn main(rt: HostRuntime) -> ExitCode {
-    ExitCode::from(run(&rt).unwrap_or(Status::NoMemory).number())
+    let status = match run(&rt) {
+        Ok(status) => status,
+        Err(_) => {
+            let _ = eprintln!(&rt; "optfs: memory ran out");
+            Status::NoMemory
+        }
+    };
+    ExitCode::from(status.number())
 }
 
-/// Runs the program. What the output holds back is written at the end; where that fails, the sink failed. What the system
-/// said of an image file that failed is then told on standard error.
+/// Runs the program. What the output holds back is written at the end; where it failed, the sink failed. Why the status
+/// isn't 0 is then told on standard error.
+///
+/// # Errors
+/// Out of memory.
 fn run(rt: &HostRuntime) -> io::Result<Status> {
     let words = words_of(rt)?;
-    let buffer = RefCell::new(BufWriter::new(rt.alloc(), rt.stdout())?);
-    let mut input = ReadSource::new(PromptInput::new(rt.stdin(), &buffer));
-    let mut out = WriteSink::new(BufferedOutput::new(&buffer));
-    let mut bay = FileBay::new(rt);
+    let replies = is_command(&words, "run").then(Replies::new);
+    let streams = RefCell::new(Streams::new(rt.alloc(), rt.stdout(), replies)?);
+    let mut input = ReadSource::new(PromptInput::new(rt.stdin(), &streams));
+    let mut out = WriteSink::new(BufferedOutput::new(&streams));
+    let mut bay = if is_command(&words, "tree") {
+        FileBay::to_show(rt)
+    } else {
+        FileBay::new(rt)
+    };
     let status = optfs(rt.alloc(), words.as_slice(), &mut input, &mut out, &mut bay);
-    let written = out.flush();
-    if let Some(why) = bay.why() {
-        let _ = eprintln!(rt; "optfs: {why}");
+    let status = match out.flush() {
+        Ok(()) => status,
+        Err(_) => Status::SinkFault,
+    };
+    if let Ok(streams) = streams.try_borrow() {
+        say_why(rt, words.as_slice(), status, &bay, &streams);
     }
-    match written {
-        Ok(()) => Ok(status),
-        Err(_) => Ok(Status::SinkFault),
-    }
+    Ok(status)
+}
+
+/// Whether the first word is the name of this command.
+fn is_command(words: &[String], name: &str) -> bool {
+    words.first().is_some_and(|word| word.as_str() == name)
 }
 
 /// The words behind the program's name. There are none where one of them isn't UTF-8: no request has such
@@ -72,7 +96,9 @@ fn words_of(rt: &HostRuntime) -> io::Result<Vec<String>> {
                 words.push(word)?;
             }
         }
-        Err(why) if why.kind() == ErrorKind::InvalidData => {}
+        Err(why) if why.kind() == ErrorKind::InvalidData => {
+            let _ = eprintln!(rt; "optfs: a word isn't UTF-8");
+        }
         Err(why) => return Err(why),
     }
     Ok(words)

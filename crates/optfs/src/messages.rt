@@ -1,0 +1,96 @@
+//! What a run says on standard error: why its status isn't 0, and what the system said. Standard output has what the
+//! pages promise, and none of this; no contract reads it.
+
+use crate::status::Status;
+use crate::streams::Streams;
+use opt_filedisk::FileBay;
+use opt_words::complaint;
+use std::rt::HostRuntime;
+
+/// The commands and their words.
+const USAGE: &str = "usage: optfs mkfs IMAGE N J I
+       optfs run IMAGE < SCRIPT > REPLIES
+       optfs tree IMAGE > LISTING
+       optfs record N J I [--notices none|fifo|SEED] [--room R] [--fail W] < SCRIPT > TRACE
+       optfs replay --at K [--stand all|none|LIST] [--tear LIST] < TRACE
+       optfs load --seed S --count C";
+
+/// Says why a run ended with this status, a line for each cause.
+pub(crate) fn say_why(
+    rt: &HostRuntime,
+    words: &[String],
+    status: Status,
+    bay: &FileBay,
+    streams: &Streams,
+) {
+    if let Some(why) = bay.why() {
+        let _ = eprintln!(rt; "optfs: {why}");
+    }
+    if let Some(reply) = first_failed(streams) {
+        let _ = eprintln!(rt;
+            "optfs: the disk failed: from reply {reply} on, which is refused 14, nothing was done"
+        );
+    }
+    match status {
+        Status::Usage => say_usage(rt, words),
+        Status::DiskFault if bay.why().is_some() => {}
+        Status::SourceFault => say_of(rt, "the input can't be read", streams.input_error),
+        Status::SinkFault => say_of(rt, "the output can't be written", streams.output_error()),
+        status => {
+            if let Some(why) = meaning(status) {
+                let _ = eprintln!(rt; "optfs: {why}");
+            }
+        }
+    }
+}
+
+// The first reply by which the disk failed.
+fn first_failed(streams: &Streams) -> Option<u64> {
+    streams.replies.as_ref()?.failed()
+}
+
+// What a status means that has nothing more to tell.
+fn meaning(status: Status) -> Option<&'static str> {
+    match status {
+        Status::Done | Status::Usage | Status::SourceFault | Status::SinkFault => None,
+        Status::BadTrace => Some(
+            "the input is no trace, as the line shows that standard output names",
+        ),
+        Status::NoMemory => Some("memory ran out"),
+        Status::DiskFault => Some("the disk failed in the mount"),
+        Status::Damaged => Some(
+            "the image stands for no tree: it is damaged, or none of this program",
+        ),
+        Status::Spent => Some(
+            "the numbers of the image's journal are used up: copy its files to a new image",
+        ),
+        Status::NoPrefix => Some("the crash leaves the tree of no sync point that it may leave"),
+        Status::BadShape => Some(
+            "the numbers of blocks, journal blocks and nodes don't fit together",
+        ),
+        Status::LongInput => Some("the input has more than 2^30 bytes"),
+        Status::BadChoice => Some(
+            "the trace has no such moment, or no such write that is pending then",
+        ),
+    }
+}
+
+// Says what the system said of a stream.
+fn say_of(rt: &HostRuntime, what: &str, why: Option<std::io::Error>) {
+    match why {
+        Some(why) => {
+            let _ = eprintln!(rt; "optfs: {what}: {why}");
+        }
+        None => {
+            let _ = eprintln!(rt; "optfs: {what}");
+        }
+    }
+}
+
+// Says which word is wrong, and what words there are.
+fn say_usage(rt: &HostRuntime, words: &[String]) {
+    if let Ok(why) = complaint(rt.alloc(), words) {
+        let _ = eprintln!(rt; "optfs: {why}");
+    }
+    let _ = eprintln!(rt; "{USAGE}");
+}
