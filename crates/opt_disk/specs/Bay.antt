@@ -8,6 +8,7 @@ use Rattle.opt_disk.specs.declared.bay.BayFault.TheVariants.{Fault, NoMemory}
 use Rattle.opt_disk.specs.Cell.{accepted}
 use Rattle.opt_base.specs.Counts.{next_count}
 use Rattle.opt_disk.specs.Disk.{State}
+use Rattle.opt_disk.specs.Manner.{Manner}
 use Rattle.opt_disk.specs.Lawful.{IsBlock, IsLogOf}
 
 -- what is under one name: the image that its next disk begins with; and of the disk that was handed back last its base, log and counts of faults, with the marks that came along
@@ -19,13 +20,20 @@ pub record Kept : Type 0 where
   pub faults : ℕ
   pub marks : List Mark
 
--- a bay: its count of failed calls, of disks that were handed back with faults of their own, of disks handed out, of disks taken back, and what is under each name; where it doesn't tell, `kept` says nothing
+-- a bay: its count of failed calls, of disks that were handed back with faults of their own, of disks handed out, of disks taken back; whether a call of it may fail of itself, how the disks behave that it hands out under each name, and what is under each name; where it doesn't tell, the last three say nothing
 pub record BayState : Type 0 where
   pub faults : ℕ
   pub disk_faults : ℕ
   pub handed : ℕ
   pub closed : ℕ
+  pub may_fail : Bool
+  pub manner : List ℕ → Manner
   pub kept : List ℕ → Option Kept
+
+-- what no call changes: whether calls may fail, and how the disks behave
+pub record SameBay (old new : BayState) : Type 0 where
+  pub may_fail : new.may_fail ≡ old.may_fail
+  pub manner : (name : List ℕ) → new.manner name ≡ old.manner name
 
 -- what is kept is sound: each block of the image and of the base has the bytes of a block, and the log is one of a disk of so many blocks
 pub record IsSoundKept (kept : Kept) : Type 0 where
@@ -84,30 +92,41 @@ SameElsewhere name old new = (other : List ℕ) → other ≢ name → new.kept 
 abbrev pub SameImage : List ℕ → BayState → BayState → Type 0
 SameImage name old new = image_of (new.kept name) ≡ image_of (old.kept name)
 
+-- there is an image of so many blocks
+abbrev pub HasBlocks : ℕ → Option Kept → Type 0
+HasBlocks n None = ⊥
+HasBlocks n (Some kept) = length kept.image ≡ n
+
 -- a disk that begins with the image under a name, and there is one
 abbrev pub BeginsWith : Option Kept → State → Type 0
 BeginsWith None disk = ⊥
 BeginsWith (Some kept) disk = Begins kept.image disk
 
--- `make`: the name has so many blocks of zeros in place of what it had, and the disk begins with them; where the call fails, the image stays
+-- `make`: the name has so many blocks of zeros in place of what it had, and the disk begins with them and behaves as the bay says; where the call fails, the image stays; it is a fault only where the bay's calls may fail
 pub record Makes {D : Type 0} (tells : Bool) (state : D → State) (name : List ℕ) (blocks : ℕ) (result : Result D BayFault) (old new : BayState) : Type 0 where
   pub size : IfOk result (λ disk. (state disk).blocks ≡ blocks)
   pub counts : IfOk result (λ disk. HasNoCounts (state disk))
   pub disk : IsTrue tells → IfOk result (λ disk. Begins (zero_blocks blocks) (state disk))
+  pub manner : IsTrue tells → IfOk result (λ disk. (state disk).manner ≡ old.manner name)
   pub kept : IsTrue tells → OnOk result (new.kept name ≡ Some (fresh (zero_blocks blocks)))
   pub image : IsTrue tells → OnErr result (SameImage name old new)
   pub others : IsTrue tells → SameElsewhere name old new
   pub cause : HasBayCause result old.faults new.faults
+  pub fails : IsTrue tells → OnFault result (IsTrue old.may_fail)
+  pub same : SameBay old new
   pub disk_faults : new.disk_faults ≡ old.disk_faults
   pub handed : new.handed ≡ counted_ok result old.handed
   pub closed : new.closed ≡ old.closed
 
--- `open`: the disk begins with the image that is under the name, and what is kept stays
+-- `open`: the disk begins with the image that is under the name and behaves as the bay says, and what is kept stays; it is a fault only where the bay's calls may fail, or nothing is under the name
 pub record Opens {D : Type 0} (tells : Bool) (state : D → State) (name : List ℕ) (result : Result D BayFault) (old new : BayState) : Type 0 where
   pub counts : IfOk result (λ disk. HasNoCounts (state disk))
   pub disk : IsTrue tells → IfOk result (λ disk. BeginsWith (old.kept name) (state disk))
+  pub manner : IsTrue tells → IfOk result (λ disk. (state disk).manner ≡ old.manner name)
   pub kept : IsTrue tells → (each : List ℕ) → new.kept each ≡ old.kept each
   pub cause : HasBayCause result old.faults new.faults
+  pub fails : IsTrue tells → OnFault result (IsTrue old.may_fail ⊎ (old.kept name ≡ None))
+  pub same : SameBay old new
   pub disk_faults : new.disk_faults ≡ old.disk_faults
   pub handed : new.handed ≡ counted_ok result old.handed
   pub closed : new.closed ≡ old.closed
@@ -133,12 +152,14 @@ TakesBack disk marks None (Some kept) = ⊥
 TakesBack disk marks (Some before) None = ⊥
 TakesBack disk marks (Some before) (Some kept) = IsKeptOf disk marks kept
 
--- `close`: the name has what the disk left of it; where the call fails, the image stays; a disk with faults of its own is counted in either case
+-- `close`: the name has what the disk left of it; where the call fails, the image stays; it is a fault only where the bay's calls may fail, or no image of as many blocks is under the name; a disk with faults of its own is counted in either case
 pub record Closes (tells : Bool) (name : List ℕ) (disk : State) (marks : List Mark) {T : Type 0} (result : Result T BayFault) (old new : BayState) : Type 0 where
   pub kept : IsTrue tells → OnOk result (TakesBack disk marks (old.kept name) (new.kept name))
   pub image : IsTrue tells → OnErr result (SameImage name old new)
   pub others : IsTrue tells → SameElsewhere name old new
   pub cause : HasBayCause result old.faults new.faults
+  pub fails : IsTrue tells → OnFault result (IsTrue old.may_fail ⊎ ¬ HasBlocks disk.blocks (old.kept name))
+  pub same : SameBay old new
   pub disk_faults : new.disk_faults ≡ (if has_faults disk then next_count old.disk_faults else old.disk_faults)
   pub handed : new.handed ≡ old.handed
   pub closed : new.closed ≡ counted_ok result old.closed

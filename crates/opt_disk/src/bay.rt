@@ -42,7 +42,9 @@ impl Error for BayFault {}
 /// A shelf of disks, each under a name.
 ///
 /// A call that fails changes no image, and no call changes what is under another name than its
-/// own. Each count stops at 2^64 - 1.
+/// own. Each count stops at 2^64 - 1. Two things are constants of a bay: whether its calls may fail of
+/// themselves (where they may not, a fault comes of what was asked alone, as each call says), and how the disks
+/// behave that it hands out under a name.
 pub trait Bay {
     /// The disks that it hands out.
     type D: Disk + Drop;
@@ -61,14 +63,16 @@ pub trait Bay {
     /// A disk of so many blocks of zeros, which replace what stood under the name.
     ///
     /// # Errors
-    /// A fault, which is counted, or out of memory. The image under the name is as it was.
+    /// A fault, which is counted and comes only where the bay's calls may fail, or out of memory. The image under the
+    /// name is as it was.
     fn make(&mut self, name: &str, blocks: u32) -> Result<Self::D, BayFault>
         ensures { Makes tells Self.D.state name.now blocks result (state self.old) (state self.new) };
 
     /// A disk that begins with the image under the name. What is kept stays as it was.
     ///
     /// # Errors
-    /// A fault, which is counted: that nothing is under the name is one. Or out of memory.
+    /// A fault, which is counted: that nothing is under the name is one, and another comes only where the bay's calls
+    /// may fail. Or out of memory.
     fn open(&mut self, name: &str) -> Result<Self::D, BayFault>
         ensures { Opens tells Self.D.state name.now result (state self.old) (state self.new) };
 
@@ -77,7 +81,8 @@ pub trait Bay {
     ///
     /// # Errors
     /// A fault, which is counted, or out of memory. The image under the name is as it was, and the
-    /// disk is gone.
+    /// disk is gone. A fault comes only where the bay's calls may fail, or no image of as many blocks as the disk's
+    /// is under the name.
     fn close(&mut self, name: &str, disk: Self::D, marks: Vec<Mark>) -> Result<(), BayFault>
         ensures { Closes tells name.now (Self.D.state disk) marks.items result (state self.old) (state self.new) };
 

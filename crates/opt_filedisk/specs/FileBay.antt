@@ -1,6 +1,7 @@
 -- A bay of image files as far as contracts know it: its counts.
-use Rattle.std.specs.Prelude.{ℕ, None}
+use Rattle.std.specs.Prelude.{ℕ, true, None}
 use Rattle.opt_disk.specs.Bay.{BayState}
+use Rattle.opt_disk.specs.Manner.{any_manner}
 
 pub record FileBayState : Type 0 where
   pub faults : ℕ
@@ -8,6 +9,6 @@ pub record FileBayState : Type 0 where
   pub handed : ℕ
   pub closed : ℕ
 
--- what the contract of bays says of it; what is kept isn't told
+-- what the contract of bays says of it; what is kept isn't told, and any call may fail, of the bay and of its disks
 abbrev pub bay_of : FileBayState → BayState
-bay_of m = record { faults = m.faults; disk_faults = m.disk_faults; handed = m.handed; closed = m.closed; kept = λ _. None }
+bay_of m = record { faults = m.faults; disk_faults = m.disk_faults; handed = m.handed; closed = m.closed; may_fail = true; manner = λ _. any_manner; kept = λ _. None }

@@ -1,11 +1,12 @@
 -- A bay of disks in memory as a value, and which of its calls fail. The rules are described in docs/BAYS.md.
-use Rattle.std.specs.Prelude.{◌≡◌, ℕ, ◌==◌, ◌&&◌, Bool, true, false, if◌then◌else◌, List, option_map, is_none, Result, Ok, Err, OnErr}
+use Rattle.std.specs.Prelude.{◌≡◌, ℕ, ◌==◌, ◌&&◌, Bool, true, false, if◌then◌else◌, List, [], ◌∷◌, option_map, is_none, Result, Ok, Err, OnErr}
 use Rattle.std.specs.List.{list_any}
 use Rattle.opt_base.specs.Counts.{next_count, after_call}
 use Rattle.opt_disk.specs.declared.bay.BayFault.{BayFault}
 use Rattle.opt_disk.specs.declared.bay.BayFault.TheVariants.{Fault, NoMemory}
 use Rattle.opt_disk.specs.Bay.{BayState}
-use Rattle.opt_memdisk.specs.MemDisk.{MemDiskState, begun}
+use Rattle.opt_memdisk.specs.declared.rule.Rule.TheVariants.{Silent}
+use Rattle.opt_memdisk.specs.MemDisk.{MemDiskState, begun, manner_by}
 use Rattle.opt_membay.specs.declared.calls.BayCall.{BayCall}
 use Rattle.opt_membay.specs.declared.calls.BayCall.TheVariants.{Make, Open, Close}
 use Rattle.opt_membay.specs.declared.calls.BayFail.{BayFail}
@@ -28,13 +29,20 @@ pub record MemBayState : Type 0 where
   pub handed : ℕ
   pub closed : ℕ
 
--- what the contract of bays says of it
+-- whether some call of the bay is listed to fail
+abbrev pub has_listed : List BayFail → Bool
+has_listed [] = false
+has_listed (f ∷ fails) = true
+
+-- what the contract of bays says of it: its calls may fail of themselves where one is listed, and its disks have its room, the list of their name, and polls without notices
 abbrev pub bay_of : MemBayState → BayState
 bay_of m = record {
   faults = m.faults;
   disk_faults = m.disk_faults;
   handed = m.handed;
   closed = m.closed;
+  may_fail = has_listed m.fails;
+  manner = λ name. manner_by m.room (fails_in m.shelves name) Silent;
   kept = λ name. option_map kept_of (held_in m.shelves name);
 }
 

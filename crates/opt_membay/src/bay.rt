@@ -1,11 +1,12 @@
 //! The bay: what its calls answer, and what they count. What is held under a name is described in `shelves`.
 
-ghost use Rattle.std.specs.Prelude.{◌≡◌, ◌≢◌, ℕ, List, [], length, Ok, Err, Some, true, option_map, IfOk, OnOk, OnErr, IfSome};
+ghost use Rattle.std.specs.Prelude.{◌≡◌, ◌≢◌, ℕ, List, [], length, Ok, Err, Some, true, option_map, IfOk, IsTrue, OnOk, OnErr, IfSome};
+ghost use Rattle.std.specs.Bool.{OnTrue};
 ghost use Rattle.opt_disk.specs.Bay.{Makes, Opens, Closes, HasBayCause, zero_blocks};
 ghost use Rattle.opt_disk.specs.declared.bay.BayFault.TheVariants.{Fault};
 ghost use Rattle.opt_base.specs.Counts.{next_count};
 ghost use Rattle.opt_memdisk.specs.MemDisk.{state_of};
-ghost use Rattle.opt_membay.specs.MemBay.{bay_of, counted, calls_of, fails_next, is_fault, Counts, handed_out, IsOpened, open_fails, close_answer};
+ghost use Rattle.opt_membay.specs.MemBay.{bay_of, counted, calls_of, has_listed, fails_next, is_fault, Counts, handed_out, IsOpened, open_fails, close_answer};
 ghost use Rattle.opt_membay.specs.declared.calls.BayCall.TheVariants.{Make, Open, Close};
 ghost use Rattle.opt_membay.specs.Shelves.{of_image, held_in, last_on, marks_on, Holds, Lists};
 
@@ -133,6 +134,7 @@ impl MemBay {
     // Counts a call, and says whether it is listed to fail.
     fn begins(&mut self, call: BayCall) -> bool
         ensures listed { result ≡ fails_next call self.old }
+        ensures some { OnTrue result (IsTrue (has_listed self.old.fails)) }
         ensures state { self.new ≡ record self.old { calls = counted call self.old.calls } }
     {
         let nth = self.count(call);
