@@ -1,8 +1,9 @@
 -- A bay of disks in memory as a value. It keeps no image, and its `make` and `open` fail.
-use Rattle.std.specs.Prelude.{ℕ, if◌then◌else◌, None}
+use Rattle.std.specs.Prelude.{ℕ, true, if◌then◌else◌, None}
 use Rattle.opt_disk.specs.Bay.{BayState, has_faults}
 use Rattle.opt_base.specs.Counts.{next_count}
 use Rattle.opt_disk.specs.Disk.{State}
+use Rattle.opt_disk.specs.Manner.{any_manner}
 
 -- a bay: the room of its disks, and its counts
 pub record MemBayState : Type 0 where
@@ -11,9 +12,9 @@ pub record MemBayState : Type 0 where
   pub disk_faults : ℕ
   pub closed : ℕ
 
--- what the contract of bays says of it: it hands out no disk and keeps nothing
+-- what the contract of bays says of it: it hands out no disk and keeps nothing, and its calls may fail
 abbrev pub bay_of : MemBayState → BayState
-bay_of m = record { faults = m.faults; disk_faults = m.disk_faults; handed = 0; closed = m.closed; kept = λ _. None }
+bay_of m = record { faults = m.faults; disk_faults = m.disk_faults; handed = 0; closed = m.closed; may_fail = true; manner = λ _. any_manner; kept = λ _. None }
 
 -- the bay after a call that failed
 abbrev pub after_fault : MemBayState → MemBayState

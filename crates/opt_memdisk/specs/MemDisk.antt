@@ -16,7 +16,7 @@ use Rattle.opt_memdisk.specs.declared.rule.Rule.{Rule}
 use Rattle.opt_memdisk.specs.declared.rule.Rule.TheVariants as rules
 use Rattle.opt_memdisk.specs.declared.rule.Notices.{Notices}
 use Rattle.opt_memdisk.specs.declared.rule.Notices.TheVariants as notices
-use Rattle.opt_memdisk.specs.Log.{LogState, tickets, open_tickets, write_count, AreWithin}
+use Rattle.opt_memdisk.specs.Log.{LogState, tickets, open_tickets, write_count, has_lost, AreWithin}
 
 -- a disk in memory: the blocks that it began with, the events since, how many writes it has room for, how its polls find notices, which calls fail, the rule of its notices where rule and failing calls were set before the first call, and its counts of failed calls and of all calls but writes
 pub record MemDiskState : Type 0 where
@@ -212,6 +212,11 @@ pub record GoesByRule (room : ℕ) (log : List Event) (notices : Notices) (fails
 abbrev pub GoesAsKnown : ℕ → List Event → Notices → List Fail → ℕ → ℕ → Option Rule → Type 0
 GoesAsKnown room log notices fails read_faults polls None = Unit {0}
 GoesAsKnown room log notices fails read_faults polls (Some rule) = GoesByRule room log notices fails read_faults polls rule
+
+-- where the rule is known, a write was lost only where a failed call was counted
+abbrev pub CountsLost : Option Rule → ℕ → List Event → Type 0
+CountsLost None faults log = Unit {0}
+CountsLost (Some rule) faults log = faults ≡ 0 → has_lost log ≡ false
 
 -- a block's place is right: 0 where it has its bytes of the base, else one more than the place in the log of its last accepted write
 abbrev pub IsLast : Blocks → List Event → ℕ → ℕ → Type 0

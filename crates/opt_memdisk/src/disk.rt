@@ -15,7 +15,7 @@ ghost use Rattle.opt_disk.specs.Lawful.{IsLawful};
 ghost use Rattle.opt_disk.specs.declared.event.Event.{Event};
 ghost use Rattle.opt_disk.specs.declared.event.Event.TheVariants.{Wrote, Lost, Noticed};
 ghost use Rattle.opt_memdisk.specs.Choice.{GivesImage};
-ghost use Rattle.opt_memdisk.specs.Log.{AreWithin, write_count};
+ghost use Rattle.opt_memdisk.specs.Log.{AreWithin, has_lost, write_count};
 ghost use Rattle.opt_memdisk.specs.Logged.{event_of};
 ghost use Rattle.opt_memdisk.specs.MemDisk.{begun, with_log, state_of, manner_of, is_untouched, turned, has_room, next_ticket, next_call, fails_next, with_event, room_and_counts, counted, faulted, after_read, after_write, after_poll, after_wait, poll_answer, can_wait, by_rule, AreLast};
 ghost use Rattle.opt_memdisk.specs.declared.calls.DiskCall.TheVariants.{Read, Write, Poll, Wait};
@@ -51,13 +51,13 @@ pub struct MemDisk {
 }
 
 impl Model for MemDisk {
-    ghost use Rattle.opt_memdisk.specs.MemDisk.{MemDiskState, IsDisk, GoesAsKnown};
+    ghost use Rattle.opt_memdisk.specs.MemDisk.{MemDiskState, CountsLost, IsDisk, GoesAsKnown};
 
     ghost Value = { MemDiskState };
 
     ghost view = { λ d. record { base = d.base; log = d.log.events; room = d.log.room; notices = d.notices; fails = d.fails.items; known = d.known; faults = d.faults; read_faults = d.read_faults; reads = d.reads; polls = d.polls; waits = d.waits } };
 
-    ghost invariant = { λ d. IsDisk d.base d.log d.last.items × GoesAsKnown d.log.room d.log.events d.notices d.fails.items d.read_faults d.polls d.known };
+    ghost invariant = { λ d. IsDisk d.base d.log d.last.items × GoesAsKnown d.log.room d.log.events d.notices d.fails.items d.read_faults d.polls d.known × CountsLost d.known d.faults d.log.events };
 }
 
 impl MemDisk {
@@ -175,6 +175,15 @@ impl MemDisk {
         ensures { result ≡ is_untouched self.now }
     {
         self.log.len() == 0 && (self.polls == 0 && self.read_faults == 0)
+    }
+
+    /// Does nothing. A proof learns from the call that a write was lost only where a failed call was counted, as long as
+    /// rule and failing calls were set before the first call: then waits bring the notice of their own ticket alone.
+    pub fn lost_writes_are_counted(&self)
+        ensures { (manner_of self.now).waits_alone ≡ true → self.now.faults ≡ 0 → has_lost self.now.log ≡ false }
+    {
+        // a use of a field, by which a proof knows what is kept of it
+        let _ = self.log.len();
     }
 
     /// The event at this place of the log, the first of which is 0, where there is one.
@@ -295,9 +304,10 @@ impl MemDisk {
         ticket
     }
 
-    // Adds a lost write, for which there must be room.
+    // Adds a lost write, for which there must be room. The failed call was counted.
     fn lose(&mut self, b: u32, from: &Block)
         requires there { b < length self.old.base }
+        requires counted { 0 < self.old.faults }
         requires room { IsTrue (has_room self.old) }
         requires listed { fails_next Write self.old ≡ true }
         ensures { self.new ≡ with_event (Lost b from.now) self.old }
@@ -454,8 +464,9 @@ impl Disk for MemDisk {
             return Err(self.fault());
         }
         if listed {
+            let fault = self.fault();
             self.lose(b, from);
-            return Err(self.fault());
+            return Err(fault);
         }
         Ok(self.accept(b, from))
     }

@@ -10,9 +10,9 @@ use Rattle.opt_memdisk.specs.declared.calls.DiskCall.TheVariants as calls
 use Rattle.opt_memdisk.specs.declared.calls.Fail.{Fail}
 use Rattle.opt_memdisk.specs.declared.rule.Rule.{Rule}
 use Rattle.opt_memdisk.specs.declared.rule.Notices.{Notices}
-use Rattle.opt_memdisk.specs.Log.{write_count, open_tickets}
+use Rattle.opt_memdisk.specs.Log.{has_lost, write_count, open_tickets}
 use Rattle.opt_disk.specs.Cell.{IsAccepted}
-use Rattle.opt_memdisk.specs.MemDisk.{MemDiskState, next_call, fails_next, has_room, can_wait, manner_of, after_write, after_poll, after_wait, same_call, is_listed, has_listed, polled, turned, turns, by_rule, manner_by, manner_known, GoesAsKnown}
+use Rattle.opt_memdisk.specs.MemDisk.{MemDiskState, next_call, fails_next, has_room, can_wait, manner_of, after_write, after_poll, after_wait, same_call, is_listed, has_listed, polled, turned, turns, by_rule, manner_by, manner_known, CountsLost, GoesAsKnown}
 
 -- any log goes by the manner of a disk of which nothing is known
 any_goes : (before log : List Event) → MayAllComeBy any_manner before log
@@ -52,6 +52,51 @@ unlisted_none call n fails none = by (is_listed call n fails) refl
     by : (v : Bool) → is_listed call n fails ≡ v → is_listed call n fails ≡ false
     by false e = e
     by true e = absurd (false≢true (sym none ∙ listed_some call n fails e))
+
+-- Which writes are lost.
+
+lost_not : (log : List Event) (t b : ℕ) (x : List ℕ) → has_lost (log ++ Wrote t b x ∷ []) ≡ has_lost log
+lost_not [] t b x = refl
+lost_not (Wrote u c y ∷ es) t b x = lost_not es t b x
+lost_not (Lost c y ∷ es) t b x = refl
+lost_not (Noticed u ∷ es) t b x = lost_not es t b x
+
+heard_not : (log : List Event) (t : ℕ) → has_lost (log ++ Noticed t ∷ []) ≡ has_lost log
+heard_not [] t = refl
+heard_not (Wrote u c y ∷ es) t = heard_not es t
+heard_not (Lost c y ∷ es) t = refl
+heard_not (Noticed u ∷ es) t = heard_not es t
+
+-- one more write that is accepted, a notice, and a call that fails, whether it loses a write or not
+pub counts_wrote : (known : Option Rule) (faults : ℕ) (log : List Event) (t b : ℕ) (x : List ℕ) → CountsLost known faults log → CountsLost known faults (log ++ Wrote t b x ∷ [])
+counts_wrote None faults log t b x counts = tt
+counts_wrote (Some rule) faults log t b x counts = λ none. lost_not log t b x ∙ counts none
+
+pub counts_noticed : (known : Option Rule) (faults : ℕ) (log : List Event) (t : ℕ) → CountsLost known faults log → CountsLost known faults (log ++ Noticed t ∷ [])
+counts_noticed None faults log t counts = tt
+counts_noticed (Some rule) faults log t counts = λ none. heard_not log t ∙ counts none
+
+pub counts_fault : (known : Option Rule) (faults : ℕ) (log : List Event) → 0 < faults → CountsLost known faults log
+counts_fault None faults log some = tt
+counts_fault (Some rule) faults log some = λ none. absurd (omega (arith, some, none))
+
+-- before anything happened, whatever the rule is then
+pub counts_at_first : (log : List Event) (polls read_faults faults : ℕ) (known now : Option Rule) → now ≡ (if (length log == 0) && ((polls == 0) && (read_faults == 0)) then known else None) → CountsLost now faults log
+counts_at_first log polls read_faults faults known now is = subst (λ (k : Option Rule). CountsLost k faults log) (sym is) (by known ((length log == 0) && ((polls == 0) && (read_faults == 0))) refl)
+  where
+    none_there : (es : List Event) → length es ≡ 0 → has_lost es ≡ false
+    none_there [] e = refl
+    none_there (f ∷ es) e = absurd (omega (arith, e))
+
+    by : (k : Option Rule) (v : Bool) → ((length log == 0) && ((polls == 0) && (read_faults == 0))) ≡ v → CountsLost (if v then k else None) faults log
+    by k false e = tt
+    by None true e = tt
+    by (Some rule) true e = λ none. none_there log (eqb-true (length log) 0 (and_parts (length log == 0) ((polls == 0) && (read_faults == 0)) e).0)
+
+-- so of a disk whose waits bring the notice of their own ticket alone
+pub known_counts : (room : ℕ) (fails : List Fail) (known : Option Rule) (faults : ℕ) (log : List Event) → CountsLost known faults log → (manner_known room fails known).waits_alone ≡ true → faults ≡ 0 → has_lost log ≡ false
+known_counts room fails None faults log counts alone none = absurd (false≢true alone)
+known_counts room fails (Some rule) faults log counts alone none = counts none
 
 module _ (room : ℕ) (log : List Event) (notices : Notices) (fails : List Fail) (read_faults polls : ℕ) where
   -- all goes by the rule still after a write that is accepted, one that is lost, and a notice

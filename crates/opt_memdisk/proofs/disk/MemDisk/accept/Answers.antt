@@ -1,9 +1,9 @@
 use Rattle.std.proofs.Common.{◌≡◌, ◌<◌, ◌+◌, true, false, nat_lt, length, slice_set, ap, subst, sym, rules}
 use Rattle.opt_memdisk.specs.declared.calls.DiskCall.TheVariants.{Write}
 use Rattle.opt_memdisk.specs.Log.{LogState, write_count}
-use Rattle.opt_memdisk.specs.MemDisk.{IsDisk, GoesAsKnown, is_listed}
+use Rattle.opt_memdisk.specs.MemDisk.{CountsLost, IsDisk, GoesAsKnown, is_listed}
 use Rattle.opt_memdisk.proofs.disk_calls.LastDisks.{disk_wrote}
-use Rattle.opt_memdisk.proofs.disk_calls.Manners.{goes_wrote}
+use Rattle.opt_memdisk.proofs.disk_calls.Manners.{counts_wrote, goes_wrote}
 use Rattle.opt_memdisk.proofs.disk.MemDisk.accept.Goals as goal
 
 pub invariant_of-self : goal.invariant_of-self
@@ -19,4 +19,6 @@ invariant_of-self c =
           (disk_wrote d.base d.log d.last.items c.add_write-ticket.result c.args.b place c.args.from.now low some at c.self.invariant.0),
       subst (λ (log : LogState). GoesAsKnown log.room log.events d.notices d.fails.items d.read_faults d.polls d.known) (sym c.add_write-ticket.ensures.state)
           (goes_wrote d.log.room d.log.events d.notices d.fails.items d.read_faults d.polls d.known c.add_write-ticket.result c.args.b c.args.from.now room unlisted c.self.invariant.1),
+      subst (λ (log : LogState). CountsLost d.known d.faults log.events) (sym c.add_write-ticket.ensures.state)
+          (counts_wrote d.known d.faults d.log.events c.add_write-ticket.result c.args.b c.args.from.now c.self.invariant.2),
     )

@@ -14,4 +14,5 @@ invariant_of-self c =
       subst (λ (n : ℕ). GoesAsKnown d.log.room d.log.events c.next.new.self d.fails.items d.read_faults n d.known) (sym counted)
           (subst (λ (k : Notices). GoesAsKnown d.log.room d.log.events k d.fails.items d.read_faults (next_count d.polls) d.known) (sym turns)
           (goes_polled d.log.room d.log.events d.notices d.fails.items d.read_faults d.polls d.known c.self.invariant.1)),
+      c.self.invariant.2,
     )

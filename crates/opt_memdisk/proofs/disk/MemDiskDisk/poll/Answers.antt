@@ -23,7 +23,7 @@ invariant_of-self c =
     let d = c.self.inside in
     let counted : c.saturating_add-self-inside.result ≡ next_count d.polls = search rules in
     let listed : is_listed Poll (next_call Poll c.args.self.now) d.fails.items ≡ true = search rules in
-    (c.self.invariant.0, goes_unpolled d.log.room d.log.events d.notices d.fails.items d.read_faults d.polls d.known (next_call Poll c.args.self.now) _ counted listed c.self.invariant.1)
+    (c.self.invariant.0, goes_unpolled d.log.room d.log.events d.notices d.fails.items d.read_faults d.polls d.known (next_call Poll c.args.self.now) _ counted listed c.self.invariant.1, c.self.invariant.2)
 
 pub returns-then-fails_next-clause-reason : goal.returns-then-fails_next-clause-reason
 returns-then-fails_next-clause-reason c =
