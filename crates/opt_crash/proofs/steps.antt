@@ -3,6 +3,7 @@ pub mod HeaderSteps
 pub mod Notices
 pub mod Idle
 pub mod PointSteps
+pub mod Told
 pub mod WindowSteps
 pub mod Safe
 pub mod KnownPoints

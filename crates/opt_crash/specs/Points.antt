@@ -1,5 +1,6 @@
 -- The sync points of a session, from its disk's base and log.
-use Rattle.std.specs.Prelude.{◌≡◌, ◌⊎◌, ℕ, ◌+◌, ◌-◌, ◌<◌, ◌≤◌, Bool, false, ◌&&◌, ◌==◌, nat_le, nat_lt, if◌then◌else◌, List, [], ◌∷◌, length, take, drop, slice_get, Option, Some, None, Result, Ok, Err}
+use Rattle.std.specs.Prelude.{◌≡◌, ◌⊎◌, ℕ, ◌+◌, ◌-◌, ◌<◌, ◌≤◌, Bool, false, ◌&&◌, ◌==◌, nat_le, nat_lt, if◌then◌else◌, List, [], ◌∷◌, ◌++◌, length, map, take, drop, slice_get, Option, Some, None, Result, Ok, Err}
+use Rattle.std.specs.List.{filter}
 use Rattle.opt_base.specs.Seal.{Blocks}
 use Rattle.opt_disk.specs.declared.event.Event.{Event}
 use Rattle.opt_disk.specs.declared.event.Event.TheVariants.{Wrote, Lost, Noticed}
@@ -12,8 +13,8 @@ use Rattle.opt_journal.specs.declared.record.Commit.{Commit}
 use Rattle.opt_journal.specs.declared.record.Descriptor.{Descriptor}
 use Rattle.opt_journal.specs.Layout.{commit_of, descriptor_of, header_of}
 use Rattle.opt_journal.specs.declared.entry.Entry.{Entry}
-use Rattle.opt_journal.specs.Run.{Record, places, IsWhole, live_part}
-use Rattle.opt_crash.specs.Ledger.{WrittenRecord, Ledger, HoldsUnder, issued, latest, next_number, IsConsistentWith}
+use Rattle.opt_journal.specs.Run.{Record, places, commit_says, IsWhole, live_part}
+use Rattle.opt_crash.specs.Ledger.{WrittenRecord, Ledger, HoldsUnder, all_say, issued, latest, next_number, IsConsistentWith}
 use Rattle.opt_crash.specs.Steps.{with_record, with_header}
 
 -- what was read is a commit block of this epoch
@@ -32,6 +33,18 @@ commits g epoch (Wrote ticket block x ∷ es) = (if is_commit g epoch block x th
 commits g epoch (Lost block x ∷ es) = (if is_commit g epoch block x then 1 else 0) + commits g epoch es
 commits g epoch (Noticed ticket ∷ es) = commits g epoch es
 
+-- what was read, where that counts, alone
+abbrev pub where_told : Bool → Option Commit → List Commit
+where_told is None = []
+where_told is (Some c) = if is then c ∷ [] else []
+
+-- what the commit blocks of this epoch say that were written, accepted or lost, in their order
+abbrev pub commits_told : Geometry → ℕ → List Event → List Commit
+commits_told g epoch [] = []
+commits_told g epoch (Wrote ticket block x ∷ es) = where_told (is_commit g epoch block x) (commit_of g x) ++ commits_told g epoch es
+commits_told g epoch (Lost block x ∷ es) = where_told (is_commit g epoch block x) (commit_of g x) ++ commits_told g epoch es
+commits_told g epoch (Noticed ticket ∷ es) = commits_told g epoch es
+
 -- a session as its mount began it
 pub record MountedSession : Type 0 where
   pub geom : Geometry
@@ -43,6 +56,14 @@ pub record MountedSession : Type 0 where
 -- how many points its log has behind point 0: the commit blocks of its epoch since the mount ended, accepted or lost
 abbrev pub points_in : MountedSession → List Event → ℕ
 points_in s log = commits s.geom s.epoch (drop s.mounted log)
+
+-- what the commit blocks of its records say that its log has since the mount ended
+abbrev pub records_told : MountedSession → List Event → List Commit
+records_told s log = commits_told s.geom s.epoch (drop s.mounted log)
+
+-- the record has this number or a later one
+abbrev pub is_from : ℕ → Commit → Bool
+is_from number c = nat_le number c.number
 
 -- after k events the commit block of point p has just been written; for point 0 the mount has just ended
 pub record IsMoment (s : MountedSession) (log : List Event) (p k : ℕ) : Type 0 where
@@ -89,13 +110,14 @@ pub record IsKnown (s : MountedSession) (base : Blocks) (log : List Event) (k p 
   pub upto : (q : ℕ) → 0 < q → q ≤ p → IsNoticedPoint s base (take k log) q
   pub not_next : ¬ IsNoticedPoint s base (take k log) (p + 1)
 
--- each map of the ledger is that of a point, and each point that it knows is noticed
+-- Each map of the ledger is that of a point, and each point that it knows is noticed. From each number on, the log's commit blocks tell the ledger's records.
 pub record HasPoints (s : MountedSession) (base : Blocks) (log : List Event) (l : Ledger) : Type 0 where
   pub geom : s.geom ≡ l.geom
   pub epoch : s.epoch ≡ l.epoch
   pub first : s.first ≤ l.known
   pub late : s.mounted ≤ length log
   pub count : s.first + points_in s log ≡ next_number l
+  pub told : (n : ℕ) → l.header.start ≤ n → filter (is_from n) (records_told s log) ≡ map (commit_says s.epoch) (all_say (drop (n - l.header.start) l.records))
   pub each : (n : ℕ) → l.known ≤ n → n ≤ next_number l → IsPoint s base log (n - s.first) (live_part l.geom (l.map_before n))
   pub noticed : (p : ℕ) → 0 < p → p ≤ l.known - s.first → IsNoticedPoint s base log p
 

@@ -92,8 +92,8 @@ pub use pipeline::{
 };
 pub use points::{
     a_call_begins_safe, a_crash_leaves_a_point, a_ledger_knows_what_is_noticed,
-    a_mounted_disk_is_safe, a_point_is_for_ever, all_issued_is_the_last_point,
-    the_newest_bytes_are_the_map,
+    a_log_tells_its_records, a_mounted_disk_is_safe, a_point_is_for_ever,
+    all_issued_is_the_last_point, the_newest_bytes_are_the_map,
 };
 pub use record::{write_fresh, write_last, write_part};
 pub use replay::a_replay_holds_what_was_found;

@@ -1,17 +1,18 @@
 //! Sync points as laws: how they begin with a mounted disk, that the last one is what has been issued, and
 //! that none changes as the log grows.
 
-ghost use Rattle.std.specs.Prelude.{◌≡◌, ◌-◌, ◌≤◌, ℕ, List, ◌++◌, length, take, IsTrue, Some, None};
+ghost use Rattle.std.specs.Prelude.{◌≡◌, ◌-◌, ◌≤◌, ℕ, List, [], ◌∷◌, ◌++◌, length, take, drop, IsTrue, Some, None};
 ghost use Rattle.opt_base.specs.Seal.{Blocks};
 ghost use Rattle.opt_disk.specs.declared.event.Event.{Event};
 ghost use Rattle.opt_disk.specs.Cell.{cell_of};
 ghost use Rattle.opt_disk.specs.Crash.{IsHonest};
 ghost use Rattle.opt_geom.specs.Geometry.{Geometry};
 ghost use Rattle.opt_journal.specs.declared.header.Header.{Header};
-ghost use Rattle.opt_journal.specs.Run.{is_live, live_part, HeldIs};
-ghost use Rattle.opt_crash.specs.Ledger.{Ledger, HoldsUnder, IsConsistentWith, cover, issued, next_number};
+ghost use Rattle.opt_journal.specs.Run.{all_places, commit_says, is_live, live_part, places_from, HeldIs};
+ghost use Rattle.opt_crash.specs.Ledger.{Ledger, WrittenRecord, HoldsUnder, IsConsistentWith, all_say, cover, issued, next_number};
 ghost use Rattle.opt_crash.specs.PipelineData.{PipelineData, DataAgree};
-ghost use Rattle.opt_crash.specs.Points.{MountedSession, IsMounted, IsPoint, IsKnown, HoldsPoint, IsSafe, points_in, ledger_at_mount, session_at_mount};
+ghost use Rattle.opt_crash.specs.Points.{MountedSession, IsMounted, IsPoint, IsKnown, HoldsPoint, IsSafe, points_in, records_told, ledger_at_mount, session_at_mount};
+ghost use Rattle.opt_crash.specs.Steps.{with_record};
 
 use crate::journal::the_journal_is_lawful;
 
@@ -40,6 +41,15 @@ pub fn all_issued_is_the_last_point()
 {
     the_journal_is_lawful();
 }
+
+/// The log of a safe disk tells the ledger's records by its commit blocks: their ring places from each number on;
+/// and where the ledger has one record more, that one is told besides, where it has none more no other.
+pub fn a_log_tells_its_records()
+    ensures places { (s : MountedSession) (base : Blocks) (log : List Event) (l : Ledger) (t floor n : ℕ) → IsSafe s base log l t floor → l.header.start ≤ n → places_from n (records_told s log) ≡ all_places (all_say (drop (n - l.header.start) l.records)) }
+    ensures more { (s : MountedSession) (base : Blocks) (log more : List Event) (l : Ledger) (w : WrittenRecord) (m : Blocks) (t floor : ℕ) → IsSafe s base log l t floor → (from low : ℕ) → IsSafe s base (log ++ more) (with_record l w m) from low
+        → records_told s (log ++ more) ≡ records_told s log ++ commit_says s.epoch w.says ∷ [] }
+    ensures none { (s : MountedSession) (base : Blocks) (log more : List Event) (l k : Ledger) (t floor : ℕ) → IsSafe s base log l t floor → (from low : ℕ) → IsSafe s base (log ++ more) k from low → next_number k ≡ next_number l → records_told s (log ++ more) ≡ records_told s log }
+{}
 
 /// A point stays as it is in every longer log, and a longer log adds none to those that were there.
 pub fn a_point_is_for_ever()

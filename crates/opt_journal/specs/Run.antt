@@ -35,6 +35,24 @@ heads r = 1 + descriptor_count (length (entries r))
 abbrev pub places : Record → ℕ
 places r = heads r + length r.payloads
 
+-- the ring places of a record of which the commit block says this
+abbrev pub places_told : Commit → ℕ
+places_told c = 1 + c.descriptors + c.payloads
+
+-- the ring places of those of these records that have this number or a later one
+abbrev pub places_from : ℕ → List Commit → ℕ
+places_from number [] = 0
+places_from number (c ∷ cs) = (if nat_le number c.number then places_told c else 0) + places_from number cs
+
+-- the writes of which such a record is made: those of its ring places, and of its fresh blocks
+abbrev pub writes_told : Commit → ℕ
+writes_told c = places_told c + c.fresh
+
+-- the writes for which these records stand: those of which they are made, each payload at home, and two headers each
+abbrev pub writes_stood_for : List Commit → ℕ
+writes_stood_for [] = 0
+writes_stood_for (c ∷ cs) = (writes_told c + c.payloads + 2) + writes_stood_for cs
+
 abbrev pub commit_says : ℕ → Record → Commit
 commit_says epoch r = record { epoch = epoch; number = r.number; descriptors = descriptor_count (length (entries r)); payloads = length r.payloads; fresh = length r.fresh }
 

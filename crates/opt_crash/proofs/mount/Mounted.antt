@@ -1,15 +1,16 @@
 -- A mounted disk begins with point 0; and the last point is what has been issued.
-use Rattle.std.proofs.Common.{◌≡◌, inl, ℕ, ◌+◌, ◌-◌, ◌<◌, ◌≤◌, List, length, take, refl, sym, ◌∙◌, ap, subst, arith}
+use Rattle.std.proofs.Common.{◌≡◌, inl, ℕ, zero, suc, ◌+◌, ◌-◌, ◌<◌, ◌≤◌, List, [], length, map, take, drop, refl, sym, ◌∙◌, ap, subst, arith}
 use Rattle.std.proofs.lemmas.List.{take_all, drop_all}
+use Rattle.std.specs.List.{filter}
 use Rattle.opt_base.specs.Seal.{Blocks}
 use Rattle.opt_disk.specs.declared.event.Event.{Event}
 use Rattle.opt_disk.specs.Cell.{cell_of}
 use Rattle.opt_geom.specs.Geometry.{Geometry}
 use Rattle.opt_journal.specs.declared.header.Header.{Header}
-use Rattle.opt_journal.specs.Run.{live_part}
+use Rattle.opt_journal.specs.Run.{commit_says, live_part}
 use Rattle.opt_crash.specs.JournalLaws.{JournalLaws}
-use Rattle.opt_crash.specs.Ledger.{Ledger, HoldsUnder, IsConsistentWith, issued, next_number}
-use Rattle.opt_crash.specs.Points.{MountedSession, IsMounted, IsPoint, HasPoints, StandsBetween, IsSafe, commits, points_in, ledger_at_mount, session_at_mount}
+use Rattle.opt_crash.specs.Ledger.{Ledger, HoldsUnder, IsConsistentWith, all_say, issued, next_number}
+use Rattle.opt_crash.specs.Points.{MountedSession, IsMounted, IsPoint, HasPoints, StandsBetween, IsSafe, commits, commits_told, is_from, points_in, ledger_at_mount, session_at_mount}
 use Rattle.opt_crash.proofs.steps.PointSteps.{begins, issued_holds}
 use Rattle.opt_crash.proofs.steps.WindowSteps.{between_start}
 
@@ -48,6 +49,10 @@ mounted_safe laws base log g slot h mounted = record {
     same : (n : ℕ) → n - n ≡ 0
     same n = omega arith
 
+    none_left : (k : ℕ) → map (commit_says h.epoch) (all_say (drop k [])) ≡ []
+    none_left zero = refl
+    none_left (suc k) = refl
+
     l : Ledger
     l = ledger_at_mount (cell_of base log) g slot h
 
@@ -61,6 +66,7 @@ mounted_safe laws base log g slot h mounted = record {
       first = omega arith;
       late = omega arith;
       count = omega (arith, no_points g h log);
+      told = λ n from. ap (λ es. filter (is_from n) (commits_told g h.epoch es)) (drop_all (length log) log (omega arith)) ∙ sym (none_left (n - h.start));
       each = λ n low high. subst (λ (p : ℕ). IsPoint (session_at_mount g h log) base log p (live_part g (l.map_before n))) (sym (none_past n h.start low high)) (first_point base log g h (live_part g (l.map_before n)) (issued_holds laws base log l keeps));
       noticed = λ p some le. absurd (no_more h.start p some le);
     }

@@ -1,5 +1,5 @@
 -- Each step is safe: the ledger and the statement on each moment go on.
-use Rattle.std.proofs.Common.{◌≡◌, ⊎_elim, ℕ, ◌+◌, ◌-◌, ◌<◌, ◌≤◌, nat_le, nat_lt, ◌&&◌, Bool, true, false, if◌then◌else◌, List, [], ◌∷◌, ◌++◌, None, refl, sym, ◌∙◌, ap, subst, arith, length-append, append-nil, append_assoc}
+use Rattle.std.proofs.Common.{◌≡◌, inr, ⊎_elim, ℕ, ◌+◌, ◌-◌, ◌<◌, ◌≤◌, nat_le, nat_lt, ◌&&◌, Bool, true, false, if◌then◌else◌, List, [], ◌∷◌, ◌++◌, None, Some, refl, sym, ◌∙◌, ap, subst, arith, length-append, append-nil, append_assoc}
 use Rattle.std.proofs.lemmas.Bool.{cases_lt, le-ltb, le-leb, lt-leb, lt-ltb, eq-eqb, and_from}
 use Rattle.opt_base.specs.Seal.{Blocks}
 use Rattle.opt_disk.specs.declared.event.Event.{Event}
@@ -9,11 +9,11 @@ use Rattle.opt_crash.proofs.log.Events.{if_true}
 use Rattle.opt_geom.specs.Geometry.{ring_block, bitmap_start}
 use Rattle.opt_journal.specs.declared.header.Header.{Header}
 use Rattle.opt_journal.specs.Layout.{commit_of}
-use Rattle.opt_journal.specs.Run.{live_part}
+use Rattle.opt_journal.specs.Run.{commit_says, live_part}
 use Rattle.opt_crash.specs.JournalLaws.{JournalLaws}
 use Rattle.opt_crash.specs.Ledger.{Ledger, WrittenRecord, IsConsistentWith, next_number, block_at}
 use Rattle.opt_crash.specs.Steps.{MayWriteInPlace, MayWriteInRing, IsReadyToCommit, with_record, MayWriteHeader, with_header, IsDurable, with_durable_header, AreNoticed, with_known}
-use Rattle.opt_crash.specs.Points.{MountedSession, IsPoint, StandsBetween, HasPoints, IsSafe, commits, is_commit, has_epoch}
+use Rattle.opt_crash.specs.Points.{MountedSession, IsPoint, StandsBetween, HasPoints, IsSafe, commits, commits_told, is_commit, has_epoch, where_told}
 use Rattle.opt_crash.proofs.log.Adds.{Adds, adds_wrote, adds_lost}
 use Rattle.opt_crash.proofs.steps.Notices.{keeps_notice}
 use Rattle.opt_crash.proofs.theorem.Images.{in_ring}
@@ -21,6 +21,7 @@ use Rattle.opt_crash.proofs.steps.Steps.{write_in_place, write_in_ring, write_co
 use Rattle.opt_crash.proofs.steps.HeaderSteps.{with_known_keeps, turned_keeps, write_header, count}
 use Rattle.opt_crash.proofs.steps.PointSteps.{point_stays, point_made, points_in-append}
 use Rattle.opt_crash.proofs.steps.KnownPoints.{noticed_stays, all_noticed}
+use Rattle.opt_crash.proofs.steps.Told.{one_told, tells_from, tells_more}
 use Rattle.opt_crash.proofs.steps.WindowSteps.{between_more, points_stay}
 
 module _ (laws : JournalLaws) (s : MountedSession) (base : Blocks) (log : List Event) (l : Ledger) (t floor : ℕ) (safe : IsSafe s base log l t floor) where
@@ -80,7 +81,7 @@ module _ (laws : JournalLaws) (s : MountedSession) (base : Blocks) (log : List E
   safe_header e x h none adds may =
       let k = write_header base log (log ++ e ∷ []) l x h adds safe.keeps may in
       let old = points_stay s base log e l none safe.points in
-      let p : HasPoints s base (log ++ e ∷ []) (with_header l h) = record { geom = old.geom; epoch = old.epoch; first = old.first; late = old.late; count = old.count; each = old.each; noticed = old.noticed } in
+      let p : HasPoints s base (log ++ e ∷ []) (with_header l h) = record { geom = old.geom; epoch = old.epoch; first = old.first; late = old.late; count = old.count; told = old.told; each = old.each; noticed = old.noticed } in
       record { keeps = k; points = p; low = safe.low; window = between_more laws s base log e (with_header l h) t floor (next_number l - s.first) (next_number l - s.first) safe.window k p safe.low (omega arith) (omega arith) }
 
   -- an accepted header
@@ -97,7 +98,7 @@ module _ (laws : JournalLaws) (s : MountedSession) (base : Blocks) (log : List E
       let old = safe.points in
       record {
         keeps = with_known_keeps base log l safe.keeps number n;
-        points = record { geom = old.geom; epoch = old.epoch; first = omega (arith, old.first, n.from); late = old.late; count = old.count; each = λ m low high. old.each m (omega (arith, low, n.from)) high; noticed = all_noticed laws s base log l number safe.keeps old.geom old.epoch old.late old.first n old.noticed };
+        points = record { geom = old.geom; epoch = old.epoch; first = omega (arith, old.first, n.from); late = old.late; count = old.count; told = old.told; each = λ m low high. old.each m (omega (arith, low, n.from)) high; noticed = all_noticed laws s base log l number safe.keeps old.geom old.epoch old.late old.first n old.noticed };
         low = omega (arith, safe.low, n.from);
         window = record { each = safe.window.each };
       }
@@ -109,14 +110,14 @@ module _ (laws : JournalLaws) (s : MountedSession) (base : Blocks) (log : List E
       let old = safe.points in
       record {
         keeps = turned_keeps base log l safe.keeps h d;
-        points = record { geom = old.geom; epoch = old.epoch; first = old.first; late = old.late; count = old.count ∙ sym same; each = λ m low high. old.each m low (omega (arith, high, same)); noticed = old.noticed };
+        points = record { geom = old.geom; epoch = old.epoch; first = old.first; late = old.late; count = old.count ∙ sym same; told = tells_from s log l h (safe.keeps.headers.fits h (inr d.next)).start old.told; each = λ m low high. old.each m low (omega (arith, high, same)); noticed = old.noticed };
         low = safe.low;
         window = subst (λ n. StandsBetween s base log t floor (n - s.first)) (sym same) safe.window;
       }
 
   -- the commit block is written
-  safe_commit : (e : Event) (w : WrittenRecord) (m : Blocks) → commits s.geom s.epoch (e ∷ []) ≡ 1 → Adds base log (log ++ e ∷ []) (ring_block l.geom w.says.place) (block_at w.ring 0) → IsReadyToCommit base log l w m → IsSafe s base (log ++ e ∷ []) (with_record l w m) t floor
-  safe_commit e w m one adds ready =
+  safe_commit : (e : Event) (w : WrittenRecord) (m : Blocks) → commits s.geom s.epoch (e ∷ []) ≡ 1 → commits_told s.geom s.epoch (e ∷ []) ≡ commit_says s.epoch w.says ∷ [] → Adds base log (log ++ e ∷ []) (ring_block l.geom w.says.place) (block_at w.ring 0) → IsReadyToCommit base log l w m → IsSafe s base (log ++ e ∷ []) (with_record l w m) t floor
+  safe_commit e w m one told adds ready =
       let k = write_commit laws base log (log ++ e ∷ []) l w m adds safe.keeps ready in
       let old = safe.points in
       let grown : next_number (with_record l w m) ≡ next_number l + 1 = omega (arith, length-append l.records (w ∷ [])) in
@@ -128,6 +129,7 @@ module _ (laws : JournalLaws) (s : MountedSession) (base : Blocks) (log : List E
         first = old.first;
         late = omega (arith, old.late, length-append log (e ∷ []));
         count = omega (arith, points_in-append s log (e ∷ []) old.late, one, old.count, grown);
+        told = tells_more s log e l w m old.late told ready.number old.told;
         each = λ n low high. ⊎_elim
             (λ new. subst (λ q. IsPoint s base (log ++ e ∷ []) q (live_part l.geom ((with_record l w m).map_before n))) (omega (arith, new, grown, from_first, high))
             (subst (λ q. IsPoint s base (log ++ e ∷ []) (next_number l - s.first + 1) (live_part l.geom ((with_record l w m).map_before q))) (omega (arith, new, grown, high)) made))
@@ -145,6 +147,10 @@ module _ (laws : JournalLaws) (s : MountedSession) (base : Blocks) (log : List E
       ∙ and_from _ _ (and_from _ _ (le-leb 2 (ring_block l.geom w.says.place) (omega arith)) (lt-ltb _ _ (in_ring l.geom w.says.place safe.keeps.ring)))
       (ap (has_epoch s.epoch) ready.spelled.commit ∙ eq-eqb l.epoch s.epoch (sym safe.points.epoch))
 
+  -- and tells of its record
+  commit_told : (w : WrittenRecord) (m : Blocks) → IsReadyToCommit base log l w m → where_told (is_commit s.geom s.epoch (ring_block l.geom w.says.place) (block_at w.ring 0)) (commit_of s.geom (block_at w.ring 0)) ++ [] ≡ commit_says s.epoch w.says ∷ []
+  commit_told w m ready = one_told s.geom s.epoch (ring_block l.geom w.says.place) (block_at w.ring 0) (commit_says s.epoch w.says) (commit_counts w m ready) (ap (λ g. commit_of g (block_at w.ring 0)) safe.points.geom ∙ ready.spelled.commit ∙ ap (λ e. Some (commit_says e w.says)) (sym safe.points.epoch))
+
   -- what is counted adds one
   count_one : (b : Bool) → b ≡ true → (if b then 1 else 0) + 0 ≡ 1
   count_one true e = refl
@@ -152,11 +158,11 @@ module _ (laws : JournalLaws) (s : MountedSession) (base : Blocks) (log : List E
 
   -- an accepted commit block
   pub safe_wrote_commit : (n : ℕ) (w : WrittenRecord) (m : Blocks) → IsReadyToCommit base log l w m → IsSafe s base (log ++ Wrote n (ring_block l.geom w.says.place) (block_at w.ring 0) ∷ []) (with_record l w m) t floor
-  safe_wrote_commit n w m ready = safe_commit _ w m (count_one _ (commit_counts w m ready)) (adds_wrote base log n _ _) ready
+  safe_wrote_commit n w m ready = safe_commit _ w m (count_one _ (commit_counts w m ready)) (commit_told w m ready) (adds_wrote base log n _ _) ready
 
   -- and a lost one
   pub safe_lost_commit : (w : WrittenRecord) (m : Blocks) → IsReadyToCommit base log l w m → IsSafe s base (log ++ Lost (ring_block l.geom w.says.place) (block_at w.ring 0) ∷ []) (with_record l w m) t floor
-  safe_lost_commit w m ready = safe_commit _ w m (count_one _ (commit_counts w m ready)) (adds_lost base log _ _) ready
+  safe_lost_commit w m ready = safe_commit _ w m (count_one _ (commit_counts w m ready)) (commit_told w m ready) (adds_lost base log _ _) ready
 
 -- a wait adds notices
 pub safe_notices : JournalLaws → (s : MountedSession) (base : Blocks) (log : List Event) (l : Ledger) (t floor : ℕ) (ts : List ℕ) → IsSafe s base log l t floor → IsSafe s base (log ++ notices ts) l t floor

@@ -15,6 +15,7 @@ use Rattle.opt_crash.specs.Points.{MountedSession, IsPoint, HoldsPoint, StandsBe
 use Rattle.opt_crash.proofs.theorem.Whole.{stands_for_one}
 use Rattle.opt_crash.proofs.steps.PointSteps.{point_stays, points_in-append}
 use Rattle.opt_crash.proofs.steps.KnownPoints.{noticed_stays}
+use Rattle.opt_crash.proofs.steps.Told.{tells_still}
 
 -- an image of this moment holds the map of a point
 now_holds : JournalLaws → (s : MountedSession) (base : Blocks) (log : List Event) (l : Ledger) (img : Blocks) → IsConsistentWith base log l → HasPoints s base log l → IsHonest s.geom.n base log img → HoldsPoint s base log (l.known - s.first) (next_number l - s.first) img
@@ -61,6 +62,7 @@ points_stay s base log e l none p = record {
   first = p.first;
   late = omega (arith, p.late, length-append log (e ∷ []));
   count = ap (λ n. s.first + n) (points_in-append s log (e ∷ []) p.late ∙ sum (points_in s log) (commits s.geom s.epoch (e ∷ [])) none) ∙ p.count;
+  told = tells_still s log e l p.late none p.told;
   each = λ n low high. point_stays s base log (e ∷ []) (n - s.first) _ (p.each n low high);
   noticed = λ q some le. noticed_stays s base log (e ∷ []) q (p.noticed q some le);
 }
