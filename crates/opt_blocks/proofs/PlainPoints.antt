@@ -1,15 +1,20 @@
 -- The points of a map of blocks in memory, before and after a call.
-use Rattle.std.proofs.Common.{◌≡◌, ℕ, ◌-◌, ◌<◌, ◌≤◌, List, [], ◌∷◌, ◌++◌, length, get_or, refl, sym, ap, ◌∙◌, subst, arith, inr}
+use Rattle.std.proofs.Common.{◌≡◌, ℕ, ◌-◌, ◌<◌, ◌≤◌, List, [], ◌∷◌, ◌++◌, length, get_or, None, refl, sym, ap, ◌∙◌, subst, arith, inr}
 use Rattle.std.proofs.lemmas.List.{get_or_append_left, get_or_push, length-append, length_push, append-nil}
 use Rattle.opt_base.specs.Seal.{blocks_of}
 use Rattle.opt_blocks.specs.declared.plain.PlainBlocks.{PlainBlocks}
 use Rattle.opt_blocks.specs.Running.{HasNoBare}
-use Rattle.opt_blocks.specs.State.{State}
+use Rattle.opt_blocks.specs.State.{RecordsView, State}
 use Rattle.opt_blocks.specs.Crashes.{IssuesNothing, Advances, MakesPoint}
 use Rattle.opt_blocks.specs.Plain.{IsKeptPoint, IsKeptFrom, crash_of}
 use Rattle.opt_blocks.specs.PlainOf.{books_of, state_of}
 use Rattle.opt_blocks.specs.PlainLaws.{marked_is}
 use Rattle.opt_blocks.proofs.DefinedSteps.{kept_live}
+use Rattle.opt_blocks.proofs.Times.{records_not}
+
+-- memory tells of no records
+abbrev no_records : RecordsView
+no_records = record { told = λ log. None; starts = λ log number. ⊥ }
 
 -- the points stay
 pub nothing_issued : (old new : PlainBlocks) → new.history.points ≡ old.history.points → new.floor ≡ old.floor → IssuesNothing (state_of old) (state_of new)
@@ -20,6 +25,7 @@ nothing_issued old new e f = record {
   left = λ t m. (λ is. subst (λ ps. IsKeptFrom ps old.floor m) e (subst (λ k. IsKeptFrom new.history.points k m) f is), λ is. subst (λ k. IsKeptFrom new.history.points k m) (sym f) (subst (λ ps. IsKeptFrom ps old.floor m) (sym e) is));
   holds = λ img m. (λ is. is, λ is. is);
   sure = λ log p. (λ is. is, λ is. is);
+  records = records_not no_records;
   issued = λ m. (λ is. subst (λ ps. IsKeptPoint ps (length ps - 1) m) e is, λ is. subst (λ ps. IsKeptPoint ps (length ps - 1) m) (sym e) is);
   awaits = λ p t. (λ is. is, λ is. is);
 }
@@ -43,6 +49,7 @@ advances_parts p s points more floor e rises = record {
       );
   holds = λ img m. (λ is. is, λ is. is);
   sure = λ log p. (λ is. is, λ is. is);
+  records = records_not no_records;
   last = omega (arith, ap length e, length-append p.history.points more);
   floor = rises;
   awaits = λ q t waits. absurd waits;

@@ -1,13 +1,15 @@
 -- A sync of a map of blocks in memory: nothing to commit, out of memory, a point made, and the floor raised.
 use Rattle.std.proofs.Common.{◌≡◌, ◌≢◌, ℕ, ◌+◌, ◌≤◌, ◌==◌, true, false, [], ◌∷◌, ◌++◌, refl, sym, ap, subst, ◌∙◌, arith, inl, inr, Ok, Err}
 use Rattle.std.proofs.lemmas.Bool.{cond-true, cond-false, eq-eqb, ne_eqb}
+use Rattle.std.proofs.lemmas.Option.{none-some}
 use Rattle.opt_disk.specs.Manner.{any_manner}
+use Rattle.opt_journal.specs.Layout.{descriptor_count}
 use Rattle.opt_blocks.specs.declared.plain.PlainBlocks.{PlainBlocks}
 use Rattle.opt_blocks.specs.declared.refusals.SyncRefusal.TheVariants.{NoMemory}
-use Rattle.opt_blocks.specs.Running.{Running, HasNoBare, nothing_running}
+use Rattle.opt_blocks.specs.Running.{Running, HasNoBare, fresh_blocks, nothing_running, payloads}
 use Rattle.opt_blocks.specs.State.{State, IsReusable}
 use Rattle.opt_blocks.specs.Calls.{if_changed, UsesDisk}
-use Rattle.opt_blocks.specs.Effects.{ChangesNothing, Syncs}
+use Rattle.opt_blocks.specs.Effects.{ChangesNothing, Syncs, WritesItsRecord}
 use Rattle.opt_blocks.specs.Plain.{crash_of}
 use Rattle.opt_blocks.specs.PlainOf.{books_of, state_of}
 use Rattle.opt_blocks.proofs.Times.{advances_on, leaves_not}
@@ -28,6 +30,31 @@ quiet old new = record {
   read_faults = refl;
   waits = omega arith;
 }
+
+-- memory has no log, so a record is none of it
+pub writes_record : (old new : PlainBlocks) → WritesItsRecord (state_of old) (state_of new)
+writes_record old new = record {
+  some = λ some. record {
+    begun = 0;
+    from = omega arith;
+    upto = omega arith;
+    commit = record { epoch = 0; number = 0; descriptors = descriptor_count (m + n); payloads = m; fresh = n };
+    payloads = refl;
+    fresh = refl;
+    descriptors = refl;
+    told = λ before known. absurd (none-some before known);
+    writes = omega arith;
+    awaits = λ t waits. absurd waits;
+    fits = λ fits. refl;
+  };
+  none = λ none. (refl, refl);
+}
+  where
+    m : ℕ
+    m = payloads (books_of old).geom (books_of old).running
+
+    n : ℕ
+    n = fresh_blocks (books_of old).geom (books_of old).running
 
 pub syncs_nothing : (p : PlainBlocks) (point : ℕ) → p.weight ≡ 0 → point ≡ (books_of p).point → Syncs true (Ok point) (state_of p) (state_of p)
 syncs_nothing p point none is = record {

@@ -8,9 +8,9 @@ use Rattle.opt_disk.specs.declared.event.Event.{Event}
 use Rattle.opt_disk.specs.declared.event.Event.TheVariants.{Wrote, Lost, Noticed}
 use Rattle.opt_disk.specs.Cell.{is_accepted}
 use Rattle.opt_disk.specs.Disk.{Grows}
-use Rattle.opt_blocks.specs.State.{State}
+use Rattle.opt_blocks.specs.State.{RecordsView, State}
 use Rattle.opt_blocks.specs.Calls.{UsesDisk}
-use Rattle.opt_blocks.specs.Crashes.{HoldsPointBetween, AwaitsSince, Advances, IssuesNothing, IsTold}
+use Rattle.opt_blocks.specs.Crashes.{HoldsPointBetween, AwaitsSince, Advances, IssuesNothing, IsTold, SameRecords}
 use Rattle.opt_blocks.specs.Effects.{LeavesDisk}
 use Rattle.opt_blocks.proofs.Members.{or_first, or_last}
 
@@ -41,6 +41,13 @@ not_before t (Noticed u ∷ old) more none = not_before t old more none
 since_before : (old mid : State) → Advances old mid → (p t : ℕ) → AwaitsSince mid p t → AwaitsSince old p t
 since_before old mid a p t since = record { point = omega (arith, a.last, since.point); ticket = not_before t old.crash.log a.grows.more (ap (is_accepted t) (sym a.grows.log) ∙ since.ticket) }
 
+-- of records the same is known, twice
+records_on : (old mid new : RecordsView) → SameRecords old mid → SameRecords mid new → SameRecords old new
+records_on old mid new a b = record { told = b.told ∙ a.told; starts = λ log n. (λ is. (a.starts log n).0 ((b.starts log n).0 is), λ is. (b.starts log n).1 ((a.starts log n).1 is)) }
+
+pub records_not : (r : RecordsView) → SameRecords r r
+records_not r = record { told = refl; starts = λ log n. (λ is. is, λ is. is) }
+
 pub advances_on : (old mid new : State) → Advances old mid → Advances mid new → Advances old new
 advances_on old mid new a b = record {
   base = b.base ∙ a.base;
@@ -53,6 +60,7 @@ advances_on old mid new a b = record {
   point = λ p m low. (λ is. (a.point p m low).0 ((b.point p m (omega (arith, low, a.last))).0 is), λ is. (b.point p m (omega (arith, low, a.last))).1 ((a.point p m low).1 is));
   holds = λ img m. (λ is. (a.holds img m).0 ((b.holds img m).0 is), λ is. (b.holds img m).1 ((a.holds img m).1 is));
   sure = λ log p. (λ is. (a.sure log p).0 ((b.sure log p).0 is), λ is. (b.sure log p).1 ((a.sure log p).1 is));
+  records = records_on old.crash.records mid.crash.records new.crash.records a.records b.records;
   last = omega (arith, a.last, b.last);
   floor = omega (arith, a.floor, b.floor);
   awaits = λ p t waits. ⊎_elim (a.awaits p t) (λ since. inr (since_before old mid a p t since)) (b.awaits p t waits);
@@ -67,6 +75,7 @@ nothing_on old mid new a b = record {
   left = λ t m. (λ is. (a.left t m).0 ((b.left t m).0 is), λ is. (b.left t m).1 ((a.left t m).1 is));
   holds = λ img m. (λ is. (a.holds img m).0 ((b.holds img m).0 is), λ is. (b.holds img m).1 ((a.holds img m).1 is));
   sure = λ log p. (λ is. (a.sure log p).0 ((b.sure log p).0 is), λ is. (b.sure log p).1 ((a.sure log p).1 is));
+  records = records_on old.crash.records mid.crash.records new.crash.records a.records b.records;
   issued = λ m. (λ is. (a.issued m).0 ((b.issued m).0 is), λ is. (b.issued m).1 ((a.issued m).1 is));
   awaits = λ p t. (λ is. (a.awaits p t).0 ((b.awaits p t).0 is), λ is. (b.awaits p t).1 ((a.awaits p t).1 is));
 }
@@ -79,6 +88,7 @@ nothing_not s = record {
   left = λ t m. (λ is. is, λ is. is);
   holds = λ img m. (λ is. is, λ is. is);
   sure = λ log p. (λ is. is, λ is. is);
+  records = records_not s.crash.records;
   issued = λ m. (λ is. is, λ is. is);
   awaits = λ p t. (λ is. is, λ is. is);
 }
@@ -100,6 +110,7 @@ nothing_advances old new told e f a = record {
   point = λ p m low. a.point p m;
   holds = λ img m. a.holds img m;
   sure = λ log p. a.sure log p;
+  records = a.records;
   last = omega (arith, e);
   floor = omega (arith, f);
   awaits = λ p t waits. inl ((a.awaits p t).0 waits);

@@ -8,7 +8,7 @@ use Rattle.opt_geom.specs.Geometry.{Geometry}
 use Rattle.opt_layout.specs.Bitmap.{is_set}
 use Rattle.opt_journal.specs.Run.{is_live}
 use Rattle.opt_blocks.specs.Running.{payloads, fresh_blocks, HasNoBare}
-use Rattle.opt_blocks.specs.State.{State, is_defined}
+use Rattle.opt_blocks.specs.State.{RecordsView, State, is_defined}
 
 -- the image holds a map, and it is that of a point from `floor` to `top`
 pub record HoldsPointBetween (s : State) (floor top : ℕ) (img : Blocks) : Type 0 where
@@ -23,6 +23,11 @@ pub record HoldsPointBetween (s : State) (floor top : ℕ) (img : Blocks) : Type
 abbrev pub HasLiveBlocks : Geometry → Blocks → Blocks → Type 0
 HasLiveBlocks g map m = (b : ℕ) → IsTrue (is_live g map b) → m b ≡ map b
 
+-- Of records the same is known by the same events.
+pub record SameRecords (old new : RecordsView) : Type 0 where
+  pub told : new.told ≡ old.told
+  pub starts : (log : List Event) (number : ℕ) → new.starts log number ↔ old.starts log number
+
 -- No event comes, and no point: a crash may leave what it might have left.
 pub record IssuesNothing (old new : State) : Type 0 where
   pub base : new.crash.base ≡ old.crash.base
@@ -33,6 +38,7 @@ pub record IssuesNothing (old new : State) : Type 0 where
   pub issued : (m : Blocks) → new.crash.issued m ↔ old.crash.issued m
   pub awaits : (p t : ℕ) → new.crash.awaits p t ↔ old.crash.awaits p t
   pub sure : (log : List Event) (p : ℕ) → new.crash.sure log p ↔ old.crash.sure log p
+  pub records : SameRecords old.crash.records new.crash.records
 
 -- a point that came since waits for the ticket of a write that came since
 pub record AwaitsSince (old : State) (p t : ℕ) : Type 0 where
@@ -48,8 +54,9 @@ pub record Advances (old new : State) : Type 0 where
   pub earlier : (t : ℕ) (img : Blocks) → t ≤ length old.crash.log → new.crash.left_since t img → old.crash.left_since t img ⊎ ∥ HoldsPointBetween new old.books.floor new.books.point img ∥₁
   -- which map an image holds is for ever
   pub holds : (img m : Blocks) → new.crash.holds img m ↔ old.crash.holds img m
-  -- and by which events a point is sure
+  -- and by which events a point is sure, and what they tell of records
   pub sure : (log : List Event) (p : ℕ) → new.crash.sure log p ↔ old.crash.sure log p
+  pub records : SameRecords old.crash.records new.crash.records
   -- a point is for ever
   pub point : (p : ℕ) (m : Blocks) → p ≤ old.books.point → new.crash.is_point p m ↔ old.crash.is_point p m
   pub last : old.books.point ≤ new.books.point

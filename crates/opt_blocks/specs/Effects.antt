@@ -1,9 +1,13 @@
 -- What several calls of a map of blocks have in common. It is described in docs/BLOCKS.md.
-use Rattle.std.specs.Prelude.{◌≡◌, ◌+◌, ◌≤◌, ℕ, Bool, IsTrue, IfOk, OnOk, Result}
+use Rattle.std.specs.Prelude.{◌≡◌, ◌⊎◌, ◌+◌, ◌<◌, ◌≤◌, ℕ, Bool, false, IsTrue, IfOk, OnOk, List, [], ◌∷◌, ◌++◌, length, take, Some, Result}
 use Rattle.opt_blocks.specs.declared.refusals.SyncRefusal.{SyncRefusal}
 use Rattle.opt_base.specs.Counts.{next_count}
+use Rattle.opt_disk.specs.Cell.{is_accepted}
 use Rattle.opt_disk.specs.Disk.{PollsFirst, writes_in}
-use Rattle.opt_blocks.specs.Running.{fresh_blocks}
+use Rattle.opt_journal.specs.declared.record.Commit.{Commit}
+use Rattle.opt_journal.specs.Layout.{descriptor_count}
+use Rattle.opt_journal.specs.Run.{places_from, writes_told}
+use Rattle.opt_blocks.specs.Running.{fresh_blocks, payloads}
 use Rattle.opt_blocks.specs.State.{Bookkeeping, State}
 use Rattle.opt_blocks.specs.Calls.{sync_fails, OnNoMemory, UnlessNoMemory, UsesDisk, MovesPipeline, EndsTransaction, IsAfterSync, commit_places, commit_writes, if_changed}
 use Rattle.opt_blocks.specs.Crashes.{IssuesNothing, Advances, MakesPoint, WritesAtMost}
@@ -24,21 +28,49 @@ pub record Ticked (tells : Bool) (old new : State) : Type 0 where
   pub manner : new.counts.ticks.manner ≡ old.counts.ticks.manner
   pub polled : IsTrue tells → PollsFirst old.counts.ticks.manner 64 old.counts.ticks.polls old.crash.log new.counts.ticks.polls new.crash.log
 
--- A sync that is done writes its record and no more: each payload in the ring, each fresh block, the descriptors and the commit block.
-abbrev pub WritesItsRecord : State → State → Type 0
-WritesItsRecord old new = writes_in new.crash.log ≤ writes_in old.crash.log + if_changed old.books.running (commit_places old.books + fresh_blocks old.books.geom old.books.running) 0
-
 -- The ring has places for the record that a sync would write.
 abbrev pub FitsRing : Bookkeeping → Type 0
 FitsRing k = commit_places k ≤ k.free_places
 
--- The pipeline moves on, and the map stays: at each moment a crash leaves a point, and no write comes that wasn't owed.
+-- What a sync would commit needs no ring place to come back: the record fits the free ones, or there is nothing.
+abbrev pub OrdersAtOnce : Bookkeeping → Type 0
+OrdersAtOnce k = FitsRing k ⊎ (k.running.weight ≡ 0)
+
+-- The ring places that aren't free are those of the records that the log tells, from the number on from which they aren't free.
+abbrev pub RingIsTold : State → Type 0
+RingIsTold s = (number : ℕ) (told : List Commit) → s.crash.records.starts s.crash.log number → s.crash.records.told s.crash.log ≡ Some told → s.books.geom.j ≡ s.books.free_places + places_from number told
+
+-- The log tells of no other records than before.
+abbrev pub TellsNone : State → State → Type 0
+TellsNone old new = new.crash.records.told new.crash.log ≡ old.crash.records.told old.crash.log
+
+-- A sync wrote a record of the transaction's payloads and fresh blocks: the log tells of it behind all others. Its writes are the last ones, those behind `begun` events: each payload in the ring, each fresh block, the descriptors and the commit block. For these the new point waits. Where the record fits the ring, nothing else comes before them.
+pub record WritesRecord (old new : State) : Type 0 where
+  pub begun : ℕ
+  pub from : length old.crash.log ≤ begun
+  pub upto : begun ≤ length new.crash.log
+  pub commit : Commit
+  pub payloads : commit.payloads ≡ payloads old.books.geom old.books.running
+  pub fresh : commit.fresh ≡ fresh_blocks old.books.geom old.books.running
+  pub descriptors : commit.descriptors ≡ descriptor_count (commit.payloads + commit.fresh)
+  pub told : (before : List Commit) → old.crash.records.told old.crash.log ≡ Some before → new.crash.records.told new.crash.log ≡ Some (before ++ commit ∷ [])
+  pub writes : writes_in new.crash.log ≤ writes_in (take begun new.crash.log) + writes_told commit
+  pub awaits : (t : ℕ) → new.crash.awaits new.books.point t → is_accepted t (take begun new.crash.log) ≡ false
+  pub fits : FitsRing old.books → begun ≡ length old.crash.log
+
+-- A sync that is done writes its record, where there was something to commit, and else nothing.
+pub record WritesItsRecord (old new : State) : Type 0 where
+  pub some : 0 < old.books.running.weight → WritesRecord old new
+  pub none : old.books.running.weight ≡ 0 → TellsNone old new × (writes_in new.crash.log ≡ writes_in old.crash.log)
+
+-- The pipeline moves on, and the map stays: at each moment a crash leaves a point, no write comes that wasn't owed, and no record.
 pub record RunsPipeline (tells failed : Bool) (old new : State) : Type 0 where
   pub pipeline : MovesPipeline old.books new.books
   pub disk : UsesDisk failed old new
   pub map : IsTrue tells → new.map ≡ old.map
   pub crash : IsTrue tells → Advances old new
   pub writes : IsTrue tells → WritesAtMost 0 old new
+  pub told : IsTrue tells → TellsNone old new
 
 -- The transaction ends by a sync point, if it has a weight, and the map stays. Out of memory changes nothing.
 pub record Syncs (tells : Bool) (result : Result ℕ SyncRefusal) (old new : State) : Type 0 where

@@ -1,5 +1,5 @@
 -- What is known of a map of blocks in memory, by its parts. It is described in docs/BLOCKS.md.
-use Rattle.std.specs.Prelude.{◌≡◌, ℕ, ◌+◌, ◌-◌, ◌<◌, ◌≤◌, Bool, false, nat_lt, not, ◌&&◌, if◌then◌else◌, List, [], length, slice_index_or}
+use Rattle.std.specs.Prelude.{◌≡◌, ℕ, ◌+◌, ◌-◌, ◌<◌, ◌≤◌, Bool, false, nat_lt, not, ◌&&◌, if◌then◌else◌, List, [], length, slice_index_or, None}
 use Rattle.opt_base.specs.Seal.{Blocks, blocks_of}
 use Rattle.opt_geom.specs.Geometry.{Geometry, bitmap_start}
 use Rattle.opt_layout.specs.Bitmap.{bit_in, is_set}
@@ -51,4 +51,5 @@ crash_of points floor = record {
   issued = λ m. IsKeptPoint points (length points - 1) m;
   awaits = λ p t. ⊥;
   sure = λ log p. Unit {0};
+  records = record { told = λ log. None; starts = λ log number. ⊥ };
 }

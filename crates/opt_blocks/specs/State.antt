@@ -6,6 +6,7 @@ use Rattle.opt_base.specs.declared.words.Class.{Class}
 use Rattle.opt_disk.specs.declared.event.Event.{Event}
 use Rattle.opt_disk.specs.Manner.{Manner}
 use Rattle.opt_geom.specs.Geometry.{Geometry, bitmap_start, data_start}
+use Rattle.opt_journal.specs.declared.record.Commit.{Commit}
 use Rattle.opt_blocks.specs.Running.{Running, Spare, is_bare, with_put, with_takes, with_free, has}
 
 -- what ticks go by: how often it ticked, how often the disk was polled, and how the disk behaves
@@ -45,7 +46,12 @@ pub record Bookkeeping : Type 0 where
   -- a call of the disk failed in a write, a poll or a wait, and nothing is written any more
   pub stopped : Bool
 
--- What is known of crashes: what the disk's blocks were as it began, and its events since, whose number is the moment; which maps are those of a point, which images a crash at some moment from one on may leave, which map an image holds, and what stands where all accepted writes stand; and which tickets a point waits for, those of the writes of its record, until it is known to be durable. After events like these a point is sure where the newest header at rest then says that all records up to its own are durable. Of blocks in memory there is no event.
+-- What is known of the records that syncs write, which are numbered: what the log tells of them, in their order; and from which number on their ring places aren't free yet, by what the disk keeps for certain after such events. Of blocks in memory nothing is told.
+pub record RecordsView : Type 1 where
+  pub told : List Event → Option (List Commit)
+  pub starts : List Event → ℕ → Type 0
+
+-- What is known of crashes: what the disk's blocks were as it began, and its events since, whose number is the moment; which maps are those of a point, which images a crash at some moment from one on may leave, which map an image holds, and what stands where all accepted writes stand; and which tickets a point waits for, those of the writes of its record, until it is known to be durable. After events like these a point is sure where the newest header at rest then says that all records up to its own are durable. And what is known of records. Of blocks in memory there is no event.
 pub record CrashView : Type 1 where
   pub base : Blocks
   pub log : List Event
@@ -55,6 +61,7 @@ pub record CrashView : Type 1 where
   pub issued : Blocks → Type 0
   pub awaits : ℕ → ℕ → Type 0
   pub sure : List Event → ℕ → Type 0
+  pub records : RecordsView
 
 -- The whole. The map has the bytes of each block on which it is defined, and nothing elsewhere; where contents aren't known, it and `crash` say nothing.
 pub record State : Type 1 where

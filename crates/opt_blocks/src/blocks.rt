@@ -10,7 +10,7 @@ ghost use Rattle.opt_blocks.specs.State.{State, reusable_blocks, is_defined, May
 ghost use Rattle.opt_blocks.specs.Calls.{IsWithBlock, IsWithTaken, IsWithFreed, OnNoMemory, AreLowest, LowestRefused, lowest_fails, CountsReads, MaySync, HasTurns, AreFigures, IsReady, IsSound};
 ghost use Rattle.opt_blocks.specs.Crashes.{HearsRecords, IssuesNothing, IsTold};
 ghost use Rattle.opt_blocks.specs.Serving.{EndsFrees, SameFreed, ServesSure, with_all_served};
-ghost use Rattle.opt_blocks.specs.Effects.{LeavesDisk, ChangesNothing, FitsRing, RunsPipeline, Syncs, Ticked, WritesItsRecord};
+ghost use Rattle.opt_blocks.specs.Effects.{LeavesDisk, ChangesNothing, FitsRing, OrdersAtOnce, RingIsTold, RunsPipeline, Syncs, Ticked, WritesItsRecord};
 
 use crate::{Figures, LowestRefusal, SyncRefusal};
 use opt_base::{Block, Class, NoMemory, Places, ReadFault};
@@ -121,7 +121,8 @@ pub trait Blocks {
 
     /// Takes the durability notifications that have come, at most 64, and moves the pipeline by a step. It
     /// doesn't wait: behind those notifications come writes alone. Where waits bring no notice but their own, just
-    /// those blocks serve again that wait for a point which is sure now and on which nothing is pending.
+    /// those blocks serve again that wait for a point which is sure now and on which nothing is pending, and just
+    /// those ring places are taken that the log's records have.
     ///
     /// # Errors
     /// The disk failed.
@@ -132,7 +133,8 @@ pub trait Blocks {
         ensures waits { (state self.new).counts.waits ≡ (state self.old).counts.waits }
         ensures ticks { Ticked tells (state self.old) (state self.new) }
         ensures writes { IsTrue tells → PollsThenWrites (state self.old).counts.ticks.manner 64 (state self.old).counts.ticks.polls (state self.old).crash.log (state self.new).counts.ticks.polls (state self.new).crash.log }
-        ensures serves { IsTrue tells → (state self.old).counts.ticks.manner.waits_alone ≡ true → OnOk result (ServesSure (state self.old) (state self.new)) };
+        ensures serves { IsTrue tells → (state self.old).counts.ticks.manner.waits_alone ≡ true → OnOk result (ServesSure (state self.old) (state self.new)) }
+        ensures ring { IsTrue tells → (state self.old).counts.ticks.manner.waits_alone ≡ true → OnOk result (RingIsTold (state self.new)) };
 
     /// Waits until nothing waits in the pipeline any more, and all blocks that earlier transactions freed
     /// may be taken.
@@ -161,13 +163,13 @@ pub trait Blocks {
         ensures frees { IsTrue tells → OnOk result (EndsFrees (state self.old) (state self.new)) }
         ensures order { FitsRing (state self.old).books → (state self.new).counts.waits ≡ (state self.old).counts.waits }
         ensures writes { IsTrue tells → FitsRing (state self.old).books → GrowsByWrites (state self.old).crash.log (state self.new).crash.log }
-        ensures written { IsTrue tells → FitsRing (state self.old).books → OnOk result (WritesItsRecord (state self.old) (state self.new)) }
+        ensures written { IsTrue tells → OnOk result (WritesItsRecord (state self.old) (state self.new)) }
         ensures idle { (state self.old).books.running.weight ≡ 0 → result ≡ Ok (state self.old).books.point }
         ensures idles { (state self.old).books.running.weight ≡ 0 → ChangesNothing tells (state self.old) (state self.new) };
 
     /// As `osync`, and then waits until the last point is durable: no crash from then on goes back
-    /// behind it. Where its record fits the free ring places, it waits for the writes of records alone.
-    /// With nothing to commit, it takes no memory, and where the last point is known to be durable
+    /// behind it. Where its record fits the free ring places, or there is nothing to commit, it waits for the
+    /// writes of records alone. With nothing to commit, it takes no memory, and where the last point is known to be durable
     /// nothing is done.
     ///
     /// # Errors
@@ -179,8 +181,8 @@ pub trait Blocks {
         ensures syncs { Syncs tells result (state self.old) (state self.new) }
         ensures frees { IsTrue tells → OnOk result (EndsFrees (state self.old) (state self.new)) }
         ensures durable { OnOk result ((state self.new).books.floor ≡ (state self.new).books.point) }
-        ensures written { IsTrue tells → FitsRing (state self.old).books → OnOk result (WritesItsRecord (state self.old) (state self.new)) }
-        ensures waits { IsTrue tells → (state self.old).counts.ticks.manner.waits_alone ≡ true → FitsRing (state self.old).books → HearsRecords (state self.old) (state self.new) }
+        ensures written { IsTrue tells → OnOk result (WritesItsRecord (state self.old) (state self.new)) }
+        ensures waits { IsTrue tells → (state self.old).counts.ticks.manner.waits_alone ≡ true → OrdersAtOnce (state self.old).books → HearsRecords (state self.old) (state self.new) }
         ensures idle { (state self.old).books.running.weight ≡ 0 → OnNoMemory result ⊥ }
         ensures idles { (state self.old).books.running.weight ≡ 0 → (state self.old).books.floor ≡ (state self.old).books.point → ChangesNothing tells (state self.old) (state self.new) };
 

@@ -104,7 +104,7 @@ module _ (laws : Laws) (v : StoreParts) (d : State) (l : Ledger) (k : AreKept v.
   same_newest : HasSameLive v.books (last_map v d) (l.map_before (next_number l))
   same_newest = newest_is laws.last v d l k told going
 
-  began_newest : BeganAt v.books (l.map_before (next_number l))
+  pub began_newest : BeganAt v.books (l.map_before (next_number l))
   began_newest = laws.map.began v.books (last_map v d) (l.map_before (next_number l)) k told.began same_newest
 
   right_before : RightBefore v d (session_of v) l (length d.log) v.floor

@@ -78,11 +78,6 @@ places_needed v paid laid = ap₂ record_places paid laid ∙ sym (places_are v.
 writes_needed : (v : StoreParts) → payloads v.books.geom (running_of v.books) ≡ length v.books.changes.paid → fresh_blocks v.books.geom (running_of v.books) ≡ length v.books.changes.laid → 0 < v.books.weight → commit_writes (bookkeeping_of v) ≡ record_writes (length v.books.changes.paid) (length v.books.changes.laid)
 writes_needed v paid laid weight = heavy (running_of v.books) _ 0 weight ∙ ap₂ record_writes paid laid
 
--- the writes of the record: its ring places, and the fresh blocks
-pub record_needed : (v : StoreParts) → payloads v.books.geom (running_of v.books) ≡ length v.books.changes.paid → fresh_blocks v.books.geom (running_of v.books) ≡ length v.books.changes.laid → 0 < v.books.weight
-    → if_changed (running_of v.books) (commit_places (bookkeeping_of v) + fresh_blocks v.books.geom (running_of v.books)) 0 ≡ record_places (length v.books.changes.paid) (length v.books.changes.laid) + length v.books.changes.laid
-record_needed v paid laid weight = heavy (running_of v.books) _ 0 weight ∙ ap₂ (λ (m n : ℕ). record_places m n + n) paid laid
-
 -- behind the commit nothing runs
 nothing_runs : (number : ℕ) (v w : TransactionBooks) (p q : Pipeline) (ring : RingPlaces) → BecomesRecord number v w p q ring → running_of w ≡ nothing_running
 nothing_runs number v w p q ring b = λ i. record {

@@ -23,7 +23,9 @@ pub mod LastMap
 pub mod Changing
 pub mod BlockReads
 pub mod PipelineBytes
+pub mod CommitSets
 pub mod PipelineCalls
+pub mod RingTold
 pub mod Openings
 pub mod Bitmaps
 pub mod OneAnswer
@@ -35,4 +37,5 @@ pub mod Reserving
 pub mod CommitBytes
 pub mod CommitCalls
 pub mod CommitSyncs
+pub mod RecordsTold
 pub mod SyncSteps

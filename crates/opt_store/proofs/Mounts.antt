@@ -16,6 +16,7 @@ use Rattle.opt_recover.specs.Reading.{Searches}
 use Rattle.opt_recover.specs.Search.{FoundRun, IsFound, last_number}
 use Rattle.opt_crash.specs.Ledger.{HoldsUnder, cells_of, issued, last_of}
 use Rattle.opt_crash.specs.Mounting.{HasBegun}
+use Rattle.opt_crash.specs.Points.{IsMounted}
 use Rattle.opt_crash.specs.Opening.{StopsAtOne, WritesOne, WritesOnce, settled}
 use Rattle.opt_crash.specs.Replay.{found_map}
 use Rattle.opt_mount.specs.declared.refusal.MountRefusal.{MountRefusal}
@@ -27,7 +28,7 @@ use Rattle.opt_books.specs.Books.{TransactionBooks}
 use Rattle.opt_books.specs.Point.{HasBitmap}
 use Rattle.opt_store.specs.declared.parts.StoreParts.{StoreParts}
 use Rattle.opt_store.specs.declared.refusal.StoreRefusal.{StoreRefusal}
-use Rattle.opt_store.specs.Mounting.{AreNewParts, GoesOnFrom, HoldsLast}
+use Rattle.opt_store.specs.Mounting.{AreNewParts, GoesOnFrom, HasOpened, HoldsLast}
 use Rattle.opt_store.specs.Refusal.{IsReplayedBitmap, MayBeMounted, RefusalSays, is_disk_fault, is_read_fault, refusal_of}
 use Rattle.opt_store.specs.Told.{session_of, store_state}
 use Rattle.opt_store.proofs.Beginnings.{Starts}
@@ -114,6 +115,17 @@ module _ (tells : Bool) (old mid new : State) (t : IsTrue tells) (s : Searches t
   pub held_one : HoldsUnder old.blocks f.run.header.geom (settled_on old) (found_map (settled_on old) f.run.header f.run.records)
   held_one = record { held = record { slot = f.run.slot; header = f.run.header; run = f.run.records; newest = is.is_found.newest; is_run = is.is_found.is_run; each = λ b. refl }; geom = refl }
 
+  -- the mount has ended on the disk, under a header that goes on from what was found
+  pub opened_since : (k : Geometry) (slot : ℕ) (h : Header) (moment : ℕ) (v : StoreParts) → AreNewParts k slot h moment v → k ≡ f.run.header.geom
+      → (IsIdle mid → IsFoundOn mid f → (g : Geometry) (m : Blocks) → HoldsUnder mid.blocks g (settled_on mid) m → HasBegun new g slot h (length mid.log) m)
+      → (IsIdle mid → IsFoundOn mid f → GoesOn mid.blocks (settled_on mid) h) → (ticks : ℕ) → HasOpened old (store_state v ticks new)
+  opened_since k slot h moment v parts shape begins goes ticks = record {
+    slot = slot;
+    header = h;
+    mounted = subst (λ (q : Geometry). IsMounted (cells_of new) q slot h) (sym (parts.books.geom ∙ shape)) (begun_since slot h begins f.run.header.geom (found_map (settled_on old) f.run.header f.run.records) held_one).mounted;
+    goes_on = subst (λ (q : State). IsIdle q → IsFoundOn q f → GoesOn q.blocks (settled_on q) h) (same_state tells false old mid t s) goes idle (found_still old mid.read_faults f is);
+  }
+
 -- Counts.
 
 -- what a mount spends behind a search that found the run
@@ -159,8 +171,8 @@ faults_say old new why is may same fault = subst (RefusalSays old new) (sym same
     says mounting.NoMemory f = absurd f
 
 -- The numbers of a store that begins are those of the header of its mount, and so they go on from what was found.
-numbers_from : (g : Geometry) (slot : ℕ) (h : Header) (moment : ℕ) (v : StoreParts) (old : State) → AreNewParts g slot h moment v → GoesOn old.blocks (settled_on old) h → (ticks : ℕ) (new : State) → GoesOnFrom old (store_state v ticks new)
-numbers_from g slot h moment v old parts goes ticks new = record {
+numbers_from : (g : Geometry) (slot : ℕ) (h : Header) (moment : ℕ) (v : StoreParts) (old : State) → AreNewParts g slot h moment v → GoesOn old.blocks (settled_on old) h → (ticks : ℕ) (new : State) → moment ≡ length new.log → GoesOnFrom old (store_state v ticks new)
+numbers_from g slot h moment v old parts goes ticks new now = record {
   found = record { run = goes.found; epoch = goes.greatest };
   is_found = record { is_found = goes.is_found; is_greatest = goes.is_greatest };
   most = at_most v.pipeline.written.turn v.pipeline.last goes.found.header.turn (last_number goes.found.header (length goes.found.records))
@@ -168,7 +180,10 @@ numbers_from g slot h moment v old parts goes ticks new = record {
   session = session_of v;
   geom = refl;
   first = parts.first ∙ goes.start;
+  epoch = ap (λ (k : Header). k.epoch) parts.pipeline.none.header ∙ goes.epoch;
+  mounted = parts.mounted ∙ now;
   sure = λ front p. (λ is. is, λ is. is);
+  records = record { told = refl; starts = λ front number. (λ is. is, λ is. is) };
 }
   where
     at_most : (t l u m : ℕ) → t ≤ u + 2 → l ≡ m → max t (l + 1) ≤ max (u + 2) (m + 1)
@@ -176,7 +191,7 @@ numbers_from g slot h moment v old parts goes ticks new = record {
 
 -- also where a search came before the mount
 pub numbers_since : (tells : Bool) (old mid : State) → IsTrue tells → Searches tells false old mid → (f : FoundDisk) → IsIdle old → IsFoundOn old f → (g : Geometry) (slot : ℕ) (h : Header) (moment : ℕ) (v : StoreParts) → AreNewParts g slot h moment v
-    → (IsIdle mid → IsFoundOn mid f → GoesOn mid.blocks (settled_on mid) h) → (ticks : ℕ) (new : State) → GoesOnFrom old (store_state v ticks new)
+    → (IsIdle mid → IsFoundOn mid f → GoesOn mid.blocks (settled_on mid) h) → (ticks : ℕ) (new : State) → moment ≡ length new.log → GoesOnFrom old (store_state v ticks new)
 numbers_since tells old mid t s f idle is g slot h moment v parts goes = numbers_from g slot h moment v old parts
     (subst (λ (q : State). IsIdle q → IsFoundOn q f → GoesOn q.blocks (settled_on q) h) (same_state tells false old mid t s) goes idle (found_still old mid.read_faults f is))
 

@@ -1,5 +1,5 @@
 -- A call of the pipeline keeps the store, whether it succeeded or not, and runs the pipeline as the contract of maps of blocks says it.
-use Rattle.std.proofs.Common.{◌≡◌, ◌⊎◌, inl, inr, ⊎_elim, ℕ, zero, suc, ◌+◌, ◌-◌, ◌^◌, ◌<◌, ◌≤◌, Bool, true, false, IsTrue, List, ◌++◌, length, Result, Ok, Err, OnOk, OnErr, is_err, refl, sym, ◌∙◌, ap, subst, arith}
+use Rattle.std.proofs.Common.{◌≡◌, ◌⊎◌, inl, inr, ⊎_elim, ℕ, zero, suc, ◌+◌, ◌-◌, ◌^◌, ◌<◌, ◌≤◌, Bool, true, false, IsTrue, List, ◌++◌, length, Some, Result, Ok, Err, OnOk, OnErr, is_err, refl, sym, ◌∙◌, ap, subst, arith}
 use Rattle.std.proofs.Props.{props}
 use Rattle.std.proofs.Math.Logic.{∥∥₁_elim, ∥∥₁_map, ∥∥₁_prop}
 use Rattle.std.proofs.lemmas.Bool.{false≢true}
@@ -13,10 +13,11 @@ use Rattle.opt_disk.specs.Manner.{Manner}
 use Rattle.opt_disk.specs.Disk.{State, Grows, HasFailed, SameDisk, Spends, writes_in}
 use Rattle.opt_geom.specs.Geometry.{Geometry}
 use Rattle.opt_journal.specs.declared.header.Header.{Header}
+use Rattle.opt_journal.specs.declared.record.Commit.{Commit}
 use Rattle.opt_journal.specs.Ring.{RingPlaces}
 use Rattle.opt_journal.specs.Run.{is_live}
 use Rattle.opt_crash.specs.Ledger.{Ledger, next_number}
-use Rattle.opt_crash.specs.Points.{MountedSession, HoldsPoint, IsSafe}
+use Rattle.opt_crash.specs.Points.{MountedSession, HoldsPoint, IsSafe, records_told}
 use Rattle.opt_cache.specs.Cache.{Cache, IsKept, IsTheDisks}
 use Rattle.opt_reuse.specs.Dead.{AreSound, DeadBlocks}
 use Rattle.opt_checkpoint.specs.declared.pipeline.Pipeline.{Pipeline}
@@ -30,7 +31,7 @@ use Rattle.opt_checkpoint.specs.Waits.{HearsAll, LosesCommitted, OnlyNotices, St
 use Rattle.opt_blocks.specs.State.{Bookkeeping, Counts}
 use Rattle.opt_blocks.specs.Calls.{MovesPipeline}
 use Rattle.opt_blocks.specs.Crashes.{Advances, AwaitsSince, HoldsPointBetween}
-use Rattle.opt_blocks.specs.Effects.{RunsPipeline}
+use Rattle.opt_blocks.specs.Effects.{RunsPipeline, TellsNone}
 use Rattle.opt_books.specs.Books.{TransactionBooks, map_of}
 use Rattle.opt_books.specs.Kept.{AreKept}
 use Rattle.opt_books.specs.Point.{BeganAt, HasSameLive}
@@ -40,6 +41,7 @@ use Rattle.opt_store.specs.SessionView.{LeftImage, state_of}
 use Rattle.opt_store.specs.Store.{PartsMove, StoreIsSound, bookkeeping_of, durable_point}
 use Rattle.opt_store.specs.Told.{CacheAgrees, GoesBy, IsKeptOn, IsToldBy, awaited_in, counts_of, last_map, map_now, session_of, store_state}
 use Rattle.opt_store.proofs.Awaiting.{called_awaits}
+use Rattle.opt_store.proofs.CommitSets.{same_by_some}
 use Rattle.opt_store.proofs.Going.{durable_few}
 use Rattle.opt_store.proofs.LastMap.{LastMapLaws, bytes_are}
 use Rattle.opt_store.proofs.PipelineBytes.{writes_noticed, still_none, cache_still}
@@ -58,6 +60,7 @@ pub record Laws : Type 0 where
   pub stops : (v w : StoreParts) (headers : ℕ) → StoreIsSound v → PartsMove headers v w → w.stopped ≡ true → w.floor ≡ v.floor → StoreIsSound w
   pub advances : (s : MountedSession) (base : Blocks) (old new : List Event) (l n : Ledger) (j k : Bookkeeping) (c d : Counts) (a b : Blocks) (v w : StoreParts) (t floor since low : ℕ) → IsSafe s base old l t floor → Grows old new → IsSafe s base new n since low → since ≤ length old → j.floor ≤ low
       → j.point ≡ next_number l - s.first → next_number n - s.first ≤ k.point → j.floor ≤ k.floor → ((p u : ℕ) → awaited_in w p u → awaited_in v p u ⊎ AwaitsSince (state_of s j c a base old (awaited_in v)) p u) → Advances (state_of s j c a base old (awaited_in v)) (state_of s k d b base new (awaited_in w))
+  pub tells_none : (s : MountedSession) (base : Blocks) (log more : List Event) (l k : Ledger) (t floor : ℕ) → IsSafe s base log l t floor → (from low : ℕ) → IsSafe s base (log ++ more) k from low → next_number k ≡ next_number l → records_told s (log ++ more) ≡ records_told s log
 
 -- the answers of a call of the pipeline
 abbrev done : Unit {0} → Result (Unit {0}) DiskFault
@@ -94,6 +97,7 @@ some_advances s base log more j k c d a b v w awaits some = record {
   earlier = λ u img from left. ⊎_elim (λ old. inl old) (λ new. inr (window img new)) (by_moment s base log more u img left);
   holds = λ img m. (λ is. is, λ is. is);
   sure = λ log p. (λ is. is, λ is. is);
+  records = record { told = refl; starts = λ log n. (λ is. is, λ is. is) };
   point = λ p m le. (λ is. ∥∥₁_elim some ∥∥₁_prop (λ go. (go.point p m le).0 is), λ is. ∥∥₁_elim some ∥∥₁_prop (λ go. (go.point p m le).1 is));
   last = ∥∥₁_elim some (search props) (λ go. go.last);
   floor = ∥∥₁_elim some (search props) (λ go. go.floor);
@@ -275,6 +279,17 @@ module _ (laws : Laws) (tells : Bool) (headers : ℕ) (result : Result (Unit {0}
       laws.advances (session_of v) d.base d.log e.log l stay.now (bookkeeping_of v) (bookkeeping_of u) (counts_of before d) (counts_of then e) (map_now v d) (map_now u e) v u (length d.log) v.floor (length d.log) v.floor
       told.safe (c.grows t) (subst (λ (x : Blocks). IsSafe (session_of v) x e.log stay.now (length d.log) v.floor) c.spends.same.base stay.safe) (omega arith) (omega arith) (omega (arith, goes.next)) (omega (arith, goes.next, stay.turned.next, moved.point)) floors (λ p t waits. inl (awaits p t waits))
 
+  -- no record came, so none is told
+  tells_none : IsTrue tells → TellsNone (store_state v before d) (store_state u then e)
+  tells_none t = ap (λ (cs : List Commit). Some cs) (same_by_some (records_told (session_of u) e.log) (records_told (session_of v) d.log) (k.told t) (λ (p : (l : Ledger) × IsToldBy v d l).
+      let l = p.0 in
+      let told = p.1 in
+      let stay = safe_after result (session_of v) e l (length d.log) v.floor w.pipeline w.ring w.books.dead v.books.changes.taken (c.right t (session_of v) l (length d.log) v.floor v.books.changes.taken (right_before v d l told (told.going going))) in
+      let grown = c.grows t in
+      let after = subst₂ (λ (x : Blocks) (log : List Event). IsSafe (session_of v) x log stay.now (length d.log) v.floor) c.spends.same.base grown.log stay.safe in
+      ap (λ (s : MountedSession). records_told s e.log) (same_session headers v u moved) ∙ ap (records_told (session_of v)) grown.log
+      ∙ laws.tells_none (session_of v) d.base d.log grown.more l stay.now (length d.log) v.floor told.safe (length d.log) v.floor after stay.turned.next))
+
   runs_by : RunsPipeline tells (is_err result) (store_state v before d) (store_state u then e)
   runs_by = record {
     pipeline = laws.moves v u headers few moved floors;
@@ -283,6 +298,7 @@ module _ (laws : Laws) (tells : Bool) (headers : ℕ) (result : Result (Unit {0}
     crash = λ t. subst₂ (λ (s : MountedSession) (x : Blocks). Advances (store_state v before d) (state_of s (bookkeeping_of u) (counts_of then e) (map_now u e) x e.log (awaited_in u))) (sym (same_session headers v u moved)) (sym c.spends.same.base)
         (advances_by_some (session_of v) d.base d.log e.log (bookkeeping_of v) (bookkeeping_of u) (counts_of before d) (counts_of then e) (map_now v d) (map_now u e) v u (c.grows t) (λ p t waits. inl (awaits p t waits)) (∥∥₁_map (k.told t) (λ (p : (l : Ledger) × IsToldBy v d l). goes_by t p.0 p.1)));
     writes = λ t. omega (arith, c.owed t, ap writes_owed pipeline);
+    told = tells_none;
   }
 
 pub runs_of : (laws : Laws) (tells : Bool) (headers : ℕ) (result : Result (Unit {0}) DiskFault) (v w : StoreParts) (d e : State) (before then : ℕ) → headers ≤ 4 → IsKeptOn tells v d → v.stopped ≡ false → CallsPipeline tells headers result v w d e → RunsPipeline tells (is_err result) (store_state v before d) (store_state (settled_up result w) then e)

@@ -107,6 +107,7 @@ goes_on_itself s told = record {
   earlier = λ t img le left. inl left;
   holds = λ img m. (λ is. is, λ is. is);
   sure = λ log p. (λ is. is, λ is. is);
+  records = record { told = refl; starts = λ log n. (λ is. is, λ is. is) };
   point = λ p m le. (λ is. is, λ is. is);
   last = omega arith;
   floor = omega arith;
@@ -120,4 +121,5 @@ runs_itself tells s going told = record {
   map = λ on. refl;
   crash = λ on. goes_on_itself s (told on);
   writes = λ on. omega arith;
+  told = λ on. refl;
 }

@@ -84,6 +84,7 @@ syncs_without_memory tells s going told = record {
         left = λ u img. (λ is. is, λ is. is);
         holds = λ img m. (λ is. is, λ is. is);
         sure = λ log p. (λ is. is, λ is. is);
+        records = record { told = refl; starts = λ log n. (λ is. is, λ is. is) };
         issued = λ m. (λ is. is, λ is. is);
         awaits = λ p u. (λ is. is, λ is. is);
       };
@@ -128,6 +129,7 @@ advances_on old mid new a b = record {
       (b.earlier t img (omega (arith, before, later old.crash.log mid.crash.log a.grows)) left);
   holds = λ img m. (λ is. (a.holds img m).0 ((b.holds img m).0 is), λ is. (b.holds img m).1 ((a.holds img m).1 is));
   sure = λ log p. (λ is. (a.sure log p).0 ((b.sure log p).0 is), λ is. (b.sure log p).1 ((a.sure log p).1 is));
+  records = record { told = b.records.told ∙ a.records.told; starts = λ log n. (λ is. (a.records.starts log n).0 ((b.records.starts log n).0 is), λ is. (b.records.starts log n).1 ((a.records.starts log n).1 is)) };
   point = λ p m low. (λ is. (a.point p m low).0 ((b.point p m (omega (arith, low, a.last))).0 is), λ is. (b.point p m (omega (arith, low, a.last))).1 ((a.point p m low).1 is));
   last = omega (arith, a.last, b.last);
   floor = omega (arith, a.floor, b.floor);
@@ -326,6 +328,7 @@ point_more old mid point a more = record {
   earlier = λ t img before left. ⊎_elim (λ was. inl was) (λ late. inr (∥∥₁_map late later_point)) (a.earlier t img before left);
   holds = a.holds;
   sure = a.sure;
+  records = a.records;
   point = a.point;
   last = omega (arith, a.last, more);
   floor = a.floor;

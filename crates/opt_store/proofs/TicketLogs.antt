@@ -1,16 +1,17 @@
 -- Tickets of a log that goes on: those that were accepted or noticed before, and those of new writes.
-use Rattle.std.proofs.Common.{append-nil, ◌≡◌, ⊎_elim, ℕ, ◌<◌, ◌==◌, ◌||◌, Bool, true, false, if◌then◌else◌, List, [], ◌∷◌, ◌++◌, refl, sym, ◌∙◌, subst, arith}
-use Rattle.std.proofs.lemmas.Bool.{eqb-true, false_from_ne_true, false≢true, ne_eqb, or_cases, or_left, or_right}
+use Rattle.std.proofs.Common.{append-nil, ◌≡◌, ⊎_elim, ℕ, zero, suc, ◌<◌, ◌==◌, ◌||◌, Bool, true, false, if◌then◌else◌, List, [], ◌∷◌, ◌++◌, length, get_or, Result, Ok, Err, OnErr, refl, sym, ◌∙◌, subst, arith}
+use Rattle.std.proofs.lemmas.Bool.{eq-eqb, eqb-true, false_from_ne_true, false≢true, ne_eqb, or_cases, or_left, or_right}
 use Rattle.opt_disk.specs.declared.event.Event.{Event}
 use Rattle.opt_disk.specs.declared.event.Event.TheVariants.{Wrote, Lost, Noticed}
-use Rattle.opt_disk.specs.Cell.{greatest_ticket, is_accepted, IsAccepted, IsNoticed}
-use Rattle.opt_disk.specs.Disk.{AreWrites, Grows, GrowsByWrites}
+use Rattle.opt_disk.specs.Cell.{greatest_ticket, is_accepted, IsAccepted, IsNoticed, notices}
+use Rattle.opt_disk.specs.Disk.{AddsNotices, AreWrites, Grows, GrowsByWrites}
 use Rattle.opt_crash.specs.HomeTest.{is_one_of}
 use Rattle.opt_crash.specs.Writes.{AddsWrites}
+use Rattle.opt_store.specs.Formatting.{AllAccepted}
 use Rattle.opt_store.proofs.Logs.{noticed_in, noticed_still}
 
 -- a ticket that was accepted stays so
-accepted_still : (t : ℕ) (log more : List Event) → IsAccepted t log → IsAccepted t (log ++ more)
+pub accepted_still : (t : ℕ) (log more : List Event) → IsAccepted t log → IsAccepted t (log ++ more)
 accepted_still t [] more e = absurd (false≢true e)
 accepted_still t (Wrote u b x ∷ log) more e = ⊎_elim (λ own. or_left (u == t) (is_accepted t (log ++ more)) own) (λ rest. or_right (u == t) (is_accepted t (log ++ more)) (accepted_still t log more rest)) (or_cases (u == t) (is_accepted t log) e)
 accepted_still t (Lost b x ∷ log) more e = accepted_still t log more e
@@ -68,3 +69,37 @@ no_write log = record { more = []; log = sym (append-nil log); writes = tt }
 -- a log that goes on by writes goes on
 pub grows_by : (old new : List Event) → GrowsByWrites old new → Grows old new
 grows_by old new grows = record { more = grows.more; log = grows.log }
+
+-- the tickets of writes are those of accepted ones
+
+added_still : (t : ℕ) (ws : List (ℕ × List ℕ)) (ts : List ℕ) (old new : List Event) → AddsWrites ws ts old new → IsAccepted t old → IsAccepted t new
+added_still t [] [] old new adds was = subst (IsAccepted t) (sym adds) was
+added_still t [] (u ∷ ts) old new adds was = absurd adds
+added_still t (w ∷ ws) [] old new adds was = absurd adds
+added_still t (w ∷ ws) (u ∷ ts) old new adds was = added_still t ws ts (old ++ Wrote u w.0 w.1 ∷ []) new adds.2 (accepted_still t old (Wrote u w.0 w.1 ∷ []) was)
+
+accepted_behind : (t b : ℕ) (x : List ℕ) (log : List Event) → IsAccepted t (log ++ Wrote t b x ∷ [])
+accepted_behind t b x [] = or_left (t == t) false (eq-eqb t t refl)
+accepted_behind t b x (Wrote u c y ∷ log) = or_right (u == t) (is_accepted t (log ++ Wrote t b x ∷ [])) (accepted_behind t b x log)
+accepted_behind t b x (Lost c y ∷ log) = accepted_behind t b x log
+accepted_behind t b x (Noticed u ∷ log) = accepted_behind t b x log
+
+pub all_accepted : (ws : List (ℕ × List ℕ)) (ts : List ℕ) (old new : List Event) → AddsWrites ws ts old new → AllAccepted new ts
+all_accepted [] [] old new adds = tt
+all_accepted [] (t ∷ ts) old new adds = absurd adds
+all_accepted (w ∷ ws) [] old new adds = absurd adds
+all_accepted (w ∷ ws) (t ∷ ts) old new adds = (added_still t ws ts (old ++ Wrote t w.0 w.1 ∷ []) new adds.2 (accepted_behind t w.0 w.1 old), all_accepted ws ts (old ++ Wrote t w.0 w.1 ∷ []) new adds.2)
+
+accepted_at : (ts : List ℕ) (k : ℕ) (log : List Event) → k < length ts → AllAccepted log ts → IsAccepted (get_or ts k 0) log
+accepted_at [] k log low all = absurd (omega (arith, low))
+accepted_at (t ∷ ts) zero log low all = all.0
+accepted_at (t ∷ ts) (suc k) log low all = accepted_at ts k log (omega (arith, low)) all.1
+
+-- one of them was accepted still, behind notices
+pub given_still : (ts : List ℕ) (k : ℕ) (old new : List Event) → k < length ts → AllAccepted old ts → AddsNotices old new → IsAccepted (get_or ts k 0) new
+given_still ts k old new low all adds = subst (IsAccepted (get_or ts k 0)) (sym adds.log) (accepted_still (get_or ts k 0) old (notices adds.tickets) (accepted_at ts k old low all))
+
+-- what holds behind a call holds where it failed
+pub on_err : {T E : Type 0} {P : Type 0} (result : Result T E) → P → OnErr result P
+on_err (Ok x) p = tt
+on_err (Err e) p = p

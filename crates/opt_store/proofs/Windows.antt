@@ -89,6 +89,7 @@ goes_on stays was s base log more l n j k c d a b v w t floor since low before a
   earlier = λ u img from left. ⊎_elim (λ old. inl old) (λ new. inr (window img new)) (by_moment s base log more u img left);
   holds = λ img m. (λ is. is, λ is. is);
   sure = λ log p. (λ is. is, λ is. is);
+  records = record { told = refl; starts = λ log n. (λ is. is, λ is. is) };
   point = λ p m le. (λ is. ∥∥₁_map is (was s base log more p m before.points.late (omega (arith, le, count))), λ is. ∥∥₁_map is (stays s base log more p m));
   last = omega (arith, count, points_are s base (log ++ more) n since low (next_number n - s.first) after refl, last, points_more s log more before.points.late);
   floor = floors;
@@ -136,6 +137,7 @@ nothing_of s base old new j k c d a b v w same awaits = subst (λ (log : List Ev
   left = λ t img. (λ is. is, λ is. is);
   holds = λ img m. (λ is. is, λ is. is);
   sure = λ log p. (λ is. is, λ is. is);
+  records = record { told = refl; starts = λ log n. (λ is. is, λ is. is) };
   issued = λ m. (λ is. is, λ is. is);
   awaits = awaits;
 })

@@ -1,8 +1,9 @@
 -- What a formatting writes, what it adds to a log, what it leaves on a disk, and what it spends.
-use Rattle.std.specs.Prelude.{◌≡◌, ℕ, ◌-◌, ◌<◌, ◌≤◌, false, true, List, [], ◌∷◌, ◌++◌, map, replicate, Result, Ok, Err}
+use Rattle.std.specs.Prelude.{◌≡◌, ℕ, ◌-◌, ◌<◌, ◌≤◌, Bool, false, true, List, [], ◌∷◌, ◌++◌, map, replicate, Result, Ok, Err}
 use Rattle.std.specs.List.{range_with_len}
 use Rattle.opt_base.specs.Seal.{Blocks}
 use Rattle.opt_disk.specs.declared.event.Event.{Event}
+use Rattle.opt_disk.specs.Cell.{IsAccepted}
 use Rattle.opt_disk.specs.Disk.{State, AddsNotices, SpendsUpTo}
 use Rattle.opt_geom.specs.Geometry.{Geometry, bitmap_start, data_start}
 use Rattle.opt_journal.specs.Formatted.{formatted}
@@ -27,6 +28,11 @@ content_of g Formatted = formatted g
 -- so many writes in a row, from this block on, each of what these blocks have there
 abbrev pub row_of : Blocks → ℕ → ℕ → List (ℕ × List ℕ)
 row_of blocks first count = map (λ b. (b, blocks b)) (range_with_len first count)
+
+-- a write with each of these tickets was accepted
+abbrev pub AllAccepted : List Event → List ℕ → Type 0
+AllAccepted log [] = Unit {0}
+AllAccepted log (t ∷ ts) = IsAccepted t log × AllAccepted log ts
 
 -- These writes are accepted with new tickets, and behind the last one are notices, those of all their tickets among them.
 pub record AddsDurably (writes : List (ℕ × List ℕ)) (old new : List Event) : Type 0 where
@@ -61,3 +67,9 @@ abbrev pub MkfsSpends : {T : Type 0} → Result T MkfsRefusal → ℕ → State 
 MkfsSpends (Ok done) count old new = SpendsUpTo false count old new
 MkfsSpends (Err DiskFault) count old new = SpendsUpTo true count old new
 MkfsSpends (Err NoMemory) count old new = new ≡ old
+
+-- whether a formatting was refused for a call of the disk that failed
+abbrev pub fails_formatting : {T : Type 0} → Result T MkfsRefusal → Bool
+fails_formatting (Ok done) = false
+fails_formatting (Err DiskFault) = true
+fails_formatting (Err NoMemory) = false

@@ -3,18 +3,19 @@ use Rattle.std.specs.Prelude.{◌≡◌, ◌↔◌, ℕ, ◌+◌, ◌≤◌, max
 use Rattle.opt_base.specs.Seal.{Blocks}
 use Rattle.opt_cache.specs.Cache.{empty_cache}
 use Rattle.opt_disk.specs.declared.event.Event.{Event}
+use Rattle.opt_disk.specs.Cell.{cell_of}
 use Rattle.opt_disk.specs.Crash.{Window}
 use Rattle.opt_disk.specs.Disk as disk
 use Rattle.opt_geom.specs.Geometry.{Geometry}
 use Rattle.opt_journal.specs.declared.header.Header.{Header}
 use Rattle.opt_recover.specs.Search.{last_number}
 use Rattle.opt_crash.specs.Ledger.{HoldsUnder}
-use Rattle.opt_crash.specs.Points.{MountedSession}
-use Rattle.opt_mount.specs.Mount.{FoundDisk, IsFoundOn, MountSpends, settled_on}
+use Rattle.opt_crash.specs.Points.{IsMounted, MountedSession}
+use Rattle.opt_mount.specs.Mount.{FoundDisk, GoesOn, IsFoundOn, MountSpends, settled_on}
 use Rattle.opt_blocks.specs.State.{State}
-use Rattle.opt_blocks.specs.Crashes.{HasMapOfPoint}
+use Rattle.opt_blocks.specs.Crashes.{HasMapOfPoint, SameRecords}
 use Rattle.opt_store.specs.declared.parts.StoreParts.{StoreParts}
-use Rattle.opt_store.specs.SessionView.{IsSure}
+use Rattle.opt_store.specs.SessionView.{IsSure, records_of}
 use Rattle.opt_store.specs.Opening.{AreNewBooks, IsNewPipeline, empty_ring}
 
 -- the parts with which a store begins under this header, after so many events of the disk: no record, no block in the cache, an empty transaction without a weight, and no point behind the first
@@ -41,7 +42,7 @@ pub record BeginsWith (g : Geometry) (m : Blocks) (s : State) : Type 0 where
   pub free_places : s.books.free_places ≡ g.j
   pub owed : s.books.owed ≡ 0
 
--- The journal's numbers go on from what was found on the disk: they are at most two above the turn of the newest header there, or at most one above the number of the last record of its run. The session's first record has the number behind that one, and by the session's numbers a point is sure.
+-- The journal's numbers go on from what was found on the disk: they are at most two above the turn of the newest header there, or at most one above the number of the last record of its run. The session's first record has the number behind that one, and its epoch is one above all that there were. By the session's numbers a point is sure, and its log since the mount tells its records.
 pub record GoesOnFrom (d : disk.State) (s : State) : Type 0 where
   pub found : FoundDisk
   pub is_found : IsFoundOn d found
@@ -49,7 +50,17 @@ pub record GoesOnFrom (d : disk.State) (s : State) : Type 0 where
   pub session : MountedSession
   pub geom : session.geom ≡ s.books.geom
   pub first : session.first ≡ last_number found.run.header (length found.run.records) + 1
+  pub epoch : session.epoch ≡ found.epoch + 1
+  pub mounted : session.mounted ≡ length s.crash.log
   pub sure : (front : List Event) (p : ℕ) → s.crash.sure front p ↔ ∥ IsSure session s.crash.base front p ∥₁
+  pub records : SameRecords (records_of session s.crash.base) s.crash.records
+
+-- The mount has ended: nothing is pending on the disk, and the header that opens the journal stands in a slot. It goes on from what was found.
+pub record HasOpened (d : disk.State) (s : State) : Type 0 where
+  pub slot : ℕ
+  pub header : Header
+  pub mounted : IsMounted (cell_of s.crash.base s.crash.log) s.books.geom slot header
+  pub goes_on : GoesOn d.blocks (settled_on d) header
 
 -- What a mount leaves of the disk, whatever comes of it: where the disk tells, each honest image since the call began holds the map that the disk held, a call other than a read failed only for a reason that the disk's manner has, and the writes that it added, lost ones included, are at most as many as the disk has blocks, and two; and so much was spent.
 pub record LeavesDisk (tells unread faulty : Bool) (old new : disk.State) : Type 0 where

@@ -3,8 +3,8 @@
 //! the disk has a header only once all that it stands on is durable. The bytes of the blocks are described
 //! by `opt_format`, and a crash in the middle is promised nothing.
 
-ghost use Rattle.std.specs.Prelude.{◌≡◌, ◌≤◌, ◌<◌, ◌+◌, ◌-◌, ℕ, IsTrue, IfOk, IfErr, OnOk, is_err, length, max, vec_capacity};
-ghost use Rattle.opt_disk.specs.Disk.{AddsNotices, OnlyWrites, SpendsUpTo};
+ghost use Rattle.std.specs.Prelude.{◌≡◌, ◌≤◌, ◌<◌, ◌+◌, ◌-◌, ℕ, IsTrue, IfOk, IfErr, OnErr, OnOk, is_err, true, length, max, vec_capacity};
+ghost use Rattle.opt_disk.specs.Disk.{AddsNotices, HasFailed, OnlyWrites, SpendsUpTo};
 ghost use Rattle.opt_geom.specs.Geometry.{bitmap_start, data_start};
 ghost use Rattle.opt_journal.specs.Formatted.{formatted};
 ghost use Rattle.opt_journal.specs.Run.{live_part};
@@ -14,7 +14,7 @@ ghost use Rattle.opt_crash.specs.Writes.{AddsWrites};
 ghost use Rattle.opt_mount.specs.Mount.{IsIdle, settled_on};
 ghost use Rattle.opt_stands.specs.Stands.{StandsFor};
 ghost use Rattle.opt_tree.specs.Step.{start};
-ghost use Rattle.opt_store.specs.Formatting.{content_of, row_of, AddsDurably, AddsFormatting, WritesBelow, IsFormattedOver, MkfsSpends};
+ghost use Rattle.opt_store.specs.Formatting.{AllAccepted, fails_formatting, content_of, row_of, AddsDurably, AddsFormatting, WritesBelow, IsFormattedOver, MkfsSpends};
 ghost use Rattle.opt_store.specs.declared.formatting.MkfsRefusal.TheVariants as refused;
 
 use crate::laws::the_data_of_a_formatted_disk_may_be_anything;
@@ -61,7 +61,7 @@ enum Content {
 /// write.
 ///
 /// # Errors
-/// `DiskFault` comes of a write or a wait that failed, which the disk has counted; what is in the blocks
+/// `DiskFault` comes of a write or a wait that failed as the disk's manner lets it, which the disk has counted; what is in the blocks
 /// before the data isn't known then. `NoMemory` comes of want of memory, and nothing is written.
 pub fn mkfs<D: Disk>(alloc: Global, disk: &mut D, geom: &Geom) -> Result<(), MkfsRefusal>
     requires size { (D.state disk.old).blocks ≡ geom.now.n }
@@ -73,6 +73,7 @@ pub fn mkfs<D: Disk>(alloc: Global, disk: &mut D, geom: &Geom) -> Result<(), Mkf
     ensures below { IsTrue D.tells → WritesBelow (data_start geom.now) (D.state disk.old).log (D.state disk.new).log }
     ensures memory { IfErr result (λ why. why ≡ refused.NoMemory → disk.new ≡ disk.old) }
     ensures spends { MkfsSpends result (data_start geom.now + 1) (D.state disk.old) (D.state disk.new) }
+    ensures cause { IsTrue D.tells → fails_formatting result ≡ true → HasFailed (D.state disk.new) }
 {
     the_formatted_disk_is_empty();
     the_data_of_a_formatted_disk_may_be_anything();
@@ -107,6 +108,7 @@ fn write_groups<D: Disk>(disk: &mut D, geom: &Geom, tickets: &mut Vec<u64>) -> R
     ensures adds { IsTrue D.tells → OnOk result (AddsFormatting geom.now (D.state disk.old).log (D.state disk.new).log) }
     ensures below { IsTrue D.tells → WritesBelow (data_start geom.now) (D.state disk.old).log (D.state disk.new).log }
     ensures spends { SpendsUpTo (is_err result) (data_start geom.now + 1) (D.state disk.old) (D.state disk.new) }
+    ensures cause { IsTrue D.tells → OnErr result (HasFailed (D.state disk.new)) }
 {
     geom.lawful();
     let bitmap = geom.bitmap_start();
@@ -139,6 +141,7 @@ fn make_durable<D: Disk>(
     ensures below { IsTrue D.tells → WritesBelow end (D.state disk.old).log (D.state disk.new).log }
     ensures room { vec_capacity tickets.new ≡ vec_capacity tickets.old }
     ensures spends { SpendsUpTo (is_err result) (end - first) (D.state disk.old) (D.state disk.new) }
+    ensures cause { IsTrue D.tells → OnErr result (HasFailed (D.state disk.new)) }
 {
     write_row(disk, geom, content, first, end, tickets)?;
     wait_for_all(disk, tickets)?;
@@ -162,6 +165,7 @@ fn write_row<D: Disk>(
     ensures below { IsTrue D.tells → WritesBelow end (D.state disk.old).log (D.state disk.new).log }
     ensures room { vec_capacity tickets.new ≡ vec_capacity tickets.old }
     ensures spends { OnlyWrites (is_err result) (D.state disk.old) (D.state disk.new) }
+    ensures cause { IsTrue D.tells → OnErr result (HasFailed (D.state disk.new)) }
 {
     writes_join_a_log_one_by_one();
     tickets.clear();
@@ -187,6 +191,7 @@ fn wait_for_all<D: Disk>(disk: &mut D, tickets: &[u64]) -> Result<(), DiskFault>
     ensures log { IsTrue D.tells → AddsNotices (D.state disk.old).log (D.state disk.new).log }
     ensures noticed { IsTrue D.tells → OnOk result (AllNoticed (D.state disk.new).log tickets.now) }
     ensures spends { SpendsUpTo (is_err result) (length tickets.now) (D.state disk.old) (D.state disk.new) }
+    ensures cause { IsTrue D.tells → AllAccepted (D.state disk.old).log tickets.now → OnErr result (HasFailed (D.state disk.new)) }
 {
     for ticket in tickets {
         disk.wait(*ticket)?;

@@ -11,7 +11,7 @@ ghost use Rattle.opt_crash.specs.Ledger.{HoldsUnder};
 ghost use Rattle.opt_crash.specs.Opening.{WritesOnce};
 ghost use Rattle.opt_mount.specs.Mount.{HasNothingToReplay, IsIdle, MountSpends, settled_on};
 ghost use Rattle.opt_blocks.specs.Crashes.{IsBegun};
-ghost use Rattle.opt_store.specs.Mounting.{AreNewParts, BeginsWith, GoesOnFrom};
+ghost use Rattle.opt_store.specs.Mounting.{AreNewParts, BeginsWith, GoesOnFrom, HasOpened};
 ghost use Rattle.opt_store.specs.Opening.{AreNewBooks};
 ghost use Rattle.opt_store.specs.Refusal.{MayBeMounted, RefusalSays, is_faulty, is_unread};
 ghost use Rattle.opt_store.specs.Told.{IsKeptOn, store_state};
@@ -57,6 +57,7 @@ pub(crate) fn open_parts<D: Disk>(
     ensures cause { IsTrue D.tells → is_faulty result ≡ true → HasFailed (D.state disk.new) }
     ensures written { IsTrue D.tells → writes_in (D.state disk.new).log ≤ writes_in (D.state disk.old).log + ((D.state disk.old).blocks + 2) }
     ensures numbers { IsTrue D.tells → IfOk result (λ v. (ticks : ℕ) → GoesOnFrom (D.state disk.old) (store_state v ticks (D.state disk.new))) }
+    ensures opens { IsTrue D.tells → IfOk result (λ v. (ticks : ℕ) → HasOpened (D.state disk.old) (store_state v ticks (D.state disk.new))) }
     ensures alone { IsTrue D.tells → HasNothingToReplay (D.state disk.old) → WritesOnce (D.state disk.old).manner result (D.state disk.old).log (D.state disk.new).log }
 {
     a_session_begins_with_its_map();

@@ -18,7 +18,7 @@ ghost use Rattle.opt_checkpoint.specs.Order.{IsInOrder};
 ghost use Rattle.opt_checkpoint.specs.Waits.{OnlyNotices};
 ghost use Rattle.opt_blocks.specs.Calls.{HasTurns};
 ghost use Rattle.opt_blocks.specs.Crashes.{HearsRecords};
-ghost use Rattle.opt_blocks.specs.Effects.{RunsPipeline};
+ghost use Rattle.opt_blocks.specs.Effects.{RingIsTold, RunsPipeline};
 ghost use Rattle.opt_blocks.specs.Serving.{SameFreed, ServesSure, with_all_served};
 ghost use Rattle.opt_store.specs.declared.parts.StoreParts as parts;
 ghost use Rattle.opt_store.specs.PipelineCall.{CallsPipeline, settled_up};
@@ -32,7 +32,7 @@ use crate::{
 };
 use opt_books::{a_release_keeps_the_books, the_map_needs_only_live_blocks};
 use opt_checkpoint::the_newest_payloads_are_the_map;
-use opt_crash::{a_call_begins_safe, a_read_gives_what_was_written_last};
+use opt_crash::{a_call_begins_safe, a_log_tells_its_records, a_read_gives_what_was_written_last};
 use opt_disk::{Disk, DiskFault};
 use opt_reuse::a_freed_block_waits;
 
@@ -47,8 +47,10 @@ pub(crate) fn advance<D: Disk>(disk: &mut D, parts: &mut StoreParts) -> Result<(
     ensures manner { (D.state disk.new).manner ≡ (D.state disk.old).manner }
     ensures polled { IsTrue D.tells → PollsThenWrites (D.state disk.old).manner 64 (D.state disk.old).polls (D.state disk.old).log (D.state disk.new).polls (D.state disk.new).log }
     ensures serves { (before then : ℕ) → IsTrue D.tells → (D.state disk.old).manner.waits_alone ≡ true → OnOk result (ServesSure (store_state parts.old before (D.state disk.old)) (store_state parts.new then (D.state disk.new))) }
+    ensures ring { (ticks : ℕ) → IsTrue D.tells → (D.state disk.old).manner.waits_alone ≡ true → OnOk result (RingIsTold (store_state parts.new ticks (D.state disk.new))) }
 {
     a_freed_block_waits();
+    a_log_tells_its_records();
     a_sound_store_has_sound_books();
     a_pipeline_call_keeps_the_store();
     let reuse = parts.books.reuse_mut();
@@ -135,5 +137,6 @@ fn a_pipeline_call_keeps_the_store()
     the_map_needs_only_live_blocks();
     the_newest_payloads_are_the_map();
     a_call_begins_safe();
+    a_log_tells_its_records();
     a_read_gives_what_was_written_last();
 }

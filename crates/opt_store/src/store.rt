@@ -153,7 +153,7 @@ impl<D: Disk> Store<D> {
     ghost use Rattle.opt_crash.specs.Opening.{StopsAtOne, WritesOne};
     ghost use Rattle.opt_mount.specs.Mount.{HasNothingToReplay, IsIdle, settled_on};
     ghost use Rattle.opt_blocks.specs.Crashes.{IsBegun, StillAwaits};
-    ghost use Rattle.opt_store.specs.Mounting.{BeginsWith, GoesOnFrom, HoldsLast, LeavesDisk};
+    ghost use Rattle.opt_store.specs.Mounting.{BeginsWith, GoesOnFrom, HasOpened, HoldsLast, LeavesDisk};
     ghost use Rattle.opt_store.specs.Refusal.{MayBeMounted, RefusalSays, is_disk_fault, is_read_fault};
     ghost use Rattle.opt_store.specs.Store.{bookkeeping_of};
     ghost use Rattle.opt_store.specs.StoreOf.{disk_in, state_of};
@@ -171,6 +171,7 @@ impl<D: Disk> Store<D> {
         ensures refused { IsTrue D.tells → IfErr result (λ e. RefusalSays (D.state disk) (D.state e.0) e.1) }
         ensures back { IfErr result (λ e. LeavesDisk D.tells (is_read_fault e.1) (is_disk_fault e.1) (D.state disk) (D.state e.0)) }
         ensures numbers { IsTrue D.tells → IfOk result (λ s. GoesOnFrom (D.state disk) (state_of D.state s)) }
+        ensures opens { IsTrue D.tells → IfOk result (λ s. HasOpened (D.state disk) (state_of D.state s)) }
         ensures alone { IsTrue D.tells → HasNothingToReplay (D.state disk) → IfOk result (λ s. WritesOne (D.state disk).log (D.state (disk_in s)).log) }
         ensures stops { IsTrue D.tells → HasNothingToReplay (D.state disk) → IfErr result (λ e. StopsAtOne (D.state disk).manner (D.state disk).log (D.state e.0).log) }
     {
@@ -197,6 +198,7 @@ impl<D: Disk> Store<D> {
         ensures refused { IsTrue D.tells → IfErr result (λ e. RefusalSays (D.state disk) (D.state e.0) e.1) }
         ensures back { IfErr result (λ e. LeavesDisk D.tells (is_read_fault e.1) (is_disk_fault e.1) (D.state disk) (D.state e.0)) }
         ensures numbers { IsTrue D.tells → IfOk result (λ s. GoesOnFrom (D.state disk) (state_of D.state s)) }
+        ensures opens { IsTrue D.tells → IfOk result (λ s. HasOpened (D.state disk) (state_of D.state s)) }
         ensures alone { IsTrue D.tells → HasNothingToReplay (D.state disk) → IfOk result (λ s. WritesOne (D.state disk).log (D.state (disk_in s)).log) }
         ensures stops { IsTrue D.tells → HasNothingToReplay (D.state disk) → IfErr result (λ e. StopsAtOne (D.state disk).manner (D.state disk).log (D.state e.0).log) }
     {

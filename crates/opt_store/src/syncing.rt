@@ -10,7 +10,7 @@ ghost use Rattle.opt_tx.specs.Rows.{put_of};
 ghost use Rattle.opt_checkpoint.specs.Advance as pipeline;
 ghost use Rattle.opt_blocks.specs.Calls.{HasTurns, MaySync, OnNoMemory};
 ghost use Rattle.opt_blocks.specs.Crashes.{HearsRecords};
-ghost use Rattle.opt_blocks.specs.Effects.{ChangesNothing, FitsRing, Syncs, WritesItsRecord};
+ghost use Rattle.opt_blocks.specs.Effects.{ChangesNothing, FitsRing, OrdersAtOnce, Syncs, WritesItsRecord};
 ghost use Rattle.opt_books.specs.Kept.{AreKept};
 ghost use Rattle.opt_store.specs.Committing.{places_for};
 ghost use Rattle.opt_store.specs.Store.{StoreIsSound, bookkeeping_of};
@@ -29,7 +29,7 @@ use opt_books::{
 };
 use opt_cache::BlockCache;
 use opt_checkpoint::{Pipeline, the_newest_payloads_are_the_map};
-use opt_crash::a_read_gives_what_was_written_last;
+use opt_crash::{a_log_tells_its_records, a_read_gives_what_was_written_last};
 use opt_disk::{Disk, DiskFault};
 use opt_reuse::a_freed_block_waits;
 use opt_tx::{CommitRoom, Put, places_of};
@@ -48,8 +48,8 @@ pub(crate) fn sync<D: Disk>(
     ensures kept { IsKeptOn D.tells parts.new (D.state disk.new) }
     ensures syncs { (ticks : ℕ) → Syncs D.tells result (store_state parts.old ticks (D.state disk.old)) (store_state parts.new ticks (D.state disk.new)) }
     ensures order { FitsRing (bookkeeping_of parts.old) → (D.state disk.new).waits ≡ (D.state disk.old).waits }
-    ensures writes { IsTrue D.tells → FitsRing (bookkeeping_of parts.old) → GrowsByWrites (D.state disk.old).log (D.state disk.new).log }
-    ensures written { (ticks : ℕ) → IsTrue D.tells → FitsRing (bookkeeping_of parts.old) → OnOk result (WritesItsRecord (store_state parts.old ticks (D.state disk.old)) (store_state parts.new ticks (D.state disk.new))) }
+    ensures writes { IsTrue D.tells → OrdersAtOnce (bookkeeping_of parts.old) → GrowsByWrites (D.state disk.old).log (D.state disk.new).log }
+    ensures written { (ticks : ℕ) → IsTrue D.tells → OnOk result (WritesItsRecord (store_state parts.old ticks (D.state disk.old)) (store_state parts.new ticks (D.state disk.new))) }
     ensures idle { parts.old.books.weight ≡ 0 → result ≡ Ok parts.old.point }
     ensures idles { (ticks : ℕ) → parts.old.books.weight ≡ 0 → ChangesNothing D.tells (store_state parts.old ticks (D.state disk.old)) (store_state parts.new ticks (D.state disk.new)) }
     ensures turns { (bookkeeping_of parts.new).turns ≤ (bookkeeping_of parts.old).turns + 5 }
@@ -78,8 +78,8 @@ pub(crate) fn sync_durably<D: Disk>(
     ensures kept { IsKeptOn D.tells parts.new (D.state disk.new) }
     ensures syncs { (ticks : ℕ) → Syncs D.tells result (store_state parts.old ticks (D.state disk.old)) (store_state parts.new ticks (D.state disk.new)) }
     ensures durable { OnOk result (parts.new.floor ≡ parts.new.point) }
-    ensures written { (ticks : ℕ) → IsTrue D.tells → FitsRing (bookkeeping_of parts.old) → OnOk result (WritesItsRecord (store_state parts.old ticks (D.state disk.old)) (store_state parts.new ticks (D.state disk.new))) }
-    ensures waits { (ticks : ℕ) → IsTrue D.tells → (D.state disk.old).manner.waits_alone ≡ true → FitsRing (bookkeeping_of parts.old) → HearsRecords (store_state parts.old ticks (D.state disk.old)) (store_state parts.new ticks (D.state disk.new)) }
+    ensures written { (ticks : ℕ) → IsTrue D.tells → OnOk result (WritesItsRecord (store_state parts.old ticks (D.state disk.old)) (store_state parts.new ticks (D.state disk.new))) }
+    ensures waits { (ticks : ℕ) → IsTrue D.tells → (D.state disk.old).manner.waits_alone ≡ true → OrdersAtOnce (bookkeeping_of parts.old) → HearsRecords (store_state parts.old ticks (D.state disk.old)) (store_state parts.new ticks (D.state disk.new)) }
     ensures frees { OnOk result (SyncFrees (bookkeeping_of parts.old) (bookkeeping_of parts.new)) }
     ensures idle { parts.old.books.weight ≡ 0 → OnNoMemory result ⊥ }
     ensures idles { (ticks : ℕ) → parts.old.books.weight ≡ 0 → parts.old.floor ≡ parts.old.point → ChangesNothing D.tells (store_state parts.old ticks (D.state disk.old)) (store_state parts.new ticks (D.state disk.new)) }
@@ -145,7 +145,7 @@ fn commit_in_ring<D: Disk>(
     ensures syncs { (ticks : ℕ) → Syncs D.tells result (store_state parts.old ticks (D.state disk.old)) (store_state parts.new ticks (D.state disk.new)) }
     ensures order { FitsRing (bookkeeping_of parts.old) → (D.state disk.new).waits ≡ (D.state disk.old).waits }
     ensures writes { IsTrue D.tells → FitsRing (bookkeeping_of parts.old) → GrowsByWrites (D.state disk.old).log (D.state disk.new).log }
-    ensures written { (ticks : ℕ) → IsTrue D.tells → FitsRing (bookkeeping_of parts.old) → OnOk result (WritesItsRecord (store_state parts.old ticks (D.state disk.old)) (store_state parts.new ticks (D.state disk.new))) }
+    ensures written { (ticks : ℕ) → IsTrue D.tells → OnOk result (WritesItsRecord (store_state parts.old ticks (D.state disk.old)) (store_state parts.new ticks (D.state disk.new))) }
     ensures memory { OnNoMemory result ⊥ }
     ensures turns { (bookkeeping_of parts.new).turns ≤ (bookkeeping_of parts.old).turns + 5 }
     ensures frees { OnOk result (FreesInRing (bookkeeping_of parts.old) (bookkeeping_of parts.new)) }
@@ -193,6 +193,7 @@ fn commit<D: Disk>(
     a_freed_block_waits();
     a_call_that_stays_safe_advances();
     a_commit_has_what_the_roles_say();
+    a_log_tells_its_records();
     a_read_gives_what_was_written_last();
     the_map_has_the_bits();
     the_map_needs_only_live_blocks();

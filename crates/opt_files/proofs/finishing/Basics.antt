@@ -36,6 +36,7 @@ nothing_on old mid new a b = record {
   left = λ t m. (λ is. (a.left t m).0 ((b.left t m).0 is), λ is. (b.left t m).1 ((a.left t m).1 is));
   holds = λ img m. (λ is. (a.holds img m).0 ((b.holds img m).0 is), λ is. (b.holds img m).1 ((a.holds img m).1 is));
   sure = λ log p. (λ is. (a.sure log p).0 ((b.sure log p).0 is), λ is. (b.sure log p).1 ((a.sure log p).1 is));
+  records = record { told = b.records.told ∙ a.records.told; starts = λ log n. (λ is. (a.records.starts log n).0 ((b.records.starts log n).0 is), λ is. (b.records.starts log n).1 ((a.records.starts log n).1 is)) };
   issued = λ m. (λ is. (a.issued m).0 ((b.issued m).0 is), λ is. (b.issued m).1 ((a.issued m).1 is));
   awaits = λ p t. (λ is. (a.awaits p t).0 ((b.awaits p t).0 is), λ is. (b.awaits p t).1 ((a.awaits p t).1 is));
 }
@@ -48,6 +49,7 @@ nothing_not s = record {
   left = λ t m. (λ is. is, λ is. is);
   holds = λ img m. (λ is. is, λ is. is);
   sure = λ log p. (λ is. is, λ is. is);
+  records = record { told = refl; starts = λ log n. (λ is. is, λ is. is) };
   issued = λ m. (λ is. is, λ is. is);
   awaits = λ p t. (λ is. is, λ is. is);
 }

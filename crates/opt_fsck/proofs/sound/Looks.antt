@@ -17,7 +17,7 @@ looks_none tells s = record {
   books = refl;
   counts = record { read_faults = refl; faults = refl; waits = refl; ticks = refl };
   map = λ t. refl;
-  crash = λ t. record { base = refl; log = refl; point = λ p m. (λ x. x, λ x. x); left = λ t img. (λ x. x, λ x. x); holds = λ img m. (λ x. x, λ x. x); issued = λ m. (λ x. x, λ x. x); awaits = λ p t. (λ x. x, λ x. x); sure = λ log p. (λ x. x, λ x. x) };
+  crash = λ t. record { base = refl; log = refl; point = λ p m. (λ x. x, λ x. x); left = λ t img. (λ x. x, λ x. x); holds = λ img m. (λ x. x, λ x. x); issued = λ m. (λ x. x, λ x. x); awaits = λ p t. (λ x. x, λ x. x); sure = λ log p. (λ x. x, λ x. x); records = record { told = refl; starts = λ log n. (λ x. x, λ x. x) } };
 }
 
 -- two looks, of which the first didn't fail
@@ -38,6 +38,7 @@ looks_more tells failed s t u first second = record {
     left = λ n img. iff_on (b.left n img) (a.left n img);
     holds = λ img m. iff_on (b.holds img m) (a.holds img m);
     sure = λ log p. iff_on (b.sure log p) (a.sure log p);
+    records = record { told = b.records.told ∙ a.records.told; starts = λ log n. iff_on (b.records.starts log n) (a.records.starts log n) };
     issued = λ m. iff_on (b.issued m) (a.issued m);
     awaits = λ p t. iff_on (b.awaits p t) (a.awaits p t);
   };

@@ -10,7 +10,7 @@ use Rattle.opt_store.specs.Mounting.{BeginsWith}
 use Rattle.opt_store.specs.Refusal.{is_disk_fault}
 use Rattle.opt_store.specs.Told.{store_state}
 use Rattle.opt_store.proofs.Beginnings.{BeginLaws, begins_with, is_begun, kept_at_once}
-use Rattle.opt_store.proofs.Mounts.{calm_window, faults_say, faulty_of, found_as, held_one, numbers_since, one_since, refused_spends, search_spends, spends_since, starts_with, stops_before, stops_since, window_since}
+use Rattle.opt_store.proofs.Mounts.{calm_window, faults_say, faulty_of, found_as, held_one, numbers_since, one_since, opened_since, refused_spends, search_spends, spends_since, starts_with, stops_before, stops_since, window_since}
 use Rattle.opt_store.proofs.mounting.open_parts.Goals as goal
 
 pub returns-in_err-found-clause-holds : goal.returns-in_err-found-clause-holds
@@ -94,4 +94,11 @@ returns-clause-alone g c = λ tells none. one_since (g.D.Disk.state c.args.disk.
     (c.in-Ok-open.ensures.alone tells (none c.in_ok-found.field-0.found (c.in_ok-found.ensures.found tells (c.requires.idle tells)).0))
 
 pub returns-clause-numbers : goal.returns-clause-numbers
-returns-clause-numbers g c = λ tells ticks. numbers_since g.D.Disk.tells (g.D.Disk.state c.args.disk.now) (g.D.Disk.state c.find_store.new.disk) tells c.in_ok-found.ensures.reads c.in_ok-found.field-0.found (c.requires.idle tells) (c.in_ok-found.ensures.found tells (c.requires.idle tells)).0 _ _ _ _ _ c.new_parts.ensures.parts (c.in-Ok-open.ensures.goes_on tells) ticks (g.D.Disk.state c.open.new.disk)
+returns-clause-numbers g c = λ tells ticks. numbers_since g.D.Disk.tells (g.D.Disk.state c.args.disk.now) (g.D.Disk.state c.find_store.new.disk) tells c.in_ok-found.ensures.reads c.in_ok-found.field-0.found (c.requires.idle tells) (c.in_ok-found.ensures.found tells (c.requires.idle tells)).0 _ _ _ _ _ c.new_parts.ensures.parts (c.in-Ok-open.ensures.goes_on tells) ticks (g.D.Disk.state c.open.new.disk) (c.moment-moment.ensures tells)
+
+pub returns-clause-opens : goal.returns-clause-opens
+returns-clause-opens g c = λ tells ticks.
+    let f = c.in_ok-found.field-0.found in
+    let shape : c.header.result.now.geom ≡ f.run.header.geom = ap (λ (h : Header). h.geom) c.header.ensures ∙ ap (λ (r : FoundRun). r.header.geom) c.run.ensures.value in
+    opened_since g.D.Disk.tells (g.D.Disk.state c.args.disk.now) (g.D.Disk.state c.find_store.new.disk) (g.D.Disk.state c.open.new.disk) tells c.in_ok-found.ensures.reads f (c.requires.idle tells) (c.in_ok-found.ensures.found tells (c.requires.idle tells)).0
+    _ _ _ _ _ c.new_parts.ensures.parts shape (c.in-Ok-open.ensures.begins tells) (c.in-Ok-open.ensures.goes_on tells) ticks

@@ -15,5 +15,6 @@ returns c =
       rises = c.a_going_store_stays_so.ensures.rises;
       stops = c.a_going_store_stays_so.ensures.stops;
       advances = c.a_call_that_stays_safe_advances.ensures.advances;
+      tells_none = c.a_log_tells_its_records.ensures.none;
     } in
     record { keeps = keeps_of laws; runs = runs_of laws; noticed = bytes_noticed c.the_newest_payloads_are_the_map.ensures.calm }

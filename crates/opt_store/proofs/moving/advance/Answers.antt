@@ -1,6 +1,7 @@
 use Rattle.std.proofs.Common.{arith}
 use Rattle.opt_store.proofs.FirstOpen.{due_advanced}
 use Rattle.opt_store.proofs.PipelineCalls.{durable_fits, ends, stepped, with_moved}
+use Rattle.opt_store.proofs.RingTold.{ring_ended}
 use Rattle.opt_store.proofs.ServingBlocks.{served_some, serves_ended}
 use Rattle.opt_store.proofs.moving.advance.Goals as goal
 
@@ -22,6 +23,9 @@ returns g c =
       waits = call.ensures.spends.spends.waits;
       manner = call.ensures.spends.spends.same.manner;
       polled = call.ensures.polled;
+      ring = λ ticks tells alone.
+          ring_ended c.a_log_tells_its_records.ensures.places call.result c.settle_up.result g.D.Disk.tells v c.settle_up.new.parts call.new.self call.new.ring call.new.reuse old new ticks tells c.settle_up.ensures.answer c.settle_up.ensures.parts c.requires.going c.requires.kept.sound.pipeline_geom after.0
+          (served_some call.result g.D.Disk.tells v call.new.self c.reuse_mut-reuse.result.now call.new.reuse old new tells c.requires.kept c.requires.going c.reuse_mut-reuse.ensures.value alone call.ensures.serves);
       serves = λ before then tells alone.
           serves_ended call.result c.settle_up.result v c.settle_up.new.parts call.new.self call.new.ring call.new.reuse old new before then c.settle_up.ensures.answer c.settle_up.ensures.parts after.2 c.requires.kept.sound c.requires.going c.a_freed_block_waits.ensures.held c.a_freed_block_waits.ensures.waits c.a_freed_block_waits.ensures.exact
           (served_some call.result g.D.Disk.tells v call.new.self c.reuse_mut-reuse.result.now call.new.reuse old new tells c.requires.kept c.requires.going c.reuse_mut-reuse.ensures.value alone call.ensures.serves);

@@ -4,9 +4,10 @@ use Rattle.opt_journal.specs.declared.header.Header.{Header}
 use Rattle.opt_checkpoint.specs.declared.pipeline.Pipeline.{Pipeline}
 use Rattle.opt_store.specs.Committing.{WritesRecord, writes_of}
 use Rattle.opt_store.proofs.CommitCalls.{Failed, Laws, Succeeded}
-use Rattle.opt_store.proofs.CommitSyncs.{failure, kept_success, record_needed, syncs_success}
+use Rattle.opt_store.proofs.CommitSyncs.{failure, kept_success, syncs_success}
 use Rattle.opt_store.proofs.Freeing.{lets_wait}
 use Rattle.opt_store.proofs.LastCommitted.{forgets_record}
+use Rattle.opt_store.proofs.RecordsTold.{commit_told}
 use Rattle.opt_store.proofs.syncing.commit.Goals as goal
 
 pub commit_books-committed-requires-clause-some : goal.commit_books-committed-requires-clause-some
@@ -43,12 +44,7 @@ returns-in-Ok g c =
       syncs = syncs_success laws g.D.Disk.tells v d e c.args.room c.requires.kept c.requires.going c.requires.may call.new.ring call.new.pipeline call.new.books c.forget_last.new.cache succeeded;
       waits = c.in-Ok.ensures.spends.waits;
       writes = λ tells. (c.in-Ok.ensures.writes tells).grows;
-      written = λ ticks tells. omega (
-        arith,
-        (c.in-Ok.ensures.writes tells).writes,
-        c.in-Ok.ensures.ok.owed,
-        record_needed v (c.a_commit_has_what_the_roles_say.ensures.payloads v.books c.requires.kept.sound.kept) (c.a_commit_has_what_the_roles_say.ensures.fresh v.books c.requires.kept.sound.kept) c.requires.may.weight,
-      );
+      written = commit_told laws c.a_log_tells_its_records.ensures.more g.D.Disk.tells v d e c.requires.kept c.requires.going c.args.room c.requires.may call.new.ring call.new.pipeline call.new.books c.forget_last.new.cache succeeded;
       memory = tt;
       turns = omega (arith, ap (λ (h : Header). h.turn) c.in-Ok.ensures.ok.written, c.in-Ok.ensures.ok.last, going.number);
       frees = lets_wait v call.new.books call.new.pipeline call.new.ring (v.first + v.point) c.requires.kept.sound.kept c.a_freed_block_waits.ensures.held refl c.in-Ok.ensures.ok (record v { ring = call.new.ring; pipeline = call.new.pipeline; books = call.new.books; cache = c.forget_last.new.cache; point = v.point + 1 }) refl refl refl;

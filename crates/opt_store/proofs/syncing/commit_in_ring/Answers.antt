@@ -5,6 +5,7 @@ use Rattle.opt_store.specs.Store.{bookkeeping_of}
 use Rattle.opt_store.specs.Told.{store_state}
 use Rattle.opt_store.proofs.CommitSyncs.{places_needed}
 use Rattle.opt_store.proofs.Freeing.{lets_from, on_ok}
+use Rattle.opt_store.proofs.RecordsTold.{record_behind}
 use Rattle.opt_store.proofs.SyncSteps.{fits_then, kept_fault, may_then, run_then_sync, syncs_fault}
 use Rattle.opt_store.proofs.syncing.commit_in_ring.Goals as goal
 
@@ -32,9 +33,10 @@ returns-in-Ok-clause-order g c = λ few.
     absurd (omega (arith, few, places_needed c.args.parts.now (c.a_commit_has_what_the_roles_say.ensures.payloads c.args.parts.now.books kept) (c.a_commit_has_what_the_roles_say.ensures.fresh c.args.parts.now.books kept), c.places_needed.ensures.places, c.free.ensures, c.if-places_needed-free.false))
 
 pub returns-in-Ok-clause-written : goal.returns-in-Ok-clause-written
-returns-in-Ok-clause-written g c = λ ticks tells few.
+returns-in-Ok-clause-written g c = λ ticks tells.
     let kept = c.requires.kept.sound.kept in
-    absurd (omega (arith, few, places_needed c.args.parts.now (c.a_commit_has_what_the_roles_say.ensures.payloads c.args.parts.now.books kept) (c.a_commit_has_what_the_roles_say.ensures.fresh c.args.parts.now.books kept), c.places_needed.ensures.places, c.free.ensures, c.if-places_needed-free.false))
+    on_ok c.commit-in-Ok.result (c.commit-in-Ok.ensures.written ticks tells) (record_behind g.D.Disk.tells (store_state c.args.parts.now ticks (g.D.Disk.state c.args.disk.now)) (store_state c.drain.new.parts ticks (g.D.Disk.state c.drain.new.disk)) (store_state c.commit-in-Ok.new.parts ticks (g.D.Disk.state c.commit-in-Ok.new.disk)) tells (c.in-Ok.ensures.runs ticks ticks) c.requires.may.weight
+    (λ few. absurd (omega (arith, few, places_needed c.args.parts.now (c.a_commit_has_what_the_roles_say.ensures.payloads c.args.parts.now.books kept) (c.a_commit_has_what_the_roles_say.ensures.fresh c.args.parts.now.books kept), c.places_needed.ensures.places, c.free.ensures, c.if-places_needed-free.false))))
 
 pub returns-in-Ok-clause-writes : goal.returns-in-Ok-clause-writes
 returns-in-Ok-clause-writes g c = λ tells few.
@@ -52,11 +54,6 @@ returns-in-Err-clause-order g c = λ few.
     let kept = c.requires.kept.sound.kept in
     absurd (omega (arith, few, places_needed c.args.parts.now (c.a_commit_has_what_the_roles_say.ensures.payloads c.args.parts.now.books kept) (c.a_commit_has_what_the_roles_say.ensures.fresh c.args.parts.now.books kept), c.places_needed.ensures.places, c.free.ensures, c.if-places_needed-free.false))
 
-pub returns-in-Err-clause-written : goal.returns-in-Err-clause-written
-returns-in-Err-clause-written g c = λ ticks tells few.
-    let kept = c.requires.kept.sound.kept in
-    absurd (omega (arith, few, places_needed c.args.parts.now (c.a_commit_has_what_the_roles_say.ensures.payloads c.args.parts.now.books kept) (c.a_commit_has_what_the_roles_say.ensures.fresh c.args.parts.now.books kept), c.places_needed.ensures.places, c.free.ensures, c.if-places_needed-free.false))
-
 pub returns-in-Err-clause-writes : goal.returns-in-Err-clause-writes
 returns-in-Err-clause-writes g c = λ tells few.
     let kept = c.requires.kept.sound.kept in
@@ -66,7 +63,7 @@ pub returns-then-places_needed-free-clause-writes : goal.returns-then-places_nee
 returns-then-places_needed-free-clause-writes g c = λ tells fits. c.commit.ensures.writes tells
 
 pub returns-then-places_needed-free-clause-written : goal.returns-then-places_needed-free-clause-written
-returns-then-places_needed-free-clause-written g c = λ ticks tells fits. c.commit.ensures.written ticks tells
+returns-then-places_needed-free-clause-written g c = λ ticks tells. c.commit.ensures.written ticks tells
 
 pub returns-then-places_needed-free-clause-frees : goal.returns-then-places_needed-free-clause-frees
 returns-then-places_needed-free-clause-frees g c =

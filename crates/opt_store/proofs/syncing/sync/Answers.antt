@@ -1,4 +1,4 @@
-use Rattle.std.proofs.Common.{◌∙◌, arith, refl, sym, subst}
+use Rattle.std.proofs.Common.{⊎_elim, ◌∙◌, arith, refl, sym, subst}
 use Rattle.opt_blocks.specs.Effects.{FitsRing}
 use Rattle.opt_blocks.specs.State.{Bookkeeping}
 use Rattle.opt_store.specs.Store.{bookkeeping_of}
@@ -25,7 +25,7 @@ pub returns-in-Ok-clause-order : goal.returns-in-Ok-clause-order
 returns-in-Ok-clause-order g c = λ few. c.commit_in_ring.ensures.order (subst FitsRing (sym c.in-Ok.ensures.same.books) few)
 
 pub returns-in-Ok-clause-writes : goal.returns-in-Ok-clause-writes
-returns-in-Ok-clause-writes g c = λ tells few. c.commit_in_ring.ensures.writes tells (subst FitsRing (sym c.in-Ok.ensures.same.books) few)
+returns-in-Ok-clause-writes g c = λ tells at_once. c.commit_in_ring.ensures.writes tells (⊎_elim (λ few. subst FitsRing (sym c.in-Ok.ensures.same.books) few) (λ none. absurd (c.if-weight-eq0.false (c.weight.ensures ∙ none))) at_once)
 
 pub returns-in-Err-clause-kept : goal.returns-in-Err-clause-kept
 returns-in-Err-clause-kept g c = c.in-Err.ensures.keeps g.D.Disk.tells (g.D.Disk.state c.args.disk.now) c.requires.kept
@@ -41,11 +41,11 @@ pub returns-in-Err-clause-writes : goal.returns-in-Err-clause-writes
 returns-in-Err-clause-writes g c = λ tells few. no_write (g.D.Disk.state c.args.disk.now).log
 
 pub returns-then-weight-eq0-clause-written : goal.returns-then-weight-eq0-clause-written
-returns-then-weight-eq0-clause-written g c = λ ticks tells few. omega arith
+returns-then-weight-eq0-clause-written g c = λ ticks tells. record { some = λ some. absurd (omega (arith, some, c.weight.ensures, c.if-weight-eq0.true)); none = λ none. (refl, refl) }
 
 pub returns-in-Ok-clause-written : goal.returns-in-Ok-clause-written
-returns-in-Ok-clause-written g c = λ ticks tells few.
-    record_from_same c.args.parts.now c.reserve.new.parts ticks (g.D.Disk.state c.args.disk.now) (store_state c.commit_in_ring.new.parts ticks (g.D.Disk.state c.commit_in_ring.new.disk)) c.commit_in_ring.result c.in-Ok.ensures.same (c.commit_in_ring.ensures.written ticks tells (subst FitsRing (sym c.in-Ok.ensures.same.books) few))
+returns-in-Ok-clause-written g c = λ ticks tells.
+    record_from_same c.args.parts.now c.reserve.new.parts ticks (g.D.Disk.state c.args.disk.now) (store_state c.commit_in_ring.new.parts ticks (g.D.Disk.state c.commit_in_ring.new.disk)) c.commit_in_ring.result c.in-Ok.ensures.same (c.commit_in_ring.ensures.written ticks tells)
 
 pub returns-then-weight-eq0-clause-frees : goal.returns-then-weight-eq0-clause-frees
 returns-then-weight-eq0-clause-frees g c = frees_none (bookkeeping_of c.args.parts.now) (bookkeeping_of c.args.parts.now) refl (sym c.weight.ensures ∙ c.if-weight-eq0.true)

@@ -4,6 +4,7 @@ use Rattle.opt_blocks.specs.State.{Bookkeeping, Ticking}
 use Rattle.opt_store.specs.Store.{bookkeeping_of}
 use Rattle.opt_store.specs.Told.{store_state}
 use Rattle.opt_store.proofs.Freeing.{frees_still, waited_still}
+use Rattle.opt_store.proofs.RecordsTold.{record_before}
 use Rattle.opt_store.proofs.SyncSteps.{refused, refused_record, sync_then_hears, sync_then_wait, writes_hear}
 use Rattle.opt_store.proofs.syncing.sync_durably.Goals as goal
 
@@ -60,13 +61,15 @@ returns-in-Err-clause-waits g c = λ ticks tells alone fits.
     (c.sync.ensures.writes tells fits) ((c.in_ok-point.ensures.syncs ticks).crash tells) (c.in-Err.ensures.waits ticks ticks tells (ap (λ (t : Ticking). t.manner.waits_alone) ((c.in_ok-point.ensures.syncs ticks).ticks) ∙ alone))
 
 pub returns-in_err-point-clause-written : goal.returns-in_err-point-clause-written
-returns-in_err-point-clause-written g c = λ ticks tells fits. refused_record _ c.from_residual.result c.in_err-point.field-0.0 c.from_residual.ensures.1
+returns-in_err-point-clause-written g c = λ ticks tells. refused_record _ c.from_residual.result c.in_err-point.field-0.0 c.from_residual.ensures.1
 
 pub returns-then-parts-clause-written : goal.returns-then-parts-clause-written
-returns-then-parts-clause-written g c = λ ticks tells fits. c.in_ok-point.ensures.written ticks tells fits
+returns-then-parts-clause-written g c = λ ticks tells. c.in_ok-point.ensures.written ticks tells
 
 pub returns-in-Ok-clause-written : goal.returns-in-Ok-clause-written
-returns-in-Ok-clause-written g c = λ ticks tells fits. omega (arith, c.in_ok-point.ensures.written ticks tells fits, c.in-Ok.ensures.still tells)
+returns-in-Ok-clause-written g c = λ ticks tells.
+    record_before g.D.Disk.tells false (store_state c.args.parts.now ticks (g.D.Disk.state c.args.disk.now)) (store_state c.sync.new.parts ticks (g.D.Disk.state c.sync.new.disk)) (store_state c.wait_for_last.new.parts ticks (g.D.Disk.state c.wait_for_last.new.disk)) tells (c.in-Ok.ensures.runs ticks ticks) (c.in-Ok.ensures.still tells)
+    (c.in_ok-point.ensures.written ticks tells)
 
 pub returns-then-parts-clause-frees : goal.returns-then-parts-clause-frees
 returns-then-parts-clause-frees g c = c.in_ok-point.ensures.frees

@@ -4,7 +4,7 @@ use Rattle.opt_blocks.specs.PlainLaws.{plain_is_sound}
 use Rattle.opt_blocks.proofs.PlainServes.{ends_frees}
 use Rattle.opt_blocks.specs.Running.{nothing_running}
 use Rattle.opt_blocks.specs.PlainOf.{books_of}
-use Rattle.opt_blocks.proofs.PlainSyncs.{syncs_refused, syncs_changed}
+use Rattle.opt_blocks.proofs.PlainSyncs.{syncs_refused, syncs_changed, writes_record}
 use Rattle.opt_blocks.proofs.plain.PlainBlocksBlocks.osync.Goals as goal
 
 pub returns-then-is_err-clause-syncs : goal.returns-then-is_err-clause-syncs
@@ -24,3 +24,6 @@ pub returns-clause-frees : goal.returns-clause-frees
 returns-clause-frees c =
     let clears : (b : ℕ) → IsData c.args.self.now.geom b → (books_of c.end_transaction.new.self).reusable b ≡ not ((books_of c.args.self.now).marked b) = search rules in
     λ tells. ends_frees c.args.self.now c.end_transaction.new.self (plain_is_sound c.args.self.now).unmarked clears c.if-self-eq0.false
+
+pub returns-clause-written : goal.returns-clause-written
+returns-clause-written c = λ tells. writes_record c.args.self.now c.end_transaction.new.self

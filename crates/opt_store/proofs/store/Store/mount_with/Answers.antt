@@ -25,3 +25,6 @@ returns-in-Ok-clause-numbers g c = λ tells. c.in-Ok.ensures.numbers tells 0
 
 pub returns-in-Ok-clause-alone : goal.returns-in-Ok-clause-alone
 returns-in-Ok-clause-alone g c = c.in-Ok.ensures.alone
+
+pub returns-in-Ok-clause-opens : goal.returns-in-Ok-clause-opens
+returns-in-Ok-clause-opens g c = λ tells. c.in-Ok.ensures.opens tells 0

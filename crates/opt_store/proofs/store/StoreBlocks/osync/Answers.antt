@@ -1,3 +1,4 @@
+use Rattle.std.proofs.Common.{inl}
 use Rattle.opt_store.specs.Told.{store_state}
 use Rattle.opt_store.proofs.Freeing.{ends_frees, on_ok}
 use Rattle.opt_store.proofs.store.StoreBlocks.osync.Goals as goal
@@ -16,7 +17,7 @@ pub returns-clause-idles : goal.returns-clause-idles
 returns-clause-idles g c = c.sync.ensures.idles c.args.self.now.ticks
 
 pub returns-clause-writes : goal.returns-clause-writes
-returns-clause-writes g c = c.sync.ensures.writes
+returns-clause-writes g c = λ tells few. c.sync.ensures.writes tells (inl few)
 
 pub returns-clause-written : goal.returns-clause-written
 returns-clause-written g c = c.sync.ensures.written c.args.self.now.ticks

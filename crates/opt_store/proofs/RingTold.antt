@@ -1,0 +1,73 @@
+-- The ring places that are taken behind an advance are those of the records that the log tells.
+use Rattle.std.proofs.Common.{◌≡◌, ℕ, ◌+◌, ◌-◌, ◌<◌, ◌≤◌, Bool, true, false, IsTrue, List, drop, length, Some, Result, Ok, Err, OnOk, refl, sym, ◌∙◌, ap, subst, arith}
+use Rattle.std.proofs.Props.{props}
+use Rattle.std.proofs.Math.Logic.{∥∥₁_elim, ∥∥₁_map}
+use Rattle.opt_base.specs.Seal.{Blocks}
+use Rattle.opt_disk.specs.declared.disk.DiskFault.{DiskFault}
+use Rattle.opt_disk.specs.declared.event.Event.{Event}
+use Rattle.opt_disk.specs.Cell.{cell_of}
+use Rattle.opt_disk.specs.Disk.{State}
+use Rattle.opt_geom.specs.Geometry.{Geometry}
+use Rattle.opt_journal.specs.declared.header.Header.{Header}
+use Rattle.opt_journal.specs.declared.record.Commit.{Commit}
+use Rattle.opt_journal.specs.Run.{all_places, places_from}
+use Rattle.opt_crash.specs.Ledger.{Ledger, all_say}
+use Rattle.opt_crash.specs.Points.{MountedSession, IsSafe, records_told}
+use Rattle.opt_reuse.specs.Dead.{DeadBlocks}
+use Rattle.opt_checkpoint.specs.declared.pipeline.Pipeline.{Pipeline}
+use Rattle.opt_checkpoint.specs.Serving.{IsNewestAtRest, ServesByLog}
+use Rattle.opt_blocks.specs.Effects.{RingIsTold}
+use Rattle.opt_store.specs.declared.parts.StoreParts.{StoreParts}
+use Rattle.opt_store.specs.SessionView.{Starts}
+use Rattle.opt_store.specs.PipelineCall.{settled_up}
+use Rattle.opt_store.specs.Told.{GoesBy, IsKeptOn, IsToldBy, session_of, store_state}
+use Rattle.opt_store.proofs.PipelineCalls.{with_moved}
+use Rattle.opt_store.proofs.ServingBlocks.{one_newest}
+use Rattle.opt_journal.specs.Ring.{RingPlaces}
+
+-- what a law says of the places that a log tells
+abbrev pub PlacesLaw : Type 0
+PlacesLaw = (s : MountedSession) (base : Blocks) (log : List Event) (l : Ledger) (t floor n : ℕ) → IsSafe s base log l t floor → l.header.start ≤ n → places_from n (records_told s log) ≡ all_places (all_say (drop (n - l.header.start) l.records))
+
+-- the header of the parts is the newest at rest
+abbrev pub IsNewest : StoreParts → State → Type 0
+IsNewest u e = IsNewestAtRest u.books.geom.n (cell_of e.base e.log) u.pipeline.header
+
+module _ (places : PlacesLaw) (tells : Bool) (u : StoreParts) (e : State) (ticks : ℕ) (on : IsTrue tells) (k : IsKeptOn tells u e) (going : u.stopped ≡ false) where
+  -- the taken places are those of the ledger's records, which the log tells
+  taken_by : (l : Ledger) → IsToldBy u e l → u.ring.taken ≡ places_from u.pipeline.header.start (records_told (session_of u) e.log)
+  taken_by l told =
+      let goes = told.going going in
+      let start : l.header.start ≡ u.pipeline.header.start = ap (λ (h : Header). h.start) (sym goes.agrees.header) in
+      goes.agrees.agree.taken ∙ sym (ap (λ n. places_from n (records_told (session_of u) e.log)) (sym start)
+      ∙ places (session_of u) e.base e.log l (length e.log) u.floor l.header.start told.safe (omega arith)
+      ∙ ap (λ n. all_places (all_say (drop n l.records))) (none l.header.start))
+    where
+      none : (n : ℕ) → n - n ≡ 0
+      none n = omega arith
+
+  within : u.ring.taken ≤ u.ring.geom.j
+  within =
+      let sound = (k.sound.going going).sound in
+      omega (arith, sound.goes_with.taken, sound.order.within, ap (λ (g : Geometry). g.j) sound.goes_with.ring_geom)
+
+  pub ring_told : IsNewest u e → RingIsTold (store_state u ticks e)
+  ring_told newest number told starts is = ∥∥₁_elim starts (search props) (λ (s : Starts (session_of u) e.base e.log number). ∥∥₁_elim (k.told on) (search props) (λ (x : (l : Ledger) × IsToldBy u e l).
+      let own = one_newest u.books.geom.n (cell_of e.base e.log) s.header u.pipeline.header s.newest newest in
+      let start : u.pipeline.header.start ≡ number = sym (ap (λ (h : Header). h.start) own) ∙ s.is in
+      let same : places_from u.pipeline.header.start (records_told (session_of u) e.log) ≡ places_from number told = ap (λ n. places_from n (records_told (session_of u) e.log)) start ∙ ap (places_from number) (some_is (records_told (session_of u) e.log) told is) in
+      omega (arith, taken_by x.0 x.1, same, within, ap (λ (g : Geometry). g.j) k.sound.ring_geom)))
+    where
+      some_is : (cs ds : List Commit) → Some cs ≡ Some ds → cs ≡ ds
+      some_is cs ds e = search
+
+-- the same by the result of an advance
+pub ring_ended : (places : PlacesLaw) (done answer : Result (Unit {0}) DiskFault) (tells : Bool) (v u : StoreParts) (q : Pipeline) (ring : RingPlaces) (next : DeadBlocks) (d e : State) (ticks : ℕ) → IsTrue tells → answer ≡ done → u ≡ settled_up done (with_moved v q ring next) → v.stopped ≡ false → v.pipeline.geom ≡ v.books.geom → IsKeptOn tells u e
+    → ∥ OnOk done (ServesByLog v.pipeline.geom.n e.base e.log q.header v.books.dead next) ∥₁ → OnOk answer (RingIsTold (store_state u ticks e))
+ring_ended places (Err x) answer tells v u q ring next d e ticks on same is going geom k some = subst (λ (r : Result (Unit {0}) DiskFault). OnOk r (RingIsTold (store_state u ticks e))) (sym same) tt
+ring_ended places (Ok a) answer tells v u q ring next d e ticks on same is going geom k some = subst (λ (r : Result (Unit {0}) DiskFault). OnOk r (RingIsTold (store_state u ticks e))) (sym same)
+    (λ number told starts known. ∥∥₁_elim some (search props) (λ (g : ServesByLog v.pipeline.geom.n e.base e.log q.header v.books.dead next).
+    ring_told places tells u e ticks on k (ap (λ (x : StoreParts). x.stopped) is ∙ going) (newest g) number told starts known))
+  where
+    newest : ServesByLog v.pipeline.geom.n e.base e.log q.header v.books.dead next → IsNewest u e
+    newest g = subst (λ (x : StoreParts). IsNewestAtRest x.books.geom.n (cell_of e.base e.log) x.pipeline.header) (sym is) (subst (λ (s : Geometry). IsNewestAtRest s.n (cell_of e.base e.log) q.header) geom g.newest)
