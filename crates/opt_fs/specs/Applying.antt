@@ -11,7 +11,7 @@ use Rattle.opt_blocks.specs.State.{Bookkeeping, State, reusable_blocks}
 use Rattle.opt_tree.specs.Run.{Answers, is_of_disk}
 use Rattle.opt_tree.specs.Step.{Session}
 use Rattle.opt_blocks.specs.Crashes.{Advances, MakesPoint}
-use Rattle.opt_blocks.specs.Effects.{FitsRing, RunsPipeline, Ticked}
+use Rattle.opt_blocks.specs.Effects.{OrdersAtOnce, RingIsTold, RunsPipeline, Ticked}
 use Rattle.opt_blocks.specs.Serving.{ServesSure}
 use Rattle.opt_fs.specs.Commands.{Carries, figures_on}
 use Rattle.opt_fs.specs.Sessions.{IsSession}
@@ -28,10 +28,11 @@ pub record Ticks (tells failed : Bool) (old new : State) : Type 0 where
   pub ticks : Ticked tells old new
   pub writes : IsTrue tells → PollsThenWrites old.counts.ticks.manner 64 old.counts.ticks.polls old.crash.log new.counts.ticks.polls new.crash.log
   pub serves : IsTrue tells → old.counts.ticks.manner.waits_alone ≡ true → failed ≡ false → ServesSure old new
+  pub ring : IsTrue tells → old.counts.ticks.manner.waits_alone ≡ true → failed ≡ false → RingIsTold new
 
--- The command needn't wait for the disk: one that only orders has ring places for its record, one on the tree finds as many blocks as it needs, and any other asks for none. A dsync may always wait.
+-- The command needn't wait for the disk: one that only orders has nothing to commit, or ring places for its record, one on the tree finds as many blocks as it needs, and any other asks for none. A dsync may always wait.
 abbrev pub NeedsNoWait : State → Session → Cmd → Type 0
-NeedsNoWait s f Osync = FitsRing s.books
+NeedsNoWait s f Osync = OrdersAtOnce s.books
 NeedsNoWait s f Dsync = ⊥
 NeedsNoWait s f Durable = ⊤
 NeedsNoWait s f Poll = ⊤

@@ -2,7 +2,7 @@
 use Rattle.std.specs.Prelude.{◌≡◌, ◌≢◌, ◌↔◌, ◌⊎◌, ℕ, ◌<◌, ◌≤◌, Bool, true, false, not, ◌||◌, length, Option, None, Some, is_some}
 use Rattle.std.specs.List.{filter}
 use Rattle.opt_disk.specs.Cell.{is_accepted}
-use Rattle.opt_disk.specs.Disk.{PollsThenWrites}
+use Rattle.opt_disk.specs.Disk.{GrowsByWrites, PollsThenWrites}
 use Rattle.opt_geom.specs.Geometry.{Geometry}
 use Rattle.opt_tree.specs.declared.command.Cmd.{Cmd}
 use Rattle.opt_tree.specs.declared.command.Cmd.TheVariants as cmds
@@ -10,12 +10,13 @@ use Rattle.opt_tree.specs.declared.command.Refusal.{Refusal}
 use Rattle.opt_tree.specs.declared.command.Refusal.TheVariants.{DiskFault, Stopped, Spent, NoMemory}
 use Rattle.opt_tree.specs.declared.command.Reply.{Reply}
 use Rattle.opt_tree.specs.declared.command.Reply.TheVariants.{Refused}
+use Rattle.opt_tree.specs.Points.{is_refusal, is_sync}
 use Rattle.opt_tree.specs.Step.{Session}
 use Rattle.opt_blocks.specs.Running.{has}
 use Rattle.opt_blocks.specs.State.{State, data_blocks}
 use Rattle.opt_blocks.specs.Puts.{IsData}
-use Rattle.opt_blocks.specs.Crashes.{Advances}
-use Rattle.opt_blocks.specs.Effects.{FitsRing}
+use Rattle.opt_blocks.specs.Crashes.{Advances, HearsRecords}
+use Rattle.opt_blocks.specs.Effects.{FitsRing, OrdersAtOnce, RingIsTold, WritesItsRecord}
 use Rattle.opt_blocks.specs.Serving.{is_sure_in, rests_in}
 use Rattle.opt_fs.specs.Applying.{is_spent}
 use Rattle.opt_fs.specs.DiskRoom.{AnswersOver, BeginsOver, ComesBack, IsRoomOf}
@@ -135,14 +136,27 @@ AnswersAt g at end f old cmd reply next new = AnyAt g at end f old cmd reply nex
 
 -- Over blocks.
 
+-- A sync did this behind its tick. Where its record fits the free ring places, or there is nothing to commit, one that only orders adds writes alone, and one that waits does so for records' writes alone. Done, it wrote its record, and out of memory nothing.
+pub record SyncsBehind (cmd : Cmd) (reply : Reply) (behind new : State) : Type 0 where
+  pub orders : cmd ≡ cmds.Osync → OrdersAtOnce behind.books → GrowsByWrites behind.crash.log new.crash.log
+  pub hears : behind.counts.ticks.manner.waits_alone ≡ true → OrdersAtOnce behind.books → HearsRecords behind new
+  pub written : is_refusal reply ≡ false → WritesItsRecord behind new
+  pub unwritten : reply ≡ Refused NoMemory → new.crash.log ≡ behind.crash.log
+
 module _ {S : Type 0} (state : S → State) where
-  -- A command of a session is answered so, in what the blocks showed. The moment is that behind its tick, which takes no ring places; or it didn't begin, and nothing happens.
+  -- A command of a session is answered so, in what the blocks showed. The moment is that behind its tick, which takes no ring places; or it didn't begin, and nothing happens. The tick leaves the transaction, and the log tells which ring places aren't free behind it, unless the tick was all.
   pub record ServesCommand (f : Session) (cmd : Cmd) (reply : Reply) (next : Session) (old new : S) : Type 0 where
     pub behind : S
     pub begins : Advances (state old) (state behind)
     pub goes_on : Advances (state behind) (state new)
     pub manner : (state behind).counts.ticks.manner ≡ (state old).counts.ticks.manner
     pub fits : FitsRing (state old).books → FitsRing (state behind).books
+    pub geom : (state behind).books.geom ≡ (state old).books.geom
+    pub running : (state behind).books.running ≡ (state old).books.running
+    pub ring : cmd ≢ cmds.Bad → (state old).books.stopped ≡ false → is_spent (state old).books ≡ false → (state old).counts.ticks.manner.waits_alone ≡ true → RingIsTold (state behind) ⊎ ((new ≡ behind) × (reply ≡ Refused DiskFault))
+    pub sync : is_sync cmd ≡ true → (state old).books.stopped ≡ false → is_spent (state old).books ≡ false → SyncsBehind cmd reply (state behind) (state new)
+    -- the tick makes no point wait
+    pub still : (p t : ℕ) → (state behind).crash.awaits p t → (state old).crash.awaits p t
     -- a point that is waited for since is a new one, and waits for a write behind the tick
     pub awaits : (p t : ℕ) → (state new).crash.awaits p t → (state old).crash.awaits p t ⊎ (((state old).books.point < p) × (is_accepted t (state behind).crash.log ≡ false))
     pub ticks : cmd ≢ cmds.Bad → (state old).books.stopped ≡ false → is_spent (state old).books ≡ false

@@ -12,7 +12,7 @@ use Rattle.opt_blocks.specs.Running.{nothing_running}
 use Rattle.opt_blocks.specs.State.{Bookkeeping, State, IsReusable}
 use Rattle.opt_blocks.specs.Calls.{HasTurns, UsesDisk, commit_places, commit_writes, if_changed}
 use Rattle.opt_blocks.specs.Crashes.{Advances, HearsRecords, MakesPoint, WritesAtMost}
-use Rattle.opt_blocks.specs.Effects.{FitsRing}
+use Rattle.opt_blocks.specs.Effects.{OrdersAtOnce, WritesItsRecord}
 use Rattle.opt_blocks.specs.Serving.{EndsFrees}
 use Rattle.opt_files.specs.Finish.{MayGoOn}
 use Rattle.opt_fs.specs.Commands.{is_disk_fault}
@@ -29,7 +29,7 @@ refusal_of_sync sync.DiskFault = because.DiskFault
 refusal_of_sync sync.NoMemory = because.NoMemory
 
 -- The sync is done as the session does it, or refused by the disk or out of memory, and then the session is as it was. Time goes on; where a point came, the map is its, and the writes are those of its record.
--- Where the record fits the free ring places, one that only orders doesn't wait, and one that waits does so for records' writes alone.
+-- Where the record fits the free ring places, or there is nothing to commit, one that only orders doesn't wait, and one that waits does so for records' writes alone.
 pub record SyncsSession (tells orders : Bool) (cmd : Cmd) (result : Result Reply Refusal) (old new : State) : Type 0 where
   pub done : IsTrue tells → IfOk result (λ reply. (f : Session) → IsSession old f → (reply ≡ (step f cmd).1) × IsSession new (step f cmd).0)
   pub kept : IsTrue tells → OnErr result ((f : Session) → IsSession old f → IsSession new f)
@@ -49,9 +49,12 @@ pub record SyncsSession (tells orders : Bool) (cmd : Cmd) (result : Result Reply
   pub point : (result ≡ Err because.NoMemory → ⊥) → new.books.point ≡ old.books.point + if_changed old.books.running 1 0
   pub map : IsTrue tells → new.map ≡ old.map
   pub ticks : new.counts.ticks ≡ old.counts.ticks
-  pub order : IsTrue orders → FitsRing old.books → new.counts.waits ≡ old.counts.waits
-  pub alone : IsTrue tells → IsTrue orders → FitsRing old.books → GrowsByWrites old.crash.log new.crash.log
-  pub waits : IsTrue tells → old.counts.ticks.manner.waits_alone ≡ true → FitsRing old.books → HearsRecords old new
+  pub order : IsTrue orders → OrdersAtOnce old.books → new.counts.waits ≡ old.counts.waits
+  pub alone : IsTrue tells → IsTrue orders → OrdersAtOnce old.books → GrowsByWrites old.crash.log new.crash.log
+  pub waits : IsTrue tells → old.counts.ticks.manner.waits_alone ≡ true → OrdersAtOnce old.books → HearsRecords old new
+  -- done, it wrote its record; and out of memory, nothing
+  pub written : IsTrue tells → OnOk result (WritesItsRecord old new)
+  pub unwritten : IsTrue tells → result ≡ Err because.NoMemory → new.crash.log ≡ old.crash.log
   pub free_places : OnOk result (old.books.free_places ≤ new.books.free_places + if_changed old.books.running (commit_places old.books) 0)
   pub crash : IsTrue tells → Advances old new
   pub made : IsTrue tells → MakesPoint old new

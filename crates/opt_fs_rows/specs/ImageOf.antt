@@ -56,6 +56,7 @@ untold = record {
   issued = λ m. ⊤;
   awaits = λ p t. ⊥;
   sure = λ log p. ⊤;
+  records = record { told = λ log. None; starts = λ log number. ⊥ };
 }
 
 -- all that is known of the blocks

@@ -1,5 +1,6 @@
 pub mod Histories
 pub mod Crashes
+pub mod Marks
 pub mod Issuing
 pub mod Counting
 pub mod Serving

@@ -1,8 +1,10 @@
 -- How many writes a run may make, by its commands and replies alone. It is described in docs/CRASHES.md.
-use Rattle.std.specs.Prelude.{◌≡◌, ℕ, ◌+◌, ◌≤◌, ◌==◌, Bool, false, true, ◌&&◌, if◌then◌else◌, List, [], ◌∷◌}
+use Rattle.std.specs.Prelude.{◌≡◌, ℕ, ◌+◌, ◌≤◌, ◌==◌, Bool, false, true, ◌&&◌, if◌then◌else◌, List, [], ◌∷◌, length, take}
+use Rattle.opt_disk.specs.declared.event.Event.{Event}
 use Rattle.opt_disk.specs.Disk.{writes_in}
 use Rattle.opt_geom.specs.Geometry.{Geometry, bitmap_blocks}
 use Rattle.opt_journal.specs.Layout.{descriptor_count}
+use Rattle.opt_crash.specs.Counts.{AreAtMost}
 use Rattle.opt_tree.specs.declared.command.Cmd.{Cmd}
 use Rattle.opt_tree.specs.declared.command.Refusal.TheVariants.{DiskFault, NoMemory}
 use Rattle.opt_tree.specs.declared.command.Reply.{Reply}
@@ -13,6 +15,7 @@ use Rattle.opt_tree.specs.Step.{Session, session_on}
 use Rattle.opt_tree.specs.Tree.{Tree}
 use Rattle.opt_blocks.specs.Calls.{commit_writes}
 use Rattle.opt_blocks.specs.State.{Bookkeeping, State}
+use Rattle.opt_session.specs.Histories.{last_mark}
 
 -- whether a sync that was answered so may have begun: it is done, or the disk failed it, or memory did
 abbrev pub may_have_begun : Reply → Bool
@@ -60,3 +63,7 @@ budget_of bitmap s w (cmd ∷ cmds) (reply ∷ replies) =
 pub record KeepsBudget (g : Geometry) (t : Tree) (begun : ℕ) (cmds : List Cmd) (replies : List Reply) (s : State) : Type 0 where
   pub weight : s.books.stopped ≡ false → s.books.running.weight ≡ weight_after (bitmap_blocks g) (session_on g.i t) 0 cmds replies
   pub writes : writes_in s.crash.log + s.books.owed ≤ begun + budget_of (bitmap_blocks g) (session_on g.i t) 0 cmds replies
+
+-- Up to each mark the writes keep within what the commands by then stand for: at each moment of the first i of them, since the mount, the writes number at most the budget of these i. As the mount ends, that is nothing.
+pub record SpendsByMarks (g : Geometry) (s : Session) (mounted : ℕ) (log : List Event) (cmds : List Cmd) (replies : List Reply) (marks : List ℕ) : Type 0 where
+  pub each : (i : ℕ) → i ≤ length replies → AreAtMost mounted (take (last_mark mounted (take i marks)) log) (budget_of (bitmap_blocks g) s 0 (take i cmds) (take i replies))

@@ -8,5 +8,6 @@ mod served;
 
 pub use laws::{
     a_run_may_end_at_once, a_served_run_is_crash_consistent, the_writes_keep_within_the_budget,
+    the_writes_keep_within_the_budget_at_each_mark,
 };
 pub use served::Served;

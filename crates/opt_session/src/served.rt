@@ -38,13 +38,13 @@ impl<S: Blocks + Drop> Served<S> {
     ghost use Rattle.opt_tree.specs.declared.command.Reply.{Reply};
     ghost use Rattle.opt_tree.specs.Tree.{Tree};
     ghost use Rattle.opt_stands.specs.Stands.{IsTreeOf};
-    ghost use Rattle.opt_blocks.specs.Calls.{AreFigures, commit_places};
+    ghost use Rattle.opt_blocks.specs.Calls.{AreFigures, commit_places, commit_writes};
     ghost use Rattle.opt_blocks.specs.Crashes.{IsBegun, IsTold, WritesAtMost};
     ghost use Rattle.opt_files.specs.Effects.{LooksOnly};
     ghost use Rattle.opt_fsck.specs.Whole.{IsDamaged, OnDamage, fails_by};
     ghost use Rattle.opt_fs.specs.Applying.{Applies, PassesTime};
     ghost use Rattle.opt_fs.specs.Opened.{blocks_in};
-    ghost use Rattle.opt_session.specs.Budget.{KeepsBudget, sync_places, writes_of};
+    ghost use Rattle.opt_session.specs.Budget.{KeepsBudget, sync_budget, sync_places, writes_of};
     ghost use Rattle.opt_session.specs.Serving.{HasServed, IsDrawn, IsMountedWith};
 
     /// Opens the file system of blocks that were just mounted, if a tree stands in them. It begins a run of no commands.
@@ -96,9 +96,12 @@ impl<S: Blocks + Drop> Served<S> {
     }
 
     /// Does nothing. A proof learns from the call that the record that a sync would write now takes no more ring places
-    /// than the transaction's weight does, and what holds of every map of blocks.
+    /// than the transaction's weight does, and stands for no more writes; that the point known to be durable isn't behind
+    /// the last one; and what holds of every map of blocks.
     pub fn lawful(&self)
         ensures places { commit_places (S.state (blocks_in self.now)).books ≤ sync_places (S.state (blocks_in self.now)).books.running.weight }
+        ensures writes { commit_writes (S.state (blocks_in self.now)).books ≤ sync_budget (S.state (blocks_in self.now)).books.running.weight }
+        ensures floor { (S.state (blocks_in self.now)).books.floor ≤ (S.state (blocks_in self.now)).books.point }
         ensures told { IsTrue S.tells → IsTold (S.state (blocks_in self.now)) }
     {
         // a call for its clause alone: these are the blocks of a file system on which a command may follow

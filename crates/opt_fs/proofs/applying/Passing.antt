@@ -20,6 +20,7 @@ nothing_issued s = record {
   left = λ t img. (λ x. x, λ x. x);
   holds = λ img m. (λ x. x, λ x. x);
   sure = λ log p. (λ x. x, λ x. x);
+  records = record { told = refl; starts = λ log n. (λ x. x, λ x. x) };
   issued = λ m. (λ x. x, λ x. x);
   awaits = λ p t. (λ x. x, λ x. x);
 }

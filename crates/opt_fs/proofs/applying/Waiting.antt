@@ -14,7 +14,7 @@ use Rattle.opt_tree.specs.declared.command.Reply.{Reply}
 use Rattle.opt_tree.specs.Step.{Session}
 use Rattle.opt_blocks.specs.Calls.{MovesPipeline, commit_places}
 use Rattle.opt_blocks.specs.Crashes.{AwaitsSince, HearsRecords}
-use Rattle.opt_blocks.specs.Effects.{FitsRing}
+use Rattle.opt_blocks.specs.Effects.{FitsRing, OrdersAtOnce}
 use Rattle.opt_blocks.specs.Running.{Running, payloads, fresh_blocks, record_places}
 use Rattle.opt_blocks.specs.State.{Bookkeeping, State, data_blocks, reusable_blocks}
 use Rattle.opt_fs.specs.Applying.{Began, NeedsNoWait, Runs, Ticks}
@@ -37,6 +37,10 @@ module _ (k l : Bookkeeping) (moves : MovesPipeline k l) where
   pub fits_still : FitsRing k → FitsRing l
   fits_still fits = omega (arith, fits, same_places, moves.free_places)
 
+  orders_still : OrdersAtOnce k → OrdersAtOnce l
+  orders_still (inl fits) = inl (fits_still fits)
+  orders_still (inr none) = inr (ap (λ (r : Running). r.weight) moves.running ∙ none)
+
 needs_still : (s t : State) (f : Session) (cmd : Cmd) → MovesPipeline s.books t.books → (figures_on s f cmd).need ≤ length (reusable_blocks s.books) → (figures_on t f cmd).need ≤ length (reusable_blocks t.books)
 needs_still s t f cmd moves enough =
     omega (arith, enough, ap (λ (g : Geometry). (figures_on (record s { books = record s.books { geom = g } }) f cmd).need) moves.geom, as_many_left s.books t.books moves)
@@ -55,7 +59,7 @@ module _ {S : Type 0} (tells : Bool) (state : S → State) (told : IsTrue tells)
 
   -- what it does once it began
   of_run : (f : Session) (cmd : Cmd) (result : Result Reply Refusal) (old mid new : S) → cmd ≢ Bad → Ticks tells false (state old) (state mid) → IsSession (state mid) f → NeedsNoWait (state old) f cmd → Runs tells state cmd result mid new → Writes mid new
-  of_run f Osync result old mid new good ticks h needs runs = runs.alone told refl (fits_still (state old).books (state mid).books ticks.moves.pipeline needs)
+  of_run f Osync result old mid new good ticks h needs runs = runs.alone told refl (orders_still (state old).books (state mid).books ticks.moves.pipeline needs)
   of_run f Dsync result old mid new good ticks h needs runs = absurd needs
   of_run f Durable result old mid new good ticks h needs runs = of_none mid new runs.1
   of_run f Poll result old mid new good ticks h needs runs = of_none mid new runs.1
@@ -112,4 +116,4 @@ module _ {S : Type 0} (tells : Bool) (state : S → State) (told : IsTrue tells)
       by : (Ticks tells true (state old) (state new) × (began.result ≡ Err because.DiskFault)) ⊎ (Ticks tells false (state old) (state began.mid) × Runs tells state Dsync began.result began.mid new) → Heard old p t
       by (inl failed) = inl (subst IsTrue (heard_same t p.log (state new).crash.log (failed.0.writes told p is).1) noticed)
       by (inr ran) = heard_by old began.mid new p t ran.0 (ran.0.writes told p is).1
-          (ran.1.waits told (ap (λ (m : Manner). m.waits_alone) ran.0.ticks.manner ∙ alone) (fits_still (state old).books (state began.mid).books ran.0.moves.pipeline fits)) noticed
+          (ran.1.waits told (ap (λ (m : Manner). m.waits_alone) ran.0.ticks.manner ∙ alone) (inl (fits_still (state old).books (state began.mid).books ran.0.moves.pipeline fits))) noticed

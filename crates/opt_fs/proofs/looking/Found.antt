@@ -39,6 +39,7 @@ looks_more tells failed s t u first second = record {
     left = λ n img. iff_on (b.left n img) (a.left n img);
     holds = λ img m. iff_on (b.holds img m) (a.holds img m);
     sure = λ log p. iff_on (b.sure log p) (a.sure log p);
+    records = record { told = b.records.told ∙ a.records.told; starts = λ log n. iff_on (b.records.starts log n) (a.records.starts log n) };
     issued = λ m. iff_on (b.issued m) (a.issued m);
     awaits = λ p n. iff_on (b.awaits p n) (a.awaits p n);
   };

@@ -1,5 +1,5 @@
 -- Over any map of blocks each command is answered in the room of its session with what waits, at the moment behind its tick and the one as it ends; or the disk fails it.
-use Rattle.std.proofs.Common.{◌≡◌, ◌≢◌, ◌⊎◌, inl, inr, ℕ, ◌<◌, Bool, true, false, Ok, Err, Result, refl, sym, subst, ap, ◌∙◌, arith}
+use Rattle.std.proofs.Common.{◌≡◌, ◌≢◌, ◌⊎◌, inl, inr, ℕ, ◌<◌, Bool, true, false, IsTrue, IfOk, OnOk, Ok, Err, Result, refl, sym, subst, ap, ◌∙◌, arith}
 use Rattle.std.proofs.lemmas.Bool.{cases_Bool, true≢false, false≢true}
 use Rattle.opt_disk.specs.Cell.{is_accepted}
 use Rattle.opt_disk.specs.Disk.{PollsThenWrites}
@@ -12,9 +12,10 @@ use Rattle.opt_tree.specs.declared.command.Refusal.TheVariants as because
 use Rattle.opt_tree.specs.declared.command.Reply.{Reply}
 use Rattle.opt_tree.specs.declared.command.Reply.TheVariants.{Refused}
 use Rattle.opt_tree.specs.Figures.{Figures}
-use Rattle.opt_tree.specs.Step.{Session, step}
+use Rattle.opt_tree.specs.Points.{is_refusal, is_sync}
+use Rattle.opt_tree.specs.Step.{Session, osync, step}
 use Rattle.opt_blocks.specs.Crashes.{Advances, AwaitsSince, IsTold}
-use Rattle.opt_blocks.specs.Effects.{FitsRing}
+use Rattle.opt_blocks.specs.Effects.{FitsRing, RingIsTold}
 use Rattle.opt_blocks.specs.Puts.{IsData}
 use Rattle.opt_blocks.specs.State.{State}
 use Rattle.opt_fs.specs.Applying.{Applies, Began, Runs, Ticks, is_spent, reply_for}
@@ -22,10 +23,11 @@ use Rattle.opt_fs.specs.Commands.{Carries, IsRefusedFor, is_disk_fault, is_on_tr
 use Rattle.opt_fs.specs.DiskRoom.{AnswersOver, IsRoomOf, SyncsOver}
 use Rattle.opt_fs.specs.Memory.{room_of}
 use Rattle.opt_fs.specs.Room.{Room, figures_in, left_in, most_weight}
-use Rattle.opt_fs.specs.Serving.{AnswersAt, AnyAt, BeginsAt, EndsSync, LeavesWaiting, Moment, RoomOn, SameWait, ServesCommand, SettlesRoom, TicksRoom, moment_of, room_on}
+use Rattle.opt_fs.specs.Serving.{AnswersAt, AnyAt, BeginsAt, EndsSync, LeavesWaiting, Moment, RoomOn, SameWait, ServesCommand, SettlesRoom, SyncsBehind, TicksRoom, moment_of, room_on}
 use Rattle.opt_fs.specs.Sessions.{IsSession}
 use Rattle.opt_fs.specs.Space.{FailsToFit, FitsIn, HasRoom}
 use Rattle.opt_fs.specs.Syncs.{SyncsSession}
+use Rattle.opt_fs.proofs.Logs.{grows_by_none}
 use Rattle.opt_fs.proofs.applying.Passing.{of_run}
 use Rattle.opt_fs.proofs.applying.Ticked.{session_ticks}
 use Rattle.opt_fs.proofs.applying.Waiting.{fits_still}
@@ -72,6 +74,14 @@ awaits_since old mid new told point first then p t waits = by (then.awaits p t w
     by : mid.crash.awaits p t ⊎ AwaitsSince mid p t → old.crash.awaits p t ⊎ ((old.books.point < p) × (is_accepted t mid.crash.log ≡ false))
     by (inl waits) = before waits (first.awaits p t waits)
     by (inr since) = inr (omega (arith, since.point, point), since.ticket)
+
+-- a tick, which made no point, makes none wait
+still_awaits : (old mid : State) → IsTold mid → mid.books.point ≡ old.books.point → Advances old mid → (p t : ℕ) → mid.crash.awaits p t → old.crash.awaits p t
+still_awaits old mid told point first p t waits = by (first.awaits p t waits)
+  where
+    by : old.crash.awaits p t ⊎ AwaitsSince old p t → old.crash.awaits p t
+    by (inl was) = was
+    by (inr since) = absurd (omega (arith, since.point, (told.awaits p t waits).upto, point))
 
 -- nothing settles for what is refused for want of room
 abbrev pub SettlesNoneFor : Geometry → Session → RoomOn → RoomOn → Cmd → Reply → Type 0
@@ -306,6 +316,69 @@ module _ {S : Type 0} (tells : Bool) (state : S → State) (known : Known tells 
       geom : (state mid).books.geom ≡ (state old).books.geom
       geom = ticks.moves.pipeline.geom
 
+  -- what a sync did behind its tick
+  of_synced : (orders : Bool) (f : Session) (cmd : Cmd) (result : Result Reply Refusal) (s new : S) → is_refusal (step f cmd).1 ≡ false → (cmd ≡ Osync → IsTrue orders) → IsSession (state s) f → SyncsSession tells orders cmd result (state s) (state new) → SyncsBehind cmd (reply_for result) (state s) (state new)
+  of_synced orders f cmd result s new done only h syncs = record {
+    orders = λ is at_once. syncs.alone known.told (only is) at_once;
+    hears = λ alone at_once. syncs.waits known.told alone at_once;
+    written = λ well. by_reply result well (syncs.written known.told);
+    unwritten = λ memory. syncs.unwritten known.told (without result memory (syncs.done known.told));
+  }
+    where
+      by_reply : {P : Type 0} (r : Result Reply Refusal) → is_refusal (reply_for r) ≡ false → OnOk r P → P
+      by_reply (Ok reply) well p = p
+      by_reply (Err why) well p = absurd (true≢false well)
+
+      without : (r : Result Reply Refusal) → reply_for r ≡ Refused because.NoMemory → IfOk r (λ reply. (f : Session) → IsSession (state s) f → (reply ≡ (step f cmd).1) × IsSession (state new) (step f cmd).0) → r ≡ Err because.NoMemory
+      without (Ok reply) memory is = absurd (true≢false (sym (ap is_refusal memory) ∙ ap is_refusal (is f h).0 ∙ done))
+      without (Err why) memory is = ap (λ w. Err w) (why_is why memory)
+        where
+          why_is : (why : Refusal) → Refused why ≡ Refused because.NoMemory → why ≡ because.NoMemory
+          why_is why e = search
+
+  syncs_behind : (f : Session) (cmd : Cmd) (result : Result Reply Refusal) (s new : S) → is_sync cmd ≡ true → IsSession (state s) f → Runs tells state cmd result s new → SyncsBehind cmd (reply_for result) (state s) (state new)
+  syncs_behind f Osync result s new of h runs = of_synced true f Osync result s new (done f f.changed) (λ is. refl) h runs
+    where
+      done : (g : Session) (b : Bool) → is_refusal (osync g b).1 ≡ false
+      done g true = refl
+      done g false = refl
+  syncs_behind f Dsync result s new of h runs = of_synced false f Dsync result s new refl (λ is. absurd (apart is)) h runs
+    where
+      only_orders : Cmd → Bool
+      only_orders Osync = true
+      only_orders _ = false
+
+      apart : Dsync ≡ Osync → ⊥
+      apart e = false≢true (ap only_orders e)
+  syncs_behind f Durable result s new of h runs = absurd (false≢true of)
+  syncs_behind f Poll result s new of h runs = absurd (false≢true of)
+  syncs_behind f (Mkdir path) result s new of h runs = absurd (false≢true of)
+  syncs_behind f (Create path) result s new of h runs = absurd (false≢true of)
+  syncs_behind f (Write path offset bytes) result s new of h runs = absurd (false≢true of)
+  syncs_behind f (Fill path offset count byte) result s new of h runs = absurd (false≢true of)
+  syncs_behind f (Read path offset count) result s new of h runs = absurd (false≢true of)
+  syncs_behind f (Truncate path size) result s new of h runs = absurd (false≢true of)
+  syncs_behind f (Link path other) result s new of h runs = absurd (false≢true of)
+  syncs_behind f (Unlink path) result s new of h runs = absurd (false≢true of)
+  syncs_behind f (Rmdir path) result s new of h runs = absurd (false≢true of)
+  syncs_behind f (Rename from to) result s new of h runs = absurd (false≢true of)
+  syncs_behind f (Stat path) result s new of h runs = absurd (false≢true of)
+  syncs_behind f (ListNames path) result s new of h runs = absurd (false≢true of)
+  syncs_behind f Bad result s new of h runs = absurd (false≢true of)
+
+  -- where the tick was all, nothing came behind it
+  ticks_alone : (cmd : Cmd) (reply : Reply) (s : S) → reply ≡ Refused because.DiskFault → SyncsBehind cmd reply (state s) (state s)
+  ticks_alone cmd reply s fault = record {
+    orders = λ is at_once. grows_by_none (state s).crash.log (state s).crash.log refl;
+    hears = λ alone at_once t came. inl came;
+    written = λ well. absurd (true≢false (sym (ap is_refusal fault) ∙ well));
+    unwritten = λ memory. refl;
+  }
+
+  -- a sync is no bad line
+  sync_is_good : (cmd : Cmd) → is_sync cmd ≡ true → cmd ≢ Bad
+  sync_is_good cmd of bad = false≢true (sym (ap is_sync bad) ∙ of)
+
   -- The moments, where calls of these blocks compose, and time goes on where nothing is done.
   module _ (compose : (a b c : S) → Advances (state a) (state b) → Advances (state b) (state c) → Advances (state a) (state c)) (still : (s : S) → Advances (state s) (state s)) where
     abbrev ServesOver : Session → Cmd → Reply → S → S → Type 0
@@ -319,8 +392,9 @@ module _ {S : Type 0} (tells : Bool) (state : S → State) (known : Known tells 
         at s = moment_of (state s)
 
         -- the disk failed it
-        fails : (s : S) → reply ≡ Refused because.DiskFault → Advances (state old) (state s) → Advances (state s) (state new) → Ticks tells true (state old) (state s) ⊎ Ticks tells false (state old) (state s) → ServesOver f cmd reply old new
-        fails s is first then ticks =
+        fails : (s : S) → reply ≡ Refused because.DiskFault → Advances (state old) (state s) → Advances (state s) (state new) → Ticks tells true (state old) (state s) ⊎ Ticks tells false (state old) (state s)
+            → ((state old).counts.ticks.manner.waits_alone ≡ true → RingIsTold (state s) ⊎ ((new ≡ s) × (reply ≡ Refused because.DiskFault))) → (is_sync cmd ≡ true → SyncsBehind cmd reply (state s) (state new)) → ServesOver f cmd reply old new
+        fails s is first then ticks ring sync =
             let x = begun_over tells state known f cmd reply old new good going h began in (
               x.0,
               x.1,
@@ -331,6 +405,11 @@ module _ {S : Type 0} (tells : Bool) (state : S → State) (known : Known tells 
                 goes_on = then;
                 manner = manner ticks;
                 fits = fits ticks;
+                geom = geom ticks;
+                running = running ticks;
+                ring = λ some alive unspent. ring;
+                sync = λ of alive unspent. sync of;
+                still = still_awaits (state old) (state s) (known.agrees s) (no_point ticks) first;
                 awaits = λ p t waits. awaits_since (state old) (state s) (state new) (known.agrees s) (no_point ticks) first then p t waits;
                 ticks = λ some alive unspent. writes ticks;
                 answers = answers_at (state old).books.geom (at s) (at new) f (room_on (state old)) cmd reply x.0 (room_on (state new)) good (inr (inl (is, x.3)));
@@ -349,12 +428,21 @@ module _ {S : Type 0} (tells : Bool) (state : S → State) (known : Known tells 
             manner (inl failed) = failed.ticks.manner
             manner (inr well) = well.ticks.manner
 
+            geom : Ticks tells true (state old) (state s) ⊎ Ticks tells false (state old) (state s) → (state s).books.geom ≡ (state old).books.geom
+            geom (inl failed) = failed.moves.pipeline.geom
+            geom (inr well) = well.moves.pipeline.geom
+
+            running : Ticks tells true (state old) (state s) ⊎ Ticks tells false (state old) (state s) → (state s).books.running ≡ (state old).books.running
+            running (inl failed) = failed.moves.pipeline.running
+            running (inr well) = well.moves.pipeline.running
+
             fits : Ticks tells true (state old) (state s) ⊎ Ticks tells false (state old) (state s) → FitsRing (state old).books → FitsRing (state s).books
             fits (inl failed) = fits_still (state old).books (state s).books failed.moves.pipeline
             fits (inr well) = fits_still (state old).books (state s).books well.moves.pipeline
 
         goes : (s : S) (result : Result Reply Refusal) → reply ≡ reply_for result → Ticks tells false (state old) (state s) → Runs tells state cmd result s new → (is_disk_fault result ≡ true) ⊎ (is_disk_fault result ≡ false) → ServesOver f cmd reply old new
         goes s result is ticks runs (inl fault) = fails s (is ∙ fault_reply result fault) (ticks.moves.crash known.told) (of_run tells state known.told compose still cmd result s new runs).advances (inr ticks)
+            (λ alone. inl (ticks.ring known.told alone refl)) (λ of. subst (λ (r : Reply). SyncsBehind cmd r (state s) (state new)) (sym is) (syncs_behind f cmd result s new of (session_ticks tells false (state old) (state s) ticks f going known.told h) runs))
         goes s result is ticks runs (inr well) =
             let same = session_ticks tells false (state old) (state s) ticks f going known.told h in
             let x = begins_at f cmd (reply_for result) old s new ticks same (run_at f result s new well same cmd good ticks.moves.disk.stopped runs) in (
@@ -367,6 +455,11 @@ module _ {S : Type 0} (tells : Bool) (state : S → State) (known : Known tells 
                 goes_on = (of_run tells state known.told compose still cmd result s new runs).advances;
                 manner = ticks.ticks.manner;
                 fits = fits_still (state old).books (state s).books ticks.moves.pipeline;
+                geom = ticks.moves.pipeline.geom;
+                running = ticks.moves.pipeline.running;
+                ring = λ some alive unspent alone. inl (ticks.ring known.told alone refl);
+                sync = λ of alive unspent. subst (λ (r : Reply). SyncsBehind cmd r (state s) (state new)) (sym is) (syncs_behind f cmd result s new of same runs);
+                still = still_awaits (state old) (state s) (known.agrees s) ticks.moves.pipeline.point (ticks.moves.crash known.told);
                 awaits = λ p t waits. awaits_since (state old) (state s) (state new) (known.agrees s) ticks.moves.pipeline.point (ticks.moves.crash known.told) (of_run tells state known.told compose still cmd result s new runs).advances p t waits;
                 ticks = λ some alive unspent. ticks.writes known.told;
                 answers = subst (λ (r : Reply). AnswersAt (state old).books.geom (at s) (at new) f (room_on (state old)) cmd r x.0 (room_on (state new))) (sym is)
@@ -375,7 +468,7 @@ module _ {S : Type 0} (tells : Bool) (state : S → State) (known : Known tells 
             )
 
         by : (Ticks tells true (state old) (state new) × (began.result ≡ Err because.DiskFault)) ⊎ (Ticks tells false (state old) (state began.mid) × Runs tells state cmd began.result began.mid new) → ServesOver f cmd reply old new
-        by (inl failed) = fails new (began.is ∙ ap reply_for failed.1) (failed.0.moves.crash known.told) (still new) (inl failed.0)
+        by (inl failed) = fails new (began.is ∙ ap reply_for failed.1) (failed.0.moves.crash known.told) (still new) (inl failed.0) (λ alone. inr (refl, began.is ∙ ap reply_for failed.1)) (λ of. ticks_alone cmd reply new (began.is ∙ ap reply_for failed.1))
         by (inr ran) = goes began.mid began.result began.is ran.0 ran.1 (cases_Bool (is_disk_fault began.result))
 
     -- where nothing is done, nothing serves
@@ -391,6 +484,11 @@ module _ {S : Type 0} (tells : Bool) (state : S → State) (known : Known tells 
         goes_on = still old;
         manner = refl;
         fits = λ fits. fits;
+        geom = refl;
+        running = refl;
+        ring = λ some alive unspent. absurd (never some alive unspent);
+        sync = λ of alive unspent. absurd (never (sync_is_good cmd of) alive unspent);
+        still = λ p t waits. waits;
         awaits = λ p t waits. inl waits;
         ticks = λ some alive unspent. absurd (never some alive unspent);
         answers = answers;

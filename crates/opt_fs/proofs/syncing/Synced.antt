@@ -1,6 +1,6 @@
 -- What a sync makes of the session: a point where something changed, and nothing where nothing did.
 use Rattle.std.proofs.lemmas.Bool.{ltb-true, ltb-false, eq-eqb, ne_eqb, cond-true, cond-false, cases_eq, true≢false, false≢true}
-use Rattle.std.proofs.Common.{◌≡◌, ◌≢◌, ◌⊎◌, inl, inr, ℕ, ◌+◌, ◌^◌, ◌≤◌, ◌<◌, ◌==◌, nat_lt, Bool, true, false, IsTrue, zero, suc, is_err, Result, Ok, Err, refl, sym, subst, ap, ◌∙◌, arith}
+use Rattle.std.proofs.Common.{◌≡◌, ◌≢◌, ◌⊎◌, inl, inr, ⊎_elim, ℕ, ◌+◌, ◌^◌, ◌≤◌, ◌<◌, ◌==◌, nat_lt, Bool, true, false, IsTrue, zero, suc, is_err, Result, Ok, Err, refl, sym, subst, ap, ◌∙◌, arith}
 use Rattle.opt_disk.specs.Disk.{GrowsByWrites}
 use Rattle.opt_geom.specs.Geometry.{Geometry}
 use Rattle.opt_tree.specs.declared.command.Cmd.{Cmd}
@@ -11,18 +11,18 @@ use Rattle.opt_tree.specs.declared.command.Reply.{Reply}
 use Rattle.opt_tree.specs.declared.command.Reply.TheVariants.{Synced, DurableAt}
 use Rattle.opt_tree.specs.Step.{Session, step, next_point, osync}
 use Rattle.opt_blocks.specs.Running.{Running, nothing_running}
-use Rattle.opt_blocks.specs.State.{Bookkeeping, State}
+use Rattle.opt_blocks.specs.State.{Bookkeeping, Counts, State}
 use Rattle.opt_blocks.specs.Calls.{if_changed, IsAfterSync, OnNoMemory}
 use Rattle.opt_blocks.specs.Serving.{EndsFrees}
 use Rattle.opt_blocks.specs.Crashes.{HearsRecords}
-use Rattle.opt_blocks.specs.Effects.{FitsRing, Syncs}
+use Rattle.opt_blocks.specs.Effects.{ChangesNothing, FitsRing, OrdersAtOnce, Syncs, WritesItsRecord}
 use Rattle.opt_blocks.specs.declared.refusals.SyncRefusal.{SyncRefusal}
 use Rattle.opt_blocks.specs.declared.refusals.SyncRefusal.TheVariants as sync
 use Rattle.opt_files.specs.Finish.{MayGoOn}
 use Rattle.opt_fs.specs.Commands.{is_disk_fault}
 use Rattle.opt_fs.specs.Sessions.{IsSession, IsBetween}
 use Rattle.opt_fs.specs.Syncs.{SyncsSession, refusal_of_sync}
-use Rattle.opt_fs.proofs.Logs.{heard_same}
+use Rattle.opt_fs.proofs.Logs.{grows_by_none, heard_same}
 use Rattle.opt_fs.proofs.carrying.Staying.{tree_stays, session_stays, between_stays}
 
 changed_is : {T : Type 0} (r : Running) (x y : T) → 0 < r.weight → if_changed r x y ≡ x
@@ -113,20 +113,20 @@ some_weighed (suc w) none = omega arith
 
 -- How long a sync waits, and for what, where its record fits the free ring places.
 pub record Waits (tells orders : Bool) (s t : State) : Type 0 where
-  pub order : IsTrue orders → FitsRing s.books → t.counts.waits ≡ s.counts.waits
-  pub alone : IsTrue tells → IsTrue orders → FitsRing s.books → GrowsByWrites s.crash.log t.crash.log
-  pub records : IsTrue tells → s.counts.ticks.manner.waits_alone ≡ true → FitsRing s.books → HearsRecords s t
+  pub order : IsTrue orders → OrdersAtOnce s.books → t.counts.waits ≡ s.counts.waits
+  pub alone : IsTrue tells → IsTrue orders → OrdersAtOnce s.books → GrowsByWrites s.crash.log t.crash.log
+  pub records : IsTrue tells → s.counts.ticks.manner.waits_alone ≡ true → OrdersAtOnce s.books → HearsRecords s t
 
 -- one that only orders has no notice
-pub orders_so : (tells : Bool) (s t : State) → (FitsRing s.books → t.counts.waits ≡ s.counts.waits) → (IsTrue tells → FitsRing s.books → GrowsByWrites s.crash.log t.crash.log) → Waits tells true s t
-orders_so tells s t order writes = record {
-  order = λ orders. order;
-  alone = λ told orders. writes told;
-  records = λ told alone fits n noticed. let w = writes told fits in inl (subst IsTrue (heard_same n s.crash.log t.crash.log w) noticed);
+pub orders_so : (tells : Bool) (s t : State) → (FitsRing s.books → t.counts.waits ≡ s.counts.waits) → (IsTrue tells → FitsRing s.books → GrowsByWrites s.crash.log t.crash.log) → (s.books.running.weight ≡ 0 → ChangesNothing tells s t) → Waits tells true s t
+orders_so tells s t order writes idles = record {
+  order = λ orders. ⊎_elim order (λ none. ap (λ (c : Counts). c.waits) (idles none).disk.counts);
+  alone = λ told orders. ⊎_elim (writes told) (λ none. grows_by_none s.crash.log t.crash.log ((idles none).disk.crash told).log);
+  records = λ told alone at_once n noticed. let w = ⊎_elim (writes told) (λ none. grows_by_none s.crash.log t.crash.log ((idles none).disk.crash told).log) at_once in inl (subst IsTrue (heard_same n s.crash.log t.crash.log w) noticed);
 }
 
 -- one that waits may do so for records alone
-pub waits_so : (tells : Bool) (s t : State) → (IsTrue tells → s.counts.ticks.manner.waits_alone ≡ true → FitsRing s.books → HearsRecords s t) → Waits tells false s t
+pub waits_so : (tells : Bool) (s t : State) → (IsTrue tells → s.counts.ticks.manner.waits_alone ≡ true → OrdersAtOnce s.books → HearsRecords s t) → Waits tells false s t
 waits_so tells s t records = record {
   order = λ orders. absurd (false≢true orders);
   alone = λ told orders. absurd (false≢true orders);
@@ -153,6 +153,8 @@ refused_session tells orders cmd s t sync.DiskFault going syncs idle waits = rec
   order = waits.order;
   alone = waits.alone;
   waits = waits.records;
+  written = λ told. tt;
+  unwritten = λ told none. absurd (no_memory_fault (Err because.DiskFault) refl none);
   free_places = tt;
   crash = syncs.crash;
   made = syncs.made;
@@ -176,6 +178,8 @@ refused_session tells orders cmd s t sync.NoMemory going syncs idle waits = reco
   order = waits.order;
   alone = waits.alone;
   waits = waits.records;
+  written = λ told. tt;
+  unwritten = λ told none. (syncs.none.disk.crash told).log;
   free_places = tt;
   crash = syncs.crash;
   made = syncs.made;
@@ -183,8 +187,8 @@ refused_session tells orders cmd s t sync.NoMemory going syncs idle waits = reco
 }
 
 -- A sync that was done, as its session sees it.
-pub synced_session : (tells : Bool) (s t : State) (p : ℕ) → s.books.stopped ≡ false → Syncs tells (Ok p) s t → p < 2 ^ 64 → Waits tells true s t → (IsTrue tells → EndsFrees s t) → SyncsSession tells true Osync (Ok (Synced p)) s t
-synced_session tells s t p going syncs low waits frees = record {
+pub synced_session : (tells : Bool) (s t : State) (p : ℕ) → s.books.stopped ≡ false → Syncs tells (Ok p) s t → p < 2 ^ 64 → Waits tells true s t → (IsTrue tells → EndsFrees s t) → (IsTrue tells → WritesItsRecord s t) → SyncsSession tells true Osync (Ok (Synced p)) s t
+synced_session tells s t p going syncs low waits frees written = record {
   done = λ told f h. synced tells s t f p told going syncs low h;
   kept = λ told. tt;
   refused = tt;
@@ -202,14 +206,16 @@ synced_session tells s t p going syncs low waits frees = record {
   order = waits.order;
   alone = waits.alone;
   waits = waits.records;
+  written = written;
+  unwritten = λ told none. absurd (ok_err (Synced p) because.NoMemory none);
   free_places = syncs.ends.free_places;
   crash = syncs.crash;
   made = syncs.made;
   writes = syncs.writes;
 }
 
-pub dsynced_session : (tells : Bool) (s t : State) (p : ℕ) → s.books.stopped ≡ false → Syncs tells (Ok p) s t → p < 2 ^ 64 → t.books.floor ≡ t.books.point → Waits tells false s t → (IsTrue tells → EndsFrees s t) → SyncsSession tells false Dsync (Ok (DurableAt p)) s t
-dsynced_session tells s t p going syncs low floor waits frees = record {
+pub dsynced_session : (tells : Bool) (s t : State) (p : ℕ) → s.books.stopped ≡ false → Syncs tells (Ok p) s t → p < 2 ^ 64 → t.books.floor ≡ t.books.point → Waits tells false s t → (IsTrue tells → EndsFrees s t) → (IsTrue tells → WritesItsRecord s t) → SyncsSession tells false Dsync (Ok (DurableAt p)) s t
+dsynced_session tells s t p going syncs low floor waits frees written = record {
   done = λ told f h. dsynced tells s t f p told going syncs low h floor syncs.disk.stopped;
   kept = λ told. tt;
   refused = tt;
@@ -227,6 +233,8 @@ dsynced_session tells s t p going syncs low floor waits frees = record {
   order = waits.order;
   alone = waits.alone;
   waits = waits.records;
+  written = written;
+  unwritten = λ told none. absurd (ok_err (DurableAt p) because.NoMemory none);
   free_places = syncs.ends.free_places;
   crash = syncs.crash;
   made = syncs.made;

@@ -11,7 +11,7 @@ returns-in-Ok-clause-syncs g c =
     let s = g.S.Blocks.state c.args.blocks.now in
     let t = g.S.Blocks.state c.dsync.new.self in
     subst (λ (r : Reply). SyncsSession g.S.Blocks.tells false Dsync (Ok r) s t) (sym c.durable_at.ensures.reply)
-    (dsynced_session g.S.Blocks.tells s t c.in-Ok.point c.requires.may.going c.in-Ok.ensures.syncs c.durable_at.ensures.low c.in-Ok.ensures.durable (waits_so g.S.Blocks.tells s t c.in-Ok.ensures.waits) c.in-Ok.ensures.frees)
+    (dsynced_session g.S.Blocks.tells s t c.in-Ok.point c.requires.may.going c.in-Ok.ensures.syncs c.durable_at.ensures.low c.in-Ok.ensures.durable (waits_so g.S.Blocks.tells s t c.in-Ok.ensures.waits) c.in-Ok.ensures.frees c.in-Ok.ensures.written)
 
 pub returns-in-Ok-clause-between : goal.returns-in-Ok-clause-between
 returns-in-Ok-clause-between g c =

@@ -11,7 +11,7 @@ returns-in-Ok-clause-syncs g c =
     let s = g.S.Blocks.state c.args.blocks.now in
     let t = g.S.Blocks.state c.osync.new.self in
     subst (λ (r : Reply). SyncsSession g.S.Blocks.tells true Osync (Ok r) s t) (sym c.synced.ensures.reply)
-    (synced_session g.S.Blocks.tells s t c.in-Ok.point c.requires.may.going c.in-Ok.ensures.syncs c.synced.ensures.low (orders_so g.S.Blocks.tells s t c.in-Ok.ensures.order c.in-Ok.ensures.writes) c.in-Ok.ensures.frees)
+    (synced_session g.S.Blocks.tells s t c.in-Ok.point c.requires.may.going c.in-Ok.ensures.syncs c.synced.ensures.low (orders_so g.S.Blocks.tells s t c.in-Ok.ensures.order c.in-Ok.ensures.writes c.in-Ok.ensures.idles) c.in-Ok.ensures.frees c.in-Ok.ensures.written)
 
 pub returns-in-Ok-clause-between : goal.returns-in-Ok-clause-between
 returns-in-Ok-clause-between g c =
@@ -22,7 +22,7 @@ returns-in-Err-clause-syncs g c =
     let s = g.S.Blocks.state c.args.blocks.now in
     let t = g.S.Blocks.state c.osync.new.self in
     subst (λ (why : Refusal). SyncsSession g.S.Blocks.tells true Osync (Err why) s t) (sym c.refusal_of_sync.ensures)
-    (refused_session g.S.Blocks.tells true Osync s t c.in-Err.why c.requires.may.going c.in-Err.ensures.syncs (λ idle. absurd (ok_err s.books.point c.in-Err.why (sym (c.in-Err.ensures.idle idle)))) (orders_so g.S.Blocks.tells s t c.in-Err.ensures.order c.in-Err.ensures.writes))
+    (refused_session g.S.Blocks.tells true Osync s t c.in-Err.why c.requires.may.going c.in-Err.ensures.syncs (λ idle. absurd (ok_err s.books.point c.in-Err.why (sym (c.in-Err.ensures.idle idle)))) (orders_so g.S.Blocks.tells s t c.in-Err.ensures.order c.in-Err.ensures.writes c.in-Err.ensures.idles))
 
 pub returns-in-Err-clause-between : goal.returns-in-Err-clause-between
 returns-in-Err-clause-between g c =
