@@ -12,7 +12,7 @@ use Rattle.opt_store.specs.declared.formatting.MkfsRefusal.{MkfsRefusal}
 use Rattle.opt_store.specs.declared.formatting.MkfsRefusal.TheVariants as mkfs
 use Rattle.opt_store.specs.Formatting.{AddsFormatting, MkfsSpends, WritesBelow}
 use Rattle.opt_show.specs.Images.{StandsMounted}
-use Rattle.opt_show.specs.Shows.{CountsFault}
+use Rattle.opt_show.specs.Shows.{CountsFault, FailedByManner}
 use Rattle.opt_make.specs.declared.refusal.MakeRefusal.{MakeRefusal}
 use Rattle.opt_make.specs.declared.refusal.MakeRefusal.TheVariants.{Fault, NoMemory}
 
@@ -74,3 +74,7 @@ abbrev pub HasMakeCause : {T : Type 0} → Result T MakeRefusal → BayState →
 HasMakeCause (Ok x) old new = new.disk_faults ≡ old.disk_faults
 HasMakeCause (Err Fault) old new = CountsFault old new
 HasMakeCause (Err NoMemory) old new = new.disk_faults ≡ old.disk_faults
+
+-- what a fault comes of, where the bay tells: calls of the bay may fail; or a disk was made under the name and handed back, and a call of it had failed as its manner lets it
+abbrev pub HasMakeReason : Bool → List ℕ → Geometry → Result (Unit {0}) MakeRefusal → BayState → BayState → Type 0
+HasMakeReason tells name g result old new = IsTrue old.may_fail ⊎ ((b : HandsBack tells name g result old new) × FailedByManner b.last)

@@ -5,7 +5,8 @@ ghost use Rattle.std.specs.Prelude.{◌≡◌, IsTrue, [], Ok, Err, Result, IfOk
 ghost use Rattle.opt_disk.specs.declared.bay.BayFault.{BayFault as Failure};
 ghost use Rattle.opt_disk.specs.Bay.{Closes, Makes, SameElsewhere};
 ghost use Rattle.opt_show.specs.Shows.{HasImage};
-ghost use Rattle.opt_make.specs.Makes.{HasMakeCause, IsFormattedImage, LeavesBay, answer_of, of_bay};
+ghost use Rattle.opt_make.specs.declared.refusal.MakeRefusal.TheVariants.{Fault};
+ghost use Rattle.opt_make.specs.Makes.{HasMakeCause, HasMakeReason, IsFormattedImage, LeavesBay, answer_of, of_bay};
 
 use crate::laws::a_formatted_image_can_be_mounted;
 use crate::refusal::{MakeRefusal, of_bay, of_mkfs};
@@ -23,6 +24,8 @@ use std::alloc::Global;
 ///
 /// # Errors
 /// `Fault` comes of a call of the bay or of the disk that failed, which was counted, and `NoMemory` of want of memory.
+/// Where the bay tells, `Fault` comes only where the bay's calls may fail, or a call of the disk failed as the disk's
+/// manner lets it.
 /// Where the bay made no disk, the image under the name is as it was. Where a disk was made, the zeros or what the disk
 /// left of them are under the name.
 pub fn make_image<B: Bay>(
@@ -35,6 +38,7 @@ pub fn make_image<B: Bay>(
     ensures back { LeavesBay B.tells name.now geom.now result (B.state bay.old) (B.state bay.new) }
     ensures others { IsTrue B.tells → SameElsewhere name.now (B.state bay.old) (B.state bay.new) }
     ensures cause { HasMakeCause result (B.state bay.old) (B.state bay.new) }
+    ensures reason { IsTrue B.tells → result ≡ Err Fault → HasMakeReason B.tells name.now geom.now result (B.state bay.old) (B.state bay.new) }
 {
     geom.lawful();
     the_formatted_disk_is_empty();

@@ -1,21 +1,27 @@
 -- What becomes of the bay once a script was run over a disk of it, which went back; and where none was handed out.
-use Rattle.std.proofs.Common.{◌≡◌, ◌⊎◌, inl, inr, ℕ, ◌<◌, ◌≤◌, Bool, true, false, if◌then◌else◌, List, [], Option, None, Some, Result, Ok, Err, refl, sym, ap, ◌∙◌, subst, arith}
+use Rattle.std.proofs.Common.{◌≡◌, ◌⊎◌, inl, inr, ℕ, ◌<◌, ◌≤◌, nat_lt, Bool, true, false, IsTrue, if◌then◌else◌, List, [], Option, None, Some, Result, Ok, Err, refl, sym, ap, ◌∙◌, subst, arith}
+use Rattle.std.proofs.lemmas.Bool.{false≢true, ltb-true, or_cases}
 use Rattle.std.proofs.lemmas.Result.{err_from_is_err_and}
 use Rattle.std.specs.Result.{IsErrAnd}
 use Rattle.opt_base.specs.Counts.{next_count}
 use Rattle.opt_disk.specs.declared.bay.Mark.{Mark}
 use Rattle.opt_disk.specs.declared.bay.BayFault.{BayFault}
 use Rattle.opt_disk.specs.declared.bay.BayFault.TheVariants as bay
-use Rattle.opt_disk.specs.Bay.{BayState, BeginsWith, Closes, Kept, Opens, has_faults}
-use Rattle.opt_disk.specs.Disk.{State}
+use Rattle.opt_disk.specs.Bay.{BayState, BeginsWith, Closes, HasBlocks, Kept, Opens, has_faults}
+use Rattle.opt_disk.specs.Disk.{State, HasFailed}
 use Rattle.opt_show.specs.Mounted.{IsFresh}
-use Rattle.opt_show.specs.Shows.{CountsFault}
+use Rattle.opt_show.specs.Shows.{CountsFault, FailedByManner, MayFailToOpen}
 use Rattle.opt_run.specs.declared.ending.Ending.{Ending}
 use Rattle.opt_run.specs.declared.ending.Ending.TheVariants.{End, SourceFault, LongInput}
 use Rattle.opt_run.specs.declared.ending.RunRefusal.{RunRefusal}
 use Rattle.opt_run.specs.declared.ending.RunRefusal.TheVariants.{Fault, Damaged, Spent, SinkFault, NoMemory}
-use Rattle.opt_run.specs.Refusals.{answer_of, fails_pushing, of_bay, opens_nothing}
-use Rattle.opt_run.specs.Runs.{ComesOf, ComesOfDisk, CountsFaults, HasRunCause, Streams}
+use Rattle.opt_run.specs.Refusals.{answer_of, fails_pushing, is_fault, of_bay, opens_nothing}
+use Rattle.opt_run.specs.Runs.{ComesOf, ComesOfDisk, CountsFaults, HandsBack, HasRunCause, HasRunReason, Streams}
+
+-- whether the answer is a fault
+faulty : Result Ending RunRefusal → Bool
+faulty (Ok ending) = false
+faulty (Err why) = is_fault why
 
 -- No disk was handed out.
 
@@ -23,6 +29,7 @@ use Rattle.opt_run.specs.Runs.{ComesOf, ComesOfDisk, CountsFaults, HasRunCause, 
 pub record RefusesUnlent (tells : Bool) (why : RunRefusal) (name : List ℕ) (old new : BayState) (streams : Streams) : Type 0 where
   pub comes : ComesOf tells name (Err why) old new streams streams
   pub cause : HasRunCause (Err why) old new
+  pub reason : IsTrue tells → is_fault why ≡ true → MayFailToOpen name old
   pub counts : CountsFaults (Err why) streams streams
   pub opened : opens_nothing (Err why) ≡ false
 
@@ -31,6 +38,7 @@ pub unasked : (tells : Bool) (name : List ℕ) (old : BayState) (streams : Strea
 unasked tells name old streams = record {
   comes = inl (record { none = record { kept = λ t each. refl; faults = omega arith; disk_faults = refl; handed = refl; closed = refl }; same = refl; answer = inr refl });
   cause = tt;
+  reason = λ t is. absurd (false≢true is);
   counts = record { source = omega arith; rises = omega arith; sink = refl };
   opened = refl;
 }
@@ -40,12 +48,14 @@ pub unlent : {D : Type 0} (state : D → State) (tells : Bool) (name : List ℕ)
 unlent state tells name bay.Fault old new streams opens = record {
   comes = inl (record { none = record { kept = opens.kept; faults = opens.cause.0; disk_faults = opens.disk_faults; handed = opens.handed; closed = opens.closed }; same = refl; answer = inl refl });
   cause = inl opens.cause.1;
+  reason = λ t is. opens.fails t;
   counts = record { source = omega arith; rises = omega arith; sink = refl };
   opened = refl;
 }
 unlent state tells name bay.NoMemory old new streams opens = record {
   comes = inl (record { none = record { kept = opens.kept; faults = opens.cause.0; disk_faults = opens.disk_faults; handed = opens.handed; closed = opens.closed }; same = refl; answer = inr refl });
   cause = tt;
+  reason = λ t is. absurd (false≢true is);
   counts = record { source = omega arith; rises = omega arith; sink = refl };
   opened = refl;
 }
@@ -54,11 +64,13 @@ unlent state tells name bay.NoMemory old new streams opens = record {
 pub record AnswersUnlent (tells : Bool) (result : Result Ending RunRefusal) (name : List ℕ) (old new : BayState) (streams : Streams) : Type 0 where
   pub comes : ComesOf tells name result old new streams streams
   pub cause : HasRunCause result old new
+  pub reason : IsTrue tells → result ≡ Err Fault → MayFailToOpen name old
   pub counts : CountsFaults result streams streams
   pub opened : opens_nothing result ≡ false
 
 answers_unlent : (tells : Bool) (result : Result Ending RunRefusal) (why : RunRefusal) (name : List ℕ) (old new : BayState) (streams : Streams) → result ≡ Err why → RefusesUnlent tells why name old new streams → AnswersUnlent tells result name old new streams
-answers_unlent tells result why name old new streams is h = subst (λ (r : Result Ending RunRefusal). AnswersUnlent tells r name old new streams) (sym is) (record { comes = h.comes; cause = h.cause; counts = h.counts; opened = h.opened })
+unfolding faulty
+answers_unlent tells result why name old new streams is h = subst (λ (r : Result Ending RunRefusal). AnswersUnlent tells r name old new streams) (sym is) (record { comes = h.comes; cause = h.cause; reason = λ t same. h.reason t (ap faulty same); counts = h.counts; opened = h.opened })
 
 pub unasked_by : (tells : Bool) (result : Result Ending RunRefusal) (name : List ℕ) (old : BayState) (streams : Streams) → IsErrAnd result (λ w. w ≡ NoMemory) → AnswersUnlent tells result name old old streams
 unasked_by tells result name old streams is =
@@ -80,27 +92,42 @@ fresh_by (Some kept) d begins = begins.log
 pub fresh : {D : Type 0} (state : D → State) (tells : Bool) (name : List ℕ) (d : D) (old new : BayState) → Opens tells state name (Ok d) old new → IsFresh tells (state d)
 fresh state tells name d old new opens = record { counts = opens.counts; nothing = λ t. fresh_by (old.kept name) (state d) (opens.disk t) }
 
+-- a disk with faults, on which calls fail as its manner lets them
+failed_by : (d : State) → has_faults d ≡ true → (0 < d.read_faults → d.manner.reads_fail ≡ true) → (0 < d.faults → HasFailed d) → FailedByManner d
+failed_by d some reads others = by (or_cases (nat_lt 0 d.read_faults) (nat_lt 0 d.faults) some)
+  where
+    by : (nat_lt 0 d.read_faults ≡ true) ⊎ (nat_lt 0 d.faults ≡ true) → FailedByManner d
+    by (inl unread) = let more = ltb-true 0 d.read_faults unread in inl (more, reads more)
+    by (inr failed) = let more = ltb-true 0 d.faults failed in inr (more, others more)
+
+-- a disk that began with an image has as many blocks
+has_blocks : (kept : Option Kept) (first last : State) → BeginsWith kept first → last.blocks ≡ first.blocks → HasBlocks last.blocks kept
+has_blocks None first last none same = none
+has_blocks (Some kept) first last begins same = sym (same ∙ begins.blocks)
+
 -- All that is said of a run whose disk went back.
 pub record RunsBay (tells : Bool) (name : List ℕ) (answer result : Result Ending RunRefusal) (old new : BayState) (before after : Streams) : Type 0 where
   pub comes : ComesOf tells name result old new before after
   pub cause : HasRunCause result old new
+  pub reason : IsTrue tells → result ≡ Err Fault → HasRunReason tells name result old new before after
   pub pushing : fails_pushing result ≡ fails_pushing answer
   pub opened : opens_nothing result ≡ opens_nothing answer
 
-module _ {D : Type 0} (state : D → State) (tells : Bool) (name : List ℕ) (old between new : BayState) (first last : D) (marks : List Mark) (before after : Streams) (opens : Opens tells state name (Ok first) old between) where
-  comes_of : (answer : Result Ending RunRefusal) (back : Result (Unit {0}) BayFault) → ComesOfDisk tells (state first) (state last) marks answer before after → Closes tells name (state last) marks back between new → ComesOf tells name (answer_of answer back) old new before after
-  comes_of answer back comes closes = inr (record {
+module _ {D : Type 0} (state : D → State) (tells : Bool) (name : List ℕ) (old between new : BayState) (first last : D) (marks : List Mark) (before after : Streams) (opens : Opens tells state name (Ok first) old between)
+    (reads : IsTrue tells → 0 < (state last).read_faults → (state last).manner.reads_fail ≡ true) where
+  hands : (answer : Result Ending RunRefusal) (back : Result (Unit {0}) BayFault) → ComesOfDisk tells (state first) (state last) marks answer before after → Closes tells name (state last) marks back between new → HandsBack tells name (answer_of answer back) old new before after
+  hands answer back comes closes = record {
     first = state first;
     last = state last;
     marks = marks;
     between = between;
     answer = answer;
     back = back;
-    opens = record { counts = opens.counts; disk = opens.disk; kept = opens.kept; cause = opens.cause; disk_faults = opens.disk_faults; handed = opens.handed; closed = opens.closed };
+    opens = record { counts = opens.counts; disk = opens.disk; manner = opens.manner; kept = opens.kept; cause = opens.cause; fails = opens.fails; same = opens.same; disk_faults = opens.disk_faults; handed = opens.handed; closed = opens.closed };
     comes = comes;
     closes = closes;
     answered = refl;
-  })
+  }
 
   counted : (back : Result (Unit {0}) BayFault) (closes : Closes tells name (state last) marks back between new) (failed : Bool) → has_faults (state last) ≡ failed → new.disk_faults ≡ (if failed then next_count old.disk_faults else old.disk_faults)
   counted back closes failed is =
@@ -130,5 +157,25 @@ module _ {D : Type 0} (state : D → State) (tells : Bool) (name : List ℕ) (ol
   pushing (Ok LongInput) back = (refl, refl)
   pushing (Err why) back = (refl, refl)
 
+  -- a fault of the bay has its reason as the disk goes back
+  bay_reason : {P : Type 0} → IsTrue tells → (state last).blocks ≡ (state first).blocks → IsTrue between.may_fail ⊎ ¬ HasBlocks (state last).blocks (between.kept name) → MayFailToOpen name old ⊎ P
+  bay_reason t same (inl may) = inl (inl (sym opens.same.may_fail ∙ may))
+  bay_reason t same (inr none) = absurd (none (subst (λ (kept : Option Kept). HasBlocks (state last).blocks kept) (sym (opens.kept t name)) (has_blocks (old.kept name) (state first) (state last) (opens.disk t) same)))
+
+  -- and so has one of the disk
+  reasons : (answer : Result Ending RunRefusal) (back : Result (Unit {0}) BayFault) → ComesOfDisk tells (state first) (state last) marks answer before after → Closes tells name (state last) marks back between new → IsTrue tells → faulty (answer_of answer back) ≡ true → HasRunReason tells name (answer_of answer back) old new before after
+  unfolding faulty hands
+  reasons (Ok End) (Ok y) comes closes t is = absurd (false≢true is)
+  reasons (Ok End) (Err bay.Fault) comes closes t is = bay_reason t comes.blocks (closes.fails t)
+  reasons (Ok End) (Err bay.NoMemory) comes closes t is = absurd (false≢true is)
+  reasons (Ok SourceFault) back comes closes t is = absurd (false≢true is)
+  reasons (Ok LongInput) back comes closes t is = absurd (false≢true is)
+  reasons (Err Fault) back comes closes t is = inr (hands (Err Fault) back comes closes, failed_by (state last) comes.faults (reads t) (comes.cause t))
+  reasons (Err (Damaged damage)) back comes closes t is = absurd (false≢true is)
+  reasons (Err Spent) back comes closes t is = absurd (false≢true is)
+  reasons (Err SinkFault) back comes closes t is = absurd (false≢true is)
+  reasons (Err NoMemory) back comes closes t is = absurd (false≢true is)
+
   pub runs_bay : (answer : Result Ending RunRefusal) (back : Result (Unit {0}) BayFault) → ComesOfDisk tells (state first) (state last) marks answer before after → Closes tells name (state last) marks back between new → RunsBay tells name answer (answer_of answer back) old new before after
-  runs_bay answer back comes closes = record { comes = comes_of answer back comes closes; cause = causes answer back comes closes; pushing = (pushing answer back).0; opened = (pushing answer back).1 }
+  unfolding faulty
+  runs_bay answer back comes closes = record { comes = inr (hands answer back comes closes); cause = causes answer back comes closes; reason = λ t is. reasons answer back comes closes t (ap faulty is); pushing = (pushing answer back).0; opened = (pushing answer back).1 }

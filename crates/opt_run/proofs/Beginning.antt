@@ -15,15 +15,16 @@ use Rattle.opt_tree.specs.Tree.{Tree}
 use Rattle.opt_stands.specs.Stands.{IsTreeOf}
 use Rattle.opt_blocks.specs.Calls.{IsSound}
 use Rattle.opt_blocks.specs.Crashes.{IsBegun}
-use Rattle.opt_blocks.specs.State.{Bookkeeping, State, reusable_blocks}
+use Rattle.opt_blocks.specs.State.{Bookkeeping, State, Ticking, reusable_blocks}
 use Rattle.opt_store.specs.StoreOf.{state_of}
 use Rattle.opt_store.specs.declared.store.Store.{Store}
+use Rattle.opt_files.specs.Calls.{places_of}
 use Rattle.opt_files.specs.Effects.{LooksOnly}
 use Rattle.opt_fs.specs.DiskRoom.{IsRoomOf}
 use Rattle.opt_fs.specs.Memory.{room_of}
 use Rattle.opt_fs.specs.Sessions.{IsSession}
 use Rattle.opt_fs.specs.Space.{left_of}
-use Rattle.opt_session.specs.Budget.{KeepsBudget}
+use Rattle.opt_session.specs.Budget.{KeepsBudget, SpendsByMarks}
 use Rattle.opt_session.specs.Serving.{HasServed, IsDrawn, IsMountedWith}
 use Rattle.opt_run.specs.Runs.{IsRoomAtMount}
 use Rattle.opt_run.specs.Steps.{IsJustMounted, KnownSoFar, SoFar, mark_in}
@@ -53,7 +54,7 @@ module _ (tells : Bool) (told : IsTrue tells) (first : disk.State) (s : State) (
   module _ (u : State) (t : Tree) (mark : Mark) (begun : IsBegun s) (looks : LooksOnly tells false s u) (tree : IsTreeOf s.books.geom s.map t)
       (served : HasServed s.books.geom t (length s.crash.log) [] [] [] u) (budget : KeepsBudget s.books.geom t (writes_in s.crash.log + s.books.owed) [] [] u)
       (room : (f : Session) → IsSession u f → IsRoomOf u.books.geom f (room_of u)) (left : (f : Session) → IsSession u f → left_of u.books ≡ u.books.area - blocks f.tree - u.books.running.held) (takeable : left_of u.books ≡ length (reusable_blocks u.books) + u.books.waiting)
-      (sound : IsSound u.books) (is_mark : mark ≡ mark_in s) where
+      (sound : IsSound u.books) (is_mark : mark ≡ mark_in s) (spends : SpendsByMarks s.books.geom (session_on s.books.geom.i t) (length u.crash.log) u.crash.log [] [] []) where
     abbrev g : Geometry
     g = s.books.geom
 
@@ -70,11 +71,12 @@ module _ (tells : Bool) (told : IsTrue tells) (first : disk.State) (s : State) (
         ∙ left f session
         ∙ ap (λ (n : ℕ). n - blocks t - u.books.running.held) (sound.area ∙ ap (λ (k : Bookkeeping). k.geom.n - data_start k.geom) looks.books)
 
-    pub begins_room : IsRoomAtMount g f (room_of u)
+    pub begins_room : IsRoomAtMount g s.map f (room_of u)
     begins_room = record {
       weight = ap (λ (k : Bookkeeping). k.running.weight) looks.books ∙ begun.weight;
       held = ap (λ (k : Bookkeeping). k.running.held) looks.books ∙ begun.held;
       is_room = subst (λ (k : Geometry). IsRoomOf k f (room_of u)) (ap (λ (k : Bookkeeping). k.geom) looks.books) (room f session);
+      places = λ k. ap (λ (m : Blocks). places_of u.books.geom m k) (looks.map told) ∙ ap (λ (b : Bookkeeping). places_of b.geom s.map k) looks.books;
       all = all;
     }
 
@@ -101,6 +103,7 @@ module _ (tells : Bool) (told : IsTrue tells) (first : disk.State) (s : State) (
           rooms = (refl, refl);
           budget = subst (λ (n : ℕ). KeepsBudget g t n [] [] u)
               (omega (arith, (h.begins told).owed, ap (λ (es : List Event). writes_in es) (sym (ap (λ (es : List Event). take (length s.crash.log) es) same_log ∙ take_all (length s.crash.log) s.crash.log (omega arith))))) budget;
+          spends = subst (λ (es : List Event). SpendsByMarks g f (length es) u.crash.log [] [] []) same_log spends;
           within = omega (arith, ap (λ (es : List Event). length es) same_log);
           marked = record {
             later = [];
@@ -108,6 +111,9 @@ module _ (tells : Bool) (told : IsTrue tells) (first : disk.State) (s : State) (
             go = ap (λ (n : ℕ). record { moment = n; read_faults = u.counts.read_faults; faults = u.counts.faults }) (ap (λ (es : List Event). length es) same_log)
                 ∙ ap₂ (λ (r q : ℕ). record { moment = length s.crash.log; read_faults = r; faults = q }) (looks.counts.read_faults ∙ h.on.read_faults) (looks.counts.faults ∙ h.on.faults);
           };
+          manner = ap (λ (k : Ticking). k.manner) looks.counts.ticks ∙ h.on.manner;
+          among = tt;
+          reasons = tt;
           over = λ stopped. absurd (true≢false (sym stopped ∙ ap (λ (k : Bookkeeping). k.stopped) looks.books ∙ h.on.going));
           turns = s.books.turns;
           numbers = record { found = numbers.found; is_found = numbers.is_found; most = numbers.most };

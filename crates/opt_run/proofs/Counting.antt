@@ -13,6 +13,7 @@ use Rattle.opt_tree.specs.declared.command.Reply.TheVariants as replies
 use Rattle.opt_tree.specs.Run.{Answers, is_of_disk, is_of_memory}
 use Rattle.opt_tree.specs.Step.{Session, step}
 use Rattle.opt_stands.specs.Stands.{IsTreeOf}
+use Rattle.opt_blocks.specs.Effects.{Ticked}
 use Rattle.opt_blocks.specs.Running.{Running}
 use Rattle.opt_blocks.specs.State.{State}
 use Rattle.opt_session.specs.Ending.{is_none}
@@ -50,7 +51,7 @@ pub record Counted (unread failed : Bool) (old new : State) : Type 0 where
   pub over : (old.books.stopped ≡ true → 0 < old.counts.faults) → new.books.stopped ≡ true → 0 < new.counts.faults
 
 -- blocks that stop by a call that failed have counted it
-over_by : (failed stopped : Bool) (n m : ℕ) → stopped ≡ failed → m ≡ after_call failed n → stopped ≡ true → 0 < m
+pub over_by : (failed stopped : Bool) (n m : ℕ) → stopped ≡ failed → m ≡ after_call failed n → stopped ≡ true → 0 < m
 over_by true stopped n m is counts over = omega (arith, counts)
 over_by false stopped n m is counts over = absurd (false≢true (sym is ∙ over))
 
@@ -195,6 +196,25 @@ module _ {S : Type 0} (tells : Bool) (state : S → State) where
         by_stopped meant (inr run) = by_spent meant run (cases_Bool (is_spent (state old).books))
 
         by : (cmd ≡ Bad) ⊎ (cmd ≢ Bad) → Moved (state old) (state new)
+        by (inl none) = rests (applies.bad none).1
+        by (inr meant) = by_stopped meant (cases_Bool (state old).books.stopped)
+
+    -- the disk is the same one, of the same manner
+    pub manner_stays : (cmd ≢ Bad → (state old).books.stopped ≡ false → is_spent (state old).books ≡ false → Ticked tells (state old) (state new)) → (state new).counts.ticks.manner ≡ (state old).counts.ticks.manner
+    manner_stays ticks = by (none_or_one cmd)
+      where
+        rests : new ≡ old → (state new).counts.ticks.manner ≡ (state old).counts.ticks.manner
+        rests same = ap (λ (s : S). (state s).counts.ticks.manner) same
+
+        by_spent : cmd ≢ Bad → (state old).books.stopped ≡ false → (is_spent (state old).books ≡ true) ⊎ (is_spent (state old).books ≡ false) → (state new).counts.ticks.manner ≡ (state old).counts.ticks.manner
+        by_spent meant run (inl used) = rests (applies.spent meant run used).1
+        by_spent meant run (inr left) = (ticks meant run left).manner
+
+        by_stopped : cmd ≢ Bad → ((state old).books.stopped ≡ true) ⊎ ((state old).books.stopped ≡ false) → (state new).counts.ticks.manner ≡ (state old).counts.ticks.manner
+        by_stopped meant (inl over) = rests (applies.stopped meant over).1
+        by_stopped meant (inr run) = by_spent meant run (cases_Bool (is_spent (state old).books))
+
+        by : (cmd ≡ Bad) ⊎ (cmd ≢ Bad) → (state new).counts.ticks.manner ≡ (state old).counts.ticks.manner
         by (inl none) = rests (applies.bad none).1
         by (inr meant) = by_stopped meant (cases_Bool (state old).books.stopped)
 

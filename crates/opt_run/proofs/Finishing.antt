@@ -54,7 +54,10 @@ module _ {D : Type 0} {k : Ghosts D} (known : D → disk.State) (tells : Bool) (
     room = room_of (state_of known store);
     rooms = h.rooms;
     writes = subst (λ (n : ℕ). AreAtMost h.mounted (state_of known store).crash.log n) (omega arith) (budget h.geom h.tree (writes_in (take h.mounted (state_of known store).crash.log)) 0 h.mounted cmds replies h.budget (omega arith));
+    spends = h.spends;
     marked = h.marked;
+    manner = h.manner;
+    reasons = h.reasons;
     turns = h.turns;
     numbers = h.numbers;
     spent = h.spent;
@@ -89,11 +92,11 @@ ran_back {D = D} {k = k} known tells first store other marks given last ended an
 
 module _ (tells : Bool) (first last : disk.State) (streams : Streams) where
   by_show : (why : ShowRefusal) → shows_pushing {T = Unit {0}} (Err why) ≡ false → ShowsDisk {T = Unit {0}} tells first last [] None None (Err why) → ComesOfDisk tells first last [] (Err (of_show why)) streams streams
-  by_show show.Fault silent shows = record { spends = shows.spends; faults = shows.faults; crash = shows.crash; none = refl; says = λ t. tt; same = refl }
-  by_show (show.Damaged damage) silent shows = record { spends = shows.spends; faults = shows.faults; crash = shows.crash; none = refl; says = shows.says; same = refl }
-  by_show show.Spent silent shows = record { spends = shows.spends; faults = shows.faults; crash = shows.crash; none = refl; says = shows.says; same = refl }
+  by_show show.Fault silent shows = record { spends = shows.spends; faults = shows.faults; cause = shows.cause; crash = shows.crash; none = refl; says = λ t. tt; same = refl }
+  by_show (show.Damaged damage) silent shows = record { spends = shows.spends; faults = shows.faults; cause = shows.cause; crash = shows.crash; none = refl; says = shows.says; same = refl }
+  by_show show.Spent silent shows = record { spends = shows.spends; faults = shows.faults; cause = shows.cause; crash = shows.crash; none = refl; says = shows.says; same = refl }
   by_show show.SinkFault silent shows = absurd (true≢false silent)
-  by_show show.NoMemory silent shows = inl (record { spends = shows.spends; faults = shows.faults; crash = shows.crash; none = refl; says = λ t. tt; same = refl })
+  by_show show.NoMemory silent shows = inl (record { spends = shows.spends; faults = shows.faults; cause = shows.cause; crash = shows.crash; none = refl; says = λ t. tt; same = refl })
 
   pub unopened_back : (marks : List Mark) (why : ShowRefusal) (answer : RunRefusal) → marks ≡ [] → answer ≡ of_show why → shows_pushing {T = Unit {0}} (Err why) ≡ false → ShowsDisk {T = Unit {0}} tells first last [] None None (Err why) → ComesOfDisk tells first last marks (Err answer) streams streams
   unopened_back marks why answer none answer_is silent shows =

@@ -1,11 +1,12 @@
 -- A run of one command more.
-use Rattle.std.proofs.Common.{◌≡◌, ◌⊎◌, inl, inr, ℕ, ◌+◌, ◌-◌, ◌*◌, ◌^◌, ◌≤◌, Bool, true, IsTrue, List, [], ◌∷◌, ◌++◌, length, length-append, take, slice_get, Some, refl, sym, ap, ap₂, ◌∙◌, subst, arith}
+use Rattle.std.proofs.Common.{◌≡◌, ◌⊎◌, inl, inr, ℕ, ◌+◌, ◌-◌, ◌*◌, ◌^◌, ◌<◌, ◌≤◌, Bool, true, IsTrue, List, [], ◌∷◌, ◌++◌, length, length-append, take, take_all, slice_get, Some, refl, sym, ap, ap₂, ◌∙◌, subst, arith}
 use Rattle.std.proofs.lemmas.List.{take-append-le}
 use Rattle.std.proofs.lemmas.Bool.{leb-true}
 use Rattle.opt_disk.specs.declared.bay.Mark.{Mark}
 use Rattle.opt_disk.specs.declared.event.Event.{Event}
 use Rattle.opt_disk.specs.Disk as disk
 use Rattle.opt_disk.specs.Disk.{Grows, writes_in}
+use Rattle.opt_disk.specs.Manner.{Manner, HasFailedBy}
 use Rattle.opt_geom.specs.Geometry.{Geometry}
 use Rattle.opt_tree.specs.declared.command.Cmd.{Cmd}
 use Rattle.opt_tree.specs.declared.command.Refusal.TheVariants as because
@@ -19,12 +20,12 @@ use Rattle.opt_fs.specs.DiskRoom.{AnswersOn, RunsOn}
 use Rattle.opt_fs.specs.Memory.{room_of}
 use Rattle.opt_fs.specs.Room.{Room}
 use Rattle.opt_fs.specs.Sessions.{IsSession}
-use Rattle.opt_session.specs.Budget.{KeepsBudget}
+use Rattle.opt_session.specs.Budget.{KeepsBudget, SpendsByMarks}
 use Rattle.opt_session.specs.Serving.{HasServed}
-use Rattle.opt_run.specs.Runs.{IsSpentByNumbers, Marks, MarksGo, is_failed, is_unread}
-use Rattle.opt_run.specs.Steps.{KnownSoFar, SoFar, mark_in}
-use Rattle.opt_run.proofs.Counting.{Counted}
-use Rattle.opt_run.proofs.Lists.{get_split_at}
+use Rattle.opt_run.specs.Runs.{HasReason, HaveReasons, IsSpentByNumbers, Marks, MarksGo, is_failed, is_unread}
+use Rattle.opt_run.specs.Steps.{AreWithin, KnownSoFar, SoFar, mark_in}
+use Rattle.opt_run.proofs.Counting.{Counted, over_by}
+use Rattle.opt_run.proofs.Lists.{get_behind, get_split_at}
 
 -- runs joined
 runs_on : (g : Geometry) (f t u : Session) (r q v : Room) (cmds : List Cmd) (replies : List Reply) (more : List Cmd) (later : List Reply)
@@ -44,10 +45,34 @@ marks_on before mid now (r ∷ replies) [] marks reply moment go next = absurd g
 marks_on before mid now (r ∷ replies) (k ∷ moments) [] reply moment go next = absurd go
 marks_on before mid now (r ∷ replies) (k ∷ moments) (m ∷ marks) reply moment go next = (go.0, marks_on m mid now replies moments marks reply moment go.1 next)
 
+-- moments stay among the events as more come, and one of them more is
+within_more : (n k : ℕ) (moments : List ℕ) → n ≤ k → AreWithin n moments → AreWithin k moments
+within_more n k [] more within = tt
+within_more n k (m ∷ moments) more within = (omega (arith, more, within.0), within_more n k moments more within.1)
+
+within_on : (n : ℕ) (moments : List ℕ) (moment : ℕ) → AreWithin n moments → moment ≤ n → AreWithin n (moments ++ moment ∷ [])
+within_on n [] moment within low = (low, tt)
+within_on n (m ∷ moments) moment within low = (within.0, within_on n moments moment within.1 low)
+
+-- reasons stay as events come behind, and with one more they are of one command more
+reasons_stay : (m : Manner) (old more : List Event) (replies : List Reply) (moments : List ℕ) → AreWithin (length old) moments → HaveReasons m old replies moments → HaveReasons m (old ++ more) replies moments
+reasons_stay m old more [] [] within have = tt
+reasons_stay m old more [] (k ∷ moments) within have = absurd have
+reasons_stay m old more (r ∷ replies) [] within have = absurd have
+reasons_stay m old more (r ∷ replies) (k ∷ moments) within have = (subst (λ (es : List Event). HasReason m es r) (sym (take-append-le k old more within.0)) have.0, reasons_stay m old more replies moments within.1 have.1)
+
+reasons_on : (m : Manner) (log : List Event) (replies : List Reply) (moments : List ℕ) (reply : Reply) (moment : ℕ) → HaveReasons m log replies moments → HasReason m (take moment log) reply → HaveReasons m log (replies ++ reply ∷ []) (moments ++ moment ∷ [])
+reasons_on m log [] [] reply moment have next = (next, tt)
+reasons_on m log [] (k ∷ moments) reply moment have next = absurd have
+reasons_on m log (r ∷ replies) [] reply moment have next = absurd have
+reasons_on m log (r ∷ replies) (k ∷ moments) reply moment have next = (have.0, reasons_on m log replies moments reply moment have.1 next)
+
 -- What is known of one command that was answered over blocks that tell.
 pub record Stepped (cmd : Cmd) (reply : Reply) (mark : Mark) (s u : State) : Type 0 where
   pub serves : (g : Geometry) (t : Tree) (mounted : ℕ) (cmds : List Cmd) (replies : List Reply) (moments : List ℕ) → HasServed g t mounted cmds replies moments s → HasServed g t mounted (cmds ++ cmd ∷ []) (replies ++ reply ∷ []) (moments ++ length u.crash.log ∷ []) u
   pub budget : (g : Geometry) (t : Tree) (mounted begun : ℕ) (cmds : List Cmd) (replies : List Reply) (moments : List ℕ) → HasServed g t mounted cmds replies moments s → KeepsBudget g t begun cmds replies s → KeepsBudget g t begun (cmds ++ cmd ∷ []) (replies ++ reply ∷ []) u
+  pub spends : (g : Geometry) (t : Tree) (mounted : ℕ) (cmds : List Cmd) (replies : List Reply) (moments : List ℕ) → HasServed g t mounted cmds replies moments s → KeepsBudget g t (writes_in (take mounted u.crash.log)) (cmds ++ cmd ∷ []) (replies ++ reply ∷ []) u
+      → SpendsByMarks g (session_on g.i t) mounted s.crash.log cmds replies moments → SpendsByMarks g (session_on g.i t) mounted u.crash.log (cmds ++ cmd ∷ []) (replies ++ reply ∷ []) (moments ++ length u.crash.log ∷ [])
   pub room : (f : Session) → IsSession s f → (next : Session) × IsSession u next × (u.books.geom ≡ s.books.geom) × AnswersOn s.books.geom f (room_of s) cmd reply next (room_of u)
   pub base : u.crash.base ≡ s.crash.base
   pub grows : Grows s.crash.log u.crash.log
@@ -56,6 +81,9 @@ pub record Stepped (cmd : Cmd) (reply : Reply) (mark : Mark) (s u : State) : Typ
   pub stopped : (f : Session) → IsSession s f → reply ≡ Refused because.Stopped → s.books.stopped ≡ true
   pub spent : (f : Session) → IsSession s f → reply ≡ Refused because.Spent → is_spent s.books ≡ true
   pub is_mark : mark ≡ mark_in u
+  pub manner : u.counts.ticks.manner ≡ s.counts.ticks.manner
+  pub reads : 0 < u.counts.read_faults → u.counts.ticks.manner.reads_fail ≡ true
+  pub fails : u.books.stopped ≡ true → ∥ HasFailedBy u.counts.ticks.manner u.crash.log ∥₁
 
 module _ (first : disk.State) (cmd : Cmd) (reply : Reply) (mark : Mark) (s u : State) (cmds : List Cmd) (replies : List Reply) (marks : List Mark) (step : Stepped cmd reply mark s u) (h : KnownSoFar first cmds replies marks s) where
   -- the first events are the same
@@ -74,6 +102,25 @@ module _ (first : disk.State) (cmd : Cmd) (reply : Reply) (mark : Mark) (s u : S
     faults = (step.counted h.after h.session).faults;
     stopped = λ is. h.over (step.stopped h.after h.session is);
   }
+
+  longer : length s.crash.log ≤ length u.crash.log
+  longer = omega (arith, ap (λ (es : List Event). length es) step.grows.log, length-append s.crash.log step.grows.more)
+
+  -- the disk is the one with which the run began
+  same_manner : u.counts.ticks.manner ≡ first.manner
+  same_manner = step.manner ∙ h.manner
+
+  reason_now : HasReason first.manner (take (length u.crash.log) u.crash.log) reply
+  reason_now = record {
+    reads = λ is. ap (λ (m : Manner). m.reads_fail) (sym same_manner) ∙ step.reads (over_by (is_unread reply) (is_unread reply) _ _ refl (step.counted h.after h.session).read_faults (ap is_unread is));
+    fails = λ is. subst (λ (m : Manner). ∥ HasFailedBy m (take (length u.crash.log) u.crash.log) ∥₁) same_manner
+        (subst (λ (es : List Event). ∥ HasFailedBy u.counts.ticks.manner es ∥₁) (sym (take_all (length u.crash.log) u.crash.log (omega arith)))
+        (step.fails ((step.serves h.geom h.tree h.mounted cmds replies h.moments h.served).goes_on.ended (length replies) (get_behind replies reply ∙ ap Some is))));
+  }
+
+  reasons_now : HaveReasons first.manner u.crash.log (replies ++ reply ∷ []) (h.moments ++ length u.crash.log ∷ [])
+  reasons_now = reasons_on first.manner u.crash.log replies h.moments reply (length u.crash.log)
+      (subst (λ (es : List Event). HaveReasons first.manner es replies h.moments) (sym step.grows.log) (reasons_stay first.manner s.crash.log step.grows.more replies h.moments h.among h.reasons)) reason_now
 
   -- numbers that are used up are far
   spent_far : (k : Bookkeeping) → is_spent k ≡ true → 2 ^ 63 - 8 ≤ k.turns
@@ -105,13 +152,17 @@ module _ (first : disk.State) (cmd : Cmd) (reply : Reply) (mark : Mark) (s u : S
         rooms = runs_on h.geom (session_on h.geom.i h.tree) h.after next.0 h.first_room (room_of s) (room_of u) cmds replies (cmd ∷ []) (reply ∷ []) h.rooms
             (next.0, room_of u, subst (λ (g : Geometry). AnswersOn g h.after (room_of s) cmd reply next.0 (room_of u)) h.served.geom next.3, (refl, refl));
         budget = budget_on;
-        within = omega (arith, h.within, ap (λ (es : List Event). length es) step.grows.log, length-append s.crash.log step.grows.more);
+        spends = step.spends h.geom h.tree h.mounted cmds replies h.moments h.served budget_on h.spends;
+        within = omega (arith, h.within, longer);
         marked = record {
           later = h.marked.later ++ mark ∷ [];
           is = ap (λ (ms : List Mark). ms ++ mark ∷ []) h.marked.is;
           go = subst (λ (m : Mark). MarksGo (record { moment = h.mounted; read_faults = 0; faults = 0 }) (replies ++ reply ∷ []) (h.moments ++ length u.crash.log ∷ []) (h.marked.later ++ m ∷ []) (mark_in u)) (sym step.is_mark)
               (marks_on (record { moment = h.mounted; read_faults = 0; faults = 0 }) (mark_in s) (mark_in u) replies h.moments h.marked.later reply (length u.crash.log) h.marked.go marks_now);
         };
+        manner = same_manner;
+        among = within_on (length u.crash.log) h.moments (length u.crash.log) (within_more (length s.crash.log) (length u.crash.log) h.moments longer h.among) (omega arith);
+        reasons = reasons_now;
         over = (step.counted h.after h.session).over h.over;
         turns = h.turns;
         numbers = h.numbers;

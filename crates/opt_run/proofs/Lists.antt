@@ -11,6 +11,11 @@ get_split_at (z ∷ xs) x y (suc i) is = by (get_split_at xs x y i is)
     by (inl earlier) = inl earlier
     by (inr last) = inr (last.0, ap suc last.1)
 
+-- the thing behind
+pub get_behind : {A : Type 0} (xs : List A) (x : A) → slice_get (xs ++ x ∷ []) (length xs) ≡ Some x
+get_behind [] x = refl
+get_behind (y ∷ xs) x = get_behind xs x
+
 one_more : (m n : ℕ) → suc m + n ≡ suc (m + n)
 one_more m n = omega arith
 

@@ -1,5 +1,5 @@
 -- What comes of a run over the image under a name: its commands and their replies, what is read and written, the marks, and what becomes of the bay and of the disk that it handed out. It is described in docs/RUNNING.md.
-use Rattle.std.specs.Prelude.{◌≡◌, ◌⊎◌, ℕ, ◌+◌, ◌-◌, ◌*◌, ◌^◌, ◌<◌, ◌≤◌, max, ⊤, Bool, false, IsTrue, List, [], ◌∷◌, ◌++◌, length, slice_get, Option, Some, Result, Ok, Err}
+use Rattle.std.specs.Prelude.{◌≡◌, ◌⊎◌, ℕ, ◌+◌, ◌-◌, ◌*◌, ◌^◌, ◌<◌, ◌≤◌, max, ⊤, Bool, false, true, IsTrue, List, [], ◌∷◌, ◌++◌, length, take, slice_get, Option, Some, Result, Ok, Err}
 use Rattle.std.specs.Io.KnownBytes.{Appends, Consumes, IsAtEnd}
 use Rattle.opt_base.specs.Counts.{after_call, Rose}
 use Rattle.opt_base.specs.Seal.{Blocks}
@@ -7,7 +7,9 @@ use Rattle.opt_io.specs.Prefix.{TakesPrefix}
 use Rattle.opt_disk.specs.declared.bay.Mark.{Mark}
 use Rattle.opt_disk.specs.declared.bay.BayFault.{BayFault}
 use Rattle.opt_disk.specs.Bay.{BayState, Opens, Closes, has_faults}
-use Rattle.opt_disk.specs.Disk.{State}
+use Rattle.opt_disk.specs.declared.event.Event.{Event}
+use Rattle.opt_disk.specs.Disk.{State, HasFailed}
+use Rattle.opt_disk.specs.Manner.{Manner, HasFailedBy}
 use Rattle.opt_geom.specs.Geometry.{Geometry, bitmap_blocks}
 use Rattle.opt_recover.specs.Search.{last_number}
 use Rattle.opt_mount.specs.Mount.{FoundDisk, IsFoundOn, IsUsedUp}
@@ -18,15 +20,16 @@ use Rattle.opt_tree.specs.declared.command.Reply.TheVariants.{Refused}
 use Rattle.opt_tree.specs.Step.{Session, session_on}
 use Rattle.opt_tree.specs.Tree.{Tree}
 use Rattle.opt_crash.specs.Counts.{AreAtMost}
+use Rattle.opt_files.specs.Calls.{places_of}
 use Rattle.opt_fs.specs.Commands.{is_disk_fault, is_read_fault}
 use Rattle.opt_fs.specs.DiskRoom.{IsRoomOf, RunsOn}
 use Rattle.opt_fs.specs.Room.{Room, left_in}
-use Rattle.opt_session.specs.Budget.{budget_of}
+use Rattle.opt_session.specs.Budget.{SpendsByMarks, budget_of}
 use Rattle.opt_session.specs.Ending.{HasRun}
 use Rattle.opt_script.specs.Text.{text_of_reply}
 use Rattle.opt_lines.specs.Lines.{longest, commands_of, whole_commands}
 use Rattle.opt_show.specs.Images.{HasDamage, StandsForNone, StandsMounted}
-use Rattle.opt_show.specs.Shows.{CountsFault, HandsOutNone, SpendsAtMost, StandsThroughout}
+use Rattle.opt_show.specs.Shows.{CountsFault, FailedByManner, HandsOutNone, MayFailToOpen, SpendsAtMost, StandsThroughout}
 use Rattle.opt_run.specs.declared.ending.Ending.{Ending}
 use Rattle.opt_run.specs.declared.ending.Ending.TheVariants.{End, SourceFault, LongInput}
 use Rattle.opt_run.specs.declared.ending.RunRefusal.{RunRefusal}
@@ -98,6 +101,17 @@ MarksGo before _ _ _ now = ⊥
 abbrev pub mark_on : State → Mark
 mark_on d = record { moment = length d.log; read_faults = d.read_faults; faults = d.faults }
 
+-- A refusal for the disk has its reason in the disk's manner, where these are the events by then: a read fails only where reads may, and another call has failed for a reason that the manner has.
+pub record HasReason (m : Manner) (log : List Event) (reply : Reply) : Type 0 where
+  pub reads : reply ≡ Refused because.ReadFault → m.reads_fail ≡ true
+  pub fails : reply ≡ Refused because.DiskFault → ∥ HasFailedBy m log ∥₁
+
+-- so has each reply, by the events up to its mark
+abbrev pub HaveReasons : Manner → List Event → List Reply → List ℕ → Type 0
+HaveReasons m log [] [] = Unit {0}
+HaveReasons m log (reply ∷ replies) (moment ∷ moments) = HasReason m (take moment log) reply × HaveReasons m log replies moments
+HaveReasons m log _ _ = ⊥
+
 -- The marks of a run: the first one is the end of the mount, by which no call of the disk had failed; then comes one for each reply; and the last one is that of the disk as it is now.
 pub record AreMarks (mounted : ℕ) (replies : List Reply) (moments : List ℕ) (marks : List Mark) (now : Mark) : Type 0 where
   pub later : List Mark
@@ -106,11 +120,12 @@ pub record AreMarks (mounted : ℕ) (replies : List Reply) (moments : List ℕ) 
 
 -- The run.
 
--- The room in which a session begins that was mounted: nothing is weighed or held, and as many data blocks may be taken as the tree leaves.
-pub record IsRoomAtMount (g : Geometry) (f : Session) (r : Room) : Type 0 where
+-- The room in which a session begins that was mounted with a map: nothing is weighed or held, each node has its blocks of the map, in order, and as many data blocks may be taken as the tree leaves.
+pub record IsRoomAtMount (g : Geometry) (map : Blocks) (f : Session) (r : Room) : Type 0 where
   pub weight : r.weight ≡ 0
   pub held : r.held ≡ 0
   pub is_room : IsRoomOf g f r
+  pub places : (k : ℕ) → r.places k ≡ places_of g map k
   pub all : length r.takeable ≡ left_in g f r
 
 -- The journal's numbers after a mount of this disk: at most two above the turn of the newest header there, or at most one above the number of the last record of its run.
@@ -123,7 +138,7 @@ pub record HasNumbers (d : State) (turns : ℕ) : Type 0 where
 abbrev pub IsSpentByNumbers : ℕ → List Reply → Type 0
 IsSpentByNumbers turns replies = (i : ℕ) → slice_get replies i ≡ Some (Refused because.Spent) → 2 ^ 63 - 8 ≤ turns + i * 2 ^ 20
 
--- Commands were run over a disk that can be mounted and stands for a tree: each was answered in turn as the tree answers it in the session's room, or refused for a reason of the disk or for want of memory, and none was done after a fault of the disk; crashes leave points, and all that was issued is the last one (`HasRun`); the writes are within the budget; and each reply has its mark.
+-- Commands were run over a disk that can be mounted and stands for a tree: each was answered in turn as the tree answers it in the session's room, or refused for a reason of the disk or for want of memory, and none was done after a fault of the disk; crashes leave points, and all that was issued is the last one (`HasRun`); the writes are within the budget, up to each mark within that of the commands by then; each reply has its mark; and a refusal for a call of the disk that failed has its reason in the disk's manner.
 pub record RunsDisk (first last : State) (marks : List Mark) (cmds : List Cmd) (replies : List Reply) : Type 0 where
   pub geom : Geometry
   pub tree : Tree
@@ -134,12 +149,15 @@ pub record RunsDisk (first last : State) (marks : List Mark) (cmds : List Cmd) (
   pub moments : List ℕ
   pub run : HasRun geom tree last.base last.log mounted cmds replies moments
   pub first_room : Room
-  pub begins : IsRoomAtMount geom (session_on geom.i tree) first_room
+  pub begins : IsRoomAtMount geom image.stands.map (session_on geom.i tree) first_room
   pub after : Session
   pub room : Room
   pub rooms : RunsOn geom (session_on geom.i tree) first_room cmds replies after room
   pub writes : AreAtMost mounted last.log (budget_of (bitmap_blocks geom) (session_on geom.i tree) 0 cmds replies)
+  pub spends : SpendsByMarks geom (session_on geom.i tree) mounted last.log cmds replies moments
   pub marked : AreMarks mounted replies moments marks (mark_on last)
+  pub manner : last.manner ≡ first.manner
+  pub reasons : HaveReasons first.manner last.log replies moments
   pub turns : ℕ
   pub numbers : HasNumbers first turns
   pub spent : IsSpentByNumbers turns replies
@@ -163,10 +181,11 @@ RefusesImage Spent n at = IsUsedUp n at
 RefusesImage SinkFault n at = ⊥
 RefusesImage NoMemory n at = ⊤
 
--- No file system was opened on the disk: nothing was read or written, no mark goes along, and a call of the disk failed exactly where that is the answer. Each honest image of each moment stands for the tree for which its image stood, or for none.
+-- No file system was opened on the disk: nothing was read or written, no mark goes along, and a call of the disk failed exactly where that is the answer, another than a read for a reason that the disk's manner has. Each honest image of each moment stands for the tree for which its image stood, or for none.
 pub record IsUnopened (tells : Bool) (first last : State) (marks : List Mark) (why : RunRefusal) (before after : Streams) : Type 0 where
   pub spends : SpendsAtMost tells first last
   pub faults : has_faults last ≡ is_fault why
+  pub cause : IsTrue tells → 0 < last.faults → HasFailed last
   pub crash : IsTrue tells → StandsThroughout last
   pub none : marks ≡ []
   pub says : IsTrue tells → RefusesImage why first.blocks first.base
@@ -214,3 +233,7 @@ HasRunCause (Err (Damaged damage)) old new = new.disk_faults ≡ old.disk_faults
 HasRunCause (Err Spent) old new = new.disk_faults ≡ old.disk_faults
 HasRunCause (Err SinkFault) old new = ⊤
 HasRunCause (Err NoMemory) old new = ⊤
+
+-- what a fault comes of, where the bay tells: calls of the bay may fail, or nothing is under the name; or a disk was handed out under the name and handed back, and a call of it had failed as its manner lets it
+abbrev pub HasRunReason : Bool → List ℕ → Result Ending RunRefusal → BayState → BayState → Streams → Streams → Type 0
+HasRunReason tells name result old new before after = MayFailToOpen name old ⊎ ((b : HandsBack tells name result old new before after) × FailedByManner b.last)

@@ -15,7 +15,7 @@ use Rattle.opt_fs.specs.DiskRoom.{RunsOn}
 use Rattle.opt_fs.specs.Memory.{room_of}
 use Rattle.opt_fs.specs.Room.{Room}
 use Rattle.opt_fs.specs.Sessions.{IsSession}
-use Rattle.opt_session.specs.Budget.{KeepsBudget}
+use Rattle.opt_session.specs.Budget.{KeepsBudget, SpendsByMarks}
 use Rattle.opt_session.specs.Serving.{HasServed}
 use Rattle.opt_store.specs.Mounting.{BeginsWith, GoesOnFrom}
 use Rattle.opt_script.specs.Text.{text_of_reply}
@@ -27,7 +27,7 @@ use Rattle.opt_run.specs.declared.ending.RunRefusal.{RunRefusal}
 use Rattle.opt_run.specs.declared.ending.RunRefusal.TheVariants.{SinkFault, NoMemory}
 use Rattle.opt_run.specs.declared.running.Stop.{Stop}
 use Rattle.opt_run.specs.declared.running.Stop.TheVariants as stop
-use Rattle.opt_run.specs.Runs.{AreMarks, HasNumbers, IsRoomAtMount, IsSpentByNumbers, Reads, Streams, Writes, reply_lines}
+use Rattle.opt_run.specs.Runs.{AreMarks, HaveReasons, HasNumbers, IsRoomAtMount, IsSpentByNumbers, Reads, Streams, Writes, reply_lines}
 
 -- the refusal for a stop
 abbrev pub of_stop : Stop → RunRefusal
@@ -59,6 +59,11 @@ pub record IsJustMounted (tells : Bool) (first : disk.State) (s : State) : Type 
   pub begins : IsTrue tells → BeginsWith s.books.geom s.map s
   pub numbers : IsTrue tells → GoesOnFrom first s
 
+-- these moments are among so many events
+abbrev pub AreWithin : ℕ → List ℕ → Type 0
+AreWithin n [] = Unit {0}
+AreWithin n (moment ∷ moments) = (moment ≤ n) × AreWithin n moments
+
 -- These commands were answered with these replies, with these marks, since a disk was mounted that began so; and so much is known of the blocks now.
 pub record KnownSoFar (first : disk.State) (cmds : List Cmd) (replies : List Reply) (marks : List Mark) (s : State) : Type 0 where
   pub geom : Geometry
@@ -70,14 +75,18 @@ pub record KnownSoFar (first : disk.State) (cmds : List Cmd) (replies : List Rep
   pub moments : List ℕ
   pub served : HasServed geom tree mounted cmds replies moments s
   pub first_room : Room
-  pub begins : IsRoomAtMount geom (session_on geom.i tree) first_room
+  pub begins : IsRoomAtMount geom image.stands.map (session_on geom.i tree) first_room
   pub after : Session
   pub session : IsSession s after
   pub rooms : RunsOn geom (session_on geom.i tree) first_room cmds replies after (room_of s)
   -- no write was owed as the mount ended
   pub budget : KeepsBudget geom tree (writes_in (take mounted s.crash.log)) cmds replies s
+  pub spends : SpendsByMarks geom (session_on geom.i tree) mounted s.crash.log cmds replies moments
   pub within : mounted ≤ length s.crash.log
   pub marked : AreMarks mounted replies moments marks (mark_in s)
+  pub manner : s.counts.ticks.manner ≡ first.manner
+  pub among : AreWithin (length s.crash.log) moments
+  pub reasons : HaveReasons first.manner s.crash.log replies moments
   pub over : s.books.stopped ≡ true → 0 < s.counts.faults
   pub turns : ℕ
   pub numbers : HasNumbers first turns

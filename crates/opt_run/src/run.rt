@@ -15,7 +15,8 @@ ghost use Rattle.opt_show.specs.Mounted.{IsFresh};
 ghost use Rattle.opt_run.specs.Refusals.{answer_of, fails_pushing, opens_nothing};
 ghost use Rattle.opt_lines.specs.Reading.{HasGiven};
 ghost use Rattle.opt_tree.specs.declared.command.Cmd.{Cmd};
-ghost use Rattle.opt_run.specs.Runs.{ComesOf, ComesOfDisk, CountsFaults, HasRunCause, Streams};
+ghost use Rattle.opt_run.specs.Runs.{ComesOf, ComesOfDisk, CountsFaults, HasRunCause, HasRunReason, Streams};
+ghost use Rattle.opt_run.specs.declared.ending.RunRefusal.TheVariants.{Fault};
 ghost use Rattle.opt_run.specs.Steps.{AtCommand, GivesOne, IsJustMounted, OnNext, RunsTo, SoFar, Turns, answer_for, stops_pushing};
 
 use crate::ending::{Ending, RunRefusal, of_bay, of_show};
@@ -27,7 +28,9 @@ use opt_fs::{
 };
 use opt_io::{Sink, Source};
 use opt_lines::{CommandReader, Next, all_was_given};
-use opt_session::{Served, the_writes_keep_within_the_budget};
+use opt_session::{
+    Served, the_writes_keep_within_the_budget, the_writes_keep_within_the_budget_at_each_mark,
+};
 use opt_show::{
     LentDisk, close_lent, disk_back, mark_of, mount_lent, open_lent, room_for_a_mark, unopened,
     what_is_read_stays_mounted,
@@ -46,7 +49,8 @@ use std::alloc::Global;
 ///
 /// # Errors
 /// `Fault` comes of a call of the bay that failed, or of one of the disk in the mount or the opening of the file system,
-/// which was counted; that nothing is under the name is one. `Damaged` says what is broken in the image, and `Spent` that
+/// which was counted; that nothing is under the name is one. Where the bay tells, it comes only where the bay's calls may
+/// fail, where nothing is under the name, or where that call of the disk failed as the disk's manner lets it. `Damaged` says what is broken in the image, and `Spent` that
 /// the numbers of its journal are at their end: nothing is read or written then. `SinkFault` comes of a push that failed,
 /// which the sink has counted, and `NoMemory` of want of memory: the commands that were answered by then are the first
 /// ones of the input, and the output took a prefix of the lines of their replies.
@@ -59,6 +63,7 @@ pub fn run_script<B: Bay, S: Source, K: Sink>(
 ) -> Result<Ending, RunRefusal>
     ensures comes { ComesOf B.tells name.now result (B.state bay.old) (B.state bay.new) (record { left = S.remaining input.old; source_faults = S.faults input.old; taken = K.taken out.old; sink_faults = K.faults out.old }) (record { left = S.remaining input.new; source_faults = S.faults input.new; taken = K.taken out.new; sink_faults = K.faults out.new }) }
     ensures cause { HasRunCause result (B.state bay.old) (B.state bay.new) }
+    ensures reason { IsTrue B.tells → result ≡ Err Fault → HasRunReason B.tells name.now result (B.state bay.old) (B.state bay.new) (record { left = S.remaining input.old; source_faults = S.faults input.old; taken = K.taken out.old; sink_faults = K.faults out.old }) (record { left = S.remaining input.new; source_faults = S.faults input.new; taken = K.taken out.new; sink_faults = K.faults out.new }) }
     ensures counts { CountsFaults result (record { left = S.remaining input.old; source_faults = S.faults input.old; taken = K.taken out.old; sink_faults = K.faults out.old }) (record { left = S.remaining input.new; source_faults = S.faults input.new; taken = K.taken out.new; sink_faults = K.faults out.new }) }
     ensures unread { opens_nothing result ≡ true → input.new ≡ input.old }
     ensures silent { opens_nothing result ≡ true → out.new ≡ out.old }
@@ -66,6 +71,7 @@ pub fn run_script<B: Bay, S: Source, K: Sink>(
     let marks = room_for_a_mark(alloc)?;
     let disk = open_lent(bay, name)?;
     let left = run_disk(alloc, disk, marks, input, out);
+    left.disk.lawful();
     close_run(bay, name, left)
 }
 
@@ -123,6 +129,7 @@ fn run_store<D: Disk + Drop, S: Source, K: Sink>(
     a_command_is_answered_in_a_room_that_came_back::<Store<D>>();
     as_many_blocks_are_marked_as_the_tree_has::<Store<D>>();
     books_are_sound::<Store<D>>();
+    the_writes_keep_within_the_budget_at_each_mark::<Store<D>>();
     what_is_read_stays_mounted::<Store<D>>();
     let mark = mark_of(store.disk());
     match Served::open(alloc, store) {

@@ -11,15 +11,16 @@ ghost use Rattle.opt_store.specs.StoreOf.{disk_in, state_of};
 ghost use Rattle.opt_fs.specs.Opened.{blocks_in};
 ghost use Rattle.opt_run.specs.Steps.{AnswersNext, BreaksOff, RestsNow, ServesNext, reply_line, stops_pushing};
 
+use crate::laws::the_disk_keeps_to_its_manner;
 use opt_base::NoMemory;
 use opt_disk::{Disk, Mark};
 use opt_fs::{
-    a_command_is_answered_in_a_room_that_came_back, a_command_raises_the_numbers_little,
-    a_refusal_for_the_disk_has_its_cause,
+    a_command_begins_with_a_tick, a_command_is_answered_in_a_room_that_came_back,
+    a_command_raises_the_numbers_little, a_refusal_for_the_disk_has_its_cause,
 };
 use opt_io::{Sink, SinkFault, push_all};
 use opt_script::reply_text;
-use opt_session::Served;
+use opt_session::{Served, the_writes_keep_within_the_budget_at_each_mark};
 use opt_show::mark_of;
 use opt_store::Store;
 use opt_tree::{Cmd, Reply, a_tree_in_memory_refuses_for_no_disk};
@@ -126,11 +127,14 @@ impl<D: Disk + Drop> Running<D> {
         ensures answers { AnswersNext D.tells cmd.now result self.old.marks.items (state_of D.state (blocks_in self.old.served)) self.new.marks.items (state_of D.state (blocks_in self.new.served)) }
         ensures marks { length self.new.marks.items ≡ length self.old.marks.items + 1 }
     {
+        a_command_begins_with_a_tick::<Store<D>>();
         a_command_is_answered_in_a_room_that_came_back::<Store<D>>();
         a_refusal_for_the_disk_has_its_cause::<Store<D>>();
         a_command_raises_the_numbers_little::<Store<D>>();
+        the_writes_keep_within_the_budget_at_each_mark::<Store<D>>();
         a_tree_in_memory_refuses_for_no_disk();
         let reply = self.served.apply(alloc, cmd);
+        the_disk_keeps_to_its_manner(&self.served);
         let mark = mark_of(self.served.blocks().disk());
         self.marks.push_reserved(mark);
         reply

@@ -1,22 +1,27 @@
 -- What becomes of the bay, and what is said of the image under the name, once a disk of it was shown and handed back.
-use Rattle.std.proofs.Common.{◌≡◌, ◌⊎◌, inl, inr, ℕ, ◌<◌, ◌≤◌, Bool, true, false, IsTrue, if◌then◌else◌, List, [], length, take_all, Option, Some, None, Result, Ok, Err, OnOk, IfErr, refl, sym, ap, ◌∙◌, subst, arith}
+use Rattle.std.proofs.Common.{◌≡◌, ◌⊎◌, inl, inr, ℕ, ◌<◌, ◌≤◌, nat_lt, Bool, true, false, IsTrue, if◌then◌else◌, List, [], length, take_all, Option, Some, None, Result, Ok, Err, OnOk, IfErr, refl, sym, ap, ◌∙◌, subst, arith}
+use Rattle.std.proofs.lemmas.Bool.{false≢true, ltb-true, or_cases}
 use Rattle.std.specs.Io.KnownBytes.{Appends, Keeps}
 use Rattle.opt_base.specs.Counts.{next_count}
 use Rattle.opt_base.specs.Seal.{Blocks}
 use Rattle.opt_disk.specs.declared.bay.Mark.{Mark}
 use Rattle.opt_disk.specs.declared.bay.BayFault.{BayFault}
 use Rattle.opt_disk.specs.declared.bay.BayFault.TheVariants as bay
-use Rattle.opt_disk.specs.Bay.{BayState, BeginsWith, Closes, Kept, Opens, has_faults}
-use Rattle.opt_disk.specs.Disk.{State}
+use Rattle.opt_disk.specs.Bay.{BayState, BeginsWith, Closes, HasBlocks, Kept, Opens, has_faults}
+use Rattle.opt_disk.specs.Disk.{State, HasFailed}
 use Rattle.opt_tree.specs.Listing.{listing}
 use Rattle.opt_show.specs.declared.refusal.ShowRefusal.{ShowRefusal}
 use Rattle.opt_show.specs.declared.refusal.ShowRefusal.TheVariants.{Fault, Damaged, Spent, SinkFault, NoMemory}
 use Rattle.opt_show.specs.Mounted.{IsFresh, ShowsDisk, answer_of, is_fault, of_bay}
-use Rattle.opt_show.specs.Shows.{CountsFault, HandsBack, HandsOutNone, HasImage, HasMarks, HasShowCause, LeavesBay, Lists, ListsFront, Refuses, RefusesOn, fails_pushing, says_nothing}
+use Rattle.opt_show.specs.Shows.{CountsFault, FailedByManner, HandsBack, HandsOutNone, HasFaultReason, HasImage, HasMarks, HasShowCause, LeavesBay, Lists, ListsFront, MayFailToOpen, Refuses, RefusesOn, fails_pushing, says_nothing}
 
 keeps : (taken : Option (List ℕ)) → Keeps taken taken
 keeps None = tt
 keeps (Some xs) = refl
+
+-- another refusal isn't a fault
+not_fault : (why : ShowRefusal) → is_fault {T = Unit {0}} (Err why) ≡ false → why ≡ Fault → ⊥
+not_fault why other is = false≢true (sym other ∙ ap (λ (w : ShowRefusal). is_fault {T = Unit {0}} (Err w)) is)
 
 -- No disk was handed out.
 
@@ -25,6 +30,7 @@ pub record RefusesUnopened (tells : Bool) (why : ShowRefusal) (taken : Option (L
   pub says : Refuses (old.kept name) taken taken why
   pub back : LeavesBay {T = Unit {0}} tells name (Err why) old new
   pub cause : HasShowCause {T = Unit {0}} (Err why) old new
+  pub reason : IsTrue tells → why ≡ Fault → MayFailToOpen name old
   pub pushes : fails_pushing {T = Unit {0}} (Err why) ≡ false
 
 -- a bay that nothing was asked
@@ -33,6 +39,7 @@ unasked tells taken name old = record {
   says = inl (keeps taken);
   back = inl (record { kept = λ t each. refl; faults = omega arith; disk_faults = refl; handed = refl; closed = refl });
   cause = refl;
+  reason = λ t is. absurd (not_fault NoMemory refl is);
   pushes = refl;
 }
 
@@ -42,12 +49,14 @@ unopened state tells taken name bay.Fault old new opens = record {
   says = inl (keeps taken);
   back = inl (record { kept = opens.kept; faults = opens.cause.0; disk_faults = opens.disk_faults; handed = opens.handed; closed = opens.closed });
   cause = inl opens.cause.1;
+  reason = λ t is. opens.fails t;
   pushes = refl;
 }
 unopened state tells taken name bay.NoMemory old new opens = record {
   says = inl (keeps taken);
   back = inl (record { kept = opens.kept; faults = opens.cause.0; disk_faults = opens.disk_faults; handed = opens.handed; closed = opens.closed });
   cause = opens.disk_faults;
+  reason = λ t is. absurd (not_fault NoMemory refl is);
   pushes = refl;
 }
 
@@ -60,6 +69,19 @@ fresh_by (Some kept) d begins = begins.log
 -- it has no event yet
 pub fresh : {D : Type 0} (state : D → State) (tells : Bool) (name : List ℕ) (d : D) (old new : BayState) → Opens tells state name (Ok d) old new → IsFresh tells (state d)
 fresh state tells name d old new opens = record { counts = opens.counts; nothing = λ t. fresh_by (old.kept name) (state d) (opens.disk t) }
+
+-- a disk with faults, on which calls fail as its manner lets them
+failed_by : (d : State) → has_faults d ≡ true → (0 < d.read_faults → d.manner.reads_fail ≡ true) → (0 < d.faults → HasFailed d) → FailedByManner d
+failed_by d some reads others = by (or_cases (nat_lt 0 d.read_faults) (nat_lt 0 d.faults) some)
+  where
+    by : (nat_lt 0 d.read_faults ≡ true) ⊎ (nat_lt 0 d.faults ≡ true) → FailedByManner d
+    by (inl unread) = let more = ltb-true 0 d.read_faults unread in inl (more, reads more)
+    by (inr failed) = let more = ltb-true 0 d.faults failed in inr (more, others more)
+
+-- a disk that began with an image has as many blocks
+has_blocks : (kept : Option Kept) (first last : State) → BeginsWith kept first → last.blocks ≡ first.blocks → HasBlocks last.blocks kept
+has_blocks None first last none same = none
+has_blocks (Some kept) first last begins same = sym (same ∙ begins.blocks)
 
 -- what holds of its blocks holds of the image under the name
 image : (kept : Option Kept) (d : State) (P : ℕ → Blocks → Type 0) → BeginsWith kept d → P d.blocks d.base → HasImage kept P
@@ -80,10 +102,12 @@ pub record ShowsBay (tells : Bool) (name : List ℕ) (before after : Option (Lis
   pub refused : IsTrue tells → IfErr result (Refuses (old.kept name) before after)
   pub back : LeavesBay tells name result old new
   pub cause : HasShowCause result old new
+  pub reason : IsTrue tells → result ≡ Err Fault → HasFaultReason tells name old new
   pub pushes : fails_pushing result ≡ fails_pushing answer
   pub silent : says_nothing result ≡ says_nothing answer
 
-module _ {D : Type 0} (state : D → State) (tells : Bool) (name : List ℕ) (old between new : BayState) (first last : D) (marks : List Mark) (before after : Option (List ℕ)) (opens : Opens tells state name (Ok first) old between) where
+module _ {D : Type 0} (state : D → State) (tells : Bool) (name : List ℕ) (old between new : BayState) (first last : D) (marks : List Mark) (before after : Option (List ℕ)) (opens : Opens tells state name (Ok first) old between)
+    (reads : IsTrue tells → 0 < (state last).read_faults → (state last).manner.reads_fail ≡ true) where
   hands : (back : Result (Unit {0}) BayFault) (closes : Closes tells name (state last) marks back between new) (answer : Result (Unit {0}) ShowRefusal) (opened : Bool) → ShowsDisk tells (state first) (state last) marks before after answer → HasMarks tells opened (state last) marks → HandsBack tells opened name old new
   hands back closes answer opened shows marked = record {
     first = state first;
@@ -91,7 +115,7 @@ module _ {D : Type 0} (state : D → State) (tells : Bool) (name : List ℕ) (ol
     marks = marks;
     between = between;
     back = back;
-    opens = record { counts = opens.counts; disk = opens.disk; kept = opens.kept; cause = opens.cause; disk_faults = opens.disk_faults; handed = opens.handed; closed = opens.closed };
+    opens = record { counts = opens.counts; disk = opens.disk; manner = opens.manner; kept = opens.kept; cause = opens.cause; fails = opens.fails; same = opens.same; disk_faults = opens.disk_faults; handed = opens.handed; closed = opens.closed };
     closes = closes;
     spends = shows.spends;
     marked = marked;
@@ -138,6 +162,28 @@ module _ {D : Type 0} (state : D → State) (tells : Bool) (name : List ℕ) (ol
   rose (most, inl more) = inl (inl (omega (arith, opens.cause.0, more)))
   rose (most, inr end) = inl (inr end)
 
+  -- a fault of the disk has its reason
+  disk_reason : (back : Result (Unit {0}) BayFault) (closes : Closes tells name (state last) marks back between new) → IsTrue tells → (answer : Result (Unit {0}) ShowRefusal) → ShowsDisk tells (state first) (state last) marks before after answer → is_fault answer ≡ true → HasFaultReason tells name old new
+  unfolding hands
+  disk_reason back closes t (Ok x) shows is = absurd (false≢true is)
+  disk_reason back closes t (Err Fault) shows is = by shows.marked
+    where
+      failed : FailedByManner (state last)
+      failed = failed_by (state last) shows.faults (reads t) (shows.cause t)
+
+      by : (marks ≡ []) ⊎ HasMarks tells true (state last) marks → HasFaultReason tells name old new
+      by (inl none) = inr (false, hands back closes (Err Fault) false shows none, failed)
+      by (inr one) = inr (true, hands back closes (Err Fault) true shows one, failed)
+  disk_reason back closes t (Err (Damaged damage)) shows is = absurd (false≢true is)
+  disk_reason back closes t (Err Spent) shows is = absurd (false≢true is)
+  disk_reason back closes t (Err SinkFault) shows is = absurd (false≢true is)
+  disk_reason back closes t (Err NoMemory) shows is = absurd (false≢true is)
+
+  -- and so has one of the bay as the disk goes back
+  bay_reason : IsTrue tells → (answer : Result (Unit {0}) ShowRefusal) → ShowsDisk tells (state first) (state last) marks before after answer → IsTrue between.may_fail ⊎ ¬ HasBlocks (state last).blocks (between.kept name) → HasFaultReason tells name old new
+  bay_reason t answer shows (inl may) = inl (inl (sym opens.same.may_fail ∙ may))
+  bay_reason t answer shows (inr none) = absurd (none (subst (λ (kept : Option Kept). HasBlocks (state last).blocks kept) (sym (opens.kept t name)) (has_blocks (old.kept name) (state first) (state last) (opens.disk t) shows.spends.blocks)))
+
   pub shows_bay : (back : Result (Unit {0}) BayFault) → Closes tells name (state last) marks back between new → (answer : Result (Unit {0}) ShowRefusal) → ShowsDisk tells (state first) (state last) marks before after answer → ShowsBay tells name before after answer (answer_of answer back) old new
   unfolding hands
   shows_bay back closes answer shows = by answer back shows closes
@@ -149,7 +195,7 @@ module _ {D : Type 0} (state : D → State) (tells : Bool) (name : List ℕ) (ol
       part x shows t = under (ListsFront before after) t (front_of before after (state first).blocks (state first).base (shows.says t))
 
       by : (a : Result (Unit {0}) ShowRefusal) (b : Result (Unit {0}) BayFault) → ShowsDisk tells (state first) (state last) marks before after a → Closes tells name (state last) marks b between new → ShowsBay tells name before after a (answer_of a b) old new
-      by (Err why) b shows closed = record { shown = λ t. tt; refused = λ t. refuses why t (shows.says t); back = leaves b closed why shows; cause = causes b closed why shows.faults; pushes = refl; silent = refl }
-      by (Ok x) (Ok y) shows closed = record { shown = whole x shows; refused = λ t. tt; back = (hands (Ok y) closed (Ok x) true shows shows.marked, refl); cause = counted (Ok y) closed false shows.faults; pushes = refl; silent = refl }
-      by (Ok x) (Err bay.Fault) shows closed = record { shown = λ t. tt; refused = λ t. inr (part x shows t); back = inr (inr (hands (Err bay.Fault) closed (Ok x) true shows shows.marked)); cause = rose closed.cause; pushes = refl; silent = refl }
-      by (Ok x) (Err bay.NoMemory) shows closed = record { shown = λ t. tt; refused = λ t. inr (part x shows t); back = inr (inr (hands (Err bay.NoMemory) closed (Ok x) true shows shows.marked)); cause = counted (Err bay.NoMemory) closed false shows.faults; pushes = refl; silent = refl }
+      by (Err why) b shows closed = record { shown = λ t. tt; refused = λ t. refuses why t (shows.says t); back = leaves b closed why shows; cause = causes b closed why shows.faults; reason = λ t is. disk_reason b closed t (Err why) shows (ap is_fault is); pushes = refl; silent = refl }
+      by (Ok x) (Ok y) shows closed = record { shown = whole x shows; refused = λ t. tt; back = (hands (Ok y) closed (Ok x) true shows shows.marked, refl); cause = counted (Ok y) closed false shows.faults; reason = λ t is. absurd (false≢true (ap is_fault is)); pushes = refl; silent = refl }
+      by (Ok x) (Err bay.Fault) shows closed = record { shown = λ t. tt; refused = λ t. inr (part x shows t); back = inr (inr (hands (Err bay.Fault) closed (Ok x) true shows shows.marked)); cause = rose closed.cause; reason = λ t is. bay_reason t (Ok x) shows (closed.fails t); pushes = refl; silent = refl }
+      by (Ok x) (Err bay.NoMemory) shows closed = record { shown = λ t. tt; refused = λ t. inr (part x shows t); back = inr (inr (hands (Err bay.NoMemory) closed (Ok x) true shows shows.marked)); cause = counted (Err bay.NoMemory) closed false shows.faults; reason = λ t is. absurd (false≢true (ap is_fault is)); pushes = refl; silent = refl }

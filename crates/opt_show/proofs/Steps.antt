@@ -1,5 +1,5 @@
 -- What each step of a showing leaves: the mount, the opening, and the listing.
-use Rattle.std.proofs.Common.{◌≡◌, ◌⊎◌, inl, inr, ℕ, ◌+◌, ◌≤◌, nat_lt, ◌||◌, Bool, true, false, true≢false, IsTrue, List, [], ◌∷◌, ◌++◌, length, Option, Some, None, Result, Ok, Err, OnOk, OnErr, refl, sym, ap, ap₂, ◌∙◌, subst, arith}
+use Rattle.std.proofs.Common.{◌≡◌, ◌⊎◌, inl, inr, ℕ, ◌+◌, ◌<◌, ◌≤◌, nat_lt, ◌||◌, Bool, true, false, true≢false, IsTrue, List, [], ◌∷◌, ◌++◌, length, Option, Some, None, Result, Ok, Err, OnOk, OnErr, refl, sym, ap, ap₂, ◌∙◌, subst, arith}
 use Rattle.std.specs.Io.KnownBytes.{Appends, Keeps}
 use Rattle.opt_base.specs.Counts.{after_call}
 use Rattle.opt_base.specs.Seal.{Blocks}
@@ -47,6 +47,9 @@ keeps : (taken : Option (List ℕ)) → Keeps taken taken
 keeps None = tt
 keeps (Some xs) = refl
 
+none_below : {n : ℕ} → n ≡ 0 → 0 < n → ⊥
+none_below is some = omega (arith, is, some)
+
 -- a disk whose counts were 0 has faults where a call failed
 faulty : (unread failed : Bool) (d : disk.State) → d.read_faults ≡ after_call unread 0 → d.faults ≡ after_call failed 0 → has_faults d ≡ (unread || failed)
 faulty unread failed d reads others = ap₂ (λ (r f : ℕ). nat_lt 0 r || nat_lt 0 f) reads others ∙ by unread failed
@@ -56,6 +59,11 @@ faulty unread failed d reads others = ap₂ (λ (r f : ℕ). nat_lt 0 r || nat_l
     by true false = refl
     by false true = refl
     by false false = refl
+
+-- a call that was counted in a count of 0 has failed
+counted_by : (failed : Bool) (n : ℕ) → n ≡ after_call failed 0 → 0 < n → failed ≡ true
+counted_by true n is some = refl
+counted_by false n is some = absurd (none_below is some)
 
 unread_alone : (u : Bool) → (u || false) ≡ u
 unread_alone true = refl
@@ -183,6 +191,7 @@ module _ (laws : StandingLaws) where
       waits = leaves.spends.waits;
       written = λ t. written_by tells (is_read_fault why) (is_disk_fault why) first new t (fresh.nothing t) leaves;
     };
+    cause = λ t some. leaves.cause t (counted_by (is_disk_fault why) new.faults (leaves.spends.faults ∙ ap (after_call (is_disk_fault why)) fresh.counts.faults) some);
     faults = faulty (is_read_fault why) (is_disk_fault why) new (leaves.spends.read_faults ∙ ap (after_call (is_read_fault why)) fresh.counts.read_faults) (leaves.spends.faults ∙ ap (after_call (is_disk_fault why)) fresh.counts.faults) ∙ faults_of why;
     crash = λ t. throughout first.blocks first.base new leaves.spends.same.blocks leaves.spends.same.base (rests tells (is_read_fault why) (is_disk_fault why) first new t (fresh.nothing t) leaves (rests_by first new why (says t)));
     marked = unmarked tells new why;
@@ -196,6 +205,7 @@ module _ (laws : StandingLaws) where
       → ShowsDisk tells first (known (disk_in store)) marks before after answer
   goes_back known tells unread first store marks before after answer is size failed marked says = record {
     spends = record { blocks = size ∙ is.blocks; base = is.base; manner = is.manner; polls = is.polls; waits = is.waits; written = is.written };
+    cause = λ t some. absurd (none_below is.faults some);
     faults = faulty unread false (known (disk_in store)) is.read_faults is.faults ∙ unread_alone unread ∙ sym failed;
     crash = λ t.
         let h = is.held t in

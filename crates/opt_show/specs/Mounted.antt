@@ -1,5 +1,5 @@
 -- What is known of a disk and of its store on the way of a showing, and which refusal comes of which. Only private contracts speak of it.
-use Rattle.std.specs.Prelude.{◌≡◌, ◌⊎◌, ℕ, ◌+◌, ◌≤◌, Bool, true, false, IsTrue, List, [], length, Option, Result, Ok, Err}
+use Rattle.std.specs.Prelude.{◌≡◌, ◌⊎◌, ℕ, ◌+◌, ◌<◌, ◌≤◌, Bool, true, false, IsTrue, List, [], length, Option, Result, Ok, Err}
 use Rattle.opt_base.specs.Counts.{after_call, after_calls}
 use Rattle.opt_base.specs.Seal.{Blocks}
 use Rattle.opt_disk.specs.declared.bay.Mark.{Mark}
@@ -115,6 +115,7 @@ MarksFor tells d marks (Err NoMemory) = (marks ≡ []) ⊎ HasMark tells d marks
 pub record ShowsDisk {T : Type 0} (tells : Bool) (first last : disk.State) (marks : List Mark) (before after : Option (List ℕ)) (answer : Result T ShowRefusal) : Type 0 where
   pub spends : SpendsAtMost tells first last
   pub faults : has_faults last ≡ is_fault answer
+  pub cause : IsTrue tells → 0 < last.faults → disk.HasFailed last
   pub crash : IsTrue tells → StandsThroughout last
   pub marked : MarksFor tells last marks answer
   pub says : IsTrue tells → SaysOn before after answer first.blocks first.base

@@ -8,7 +8,7 @@ use Rattle.opt_disk.specs.declared.bay.Mark.{Mark}
 use Rattle.opt_disk.specs.declared.bay.BayFault.{BayFault}
 use Rattle.opt_disk.specs.Bay.{Kept, BayState, Opens, Closes}
 use Rattle.opt_disk.specs.Crash.{Window}
-use Rattle.opt_disk.specs.Disk.{State, writes_in}
+use Rattle.opt_disk.specs.Disk.{State, HasFailed, writes_in}
 use Rattle.opt_tree.specs.Tree.{Tree}
 use Rattle.opt_tree.specs.Listing.{listing}
 use Rattle.opt_stands.specs.Stands.{StandsFor}
@@ -96,7 +96,15 @@ pub record SpendsAtMost (tells : Bool) (first last : State) : Type 0 where
   pub waits : (made : ℕ) × (made ≤ first.blocks + 2) × (last.waits ≡ after_calls made first.waits)
   pub written : IsTrue tells → writes_in last.log ≤ first.blocks + 2
 
+-- a call of the disk failed as its manner lets it: a read, where reads may fail, or another call, for a reason that the manner has
+abbrev pub FailedByManner : State → Type 0
+FailedByManner d = ((0 < d.read_faults) × (d.manner.reads_fail ≡ true)) ⊎ ((0 < d.faults) × HasFailed d)
+
 -- The bay.
+
+-- a disk may not come from under a name: calls of the bay may fail of themselves, or nothing is there
+abbrev pub MayFailToOpen : List ℕ → BayState → Type 0
+MayFailToOpen name bay = IsTrue bay.may_fail ⊎ (bay.kept name ≡ None)
 
 -- No disk was handed out: what is under each name is as it was, and no disk was counted.
 pub record HandsOutNone (tells : Bool) (old new : BayState) : Type 0 where
@@ -144,3 +152,7 @@ HasShowCause (Err (Damaged damage)) old new = new.disk_faults ≡ old.disk_fault
 HasShowCause (Err Spent) old new = new.disk_faults ≡ old.disk_faults
 HasShowCause (Err SinkFault) old new = new.disk_faults ≡ old.disk_faults
 HasShowCause (Err NoMemory) old new = new.disk_faults ≡ old.disk_faults
+
+-- what a fault comes of, where the bay tells: calls of the bay may fail, or nothing is under the name; or a disk was handed out under the name and handed back, and a call of it had failed as its manner lets it
+abbrev pub HasFaultReason : Bool → List ℕ → BayState → BayState → Type 0
+HasFaultReason tells name old new = MayFailToOpen name old ⊎ ((opened : Bool) × (b : HandsBack tells opened name old new) × FailedByManner b.last)

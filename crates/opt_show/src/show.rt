@@ -15,9 +15,9 @@ ghost use Rattle.opt_store.specs.StoreOf.{disk_in, state_of};
 ghost use Rattle.opt_fs.specs.Listing.{CountsPushes};
 ghost use Rattle.opt_fs.specs.Opened.{blocks_in, used_to};
 ghost use Rattle.opt_fs.specs.Sessions.{IsBetween, IsSession};
-ghost use Rattle.opt_show.specs.declared.refusal.ShowRefusal.TheVariants.{NoMemory as OutOfMemory};
+ghost use Rattle.opt_show.specs.declared.refusal.ShowRefusal.TheVariants.{Fault, NoMemory as OutOfMemory};
 ghost use Rattle.opt_show.specs.Mounted.{IsFresh, IsMarkOf, IsMountedOn, HasSession, ShowsDisk, answer_of, is_fault, of_bay};
-ghost use Rattle.opt_show.specs.Shows.{HasImage, HasShowCause, LeavesBay, Lists, Refuses, fails_pushing, says_nothing};
+ghost use Rattle.opt_show.specs.Shows.{HasFaultReason, HasImage, HasShowCause, LeavesBay, Lists, Refuses, fails_pushing, says_nothing};
 
 use crate::lent::LentDisk;
 use crate::mounting::{
@@ -38,7 +38,8 @@ use std::alloc::Global;
 ///
 /// # Errors
 /// `Fault` comes of a call of the bay or of the disk that failed, which was counted; that nothing is under the name is
-/// one. `Damaged` says what is broken in the image, and `Spent` that the numbers of its journal are at their end:
+/// one. Where the bay tells, it comes only where the bay's calls may fail, where nothing is under the name, or where a
+/// call of the disk failed as the disk's manner lets it. `Damaged` says what is broken in the image, and `Spent` that the numbers of its journal are at their end:
 /// nothing is pushed then. `SinkFault` comes of a push that failed, which the sink has counted, and `NoMemory` of want
 /// of memory. With these three the sink took a prefix of the listing, or nothing.
 pub fn show_tree<B: Bay, K: Sink>(
@@ -52,11 +53,13 @@ pub fn show_tree<B: Bay, K: Sink>(
     ensures silent { says_nothing result ≡ true → out.new ≡ out.old }
     ensures back { LeavesBay B.tells name.now result (B.state bay.old) (B.state bay.new) }
     ensures cause { HasShowCause result (B.state bay.old) (B.state bay.new) }
+    ensures reason { IsTrue B.tells → result ≡ Err Fault → HasFaultReason B.tells name.now (B.state bay.old) (B.state bay.new) }
     ensures pushes { CountsPushes (fails_pushing result) (K.faults out.old) (K.faults out.new) }
 {
     let marks = room_for_a_mark(alloc)?;
     let disk = open_lent(bay, name)?;
     let left = show_disk(alloc, disk, marks, out);
+    left.disk.lawful();
     close_shown(bay, name, left)
 }
 

@@ -2,14 +2,14 @@ use Rattle.std.proofs.Common.{arith, inr, OnOk, Result, subst, sym}
 use Rattle.opt_show.specs.Shows.{HasImage}
 use Rattle.opt_make.specs.declared.refusal.MakeRefusal.{MakeRefusal}
 use Rattle.opt_make.specs.Makes.{HasMakeCause, IsFormattedImage}
-use Rattle.opt_make.proofs.Bays.{BetweenCalls, cause, hands, made}
+use Rattle.opt_make.proofs.Bays.{BetweenCalls, cause, hands, made, reason}
 use Rattle.opt_make.proofs.make.make_image.Given.{Over}
 use Rattle.opt_make.proofs.make.make_image.Goals as goal
 use Rattle.opt_make.proofs.make.make_image.Goals.{After-close_made}
 
 -- what the three calls made, as they follow each other
 calls : (g : Over) (c : After-close_made g) → BetweenCalls g.B.D.Disk.state g.B.Bay.tells c.args.name.now c.args.geom.now (g.B.Bay.state c.args.bay.now) (g.B.Bay.state c.make_disk.new.bay) (g.B.Bay.state c.close_made.new.bay) c.in_ok-disk.disk c.mkfs-written.new.disk c.mkfs-written.result c.close_made.ensures.0
-calls g c = record { makes = c.in_ok-disk.ensures.makes; spends = c.mkfs-written.ensures.spends; closes = c.close_made.ensures.1 }
+calls g c = record { makes = c.in_ok-disk.ensures.makes; spends = c.mkfs-written.ensures.spends; closes = c.close_made.ensures.1; failed = λ t. c.mkfs-written.ensures.cause (g.met.B.Bay.told t) }
 
 pub returns-clause-made : goal.returns-clause-made
 returns-clause-made g c = λ t.
@@ -21,6 +21,11 @@ pub returns-clause-back : goal.returns-clause-back
 returns-clause-back g c =
     inr (hands g.B.D.Disk.state g.B.Bay.tells c.args.name.now c.args.geom.now _ _ _ c.in_ok-disk.disk c.mkfs-written.new.disk c.mkfs-written.result c.close_made.ensures.0 (calls g c) c.close_made.result c.close_made.ensures.2
     (λ t. c.mkfs-written.ensures.adds (g.met.B.Bay.told t)) (λ t. c.mkfs-written.ensures.below (g.met.B.Bay.told t)))
+
+pub returns-clause-reason : goal.returns-clause-reason
+returns-clause-reason g c =
+    reason g.B.D.Disk.state g.B.Bay.tells c.args.name.now c.args.geom.now _ _ _ c.in_ok-disk.disk c.mkfs-written.new.disk c.mkfs-written.result c.close_made.ensures.0 (calls g c) c.close_made.result c.close_made.ensures.2
+    (λ t. c.mkfs-written.ensures.adds (g.met.B.Bay.told t)) (λ t. c.mkfs-written.ensures.below (g.met.B.Bay.told t))
 
 pub returns-clause-cause : goal.returns-clause-cause
 returns-clause-cause g c =

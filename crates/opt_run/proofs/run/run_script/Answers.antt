@@ -1,4 +1,4 @@
-use Rattle.std.proofs.Common.{Bool, Result, subst, sym, ◌∙◌, ap}
+use Rattle.std.proofs.Common.{Bool, inl, Result, subst, sym, ◌∙◌, ap}
 use Rattle.opt_base.specs.Counts.{after_call}
 use Rattle.opt_show.specs.Lent.{disk_of}
 use Rattle.opt_run.specs.declared.ending.Ending.{Ending}
@@ -23,7 +23,7 @@ whole g c =
     let close = c.close_run.ensures in
     subst (λ (r : Result Ending RunRefusal). RunsBay g.B.Bay.tells c.args.name.now c.run_disk-left.result.answer r (g.B.Bay.state c.args.bay.now) (g.B.Bay.state c.close_run.new.bay) (before g c) (after g c)) (sym close.2)
     (runs_bay (λ lent. g.B.D.Disk.state (disk_of lent)) g.B.Bay.tells c.args.name.now (g.B.Bay.state c.args.bay.now) (g.B.Bay.state c.open_lent.new.bay) (g.B.Bay.state c.close_run.new.bay) c.in_ok-disk.disk c.run_disk-left.result.disk c.run_disk-left.result.marks.items
-    (before g c) (after g c) c.in_ok-disk.ensures c.run_disk-left.result.answer close.0 c.run_disk-left.ensures.comes close.1)
+    (before g c) (after g c) c.in_ok-disk.ensures (λ t. (c.lawful.ensures t).reads) c.run_disk-left.result.answer close.0 c.run_disk-left.ensures.comes close.1)
 
 pub returns-clause-comes : goal.returns-clause-comes
 unfolding before after
@@ -32,6 +32,10 @@ returns-clause-comes g c = (whole g c).comes
 pub returns-clause-cause : goal.returns-clause-cause
 unfolding before after
 returns-clause-cause g c = (whole g c).cause
+
+pub returns-clause-reason : goal.returns-clause-reason
+unfolding before after
+returns-clause-reason g c = (whole g c).reason
 
 pub returns-clause-counts : goal.returns-clause-counts
 unfolding before after
@@ -56,6 +60,9 @@ returns-in_err-marks-clause-comes g c = (unasked_by g.B.Bay.tells c.from_residua
 pub returns-in_err-marks-clause-cause : goal.returns-in_err-marks-clause-cause
 returns-in_err-marks-clause-cause g c = (unasked_by g.B.Bay.tells c.from_residual.result c.args.name.now (g.B.Bay.state c.args.bay.now) (record { left = g.S.Source.remaining c.args.input.now; source_faults = g.S.Source.faults c.args.input.now; taken = g.K.Sink.taken c.args.out.now; sink_faults = g.K.Sink.faults c.args.out.now }) c.from_residual.ensures.1).cause
 
+pub returns-in_err-marks-clause-reason : goal.returns-in_err-marks-clause-reason
+returns-in_err-marks-clause-reason g c = λ t is. inl ((unasked_by g.B.Bay.tells c.from_residual.result c.args.name.now (g.B.Bay.state c.args.bay.now) (record { left = g.S.Source.remaining c.args.input.now; source_faults = g.S.Source.faults c.args.input.now; taken = g.K.Sink.taken c.args.out.now; sink_faults = g.K.Sink.faults c.args.out.now }) c.from_residual.ensures.1).reason t is)
+
 pub returns-in_err-marks-clause-counts : goal.returns-in_err-marks-clause-counts
 returns-in_err-marks-clause-counts g c = (unasked_by g.B.Bay.tells c.from_residual.result c.args.name.now (g.B.Bay.state c.args.bay.now) _ c.from_residual.ensures.1).counts
 
@@ -64,6 +71,9 @@ returns-in_err-disk-clause-comes g c = (unlent_by (λ lent. g.B.D.Disk.state (di
 
 pub returns-in_err-disk-clause-cause : goal.returns-in_err-disk-clause-cause
 returns-in_err-disk-clause-cause g c = (unlent_by (λ lent. g.B.D.Disk.state (disk_of lent)) g.B.Bay.tells c.from_residual-in_err-disk.result c.args.name.now c.in_err-disk.field-0.0 (g.B.Bay.state c.args.bay.now) (g.B.Bay.state c.open_lent.new.bay) (record { left = g.S.Source.remaining c.args.input.now; source_faults = g.S.Source.faults c.args.input.now; taken = g.K.Sink.taken c.args.out.now; sink_faults = g.K.Sink.faults c.args.out.now }) c.from_residual-in_err-disk.ensures.1 c.in_err-disk.ensures).cause
+
+pub returns-in_err-disk-clause-reason : goal.returns-in_err-disk-clause-reason
+returns-in_err-disk-clause-reason g c = λ t is. inl ((unlent_by (λ lent. g.B.D.Disk.state (disk_of lent)) g.B.Bay.tells c.from_residual-in_err-disk.result c.args.name.now c.in_err-disk.field-0.0 (g.B.Bay.state c.args.bay.now) (g.B.Bay.state c.open_lent.new.bay) (record { left = g.S.Source.remaining c.args.input.now; source_faults = g.S.Source.faults c.args.input.now; taken = g.K.Sink.taken c.args.out.now; sink_faults = g.K.Sink.faults c.args.out.now }) c.from_residual-in_err-disk.ensures.1 c.in_err-disk.ensures).reason t is)
 
 pub returns-in_err-disk-clause-counts : goal.returns-in_err-disk-clause-counts
 returns-in_err-disk-clause-counts g c = (unlent_by (λ lent. g.B.D.Disk.state (disk_of lent)) g.B.Bay.tells c.from_residual-in_err-disk.result c.args.name.now c.in_err-disk.field-0.0 (g.B.Bay.state c.args.bay.now) (g.B.Bay.state c.open_lent.new.bay) _ c.from_residual-in_err-disk.ensures.1 c.in_err-disk.ensures).counts

@@ -4,6 +4,7 @@ use Rattle.opt_blocks.specs.State.{Bookkeeping}
 use Rattle.opt_fsck.specs.Whole.{fails_by}
 use Rattle.opt_fs.specs.Opened.{blocks_in}
 use Rattle.opt_store.specs.StoreOf.{state_of}
+use Rattle.opt_tree.specs.Step.{session_on}
 use Rattle.opt_run.specs.Steps.{SoFar}
 use Rattle.opt_run.proofs.Beginning.{drawn, first_so_far, known_first, mounted_with}
 use Rattle.opt_run.proofs.Finishing.{damage_stays, none_stays, unopened_back, unopened_counts}
@@ -32,7 +33,8 @@ returns-in-Ok-clause-comes g c = λ first is.
     (is_mark_in c.mark_of-mark.result s
     (c.mark_of-mark.ensures.moment t ∙ ap (λ d. length (known d).log) c.disk.ensures.value)
     (c.mark_of-mark.ensures.read_faults ∙ ap (λ d. (known d).read_faults) c.disk.ensures.value)
-    (c.mark_of-mark.ensures.faults ∙ ap (λ d. (known d).faults) c.disk.ensures.value))))))
+    (c.mark_of-mark.ensures.faults ∙ ap (λ d. (known d).faults) c.disk.ensures.value))
+    (c.the_writes_keep_within_the_budget_at_each_mark.ensures.first s.books.geom (session_on s.books.geom.i tree.0) u.crash.log)))))
 
 pub returns-in-Err-clause-comes : goal.returns-in-Err-clause-comes
 returns-in-Err-clause-comes g c = λ first is.

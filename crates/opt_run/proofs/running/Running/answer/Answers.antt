@@ -5,7 +5,7 @@ use Rattle.opt_fs.specs.Opened.{blocks_in}
 use Rattle.opt_store.specs.StoreOf.{disk_in, state_of}
 use Rattle.opt_run.specs.Steps.{SoFar}
 use Rattle.opt_run.proofs.Beginning.{drawn}
-use Rattle.opt_run.proofs.Counting.{counts_by_reply, moved}
+use Rattle.opt_run.proofs.Counting.{counts_by_reply, manner_stays, moved}
 use Rattle.opt_run.proofs.Going.{is_mark_in, more_so_far}
 use Rattle.opt_run.proofs.running.Running.answer.Goals as goal
 
@@ -24,6 +24,7 @@ returns-clause-answers g c = λ first cmds replies h.
     (more_so_far tells first cmd reply c.mark_of-mark.result (state_of known old) (state_of known new) cmds replies c.args.self.now.marks.items move.unread move.failed move.counted (λ t. record {
       serves = c.apply-reply.ensures.serves t (λ s. drawn known s);
       budget = c.apply-reply.ensures.budget t;
+      spends = λ k u mounted asked given moments served budget before. c.the_writes_keep_within_the_budget_at_each_mark.ensures.more old new k u mounted asked given moments cmd reply served (c.apply-reply.ensures.time t).advances.grows budget before;
       room = λ f is. c.a_command_is_answered_in_a_room_that_came_back.ensures.answers t old new f cmd reply is applies;
       base = (c.apply-reply.ensures.time t).advances.base;
       grows = (c.apply-reply.ensures.time t).advances.grows;
@@ -31,6 +32,9 @@ returns-clause-answers g c = λ first cmds replies h.
       counted = λ f session. counts_by_reply tells (λ s. state_of known s) cmd reply old new applies t c.a_tree_in_memory_refuses_for_no_disk.ensures.alone f session;
       stopped = λ f session late. c.a_refusal_for_the_disk_has_its_cause.ensures.stopped t old new f cmd reply session applies late;
       spent = λ f session late. c.a_refusal_for_the_disk_has_its_cause.ensures.spent t old new f cmd reply session applies late;
+      manner = manner_stays tells (λ s. state_of known s) cmd reply old new applies (λ meant run left. c.a_command_begins_with_a_tick.ensures cmd reply old new meant run left applies);
+      reads = c.the_disk_keeps_to_its_manner.ensures.reads t;
+      fails = c.the_disk_keeps_to_its_manner.ensures.fails t;
       is_mark = is_mark_in c.mark_of-mark.result (state_of known new)
           (c.mark_of-mark.ensures.moment t ∙ ap (λ d. length (known d).log) on)
           (c.mark_of-mark.ensures.read_faults ∙ ap (λ d. (known d).read_faults) on)
