@@ -75,15 +75,19 @@ module _ (g : Geometry) (laws : HasLaws g) (at : Blocks) (same : (b : ℕ) → b
   not_spent : (r : FoundRun) → IsFound g.n at r → is_spent r.header (length r.records) ≡ true → ⊥
   not_spent r is spent = true≢false (sym (sym (ap₂ (λ (h : Header) (rs : List Record). is_spent h (length rs)) (found_header r is) (found_records r is)) ∙ spent))
 
-  header_epoch : (slot : ℕ) (h : Header) → slot < 2 → header_of g.n (at slot) ≡ Some h → h.epoch ≤ 1
+  pub header_epoch : (slot : ℕ) (h : Header) → slot < 2 → header_of g.n (at slot) ≡ Some h → h.epoch ≤ 1
   header_epoch zero h low is = subst (λ (k : Header). k.epoch ≤ 1) (same_Some _ _ (sym first_newest.stands ∙ is)) (omega arith)
   header_epoch (suc zero) h low is = absurd (none-some h (sym laws.no_header ∙ sym (ap (header_of g.n) slot_beside) ∙ is))
   header_epoch (suc (suc slot)) h low is = absurd (omega (arith, low))
 
-  low_epoch : (e : ℕ) → (e ≡ 0) ⊎ (IsHeaderEpoch g at e ⊎ IsRecordEpoch g at e) → e ≤ 1
+  pub low_epoch : (e : ℕ) → (e ≡ 0) ⊎ (IsHeaderEpoch g at e ⊎ IsRecordEpoch g at e) → e ≤ 1
   low_epoch e (inl none) = omega (arith, none)
   low_epoch e (inr (inl (slot, h, low, stands, is))) = omega (arith, is, header_epoch slot h low stands)
   low_epoch e (inr (inr (place, low, begins, is))) = absurd (zeros_no_record (sym (ap is_of_record (ring_zeros place)) ∙ begins))
+
+  -- the first header's epoch is one
+  pub first_epoch : (e : ℕ) → IsGreatestEpoch g at e → 1 ≤ e
+  first_epoch e greatest = greatest.headers 1 (0, empty_header g 1 1, omega arith, first_newest.stands, refl)
 
   epoch_not_spent : (r : FoundRun) (e : ℕ) → IsFound g.n at r → IsGreatestEpoch r.header.geom at e → 9223372036854775792 ≤ e → ⊥
   epoch_not_spent r e is greatest end =

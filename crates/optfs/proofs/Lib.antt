@@ -2,9 +2,12 @@ pub mod LineLemmas
 pub mod Entries
 pub mod EventLines
 pub mod Waiting
+pub mod Mounts
+pub mod Placed
 mod Sureness
 pub mod Rooms
 pub mod Paces
+pub mod Losses
 pub mod Answering
 pub mod Runs
 pub mod RecordingLemmas
@@ -12,6 +15,7 @@ pub mod ReadingLemmas
 pub mod ProgramLemmas
 mod Requests
 mod Scripts
+mod Calm
 mod Quiet
 mod FormattedFound
 mod MountLemmas

@@ -1,5 +1,5 @@
 -- What comes of the mount of a disk that was just formatted, by what a mount, a store and a file system say of any disk.
-use Rattle.std.proofs.Common.{◌≡◌, ◌↔◌, inl, inr, ℕ, ◌+◌, ◌^◌, ◌<◌, ◌≤◌, max, Bool, true, IsTrue, List, [], ◌∷◌, ◌++◌, length, take, refl, sym, ap, ap₂, ◌∙◌, subst, arith}
+use Rattle.std.proofs.Common.{◌≡◌, ◌↔◌, inl, inr, ℕ, ◌+◌, ◌^◌, ◌<◌, ◌≤◌, max, Bool, true, IsTrue, List, [], Option, ◌∷◌, ◌++◌, length, take, refl, sym, ap, ap₂, ◌∙◌, subst, arith, Some}
 use Rattle.opt_base.specs.Seal.{Blocks, sha256}
 use Rattle.opt_disk.specs.declared.event.Event.{Event}
 use Rattle.opt_disk.specs.declared.event.Event.TheVariants.{Lost}
@@ -9,6 +9,7 @@ use Rattle.opt_disk.specs.Disk as disk
 use Rattle.opt_disk.specs.Lawful.{IsLogOf}
 use Rattle.opt_disk.specs.Manner.{Manner, GoesBy}
 use Rattle.opt_geom.specs.Geometry.{Geometry, data_start}
+use Rattle.opt_journal.specs.declared.record.Commit.{Commit}
 use Rattle.opt_journal.specs.Formatted.{formatted}
 use Rattle.opt_journal.specs.declared.header.Header.{Header}
 use Rattle.opt_journal.specs.Run.{Newest, HeldIs, Record, live_part}
@@ -16,20 +17,23 @@ use Rattle.opt_tree.specs.Step.{start, session_on}
 use Rattle.opt_tree.specs.Tree.{Tree}
 use Rattle.opt_stands.specs.Stands.{IsTreeOf, StandsFor}
 use Rattle.opt_crash.specs.Ledger.{HoldsUnder}
-use Rattle.opt_crash.specs.Opening.{StopsAtOne}
+use Rattle.opt_crash.specs.Opening.{StopsAtOne, WritesOne}
+use Rattle.opt_crash.specs.Points as points
+use Rattle.opt_recover.specs.Epoch.{IsGreatestEpoch}
 use Rattle.opt_recover.specs.Search.{IsFound, last_number}
 use Rattle.opt_mount.specs.Mount.{HasNothingToReplay, IsIdle, IsUsedUp, settled_on}
 use Rattle.opt_blocks.specs.State.{State}
 use Rattle.opt_store.specs.declared.refusal.StoreRefusal.TheVariants.{NoHeader, BadBit, Spent}
-use Rattle.opt_store.specs.Mounting.{GoesOnFrom, LeavesDisk}
+use Rattle.opt_store.specs.Mounting.{GoesOnFrom, HasOpened, LeavesDisk}
 use Rattle.opt_store.specs.Refusal.{RefusalSays}
 use Rattle.opt_session.specs.Crashes.{LeavesPoints, IsCrashConsistent}
 use Rattle.opt_memdisk.specs.MemDisk.{MemDiskState, state_of as disk_state}
 use Rattle.optfs.specs.declared.disk.Behaviour.{Behaviour}
-use Rattle.optfs.specs.Behaving.{IsSureBy, MountFails}
-use Rattle.optfs.specs.Disks.{BeganFormatted, IsFormatted, IsFormattedDisk, HasFault, HoldsRoot, FailedToMount, setting_on}
-use Rattle.optfs.proofs.FormattedFound.{HasLaws, found_header, found_records, has_header, not_used_up, no_bad_bit}
-use Rattle.optfs.proofs.Sureness.{sure_by}
+use Rattle.optfs.specs.Behaving.{IsSureBy, MountFails, session_by}
+use Rattle.optfs.specs.Disks.{BeganFormatted, IsFormatted, IsFormattedDisk, HasFault, HoldsRoot, FailedToMount, OpensAtMost, StandsOpened, TellsBy, setting_on}
+use Rattle.optfs.proofs.FormattedFound.{HasLaws, first_epoch, found_header, found_records, has_header, header_epoch, low_epoch, not_used_up, no_bad_bit}
+use Rattle.optfs.proofs.Mounts.{at_most_by, stopped_at}
+use Rattle.optfs.proofs.Sureness.{starts_by, sure_by}
 
 -- what laws of other crates say of the formatted disk's live blocks, and of each image that has them
 pub record HasRoot (g : Geometry) : Type 0 where
@@ -99,6 +103,7 @@ module _ (g : Geometry) (root : HasRoot g) where
         events = events;
         writes = writes;
         cause = by fault;
+        most = at_most_by d.log lawful.lawful h.most;
       }
     where
       -- nothing came, so that the call that failed was a first write, or a poll or a wait
@@ -187,8 +192,62 @@ module _ (g : Geometry) (root : HasRoot g) where
         let was = from.sure front p in
         (λ x. by.0 (was.0 x), λ x. was.1 (by.1 x))
 
-    pub left_with : (unread faulty : Bool) (new : disk.State) → LeavesDisk true unread faulty d new → HoldsRoot g new
-    left_with unread faulty new left = record { began = left_began unread faulty new left; images = left_images unread faulty new left }
+    -- the records are those of the first session, which the log tells
+    pub tells_of : (s : State) → GoesOnFrom d s → s.books.geom ≡ g → ((b : ℕ) → b < g.n → s.crash.base b ≡ formatted g b) → TellsBy (session_by g (length s.crash.log)) s.crash.records
+    tells_of s from geom same =
+        let found = subst (λ (n : ℕ). IsFound n (settled_on d) from.found.run) is.began.size from.is_found.is_found in
+        let header = found_header g laws (settled_on d) settled_same from.found.run found in
+        let records = found_records g laws (settled_on d) settled_same from.found.run found in
+        let first : from.session.first ≡ 1 = from.first ∙ ap₂ (λ (h : Header) (rs : List Record). last_number h (length rs) + 1) header records in
+        let greatest : IsGreatestEpoch g (settled_on d) from.found.epoch = subst (λ (h : Header). IsGreatestEpoch h.geom (settled_on d) from.found.epoch) header from.is_found.is_greatest in
+        let epoch : from.session.epoch ≡ 2 = omega (arith, from.epoch, low_epoch g laws (settled_on d) settled_same from.found.epoch greatest.is_one, first_epoch g laws (settled_on d) settled_same from.found.epoch greatest) in
+        let session : from.session ≡ session_by g (length s.crash.log) = session_is from.session g (length s.crash.log) (from.geom ∙ geom) epoch from.mounted first in
+        record {
+          told = from.records.told ∙ ap {B = List Event → Option (List Commit)} (λ (x : points.MountedSession) (front : List Event). Some (points.records_told x front)) session;
+          starts = λ front number.
+              let by = starts_by g (omega (arith, laws.limits.data_room)) from.session s.crash.base (from.geom ∙ geom) same front number in
+              let was = from.records.starts front number in
+              (λ x. by.0 (was.0 x), λ x. was.1 (by.1 x));
+        }
+      where
+        session_is : (x : points.MountedSession) (k : Geometry) (n : ℕ) → x.geom ≡ k → x.epoch ≡ 2 → x.mounted ≡ n → x.first ≡ 1 → x ≡ session_by k n
+        session_is x k n geom epoch mounted first = λ i. record { geom = geom i; epoch = epoch i; mounted = mounted i; first = first i }
+
+    -- the header under which it was opened is the first session's
+    pub opened_by : (s : State) → HasOpened d s → s.books.geom ≡ g → StandsOpened g s
+    opened_by s o geom =
+        let found = subst (λ (n : ℕ). IsFound n (settled_on d) o.goes_on.found) is.began.size o.goes_on.is_found in
+        let header = found_header g laws (settled_on d) settled_same o.goes_on.found found in
+        let records = found_records g laws (settled_on d) settled_same o.goes_on.found found in
+        let greatest : IsGreatestEpoch g (settled_on d) o.goes_on.greatest = subst (λ (h : Header). IsGreatestEpoch h.geom (settled_on d) o.goes_on.greatest) header o.goes_on.is_greatest in
+        let number : last_number o.goes_on.found.header (length o.goes_on.found.records) ≡ 0 = ap₂ (λ (h : Header) (rs : List Record). last_number h (length rs)) header records in
+        let turn : o.goes_on.found.header.turn ≡ 1 = ap (λ (h : Header). h.turn) header in
+        record {
+          slot = o.slot;
+          header = o.header;
+          mounted = subst (λ (k : Geometry). points.IsMounted (cell_of s.crash.base s.crash.log) k o.slot o.header) geom o.mounted;
+          first = record {
+            geom = o.mounted.geom ∙ geom;
+            epoch = omega (arith, o.goes_on.epoch, low_epoch g laws (settled_on d) settled_same o.goes_on.greatest greatest.is_one, first_epoch g laws (settled_on d) settled_same o.goes_on.greatest greatest);
+            turn = omega (arith, o.goes_on.turn, turn);
+            most = omega (arith, o.goes_on.most, turn);
+            start = omega (arith, o.goes_on.start, number);
+            sure = o.goes_on.sure ∙ number;
+            place = o.goes_on.place;
+            not_closed = o.mounted.not_closed;
+          };
+          others = λ b h low stands. header_epoch g laws (formatted g) (λ c below. refl) b h low stands;
+        }
+
+    pub left_with : (unread faulty : Bool) (new : disk.State) → LeavesDisk true unread faulty d new → OpensAtMost new.log → HoldsRoot g new
+    left_with unread faulty new left most = record { began = left_began unread faulty new left; images = left_images unread faulty new left; most = most }
+
+    -- it wrote once, or stopped there
+    pub opened_once : (log : List Event) → WritesOne d.log log → WritesOne [] log
+    opened_once log one = subst (λ (es : List Event). WritesOne es log) is.nothing one
+
+    pub stopped_once : (new : disk.State) → StopsAtOne d.manner d.log new.log → OpensAtMost new.log
+    stopped_once new stops = stopped_at d.manner new.log (subst (λ (es : List Event). StopsAtOne d.manner es new.log) is.nothing stops)
 
 -- a disk in memory that was just formatted is such a disk
 pub formatted_in_memory : (g : Geometry) (b : Behaviour) (d : MemDiskState) → IsFormattedDisk g b d → IsFormatted g (disk_state d)
@@ -196,6 +255,8 @@ formatted_in_memory g b d is = record {
   began = record { size = is.blocks.count; base = is.blocks.each };
   nothing = ap (λ (x : MemDiskState). x.log) is.behaves;
   polls = ap (λ (x : MemDiskState). x.polls) is.behaves;
+  faults = ap (λ (x : MemDiskState). x.faults) is.behaves;
+  alone = ap (λ (x : MemDiskState). (disk_state x).manner.waits_alone) is.behaves;
 }
 
 -- and it has the manner of one that behaves so

@@ -1,10 +1,11 @@
 -- What comes of opening the file system of a store that was just mounted on a formatted disk: the root alone stands in it, and nothing is taken.
-use Rattle.std.proofs.Common.{◌≡◌, ℕ, ◌+◌, ◌*◌, ◌/◌, ◌%◌, ◌^◌, ◌<◌, ◌≤◌, ◌==◌, ◌||◌, nat_lt, Bool, true, false, IsTrue, List, [], length, get_or, refl, sym, ap, ◌∙◌, subst, arith}
+use Rattle.std.proofs.Common.{◌≡◌, ℕ, ◌+◌, ◌*◌, ◌/◌, ◌%◌, ◌^◌, ◌<◌, ◌≤◌, ◌==◌, ◌||◌, nat_lt, Bool, true, false, IsTrue, List, [], Option, ◌∷◌, length, get_or, Some, refl, sym, ap, ◌∙◌, subst, arith}
 use Rattle.std.proofs.lemmas.Bool.{and_from, cond-true, le-leb, lt-ltb, le-ltb}
 use Rattle.std.specs.Int.{bit_at}
 use Rattle.opt_base.specs.Seal.{Blocks}
 use Rattle.opt_disk.specs.declared.disk.Disk.{Ghosts}
 use Rattle.opt_disk.specs.declared.event.Event.{Event}
+use Rattle.opt_disk.specs.Cell.{cell_of, notices}
 use Rattle.opt_disk.specs.Disk as disk
 use Rattle.opt_disk.specs.Disk.{writes_in}
 use Rattle.opt_disk.specs.Lawful.{IsLogOf}
@@ -12,13 +13,18 @@ use Rattle.opt_disk.specs.Crash.{Window}
 use Rattle.opt_disk.specs.Manner.{Manner, GoesBy}
 use Rattle.opt_geom.specs.Geometry.{Geometry, IsGeometry, bitmap_start, bitmap_blocks, data_start}
 use Rattle.opt_layout.specs.Bitmap.{is_set}
+use Rattle.opt_journal.specs.declared.record.Commit.{Commit}
 use Rattle.opt_journal.specs.Formatted.{formatted}
+use Rattle.opt_journal.specs.declared.header.Header.{Header}
+use Rattle.opt_journal.specs.Layout.{header_of}
 use Rattle.opt_journal.specs.Run.{is_live, live_part}
+use Rattle.opt_memdisk.specs.Log.{has_lost}
 use Rattle.opt_tree.specs.Step.{start}
 use Rattle.opt_stands.specs.Stands.{IsTreeOf}
 use Rattle.opt_crash.specs.Ledger.{HoldsUnder}
 use Rattle.opt_crash.specs.Opening.{WritesOne}
-use Rattle.opt_blocks.specs.Crashes.{IsBegun, IsTold}
+use Rattle.opt_crash.specs.Points as points
+use Rattle.opt_blocks.specs.Crashes.{HasLiveBlocks, HasMapOfPoint, IsBegun, IsTold}
 use Rattle.opt_blocks.specs.State.{Bookkeeping, State, Ticking}
 use Rattle.opt_files.specs.Effects.{LooksOnly}
 use Rattle.opt_fs.specs.Memory.{HasNoBlocks, room_of}
@@ -28,6 +34,9 @@ use Rattle.opt_store.specs.StoreOf.{state_of}
 use Rattle.opt_session.specs.Budget.{KeepsBudget}
 use Rattle.opt_session.specs.Serving.{HasServed, IsDrawn, IsMountedWith}
 use Rattle.optfs.specs.Disks.{IsMounted, IsOpened, ShowsRoot}
+use Rattle.optfs.specs.Behaving.{session_by}
+use Rattle.optfs.specs.Mounts.{MountsOnce}
+use Rattle.optfs.proofs.Mounts.{header_by, once_by}
 
 -- the view of crashes of a store is drawn from its disk
 pub drawn : {D : Type 0} {k : Ghosts D} (known : D → disk.State) (s : Store D k) → IsDrawn (state_of known s)
@@ -71,6 +80,14 @@ still_begun s t same h = subst (λ (k : Bookkeeping). IsBegun (record t { books 
 first_accepted : (m : Manner) (log : List Event) → WritesOne [] log → GoesBy m log → IsTrue (m.accepts [])
 first_accepted m log one goes = (subst (λ (es : List Event). GoesBy m es) one.log goes).0
 
+-- it is all that was written
+one_unlost : (log : List Event) → WritesOne [] log → has_lost log ≡ false
+one_unlost log one = ap has_lost one.log ∙ heard one.noticed
+  where
+    heard : (ts : List ℕ) → has_lost (notices ts) ≡ false
+    heard [] = refl
+    heard (t ∷ ts) = heard ts
+
 module _ (g : Geometry) (s : State) (is : IsMounted g s) where
   -- the blocks are mounted with the formatted disk's live blocks
   pub mounted_with : IsMountedWith g (live_part g (formatted g)) s
@@ -89,6 +106,7 @@ module _ (g : Geometry) (s : State) (is : IsMounted g s) where
         base = λ b low. ap (λ (x : Blocks). x b) crash.base ∙ is.shows.base b low;
         images = subst (λ (x : Blocks). Window g.n x t.crash.log 0 (λ img. HoldsUnder g.n g img (live_part g (formatted g)))) (sym crash.base)
             (subst (λ (log : List Event). Window g.n s.crash.base log 0 (λ img. HoldsUnder g.n g img (live_part g (formatted g)))) (sym crash.log) is.shows.images);
+        first = subst (λ (es : List Event). WritesOne [] es) (sym crash.log) is.shows.first;
       }
 
   pub nothing_waits : (t : State) → LooksOnly true false s t → t.books.waiting ≡ 0
@@ -96,11 +114,19 @@ module _ (g : Geometry) (s : State) (is : IsMounted g s) where
 
   -- all that is known of the file system
   pub opened_with : (t : State) → LooksOnly true false s t → HasServed g (start g.i).tree (length s.crash.log) [] [] [] t → KeepsBudget s.books.geom (start g.i).tree (writes_in s.crash.log + s.books.owed) [] [] t
-      → IsFirstRoom t.books.geom (room_of t) → IsLogOf t.books.geom.n t.crash.log → length t.crash.log < 2 ^ 64 → GoesBy t.counts.ticks.manner t.crash.log → IsTold t → IsOpened (record { shape = g; manner = s.counts.ticks.manner }) t
-  opened_with t looks served budget room lawful events goes told =
+      → IsFirstRoom t.books.geom (room_of t) → IsLogOf t.books.geom.n t.crash.log → length t.crash.log < 2 ^ 64 → GoesBy t.counts.ticks.manner t.crash.log → IsTold t → t.books.floor ≤ t.books.point → IsOpened (record { shape = g; manner = s.counts.ticks.manner }) t
+  opened_with t looks served budget room lawful events goes told low =
       let crash = looks.crash refl in
       let geom : t.books.geom ≡ g = ap (λ (k : Bookkeeping). k.geom) looks.books ∙ is.begins.geom in
       let goes_now = subst (λ (m : Manner). GoesBy m t.crash.log) (ap (λ (k : Ticking). k.manner) looks.counts.ticks) goes in
+      let first : WritesOne [] t.crash.log = subst (λ (es : List Event). WritesOne [] es) (sym crash.log) is.shows.first in
+      let others : (b : ℕ) (h : Header) → b < 2 → header_of g.n (t.crash.base b) ≡ Some h → h.epoch ≤ 1 = λ b h low stands.
+      is.opened.others b h low (ap (header_of g.n) (sym (ap (λ (x : Blocks). x b) crash.base ∙ is.shows.base b (omega (arith, low, is.opened.mounted.shape)))) ∙ stands) in
+      let once_now : MountsOnce g t.crash.log = header_by g t.crash.base t.crash.log is.opened.slot is.opened.header (once_by t.crash.log lawful.lawful first)
+      (subst (λ (x : Blocks). points.IsMounted (cell_of x t.crash.log) g is.opened.slot is.opened.header) (sym crash.base) (subst (λ (es : List Event). points.IsMounted (cell_of s.crash.base es) g is.opened.slot is.opened.header) (sym crash.log) is.opened.mounted))
+      is.opened.first others in
+      let only_now : HasMapOfPoint t 0 = λ m point. subst (λ (k : Geometry). HasLiveBlocks k t.map m) (ap (λ (k : Bookkeeping). k.geom) (sym looks.books))
+      (subst (λ (x : Blocks). HasLiveBlocks s.books.geom x m) (sym (looks.map refl)) (is.begins.only m ((crash.point 0 m).0 point))) in
       let writes : writes_in s.crash.log + s.books.owed ≡ writes_in t.crash.log = omega (arith, is.begins.owed, ap (λ (es : List Event). writes_in es) crash.log) in
       record {
         served = subst (λ (n : ℕ). HasServed g (start g.i).tree n [] [] [] t) (ap (λ (es : List Event). length es) (sym crash.log)) served;
@@ -112,10 +138,20 @@ module _ (g : Geometry) (s : State) (is : IsMounted g s) where
         polls = ap (λ (k : Ticking). k.polls) looks.counts.ticks ∙ is.polls;
         manner = ap (λ (k : Ticking). k.manner) looks.counts.ticks;
         writes = goes_now;
-        opens = first_accepted s.counts.ticks.manner t.crash.log (subst (λ (es : List Event). WritesOne [] es) (sym crash.log) is.first) goes_now;
+        opens = first_accepted s.counts.ticks.manner t.crash.log first goes_now;
+        faults = looks.counts.faults ∙ is.faults;
+        alone = is.alone;
+        unlost = one_unlost t.crash.log first;
+        once = once_now;
+        only = only_now;
         turns = omega (arith, ap (λ (k : Bookkeeping). k.turns) looks.books, is.turns);
-        free = ap (λ (k : Bookkeeping). k.free_places) looks.books ∙ is.begins.free_places;
+        owed = ap (λ (k : Bookkeeping). k.owed) looks.books ∙ is.begins.owed;
+        floor = omega (arith, low, ap (λ (k : Bookkeeping). k.point) looks.books, is.begun.point);
         since = λ b. ap (λ (k : Bookkeeping). k.since b) looks.books ∙ is.begins.since b;
         sure = λ front p. let now = crash.sure front p in let was = is.sure front p in (λ x. was.0 (now.0 x), λ x. now.1 (was.1 x));
+        records = record {
+          told = crash.records.told ∙ is.records.told ∙ ap {B = List Event → Option (List Commit)} (λ (n : ℕ) (front : List Event). Some (points.records_told (session_by g n) front)) (ap (λ (es : List Event). length es) (sym crash.log));
+          starts = λ front n. let now = crash.records.starts front n in let was = is.records.starts front n in (λ x. was.0 (now.0 x), λ x. now.1 (was.1 x));
+        };
         may = told.awaits;
       }

@@ -224,6 +224,7 @@ fails_so set d fits root failed =
       consistent = failed.consistent;
       writes = failed.writes;
       cause = failed.cause;
+      most = failed.most;
       is = ap (λ (xs : List ℕ). (xs ++ end_line) ++ disk_line) (sym (front_at_first set.shape d.log));
     }
 

@@ -143,6 +143,16 @@ keeps_same : (taken : Option (List ℕ)) → Keeps taken taken
 keeps_same None = tt
 keeps_same (Some xs) = refl
 
+-- want of memory is no fault
+unshown : (answer : Result (Unit {0}) ShowRefusal) → answer ≡ Err show.NoMemory → answer ≡ Err show.Fault → ⊥
+unshown answer is other = cc
+
+unmade : (answer : Result (Unit {0}) MakeRefusal) → answer ≡ Err make.NoMemory → answer ≡ Err make.Fault → ⊥
+unmade answer is other = cc
+
+unrun : (answer : Result Ending RunRefusal) → answer ≡ Err run.NoMemory → answer ≡ Err run.Fault → ⊥
+unrun answer is other = cc
+
 -- Where no memory is found before anything was read or written, that may be so for every request.
 pub does_memory : (tells : Bool) (request : Option Request) (left told : Option (List ℕ)) (source sink : ℕ) (bay : BayState)
     → Does tells request NoMemory (met left left told told source source sink sink bay bay)
@@ -165,6 +175,7 @@ does_memory tells (Some (Tree image)) left told source sink bay = record {
   silent = λ e. refl;
   back = inl (record { kept = λ known each. refl; faults = omega arith; disk_faults = refl; handed = refl; closed = refl });
   cause = refl;
+  reason = λ known fault. absurd (unshown (Err show.NoMemory) refl fault);
   ends = (refl, refl);
 }
 does_memory tells (Some (Make image blocks journal nodes)) left told source sink bay = by (geometry_fits (shape_of blocks journal nodes))
@@ -189,11 +200,15 @@ does_memory tells (Some (Make image blocks journal nodes)) left told source sink
           disk_faults = refl;
           handed = refl;
           closed = refl;
+          manner = λ known. tt;
+          fails = λ known. tt;
+          same = record { may_fail = refl; manner = λ other. refl };
         };
         answer = refl;
       });
       others = λ known other apart. refl;
       cause = refl;
+      reason = λ known fault. absurd (unmade (Err make.NoMemory) refl fault);
       ends = (refl, refl);
     }
     by false = inr (refl, refl)
@@ -208,6 +223,7 @@ does_memory tells (Some (Run image)) left told source sink bay = record {
   });
   counts = record { source = omega arith; rises = omega arith; sink = refl };
   cause = tt;
+  reason = λ known fault. absurd (unrun (Err run.NoMemory) refl fault);
   ends = (refl, refl);
 }
 does_memory tells (Some (Load seed count)) left told source sink bay = inr (refl, refl)

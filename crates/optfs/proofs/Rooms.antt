@@ -1,33 +1,39 @@
 -- How a command is answered in the room that the disk's log gives, by what the file system says of any blocks.
-use Rattle.std.proofs.Common.{◌≡◌, ◌≢◌, ◌↔◌, ◌⊎◌, inl, inr, ℕ, ◌+◌, ◌≤◌, Bool, true, false, IsTrue, List, [], ◌++◌, length, take, None, Option, refl, sym, ap, ap₂, ◌∙◌, subst, arith}
+use Rattle.std.proofs.Common.{◌≡◌, ◌≢◌, ◌↔◌, ◌⊎◌, inl, inr, ⊎_elim, ℕ, ◌+◌, ◌<◌, ◌≤◌, true, false, List, ◌++◌, length, take, drop, None, Some, Option, refl, sym, ap, ap₂, ◌∙◌, subst, arith}
+use Rattle.std.proofs.Math.Logic.{∥∥₁_map}
 use Rattle.std.proofs.Math.Seq.{take-append_seam, take-length}
+use Rattle.std.proofs.lemmas.Bool.{false≢true}
 use Rattle.std.proofs.lemmas.List.{take-append-le, length-append}
 use mathlib.Core.Path.{fun_ext}
 use Rattle.opt_disk.specs.declared.event.Event.{Event}
-use Rattle.opt_disk.specs.Cell.{cell_of}
+use Rattle.opt_disk.specs.Cell.{is_accepted, IsNoticed}
 use Rattle.opt_disk.specs.Disk.{Grows, PollsThenWrites}
 use Rattle.opt_disk.specs.Manner.{Manner}
 use Rattle.opt_geom.specs.Geometry.{Geometry}
+use Rattle.opt_journal.specs.declared.record.Commit.{Commit}
 use Rattle.opt_journal.specs.Formatted.{formatted}
+use Rattle.opt_crash.specs.Points.{MountedSession, commits_told}
 use Rattle.opt_tree.specs.declared.command.Cmd.{Cmd}
 use Rattle.opt_tree.specs.declared.command.Cmd.TheVariants as cmds
 use Rattle.opt_tree.specs.declared.command.Refusal.{Refusal}
 use Rattle.opt_tree.specs.declared.command.Refusal.TheVariants.{DiskFault, Spent}
 use Rattle.opt_tree.specs.declared.command.Reply.{Reply}
 use Rattle.opt_tree.specs.declared.command.Reply.TheVariants.{Refused}
-use Rattle.opt_tree.specs.Points.{after_reply}
+use Rattle.opt_tree.specs.Points.{after_reply, is_sync}
 use Rattle.opt_tree.specs.Run.{Answers}
-use Rattle.opt_tree.specs.Step.{Session, step}
-use Rattle.opt_blocks.specs.Effects.{FitsRing}
-use Rattle.opt_blocks.specs.State.{State, data_blocks}
+use Rattle.opt_tree.specs.Step.{Session}
+use Rattle.opt_blocks.specs.Calls.{commit_places}
+use Rattle.opt_blocks.specs.Effects.{OrdersAtOnce, RingIsTold}
+use Rattle.opt_blocks.specs.Running.{Running, fresh_blocks, payloads, record_places}
+use Rattle.opt_blocks.specs.State.{State}
 use Rattle.opt_fs.specs.Applying.{is_spent}
 use Rattle.opt_fs.specs.DiskRoom.{AnswersOn, AnswersOver, BeginsOver, SyncsOver}
 use Rattle.opt_fs.specs.Memory.{room_of}
 use Rattle.opt_fs.specs.Room.{IsDoneIn, IsFirstRoom, RefusesIn, Room}
-use Rattle.opt_fs.specs.Serving.{AnswersAt, RoomOn, SaysNoMore, ServesCommand, moment_of, room_on}
+use Rattle.opt_fs.specs.Serving.{AnswersAt, SaysNoMore, ServesCommand, SyncsBehind, moment_of, room_on}
 use Rattle.opt_fs.specs.Moments.{answer_at_others, answer_in_room}
-use Rattle.optfs.specs.Behaving.{AnswersBy, FindsPlaces, IsSureBy, Pace, Span, Taken, moment_by, room_at_first, taken_by}
-use Rattle.optfs.specs.Running.{AnsweredIn, RunLaws, moment_over, pace_of}
+use Rattle.optfs.specs.Behaving.{AnswersBy, DoneInRing, FindsPlaces, IsSureBy, Pace, Span, Taken, moment_by, own_records, places_wanted, room_at_first, taken_by}
+use Rattle.optfs.specs.Running.{AnsweredIn, FitsAmong, FreesBy, RunLaws, SyncsIn, moment_over, pace_of}
 use Rattle.optfs.proofs.Sureness.{rests_alike}
 
 -- The session that follows is the one that the reply tells.
@@ -75,7 +81,7 @@ module _ (g : Geometry) (f : Session) (reply : Reply) (next : Session) where
   began P r cmd room (inl why) = refused P r cmd room why
   began P r cmd room (inr b) = over b.back cmd room b.answers
 
-  said : (r : Room) (cmd : Cmd) (room : Room) → AnswersOn g f r cmd reply next room → Said cmd
+  pub said : (r : Room) (cmd : Cmd) (room : Room) → AnswersOn g f r cmd reply next room → Said cmd
   said r cmds.Bad room x = inl x.0
   said r cmds.Poll room x = began _ r cmds.Poll room x
   said r cmds.Durable room x = began _ r cmds.Durable room x
@@ -94,6 +100,10 @@ module _ (g : Geometry) (f : Session) (reply : Reply) (next : Session) where
   said r (cmds.Stat path) room x = began _ r (cmds.Stat path) room x
   said r (cmds.List path) room x = began _ r (cmds.List path) room x
 
+-- a sync is no bad line
+pub sync_is_meant : (cmd : Cmd) → is_sync cmd ≡ true → cmd ≢ cmds.Bad
+sync_is_meant cmd of bad = false≢true (sym (ap is_sync bad) ∙ of)
+
 -- What the file system says of the blocks, as what is known of the disk under them before the command.
 
 module _ {S : Type 0} (state : S → State) (f : Session) (cmd : Cmd) (reply : Reply) (next : Session) (old new : S) (served : ServesCommand state f cmd reply next old new)
@@ -101,13 +111,62 @@ module _ {S : Type 0} (state : S → State) (f : Session) (cmd : Cmd) (reply : R
   abbrev mid : State
   mid = state served.behind
 
-  says_behind : SaysNoMore (moment_of mid) (moment_over (state old) mid.crash.log (FitsRing (state old).books))
+  -- the tick leaves the transaction, so that its record takes as many places
+  same_places : commit_places mid.books ≡ commit_places (state old).books
+  same_places = ap₂ (λ (k : Geometry) (r : Running). record_places (payloads k r) (fresh_blocks k r)) served.geom served.running
+
+  same_weight : mid.books.running.weight ≡ (state old).books.running.weight
+  same_weight = ap (λ (r : Running). r.weight) served.running
+
+  says_behind : SaysNoMore (moment_of mid) (moment_over (state old) mid.crash.log (commit_places (state old).books ≤ mid.books.free_places))
   says_behind = record {
     alone = ap (λ (m : Manner). m.waits_alone) (sym served.manner);
     sure = λ p. let same = served.begins.sure mid.crash.log p in (same.1, same.0);
     rests = λ b. let same = rests_alike mid.crash.base (state old).crash.base mid.crash.log b in (λ none. same ∙ none, λ none. sym same ∙ none);
-    fits = served.fits;
+    fits = λ fits. omega (arith, fits, same_places);
   }
+
+  -- what the log told of records before, it tells behind the tick and at the end
+  told_behind : (before : List Commit) → (state old).crash.records.told mid.crash.log ≡ Some before → mid.crash.records.told mid.crash.log ≡ Some before
+  told_behind before is = ap (λ (f : List Event → Option (List Commit)). f mid.crash.log) served.begins.records.told ∙ is
+
+  told_end : (es : List Event) → (state new).crash.records.told es ≡ (state old).crash.records.told es
+  told_end es = ap (λ (f : List Event → Option (List Commit)). f es) (served.goes_on.records.told ∙ served.begins.records.told)
+
+  frees : RingIsTold mid → FreesBy (state old) mid.crash.log mid.books.free_places
+  frees ring number told starts is = ap (λ (k : Geometry). k.j) (sym served.geom) ∙ ring number told ((served.begins.records.starts mid.crash.log number).1 starts) (told_behind told is)
+
+  at_once : FitsAmong (state old) mid.books.free_places → OrdersAtOnce mid.books
+  at_once (inl fits) = inl (omega (arith, fits, same_places))
+  at_once (inr none) = inr (same_weight ∙ none)
+
+  syncs_in : SyncsBehind cmd reply mid (state new) → SyncsIn cmd reply (state old) mid.crash.log mid.books.free_places (state new)
+  syncs_in s = record {
+    orders = λ is fits. s.orders is (at_once fits);
+    hears = λ alone fits t came. heard t (s.hears (ap (λ (m : Manner). m.waits_alone) served.manner ∙ alone) (at_once fits) t came);
+    written = λ done some.
+        let w = (s.written done).some (subst (λ n. 0 < n) (sym same_weight) some) in
+        record {
+          begun = w.begun;
+          from = w.from;
+          upto = w.upto;
+          commit = w.commit;
+          payloads = w.payloads ∙ ap₂ payloads served.geom served.running;
+          fresh = w.fresh ∙ ap₂ fresh_blocks served.geom served.running;
+          descriptors = w.descriptors;
+          told = λ before is. sym (told_end (state new).crash.log) ∙ w.told before (told_behind before is);
+          writes = w.writes;
+          awaits = w.awaits;
+          fits = λ fits. w.fits (omega (arith, fits, same_places));
+        };
+    idle = λ done none. let w = (s.written done).none (same_weight ∙ none) in (sym (told_end (state new).crash.log) ∙ w.0 ∙ ap (λ (f : List Event → Option (List Commit)). f mid.crash.log) served.begins.records.told, w.1);
+    unwritten = s.unwritten;
+  }
+    where
+      heard : (t : ℕ) → IsNoticed t mid.crash.log ⊎ (∥ ((p : ℕ) × mid.crash.awaits p t) ∥₁ ⊎ (is_accepted t mid.crash.log ≡ false)) → IsNoticed t mid.crash.log ⊎ (∥ ((q : ℕ) × (state old).crash.awaits q t) ∥₁ ⊎ (is_accepted t mid.crash.log ≡ false))
+      heard t (inl was) = inl was
+      heard t (inr (inl some)) = inr (inl (∥∥₁_map some (λ (x : (p : ℕ) × mid.crash.awaits p t). (x.0, served.still x.0 t x.1))))
+      heard t (inr (inr late)) = inr (inr late)
 
   says_end : SaysNoMore (moment_of (state new)) (moment_over (state old) (state new).crash.log ⊥)
   says_end = record {
@@ -125,13 +184,16 @@ module _ {S : Type 0} (state : S → State) (f : Session) (cmd : Cmd) (reply : R
     polls = mid.counts.ticks.polls;
     ticks = λ meant going unspent. served.ticks meant going (left meant going unspent);
     awaits = served.awaits;
-    answers = answer_at_others (state old).books.geom (moment_of mid) (moment_of (state new)) (moment_over (state old) mid.crash.log (FitsRing (state old).books)) (moment_over (state old) (state new).crash.log ⊥)
+    free = mid.books.free_places;
+    ring = λ meant going unspent alone. ⊎_elim (λ told. inl (frees told)) (λ all. inr (ap (λ (x : S). (state x).crash.log) all.0, all.1)) (served.ring meant going (left meant going unspent) alone);
+    sync = λ of going unspent. syncs_in (served.sync of going (left (sync_is_meant cmd of) going unspent));
+    answers = answer_at_others (state old).books.geom (moment_of mid) (moment_of (state new)) (moment_over (state old) mid.crash.log (commit_places (state old).books ≤ mid.books.free_places)) (moment_over (state old) (state new).crash.log ⊥)
         says_behind says_end f (room_on (state old)) cmd reply next (room_on (state new)) served.answers;
   }
 
 -- As what the log of a recording's disk says.
 
-module _ (g : Geometry) (laws : RunLaws g) (m : Manner) (t : Taken) (old : State) (is : old.counts.ticks.manner ≡ m) (sure : (front : List Event) (p : ℕ) → old.crash.sure front p ↔ ∥ IsSureBy g front p ∥₁) where
+module _ (g : Geometry) (laws : RunLaws g) (m : Manner) (ses : MountedSession) (of : ses.geom ≡ g) (t : Taken) (old : State) (is : old.counts.ticks.manner ≡ m) (sure : (front : List Event) (p : ℕ) → old.crash.sure front p ↔ ∥ IsSureBy g front p ∥₁) where
   says_by : (front : List Event) (fits found : Type 0) → (found → fits) → SaysNoMore (moment_over old front fits) (moment_by g m front found)
   says_by front fits found more = record {
     alone = ap (λ (x : Manner). x.waits_alone) (sym is);
@@ -140,9 +202,9 @@ module _ (g : Geometry) (laws : RunLaws g) (m : Manner) (t : Taken) (old : State
     fits = more;
   }
 
-  pub answered_by : (cmd : Cmd) (reply : Reply) (new : State) (late : Span) (f next : Session) (a : AnsweredIn f cmd reply next old new) → Grows old.crash.log new.crash.log → old.books.geom ≡ g → t.session ≡ f → ((old.books.stopped ≡ false) × FindsPlaces g t → FitsRing old.books)
-      → (room : AnswersBy g m new.crash.log cmd reply (pace_of t old) (pace_of (taken_by g t cmd reply late) new)) × (length a.behind ≡ room.behind)
-  answered_by cmd reply new late f next a grows geom session fits = (room, refl)
+  pub answered_by : (cmd : Cmd) (reply : Reply) (new : State) (f next : Session) (a : AnsweredIn f cmd reply next old new) (own : List Commit) (late : Span) → Grows old.crash.log new.crash.log → old.books.geom ≡ g → t.session ≡ f → (DoneInRing ses m new.crash.log cmd reply (pace_of t old) (length a.behind) (length new.crash.log) → commit_places old.books ≤ a.free)
+      → (room : AnswersBy ses m new.crash.log cmd reply (pace_of t old) (pace_of (taken_by g t cmd reply own late) new)) × (room.behind ≡ length a.behind)
+  answered_by cmd reply new f next a own late grows geom session fits = (room, refl)
     where
       earlier : take (length old.crash.log) new.crash.log ≡ old.crash.log
       earlier = ap (λ (es : List Event). take (length old.crash.log) es) grows.log ∙ take-append_seam old.crash.log grows.more
@@ -150,25 +212,25 @@ module _ (g : Geometry) (laws : RunLaws g) (m : Manner) (t : Taken) (old : State
       behind : take (length a.behind) new.crash.log ≡ a.behind
       behind = ap (λ (es : List Event). take (length a.behind) es) a.goes_on.log ∙ take-append_seam a.behind a.goes_on.more
 
-      here : AnswersAt g (moment_over old a.behind (FitsRing old.books)) (moment_over old new.crash.log ⊥) f (room_on old) cmd reply next (room_on new)
-      here = subst (λ (k : Geometry). AnswersAt k (moment_over old a.behind (FitsRing old.books)) (moment_over old new.crash.log ⊥) f (room_on old) cmd reply next (room_on new)) geom a.answers
+      here : AnswersAt g (moment_over old a.behind (commit_places old.books ≤ a.free)) (moment_over old new.crash.log ⊥) f (room_on old) cmd reply next (room_on new)
+      here = subst (λ (k : Geometry). AnswersAt k (moment_over old a.behind (commit_places old.books ≤ a.free)) (moment_over old new.crash.log ⊥) f (room_on old) cmd reply next (room_on new)) geom a.answers
 
       follows : next ≡ after_reply f cmd reply
-      follows = laws.replies (λ _. true) f next cmd reply (said g f reply next (room_of old) cmd (room_of new) (answer_in_room g (moment_over old a.behind (FitsRing old.books)) (moment_over old new.crash.log ⊥) f (room_on old) cmd reply next (room_on new) here))
+      follows = laws.replies (λ _. true) f next cmd reply (said g f reply next (room_of old) cmd (room_of new) (answer_in_room g (moment_over old a.behind (commit_places old.books ≤ a.free)) (moment_over old new.crash.log ⊥) f (room_on old) cmd reply next (room_on new) here))
 
-      logged : AnswersAt g (moment_by g m a.behind ((old.books.stopped ≡ false) × FindsPlaces g t)) (moment_by g m new.crash.log ⊥) f (room_on old) cmd reply next (room_on new)
-      logged = answer_at_others g (moment_over old a.behind (FitsRing old.books)) (moment_over old new.crash.log ⊥) (moment_by g m a.behind ((old.books.stopped ≡ false) × FindsPlaces g t)) (moment_by g m new.crash.log ⊥)
-          (says_by a.behind (FitsRing old.books) ((old.books.stopped ≡ false) × FindsPlaces g t) fits) (says_by new.crash.log ⊥ ⊥ (λ none. none)) f (room_on old) cmd reply next (room_on new) here
+      logged : AnswersAt g (moment_by g m a.behind (DoneInRing ses m new.crash.log cmd reply (pace_of t old) (length a.behind) (length new.crash.log))) (moment_by g m new.crash.log ⊥) f (room_on old) cmd reply next (room_on new)
+      logged = answer_at_others g (moment_over old a.behind (commit_places old.books ≤ a.free)) (moment_over old new.crash.log ⊥) (moment_by g m a.behind (DoneInRing ses m new.crash.log cmd reply (pace_of t old) (length a.behind) (length new.crash.log))) (moment_by g m new.crash.log ⊥)
+          (says_by a.behind (commit_places old.books ≤ a.free) (DoneInRing ses m new.crash.log cmd reply (pace_of t old) (length a.behind) (length new.crash.log)) fits) (says_by new.crash.log ⊥ ⊥ (λ none. none)) f (room_on old) cmd reply next (room_on new) here
 
-      cut : AnswersAt g (moment_by g m (take (length a.behind) new.crash.log) ((old.books.stopped ≡ false) × FindsPlaces g t)) (moment_by g m (take (length new.crash.log) new.crash.log) ⊥) f (room_on old) cmd reply next (room_on new)
-      cut = subst (λ (es : List Event). AnswersAt g (moment_by g m es ((old.books.stopped ≡ false) × FindsPlaces g t)) (moment_by g m (take (length new.crash.log) new.crash.log) ⊥) f (room_on old) cmd reply next (room_on new)) (sym behind)
-          (subst (λ (es : List Event). AnswersAt g (moment_by g m a.behind ((old.books.stopped ≡ false) × FindsPlaces g t)) (moment_by g m es ⊥) f (room_on old) cmd reply next (room_on new)) (sym (take-length new.crash.log)) logged)
+      cut : AnswersAt g (moment_by g m (take (length a.behind) new.crash.log) (DoneInRing ses m new.crash.log cmd reply (pace_of t old) (length a.behind) (length new.crash.log))) (moment_by g m (take (length new.crash.log) new.crash.log) ⊥) f (room_on old) cmd reply next (room_on new)
+      cut = subst (λ (es : List Event). AnswersAt g (moment_by g m es (DoneInRing ses m new.crash.log cmd reply (pace_of t old) (length a.behind) (length new.crash.log))) (moment_by g m (take (length new.crash.log) new.crash.log) ⊥) f (room_on old) cmd reply next (room_on new)) (sym behind)
+          (subst (λ (es : List Event). AnswersAt g (moment_by g m a.behind (DoneInRing ses m new.crash.log cmd reply (pace_of t old) (length a.behind) (length new.crash.log))) (moment_by g m es ⊥) f (room_on old) cmd reply next (room_on new)) (sym (take-length new.crash.log)) logged)
 
-      answers : AnswersAt g (moment_by g m (take (length a.behind) new.crash.log) ((old.books.stopped ≡ false) × FindsPlaces g t)) (moment_by g m (take (length new.crash.log) new.crash.log) ⊥) t.session (room_on old) cmd reply (after_reply t.session cmd reply) (room_on new)
-      answers = subst (λ (s : Session). AnswersAt g (moment_by g m (take (length a.behind) new.crash.log) ((old.books.stopped ≡ false) × FindsPlaces g t)) (moment_by g m (take (length new.crash.log) new.crash.log) ⊥) s (room_on old) cmd reply (after_reply s cmd reply) (room_on new)) (sym session)
-          (subst (λ (s : Session). AnswersAt g (moment_by g m (take (length a.behind) new.crash.log) ((old.books.stopped ≡ false) × FindsPlaces g t)) (moment_by g m (take (length new.crash.log) new.crash.log) ⊥) f (room_on old) cmd reply s (room_on new)) follows cut)
+      told : AnswersAt g (moment_by g m (take (length a.behind) new.crash.log) (DoneInRing ses m new.crash.log cmd reply (pace_of t old) (length a.behind) (length new.crash.log))) (moment_by g m (take (length new.crash.log) new.crash.log) ⊥) t.session (room_on old) cmd reply (after_reply t.session cmd reply) (room_on new)
+      told = subst (λ (s : Session). AnswersAt g (moment_by g m (take (length a.behind) new.crash.log) (DoneInRing ses m new.crash.log cmd reply (pace_of t old) (length a.behind) (length new.crash.log))) (moment_by g m (take (length new.crash.log) new.crash.log) ⊥) s (room_on old) cmd reply (after_reply s cmd reply) (room_on new)) (sym session)
+          (subst (λ (s : Session). AnswersAt g (moment_by g m (take (length a.behind) new.crash.log) (DoneInRing ses m new.crash.log cmd reply (pace_of t old) (length a.behind) (length new.crash.log))) (moment_by g m (take (length new.crash.log) new.crash.log) ⊥) f (room_on old) cmd reply s (room_on new)) follows cut)
 
-      room : AnswersBy g m new.crash.log cmd reply (pace_of t old) (pace_of (taken_by g t cmd reply late) new)
+      room : AnswersBy ses m new.crash.log cmd reply (pace_of t old) (pace_of (taken_by g t cmd reply own late) new)
       room = record {
         behind = length a.behind;
         from = omega (arith, ap (λ (es : List Event). length es) a.begins.log, length-append old.crash.log a.begins.more);
@@ -178,17 +240,38 @@ module _ (g : Geometry) (laws : RunLaws g) (m : Manner) (t : Taken) (old : State
             subst (λ (es : List Event). PollsThenWrites m 64 old.counts.ticks.polls es a.polls (take (length a.behind) new.crash.log)) (sym earlier)
             (subst (λ (es : List Event). PollsThenWrites m 64 old.counts.ticks.polls old.crash.log a.polls es) (sym behind)
             (subst (λ (x : Manner). PollsThenWrites x 64 old.counts.ticks.polls old.crash.log a.polls a.behind) is (a.ticks meant going unspent)));
-        answers = answers;
+        answers = subst (λ (k : Geometry). AnswersAt k (moment_by k m (take (length a.behind) new.crash.log) (DoneInRing ses m new.crash.log cmd reply (pace_of t old) (length a.behind) (length new.crash.log))) (moment_by k m (take (length new.crash.log) new.crash.log) ⊥) t.session (room_on old) cmd reply (after_reply t.session cmd reply) (room_on new)) (sym of) told;
       }
 
 -- What was said of a shorter log holds of a longer one.
-pub answered_longer : (g : Geometry) (m : Manner) (log more : List Event) (cmd : Cmd) (reply : Reply) (p q : Pace) → p.events ≤ length log → q.events ≤ length log → (a : AnswersBy g m log cmd reply p q) → (room : AnswersBy g m (log ++ more) cmd reply p q) × (a.behind ≡ room.behind)
-answered_longer g m log more cmd reply p q low low_next a = (room, refl)
+
+-- a front of a log is one of a longer one
+pub front_longer : (log more : List Event) (k : ℕ) → k ≤ length log → take k (log ++ more) ≡ take k log
+front_longer log more k le = take-append-le k log more le
+
+pub own_longer : (ses : MountedSession) (log more : List Event) (behind mark : ℕ) → mark ≤ length log → own_records ses (log ++ more) behind mark ≡ own_records ses log behind mark
+own_longer ses log more behind mark le = ap (λ (es : List Event). commits_told ses.geom ses.epoch (drop behind es)) (take-append-le mark log more le)
+
+pub answered_longer : (ses : MountedSession) (m : Manner) (log more : List Event) (cmd : Cmd) (reply : Reply) (p q : Pace) → p.events ≤ length log → q.events ≤ length log → (a : AnswersBy ses m log cmd reply p q) → (room : AnswersBy ses m (log ++ more) cmd reply p q) × (a.behind ≡ room.behind)
+answered_longer ses m log more cmd reply p q low low_next a = (room, refl)
   where
     front : (k : ℕ) → k ≤ length log → take k (log ++ more) ≡ take k log
     front k le = take-append-le k log more le
 
-    room : AnswersBy g m (log ++ more) cmd reply p q
+    within : a.behind ≤ length log
+    within = omega (arith, a.upto, low_next)
+
+    found_then : DoneInRing ses m (log ++ more) cmd reply p a.behind q.events → DoneInRing ses m log cmd reply p a.behind q.events
+    found_then d = record {
+      done = d.done;
+      some = d.some;
+      going = d.going;
+      alone = d.alone;
+      finds = subst (λ (es : List Event). FindsPlaces ses es (places_wanted reply p.taken.weight (own_records ses log a.behind q.events))) (front a.behind within)
+          (subst (λ (own : List Commit). FindsPlaces ses (take a.behind (log ++ more)) (places_wanted reply p.taken.weight own)) (own_longer ses log more a.behind q.events low_next) d.finds);
+    }
+
+    room : AnswersBy ses m (log ++ more) cmd reply p q
     room = record {
       behind = a.behind;
       from = a.from;
@@ -196,10 +279,15 @@ answered_longer g m log more cmd reply p q low low_next a = (room, refl)
       polls = a.polls;
       ticks = λ meant going unspent.
           subst (λ (es : List Event). PollsThenWrites m 64 p.polls es a.polls (take a.behind (log ++ more))) (sym (front p.events low))
-          (subst (λ (es : List Event). PollsThenWrites m 64 p.polls (take p.events log) a.polls es) (sym (front a.behind (omega (arith, a.upto, low_next)))) (a.ticks meant going unspent));
-      answers = subst (λ (es : List Event). AnswersAt g (moment_by g m es ((p.over ≡ false) × FindsPlaces g p.taken)) (moment_by g m (take q.events (log ++ more)) ⊥) p.taken.session p.room cmd reply q.taken.session q.room) (sym (front a.behind (omega (arith, a.upto, low_next))))
-          (subst (λ (es : List Event). AnswersAt g (moment_by g m (take a.behind log) ((p.over ≡ false) × FindsPlaces g p.taken)) (moment_by g m es ⊥) p.taken.session p.room cmd reply q.taken.session q.room) (sym (front q.events low_next)) a.answers);
+          (subst (λ (es : List Event). PollsThenWrites m 64 p.polls (take p.events log) a.polls es) (sym (front a.behind within)) (a.ticks meant going unspent));
+      answers = subst (λ (es : List Event). AnswersAt ses.geom (moment_by ses.geom m es (DoneInRing ses m (log ++ more) cmd reply p a.behind q.events)) (moment_by ses.geom m (take q.events (log ++ more)) ⊥) p.taken.session p.room cmd reply q.taken.session q.room) (sym (front a.behind within))
+          (subst (λ (es : List Event). AnswersAt ses.geom (moment_by ses.geom m (take a.behind log) (DoneInRing ses m (log ++ more) cmd reply p a.behind q.events)) (moment_by ses.geom m es ⊥) p.taken.session p.room cmd reply q.taken.session q.room) (sym (front q.events low_next))
+          (answer_at_others ses.geom (moment_by ses.geom m (take a.behind log) (DoneInRing ses m log cmd reply p a.behind q.events)) (moment_by ses.geom m (take q.events log) ⊥) (moment_by ses.geom m (take a.behind log) (DoneInRing ses m (log ++ more) cmd reply p a.behind q.events)) (moment_by ses.geom m (take q.events log) ⊥)
+          (no_more (take a.behind log) (DoneInRing ses m log cmd reply p a.behind q.events) (DoneInRing ses m (log ++ more) cmd reply p a.behind q.events) found_then) (no_more (take q.events log) ⊥ ⊥ (λ none. none)) p.taken.session p.room cmd reply q.taken.session q.room a.answers));
     }
+      where
+        no_more : (es : List Event) (fits other : Type 0) → (other → fits) → SaysNoMore (moment_by ses.geom m es fits) (moment_by ses.geom m es other)
+        no_more es fits other then = record { alone = refl; sure = λ p. (λ is. is, λ is. is); rests = λ b. (λ is. is, λ is. is); fits = then }
 
 -- The room at first is that of a formatted disk.
 

@@ -3,16 +3,18 @@ use Rattle.std.proofs.Common.{◌≡◌, inl, inr, ℕ, zero, suc, ◌^◌, ◌<
 use Rattle.std.proofs.Math.Logic.{∥∥₁_map}
 use Rattle.std.proofs.lemmas.List.{take-append-le}
 use Rattle.std.specs.List.{slice_get}
-use Rattle.std.proofs.lemmas.Bool.{and_parts}
+use Rattle.std.proofs.lemmas.Bool.{and_parts, or_parts}
 use Rattle.std.proofs.lemmas.Bool.Decides.{nat_tests}
 use Rattle.opt_base.specs.Seal.{Blocks}
 use Rattle.opt_disk.specs.declared.event.Event.{Event}
 use Rattle.opt_disk.specs.Disk.{Grows, writes_in}
 use Rattle.opt_disk.specs.Lawful.{IsLogOf}
+use Rattle.opt_disk.specs.Manner.{Manner}
 use Rattle.opt_geom.specs.Geometry.{Geometry, geometry_fits, bitmap_blocks}
 use Rattle.opt_journal.specs.Formatted.{formatted}
 use Rattle.opt_crash.specs.Counts.{AreAtMost}
 use Rattle.opt_crash.specs.Ledger.{issued}
+use Rattle.opt_memdisk.specs.Log.{has_lost}
 use Rattle.opt_script.specs.Text.{command_text}
 use Rattle.opt_script.specs.Values.{IsCommand, IsReply}
 use Rattle.opt_trace.specs.Contents.{Each, front_of}
@@ -30,20 +32,23 @@ use Rattle.opt_fs.specs.Serving.{RoomOn, room_on}
 use Rattle.opt_fs.specs.DiskRoom.{AnswersOn, ComesBack, IsRoomOf, KeepsRoom, RunsOn}
 use Rattle.opt_fs.specs.Memory.{room_of}
 use Rattle.opt_fs.specs.Room.{Room, IsFirstRoom}
-use Rattle.opt_session.specs.Budget.{KeepsBudget, budget_of}
+use Rattle.opt_fs.specs.Sessions.{IsSession}
+use Rattle.opt_session.specs.Budget.{KeepsBudget, SpendsByMarks, budget_of}
 use Rattle.opt_session.specs.Crashes.{LeavesPoints, IsCrashConsistent}
 use Rattle.opt_session.specs.Ending.{HasRun, is_none, over_after, ending_reply, ending_replies, ending_marks}
 use Rattle.opt_session.specs.Histories.{last_mark, session_after}
 use Rattle.opt_session.specs.Issued.{IssuesLast}
 use Rattle.optfs.specs.Disks.{IsOpened}
-use Rattle.optfs.specs.Behaving.{Span, nothing_taken}
+use Rattle.optfs.specs.Behaving.{Span, is_fault, makes_point, nothing_taken, own_records, session_by}
+use Rattle.optfs.specs.Mounts.{MountsOnce}
 use Rattle.optfs.specs.Output.{Serves, ServesBy, Setting, says}
-use Rattle.optfs.specs.Running.{Ran, PacedRun, Records, GoesOnWith, RunLaws, KnownRun, IsAnswered, pace_of}
+use Rattle.optfs.specs.Running.{AnsweredIn, Ran, PacedRun, Records, GoesOnWith, RunLaws, KnownRun, IsAnswered, pace_of}
 use Rattle.optfs.proofs.Entries.{front_on, one_entry, first_line}
 use Rattle.optfs.proofs.MountLemmas.{honest_alike}
 use Rattle.optfs.proofs.Paces.{Waits, over_now, paced_on}
+use Rattle.optfs.proofs.Placed.{one_more, placed_first, placed_in}
 use Rattle.optfs.proofs.Rooms.{answered_by, room_first}
-use Rattle.optfs.proofs.Waiting.{calm_on, fits_ring, hears_on, keeps_at_first, keeps_on, knows_on}
+use Rattle.optfs.proofs.Waiting.{calm_on, done_fits, hears_on, keeps_at_first, keeps_on, knows_on, own_begun, spends_on, unwritten_on}
 
 -- Runs joined.
 
@@ -142,6 +147,7 @@ pub record RunsOf (g : Geometry) (base : Blocks) (log : List Event) (mounted : �
   pub room : Room
   pub rooms : RunsOn g (start g.i) first cmds replies after room
   pub most : AreAtMost mounted log (budget_of (bitmap_blocks g) (start g.i) 0 cmds replies)
+  pub spends : SpendsByMarks g (start g.i) mounted log cmds replies marks
   pub same : (b : ℕ) → b < g.n → base b ≡ formatted g b
   pub fits : geometry_fits g ≡ true
   pub lawful : IsLogOf g.n log
@@ -200,6 +206,7 @@ module _ (g : Geometry) (laws : RunLaws g) (base : Blocks) (log : List Event) (m
         consistent = consistent;
         issued = issued_last;
         budget = r.most;
+        spends = r.spends;
         is = refl;
       }
 
@@ -219,6 +226,7 @@ module _ (set : Setting) (laws : RunLaws set.shape) (s : State) (mounted : ℕ) 
     room = room_of s;
     rooms = runs_on g (start g.i) ran.after ran.after ran.first (room_of s) (room_of s) cmds replies more (later more) ran.rooms (all_end g ran.after (room_of s) (known.room ran.after ran.session) s.books.stopped more);
     most = record { each = λ k from upto. omega (arith, known.most.each k from upto, laws.budget cmds replies more (later more) ran.served.answered) };
+    spends = known.spends more;
     same = ran.base;
     fits = ran.fits;
     lawful = ran.lawful;
@@ -238,6 +246,7 @@ module _ (set : Setting) (laws : RunLaws set.shape) (s : State) (mounted : ℕ) 
     room = room_of s;
     rooms = ran.rooms;
     most = known.most;
+    spends = ran.spends;
     same = ran.base;
     fits = ran.fits;
     lawful = ran.lawful;
@@ -247,7 +256,7 @@ module _ (set : Setting) (laws : RunLaws set.shape) (s : State) (mounted : ℕ) 
 
   here_by : Each IsCommand cmds → ServesBy set cmds text
   unfolding here serves
-  here_by commands = record { served = here commands; goes = record { writes = paced.writes; last = pace_of paced.taken s; paces = paced.paces; opens = paced.opens; unspent = paced.unspent } }
+  here_by commands = record { served = here commands; goes = record { writes = paced.writes; last = pace_of paced.taken s; paces = paced.paces; opens = paced.opens; mounts = paced.mounts; once = paced.once; unspent = paced.unspent } }
 
   goes_on : (cmd : Cmd) (more : List Cmd) → GoesOnWith g cmds text cmd more
   goes_on cmd more =
@@ -280,6 +289,10 @@ module _ (cmd : Cmd) (reply : Reply) (old new : State) (a : IsAnswered cmd reply
       take_front : (n : ℕ) (xs ys : List Event) → n ≤ length xs → take n (xs ++ ys) ≡ take n xs
       take_front n xs ys le = take-append-le n xs ys le
 
+  budget_on : KeepsBudget g (start g.i).tree (writes_in (take mounted new.crash.log)) (cmds ++ cmd ∷ []) (replies ++ reply ∷ []) new
+  budget_on = subst (λ (es : List Event). KeepsBudget g (start g.i).tree (writes_in es) (cmds ++ cmd ∷ []) (replies ++ reply ∷ []) new) (sym mount_same)
+      (a.budget g (start g.i).tree mounted (writes_in (take mounted old.crash.log)) cmds replies marks ran.served ran.budget)
+
   pub ran_on : Ran g mounted (cmds ++ cmd ∷ []) (replies ++ reply ∷ []) (marks ++ length new.crash.log ∷ []) new
   ran_on =
       let answered = a.room ran.after ran.session in
@@ -291,8 +304,8 @@ module _ (cmd : Cmd) (reply : Reply) (old new : State) (a : IsAnswered cmd reply
         session = answered.1;
         rooms = runs_on g (start g.i) ran.after answered.0 ran.first (room_of old) (room_of new) cmds replies (cmd ∷ []) (reply ∷ []) ran.rooms
             (answered.0, room_of new, subst (λ (k : Geometry). AnswersOn k ran.after (room_of old) cmd reply answered.0 (room_of new)) ran.served.geom answered.3, (refl, refl));
-        budget = subst (λ (es : List Event). KeepsBudget g (start g.i).tree (writes_in es) (cmds ++ cmd ∷ []) (replies ++ reply ∷ []) new) (sym mount_same)
-            (a.budget g (start g.i).tree mounted (writes_in (take mounted old.crash.log)) cmds replies marks ran.served ran.budget);
+        budget = budget_on;
+        spends = a.spends g (start g.i).tree mounted cmds replies marks ran.served budget_on ran.spends;
         base = λ b low. ap (λ (m : Blocks). m b) a.base ∙ ran.base b low;
         fits = ran.fits;
         lawful = subst (λ (k : Geometry). IsLogOf k.n new.crash.log) geom_is a.lawful;
@@ -315,20 +328,33 @@ records_on cmd reply old new a laws known lawful set past text r =
     let g = set.shape in
     let ran = ran_on cmd reply old new a lawful g r.mounted past r.replies r.marks r.ran in
     let over = over_now cmd reply old new a.steps a.grows r.replies r.ran.served.goes_on.ended ran.served.goes_on.ended ran.served.goes_on.going in
-    let answered = a.room (session_after (start g.i) past r.replies) r.ran.served.goes_on.session in
-    let answers = subst (λ (k : Geometry). AnswersOn k (session_after (start g.i) past r.replies) (room_of old) cmd reply answered.0 (room_of new)) r.ran.served.geom answered.3 in
-    let waits : Waits cmd reply old new a.steps a.grows r.replies r.ran.served.goes_on.ended ran.served.goes_on.ended ran.served.goes_on.going g r.paced.taken = record {
-      calm = calm_on cmd reply old new a.waits a.grows g r.mounted past r.replies r.marks r.ran.served ran.served r.ran.budget.weight over r.paced.taken r.paced.keeps;
-      hears = hears_on cmd reply old new a.waits a.grows g r.mounted past r.replies r.marks r.ran.served ran.served r.ran.budget.weight over r.paced.taken r.paced.keeps a.lawful.lawful;
-      knows = knows_on cmd reply old new a.waits a.grows g r.mounted past r.replies r.marks r.ran.served ran.served r.ran.budget.weight over r.paced.taken r.paced.keeps;
-    } in
     let f = session_after (start g.i) past r.replies in
     let in_room = a.rooms f r.ran.served.goes_on.session in
-    let keeps = keeps_on cmd reply old new a.waits a.grows g r.mounted past r.replies r.marks r.ran.served ran.served r.ran.budget.weight over r.paced.taken r.paced.keeps in_room.1.behind in_room.1.goes_on in_room.1.awaits answered.0 answers in
-    let late : Span = record { begun = length in_room.1.behind; mark = length new.crash.log } in
-    let fits = fits_ring cmd reply old new a.waits a.grows g r.mounted past r.replies r.marks r.ran.served ran.served r.ran.budget.weight over r.paced.taken r.paced.keeps in
-    let room = answered_by g (laws g r.ran.fits) set.manner r.paced.taken old r.paced.manner r.paced.sure cmd reply new late f in_room.0 in_room.1 a.grows r.ran.served.geom r.paced.keeps.session (λ both. fits both.0 both.1) in
-    let paced = paced_on cmd reply old new a.steps a.grows r.replies r.ran.served.goes_on.ended ran.served.goes_on.ended ran.served.goes_on.going g set.manner r.ran.after r.mounted past r.marks r.ran.session r.ran.served.ascend r.paced waits late room.0 (ap (λ (k : ℕ). record { begun = k; mark = length new.crash.log }) room.1) a.sure keeps in
+    let room : AnsweredIn f cmd reply in_room.0 old new = in_room.1 in
+    let ses = session_by g r.mounted in
+    let alone : old.counts.ticks.manner.waits_alone ≡ true = ap (λ (m : Manner). m.waits_alone) r.paced.manner ∙ r.paced.alone in
+    let mine = own_begun cmd reply old new a.waits a.grows g r.mounted past r.replies r.marks r.ran.served ran.served r.ran.budget.weight over r.paced.taken r.paced.keeps r.paced.records r.paced.within in_room.0 room alone in
+    let rests : old.books.stopped ≡ true → new.crash.log ≡ old.crash.log = λ stopped. (a.steps.rests (inr stopped)).1.0 in
+    let keeps = keeps_on cmd reply old new a.waits a.grows g r.mounted past r.replies r.marks r.ran.served ran.served r.ran.budget.weight over r.paced.taken r.paced.keeps r.paced.records r.paced.within in_room.0 room alone mine.0 mine.1 rests in
+    let late : Span = record { begun = mine.0; mark = length new.crash.log } in
+    let own = own_records ses new.crash.log (length room.behind) (length new.crash.log) in
+    let asked : IsSession old r.paced.taken.session = subst (λ (x : Session). IsSession old x) (sym r.paced.keeps.session) r.ran.served.goes_on.session in
+    let placed = placed_in g (laws g r.ran.fits) r.paced.taken.session (length r.paced.taken.spans) cmd reply old new a.points r.ran.served.geom asked (a.waits.room r.paced.taken.session asked) (a.room r.paced.taken.session asked)
+    (λ going. (or_parts old.books.stopped (is_fault reply) (sym over ∙ going)).0) r.paced.keeps.spans (λ going. sym (one_more r.paced.taken.spans late (makes_point r.paced.taken.session cmd reply)) ∙ keeps.spans going) ran.base r.paced.placed in
+    let waits : Waits cmd reply old new a.steps a.grows r.replies r.ran.served.goes_on.ended ran.served.goes_on.ended ran.served.goes_on.going g r.mounted r.paced.taken room.behind mine.0 = record {
+      written = mine.1.written;
+      unwritten = unwritten_on cmd reply old new a.waits a.grows g r.mounted past r.replies r.marks r.ran.served ran.served r.ran.budget.weight over r.paced.taken r.paced.keeps r.paced.records r.paced.within in_room.0 room alone;
+      calm = calm_on cmd reply old new a.waits a.grows g r.mounted past r.replies r.marks r.ran.served ran.served r.ran.budget.weight over r.paced.taken r.paced.keeps r.paced.records r.paced.within in_room.0 room alone a.steps.ticks;
+      hears = hears_on cmd reply old new a.waits a.grows g r.mounted past r.replies r.marks r.ran.served ran.served r.ran.budget.weight over r.paced.taken r.paced.keeps r.paced.records r.paced.within in_room.0 room alone mine.0 mine.1 a.lawful.lawful;
+      knows = knows_on cmd reply old new a.waits a.grows g r.mounted past r.replies r.marks r.ran.served ran.served r.ran.budget.weight over r.paced.taken r.paced.keeps r.paced.records r.paced.within in_room.0 room alone;
+      told = λ n asks said. (a.waits.known n asks said).0;
+      rises = a.waits.floor;
+      spends = spends_on cmd reply old new a.waits a.grows g r.mounted past r.replies r.marks r.ran.served ran.served r.ran.budget.weight over r.paced.taken r.paced.keeps r.paced.records r.paced.within in_room.0 room alone mine.0 mine.1 rests;
+      placed = placed;
+    } in
+    let fits = done_fits cmd reply old new a.waits a.grows g r.mounted past r.replies r.marks r.ran.served ran.served r.ran.budget.weight over r.paced.taken r.paced.keeps r.paced.records r.paced.within in_room.0 room alone set.manner in
+    let by = answered_by g (laws g r.ran.fits) set.manner ses refl r.paced.taken old r.paced.manner r.paced.sure cmd reply new f in_room.0 room own late a.grows r.ran.served.geom r.paced.keeps.session fits in
+    let paced = paced_on cmd reply old new a.steps a.grows r.replies r.ran.served.goes_on.ended ran.served.goes_on.ended ran.served.goes_on.going g set.manner r.ran.after r.mounted past r.marks r.ran.session r.ran.served.ascend r.paced room.behind mine.0 room.goes_on waits by.0 by.1 a.sure a.records keeps in
     subst (λ (xs : List ℕ). Records set (past ++ cmd ∷ []) xs new)
     (text_on g old.crash.log new.crash.log r.mounted past r.replies r.marks cmd reply a.grows r.ran.served.answered r.ran.served.marked r.ran.served.ascend
     ∙ ap (λ (xs : List ℕ). xs ++ entry (drop (length old.crash.log) new.crash.log) cmd reply (length new.crash.log)) (sym r.is))
@@ -357,6 +383,7 @@ at_first set s fits opened laws known =
       session = opened.served.goes_on.session;
       rooms = (refl, refl);
       budget = subst (λ (es : List Event). KeepsBudget g (start g.i).tree (writes_in es) [] [] s) (sym (take_all (length s.crash.log) s.crash.log (omega arith))) opened.budget;
+      spends = (laws g fits).spends s.crash.log;
       base = opened.base;
       fits = fits;
       lawful = opened.lawful;
@@ -367,11 +394,19 @@ at_first set s fits opened laws known =
       manner = opened.manner;
       writes = opened.writes;
       taken = nothing_taken g;
-      keeps = keeps_at_first g s opened.free opened.room (omega (arith, opened.served.goes_on.exact (opened.served.goes_on.going (λ i is. none_is i _ is)))) opened.may;
-      paces = ap₂ (λ (n : ℕ) (over : Bool). record { polls = n; events = length s.crash.log; over = over; taken = nothing_taken g; room = room_on s }) opened.polls (opened.served.goes_on.going (λ i is. none_is i _ is))
-          ∙ ap (λ (r : RoomOn). record { polls = 0; events = length s.crash.log; over = false; taken = nothing_taken g; room = r }) (room_first g s opened.room opened.since);
+      keeps = keeps_at_first g s opened.owed (omega (arith, opened.served.goes_on.exact (opened.served.goes_on.going (λ i is. none_is i _ is)))) opened.may;
+      paces = ap₂ (λ (n : ℕ) (over : Bool). record { polls = n; events = length s.crash.log; over = over; durable = s.books.floor; taken = nothing_taken g; room = room_on s }) opened.polls (opened.served.goes_on.going (λ i is. none_is i _ is))
+          ∙ ap₂ (λ (n : ℕ) (r : RoomOn). record { polls = 0; events = length s.crash.log; over = false; durable = n; taken = nothing_taken g; room = r }) opened.floor (room_first g s opened.room opened.since);
+      records = opened.records;
       sure = opened.sure;
       opens = opened.opens;
+      alone = opened.alone;
+      mounts = ap has_lost (take_all (length s.crash.log) s.crash.log (omega arith)) ∙ opened.unlost;
+      once = subst (MountsOnce g) (sym (take_all (length s.crash.log) s.crash.log (omega arith))) opened.once;
+      placed = placed_first g (laws g fits).places.limits (start g.i) s opened.served.geom (omega (arith, opened.served.goes_on.exact (opened.served.goes_on.going (λ i is. none_is i _ is)))) opened.only;
+      within = omega arith;
+      uncounted = λ going. opened.faults;
+      unlost = λ going. opened.unlost;
       turns = omega (arith, opened.turns);
       unspent = λ i few is. none_is i _ is;
     } in

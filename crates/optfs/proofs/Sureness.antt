@@ -11,8 +11,8 @@ use Rattle.opt_journal.specs.declared.header.Header.{Header}
 use Rattle.opt_journal.specs.Layout.{header_of}
 use Rattle.opt_crash.specs.Points.{MountedSession}
 use Rattle.opt_checkpoint.specs.Serving.{IsNewestAtRest}
-use Rattle.opt_store.specs.SessionView.{IsSure}
-use Rattle.optfs.specs.Behaving.{IsSureBy}
+use Rattle.opt_store.specs.SessionView.{IsSure, Starts}
+use Rattle.optfs.specs.Behaving.{IsSureBy, StartsBy}
 
 -- What is pending on a block doesn't depend on what the disk began with.
 
@@ -73,3 +73,24 @@ module _ (g : Geometry) (room : 2 ≤ g.n) (session : MountedSession) (base : Bl
 
   pub sure_by : ∥ IsSure session base front p ∥₁ ↔ ∥ IsSureBy g front p ∥₁
   sure_by = (λ is. ∥∥₁_map is sure_then, λ is. ∥∥₁_map is sure_back)
+
+-- So it is with the record with which it starts.
+module _ (g : Geometry) (room : 2 ≤ g.n) (session : MountedSession) (base : Blocks) (geom : session.geom ≡ g) (same : (b : ℕ) → b < g.n → base b ≡ formatted g b) (front : List Event) (number : ℕ) where
+  starts_then : Starts session base front number → StartsBy g front number
+  starts_then is = record {
+    header = is.header;
+    newest = newest_alike g.n (cell_of base front) (cell_of (formatted g) front) is.header (λ b low. cells_alike base (formatted g) front b (same b (omega (arith, low, room))))
+        (subst (λ (k : Geometry). IsNewestAtRest k.n (cell_of base front) is.header) geom is.newest);
+    is = is.is;
+  }
+
+  starts_back : StartsBy g front number → Starts session base front number
+  starts_back is = record {
+    header = is.header;
+    newest = subst (λ (k : Geometry). IsNewestAtRest k.n (cell_of base front) is.header) (sym geom)
+        (newest_alike g.n (cell_of (formatted g) front) (cell_of base front) is.header (λ b low. cells_alike (formatted g) base front b (sym (same b (omega (arith, low, room))))) is.newest);
+    is = is.is;
+  }
+
+  pub starts_by : ∥ Starts session base front number ∥₁ ↔ ∥ StartsBy g front number ∥₁
+  starts_by = (λ is. ∥∥₁_map is starts_then, λ is. ∥∥₁_map is starts_back)

@@ -1,46 +1,48 @@
 -- What a run has taken of its disk after one command more, and what that command waited for.
-use Rattle.std.proofs.Common.{◌≡◌, ◌≢◌, ◌⊎◌, inl, inr, ⊎_elim, ℕ, zero, suc, ◌+◌, ◌-◌, ◌<◌, ◌≤◌, ◌==◌, ◌||◌, if◌then◌else◌, Bool, true, false, List, [], ◌∷◌, ◌++◌, length, take, replicate, Option, Some, None, is_some, refl, sym, ap, ◌∙◌, subst, append_assoc, le_refl, arith}
+use Rattle.std.proofs.Common.{◌≡◌, ◌≢◌, ◌⊎◌, inl, inr, ⊎_elim, ℕ, zero, suc, ◌+◌, ◌-◌, ◌<◌, ◌≤◌, ◌==◌, ◌||◌, ◌&&◌, not, nat_le, nat_lt, if◌then◌else◌, Bool, true, false, List, [], ◌∷◌, ◌++◌, length, take, drop, Option, Some, None, is_some, refl, sym, ap, ap₂, ◌∙◌, subst, append_assoc, append-nil, arith}
 use Rattle.std.proofs.Math.Logic.{∥∥₁_map}
-use Rattle.std.proofs.Math.Seq.{take-append_seam, take-length}
-use Rattle.std.proofs.lemmas.Bool.{cases_Bool, cond-true, cond-false, eqb-true, false≢true, true≢false, or_left, or_parts, or_right}
-use Rattle.std.proofs.lemmas.List.{take-append-le, length-append, length-drop}
-use Rattle.std.proofs.lemmas.List.FromFn.{length-range_with_len}
-use Rattle.std.specs.List.{slice_get, filter}
+use Rattle.std.proofs.Math.Seq.{take-append_seam, take-length, drop-append_seam}
+use Rattle.std.proofs.lemmas.Bool.Decides.{nat_tests}
+use Rattle.std.proofs.lemmas.Bool.{cases_Bool, cond-true, cond-false, eqb-true, eq-eqb, ne_eqb, false≢true, true≢false, or_left, or_parts, or_right}
+use Rattle.std.proofs.lemmas.List.{append_cancel_left, drop-append-le, take-append-le, length-append}
+use Rattle.std.specs.List.{slice_get}
 use Rattle.opt_disk.specs.declared.event.Event.{Event}
 use Rattle.opt_disk.specs.declared.event.Event.TheVariants.{Wrote, Lost, Noticed}
 use Rattle.opt_disk.specs.Cell.{is_accepted, is_noticed, IsNoticed}
-use Rattle.opt_disk.specs.Disk.{Grows, PollsThenWrites}
+use Rattle.opt_disk.specs.Disk.{AreWrites, Grows, GrowsByWrites, PollsFirst, PollsThenWrites, writes_in}
 use Rattle.opt_disk.specs.Lawful.{AreLawfulAfter, IsLawful}
-use Rattle.opt_disk.specs.Manner.{Polled, after_polls}
-use Rattle.opt_geom.specs.Geometry.{Geometry, bitmap_blocks, data_start}
+use Rattle.opt_disk.specs.Manner.{Manner, Polled, after_polls}
+use Rattle.opt_geom.specs.Geometry.{Geometry, bitmap_blocks}
+use Rattle.opt_journal.specs.declared.record.Commit.{Commit}
+use Rattle.opt_journal.specs.Layout.{commit_of, descriptor_count}
+use Rattle.opt_journal.specs.Run.{places_from, places_told, writes_stood_for}
+use Rattle.opt_crash.specs.Points.{MountedSession, commits_told, is_commit, records_told, where_told}
 use Rattle.opt_tree.specs.declared.command.Cmd.{Cmd}
 use Rattle.opt_tree.specs.declared.command.Cmd.TheVariants as cmds
 use Rattle.opt_tree.specs.declared.command.Refusal.{Refusal}
-use Rattle.opt_tree.specs.declared.command.Refusal.TheVariants.{DiskFault, Spent}
+use Rattle.opt_tree.specs.declared.command.Refusal.TheVariants as because
 use Rattle.opt_tree.specs.declared.command.Reply.{Reply}
-use Rattle.opt_tree.specs.declared.command.Reply.TheVariants.{Ok as Done, Known, Refused}
-use Rattle.opt_tree.specs.Conditions.{refusal}
-use Rattle.opt_tree.specs.Figures.{accepted_figures, figures, figures_by}
-use Rattle.opt_tree.specs.Points.{after_reply, is_refusal, is_sync, made_by, points_after}
-use Rattle.opt_tree.specs.Step.{Session, accepted, answered, changed_to, start, step}
-use Rattle.opt_tree.specs.Tree.{Tree}
-use Rattle.opt_tree.specs.Walk.{content, is_same_node}
-use Rattle.opt_blocks.specs.Calls.{commit_places}
+use Rattle.opt_tree.specs.declared.command.Reply.TheVariants as replied
+use Rattle.opt_tree.specs.declared.command.Reply.TheVariants.{Known, Refused}
+use Rattle.opt_tree.specs.Figures.{figures}
+use Rattle.opt_tree.specs.Points.{after_reply, is_refusal, is_sync, made_by, may_have_written, points_after}
+use Rattle.opt_tree.specs.Step.{Session, start}
+use Rattle.opt_blocks.specs.Calls.{commit_places, commit_writes}
 use Rattle.opt_blocks.specs.Crashes.{AwaitsSince, MayAwait, StillAwaits}
-use Rattle.opt_blocks.specs.Effects.{FitsRing}
-use Rattle.opt_blocks.specs.Running.{has}
-use Rattle.opt_blocks.specs.State.{State, data_blocks, reusable_blocks}
+use Rattle.opt_blocks.specs.Running.{fresh_blocks, payloads, record_writes}
+use Rattle.opt_blocks.specs.State.{State, reusable_blocks}
 use Rattle.opt_fs.specs.Applying.{NeedsNoWait}
 use Rattle.opt_fs.specs.Commands.{figures_on}
-use Rattle.opt_fs.specs.DiskRoom.{AnswersOn, AnswersOver, BeginsOver, IsRoomOf, KeepsRoom, SyncsOver}
 use Rattle.opt_fs.specs.Memory.{room_of}
-use Rattle.opt_fs.specs.Room.{IsDoneIn, IsFirstRoom, RefusesIn, Room, figures_in}
+use Rattle.opt_fs.specs.Room.{figures_in}
 use Rattle.opt_fs.specs.Sessions.{IsSession}
-use Rattle.opt_session.specs.Budget.{sync_places, weight_after, weight_by}
+use Rattle.opt_session.specs.Budget.{commits, sync_budget, sync_places, weight_after, weight_by, writes_of}
 use Rattle.opt_session.specs.Histories.{session_after}
 use Rattle.opt_session.specs.Serving.{HasServed}
-use Rattle.optfs.specs.Behaving.{CameIn, FindsPlaces, FindsRoom, HearsIn, KnowsUpTo, Span, Taken, is_fault, makes_point, nothing_taken, taken_by}
-use Rattle.optfs.specs.Running.{KeepsTaken, WaitsOn}
+use Rattle.optfs.specs.Behaving.{CameIn, DoneInRing, FindsPlaces, FindsRoom, HearsIn, KnowsUpTo, OrdersAtOnce, Span, Taken, WritesRecordBy, is_done_sync, is_fault, makes_point, nothing_taken, own_records, places_wanted, session_by, stands_for, taken_by}
+use Rattle.optfs.specs.Disks.{TellsBy}
+use Rattle.optfs.specs.Running.{AnsweredIn, FitsAmong, FreesBy, KeepsTaken, WaitsOn, WritesIn, pace_of}
+use Rattle.optfs.proofs.Rooms.{sync_is_meant}
 
 -- Accepted and noticed tickets of a log, and of its fronts.
 
@@ -140,168 +142,153 @@ points_more s begun (c ∷ cmds) (r ∷ replies) (k ∷ marks) cmd reply mark sa
       points_more (after_reply s c r) k cmds replies marks cmd reply mark (omega (arith, same)) (omega (arith, marked)),
     )
 
--- The blocks that may be taken, after one command more.
+-- What the log tells of records.
 
--- what a command is counted for
-abbrev needs_of : Geometry → Session → Cmd → Reply → ℕ
-needs_of g f cmd reply = if is_refusal reply then 0 else (figures_in g f cmd).need
+commits_on : (g : Geometry) (epoch : ℕ) (xs ys : List Event) → commits_told g epoch (xs ++ ys) ≡ commits_told g epoch xs ++ commits_told g epoch ys
+commits_on g epoch [] ys = refl
+commits_on g epoch (Wrote t b x ∷ xs) ys = ap (λ (cs : List Commit). where_told (is_commit g epoch b x) (commit_of g x) ++ cs) (commits_on g epoch xs ys) ∙ sym (append_assoc (where_told (is_commit g epoch b x) (commit_of g x)) (commits_told g epoch xs) (commits_told g epoch ys))
+commits_on g epoch (Lost b x ∷ xs) ys = ap (λ (cs : List Commit). where_told (is_commit g epoch b x) (commit_of g x) ++ cs) (commits_on g epoch xs ys) ∙ sym (append_assoc (where_told (is_commit g epoch b x) (commit_of g x)) (commits_told g epoch xs) (commits_told g epoch ys))
+commits_on g epoch (Noticed t ∷ xs) ys = commits_on g epoch xs ys
 
-length_filter : (p : ℕ → Bool) (x : ℕ) (xs : List ℕ) → length (filter p (x ∷ xs)) ≡ one_if (p x) + length (filter p xs)
-length_filter p x xs = by (p x)
-  where
-    by : (b : Bool) → length (if b then x ∷ filter p xs else filter p xs) ≡ one_if b + length (filter p xs)
-    by true = omega arith
-    by false = omega arith
+-- a log that goes on tells those of its front, and its own
+records_on : (ses : MountedSession) (xs ys : List Event) → ses.mounted ≤ length xs → records_told ses (xs ++ ys) ≡ records_told ses xs ++ commits_told ses.geom ses.epoch ys
+records_on ses xs ys late = ap (commits_told ses.geom ses.epoch) (drop-append-le ses.mounted xs ys late) ∙ commits_on ses.geom ses.epoch (drop ses.mounted xs) ys
 
-one_more : (a b : Bool) → (a ≡ true → b ≡ true) → one_if a ≤ one_if b
-one_more true b more = omega (arith, ap one_if (more refl))
-one_more false b more = omega arith
+-- Writes in a log.
 
-longer_filter : (p q : ℕ → Bool) (xs : List ℕ) → ((b : ℕ) → p b ≡ true → q b ≡ true) → length (filter p xs) ≤ length (filter q xs)
-longer_filter p q [] more = omega arith
-longer_filter p q (x ∷ xs) more = omega (arith, length_filter p x xs, length_filter q x xs, one_more (p x) (q x) (more x), longer_filter p q xs more)
+writes_on : (xs ys : List Event) → writes_in (xs ++ ys) ≡ writes_in xs + writes_in ys
+writes_on [] ys = omega arith
+writes_on (Wrote t b x ∷ xs) ys = omega (arith, writes_on xs ys)
+writes_on (Lost b x ∷ xs) ys = omega (arith, writes_on xs ys)
+writes_on (Noticed t ∷ xs) ys = writes_on xs ys
 
--- a command that the tree refuses has no figures, and one that it accepts and answers by a refusal needs nothing
-counted : (bitmap : ℕ) (f : Session) (cmd : Cmd) → (figures bitmap f cmd).need ≤ (if is_refusal (step f cmd).1 then 0 else (figures bitmap f cmd).need)
-counted bitmap f cmd = by (refusal f.limit f.tree cmd)
-  where
-    calm : (need : ℕ) (b : Bool) → b ≡ false → need ≤ (if b then 0 else need)
-    calm need true is = absurd (true≢false is)
-    calm need false is = omega arith
+-- where no write came, none was accepted
+none_accepted : (t : ℕ) (xs ys : List Event) → writes_in ys ≡ 0 → is_accepted t (xs ++ ys) ≡ is_accepted t xs
+none_accepted t (Wrote u b x ∷ xs) ys none = ap (λ (later : Bool). (u == t) || later) (none_accepted t xs ys none)
+none_accepted t (Lost b x ∷ xs) ys none = none_accepted t xs ys none
+none_accepted t (Noticed u ∷ xs) ys none = none_accepted t xs ys none
+none_accepted t [] [] none = refl
+none_accepted t [] (Wrote u b x ∷ ys) none = absurd (omega (arith, none))
+none_accepted t [] (Lost b x ∷ ys) none = absurd (omega (arith, none))
+none_accepted t [] (Noticed u ∷ ys) none = none_accepted t [] ys none
 
-    either : (b : Bool) (s : Session) (x : Tree) → is_refusal (if b then (s, Done) else changed_to s x).1 ≡ false
-    either true s x = refl
-    either false s x = refl
+-- writes bring no notice
+noticed_on : (t : ℕ) (xs ys : List Event) → AreWrites ys → is_noticed t (xs ++ ys) ≡ is_noticed t xs
+noticed_on t (Wrote u b x ∷ xs) ys all = noticed_on t xs ys all
+noticed_on t (Lost b x ∷ xs) ys all = noticed_on t xs ys all
+noticed_on t (Noticed u ∷ xs) ys all = ap (λ (later : Bool). (u == t) || later) (noticed_on t xs ys all)
+noticed_on t [] [] all = refl
+noticed_on t [] (Wrote u b x ∷ ys) all = noticed_on t [] ys all
+noticed_on t [] (Lost b x ∷ ys) all = noticed_on t [] ys all
+noticed_on t [] (Noticed u ∷ ys) all = absurd all
 
-    none : (b : Bool) → 0 ≤ (if b then 0 else 0)
-    none b = omega arith
+noticed_before : (t : ℕ) (old new : List Event) → GrowsByWrites old new → IsNoticed t new → IsNoticed t old
+noticed_before t old new grows came = sym (noticed_on t old grows.more grows.writes) ∙ ap (is_noticed t) (sym grows.log) ∙ came
 
-    accepts : (cmd : Cmd) → (accepted_figures bitmap f.tree cmd).need ≤ (if is_refusal (accepted f cmd).1 then 0 else (accepted_figures bitmap f.tree cmd).need)
-    accepts (cmds.Mkdir path) = le_refl _
-    accepts (cmds.Create path) = le_refl _
-    accepts (cmds.Write path offset bytes) = calm _ _ (either (length bytes == 0) f _)
-    accepts (cmds.Fill path offset count byte) = calm _ _ (either (length (replicate count byte) == 0) f _)
-    accepts (cmds.Read path offset count) = none (is_refusal (accepted f (cmds.Read path offset count)).1)
-    accepts (cmds.Truncate path size) = calm _ _ (either (size == length (content f.tree path)) f _)
-    accepts (cmds.Link path other) = le_refl _
-    accepts (cmds.Unlink path) = le_refl _
-    accepts (cmds.Rmdir path) = le_refl _
-    accepts (cmds.Rename from to) = calm _ _ (either (is_same_node f.tree from to) f _)
-    accepts (cmds.Stat path) = none (is_refusal (accepted f (cmds.Stat path)).1)
-    accepts (cmds.List path) = none (is_refusal (accepted f (cmds.List path)).1)
-    accepts cmds.Osync = none (is_refusal (accepted f cmds.Osync).1)
-    accepts cmds.Dsync = none (is_refusal (accepted f cmds.Dsync).1)
-    accepts cmds.Durable = none (is_refusal (accepted f cmds.Durable).1)
-    accepts cmds.Poll = none (is_refusal (accepted f cmds.Poll).1)
-    accepts cmds.Bad = none (is_refusal (accepted f cmds.Bad).1)
+are_writes_on : (xs ys : List Event) → AreWrites xs → AreWrites ys → AreWrites (xs ++ ys)
+are_writes_on [] ys a b = b
+are_writes_on (Wrote u k x ∷ xs) ys a b = are_writes_on xs ys a b
+are_writes_on (Lost k x ∷ xs) ys a b = are_writes_on xs ys a b
+are_writes_on (Noticed u ∷ xs) ys a b = absurd a
 
-    by : (r : Option Refusal) → (figures_by bitmap f.tree cmd r).need ≤ (if is_refusal (answered f cmd r).1 then 0 else (figures_by bitmap f.tree cmd r).need)
-    by (Some why) = le_refl _
-    by None = accepts cmd
+writes_then : (a b c : List Event) → GrowsByWrites a b → GrowsByWrites b c → GrowsByWrites a c
+writes_then a b c one two = record { more = one.more ++ two.more; log = two.log ∙ ap (λ (es : List Event). es ++ two.more) one.log ∙ append_assoc a one.more two.more; writes = are_writes_on one.more two.more one.writes two.writes }
 
-module _ (g : Geometry) (f : Session) (reply : Reply) (next : Session) where
-  -- at least as many blocks may be taken as before, but for those that the command needs
-  abbrev Leaves : Room → Cmd → Room → Type 0
-  Leaves r cmd room = length r.takeable ≤ length room.takeable + needs_of g f cmd reply
+-- one record's places
+from_none : (n : ℕ) → nat_le 0 n ≡ true
+from_none n = grind (arith, nat_tests)
 
-  same_room : (r : Room) (cmd : Cmd) (room : Room) → room ≡ r → Leaves r cmd room
-  same_room r cmd room same = omega (arith, ap (λ (x : Room). length x.takeable) same)
+one_place : (c : Commit) → places_from 0 (c ∷ []) ≡ places_told c
+one_place c = omega (arith, ap (λ (b : Bool). if b then places_told c else 0) (from_none c.number))
 
-  refused_room : (P : Refusal → Type 0) (r : Room) (cmd : Cmd) (room : Room) → RefusesIn P f r reply next room → Leaves r cmd room
-  refused_room P r cmd room refused = same_room r cmd room refused.4
+-- A transaction that weighs something changed something.
+weighs_some : (n : ℕ) → nat_lt 0 n ≡ true → 0 < n
+weighs_some zero is = absurd (false≢true is)
+weighs_some (suc n) is = omega arith
 
-  grown_room : (r room : Room) → r.takeable ≡ filter (has r.takeable) (data_blocks g) → room.takeable ≡ filter (has room.takeable) (data_blocks g) → ((b : ℕ) → has r.takeable b ≡ true → has room.takeable b ≡ true) → length r.takeable ≤ length room.takeable
-  grown_room r room one two more = omega (arith, ap (λ (xs : List ℕ). length xs) one, ap (λ (xs : List ℕ). length xs) two, longer_filter (has r.takeable) (has room.takeable) (data_blocks g) more)
+some_weighs : (n : ℕ) → 0 < n → nat_lt 0 n ≡ true
+some_weighs n some = grind (arith, nat_tests, some)
 
-  kept_room : (r : Room) (cmd : Cmd) (room : Room) → IsRoomOf g f r → IsRoomOf g next room → KeepsRoom r room → Leaves r cmd room
-  kept_room r cmd room one two keeps = omega (arith, grown_room r room one.takeable two.takeable keeps.takeable)
+zero_or_some : (n : ℕ) → (n ≡ 0) ⊎ (0 < n)
+zero_or_some zero = inl refl
+zero_or_some (suc n) = inr (omega arith)
 
-  synced_room : (r : Room) (cmd : Cmd) (room : Room) → IsRoomOf g f r → IsRoomOf g next room → SyncsOver f r cmd reply next room → Leaves r cmd room
-  synced_room r cmd room one two (inl done) = kept_room r cmd room one two done.1.keeps
-  synced_room r cmd room one two (inr (inl refused)) = refused_room _ r cmd room refused
-  synced_room r cmd room one two (inr (inr fault)) = kept_room r cmd room one two fault.2
+both : (a b : Bool) → a ≡ true → b ≡ true → (a && b) ≡ true
+both true b is other = other
+both false b is other = is
 
-  done_room : (r : Room) (cmd : Cmd) (room : Room) → IsDoneIn g f r cmd reply next room → Leaves r cmd room
-  done_room r cmd room done = omega (
-    arith,
-    ap (λ (xs : List ℕ). length xs) done.spends.takeable,
-    length-drop (figures_in g f cmd).need r.takeable,
-    done.enough,
-    counted (bitmap_blocks g) f cmd,
-    ap (λ (p : Session × Reply). if is_refusal p.1 then 0 else (figures_in g f cmd).need) done.answer,
-  )
+parts_of : (a b : Bool) → (a && b) ≡ true → (a ≡ true) × (b ≡ true)
+parts_of true b is = (refl, is)
+parts_of false b is = absurd (false≢true is)
 
-  tree_room : (P Q : Refusal → Type 0) (r : Room) (cmd : Cmd) (room : Room) → (IsDoneIn g f r cmd reply next room ⊎ RefusesIn P f r reply next room) ⊎ RefusesIn Q f r reply next room → Leaves r cmd room
-  tree_room P Q r cmd room (inl (inl done)) = done_room r cmd room done
-  tree_room P Q r cmd room (inl (inr refused)) = refused_room P r cmd room refused
-  tree_room P Q r cmd room (inr refused) = refused_room Q r cmd room refused
+not_is : (a : Bool) → not a ≡ true → a ≡ false
+not_is true is = absurd (false≢true is)
+not_is false is = refl
 
-  idle_room : {A : Type 0} (Q : Refusal → Type 0) (r : Room) (cmd : Cmd) (room : Room) → (A × (room ≡ r)) ⊎ RefusesIn Q f r reply next room → Leaves r cmd room
-  idle_room Q r cmd room (inl same) = same_room r cmd room same.1
-  idle_room Q r cmd room (inr refused) = refused_room Q r cmd room refused
+is_not : (a : Bool) → a ≡ false → not a ≡ true
+is_not true is = absurd (false≢true (sym is))
+is_not false is = refl
 
-  room_over : (r : Room) (cmd : Cmd) (room : Room) → IsRoomOf g f r → IsRoomOf g next room → AnswersOver g f r cmd reply next room → Leaves r cmd room
-  room_over r cmds.Osync room one two a = synced_room r cmds.Osync room one two a
-  room_over r cmds.Dsync room one two a = synced_room r cmds.Dsync room one two a
-  room_over r cmds.Durable room one two a = idle_room _ r cmds.Durable room a
-  room_over r cmds.Poll room one two a = idle_room _ r cmds.Poll room a
-  room_over r cmds.Bad room one two a = idle_room _ r cmds.Bad room a
-  room_over r (cmds.Mkdir path) room one two a = tree_room _ _ r (cmds.Mkdir path) room a
-  room_over r (cmds.Create path) room one two a = tree_room _ _ r (cmds.Create path) room a
-  room_over r (cmds.Write path offset bytes) room one two a = tree_room _ _ r (cmds.Write path offset bytes) room a
-  room_over r (cmds.Fill path offset count byte) room one two a = tree_room _ _ r (cmds.Fill path offset count byte) room a
-  room_over r (cmds.Read path offset count) room one two a = tree_room _ _ r (cmds.Read path offset count) room a
-  room_over r (cmds.Truncate path size) room one two a = tree_room _ _ r (cmds.Truncate path size) room a
-  room_over r (cmds.Link path other) room one two a = tree_room _ _ r (cmds.Link path other) room a
-  room_over r (cmds.Unlink path) room one two a = tree_room _ _ r (cmds.Unlink path) room a
-  room_over r (cmds.Rmdir path) room one two a = tree_room _ _ r (cmds.Rmdir path) room a
-  room_over r (cmds.Rename from to) room one two a = tree_room _ _ r (cmds.Rename from to) room a
-  room_over r (cmds.Stat path) room one two a = tree_room _ _ r (cmds.Stat path) room a
-  room_over r (cmds.List path) room one two a = tree_room _ _ r (cmds.List path) room a
+-- a sync that may have written and that no fault ended is done
+why_not : (why : Refusal) → may_have_written (Refused why) ≡ true → is_fault (Refused why) ≡ false → ⊥
+why_not because.NotFound may calm = false≢true may
+why_not because.Exists may calm = false≢true may
+why_not because.NotDir may calm = false≢true may
+why_not because.IsDir may calm = false≢true may
+why_not because.NotEmpty may calm = false≢true may
+why_not because.BelowItself may calm = false≢true may
+why_not because.TooLarge may calm = false≢true may
+why_not because.TooManyLinks may calm = false≢true may
+why_not because.NoNode may calm = false≢true may
+why_not (because.Full need left) may calm = false≢true may
+why_not (because.TooBig weight cost room) may calm = false≢true may
+why_not (because.Scattered runs) may calm = false≢true may
+why_not because.ReadFault may calm = false≢true may
+why_not because.DiskFault may calm = true≢false calm
+why_not because.Stopped may calm = false≢true may
+why_not because.Spent may calm = false≢true may
+why_not because.NoMemory may calm = false≢true may
 
-  begun_room : (r : Room) (cmd : Cmd) (room : Room) → IsRoomOf g f r → BeginsOver g f r cmd reply next room → Leaves r cmd room
-  begun_room r cmd room one begun = omega (arith, grown_room r begun.back one.takeable begun.comes_back.is_room.takeable begun.comes_back.keeps.takeable, room_over begun.back cmd room begun.comes_back.is_room begun.is_room begun.answers)
+not_refused : (reply : Reply) → may_have_written reply ≡ true → is_fault reply ≡ false → is_refusal reply ≡ false
+not_refused replied.Ok may calm = refl
+not_refused (replied.Bytes bytes) may calm = refl
+not_refused (replied.Stat stat) may calm = refl
+not_refused (replied.Names names) may calm = refl
+not_refused (replied.Synced n) may calm = refl
+not_refused (replied.DurableAt n) may calm = refl
+not_refused (replied.Known n) may calm = refl
+not_refused replied.Bad may calm = refl
+not_refused (replied.Refused why) may calm = absurd (why_not why may calm)
 
-  any_room : (P : Refusal → Type 0) (r : Room) (cmd : Cmd) (room : Room) → IsRoomOf g f r → RefusesIn P f r reply next room ⊎ BeginsOver g f r cmd reply next room → Leaves r cmd room
-  any_room P r cmd room one (inl refused) = refused_room P r cmd room refused
-  any_room P r cmd room one (inr begun) = begun_room r cmd room one begun
+done_writes : (reply : Reply) → is_refusal reply ≡ false → may_have_written reply ≡ true
+done_writes replied.Ok well = refl
+done_writes (replied.Bytes bytes) well = refl
+done_writes (replied.Stat stat) well = refl
+done_writes (replied.Names names) well = refl
+done_writes (replied.Synced n) well = refl
+done_writes (replied.DurableAt n) well = refl
+done_writes (replied.Known n) well = refl
+done_writes replied.Bad well = refl
+done_writes (replied.Refused why) well = absurd (true≢false well)
 
-  room_left : (r : Room) (cmd : Cmd) (room : Room) → IsRoomOf g f r → AnswersOn g f r cmd reply next room → Leaves r cmd room
-  room_left r cmds.Bad room one a = same_room r cmds.Bad room a.1
-  room_left r (cmds.Mkdir path) room one a = any_room _ r (cmds.Mkdir path) room one a
-  room_left r (cmds.Create path) room one a = any_room _ r (cmds.Create path) room one a
-  room_left r (cmds.Write path offset bytes) room one a = any_room _ r (cmds.Write path offset bytes) room one a
-  room_left r (cmds.Fill path offset count byte) room one a = any_room _ r (cmds.Fill path offset count byte) room one a
-  room_left r (cmds.Read path offset count) room one a = any_room _ r (cmds.Read path offset count) room one a
-  room_left r (cmds.Truncate path size) room one a = any_room _ r (cmds.Truncate path size) room one a
-  room_left r (cmds.Link path other) room one a = any_room _ r (cmds.Link path other) room one a
-  room_left r (cmds.Unlink path) room one a = any_room _ r (cmds.Unlink path) room one a
-  room_left r (cmds.Rmdir path) room one a = any_room _ r (cmds.Rmdir path) room one a
-  room_left r (cmds.Rename from to) room one a = any_room _ r (cmds.Rename from to) room one a
-  room_left r (cmds.Stat path) room one a = any_room _ r (cmds.Stat path) room one a
-  room_left r (cmds.List path) room one a = any_room _ r (cmds.List path) room one a
-  room_left r cmds.Osync room one a = any_room _ r cmds.Osync room one a
-  room_left r cmds.Dsync room one a = any_room _ r cmds.Dsync room one a
-  room_left r cmds.Durable room one a = any_room _ r cmds.Durable room one a
-  room_left r cmds.Poll room one a = any_room _ r cmds.Poll room one a
+some_is : (cs ds : List Commit) → Some cs ≡ Some ds → cs ≡ ds
+some_is cs ds e = search
 
 -- One command more.
 
 module _ (cmd : Cmd) (reply : Reply) (old new : State) (w : WaitsOn cmd reply old new) (grows : Grows old.crash.log new.crash.log) (g : Geometry) (mounted : ℕ) (asked : List Cmd) (replies : List Reply) (marks : List ℕ)
     (before : HasServed g (start g.i).tree mounted asked replies marks old) (after : HasServed g (start g.i).tree mounted (asked ++ cmd ∷ []) (replies ++ reply ∷ []) (marks ++ length new.crash.log ∷ []) new)
     (weighs : old.books.stopped ≡ false → old.books.running.weight ≡ weight_after (bitmap_blocks g) (start g.i) 0 asked replies) (over : new.books.stopped ≡ (old.books.stopped || is_fault reply))
-    (t : Taken) (keeps : KeepsTaken g asked replies old t) where
+    (t : Taken) (keeps : KeepsTaken g mounted asked replies old t) (tells : TellsBy (session_by g mounted) old.crash.records) (within : mounted ≤ length old.crash.log)
+    (next : Session) (a : AnsweredIn (session_after (start g.i) asked replies) cmd reply next old new) (alone : old.counts.ticks.manner.waits_alone ≡ true) where
   abbrev f : Session
   f = session_after (start g.i) asked replies
 
-  abbrev span : Span
-  span = record { begun = length old.crash.log; mark = length new.crash.log }
+  abbrev ses : MountedSession
+  ses = session_by g mounted
 
   is_session : IsSession old f
   is_session = before.goes_on.session
-
-  earlier : take (length old.crash.log) new.crash.log ≡ old.crash.log
-  earlier = ap (λ (es : List Event). take (length old.crash.log) es) grows.log ∙ take-append_seam old.crash.log grows.more
 
   going_before : new.books.stopped ≡ false → (old.books.stopped ≡ false) × (is_fault reply ≡ false)
   going_before going = or_parts old.books.stopped (is_fault reply) (sym over ∙ going)
@@ -312,38 +299,131 @@ module _ (cmd : Cmd) (reply : Reply) (old new : State) (w : WaitsOn cmd reply ol
   came_still : (s : Span) (ticket : ℕ) → s.begun ≤ length old.crash.log → CameIn old.crash.log s ticket → CameIn new.crash.log s ticket
   came_still s ticket low came = subst (λ (es : List Event). CameIn es s ticket) (sym grows.log) (came_longer old.crash.log grows.more s ticket low came)
 
-  -- a sync's record finds places by its weight
-  fits_by : old.books.stopped ≡ false → commit_places old.books ≤ sync_places t.weight
-  fits_by going = omega (arith, w.fits, ap sync_places (weighs going ∙ sym keeps.weight))
+  weight_is : old.books.stopped ≡ false → old.books.running.weight ≡ t.weight
+  weight_is going = weighs going ∙ sym keeps.weight
 
-  if_most : (b : Bool) (n : ℕ) → (if b then 0 else n) ≤ n
-  if_most true n = omega arith
-  if_most false n = le_refl n
+  -- The log behind the tick, and the records that it tells.
 
-  places_on : new.books.stopped ≡ false → g.j ≤ new.books.free_places + (taken_by g t cmd reply span).places
-  places_on going = by (cases_Bool (is_sync cmd))
+  abbrev behind : List Event
+  behind = a.behind
+
+  behind_low : length old.crash.log ≤ length behind
+  behind_low = omega (arith, ap (λ (es : List Event). length es) a.begins.log, length-append old.crash.log a.begins.more)
+
+  behind_within : length behind ≤ length new.crash.log
+  behind_within = omega (arith, ap (λ (es : List Event). length es) a.goes_on.log, length-append behind a.goes_on.more)
+
+  before_behind : take (length behind) new.crash.log ≡ behind
+  before_behind = ap (λ (es : List Event). take (length behind) es) a.goes_on.log ∙ take-append_seam behind a.goes_on.more
+
+  abbrev own : List Commit
+  own = own_records ses new.crash.log (length a.behind) (length new.crash.log)
+
+  own_is : own ≡ commits_told g 2 a.goes_on.more
+  own_is =
+      ap (λ (es : List Event). commits_told g 2 (drop (length behind) es)) (take-length new.crash.log ∙ a.goes_on.log)
+      ∙ ap (commits_told g 2) (drop-append_seam behind a.goes_on.more)
+
+  told_now : records_told ses new.crash.log ≡ records_told ses behind ++ own
+  told_now = ap (records_told ses) a.goes_on.log ∙ records_on ses behind a.goes_on.more (omega (arith, within, behind_low)) ∙ ap (λ (cs : List Commit). records_told ses behind ++ cs) (sym own_is)
+
+  told_is : (es : List Event) → old.crash.records.told es ≡ Some (records_told ses es)
+  told_is es = ap (λ (h : List Event → Option (List Commit)). h es) tells.told
+
+  own_one : (x : WritesIn old a.behind a.free new) → own ≡ x.commit ∷ []
+  own_one x = append_cancel_left (records_told ses behind) own (x.commit ∷ []) (sym told_now ∙ some_is (records_told ses new.crash.log) (records_told ses behind ++ x.commit ∷ []) (sym (told_is new.crash.log) ∙ x.told (records_told ses behind) (told_is behind)))
+
+  own_none : old.crash.records.told new.crash.log ≡ old.crash.records.told behind → own ≡ []
+  own_none same = append_cancel_left (records_told ses behind) own [] (sym told_now ∙ some_is (records_told ses new.crash.log) (records_told ses behind) (sym (told_is new.crash.log) ∙ same ∙ told_is behind) ∙ sym (append-nil (records_told ses behind)))
+
+  -- a sync that is done
+  unspent_by : is_refusal reply ≡ false → reply ≢ Refused because.Spent
+  unspent_by well spent = true≢false (sym (ap is_refusal spent) ∙ well)
+
+  wrote : is_sync cmd ≡ true → is_refusal reply ≡ false → old.books.stopped ≡ false → 0 < old.books.running.weight → WritesIn old a.behind a.free new
+  wrote sync well going some = (a.sync sync going (unspent_by well)).written well some
+
+  -- its record has as many places as the commit block tells
+  places_are : (x : WritesIn old a.behind a.free new) → places_told x.commit ≡ commit_places old.books
+  places_are x = omega (arith, x.descriptors, ap₂ (λ (m n : ℕ). descriptor_count (m + n)) x.payloads x.fresh, x.payloads)
+
+  abbrev wanted : ℕ
+  wanted = places_wanted reply t.weight own
+
+  wanted_enough : is_sync cmd ≡ true → old.books.stopped ≡ false → 0 < old.books.running.weight → commit_places old.books ≤ wanted
+  wanted_enough sync going some = by (cases_Bool (is_refusal reply))
     where
-      calm : reply ≡ Refused DiskFault → ⊥
-      calm is = true≢false (sym (ap is_fault is) ∙ (going_before going).1)
+      by : (is_refusal reply ≡ true) ⊎ (is_refusal reply ≡ false) → commit_places old.books ≤ wanted
+      by (inl refused) = omega (arith, w.fits, ap sync_places (weight_is going), cond-true {A = ℕ} (is_refusal reply) (sync_places t.weight) (places_from 0 own) refused)
+      by (inr well) =
+          let x = wrote sync well going some in
+          omega (arith, places_are x, cond-false {A = ℕ} (is_refusal reply) (sync_places t.weight) (places_from 0 own) well, ap (places_from 0) (own_one x), one_place x.commit)
 
-      by : (is_sync cmd ≡ true) ⊎ (is_sync cmd ≡ false) → g.j ≤ new.books.free_places + (taken_by g t cmd reply span).places
-      by (inl sync) = omega (
-        arith,
-        keeps.places (going_before going).0,
-        w.record_places sync calm,
-        if_most (old.books.running.weight == 0) (commit_places old.books),
-        fits_by (going_before going).0,
-        cond-true {A = ℕ} (is_sync cmd) (sync_places t.weight) 0 sync,
-      )
-      by (inr other) = omega (arith, keeps.places (going_before going).0, w.places other, cond-false {A = ℕ} (is_sync cmd) (sync_places t.weight) 0 other)
-
-  blocks_on : (next : Session) → AnswersOn g f (room_of old) cmd reply next (room_of new) → new.books.stopped ≡ false → g.n - data_start g ≤ length (reusable_blocks new.books) + (taken_by g t cmd reply span).blocks
-  blocks_on next answers going = omega (
+  -- so many fit the ring by the log
+  finds_free : (n : ℕ) → FreesBy old a.behind a.free → FindsPlaces ses behind n → n ≤ a.free
+  finds_free n frees finds = omega (
     arith,
-    keeps.blocks (going_before going).0,
-    room_left g f reply next (room_of old) cmd (room_of new) (subst (λ (k : Geometry). IsRoomOf k f (room_of old)) before.geom (w.room f is_session)) answers,
-    ap (λ (s : Session). needs_of g s cmd reply) keeps.session,
+    finds.fits,
+    frees finds.header.start (records_told ses behind) ((tells.starts behind finds.header.start).1 ∣ record { header = finds.header; newest = finds.newest; is = refl } ∣₁) (told_is behind),
+    ap (λ (k : Geometry). k.j) before.geom,
   )
+
+  fits_among : is_sync cmd ≡ true → old.books.stopped ≡ false → FreesBy old a.behind a.free → OrdersAtOnce ses behind t wanted → FitsAmong old a.free
+  fits_among sync going frees (inl none) = inr (weight_is going ∙ none)
+  fits_among sync going frees (inr finds) = by (zero_or_some old.books.running.weight)
+    where
+      by : (old.books.running.weight ≡ 0) ⊎ (0 < old.books.running.weight) → FitsAmong old a.free
+      by (inl none) = inr none
+      by (inr some) = inl (omega (arith, wanted_enough sync going some, finds_free wanted frees finds))
+
+  -- The writes of its record.
+
+  pub record Own (begun : ℕ) : Type 0 where
+    pub from : length behind ≤ begun
+    pub upto : begun ≤ length new.crash.log
+    pub written : is_done_sync cmd reply ≡ true → old.books.stopped ≡ false → 0 < t.weight → WritesRecordBy ses new.crash.log (length behind) begun (length new.crash.log)
+    pub awaits : is_done_sync cmd reply ≡ true → old.books.stopped ≡ false → 0 < t.weight → (u : ℕ) → new.crash.awaits new.books.point u → is_accepted u (take begun new.crash.log) ≡ false
+
+  pub own_begun : (begun : ℕ) × Own begun
+  own_begun = by_done (cases_Bool (is_done_sync cmd reply))
+    where
+      none : (is_done_sync cmd reply ≡ true → old.books.stopped ≡ false → 0 < t.weight → ⊥) → (begun : ℕ) × Own begun
+      none never = (length behind, record { from = omega arith; upto = behind_within; written = λ done going some. absurd (never done going some); awaits = λ done going some. absurd (never done going some) })
+
+      some : is_sync cmd ≡ true → is_refusal reply ≡ false → old.books.stopped ≡ false → 0 < t.weight → (begun : ℕ) × Own begun
+      some sync well going weighty =
+          let x = wrote sync well going (subst (λ n. 0 < n) (sym (weight_is going)) weighty) in (
+            x.begun,
+            record {
+              from = x.from;
+              upto = x.upto;
+              written = λ done still more. record {
+                commit = x.commit;
+                own = own_one x;
+                from = x.from;
+                upto = x.upto;
+                writes = omega (arith, x.writes, ap writes_in (take-length new.crash.log));
+                fits = λ finds. x.fits (fits_by x (subst (λ (es : List Event). FindsPlaces ses es (places_told x.commit)) before_behind finds) (a.ring (sync_is_meant cmd sync) going (unspent_by well) alone));
+              };
+              awaits = λ done still more u waits. x.awaits u waits;
+            },
+          )
+        where
+          fits_by : (x : WritesIn old a.behind a.free new) → FindsPlaces ses behind (places_told x.commit) → FreesBy old a.behind a.free ⊎ ((new.crash.log ≡ a.behind) × (reply ≡ Refused because.DiskFault)) → commit_places old.books ≤ a.free
+          fits_by x finds (inl frees) = omega (arith, places_are x, finds_free (places_told x.commit) frees finds)
+          fits_by x finds (inr all) = absurd (true≢false (sym (ap is_refusal all.1) ∙ well))
+
+      by_weight : is_sync cmd ≡ true → is_refusal reply ≡ false → old.books.stopped ≡ false → (t.weight ≡ 0) ⊎ (0 < t.weight) → (begun : ℕ) × Own begun
+      by_weight sync well going (inl zero_is) = none (λ done still more. omega (arith, zero_is, more))
+      by_weight sync well going (inr more) = some sync well going more
+
+      by_going : is_sync cmd ≡ true → is_refusal reply ≡ false → (old.books.stopped ≡ true) ⊎ (old.books.stopped ≡ false) → (begun : ℕ) × Own begun
+      by_going sync well (inl stopped) = none (λ done still more. true≢false (sym stopped ∙ still))
+      by_going sync well (inr going) = by_weight sync well going (zero_or_some t.weight)
+
+      by_done : (is_done_sync cmd reply ≡ true) ⊎ (is_done_sync cmd reply ≡ false) → (begun : ℕ) × Own begun
+      by_done (inr not_done) = none (λ done still more. true≢false (sym done ∙ not_done))
+      by_done (inl done) = let both_of = parts_of (is_sync cmd) (not (is_refusal reply)) done in by_going both_of.0 (not_is (is_refusal reply) both_of.1) (cases_Bool old.books.stopped)
 
   -- there is one point more where the command makes one
   points_on : new.books.stopped ≡ false → new.books.point ≡ old.books.point + one_if (makes_point t.session cmd reply)
@@ -355,18 +435,28 @@ module _ (cmd : Cmd) (reply : Reply) (old new : State) (w : WaitsOn cmd reply ol
     ap (λ (s : Session). one_if (makes_point s cmd reply)) keeps.session,
   )
 
-  -- Behind the tick there were these events; a point that is waited for since is a new one, and waits for a write that came later.
-  module _ (behind : List Event) (goes_on : Grows behind new.crash.log) (since : (p ticket : ℕ) → new.crash.awaits p ticket → old.crash.awaits p ticket ⊎ ((old.books.point < p) × (is_accepted ticket behind ≡ false))) where
+  -- A command that makes a point is a sync with something to commit.
+  makes_parts : makes_point t.session cmd reply ≡ true → (is_sync cmd ≡ true) × (t.session.changed ≡ true) × (may_have_written reply ≡ true)
+  makes_parts made = let one = parts_of (is_sync cmd) (t.session.changed && may_have_written reply) made in let two = parts_of t.session.changed (may_have_written reply) one.1 in (one.0, two.0, two.1)
+
+  changed_is : old.books.stopped ≡ false → t.session.changed ≡ nat_lt 0 t.weight
+  changed_is going = ap (λ (s : Session). s.changed) keeps.session ∙ is_session.changed going ∙ ap (nat_lt 0) (weight_is going)
+
+  done_if : makes_point t.session cmd reply ≡ true → is_fault reply ≡ false → is_done_sync cmd reply ≡ true
+  done_if made calm = let parts = makes_parts made in both (is_sync cmd) (not (is_refusal reply)) parts.0 (is_not (is_refusal reply) (not_refused reply parts.2 calm))
+
+  weighty_if : old.books.stopped ≡ false → makes_point t.session cmd reply ≡ true → 0 < t.weight
+  weighty_if going made = weighs_some t.weight (sym (changed_is going) ∙ (makes_parts made).1)
+
+  -- What is taken, with the span of these writes.
+  module _ (begun : ℕ) (mine : Own begun) where
     abbrev late : Span
-    late = record { begun = length behind; mark = length new.crash.log }
+    late = record { begun = begun; mark = length new.crash.log }
 
-    late_within : length behind ≤ length new.crash.log
-    late_within = omega (arith, ap (λ (es : List Event). length es) goes_on.log, length-append behind goes_on.more)
+    abbrev now_taken : Taken
+    now_taken = taken_by g t cmd reply own late
 
-    before_late : take (length behind) new.crash.log ≡ behind
-    before_late = ap (λ (es : List Event). take (length behind) es) goes_on.log ∙ take-append_seam behind goes_on.more
-
-    spans_on : new.books.stopped ≡ false → length (taken_by g t cmd reply late).spans ≡ new.books.point
+    spans_on : new.books.stopped ≡ false → length now_taken.spans ≡ new.books.point
     spans_on going = omega (
       arith,
       length-append t.spans (if makes_point t.session cmd reply then late ∷ [] else []),
@@ -376,10 +466,10 @@ module _ (cmd : Cmd) (reply : Reply) (old new : State) (w : WaitsOn cmd reply ol
     )
 
     abbrev IsIn : ℕ → ℕ → Type 0
-    IsIn p ticket = (s : Span) × (slice_get (taken_by g t cmd reply late).spans (p - 1) ≡ Some s) × (s.begun ≤ length new.crash.log) × CameIn new.crash.log s ticket
+    IsIn p ticket = (s : Span) × (slice_get now_taken.spans (p - 1) ≡ Some s) × (s.begun ≤ length new.crash.log) × CameIn new.crash.log s ticket
 
     awaits_on : new.books.stopped ≡ false → (p ticket : ℕ) → new.crash.awaits p ticket → IsIn p ticket
-    awaits_on going p ticket waits = by (since p ticket waits)
+    awaits_on going p ticket waits = by (a.awaits p ticket waits)
       where
         may : MayAwait new p ticket
         may = w.may p ticket waits
@@ -387,12 +477,13 @@ module _ (cmd : Cmd) (reply : Reply) (old new : State) (w : WaitsOn cmd reply ol
         by_made : (old.books.point < p) × (is_accepted ticket behind ≡ false) → (makes_point t.session cmd reply ≡ true) ⊎ (makes_point t.session cmd reply ≡ false) → IsIn p ticket
         by_made new_one (inr none) = absurd (omega (arith, new_one.0, may.upto, points_on going, ap one_if none))
         by_made new_one (inl made) =
-            let last : p - 1 ≡ length t.spans = omega (arith, new_one.0, may.upto, points_on going, ap one_if made, keeps.spans (going_before going).0) in (
+            let last : p - 1 ≡ length t.spans = omega (arith, new_one.0, may.upto, points_on going, ap one_if made, keeps.spans (going_before going).0) in
+            let newest : p ≡ new.books.point = omega (arith, new_one.0, may.upto, points_on going, ap one_if made) in (
               late,
               ap (λ (b : Bool). slice_get (t.spans ++ (if b then late ∷ [] else [])) (p - 1)) made ∙ ap (λ (n : ℕ). slice_get (t.spans ++ late ∷ []) n) last ∙ at_end t.spans late,
-              late_within,
+              mine.upto,
               record {
-                not_before = ap (is_accepted ticket) before_late ∙ new_one.1;
+                not_before = mine.awaits (done_if made (going_before going).1) (going_before going).0 (weighty_if (going_before going).0 made) ticket (subst (λ n. new.crash.awaits n ticket) newest waits);
                 by_then = ap (is_accepted ticket) (take-length new.crash.log) ∙ may.accepted;
               },
             )
@@ -403,70 +494,198 @@ module _ (cmd : Cmd) (reply : Reply) (old new : State) (w : WaitsOn cmd reply ol
             (k.0, at_front t.spans (if makes_point t.session cmd reply then late ∷ [] else []) k.0 (p - 1) k.1, omega (arith, k.2, longer), came_still k.0 ticket k.2 k.3)
         by (inr new_one) = by_made new_one (cases_Bool (makes_point t.session cmd reply))
 
-    pub keeps_on : (next : Session) → AnswersOn g f (room_of old) cmd reply next (room_of new) → KeepsTaken g (asked ++ cmd ∷ []) (replies ++ reply ∷ []) new (taken_by g t cmd reply late)
-    keeps_on next answers = record {
+    -- the writes that it may make are those for which it stands
+    if_least : (b : Bool) (n : ℕ) → (if b then n else 0) ≤ n
+    if_least true n = omega arith
+    if_least false n = omega arith
+
+    stands : old.books.stopped ≡ false → writes_of cmd reply old.books ≤ stands_for cmd reply t.weight own
+    stands going = by (cases_Bool (is_done_sync cmd reply))
+      where
+        by_weight : is_sync cmd ≡ true → is_refusal reply ≡ false → (old.books.running.weight ≡ 0) ⊎ (0 < old.books.running.weight) → commit_writes old.books ≤ writes_stood_for own
+        by_weight sync well (inl none) = omega (arith, cond-true {A = ℕ} (old.books.running.weight == 0) 0 (record_writes (payloads old.books.geom old.books.running) (fresh_blocks old.books.geom old.books.running)) (eq-eqb old.books.running.weight 0 none))
+        by_weight sync well (inr some) =
+            let x = wrote sync well going some in
+            omega (
+              arith,
+              ap writes_stood_for (own_one x),
+              x.descriptors,
+              ap₂ (λ (m n : ℕ). descriptor_count (m + n)) x.payloads x.fresh,
+              x.payloads,
+              x.fresh,
+              cond-false {A = ℕ} (old.books.running.weight == 0) 0 (record_writes (payloads old.books.geom old.books.running) (fresh_blocks old.books.geom old.books.running)) (ne_eqb old.books.running.weight 0 (λ e. omega (arith, e, some))),
+            )
+
+        if_both : (b : Bool) (m n : ℕ) → m ≤ n → (if b then m else 0) ≤ (if b then n else 0)
+        if_both true m n le = le
+        if_both false m n le = omega arith
+
+        by : (is_done_sync cmd reply ≡ true) ⊎ (is_done_sync cmd reply ≡ false) → writes_of cmd reply old.books ≤ stands_for cmd reply t.weight own
+        by (inl done) =
+            let parts = parts_of (is_sync cmd) (not (is_refusal reply)) done in
+            omega (arith, if_least (commits cmd reply) (commit_writes old.books), by_weight parts.0 (not_is (is_refusal reply) parts.1) (zero_or_some old.books.running.weight), cond-true {A = ℕ} (is_done_sync cmd reply) (writes_stood_for own) (if commits cmd reply then sync_budget t.weight else 0) done)
+        by (inr not_done) = omega (
+          arith,
+          if_both (commits cmd reply) (commit_writes old.books) (sync_budget t.weight) (omega (arith, w.few, ap sync_budget (weight_is going))),
+          cond-false {A = ℕ} (is_done_sync cmd reply) (writes_stood_for own) (if commits cmd reply then sync_budget t.weight else 0) not_done,
+        )
+
+    mount_same : take mounted new.crash.log ≡ take mounted old.crash.log
+    mount_same = ap (take mounted) grows.log ∙ take-append-le mounted old.crash.log grows.more within
+
+    writes_now : (old.books.stopped ≡ true → new.crash.log ≡ old.crash.log) → writes_in new.crash.log + new.books.owed ≤ writes_in (take mounted new.crash.log) + now_taken.budget
+    writes_now rests = by (cases_Bool old.books.stopped)
+      where
+        by : (old.books.stopped ≡ true) ⊎ (old.books.stopped ≡ false) → writes_in new.crash.log + new.books.owed ≤ writes_in (take mounted new.crash.log) + now_taken.budget
+        by (inl stopped) = omega (arith, keeps.writes, ap writes_in (rests stopped), w.rests stopped, ap writes_in mount_same)
+        by (inr going) = omega (arith, keeps.writes, w.writes, stands going, ap writes_in mount_same)
+
+    pub keeps_on : (old.books.stopped ≡ true → new.crash.log ≡ old.crash.log) → KeepsTaken g mounted (asked ++ cmd ∷ []) (replies ++ reply ∷ []) new now_taken
+    keeps_on rests = record {
       session = ap (λ (s : Session). after_reply s cmd reply) keeps.session ∙ sym (session_more g (start g.i) asked replies cmd reply before.answered);
       weight = ap (λ (s : Session). weight_by (bitmap_blocks g) s t.weight cmd reply) keeps.session ∙ ap (λ (n : ℕ). weight_by (bitmap_blocks g) f n cmd reply) keeps.weight ∙ sym (weight_more g (start g.i) 0 asked replies cmd reply before.answered);
-      places = places_on;
-      blocks = blocks_on next answers;
+      writes = writes_now rests;
       spans = spans_on;
       awaits = awaits_on;
     }
 
-  -- What it waited for.
+    pub spends_on : (old.books.stopped ≡ true → new.crash.log ≡ old.crash.log) → writes_in (take (length new.crash.log) new.crash.log) ≤ writes_in (take mounted new.crash.log) + now_taken.budget
+    spends_on rests = omega (arith, writes_now rests, ap writes_in (take-length new.crash.log))
+
+    -- A dsync hears of records' writes, and where it failed of its own behind the tick.
+    abbrev failed_span : Span
+    failed_span = record { begun = length behind; mark = length new.crash.log }
+
+    abbrev heard_spans : List Span
+    heard_spans = now_taken.spans ++ (if is_refusal reply then failed_span ∷ [] else [])
+
+    abbrev Came : ℕ → Type 0
+    Came ticket = ∥ ((k : ℕ) × (s : Span) × (slice_get heard_spans k ≡ Some s) × CameIn new.crash.log s ticket) ∥₁
+
+    pub hears_on : IsLawful new.crash.log → cmd ≡ cmds.Dsync → old.books.stopped ≡ false → reply ≢ Refused because.Spent → OrdersAtOnce ses behind t wanted → (p : Polled) → after_polls old.counts.ticks.manner 64 old.counts.ticks.polls old.crash.log ≡ Some p → HearsIn heard_spans p.log new.crash.log
+    hears_on lawful is going unspent finds p polled ticket noticed = by_ring (a.ring meant going unspent alone)
+      where
+        sync : is_sync cmd ≡ true
+        sync = ap is_sync is
+
+        meant : cmd ≢ cmds.Bad
+        meant = sync_is_meant cmd sync
+
+        ticked : GrowsByWrites p.log behind
+        ticked = (a.ticks meant going unspent p polled).1
+
+        accepted : is_accepted ticket new.crash.log ≡ true
+        accepted = noticed_given ticket [] new.crash.log lawful noticed
+
+        -- the ticket is of a write behind the tick
+        by_weight : is_accepted ticket behind ≡ false → is_refusal reply ≡ false → FreesBy old a.behind a.free → (t.weight ≡ 0) ⊎ (0 < t.weight) → Came ticket
+        by_weight late_one well frees (inl none) =
+            let idle = (a.sync sync going unspent).idle well (weight_is going ∙ none) in
+            let nothing : writes_in a.goes_on.more ≡ 0 = omega (arith, idle.1, ap writes_in a.goes_on.log, writes_on behind a.goes_on.more) in
+            absurd (true≢false (sym accepted ∙ ap (is_accepted ticket) a.goes_on.log ∙ none_accepted ticket behind a.goes_on.more nothing ∙ late_one))
+        by_weight late_one well frees (inr more) =
+            let done = both (is_sync cmd) (not (is_refusal reply)) sync (is_not (is_refusal reply) well) in
+            let made : makes_point t.session cmd reply ≡ true = both (is_sync cmd) (t.session.changed && may_have_written reply) sync (both t.session.changed (may_have_written reply) (changed_is going ∙ some_weighs t.weight more) (done_writes reply well)) in
+            let x = mine.written done going more in
+            let begun_is : begun ≡ length behind = x.fits (subst (λ (es : List Event). FindsPlaces ses es (places_told x.commit)) (sym before_behind) (finds_own x.commit x.own well finds more)) in
+            ∣ (
+              length t.spans,
+              late,
+              at_front now_taken.spans (if is_refusal reply then failed_span ∷ [] else []) late (length t.spans) (ap (λ (b : Bool). slice_get (t.spans ++ (if b then late ∷ [] else [])) (length t.spans)) made ∙ at_end t.spans late),
+              record {
+                not_before = ap (λ (n : ℕ). is_accepted ticket (take n new.crash.log)) begun_is ∙ ap (is_accepted ticket) before_behind ∙ late_one;
+                by_then = ap (is_accepted ticket) (take-length new.crash.log) ∙ accepted;
+              },
+            ) ∣₁
+          where
+            finds_own : (commit : Commit) → own ≡ commit ∷ [] → is_refusal reply ≡ false → OrdersAtOnce ses behind t wanted → 0 < t.weight → FindsPlaces ses behind (places_told commit)
+            finds_own commit one well (inl none) more = absurd (omega (arith, none, more))
+            finds_own commit one well (inr finds) more = subst (FindsPlaces ses behind) (cond-false {A = ℕ} (is_refusal reply) (sync_places t.weight) (places_from 0 own) well ∙ ap (places_from 0) one ∙ one_place commit) finds
+
+        by_refusal : is_accepted ticket behind ≡ false → FreesBy old a.behind a.free → (is_refusal reply ≡ true) ⊎ (is_refusal reply ≡ false) → Came ticket
+        by_refusal late_one frees (inr well) = by_weight late_one well frees (zero_or_some t.weight)
+        by_refusal late_one frees (inl refused) = ∣ (
+          length now_taken.spans,
+          failed_span,
+          ap (λ (b : Bool). slice_get (now_taken.spans ++ (if b then failed_span ∷ [] else [])) (length now_taken.spans)) refused ∙ at_end now_taken.spans failed_span,
+          record { not_before = ap (is_accepted ticket) before_behind ∙ late_one; by_then = ap (is_accepted ticket) (take-length new.crash.log) ∙ accepted },
+        ) ∣₁
+
+        by_heard : FreesBy old a.behind a.free → IsNoticed ticket behind ⊎ (∥ ((q : ℕ) × old.crash.awaits q ticket) ∥₁ ⊎ (is_accepted ticket behind ≡ false)) → IsNoticed ticket p.log ⊎ Came ticket
+        by_heard frees (inl was) = inl (noticed_before ticket p.log behind ticked was)
+        by_heard frees (inr (inl some)) = inr (∥∥₁_map some (λ (x : (q : ℕ) × old.crash.awaits q ticket).
+            let k = keeps.awaits going x.0 ticket x.1 in
+            (x.0 - 1, k.0, at_front now_taken.spans (if is_refusal reply then failed_span ∷ [] else []) k.0 (x.0 - 1) (at_front t.spans (if makes_point t.session cmd reply then late ∷ [] else []) k.0 (x.0 - 1) k.1), came_still k.0 ticket k.2 k.3)))
+        by_heard frees (inr (inr late_one)) = inr (by_refusal late_one frees (cases_Bool (is_refusal reply)))
+
+        by_ring : FreesBy old a.behind a.free ⊎ ((new.crash.log ≡ a.behind) × (reply ≡ Refused because.DiskFault)) → IsNoticed ticket p.log ⊎ Came ticket
+        by_ring (inl frees) = by_heard frees ((a.sync sync going unspent).hears alone (fits_among sync going frees finds) ticket noticed)
+        by_ring (inr all) = inl (noticed_before ticket p.log behind ticked (subst (IsNoticed ticket) all.0 noticed))
+
+  pub unwritten_on : is_sync cmd ≡ true → old.books.stopped ≡ false → reply ≡ Refused because.NoMemory → length new.crash.log ≡ length behind
+  unwritten_on sync going memory = ap (λ (es : List Event). length es) ((a.sync sync going unspent).unwritten memory)
+    where
+      is_spent_reply : Reply → Bool
+      is_spent_reply (Refused because.Spent) = true
+      is_spent_reply _ = false
+
+      unspent : reply ≢ Refused because.Spent
+      unspent spent = false≢true (ap is_spent_reply (sym memory ∙ spent))
+
+  -- a sync that is done finds free places where the log says so
+  pub done_fits : (m : Manner) → DoneInRing ses m new.crash.log cmd reply (pace_of t old) (length behind) (length new.crash.log) → commit_places old.books ≤ a.free
+  done_fits m d =
+      let parts = parts_of (is_sync cmd) (not (is_refusal reply)) d.done in
+      let well = not_is (is_refusal reply) parts.1 in
+      by parts.0 well (a.ring (sync_is_meant cmd parts.0) d.going (unspent_by well) alone)
+    where
+      finds : FindsPlaces ses behind wanted
+      finds = subst (λ (es : List Event). FindsPlaces ses es wanted) before_behind d.finds
+
+      by : is_sync cmd ≡ true → is_refusal reply ≡ false → FreesBy old a.behind a.free ⊎ ((new.crash.log ≡ a.behind) × (reply ≡ Refused because.DiskFault)) → commit_places old.books ≤ a.free
+      by sync well (inr all) = absurd (true≢false (sym (ap is_refusal all.1) ∙ well))
+      by sync well (inl frees) = omega (arith, wanted_enough sync d.going (subst (λ n. 0 < n) (sym (weight_is d.going)) d.some), finds_free wanted frees finds)
+
+  -- A command with no reason to wait.
 
   need_same : (c : Cmd) → (figures_on old f c).need ≡ (figures_in g t.session c).need
   need_same c = ap (λ (k : Geometry). (figures (bitmap_blocks k) f c).need) before.geom ∙ ap (λ (s : Session). (figures (bitmap_blocks g) s c).need) (sym keeps.session)
 
-  pub fits_ring : old.books.stopped ≡ false → FindsPlaces g t → FitsRing old.books
-  fits_ring going finds = omega (arith, keeps.places going, finds, fits_by going)
+  finds_blocks : (c : Cmd) → (figures_in g t.session c).need ≤ length (room_of old).takeable → (figures_on old f c).need ≤ length (reusable_blocks old.books)
+  finds_blocks c finds = omega (arith, finds, need_same c)
 
-  finds_blocks : (c : Cmd) → old.books.stopped ≡ false → t.blocks + (figures_in g t.session c).need ≤ g.n - data_start g → (figures_on old f c).need ≤ length (reusable_blocks old.books)
-  finds_blocks c going finds = omega (arith, keeps.blocks going, finds, need_same c)
+  needs_none : (c : Cmd) → FindsRoom ses behind t (room_of old) wanted c → (c ≡ cmds.Osync) ⊎ NeedsNoWait old f c
+  needs_none cmds.Osync finds = inl refl
+  needs_none cmds.Dsync finds = absurd finds
+  needs_none cmds.Durable finds = inr finds
+  needs_none cmds.Poll finds = inr finds
+  needs_none cmds.Bad finds = inr finds
+  needs_none (cmds.Mkdir path) finds = inr (finds_blocks (cmds.Mkdir path) finds)
+  needs_none (cmds.Create path) finds = inr (finds_blocks (cmds.Create path) finds)
+  needs_none (cmds.Write path offset bytes) finds = inr (finds_blocks (cmds.Write path offset bytes) finds)
+  needs_none (cmds.Fill path offset count byte) finds = inr (finds_blocks (cmds.Fill path offset count byte) finds)
+  needs_none (cmds.Read path offset count) finds = inr (finds_blocks (cmds.Read path offset count) finds)
+  needs_none (cmds.Truncate path size) finds = inr (finds_blocks (cmds.Truncate path size) finds)
+  needs_none (cmds.Link path other) finds = inr (finds_blocks (cmds.Link path other) finds)
+  needs_none (cmds.Unlink path) finds = inr (finds_blocks (cmds.Unlink path) finds)
+  needs_none (cmds.Rmdir path) finds = inr (finds_blocks (cmds.Rmdir path) finds)
+  needs_none (cmds.Rename from to) finds = inr (finds_blocks (cmds.Rename from to) finds)
+  needs_none (cmds.Stat path) finds = inr (finds_blocks (cmds.Stat path) finds)
+  needs_none (cmds.List path) finds = inr (finds_blocks (cmds.List path) finds)
 
-  needs_none : (c : Cmd) → old.books.stopped ≡ false → FindsRoom g t c → NeedsNoWait old f c
-  needs_none cmds.Osync going finds = fits_ring going finds
-  needs_none cmds.Dsync going finds = finds
-  needs_none cmds.Durable going finds = finds
-  needs_none cmds.Poll going finds = finds
-  needs_none cmds.Bad going finds = finds
-  needs_none (cmds.Mkdir path) going finds = finds_blocks (cmds.Mkdir path) going finds
-  needs_none (cmds.Create path) going finds = finds_blocks (cmds.Create path) going finds
-  needs_none (cmds.Write path offset bytes) going finds = finds_blocks (cmds.Write path offset bytes) going finds
-  needs_none (cmds.Fill path offset count byte) going finds = finds_blocks (cmds.Fill path offset count byte) going finds
-  needs_none (cmds.Read path offset count) going finds = finds_blocks (cmds.Read path offset count) going finds
-  needs_none (cmds.Truncate path size) going finds = finds_blocks (cmds.Truncate path size) going finds
-  needs_none (cmds.Link path other) going finds = finds_blocks (cmds.Link path other) going finds
-  needs_none (cmds.Unlink path) going finds = finds_blocks (cmds.Unlink path) going finds
-  needs_none (cmds.Rmdir path) going finds = finds_blocks (cmds.Rmdir path) going finds
-  needs_none (cmds.Rename from to) going finds = finds_blocks (cmds.Rename from to) going finds
-  needs_none (cmds.Stat path) going finds = finds_blocks (cmds.Stat path) going finds
-  needs_none (cmds.List path) going finds = finds_blocks (cmds.List path) going finds
-
-  pub calm_on : cmd ≢ cmds.Bad → old.books.stopped ≡ false → reply ≢ Refused Spent → FindsRoom g t cmd → PollsThenWrites old.counts.ticks.manner 64 old.counts.ticks.polls old.crash.log new.counts.ticks.polls new.crash.log
-  calm_on meant going unspent finds = w.calm meant going unspent f is_session (needs_none cmd going finds)
-
-  -- the write of the ticket came in some span, this command's among them
-  abbrev Came : ℕ → Type 0
-  Came ticket = ∥ ((k : ℕ) × (s : Span) × (slice_get (t.spans ++ span ∷ []) k ≡ Some s) × CameIn new.crash.log s ticket) ∥₁
-
-  pub hears_on : IsLawful new.crash.log → cmd ≡ cmds.Dsync → old.books.stopped ≡ false → reply ≢ Refused Spent → FindsPlaces g t → old.counts.ticks.manner.waits_alone ≡ true → (p : Polled) → after_polls old.counts.ticks.manner 64 old.counts.ticks.polls old.crash.log ≡ Some p
-      → HearsIn (t.spans ++ span ∷ []) p.log new.crash.log
-  hears_on lawful is going unspent finds alone p polled ticket noticed = by (w.records is going unspent f is_session (fits_ring going finds) alone p ticket polled noticed)
+  pub calm_on : (cmd ≢ cmds.Bad → old.books.stopped ≡ false → reply ≢ Refused because.Spent → PollsFirst old.counts.ticks.manner 64 old.counts.ticks.polls old.crash.log new.counts.ticks.polls new.crash.log) → cmd ≢ cmds.Bad → old.books.stopped ≡ false → reply ≢ Refused because.Spent → FindsRoom ses behind t (room_of old) wanted cmd
+      → PollsThenWrites old.counts.ticks.manner 64 old.counts.ticks.polls old.crash.log new.counts.ticks.polls new.crash.log
+  calm_on polls meant going unspent finds = by (needs_none cmd finds)
     where
-      by : IsNoticed ticket p.log ⊎ (∥ ((q : ℕ) × old.crash.awaits q ticket) ∥₁ ⊎ (is_accepted ticket old.crash.log ≡ false)) → IsNoticed ticket p.log ⊎ Came ticket
-      by (inl polls) = inl polls
-      by (inr (inl some)) = inr (∥∥₁_map some (λ (x : (q : ℕ) × old.crash.awaits q ticket).
-          let k = keeps.awaits going x.0 ticket x.1 in (x.0 - 1, k.0, at_front t.spans (span ∷ []) k.0 (x.0 - 1) k.1, came_still k.0 ticket k.2 k.3)))
-      by (inr (inr new_one)) = inr ∣ (
-        length t.spans,
-        span,
-        at_end t.spans span,
-        record {
-          not_before = ap (is_accepted ticket) earlier ∙ new_one;
-          by_then = ap (is_accepted ticket) (take-length new.crash.log) ∙ noticed_given ticket [] new.crash.log lawful noticed;
-        },
-      ) ∣₁
+      by_ring : cmd ≡ cmds.Osync → OrdersAtOnce ses behind t wanted → FreesBy old a.behind a.free ⊎ ((new.crash.log ≡ a.behind) × (reply ≡ Refused because.DiskFault)) → PollsThenWrites old.counts.ticks.manner 64 old.counts.ticks.polls old.crash.log new.counts.ticks.polls new.crash.log
+      by_ring is at_once (inl frees) =
+          let sync = ap is_sync is in
+          λ p polled. ((polls meant going unspent p polled).0, writes_then p.log behind new.crash.log (a.ticks meant going unspent p polled).1 ((a.sync sync going unspent).orders is (fits_among sync going frees at_once)))
+      by_ring is at_once (inr all) = λ p polled. ((polls meant going unspent p polled).0, subst (GrowsByWrites p.log) (sym all.0) (a.ticks meant going unspent p polled).1)
+
+      by : (cmd ≡ cmds.Osync) ⊎ NeedsNoWait old f cmd → PollsThenWrites old.counts.ticks.manner 64 old.counts.ticks.polls old.crash.log new.counts.ticks.polls new.crash.log
+      by (inl is) = by_ring is (subst (FindsRoom ses behind t (room_of old) wanted) is finds) (a.ring meant going unspent alone)
+      by (inr needs) = w.calm meant going unspent f is_session needs
 
   -- a write of the point behind n has no notice
   abbrev Found : ℕ → Type 0
@@ -490,13 +709,12 @@ module _ (cmd : Cmd) (reply : Reply) (old new : State) (w : WaitsOn cmd reply ol
               (s.0, still.ticket, subst (λ (i : ℕ). slice_get t.spans i ≡ Some s.0) (omega (arith, k.0)) s.1, came_still s.0 still.ticket s.2 s.3, still.not_yet alone)
           by (inr since) = absurd (omega (arith, since.point, k.0, less, keeps.spans going))
 
--- Of a run of no commands nothing is taken: each ring place is free, and each data block may be taken.
-pub keeps_at_first : (g : Geometry) (s : State) → s.books.free_places ≡ g.j → IsFirstRoom g (room_of s) → s.books.point ≡ 0 → ((p ticket : ℕ) → s.crash.awaits p ticket → MayAwait s p ticket) → KeepsTaken g [] [] s (nothing_taken g)
-keeps_at_first g s free room none may = record {
+-- Of a run of no commands nothing is taken.
+pub keeps_at_first : (g : Geometry) (s : State) → s.books.owed ≡ 0 → s.books.point ≡ 0 → ((p ticket : ℕ) → s.crash.awaits p ticket → MayAwait s p ticket) → KeepsTaken g (length s.crash.log) [] [] s (nothing_taken g)
+keeps_at_first g s owed none may = record {
   session = refl;
   weight = refl;
-  places = λ going. omega (arith, free);
-  blocks = λ going. omega (arith, ap (λ (xs : List ℕ). length xs) room.takeable, length-range_with_len (data_start g) (g.n - data_start g));
+  writes = omega (arith, owed, ap writes_in (take-length s.crash.log));
   spans = λ going. sym none;
   awaits = λ going p ticket waits. absurd (omega (arith, (may p ticket waits).behind, (may p ticket waits).upto, none));
 }

@@ -1,31 +1,37 @@
 -- What the disk of a run does by its manner: which notices come and when, which writes are lost, when freed blocks may be taken again, and when a reply is a refusal for the disk. It is described in docs/TRACE.md.
-use Rattle.std.specs.Prelude.{◌≡◌, ◌≢◌, ◌⊎◌, ⊤, ℕ, ◌+◌, ◌-◌, ◌||◌, ◌&&◌, ◌^◌, ◌<◌, ◌≤◌, if◌then◌else◌, Bool, true, false, IsTrue, slice_get, List, [], ◌∷◌, ◌++◌, length, take, Option, Some, None}
+use Rattle.std.specs.Prelude.{◌≡◌, ◌≢◌, ◌⊎◌, ⊤, ℕ, ◌+◌, ◌||◌, ◌&&◌, ◌^◌, ◌<◌, ◌≤◌, if◌then◌else◌, Bool, true, false, not, IsTrue, slice_get, List, [], ◌∷◌, ◌++◌, length, take, drop, Option, Some, None}
 use Rattle.opt_disk.specs.declared.event.Event.{Event}
 use Rattle.opt_disk.specs.Cell.{cell_of, is_accepted, IsAccepted, IsNoticed}
-use Rattle.opt_disk.specs.Disk.{PollsFirst, PollsThenWrites}
-use Rattle.opt_disk.specs.Manner.{Manner, GoesBy, HasFailedBy, Polled, after_polls}
-use Rattle.opt_geom.specs.Geometry.{Geometry, bitmap_blocks, data_start}
+use Rattle.opt_disk.specs.Disk.{PollsFirst, PollsThenWrites, writes_in}
+use Rattle.opt_disk.specs.Manner.{Manner, GoesBy, LosesLast, Polled, after_polls}
+use Rattle.opt_geom.specs.Geometry.{Geometry, bitmap_blocks}
 use Rattle.opt_journal.specs.declared.header.Header.{Header}
 use Rattle.opt_journal.specs.Formatted.{formatted}
+use Rattle.opt_journal.specs.declared.record.Commit.{Commit}
+use Rattle.opt_journal.specs.Run.{places_from, places_told, writes_stood_for, writes_told}
 use Rattle.opt_crash.specs.Opening.{LosesOne}
+use Rattle.opt_crash.specs.Points.{MountedSession, commits_told, records_told}
 use Rattle.opt_checkpoint.specs.Serving.{IsNewestAtRest}
 use Rattle.opt_blocks.specs.State.{data_blocks}
 use Rattle.opt_memdisk.specs.declared.calls.DiskCall.TheVariants.{Write}
 use Rattle.opt_memdisk.specs.declared.calls.Fail.{Fail}
+use Rattle.opt_memdisk.specs.Log.{has_lost}
 use Rattle.opt_memdisk.specs.declared.rule.Rule.{Rule}
 use Rattle.opt_memdisk.specs.declared.rule.Rule.TheVariants as rules
 use Rattle.opt_words.specs.declared.request.Notices.{Notices}
 use Rattle.opt_words.specs.declared.request.Notices.TheVariants as words
 use Rattle.opt_tree.specs.declared.command.Cmd.{Cmd}
 use Rattle.opt_tree.specs.declared.command.Cmd.TheVariants.{Osync, Dsync, Durable, Poll, Bad}
-use Rattle.opt_tree.specs.declared.command.Refusal.TheVariants.{ReadFault, DiskFault, Stopped, Spent}
+use Rattle.opt_tree.specs.declared.command.Refusal.TheVariants.{ReadFault, DiskFault, Stopped, Spent, NoMemory}
 use Rattle.opt_tree.specs.declared.command.Reply.{Reply}
 use Rattle.opt_tree.specs.declared.command.Reply.TheVariants.{Known, Refused}
 use Rattle.opt_tree.specs.Points.{after_reply, is_refusal, is_sync, may_have_written}
 use Rattle.opt_tree.specs.Step.{Session, start}
-use Rattle.opt_fs.specs.Room.{figures_in}
+use Rattle.opt_fs.specs.Room.{Room, figures_in}
 use Rattle.opt_fs.specs.Serving.{AnswersAt, Moment, RoomOn}
-use Rattle.opt_session.specs.Budget.{sync_places, weight_by}
+use Rattle.opt_session.specs.Budget.{commits, sync_budget, sync_places, weight_by}
+use Rattle.optfs.specs.Mounts.{MountsOnce}
+use Rattle.optfs.specs.Places.{LiesAt}
 
 -- the rule of a disk in memory that the words name
 abbrev pub rule_of : Notices → Rule
@@ -48,52 +54,82 @@ pub record CameIn (log : List Event) (span : Span) (t : ℕ) : Type 0 where
   pub not_before : is_accepted t (take span.begun log) ≡ false
   pub by_then : IsAccepted t (take span.mark log)
 
--- What a run has taken of its disk so far at most, by its commands and replies alone: its session, and what the transaction weighs; the ring places of all syncs' records, and the data blocks of all commands, as if none had come back. And of each sync point the events behind the tick of the command that made it.
+-- The records of a session are those whose commit blocks of its epoch its log has behind the mount. These the log tells of one command: those that came behind the first `behind` events, up to the mark.
+abbrev pub own_records : MountedSession → List Event → ℕ → ℕ → List Commit
+own_records s log behind mark = commits_told s.geom s.epoch (drop behind (take mark log))
+
+-- the session of a recording, behind so many events of its mount: the formatted disk has epoch 1, so its records have the next one
+abbrev pub session_by : Geometry → ℕ → MountedSession
+session_by g mounted = record { geom = g; epoch = 2; mounted = mounted; first = 1 }
+
+-- What a run has taken of its disk so far, by its commands, their replies and the log: its session, and what the transaction weighs; of each sync point the events of its record's writes; and how many writes its records stand for.
 pub record Taken : Type 0 where
   pub session : Session
   pub weight : ℕ
-  pub places : ℕ
-  pub blocks : ℕ
   pub spans : List Span
+  pub budget : ℕ
 
 -- at first nothing is taken
 abbrev pub nothing_taken : Geometry → Taken
-nothing_taken g = record { session = start g.i; weight = 0; places = 0; blocks = 0; spans = [] }
+nothing_taken g = record { session = start g.i; weight = 0; spans = []; budget = 0 }
 
 -- whether a sync that was answered so made a point: something had changed since the last one
 abbrev pub makes_point : Session → Cmd → Reply → Bool
 makes_point f cmd reply = is_sync cmd && (f.changed && may_have_written reply)
 
--- what is taken after one command with this span
-abbrev pub taken_by : Geometry → Taken → Cmd → Reply → Span → Taken
-taken_by g t cmd reply span = record {
+-- a sync that is done
+abbrev pub is_done_sync : Cmd → Reply → Bool
+is_done_sync cmd reply = is_sync cmd && not (is_refusal reply)
+
+-- the writes that a command stands for: a sync that is done those of its records, one that disk or memory failed as many as its weight may, and any other none
+abbrev pub stands_for : Cmd → Reply → ℕ → List Commit → ℕ
+stands_for cmd reply w own = if is_done_sync cmd reply then writes_stood_for own else if commits cmd reply then sync_budget w else 0
+
+-- what is taken after one command with these records of its own, whose writes have this span
+abbrev pub taken_by : Geometry → Taken → Cmd → Reply → List Commit → Span → Taken
+taken_by g t cmd reply own span = record {
   session = after_reply t.session cmd reply;
   weight = weight_by (bitmap_blocks g) t.session t.weight cmd reply;
-  places = t.places + (if is_sync cmd then sync_places t.weight else 0);
-  blocks = t.blocks + (if is_refusal reply then 0 else (figures_in g t.session cmd).need);
   spans = t.spans ++ (if makes_point t.session cmd reply then span ∷ [] else []);
+  budget = t.budget + stands_for cmd reply t.weight own;
 }
 
--- the ring has places for the record of a sync, even if none came back
-abbrev pub FindsPlaces : Geometry → Taken → Type 0
-FindsPlaces g t = t.places + sync_places t.weight ≤ g.j
+-- the ring places that a sync wants: those of its own records where it is done, and else as many as its weight may take
+abbrev pub places_wanted : Reply → ℕ → List Commit → ℕ
+places_wanted reply w own = if is_refusal reply then sync_places w else places_from 0 own
 
--- The command has no reason to wait for the disk, even if nothing came back: one that only orders finds ring places, one on the tree finds as many blocks as it needs, and any other needs nothing. A dsync always has one.
-abbrev pub FindsRoom : Geometry → Taken → Cmd → Type 0
-FindsRoom g t Osync = FindsPlaces g t
-FindsRoom g t Dsync = ⊥
-FindsRoom g t Durable = ⊤
-FindsRoom g t Poll = ⊤
-FindsRoom g t Bad = ⊤
-FindsRoom g t cmd = t.blocks + (figures_in g t.session cmd).need ≤ g.n - data_start g
+-- A sync finds ring places behind its tick: so many fit the ring beside the records from the start of the newest header at rest on.
+pub record FindsPlaces (s : MountedSession) (behind : List Event) (wanted : ℕ) : Type 0 where
+  pub header : Header
+  pub newest : IsNewestAtRest s.geom.n (cell_of (formatted s.geom) behind) header
+  pub fits : places_from header.start (records_told s behind) + wanted ≤ s.geom.j
+
+-- it needs none, as there is nothing to commit, or it finds them
+abbrev pub OrdersAtOnce : MountedSession → List Event → Taken → ℕ → Type 0
+OrdersAtOnce s behind t wanted = (t.weight ≡ 0) ⊎ FindsPlaces s behind wanted
+
+-- The command has no reason to wait for the disk, in the room before it, where it wants so many ring places behind its tick: one that only orders needs none or finds them; one on the tree finds that as many blocks may be taken as it needs; and any other needs nothing. A dsync always has a reason.
+abbrev pub FindsRoom : MountedSession → List Event → Taken → Room → ℕ → Cmd → Type 0
+FindsRoom s behind t r wanted Osync = OrdersAtOnce s behind t wanted
+FindsRoom s behind t r wanted Dsync = ⊥
+FindsRoom s behind t r wanted Durable = ⊤
+FindsRoom s behind t r wanted Poll = ⊤
+FindsRoom s behind t r wanted Bad = ⊤
+FindsRoom s behind t r wanted cmd = (figures_in s.geom t.session cmd).need ≤ length r.takeable
 
 -- each notice of the log is one of those before, or that of a write which came in one of these spans
 abbrev pub HearsIn : List Span → List Event → List Event → Type 0
 HearsIn spans before log = (t : ℕ) → IsNoticed t log → IsNoticed t before ⊎ ∥ ((k : ℕ) × (span : Span) × (slice_get spans k ≡ Some span) × CameIn log span t) ∥₁
 
--- Where point n isn't the last one, a write that came behind the tick of the command that made the next one has no notice yet. So no later point is known to be durable.
+-- Where point n isn't the last one, a write of the next one's record has no notice yet. So no later point is known to be durable.
 pub record KnowsUpTo (spans : List Span) (log : List Event) (n : ℕ) : Type 0 where
   pub next : n < length spans → ∥ ((span : Span) × (t : ℕ) × (slice_get spans n ≡ Some span) × CameIn log span t × ¬ IsNoticed t log) ∥₁
+
+-- The newest header at rest after these events starts with the record of this number.
+pub record StartsBy (g : Geometry) (front : List Event) (number : ℕ) : Type 0 where
+  pub header : Header
+  pub newest : IsNewestAtRest g.n (cell_of (formatted g) front) header
+  pub is : header.start ≡ number
 
 -- The newest header at rest after these events makes the point sure. On a disk that was formatted, the records have the numbers of their points.
 pub record IsSureBy (g : Geometry) (front : List Event) (p : ℕ) : Type 0 where
@@ -114,11 +150,12 @@ moment_by g m front fits = record {
 abbrev pub room_at_first : Geometry → RoomOn
 room_at_first g = record { room = record { weight = 0; held = 0; takeable = data_blocks g; places = λ k. [] }; since = λ b. None }
 
--- how far a run has come on its disk: how often the disk was polled, how many events there are, whether a call of the disk has failed, what was taken, and the room of the session with what waits
+-- how far a run has come on its disk: how often the disk was polled, how many events there are, whether a call of the disk has failed, up to which point all are known to be durable, what was taken, and the room of the session with what waits
 pub record Pace : Type 0 where
   pub polls : ℕ
   pub events : ℕ
   pub over : Bool
+  pub durable : ℕ
   pub taken : Taken
   pub room : RoomOn
 
@@ -127,53 +164,93 @@ abbrev pub is_fault : Reply → Bool
 is_fault (Refused DiskFault) = true
 is_fault _ = false
 
--- the span of a command between these two
-abbrev pub between : Pace → Pace → Span
-between old new = record { begun = old.events; mark = new.events }
+-- a sync that is done, with something to commit, finds ring places behind so many events, while no call of the disk has failed
+pub record DoneInRing (s : MountedSession) (m : Manner) (log : List Event) (cmd : Cmd) (reply : Reply) (old : Pace) (behind mark : ℕ) : Type 0 where
+  pub done : is_done_sync cmd reply ≡ true
+  pub some : 0 < old.taken.weight
+  pub going : old.over ≡ false
+  pub alone : m.waits_alone ≡ true
+  pub finds : FindsPlaces s (take behind log) (places_wanted reply old.taken.weight (own_records s log behind mark))
 
 -- One command is answered in the room that the disk's log gives. Behind the notices of its tick, and writes, just those freed blocks may be taken again whose point the newest header at rest makes sure, and on which nothing is pending.
-pub record AnswersBy (g : Geometry) (m : Manner) (log : List Event) (cmd : Cmd) (reply : Reply) (old new : Pace) : Type 0 where
+pub record AnswersBy (s : MountedSession) (m : Manner) (log : List Event) (cmd : Cmd) (reply : Reply) (old new : Pace) : Type 0 where
   -- so many events there are behind the tick, and so many polls
   pub behind : ℕ
   pub from : old.events ≤ behind
   pub upto : behind ≤ new.events
   pub polls : ℕ
   pub ticks : cmd ≢ Bad → old.over ≡ false → reply ≢ Refused Spent → PollsThenWrites m 64 old.polls (take old.events log) polls (take behind log)
-  pub answers : AnswersAt g (moment_by g m (take behind log) ((old.over ≡ false) × FindsPlaces g old.taken)) (moment_by g m (take new.events log) ⊥) old.taken.session old.room cmd reply new.taken.session new.room
+  pub answers : AnswersAt s.geom (moment_by s.geom m (take behind log) (DoneInRing s m log cmd reply old behind new.events)) (moment_by s.geom m (take new.events log) ⊥) old.taken.session old.room cmd reply new.taken.session new.room
 
--- One command of a run on a disk of this geometry and manner. A line that is none brings no event, and nothing does once a call of the disk has failed. Any other command begins with the notices of its tick: those of 64 polls, or of the polls up to the first that has none; and there is no other poll. A command is refused as stopped only then. It is refused for a failed read only where reads may fail, and for another failed call only where a write was lost just now, or the disk's manner lets one fail here.
-pub record StepsBy (g : Geometry) (m : Manner) (log : List Event) (cmd : Cmd) (reply : Reply) (old new : Pace) : Type 0 where
+-- A sync that is done wrote one record, which the log tells. Its own writes are the last up to the mark: those behind `begun` events, as many as a record of its size has. Where it finds ring places, nothing else came behind the tick.
+pub record WritesRecordBy (s : MountedSession) (log : List Event) (behind begun mark : ℕ) : Type 0 where
+  pub commit : Commit
+  pub own : own_records s log behind mark ≡ commit ∷ []
+  pub from : behind ≤ begun
+  pub upto : begun ≤ mark
+  pub writes : writes_in (take mark log) ≤ writes_in (take begun log) + writes_told commit
+  pub fits : FindsPlaces s (take behind log) (places_told commit) → begun ≡ behind
+
+-- the last event is a write that was lost so, and it came behind the first `from` events
+pub record LosesSince (m : Manner) (from : ℕ) (log : List Event) : Type 0 where
+  pub last : LosesLast m log
+  pub since : from ≤ length last.before
+
+-- a call other than a read has failed with this log behind it, as `HasFailedBy` has it, and a write that is lost came behind the first `from` events
+abbrev pub FailsSince : Manner → ℕ → List Event → Type 0
+FailsSince m from log = LosesSince m from log ⊎ (IsTrue (m.refuses log) ⊎ IsTrue m.stalls)
+
+-- What one command does behind its tick, by the log. With no reason to wait no notice comes. A dsync that needs no ring places, or finds them, waits for the writes of records alone, where a wait brings the notice of its own ticket alone; one that fails may have written of its own.
+pub record DoesBehind (s : MountedSession) (m : Manner) (log : List Event) (cmd : Cmd) (reply : Reply) (old new : Pace) (behind : ℕ) : Type 0 where
+  -- the writes of its record come behind so many events
+  pub begun : ℕ
+  pub taken : new.taken ≡ taken_by s.geom old.taken cmd reply (own_records s log behind new.events) (record { begun = begun; mark = new.events })
+  -- a sync that is done writes its record, and one that finds no memory nothing
+  pub written : is_done_sync cmd reply ≡ true → old.over ≡ false → 0 < old.taken.weight → WritesRecordBy s log behind begun new.events
+  pub unwritten : is_sync cmd ≡ true → old.over ≡ false → reply ≡ Refused NoMemory → new.events ≡ behind
+  pub calm : cmd ≢ Bad → old.over ≡ false → reply ≢ Refused Spent → m.waits_alone ≡ true → FindsRoom s (take behind log) old.taken old.room.room (places_wanted reply old.taken.weight (own_records s log behind new.events)) cmd → PollsThenWrites m 64 old.polls (take old.events log) new.polls (take new.events log)
+  pub waits : cmd ≡ Dsync → old.over ≡ false → reply ≢ Refused Spent → m.waits_alone ≡ true → OrdersAtOnce s (take behind log) old.taken (places_wanted reply old.taken.weight (own_records s log behind new.events)) → (p : Polled) → after_polls m 64 old.polls (take old.events log) ≡ Some p
+      → HearsIn (new.taken.spans ++ (if is_refusal reply then record { begun = behind; mark = new.events } ∷ [] else [])) p.log (take new.events log)
+
+-- One command of a run on a disk of this manner. A line that is none brings no event, and nothing does once a call of the disk has failed. Any other command begins with the notices of its tick: those of 64 polls, or of the polls up to the first that has none; and there is no other poll. A command is refused as stopped only then. It is refused for a failed read only where reads may fail, and for another failed call only where its own last event is a lost write, or the disk's manner lets a call fail here; and where a write was lost among its events it is refused so.
+pub record StepsBy (s : MountedSession) (m : Manner) (log : List Event) (cmd : Cmd) (reply : Reply) (old new : Pace) : Type 0 where
   pub over : new.over ≡ (old.over || is_fault reply)
-  pub room : AnswersBy g m log cmd reply old new
-  pub taken : new.taken ≡ taken_by g old.taken cmd reply (record { begun = room.behind; mark = new.events })
+  pub room : AnswersBy s m log cmd reply old new
+  pub does : DoesBehind s m log cmd reply old new room.behind
+  -- the writes since the mount are at most those for which the records stand, this one's included
+  pub spends : writes_in (take new.events log) ≤ writes_in (take s.mounted log) + new.taken.budget
   pub rests : (cmd ≡ Bad) ⊎ (old.over ≡ true) → (new.polls ≡ old.polls) × (new.events ≡ old.events)
   pub ticks : cmd ≢ Bad → old.over ≡ false → reply ≢ Refused Spent → PollsFirst m 64 old.polls (take old.events log) new.polls (take new.events log)
-  -- with no reason to wait, no notice comes behind those of the tick
-  pub calm : cmd ≢ Bad → old.over ≡ false → reply ≢ Refused Spent → FindsRoom g old.taken cmd → PollsThenWrites m 64 old.polls (take old.events log) new.polls (take new.events log)
-  -- a dsync that finds ring places waits for the writes of syncs alone, where a wait brings the notice of its own ticket alone
-  pub waits : cmd ≡ Dsync → old.over ≡ false → reply ≢ Refused Spent → FindsPlaces g old.taken → m.waits_alone ≡ true → (p : Polled) → after_polls m 64 old.polls (take old.events log) ≡ Some p → HearsIn (old.taken.spans ++ between old new ∷ []) p.log (take new.events log)
-  -- and there `durable` is answered by no earlier point than is known
+  -- `durable` is answered by no earlier point than is known, where a wait brings the notice of its own ticket alone; and what it is answered by never falls
   pub known : (n : ℕ) → cmd ≡ Durable → reply ≡ Known n → m.waits_alone ≡ true → KnowsUpTo old.taken.spans (take new.events log) n
+  pub told : (n : ℕ) → cmd ≡ Durable → reply ≡ Known n → n ≡ new.durable
+  pub rises : old.durable ≤ new.durable
   pub stops : reply ≡ Refused Stopped → old.over ≡ true
   pub reads : reply ≡ Refused ReadFault → m.reads_fail ≡ true
-  pub fails : reply ≡ Refused DiskFault → ∥ HasFailedBy m (take new.events log) ∥₁
+  pub fails : reply ≡ Refused DiskFault → ∥ FailsSince m old.events (take new.events log) ∥₁
+  pub loses : has_lost (drop old.events (take new.events log)) ≡ true → reply ≡ Refused DiskFault
+  -- where nothing changed since the last point, as behind a sync that is done, each node's blocks lie where the room says, in the image that has all that was issued
+  pub lies : new.over ≡ false → new.taken.session.changed ≡ false → ∥ LiesAt s.geom (formatted s.geom) (take new.events log) new.room.room.places ∥₁
 
 -- these commands, one after the other, each with its reply and its mark
-abbrev pub PacesBy : Geometry → Manner → List Event → Pace → List Cmd → List Reply → List ℕ → Pace → Type 0
-PacesBy g m log p [] [] [] end = end ≡ p
-PacesBy g m log p (cmd ∷ cmds) (reply ∷ replies) (mark ∷ marks) end = (next : Pace) × (next.events ≡ mark) × StepsBy g m log cmd reply p next × PacesBy g m log next cmds replies marks end
-PacesBy g m log p _ _ _ end = ⊥
+abbrev pub PacesBy : MountedSession → Manner → List Event → Pace → List Cmd → List Reply → List ℕ → Pace → Type 0
+PacesBy s m log p [] [] [] end = end ≡ p
+PacesBy s m log p (cmd ∷ cmds) (reply ∷ replies) (mark ∷ marks) end = (next : Pace) × (next.events ≡ mark) × StepsBy s m log cmd reply p next × PacesBy s m log next cmds replies marks end
+PacesBy s m log p _ _ _ end = ⊥
 
 -- as a mount ends that brought so many events: no poll was made yet, nothing is taken, and the room is that of a formatted disk
 abbrev pub pace_at_first : Geometry → ℕ → Pace
-pace_at_first g mounted = record { polls = 0; events = mounted; over = false; taken = nothing_taken g; room = room_at_first g }
+pace_at_first g mounted = record { polls = 0; events = mounted; over = false; durable = 0; taken = nothing_taken g; room = room_at_first g }
 
--- A run went by the manner of its disk: so did each of its commands, and each write is accepted or lost as the manner has it. The first write, which is the mount's, may be accepted. No command is refused as spent, of so many as no input has.
+-- A run went by the manner of its disk: so did each of its commands, and each write is accepted or lost as the manner has it. The first write, which is the mount's, may be accepted, and the mount lost none. No command is refused as spent, of so many as no input has.
 pub record RunsBy (g : Geometry) (m : Manner) (log : List Event) (mounted : ℕ) (cmds : List Cmd) (replies : List Reply) (marks : List ℕ) : Type 0 where
   pub writes : GoesBy m log
   pub last : Pace
-  pub paces : PacesBy g m log (pace_at_first g mounted) cmds replies marks last
+  pub paces : PacesBy (session_by g mounted) m log (pace_at_first g mounted) cmds replies marks last
   pub opens : IsTrue (m.accepts [])
+  pub mounts : has_lost (take mounted log) ≡ false
+  -- the mount wrote the new session's header, waited for it, and did nothing else
+  pub once : MountsOnce g (take mounted log)
   pub unspent : (i : ℕ) → i < 2 ^ 40 → slice_get replies i ≡ Some (Refused Spent) → ⊥
 
 -- A mount with nothing to replay fails where a read may, or a poll or a wait; where no first write may come; or where the first may be lost, and then that is its one event.

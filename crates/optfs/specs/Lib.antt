@@ -1,5 +1,8 @@
 pub mod Endings
+pub mod Mounts
+pub mod Places
 pub mod Behaving
+pub mod Placing
 pub mod Running
 pub mod Disks
 pub mod Mounting
@@ -14,3 +17,4 @@ pub mod Program
 pub mod Reading
 pub mod Statuses
 pub mod Recordings
+pub mod Calm

@@ -4,7 +4,7 @@ use Rattle.opt_disk.specs.Bay.{SameElsewhere}
 use Rattle.opt_geom.specs.Geometry.{Geometry}
 use Rattle.opt_make.specs.declared.refusal.MakeRefusal.{MakeRefusal}
 use Rattle.opt_make.specs.declared.refusal.MakeRefusal.TheVariants as make
-use Rattle.opt_make.specs.Makes.{HasMakeCause, IsFormattedImage, LeavesBay}
+use Rattle.opt_make.specs.Makes.{HasMakeCause, HasMakeReason, IsFormattedImage, LeavesBay}
 use Rattle.opt_show.specs.Shows.{HasImage}
 use Rattle.optfs.specs.Endings.{Met, EndsBehind, EndsSilent, disk_line}
 use Rattle.optfs.specs.declared.status.Status.{Status}
@@ -23,4 +23,5 @@ pub record MakesTo (tells : Bool) (image : List ℕ) (g : Geometry) (status : St
   pub back : LeavesBay tells image g answer m.bay m.bay_now
   pub others : IsTrue tells → SameElsewhere image m.bay m.bay_now
   pub cause : HasMakeCause answer m.bay m.bay_now
+  pub reason : IsTrue tells → answer ≡ Err make.Fault → HasMakeReason tells image g answer m.bay m.bay_now
   pub ends : EndsMaking answer status m.taken m.taken_now

@@ -14,11 +14,12 @@ use Rattle.opt_tree.specs.Run.{StopsAfterFault}
 use Rattle.opt_crash.specs.Counts.{AreAtMost}
 use Rattle.opt_fs.specs.Room.{Room, IsFirstRoom}
 use Rattle.opt_fs.specs.DiskRoom.{RunsOn}
-use Rattle.opt_session.specs.Budget.{budget_of}
+use Rattle.opt_session.specs.Budget.{SpendsByMarks, budget_of}
 use Rattle.opt_session.specs.Crashes.{IsCrashConsistent}
 use Rattle.opt_session.specs.Issued.{IssuesLast}
 use Rattle.optfs.specs.Behaving.{MountFails, RunsBy}
 use Rattle.optfs.specs.Endings.{disk_line, source_line, long_line}
+use Rattle.optfs.specs.Mounts.{MountsAtMost}
 use Rattle.opt_lines.specs.Lines.{longest, whole_commands, commands_of}
 use Rattle.optfs.specs.declared.status.Status.{Status}
 use Rattle.optfs.specs.declared.status.Status.TheVariants.{Done, NoMemory, DiskFault, SourceFault, SinkFault, LongInput}
@@ -32,7 +33,7 @@ pub record Setting : Type 0 where
 abbrev pub says : Geometry → List Event → ℕ → List Cmd → List Reply → List ℕ → Contents
 says g log mounted cmds replies marks = record { geometry = g; log = log; mounted = mounted; cmds = cmds; replies = replies; marks = marks }
 
--- The text begins the trace of a run of these commands on a disk that was formatted with this geometry. Each command is answered in turn as the tree answers it, or refused as the room of that disk says, or for the disk or memory; and every crash, at each moment of the mount and of each command, leaves a sync point. At the mark of each reply before any fault of the disk, all that was issued stands for the last point. The writes keep within what the commands stand for.
+-- The text begins the trace of a run of these commands on a disk that was formatted with this geometry. Each command is answered in turn as the tree answers it, or refused as the room of that disk says, or for the disk or memory; and every crash, at each moment of the mount and of each command, leaves a sync point. At the mark of each reply before any fault of the disk, all that was issued stands for the last point. The writes keep within what the commands stand for, and up to each mark within what those by then stand for.
 pub record Serves (g : Geometry) (cmds : List Cmd) (text : List ℕ) : Type 0 where
   -- all events of the disk, and how many of them are the mount's
   pub log : List Event
@@ -52,6 +53,7 @@ pub record Serves (g : Geometry) (cmds : List Cmd) (text : List ℕ) : Type 0 wh
   pub consistent : IsCrashConsistent g.n g.i (formatted g) log mounted cmds replies marks
   pub issued : IssuesLast g.n (formatted g) (start g.i) log mounted cmds replies marks
   pub budget : AreAtMost mounted log (budget_of (bitmap_blocks g) (start g.i) 0 cmds replies)
+  pub spends : SpendsByMarks g (start g.i) mounted log cmds replies marks
   pub is : text ≡ front_of (says g log mounted cmds replies marks)
 
 -- what such a text says
@@ -77,7 +79,7 @@ pub record IsCutShort (S : List Cmd → List ℕ → Type 0) (seen last text : L
   pub served : S (whole_commands longest seen) body
   pub is : text ≡ body ++ last
 
--- The text is that of a mount that the disk failed: the events so far, and then the last line. Every crash of it leaves the root alone. The disk went by its manner, which lets the mount fail so.
+-- The text is that of a mount that the disk failed: the events so far, which are one write at most and its notice, and then the last line. Every crash of it leaves the root alone. The disk went by its manner, which lets the mount fail so.
 pub record FailsToMount (set : Setting) (text : List ℕ) : Type 0 where
   pub log : List Event
   pub lawful : AreLawful (says set.shape log (length log) [] [] [])
@@ -85,6 +87,7 @@ pub record FailsToMount (set : Setting) (text : List ℕ) : Type 0 where
   pub consistent : IsCrashConsistent set.shape.n set.shape.i (formatted set.shape) log (length log) [] [] []
   pub writes : GoesBy set.manner log
   pub cause : MountFails set.manner log
+  pub most : MountsAtMost log
   pub is : text ≡ (front_of (says set.shape log (length log) [] [] []) ++ end_line) ++ disk_line
 
 -- The text is a whole output of a recording that read these bytes: the trace, or the one after a fault of the source, where it failed, or the one of an input that is too long, where these bytes are as many as an input may have.

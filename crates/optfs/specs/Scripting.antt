@@ -1,10 +1,10 @@
 -- What the program does where its words ask to run the script that is its input on an image. It is described in docs/PROMISES.md.
-use Rattle.std.specs.Prelude.{◌≡◌, ℕ, Bool, List, Option, Result, Ok, Err}
+use Rattle.std.specs.Prelude.{◌≡◌, ℕ, Bool, IsTrue, List, Option, Result, Ok, Err}
 use Rattle.opt_run.specs.declared.ending.Ending.{Ending}
 use Rattle.opt_run.specs.declared.ending.Ending.TheVariants as script
 use Rattle.opt_run.specs.declared.ending.RunRefusal.{RunRefusal}
 use Rattle.opt_run.specs.declared.ending.RunRefusal.TheVariants as run
-use Rattle.opt_run.specs.Runs.{ComesOf, CountsFaults, HasRunCause, Streams}
+use Rattle.opt_run.specs.Runs.{ComesOf, CountsFaults, HasRunCause, HasRunReason, Streams}
 use Rattle.optfs.specs.Endings.{Met, EndsBehind, EndsSilent, Tells, disk_line, damaged_line, source_line, spent_line, long_line}
 use Rattle.optfs.specs.declared.status.Status.{Status}
 use Rattle.optfs.specs.declared.status.Status.TheVariants.{Done, NoMemory, DiskFault, Damaged, SourceFault, SinkFault, Spent, LongInput}
@@ -44,4 +44,5 @@ pub record RunsTo (tells : Bool) (image : List ℕ) (status : Status) (m : Met) 
   pub comes : ComesOf tells image answer m.bay m.bay_now (streams m.left m.source m.taken m.sink) (streams m.left_now m.source_now between sink_between)
   pub counts : CountsFaults answer (streams m.left m.source m.taken m.sink) (streams m.left_now m.source_now between sink_between)
   pub cause : HasRunCause answer m.bay m.bay_now
+  pub reason : IsTrue tells → answer ≡ Err run.Fault → HasRunReason tells image answer m.bay m.bay_now (streams m.left m.source m.taken m.sink) (streams m.left_now m.source_now between sink_between)
   pub ends : EndsScript answer status between m.taken_now

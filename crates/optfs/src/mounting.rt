@@ -1,9 +1,10 @@
 //! The mount of the disk of a recording, and the file system that is opened on it. A formatted disk is refused by
 //! neither, but for a call of the disk that fails and for want of memory.
 
-ghost use Rattle.std.specs.Prelude.{◌≡◌, ◌<◌, ◌+◌, ◌^◌, false, true, length, IfOk};
+ghost use Rattle.std.specs.Prelude.{◌≡◌, ◌<◌, ◌≤◌, ◌+◌, ◌^◌, false, true, length, IfOk};
 ghost use Rattle.opt_disk.specs.Lawful.{IsLogOf};
 ghost use Rattle.opt_disk.specs.Manner.{GoesBy, HasFailedBy};
+ghost use Rattle.opt_memdisk.specs.Log.{has_lost};
 ghost use Rattle.opt_memdisk.specs.MemDisk.{state_of as disk_state};
 ghost use Rattle.opt_blocks.specs.Crashes.{IsTold, StillAwaits};
 ghost use Rattle.opt_store.specs.StoreOf.{state_of};
@@ -117,8 +118,9 @@ fn failed(geom: &Geom, disk: MemDisk) -> Mounted
 }
 
 /// The log of the disk under a file system is one of as many blocks as the geometry says, and the number of its
-/// events has 64 bits. The disk keeps to its manner; and where a call of it failed, it was the last one. What is known
-/// of maps of blocks holds, and where the last point isn't known to be durable, the next one waits for a ticket. This
+/// events has 64 bits. The disk keeps to its manner; and where a call of it failed, it was the last one. Where its waits
+/// bring the notice of their own ticket alone, a write was lost only where a failed call was counted. What is known
+/// of maps of blocks holds, no point behind the last one is known to be durable, and where the last point isn't known to be durable, the next one waits for a ticket. This
 /// does nothing.
 pub fn the_disk_keeps_to_its_manner(system: &System)
     ensures log { IsLogOf (state_of disk_state (blocks_in system.now)).books.geom.n (state_of disk_state (blocks_in system.now)).crash.log }
@@ -126,7 +128,9 @@ pub fn the_disk_keeps_to_its_manner(system: &System)
     ensures writes { GoesBy (state_of disk_state (blocks_in system.now)).counts.ticks.manner (state_of disk_state (blocks_in system.now)).crash.log }
     ensures reads { 0 < (state_of disk_state (blocks_in system.now)).counts.read_faults → (state_of disk_state (blocks_in system.now)).counts.ticks.manner.reads_fail ≡ true }
     ensures fails { (state_of disk_state (blocks_in system.now)).books.stopped ≡ true → ∥ HasFailedBy (state_of disk_state (blocks_in system.now)).counts.ticks.manner (state_of disk_state (blocks_in system.now)).crash.log ∥₁ }
+    ensures unlost { (state_of disk_state (blocks_in system.now)).counts.ticks.manner.waits_alone ≡ true → (state_of disk_state (blocks_in system.now)).counts.faults ≡ 0 → has_lost (state_of disk_state (blocks_in system.now)).crash.log ≡ false }
     ensures told { IsTold (state_of disk_state (blocks_in system.now)) }
+    ensures floor { (state_of disk_state (blocks_in system.now)).books.floor ≤ (state_of disk_state (blocks_in system.now)).books.point }
     ensures waits { (state_of disk_state (blocks_in system.now)).books.stopped ≡ false → (state_of disk_state (blocks_in system.now)).books.floor < (state_of disk_state (blocks_in system.now)).books.point → ∥ StillAwaits (state_of disk_state (blocks_in system.now)) ((state_of disk_state (blocks_in system.now)).books.floor + 1) ∥₁ }
 {
     system.lawful();
@@ -135,13 +139,16 @@ pub fn the_disk_keeps_to_its_manner(system: &System)
 }
 
 /// The log of a disk is a lawful one of its number of blocks, and the number of its events has 64 bits. Its writes are
-/// accepted and lost as its manner has it, and a read has failed only where one may. This does nothing.
+/// accepted and lost as its manner has it, and a read has failed only where one may. Where its waits bring the notice of
+/// their own ticket alone, a write was lost only where a failed call was counted. This does nothing.
 fn a_disk_keeps_to_its_manner(disk: &MemDisk)
     ensures log { IsLogOf (disk_state disk.now).blocks (disk_state disk.now).log }
     ensures events { length (disk_state disk.now).log < 2 ^ 64 }
     ensures writes { GoesBy (disk_state disk.now).manner (disk_state disk.now).log }
     ensures reads { 0 < (disk_state disk.now).read_faults → (disk_state disk.now).manner.reads_fail ≡ true }
+    ensures unlost { (disk_state disk.now).manner.waits_alone ≡ true → (disk_state disk.now).faults ≡ 0 → has_lost (disk_state disk.now).log ≡ false }
 {
     disk.lawful();
+    disk.lost_writes_are_counted();
     let _ = disk.moment();
 }

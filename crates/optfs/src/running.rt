@@ -14,14 +14,18 @@ use crate::mounting::{System, the_disk_keeps_to_its_manner};
 use opt_fs::{
     a_command_begins_with_a_tick, a_command_is_answered_in_a_room_that_came_back,
     a_command_raises_the_numbers_little, a_command_serves_what_is_sure,
-    a_command_takes_the_places_of_its_record, a_command_that_needs_no_wait_makes_none,
-    a_refusal_for_the_disk_has_its_cause, a_sync_waits_for_records_alone,
+    a_command_that_needs_no_wait_makes_none, a_refusal_for_the_disk_has_its_cause,
 };
+use opt_geom::geometries_are_within_limits;
+use opt_journal::{an_image_holds_one_map, images_alike_below_n_hold_the_same};
 use opt_memdisk::MemDisk;
-use opt_session::{a_run_may_end_at_once, the_writes_keep_within_the_budget};
+use opt_session::{
+    a_run_may_end_at_once, the_writes_keep_within_the_budget,
+    the_writes_keep_within_the_budget_at_each_mark,
+};
 use opt_stands::{
-    an_image_stands_for_one_tree, images_alike_below_n_stand_for_the_same,
-    the_formatted_disk_stands_for_the_root,
+    a_tree_that_stands_is_sound, an_image_stands_for_one_tree,
+    images_alike_below_n_stand_for_the_same, the_formatted_disk_stands_for_the_root,
 };
 use opt_store::Store;
 use opt_tree::{Cmd, Reply, a_reply_tells_the_session};
@@ -37,8 +41,7 @@ pub fn answer(alloc: Global, system: &mut System, cmd: &Cmd) -> Reply
     a_refusal_for_the_disk_has_its_cause::<Store<MemDisk>>();
     a_command_raises_the_numbers_little::<Store<MemDisk>>();
     a_command_that_needs_no_wait_makes_none::<Store<MemDisk>>();
-    a_sync_waits_for_records_alone::<Store<MemDisk>>();
-    a_command_takes_the_places_of_its_record::<Store<MemDisk>>();
+    the_writes_keep_within_the_budget_at_each_mark::<Store<MemDisk>>();
     system.lawful();
     let reply = system.apply(alloc, cmd);
     the_disk_keeps_to_its_manner(system);
@@ -57,5 +60,10 @@ pub fn a_run_is_known(system: &System)
     images_alike_below_n_stand_for_the_same();
     a_run_may_end_at_once::<Store<MemDisk>>();
     the_writes_keep_within_the_budget::<Store<MemDisk>>();
+    the_writes_keep_within_the_budget_at_each_mark::<Store<MemDisk>>();
     a_command_is_answered_in_a_room_that_came_back::<Store<MemDisk>>();
+    geometries_are_within_limits();
+    a_tree_that_stands_is_sound();
+    images_alike_below_n_hold_the_same();
+    an_image_holds_one_map();
 }

@@ -13,6 +13,7 @@ returns-in-Ok-clause-makes g c = λ left source. record {
   back = c.make_image.ensures.back;
   others = c.make_image.ensures.others;
   cause = c.make_image.ensures.cause;
+  reason = c.make_image.ensures.reason;
   ends = subst (λ (a : Result (Unit {0}) MakeRefusal). EndsMaking a Done (g.K.Sink.taken c.args.out.now) (g.K.Sink.taken c.args.out.now)) (sym c.in-Ok.is) (refl, refl);
 }
 
@@ -23,6 +24,7 @@ returns-in-Err-Fault-clause-makes g c = λ left source. record {
   back = c.make_image.ensures.back;
   others = c.make_image.ensures.others;
   cause = c.make_image.ensures.cause;
+  reason = c.make_image.ensures.reason;
   ends = subst (λ (a : Result (Unit {0}) MakeRefusal). EndsMaking a c.tell.result (g.K.Sink.taken c.args.out.now) (g.K.Sink.taken c.tell.new.out))
       (sym (c.in-Err-Fault.is ∙ ap Err c.in-Err-Fault.field-0-is)) (behind _ _ _ _ _ _ _ c.tell.ensures.told);
 }
@@ -34,6 +36,7 @@ returns-in-Err-NoMemory-clause-makes g c = λ left source. record {
   back = c.make_image.ensures.back;
   others = c.make_image.ensures.others;
   cause = c.make_image.ensures.cause;
+  reason = c.make_image.ensures.reason;
   ends = subst (λ (a : Result (Unit {0}) MakeRefusal). EndsMaking a NoMemory (g.K.Sink.taken c.args.out.now) (g.K.Sink.taken c.args.out.now))
       (sym (c.in-Err-NoMemory.is ∙ ap Err c.in-Err-NoMemory.field-0-is)) (refl, refl);
 }

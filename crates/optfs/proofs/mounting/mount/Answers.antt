@@ -1,7 +1,5 @@
-use Rattle.std.proofs.Common.{List, true, false, refl, subst, ◌∙◌, replicate, arith}
-use Rattle.opt_disk.specs.declared.event.Event.{Event}
+use Rattle.std.proofs.Common.{inr, true, false, refl, ap, subst, ◌∙◌, replicate, arith}
 use Rattle.opt_disk.specs.Manner.{Manner}
-use Rattle.opt_crash.specs.Opening.{WritesOne}
 use Rattle.opt_memdisk.specs.MemDisk.{state_of as disk_state}
 use Rattle.opt_journal.specs.declared.entry.EntryKind.TheVariants.{Payload}
 use Rattle.opt_journal.specs.Formatted.{formatted}
@@ -12,7 +10,7 @@ use Rattle.opt_store.specs.Refusal.{RefusalSays, is_disk_fault, is_read_fault}
 use Rattle.opt_store.specs.declared.refusal.StoreRefusal.{StoreRefusal}
 use Rattle.optfs.specs.Mounting.{Mounts}
 use Rattle.optfs.proofs.FormattedFound.{HasLaws, zeros_are_stored}
-use Rattle.optfs.proofs.MountLemmas.{HasRoot, held_by, holds, header_found, bits_good, unspent, left_faulty, left_unread, left_with, nothing_to_replay, few_turns, sure_of}
+use Rattle.optfs.proofs.MountLemmas.{HasRoot, held_by, holds, header_found, bits_good, unspent, left_faulty, left_unread, left_with, nothing_to_replay, few_turns, opened_by, opened_once, stopped_once, sure_of, tells_of}
 use Rattle.optfs.proofs.mounting.mount.Goals as goal
 use Rattle.optfs.proofs.mounting.mount.Goals.{After-journal_blocks_are_told_apart}
 
@@ -43,14 +41,18 @@ open-requires c =
     let g = c.args.geom.now in
     let d = disk_state c.args.disk in
     let begins = c.in-Ok.ensures.begins refl g (live_part g (formatted g)) (holds g (root p) (laws p) d c.requires) in
-    let left = left_with g (root p) (laws p) d c.requires false false (disk_state (disk_in c.in-Ok.store)) c.in-Ok.ensures.leaves in
+    let first = opened_once g (root p) (laws p) d c.requires (disk_state (disk_in c.in-Ok.store)).log (c.in-Ok.ensures.alone refl (nothing_to_replay g (root p) (laws p) d c.requires)) in
+    let left = left_with g (root p) (laws p) d c.requires false false (disk_state (disk_in c.in-Ok.store)) c.in-Ok.ensures.leaves (inr (inr first)) in
     record {
       begun = c.in-Ok.ensures.begun;
       begins = begins;
-      shows = record { geom = begins.geom; base = left.began.base; images = left.images };
+      shows = record { geom = begins.geom; base = left.began.base; images = left.images; first = first };
       polls = c.in-Ok.ensures.leaves.spends.polls ∙ c.requires.polls;
-      first = subst (λ (es : List Event). WritesOne es (disk_state (disk_in c.in-Ok.store)).log) c.requires.nothing (c.in-Ok.ensures.alone refl (nothing_to_replay g (root p) (laws p) d c.requires));
+      faults = c.in-Ok.ensures.leaves.spends.faults ∙ c.requires.faults;
+      alone = ap (λ (m : Manner). m.waits_alone) c.in-Ok.ensures.leaves.spends.same.manner ∙ c.requires.alone;
+      opened = opened_by g (root p) (laws p) d c.requires _ (c.in-Ok.ensures.opens refl) begins.geom;
       sure = sure_of g (root p) (laws p) d c.requires _ (c.in-Ok.ensures.numbers refl) begins.geom left.began.base;
+      records = tells_of g (root p) (laws p) d c.requires _ (c.in-Ok.ensures.numbers refl) begins.geom left.began.base;
       turns = few_turns g (root p) (laws p) d c.requires _ (c.in-Ok.ensures.numbers refl);
     }
 
@@ -60,9 +62,10 @@ failed-requires c =
     let d = disk_state c.args.disk in
     let new = disk_state c.in-Err-default-DiskFault.disk in
     let back : LeavesDisk true false true d new = subst (λ (why : StoreRefusal). LeavesDisk true (is_read_fault why) (is_disk_fault why) d new) c.in-Err-default-DiskFault.field-0-1-is c.in-Err-default-DiskFault.ensures.back in
+    let stops = c.in-Err-default-DiskFault.ensures.stops refl (nothing_to_replay c.args.geom.now (root p) (laws p) d c.requires) in
     record {
-      holds = left_with c.args.geom.now (root p) (laws p) d c.requires _ _ new back;
-      fault = left_faulty c.args.geom.now (root p) (laws p) d c.requires false new back (c.in-Err-default-DiskFault.ensures.stops refl (nothing_to_replay c.args.geom.now (root p) (laws p) d c.requires));
+      holds = left_with c.args.geom.now (root p) (laws p) d c.requires _ _ new back (stopped_once c.args.geom.now (root p) (laws p) d c.requires new stops);
+      fault = left_faulty c.args.geom.now (root p) (laws p) d c.requires false new back stops;
     }
 
 pub failed-requires-in-Err-default-ReadFault : goal.failed-requires-in-Err-default-ReadFault
@@ -71,8 +74,9 @@ failed-requires-in-Err-default-ReadFault c =
     let d = disk_state c.args.disk in
     let new = disk_state c.in-Err-default-ReadFault.disk in
     let back : LeavesDisk true true false d new = subst (λ (why : StoreRefusal). LeavesDisk true (is_read_fault why) (is_disk_fault why) d new) c.in-Err-default-ReadFault.field-0-1-is c.in-Err-default-ReadFault.ensures.back in
+    let stops = c.in-Err-default-ReadFault.ensures.stops refl (nothing_to_replay c.args.geom.now (root p) (laws p) d c.requires) in
     record {
-      holds = left_with c.args.geom.now (root p) (laws p) d c.requires _ _ new back;
+      holds = left_with c.args.geom.now (root p) (laws p) d c.requires _ _ new back (stopped_once c.args.geom.now (root p) (laws p) d c.requires new stops);
       fault = left_unread c.args.geom.now (root p) (laws p) d c.requires false new back;
     }
 

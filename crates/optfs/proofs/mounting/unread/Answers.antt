@@ -1,4 +1,4 @@
-use Rattle.std.proofs.Common.{inl, sym, ap, ◌∙◌, subst}
+use Rattle.std.proofs.Common.{inl, inr, sym, ap, ◌∙◌, subst}
 use Rattle.opt_geom.specs.Geometry.{Geometry}
 use Rattle.opt_memdisk.specs.MemDisk.{MemDiskState, state_of as disk_state}
 use Rattle.optfs.specs.Disks.{HasFault, HoldsRoot}
@@ -10,6 +10,7 @@ failed-requires c = record {
   holds = subst (λ (d : MemDiskState). HoldsRoot c.args.geom.now (disk_state d)) (sym c.into_disk.ensures.disk) (record {
     began = record { size = c.disk.ensures.size ∙ ap (λ (k : Geometry). k.n) c.requires.shows.geom; base = c.requires.shows.base };
     images = c.requires.shows.images;
+    most = inr (inr c.requires.shows.first);
   });
   fault = subst (λ (d : MemDiskState). HasFault (disk_state d)) (sym c.into_disk.ensures.disk) (inl c.requires.read);
 }

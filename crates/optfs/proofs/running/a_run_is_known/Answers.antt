@@ -18,6 +18,13 @@ returns-clause-laws c = λ k fits. record {
   alike = c.images_alike_below_n_stand_for_the_same.ensures;
   replies = c.a_reply_tells_the_session.ensures;
   budget = c.a_run_may_end_at_once.ensures.budget k (start k.i).tree;
+  spends = c.the_writes_keep_within_the_budget_at_each_mark.ensures.first k (start k.i);
+  places = record {
+    limits = (c.geometries_are_within_limits.ensures k).0 fits;
+    sound = c.a_tree_that_stands_is_sound.ensures.sound;
+    alike = c.images_alike_below_n_hold_the_same.ensures;
+    newest = c.an_image_holds_one_map.ensures.newest;
+  };
 }
 
 pub returns-clause-known : goal.returns-clause-known
@@ -28,4 +35,5 @@ returns-clause-known c = λ k mounted cmds replies marks ran.
           (c.the_writes_keep_within_the_budget.ensures (blocks_in c.args.system.now) k (start k.i).tree (writes_in (take mounted s.crash.log)) 0 mounted cmds replies ran.budget (omega arith));
       room = λ f is. subst (λ (x : Geometry). IsRoomOf x f (room_of s)) ran.served.geom (c.a_command_is_answered_in_a_room_that_came_back.ensures.room refl (blocks_in c.args.system.now) f is);
       ends = λ more. c.a_run_may_end_at_once.ensures.run (blocks_in c.args.system.now) k (start k.i).tree mounted cmds replies marks more ran.served;
+      spends = λ more. c.a_run_may_end_at_once.ensures.spends (blocks_in c.args.system.now) k (start k.i).tree mounted cmds replies marks more ran.served ran.spends;
     }

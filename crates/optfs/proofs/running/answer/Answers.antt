@@ -1,8 +1,7 @@
 -- How a command is answered, by what the file system, the store and the disk say.
-use Rattle.std.proofs.Common.{refl, subst, true}
+use Rattle.std.proofs.Common.{refl, true}
 use Rattle.opt_memdisk.specs.MemDisk.{state_of as disk_state}
 use Rattle.opt_store.specs.StoreOf.{state_of}
-use Rattle.opt_fs.specs.Applying.{Applies}
 use Rattle.opt_fs.specs.Opened.{blocks_in}
 use Rattle.optfs.proofs.Answering.{left_over, manner_stays, steps_on, waits_on}
 use Rattle.optfs.proofs.OpenLemmas.{drawn}
@@ -17,6 +16,7 @@ returns c =
     record {
       serves = c.apply-reply.ensures.serves refl (λ s. drawn disk_state s);
       budget = c.apply-reply.ensures.budget refl;
+      spends = λ g t mounted cmds replies marks served budget before. c.the_writes_keep_within_the_budget_at_each_mark.ensures.more old new g t mounted cmds replies marks c.args.cmd.now c.apply-reply.result served time.advances.grows budget before;
       room = λ f is. c.a_command_is_answered_in_a_room_that_came_back.ensures.answers refl (blocks_in c.args.system.now) (blocks_in c.apply-reply.new.self) f c.args.cmd.now c.apply-reply.result is c.apply-reply.ensures.applies;
       rooms = λ f is.
           let x = c.a_command_serves_what_is_sure.ensures refl old new f c.args.cmd.now c.apply-reply.result is c.apply-reply.ensures.applies in (
@@ -25,7 +25,9 @@ returns c =
                 (manner_stays true (λ s. state_of disk_state s) refl c.args.cmd.now c.apply-reply.result old new c.apply-reply.ensures.applies (λ meant run left. c.a_command_begins_with_a_tick.ensures c.args.cmd.now c.apply-reply.result old new meant run left c.apply-reply.ensures.applies)),
           );
       sure = time.advances.sure;
+      records = time.advances.records;
       base = time.advances.base;
+      points = record { time = time; last = c.the_disk_keeps_to_its_manner.ensures.told.issued; drawn = drawn disk_state new };
       grows = time.advances.grows;
       lawful = c.the_disk_keeps_to_its_manner.ensures.log;
       events = c.the_disk_keeps_to_its_manner.ensures.events;
@@ -35,12 +37,10 @@ returns c =
           (λ f session late. c.a_refusal_for_the_disk_has_its_cause.ensures.spent refl (blocks_in c.args.system.now) (blocks_in c.apply-reply.new.self) f c.args.cmd.now c.apply-reply.result session c.apply-reply.ensures.applies late)
           (λ f session late. c.a_refusal_for_the_disk_has_its_cause.ensures.stopped refl (blocks_in c.args.system.now) (blocks_in c.apply-reply.new.self) f c.args.cmd.now c.apply-reply.result session c.apply-reply.ensures.applies late)
           (λ f session unread. c.a_refusal_for_the_disk_has_its_cause.ensures.read refl (blocks_in c.args.system.now) (blocks_in c.apply-reply.new.self) f c.args.cmd.now c.apply-reply.result session c.apply-reply.ensures.applies unread)
-          c.the_disk_keeps_to_its_manner.ensures.reads c.the_disk_keeps_to_its_manner.ensures.writes c.the_disk_keeps_to_its_manner.ensures.fails;
+          c.the_disk_keeps_to_its_manner.ensures.reads c.the_disk_keeps_to_its_manner.ensures.writes c.the_disk_keeps_to_its_manner.ensures.fails c.the_disk_keeps_to_its_manner.ensures.unlost;
       waits = waits_on true (λ s. state_of disk_state s) refl c.args.cmd.now c.apply-reply.result old new c.apply-reply.ensures.applies
           (λ meant run left. c.a_command_begins_with_a_tick.ensures c.args.cmd.now c.apply-reply.result old new meant run left c.apply-reply.ensures.applies)
           (λ f left meant run session needs. c.a_command_that_needs_no_wait_makes_none.ensures refl old new f c.args.cmd.now c.apply-reply.result meant run left session needs c.apply-reply.ensures.applies)
-          (λ f p t left is run session ring alone polled noticed. c.a_sync_waits_for_records_alone.ensures refl old new c.apply-reply.result p t run left ring alone (subst (λ cmd. Applies true (λ s. state_of disk_state s) cmd c.apply-reply.result old new) is c.apply-reply.ensures.applies) polled noticed)
-          c.lawful.ensures.places (c.a_command_takes_the_places_of_its_record.ensures.others old new c.args.cmd.now c.apply-reply.result c.apply-reply.ensures.applies)
-          (c.a_command_takes_the_places_of_its_record.ensures.sync old new c.args.cmd.now c.apply-reply.result c.apply-reply.ensures.applies)
+          c.lawful.ensures.places c.lawful.ensures.writes (c.apply-reply.ensures.writes refl)
           (λ f session. c.a_command_is_answered_in_a_room_that_came_back.ensures.room refl old f session) time.advances c.the_disk_keeps_to_its_manner.ensures.told c.the_disk_keeps_to_its_manner.ensures.waits;
     }

@@ -10,6 +10,7 @@ returns-clause-runs g c = record {
   comes = c.run_script-answer.ensures.comes;
   counts = c.run_script-answer.ensures.counts;
   cause = c.run_script-answer.ensures.cause;
+  reason = c.run_script-answer.ensures.reason;
   ends = script_ends _ _ _ _ _ _ c.end_script.ensures.tells;
 }
 

@@ -15,6 +15,7 @@ returns-in-Ok-clause-shows g c = λ left source. record {
   silent = λ e. ap g.K.Sink.taken (c.show_tree.ensures.silent e);
   back = c.show_tree.ensures.back;
   cause = c.show_tree.ensures.cause;
+  reason = c.show_tree.ensures.reason;
   ends = subst (λ (a : Result (Unit {0}) ShowRefusal). EndsShowing a Done (g.K.Sink.taken c.show_tree.new.out) (g.K.Sink.taken c.show_tree.new.out)) (sym c.in-Ok.is) (refl, refl);
 }
 
@@ -27,6 +28,7 @@ returns-in-Err-Fault-clause-shows g c = λ left source. record {
   silent = λ e. ap g.K.Sink.taken (c.show_tree.ensures.silent e);
   back = c.show_tree.ensures.back;
   cause = c.show_tree.ensures.cause;
+  reason = c.show_tree.ensures.reason;
   ends = subst (λ (a : Result (Unit {0}) ShowRefusal). EndsShowing a c.tell.result (g.K.Sink.taken c.show_tree.new.out) (g.K.Sink.taken c.tell.new.out))
       (sym (c.in-Err-Fault.is ∙ ap Err c.in-Err-Fault.field-0-is)) (behind _ _ _ _ _ _ _ c.tell.ensures.told);
 }
@@ -40,6 +42,7 @@ returns-in-Err-Damaged-clause-shows g c = λ left source. record {
   silent = λ e. ap g.K.Sink.taken (c.show_tree.ensures.silent e);
   back = c.show_tree.ensures.back;
   cause = c.show_tree.ensures.cause;
+  reason = c.show_tree.ensures.reason;
   ends = subst (λ (a : Result (Unit {0}) ShowRefusal). EndsShowing a c.tell-in-Err-Damaged.result (g.K.Sink.taken c.show_tree.new.out) (g.K.Sink.taken c.tell-in-Err-Damaged.new.out))
       (sym (c.in-Err-Damaged.is ∙ ap Err c.in-Err-Damaged.field-0-is)) (behind _ _ _ _ _ _ _ c.tell-in-Err-Damaged.ensures.told);
 }
