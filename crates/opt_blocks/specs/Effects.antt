@@ -36,9 +36,15 @@ FitsRing k = commit_places k ≤ k.free_places
 abbrev pub OrdersAtOnce : Bookkeeping → Type 0
 OrdersAtOnce k = FitsRing k ⊎ (k.running.weight ≡ 0)
 
--- The ring places that aren't free are those of the records that the log tells, from the number on from which they aren't free.
+-- These are the records of the ring: one for each point. There is a number from which on their places aren't free, and such places are the only ones that aren't.
+pub record IsRingOf (s : State) (told : List Commit) : Type 0 where
+  pub one : length told ≡ s.books.point
+  pub starts : ∥ ((number : ℕ) × s.crash.records.starts s.crash.log number) ∥₁
+  pub places : (number : ℕ) → s.crash.records.starts s.crash.log number → s.books.geom.j ≡ s.books.free_places + places_from number told
+
+-- the log tells the records of the ring
 abbrev pub RingIsTold : State → Type 0
-RingIsTold s = (number : ℕ) (told : List Commit) → s.crash.records.starts s.crash.log number → s.crash.records.told s.crash.log ≡ Some told → s.books.geom.j ≡ s.books.free_places + places_from number told
+RingIsTold s = (told : List Commit) → s.crash.records.told s.crash.log ≡ Some told → IsRingOf s told
 
 -- The log tells of no other records than before.
 abbrev pub TellsNone : State → State → Type 0

@@ -42,9 +42,11 @@ pub fn all_issued_is_the_last_point()
     the_journal_is_lawful();
 }
 
-/// The log of a safe disk tells the ledger's records by its commit blocks: their ring places from each number on;
-/// and where the ledger has one record more, that one is told besides, where it has none more no other.
+/// A log tells as many records as it counts commit blocks. That of a safe disk tells the ledger's: their ring places
+/// from each number on; and where the ledger has one record more, that one is told besides, where it has none more no
+/// other.
 pub fn a_log_tells_its_records()
+    ensures counts { (s : MountedSession) (log : List Event) → length (records_told s log) ≡ points_in s log }
     ensures places { (s : MountedSession) (base : Blocks) (log : List Event) (l : Ledger) (t floor n : ℕ) → IsSafe s base log l t floor → l.header.start ≤ n → places_from n (records_told s log) ≡ all_places (all_say (drop (n - l.header.start) l.records)) }
     ensures more { (s : MountedSession) (base : Blocks) (log more : List Event) (l : Ledger) (w : WrittenRecord) (m : Blocks) (t floor : ℕ) → IsSafe s base log l t floor → (from low : ℕ) → IsSafe s base (log ++ more) (with_record l w m) from low
         → records_told s (log ++ more) ≡ records_told s log ++ commit_says s.epoch w.says ∷ [] }

@@ -1,5 +1,5 @@
 -- What the commit blocks of a log tell of the ledger's records, event by event.
-use Rattle.std.proofs.Common.{◌≡◌, ◌&&◌, ⊎_elim, ℕ, ◌+◌, ◌-◌, ◌<◌, ◌≤◌, nat_le, nat_lt, Bool, true, false, if◌then◌else◌, List, [], ◌∷◌, ◌++◌, length, map, drop, Option, None, Some, refl, sym, ◌∙◌, ap, ap₂, subst, arith, append-nil, append_assoc, length-append}
+use Rattle.std.proofs.Common.{◌≡◌, ◌&&◌, ◌==◌, ⊎_elim, ℕ, ◌+◌, ◌-◌, ◌<◌, ◌≤◌, nat_le, nat_lt, Bool, true, false, if◌then◌else◌, List, [], ◌∷◌, ◌++◌, length, map, drop, Option, None, Some, refl, sym, ◌∙◌, ap, ap₂, subst, arith, append-nil, append_assoc, length-append}
 use Rattle.std.proofs.lemmas.Bool.{cases_lt, le-leb, lt-leb}
 use Rattle.std.proofs.lemmas.List.{drop-append-le, drop_all, map-append}
 use Rattle.std.proofs.lemmas.List.Elements.{filter-append}
@@ -19,12 +19,32 @@ use Rattle.opt_crash.specs.Steps.{with_record, with_durable_header}
 use Rattle.opt_crash.proofs.log.Lists.{say_append, places_append}
 use Rattle.opt_crash.proofs.steps.PointSteps.{drop_front, points_in-append}
 
+-- a write tells as many records as it counts for
+one_counted : (epoch : ℕ) (low high : Bool) (o : Option Commit) → length (where_told (low && high && has_epoch epoch o) o) ≡ (if low && high && has_epoch epoch o then 1 else 0)
+one_counted epoch true true (Some c) = by (c.epoch == epoch)
+  where
+    by : (is : Bool) → length (if is then c ∷ [] else []) ≡ (if is then 1 else 0)
+    by true = refl
+    by false = refl
+one_counted epoch true true None = refl
+one_counted epoch true false (Some c) = refl
+one_counted epoch true false None = refl
+one_counted epoch false high (Some c) = refl
+one_counted epoch false high None = refl
+
 -- the commit blocks of two logs, one behind the other
 pub commits_told-append : (g : Geometry) (epoch : ℕ) (xs ys : List Event) → commits_told g epoch (xs ++ ys) ≡ commits_told g epoch xs ++ commits_told g epoch ys
 commits_told-append g epoch [] ys = refl
 commits_told-append g epoch (Wrote t b x ∷ xs) ys = ap (λ cs. where_told (is_commit g epoch b x) (commit_of g x) ++ cs) (commits_told-append g epoch xs ys) ∙ sym (append_assoc (where_told (is_commit g epoch b x) (commit_of g x)) (commits_told g epoch xs) (commits_told g epoch ys))
 commits_told-append g epoch (Lost b x ∷ xs) ys = ap (λ cs. where_told (is_commit g epoch b x) (commit_of g x) ++ cs) (commits_told-append g epoch xs ys) ∙ sym (append_assoc (where_told (is_commit g epoch b x) (commit_of g x)) (commits_told g epoch xs) (commits_told g epoch ys))
 commits_told-append g epoch (Noticed t ∷ xs) ys = commits_told-append g epoch xs ys
+
+-- there is one for each commit block that is counted
+pub count_told : (g : Geometry) (epoch : ℕ) (es : List Event) → length (commits_told g epoch es) ≡ commits g epoch es
+count_told g epoch [] = refl
+count_told g epoch (Wrote t b x ∷ es) = omega (arith, length-append (where_told (is_commit g epoch b x) (commit_of g x)) (commits_told g epoch es), one_counted epoch (nat_le 2 b) (nat_lt b (bitmap_start g)) (commit_of g x), count_told g epoch es)
+count_told g epoch (Lost b x ∷ es) = omega (arith, length-append (where_told (is_commit g epoch b x) (commit_of g x)) (commits_told g epoch es), one_counted epoch (nat_le 2 b) (nat_lt b (bitmap_start g)) (commit_of g x), count_told g epoch es)
+count_told g epoch (Noticed t ∷ es) = count_told g epoch es
 
 -- those of a session whose log goes on
 pub records_told-append : (s : MountedSession) (xs ys : List Event) → s.mounted ≤ length xs → records_told s (xs ++ ys) ≡ records_told s xs ++ commits_told s.geom s.epoch ys

@@ -24,7 +24,7 @@ returns g c =
       manner = call.ensures.spends.spends.same.manner;
       polled = call.ensures.polled;
       ring = λ ticks tells alone.
-          ring_ended c.a_log_tells_its_records.ensures.places call.result c.settle_up.result g.D.Disk.tells v c.settle_up.new.parts call.new.self call.new.ring call.new.reuse old new ticks tells c.settle_up.ensures.answer c.settle_up.ensures.parts c.requires.going c.requires.kept.sound.pipeline_geom after.0
+          ring_ended c.a_log_tells_its_records.ensures.counts c.a_log_tells_its_records.ensures.places call.result c.settle_up.result g.D.Disk.tells v c.settle_up.new.parts call.new.self call.new.ring call.new.reuse old new ticks tells c.settle_up.ensures.answer c.settle_up.ensures.parts c.requires.going c.requires.kept.sound.pipeline_geom after.0
           (served_some call.result g.D.Disk.tells v call.new.self c.reuse_mut-reuse.result.now call.new.reuse old new tells c.requires.kept c.requires.going c.reuse_mut-reuse.ensures.value alone call.ensures.serves);
       serves = λ before then tells alone.
           serves_ended call.result c.settle_up.result v c.settle_up.new.parts call.new.self call.new.ring call.new.reuse old new before then c.settle_up.ensures.answer c.settle_up.ensures.parts after.2 c.requires.kept.sound c.requires.going c.a_freed_block_waits.ensures.held c.a_freed_block_waits.ensures.waits c.a_freed_block_waits.ensures.exact

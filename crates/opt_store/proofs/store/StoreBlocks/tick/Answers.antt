@@ -22,4 +22,4 @@ pub returns-clause-serves : goal.returns-clause-serves
 returns-clause-serves g c = c.advance.ensures.serves c.args.self.now.ticks _
 
 pub returns-clause-ring : goal.returns-clause-ring
-returns-clause-ring g c = c.advance.ensures.ring 0
+returns-clause-ring g c = c.advance.ensures.ring _
