@@ -1,10 +1,9 @@
--- Logs that go on by writes alone: no notice comes by them. And what was accepted in a log still is.
-use Rattle.std.proofs.Common.{◌≡◌, ◌⊎◌, inl, inr, ℕ, ◌==◌, true, false, ◌||◌, List, [], ◌∷◌, ◌++◌, refl, sym, ap, ◌∙◌, append_assoc}
-use Rattle.std.proofs.lemmas.Bool.{cases_Bool, true≢false}
+-- Logs that go on by writes alone: no notice comes by them.
+use Rattle.std.proofs.Common.{◌≡◌, ℕ, ◌==◌, false, ◌||◌, List, [], ◌∷◌, ◌++◌, refl, sym, ap, ◌∙◌, append_assoc}
 use Rattle.std.proofs.lemmas.List.{append-nil}
 use Rattle.opt_disk.specs.declared.event.Event.{Event}
 use Rattle.opt_disk.specs.declared.event.Event.TheVariants.{Wrote, Lost, Noticed}
-use Rattle.opt_disk.specs.Cell.{is_accepted, is_noticed}
+use Rattle.opt_disk.specs.Cell.{is_noticed}
 use Rattle.opt_disk.specs.Disk.{AreWrites, GrowsByWrites}
 
 -- writes are no notices
@@ -41,14 +40,3 @@ grows_on a b c one two = record {
 -- a log that stays goes on by no writes
 pub grows_by_none : (a b : List Event) → b ≡ a → GrowsByWrites a b
 grows_by_none a b same = record { more = []; log = same ∙ sym (append-nil a); writes = tt }
-
--- what wasn't accepted in a log wasn't before
-pub accepted_before : (t : ℕ) (log more : List Event) → is_accepted t (log ++ more) ≡ false → is_accepted t log ≡ false
-accepted_before t [] more h = refl
-accepted_before t (Wrote ticket block bytes ∷ es) more h = by (accepted_before t es more) (cases_Bool (ticket == t))
-  where
-    by : (is_accepted t (es ++ more) ≡ false → is_accepted t es ≡ false) → (ticket == t ≡ true) ⊎ (ticket == t ≡ false) → ((ticket == t) || is_accepted t es) ≡ false
-    by rest (inl same) = absurd (true≢false (sym (ap (λ b. b || is_accepted t (es ++ more)) same) ∙ h))
-    by rest (inr other) = ap (λ b. b || is_accepted t es) other ∙ rest (sym (ap (λ b. b || is_accepted t (es ++ more)) other) ∙ h)
-accepted_before t (Lost block bytes ∷ es) more h = accepted_before t es more h
-accepted_before t (Noticed ticket ∷ es) more h = accepted_before t es more h

@@ -6,4 +6,3 @@ pub mod Unread
 pub mod Late
 pub mod Turning
 pub mod Waiting
-pub mod Places

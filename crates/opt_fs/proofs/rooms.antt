@@ -11,3 +11,4 @@ pub mod Answered
 pub mod Over
 pub mod Quiet
 pub mod Exactly
+pub mod Taking

@@ -144,7 +144,7 @@ pub record SyncsBehind (cmd : Cmd) (reply : Reply) (behind new : State) : Type 0
   pub unwritten : reply ≡ Refused NoMemory → new.crash.log ≡ behind.crash.log
 
 module _ {S : Type 0} (state : S → State) where
-  -- A command of a session is answered so, in what the blocks showed. The moment is that behind its tick, which takes no ring places; or it didn't begin, and nothing happens. The tick leaves the transaction, and the log tells which ring places aren't free behind it, unless the tick was all.
+  -- A command of a session is answered so, in what the blocks showed. The moment is that behind its tick, which takes no ring places; or it didn't begin, and nothing happens. The tick leaves the transaction and makes no point, and the log tells the records of the ring behind it, unless the tick was all.
   pub record ServesCommand (f : Session) (cmd : Cmd) (reply : Reply) (next : Session) (old new : S) : Type 0 where
     pub behind : S
     pub begins : Advances (state old) (state behind)
@@ -153,6 +153,7 @@ module _ {S : Type 0} (state : S → State) where
     pub fits : FitsRing (state old).books → FitsRing (state behind).books
     pub geom : (state behind).books.geom ≡ (state old).books.geom
     pub running : (state behind).books.running ≡ (state old).books.running
+    pub point : (state behind).books.point ≡ (state old).books.point
     pub ring : cmd ≢ cmds.Bad → (state old).books.stopped ≡ false → is_spent (state old).books ≡ false → (state old).counts.ticks.manner.waits_alone ≡ true → RingIsTold (state behind) ⊎ ((new ≡ behind) × (reply ≡ Refused DiskFault))
     pub sync : is_sync cmd ≡ true → (state old).books.stopped ≡ false → is_spent (state old).books ≡ false → SyncsBehind cmd reply (state behind) (state new)
     -- the tick makes no point wait

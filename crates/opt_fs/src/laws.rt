@@ -1,27 +1,30 @@
 //! Laws that the commands share, each a function that changes nothing: the inode map of blocks that stand
-//! for a tree; and of each command its tick, its refusals for the disk, what it waits for, and ring places.
+//! for a tree; and of each command its tick, its refusals for the disk, what it waits for, and how many blocks it
+//! takes.
 
-ghost use Rattle.std.specs.Prelude.{◌≡◌, ◌≢◌, ◌⊎◌, ◌<◌, ◌≤◌, ◌+◌, ◌^◌, ℕ, true, false, IsTrue, Some};
+ghost use Rattle.std.specs.Prelude.{◌≡◌, ◌≢◌, ◌<◌, ◌≤◌, ◌+◌, ◌^◌, true, false, if◌then◌else◌, length, IsTrue};
+ghost use Rattle.std.specs.List.{filter};
 ghost use Rattle.opt_base.specs.Seal.{Blocks as BlockMap};
-ghost use Rattle.opt_disk.specs.Cell.{is_accepted, IsNoticed};
 ghost use Rattle.opt_disk.specs.Disk.{PollsThenWrites};
-ghost use Rattle.opt_disk.specs.Manner.{Polled, after_polls};
 ghost use Rattle.opt_geom.specs.Geometry.{Geometry};
 ghost use Rattle.opt_tree.specs.declared.command.Cmd.{Cmd};
-ghost use Rattle.opt_tree.specs.declared.command.Cmd.TheVariants.{Bad, Dsync};
-ghost use Rattle.opt_tree.specs.declared.command.Refusal.TheVariants.{DiskFault, ReadFault, Spent, Stopped};
+ghost use Rattle.opt_tree.specs.declared.command.Cmd.TheVariants.{Bad};
+ghost use Rattle.opt_tree.specs.declared.command.Refusal.TheVariants.{ReadFault, Spent, Stopped};
 ghost use Rattle.opt_tree.specs.declared.command.Reply.{Reply};
 ghost use Rattle.opt_tree.specs.declared.command.Reply.TheVariants.{Refused};
-ghost use Rattle.opt_tree.specs.Points.{is_sync};
+ghost use Rattle.opt_tree.specs.Points.{is_refusal};
 ghost use Rattle.opt_tree.specs.Step.{Session};
 ghost use Rattle.opt_tree.specs.Tree.{Tree};
-ghost use Rattle.opt_stands.specs.Files.{FileNode, files_of};
-ghost use Rattle.opt_stands.specs.Inodes.{Inode, inode_of, inodes_of};
+ghost use Rattle.opt_stands.specs.Files.{files_of};
+ghost use Rattle.opt_stands.specs.Inodes.{inodes_of};
 ghost use Rattle.opt_stands.specs.Maps.{IsMapOf};
-ghost use Rattle.opt_stands.specs.Stands.{AreSound, IsTreeOf};
-ghost use Rattle.opt_blocks.specs.Calls.{commit_places, if_changed};
-ghost use Rattle.opt_blocks.specs.Effects.{FitsRing, Ticked};
+ghost use Rattle.opt_stands.specs.Stands.{IsTreeOf};
+ghost use Rattle.opt_blocks.specs.Effects.{Ticked};
+ghost use Rattle.opt_blocks.specs.Running.{has};
+ghost use Rattle.opt_blocks.specs.State.{data_blocks};
 ghost use Rattle.opt_fs.specs.Applying.{Applies, NeedsNoWait, is_spent};
+ghost use Rattle.opt_fs.specs.DiskRoom.{AnswersOn};
+ghost use Rattle.opt_fs.specs.Room.{Room, figures_in};
 ghost use Rattle.opt_fs.specs.Sessions.{IsSession};
 
 use opt_blocks::Blocks;
@@ -64,18 +67,10 @@ pub fn a_command_that_needs_no_wait_makes_none<S: Blocks>()
         → PollsThenWrites (S.state old).counts.ticks.manner 64 (S.state old).counts.ticks.polls (S.state old).crash.log (S.state new).counts.ticks.polls (S.state new).crash.log }
 {}
 
-/// A dsync whose record has ring places waits for records alone: a notice behind those of its tick is of a ticket that a
-/// point waited for, or of a write that came since the command began. It is said of a disk whose waits bring the notice
-/// of their own ticket alone, and where it is known what polls answer.
-pub fn a_sync_waits_for_records_alone<S: Blocks>()
-    ensures { IsTrue S.tells → (old new : S) (reply : Reply) (p : Polled) (t : ℕ) → (S.state old).books.stopped ≡ false → is_spent (S.state old).books ≡ false → FitsRing (S.state old).books → (S.state old).counts.ticks.manner.waits_alone ≡ true → Applies S.tells S.state Dsync reply old new
-        → after_polls (S.state old).counts.ticks.manner 64 (S.state old).counts.ticks.polls (S.state old).crash.log ≡ Some p → IsNoticed t (S.state new).crash.log → IsNoticed t p.log ⊎ (∥ ((q : ℕ) × (S.state old).crash.awaits q t) ∥₁ ⊎ (is_accepted t (S.state old).crash.log ≡ false)) }
-{}
-
-/// A command takes no ring places but a sync, which takes those of its record at most. Of one that is refused as
-/// DiskFault it isn't said.
-pub fn a_command_takes_the_places_of_its_record<S: Blocks>()
-    ensures others { (old new : S) (cmd : Cmd) (reply : Reply) → Applies S.tells S.state cmd reply old new → is_sync cmd ≡ false → (S.state old).books.free_places ≤ (S.state new).books.free_places }
-    ensures sync { (old new : S) (cmd : Cmd) (reply : Reply) → Applies S.tells S.state cmd reply old new → is_sync cmd ≡ true → (reply ≡ Refused DiskFault → ⊥)
-        → (S.state old).books.free_places ≤ (S.state new).books.free_places + if_changed (S.state old).books.running (commit_places (S.state old).books) 0 }
+/// Of the blocks that may be taken, a command that is done takes no more than it needs, and one that is refused takes
+/// none; others may come back. Where they were data blocks, ascending, so are they behind it.
+pub fn a_command_takes_no_more_blocks_than_it_needs()
+    ensures keeps { (g : Geometry) (f next : Session) (old new : Room) (cmd : Cmd) (reply : Reply) → AnswersOn g f old cmd reply next new → old.takeable ≡ filter (has old.takeable) (data_blocks g) → new.takeable ≡ filter (has new.takeable) (data_blocks g) }
+    ensures few { (g : Geometry) (f next : Session) (old new : Room) (cmd : Cmd) (reply : Reply) → AnswersOn g f old cmd reply next new → old.takeable ≡ filter (has old.takeable) (data_blocks g)
+        → length old.takeable ≤ length new.takeable + (if is_refusal reply then 0 else (figures_in g f cmd).need) }
 {}

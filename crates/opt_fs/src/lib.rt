@@ -38,8 +38,8 @@ pub use disk::{
 pub use fs::Fs;
 pub use laws::{
     a_command_begins_with_a_tick, a_command_raises_the_numbers_little,
-    a_command_takes_the_places_of_its_record, a_command_that_needs_no_wait_makes_none,
-    a_refusal_for_the_disk_has_its_cause, a_sync_waits_for_records_alone,
+    a_command_takes_no_more_blocks_than_it_needs, a_command_that_needs_no_wait_makes_none,
+    a_refusal_for_the_disk_has_its_cause,
 };
 pub use listing::ListRefusal;
 pub use live::as_many_blocks_are_marked_as_the_tree_has;

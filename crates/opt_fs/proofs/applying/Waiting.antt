@@ -1,10 +1,6 @@
--- A command that needn't wait for the disk has writes alone behind the notices of its tick. A dsync whose record has ring places waits for records alone.
-use Rattle.std.proofs.Common.{◌≡◌, ◌≢◌, ◌⊎◌, inl, inr, ℕ, ◌-◌, ◌≤◌, Bool, true, false, IsTrue, filter, length, Some, Result, Err, refl, sym, subst, ap, ap₂, ◌∙◌, arith}
-use Rattle.std.proofs.Math.Logic.{∥∥₁_map}
-use Rattle.std.proofs.lemmas.Bool.{cases_Bool, true≢false}
-use Rattle.opt_disk.specs.Cell.{is_accepted, IsNoticed}
+-- A command that needn't wait for the disk has writes alone behind the notices of its tick.
+use Rattle.std.proofs.Common.{◌≡◌, ◌≢◌, ◌⊎◌, inl, inr, ◌-◌, ◌≤◌, Bool, true, false, IsTrue, filter, length, Result, Err, refl, sym, subst, ap, ap₂, ◌∙◌, arith}
 use Rattle.opt_disk.specs.Disk.{GrowsByWrites, PollsThenWrites}
-use Rattle.opt_disk.specs.Manner.{Manner, Polled, after_polls}
 use Rattle.opt_geom.specs.Geometry.{Geometry, data_start}
 use Rattle.opt_tree.specs.declared.command.Cmd.{Cmd}
 use Rattle.opt_tree.specs.declared.command.Cmd.TheVariants.{Mkdir, Create, Write, Fill, Read, Truncate, Link, Unlink, Rmdir, Rename, Stat, List as ListNames, Osync, Dsync, Durable, Poll, Bad}
@@ -13,14 +9,13 @@ use Rattle.opt_tree.specs.declared.command.Refusal.TheVariants as because
 use Rattle.opt_tree.specs.declared.command.Reply.{Reply}
 use Rattle.opt_tree.specs.Step.{Session}
 use Rattle.opt_blocks.specs.Calls.{MovesPipeline, commit_places}
-use Rattle.opt_blocks.specs.Crashes.{AwaitsSince, HearsRecords}
 use Rattle.opt_blocks.specs.Effects.{FitsRing, OrdersAtOnce}
 use Rattle.opt_blocks.specs.Running.{Running, payloads, fresh_blocks, record_places}
 use Rattle.opt_blocks.specs.State.{Bookkeeping, State, data_blocks, reusable_blocks}
 use Rattle.opt_fs.specs.Applying.{Began, NeedsNoWait, Runs, Ticks}
 use Rattle.opt_fs.specs.Commands.{Carries, figures_on}
 use Rattle.opt_fs.specs.Sessions.{IsSession}
-use Rattle.opt_fs.proofs.Logs.{accepted_before, grows_by_none, grows_on, heard_same}
+use Rattle.opt_fs.proofs.Logs.{grows_by_none, grows_on}
 use Rattle.opt_fs.proofs.applying.Ticked.{session_ticks}
 use Rattle.opt_fs.proofs.applying.Ticking.{ticked_first}
 use Rattle.opt_fs.proofs.rooms.Lists.{as_many_kept}
@@ -85,35 +80,3 @@ module _ {S : Type 0} (tells : Bool) (state : S → State) (told : IsTrue tells)
       by (inl failed) = (failed.0.writes told p is).1
       by (inr ran) = grows_on p.log (state began.mid).crash.log (state new).crash.log (ran.0.writes told p is).1
           (of_run f cmd began.result old began.mid new good ran.0 (session_ticks tells false (state old) (state began.mid) ran.0 f going told h) needs ran.1)
-
-  -- A notice is one of the tick's, or of a ticket that a point waited for, or of a write that came since.
-  abbrev Heard : S → Polled → ℕ → Type 0
-  Heard old p t = IsNoticed t p.log ⊎ (∥ ((q : ℕ) × (state old).crash.awaits q t) ∥₁ ⊎ (is_accepted t (state old).crash.log ≡ false))
-
-  heard_by : (old mid new : S) (p : Polled) (t : ℕ) → Ticks tells false (state old) (state mid) → GrowsByWrites p.log (state mid).crash.log → HearsRecords (state mid) (state new) → IsNoticed t (state new).crash.log → Heard old p t
-  heard_by old mid new p t ticks writes hears noticed = by (hears t noticed)
-    where
-      awaited : ∥ ((q : ℕ) × (state mid).crash.awaits q t) ∥₁ → (is_accepted t (state old).crash.log ≡ true) ⊎ (is_accepted t (state old).crash.log ≡ false)
-          → ∥ ((q : ℕ) × (state old).crash.awaits q t) ∥₁ ⊎ (is_accepted t (state old).crash.log ≡ false)
-      awaited some (inl accepted) = inl (∥∥₁_map some (λ a. (a.0, since a.0 ((ticks.moves.crash told).awaits a.0 t a.1))))
-        where
-          since : (q : ℕ) → (state old).crash.awaits q t ⊎ AwaitsSince (state old) q t → (state old).crash.awaits q t
-          since q (inl was) = was
-          since q (inr later) = absurd (true≢false (sym accepted ∙ later.ticket))
-      awaited some (inr unknown) = inr unknown
-
-      by : IsNoticed t (state mid).crash.log ⊎ (∥ ((q : ℕ) × (state mid).crash.awaits q t) ∥₁ ⊎ (is_accepted t (state mid).crash.log ≡ false)) → Heard old p t
-      by (inl before) = inl (subst IsTrue (heard_same t p.log (state mid).crash.log writes) before)
-      by (inr (inl some)) = inr (awaited some (cases_Bool (is_accepted t (state old).crash.log)))
-      by (inr (inr unknown)) =
-          let grows = (ticks.moves.crash told).grows in
-          inr (inr (accepted_before t (state old).crash.log grows.more (sym (ap (is_accepted t) grows.log) ∙ unknown)))
-
-  pub begun_hears : (reply : Reply) (old new : S) (p : Polled) (t : ℕ) → FitsRing (state old).books → (state old).counts.ticks.manner.waits_alone ≡ true → Began tells state Dsync reply old new
-      → after_polls (state old).counts.ticks.manner 64 (state old).counts.ticks.polls (state old).crash.log ≡ Some p → IsNoticed t (state new).crash.log → Heard old p t
-  begun_hears reply old new p t fits alone began is noticed = by began.ran
-    where
-      by : (Ticks tells true (state old) (state new) × (began.result ≡ Err because.DiskFault)) ⊎ (Ticks tells false (state old) (state began.mid) × Runs tells state Dsync began.result began.mid new) → Heard old p t
-      by (inl failed) = inl (subst IsTrue (heard_same t p.log (state new).crash.log (failed.0.writes told p is).1) noticed)
-      by (inr ran) = heard_by old began.mid new p t ran.0 (ran.0.writes told p is).1
-          (ran.1.waits told (ap (λ (m : Manner). m.waits_alone) ran.0.ticks.manner ∙ alone) (inl (fits_still (state old).books (state began.mid).books ran.0.moves.pipeline fits))) noticed

@@ -407,6 +407,7 @@ module _ {S : Type 0} (tells : Bool) (state : S → State) (known : Known tells 
                 fits = fits ticks;
                 geom = geom ticks;
                 running = running ticks;
+                point = no_point ticks;
                 ring = λ some alive unspent. ring;
                 sync = λ of alive unspent. sync of;
                 still = still_awaits (state old) (state s) (known.agrees s) (no_point ticks) first;
@@ -457,6 +458,7 @@ module _ {S : Type 0} (tells : Bool) (state : S → State) (known : Known tells 
                 fits = fits_still (state old).books (state s).books ticks.moves.pipeline;
                 geom = ticks.moves.pipeline.geom;
                 running = ticks.moves.pipeline.running;
+                point = ticks.moves.pipeline.point;
                 ring = λ some alive unspent alone. inl (ticks.ring known.told alone refl);
                 sync = λ of alive unspent. subst (λ (r : Reply). SyncsBehind cmd r (state s) (state new)) (sym is) (syncs_behind f cmd result s new of same runs);
                 still = still_awaits (state old) (state s) (known.agrees s) ticks.moves.pipeline.point (ticks.moves.crash known.told);
@@ -486,6 +488,7 @@ module _ {S : Type 0} (tells : Bool) (state : S → State) (known : Known tells 
         fits = λ fits. fits;
         geom = refl;
         running = refl;
+        point = refl;
         ring = λ some alive unspent. absurd (never some alive unspent);
         sync = λ of alive unspent. absurd (never (sync_is_good cmd of) alive unspent);
         still = λ p t waits. waits;
