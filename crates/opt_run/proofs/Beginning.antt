@@ -1,5 +1,6 @@
 -- How a run begins: over a store that was just mounted, whose file system was opened.
-use Rattle.std.proofs.Common.{◌≡◌, ℕ, ◌+◌, ◌-◌, Bool, false, true≢false, IsTrue, List, [], ◌∷◌, length, take, take_all, refl, sym, ap, ap₂, ◌∙◌, subst, arith}
+use Rattle.std.proofs.Common.{◌≡◌, ℕ, ◌+◌, ◌-◌, Bool, false, true≢false, IsTrue, List, [], ◌∷◌, length, take, take_all, Option, refl, sym, ap, ap₂, ◌∙◌, subst, arith}
+use mathlib.Core.Path.{fun_ext}
 use Rattle.opt_base.specs.Seal.{Blocks}
 use Rattle.opt_disk.specs.declared.bay.Mark.{Mark}
 use Rattle.opt_disk.specs.declared.disk.Disk.{Ghosts}
@@ -22,12 +23,15 @@ use Rattle.opt_files.specs.Calls.{places_of}
 use Rattle.opt_files.specs.Effects.{LooksOnly}
 use Rattle.opt_fs.specs.DiskRoom.{IsRoomOf}
 use Rattle.opt_fs.specs.Memory.{room_of}
+use Rattle.opt_fs.specs.Serving.{room_on}
 use Rattle.opt_fs.specs.Sessions.{IsSession}
 use Rattle.opt_fs.specs.Space.{left_of}
 use Rattle.opt_session.specs.Budget.{KeepsBudget, SpendsByMarks}
 use Rattle.opt_session.specs.Serving.{HasServed, IsDrawn, IsMountedWith}
 use Rattle.opt_run.specs.Runs.{IsRoomAtMount}
-use Rattle.opt_run.specs.Steps.{IsJustMounted, KnownSoFar, SoFar, mark_in}
+use Rattle.opt_run.specs.Serves.{pace_at_mount}
+use Rattle.opt_run.specs.Steps.{IsJustMounted, IsOfMount, KnownSoFar, SoFar, mark_in, pace_on}
+use Rattle.opt_run.proofs.Rooms.{mount_stays}
 
 -- the view of crashes of a store is drawn from its disk
 pub drawn : {D : Type 0} {k : Ghosts D} (known : D → disk.State) (s : Store D k) → IsDrawn (state_of known s)
@@ -83,6 +87,19 @@ module _ (tells : Bool) (told : IsTrue tells) (first : disk.State) (s : State) (
     same_log : u.crash.log ≡ s.crash.log
     same_log = (looks.crash told).log
 
+    -- no block waits
+    pace_first : pace_on u f ≡ pace_at_mount first (length s.crash.log) f (room_of u)
+    pace_first =
+        ap₂ (λ (polls events : ℕ). record { polls = polls; events = events; over = u.books.stopped; session = f; room = room_on u }) (ap (λ (k : Ticking). k.polls) looks.counts.ticks ∙ h.on.polls) (ap (λ (es : List Event). length es) same_log)
+        ∙ ap₂ (λ (over : Bool) (since : ℕ → Option ℕ). record { polls = first.polls; events = length s.crash.log; over = over; session = f; room = record { room = room_of u; since = since } }) (ap (λ (k : Bookkeeping). k.stopped) looks.books ∙ h.on.going) (fun_ext (λ b. ap (λ (k : Bookkeeping). k.since b) looks.books ∙ (h.begins told).since b))
+
+    -- the blocks are of the mount
+    of_mount : IsOfMount (h.numbers told).session u
+    of_mount =
+        let numbers = h.numbers told in
+        let crash = looks.crash told in
+        mount_stays numbers.session s u (ap (λ (k : Bookkeeping). k.geom) looks.books) crash.base (omega (arith, ap (λ (es : List Event). length es) same_log)) crash.sure crash.records (record { geom = numbers.geom; late = omega (arith, numbers.mounted); sure = numbers.sure; records = numbers.records })
+
     pub known_first : KnownSoFar first [] [] (mark ∷ []) u
     known_first =
         let held = h.on.held told in
@@ -101,6 +118,10 @@ module _ (tells : Bool) (told : IsTrue tells) (first : disk.State) (s : State) (
           after = f;
           session = session;
           rooms = (refl, refl);
+          mount = numbers.session;
+          is_mount = record { found = numbers.found; is_found = numbers.is_found; geom = numbers.geom; epoch = numbers.epoch; mounted = numbers.mounted; first = numbers.first };
+          of_mount = of_mount;
+          serves = pace_first;
           budget = subst (λ (n : ℕ). KeepsBudget g t n [] [] u)
               (omega (arith, (h.begins told).owed, ap (λ (es : List Event). writes_in es) (sym (ap (λ (es : List Event). take (length s.crash.log) es) same_log ∙ take_all (length s.crash.log) s.crash.log (omega arith))))) budget;
           spends = subst (λ (es : List Event). SpendsByMarks g f (length es) u.crash.log [] [] []) same_log spends;

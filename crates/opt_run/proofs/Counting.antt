@@ -1,5 +1,5 @@
 -- What one command does to the counts of the blocks and to their geometry, by how it was answered.
-use Rattle.std.proofs.Common.{◌≡◌, ◌≢◌, ◌⊎◌, inl, inr, ℕ, ◌<◌, Bool, true, false, IsTrue, Result, Ok, Err, IfErr, nat_lt, refl, sym, ap, ◌∙◌, subst, arith}
+use Rattle.std.proofs.Common.{◌≡◌, ◌≢◌, ◌⊎◌, inl, inr, ⊎_elim, ℕ, ◌||◌, ◌<◌, Bool, true, false, IsTrue, Result, Ok, Err, IfErr, nat_lt, refl, sym, ap, ◌∙◌, subst, arith}
 use Rattle.std.proofs.lemmas.Bool.{cases_Bool, false≢true}
 use Rattle.opt_base.specs.Counts.{after_call}
 use Rattle.opt_base.specs.Seal.{Blocks}
@@ -10,6 +10,7 @@ use Rattle.opt_tree.specs.declared.command.Refusal.{Refusal}
 use Rattle.opt_tree.specs.declared.command.Refusal.TheVariants as because
 use Rattle.opt_tree.specs.declared.command.Reply.{Reply}
 use Rattle.opt_tree.specs.declared.command.Reply.TheVariants as replies
+use Rattle.opt_tree.specs.Points.{is_refusal}
 use Rattle.opt_tree.specs.Run.{Answers, is_of_disk, is_of_memory}
 use Rattle.opt_tree.specs.Step.{Session, step}
 use Rattle.opt_stands.specs.Stands.{IsTreeOf}
@@ -21,7 +22,7 @@ use Rattle.opt_fs.specs.Applying.{Applies, Began, Runs, Ticks, is_spent, reply_f
 use Rattle.opt_fs.specs.Commands.{Carries, is_disk_fault, is_read_fault}
 use Rattle.opt_fs.specs.Sessions.{IsSession}
 use Rattle.opt_fs.specs.Syncs.{SyncsSession}
-use Rattle.opt_run.specs.Runs.{is_failed, is_unread}
+use Rattle.opt_run.specs.Refusals.{is_failed, is_unread}
 
 -- a line that is none is told apart
 none_or_one : (cmd : Cmd) → (cmd ≡ Bad) ⊎ (cmd ≢ Bad)
@@ -43,11 +44,12 @@ none_or_one (Rename from to) = inr (λ e. false≢true (ap is_none e))
 none_or_one (Stat path) = inr (λ e. false≢true (ap is_none e))
 none_or_one (ListNames path) = inr (λ e. false≢true (ap is_none e))
 
--- A failed read was counted once, or none, and so was another call that failed; and where the blocks have stopped such a call was counted.
+-- A failed read was counted once, or none, and so was another call that failed, by which blocks that went on stop; and where the blocks have stopped such a call was counted.
 pub record Counted (unread failed : Bool) (old new : State) : Type 0 where
   pub geom : new.books.geom ≡ old.books.geom
   pub read_faults : new.counts.read_faults ≡ after_call unread old.counts.read_faults
   pub faults : new.counts.faults ≡ after_call failed old.counts.faults
+  pub stops : old.books.stopped ≡ false → new.books.stopped ≡ failed
   pub over : (old.books.stopped ≡ true → 0 < old.counts.faults) → new.books.stopped ≡ true → 0 < new.counts.faults
 
 -- blocks that stop by a call that failed have counted it
@@ -101,13 +103,14 @@ session_ticks tells told s t ticks f going h = record {
 
 module _ {S : Type 0} (tells : Bool) (state : S → State) where
   still : (old new : S) → new ≡ old → Counted false false (state old) (state new)
-  still old new same = subst (λ (s : S). Counted false false (state old) (state s)) (sym same) (record { geom = refl; read_faults = refl; faults = refl; over = λ before. before })
+  still old new same = subst (λ (s : S). Counted false false (state old) (state s)) (sym same) (record { geom = refl; read_faults = refl; faults = refl; stops = λ going. going; over = λ before. before })
 
   ticked : (failed : Bool) (old new : S) → Ticks tells failed (state old) (state new) → Counted false failed (state old) (state new)
   ticked failed old new ticks = record {
     geom = ticks.moves.pipeline.geom;
     read_faults = ticks.moves.disk.read_faults;
     faults = ticks.moves.disk.faults;
+    stops = λ going. ticks.moves.disk.stopped;
     over = λ before. over_by failed _ _ _ ticks.moves.disk.stopped ticks.moves.disk.faults;
   }
 
@@ -116,6 +119,7 @@ module _ {S : Type 0} (tells : Bool) (state : S → State) where
     geom = carries.runs.geom;
     read_faults = carries.runs.read_faults;
     faults = carries.runs.faults;
+    stops = λ going. carries.runs.stopped;
     over = λ before. over_by (is_disk_fault result) _ _ _ carries.runs.stopped carries.runs.faults;
   }
 
@@ -130,6 +134,7 @@ module _ {S : Type 0} (tells : Bool) (state : S → State) where
     geom = syncs.geom;
     read_faults = syncs.disk.read_faults;
     faults = syncs.disk.faults;
+    stops = λ going. syncs.disk.stopped;
     over = λ before. over_by (is_disk_fault result) _ _ _ syncs.disk.stopped syncs.disk.faults;
   })
 
@@ -161,6 +166,7 @@ module _ {S : Type 0} (tells : Bool) (state : S → State) where
     geom = b.geom ∙ a.geom;
     read_faults = b.read_faults ∙ ap (after_call unread) a.read_faults;
     faults = b.faults ∙ ap (after_call failed) a.faults;
+    stops = λ going. b.stops (a.stops going);
     over = λ before. b.over (a.over before);
   }
 
@@ -198,6 +204,32 @@ module _ {S : Type 0} (tells : Bool) (state : S → State) where
         by : (cmd ≡ Bad) ⊎ (cmd ≢ Bad) → Moved (state old) (state new)
         by (inl none) = rests (applies.bad none).1
         by (inr meant) = by_stopped meant (cases_Bool (state old).books.stopped)
+
+    -- a command that isn't refused as spent isn't one for which the numbers are used up
+    pub left_over : cmd ≢ Bad → (state old).books.stopped ≡ false → reply ≢ replies.Refused because.Spent → is_spent (state old).books ≡ false
+    left_over meant run unspent = ⊎_elim (λ used. absurd (unspent (applies.spent meant run used).0)) (λ left. left) (cases_Bool (is_spent (state old).books))
+
+    -- a command that is done was answered while no call had failed
+    pub done_goes : cmd ≢ Bad → is_refusal reply ≡ false → (state old).books.stopped ≡ false
+    done_goes meant done = ⊎_elim (λ over. absurd (false≢true (sym done ∙ ap is_refusal (applies.stopped meant over).0))) (λ going. going) (cases_Bool (state old).books.stopped)
+
+    -- behind a failed call the blocks stay as they are
+    stopped_stays : (state old).books.stopped ≡ true → new ≡ old
+    stopped_stays over = ⊎_elim (λ none. (applies.bad none).1) (λ meant. (applies.stopped meant over).1) (none_or_one cmd)
+
+    -- and so they do with a line that is none, and with a command that is refused as spent
+    pub stays : (reply ≡ replies.Refused because.Spent → is_spent (state old).books ≡ true) → (cmd ≡ Bad) ⊎ (((state old).books.stopped ≡ true) ⊎ (reply ≡ replies.Refused because.Spent)) → new ≡ old
+    stays used (inl none) = (applies.bad none).1
+    stays used (inr (inl over)) = stopped_stays over
+    stays used (inr (inr spent)) = ⊎_elim (λ none. (applies.bad none).1) (λ meant. ⊎_elim stopped_stays (λ going. (applies.spent meant going (used spent)).1) (cases_Bool (state old).books.stopped)) (none_or_one cmd)
+
+    -- a call has failed where one had, or where the reply says so
+    pub over_now : (unread : Bool) → Counted unread (is_failed reply) (state old) (state new) → (state new).books.stopped ≡ ((state old).books.stopped || is_failed reply)
+    over_now unread counted = by (cases_Bool (state old).books.stopped)
+      where
+        by : ((state old).books.stopped ≡ true) ⊎ ((state old).books.stopped ≡ false) → (state new).books.stopped ≡ ((state old).books.stopped || is_failed reply)
+        by (inl over) = ap (λ (s : S). (state s).books.stopped) (stopped_stays over) ∙ over ∙ ap (λ (v : Bool). v || is_failed reply) (sym over)
+        by (inr going) = counted.stops going ∙ ap (λ (v : Bool). v || is_failed reply) (sym going)
 
     -- the disk is the same one, of the same manner
     pub manner_stays : (cmd ≢ Bad → (state old).books.stopped ≡ false → is_spent (state old).books ≡ false → Ticked tells (state old) (state new)) → (state new).counts.ticks.manner ≡ (state old).counts.ticks.manner

@@ -15,7 +15,6 @@ use Rattle.opt_tree.specs.Tree.{Tree}
 use Rattle.opt_stands.specs.Stands.{IsTreeOf}
 use Rattle.opt_fsck.specs.declared.checking.CheckRefusal.{CheckRefusal}
 use Rattle.opt_fsck.specs.Whole.{IsDamaged, OnDamage}
-use Rattle.opt_fs.specs.Memory.{room_of}
 use Rattle.opt_session.specs.Budget.{KeepsBudget, budget_of}
 use Rattle.opt_store.specs.StoreOf.{disk_in, state_of}
 use Rattle.opt_store.specs.declared.store.Store.{Store}
@@ -30,7 +29,7 @@ use Rattle.opt_run.specs.declared.running.Stop.{Stop}
 use Rattle.opt_run.specs.declared.running.Stop.TheVariants as stop
 use Rattle.opt_run.specs.Refusals.{fails_pushing, of_show, opens_nothing}
 use Rattle.opt_run.specs.Runs.{ComesOfDisk, CountsFaults, IsRun, RunsDisk, Streams}
-use Rattle.opt_run.specs.Steps.{KnownSoFar, RunsTo, answer_for}
+use Rattle.opt_run.specs.Steps.{KnownSoFar, RunsTo, answer_for, pace_on}
 
 -- A disk over which commands were run.
 
@@ -50,9 +49,11 @@ module _ {D : Type 0} {k : Ghosts D} (known : D → disk.State) (tells : Bool) (
     run = record { run = h.served.run; stops = h.served.stops; answered = h.served.answered; marked = h.served.marked; ascend = h.served.ascend; crashes = h.served.crashes; issued = h.served.issued };
     first_room = h.first_room;
     begins = h.begins;
-    after = h.after;
-    room = room_of (state_of known store);
+    end = pace_on (state_of known store) h.after;
     rooms = h.rooms;
+    mount = h.mount;
+    is_mount = h.is_mount;
+    serves = h.serves;
     writes = subst (λ (n : ℕ). AreAtMost h.mounted (state_of known store).crash.log n) (omega arith) (budget h.geom h.tree (writes_in (take h.mounted (state_of known store).crash.log)) 0 h.mounted cmds replies h.budget (omega arith));
     spends = h.spends;
     marked = h.marked;

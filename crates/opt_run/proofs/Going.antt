@@ -2,30 +2,38 @@
 use Rattle.std.proofs.Common.{◌≡◌, ◌⊎◌, inl, inr, ℕ, ◌+◌, ◌-◌, ◌*◌, ◌^◌, ◌<◌, ◌≤◌, Bool, true, IsTrue, List, [], ◌∷◌, ◌++◌, length, length-append, take, take_all, slice_get, Some, refl, sym, ap, ap₂, ◌∙◌, subst, arith}
 use Rattle.std.proofs.lemmas.List.{take-append-le}
 use Rattle.std.proofs.lemmas.Bool.{leb-true}
+use Rattle.opt_base.specs.Seal.{Blocks}
 use Rattle.opt_disk.specs.declared.bay.Mark.{Mark}
 use Rattle.opt_disk.specs.declared.event.Event.{Event}
 use Rattle.opt_disk.specs.Disk as disk
-use Rattle.opt_disk.specs.Disk.{Grows, writes_in}
+use Rattle.opt_disk.specs.Disk.{writes_in}
 use Rattle.opt_disk.specs.Manner.{Manner, HasFailedBy}
 use Rattle.opt_geom.specs.Geometry.{Geometry}
+use Rattle.opt_crash.specs.Points.{MountedSession}
 use Rattle.opt_tree.specs.declared.command.Cmd.{Cmd}
 use Rattle.opt_tree.specs.declared.command.Refusal.TheVariants as because
 use Rattle.opt_tree.specs.declared.command.Reply.{Reply}
 use Rattle.opt_tree.specs.declared.command.Reply.TheVariants.{Refused}
 use Rattle.opt_tree.specs.Step.{Session, session_on}
 use Rattle.opt_tree.specs.Tree.{Tree}
+use Rattle.opt_blocks.specs.Crashes.{Advances}
 use Rattle.opt_blocks.specs.State.{Bookkeeping, State}
 use Rattle.opt_fs.specs.Applying.{is_spent}
 use Rattle.opt_fs.specs.DiskRoom.{AnswersOn, RunsOn}
 use Rattle.opt_fs.specs.Memory.{room_of}
+use Rattle.opt_fs.specs.Moments.{answer_in_room}
 use Rattle.opt_fs.specs.Room.{Room}
+use Rattle.opt_fs.specs.Serving.{room_on}
 use Rattle.opt_fs.specs.Sessions.{IsSession}
 use Rattle.opt_session.specs.Budget.{KeepsBudget, SpendsByMarks}
 use Rattle.opt_session.specs.Serving.{HasServed}
-use Rattle.opt_run.specs.Runs.{HasReason, HaveReasons, IsSpentByNumbers, Marks, MarksGo, is_failed, is_unread}
-use Rattle.opt_run.specs.Steps.{AreWithin, KnownSoFar, SoFar, mark_in}
+use Rattle.opt_run.specs.Refusals.{is_failed, is_unread}
+use Rattle.opt_run.specs.Runs.{HasReason, HaveReasons, IsSpentByNumbers, Marks, MarksGo}
+use Rattle.opt_run.specs.Serves.{AnswersByLog, DoneInRing, RunsByLog, moment_at, pace_at_mount}
+use Rattle.opt_run.specs.Steps.{AreWithin, IsOfMount, KnownSoFar, SoFar, mark_in, pace_on}
 use Rattle.opt_run.proofs.Counting.{Counted, over_by}
 use Rattle.opt_run.proofs.Lists.{get_behind, get_split_at}
+use Rattle.opt_run.proofs.Rooms.{mount_stays, runs_longer}
 
 -- runs joined
 runs_on : (g : Geometry) (f t u : Session) (r q v : Room) (cmds : List Cmd) (replies : List Reply) (more : List Cmd) (later : List Reply)
@@ -73,9 +81,8 @@ pub record Stepped (cmd : Cmd) (reply : Reply) (mark : Mark) (s u : State) : Typ
   pub budget : (g : Geometry) (t : Tree) (mounted begun : ℕ) (cmds : List Cmd) (replies : List Reply) (moments : List ℕ) → HasServed g t mounted cmds replies moments s → KeepsBudget g t begun cmds replies s → KeepsBudget g t begun (cmds ++ cmd ∷ []) (replies ++ reply ∷ []) u
   pub spends : (g : Geometry) (t : Tree) (mounted : ℕ) (cmds : List Cmd) (replies : List Reply) (moments : List ℕ) → HasServed g t mounted cmds replies moments s → KeepsBudget g t (writes_in (take mounted u.crash.log)) (cmds ++ cmd ∷ []) (replies ++ reply ∷ []) u
       → SpendsByMarks g (session_on g.i t) mounted s.crash.log cmds replies moments → SpendsByMarks g (session_on g.i t) mounted u.crash.log (cmds ++ cmd ∷ []) (replies ++ reply ∷ []) (moments ++ length u.crash.log ∷ [])
-  pub room : (f : Session) → IsSession s f → (next : Session) × IsSession u next × (u.books.geom ≡ s.books.geom) × AnswersOn s.books.geom f (room_of s) cmd reply next (room_of u)
-  pub base : u.crash.base ≡ s.crash.base
-  pub grows : Grows s.crash.log u.crash.log
+  pub room : (f : Session) → IsSession s f → (mount : MountedSession) → IsOfMount mount s → (next : Session) × IsSession u next × (u.books.geom ≡ s.books.geom) × AnswersByLog mount s.crash.base s.counts.ticks.manner u.crash.log cmd reply (pace_on s f) (pace_on u next)
+  pub advances : Advances s u
   pub turns : u.books.turns ≤ s.books.turns + 2 ^ 20
   pub counted : (f : Session) → IsSession s f → Counted (is_unread reply) (is_failed reply) s u
   pub stopped : (f : Session) → IsSession s f → reply ≡ Refused because.Stopped → s.books.stopped ≡ true
@@ -88,7 +95,7 @@ pub record Stepped (cmd : Cmd) (reply : Reply) (mark : Mark) (s u : State) : Typ
 module _ (first : disk.State) (cmd : Cmd) (reply : Reply) (mark : Mark) (s u : State) (cmds : List Cmd) (replies : List Reply) (marks : List Mark) (step : Stepped cmd reply mark s u) (h : KnownSoFar first cmds replies marks s) where
   -- the first events are the same
   front : take h.mounted u.crash.log ≡ take h.mounted s.crash.log
-  front = ap (λ (es : List Event). take h.mounted es) step.grows.log ∙ take-append-le h.mounted s.crash.log step.grows.more h.within
+  front = ap (λ (es : List Event). take h.mounted es) step.advances.grows.log ∙ take-append-le h.mounted s.crash.log step.advances.grows.more h.within
 
   budget_on : KeepsBudget h.geom h.tree (writes_in (take h.mounted u.crash.log)) (cmds ++ cmd ∷ []) (replies ++ reply ∷ []) u
   budget_on = subst (λ (es : List Event). KeepsBudget h.geom h.tree (writes_in es) (cmds ++ cmd ∷ []) (replies ++ reply ∷ []) u) (sym front)
@@ -104,7 +111,7 @@ module _ (first : disk.State) (cmd : Cmd) (reply : Reply) (mark : Mark) (s u : S
   }
 
   longer : length s.crash.log ≤ length u.crash.log
-  longer = omega (arith, ap (λ (es : List Event). length es) step.grows.log, length-append s.crash.log step.grows.more)
+  longer = omega (arith, ap (λ (es : List Event). length es) step.advances.grows.log, length-append s.crash.log step.advances.grows.more)
 
   -- the disk is the one with which the run began
   same_manner : u.counts.ticks.manner ≡ first.manner
@@ -120,7 +127,7 @@ module _ (first : disk.State) (cmd : Cmd) (reply : Reply) (mark : Mark) (s u : S
 
   reasons_now : HaveReasons first.manner u.crash.log (replies ++ reply ∷ []) (h.moments ++ length u.crash.log ∷ [])
   reasons_now = reasons_on first.manner u.crash.log replies h.moments reply (length u.crash.log)
-      (subst (λ (es : List Event). HaveReasons first.manner es replies h.moments) (sym step.grows.log) (reasons_stay first.manner s.crash.log step.grows.more replies h.moments h.among h.reasons)) reason_now
+      (subst (λ (es : List Event). HaveReasons first.manner es replies h.moments) (sym step.advances.grows.log) (reasons_stay first.manner s.crash.log step.advances.grows.more replies h.moments h.among h.reasons)) reason_now
 
   -- numbers that are used up are far
   spent_far : (k : Bookkeeping) → is_spent k ≡ true → 2 ^ 63 - 8 ≤ k.turns
@@ -133,15 +140,30 @@ module _ (first : disk.State) (cmd : Cmd) (reply : Reply) (mark : Mark) (s u : S
       by (inl earlier) = h.spent i earlier
       by (inr now) = omega (arith, now.1, h.rises, spent_far s.books (step.spent h.after h.session now.0))
 
+  -- the answer in the room alone
+  in_room : (next : Session) → AnswersByLog h.mount s.crash.base s.counts.ticks.manner u.crash.log cmd reply (pace_on s h.after) (pace_on u next) → AnswersOn h.geom h.after (room_of s) cmd reply next (room_of u)
+  in_room next a = subst (λ (g : Geometry). AnswersOn g h.after (room_of s) cmd reply next (room_of u)) (h.of_mount.geom ∙ h.served.geom)
+      (answer_in_room h.mount.geom (moment_at h.mount s.crash.base s.counts.ticks.manner (take a.behind u.crash.log) (DoneInRing h.mount s.crash.base s.counts.ticks.manner u.crash.log cmd reply (pace_on s h.after) a.behind (length u.crash.log))) (moment_at h.mount s.crash.base s.counts.ticks.manner (take (length u.crash.log) u.crash.log) ⊥)
+      h.after (room_on s) cmd reply next (room_on u) a.answers)
+
+  -- and by the log
+  by_log : (next : Session) → AnswersByLog h.mount s.crash.base s.counts.ticks.manner u.crash.log cmd reply (pace_on s h.after) (pace_on u next)
+      → RunsByLog h.mount first.base first.manner u.crash.log (pace_at_mount first h.mounted (session_on h.geom.i h.tree) h.first_room) (cmds ++ cmd ∷ []) (replies ++ reply ∷ []) (h.moments ++ length u.crash.log ∷ []) (pace_on u next)
+  by_log next a = subst (λ (es : List Event). RunsByLog h.mount first.base first.manner es (pace_at_mount first h.mounted (session_on h.geom.i h.tree) h.first_room) (cmds ++ cmd ∷ []) (replies ++ reply ∷ []) (h.moments ++ length u.crash.log ∷ []) (pace_on u next)) (sym step.advances.grows.log)
+      (runs_longer h.mount first.base first.manner s.crash.log step.advances.grows.more cmd reply (length u.crash.log) (pace_on s h.after) (pace_on u next) (pace_at_mount first h.mounted (session_on h.geom.i h.tree) h.first_room) cmds replies h.moments h.within h.among h.serves refl
+      (subst (λ (es : List Event). AnswersByLog h.mount first.base first.manner es cmd reply (pace_on s h.after) (pace_on u next)) step.advances.grows.log
+      (subst (λ (x : Blocks). AnswersByLog h.mount x first.manner u.crash.log cmd reply (pace_on s h.after) (pace_on u next)) h.base
+      (subst (λ (x : Manner). AnswersByLog h.mount s.crash.base x u.crash.log cmd reply (pace_on s h.after) (pace_on u next)) h.manner a))))
+
   pub known_more : KnownSoFar first (cmds ++ cmd ∷ []) (replies ++ reply ∷ []) (marks ++ mark ∷ []) u
   known_more =
-      let next = step.room h.after h.session in
+      let next = step.room h.after h.session h.mount h.of_mount in
       record {
         geom = h.geom;
         tree = h.tree;
         image = h.image;
         shape = h.shape;
-        base = step.base ∙ h.base;
+        base = step.advances.base ∙ h.base;
         mounted = h.mounted;
         moments = h.moments ++ length u.crash.log ∷ [];
         served = step.serves h.geom h.tree h.mounted cmds replies h.moments h.served;
@@ -150,7 +172,11 @@ module _ (first : disk.State) (cmd : Cmd) (reply : Reply) (mark : Mark) (s u : S
         after = next.0;
         session = next.1;
         rooms = runs_on h.geom (session_on h.geom.i h.tree) h.after next.0 h.first_room (room_of s) (room_of u) cmds replies (cmd ∷ []) (reply ∷ []) h.rooms
-            (next.0, room_of u, subst (λ (g : Geometry). AnswersOn g h.after (room_of s) cmd reply next.0 (room_of u)) h.served.geom next.3, (refl, refl));
+            (next.0, room_of u, in_room next.0 next.3, (refl, refl));
+        mount = h.mount;
+        is_mount = h.is_mount;
+        of_mount = mount_stays h.mount s u next.2 step.advances.base longer step.advances.sure step.advances.records h.of_mount;
+        serves = by_log next.0 next.3;
         budget = budget_on;
         spends = step.spends h.geom h.tree h.mounted cmds replies h.moments h.served budget_on h.spends;
         within = omega (arith, h.within, longer);

@@ -1,5 +1,6 @@
 pub mod Lists
 pub mod Counting
+pub mod Rooms
 pub mod Going
 pub mod Beginning
 pub mod Finishing

@@ -1,7 +1,10 @@
--- Which refusal of a run comes of which of the layers below, and how a run is answered once its disk went back.
+-- Which refusal of a run comes of which of the layers below, and how a run is answered once its disk went back; and which replies come of a call of the disk that failed.
 use Rattle.std.specs.Prelude.{Bool, true, false, Result, Ok, Err}
 use Rattle.opt_disk.specs.declared.bay.BayFault.{BayFault}
 use Rattle.opt_disk.specs.declared.bay.BayFault.TheVariants as bay
+use Rattle.opt_tree.specs.declared.command.Reply.{Reply}
+use Rattle.opt_tree.specs.declared.command.Reply.TheVariants.{Refused}
+use Rattle.opt_fs.specs.Commands.{is_disk_fault, is_read_fault}
 use Rattle.opt_show.specs.declared.refusal.ShowRefusal.{ShowRefusal}
 use Rattle.opt_show.specs.declared.refusal.ShowRefusal.TheVariants as show
 use Rattle.opt_run.specs.declared.ending.Ending.{Ending}
@@ -45,3 +48,12 @@ abbrev pub opens_nothing : Result Ending RunRefusal → Bool
 opens_nothing (Err (Damaged damage)) = true
 opens_nothing (Err Spent) = true
 opens_nothing _ = false
+
+-- whether a command was refused for a failed read, or for another call of the disk that failed
+abbrev pub is_unread : Reply → Bool
+is_unread (Refused why) = is_read_fault (Err why)
+is_unread _ = false
+
+abbrev pub is_failed : Reply → Bool
+is_failed (Refused why) = is_disk_fault (Err why)
+is_failed _ = false

@@ -1,5 +1,5 @@
 -- What comes of a run over the image under a name: its commands and their replies, what is read and written, the marks, and what becomes of the bay and of the disk that it handed out. It is described in docs/RUNNING.md.
-use Rattle.std.specs.Prelude.{◌≡◌, ◌⊎◌, ℕ, ◌+◌, ◌-◌, ◌*◌, ◌^◌, ◌<◌, ◌≤◌, max, ⊤, Bool, false, true, IsTrue, List, [], ◌∷◌, ◌++◌, length, take, slice_get, Option, Some, Result, Ok, Err}
+use Rattle.std.specs.Prelude.{◌≡◌, ◌⊎◌, ℕ, ◌+◌, ◌-◌, ◌*◌, ◌^◌, ◌<◌, ◌≤◌, max, ⊤, Bool, true, IsTrue, List, [], ◌∷◌, ◌++◌, length, take, slice_get, Option, Some, Result, Ok, Err}
 use Rattle.std.specs.Io.KnownBytes.{Appends, Consumes, IsAtEnd}
 use Rattle.opt_base.specs.Counts.{after_call, Rose}
 use Rattle.opt_base.specs.Seal.{Blocks}
@@ -20,8 +20,8 @@ use Rattle.opt_tree.specs.declared.command.Reply.TheVariants.{Refused}
 use Rattle.opt_tree.specs.Step.{Session, session_on}
 use Rattle.opt_tree.specs.Tree.{Tree}
 use Rattle.opt_crash.specs.Counts.{AreAtMost}
+use Rattle.opt_crash.specs.Points.{MountedSession}
 use Rattle.opt_files.specs.Calls.{places_of}
-use Rattle.opt_fs.specs.Commands.{is_disk_fault, is_read_fault}
 use Rattle.opt_fs.specs.DiskRoom.{IsRoomOf, RunsOn}
 use Rattle.opt_fs.specs.Room.{Room, left_in}
 use Rattle.opt_session.specs.Budget.{SpendsByMarks, budget_of}
@@ -34,7 +34,8 @@ use Rattle.opt_run.specs.declared.ending.Ending.{Ending}
 use Rattle.opt_run.specs.declared.ending.Ending.TheVariants.{End, SourceFault, LongInput}
 use Rattle.opt_run.specs.declared.ending.RunRefusal.{RunRefusal}
 use Rattle.opt_run.specs.declared.ending.RunRefusal.TheVariants.{Fault, Damaged, Spent, SinkFault, NoMemory}
-use Rattle.opt_run.specs.Refusals.{answer_of, fails_pushing, is_fault}
+use Rattle.opt_run.specs.Refusals.{answer_of, fails_pushing, is_failed, is_fault, is_unread}
+use Rattle.opt_run.specs.Serves.{IsMountOf, Pace, RunsByLog, pace_at_mount}
 
 -- The input and the output.
 
@@ -74,15 +75,6 @@ pub record CountsFaults (result : Result Ending RunRefusal) (old new : Streams) 
   pub sink : new.sink_faults ≡ after_call (fails_pushing result) old.sink_faults
 
 -- The marks.
-
--- whether a command was refused for a failed read, or for another call of the disk that failed
-abbrev pub is_unread : Reply → Bool
-is_unread (Refused why) = is_read_fault (Err why)
-is_unread _ = false
-
-abbrev pub is_failed : Reply → Bool
-is_failed (Refused why) = is_disk_fault (Err why)
-is_failed _ = false
 
 -- The mark of a reply that was given at this moment, behind the mark before it: a failed read was counted once where the reply is ReadFault, and another call that failed once where it is DiskFault; and none else was. A command is refused as stopped only behind such a call.
 pub record Marks (before : Mark) (reply : Reply) (at : ℕ) (mark : Mark) : Type 0 where
@@ -138,7 +130,7 @@ pub record HasNumbers (d : State) (turns : ℕ) : Type 0 where
 abbrev pub IsSpentByNumbers : ℕ → List Reply → Type 0
 IsSpentByNumbers turns replies = (i : ℕ) → slice_get replies i ≡ Some (Refused because.Spent) → 2 ^ 63 - 8 ≤ turns + i * 2 ^ 20
 
--- Commands were run over a disk that can be mounted and stands for a tree: each was answered in turn as the tree answers it in the session's room, or refused for a reason of the disk or for want of memory, and none was done after a fault of the disk; crashes leave points, and all that was issued is the last one (`HasRun`); the writes are within the budget, up to each mark within that of the commands by then; each reply has its mark; and a refusal for a call of the disk that failed has its reason in the disk's manner.
+-- Commands were run over a disk that can be mounted and stands for a tree: each was answered in turn as the tree answers it in the session's room, or refused for a reason of the disk or for want of memory, and none was done after a fault of the disk; freed blocks came back to the room as the disk's log tells (`RunsByLog`); crashes leave points, and all that was issued is the last one (`HasRun`); the writes are within the budget, up to each mark within that of the commands by then; each reply has its mark; and a refusal for a call of the disk that failed has its reason in the disk's manner.
 pub record RunsDisk (first last : State) (marks : List Mark) (cmds : List Cmd) (replies : List Reply) : Type 0 where
   pub geom : Geometry
   pub tree : Tree
@@ -150,9 +142,11 @@ pub record RunsDisk (first last : State) (marks : List Mark) (cmds : List Cmd) (
   pub run : HasRun geom tree last.base last.log mounted cmds replies moments
   pub first_room : Room
   pub begins : IsRoomAtMount geom image.stands.map (session_on geom.i tree) first_room
-  pub after : Session
-  pub room : Room
-  pub rooms : RunsOn geom (session_on geom.i tree) first_room cmds replies after room
+  pub end : Pace
+  pub rooms : RunsOn geom (session_on geom.i tree) first_room cmds replies end.session end.room.room
+  pub mount : MountedSession
+  pub is_mount : IsMountOf first geom mounted mount
+  pub serves : RunsByLog mount first.base first.manner last.log (pace_at_mount first mounted (session_on geom.i tree) first_room) cmds replies moments end
   pub writes : AreAtMost mounted last.log (budget_of (bitmap_blocks geom) (session_on geom.i tree) 0 cmds replies)
   pub spends : SpendsByMarks geom (session_on geom.i tree) mounted last.log cmds replies moments
   pub marked : AreMarks mounted replies moments marks (mark_on last)

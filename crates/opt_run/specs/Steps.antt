@@ -1,8 +1,9 @@
 -- How far a run has come over a mounted store, and what one command adds. Only private contracts speak of it.
-use Rattle.std.specs.Prelude.{◌≡◌, ℕ, ◌+◌, ◌*◌, ◌^◌, ◌<◌, ◌≤◌, true, false, Bool, IsTrue, List, [], ◌∷◌, ◌++◌, length, take, Option, Some, None, ⊤, Result, Ok, Err}
+use Rattle.std.specs.Prelude.{◌≡◌, ◌↔◌, ℕ, ◌+◌, ◌*◌, ◌^◌, ◌<◌, ◌≤◌, true, false, Bool, IsTrue, List, [], ◌∷◌, ◌++◌, length, take, Option, Some, None, ⊤, Result, Ok, Err}
 use Rattle.std.specs.Io.KnownBytes.{Appends, Consumes}
 use Rattle.opt_io.specs.Prefix.{TakesPrefix}
 use Rattle.opt_disk.specs.declared.bay.Mark.{Mark}
+use Rattle.opt_disk.specs.declared.event.Event.{Event}
 use Rattle.opt_disk.specs.Disk as disk
 use Rattle.opt_disk.specs.Disk.{writes_in}
 use Rattle.opt_geom.specs.Geometry.{Geometry}
@@ -10,14 +11,18 @@ use Rattle.opt_tree.specs.declared.command.Cmd.{Cmd}
 use Rattle.opt_tree.specs.declared.command.Reply.{Reply}
 use Rattle.opt_tree.specs.Step.{Session, session_on}
 use Rattle.opt_tree.specs.Tree.{Tree}
+use Rattle.opt_crash.specs.Points.{MountedSession}
+use Rattle.opt_blocks.specs.Crashes.{SameRecords}
 use Rattle.opt_blocks.specs.State.{State}
 use Rattle.opt_fs.specs.DiskRoom.{RunsOn}
 use Rattle.opt_fs.specs.Memory.{room_of}
 use Rattle.opt_fs.specs.Room.{Room}
+use Rattle.opt_fs.specs.Serving.{room_on}
 use Rattle.opt_fs.specs.Sessions.{IsSession}
 use Rattle.opt_session.specs.Budget.{KeepsBudget, SpendsByMarks}
 use Rattle.opt_session.specs.Serving.{HasServed}
 use Rattle.opt_store.specs.Mounting.{BeginsWith, GoesOnFrom}
+use Rattle.opt_store.specs.SessionView.{IsSure, records_of}
 use Rattle.opt_script.specs.Text.{text_of_reply}
 use Rattle.opt_lines.specs.Reading.{HasGiven, KnowsEnd, ReaderState}
 use Rattle.opt_show.specs.Images.{StandsMounted}
@@ -28,6 +33,7 @@ use Rattle.opt_run.specs.declared.ending.RunRefusal.TheVariants.{SinkFault, NoMe
 use Rattle.opt_run.specs.declared.running.Stop.{Stop}
 use Rattle.opt_run.specs.declared.running.Stop.TheVariants as stop
 use Rattle.opt_run.specs.Runs.{AreMarks, HaveReasons, HasNumbers, IsRoomAtMount, IsSpentByNumbers, Reads, Streams, Writes, reply_lines}
+use Rattle.opt_run.specs.Serves.{IsMountOf, Pace, RunsByLog, pace_at_mount}
 
 -- the refusal for a stop
 abbrev pub of_stop : Stop → RunRefusal
@@ -48,6 +54,17 @@ stops_pushing (Err stop.SinkFault) = true
 -- the mark of the disk under blocks
 abbrev pub mark_in : State → Mark
 mark_in s = record { moment = length s.crash.log; read_faults = s.counts.read_faults; faults = s.counts.faults }
+
+-- how far a run has come over these blocks, with this session
+abbrev pub pace_on : State → Session → Pace
+pace_on s f = record { polls = s.counts.ticks.polls; events = length s.crash.log; over = s.books.stopped; session = f; room = room_on s }
+
+-- The blocks are of this mount: by its numbers a point is sure, and its log since tells its records.
+pub record IsOfMount (mount : MountedSession) (s : State) : Type 0 where
+  pub geom : mount.geom ≡ s.books.geom
+  pub late : mount.mounted ≤ length s.crash.log
+  pub sure : (front : List Event) (p : ℕ) → s.crash.sure front p ↔ ∥ IsSure mount s.crash.base front p ∥₁
+  pub records : SameRecords (records_of mount s.crash.base) s.crash.records
 
 -- the line of a reply
 abbrev pub reply_line : Reply → List ℕ
@@ -79,6 +96,10 @@ pub record KnownSoFar (first : disk.State) (cmds : List Cmd) (replies : List Rep
   pub after : Session
   pub session : IsSession s after
   pub rooms : RunsOn geom (session_on geom.i tree) first_room cmds replies after (room_of s)
+  pub mount : MountedSession
+  pub is_mount : IsMountOf first geom mounted mount
+  pub of_mount : IsOfMount mount s
+  pub serves : RunsByLog mount first.base first.manner s.crash.log (pace_at_mount first mounted (session_on geom.i tree) first_room) cmds replies moments (pace_on s after)
   -- no write was owed as the mount ended
   pub budget : KeepsBudget geom tree (writes_in (take mounted s.crash.log)) cmds replies s
   pub spends : SpendsByMarks geom (session_on geom.i tree) mounted s.crash.log cmds replies moments

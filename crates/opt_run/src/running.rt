@@ -15,8 +15,8 @@ use crate::laws::the_disk_keeps_to_its_manner;
 use opt_base::NoMemory;
 use opt_disk::{Disk, Mark};
 use opt_fs::{
-    a_command_begins_with_a_tick, a_command_is_answered_in_a_room_that_came_back,
-    a_command_raises_the_numbers_little, a_refusal_for_the_disk_has_its_cause,
+    a_command_begins_with_a_tick, a_command_raises_the_numbers_little,
+    a_command_serves_what_is_sure, a_refusal_for_the_disk_has_its_cause,
 };
 use opt_io::{Sink, SinkFault, push_all};
 use opt_script::reply_text;
@@ -128,7 +128,7 @@ impl<D: Disk + Drop> Running<D> {
         ensures marks { length self.new.marks.items ≡ length self.old.marks.items + 1 }
     {
         a_command_begins_with_a_tick::<Store<D>>();
-        a_command_is_answered_in_a_room_that_came_back::<Store<D>>();
+        a_command_serves_what_is_sure::<Store<D>>();
         a_refusal_for_the_disk_has_its_cause::<Store<D>>();
         a_command_raises_the_numbers_little::<Store<D>>();
         the_writes_keep_within_the_budget_at_each_mark::<Store<D>>();
