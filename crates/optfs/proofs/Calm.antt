@@ -1,5 +1,5 @@
 -- Where nothing fails by a disk's manner, no call of it has failed, and no reply of a run says so.
-use Rattle.std.proofs.Common.{◌≡◌, inl, inr, ℕ, zero, suc, ◌<◌, Bool, true, false, IsTrue, List, [], ◌∷◌, take, slice_get, Some, unwrap_or, Result, Ok, Err, refl, sym, ap, ◌∙◌, arith}
+use Rattle.std.proofs.Common.{◌≡◌, inl, inr, ℕ, zero, suc, ◌<◌, Bool, false, IsTrue, List, [], ◌∷◌, take, slice_get, Some, unwrap_or, Result, Ok, Err, refl, sym, ap, ◌∙◌, arith}
 use Rattle.std.proofs.Math.Logic.{∥∥₁_elim}
 use Rattle.std.proofs.lemmas.Bool.{false≢true}
 use Rattle.opt_base.specs.Counts.{after_call}
@@ -16,7 +16,8 @@ use Rattle.opt_show.specs.Shows.{FailedByManner, MayFailToOpen}
 use Rattle.opt_run.specs.declared.ending.Ending.{Ending}
 use Rattle.opt_run.specs.declared.ending.RunRefusal.{RunRefusal}
 use Rattle.opt_run.specs.declared.ending.RunRefusal.TheVariants as run
-use Rattle.opt_run.specs.Runs.{ComesOfDisk, HasReason, HaveReasons, Marks, MarksGo, Streams, is_failed}
+use Rattle.opt_run.specs.Refusals.{is_failed}
+use Rattle.opt_run.specs.Runs.{ComesOfDisk, HasReason, HaveReasons, Marks, MarksGo, Streams}
 use Rattle.optfs.specs.Calm.{IsCalm, NothingFails, is_for_a_call}
 
 not_failed : (m : Manner) (log : List Event) → NothingFails m → HasFailedBy m log → ⊥

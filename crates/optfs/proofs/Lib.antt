@@ -8,6 +8,8 @@ mod Sureness
 pub mod Rooms
 pub mod Paces
 pub mod Losses
+mod Weights
+mod WrongTraces
 pub mod Answering
 pub mod Runs
 pub mod RecordingLemmas

@@ -31,7 +31,8 @@ use Rattle.opt_session.specs.Histories.{HasNoFault}
 use Rattle.opt_fs.specs.Applying.{is_spent}
 use Rattle.opt_fs.specs.Memory.{room_of}
 use Rattle.opt_fs.specs.Sessions.{IsSession}
-use Rattle.optfs.specs.Behaving.{AnswersBy, DoesBehind, FailsSince, FindsPlaces, FindsRoom, HearsIn, KnowsUpTo, LosesSince, OrdersAtOnce, Pace, PacesBy, Span, StepsBy, Taken, WritesRecordBy, is_done_sync, is_fault, own_records, pace_at_first, places_wanted, session_by, taken_by}
+use Rattle.opt_run.specs.Serves.{own_records}
+use Rattle.optfs.specs.Behaving.{AnswersBy, DoesBehind, FailsSince, FindsPlaces, FindsRoom, HearsIn, KnowsUpTo, LosesSince, OrdersAtOnce, Pace, PacesBy, Span, StepsBy, Taken, TellsRing, WritesRecordBy, is_done_sync, is_fault, pace_at_first, places_wanted, session_by, taken_by}
 use Rattle.optfs.specs.Mounts.{MountsOnce}
 use Rattle.optfs.specs.Places.{LiesAt}
 use Rattle.optfs.specs.Placing.{StaysPlaced}
@@ -94,7 +95,7 @@ get_split_at (z ∷ xs) x y (suc i) is = by (get_split_at xs x y i is)
     by (inl earlier) = inl earlier
     by (inr last) = inr (last.0, ap suc last.1)
 
-get_split : {A : Type 0} (xs : List A) (x y : A) (i : ℕ) → slice_get (xs ++ x ∷ []) i ≡ Some y → (slice_get xs i ≡ Some y) ⊎ (x ≡ y)
+pub get_split : {A : Type 0} (xs : List A) (x y : A) (i : ℕ) → slice_get (xs ++ x ∷ []) i ≡ Some y → (slice_get xs i ≡ Some y) ⊎ (x ≡ y)
 get_split xs x y i is = ⊎_elim (λ earlier. inl earlier) (λ last. inr last.0) (get_split_at xs x y i is)
 
 -- numbers that are used up are far
@@ -157,14 +158,14 @@ module _ (ses : MountedSession) (m : Manner) (log more : List Event) (mounted : 
   orders_shorter : (behind wanted : ℕ) (t : Taken) → behind ≤ length log → OrdersAtOnce ses (take behind (log ++ more)) t wanted → OrdersAtOnce ses (take behind log) t wanted
   orders_shorter behind wanted t low = subst (λ (es : List Event). OrdersAtOnce ses es t wanted) (front behind low)
 
-  writes_longer : (behind begun mark : ℕ) → mark ≤ length log → WritesRecordBy ses log behind begun mark → WritesRecordBy ses (log ++ more) behind begun mark
-  writes_longer behind begun mark low w = record {
+  writes_longer : (weight behind begun mark : ℕ) → behind ≤ begun → mark ≤ length log → WritesRecordBy ses log weight behind begun mark → WritesRecordBy ses (log ++ more) weight behind begun mark
+  writes_longer weight behind begun mark from low w = record {
     commit = w.commit;
     own = same_own behind mark low ∙ w.own;
-    from = w.from;
+    size = w.size;
     upto = w.upto;
     writes = omega (arith, w.writes, ap writes_in (front mark low), ap writes_in (front begun (omega (arith, w.upto, low))));
-    fits = λ finds. w.fits (finds_shorter behind (places_told w.commit) (omega (arith, w.from, w.upto, low)) finds);
+    fits = λ finds. w.fits (finds_shorter behind (places_told w.commit) (omega (arith, from, w.upto, low)) finds);
   }
 
   does_longer : (cmd : Cmd) (reply : Reply) (p q : Pace) (behind : ℕ) → p.events ≤ length log → q.events ≤ length log → behind ≤ q.events → DoesBehind ses m log cmd reply p q behind → DoesBehind ses m (log ++ more) cmd reply p q behind
@@ -173,8 +174,11 @@ module _ (ses : MountedSession) (m : Manner) (log more : List Event) (mounted : 
       let within : behind ≤ length log = omega (arith, upto, low_next) in
       record {
         begun = does.begun;
+        from = does.from;
         taken = does.taken ∙ ap (λ (own : List Commit). taken_by ses.geom p.taken cmd reply own (record { begun = does.begun; mark = q.events })) (sym same);
-        written = λ done going some. writes_longer behind does.begun q.events low_next (does.written done going some);
+        ring = λ meant going unspent alone. subst (λ (es : List Event). TellsRing ses es p.taken.records ⊎ ((q.events ≡ behind) × (reply ≡ Refused because.DiskFault))) (sym (front behind within)) (does.ring meant going unspent alone);
+        written = λ done going some. writes_longer p.taken.weight behind does.begun q.events does.from low_next (does.written done going some);
+        idle = λ done going none. ap writes_in (front q.events low_next) ∙ does.idle done going none ∙ ap writes_in (sym (front behind within));
         unwritten = does.unwritten;
         calm = λ meant going unspent alone finds.
             subst (λ (es : List Event). PollsThenWrites m 64 p.polls es q.polls (take q.events (log ++ more))) (sym (front p.events low))
@@ -245,7 +249,10 @@ module _ (cmd : Cmd) (reply : Reply) (old new : State) (s : StepsOn cmd reply ol
 
   -- What the command did behind its tick, by the log: with no reason it waited for nothing, and a dsync for the writes of records; and `durable` is answered by no earlier point than is known.
   pub record Waits (g : Geometry) (mounted : ℕ) (t : Taken) (behind : List Event) (begun : ℕ) : Type 0 where
-    pub written : is_done_sync cmd reply ≡ true → old.books.stopped ≡ false → 0 < t.weight → WritesRecordBy (session_by g mounted) new.crash.log (length behind) begun (length new.crash.log)
+    pub from : length behind ≤ begun
+    pub ring : cmd ≢ Bad → old.books.stopped ≡ false → reply ≢ Refused because.Spent → TellsRing (session_by g mounted) behind t.records ⊎ ((length new.crash.log ≡ length behind) × (reply ≡ Refused because.DiskFault))
+    pub written : is_done_sync cmd reply ≡ true → old.books.stopped ≡ false → 0 < t.weight → WritesRecordBy (session_by g mounted) new.crash.log t.weight (length behind) begun (length new.crash.log)
+    pub idle : is_done_sync cmd reply ≡ true → old.books.stopped ≡ false → t.weight ≡ 0 → writes_in new.crash.log ≡ writes_in behind
     pub unwritten : is_sync cmd ≡ true → old.books.stopped ≡ false → reply ≡ Refused because.NoMemory → length new.crash.log ≡ length behind
     pub calm : cmd ≢ Bad → old.books.stopped ≡ false → reply ≢ Refused because.Spent → FindsRoom (session_by g mounted) behind t (room_of old) (places_wanted reply t.weight (own_records (session_by g mounted) new.crash.log (length behind) (length new.crash.log))) cmd
         → PollsThenWrites old.counts.ticks.manner 64 old.counts.ticks.polls old.crash.log new.counts.ticks.polls new.crash.log
@@ -298,8 +305,11 @@ module _ (cmd : Cmd) (reply : Reply) (old new : State) (s : StepsOn cmd reply ol
     does_now : DoesBehind ses m new.crash.log cmd reply (pace_of t old) then_pace (length behind)
     does_now = record {
       begun = begun;
+      from = waits.from;
       taken = refl;
+      ring = λ meant run unspent alone. subst (λ (es : List Event). TellsRing ses es t.records ⊎ ((length new.crash.log ≡ length behind) × (reply ≡ Refused because.DiskFault))) (sym cut) (waits.ring meant run unspent);
       written = waits.written;
+      idle = λ done run none. ap writes_in all ∙ waits.idle done run none ∙ ap writes_in (sym cut);
       unwritten = waits.unwritten;
       calm = λ meant run unspent alone finds.
           subst (λ (es : List Event). PollsThenWrites m 64 old.counts.ticks.polls es new.counts.ticks.polls (take (length new.crash.log) new.crash.log)) (sym earlier)

@@ -32,7 +32,8 @@ use Rattle.opt_fs.specs.Memory.{room_of}
 use Rattle.opt_fs.specs.Room.{IsDoneIn, IsFirstRoom, RefusesIn, Room}
 use Rattle.opt_fs.specs.Serving.{AnswersAt, SaysNoMore, ServesCommand, SyncsBehind, moment_of, room_on}
 use Rattle.opt_fs.specs.Moments.{answer_at_others, answer_in_room}
-use Rattle.optfs.specs.Behaving.{AnswersBy, DoneInRing, FindsPlaces, IsSureBy, Pace, Span, Taken, moment_by, own_records, places_wanted, room_at_first, taken_by}
+use Rattle.opt_run.specs.Serves.{own_records}
+use Rattle.optfs.specs.Behaving.{AnswersBy, DoneInRing, FindsPlaces, IsSureBy, Pace, Span, Taken, moment_by, places_wanted, room_at_first, taken_by}
 use Rattle.optfs.specs.Running.{AnsweredIn, FitsAmong, FreesBy, RunLaws, SyncsIn, moment_over, pace_of}
 use Rattle.optfs.proofs.Sureness.{rests_alike}
 
@@ -134,7 +135,11 @@ module _ {S : Type 0} (state : S → State) (f : Session) (cmd : Cmd) (reply : R
   told_end es = ap (λ (f : List Event → Option (List Commit)). f es) (served.goes_on.records.told ∙ served.begins.records.told)
 
   frees : RingIsTold mid → FreesBy (state old) mid.crash.log mid.books.free_places
-  frees ring number told starts is = ap (λ (k : Geometry). k.j) (sym served.geom) ∙ ring number told ((served.begins.records.starts mid.crash.log number).1 starts) (told_behind told is)
+  frees ring told is = let r = ring told (told_behind told is) in record {
+    one = r.one ∙ served.point;
+    starts = ∥∥₁_map r.starts (λ (x : (number : ℕ) × mid.crash.records.starts mid.crash.log number). (x.0, (served.begins.records.starts mid.crash.log x.0).0 x.1));
+    places = λ number starts. ap (λ (k : Geometry). k.j) (sym served.geom) ∙ r.places number ((served.begins.records.starts mid.crash.log number).1 starts);
+  }
 
   at_once : FitsAmong (state old) mid.books.free_places → OrdersAtOnce mid.books
   at_once (inl fits) = inl (omega (arith, fits, same_places))

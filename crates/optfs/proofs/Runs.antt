@@ -38,8 +38,9 @@ use Rattle.opt_session.specs.Crashes.{LeavesPoints, IsCrashConsistent}
 use Rattle.opt_session.specs.Ending.{HasRun, is_none, over_after, ending_reply, ending_replies, ending_marks}
 use Rattle.opt_session.specs.Histories.{last_mark, session_after}
 use Rattle.opt_session.specs.Issued.{IssuesLast}
+use Rattle.opt_run.specs.Serves.{own_records}
 use Rattle.optfs.specs.Disks.{IsOpened}
-use Rattle.optfs.specs.Behaving.{Span, is_fault, makes_point, nothing_taken, own_records, session_by}
+use Rattle.optfs.specs.Behaving.{Span, is_fault, makes_point, nothing_taken, session_by}
 use Rattle.optfs.specs.Mounts.{MountsOnce}
 use Rattle.optfs.specs.Output.{Serves, ServesBy, Setting, says}
 use Rattle.optfs.specs.Running.{AnsweredIn, Ran, PacedRun, Records, GoesOnWith, RunLaws, KnownRun, IsAnswered, pace_of}
@@ -48,7 +49,7 @@ use Rattle.optfs.proofs.MountLemmas.{honest_alike}
 use Rattle.optfs.proofs.Paces.{Waits, over_now, paced_on}
 use Rattle.optfs.proofs.Placed.{one_more, placed_first, placed_in}
 use Rattle.optfs.proofs.Rooms.{answered_by, room_first}
-use Rattle.optfs.proofs.Waiting.{calm_on, done_fits, hears_on, keeps_at_first, keeps_on, knows_on, own_begun, spends_on, unwritten_on}
+use Rattle.optfs.proofs.Waiting.{calm_on, done_fits, hears_on, idle_on, keeps_at_first, keeps_on, knows_on, own_begun, ring_on, spends_on, unwritten_on}
 
 -- Runs joined.
 
@@ -342,7 +343,10 @@ records_on cmd reply old new a laws known lawful set past text r =
     let placed = placed_in g (laws g r.ran.fits) r.paced.taken.session (length r.paced.taken.spans) cmd reply old new a.points r.ran.served.geom asked (a.waits.room r.paced.taken.session asked) (a.room r.paced.taken.session asked)
     (λ going. (or_parts old.books.stopped (is_fault reply) (sym over ∙ going)).0) r.paced.keeps.spans (λ going. sym (one_more r.paced.taken.spans late (makes_point r.paced.taken.session cmd reply)) ∙ keeps.spans going) ran.base r.paced.placed in
     let waits : Waits cmd reply old new a.steps a.grows r.replies r.ran.served.goes_on.ended ran.served.goes_on.ended ran.served.goes_on.going g r.mounted r.paced.taken room.behind mine.0 = record {
+      from = mine.1.from;
+      ring = ring_on cmd reply old new a.waits a.grows g r.mounted past r.replies r.marks r.ran.served ran.served r.ran.budget.weight over r.paced.taken r.paced.keeps r.paced.records r.paced.within in_room.0 room alone;
       written = mine.1.written;
+      idle = idle_on cmd reply old new a.waits a.grows g r.mounted past r.replies r.marks r.ran.served ran.served r.ran.budget.weight over r.paced.taken r.paced.keeps r.paced.records r.paced.within in_room.0 room alone;
       unwritten = unwritten_on cmd reply old new a.waits a.grows g r.mounted past r.replies r.marks r.ran.served ran.served r.ran.budget.weight over r.paced.taken r.paced.keeps r.paced.records r.paced.within in_room.0 room alone;
       calm = calm_on cmd reply old new a.waits a.grows g r.mounted past r.replies r.marks r.ran.served ran.served r.ran.budget.weight over r.paced.taken r.paced.keeps r.paced.records r.paced.within in_room.0 room alone a.steps.ticks;
       hears = hears_on cmd reply old new a.waits a.grows g r.mounted past r.replies r.marks r.ran.served ran.served r.ran.budget.weight over r.paced.taken r.paced.keeps r.paced.records r.paced.within in_room.0 room alone mine.0 mine.1 a.lawful.lawful;

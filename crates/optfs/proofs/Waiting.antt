@@ -1,7 +1,8 @@
 -- What a run has taken of its disk after one command more, and what that command waited for.
 use Rattle.std.proofs.Common.{◌≡◌, ◌≢◌, ◌⊎◌, inl, inr, ⊎_elim, ℕ, zero, suc, ◌+◌, ◌-◌, ◌<◌, ◌≤◌, ◌==◌, ◌||◌, ◌&&◌, not, nat_le, nat_lt, if◌then◌else◌, Bool, true, false, List, [], ◌∷◌, ◌++◌, length, take, drop, Option, Some, None, is_some, refl, sym, ap, ap₂, ◌∙◌, subst, append_assoc, append-nil, arith}
-use Rattle.std.proofs.Math.Logic.{∥∥₁_map}
-use Rattle.std.proofs.Math.Seq.{take-append_seam, take-length, drop-append_seam}
+use Rattle.std.proofs.Props.{props}
+use Rattle.std.proofs.Math.Logic.{∥∥₁_elim, ∥∥₁_map, ∥∥₁_prop}
+use Rattle.std.proofs.Math.Seq.{take-append_seam, take-length, drop-append_seam, drop-length}
 use Rattle.std.proofs.lemmas.Bool.Decides.{nat_tests}
 use Rattle.std.proofs.lemmas.Bool.{cases_Bool, cond-true, cond-false, eqb-true, eq-eqb, ne_eqb, false≢true, true≢false, or_left, or_parts, or_right}
 use Rattle.std.proofs.lemmas.List.{append_cancel_left, drop-append-le, take-append-le, length-append}
@@ -13,6 +14,7 @@ use Rattle.opt_disk.specs.Disk.{AreWrites, Grows, GrowsByWrites, PollsFirst, Pol
 use Rattle.opt_disk.specs.Lawful.{AreLawfulAfter, IsLawful}
 use Rattle.opt_disk.specs.Manner.{Manner, Polled, after_polls}
 use Rattle.opt_geom.specs.Geometry.{Geometry, bitmap_blocks}
+use Rattle.opt_journal.specs.declared.header.Header.{Header}
 use Rattle.opt_journal.specs.declared.record.Commit.{Commit}
 use Rattle.opt_journal.specs.Layout.{commit_of, descriptor_count}
 use Rattle.opt_journal.specs.Run.{places_from, places_told, writes_stood_for}
@@ -39,14 +41,15 @@ use Rattle.opt_fs.specs.Sessions.{IsSession}
 use Rattle.opt_session.specs.Budget.{commits, sync_budget, sync_places, weight_after, weight_by, writes_of}
 use Rattle.opt_session.specs.Histories.{session_after}
 use Rattle.opt_session.specs.Serving.{HasServed}
-use Rattle.optfs.specs.Behaving.{CameIn, DoneInRing, FindsPlaces, FindsRoom, HearsIn, KnowsUpTo, OrdersAtOnce, Span, Taken, WritesRecordBy, is_done_sync, is_fault, makes_point, nothing_taken, own_records, places_wanted, session_by, stands_for, taken_by}
+use Rattle.opt_run.specs.Serves.{own_records}
+use Rattle.optfs.specs.Behaving.{CameIn, DoneInRing, FindsPlaces, FindsRoom, FitsUnder, HearsIn, KnowsUpTo, OrdersAtOnce, Span, StartsBy, Taken, TellsRing, WritesRecordBy, is_done_sync, is_fault, makes_point, nothing_taken, places_wanted, session_by, stands_for, taken_by}
 use Rattle.optfs.specs.Disks.{TellsBy}
 use Rattle.optfs.specs.Running.{AnsweredIn, FitsAmong, FreesBy, KeepsTaken, WaitsOn, WritesIn, pace_of}
 use Rattle.optfs.proofs.Rooms.{sync_is_meant}
 
 -- Accepted and noticed tickets of a log, and of its fronts.
 
-accepted_on : (t : ℕ) (xs ys : List Event) → is_accepted t xs ≡ true → is_accepted t (xs ++ ys) ≡ true
+pub accepted_on : (t : ℕ) (xs ys : List Event) → is_accepted t xs ≡ true → is_accepted t (xs ++ ys) ≡ true
 accepted_on t [] ys is = absurd (false≢true is)
 accepted_on t (Wrote ticket block bytes ∷ xs) ys is =
     ⊎_elim (λ here. or_left (ticket == t) (is_accepted t (xs ++ ys)) here)
@@ -193,6 +196,14 @@ are_writes_on (Noticed u ∷ xs) ys a b = absurd a
 
 writes_then : (a b c : List Event) → GrowsByWrites a b → GrowsByWrites b c → GrowsByWrites a c
 writes_then a b c one two = record { more = one.more ++ two.more; log = two.log ∙ ap (λ (es : List Event). es ++ two.more) one.log ∙ append_assoc a one.more two.more; writes = are_writes_on one.more two.more one.writes two.writes }
+
+-- A list that begins with another one and is no longer is that one.
+no_more : (xs more cs : List Commit) → cs ≡ xs ++ more → length cs ≡ length xs → cs ≡ xs
+no_more xs more cs is same = is ∙ ap (λ (ys : List Commit). xs ++ ys) (none more (omega (arith, ap (λ (ys : List Commit). length ys) is, same, length-append xs more))) ∙ append-nil xs
+  where
+    none : (ys : List Commit) → length ys ≡ 0 → ys ≡ []
+    none [] e = refl
+    none (y ∷ ys) e = absurd (omega (arith, e))
 
 -- one record's places
 from_none : (n : ℕ) → nat_le 0 n ≡ true
@@ -361,12 +372,12 @@ module _ (cmd : Cmd) (reply : Reply) (old new : State) (w : WaitsOn cmd reply ol
 
   -- so many fit the ring by the log
   finds_free : (n : ℕ) → FreesBy old a.behind a.free → FindsPlaces ses behind n → n ≤ a.free
-  finds_free n frees finds = omega (
+  finds_free n frees finds = ∥∥₁_elim finds (search props) (λ (x : (header : Header) × FitsUnder ses behind n header). omega (
     arith,
-    finds.fits,
-    frees finds.header.start (records_told ses behind) ((tells.starts behind finds.header.start).1 ∣ record { header = finds.header; newest = finds.newest; is = refl } ∣₁) (told_is behind),
+    x.1.fits,
+    (frees (records_told ses behind) (told_is behind)).places x.0.start ((tells.starts behind x.0.start).1 ∣ record { header = x.0; newest = x.1.newest; is = refl } ∣₁),
     ap (λ (k : Geometry). k.j) before.geom,
-  )
+  ))
 
   fits_among : is_sync cmd ≡ true → old.books.stopped ≡ false → FreesBy old a.behind a.free → OrdersAtOnce ses behind t wanted → FitsAmong old a.free
   fits_among sync going frees (inl none) = inr (weight_is going ∙ none)
@@ -376,12 +387,41 @@ module _ (cmd : Cmd) (reply : Reply) (old new : State) (w : WaitsOn cmd reply ol
       by (inl none) = inr none
       by (inr some) = inl (omega (arith, wanted_enough sync going some, finds_free wanted frees finds))
 
+  -- Behind the tick the log tells the records of the syncs that are done, and no others, since there are as many as points.
+
+  earlier_records : old.books.stopped ≡ false → (length t.records ≡ old.books.point) × ((more : List Commit) × (records_told ses old.crash.log ≡ t.records ++ more))
+  earlier_records = keeps.records
+
+  records_behind : old.books.stopped ≡ false → FreesBy old a.behind a.free → records_told ses behind ≡ t.records
+  records_behind going frees =
+      let was = earlier_records going in
+      let later = commits_told g 2 a.begins.more in
+      let told : records_told ses behind ≡ t.records ++ (was.1.0 ++ later) = ap (records_told ses) a.begins.log ∙ records_on ses old.crash.log a.begins.more within ∙ ap (λ (cs : List Commit). cs ++ later) was.1.1 ∙ append_assoc t.records was.1.0 later in
+      no_more t.records (was.1.0 ++ later) (records_told ses behind) told (omega (arith, (frees (records_told ses behind) (told_is behind)).one, was.0))
+
+  tells_ring : old.books.stopped ≡ false → FreesBy old a.behind a.free → TellsRing ses behind t.records
+  tells_ring going frees = record {
+    told = records_behind going frees;
+    header = ∥∥₁_elim (frees (records_told ses behind) (told_is behind)).starts ∥∥₁_prop (λ (x : (number : ℕ) × old.crash.records.starts behind number).
+        ∥∥₁_map ((tells.starts behind x.0).0 x.1) (λ (s : StartsBy g behind x.0). (s.header, s.newest)));
+  }
+
+  pub ring_on : cmd ≢ cmds.Bad → old.books.stopped ≡ false → reply ≢ Refused because.Spent → TellsRing ses behind t.records ⊎ ((length new.crash.log ≡ length behind) × (reply ≡ Refused because.DiskFault))
+  ring_on meant going unspent = ⊎_elim (λ frees. inl (tells_ring going frees)) (λ all. inr (ap (λ (es : List Event). length es) all.0, all.1)) (a.ring meant going unspent alone)
+
+  -- a sync of nothing that is done writes nothing
+  pub idle_on : is_done_sync cmd reply ≡ true → old.books.stopped ≡ false → t.weight ≡ 0 → writes_in new.crash.log ≡ writes_in behind
+  idle_on done going none =
+      let parts = parts_of (is_sync cmd) (not (is_refusal reply)) done in
+      let well = not_is (is_refusal reply) parts.1 in
+      ((a.sync parts.0 going (unspent_by well)).idle well (weight_is going ∙ none)).1
+
   -- The writes of its record.
 
   pub record Own (begun : ℕ) : Type 0 where
     pub from : length behind ≤ begun
     pub upto : begun ≤ length new.crash.log
-    pub written : is_done_sync cmd reply ≡ true → old.books.stopped ≡ false → 0 < t.weight → WritesRecordBy ses new.crash.log (length behind) begun (length new.crash.log)
+    pub written : is_done_sync cmd reply ≡ true → old.books.stopped ≡ false → 0 < t.weight → WritesRecordBy ses new.crash.log t.weight (length behind) begun (length new.crash.log)
     pub awaits : is_done_sync cmd reply ≡ true → old.books.stopped ≡ false → 0 < t.weight → (u : ℕ) → new.crash.awaits new.books.point u → is_accepted u (take begun new.crash.log) ≡ false
 
   pub own_begun : (begun : ℕ) × Own begun
@@ -400,7 +440,7 @@ module _ (cmd : Cmd) (reply : Reply) (old new : State) (w : WaitsOn cmd reply ol
               written = λ done still more. record {
                 commit = x.commit;
                 own = own_one x;
-                from = x.from;
+                size = omega (arith, places_are x, w.fits, ap sync_places (weight_is going));
                 upto = x.upto;
                 writes = omega (arith, x.writes, ap writes_in (take-length new.crash.log));
                 fits = λ finds. x.fits (fits_by x (subst (λ (es : List Event). FindsPlaces ses es (places_told x.commit)) before_behind finds) (a.ring (sync_is_meant cmd sync) going (unspent_by well) alone));
@@ -444,6 +484,10 @@ module _ (cmd : Cmd) (reply : Reply) (old new : State) (w : WaitsOn cmd reply ol
 
   done_if : makes_point t.session cmd reply ≡ true → is_fault reply ≡ false → is_done_sync cmd reply ≡ true
   done_if made calm = let parts = makes_parts made in both (is_sync cmd) (not (is_refusal reply)) parts.0 (is_not (is_refusal reply) (not_refused reply parts.2 calm))
+
+  -- one with nothing to commit makes none
+  makes_none : is_sync cmd ≡ true → t.session.changed ≡ false → makes_point t.session cmd reply ≡ false
+  makes_none sync none = ap (λ (b : Bool). b && (t.session.changed && may_have_written reply)) sync ∙ ap (λ (b : Bool). b && may_have_written reply) none
 
   weighty_if : old.books.stopped ≡ false → makes_point t.session cmd reply ≡ true → 0 < t.weight
   weighty_if going made = weighs_some t.weight (sym (changed_is going) ∙ (makes_parts made).1)
@@ -540,11 +584,57 @@ module _ (cmd : Cmd) (reply : Reply) (old new : State) (w : WaitsOn cmd reply ol
         by (inl stopped) = omega (arith, keeps.writes, ap writes_in (rests stopped), w.rests stopped, ap writes_in mount_same)
         by (inr going) = omega (arith, keeps.writes, w.writes, stands going, ap writes_in mount_same)
 
+    -- The records of the syncs that are done, with its own where it is one.
+    records_now : new.books.stopped ≡ false → (length now_taken.records ≡ new.books.point) × ((more : List Commit) × (records_told ses new.crash.log ≡ now_taken.records ++ more))
+    records_now still = by (cases_Bool (is_done_sync cmd reply))
+      where
+        going : old.books.stopped ≡ false
+        going = (going_before still).0
+
+        many : length now_taken.records ≡ length t.records + length (if is_done_sync cmd reply then own else [])
+        many = length-append t.records (if is_done_sync cmd reply then own else [])
+
+        own_many : is_sync cmd ≡ true → is_refusal reply ≡ false → (t.weight ≡ 0) ⊎ (0 < t.weight) → length own ≡ one_if (makes_point t.session cmd reply)
+        own_many sync well (inl none) =
+            let idle = (a.sync sync going (unspent_by well)).idle well (weight_is going ∙ none) in
+            omega (arith, ap (λ (cs : List Commit). length cs) (own_none idle.0), ap one_if (makes_none sync (changed_is going ∙ ap (nat_lt 0) none)))
+        own_many sync well (inr some) = omega (
+          arith,
+          ap (λ (cs : List Commit). length cs) (own_one (wrote sync well going (subst (λ n. 0 < n) (sym (weight_is going)) some))),
+          ap one_if (both (is_sync cmd) (t.session.changed && may_have_written reply) sync (both t.session.changed (may_have_written reply) (changed_is going ∙ some_weighs t.weight some) (done_writes reply well))),
+        )
+
+        done_one : is_sync cmd ≡ true → is_refusal reply ≡ false → FreesBy old a.behind a.free ⊎ ((new.crash.log ≡ a.behind) × (reply ≡ Refused because.DiskFault)) → is_done_sync cmd reply ≡ true → (length now_taken.records ≡ new.books.point) × ((more : List Commit) × (records_told ses new.crash.log ≡ now_taken.records ++ more))
+        done_one sync well (inr all) done = absurd (true≢false (sym (ap is_refusal all.1) ∙ well))
+        done_one sync well (inl frees) done =
+            let mine_too : (if is_done_sync cmd reply then own else []) ≡ own = cond-true {A = List Commit} (is_done_sync cmd reply) own [] done in (
+              omega (arith, many, ap (λ (cs : List Commit). length cs) mine_too, own_many sync well (zero_or_some t.weight), (earlier_records going).0, points_on still),
+              ([], told_now ∙ ap (λ (cs : List Commit). cs ++ own) (records_behind going frees) ∙ ap (λ (cs : List Commit). t.records ++ cs) (sym mine_too) ∙ sym (append-nil now_taken.records)),
+            )
+
+        by : (is_done_sync cmd reply ≡ true) ⊎ (is_done_sync cmd reply ≡ false) → (length now_taken.records ≡ new.books.point) × ((more : List Commit) × (records_told ses new.crash.log ≡ now_taken.records ++ more))
+        by (inl done) =
+            let parts = parts_of (is_sync cmd) (not (is_refusal reply)) done in
+            let well = not_is (is_refusal reply) parts.1 in
+            done_one parts.0 well (a.ring (sync_is_meant cmd parts.0) going (unspent_by well) alone) done
+        by (inr not_done) =
+            let was = earlier_records going in
+            let none : (if is_done_sync cmd reply then own else []) ≡ [] = cond-false {A = List Commit} (is_done_sync cmd reply) own [] not_done in
+            let same : now_taken.records ≡ t.records = ap (λ (cs : List Commit). t.records ++ cs) none ∙ append-nil t.records in
+            let later = commits_told g 2 grows.more in (
+              omega (arith, many, ap (λ (cs : List Commit). length cs) none, was.0, points_on still, ap one_if (no_point not_done)),
+              (was.1.0 ++ later, ap (records_told ses) grows.log ∙ records_on ses old.crash.log grows.more within ∙ ap (λ (cs : List Commit). cs ++ later) was.1.1 ∙ append_assoc t.records was.1.0 later ∙ ap (λ (cs : List Commit). cs ++ (was.1.0 ++ later)) (sym same)),
+            )
+          where
+            no_point : is_done_sync cmd reply ≡ false → makes_point t.session cmd reply ≡ false
+            no_point not_done = ⊎_elim (λ made. absurd (true≢false (sym (done_if made (going_before still).1) ∙ not_done))) (λ none. none) (cases_Bool (makes_point t.session cmd reply))
+
     pub keeps_on : (old.books.stopped ≡ true → new.crash.log ≡ old.crash.log) → KeepsTaken g mounted (asked ++ cmd ∷ []) (replies ++ reply ∷ []) new now_taken
     keeps_on rests = record {
       session = ap (λ (s : Session). after_reply s cmd reply) keeps.session ∙ sym (session_more g (start g.i) asked replies cmd reply before.answered);
       weight = ap (λ (s : Session). weight_by (bitmap_blocks g) s t.weight cmd reply) keeps.session ∙ ap (λ (n : ℕ). weight_by (bitmap_blocks g) f n cmd reply) keeps.weight ∙ sym (weight_more g (start g.i) 0 asked replies cmd reply before.answered);
       writes = writes_now rests;
+      records = records_now;
       spans = spans_on;
       awaits = awaits_on;
     }
@@ -715,6 +805,7 @@ keeps_at_first g s owed none may = record {
   session = refl;
   weight = refl;
   writes = omega (arith, owed, ap writes_in (take-length s.crash.log));
+  records = λ going. (sym none, ([], ap (commits_told g 2) (drop-length s.crash.log)));
   spans = λ going. sym none;
   awaits = λ going p ticket waits. absurd (omega (arith, (may p ticket waits).behind, (may p ticket waits).upto, none));
 }

@@ -10,7 +10,7 @@ use Rattle.opt_journal.specs.Formatted.{formatted}
 use Rattle.opt_journal.specs.declared.record.Commit.{Commit}
 use Rattle.opt_journal.specs.Run.{places_from, places_told, writes_stood_for, writes_told}
 use Rattle.opt_crash.specs.Opening.{LosesOne}
-use Rattle.opt_crash.specs.Points.{MountedSession, commits_told, records_told}
+use Rattle.opt_crash.specs.Points.{MountedSession, records_told}
 use Rattle.opt_checkpoint.specs.Serving.{IsNewestAtRest}
 use Rattle.opt_blocks.specs.State.{data_blocks}
 use Rattle.opt_memdisk.specs.declared.calls.DiskCall.TheVariants.{Write}
@@ -30,6 +30,7 @@ use Rattle.opt_tree.specs.Step.{Session, start}
 use Rattle.opt_fs.specs.Room.{Room, figures_in}
 use Rattle.opt_fs.specs.Serving.{AnswersAt, Moment, RoomOn}
 use Rattle.opt_session.specs.Budget.{commits, sync_budget, sync_places, weight_by}
+use Rattle.opt_run.specs.Serves.{own_records}
 use Rattle.optfs.specs.Mounts.{MountsOnce}
 use Rattle.optfs.specs.Places.{LiesAt}
 
@@ -54,24 +55,21 @@ pub record CameIn (log : List Event) (span : Span) (t : ℕ) : Type 0 where
   pub not_before : is_accepted t (take span.begun log) ≡ false
   pub by_then : IsAccepted t (take span.mark log)
 
--- The records of a session are those whose commit blocks of its epoch its log has behind the mount. These the log tells of one command: those that came behind the first `behind` events, up to the mark.
-abbrev pub own_records : MountedSession → List Event → ℕ → ℕ → List Commit
-own_records s log behind mark = commits_told s.geom s.epoch (drop behind (take mark log))
-
 -- the session of a recording, behind so many events of its mount: the formatted disk has epoch 1, so its records have the next one
 abbrev pub session_by : Geometry → ℕ → MountedSession
 session_by g mounted = record { geom = g; epoch = 2; mounted = mounted; first = 1 }
 
--- What a run has taken of its disk so far, by its commands, their replies and the log: its session, and what the transaction weighs; of each sync point the events of its record's writes; and how many writes its records stand for.
+-- What a run has taken of its disk so far, by its commands, their replies and the log: its session, and what the transaction weighs; the records of the syncs that are done; of each sync point the events of its record's writes; and how many writes its records stand for.
 pub record Taken : Type 0 where
   pub session : Session
   pub weight : ℕ
+  pub records : List Commit
   pub spans : List Span
   pub budget : ℕ
 
 -- at first nothing is taken
 abbrev pub nothing_taken : Geometry → Taken
-nothing_taken g = record { session = start g.i; weight = 0; spans = []; budget = 0 }
+nothing_taken g = record { session = start g.i; weight = 0; records = []; spans = []; budget = 0 }
 
 -- whether a sync that was answered so made a point: something had changed since the last one
 abbrev pub makes_point : Session → Cmd → Reply → Bool
@@ -90,6 +88,7 @@ abbrev pub taken_by : Geometry → Taken → Cmd → Reply → List Commit → S
 taken_by g t cmd reply own span = record {
   session = after_reply t.session cmd reply;
   weight = weight_by (bitmap_blocks g) t.session t.weight cmd reply;
+  records = t.records ++ (if is_done_sync cmd reply then own else []);
   spans = t.spans ++ (if makes_point t.session cmd reply then span ∷ [] else []);
   budget = t.budget + stands_for cmd reply t.weight own;
 }
@@ -98,11 +97,14 @@ taken_by g t cmd reply own span = record {
 abbrev pub places_wanted : Reply → ℕ → List Commit → ℕ
 places_wanted reply w own = if is_refusal reply then sync_places w else places_from 0 own
 
--- A sync finds ring places behind its tick: so many fit the ring beside the records from the start of the newest header at rest on.
-pub record FindsPlaces (s : MountedSession) (behind : List Event) (wanted : ℕ) : Type 0 where
-  pub header : Header
+-- This is the newest header at rest, and so many places fit the ring beside the records from its start on.
+pub record FitsUnder (s : MountedSession) (behind : List Event) (wanted : ℕ) (header : Header) : Type 0 where
   pub newest : IsNewestAtRest s.geom.n (cell_of (formatted s.geom) behind) header
   pub fits : places_from header.start (records_told s behind) + wanted ≤ s.geom.j
+
+-- a sync finds so many ring places behind its tick
+abbrev pub FindsPlaces : MountedSession → List Event → ℕ → Type 0
+FindsPlaces s behind wanted = ∥ ((header : Header) × FitsUnder s behind wanted header) ∥₁
 
 -- it needs none, as there is nothing to commit, or it finds them
 abbrev pub OrdersAtOnce : MountedSession → List Event → Taken → ℕ → Type 0
@@ -182,11 +184,11 @@ pub record AnswersBy (s : MountedSession) (m : Manner) (log : List Event) (cmd :
   pub ticks : cmd ≢ Bad → old.over ≡ false → reply ≢ Refused Spent → PollsThenWrites m 64 old.polls (take old.events log) polls (take behind log)
   pub answers : AnswersAt s.geom (moment_by s.geom m (take behind log) (DoneInRing s m log cmd reply old behind new.events)) (moment_by s.geom m (take new.events log) ⊥) old.taken.session old.room cmd reply new.taken.session new.room
 
--- A sync that is done wrote one record, which the log tells. Its own writes are the last up to the mark: those behind `begun` events, as many as a record of its size has. Where it finds ring places, nothing else came behind the tick.
-pub record WritesRecordBy (s : MountedSession) (log : List Event) (behind begun mark : ℕ) : Type 0 where
+-- A sync that is done wrote one record, which the log tells, and which takes no more places than one of this weight may. Its own writes are the last up to the mark: those behind `begun` events, as many as a record of its size has. Where it finds ring places, nothing else came behind the tick.
+pub record WritesRecordBy (s : MountedSession) (log : List Event) (weight behind begun mark : ℕ) : Type 0 where
   pub commit : Commit
   pub own : own_records s log behind mark ≡ commit ∷ []
-  pub from : behind ≤ begun
+  pub size : places_told commit ≤ sync_places weight
   pub upto : begun ≤ mark
   pub writes : writes_in (take mark log) ≤ writes_in (take begun log) + writes_told commit
   pub fits : FindsPlaces s (take behind log) (places_told commit) → begun ≡ behind
@@ -200,13 +202,22 @@ pub record LosesSince (m : Manner) (from : ℕ) (log : List Event) : Type 0 wher
 abbrev pub FailsSince : Manner → ℕ → List Event → Type 0
 FailsSince m from log = LosesSince m from log ⊎ (IsTrue (m.refuses log) ⊎ IsTrue m.stalls)
 
+-- Behind a tick the log tells the records of the syncs that are done, and no others; and a header is at rest.
+pub record TellsRing (s : MountedSession) (behind : List Event) (records : List Commit) : Type 0 where
+  pub told : records_told s behind ≡ records
+  pub header : ∥ ((header : Header) × IsNewestAtRest s.geom.n (cell_of (formatted s.geom) behind) header) ∥₁
+
 -- What one command does behind its tick, by the log. With no reason to wait no notice comes. A dsync that needs no ring places, or finds them, waits for the writes of records alone, where a wait brings the notice of its own ticket alone; one that fails may have written of its own.
 pub record DoesBehind (s : MountedSession) (m : Manner) (log : List Event) (cmd : Cmd) (reply : Reply) (old new : Pace) (behind : ℕ) : Type 0 where
   -- the writes of its record come behind so many events
   pub begun : ℕ
+  pub from : behind ≤ begun
   pub taken : new.taken ≡ taken_by s.geom old.taken cmd reply (own_records s log behind new.events) (record { begun = begun; mark = new.events })
-  -- a sync that is done writes its record, and one that finds no memory nothing
-  pub written : is_done_sync cmd reply ≡ true → old.over ≡ false → 0 < old.taken.weight → WritesRecordBy s log behind begun new.events
+  -- unless the disk failed the tick, which was all then
+  pub ring : cmd ≢ Bad → old.over ≡ false → reply ≢ Refused Spent → m.waits_alone ≡ true → TellsRing s (take behind log) old.taken.records ⊎ ((new.events ≡ behind) × (reply ≡ Refused DiskFault))
+  -- a sync that is done writes its record, one of nothing writes nothing, and to one that finds no memory nothing happens
+  pub written : is_done_sync cmd reply ≡ true → old.over ≡ false → 0 < old.taken.weight → WritesRecordBy s log old.taken.weight behind begun new.events
+  pub idle : is_done_sync cmd reply ≡ true → old.over ≡ false → old.taken.weight ≡ 0 → writes_in (take new.events log) ≡ writes_in (take behind log)
   pub unwritten : is_sync cmd ≡ true → old.over ≡ false → reply ≡ Refused NoMemory → new.events ≡ behind
   pub calm : cmd ≢ Bad → old.over ≡ false → reply ≢ Refused Spent → m.waits_alone ≡ true → FindsRoom s (take behind log) old.taken old.room.room (places_wanted reply old.taken.weight (own_records s log behind new.events)) cmd → PollsThenWrites m 64 old.polls (take old.events log) new.polls (take new.events log)
   pub waits : cmd ≡ Dsync → old.over ≡ false → reply ≢ Refused Spent → m.waits_alone ≡ true → OrdersAtOnce s (take behind log) old.taken (places_wanted reply old.taken.weight (own_records s log behind new.events)) → (p : Polled) → after_polls m 64 old.polls (take old.events log) ≡ Some p

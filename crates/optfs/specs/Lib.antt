@@ -18,3 +18,5 @@ pub mod Reading
 pub mod Statuses
 pub mod Recordings
 pub mod Calm
+pub mod Weights
+pub mod WrongTraces

@@ -17,6 +17,7 @@ use Rattle.opt_script.specs.Text.{command_text}
 use Rattle.opt_script.specs.Values.{IsCommand, IsReply}
 use Rattle.opt_trace.specs.Contents.{Each, front_of}
 use Rattle.opt_trace.specs.Line.{command_line}
+use Rattle.opt_crash.specs.Points.{records_told}
 use Rattle.opt_tree.specs.declared.command.Cmd.{Cmd}
 use Rattle.opt_tree.specs.declared.command.Cmd.TheVariants.{Bad, Durable, Osync}
 use Rattle.opt_tree.specs.declared.command.Refusal.TheVariants.{DiskFault, NoMemory, ReadFault, Spent, Stopped}
@@ -84,11 +85,12 @@ pub record KnownRun (g : Geometry) (s : State) (mounted : ℕ) (cmds : List Cmd)
   pub ends : (more : List Cmd) → HasRun g (start g.i).tree s.crash.base s.crash.log mounted (cmds ++ more) (replies ++ ending_replies s.books.stopped more) (marks ++ ending_marks (length s.crash.log) more)
   pub spends : (more : List Cmd) → SpendsByMarks g (start g.i) mounted s.crash.log (cmds ++ more) (replies ++ ending_replies s.books.stopped more) (marks ++ ending_marks (length s.crash.log) more)
 
--- What was taken by these commands is known of the blocks. The writes since the mount, with those that are still to come for what was committed, are within the budget. While no call of the disk failed, there are as many spans as points, and a point waits only for tickets of writes that came in its span.
+-- What was taken by these commands is known of the blocks. The writes since the mount, with those that are still to come for what was committed, are within the budget. While no call of the disk failed, there are as many records and spans as points, the log tells those records before any others, and a point waits only for tickets of writes that came in its span.
 pub record KeepsTaken (g : Geometry) (mounted : ℕ) (cmds : List Cmd) (replies : List Reply) (s : State) (t : Taken) : Type 0 where
   pub session : t.session ≡ session_after (start g.i) cmds replies
   pub weight : t.weight ≡ weight_after (bitmap_blocks g) (start g.i) 0 cmds replies
   pub writes : writes_in s.crash.log + s.books.owed ≤ writes_in (take mounted s.crash.log) + t.budget
+  pub records : s.books.stopped ≡ false → (length t.records ≡ s.books.point) × ((more : List Commit) × (records_told (session_by g mounted) s.crash.log ≡ t.records ++ more))
   pub spans : s.books.stopped ≡ false → length t.spans ≡ s.books.point
   pub awaits : s.books.stopped ≡ false → (p ticket : ℕ) → s.crash.awaits p ticket → (span : Span) × (slice_get t.spans (p - 1) ≡ Some span) × (span.begun ≤ length s.crash.log) × CameIn s.crash.log span ticket
 
@@ -156,9 +158,15 @@ moment_over s front fits = record { alone = s.counts.ticks.manner.waits_alone; s
 abbrev pub FitsAmong : State → ℕ → Type 0
 FitsAmong s free = (commit_places s.books ≤ free) ⊎ (s.books.running.weight ≡ 0)
 
--- Behind these events so many ring places are free: those that the log tells aren't taken.
+-- These are the records of the ring behind these events, one for each point, and so many of its places are free.
+pub record FreesAmong (s : State) (behind : List Event) (free : ℕ) (told : List Commit) : Type 0 where
+  pub one : length told ≡ s.books.point
+  pub starts : ∥ ((number : ℕ) × s.crash.records.starts behind number) ∥₁
+  pub places : (number : ℕ) → s.crash.records.starts behind number → s.books.geom.j ≡ free + places_from number told
+
+-- behind these events, which tell the records of the ring, so many of its places are free
 abbrev pub FreesBy : State → List Event → ℕ → Type 0
-FreesBy s behind free = (number : ℕ) (told : List Commit) → s.crash.records.starts behind number → s.crash.records.told behind ≡ Some told → s.books.geom.j ≡ free + places_from number told
+FreesBy s behind free = (told : List Commit) → s.crash.records.told behind ≡ Some told → FreesAmong s behind free told
 
 -- A record of the transaction before was written, and its writes are the last ones: those behind so many events.
 pub record WritesIn (old : State) (behind : List Event) (free : ℕ) (new : State) : Type 0 where

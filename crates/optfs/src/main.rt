@@ -29,7 +29,8 @@ mod tree_tests;
 pub use laws::{
     a_crash_of_a_recording_is_found, a_disk_at_rest_is_crash_consistent,
     a_text_is_served_in_one_way, no_fault_is_made_where_nothing_fails,
-    the_last_point_stands_where_accepted_writes_do,
+    the_last_point_stands_where_accepted_writes_do, what_need_not_come_back_is_there,
+    wrong_traces_are_refused,
 };
 use messages::say_why;
 use opt_filedisk::FileBay;
