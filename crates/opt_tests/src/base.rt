@@ -1,6 +1,6 @@
-//! Digests and seals against values from outside, lists of numbers and of runs, and printed texts.
+//! Digests and a seal against values from outside, the clone of a list of runs, and printed texts.
 
-use opt_base::{Class, NoMemory, Places, ReadFault, Run, RunList, digest, is_sealed, seal};
+use opt_base::{NoMemory, ReadFault, Run, RunList, digest, is_sealed, seal};
 use sha2::{Digest, Sha256};
 use std::test::Fail;
 
@@ -61,79 +61,6 @@ fn a_seal_is_the_digest_of_the_bytes_before_it(rt: HostRuntime) {
 }
 
 #[test]
-fn sealing_again_changes_nothing(rt: HostRuntime) {
-    let mut block = [7; 1024];
-    seal(&mut block);
-    let once = block;
-    seal(&mut block);
-    assert!(rt; block == once);
-}
-
-#[test]
-fn a_flipped_bit_breaks_the_seal(rt: HostRuntime) {
-    let mut block = [7; 1024];
-    seal(&mut block);
-    for place in [0usize, 500, 991, 992, 1000, 1023] {
-        block[place] ^= 1;
-        assert!(rt; !is_sealed(&block));
-        block[place] ^= 1;
-        assert!(rt; is_sealed(&block));
-        block[place] ^= 128;
-        assert!(rt; !is_sealed(&block));
-        block[place] ^= 128;
-    }
-}
-
-#[test]
-fn places_are_kept_in_order(rt: HostRuntime) -> Result<(), Fail> {
-    let mut places = Places::new(rt.alloc());
-    assert!(rt; places.is_empty());
-    places.push(5)?;
-    places.push(0)?;
-    places.push(4_294_967_295)?;
-    assert_eq!(rt; places.len(), 3);
-    assert!(rt; !places.is_empty());
-    assert_eq!(rt; places.as_slice(), [5, 0, 4_294_967_295].as_slice());
-    places.clear();
-    assert!(rt; places.is_empty());
-    assert_eq!(rt; places.len(), 0);
-    places.push(9)?;
-    assert_eq!(rt; places.as_slice(), [9].as_slice());
-    Ok(())
-}
-
-#[test]
-fn a_list_has_room_for_28_runs(rt: HostRuntime) {
-    let mut runs = RunList::new();
-    assert!(rt; runs.is_empty());
-    for first in 0u32..28 {
-        runs.push(Run { first, count: 1 });
-    }
-    assert_eq!(rt; runs.len(), 28);
-    assert!(rt; runs.as_slice()[0] == Run { first: 0, count: 1 });
-    assert!(rt;
-        runs.as_slice()[27]
-            == Run {
-                first: 27,
-                count: 1
-            }
-    );
-}
-
-#[test]
-fn the_last_run_is_taken_out(rt: HostRuntime) {
-    let mut runs = RunList::new();
-    assert!(rt; runs.pop() == None);
-    runs.push(Run { first: 3, count: 2 });
-    runs.push(Run { first: 9, count: 1 });
-    assert!(rt; runs.pop() == Some(Run { first: 9, count: 1 }));
-    assert_eq!(rt; runs.len(), 1);
-    assert!(rt; !runs.is_empty());
-    assert!(rt; runs.pop() == Some(Run { first: 3, count: 2 }));
-    assert!(rt; runs.is_empty());
-}
-
-#[test]
 fn a_clone_of_runs_goes_its_own_way(rt: HostRuntime) -> Result<(), Fail> {
     let mut runs = RunList::new();
     runs.push(Run { first: 3, count: 2 });
@@ -144,19 +71,6 @@ fn a_clone_of_runs_goes_its_own_way(rt: HostRuntime) -> Result<(), Fail> {
     assert_eq!(rt; clone.len(), 1);
     assert!(rt; clone.as_slice()[0] == Run { first: 3, count: 2 });
     Ok(())
-}
-
-#[test]
-fn lists_of_the_same_runs_are_equal(rt: HostRuntime) {
-    let mut one = RunList::new();
-    let mut other = RunList::new();
-    assert!(rt; one == other);
-    one.push(Run { first: 3, count: 2 });
-    assert!(rt; one != other);
-    other.push(Run { first: 3, count: 1 });
-    assert!(rt; one != other);
-    assert!(rt; Run::default() == Run { first: 0, count: 0 });
-    assert!(rt; Class::Meta != Class::Content);
 }
 
 #[test]

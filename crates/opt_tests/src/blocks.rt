@@ -78,35 +78,6 @@ fn blocks_fill_up_and_are_synced(rt: HostRuntime) -> Result<(), Fail> {
 }
 
 #[test]
-fn the_least_numbers_are_given_and_too_many_refused(rt: HostRuntime) -> Result<(), Fail> {
-    let geom = Geom::new(64, 16, 16)?;
-    let mut map = PlainBlocks::formatted(rt.alloc(), geom)?;
-    let mut places = Places::new(rt.alloc());
-    map.lowest(rt.alloc(), 3, &mut places)?;
-    assert_eq!(rt; places.as_slice(), [23, 24, 25].as_slice());
-    map.lowest(rt.alloc(), 41, &mut places)?;
-    assert_eq!(rt; places.as_slice().last(), Some(&63));
-    assert!(rt;
-        map.lowest(rt.alloc(), 42, &mut places)
-            == Err(LowestRefusal::Short {
-                need: 42,
-                reusable: 41
-            })
-    );
-    Ok(())
-}
-
-#[test]
-fn a_sync_of_nothing_makes_no_point(rt: HostRuntime) -> Result<(), Fail> {
-    let geom = Geom::new(64, 16, 16)?;
-    let mut map = PlainBlocks::formatted(rt.alloc(), geom)?;
-    assert_eq!(rt; map.dsync(rt.alloc()), Ok(0));
-    assert_eq!(rt; map.durable(), 0);
-    assert!(rt; map.figures() == AT_FIRST);
-    Ok(())
-}
-
-#[test]
 fn nothing_waits_in_memory(rt: HostRuntime) -> Result<(), Fail> {
     let geom = Geom::new(64, 16, 16)?;
     let mut map = PlainBlocks::formatted(rt.alloc(), geom)?;

@@ -28,30 +28,10 @@ fn each_seed_has_its_first_draws(rt: HostRuntime) {
 }
 
 #[test]
-fn the_first_draw_of_one_in_parts(rt: HostRuntime) {
-    let value = Draws::new(1).draw();
-    assert_eq!(rt; value, 908_834_774);
-    assert_eq!(rt; value % 4, 2);
-    assert_eq!(rt; value / 4 % 3, 0);
-}
-
-#[test]
 fn the_thousandth_draw_of_one(rt: HostRuntime) {
     let mut draws = Draws::new(1);
     for _ in 0u32..999 {
         draws.draw();
     }
     assert_eq!(rt; draws.draw(), 2_055_995_315);
-}
-
-#[test]
-fn a_copy_draws_the_same(rt: HostRuntime) {
-    let mut draws = Draws::new(2);
-    assert_eq!(rt; draws.draw(), 1_649_717_740);
-    let mut same = draws;
-    assert!(rt; same == draws);
-    assert_eq!(rt; same.draw(), 1_969_491_882);
-    assert!(rt; same != draws);
-    assert_eq!(rt; draws.draw(), 1_969_491_882);
-    assert!(rt; same == draws);
 }

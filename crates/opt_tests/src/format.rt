@@ -54,23 +54,3 @@ fn each_block_of_the_least_disk(rt: HostRuntime) -> Result<(), Fail> {
     }
     Ok(())
 }
-
-fn are_set(bytes: &[u8], count: usize) -> bool {
-    bytes.iter().take(count).all(|byte| *byte == 0xff)
-}
-
-/// 128 blocks of bits from block 65,538 on, and 16,384 of nodes: the data begin at block 82,050, whose bit
-/// is bit 2 of byte 16 of the eleventh block of bits.
-#[test]
-fn the_bits_at_the_seam_of_the_greatest_disk(rt: HostRuntime) -> Result<(), Fail> {
-    let geom = Geom::new(1_048_576, 65_536, 65_536)?;
-    let before = formatted_block(&geom, 65_547);
-    assert!(rt; are_set(before.as_slice(), 1024));
-    let seam = formatted_block(&geom, 65_548);
-    assert!(rt; are_set(seam.as_slice(), 16));
-    assert_eq!(rt; seam[16], 0x03);
-    assert!(rt; are_zeros(seam.as_slice(), 17));
-    let behind = formatted_block(&geom, 65_549);
-    assert!(rt; are_zeros(behind.as_slice(), 0));
-    Ok(())
-}

@@ -89,19 +89,6 @@ fn a_source_fails_at_its_second_call_and_goes_on(rt: HostRuntime) {
 }
 
 #[test]
-fn a_source_gives_one_byte_at_a_time(rt: HostRuntime) {
-    let mut source = MemSource::new(rt.alloc(), b"ab", &[])
-        .expect(&rt, "memory")
-        .in_pieces(1);
-    let mut into = [0; 8];
-    assert_eq!(rt; source.pull(&mut into), Ok(1));
-    assert_eq!(rt; into[0], 97);
-    assert_eq!(rt; source.pull(&mut into), Ok(1));
-    assert_eq!(rt; into[0], 98);
-    assert_eq!(rt; source.pull(&mut into), Ok(0));
-}
-
-#[test]
 fn a_full_sink_fails(rt: HostRuntime) {
     let mut sink = MemSink::new(rt.alloc(), 3, &[]).expect(&rt, "memory");
     assert_eq!(rt; push_all(&mut sink, b"abcde"), Err(SinkFault));

@@ -1,4 +1,4 @@
-//! The image of a formatted disk under a name of a bay in memory: what is under it, and where calls fail. The least disk
+//! The image of a formatted disk under a name of a bay in memory, where calls of its making fail. The least disk
 //! has 23 blocks before the data, and a formatting of it makes 24 writes. What is expected was worked out by hand from
 //! docs/FORMATTING.md and docs/TREE.md.
 
@@ -10,9 +10,6 @@ use opt_memdisk::{DiskCall, Fail as Failing};
 use opt_show::{ShowRefusal, show_tree};
 use std::alloc::Global;
 use std::test::Fail;
-
-/// The listing of the root alone.
-const ROOT: &[u8] = b"dir / 1\n";
 
 /// What a making of the least image answers, and what a showing of it answers then, where these calls fail.
 fn answers_of(
@@ -28,20 +25,6 @@ fn answers_of(
     bay.disk_fail_at("a", &[])?;
     let mut sink = MemSink::new(alloc, 1000, &[])?;
     Ok((made, show_tree(alloc, &mut bay, "a", &mut sink)))
-}
-
-#[test]
-fn an_image_that_was_made_is_shown(rt: HostRuntime) -> Result<(), Fail> {
-    let alloc = rt.alloc();
-    let geom = Geom::new(64, 16, 16)?;
-    let mut bay = MemBay::new(alloc, 60);
-    assert_eq!(rt; make_image(alloc, &mut bay, "a", &geom), Ok(()));
-    assert!(rt; bay.last_marks("a").is_empty());
-    assert!(rt; bay.image("a").is_some_and(|image| image.len() == 64));
-    let mut sink = MemSink::new(alloc, 1000, &[])?;
-    assert_eq!(rt; show_tree(alloc, &mut bay, "a", &mut sink), Ok(()));
-    assert!(rt; sink.bytes() == ROOT);
-    Ok(())
 }
 
 #[test]

@@ -4,12 +4,11 @@
 
 use opt_disk::{Disk, Mark};
 use opt_format::formatted_block;
-use opt_fsck::{BlockDamage, Damage, TreeDamage};
 use opt_geom::Geom;
 use opt_io::MemSink;
 use opt_membay::{BayCall, BayFail, MemBay};
 use opt_memdisk::{DiskCall, Fail as Failing, Image};
-use opt_show::{ImageDamage, ShowRefusal, show_tree};
+use opt_show::{ShowRefusal, show_tree};
 use std::alloc::Global;
 use std::test::Fail;
 
@@ -39,26 +38,6 @@ fn bay_with(alloc: Global, image: Image) -> Result<MemBay, Fail> {
     Ok(bay)
 }
 
-/// What a showing answers of the image in which one byte of a block was set.
-fn answer_with(
-    alloc: Global,
-    block: u32,
-    at: usize,
-    byte: u8,
-) -> Result<Result<(), ShowRefusal>, Fail> {
-    let mut bay = bay_with(alloc, image_with(alloc, block, at, byte)?)?;
-    let mut sink = MemSink::new(alloc, 1000, &[])?;
-    Ok(show_tree(alloc, &mut bay, "a", &mut sink))
-}
-
-fn damaged(damage: ImageDamage) -> Result<(), ShowRefusal> {
-    Err(ShowRefusal::Damaged { damage })
-}
-
-fn broken(what: Damage) -> Result<(), ShowRefusal> {
-    damaged(ImageDamage::Broken { what })
-}
-
 #[test]
 fn the_root_of_a_formatted_disk_is_shown(rt: HostRuntime) -> Result<(), Fail> {
     let alloc = rt.alloc();
@@ -80,33 +59,6 @@ fn the_root_of_a_formatted_disk_is_shown(rt: HostRuntime) -> Result<(), Fail> {
         show_tree(alloc, &mut bay, "b", &mut sink),
         Err(ShowRefusal::Fault)
     );
-    Ok(())
-}
-
-#[test]
-fn what_is_broken_is_named(rt: HostRuntime) -> Result<(), Fail> {
-    let rows = [
-        (0, 0, 0, damaged(ImageDamage::NoHeader)),
-        (18, 0, 0xfe, damaged(ImageDamage::BadBit { block: 0 })),
-        (18, 2, 0x3f, damaged(ImageDamage::BadBit { block: 22 })),
-        (18, 8, 1, damaged(ImageDamage::BadBit { block: 64 })),
-        (
-            18,
-            2,
-            0xff,
-            broken(Damage::Blocks(BlockDamage::Lost { block: 23 })),
-        ),
-        (
-            19,
-            0,
-            0,
-            broken(Damage::Blocks(BlockDamage::BadNode { node: 1 })),
-        ),
-        (19, 0, 2, broken(Damage::Tree(TreeDamage::NoRoot))),
-    ];
-    for (block, at, byte, wanted) in rows {
-        assert_eq!(rt; answer_with(rt.alloc(), block, at, byte)?, wanted);
-    }
     Ok(())
 }
 

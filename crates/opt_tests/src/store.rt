@@ -6,7 +6,7 @@ use crate::format::is_right;
 use opt_base::Block;
 use opt_disk::Disk;
 use opt_geom::Geom;
-use opt_memdisk::{Choice, DiskCall, Fail as Failing, Image, Logged, MemDisk};
+use opt_memdisk::{Choice, Image, Logged, MemDisk};
 use opt_mount::mount;
 use opt_store::{MkfsRefusal, mkfs};
 use std::alloc::Global;
@@ -98,34 +98,6 @@ fn a_used_disk_is_formatted_and_mounted(rt: HostRuntime) -> Result<(), Fail> {
     let header = mounted.header;
     assert_eq!(rt; (mounted.slot, header.epoch, header.turn), (1, 2, 2));
     assert_eq!(rt; (header.start, header.sure, header.at), (1, 0, 0));
-    Ok(())
-}
-
-/// What a formatting answers of which one call fails, and how many writes and waits are counted as failed.
-fn answer_of(
-    alloc: Global,
-    kind: DiskCall,
-    nth: u64,
-) -> Result<(Result<(), MkfsRefusal>, u64), Fail> {
-    let mut disk = used_disk(alloc)?;
-    disk.fail_at(alloc, [Failing { kind, nth }].as_slice())?;
-    let answer = format(alloc, &mut disk)?;
-    Ok((answer, disk.counts().1))
-}
-
-/// Each of the 24 writes and of the 24 waits fails in turn. No other call is made.
-#[test]
-fn each_write_and_each_wait_may_fail(rt: HostRuntime) -> Result<(), Fail> {
-    for kind in [DiskCall::Write, DiskCall::Wait] {
-        for nth in 1..25u64 {
-            let failed = answer_of(rt.alloc(), kind, nth)?;
-            assert_eq!(rt; failed, (Err(MkfsRefusal::DiskFault), 1));
-        }
-        assert_eq!(rt; answer_of(rt.alloc(), kind, 25)?, (Ok(()), 0));
-    }
-    for kind in [DiskCall::Read, DiskCall::Poll] {
-        assert_eq!(rt; answer_of(rt.alloc(), kind, 1)?, (Ok(()), 0));
-    }
     Ok(())
 }
 
