@@ -98,7 +98,7 @@ impl Clone for BoxedBlock {
     ghost is_clone = { λ block clone. clone ≡ block };
 
     fn clone(&self) -> Result<BoxedBlock, AllocError> {
-        let bytes = self.bytes.clone()?;
+        let bytes = Box::new(*Box::allocator(&self.bytes), *self.bytes)?;
         Ok(BoxedBlock { bytes })
     }
 }

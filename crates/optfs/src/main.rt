@@ -1,43 +1,18 @@
-//! The program `optfs`: words and an input in, an output out. The crates below hold the parts; here are the formatted
-//! disk of a recording and its mount, the reading of lines, the recording of their commands, the endings of a replay and
-//! of a showing, and the exit status. The rules are described in docs/SCRIPT.md, docs/TRACE.md and docs/CRASHES.md.
+//! The process `optfs`: its words, its standard streams and the image files go into `opt_program`, and the status comes out.
+//! Nothing here has a clause; what it is trusted for is in the README.
 #![tactic(auto)]
 
-mod disk;
-mod events;
-mod laws;
-mod loading;
-mod making;
 mod messages;
-mod mounting;
-mod program;
-mod reading;
-mod recording;
-mod replaying;
 mod replies;
-mod running;
-mod scripting;
-mod showing;
-mod status;
 mod streams;
-mod telling;
 #[cfg(test)]
 mod tests;
-#[cfg(test)]
-mod tree_tests;
 
-pub use laws::{
-    a_crash_of_a_recording_is_found, a_disk_at_rest_is_crash_consistent,
-    a_text_is_served_in_one_way, no_fault_is_made_where_nothing_fails,
-    the_last_point_stands_where_accepted_writes_do, what_need_not_come_back_is_there,
-    wrong_traces_are_refused,
-};
 use messages::say_why;
 use opt_filedisk::FileBay;
 use opt_io::{ReadSource, WriteSink};
-pub use program::optfs;
+use opt_program::{Status, optfs};
 use replies::Replies;
-pub use status::Status;
 use std::cell::RefCell;
 use std::env;
 use std::io::{self, ErrorKind};

@@ -1,9 +1,9 @@
 //! What a run says on standard error: why its status isn't 0, and what the system said. Standard output has what the
 //! pages promise, and none of this; no contract reads it.
 
-use crate::status::Status;
 use crate::streams::Streams;
 use opt_filedisk::FileBay;
+use opt_program::Status;
 use opt_words::complaint;
 use std::rt::HostRuntime;
 
