@@ -1,4 +1,4 @@
--- The disk of a recording: how it behaves, and what it is before and after its mount. Only private contracts speak of it.
+-- The disk of a recording: how it behaves, and what it is before and after its mount. The contracts of `begin` and `record_lines` speak of it, and private ones.
 use Rattle.std.specs.Prelude.{◌≡◌, ◌↔◌, ◌⊎◌, ℕ, ◌^◌, ◌<◌, ◌≤◌, false, true, IsTrue, [], List, length, Some, None}
 use Rattle.opt_disk.specs.declared.event.Event.{Event}
 use Rattle.opt_disk.specs.Cell.{cell_of}

@@ -1,4 +1,4 @@
--- How far a recording has come after the bytes that it has seen. Only proofs and private contracts speak of it.
+-- How far a recording has come after the bytes that it has seen. The contract of `record_lines` says by it how a recording stops; of the rest only proofs and private contracts speak.
 use Rattle.std.specs.Prelude.{◌≡◌, ℕ, ◌+◌, ◌≤◌, List, take, Option, Result, Ok, Err}
 use Rattle.std.specs.Io.KnownBytes.{Appends}
 use Rattle.opt_base.specs.Counts.{Rose}

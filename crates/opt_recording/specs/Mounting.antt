@@ -1,4 +1,4 @@
--- What comes of the mount of a disk that was just formatted. Only private contracts speak of it.
+-- What comes of the mount of a disk that was just formatted. The contract of `begin` speaks of it, and private ones.
 use Rattle.opt_memdisk.specs.MemDisk.{state_of as disk_state}
 use Rattle.opt_store.specs.StoreOf.{state_of}
 use Rattle.opt_fs.specs.Opened.{blocks_in}

@@ -1,4 +1,4 @@
--- How far the reading of an input has come. Only proofs and private contracts speak of it.
+-- How far the reading of an input has come. The contract of `record_lines` says by it how the reading ends; of the rest only proofs and private contracts speak.
 use Rattle.std.specs.Prelude.{◌≡◌, ℕ, ◌+◌, ◌^◌, ◌<◌, ◌≤◌, List, [], ◌∷◌, ◌++◌, length, Option}
 use Rattle.std.specs.Io.KnownBytes.{Consumes, IsAtEnd}
 use Rattle.opt_base.specs.Counts.{Rose}
