@@ -384,8 +384,8 @@ class Tree:
         for first in range(0, node.size, SLOT):
             child, length = struct.unpack("<IB", whole[first : first + 5])
             name, rest = whole[first + 5 : first + 5 + length], whole[first + 5 + length : first + SLOT]
-            is_odd = not 1 <= length <= 59 or any(rest) or not re.fullmatch(rb"[!-.0-~]+", name) or name in (b".", b"..")
-            damaged_where(is_odd or name.decode() in slots, "a slot")
+            is_name = 1 <= length <= 59 and re.fullmatch(rb"[!-.0-~]+", name) and name not in (b".", b"..")
+            damaged_where(not is_name or any(rest) or name.decode() in slots, "a slot")
             damaged_where(child == 1 or child not in self.nodes, "a slot's node")
             slots[name.decode()] = child
         return slots
@@ -519,12 +519,14 @@ def recorded(trace):
     """What all records of a trace leave in the blocks that they name."""
     blocks = {}
     for place, event in enumerate(trace.events):
-        commit = read_commit(trace.geometry, event.data) if event.kind == "w" and event.block < trace.geometry.bitmap else None
+        is_in_ring = event.kind == "w" and event.block < trace.geometry.bitmap
+        commit = read_commit(trace.geometry, event.data) if is_in_ring else None
         if commit is None:
             continue
         _, _, heads, payloads, fresh = commit
         writes = trace.events[place - fresh - heads - payloads : place]
-        entries = [entry for one in writes[fresh : fresh + heads] for entry in read_descriptor(trace.geometry, one.data)[3]]
+        parts = [read_descriptor(trace.geometry, one.data)[3] for one in writes[fresh : fresh + heads]]
+        entries = [entry for part in parts for entry in part]
         for entry, one in zip(entries, [*writes[fresh + heads :], *writes[:fresh]]):
             blocks[entry.block] = unescaped(entry.kind, one.data)
     return blocks
