@@ -86,12 +86,7 @@ fn add_bytes(
 }
 
 // Puts an image under a name.
-fn put_image(
-    alloc: Global,
-    bay: &mut MemBay,
-    name: &str,
-    kind: &[&str],
-) -> Result<bool, NoMemory> {
+fn put_image(alloc: Global, bay: &mut MemBay, name: &str, kind: &[&str]) -> Result<bool, NoMemory> {
     match kind {
         ["zeros", blocks] => match number(blocks) {
             Some(blocks) => {

@@ -27,10 +27,10 @@ impl AtHand {
         }
     }
 
-    /// Begins anew, with an empty bay whose disks take so many writes. What is kept stays.
+    /// Begins anew, with an empty bay whose disks take so many writes.
     pub(crate) fn begin(&mut self, alloc: Global, room: u32) {
         self.bay = MemBay::new(alloc, room);
-        self.streams.begin(alloc);
+        self.streams = Streams::new(alloc);
     }
 
     /// Runs the program with these words. The number of its status.

@@ -1,6 +1,6 @@
 //! Images under the names of the bay: how they are made and changed by hand, and what is asked of them.
 
-use crate::texts::{push_hex, push_number};
+use crate::texts::{flat, push_hex, push_number};
 use opt_base::limits::BLOCK_LENGTH;
 use opt_base::{Block, NoMemory};
 use opt_disk::Disk;
@@ -125,7 +125,7 @@ pub(crate) fn blocks_text(alloc: Global, bay: &MemBay, name: &str) -> Result<Vec
     Ok(text)
 }
 
-/// So many bytes of a block of the image under a name, from `offset` on.
+/// So many bytes of a block of the image under a name, from `offset` on; `None` where it hasn't this block.
 ///
 /// # Errors
 /// Out of memory.
@@ -143,12 +143,22 @@ pub(crate) fn bytes_text(
     let Some(block) = blocks.get(b as usize) else {
         return Ok(None);
     };
-    let mut text = Vec::new(alloc);
-    let bytes = block.iter().skip(offset).take(count);
-    for byte in bytes {
-        push_hex(&mut text, *byte)?;
-    }
+    let text = hex_text(alloc, block, offset, count)?;
     Ok(Some(text))
+}
+
+// So many bytes of a block, from `offset` on.
+fn hex_text(
+    alloc: Global,
+    block: &Block,
+    offset: usize,
+    count: usize,
+) -> Result<Vec<u8>, NoMemory> {
+    let mut digits = Vec::new(alloc);
+    for byte in block.iter().skip(offset).take(count) {
+        push_hex(&mut digits, *byte)?;
+    }
+    flat(alloc, digits.as_slice())
 }
 
 /// Whether the images under two names have the same blocks; `None` where one of them isn't there.
@@ -200,13 +210,17 @@ fn push_event(alloc: Global, text: &mut Vec<u8>, disk: &MemDisk, i: u64) -> Resu
 }
 
 /// The marks that came with the disk that the bay got back last under a name: of each its moment, the failed reads and the
-/// other failed calls by then.
+/// other failed calls by then. `none` where there are none.
 ///
 /// # Errors
 /// Out of memory.
 pub(crate) fn marks_text(alloc: Global, bay: &MemBay, name: &str) -> Result<Vec<u8>, NoMemory> {
+    let marks = bay.last_marks(name);
     let mut text = Vec::new(alloc);
-    for mark in bay.last_marks(name) {
+    if marks.is_empty() {
+        text.extend_from_slice(b"none")?;
+    }
+    for mark in marks {
         push_number(alloc, &mut text, mark.moment)?;
         text.push(b' ')?;
         push_number(alloc, &mut text, mark.read_faults)?;

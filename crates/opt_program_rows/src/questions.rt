@@ -7,7 +7,7 @@ use crate::acts::act;
 use crate::at_hand::AtHand;
 use crate::images::{are_equal, blocks_text, bytes_text, events_text, marks_text};
 use crate::streams::Streams;
-use crate::texts::{flat, lines_of, push_number};
+use crate::texts::{flat, has_front, lines_of, push_number};
 use crate::words::{number, size, words_of};
 use opt_base::NoMemory;
 use opt_membay::MemBay;
@@ -28,11 +28,7 @@ pub enum Outcome {
 ///
 /// # Errors
 /// Out of memory.
-pub(crate) fn take(
-    alloc: Global,
-    at_hand: &mut AtHand,
-    text: &str,
-) -> Result<Outcome, NoMemory> {
+pub(crate) fn take(alloc: Global, at_hand: &mut AtHand, text: &str) -> Result<Outcome, NoMemory> {
     if text.starts_with('<') {
         return done(alloc, at_hand, text);
     }
@@ -71,7 +67,7 @@ fn answer(alloc: Global, at_hand: &mut AtHand, said: &str) -> Result<Option<Vec<
         ["run", words @ ..] => run(alloc, at_hand, words),
         ["status", words @ ..] => status(alloc, at_hand, words),
         words => {
-            if let Some(text) = of_streams(alloc, &at_hand.streams, words)? {
+            if let Some(text) = of_output(alloc, &at_hand.streams, said, words)? {
                 return Ok(Some(text));
             }
             of_bay(alloc, &at_hand.bay, words)
@@ -80,11 +76,7 @@ fn answer(alloc: Global, at_hand: &mut AtHand, said: &str) -> Result<Option<Vec<
 }
 
 // Runs the program with these words: the number of its status, and its output.
-fn run(
-    alloc: Global,
-    at_hand: &mut AtHand,
-    words: &[&str],
-) -> Result<Option<Vec<u8>>, NoMemory> {
+fn run(alloc: Global, at_hand: &mut AtHand, words: &[&str]) -> Result<Option<Vec<u8>>, NoMemory> {
     let number = at_hand.run(alloc, words)?;
     let mut text = Vec::new(alloc);
     push_number(alloc, &mut text, u64::from(number))?;
@@ -107,14 +99,19 @@ fn status(
     Ok(Some(text))
 }
 
-// What is asked of the last run's streams.
-fn of_streams(
+// What is asked of the last run's streams by this text, which has these words.
+fn of_output(
     alloc: Global,
     streams: &Streams,
+    said: &str,
     words: &[&str],
 ) -> Result<Option<Vec<u8>>, NoMemory> {
     let output = streams.output.as_slice();
     let kept = streams.kept.as_slice();
+    if let Some(front) = said.strip_prefix("begins ") {
+        let text = told(alloc, has_front(output, front.as_bytes()))?;
+        return Ok(Some(text));
+    }
     let text = match words {
         ["lines", letters] => lines_of(alloc, output, letters.as_bytes())?,
         ["same"] => told(alloc, output == kept)?,

@@ -3,7 +3,6 @@
 use opt_base::NoMemory;
 use opt_io::{MemSink, MemSource, Source};
 use std::alloc::Global;
-use std::mem;
 
 /// How many bytes an output takes, where no row says it.
 const ROOM: u64 = 1_000_000;
@@ -42,13 +41,6 @@ impl Streams {
             left: 0,
             kept: Vec::new(alloc),
         }
-    }
-
-    /// Begins anew, but what is kept stays.
-    pub(crate) fn begin(&mut self, alloc: Global) {
-        let kept = mem::replace(&mut self.kept, Vec::new(alloc));
-        *self = Streams::new(alloc);
-        self.kept = kept;
     }
 
     /// The source of the next run.

@@ -38,6 +38,12 @@ pub(crate) fn lines_of(alloc: Global, text: &[u8], letters: &[u8]) -> Result<Vec
     Ok(lines)
 }
 
+/// Whether a line of a text begins with this.
+pub(crate) fn has_front(text: &[u8], front: &[u8]) -> bool {
+    text.split(|byte| *byte == b'\n')
+        .any(|line| line.starts_with(front))
+}
+
 // Whether a line begins with one of these letters.
 fn begins(line: &[u8], letters: &[u8]) -> bool {
     match line.first() {
