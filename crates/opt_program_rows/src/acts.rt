@@ -65,8 +65,21 @@ fn add_input(alloc: Global, input: &mut Vec<u8>, line: &str) -> Result<bool, NoM
             Some(count) => add_bytes(alloc, input, count, digits),
             None => Ok(false),
         },
+        ["again", count] => match number(count) {
+            Some(count) => add_again(alloc, input, count),
+            None => Ok(false),
+        },
         _ => Ok(false),
     }
+}
+
+// Adds so many times what the input has.
+fn add_again(alloc: Global, input: &mut Vec<u8>, count: u32) -> Result<bool, NoMemory> {
+    let so_far = Vec::from_slice(alloc, input.as_slice())?;
+    for _ in 0..count {
+        input.extend_from_slice(so_far.as_slice())?;
+    }
+    Ok(true)
 }
 
 // Adds these bytes so many times.
