@@ -316,6 +316,17 @@ class Node(NamedTuple):
     places: list
 
 
+def node_bytes(kind, links, size, runs):
+    """The bytes of a node in use."""
+    head = struct.pack("<BBHIQ16x", kind, 0, len(runs), links, size)
+    return (head + b"".join(struct.pack("<II", *run) for run in runs)).ljust(NODE, b"\0")
+
+
+def slot_bytes(number, name):
+    """The bytes of a slot."""
+    return (struct.pack("<IB", number, len(name)) + name).ljust(SLOT, b"\0")
+
+
 def damaged_where(is_broken, what):
     if is_broken:
         raise Damage(what)
