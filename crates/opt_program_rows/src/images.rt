@@ -4,7 +4,7 @@ use crate::texts::{flat, push_hex, push_number};
 use opt_base::limits::BLOCK_LENGTH;
 use opt_base::{Block, NoMemory};
 use opt_disk::Disk;
-use opt_format::formatted_block;
+use opt_formatted::formatted_image;
 use opt_geom::Geom;
 use opt_membay::MemBay;
 use opt_memdisk::{Image, Logged, MemDisk};
@@ -36,16 +36,6 @@ pub(crate) fn put_formatted(
 ) -> Result<(), NoMemory> {
     let image = formatted_image(alloc, geom)?;
     bay.put(name, image)
-}
-
-fn formatted_image(alloc: Global, geom: &Geom) -> Result<Image, NoMemory> {
-    let mut image = Image::zeros(alloc, geom.n())?;
-    for b in 0..geom.data_start() {
-        if b < image.blocks() {
-            image.set(alloc, b, &formatted_block(geom, b))?;
-        }
-    }
-    Ok(image)
 }
 
 /// Puts bytes into a block of the image under a name, from `offset` on. Whether the image has them.
