@@ -1,10 +1,10 @@
 //! Images under the names of the bay: how they are made and changed by hand, and what is asked of them.
 
-use crate::texts::{flat, push_hex, push_number};
+use crate::texts::{flat, push_number};
 use opt_base::limits::BLOCK_LENGTH;
 use opt_base::{Block, NoMemory};
 use opt_disk::Disk;
-use opt_format::formatted_block;
+use opt_formatted::formatted_image;
 use opt_geom::Geom;
 use opt_membay::MemBay;
 use opt_memdisk::{Image, Logged, MemDisk};
@@ -36,16 +36,6 @@ pub(crate) fn put_formatted(
 ) -> Result<(), NoMemory> {
     let image = formatted_image(alloc, geom)?;
     bay.put(name, image)
-}
-
-fn formatted_image(alloc: Global, geom: &Geom) -> Result<Image, NoMemory> {
-    let mut image = Image::zeros(alloc, geom.n())?;
-    for b in 0..geom.data_start() {
-        if b < image.blocks() {
-            image.set(alloc, b, &formatted_block(geom, b))?;
-        }
-    }
-    Ok(image)
 }
 
 /// Puts bytes into a block of the image under a name, from `offset` on. Whether the image has them.
@@ -125,7 +115,7 @@ pub(crate) fn blocks_text(alloc: Global, bay: &MemBay, name: &str) -> Result<Vec
     Ok(text)
 }
 
-/// So many bytes of a block of the image under a name, from `offset` on; `None` where it hasn't this block.
+/// So many bytes of a block of the image under a name, from `offset` on; `None` where it hasn't them.
 ///
 /// # Errors
 /// Out of memory.
@@ -140,25 +130,25 @@ pub(crate) fn bytes_text(
         return Ok(None);
     };
     let (b, offset) = place;
-    let Some(block) = blocks.get(b as usize) else {
-        return Ok(None);
-    };
-    let text = hex_text(alloc, block, offset, count)?;
-    Ok(Some(text))
+    match blocks.get(b as usize) {
+        Some(block) => hex_text(alloc, block, offset, count),
+        None => Ok(None),
+    }
 }
 
-// So many bytes of a block, from `offset` on.
+// So many bytes of a block, from `offset` on, as digits.
 fn hex_text(
     alloc: Global,
     block: &Block,
     offset: usize,
     count: usize,
-) -> Result<Vec<u8>, NoMemory> {
-    let mut digits = Vec::new(alloc);
-    for byte in block.iter().skip(offset).take(count) {
-        push_hex(&mut digits, *byte)?;
+) -> Result<Option<Vec<u8>>, NoMemory> {
+    if offset > BLOCK_LENGTH || count > BLOCK_LENGTH - offset {
+        return Ok(None);
     }
-    flat(alloc, digits.as_slice())
+    let digits = hex::encode(alloc, &block[offset..offset + count])?;
+    let text = flat(alloc, digits.as_bytes())?;
+    Ok(Some(text))
 }
 
 /// Whether the images under two names have the same blocks; `None` where one of them isn't there.

@@ -94,22 +94,3 @@ pub(crate) fn push_number(alloc: Global, text: &mut Vec<u8>, number: u64) -> Res
     text.extend_from_slice(digits.as_bytes())?;
     Ok(())
 }
-
-/// Adds a byte as two hexadecimal digits.
-///
-/// # Errors
-/// Out of memory.
-pub(crate) fn push_hex(text: &mut Vec<u8>, byte: u8) -> Result<(), NoMemory> {
-    text.push(digit(byte / 16))?;
-    text.push(digit(byte % 16))?;
-    Ok(())
-}
-
-// The digit of a number below 16.
-fn digit(number: u8) -> u8 {
-    if number < 10 {
-        b'0' + number
-    } else {
-        b'a' + (number % 16 - 10)
-    }
-}
