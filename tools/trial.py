@@ -50,12 +50,17 @@ def skip(why):
     sys.exit(0)
 
 
+def can_trace():
+    """Whether a program can be traced here."""
+    is_there = shutil.which("strace") is not None
+    return is_there and subprocess.run(["strace", "-o", "/dev/null", "true"], capture_output=True).returncode == 0
+
+
 def need_strace():
     """Skips the trial where no program can be traced here."""
     if shutil.which("strace") is None:
         skip("there is no strace on the PATH")
-    tried = subprocess.run(["strace", "-o", "/dev/null", "true"], capture_output=True)
-    if tried.returncode != 0:
+    if not can_trace():
         skip("strace can't trace a program here")
 
 

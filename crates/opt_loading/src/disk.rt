@@ -6,9 +6,9 @@ ghost use Rattle.opt_loading.specs.Serving.{IsFormattedDisk, rule_of};
 ghost use Rattle.opt_loading.specs.Summary.{shape};
 
 use opt_base::NoMemory;
+use opt_formatted::formatted_image;
 use opt_geom::Geom;
 use opt_memdisk::{MemDisk, Rule};
-use opt_replay::formatted_image;
 use std::alloc::Global;
 
 /// For how many writes the disk has room.

@@ -1,28 +1,28 @@
 -- The last line of each ending, taken or not.
-use Rattle.std.proofs.Common.{◌≡◌, ℕ, ◌^◌, ◌≤◌, ◌==◌, nat_lt, Bool, true, false, if◌then◌else◌, List, [], ◌∷◌, ◌++◌, flat_map, length, take, drop, Option, refl, sym, ap, ◌∙◌, subst, inl, inr, arith, append_assoc, take-append-drop}
+use Rattle.std.proofs.Common.{◌≡◌, ℕ, ◌^◌, ◌≤◌, ◌==◌, nat_lt, Bool, true, false, if◌then◌else◌, List, [], ◌∷◌, ◌++◌, flat_map, length, take, drop, Option, refl, sym, ap, ◌∙◌, subst, inl, inr, arith, append_assoc, append-nil, take-append-drop, take_all}
 use Rattle.std.specs.Io.KnownBytes.{Appends}
 use Rattle.std.proofs.KnownBytes.{Appends-trans, Appends-nil, Consumes-nil}
 use Rattle.opt_base.specs.Counts.{Rose}
-use Rattle.opt_geom.specs.Geometry.{Geometry, geometry_fits}
+use Rattle.opt_disk.specs.declared.event.Event.{Event}
+use Rattle.opt_geom.specs.Geometry.{Geometry, IsGeometry}
 use Rattle.opt_script.specs.Grammar.{command_of}
 use Rattle.opt_script.specs.Values.{IsCommand}
 use Rattle.opt_stands.specs.Stands.{StandsFor}
 use Rattle.opt_journal.specs.Formatted.{formatted}
 use Rattle.opt_memdisk.specs.MemDisk.{MemDiskState, state_of as disk_state}
-use Rattle.opt_trace.specs.Contents.{Each}
+use Rattle.opt_trace.specs.Contents.{Each, front_of}
 use Rattle.opt_trace.specs.Line.{geometry_line, event_lines, end_line}
 use Rattle.opt_tree.specs.declared.command.Cmd.TheVariants.{Bad}
 use Rattle.opt_tree.specs.Step.{start}
-use Rattle.opt_program.specs.Disks.{FailedToMount}
-use Rattle.opt_program.specs.Output.{ServesBy, Setting, IsWhole, FailsToMount}
-use Rattle.opt_program.specs.Reading.{AtEnding, Halted, ReadsAll, ReadsSome, ReadsTooMuch}
+use Rattle.opt_recording.specs.Disks.{FailedToMount}
+use Rattle.opt_recording.specs.Traces.{ServesBy, Setting, says}
+use Rattle.opt_recording.specs.Reading.{AtEnding, Halted, ReadsAll, ReadsSome, ReadsTooMuch}
 use Rattle.opt_lines.specs.Lines.{longest, commands_of_line, commands_of, whole_commands, whole_lines, parts_of}
+use Rattle.opt_program.specs.Output.{IsWhole, FailsToMount}
 use Rattle.opt_program.specs.Endings.{HasFault, Tells, disk_line, source_line, long_line}
 use Rattle.opt_program.specs.Program.{RecordsTo}
-use Rattle.opt_program.proofs.ReadingLemmas.{rose_before}
-use Rattle.opt_program.proofs.Runs.{each_append, front_at_first, small}
-use Rattle.opt_program.specs.declared.reading.Ending.{Ending}
-use Rattle.opt_program.specs.declared.reading.Ending.TheVariants.{End, SourceFault as Broke, LongInput as Longer}
+use Rattle.opt_recording.specs.declared.reading.Ending.{Ending}
+use Rattle.opt_recording.specs.declared.reading.Ending.TheVariants.{End, SourceFault as Broke, LongInput as Longer}
 use Rattle.opt_program.specs.declared.status.Status.{Status}
 use Rattle.opt_program.specs.declared.status.Status.TheVariants.{Done, NoMemory, DiskFault, SourceFault, SinkFault, LongInput}
 
@@ -31,6 +31,10 @@ use Rattle.opt_program.specs.declared.status.Status.TheVariants.{Done, NoMemory,
 -- each line is a command with lawful arguments
 abbrev pub AreCommands : Type 0
 AreCommands = (line : List ℕ) → IsCommand (command_of line)
+
+each_append : {A : Type 0} (P : A → Type 0) (xs ys : List A) → Each P xs → Each P ys → Each P (xs ++ ys)
+each_append P [] ys h k = k
+each_append P (x ∷ xs) ys h k = (h.0, each_append P xs ys h.1 k)
 
 line_read : AreCommands → (n : ℕ) (line : List ℕ) → Each IsCommand (commands_of_line n line)
 line_read read n [] = tt
@@ -149,6 +153,9 @@ closes_long set read ending result source source_now left now told mid out sink 
 
 -- The faults of a status whose line was told.
 
+pub rose_before : (first before now : ℕ) → first ≤ before → Rose before now → Rose first now
+rose_before first before now le rose = omega arith
+
 pub tells_fault : (status result : Status) (line : List ℕ) (told out : Option (List ℕ)) (source source_now first sink sink_now : ℕ) → first ≤ sink → HasFault status source source_now first sink_now
     → Tells status result line told out sink sink_now → HasFault result source source_now first sink_now
 tells_fault status result line told out source source_now first sink sink_now le fault (inl t) =
@@ -203,15 +210,18 @@ never_begun set left told source source_now = record {
 abbrev pub head_of : Geometry → MemDiskState → List ℕ
 head_of g d = (geometry_line g ++ event_lines d.log) ++ end_line
 
-fails_so : (set : Setting) (d : MemDiskState) → geometry_fits set.shape ≡ true → StandsFor set.shape.n (formatted set.shape) (start set.shape.i).tree → FailedToMount set (disk_state d) → FailsToMount set (head_of set.shape d ++ disk_line)
-fails_so set d fits root failed =
-    let low = small set.shape fits in
+-- the same of a mount and no command
+front_at_first : (g : Geometry) (log : List Event) → front_of (says g log (length log) [] [] []) ≡ geometry_line g ++ event_lines log
+front_at_first g log = append-nil (geometry_line g ++ event_lines (take (length log) log)) ∙ ap (λ (es : List Event). geometry_line g ++ event_lines es) (take_all (length log) log (omega arith))
+
+fails_so : (set : Setting) (d : MemDiskState) → IsGeometry set.shape → StandsFor set.shape.n (formatted set.shape) (start set.shape.i).tree → FailedToMount set (disk_state d) → FailsToMount set (head_of set.shape d ++ disk_line)
+fails_so set d low root failed =
     record {
       log = d.log;
       lawful = record {
-        blocks = omega (arith, low.0);
-        journal = omega (arith, low.1);
-        nodes = omega (arith, low.2);
+        blocks = omega (arith, low.most_blocks);
+        journal = omega (arith, low.most_journal);
+        nodes = omega (arith, low.most_nodes);
         log = failed.lawful;
         events = failed.events;
         cmds = tt;
@@ -228,9 +238,9 @@ fails_so set d fits root failed =
       is = ap (λ (xs : List ℕ). (xs ++ end_line) ++ disk_line) (sym (front_at_first set.shape d.log));
     }
 
-pub tells_disk : (set : Setting) (d : MemDiskState) (result : Status) (left told mid out : Option (List ℕ)) (source sink sink_now : ℕ) (line : List ℕ) → geometry_fits set.shape ≡ true → StandsFor set.shape.n (formatted set.shape) (start set.shape.i).tree → FailedToMount set (disk_state d)
+pub tells_disk : (set : Setting) (d : MemDiskState) (result : Status) (left told mid out : Option (List ℕ)) (source sink sink_now : ℕ) (line : List ℕ) → IsGeometry set.shape → StandsFor set.shape.n (formatted set.shape) (start set.shape.i).tree → FailedToMount set (disk_state d)
     → line ≡ disk_line → Appends told mid (head_of set.shape d) → Tells DiskFault result line mid out sink sink_now → RecordsTo set result left left told out source source
-tells_disk set d result left told mid out source sink sink_now line fits root failed is wrote (inl t) =
+tells_disk set d result left told mid out source sink sink_now line low root failed is wrote (inl t) =
     let P : Status → Type 0 = λ s. RecordsTo set s left left told out source source in
     let Q : List ℕ → Type 0 = λ l. Appends mid out l in
     subst P (sym t.0) (record {
@@ -238,9 +248,9 @@ tells_disk set d result left told mid out source sink sink_now line fits root fa
       reads = (refl, (Consumes-nil left, omega arith));
       text = head_of set.shape d ++ disk_line;
       writes = Appends-trans told mid out (head_of set.shape d) disk_line wrote (subst Q is t.1);
-      output = fails_so set d fits root failed;
+      output = fails_so set d low root failed;
     })
-tells_disk set d result left told mid out source sink sink_now line fits root failed is wrote (inr t) =
+tells_disk set d result left told mid out source sink sink_now line low root failed is wrote (inr t) =
     let P : Status → Type 0 = λ s. RecordsTo set s left left told out source source in
     let Q : List ℕ → Type 0 = λ l. Appends mid out (take t.1.0 l) in
     subst P (sym t.0) (record {
@@ -248,15 +258,15 @@ tells_disk set d result left told mid out source sink sink_now line fits root fa
       reads = inl (Consumes-nil left, omega arith);
       text = head_of set.shape d ++ take t.1.0 disk_line;
       writes = Appends-trans told mid out (head_of set.shape d) _ wrote (subst Q is t.1.1);
-      output = inr (inr (drop t.1.0 disk_line, subst (FailsToMount set) (regroup (head_of set.shape d) disk_line t.1.0) (fails_so set d fits root failed)));
+      output = inr (inr (drop t.1.0 disk_line, subst (FailsToMount set) (regroup (head_of set.shape d) disk_line t.1.0) (fails_so set d low root failed)));
     })
 
-pub head_broke : (set : Setting) (d : MemDiskState) (left told out : Option (List ℕ)) (source n : ℕ) → geometry_fits set.shape ≡ true → StandsFor set.shape.n (formatted set.shape) (start set.shape.i).tree → FailedToMount set (disk_state d)
+pub head_broke : (set : Setting) (d : MemDiskState) (left told out : Option (List ℕ)) (source n : ℕ) → IsGeometry set.shape → StandsFor set.shape.n (formatted set.shape) (start set.shape.i).tree → FailedToMount set (disk_state d)
     → Appends told out (take n (head_of set.shape d)) → RecordsTo set SinkFault left left told out source source
-head_broke set d left told out source n fits root failed wrote = record {
+head_broke set d left told out source n low root failed wrote = record {
   seen = [];
   reads = inl (Consumes-nil left, omega arith);
   text = take n (head_of set.shape d);
   writes = wrote;
-  output = inr (inr (drop n (head_of set.shape d) ++ disk_line, subst (FailsToMount set) (ap (λ (l : List ℕ). l ++ disk_line) (sym (take-append-drop n (head_of set.shape d))) ∙ append_assoc (take n (head_of set.shape d)) (drop n (head_of set.shape d)) disk_line) (fails_so set d fits root failed)));
+  output = inr (inr (drop n (head_of set.shape d) ++ disk_line, subst (FailsToMount set) (ap (λ (l : List ℕ). l ++ disk_line) (sym (take-append-drop n (head_of set.shape d))) ∙ append_assoc (take n (head_of set.shape d)) (drop n (head_of set.shape d)) disk_line) (fails_so set d low root failed)));
 }

@@ -33,13 +33,13 @@ use Rattle.opt_run.specs.declared.ending.RunRefusal.TheVariants as run
 use Rattle.opt_run.specs.Runs.{HasRunCause}
 use Rattle.opt_words.specs.declared.request.Request.{Request}
 use Rattle.opt_words.specs.declared.request.Request.TheVariants.{Record, Replay, Tree, Make, Run, Load}
-use Rattle.opt_program.specs.declared.disk.Behaviour.{Behaviour}
-use Rattle.opt_program.specs.Behaving.{MountFails, fails_of, rule_of}
-use Rattle.opt_program.specs.Disks.{setting_on}
+use Rattle.opt_recording.specs.declared.disk.Behaviour.{Behaviour}
+use Rattle.opt_recording.specs.Behaving.{MountFails, fails_of, rule_of}
+use Rattle.opt_recording.specs.Disks.{setting_on}
 use Rattle.opt_program.specs.Endings.{EndsBehind, HasFault, Met, Tells, met, usage_line, disk_line, damaged_line, spent_line, no_prefix_line, shape_line, long_line, choice_line}
 use Rattle.opt_program.specs.Loading.{LoadsTo}
 use Rattle.opt_program.specs.Making.{EndsMaking, MakesTo}
-use Rattle.opt_program.specs.Output.{Setting}
+use Rattle.opt_recording.specs.Traces.{Setting}
 use Rattle.opt_program.specs.Program.{Completes, Does, EndsLoad, EndsMake, EndsReplay, EndsRun, EndsShow, EndsSo, MakesWhere, RecordsWhere, RecordsTo, Refuses, setting_of, shape_of}
 use Rattle.opt_program.specs.Replaying.{EndsAt, EndsCrash, EndsFound, EndsReading, ReplaysTo, trace_line}
 use Rattle.opt_program.specs.Scripting.{EndsScript, RunsTo}

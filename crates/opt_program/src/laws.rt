@@ -1,81 +1,33 @@
-//! Laws of what the program writes, and of disks that nothing is written to. They run nothing.
+//! Laws of what a replay of a recording answers, and of bays of which nothing fails. They run nothing.
 
-ghost use Rattle.std.specs.Prelude.{◌≡◌, ◌≢◌, ◌⊎◌, ◌+◌, ◌-◌, ◌≤◌, ℕ, Bool, false, true, IsTrue, length, take, slice_get, List, [], Some, Result, Err};
-ghost use Rattle.opt_base.specs.Seal.{Blocks};
+ghost use Rattle.std.specs.Prelude.{◌≡◌, ◌≢◌, ℕ, Bool, false, IsTrue, slice_get, List, Some, Result, Err};
 ghost use Rattle.opt_disk.specs.declared.bay.Mark.{Mark};
-ghost use Rattle.opt_disk.specs.declared.event.Event.{Event};
-ghost use Rattle.opt_disk.specs.Cell.{IsNoticed, is_accepted, is_noticed};
-ghost use Rattle.opt_disk.specs.Disk.{State, writes_in};
-ghost use Rattle.opt_disk.specs.Manner.{Manner, Polled, after_polls};
-ghost use Rattle.opt_geom.specs.Geometry.{Geometry, data_start};
-ghost use Rattle.opt_crash.specs.Points.{MountedSession};
+ghost use Rattle.opt_disk.specs.Disk.{State};
+ghost use Rattle.opt_geom.specs.Geometry.{Geometry};
 ghost use Rattle.opt_memdisk.specs.Choice.{ChoiceState};
 ghost use Rattle.opt_replay.specs.Replays.{Answers, Found};
 ghost use Rattle.opt_replay.specs.declared.refusal.ReplayRefusal.{ReplayRefusal};
 ghost use Rattle.opt_tree.specs.declared.command.Cmd.{Cmd};
-ghost use Rattle.opt_tree.specs.declared.command.Cmd.TheVariants.{Dsync, Durable, Osync, Stat};
 ghost use Rattle.opt_tree.specs.declared.command.Refusal.{Refusal};
-ghost use Rattle.opt_tree.specs.declared.command.Refusal.TheVariants.{DiskFault, Spent};
 ghost use Rattle.opt_tree.specs.declared.command.Reply.{Reply};
-ghost use Rattle.opt_tree.specs.declared.command.Reply.TheVariants.{Known, Refused, Synced};
-ghost use Rattle.opt_tree.specs.Points.{floor, is_sync};
-ghost use Rattle.opt_tree.specs.Step.{start};
-ghost use Rattle.opt_session.specs.Budget.{sync_places};
-ghost use Rattle.opt_session.specs.Crashes.{IsCrashConsistent};
-ghost use Rattle.opt_lines.specs.Lines.{longest, commands_of};
+ghost use Rattle.opt_tree.specs.declared.command.Reply.TheVariants.{Refused};
 ghost use Rattle.opt_trace.specs.Contents.{Contents, text_of};
 ghost use Rattle.opt_trace_reader.specs.Traces as reader;
 ghost use Rattle.opt_run.specs.Runs.{RunsDisk};
-ghost use Rattle.opt_run.specs.Serves.{own_records};
 ghost use Rattle.opt_run.specs.declared.ending.RunRefusal.TheVariants as run;
 ghost use Rattle.opt_make.specs.declared.refusal.MakeRefusal.TheVariants as make;
 ghost use Rattle.opt_show.specs.declared.refusal.ShowRefusal.TheVariants as show;
-ghost use Rattle.opt_program.specs.Behaving.{CameIn, OrdersAtOnce, Pace, PacesBy, Span, StepsBy, pace_at_first, places_wanted, session_by};
 ghost use Rattle.opt_program.specs.Calm.{IsCalm, NothingFails, is_for_a_call};
 ghost use Rattle.opt_program.specs.Endings.{Met};
 ghost use Rattle.opt_program.specs.Making.{MakesTo};
-ghost use Rattle.opt_program.specs.Output.{Serves, ServesBy, Setting, IsTrace, contents};
-ghost use Rattle.opt_program.specs.Recordings.{AcceptsLast, IsHonestCrash, IsPlaced};
+ghost use Rattle.opt_recording.specs.Traces.{Serves, IsTrace};
+ghost use Rattle.opt_program.specs.Recordings.{IsHonestCrash, IsPlaced};
 ghost use Rattle.opt_program.specs.Scripting.{RunsTo};
 ghost use Rattle.opt_program.specs.Showing.{ShowsTo};
-ghost use Rattle.opt_program.specs.Weights.{blocks_needed, places_by_weight};
-ghost use Rattle.opt_program.specs.WrongTraces.{Goes, IsHeard, IsUnwritten, LosesOwn, WaitsForNothing};
 ghost use Rattle.opt_program.specs.declared.status.Status.{Status};
 
-use opt_crash::a_read_gives_what_was_written_last;
-use opt_fs::a_command_takes_no_more_blocks_than_it_needs;
-use opt_stands::{an_image_stands_for_one_tree, images_alike_below_n_stand_for_the_same};
+use opt_stands::an_image_stands_for_one_tree;
 use opt_trace::equal_traces_have_equal_contents;
-
-/// Whoever has the text has the geometry, the events of the disk and how many of them are the mount's, the
-/// commands, the replies and their marks: they are the same in all that a text begins a trace of. So it is
-/// with whole traces, whatever bytes were read.
-pub fn a_text_is_served_in_one_way()
-    ensures front { (g h : Geometry) (cmds asked : List Cmd) (text : List ℕ) (s : Serves g cmds text) (t : Serves h asked text)
-        → contents g cmds text s ≡ contents h asked text t }
-    ensures whole { (g h : Geometry) (seen read text : List ℕ) (s : IsTrace (Serves g) seen text) (t : IsTrace (Serves h) read text)
-        → contents g (commands_of longest seen) s.body s.served ≡ contents h (commands_of longest read) t.body t.served }
-{
-    equal_traces_have_equal_contents();
-}
-
-/// A disk to which nothing is written is crash consistent, whatever its blocks are, with each run whose
-/// replies promise nothing: each image is the disk as it was.
-pub fn a_disk_at_rest_is_crash_consistent()
-    ensures { (n limit : ℕ) (base : Blocks) (cmds : List Cmd) (replies : List Reply) (marks : List ℕ)
-        → ((k : ℕ) → floor k replies marks ≡ 0) → IsCrashConsistent n limit base [] 0 cmds replies marks }
-{
-    images_alike_below_n_stand_for_the_same();
-}
-
-/// Before any fault of its disk a recording loses no write. So at each mark before one, the image that has all accepted
-/// writes stands for the last point by then.
-pub fn the_last_point_stands_where_accepted_writes_do()
-    ensures { (set : Setting) (cmds : List Cmd) (text : List ℕ) (s : ServesBy set cmds text) → AcceptsLast set.shape s.served.log s.served.mounted cmds s.served.replies s.served.marks }
-{
-    a_read_gives_what_was_written_last();
-    images_alike_below_n_stand_for_the_same();
-}
 
 /// Of a whole trace that a recording wrote, a crash whose image is honest is never answered as damaged; and where a
 /// tree is found, so is a sync point that has it. So it is with each answer that a replay may give of the contents
@@ -98,36 +50,4 @@ pub fn no_fault_is_made_where_nothing_fails()
     ensures replies { (first last : State) (marks : List Mark) (cmds : List Cmd) (replies : List Reply) → NothingFails first.manner → RunsDisk first last marks cmds replies
         → (i : ℕ) (why : Refusal) → slice_get replies i ≡ Some (Refused why) → is_for_a_call why ≡ false }
     ensures makes { (tells : Bool) (image : List ℕ) (g : Geometry) (status : Status) (m : Met) → IsTrue tells → m.bay.may_fail ≡ false → NothingFails (m.bay.manner image) → (x : MakesTo tells image g status m) → x.answer ≢ Err make.Fault }
-{}
-
-/// Nothing is waited for that need not come back. Where the records of all syncs so far would fit the ring by what
-/// they weigh, with this one's, a sync finds its places by the log, unless the disk failed its tick. Where the
-/// blocks that all commands so far needed leave as many data blocks as a command needs, that many may be taken.
-pub fn what_need_not_come_back_is_there()
-    ensures places { (g : Geometry) (m : Manner) (log : List Event) (mounted : ℕ) (cmds : List Cmd) (replies : List Reply) (marks : List ℕ) (last next : Pace) (cmd : Cmd) (reply : Reply)
-        → PacesBy (session_by g mounted) m log (pace_at_first g mounted) cmds replies marks last → (step : StepsBy (session_by g mounted) m log cmd reply last next)
-        → is_sync cmd ≡ true → last.over ≡ false → reply ≢ Refused Spent → m.waits_alone ≡ true → places_by_weight g (start g.i) 0 cmds replies + sync_places last.taken.weight ≤ g.j
-        → OrdersAtOnce (session_by g mounted) (take step.room.behind log) last.taken (places_wanted reply last.taken.weight (own_records (session_by g mounted) log step.room.behind next.events)) ⊎ ((next.events ≡ step.room.behind) × (reply ≡ Refused DiskFault)) }
-    ensures blocks { (g : Geometry) (m : Manner) (log : List Event) (mounted : ℕ) (cmds : List Cmd) (replies : List Reply) (marks : List ℕ) (last : Pace) (need : ℕ)
-        → PacesBy (session_by g mounted) m log (pace_at_first g mounted) cmds replies marks last → blocks_needed g (start g.i) cmds replies + need ≤ g.n - data_start g → need ≤ length last.room.room.takeable }
-{
-    a_command_takes_no_more_blocks_than_it_needs();
-}
-
-/// Traces that a wrong program could write are refused, each by a field of the clause. A command that lost a write is
-/// refused for it, and no other one is. Before the first sync nothing is written. A sync waits for nothing where its record
-/// fits a ring without records, a look never does, and a dsync for no write of its own tick. And `durable` is not answered by a
-/// point behind which another one is known.
-pub fn wrong_traces_are_refused()
-    ensures lost { (s : MountedSession) (m : Manner) (log : List Event) (cmd : Cmd) (reply : Reply) (old new : Pace) → StepsBy s m log cmd reply old new → LosesOwn log old new → (n : ℕ) → reply ≢ Synced n }
-    ensures later { (s : MountedSession) (m : Manner) (log : List Event) (cmd : Cmd) (old new : Pace) → StepsBy s m log cmd (Refused DiskFault) old new → m.refuses (take new.events log) ≡ false → m.stalls ≡ false → LosesOwn log old new }
-    ensures writes { (g : Geometry) (m : Manner) (log : List Event) (mounted : ℕ) (cmd : Cmd) (reply : Reply) (new : Pace) → StepsBy (session_by g mounted) m log cmd reply (pace_at_first g mounted) new → is_sync cmd ≡ false
-        → writes_in (take new.events log) ≤ writes_in (take mounted log) }
-    ensures empty { (s : MountedSession) (m : Manner) (log : List Event) (reply : Reply) (old new : Pace) → (step : StepsBy s m log Osync reply old new) → Goes m reply old → IsUnwritten s (take step.room.behind log)
-        → places_wanted reply old.taken.weight (own_records s log step.room.behind new.events) ≤ s.geom.j → WaitsForNothing m log old new }
-    ensures looks { (s : MountedSession) (m : Manner) (log : List Event) (path : List (List ℕ)) (reply : Reply) (old new : Pace) → StepsBy s m log (Stat path) reply old new → Goes m reply old → WaitsForNothing m log old new }
-    ensures home { (s : MountedSession) (m : Manner) (log : List Event) (reply : Reply) (old new : Pace) (p : Polled) (t : ℕ) → (step : StepsBy s m log Dsync reply old new) → Goes m reply old
-        → OrdersAtOnce s (take step.room.behind log) old.taken (places_wanted reply old.taken.weight (own_records s log step.room.behind new.events)) → after_polls m 64 old.polls (take old.events log) ≡ Some p
-        → ((k : ℕ) (span : Span) → slice_get old.taken.spans k ≡ Some span → CameIn (take new.events log) span t → ⊥) → is_noticed t p.log ≡ false → IsNoticed t (take new.events log) → is_accepted t (take step.room.behind log) ≡ false }
-    ensures known { (s : MountedSession) (m : Manner) (log : List Event) (n : ℕ) (span : Span) (old new : Pace) → StepsBy s m log Durable (Known n) old new → m.waits_alone ≡ true → slice_get old.taken.spans n ≡ Some span → IsHeard (take new.events log) span → ⊥ }
 {}

@@ -1,32 +1,22 @@
 //! The public call of the program: words, a source of the script, a sink of the output and a bay of
 //! disks in, a status out. Its contract is the theorem of the repository, described in docs/PROMISES.md. How
-//! a line is answered is in the module of the recording, and how the input is read in the module of
-//! the reading.
+//! a recording is made is in `opt_recording`; here are its status and its last line. Those of the other commands are in
+//! modules of their own.
 
-ghost use Rattle.std.specs.Prelude.{◌≡◌, ℕ, ◌^◌, ◌≤◌, true, false, List, [], ◌++◌, take, Option, IfOk, IsOk, OnOk, OnErr, ◌↔◌};
-ghost use Rattle.std.specs.Io.KnownBytes.{Appends};
-ghost use Rattle.opt_base.specs.Counts.{HasCause, Rose};
+ghost use Rattle.std.specs.Prelude.{◌≡◌, ℕ, ◌≤◌, true, false, List, Option};
+ghost use Rattle.opt_base.specs.Counts.{Rose};
 ghost use Rattle.opt_disk.specs.Manner.{Manner};
 ghost use Rattle.opt_geom.specs.Geometry.{geometry_fits};
 ghost use Rattle.opt_memdisk.specs.MemDisk.{state_of as disk_state};
 ghost use Rattle.opt_store.specs.StoreOf.{state_of};
 ghost use Rattle.opt_fs.specs.Opened.{blocks_in};
-ghost use Rattle.opt_trace.specs.Line.{geometry_line, event_lines, end_line};
 ghost use Rattle.opt_words.specs.Words.{IsInRange, request_of};
-ghost use Rattle.opt_program.specs.Disks.{FailedToMount, IsOpened, setting_on};
-ghost use Rattle.opt_program.specs.Follows.{StopsByCause};
-ghost use Rattle.opt_program.specs.Mounting.{Mounts};
+ghost use Rattle.opt_recording.specs.Disks.{FailedToMount, IsOpened, setting_on};
 ghost use Rattle.opt_program.specs.Endings.{HasFault, met};
 ghost use Rattle.opt_program.specs.Program.{Completes, Does, EndsSo, RecordsTo, RecordsWhere, opens_bay, reads_input, shape_of};
-ghost use Rattle.opt_program.specs.Reading.{AtEnding, Halted};
 
-use crate::disk::{Behaviour, formatted_disk};
-use crate::events::write_head;
 use crate::loading::load;
 use crate::making::make;
-use crate::mounting::{Mounted, System, mount};
-use crate::reading::{Ending, read_lines};
-use crate::recording::{Recording, Stop};
 use crate::replaying::replay;
 use crate::scripting::run;
 use crate::showing::show;
@@ -37,9 +27,11 @@ use opt_disk::Bay;
 use opt_geom::{BadShape, Geom};
 use opt_io::{Sink, SinkFault, Source};
 use opt_memdisk::MemDisk;
+use opt_recording::{
+    Behaviour, Ending, Mounted, Stop, System, begin, record_lines, write_failed_mount,
+};
 use opt_script::lines_are_commands;
 use opt_stands::the_formatted_disk_stands_for_the_root;
-use opt_trace::write_end;
 use opt_words::{Request, read_words};
 use std::alloc::Global;
 
@@ -175,18 +167,6 @@ fn record<S: Source, K: Sink>(
     }
 }
 
-/// Formats a disk, mounts it, and opens the file system on it.
-///
-/// # Errors
-/// Out of memory.
-fn begin(alloc: Global, geom: &Geom, behaviour: &Behaviour) -> Result<Mounted, NoMemory>
-    ensures { IfOk result (λ mounted. Mounts (setting_on geom.now behaviour.now) mounted) }
-{
-    let disk = formatted_disk(alloc, geom, behaviour)?;
-    let mounted = mount(alloc, geom, disk)?;
-    Ok(mounted)
-}
-
 /// Writes the whole output of a mount that failed: what the trace has of it, and the last line.
 fn tell_failed_mount<K: Sink>(geom: &Geom, disk: &MemDisk, out: &mut K) -> Status
     ensures records { (m : Manner) (left : Option (List ℕ)) (source : ℕ) → FailedToMount (record { shape = geom.now; manner = m }) (disk_state disk.now)
@@ -200,20 +180,6 @@ fn tell_failed_mount<K: Sink>(geom: &Geom, disk: &MemDisk, out: &mut K) -> Statu
         Err(SinkFault) => Status::SinkFault,
         Ok(()) => tell(out, DISK, Status::DiskFault),
     }
-}
-
-/// Writes a trace that ends with the mount.
-///
-/// # Errors
-/// The first fault of the sink, which by then took a front of the trace and nothing else.
-fn write_failed_mount<K: Sink>(geom: &Geom, disk: &MemDisk, out: &mut K) -> Result<(), SinkFault>
-    ensures all { OnOk result (Appends (K.taken out.old) (K.taken out.new) ((geometry_line geom.now ++ event_lines disk.now.log) ++ end_line)) }
-    ensures front { OnErr result ((n : ℕ) × Appends (K.taken out.old) (K.taken out.new) (take n ((geometry_line geom.now ++ event_lines disk.now.log) ++ end_line))) }
-    ensures cause { HasCause result (K.faults out.old) (K.faults out.new) }
-{
-    write_head(out, geom, disk)?;
-    write_end(out)?;
-    Ok(())
 }
 
 /// Makes a recording of the whole input by this file system, which nothing was asked of yet, and writes its last line.
@@ -239,54 +205,4 @@ fn record_on<S: Source, K: Sink>(
         Ok(Ending::SourceFault) => tell(out, SOURCE, Status::SourceFault),
         Ok(Ending::LongInput) => tell(out, LONG, Status::LongInput),
     }
-}
-
-/// Writes the trace of the whole input but its last line, by this file system, which nothing was asked of yet.
-///
-/// # Errors
-/// Out of memory, or a fault of the sink.
-fn record_lines<S: Source, K: Sink>(
-    alloc: Global,
-    geom: &Geom,
-    system: System,
-    input: &mut S,
-    out: &mut K,
-) -> Result<Ending, Stop>
-    ensures ok { IfOk result (λ ending. (m : Manner) → IsOpened (record { shape = geom.now; manner = m }) (state_of disk_state (blocks_in system))
-        → AtEnding (record { shape = geom.now; manner = m }) ending (S.faults input.old) (S.faults input.new)
-        (S.remaining input.old) (S.remaining input.new) (K.taken out.old) (K.taken out.new)) }
-    ensures err { OnErr result ((m : Manner) → IsOpened (record { shape = geom.now; manner = m }) (state_of disk_state (blocks_in system))
-        → Halted (record { shape = geom.now; manner = m }) (2 ^ 30) (S.remaining input.old) (S.remaining input.new) (K.taken out.old) (K.taken out.new)) }
-    ensures source { S.faults input.old ≤ S.faults input.new }
-    ensures cause { StopsByCause (K.faults out.old) (K.faults out.new) result }
-{
-    let mut recording = Recording::new(alloc, system);
-    write_lines(alloc, geom, &mut recording, input, out)
-}
-
-/// Writes what `record_lines` does, by a recording that has begun with the file system and has no line.
-///
-/// # Errors
-/// Out of memory, or a fault of the sink.
-fn write_lines<S: Source, K: Sink>(
-    alloc: Global,
-    geom: &Geom,
-    recording: &mut Recording,
-    input: &mut S,
-    out: &mut K,
-) -> Result<Ending, Stop>
-    requires line { recording.old.line.items ≡ [] }
-    ensures ok { IfOk result (λ ending. (m : Manner) → IsOpened (record { shape = geom.now; manner = m }) (state_of disk_state (blocks_in recording.old.system))
-        → AtEnding (record { shape = geom.now; manner = m }) ending (S.faults input.old) (S.faults input.new)
-        (S.remaining input.old) (S.remaining input.new) (K.taken out.old) (K.taken out.new)) }
-    ensures err { OnErr result ((m : Manner) → IsOpened (record { shape = geom.now; manner = m }) (state_of disk_state (blocks_in recording.old.system))
-        → Halted (record { shape = geom.now; manner = m }) (2 ^ 30) (S.remaining input.old) (S.remaining input.new) (K.taken out.old) (K.taken out.new)) }
-    ensures source { S.faults input.old ≤ S.faults input.new }
-    ensures cause { StopsByCause (K.faults out.old) (K.faults out.new) result }
-{
-    geom.lawful();
-    recording.run_is_known();
-    write_head(out, geom, recording.disk())?;
-    let ending = read_lines(alloc, recording, input, out)?;
-    Ok(ending)
 }

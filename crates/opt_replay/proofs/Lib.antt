@@ -6,6 +6,5 @@ pub mod Walks
 pub mod telling
 pub mod lawful
 mod SameTrees
-mod FormattedImages
 mod CrashImages
 pub mod Mounting

@@ -3,7 +3,6 @@
 #![tactic(auto)]
 
 mod comparing;
-mod formatting;
 mod kinds;
 mod laws;
 mod listed;
@@ -14,7 +13,6 @@ mod replaying;
 mod text;
 mod walk;
 
-pub use formatting::formatted_image;
 pub use laws::{
     a_listing_says_the_tree, commands_keep_names_lawful, points_of_a_trace_have_lawful_names,
     what_stands_has_lawful_names,

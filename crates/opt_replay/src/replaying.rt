@@ -9,7 +9,6 @@ ghost use Rattle.opt_memdisk.specs.Choice.{GivesImage};
 ghost use Rattle.opt_trace_reader.specs.Traces.{IsTrace};
 ghost use Rattle.opt_replay.specs.Replays.{Answers, LeavesImage, RefusesChoice, found_text, point_line};
 
-use crate::formatting::formatted_image;
 use crate::laws::{
     a_listing_says_the_tree, points_of_a_trace_have_lawful_names, what_stands_has_lawful_names,
 };
@@ -18,6 +17,7 @@ use crate::numbered::write_numbered_line;
 use crate::points::newest_point;
 use crate::refusal::ReplayRefusal;
 use opt_disk::Event;
+use opt_formatted::formatted_image;
 use opt_geom::Geom;
 use opt_io::{Sink, SinkFault, prefixes_join, push_all};
 use opt_memdisk::{Choice, Image, ImageRefusal, MemDisk};

@@ -31,7 +31,8 @@ use Rattle.opt_fs.specs.Applying.{is_spent}
 use Rattle.opt_fs.specs.Moments.{answer_at_others}
 use Rattle.opt_fs.specs.Serving.{AnswersAt, SaysNoMore, ServesCommand, moment_of, room_on}
 use Rattle.opt_run.specs.Refusals.{is_failed}
-use Rattle.opt_run.specs.Serves.{AnswersByLog, DoneInRing, Pace, RunsByLog, moment_at, own_records}
+use Rattle.opt_session.specs.Records.{own_records}
+use Rattle.opt_run.specs.Serves.{AnswersByLog, DoneInRing, Pace, RunsByLog, moment_at}
 use Rattle.opt_run.specs.Steps.{AreWithin, IsOfMount, pace_on}
 
 -- What a log tells of records.

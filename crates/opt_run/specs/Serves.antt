@@ -1,15 +1,14 @@
 -- In which room a run over an image answers its commands, by the log of its disk: which freed blocks may be taken again, and when. It is described in docs/RUNNING.md.
-use Rattle.std.specs.Prelude.{◌≡◌, ◌≢◌, ◌⊎◌, ℕ, ◌+◌, ◌||◌, ◌<◌, ◌≤◌, Bool, true, false, List, [], ◌∷◌, length, take, drop, None}
+use Rattle.std.specs.Prelude.{◌≡◌, ◌≢◌, ◌⊎◌, ℕ, ◌+◌, ◌||◌, ◌<◌, ◌≤◌, Bool, true, false, List, [], ◌∷◌, length, take, None}
 use Rattle.opt_base.specs.Seal.{Blocks}
 use Rattle.opt_disk.specs.declared.event.Event.{Event}
 use Rattle.opt_disk.specs.Cell.{cell_of}
 use Rattle.opt_disk.specs.Disk.{State, PollsThenWrites}
 use Rattle.opt_disk.specs.Manner.{Manner}
 use Rattle.opt_geom.specs.Geometry.{Geometry}
-use Rattle.opt_journal.specs.declared.record.Commit.{Commit}
 use Rattle.opt_journal.specs.Run.{places_from}
 use Rattle.opt_recover.specs.Search.{last_number}
-use Rattle.opt_crash.specs.Points.{MountedSession, commits_told, records_told}
+use Rattle.opt_crash.specs.Points.{MountedSession, records_told}
 use Rattle.opt_mount.specs.Mount.{FoundDisk, IsFoundOn}
 use Rattle.opt_tree.specs.declared.command.Cmd.{Cmd}
 use Rattle.opt_tree.specs.declared.command.Cmd.TheVariants.{Bad}
@@ -21,6 +20,7 @@ use Rattle.opt_tree.specs.Step.{Session}
 use Rattle.opt_store.specs.SessionView.{IsSure, Starts}
 use Rattle.opt_fs.specs.Room.{Room}
 use Rattle.opt_fs.specs.Serving.{AnswersAt, Moment, RoomOn}
+use Rattle.opt_session.specs.Records.{own_records}
 use Rattle.opt_run.specs.Refusals.{is_failed}
 
 -- The session of a mount of this disk that ended after so many events: its epoch is one above the greatest that was found there, and its first record has the number behind the last one of the run that was found.
@@ -43,10 +43,6 @@ pub record Pace : Type 0 where
 -- as the mount of this disk ends after so many events, with this session in this room: no call has failed, and no block waits
 abbrev pub pace_at_mount : State → ℕ → Session → Room → Pace
 pace_at_mount d mounted f r = record { polls = d.polls; events = mounted; over = false; session = f; room = record { room = r; since = λ b. None } }
-
--- The records of a session are those whose commit blocks of its epoch its log has behind the mount. These the log tells of one command: those that came behind the first `behind` events, up to the mark.
-abbrev pub own_records : MountedSession → List Event → ℕ → ℕ → List Commit
-own_records s log behind mark = commits_told s.geom s.epoch (drop behind (take mark log))
 
 -- the session, and what the disk of a run began with and its manner
 module _ (s : MountedSession) (base : Blocks) (m : Manner) where

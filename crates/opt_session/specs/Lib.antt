@@ -4,3 +4,4 @@ pub mod Issued
 pub mod Serving
 pub mod Budget
 pub mod Ending
+pub mod Records

@@ -11,23 +11,19 @@ mod blocks;
 #[cfg(test)]
 mod cache;
 #[cfg(test)]
-mod draw;
+mod disk;
 #[cfg(test)]
-mod format;
+mod draw;
 #[cfg(test)]
 mod io;
 #[cfg(test)]
 mod load;
 #[cfg(test)]
-mod make;
+mod memdisk;
 #[cfg(test)]
-mod membay;
+mod memtree;
 #[cfg(test)]
 mod ranks;
-#[cfg(test)]
-mod show;
-#[cfg(test)]
-mod store;
 #[cfg(test)]
 mod texts;
 #[cfg(test)]

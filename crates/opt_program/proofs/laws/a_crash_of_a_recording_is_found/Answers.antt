@@ -19,7 +19,7 @@ use Rattle.opt_replay.specs.declared.refusal.ReplayRefusal.TheVariants.{Choice, 
 use Rattle.opt_replay.specs.Newest.{IsNewest}
 use Rattle.opt_replay.specs.Points.{points_in, floor_at, top_at}
 use Rattle.opt_replay.specs.Replays.{Found, Answers, LeavesImage}
-use Rattle.opt_program.specs.Output.{Serves, IsTrace, contents}
+use Rattle.opt_recording.specs.Traces.{Serves, IsTrace, contents}
 use Rattle.opt_program.specs.Recordings.{IsHonestCrash, IsPlaced}
 use Rattle.opt_program.proofs.laws.a_crash_of_a_recording_is_found.Goals as goal
 

@@ -1,8 +1,8 @@
 -- Where no memory is found before the mount has ended, nothing is written.
 use Rattle.std.proofs.Common.{subst}
-use Rattle.opt_program.specs.Disks.{setting_on}
-use Rattle.opt_program.specs.Mounting.{Mounts}
-use Rattle.opt_program.specs.declared.mounting.Mounted.{Mounted}
+use Rattle.opt_recording.specs.Disks.{setting_on}
+use Rattle.opt_recording.specs.Mounting.{Mounts}
+use Rattle.opt_recording.specs.declared.mounting.Mounted.{Mounted}
 use Rattle.opt_program.proofs.ProgramLemmas.{never_begun}
 use Rattle.opt_program.proofs.program.record.Goals as goal
 

@@ -1,0 +1,7 @@
+//! The image of a formatted disk in memory, with which a disk in memory may begin. What each block has is in `opt_format`,
+//! and what a disk in memory does in `opt_memdisk`.
+#![tactic(auto)]
+
+mod image;
+
+pub use image::formatted_image;

@@ -1,2 +1,0 @@
-pub mod ImageChanges
-pub mod ImageSyncs

@@ -1,0 +1,13 @@
+pub mod Mounts
+pub mod Places
+pub mod Behaving
+pub mod Traces
+pub mod Placing
+pub mod Disks
+pub mod Mounting
+pub mod Running
+pub mod Follows
+pub mod Reading
+pub mod Accepted
+pub mod Weights
+pub mod WrongTraces

@@ -1,0 +1,532 @@
+"""A plain model of a disk: what its blocks say, what a crash leaves of them, and which tree stands in them.
+
+It follows docs/LAYOUT.md, docs/JOURNAL.md, docs/RECOVERY.md, docs/DISK.md and docs/TRACE.md with struct and hashlib
+alone. An image is a list of blocks, each 1,024 bytes.
+"""
+
+import hashlib
+import re
+import struct
+from typing import NamedTuple
+
+BLOCK = 1024
+ZEROS = bytes(BLOCK)
+NODE, SLOT, MOST_RUNS = 256, 64, 28
+ENTRIES = 24
+PAYLOAD, FRESH, ESCAPED = 1, 2, 3
+SPENT = 2**63 - 16
+HEADER, COMMIT, DESCRIPTOR = b"OPTH0001", b"OPTC0001", b"OPTD0001"
+
+
+class Damage(Exception):
+    """What is broken in blocks that stand for no tree, or in an image that can't be mounted."""
+
+
+def sha(data):
+    return hashlib.sha256(data).digest()
+
+
+def sealed(body):
+    """A sealed block with these bytes before its seal, and zeros behind them."""
+    body = body.ljust(BLOCK - 32, b"\0")
+    return body + sha(body)
+
+
+def is_sealed(block):
+    return sha(block[:-32]) == block[-32:]
+
+
+class Geometry(NamedTuple):
+    """The blocks of a disk, those of its journal, and how many nodes there are."""
+
+    blocks: int
+    journal: int
+    nodes: int
+
+    @property
+    def bitmap(self):
+        return self.journal + 2
+
+    @property
+    def table(self):
+        return self.bitmap + -(-self.blocks // 8192)
+
+    @property
+    def data(self):
+        return self.table + self.nodes // 4
+
+    def fits(self):
+        limits = 64 <= self.blocks <= 2**20 and 16 <= self.journal <= 2**16 and 16 <= self.nodes <= 2**16
+        bits = self.table - self.bitmap
+        fits = self.data + 8 <= self.blocks and 25 * (7 + bits) <= 24 * (self.journal - 2)
+        return limits and self.nodes % 4 == 0 and fits
+
+    def ring(self, place):
+        """The block of a place of the ring."""
+        return 2 + place % self.journal
+
+
+class Header(NamedTuple):
+    epoch: int
+    turn: int
+    start: int
+    sure: int
+    at: int
+    closed: int
+
+
+def header_block(geometry, header):
+    return sealed(HEADER + struct.pack("<QQQQIIIII", *header, *geometry))
+
+
+def read_header(blocks, block):
+    """The geometry and the header of a block of a disk of so many blocks, or `None`."""
+    if not is_sealed(block) or block[:8] != HEADER or any(block[60:-32]):
+        return None
+    *fields, n, j, i = struct.unpack("<QQQQIIIII", block[8:60])
+    geometry, header = Geometry(n, j, i), Header(*fields)
+    is_within = header.epoch and header.turn and header.start and header.closed < 2
+    if n != blocks or not geometry.fits() or not is_within or header.start > header.sure + 1 or header.at >= j:
+        return None
+    return geometry, header
+
+
+class Entry(NamedTuple):
+    """An entry of a descriptor: a block, its kind, and the digest of the bytes that are stored."""
+
+    block: int
+    kind: int
+    digest: bytes
+
+
+class Record(NamedTuple):
+    """A record: its number and place, its entries, and the bytes that are stored of its payloads and fresh blocks."""
+
+    number: int
+    place: int
+    payloads: list
+    fresh: list
+    stored: list
+
+    @property
+    def heads(self):
+        """How many places its commit block and its descriptors take."""
+        return 1 + -(-(len(self.payloads) + len(self.fresh)) // ENTRIES)
+
+    @property
+    def places(self):
+        return self.heads + len(self.payloads)
+
+    @property
+    def contents(self):
+        """The blocks that its payloads are of, with their bytes."""
+        return {e.block: unescaped(e.kind, data) for e, data in zip(self.payloads, self.stored)}
+
+
+def unescaped(kind, data):
+    return b"O" + data[1:] if kind == ESCAPED else data
+
+
+def escaped(data):
+    """The kind of a payload, and its bytes as they are stored."""
+    return (ESCAPED, b"\0" + data[1:]) if data[:3] == b"OPT" else (PAYLOAD, data)
+
+
+def head_writes(geometry, epoch, record):
+    """The writes of a record's descriptors, and that of its commit block."""
+    entries = record.payloads + record.fresh
+    parts = [entries[first : first + ENTRIES] for first in range(0, len(entries), ENTRIES)]
+    writes = []
+    for index, part in enumerate(parts):
+        body = DESCRIPTOR + struct.pack("<QQII", epoch, record.number, index, len(part))
+        body += b"".join(struct.pack("<IBBBB", e.block, e.kind, 0, 0, 0) + e.digest for e in part)
+        writes.append((geometry.ring(record.place + 1 + index), sealed(body)))
+    counts = (len(parts), len(record.payloads), len(record.fresh))
+    commit = sealed(COMMIT + struct.pack("<QQIII", epoch, record.number, *counts))
+    return writes, (geometry.ring(record.place), commit)
+
+
+def record_writes(geometry, epoch, record, fresh):
+    """All writes of a record in their order; `fresh` has the bytes of its fresh blocks."""
+    descriptors, commit = head_writes(geometry, epoch, record)
+    place = record.place + record.heads
+    payloads = [(geometry.ring(place + index), data) for index, data in enumerate(record.stored)]
+    return [*zip([e.block for e in record.fresh], fresh), *descriptors, *payloads, commit]
+
+
+def read_commit(geometry, block):
+    """Epoch, number, and the counts of descriptors, payloads and fresh blocks, or `None`."""
+    if block[:8] != COMMIT or any(block[36:-32]) or not is_sealed(block):
+        return None
+    epoch, number, heads, payloads, fresh = struct.unpack("<QQIII", block[8:36])
+    if payloads < 1 or heads != -(-(payloads + fresh) // ENTRIES) or 1 + heads + payloads > geometry.journal:
+        return None
+    return epoch, number, heads, payloads, fresh
+
+
+def read_descriptor(geometry, block):
+    """Epoch, number, index and entries, or `None`."""
+    if block[:8] != DESCRIPTOR or not is_sealed(block):
+        return None
+    epoch, number, index, count = struct.unpack("<QQII", block[8:32])
+    if not 1 <= count <= ENTRIES or any(block[32 + 40 * count : -32]):
+        return None
+    entries = []
+    for first in range(32, 32 + 40 * count, 40):
+        number_of, kind, zeros = struct.unpack("<IB3s", block[first : first + 8])
+        least = geometry.data if kind == FRESH else geometry.bitmap
+        if any(zeros) or kind not in (PAYLOAD, FRESH, ESCAPED) or not least <= number_of < geometry.blocks:
+            return None
+        entries.append(Entry(number_of, kind, block[first + 8 : first + 40]))
+    return epoch, number, index, entries
+
+
+def whole_record(image, geometry, header, number, place, left):
+    """The record of this number that is whole at the place, or `None`."""
+    commit = read_commit(geometry, image[geometry.ring(place)]) if left else None
+    if commit is None or commit[:2] != (header.epoch, number) or (header.closed and number > header.sure):
+        return None
+    _, _, heads, payload_count, fresh_count = commit
+    if 1 + heads + payload_count > left:
+        return None
+    entries = []
+    for index in range(heads):
+        part = read_descriptor(geometry, image[geometry.ring(place + 1 + index)])
+        rest = payload_count + fresh_count - ENTRIES * index
+        if part is None or part[:3] != (header.epoch, number, index) or len(part[3]) != min(ENTRIES, rest):
+            return None
+        entries += part[3]
+    payloads, fresh = entries[:payload_count], entries[payload_count:]
+    rows = [[e.block for e in part] for part in (payloads, fresh)]
+    if rows != [sorted(set(row)) for row in rows] or set(rows[0]) & set(rows[1]):
+        return None
+    if any(e.kind == FRESH for e in payloads) or any(e.kind != FRESH for e in fresh):
+        return None
+    first = place + 1 + heads
+    stored = [image[geometry.ring(first + index)] for index in range(payload_count)]
+    begins = lambda kind, data: data[:3] == b"\0PT" if kind == ESCAPED else data[:3] != b"OPT"
+    if any(sha(data) != e.digest or not begins(e.kind, data) for e, data in zip(payloads, stored)):
+        return None
+    if number > header.sure and any(sha(image[e.block]) != e.digest for e in fresh):
+        return None
+    return Record(number, place, payloads, fresh, stored)
+
+
+class Found(NamedTuple):
+    """What a search finds: the slot of the newest header, its geometry, the header, and the run."""
+
+    slot: int
+    geometry: Geometry
+    header: Header
+    run: list
+
+    @property
+    def last(self):
+        return self.header.start - 1 + len(self.run)
+
+    def homes(self):
+        """The blocks whose last entry in the run is a payload, with their bytes."""
+        homes = {}
+        for record in self.run:
+            for entry in record.fresh:
+                homes.pop(entry.block, None)
+            homes.update(record.contents)
+        return homes
+
+
+def find(image):
+    """What a search of an image finds, or `None` where it has no header."""
+    headers = [read_header(len(image), block) for block in [*image, ZEROS, ZEROS][:2]]
+    slots = [slot for slot in (0, 1) if headers[slot]]
+    if not slots:
+        return None
+    slot = max(slots, key=lambda slot: (headers[slot][1].turn, -slot))
+    geometry, header = headers[slot]
+    run, place, left = [], header.at, geometry.journal
+    while record := whole_record(image, geometry, header, header.start + len(run), place, left):
+        run.append(record)
+        place, left = (place + record.places) % geometry.journal, left - record.places
+    return Found(slot, geometry, header, run)
+
+
+def recovered(image, found):
+    """The recovered blocks by their numbers: those of the bitmap and the node table, and the data that are marked."""
+    geometry, homes = found.geometry, found.homes()
+    now = lambda block: homes.get(block, image[block])
+    live = {block: now(block) for block in range(geometry.bitmap, geometry.data)}
+    live.update({block: now(block) for block in range(geometry.data, geometry.blocks) if bit(live, geometry, block)})
+    return live
+
+
+def bit(blocks, geometry, number):
+    """The bit of a number in the bitmap."""
+    return blocks[geometry.bitmap + number // 8192][number % 8192 // 8] >> number % 8 & 1
+
+
+def greatest_epoch(image, geometry):
+    """The greatest epoch of the headers, and of the sealed blocks of the ring that begin as the journal's do."""
+    headers = [read_header(geometry.blocks, block) for block in image[:2]]
+    ring = [image[geometry.ring(place)] for place in range(geometry.journal)]
+    tagged = [block for block in ring if block[:8] in (COMMIT, DESCRIPTOR) and is_sealed(block)]
+    return max([0, *(one[1].epoch for one in headers if one), *(int.from_bytes(b[8:16], "little") for b in tagged)])
+
+
+def mounted(image):
+    """The image behind a mount. `Damage` tells why there is none."""
+    found = find(image)
+    if found is None:
+        raise Damage("no header")
+    header, greatest = found.header, greatest_epoch(image, found.geometry)
+    if max(header.turn, header.start, header.sure, found.last, greatest) >= SPENT:
+        raise Damage("spent")
+    check_bits(found.geometry, recovered(image, found))
+    image, slot, turn = list(image), found.slot, header.turn
+    if found.run and not (header.closed and header.sure == found.last):
+        slot, turn = 1 - slot, turn + 1
+        image[slot] = header_block(found.geometry, header._replace(turn=turn, sure=found.last, closed=1))
+    for block, data in found.homes().items():
+        image[block] = data
+    opened = Header(greatest + 1, turn + 1, found.last + 1, found.last, 0, 0)
+    image[1 - slot] = header_block(found.geometry, opened)
+    return image
+
+
+def formatted(geometry):
+    """The image of a disk that was just formatted."""
+    image = [ZEROS] * geometry.blocks
+    image[0] = header_block(geometry, Header(1, 1, 1, 0, 0, 0))
+    bits = ((1 << geometry.data) - 1).to_bytes(BLOCK * (geometry.table - geometry.bitmap), "little")
+    for number in range(geometry.bitmap, geometry.table):
+        first = BLOCK * (number - geometry.bitmap)
+        image[number] = bits[first : first + BLOCK]
+    image[geometry.table] = struct.pack("<BBHIQ", 1, 0, 0, 1, 0).ljust(BLOCK, b"\0")
+    return image
+
+
+# Blocks that stand for a tree
+
+
+class Node(NamedTuple):
+    """A node in use: its kind, links and size, its runs, and its blocks in order."""
+
+    kind: int
+    links: int
+    size: int
+    runs: list
+    places: list
+
+
+def damaged_where(is_broken, what):
+    if is_broken:
+        raise Damage(what)
+
+
+def check_bits(geometry, blocks):
+    """Whether the bits of the blocks before the data and behind the end are right."""
+    bits = int.from_bytes(b"".join(blocks[number] for number in range(geometry.bitmap, geometry.table)), "little")
+    before = (1 << geometry.data) - 1
+    damaged_where(bits & before != before, "a bit before the data")
+    damaged_where(bits >> geometry.blocks, "a bit behind the end")
+
+
+def read_node(geometry, spelled):
+    """The node with these bytes, or `None` where they are zeros."""
+    if not any(spelled):
+        return None
+    kind, zero, count, links, size = struct.unpack("<BBHIQ", spelled[:16])
+    is_odd = kind not in (1, 2) or zero or any(spelled[16:32]) or count > MOST_RUNS or any(spelled[32 + 8 * count :])
+    damaged_where(is_odd or not links, "a node")
+    damaged_where(size % SLOT if kind == 1 else links > 65535 or size > 2**30, "a node's size or links")
+    runs = [struct.unpack("<II", spelled[first : first + 8]) for first in range(32, 32 + 8 * count, 8)]
+    within = all(length and geometry.data <= first and first + length <= geometry.blocks for first, length in runs)
+    tidy = all(sum(one) != other[0] for one, other in zip(runs, runs[1:]))
+    blocks = sum(length for _, length in runs)
+    damaged_where(not within or not tidy or blocks != -(-size // BLOCK), "a node's runs")
+    return Node(kind, links, size, runs, [b for first, length in runs for b in range(first, first + length)])
+
+
+class Tree:
+    """The tree for which blocks stand: its paths, and the nodes in use. `Damage` tells why they stand for none."""
+
+    def __init__(self, geometry, blocks):
+        self.geometry, self.blocks = geometry, blocks
+        check_bits(geometry, blocks)
+        table = b"".join(blocks[number] for number in range(geometry.table, geometry.data))
+        spelled = [table[first : first + NODE] for first in range(0, len(table), NODE)]
+        nodes = {number: read_node(geometry, one) for number, one in enumerate(spelled, 1)}
+        self.nodes = {number: node for number, node in nodes.items() if node}
+        self.check_places()
+        self.paths = {"/": 1}
+        self.slots = {number: self.read_slots(number) for number, node in self.nodes.items() if node.kind == 1}
+        damaged_where(1 not in self.slots, "the root")
+        self.walk("/")
+        self.check_links()
+
+    def check_places(self):
+        """Each block of a node is its alone, and just these are marked."""
+        places = [place for node in self.nodes.values() for place in node.places]
+        marked = [number for number in range(self.geometry.data, self.geometry.blocks) if self.bit(number)]
+        damaged_where(sorted(places) != marked, "blocks of nodes, or bits of them")
+
+    def bit(self, number):
+        return bit(self.blocks, self.geometry, number)
+
+    def bytes_of(self, number):
+        """All bytes of a node."""
+        node = self.nodes[number]
+        return b"".join(self.blocks[place] for place in node.places)[: node.size]
+
+    def read_slots(self, number):
+        """The names in a directory, with the numbers of their nodes."""
+        node, slots = self.nodes[number], {}
+        whole = b"".join(self.blocks[place] for place in node.places)
+        damaged_where(any(whole[node.size :]) or node.links != 1, "a directory's tail or links")
+        for first in range(0, node.size, SLOT):
+            child, length = struct.unpack("<IB", whole[first : first + 5])
+            name, rest = whole[first + 5 : first + 5 + length], whole[first + 5 + length : first + SLOT]
+            is_name = 1 <= length <= 59 and re.fullmatch(rb"[!-.0-~]+", name) and name not in (b".", b"..")
+            damaged_where(not is_name or any(rest) or name.decode() in slots, "a slot")
+            damaged_where(child == 1 or child not in self.nodes, "a slot's node")
+            slots[name.decode()] = child
+        return slots
+
+    def walk(self, path):
+        """Finds all paths below one."""
+        for name, child in self.slots[self.paths[path]].items():
+            below = f"{path.rstrip('/')}/{name}"
+            damaged_where(child in self.slots and child in self.paths.values(), "a directory is named twice")
+            self.paths[below] = child
+            if child in self.slots:
+                self.walk(below)
+
+    def check_links(self):
+        """Each node in use is reached, and a file by as many paths as it has links."""
+        counts = {number: sum(other == number for other in self.paths.values()) for number in self.nodes}
+        damaged_where(any(counts[number] != node.links for number, node in self.nodes.items()), "links")
+
+    def listing(self):
+        """The lines of the tree, as `tree` of the program writes them."""
+        lines = []
+        for path, number in sorted(self.paths.items(), key=lambda one: [part for part in one[0].split("/") if part]):
+            if number in self.slots:
+                lines.append(f"dir {path} {number}\n")
+            else:
+                data = self.bytes_of(number)
+                lines.append(f"file {path} {number} {len(data)}{' ' if data else ''}{data.hex()}\n")
+        return "".join(lines)
+
+
+def tree_of(image):
+    """The tree for which an image stands."""
+    found = find(image)
+    damaged_where(found is None, "no header")
+    return Tree(found.geometry, recovered(image, found))
+
+
+# Traces and crashes
+
+
+class Event(NamedTuple):
+    """An event: `w`, `f` or `d`, its ticket, and the block and the bytes of a write. A lost one has its number."""
+
+    kind: str
+    ticket: int
+    block: int = 0
+    data: bytes = b""
+
+
+class Answered(NamedTuple):
+    """An entry of a trace: a command, its reply, and how many events there are by then."""
+
+    command: str
+    reply: str
+    mark: int
+
+
+class Trace:
+    """A trace: the geometry, the events, how many are the mount's, and the entries."""
+
+    def __init__(self, text):
+        lines = text.splitlines()
+        self.is_whole = lines[-1:] == ["end"]
+        self.geometry = Geometry(*map(int, lines[0].split()[1:]))
+        self.events, self.entries, self.mount, command, lost = [], [], 0, None, 0
+        for line in lines[1:]:
+            word, _, rest = line.partition(" ")
+            if word == "w":
+                ticket, block, data = rest.split(" ")
+                self.events.append(Event("w", int(ticket), int(block), bytes.fromhex(data)))
+            elif word == "f":
+                lost += 1
+                block, data = rest.split(" ")
+                self.events.append(Event("f", lost, int(block), bytes.fromhex(data)))
+            elif word == "d":
+                self.events.append(Event("d", int(rest)))
+            elif word == "c":
+                command = rest
+                self.mount = self.mount if self.entries else len(self.events)
+            elif word == "r":
+                mark, _, reply = rest.partition(" ")
+                self.entries.append(Answered(command, reply, int(mark)))
+        self.mount = self.mount if self.entries else len(self.events)
+
+
+def pending(events):
+    """What is settled behind these events, by blocks, and the writes that are pending, the oldest first."""
+    settled, waiting = {}, []
+    for event in events:
+        if event.kind != "d":
+            waiting.append(event)
+            continue
+        place = next((at for at, one in enumerate(waiting) if one[:2] == ("w", event.ticket)), None)
+        if place is not None:
+            settled[waiting[place].block] = waiting[place].data
+            waiting = [one for at, one in enumerate(waiting) if one.block != waiting[place].block or at > place]
+    return settled, waiting
+
+
+def crash_image(base, events, stand, tear):
+    """The image of a crash behind these events. Of the pending writes those in `stand` are there, each by its kind and
+    ticket, and so many bytes of those in `tear`."""
+    settled, waiting = pending(events)
+    image = list(base)
+    for block, data in settled.items():
+        image[block] = data
+    before = list(image)
+    for event in waiting:
+        name = event[:2]
+        if name in tear:
+            image[event.block] = event.data[: tear[name]] + before[event.block][tear[name] :]
+        elif name in stand:
+            image[event.block] = event.data
+    return image
+
+
+def crash_by(base, events, stand, tear):
+    """The same, where the choice is said as in docs/CRASHES.md. Behind `all` may come lost writes: `all,f1`."""
+    names, numbers = {event[:2] for event in pending(events)[1]}, [text for text in stand.split(",") if text]
+    name = lambda text: ("f", int(text[1:])) if text[0] == "f" else ("w", int(text))
+    stands = {name(text) for text in numbers if text not in ("all", "none")}
+    stands |= {one for one in names if one[0] == "w"} if "all" in numbers else set()
+    tears = dict(text.split(":") for text in tear.split(",") if text)
+    tears = {name(ticket): int(count) for ticket, count in tears.items()}
+    if not stands | set(tears) <= names:
+        raise ValueError(f"a write that isn't pending: {stand} {tear}")
+    return crash_image(base, events, stands, tears)
+
+
+def recorded(trace):
+    """What all records of a trace leave in the blocks that they name."""
+    blocks = {}
+    for place, event in enumerate(trace.events):
+        is_in_ring = event.kind == "w" and event.block < trace.geometry.bitmap
+        commit = read_commit(trace.geometry, event.data) if is_in_ring else None
+        if commit is None:
+            continue
+        _, _, heads, payloads, fresh = commit
+        writes = trace.events[place - fresh - heads - payloads : place]
+        parts = [read_descriptor(trace.geometry, one.data)[3] for one in writes[fresh : fresh + heads]]
+        entries = [entry for part in parts for entry in part]
+        for entry, one in zip(entries, [*writes[fresh + heads :], *writes[:fresh]]):
+            blocks[entry.block] = unescaped(entry.kind, one.data)
+    return blocks
