@@ -93,7 +93,8 @@ fn block_with(old: &Block, offset: usize, bytes: &[u8]) -> Option<Block> {
 
 // The image of these blocks.
 fn image_of(alloc: Global, blocks: &[Block]) -> Result<Image, NoMemory> {
-    let mut image = Image::zeros(alloc, blocks.len() as u32)?;
+    let count = u32::try_from(blocks.len()).map_err(|_| NoMemory)?;
+    let mut image = Image::zeros(alloc, count)?;
     for (b, block) in (0..u32::MAX).zip(blocks) {
         if b < image.blocks() {
             image.set(alloc, b, block)?;
