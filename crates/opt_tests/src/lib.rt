@@ -1,4 +1,4 @@
-//! Tests of the crates below the program that neither a clause nor a row says: a module for each crate, and
+//! Tests of the crates below the program that neither a clause, a row nor a trial says: a module for each crate, and
 //! `texts`. They call what is public. The crate has nothing else. A crate with a test is proved a second time
 //! for it, so these tests stand here, and that is done once, for a crate that is empty but for them
 //! (docs/GATE.md).
@@ -9,24 +9,12 @@ mod base;
 #[cfg(test)]
 mod blocks;
 #[cfg(test)]
-mod cache;
-#[cfg(test)]
 mod disk;
-#[cfg(test)]
-mod draw;
-#[cfg(test)]
-mod io;
 #[cfg(test)]
 mod load;
 #[cfg(test)]
 mod memdisk;
 #[cfg(test)]
-mod memtree;
-#[cfg(test)]
 mod ranks;
 #[cfg(test)]
 mod texts;
-#[cfg(test)]
-mod trace;
-#[cfg(test)]
-mod words;

@@ -5,6 +5,7 @@ use opt_dirent::BadSlot;
 use opt_disk::{BayFault, DiskFault};
 use opt_extent::Scattered;
 use opt_geom::BadShape;
+use opt_io::{SinkFault, SourceFault};
 use opt_memdisk::{ImageRefusal, WriteName};
 use opt_node::BadNode;
 use opt_store::MkfsRefusal;
@@ -91,5 +92,14 @@ fn the_refusals_of_an_image_have_texts(rt: HostRuntime) -> Result<(), Fail> {
     for (refusal, text) in cases {
         assert_eq!(rt; refusal.to_string(rt.alloc())?.as_str(), text);
     }
+    Ok(())
+}
+
+#[test]
+fn the_faults_of_streams_have_texts(rt: HostRuntime) -> Result<(), Fail> {
+    let source = SourceFault.to_string(rt.alloc())?;
+    assert_eq!(rt; source.as_str(), "the input failed");
+    let sink = SinkFault.to_string(rt.alloc())?;
+    assert_eq!(rt; sink.as_str(), "the output failed");
     Ok(())
 }
