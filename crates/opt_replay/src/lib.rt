@@ -6,7 +6,6 @@ mod comparing;
 mod kinds;
 mod laws;
 mod listed;
-mod numbered;
 mod points;
 mod refusal;
 mod replaying;
@@ -17,6 +16,5 @@ pub use laws::{
     a_listing_says_the_tree, commands_keep_names_lawful, points_of_a_trace_have_lawful_names,
     what_stands_has_lawful_names,
 };
-pub use numbered::write_numbered_line;
 pub use refusal::ReplayRefusal;
 pub use replaying::{Replayed, replay};

@@ -13,9 +13,9 @@ use crate::laws::{
     a_listing_says_the_tree, points_of_a_trace_have_lawful_names, what_stands_has_lawful_names,
 };
 use crate::listed::listing_of;
-use crate::numbered::write_numbered_line;
 use crate::points::newest_point;
 use crate::refusal::ReplayRefusal;
+use opt_decimal::write_numbered_line;
 use opt_disk::Event;
 use opt_formatted::formatted_image;
 use opt_geom::Geom;

@@ -2,7 +2,7 @@
 use Rattle.std.proofs.Common.{◌≡◌, decimal, Result, Ok, Err, OnErr, rules, subst}
 use Rattle.std.specs.Io.KnownBytes.{Appends}
 use Rattle.opt_io.specs.Prefix.{TakesPrefix}
-use Rattle.opt_replay.proofs.numbered.write_numbered_line.Goals as goal
+use Rattle.opt_decimal.proofs.line.write_numbered_line.Goals as goal
 
 -- what holds anyway holds on an error
 on_err : {T E : Type 0} (r : Result T E) (P : Type 0) → P → OnErr r P
