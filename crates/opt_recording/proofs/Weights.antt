@@ -1,5 +1,5 @@
 -- What a run has taken by its log, and what it may have taken by its weights and needs.
-use Rattle.std.proofs.Common.{◌≡◌, ◌≢◌, ◌⊎◌, inl, inr, ⊎_elim, ℕ, zero, suc, ◌+◌, ◌-◌, ◌<◌, ◌≤◌, ◌==◌, ◌||◌, ◌&&◌, not, nat_le, if◌then◌else◌, Bool, true, false, List, [], ◌∷◌, ◌++◌, length, take, drop, refl, sym, ap, ◌∙◌, subst, arith}
+use Rattle.std.proofs.Common.{◌≡◌, ◌≢◌, ◌⊎◌, inl, inr, ℕ, zero, suc, ◌+◌, ◌-◌, ◌≤◌, ◌==◌, ◌&&◌, not, nat_le, if◌then◌else◌, Bool, true, false, List, [], ◌∷◌, ◌++◌, length, take, drop, refl, sym, ap, ◌∙◌, arith}
 use Rattle.std.proofs.Math.Logic.{∥∥₁_map}
 use Rattle.std.proofs.Math.Seq.{take-take}
 use Rattle.std.proofs.lemmas.Bool.Decides.{nat_tests}
@@ -17,22 +17,22 @@ use Rattle.opt_journal.specs.Formatted.{formatted}
 use Rattle.opt_journal.specs.declared.header.Header.{Header}
 use Rattle.opt_journal.specs.declared.record.Commit.{Commit}
 use Rattle.opt_journal.specs.Run.{places_from, places_told}
-use Rattle.opt_crash.specs.Points.{MountedSession, commits_told, records_told}
+use Rattle.opt_crash.specs.Points.{MountedSession, commits_told}
 use Rattle.opt_checkpoint.specs.Serving.{IsNewestAtRest}
 use Rattle.opt_tree.specs.declared.command.Cmd.{Cmd}
 use Rattle.opt_tree.specs.declared.command.Refusal.TheVariants.{DiskFault, Spent}
 use Rattle.opt_tree.specs.declared.command.Reply.{Reply}
 use Rattle.opt_tree.specs.declared.command.Reply.TheVariants.{Refused}
-use Rattle.opt_tree.specs.Points.{after_reply, is_refusal, is_sync}
+use Rattle.opt_tree.specs.Points.{is_refusal, is_sync}
 use Rattle.opt_tree.specs.Step.{Session, start}
 use Rattle.opt_blocks.specs.Running.{has}
 use Rattle.opt_blocks.specs.State.{data_blocks}
 use Rattle.opt_fs.specs.DiskRoom.{AnswersOn}
 use Rattle.opt_fs.specs.Moments.{answer_in_room}
 use Rattle.opt_fs.specs.Room.{Room, figures_in}
-use Rattle.opt_session.specs.Budget.{sync_places, weight_by}
+use Rattle.opt_session.specs.Budget.{sync_places}
 use Rattle.opt_session.specs.Records.{own_records}
-use Rattle.opt_recording.specs.Behaving.{FitsUnder, OrdersAtOnce, Pace, PacesBy, StepsBy, TellsRing, is_done_sync, is_fault, pace_at_first, places_wanted, session_by}
+use Rattle.opt_recording.specs.Behaving.{OrdersAtOnce, Pace, PacesBy, StepsBy, TellsRing, is_done_sync, is_fault, pace_at_first, places_wanted, session_by}
 use Rattle.opt_recording.specs.Weights.{blocks_needed, places_by_weight}
 use Rattle.opt_recording.proofs.Rooms.{sync_is_meant}
 

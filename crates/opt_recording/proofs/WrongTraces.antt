@@ -3,7 +3,7 @@ use Rattle.std.proofs.Common.{◌≡◌, ◌≢◌, ◌⊎◌, inl, inr, ⊎_eli
 use Rattle.std.proofs.Props.{props}
 use Rattle.std.proofs.Math.Logic.{∥∥₁_elim, ∥∥₁_map}
 use Rattle.std.proofs.Math.Seq.{take-take}
-use Rattle.std.proofs.lemmas.Bool.{cases_Bool, cond-false, false≢true, true≢false}
+use Rattle.std.proofs.lemmas.Bool.{cases_Bool, false≢true, true≢false}
 use Rattle.std.proofs.lemmas.List.{take-append-drop}
 use Rattle.std.specs.List.{slice_get}
 use Rattle.opt_disk.specs.declared.event.Event.{Event}
@@ -16,7 +16,7 @@ use Rattle.opt_journal.specs.Formatted.{formatted}
 use Rattle.opt_journal.specs.declared.header.Header.{Header}
 use Rattle.opt_journal.specs.declared.record.Commit.{Commit}
 use Rattle.opt_journal.specs.Run.{places_from, writes_stood_for}
-use Rattle.opt_crash.specs.Points.{MountedSession, records_told}
+use Rattle.opt_crash.specs.Points.{MountedSession}
 use Rattle.opt_checkpoint.specs.Serving.{IsNewestAtRest}
 use Rattle.opt_memdisk.specs.Log.{has_lost}
 use Rattle.opt_tree.specs.declared.command.Cmd.{Cmd}
@@ -29,10 +29,9 @@ use Rattle.opt_tree.specs.Conditions.{refusal}
 use Rattle.opt_tree.specs.Figures.{figures_by}
 use Rattle.opt_tree.specs.Points.{is_refusal, is_sync}
 use Rattle.opt_tree.specs.Tree.{Tree}
-use Rattle.opt_fs.specs.Room.{figures_in}
 use Rattle.opt_session.specs.Budget.{commits, sync_budget}
 use Rattle.opt_session.specs.Records.{own_records}
-use Rattle.opt_recording.specs.Behaving.{CameIn, FailsSince, FitsUnder, HearsIn, LosesSince, OrdersAtOnce, Pace, Span, StepsBy, TellsRing, is_done_sync, is_fault, makes_point, pace_at_first, places_wanted, session_by, stands_for, taken_by}
+use Rattle.opt_recording.specs.Behaving.{CameIn, FailsSince, OrdersAtOnce, Pace, Span, StepsBy, TellsRing, makes_point, pace_at_first, places_wanted, session_by}
 use Rattle.opt_recording.specs.WrongTraces.{Goes, IsHeard, IsUnwritten, LosesOwn, WaitsForNothing}
 use Rattle.opt_recording.proofs.Paces.{get_split}
 use Rattle.opt_recording.proofs.Waiting.{accepted_on}

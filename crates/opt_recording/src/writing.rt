@@ -1,7 +1,7 @@
 //! The trace of a recording but for its last line: of a mount and the whole input behind it, or of a mount that failed. How
 //! a line is answered is in the module of the recording, and how the input is read in the module of the reading.
 
-ghost use Rattle.std.specs.Prelude.{◌≡◌, ℕ, ◌^◌, ◌≤◌, List, [], ◌++◌, take, Option, IfOk, OnOk, OnErr};
+ghost use Rattle.std.specs.Prelude.{◌≡◌, ℕ, ◌^◌, ◌≤◌, [], ◌++◌, take, IfOk, OnOk, OnErr};
 ghost use Rattle.std.specs.Io.KnownBytes.{Appends};
 ghost use Rattle.opt_base.specs.Counts.{HasCause};
 ghost use Rattle.opt_disk.specs.Manner.{Manner};
