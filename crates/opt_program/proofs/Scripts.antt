@@ -12,7 +12,7 @@ use Rattle.opt_run.specs.Runs.{ComesOf, ComesOfDisk, CountsFaults, Streams}
 use Rattle.opt_program.specs.Endings.{HasFault, Tells, disk_line, damaged_line, source_line, spent_line, long_line}
 use Rattle.opt_program.specs.Scripting.{EndsScript, TellsScript}
 use Rattle.opt_program.specs.declared.status.Status.{Status}
-use Rattle.opt_program.specs.declared.status.Status.TheVariants.{Done, NoMemory, DiskFault, Damaged, SourceFault, SinkFault, Spent, LongInput}
+use Rattle.opt_program.specs.declared.status.Status.TheVariants.{NoMemory, DiskFault, Damaged, SourceFault, SinkFault, Spent, LongInput}
 use Rattle.opt_program.proofs.ProgramLemmas.{rose_before}
 use Rattle.opt_program.proofs.Requests.{behind}
 

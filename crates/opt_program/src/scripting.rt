@@ -1,7 +1,7 @@
 //! A script on an image of the bay: it is run, and the program ends with the status of the answer. How a script is run is
 //! in `opt_run`.
 
-ghost use Rattle.std.specs.Prelude.{ℕ, ◌≤◌};
+ghost use Rattle.std.specs.Prelude.{◌≤◌};
 ghost use Rattle.opt_program.specs.Endings.{HasFault, met};
 ghost use Rattle.opt_program.specs.Scripting.{RunsTo, TellsScript};
 
