@@ -3,7 +3,7 @@
 ghost use Rattle.std.specs.Prelude.{◌≡◌, ◌==◌, ℕ, List, [], length, IfOk};
 
 use crate::NoMemory;
-use std::alloc::{AllocError, Global};
+use std::alloc::Global;
 use std::marker::Model;
 
 /// A list of bytes, as a command carries it to a file and a reply brings it back.
@@ -87,16 +87,4 @@ impl Eq for Bytes {
     ghost use Rattle.std.specs.Cmp.Lexicographic.{nat_list_eq_equiv};
 
     ghost laws = { nat_list_eq_equiv };
-}
-
-/// A clone is the same list.
-impl Clone for Bytes {
-    ghost use Rattle.std.specs.Prelude.{◌≡◌};
-
-    ghost is_clone = { λ bytes clone. clone ≡ bytes };
-
-    fn clone(&self) -> Result<Bytes, AllocError> {
-        let bytes = self.bytes.clone()?;
-        Ok(Bytes { bytes })
-    }
 }

@@ -90,7 +90,7 @@ pub struct Run {
 
 /// At most 28 runs, as a node has them, which contracts see as their list. It lies in the value itself,
 /// so it takes no memory.
-#[derive(Clone, Debug, PartialEq, Eq, Drop)]
+#[derive(Debug, PartialEq, Eq, Drop)]
 pub struct RunList {
     runs: ArrayVec<Run, MOST_RUNS>,
 }

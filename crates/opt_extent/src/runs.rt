@@ -37,7 +37,7 @@ impl Error for Scattered {}
 
 /// A list of block numbers, each below 1,048,576, which contracts see as that list. It is kept as at
 /// most 28 runs in the value itself, so it takes no memory.
-#[derive(Clone, Debug, PartialEq, Eq, Drop)]
+#[derive(Debug, PartialEq, Eq, Drop)]
 pub struct Runs {
     list: RunList,
 }

@@ -32,14 +32,6 @@ impl<R: Read> ReadSource<R> {
     {
         ReadSource { reader, faults: 0 }
     }
-
-    /// The reader, as the calls so far left it.
-    pub fn into_inner(self) -> R
-        ensures { result ≡ self.inner }
-    {
-        let ReadSource { reader, faults: _ } = self;
-        reader
-    }
 }
 
 impl<R: Read> Source for ReadSource<R> {
@@ -85,14 +77,6 @@ impl<W: Write> WriteSink<W> {
         ensures { result ≡ record { inner = writer; faults = 0 } }
     {
         WriteSink { writer, faults: 0 }
-    }
-
-    /// The writer, as the calls so far left it.
-    pub fn into_inner(self) -> W
-        ensures { result ≡ self.inner }
-    {
-        let WriteSink { writer, faults: _ } = self;
-        writer
     }
 
     /// Has the writer pass on what it holds back.

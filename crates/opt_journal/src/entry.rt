@@ -35,7 +35,7 @@ pub const MOST_ENTRIES: usize = 24;
 
 /// At most 24 entries, as a descriptor has them, which contracts see as their list. They lie in the value
 /// itself, so they take no memory.
-#[derive(Clone, Debug, PartialEq, Eq, Drop)]
+#[derive(Debug, PartialEq, Eq, Drop)]
 pub struct Entries {
     entries: ArrayVec<Entry, MOST_ENTRIES>,
 }

@@ -15,7 +15,7 @@ pub struct Commit {
 }
 
 /// What one descriptor of a record says.
-#[derive(Clone, Debug, PartialEq, Eq, Drop)]
+#[derive(Debug, PartialEq, Eq, Drop)]
 pub struct Descriptor {
     pub epoch: u64,
     /// The record's number.

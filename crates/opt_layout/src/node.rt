@@ -14,7 +14,7 @@ pub enum NodeKind {
 }
 
 /// A node: its kind, how many directory slots name it, its bytes, and the blocks that hold them.
-#[derive(Clone, Debug, PartialEq, Eq, Drop)]
+#[derive(Debug, PartialEq, Eq, Drop)]
 pub struct Node {
     pub kind: NodeKind,
     pub links: u32,

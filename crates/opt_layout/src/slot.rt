@@ -8,7 +8,7 @@ use opt_base::Name;
 pub const SLOT_LENGTH: usize = 64;
 
 /// An entry of a directory: a name, and the number of the node that it stands for.
-#[derive(Clone, Debug, PartialEq, Eq, Drop)]
+#[derive(Debug, PartialEq, Eq, Drop)]
 pub struct Slot {
     pub node: u32,
     pub name: Name,

@@ -3,7 +3,7 @@
 use opt_tree::Cmd;
 
 /// What comes next of an input.
-#[derive(Clone, Debug, PartialEq, Eq, Drop)]
+#[derive(Debug, PartialEq, Eq, Drop)]
 pub enum Next {
     /// This command.
     Command(Cmd),

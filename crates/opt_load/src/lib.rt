@@ -1,6 +1,5 @@
-//! The commands of a large run, which a seed decides: `Load` makes one after the other, and `load_commands`
-//! makes a list of them. Nothing here runs a command, and nothing counts replies. The rule is
-//! described in docs/LOADS.md.
+//! The commands of a large run, which a seed decides: `Load` makes one after the other. Nothing here runs a
+//! command, and nothing counts replies. The rule is described in docs/LOADS.md.
 #![tactic(auto)]
 
 mod kind;
@@ -8,4 +7,4 @@ mod laws;
 mod load;
 
 pub use laws::{a_load_has_its_commands, seed_zero_begins_so};
-pub use load::{Load, load_commands};
+pub use load::Load;

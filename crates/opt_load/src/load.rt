@@ -2,7 +2,7 @@
 
 ghost use Rattle.std.specs.Prelude.{◌≡◌, ◌<◌, ◌%◌, IfOk, OnOk, OnErr};
 ghost use Rattle.opt_draw.specs.Draws.{next_state, drawn};
-ghost use Rattle.opt_load.specs.Load.{name, path, next_command, state_behind, load_commands};
+ghost use Rattle.opt_load.specs.Load.{name, path, next_command, state_behind};
 
 use crate::kind::{Kind, kind_of};
 use opt_base::{Bytes, Name, NoMemory};
@@ -57,22 +57,6 @@ impl Load {
         self.draws = draws;
         Ok(cmd)
     }
-}
-
-/// The first `count` commands of this seed.
-///
-/// # Errors
-/// Out of memory.
-pub fn load_commands(alloc: Global, seed: u32, count: u32) -> Result<Vec<Cmd>, NoMemory>
-    ensures { IfOk result (λ list. list.items ≡ load_commands count seed) }
-{
-    let mut list = Vec::with_capacity(alloc, count as usize)?;
-    let mut load = Load::new(seed);
-    while list.len() < count as usize {
-        let cmd = load.next_command(alloc)?;
-        list.push(cmd).unwrap();
-    }
-    Ok(list)
 }
 
 // The command that the next draws make.

@@ -6,7 +6,7 @@ ghost use Rattle.opt_memdisk.specs.Choice.{ChoiceState, with_fate};
 ghost use Rattle.opt_memdisk.specs.declared.choice.Fate.TheVariants.{Stands, Torn};
 
 use opt_base::NoMemory;
-use std::alloc::{AllocError, Global};
+use std::alloc::Global;
 use std::error::Error;
 use std::fmt;
 use std::marker::Model;
@@ -154,21 +154,6 @@ impl Eq for Choice {
     ghost use Rattle.opt_memdisk.specs.contracts.choice.NamedEq.TheImpl.Laws as named_laws;
 
     ghost laws = { and_equiv (on_equiv (λ c. c.all) bool_eq_equiv) (on_equiv (λ c. c.named) (lists_equiv named_laws.laws-law)) };
-}
-
-/// A clone is the same choice.
-impl Clone for Choice {
-    ghost use Rattle.std.specs.Prelude.{◌≡◌};
-
-    ghost is_clone = { λ choice clone. clone ≡ choice };
-
-    fn clone(&self) -> Result<Choice, AllocError> {
-        let named = self.named.clone()?;
-        Ok(Choice {
-            all: self.all,
-            named,
-        })
-    }
 }
 
 /// Why no image was made.

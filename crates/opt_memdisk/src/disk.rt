@@ -29,7 +29,7 @@ use crate::rule::Notices;
 use crate::{Choice, DiskCall, Fail, Image, ImageRefusal, Logged, Rule};
 use opt_base::{Block, NoMemory};
 use opt_disk::{Disk, DiskFault, Event};
-use std::alloc::{AllocError, Global};
+use std::alloc::Global;
 use std::marker::Model;
 
 /// A disk of the blocks of an image.
@@ -362,29 +362,6 @@ impl Eq for MemDisk {
     ghost use Rattle.opt_memdisk.specs.contracts.rule.NoticesEq.TheImpl.Laws as notices_laws;
 
     ghost laws = { and_equiv (and_equiv (and_equiv (and_equiv (on_equiv (λ d. d.base) image_laws.laws-law) (on_equiv (λ d. d.log) (lists_equiv event_laws.laws-law))) (on_equiv (λ d. d.notices) notices_laws.laws-law)) (on_equiv (λ d. d.fails) (lists_equiv fail_laws.laws-law))) (on_equiv room_and_counts (lists_equiv nat_eq_equiv)) };
-}
-
-/// A clone is the same disk, with the same room. It shares nothing with the disk that it was made from.
-impl Clone for MemDisk {
-    ghost use Rattle.std.specs.Prelude.{◌≡◌};
-
-    ghost is_clone = { λ disk clone. clone ≡ disk };
-
-    fn clone(&self) -> Result<MemDisk, AllocError> {
-        Ok(MemDisk {
-            base: self.base.clone()?,
-            last: self.last.clone()?,
-            log: self.log.clone()?,
-            notices: self.notices,
-            fails: self.fails.clone()?,
-            known: self.known,
-            faults: self.faults,
-            read_faults: self.read_faults,
-            reads: self.reads,
-            polls: self.polls,
-            waits: self.waits,
-        })
-    }
 }
 
 // For each of so many blocks one more than the place of its last accepted write, or 0.

@@ -13,11 +13,11 @@ ghost use Rattle.opt_memdisk.specs.Logged.{event_of};
 use crate::Logged;
 use opt_base::{Block, NoMemory};
 use opt_disk::Event;
-use std::alloc::{AllocError, Global};
+use std::alloc::Global;
 use std::marker::Model;
 
 /// What is kept of one event.
-#[derive(Clone, Debug, Drop)]
+#[derive(Debug, Drop)]
 pub(crate) enum Entry {
     /// An event that there was when the disk was made. Its bytes are its own.
     Given(Event),
@@ -149,24 +149,6 @@ impl Events {
     }
 }
 
-/// A clone is the same events, with the same room.
-impl Clone for Events {
-    ghost use Rattle.std.specs.Prelude.{◌≡◌};
-
-    ghost is_clone = { λ events clone. clone ≡ events };
-
-    fn clone(&self) -> Result<Events, AllocError> {
-        let alloc = *self.entries.allocator();
-        let most_bytes = self.bytes.len() + self.ready as usize;
-        Ok(Events {
-            entries: entries_with_room(alloc, self.entries.as_slice(), self.most)?,
-            bytes: with_room(alloc, self.bytes.as_slice(), most_bytes)?,
-            ready: self.ready,
-            most: self.most,
-        })
-    }
-}
-
 // An entry as it is looked up, where these are the bytes of the disk's own writes.
 fn looked_up<'a>(blocks: &'a [Block], entry: &'a Entry) -> Logged<'a>
     requires { IsHeld (length blocks.now) entry.now }
@@ -239,35 +221,4 @@ fn is_same(left: Logged<'_>, right: Logged<'_>) -> bool
         (Logged::Lost { .. }, Logged::Wrote { .. } | Logged::Noticed { .. }) => false,
         (Logged::Noticed { .. }, Logged::Wrote { .. } | Logged::Lost { .. }) => false,
     }
-}
-
-// A copy of these entries, with room for so many in all.
-fn entries_with_room(
-    alloc: Global,
-    entries: &[Entry],
-    most: usize,
-) -> Result<Vec<Entry>, AllocError>
-    ensures entries { IfOk result (λ copy. copy.items ≡ entries.now) }
-    ensures room { IfOk result (λ copy. most ≤ vec_capacity copy) }
-{
-    let mut copy = Vec::with_capacity(alloc, most)?;
-    copy.extend_with_clones(entries)?;
-    Ok(copy)
-}
-
-/// A copy of these items, with room for so many in all.
-///
-/// # Errors
-/// Out of memory.
-pub(crate) fn with_room<T: Copy + Drop>(
-    alloc: Global,
-    items: &[T],
-    most: usize,
-) -> Result<Vec<T>, AllocError>
-    ensures items { IfOk result (λ copy. copy.items ≡ items.now) }
-    ensures room { IfOk result (λ copy. most ≤ vec_capacity copy) }
-{
-    let mut copy = Vec::with_capacity(alloc, most)?;
-    copy.extend_from_slice(items)?;
-    Ok(copy)
 }

@@ -9,7 +9,7 @@ ghost use Rattle.opt_memdisk.specs.Image.{AreBlocks};
 
 use crate::image_block::ImageBlock;
 use opt_base::{Block, NoMemory};
-use std::alloc::{AllocError, Global};
+use std::alloc::Global;
 use std::marker::Model;
 
 /// A list of blocks, which contracts see as that list. Of blocks of zeros it keeps no bytes.
@@ -137,16 +137,4 @@ impl Eq for Image {
     ghost use Rattle.std.specs.Cmp.Lexicographic.{lists_equiv, nat_list_eq_equiv};
 
     ghost laws = { lists_equiv nat_list_eq_equiv };
-}
-
-/// A clone is the same image.
-impl Clone for Image {
-    ghost use Rattle.std.specs.Prelude.{◌≡◌};
-
-    ghost is_clone = { λ image clone. clone ≡ image };
-
-    fn clone(&self) -> Result<Image, AllocError> {
-        let blocks = self.blocks.clone()?;
-        Ok(Image { blocks })
-    }
 }

@@ -16,12 +16,12 @@ ghost use Rattle.opt_memdisk.specs.Log.{tickets, open_tickets, write_count, writ
 ghost use Rattle.opt_memdisk.specs.Logged.{event_of};
 ghost use Rattle.opt_memdisk.specs.Settled.{name_at};
 
-use crate::events::{Events, with_room};
+use crate::events::Events;
 use crate::{Logged, WriteName};
 use opt_base::{Block, NoMemory};
 use opt_disk::{BoxedBlock, Event, a_block_has_its_bytes};
 use opt_ranks::Ranks;
-use std::alloc::{AllocError, Global};
+use std::alloc::Global;
 use std::fmt;
 use std::marker::Model;
 
@@ -328,25 +328,6 @@ impl Log {
         bytes.lawful();
         self.lost.push(self.events.len()).unwrap();
         self.events.push_given(Event::Lost { block, bytes });
-    }
-}
-
-/// A clone is the same log, with the same room.
-impl Clone for Log {
-    ghost use Rattle.std.specs.Prelude.{◌≡◌};
-
-    ghost is_clone = { λ log clone. clone ≡ log };
-
-    fn clone(&self) -> Result<Log, AllocError> {
-        let alloc = *self.tickets.allocator();
-        Ok(Log {
-            events: self.events.clone()?,
-            tickets: with_room(alloc, self.tickets.as_slice(), self.room as usize)?,
-            places: with_room(alloc, self.places.as_slice(), self.room as usize)?,
-            lost: with_room(alloc, self.lost.as_slice(), self.room as usize)?,
-            unnoticed: self.unnoticed.clone()?,
-            room: self.room,
-        })
     }
 }
 

@@ -6,7 +6,7 @@ ghost use Rattle.opt_ranks.specs.Ranks.{is_member, with_next, without};
 
 use crate::counts::{leaf_at, set_leaf};
 use opt_base::NoMemory;
-use std::alloc::{AllocError, Global};
+use std::alloc::Global;
 use std::marker::Model;
 
 /// The numbers that joined and weren't taken out. Contracts see the list of these members in ascending
@@ -111,22 +111,5 @@ impl Ranks {
         }
         let leaf = leaf_at(self.counts.as_slice(), self.size, place);
         Some(leaf as u32 + 1)
-    }
-}
-
-/// A clone has the same members, and room for the same numbers.
-impl Clone for Ranks {
-    ghost use Rattle.std.specs.Prelude.{◌≡◌};
-
-    ghost is_clone = { λ ranks clone. clone ≡ ranks };
-
-    fn clone(&self) -> Result<Ranks, AllocError> {
-        let counts = self.counts.clone()?;
-        Ok(Ranks {
-            counts,
-            size: self.size,
-            joined: self.joined,
-            most: self.most,
-        })
     }
 }

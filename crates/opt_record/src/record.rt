@@ -7,7 +7,7 @@ ghost use Rattle.opt_journal.specs.Run.{heads, places};
 use opt_base::NoMemory;
 use opt_geom::Geom;
 use opt_journal::{Entry, MOST_ENTRIES};
-use std::alloc::{AllocError, Global};
+use std::alloc::Global;
 use std::marker::Model;
 
 /// A record of the journal: its number, the ring place at which it begins, and its entries.
@@ -133,24 +133,6 @@ impl Eq for Record {
     ghost laws = { and_equiv (and_equiv (and_equiv (on_equiv (λ r. r.number) nat_eq_equiv) (on_equiv (λ r. r.place) nat_eq_equiv)) (on_equiv (λ r. r.payloads) (lists_equiv entry_laws.laws-law))) (on_equiv (λ r. r.fresh) (lists_equiv entry_laws.laws-law)) };
 }
 
-/// A clone is the same record.
-impl Clone for Record {
-    ghost use Rattle.std.specs.Prelude.{◌≡◌};
-
-    ghost is_clone = { λ found clone. clone ≡ found };
-
-    fn clone(&self) -> Result<Record, AllocError> {
-        let payloads = self.payloads.clone()?;
-        let fresh = self.fresh.clone()?;
-        Ok(Record {
-            number: self.number,
-            place: self.place,
-            payloads,
-            fresh,
-        })
-    }
-}
-
 /// Records in the order of their numbers.
 #[derive(Debug, Drop)]
 pub struct RecordList {
@@ -230,16 +212,4 @@ impl Eq for RecordList {
     ghost use Rattle.opt_record.specs.contracts.record.RecordEq.TheImpl.Laws as one_laws;
 
     ghost laws = { lists_equiv one_laws.laws-law };
-}
-
-/// A clone has the same records.
-impl Clone for RecordList {
-    ghost use Rattle.std.specs.Prelude.{◌≡◌};
-
-    ghost is_clone = { λ list clone. clone ≡ list };
-
-    fn clone(&self) -> Result<RecordList, AllocError> {
-        let records = self.records.clone()?;
-        Ok(RecordList { records })
-    }
 }

@@ -10,7 +10,7 @@ use std::error::Error;
 use std::fmt;
 
 /// One command. `Bad` is a line that is none; it changes nothing and is answered `Bad`.
-#[derive(Clone, Debug, PartialEq, Eq, Drop)]
+#[derive(Debug, PartialEq, Eq, Drop)]
 pub enum Cmd {
     /// Makes an empty directory.
     Mkdir(Path),
@@ -49,7 +49,7 @@ pub enum Cmd {
 }
 
 /// The answer to one command.
-#[derive(Clone, Debug, PartialEq, Eq, Drop)]
+#[derive(Debug, PartialEq, Eq, Drop)]
 pub enum Reply {
     /// Done.
     Ok,

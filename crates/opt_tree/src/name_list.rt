@@ -3,7 +3,7 @@
 ghost use Rattle.std.specs.Prelude.{◌≡◌, ℕ, List, IfOk};
 
 use opt_base::{Name, NoMemory};
-use std::alloc::{AllocError, Global};
+use std::alloc::Global;
 use std::marker::Model;
 
 /// Names in a row. Contracts see them as the list of the names' bytes.
@@ -53,18 +53,6 @@ impl Eq for NameList {
     ghost use Rattle.std.specs.Cmp.Lexicographic.{lists_equiv, nat_list_eq_equiv};
 
     ghost laws = { lists_equiv nat_list_eq_equiv };
-}
-
-/// A clone is the same list.
-impl Clone for NameList {
-    ghost use Rattle.std.specs.Prelude.{◌≡◌};
-
-    ghost is_clone = { λ list clone. clone ≡ list };
-
-    fn clone(&self) -> Result<NameList, AllocError> {
-        let names = self.names.clone()?;
-        Ok(NameList { names })
-    }
 }
 
 /// A copy of the names.

@@ -6,7 +6,7 @@ ghost use Rattle.opt_tree.specs.Paths.{is_below};
 
 use crate::copy_names;
 use opt_base::{Name, NoMemory};
-use std::alloc::{AllocError, Global};
+use std::alloc::Global;
 use std::marker::Model;
 
 /// The names from the root down. Contracts see a path as the list of its names' bytes.
@@ -93,16 +93,4 @@ impl Eq for Path {
     ghost use Rattle.std.specs.Cmp.Lexicographic.{lists_equiv, nat_list_eq_equiv};
 
     ghost laws = { lists_equiv nat_list_eq_equiv };
-}
-
-/// A clone is the same path.
-impl Clone for Path {
-    ghost use Rattle.std.specs.Prelude.{◌≡◌};
-
-    ghost is_clone = { λ path clone. clone ≡ path };
-
-    fn clone(&self) -> Result<Path, AllocError> {
-        let names = self.names.clone()?;
-        Ok(Path { names })
-    }
 }

@@ -1,8 +1,7 @@
-//! Digests and a seal against values from outside, the clone of a list of runs, and printed texts.
+//! Digests and a seal, against the standard's test words and values of Python's hashlib.
 
-use opt_base::{NoMemory, ReadFault, Run, RunList, digest, is_sealed, seal};
+use opt_base::{digest, is_sealed, seal};
 use sha2::{Digest, Sha256};
-use std::test::Fail;
 
 // The digest of `abc`, one of the standard's test words.
 const ABC: [u8; 32] = [
@@ -58,26 +57,4 @@ fn a_seal_is_the_digest_of_the_bytes_before_it(rt: HostRuntime) {
     assert!(rt; block[..992].iter().all(|byte| *byte == 0));
     assert_eq!(rt; &block[992..], SEAL_OF_ZEROS.as_slice());
     assert!(rt; is_sealed(&block));
-}
-
-#[test]
-fn a_clone_of_runs_goes_its_own_way(rt: HostRuntime) -> Result<(), Fail> {
-    let mut runs = RunList::new();
-    runs.push(Run { first: 3, count: 2 });
-    let clone = runs.clone()?;
-    assert!(rt; clone == runs);
-    runs.push(Run { first: 9, count: 1 });
-    assert!(rt; clone != runs);
-    assert_eq!(rt; clone.len(), 1);
-    assert!(rt; clone.as_slice()[0] == Run { first: 3, count: 2 });
-    Ok(())
-}
-
-#[test]
-fn the_faults_have_a_text(rt: HostRuntime) -> Result<(), Fail> {
-    let memory = NoMemory.to_string(rt.alloc())?;
-    assert_eq!(rt; memory.as_str(), "out of memory");
-    let read = ReadFault.to_string(rt.alloc())?;
-    assert_eq!(rt; read.as_str(), "a block could not be read");
-    Ok(())
 }
