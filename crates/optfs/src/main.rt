@@ -5,8 +5,6 @@
 mod messages;
 mod replies;
 mod streams;
-#[cfg(test)]
-mod tests;
 
 use messages::say_why;
 use opt_filedisk::FileBay;
