@@ -1,12 +1,12 @@
-//! The blocks with which a map in memory begins, in a row. What each of them has is described by `opt_format`.
+//! The blocks with which a map in memory begins, in a row. What each of them has is described by `opt_journal`.
 
 ghost use Rattle.std.specs.Prelude.{◌≡◌, ◌-◌, map, IfOk};
 ghost use Rattle.std.specs.List.{range_with_len};
 ghost use Rattle.opt_journal.specs.Formatted.{formatted};
 
 use opt_base::{Block, NoMemory};
-use opt_format::formatted_block;
 use opt_geom::Geom;
+use opt_journal::formatted_block;
 use std::alloc::Global;
 
 /// The blocks of the formatted disk from `first` on, and before `end`.

@@ -18,8 +18,8 @@ use crate::{Blocks, Figures, LowestRefusal, Role, SyncRefusal};
 use opt_base::{Block, Class, NoMemory, Places, ReadFault};
 use opt_bitmap::{a_cleared_block_is_free_again, a_set_block_is_free_no_more, set};
 use opt_disk::DiskFault;
-use opt_format::the_formatted_disk_is_empty;
 use opt_geom::Geom;
+use opt_journal::the_formatted_disk_is_empty;
 use std::alloc::Global;
 
 /// A map of blocks in memory.

@@ -5,8 +5,8 @@ ghost use Rattle.opt_base.specs.Seal.{blocks_of};
 ghost use Rattle.opt_journal.specs.Formatted.{formatted};
 
 use opt_base::NoMemory;
-use opt_format::{formatted_block, the_formatted_disk_is_empty};
 use opt_geom::Geom;
+use opt_journal::{formatted_block, the_formatted_disk_is_empty};
 use opt_memdisk::Image;
 use std::alloc::Global;
 

@@ -6,16 +6,16 @@ ghost use Rattle.opt_tree.specs.declared.command.Cmd.{Cmd};
 ghost use Rattle.opt_tree.specs.declared.command.Cmd.TheVariants.{Mkdir, Create, Write, Fill, Truncate, Link, Unlink, Rmdir};
 ghost use Rattle.opt_tree.specs.Figures as spec;
 ghost use Rattle.opt_tree.specs.Figures.{Figures as FiguresValue};
+ghost use Rattle.opt_tree.specs.Values.{value_of};
 ghost use Rattle.opt_stands.specs.Inodes.{Inodes};
 ghost use Rattle.opt_inodes.specs.Lookups.{bytes_of, inode_at};
 ghost use Rattle.opt_inodes.specs.Figures.{accepted_cost, slots_above, blocks_lost};
-ghost use Rattle.opt_figures.specs.Values.{value_of};
 ghost use Rattle.opt_fs.specs.Figures.{AreFiguresOf, HasFacts};
 
-use opt_figures::{
+use opt_inodes::{the_map_gives_the_figures, the_map_gives_the_refusal};
+use opt_tree::{
     Figures, adding, blocks_for, growth, release, removing, truncate_figures, write_figures,
 };
-use opt_inodes::{the_map_gives_the_figures, the_map_gives_the_refusal};
 
 /// The figures of a new name in a directory of so many slots: of mkdir, create and link.
 pub(crate) fn new_name_figures(slots: u64) -> Figures

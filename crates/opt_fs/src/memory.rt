@@ -23,10 +23,10 @@ use crate::points::live_blocks_are_enough;
 use opt_base::NoMemory;
 use opt_blocks::{Blocks, PlainBlocks};
 use opt_extent::{a_list_has_its_runs, tidy_runs_are_those_of_their_numbers};
-use opt_format::the_formatted_disk_is_empty;
 use opt_fsck::CheckRefusal;
 use opt_geom::Geom;
 use opt_inodes::{a_file_reads_as_itself, slots_follow_the_bytes, the_map_gives_the_names};
+use opt_journal::the_formatted_disk_is_empty;
 use opt_stands::{an_image_stands_for_one_tree, the_formatted_disk_stands_for_the_root};
 use std::alloc::Global;
 

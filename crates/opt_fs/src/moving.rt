@@ -34,7 +34,6 @@ use opt_base::Name;
 use opt_base::limits::LARGEST_FILE;
 use opt_blocks::{Blocks, calls_compose};
 use opt_dirs::{add_slot, alterations_add_up, directories_are_read, set_slot, take_slot};
-use opt_figures::{blocks_for, growth, moving, release};
 use opt_files::{
     Draft, FileRefusal, a_directory_has_whole_slots, a_draft_begins, a_file_fits_the_disk,
 };
@@ -44,7 +43,7 @@ use opt_inodes::{
 };
 use opt_layout::Slot;
 use opt_stands::{blocks_have_a_map, files_have_one_map};
-use opt_tree::Refusal;
+use opt_tree::{Refusal, blocks_for, growth, moving, release};
 use std::alloc::Global;
 
 /// A name in directory `dir`, which has `count` slots, and what stands under it, if anything does.

@@ -9,7 +9,6 @@ ghost use Rattle.opt_stands.specs.Stands.{IsTreeOf};
 ghost use Rattle.opt_inodes.specs.Figures.{slots_above};
 ghost use Rattle.opt_inodes.specs.Lookups.{walk_on};
 ghost use Rattle.opt_inodes.specs.Refusals.{rmdir_reason};
-ghost use Rattle.opt_figures.specs.Values.{value_of};
 ghost use Rattle.opt_files.specs.Calls.{files_in, places_in, LookRefused};
 ghost use Rattle.opt_files.specs.Content.{fails_reading};
 ghost use Rattle.opt_files.specs.Drafts.{nothing_drafted};
@@ -18,6 +17,7 @@ ghost use Rattle.opt_files.specs.Sound.{IsDraftOf};
 ghost use Rattle.opt_dirs.specs.Changing.{Alters};
 ghost use Rattle.opt_dirs.specs.Directories.{IsNumber, inodes_in};
 ghost use Rattle.opt_tree.specs.declared.command.Cmd.TheVariants.{Unlink, Rmdir};
+ghost use Rattle.opt_tree.specs.Values.{value_of};
 ghost use Rattle.opt_fs.specs.declared.paths.Spot.TheVariants.{Inside};
 ghost use Rattle.opt_fs.specs.Figures.{AreFiguresOf, HasFacts};
 ghost use Rattle.opt_fs.specs.Looks.{ComesTo, IsWithin, MayBeEntry, ShowsFacts, entry_number};
@@ -38,7 +38,6 @@ use crate::space::has_room;
 use opt_base::limits::{LARGEST_FILE, MOST_LINKS, ROOT};
 use opt_blocks::{Blocks, calls_compose};
 use opt_dirs::{alterations_add_up, count_slots, directories_are_read, take_slot};
-use opt_figures::Figures;
 use opt_files::{
     Draft, FileFacts, FileRefusal, a_directory_has_whole_slots, a_draft_begins,
     a_file_fits_the_disk, a_file_has_its_blocks,
@@ -48,7 +47,7 @@ use opt_inodes::{
     the_map_gives_the_refusal, walks_are_the_same,
 };
 use opt_stands::{blocks_have_a_map, files_have_one_map};
-use opt_tree::{Kind, Path, Refusal, Reply};
+use opt_tree::{Figures, Kind, Path, Refusal, Reply};
 use std::alloc::Global;
 
 /// What stands under a name in directory `dir`, which has `count` slots.

@@ -28,12 +28,11 @@ use crate::refusals::refusal_of;
 use crate::space::has_room;
 use opt_base::limits::LARGEST_FILE;
 use opt_blocks::{Blocks, calls_compose};
-use opt_figures::touched_blocks_are_counted_by_division;
 use opt_files::{Draft, a_draft_begins, a_file_fits_the_disk, a_file_has_its_blocks};
 use opt_inodes::{
     new_bytes_are_mapped, paths_lead_to_inodes, the_map_gives_the_refusal, walks_are_the_same,
 };
-use opt_tree::{Path, Refusal, Reply};
+use opt_tree::{Path, Refusal, Reply, touched_blocks_are_counted_by_division};
 use std::alloc::Global;
 
 /// Plans to give the file at a path so many bytes: its first ones, and zeros where it grows.

@@ -3,14 +3,13 @@
 //! described in docs/SPACE.md.
 
 ghost use Rattle.std.specs.Prelude.{◌≡◌, IfErr, OnOk};
-ghost use Rattle.opt_figures.specs.Values.{value_of};
+ghost use Rattle.opt_tree.specs.Values.{value_of};
 ghost use Rattle.opt_blocks.specs.Calls.{AreFigures};
 ghost use Rattle.opt_blocks.specs.State.{Bookkeeping};
 ghost use Rattle.opt_fs.specs.Space.{HasRoom, LacksRoom, left_of};
 
 use opt_blocks::{Blocks, Figures as BlockFigures};
-use opt_figures::Figures;
-use opt_tree::Refusal;
+use opt_tree::{Figures, Refusal};
 
 /// Whether there is room for a command with these figures.
 ///

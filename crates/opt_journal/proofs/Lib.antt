@@ -16,3 +16,5 @@ pub mod Fields
 pub mod OneSpelling
 pub mod OneValue
 pub mod RingPlaces
+pub mod FirstBits
+pub mod Formatted

@@ -1,10 +1,14 @@
 //! The journal's blocks, as values and as definitions of their bytes: headers, commit blocks,
 //! descriptors; and what an image of them holds: the newest header, the recoverable run, the recovered
-//! blocks. Nothing here writes to a disk. It is described in docs/JOURNAL.md.
+//! blocks. Also what each block of a disk has once the disk is formatted: the first header, the bits of the
+//! blocks before the data, the root directory, and zeros. Nothing here writes to a disk. It is described in
+//! docs/JOURNAL.md and docs/LAYOUT.md.
 #![tactic(auto)]
 
+mod block;
 mod entry;
 mod flaw;
+mod formatted_laws;
 mod header;
 mod laws;
 mod payload;
@@ -15,8 +19,10 @@ mod ring;
 mod write;
 mod write_record;
 
+pub use block::formatted_block;
 pub use entry::{Entries, Entry, EntryKind, MOST_ENTRIES};
 pub use flaw::BadRecord;
+pub use formatted_laws::the_formatted_disk_is_empty;
 pub use header::Header;
 pub use laws::{
     a_ring_hands_out_free_places, an_image_holds_one_map, descriptors_tell_the_entries,

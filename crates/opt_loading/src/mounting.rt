@@ -13,11 +13,12 @@ ghost use Rattle.opt_loading.specs.Summary.{at_first};
 use opt_base::NoMemory;
 use opt_crash::the_formatted_disk_may_be_opened;
 use opt_disk::Disk;
-use opt_format::the_formatted_disk_is_empty;
 use opt_fs::Fs;
 use opt_fsck::CheckRefusal;
 use opt_geom::geometries_are_within_limits;
-use opt_journal::{an_image_holds_one_map, journal_blocks_are_told_apart};
+use opt_journal::{
+    an_image_holds_one_map, journal_blocks_are_told_apart, the_formatted_disk_is_empty,
+};
 use opt_memdisk::MemDisk;
 use opt_stands::the_formatted_disk_stands_for_the_root;
 use opt_store::{Store, StoreRefusal, the_data_of_a_formatted_disk_may_be_anything};

@@ -6,8 +6,8 @@ ghost use Rattle.hex.specs.Hex.{encode_lower};
 ghost use Rattle.opt_base.specs.Counts.{HasCause};
 ghost use Rattle.opt_loading.specs.Summary.{summary_text};
 
-use opt_decimal::write_numbered_line;
 use opt_io::{Sink, SinkFault, prefixes_join, push_all};
+use opt_script::write_numbered_line;
 use std::marker::Model;
 
 /// What a load came to.

@@ -1,3 +1,4 @@
+pub mod count_trees
 pub mod kept_events
 pub mod log_rows
 pub mod disk_calls

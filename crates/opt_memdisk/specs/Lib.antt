@@ -1,4 +1,5 @@
 pub mod Choice
+pub mod Counts
 pub mod Crash
 pub mod Events
 pub mod Image
@@ -7,5 +8,6 @@ pub mod Log
 pub mod Logged
 pub mod MemBay
 pub mod MemDisk
+pub mod Ranks
 pub mod Settled
 pub mod Torn

@@ -5,7 +5,7 @@ use Rattle.opt_disk.specs.declared.event.Event.{Event}
 use Rattle.opt_disk.specs.declared.event.Event.TheVariants.{Wrote, Lost, Noticed}
 use Rattle.opt_disk.specs.Cell.{greatest_ticket, is_noticed}
 use Rattle.opt_disk.specs.Lawful.{IsLawful, AreEventsOf}
-use Rattle.opt_ranks.specs.Ranks.{RanksState}
+use Rattle.opt_memdisk.specs.Ranks.{RanksState}
 
 -- a log: its events, how many writes it has room for, accepted and lost, and for how many of them the room for their bytes is still free
 pub record LogState : Type 0 where
@@ -71,7 +71,7 @@ AreWithin n (Lost block bytes ∷ es) = block < n × AreWithin n es
 AreWithin n (Noticed ticket ∷ es) = AreWithin n es
 
 -- each event is one of some disk, the rows fit one another and the events, and each has room for what may come
-pub record IsKept (events : List Event) (row places lost : List ℕ) (ranks : RanksState) (room ready most_events most_tickets most_places most_lost : ℕ) : Type 0 where
+pub record IsKeptLog (events : List Event) (row places lost : List ℕ) (ranks : RanksState) (room ready most_events most_tickets most_places most_lost : ℕ) : Type 0 where
   pub lawful : IsLawful events
   pub whole : AreEventsOf (2 ^ 32) events
   pub next : 0 < ready → greatest_ticket events ≡ length row

@@ -1,11 +1,13 @@
 //! A disk in memory that keeps its log, the images that it begins with and that crashes leave of it, and a
 //! bay of such disks. It is for tests and for runs that say what a disk does; nothing here outlives
-//! the program. The rules are described in docs/DISK.md.
+//! the program. The rules are described in docs/DISK.md. Which of its writes have no notice yet, the disk
+//! keeps in a set of numbers, `Ranks`, which knows no disk and no tickets.
 #![tactic(auto)]
 
 mod bay;
 mod calls;
 mod choice;
+mod counts;
 mod crash;
 mod disk;
 mod events;
@@ -14,6 +16,7 @@ mod image_block;
 mod laws;
 mod log;
 mod logged;
+mod ranks;
 mod rule;
 mod settled;
 
@@ -24,4 +27,5 @@ pub use disk::MemDisk;
 pub use image::Image;
 pub use laws::{a_choice_makes_each_torn_image, pending_writes_are_those_of_the_cells};
 pub use logged::Logged;
+pub use ranks::Ranks;
 pub use rule::Rule;

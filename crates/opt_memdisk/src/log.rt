@@ -17,10 +17,9 @@ ghost use Rattle.opt_memdisk.specs.Logged.{event_of};
 ghost use Rattle.opt_memdisk.specs.Settled.{name_at};
 
 use crate::events::Events;
-use crate::{Logged, WriteName};
+use crate::{Logged, Ranks, WriteName};
 use opt_base::{Block, NoMemory};
 use opt_disk::{BoxedBlock, Event, a_block_has_its_bytes};
-use opt_ranks::Ranks;
 use std::alloc::Global;
 use std::fmt;
 use std::marker::Model;
@@ -42,14 +41,14 @@ pub(crate) struct Log {
 }
 
 impl Model for Log {
-    ghost use Rattle.opt_memdisk.specs.Log.{LogState, IsKept};
+    ghost use Rattle.opt_memdisk.specs.Log.{LogState, IsKeptLog};
     ghost use Rattle.std.specs.Prelude.{vec_capacity};
 
     ghost Value = { LogState };
 
     ghost view = { λ l. record { events = l.events.events; room = l.room; ready = l.events.ready } };
 
-    ghost invariant = { λ l. IsKept l.events.events l.tickets.items l.places.items l.lost.items l.unnoticed l.room l.events.ready l.events.most (vec_capacity l.tickets) (vec_capacity l.places) (vec_capacity l.lost) };
+    ghost invariant = { λ l. IsKeptLog l.events.events l.tickets.items l.places.items l.lost.items l.unnoticed l.room l.events.ready l.events.most (vec_capacity l.tickets) (vec_capacity l.places) (vec_capacity l.lost) };
 }
 
 /// What is kept of the events, and the room alone.

@@ -1,24 +1,23 @@
 //! What a command does to the blocks of a tree: the sizes on which that depends are looked up here, and
-//! opt_figures counts from them. No block is known, and no loop goes over blocks or bytes. The rules are
+//! opt_tree counts from them. No block is known, and no loop goes over blocks or bytes. The rules are
 //! described in docs/TREE.md.
 
 ghost use Rattle.std.specs.Prelude.{◌≡◌, ◌==◌, ◌+◌, ◌≤◌, ◌<◌, ◌^◌, ℕ, None, is_some, length, if◌then◌else◌};
 ghost use Rattle.opt_tree.specs.Paths.{parent, name_in};
 ghost use Rattle.opt_tree.specs.Walk.{are_same};
 ghost use Rattle.opt_tree.specs.Figures as spec;
+ghost use Rattle.opt_tree.specs.Values.{value_of};
 ghost use Rattle.opt_inodes.specs.Figures as from_inodes;
 ghost use Rattle.opt_inodes.specs.Lookups.{bytes_of, inode_at, number_at};
 ghost use Rattle.opt_inodes.specs.Refusals.{reason};
-ghost use Rattle.opt_figures.specs.Values.{value_of};
 ghost use Rattle.opt_memtree.specs.Kept.{map_of, AreSmall};
 
 use crate::nodes::Nodes;
 use opt_base::Name;
-use opt_figures::{
-    Figures, NOTHING, adding, blocks_for, growth, moving, release, removing, truncate_figures,
-    write_figures,
+use opt_tree::{
+    Cmd, Figures, NOTHING, Path, Refusal, adding, blocks_for, growth, moving, release, removing,
+    truncate_figures, write_figures,
 };
-use opt_tree::{Cmd, Path, Refusal};
 
 impl Nodes {
     /// Need, cost and blocks freed of a command, where `why` is the reason to refuse it.

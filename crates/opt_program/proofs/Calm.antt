@@ -12,12 +12,12 @@ use Rattle.opt_tree.specs.declared.command.Refusal.{Refusal}
 use Rattle.opt_tree.specs.declared.command.Refusal.TheVariants as because
 use Rattle.opt_tree.specs.declared.command.Reply.{Reply}
 use Rattle.opt_tree.specs.declared.command.Reply.TheVariants as replies
-use Rattle.opt_show.specs.Shows.{FailedByManner, MayFailToOpen}
-use Rattle.opt_run.specs.declared.ending.Ending.{Ending}
-use Rattle.opt_run.specs.declared.ending.RunRefusal.{RunRefusal}
-use Rattle.opt_run.specs.declared.ending.RunRefusal.TheVariants as run
-use Rattle.opt_run.specs.Refusals.{is_failed}
-use Rattle.opt_run.specs.Runs.{ComesOfDisk, HasReason, HaveReasons, Marks, MarksGo, Streams}
+use Rattle.opt_image.specs.Shows.{FailedByManner, MayFailToOpen}
+use Rattle.opt_image.specs.declared.ending.Ending.{Ending}
+use Rattle.opt_image.specs.declared.ending.RunRefusal.{RunRefusal}
+use Rattle.opt_image.specs.declared.ending.RunRefusal.TheVariants as run
+use Rattle.opt_image.specs.Refusals.{is_failed}
+use Rattle.opt_image.specs.Runs.{ComesOfDisk, HasReason, HaveReasons, Marks, MarksGo, Streams}
 use Rattle.opt_program.specs.Calm.{IsCalm, NothingFails, is_for_a_call}
 
 not_failed : (m : Manner) (log : List Event) → NothingFails m → HasFailedBy m log → ⊥

@@ -16,21 +16,21 @@ use Rattle.opt_memdisk.specs.MemDisk.{has_listed, is_listed, manner_by, same_cal
 use Rattle.opt_trace.specs.Contents.{Contents}
 use Rattle.opt_trace_reader.specs.declared.input.TraceRefusal.{TraceRefusal}
 use Rattle.opt_trace_reader.specs.declared.input.TraceRefusal.TheVariants as reading
-use Rattle.opt_show.specs.declared.refusal.ShowRefusal.{ShowRefusal}
-use Rattle.opt_show.specs.declared.refusal.ShowRefusal.TheVariants as show
-use Rattle.opt_show.specs.Shows.{CountsFault, HasShowCause}
+use Rattle.opt_image.specs.declared.show_refusal.ShowRefusal.{ShowRefusal}
+use Rattle.opt_image.specs.declared.show_refusal.ShowRefusal.TheVariants as show
+use Rattle.opt_image.specs.Shows.{CountsFault, HasShowCause}
 use Rattle.opt_loading.specs.Summary.{summary_of, summary_text}
-use Rattle.opt_make.specs.declared.refusal.MakeRefusal.{MakeRefusal}
-use Rattle.opt_make.specs.declared.refusal.MakeRefusal.TheVariants as make
-use Rattle.opt_make.specs.Makes.{HasMakeCause}
+use Rattle.opt_image.specs.declared.make_refusal.MakeRefusal.{MakeRefusal}
+use Rattle.opt_image.specs.declared.make_refusal.MakeRefusal.TheVariants as make
+use Rattle.opt_image.specs.Makes.{HasMakeCause}
 use Rattle.opt_replay.specs.declared.refusal.ReplayRefusal.{ReplayRefusal}
 use Rattle.opt_replay.specs.declared.refusal.ReplayRefusal.TheVariants as crash
 use Rattle.opt_replay.specs.Replays.{Found}
-use Rattle.opt_run.specs.declared.ending.Ending.{Ending}
-use Rattle.opt_run.specs.declared.ending.Ending.TheVariants as script
-use Rattle.opt_run.specs.declared.ending.RunRefusal.{RunRefusal}
-use Rattle.opt_run.specs.declared.ending.RunRefusal.TheVariants as run
-use Rattle.opt_run.specs.Runs.{HasRunCause}
+use Rattle.opt_image.specs.declared.ending.Ending.{Ending}
+use Rattle.opt_image.specs.declared.ending.Ending.TheVariants as script
+use Rattle.opt_image.specs.declared.ending.RunRefusal.{RunRefusal}
+use Rattle.opt_image.specs.declared.ending.RunRefusal.TheVariants as run
+use Rattle.opt_image.specs.Runs.{HasRunCause}
 use Rattle.opt_words.specs.declared.request.Request.{Request}
 use Rattle.opt_words.specs.declared.request.Request.TheVariants.{Record, Replay, Tree, Make, Run, Load}
 use Rattle.opt_recording.specs.declared.disk.Behaviour.{Behaviour}

@@ -3,12 +3,12 @@ use Rattle.std.proofs.Common.{◌≡◌, ◌⊎◌, ℕ, ◌≤◌, Bool, List, 
 use Rattle.opt_base.specs.Counts.{Rose, after_call}
 use Rattle.opt_disk.specs.declared.bay.BayFault.{BayFault}
 use Rattle.opt_disk.specs.Bay.{BayState}
-use Rattle.opt_run.specs.declared.ending.Ending.{Ending}
-use Rattle.opt_run.specs.declared.ending.Ending.TheVariants as script
-use Rattle.opt_run.specs.declared.ending.RunRefusal.{RunRefusal}
-use Rattle.opt_run.specs.declared.ending.RunRefusal.TheVariants as run
-use Rattle.opt_run.specs.Refusals.{answer_of, fails_pushing, of_bay}
-use Rattle.opt_run.specs.Runs.{ComesOf, ComesOfDisk, CountsFaults, Streams}
+use Rattle.opt_image.specs.declared.ending.Ending.{Ending}
+use Rattle.opt_image.specs.declared.ending.Ending.TheVariants as script
+use Rattle.opt_image.specs.declared.ending.RunRefusal.{RunRefusal}
+use Rattle.opt_image.specs.declared.ending.RunRefusal.TheVariants as run
+use Rattle.opt_image.specs.Refusals.{run_answer_of, run_fails_pushing, run_refusal_of_bay}
+use Rattle.opt_image.specs.Runs.{ComesOf, ComesOfDisk, CountsFaults, Streams}
 use Rattle.opt_program.specs.Endings.{HasFault, Tells, disk_line, damaged_line, source_line, spent_line, long_line}
 use Rattle.opt_program.specs.Scripting.{EndsScript, TellsScript}
 use Rattle.opt_program.specs.declared.status.Status.{Status}
@@ -50,9 +50,9 @@ source_rose tells image old new before after (inl u) = by u.answer
     by (inr is) = absurd (no_err script.SourceFault run.NoMemory is)
 source_rose tells image old new before after (inr h) = by h.answer h.back h.comes h.answered
   where
-    by : (answer : Result Ending RunRefusal) (back : Result (Unit {0}) BayFault) → ComesOfDisk tells h.first h.last h.marks answer before after → Ok script.SourceFault ≡ answer_of answer back → Rose before.source_faults after.source_faults
+    by : (answer : Result Ending RunRefusal) (back : Result (Unit {0}) BayFault) → ComesOfDisk tells h.first h.last h.marks answer before after → Ok script.SourceFault ≡ run_answer_of answer back → Rose before.source_faults after.source_faults
     by (Ok script.End) (Ok y) c is = absurd (not_end is)
-    by (Ok script.End) (Err fault) c is = absurd (no_err script.SourceFault (of_bay fault) is)
+    by (Ok script.End) (Err fault) c is = absurd (no_err script.SourceFault (run_refusal_of_bay fault) is)
     by (Ok script.SourceFault) back c is = c.reads.2
     by (Ok script.LongInput) back c is = absurd (not_long is)
     by (Err why) back c is = absurd (no_err script.SourceFault why is)
@@ -76,7 +76,7 @@ script_fault tells image answer status old new before after out sink_now comes c
     told : (X : Status) (line : List ℕ) → Fault X → after.sink_faults ≡ before.sink_faults → Tells X status line after.taken out after.sink_faults sink_now → Fault status
     told X line fault same t = told_after X status line after.taken out before.source_faults after.source_faults before.sink_faults after.sink_faults sink_now fault (omega (arith, same)) t
 
-    by : (answer : Result Ending RunRefusal) → ComesOf tells image answer old new before after → after.sink_faults ≡ after_call (fails_pushing answer) before.sink_faults
+    by : (answer : Result Ending RunRefusal) → ComesOf tells image answer old new before after → after.sink_faults ≡ after_call (run_fails_pushing answer) before.sink_faults
         → TellsScript answer status after.taken out after.sink_faults sink_now → Fault status
     by (Ok script.End) c s t = subst Fault (sym t.0) tt
     by (Ok script.SourceFault) c s t = told SourceFault source_line (source_rose tells image old new before after c) s t

@@ -2,10 +2,10 @@
 use Rattle.std.specs.Prelude.{◌≡◌, ℕ, Bool, IsTrue, List, Option, Result, Ok, Err, OnOk}
 use Rattle.opt_disk.specs.Bay.{SameElsewhere}
 use Rattle.opt_geom.specs.Geometry.{Geometry}
-use Rattle.opt_make.specs.declared.refusal.MakeRefusal.{MakeRefusal}
-use Rattle.opt_make.specs.declared.refusal.MakeRefusal.TheVariants as make
-use Rattle.opt_make.specs.Makes.{HasMakeCause, HasMakeReason, IsFormattedImage, LeavesBay}
-use Rattle.opt_show.specs.Shows.{HasImage}
+use Rattle.opt_image.specs.declared.make_refusal.MakeRefusal.{MakeRefusal}
+use Rattle.opt_image.specs.declared.make_refusal.MakeRefusal.TheVariants as make
+use Rattle.opt_image.specs.Makes.{HasMakeCause, HasMakeReason, IsFormattedImage, MakeLeavesBay}
+use Rattle.opt_image.specs.Shows.{HasImage}
 use Rattle.opt_program.specs.Endings.{Met, EndsBehind, EndsSilent, disk_line}
 use Rattle.opt_program.specs.declared.status.Status.{Status}
 use Rattle.opt_program.specs.declared.status.Status.TheVariants.{Done, NoMemory, DiskFault}
@@ -20,7 +20,7 @@ EndsMaking (Err make.NoMemory) = EndsSilent NoMemory
 pub record MakesTo (tells : Bool) (image : List ℕ) (g : Geometry) (status : Status) (m : Met) : Type 0 where
   pub answer : Result (Unit {0}) MakeRefusal
   pub made : IsTrue tells → OnOk answer (HasImage (m.bay_now.kept image) (IsFormattedImage g))
-  pub back : LeavesBay tells image g answer m.bay m.bay_now
+  pub back : MakeLeavesBay tells image g answer m.bay m.bay_now
   pub others : IsTrue tells → SameElsewhere image m.bay m.bay_now
   pub cause : HasMakeCause answer m.bay m.bay_now
   pub reason : IsTrue tells → answer ≡ Err make.Fault → HasMakeReason tells image g answer m.bay m.bay_now

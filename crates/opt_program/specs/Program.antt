@@ -7,7 +7,7 @@ use Rattle.opt_words.specs.declared.request.Notices.{Notices}
 use Rattle.opt_words.specs.declared.request.Request.{Request}
 use Rattle.opt_words.specs.declared.request.Request.TheVariants.{Record, Replay, Tree, Make, Run, Load}
 use Rattle.opt_memdisk.specs.MemDisk.{manner_by}
-use Rattle.opt_show.specs.Shows.{CountsFault}
+use Rattle.opt_image.specs.Shows.{CountsFault}
 use Rattle.opt_recording.specs.Behaving.{fails_of, rule_of}
 use Rattle.opt_recording.specs.Traces.{Setting}
 use Rattle.opt_program.specs.Endings.{Met, EndsBehind, EndsSilent, usage_line, shape_line}

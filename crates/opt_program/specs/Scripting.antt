@@ -1,10 +1,10 @@
 -- What the program does where its words ask to run the script that is its input on an image. It is described in docs/PROMISES.md.
 use Rattle.std.specs.Prelude.{◌≡◌, ℕ, Bool, IsTrue, List, Option, Result, Ok, Err}
-use Rattle.opt_run.specs.declared.ending.Ending.{Ending}
-use Rattle.opt_run.specs.declared.ending.Ending.TheVariants as script
-use Rattle.opt_run.specs.declared.ending.RunRefusal.{RunRefusal}
-use Rattle.opt_run.specs.declared.ending.RunRefusal.TheVariants as run
-use Rattle.opt_run.specs.Runs.{ComesOf, CountsFaults, HasRunCause, HasRunReason, Streams}
+use Rattle.opt_image.specs.declared.ending.Ending.{Ending}
+use Rattle.opt_image.specs.declared.ending.Ending.TheVariants as script
+use Rattle.opt_image.specs.declared.ending.RunRefusal.{RunRefusal}
+use Rattle.opt_image.specs.declared.ending.RunRefusal.TheVariants as run
+use Rattle.opt_image.specs.Runs.{ComesOf, CountsFaults, HasRunCause, HasRunReason, Streams}
 use Rattle.opt_program.specs.Endings.{Met, EndsBehind, EndsSilent, Tells, disk_line, damaged_line, source_line, spent_line, long_line}
 use Rattle.opt_program.specs.declared.status.Status.{Status}
 use Rattle.opt_program.specs.declared.status.Status.TheVariants.{Done, NoMemory, DiskFault, Damaged, SourceFault, SinkFault, Spent, LongInput}
@@ -35,7 +35,7 @@ TellsScript (Err run.NoMemory) result taken taken_now sink sink_now = EndsSilent
 abbrev pub streams : Option (List ℕ) → ℕ → Option (List ℕ) → ℕ → Streams
 streams left source taken sink = record { left = left; source_faults = source; taken = taken; sink_faults = sink }
 
--- The script was run on the image under the name, with this answer; then the program ended with this status. Which commands were run, how each was answered, what the output took and what became of the disk is as `opt_run` says it.
+-- The script was run on the image under the name, with this answer; then the program ended with this status. Which commands were run, how each was answered, what the output took and what became of the disk is as `opt_image` says it.
 pub record RunsTo (tells : Bool) (image : List ℕ) (status : Status) (m : Met) : Type 0 where
   pub answer : Result Ending RunRefusal
   -- what the output has behind the replies, and its count of faults then

@@ -1,8 +1,8 @@
 -- What the program does where its words name an image whose tree is to be shown. It is described in docs/PROMISES.md.
 use Rattle.std.specs.Prelude.{◌≡◌, ℕ, Bool, true, IsTrue, List, Option, Result, Ok, Err, IfErr, OnOk}
-use Rattle.opt_show.specs.declared.refusal.ShowRefusal.{ShowRefusal}
-use Rattle.opt_show.specs.declared.refusal.ShowRefusal.TheVariants as show
-use Rattle.opt_show.specs.Shows.{HasFaultReason, HasImage, HasShowCause, LeavesBay, Lists, Refuses, says_nothing}
+use Rattle.opt_image.specs.declared.show_refusal.ShowRefusal.{ShowRefusal}
+use Rattle.opt_image.specs.declared.show_refusal.ShowRefusal.TheVariants as show
+use Rattle.opt_image.specs.Shows.{HasFaultReason, HasImage, HasShowCause, LeavesBay, Lists, Refuses, says_nothing}
 use Rattle.opt_program.specs.Endings.{Met, EndsBehind, EndsSilent, disk_line, damaged_line, spent_line}
 use Rattle.opt_program.specs.declared.status.Status.{Status}
 use Rattle.opt_program.specs.declared.status.Status.TheVariants.{Done, NoMemory, DiskFault, Damaged, SinkFault, Spent}

@@ -1,5 +1,5 @@
 //! The image of a formatted disk under a name of the bay: it is made where the numbers of its geometry fit together, and
-//! the run ends with the status of the answer. How an image is made is in `opt_make`.
+//! the run ends with the status of the answer. How an image is made is in `opt_image`.
 
 ghost use Rattle.std.specs.Prelude.{◌≡◌, ℕ, ◌≤◌, false, List, Option};
 ghost use Rattle.opt_geom.specs.Geometry.{geometry_fits};
@@ -11,8 +11,8 @@ use crate::status::Status;
 use crate::telling::{DISK, SHAPE, tell};
 use opt_disk::Bay;
 use opt_geom::{BadShape, Geom};
+use opt_image::{MakeRefusal, make_image};
 use opt_io::Sink;
-use opt_make::{MakeRefusal, make_image};
 use std::alloc::Global;
 
 /// Makes the image of a disk with so many blocks, journal blocks and nodes under the name, where they fit together, and

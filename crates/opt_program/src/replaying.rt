@@ -14,10 +14,10 @@ ghost use Rattle.opt_program.specs.declared.status.Status.TheVariants.{BadTrace}
 
 use crate::status::Status;
 use crate::telling::{CHOICE, DAMAGED, LONG, NO_PREFIX, SOURCE, SPENT, tell};
-use opt_decimal::write_numbered_line;
 use opt_io::{Sink, SinkFault, Source};
 use opt_memdisk::Choice;
 use opt_replay::{ReplayRefusal, Replayed};
+use opt_script::write_numbered_line;
 use opt_trace_reader::{Trace, TraceRefusal, read_trace};
 use std::alloc::Global;
 

@@ -1,5 +1,5 @@
 //! A script on an image of the bay: it is run, and the program ends with the status of the answer. How a script is run is
-//! in `opt_run`.
+//! in `opt_image`.
 
 ghost use Rattle.std.specs.Prelude.{◌≤◌};
 ghost use Rattle.opt_program.specs.Endings.{HasFault, met};
@@ -8,8 +8,8 @@ ghost use Rattle.opt_program.specs.Scripting.{RunsTo, TellsScript};
 use crate::status::Status;
 use crate::telling::{DAMAGED, DISK, LONG, SOURCE, SPENT, tell};
 use opt_disk::Bay;
+use opt_image::{Ending, RunRefusal, run_script};
 use opt_io::{Sink, Source};
-use opt_run::{Ending, RunRefusal, run_script};
 use std::alloc::Global;
 
 /// Runs the script that is the input on the image under the name, writes the replies, and the last line of the status.

@@ -1,5 +1,5 @@
 //! The tree of an image of the bay: it is shown, and the run ends with the status of the answer. How an image is shown
-//! is in `opt_show`.
+//! is in `opt_image`.
 
 ghost use Rattle.std.specs.Prelude.{ℕ, ◌≤◌, List, Option};
 ghost use Rattle.opt_program.specs.Endings.{HasFault, met};
@@ -8,8 +8,8 @@ ghost use Rattle.opt_program.specs.Showing.{ShowsTo};
 use crate::status::Status;
 use crate::telling::{DAMAGED, DISK, SPENT, tell};
 use opt_disk::Bay;
+use opt_image::{ShowRefusal, show_tree};
 use opt_io::Sink;
-use opt_show::{ShowRefusal, show_tree};
 use std::alloc::Global;
 
 /// Writes the listing of the tree for which the image under the name stands, and the last line of the status.

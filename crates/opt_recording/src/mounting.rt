@@ -16,11 +16,12 @@ use crate::disk::{Behaviour, formatted_disk};
 use opt_base::NoMemory;
 use opt_crash::the_formatted_disk_may_be_opened;
 use opt_disk::Disk;
-use opt_format::the_formatted_disk_is_empty;
 use opt_fs::nothing_is_taken_at_first;
 use opt_fsck::CheckRefusal;
 use opt_geom::Geom;
-use opt_journal::{an_image_holds_one_map, journal_blocks_are_told_apart};
+use opt_journal::{
+    an_image_holds_one_map, journal_blocks_are_told_apart, the_formatted_disk_is_empty,
+};
 use opt_memdisk::MemDisk;
 use opt_session::Served;
 use opt_stands::{an_image_stands_for_one_tree, the_formatted_disk_stands_for_the_root};

@@ -22,9 +22,9 @@ use Rattle.opt_fsck.specs.declared.checking.Damage.{Damage}
 use Rattle.opt_fsck.specs.Whole.{IsDamaged}
 use Rattle.opt_tree.specs.Tree.{Tree}
 use Rattle.opt_stands.specs.Stands.{IsTreeOf}
-use Rattle.opt_show.specs.declared.refusal.ImageDamage.{ImageDamage}
-use Rattle.opt_show.specs.declared.refusal.ImageDamage.TheVariants.{NoHeader, BadBit, Broken}
-use Rattle.opt_show.specs.Images.{CanBeMounted, HasDamage, StandsForNone, StandsMounted, resting}
+use Rattle.opt_image.specs.declared.show_refusal.ImageDamage.{ImageDamage}
+use Rattle.opt_image.specs.declared.show_refusal.ImageDamage.TheVariants.{NoHeader, BadBit, Broken}
+use Rattle.opt_image.specs.Images.{CanBeMounted, HasDamage, StandsForNone, StandsMounted, resting}
 use Rattle.opt_replay.specs.declared.refusal.ReplayRefusal.{ReplayRefusal}
 use Rattle.opt_replay.specs.declared.refusal.ReplayRefusal.TheVariants.{Choice, Damaged, Spent, NoMemory}
 use Rattle.opt_replay.specs.Images.{RefusesImage}

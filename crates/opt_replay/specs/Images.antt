@@ -2,7 +2,7 @@
 use Rattle.std.specs.Prelude.{ℕ, ⊤}
 use Rattle.opt_base.specs.Seal.{Blocks}
 use Rattle.opt_mount.specs.Mount.{IsUsedUp}
-use Rattle.opt_show.specs.Images.{HasDamage, StandsForNone}
+use Rattle.opt_image.specs.Images.{HasDamage, StandsForNone}
 use Rattle.opt_replay.specs.declared.refusal.ReplayRefusal.{ReplayRefusal}
 use Rattle.opt_replay.specs.declared.refusal.ReplayRefusal.TheVariants.{Choice, Damaged, Spent, NoMemory}
 

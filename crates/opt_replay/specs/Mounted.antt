@@ -5,7 +5,7 @@ use Rattle.opt_memdisk.specs.MemDisk.{MemDiskState, begun}
 use Rattle.opt_geom.specs.Geometry.{Geometry}
 use Rattle.opt_blocks.specs.State.{State}
 use Rattle.opt_fsck.specs.Whole.{IsDamaged}
-use Rattle.opt_show.specs.declared.refusal.ImageDamage.TheVariants.{NoHeader, BadBit, Broken}
+use Rattle.opt_image.specs.declared.show_refusal.ImageDamage.TheVariants.{NoHeader, BadBit, Broken}
 use Rattle.opt_replay.specs.declared.refusal.ReplayRefusal.{ReplayRefusal}
 use Rattle.opt_replay.specs.declared.refusal.ReplayRefusal.TheVariants.{Choice, Damaged, Spent, NoMemory}
 

@@ -8,7 +8,7 @@ use Rattle.opt_memdisk.specs.Choice.{ChoiceState, AreBlocksOf, can_choose, chose
 use Rattle.opt_tree.specs.Tree.{Tree}
 use Rattle.opt_tree.specs.Listing.{listing}
 use Rattle.opt_trace.specs.Contents.{Contents}
-use Rattle.opt_show.specs.Images.{StandsMounted}
+use Rattle.opt_image.specs.Images.{StandsMounted}
 use Rattle.opt_replay.specs.declared.refusal.ReplayRefusal.{ReplayRefusal}
 use Rattle.opt_replay.specs.declared.refusal.ReplayRefusal.TheVariants.{Choice, Damaged, Spent, NoMemory}
 use Rattle.opt_replay.specs.Images.{RefusesImage}

@@ -12,7 +12,7 @@ ghost use Rattle.opt_tree.specs.Listing.{listing};
 ghost use Rattle.opt_stands.specs.Stands.{IsTreeOf};
 ghost use Rattle.opt_fs.specs.Opened.{blocks_in, used_to};
 ghost use Rattle.opt_fs.specs.Sessions.{IsBetween, IsSession};
-ghost use Rattle.opt_show.specs.Images.{StandsMounted};
+ghost use Rattle.opt_image.specs.Images.{StandsMounted};
 ghost use Rattle.opt_replay.specs.Images.{RefusesImage};
 ghost use Rattle.opt_replay.specs.Mounted.{IsReadable, RefusesMap, resting_disk};
 
@@ -22,8 +22,8 @@ use opt_base::NoMemory;
 use opt_disk::Disk;
 use opt_fs::{Fs, ListRefusal};
 use opt_fsck::CheckRefusal;
+use opt_image::{ImageDamage, a_damaged_image_stands_for_no_tree};
 use opt_memdisk::{Image, MemDisk};
-use opt_show::{ImageDamage, a_damaged_image_stands_for_no_tree};
 use opt_store::{Store, StoreRefusal};
 use std::alloc::Global;
 

@@ -1,7 +1,7 @@
 //! Why what a crash would have left isn't told. When each refusal comes is described by the clauses of the calls.
 
 use opt_base::NoMemory;
-use opt_show::ImageDamage;
+use opt_image::ImageDamage;
 use std::error::Error;
 use std::fmt;
 

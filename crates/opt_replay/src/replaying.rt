@@ -15,12 +15,12 @@ use crate::laws::{
 use crate::listed::listing_of;
 use crate::points::newest_point;
 use crate::refusal::ReplayRefusal;
-use opt_decimal::write_numbered_line;
 use opt_disk::Event;
 use opt_formatted::formatted_image;
 use opt_geom::Geom;
 use opt_io::{Sink, SinkFault, prefixes_join, push_all};
 use opt_memdisk::{Choice, Image, ImageRefusal, MemDisk};
+use opt_script::write_numbered_line;
 use opt_trace_reader::Trace;
 use std::alloc::Global;
 use std::marker::Model;

@@ -11,7 +11,7 @@ use Rattle.opt_base.specs.Name.{is_name}
 use Rattle.opt_tree.specs.declared.command.Cmd.{Cmd}
 use Rattle.opt_tree.specs.declared.command.Cmd.TheVariants.{Mkdir, Create, Write, Fill, Read, Truncate, Link, Unlink, Rmdir, Rename, Stat, List as ListNames, Osync, Dsync, Durable, Poll, Bad}
 use Rattle.opt_script.specs.Values.{IsCommand}
-use Rattle.opt_script.specs.Grammar.{command_of, command_of_parts, path_of, names_of, number_of, bytes_of, some_bytes, path_command, paths_command, truncate_of, write_of, read_of, fill_of, is_in_grammar}
+use Rattle.opt_script.specs.Grammar.{command_of, command_of_parts, path_of, names_of, small_number_of, bytes_of, some_bytes, path_command, paths_command, truncate_of, write_of, read_of, fill_of, is_in_grammar}
 
 abbrev Lawful : Cmd → Type 0
 Lawful cmd = (cmd ≡ Bad) ⊎ (is_in_grammar cmd ≡ true)
@@ -55,7 +55,7 @@ kept_number true false same n h = tt
 kept_number true true false n h = tt
 kept_number true true true n h = h
 
-number_small : (part : List ℕ) → IfSome (number_of part) small
+number_small : (part : List ℕ) → IfSome (small_number_of part) small
 number_small part = kept_number (list_all is_ascii_digit part) (nat_lt (digits_value 10 part) 4294967296) (bytes_eq (decimal (digits_value 10 part)) part) (digits_value 10 part) refl
 
 -- ---- bytes
@@ -168,20 +168,20 @@ parts_lawful (word ∷ []) =
     either _ Osync _ (inr refl) (either _ Dsync _ (inr refl) (either _ Durable _ (inr refl) (either _ Poll Bad (inr refl) (inl refl))))
 parts_lawful (word ∷ path ∷ []) = path_command_lawful word (path_of path) (path_lawful path)
 parts_lawful (word ∷ path ∷ last ∷ []) =
-    either (bytes_eq word (codes "truncate")) (truncate_of (path_of path) (number_of last)) (paths_command word (path_of path) (path_of last))
-    (truncate_lawful (path_of path) (number_of last) (path_lawful path) (number_small last))
+    either (bytes_eq word (codes "truncate")) (truncate_of (path_of path) (small_number_of last)) (paths_command word (path_of path) (path_of last))
+    (truncate_lawful (path_of path) (small_number_of last) (path_lawful path) (number_small last))
     (paths_command_lawful word (path_of path) (path_of last) (path_lawful path) (path_lawful last))
 parts_lawful (word ∷ path ∷ offset ∷ last ∷ []) =
     let p = path_lawful path in
     let n = number_small offset in
-    either (bytes_eq word (codes "write")) (write_of (path_of path) (number_of offset) (bytes_of last))
-    (if bytes_eq word (codes "read") then read_of (path_of path) (number_of offset) (number_of last) else Bad)
-    (write_lawful (path_of path) (number_of offset) (bytes_of last) p n (kept_bytes (decode_of last) (decoded_small last)))
-    (either (bytes_eq word (codes "read")) (read_of (path_of path) (number_of offset) (number_of last)) Bad
-    (read_lawful (path_of path) (number_of offset) (number_of last) p n) (inl refl))
+    either (bytes_eq word (codes "write")) (write_of (path_of path) (small_number_of offset) (bytes_of last))
+    (if bytes_eq word (codes "read") then read_of (path_of path) (small_number_of offset) (small_number_of last) else Bad)
+    (write_lawful (path_of path) (small_number_of offset) (bytes_of last) p n (kept_bytes (decode_of last) (decoded_small last)))
+    (either (bytes_eq word (codes "read")) (read_of (path_of path) (small_number_of offset) (small_number_of last)) Bad
+    (read_lawful (path_of path) (small_number_of offset) (small_number_of last) p n) (inl refl))
 parts_lawful (word ∷ path ∷ offset ∷ count ∷ byte ∷ []) =
-    either (bytes_eq word (codes "fill")) (fill_of (path_of path) (number_of offset) (number_of count) (number_of byte)) Bad
-    (fill_lawful (path_of path) (number_of offset) (number_of count) (number_of byte) (path_lawful path) (number_small offset) (number_small count))
+    either (bytes_eq word (codes "fill")) (fill_of (path_of path) (small_number_of offset) (small_number_of count) (small_number_of byte)) Bad
+    (fill_lawful (path_of path) (small_number_of offset) (small_number_of count) (small_number_of byte) (path_lawful path) (number_small offset) (number_small count))
     (inl refl)
 parts_lawful (word ∷ path ∷ offset ∷ count ∷ byte ∷ one ∷ more) = inl refl
 

@@ -23,7 +23,7 @@ use Rattle.opt_tree.specs.Listing.{slashed, path_text, digits_behind_blank}
 use Rattle.opt_script.specs.Text.{command_text, text_of_reply, kind_text, names_behind_blanks, refusal_text}
 use Rattle.opt_script.specs.Grammar.{command_of, bytes_of}
 use Rattle.opt_script.specs.Values.{IsCommand, IsReply, HasFigures, has_no_feed}
-use Rattle.opt_script.proofs.Steps.{own}
+use Rattle.opt_script.proofs.Numbers.{own}
 use Rattle.opt_script.proofs.RoundTrip.{weaker, both, name_bytes, bytes_of-encode_lower, round_trip}
 
 -- Parts of a line, and what ends them.

@@ -16,8 +16,8 @@ use Rattle.opt_tree.specs.declared.command.Cmd.{Cmd}
 use Rattle.opt_tree.specs.declared.command.Cmd.TheVariants.{Mkdir, Create, Write, Fill, Read, Truncate, Link, Unlink, Rmdir, Rename, Stat, List as ListNames, Osync, Dsync, Durable, Poll, Bad}
 use Rattle.opt_tree.specs.Listing.{slashed, path_text}
 use Rattle.opt_script.specs.Text.{command_text}
-use Rattle.opt_script.specs.Grammar.{command_of, command_of_parts, path_of, number_of, bytes_of, some_bytes, path_command, paths_command, truncate_of, write_of, read_of, fill_of, fits, is_in_grammar}
-use Rattle.opt_script.proofs.Steps.{own}
+use Rattle.opt_script.specs.Grammar.{command_of, command_of_parts, path_of, small_number_of, bytes_of, some_bytes, path_command, paths_command, truncate_of, write_of, read_of, fill_of, fits, is_in_grammar}
+use Rattle.opt_script.proofs.Numbers.{own}
 
 -- ---- lists without a byte
 
@@ -63,8 +63,8 @@ digit_is_other b h = grind (arith, tests)
 decimal_lacks : (n : ℕ) → n < 4294967296 → list_all (other 32) (decimal n) ≡ true
 decimal_lacks n small = weaker is_ascii_digit (other 32) digit_is_other (decimal n) (digits_decimal own n (omega (arith, small)))
 
-number_of-decimal : (n : ℕ) → n < 4294967296 → number_of (decimal n) ≡ Some n
-number_of-decimal n small =
+small_number_of-decimal : (n : ℕ) → n < 4294967296 → small_number_of (decimal n) ≡ Some n
+small_number_of-decimal n small =
     let digits = digits_decimal own n (omega (arith, small)) in
     let value = digits_value-decimal own n (omega (arith, small)) in
     let same = (bytes_eq-Decides (decimal n) (decimal n)).1 refl in
@@ -186,8 +186,8 @@ truncate_reads : (path : List (List ℕ)) (size : ℕ) → list_all is_name path
 truncate_reads path size h small =
     ap command_of (regroup_two (codes "truncate ") (path_text path) (decimal size))
     ∙ ap (λ rest. command_of_parts (codes "truncate" ∷ rest)) (split_two (path_text path) (decimal size) (path_lacks path h) (decimal_lacks size small))
-    ∙ ap (λ p. truncate_of p (number_of (decimal size))) (path_of-path_text path h)
-    ∙ ap (λ n. truncate_of (Some path) n) (number_of-decimal size small)
+    ∙ ap (λ p. truncate_of p (small_number_of (decimal size))) (path_of-path_text path h)
+    ∙ ap (λ n. truncate_of (Some path) n) (small_number_of-decimal size small)
 
 write_reads : (path : List (List ℕ)) (offset b : ℕ) (bytes : List ℕ) → list_all is_name path ≡ true → offset < 4294967296
     → list_all (λ b. nat_lt b 256) (b ∷ bytes) ≡ true
@@ -196,8 +196,8 @@ write_reads path offset b bytes h small k =
     ap command_of (regroup_three (codes "write ") (path_text path) (decimal offset) (encode_lower (b ∷ bytes)))
     ∙ ap (λ rest. command_of_parts (codes "write" ∷ rest))
     (split_three (path_text path) (decimal offset) (encode_lower (b ∷ bytes)) (path_lacks path h) (decimal_lacks offset small) (digits_lack (b ∷ bytes)))
-    ∙ ap (λ p. write_of p (number_of (decimal offset)) (bytes_of (encode_lower (b ∷ bytes)))) (path_of-path_text path h)
-    ∙ ap (λ n. write_of (Some path) n (bytes_of (encode_lower (b ∷ bytes)))) (number_of-decimal offset small)
+    ∙ ap (λ p. write_of p (small_number_of (decimal offset)) (bytes_of (encode_lower (b ∷ bytes)))) (path_of-path_text path h)
+    ∙ ap (λ n. write_of (Some path) n (bytes_of (encode_lower (b ∷ bytes)))) (small_number_of-decimal offset small)
     ∙ ap (λ x. write_of (Some path) (Some offset) x) (bytes_of-encode_lower b bytes k)
 
 read_reads : (path : List (List ℕ)) (offset count : ℕ) → list_all is_name path ≡ true → offset < 4294967296 → count < 4294967296
@@ -206,9 +206,9 @@ read_reads path offset count h small low k =
     ap command_of (regroup_three (codes "read ") (path_text path) (decimal offset) (decimal count))
     ∙ ap (λ rest. command_of_parts (codes "read" ∷ rest))
     (split_three (path_text path) (decimal offset) (decimal count) (path_lacks path h) (decimal_lacks offset small) (decimal_lacks count low))
-    ∙ ap (λ p. read_of p (number_of (decimal offset)) (number_of (decimal count))) (path_of-path_text path h)
-    ∙ ap (λ n. read_of (Some path) n (number_of (decimal count))) (number_of-decimal offset small)
-    ∙ ap (λ n. read_of (Some path) (Some offset) n) (number_of-decimal count low)
+    ∙ ap (λ p. read_of p (small_number_of (decimal offset)) (small_number_of (decimal count))) (path_of-path_text path h)
+    ∙ ap (λ n. read_of (Some path) n (small_number_of (decimal count))) (small_number_of-decimal offset small)
+    ∙ ap (λ n. read_of (Some path) (Some offset) n) (small_number_of-decimal count low)
     ∙ rw k refl
 
 fill_reads : (path : List (List ℕ)) (offset count byte : ℕ) → list_all is_name path ≡ true → offset < 4294967296 → count < 4294967296
@@ -218,10 +218,10 @@ fill_reads path offset count byte h small low lower k =
     ∙ ap (λ rest. command_of_parts (codes "fill" ∷ rest))
     (split_four (path_text path) (decimal offset) (decimal count) (decimal byte)
     (path_lacks path h) (decimal_lacks offset small) (decimal_lacks count low) (decimal_lacks byte lower))
-    ∙ ap (λ p. fill_of p (number_of (decimal offset)) (number_of (decimal count)) (number_of (decimal byte))) (path_of-path_text path h)
-    ∙ ap (λ n. fill_of (Some path) n (number_of (decimal count)) (number_of (decimal byte))) (number_of-decimal offset small)
-    ∙ ap (λ n. fill_of (Some path) (Some offset) n (number_of (decimal byte))) (number_of-decimal count low)
-    ∙ ap (λ n. fill_of (Some path) (Some offset) (Some count) n) (number_of-decimal byte lower)
+    ∙ ap (λ p. fill_of p (small_number_of (decimal offset)) (small_number_of (decimal count)) (small_number_of (decimal byte))) (path_of-path_text path h)
+    ∙ ap (λ n. fill_of (Some path) n (small_number_of (decimal count)) (small_number_of (decimal byte))) (small_number_of-decimal offset small)
+    ∙ ap (λ n. fill_of (Some path) (Some offset) n (small_number_of (decimal byte))) (small_number_of-decimal count low)
+    ∙ ap (λ n. fill_of (Some path) (Some offset) (Some count) n) (small_number_of-decimal byte lower)
     ∙ rw k refl
 
 fitting : (n : ℕ) → fits n ≡ true → n < 4294967296

@@ -3,18 +3,17 @@ use Rattle.std.proofs.Common.{◌≡◌, ap, refl, arith, rules, ℕ, ◌+◌, �
 use Rattle.std.proofs.lemmas.Bool.{cases_Bool, and_parts}
 use Rattle.std.proofs.lemmas.Bool.Decides.{Decides-ltb}
 use Rattle.std.proofs.lemmas.Slice.Eq.{bytes_eq-Decides}
-use Rattle.std.proofs.lemmas.Fmt.{decimal_nonempty, IsAscii-from_digits}
-use Rattle.std.proofs.lemmas.Str.{IsUtf8-from_ascii}
-use Rattle.std.proofs.lemmas.Str.Parse.{IsNumeralModel, numerals_by_value, parse_digits}
+use Rattle.std.proofs.lemmas.Fmt.{decimal_nonempty}
+use Rattle.std.proofs.lemmas.Str.Parse.{parse_digits}
 use Rattle.std.proofs.lemmas.List.{take_more, get_or-map, length-map}
 use Rattle.std.proofs.lemmas.List.Folds.{list_all_more, list_all_at}
 use Rattle.opt_base.specs.Name.{is_name}
 use Rattle.std.specs.Char.{is_ascii_digit}
 use Rattle.std.specs.List.{list_all}
-use Rattle.std.specs.Str.{IsUtf8}
 use Rattle.std.specs.Str.Parse.{digits_value, ParsesUnsigned}
-use Rattle.opt_script.specs.Grammar.{number_of, command_of_parts}
+use Rattle.opt_script.specs.Grammar.{small_number_of, command_of_parts}
 use Rattle.opt_tree.specs.declared.command.Cmd.TheVariants.{Bad}
+use Rattle.opt_script.proofs.Numbers.{own}
 
 -- six parts or more are no command
 pub many_parts : (parts : List (List ℕ)) → 6 ≤ length parts → Bad ≡ command_of_parts parts
@@ -25,14 +24,6 @@ many_parts (a ∷ b ∷ c ∷ []) h = absurd (omega (arith, h))
 many_parts (a ∷ b ∷ c ∷ d ∷ []) h = absurd (omega (arith, h))
 many_parts (a ∷ b ∷ c ∷ d ∷ e ∷ []) h = absurd (omega (arith, h))
 many_parts (a ∷ b ∷ c ∷ d ∷ e ∷ f ∷ more) h = refl
-
--- digits alone, as a model of numerals
-pub own : IsNumeralModel (λ ds. list_all is_ascii_digit ds ≡ true) (digits_value 10)
-own = numerals_by_value _ (search rules)
-
--- digits alone are text
-pub digits_are_text : (part : List ℕ) → list_all is_ascii_digit part ≡ true → IsUtf8 part
-digits_are_text part h = IsUtf8-from_ascii part (IsAscii-from_digits part (own.to part h))
 
 not_small : (part : List ℕ) (v limit : ℕ) → limit < 2 ^ 64 → ¬ ((0 < length part) × (v < limit))
     → (nat_lt v limit && bytes_eq (decimal v) part) ≡ false
@@ -48,7 +39,7 @@ not_small part v limit small never = elim (cases_Bool (nat_lt v limit && bytes_e
 
 -- where digits alone give no number below 2 ^ 32, the part is no number
 pub no_number : {E : Type 0} (part : List ℕ) (why : E) → ParsesUnsigned 32 10 part (Err why)
-    → list_all is_ascii_digit part ≡ true → None ≡ number_of part
+    → list_all is_ascii_digit part ≡ true → None ≡ small_number_of part
 no_number part why h digits =
     let off = not_small part (digits_value 10 part) 4294967296 (omega arith) (parse_digits own 32 part (Err why) h digits) in
     search (rules, off, digits)

@@ -24,8 +24,8 @@ abbrev pub fits : ℕ → Bool
 fits number = nat_lt number 4294967296
 
 -- the number below 2^32 whose decimal text the part is, with no sign and no zeros in front
-abbrev pub number_of : List ℕ → Option ℕ
-number_of part =
+abbrev pub small_number_of : List ℕ → Option ℕ
+small_number_of part =
     if list_all is_ascii_digit part && (fits (digits_value 10 part) && bytes_eq (decimal (digits_value 10 part)) part)
     then Some (digits_value 10 part) else None
 
@@ -92,14 +92,14 @@ abbrev pub command_of_parts : List (List ℕ) → Cmd
 command_of_parts (word ∷ []) = word_command word
 command_of_parts (word ∷ path ∷ []) = path_command word (path_of path)
 command_of_parts (word ∷ path ∷ last ∷ []) =
-    if bytes_eq word (codes "truncate") then truncate_of (path_of path) (number_of last)
+    if bytes_eq word (codes "truncate") then truncate_of (path_of path) (small_number_of last)
     else paths_command word (path_of path) (path_of last)
 command_of_parts (word ∷ path ∷ offset ∷ last ∷ []) =
-    if bytes_eq word (codes "write") then write_of (path_of path) (number_of offset) (bytes_of last)
-    else if bytes_eq word (codes "read") then read_of (path_of path) (number_of offset) (number_of last)
+    if bytes_eq word (codes "write") then write_of (path_of path) (small_number_of offset) (bytes_of last)
+    else if bytes_eq word (codes "read") then read_of (path_of path) (small_number_of offset) (small_number_of last)
     else Bad
 command_of_parts (word ∷ path ∷ offset ∷ length ∷ byte ∷ []) =
-    if bytes_eq word (codes "fill") then fill_of (path_of path) (number_of offset) (number_of length) (number_of byte) else Bad
+    if bytes_eq word (codes "fill") then fill_of (path_of path) (small_number_of offset) (small_number_of length) (small_number_of byte) else Bad
 command_of_parts _ = Bad
 
 -- the command that a line is

@@ -3,10 +3,10 @@
 
 ghost use Rattle.std.specs.Prelude.{◌≡◌, IfOk, ◌==◌, map, if◌then◌else◌, Some, None};
 ghost use Rattle.std.specs.List.{slice_split, list_all};
-ghost use Rattle.std.specs.Char.{is_ascii_digit};
 ghost use Rattle.opt_base.specs.Name.{is_name};
-ghost use Rattle.opt_script.specs.Grammar.{path_of, names_of, number_of, bytes_of};
+ghost use Rattle.opt_script.specs.Grammar.{path_of, names_of, small_number_of, bytes_of};
 
+use crate::decimal::has_digits_alone;
 use hex::FromHexError;
 use itoa::Buffer;
 use opt_base::{Bytes, Name, NoMemory};
@@ -71,7 +71,7 @@ fn path_of_names(alloc: Global, parts: &[&[u8]]) -> Result<Option<Path>, NoMemor
 
 /// The number that is written so.
 pub fn number(part: &[u8]) -> Option<u32>
-    ensures { result ≡ number_of part.now }
+    ensures { result ≡ small_number_of part.now }
 {
     if !has_digits_alone(part) {
         return None;
@@ -87,12 +87,6 @@ pub fn number(part: &[u8]) -> Option<u32>
         return Some(number);
     }
     None
-}
-
-fn has_digits_alone(part: &[u8]) -> bool
-    ensures { result ≡ list_all is_ascii_digit part.now }
-{
-    part.iter().all(|byte| byte.is_ascii_digit())
 }
 
 /// The bytes whose digits these are, at least one.

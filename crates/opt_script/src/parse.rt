@@ -2,9 +2,9 @@
 //! What an argument says is in `arguments`. Each helper answers what the definition of the grammar
 //! answers for its parts, or out of memory.
 
-ghost use Rattle.std.specs.Prelude.{◌≡◌, ℕ, List, [], ◌∷◌, IfOk, ◌⊎◌, map, true, Some};
+ghost use Rattle.std.specs.Prelude.{◌≡◌, List, [], ◌∷◌, IfOk, ◌⊎◌, map, true, Some};
 ghost use Rattle.opt_tree.specs.declared.command.Cmd.TheVariants.{Bad};
-ghost use Rattle.opt_script.specs.Grammar.{command_of, command_of_parts, is_in_grammar, word_command, path_command, paths_command, truncate_of, write_of, read_of, fill_of, path_of, number_of, bytes_of};
+ghost use Rattle.opt_script.specs.Grammar.{command_of, command_of_parts, is_in_grammar, word_command, path_command, paths_command, truncate_of, write_of, read_of, fill_of, path_of, small_number_of, bytes_of};
 
 use crate::arguments::{bytes, number, parts, path};
 use opt_base::NoMemory;
@@ -117,7 +117,7 @@ fn with_two(alloc: Global, word: &[u8], part: &[u8], last: &[u8]) -> Result<Cmd,
 }
 
 fn truncate(alloc: Global, part: &[u8], size: &[u8]) -> Result<Cmd, NoMemory>
-    ensures { IfOk result (λ cmd. cmd ≡ truncate_of (path_of part.now) (number_of size.now)) }
+    ensures { IfOk result (λ cmd. cmd ≡ truncate_of (path_of part.now) (small_number_of size.now)) }
 {
     let Some(path) = path(alloc, part)? else {
         return Ok(Cmd::Bad);
@@ -174,7 +174,7 @@ fn with_three(
 }
 
 fn write(alloc: Global, part: &[u8], offset: &[u8], digits: &[u8]) -> Result<Cmd, NoMemory>
-    ensures { IfOk result (λ cmd. cmd ≡ write_of (path_of part.now) (number_of offset.now) (bytes_of digits.now)) }
+    ensures { IfOk result (λ cmd. cmd ≡ write_of (path_of part.now) (small_number_of offset.now) (bytes_of digits.now)) }
 {
     let Some(path) = path(alloc, part)? else {
         return Ok(Cmd::Bad);
@@ -189,7 +189,7 @@ fn write(alloc: Global, part: &[u8], offset: &[u8], digits: &[u8]) -> Result<Cmd
 }
 
 fn read(alloc: Global, part: &[u8], offset: &[u8], length: &[u8]) -> Result<Cmd, NoMemory>
-    ensures { IfOk result (λ cmd. cmd ≡ read_of (path_of part.now) (number_of offset.now) (number_of length.now)) }
+    ensures { IfOk result (λ cmd. cmd ≡ read_of (path_of part.now) (small_number_of offset.now) (small_number_of length.now)) }
 {
     let Some(path) = path(alloc, part)? else {
         return Ok(Cmd::Bad);
@@ -231,7 +231,7 @@ fn fill(
     length: &[u8],
     byte: &[u8],
 ) -> Result<Cmd, NoMemory>
-    ensures { IfOk result (λ cmd. cmd ≡ fill_of (path_of part.now) (number_of offset.now) (number_of length.now) (number_of byte.now)) }
+    ensures { IfOk result (λ cmd. cmd ≡ fill_of (path_of part.now) (small_number_of offset.now) (small_number_of length.now) (small_number_of byte.now)) }
 {
     let Some(path) = path(alloc, part)? else {
         return Ok(Cmd::Bad);

@@ -2,7 +2,6 @@
 //! helper's clause names what it adds.
 
 ghost use Rattle.std.specs.Prelude.{◌≡◌, ◌++◌, OnOk, IfOk, true, codes, decimal};
-ghost use Rattle.hex.specs.Hex.{encode_lower};
 ghost use Rattle.opt_tree.specs.Listing.{slashed, path_text};
 ghost use Rattle.opt_script.specs.Grammar.{command_of, is_in_grammar};
 ghost use Rattle.opt_script.specs.Text.{command_text};

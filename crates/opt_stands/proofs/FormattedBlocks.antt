@@ -9,7 +9,7 @@ use Rattle.opt_layout.specs.Bitmap.{is_set}
 use Rattle.opt_layout.specs.Node.{node_spelling, node_bytes, node_at, node_of}
 use Rattle.opt_journal.specs.Formatted.{formatted, empty_root}
 
--- what opt_format promises of the blocks of a formatted disk
+-- what opt_journal promises of the blocks of a formatted disk
 pub record IsFormatted (g : Geometry) : Type 0 where
   pub bits : (b : ℕ) → b < 8192 * bitmap_blocks g → is_set g (formatted g) b ≡ nat_lt b (data_start g)
   pub journal : (b : ℕ) → 0 < b → b < bitmap_start g → formatted g b ≡ replicate 1024 0

@@ -10,11 +10,11 @@ ghost use Rattle.opt_stands.specs.Stands.{IsTreeOf, StandsFor};
 ghost use Rattle.opt_tree.specs.Step.{start};
 ghost use Rattle.opt_tree.specs.Tree.{Tree, IsSound};
 
-use opt_format::the_formatted_disk_is_empty;
 use opt_geom::geometries_are_within_limits;
 use opt_journal::{
     an_image_holds_one_map, images_alike_below_n_hold_the_same,
     journal_blocks_keep_to_their_bounds, journal_blocks_read_back, the_formatted_disk_holds_itself,
+    the_formatted_disk_is_empty,
 };
 
 /// The formatted disk of a geometry stands for the root alone: its live blocks do, its image does, and

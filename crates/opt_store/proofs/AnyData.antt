@@ -17,7 +17,7 @@ use Rattle.opt_journal.specs.Formatted.{formatted, empty_header}
 use Rattle.opt_tree.specs.Step.{start}
 use Rattle.opt_stands.specs.Stands.{IsTreeOf, StandsFor}
 
--- what opt_format promises of the formatted disk's bits and journal
+-- what opt_journal promises of the formatted disk's bits and journal
 pub record IsFormatted (g : Geometry) : Type 0 where
   pub bits : (b : ℕ) → b < 8192 * bitmap_blocks g → is_set g (formatted g) b ≡ nat_lt b (data_start g)
   pub journal : (b : ℕ) → 0 < b → b < bitmap_start g → formatted g b ≡ replicate 1024 0

@@ -1,7 +1,7 @@
 //! The formatting of a disk, in three groups of writes, each of which is waited for before the next begins:
 //! zeros over what a journal may have left, then the bitmap and the node table, then the first header. So
 //! the disk has a header only once all that it stands on is durable. The bytes of the blocks are described
-//! by `opt_format`, and a crash in the middle is promised nothing.
+//! by `opt_journal`, and a crash in the middle is promised nothing.
 
 ghost use Rattle.std.specs.Prelude.{◌≡◌, ◌≤◌, ◌<◌, ◌+◌, ◌-◌, ℕ, IsTrue, IfOk, IfErr, OnErr, OnOk, is_err, true, length, max, vec_capacity};
 ghost use Rattle.opt_disk.specs.Disk.{AddsNotices, HasFailed, OnlyWrites, SpendsUpTo};
@@ -22,8 +22,8 @@ use opt_base::limits::BLOCK_LENGTH;
 use opt_base::{Block, NoMemory};
 use opt_crash::writes_join_a_log_one_by_one;
 use opt_disk::{Disk, DiskFault};
-use opt_format::{formatted_block, the_formatted_disk_is_empty};
 use opt_geom::Geom;
+use opt_journal::{formatted_block, the_formatted_disk_is_empty};
 use std::alloc::Global;
 use std::error::Error;
 use std::fmt;

@@ -9,9 +9,8 @@ ghost use Rattle.opt_journal.specs.Run.{HeldIs, live_part};
 ghost use Rattle.opt_stands.specs.Stands.{StandsFor};
 ghost use Rattle.opt_tree.specs.Step.{start};
 
-use opt_format::the_formatted_disk_is_empty;
 use opt_geom::geometries_are_within_limits;
-use opt_journal::journal_blocks_read_back;
+use opt_journal::{journal_blocks_read_back, the_formatted_disk_is_empty};
 use opt_stands::the_formatted_disk_stands_for_the_root;
 
 /// What is in the data of a formatted disk may be anything: each image that has the formatted disk's blocks

@@ -1,19 +1,17 @@
 -- Where a part of a line, a line and the events of a text end.
-use Rattle.std.proofs.Common.{◌≡◌, sym, ap, refl, ◌∙◌, arith, rules, tests, subst, ℕ, zero, suc, ◌<◌, ◌≤◌, ◌^◌, ◌/◌, ◌%◌, ◌==◌, ◌||◌, Bool, true, false, List, [], ◌∷◌, ◌++◌, drop, get_or, length, decimal, nat_lt, codes, slice_index, append_assoc, Result, Ok, Err}
-use Rattle.std.specs.Prelude.{slice_index_or}
+use Rattle.std.proofs.Common.{◌≡◌, sym, ap, refl, ◌∙◌, arith, tests, subst, ℕ, suc, ◌<◌, ◌≤◌, ◌^◌, ◌/◌, ◌%◌, ◌==◌, ◌||◌, Bool, true, false, List, [], ◌∷◌, ◌++◌, drop, get_or, decimal, nat_lt, codes, append_assoc, Result, Ok, Err}
 use Rattle.std.proofs.lemmas.Bool.{and_parts, false≢true}
 use Rattle.std.proofs.lemmas.Bool.Decides.{Decides-ltb}
 use Rattle.std.proofs.lemmas.Fmt.{digits_decimal, decimal_injective}
-use Rattle.std.proofs.lemmas.Str.Parse.{IsNumeralModel, numerals_by_value}
 use Rattle.std.specs.Char.{is_ascii_digit}
 use Rattle.std.specs.List.{list_all}
-use Rattle.std.specs.Str.Parse.{digits_value}
-use Rattle.hex.specs.Hex.{encode_lower, encode_with, lower_digits, decode_of}
+use Rattle.hex.specs.Hex.{encode_lower, encode_with, lower_digits, decode_of, IsBytes}
 use Rattle.hex.proofs.HexLemmas.{decode_of-encode_lower}
 use Rattle.opt_disk.specs.declared.event.Event.{Event}
 use Rattle.opt_disk.specs.declared.event.Event.TheVariants.{Wrote, Lost, Noticed}
-use Rattle.opt_disk.specs.Lawful.{IsBlock, IsEventOf, AreEventsOf}
+use Rattle.opt_disk.specs.Lawful.{IsEventOf, AreEventsOf}
 use Rattle.opt_trace.specs.Line.{event_line, event_lines}
+use Rattle.opt_trace.proofs.Bytes.{own, weaker, within, block_is_bytes}
 
 -- Two texts that begin with parts of bytes above m, and go on with nothing or a byte that isn't above it.
 
@@ -27,29 +25,20 @@ Low m (b ∷ r) = b ≤ m
 over : (m b : ℕ) → past m b ≡ true → m < b
 over m b h = (Decides-ltb m b).0 h
 
-pub cut : (m : ℕ) (xs ys r s : List ℕ) → list_all (past m) xs ≡ true → list_all (past m) ys ≡ true → Low m r → Low m s → xs ++ r ≡ ys ++ s → (xs ≡ ys) × (r ≡ s)
-cut m [] [] r s p q low down e = (refl, e)
-cut m [] (y ∷ ys) [] s p q low down e = absurd cc
-cut m [] (y ∷ ys) (b ∷ r) s p q low down e =
+pub part_cut : (m : ℕ) (xs ys r s : List ℕ) → list_all (past m) xs ≡ true → list_all (past m) ys ≡ true → Low m r → Low m s → xs ++ r ≡ ys ++ s → (xs ≡ ys) × (r ≡ s)
+part_cut m [] [] r s p q low down e = (refl, e)
+part_cut m [] (y ∷ ys) [] s p q low down e = absurd cc
+part_cut m [] (y ∷ ys) (b ∷ r) s p q low down e =
     absurd (omega (arith, low, over m y (and_parts (past m y) (list_all (past m) ys) q).0, ap (λ l. get_or l 0 0) e))
-cut m (x ∷ xs) [] r [] p q low down e = absurd cc
-cut m (x ∷ xs) [] r (b ∷ s) p q low down e =
+part_cut m (x ∷ xs) [] r [] p q low down e = absurd cc
+part_cut m (x ∷ xs) [] r (b ∷ s) p q low down e =
     absurd (omega (arith, down, over m x (and_parts (past m x) (list_all (past m) xs) p).0, ap (λ l. get_or l 0 0) e))
-cut m (x ∷ xs) (y ∷ ys) r s p q low down e =
-    let rest = cut m xs ys r s (and_parts (past m x) (list_all (past m) xs) p).1 (and_parts (past m y) (list_all (past m) ys) q).1 low down (ap (drop 1) e) in
+part_cut m (x ∷ xs) (y ∷ ys) r s p q low down e =
+    let rest = part_cut m xs ys r s (and_parts (past m x) (list_all (past m) xs) p).1 (and_parts (past m y) (list_all (past m) ys) q).1 low down (ap (drop 1) e) in
     let head : x ≡ y = ap (λ l. get_or l 0 0) e in
     (rw head (ap (λ l. y ∷ l) rest.0), rest.1)
 
 -- Numbers and bytes.
-
-own : IsNumeralModel (λ ds. list_all is_ascii_digit ds ≡ true) (digits_value 10)
-own = numerals_by_value _ (search rules)
-
-weaker : (p q : ℕ → Bool) → ((b : ℕ) → p b ≡ true → q b ≡ true) → (xs : List ℕ) → list_all p xs ≡ true → list_all q xs ≡ true
-weaker p q more [] h = refl
-weaker p q more (x ∷ xs) h =
-    let parts = and_parts (p x) (list_all p xs) h in
-    rw (more x parts.0) (weaker p q more xs parts.1)
 
 digit_past : (b : ℕ) → is_ascii_digit b ≡ true → past 32 b ≡ true
 digit_past b h = grind (arith, tests)
@@ -60,18 +49,10 @@ number_past n small = weaker is_ascii_digit (past 32) digit_past (decimal n) (di
 -- a number that ends at a blank or a line feed
 pub number_cut : (n k : ℕ) (r s : List ℕ) → n < 2 ^ 64 → k < 2 ^ 64 → Low 32 r → Low 32 s → decimal n ++ r ≡ decimal k ++ s → (n ≡ k) × (r ≡ s)
 number_cut n k r s p q low down e =
-    let parts = cut 32 (decimal n) (decimal k) r s (number_past n p) (number_past k q) low down e in
+    let parts = part_cut 32 (decimal n) (decimal k) r s (number_past n p) (number_past k q) low down e in
     (decimal_injective n k p q parts.0, parts.1)
 
-within : (p : ℕ → Bool) (xs : List ℕ) (i : ℕ) → i < length xs → list_all p xs ≡ true → p (slice_index xs i) ≡ true
-within p [] i low h = absurd (omega (arith, low))
-within p (x ∷ xs) zero low h = (and_parts (p x) (list_all p xs) h).0
-within p (x ∷ xs) (suc i) low h = within p xs i (omega (arith, low)) (and_parts (p x) (list_all p xs) h).1
-
-abbrev AreBytes : List ℕ → Type 0
-AreBytes bytes = (i : ℕ) → slice_index bytes i < 256
-
-digits_past : (bytes : List ℕ) → AreBytes bytes → list_all (past 32) (encode_lower bytes) ≡ true
+digits_past : (bytes : List ℕ) → IsBytes bytes → list_all (past 32) (encode_lower bytes) ≡ true
 unfolding encode_with
 digits_past [] h = refl
 digits_past (b ∷ bytes) h =
@@ -84,19 +65,11 @@ abbrev bytes_or_none : {E : Type 0} → Result (List ℕ) E → List ℕ
 bytes_or_none (Ok bytes) = bytes
 bytes_or_none (Err e) = []
 
-bytes_cut : (xs ys r s : List ℕ) → AreBytes xs → AreBytes ys → Low 32 r → Low 32 s → encode_lower xs ++ r ≡ encode_lower ys ++ s → (xs ≡ ys) × (r ≡ s)
+bytes_cut : (xs ys r s : List ℕ) → IsBytes xs → IsBytes ys → Low 32 r → Low 32 s → encode_lower xs ++ r ≡ encode_lower ys ++ s → (xs ≡ ys) × (r ≡ s)
 bytes_cut xs ys r s p q low down e =
-    let parts = cut 32 (encode_lower xs) (encode_lower ys) r s (digits_past xs p) (digits_past ys q) low down e in
+    let parts = part_cut 32 (encode_lower xs) (encode_lower ys) r s (digits_past xs p) (digits_past ys q) low down e in
     let same : decode_of (encode_lower xs) ≡ decode_of (encode_lower ys) = ap decode_of parts.0 in
     (ap bytes_or_none (sym (decode_of-encode_lower xs p) ∙ same ∙ decode_of-encode_lower ys q), parts.1)
-
-all_small : (xs : List ℕ) → ((i : ℕ) → i < length xs → slice_index_or xs i 0 < 256) → AreBytes xs
-all_small [] h i = omega arith
-all_small (x ∷ xs) h zero = h 0 (omega arith)
-all_small (x ∷ xs) h (suc i) = all_small xs (λ k low. h (suc k) (omega (arith, low))) i
-
-block_small : (xs : List ℕ) → IsBlock xs → AreBytes xs
-block_small xs h = all_small xs (λ i low. h.bytes i (omega (arith, low, h.length)))
 
 -- Lines, grouped from the right.
 
@@ -130,7 +103,7 @@ wrote_cut m n ticket turn block place xs ys r s big large h k e =
     h.0 k.0 (omega arith) (omega arith) (ap (drop 2) whole) in
     let two = number_cut block place (32 ∷ (encode_lower xs ++ 10 ∷ r)) (32 ∷ (encode_lower ys ++ 10 ∷ s))
     (omega (arith, h.1, big)) (omega (arith, k.1, large)) (omega arith) (omega arith) (ap (drop 1) one.1) in
-    let three = bytes_cut xs ys (10 ∷ r) (10 ∷ s) (block_small xs h.2) (block_small ys k.2) (omega arith) (omega arith) (ap (drop 1) two.1) in
+    let three = bytes_cut xs ys (10 ∷ r) (10 ∷ s) (block_is_bytes xs h.2) (block_is_bytes ys k.2) (omega arith) (omega arith) (ap (drop 1) two.1) in
     (rw (one.0, two.0, three.0) refl, ap (drop 1) three.1)
 
 lost_cut : (m n block place : ℕ) (xs ys r s : List ℕ) → m < 2 ^ 64 → n < 2 ^ 64 → IsEventOf m (Lost block xs) → IsEventOf n (Lost place ys)
@@ -139,7 +112,7 @@ lost_cut m n block place xs ys r s big large h k e =
     let whole = sym (line_of_two (codes "f ") (decimal block) (encode_lower xs) r) ∙ e ∙ line_of_two (codes "f ") (decimal place) (encode_lower ys) s in
     let two = number_cut block place (32 ∷ (encode_lower xs ++ 10 ∷ r)) (32 ∷ (encode_lower ys ++ 10 ∷ s))
     (omega (arith, h.0, big)) (omega (arith, k.0, large)) (omega arith) (omega arith) (ap (drop 2) whole) in
-    let three = bytes_cut xs ys (10 ∷ r) (10 ∷ s) (block_small xs h.1) (block_small ys k.1) (omega arith) (omega arith) (ap (drop 1) two.1) in
+    let three = bytes_cut xs ys (10 ∷ r) (10 ∷ s) (block_is_bytes xs h.1) (block_is_bytes ys k.1) (omega arith) (omega arith) (ap (drop 1) two.1) in
     (rw (two.0, three.0) refl, ap (drop 1) three.1)
 
 noticed_cut : (ticket turn : ℕ) (r s : List ℕ) → ticket < 2 ^ 64 → turn < 2 ^ 64

@@ -12,7 +12,7 @@ use Rattle.opt_script.specs.Values.{IsCommand, IsReply, has_no_feed}
 use Rattle.opt_trace.specs.Line.{geometry_line, event_lines, command_line, reply_line, end_line}
 use Rattle.opt_trace.specs.Trace.{between, entry, entries, Ascend}
 use Rattle.opt_trace.specs.Contents.{Contents, Each, AreLawful, front_of, text_of}
-use Rattle.opt_trace.proofs.Cuts.{cut, number_cut, line_of_one, line_of_two, line_of_three, BeginsNot, is_event_byte, events_cut}
+use Rattle.opt_trace.proofs.Cuts.{part_cut, number_cut, line_of_one, line_of_two, line_of_three, BeginsNot, is_event_byte, events_cut}
 
 -- what is known of texts of commands and replies
 pub record OneValue : Type 0 where
@@ -84,14 +84,14 @@ reply_cut : (v : OneValue) (mark moment : ℕ) (reply other : Reply) (r s : List
 reply_cut v mark moment reply other r s big large h k e =
     let whole = sym (line_of_two (codes "r ") (decimal mark) (text_of_reply reply) r) ∙ e ∙ line_of_two (codes "r ") (decimal moment) (text_of_reply other) s in
     let one = number_cut mark moment (32 ∷ (text_of_reply reply ++ 10 ∷ r)) (32 ∷ (text_of_reply other ++ 10 ∷ s)) big large (omega arith) (omega arith) (ap (drop 2) whole) in
-    let two = cut 10 (text_of_reply reply) (text_of_reply other) (10 ∷ r) (10 ∷ s) (v.reply_line reply h) (v.reply_line other k) (omega arith) (omega arith) (ap (drop 1) one.1) in
+    let two = part_cut 10 (text_of_reply reply) (text_of_reply other) (10 ∷ r) (10 ∷ s) (v.reply_line reply h) (v.reply_line other k) (omega arith) (omega arith) (ap (drop 1) one.1) in
     (one.0, v.reply reply other h k two.0, ap (drop 1) two.1)
 
 command_cut : (v : OneValue) (cmd other : Cmd) (r s : List ℕ) → IsCommand cmd → IsCommand other
     → command_line (command_text cmd) ++ r ≡ command_line (command_text other) ++ s → (cmd ≡ other) × (r ≡ s)
 command_cut v cmd other r s h k e =
     let whole = sym (line_of_one (codes "c ") (command_text cmd) r) ∙ e ∙ line_of_one (codes "c ") (command_text other) s in
-    let one = cut 10 (command_text cmd) (command_text other) (10 ∷ r) (10 ∷ s) (v.command_line cmd h) (v.command_line other k) (omega arith) (omega arith) (ap (drop 2) whole) in
+    let one = part_cut 10 (command_text cmd) (command_text other) (10 ∷ r) (10 ∷ s) (v.command_line cmd h) (v.command_line other k) (omega arith) (omega arith) (ap (drop 2) whole) in
     (v.command cmd other h k one.0, ap (drop 1) one.1)
 
 -- an entry, and what is behind it, grouped from the right
@@ -185,9 +185,9 @@ mounts c d h k e =
     let theirs = length-take-le d.mounted d.log (ascend_below d.mounted d.marks (length d.log) k.ascend) in
     omega (arith, mine, theirs, ap length e)
 
-behind : (v : OneValue) (c d : Contents) (r s : List ℕ) → AreLawful c → AreLawful d → BeginsNot is_entry_byte r → BeginsNot is_entry_byte s
+front_cut : (v : OneValue) (c d : Contents) (r s : List ℕ) → AreLawful c → AreLawful d → BeginsNot is_entry_byte r → BeginsNot is_entry_byte s
     → front_of c ++ r ≡ front_of d ++ s → (c ≡ d) × (r ≡ s)
-behind v c d r s h k stop halt e =
+front_cut v c d r s h k stop halt e =
     let whole = sym (front_text c r) ∙ e ∙ front_text d s in
     let one = geometry_cut c.geometry d.geometry _ _ h.blocks h.journal h.nodes k.blocks k.journal k.nodes whole in
     let two = events_cut c.geometry.n d.geometry.n (take c.mounted c.log) (take d.mounted d.log) _ _ h.blocks k.blocks
@@ -205,7 +205,7 @@ behind v c d r s h k stop halt e =
         ∙ three (λ x y z. record { geometry = d.geometry; log = d.log; mounted = d.mounted; cmds = x; replies = y; marks = z }) c.cmds d.cmds c.replies d.replies c.marks d.marks a b k
 
 pub one_front : OneValue → (c d : Contents) → AreLawful c → AreLawful d → front_of c ≡ front_of d → c ≡ d
-one_front v c d h k e = (behind v c d [] [] h k tt tt (append-nil (front_of c) ∙ e ∙ sym (append-nil (front_of d)))).0
+one_front v c d h k e = (front_cut v c d [] [] h k tt tt (append-nil (front_of c) ∙ e ∙ sym (append-nil (front_of d)))).0
 
 pub one_text : OneValue → (c d : Contents) → AreLawful c → AreLawful d → text_of c ≡ text_of d → c ≡ d
-one_text v c d h k e = (behind v c d end_line end_line h k refl refl e).0
+one_text v c d h k e = (front_cut v c d end_line end_line h k refl refl e).0

@@ -1,3 +1,6 @@
 pub mod Line
 pub mod Trace
 pub mod Contents
+pub mod ReadFields
+pub mod ReadLines
+pub mod ReadsAs

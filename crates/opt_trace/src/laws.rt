@@ -1,8 +1,12 @@
-//! The law of whole texts: one text has one contents. It runs nothing.
+//! The laws of whole texts and of lines: one text has one contents, and a line says one thing. They run nothing.
 
-ghost use Rattle.std.specs.Prelude.{◌≡◌};
+ghost use Rattle.std.specs.Prelude.{◌≡◌, ◌<◌, ◌^◌, ℕ, List};
+ghost use Rattle.opt_disk.specs.declared.event.Event.{Event};
+ghost use Rattle.opt_disk.specs.Lawful.{IsEventOf};
+ghost use Rattle.opt_trace.specs.Line.{event_line, reply_line};
 ghost use Rattle.opt_trace.specs.Contents.{Contents, AreLawful, front_of, text_of};
 
+use opt_script::a_number_has_one_text;
 use opt_script::equal_texts_have_equal_values;
 
 /// Lawful contents that have one text are the same: the geometry, the events and how many of them are the
@@ -12,4 +16,13 @@ pub fn equal_traces_have_equal_contents()
     ensures front { (c d : Contents) → AreLawful c → AreLawful d → front_of c ≡ front_of d → c ≡ d }
 {
     equal_texts_have_equal_values();
+}
+
+/// Two events that have one line are the same, where their tickets have 64 bits, their blocks 32, and their bytes
+/// are those of a block. So are two moments of 64 bits, and the texts behind them.
+pub fn a_line_says_one_thing()
+    ensures event { (e d : Event) → IsEventOf (2 ^ 32) e → IsEventOf (2 ^ 32) d → event_line e ≡ event_line d → e ≡ d }
+    ensures reply { (m k : ℕ) (s t : List ℕ) → m < 2 ^ 64 → k < 2 ^ 64 → reply_line m s ≡ reply_line k t → (m ≡ k) × (s ≡ t) }
+{
+    a_number_has_one_text();
 }

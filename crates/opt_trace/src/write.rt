@@ -9,7 +9,7 @@ ghost use Rattle.opt_base.specs.Counts.{HasCause};
 ghost use Rattle.opt_disk.specs.declared.event.Event.TheVariants.{Wrote, Lost, Noticed};
 ghost use Rattle.opt_trace.specs.Line.{geometry_line, event_line, command_line, reply_line, end_line};
 
-use crate::line::{Line, put, put_digits, put_number};
+use crate::line_to_write::{Line, put, put_digits, put_number};
 use opt_base::Block;
 use opt_disk::Event;
 use opt_geom::Geom;

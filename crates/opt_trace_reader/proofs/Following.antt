@@ -9,7 +9,7 @@ use Rattle.opt_tree.specs.declared.command.Cmd.{Cmd}
 use Rattle.opt_script.specs.Text.{command_text, text_of_reply}
 use Rattle.opt_script.specs.Values.{IsCommand}
 use Rattle.opt_trace.specs.Line.{event_line, command_line, reply_line, end_line}
-use Rattle.opt_trace_lines.specs.ReadsAs.{IsReadAs, fed}
+use Rattle.opt_trace.specs.ReadsAs.{IsReadAs, fed}
 use Rattle.opt_trace_reader.specs.Events.{IsNext, TakesEvent}
 use Rattle.opt_trace_reader.specs.Replies.{MayReply}
 use Rattle.opt_trace_reader.specs.declared.reader.Place.{Place}

@@ -7,7 +7,7 @@ use Rattle.std.proofs.lemmas.List.Quantifiers.{position-Some}
 use Rattle.std.proofs.lemmas.List.Sums.{prefix_len_passes}
 use Rattle.std.specs.List.{position, prefix_len}
 use Rattle.opt_trace.specs.Contents.{Contents, text_of}
-use Rattle.opt_trace_lines.specs.ReadsAs.{fed}
+use Rattle.opt_trace.specs.ReadsAs.{fed}
 use Rattle.opt_trace_reader.specs.Traces.{IsTrace, BeginsTrace, AreTrace, IsWrongAt, AreLines, is_line, text_of_lines}
 use Rattle.opt_trace_reader.specs.Reading.{State, state_of, Begins, Follows, TakesLine, Comes, ComeEach, TakesNext, contents_of, has_ended, is_ended}
 use Rattle.opt_trace_reader.specs.declared.reader.Reader.{Reader}

@@ -12,7 +12,7 @@ use Rattle.hex.specs.Hex.{encode_lower, encode_with, lower_digits}
 use Rattle.opt_disk.specs.Lawful.{IsBlock}
 use Rattle.opt_script.specs.Values.{has_no_feed}
 use Rattle.opt_trace.specs.Contents.{Each}
-use Rattle.opt_trace_lines.specs.ReadsAs.{fed}
+use Rattle.opt_trace.specs.ReadsAs.{fed}
 use Rattle.opt_trace_reader.specs.Traces.{is_line, AreLines, text_of_lines}
 
 -- ---- lists

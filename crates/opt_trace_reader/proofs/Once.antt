@@ -1,6 +1,6 @@
 -- Lines leave one state.
 use Rattle.std.proofs.Common.{◌≡◌, sym, ◌∙◌, subst, ℕ, List, [], ◌∷◌, ◌++◌, Option, Some, None}
-use Rattle.opt_trace_lines.specs.ReadsAs.{fed}
+use Rattle.opt_trace.specs.ReadsAs.{fed}
 use Rattle.opt_trace_reader.specs.Reading.{State, ComeEach}
 use Rattle.opt_trace_reader.proofs.Sound.{Holds, follows, first_holds}
 use Rattle.opt_trace_reader.proofs.OneState.{OneValue, follows_once, begins_once}

@@ -8,7 +8,7 @@ use Rattle.opt_script.specs.Text.{command_text, text_of_reply}
 use Rattle.opt_script.specs.Values.{IsCommand, IsReply}
 use Rattle.opt_trace.specs.Line.{geometry_line}
 use Rattle.opt_trace.specs.Contents.{Contents, AreLawful, front_of}
-use Rattle.opt_trace_lines.specs.ReadsAs.{fed}
+use Rattle.opt_trace.specs.ReadsAs.{fed}
 use Rattle.opt_trace_reader.specs.Replies.{after}
 use Rattle.opt_trace_reader.specs.declared.reader.Place.TheVariants.{Asked, Answered}
 use Rattle.opt_trace_reader.specs.Reading.{State, begun, Begins, HappensBy, AsksBy, AnswersBy, EndsBy, Follows, mounted_by}

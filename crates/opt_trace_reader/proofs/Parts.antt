@@ -13,7 +13,7 @@ use Rattle.opt_script.specs.Values.{IsCommand, IsReply, has_no_feed}
 use Rattle.opt_trace.specs.Line.{geometry_line, event_line, event_lines, command_line, reply_line, end_line}
 use Rattle.opt_trace.specs.Trace.{between, entry, entries, Ascend}
 use Rattle.opt_trace.specs.Contents.{Contents, Each, AreLawful, text_of}
-use Rattle.opt_trace_lines.specs.ReadsAs.{fed}
+use Rattle.opt_trace.specs.ReadsAs.{fed}
 use Rattle.opt_trace_reader.specs.Traces.{is_line, AreLines, text_of_lines}
 use Rattle.opt_trace_reader.proofs.LineTexts.{each_join, text_join, line_join, number_line, text_line, block_line}
 

@@ -12,7 +12,7 @@ use Rattle.opt_script.specs.Values.{IsCommand, IsReply}
 use Rattle.opt_trace.specs.Line.{geometry_line, event_line, event_lines, command_line, reply_line, end_line}
 use Rattle.opt_trace.specs.Trace.{between, entry, entries, Ascend}
 use Rattle.opt_trace.specs.Contents.{Each, front_of}
-use Rattle.opt_trace_lines.specs.ReadsAs.{fed}
+use Rattle.opt_trace.specs.ReadsAs.{fed}
 use Rattle.opt_trace_reader.specs.Replies.{MayReply, after}
 use Rattle.opt_trace_reader.specs.Events.{IsNext}
 use Rattle.opt_trace_reader.specs.Traces.{MayReplyEach, text_of_lines}

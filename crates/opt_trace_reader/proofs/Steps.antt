@@ -13,7 +13,7 @@ use Rattle.opt_tree.specs.Conditions.{refusal}
 use Rattle.opt_tree.specs.Step.{Session, step, answered, write, truncate, rename, stat, stat_by, stat_of, osync, dsync}
 use Rattle.opt_tree.specs.Points.{CountsPoints}
 use Rattle.opt_tree.specs.Run.{Answers, is_of_memory, is_of_disk}
-use Rattle.opt_trace_lines.specs.ReadsAs.{HasSmallFigures}
+use Rattle.opt_trace.specs.ReadsAs.{HasSmallFigures}
 use Rattle.opt_trace_reader.specs.Replies.{TellsSmallFigures, is_fault, is_disk_fault, is_out_of_memory, points_by, durable_by}
 
 -- the numbers behind a reply

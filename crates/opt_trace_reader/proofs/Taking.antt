@@ -12,7 +12,7 @@ use Rattle.opt_tree.specs.Run.{Answers, is_of_disk}
 use Rattle.opt_tree.specs.Points.{CountsPoints, after_reply}
 use Rattle.opt_script.specs.Text.{text_of_reply, refusal_text}
 use Rattle.opt_script.specs.Values.{IsReply, HasFigures}
-use Rattle.opt_trace_lines.specs.ReadsAs.{IsReadAs, IsOutside, HasSmallFigures}
+use Rattle.opt_trace.specs.ReadsAs.{IsReadAs, IsOutside, HasSmallFigures}
 use Rattle.opt_trace_reader.specs.Replies.{Kept, MayReply, TellsSmallFigures, Takes, Applies, IsKnown, RefusedSo, after, is_bad, is_durable, is_stopped, is_fault, points_by}
 use Rattle.opt_trace_reader.proofs.Steps.{Alone, step_is_small}
 

@@ -2,7 +2,7 @@
 use Rattle.std.proofs.Common.{◌≡◌, sym, ap, refl, ◌∙◌, subst, arith, ℕ, ◌<◌, true, inl, inr, List, [], ◌∷◌, ◌++◌, length, append_assoc}
 use Rattle.std.specs.Prelude.{◌⊎◌}
 use Rattle.std.proofs.lemmas.Bool.{false≢true}
-use Rattle.opt_trace_lines.specs.ReadsAs.{fed}
+use Rattle.opt_trace.specs.ReadsAs.{fed}
 use Rattle.opt_trace_reader.specs.Traces.{BeginsTrace, AreTrace, IsWrongAt, GoesWrong, BreaksOff, AreLines, is_line, text_of_lines}
 use Rattle.opt_trace_reader.proofs.LineTexts.{line_cut, fed_before, has_feed, text_join}
 use Rattle.opt_trace_reader.proofs.GoesOn.{begins_front}

@@ -9,7 +9,7 @@ use Rattle.opt_script.specs.Text.{command_text, text_of_reply}
 use Rattle.opt_script.specs.Values.{IsCommand, IsReply}
 use Rattle.opt_trace.specs.Contents.{Contents}
 use Rattle.opt_trace.specs.Line.{geometry_line, event_line, command_line, reply_line, end_line}
-use Rattle.opt_trace_lines.specs.ReadsAs.{fed}
+use Rattle.opt_trace.specs.ReadsAs.{fed}
 use Rattle.opt_trace_reader.specs.Events.{IsNext}
 use Rattle.opt_trace_reader.specs.Replies.{Kept, MayReply, after}
 use Rattle.opt_trace_reader.specs.declared.reader.Reader.{Reader}

@@ -11,7 +11,7 @@ use Rattle.opt_tree.specs.Run.{Answers, is_of_disk}
 use Rattle.opt_tree.specs.Points.{after_reply}
 use Rattle.opt_script.specs.Text.{text_of_reply}
 use Rattle.opt_script.specs.Values.{IsReply}
-use Rattle.opt_trace_lines.specs.ReadsAs.{IsReadAs, HasSmallFigures}
+use Rattle.opt_trace.specs.ReadsAs.{IsReadAs, HasSmallFigures}
 
 -- whether a command is a bad line
 abbrev pub is_bad : Cmd → Bool

@@ -7,7 +7,7 @@ use Rattle.opt_tree.specs.declared.command.Reply.{Reply}
 use Rattle.opt_tree.specs.Step.{Session, start}
 use Rattle.opt_tree.specs.Points.{after_reply}
 use Rattle.opt_trace.specs.Contents.{Contents, AreLawful, Each, text_of}
-use Rattle.opt_trace_lines.specs.ReadsAs.{fed}
+use Rattle.opt_trace.specs.ReadsAs.{fed}
 use Rattle.opt_trace_reader.specs.Replies.{MayReply, is_fault}
 
 -- each command has a reply that may stand behind it, from this session on, which may have ended

@@ -12,8 +12,7 @@ ghost use Rattle.opt_trace_reader.specs.Traces.{IsTrace, BeginsTrace, AreTrace, 
 
 use opt_geom::geometries_are_within_limits;
 use opt_script::equal_texts_have_equal_values;
-use opt_trace::equal_traces_have_equal_contents;
-use opt_trace_lines::a_line_says_one_thing;
+use opt_trace::{a_line_says_one_thing, equal_traces_have_equal_contents};
 use opt_tree::a_reply_tells_the_session;
 
 /// Whole lines may come one behind the other exactly where some trace begins with them, and they leave one state.

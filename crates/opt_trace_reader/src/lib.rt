@@ -1,5 +1,5 @@
 //! A reader of traces: `read_trace` reads one from a source. Its parts are the lines as they come, the events, and the
-//! commands with their replies, replayed on a tree in memory. Single lines are read by opt_trace_lines. What a trace is
+//! commands with their replies, replayed on a tree in memory. Single lines are read by opt_trace. What a trace is
 //! is described in docs/TRACE.md.
 #![tactic(auto)]
 

@@ -9,7 +9,7 @@ use crate::replay::Replay;
 use crate::trace::Trace;
 use opt_base::NoMemory;
 use opt_geom::Geom;
-use opt_trace_lines::{
+use opt_trace::{
     a_line_says_one_thing, is_end, read_command, read_event, read_geometry, read_reply,
 };
 use opt_tree::{Cmd, Reply};

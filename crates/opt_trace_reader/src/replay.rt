@@ -6,14 +6,14 @@ ghost use Rattle.opt_tree.specs.Step.{start, step};
 ghost use Rattle.opt_tree.specs.declared.command.Reply.TheVariants.{Bad as NotUnderstood};
 ghost use Rattle.opt_script.specs.Text.{text_of_reply};
 ghost use Rattle.opt_script.specs.Values.{IsReply};
-ghost use Rattle.opt_trace_lines.specs.ReadsAs.{IsReadAs};
+ghost use Rattle.opt_trace.specs.ReadsAs.{IsReadAs};
 ghost use Rattle.opt_trace_reader.specs.Replies.{Kept, Takes, Applies, IsKnown, RefusedSo};
 
 use crate::kinds::{is_bad, is_disk_fault, is_durable, is_out_of_memory, is_stopped, numbers_by};
 use opt_base::NoMemory;
 use opt_memtree::PlainTree;
 use opt_script::{equal_texts_have_equal_values, reply_text};
-use opt_trace_lines::{read_known, read_refusal};
+use opt_trace::{read_known, read_refusal};
 use opt_tree::{
     Cmd, Refusal, Reply, a_reply_tells_the_session, a_tree_in_memory_refuses_for_no_disk,
     no_dsync_answers_a_point_to_come,

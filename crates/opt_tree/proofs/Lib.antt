@@ -1,7 +1,7 @@
 pub mod basics
 pub mod counting
 pub mod walking
-pub mod moving
+pub mod moves
 pub mod soundness
 pub mod blocks
 pub mod runs

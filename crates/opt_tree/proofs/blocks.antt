@@ -3,3 +3,4 @@ pub mod BlockMoves
 pub mod BlockChanges
 pub mod BlockLaws
 pub mod Figures
+pub mod Touching

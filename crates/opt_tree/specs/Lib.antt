@@ -7,5 +7,6 @@ pub mod Step
 pub mod Run
 pub mod Points
 pub mod Figures
+pub mod Values
 pub mod Listing
 pub mod Refusals

@@ -4,7 +4,7 @@ use Rattle.std.specs.Prelude.{IfSome, find, if◌then◌else◌, option_and_then
 use Rattle.std.proofs.lemmas.Bool.{false≢true}
 use Rattle.clap.specs.Walk.{Row, Text, first_of}
 use Rattle.opt_memdisk.specs.Choice.{ChoiceState}
-use Rattle.opt_choice.specs.Texts.{choice_of}
+use Rattle.opt_words.specs.ChoiceTexts.{choice_of}
 use Rattle.opt_words.specs.declared.request.Request.TheVariants.{Run, Tree}
 use Rattle.opt_words.specs.declared.request.Notices.{Notices}
 use Rattle.opt_words.specs.declared.request.Notices.TheVariants.{Silent, Fifo, Seed}

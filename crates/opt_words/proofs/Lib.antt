@@ -1,3 +1,4 @@
+pub mod ChoiceLists
 pub mod Texts
 pub mod Program
 pub mod Apart

@@ -1,2 +1,3 @@
+pub mod ChoiceTexts
 pub mod Words
 pub mod Program

@@ -7,7 +7,7 @@ use Rattle.std.specs.declared.string.String.{String}
 use Rattle.std.specs.declared.alloc.Global.{Global}
 use Rattle.clap.specs.Lexer.{long_of}
 use Rattle.opt_memdisk.specs.Choice.{ChoiceState}
-use Rattle.opt_choice.specs.Texts.{choice_of}
+use Rattle.opt_words.specs.ChoiceTexts.{choice_of}
 use Rattle.opt_words.specs.declared.request.Request.{Request}
 use Rattle.opt_words.specs.declared.request.Request.TheVariants.{Record, Replay, Tree, Make, Run, Load}
 use Rattle.opt_words.specs.declared.request.Notices.{Notices}

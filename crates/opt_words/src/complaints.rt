@@ -1,6 +1,8 @@
 //! What is wrong with words that ask for nothing, as a line for people. No contract reads it; what words ask for is in the
 //! module of the request.
 
+use crate::choice_parse::parse_choice;
+use crate::choice_refusal::ChoiceRefusal;
 use crate::command::{
     AT, BLOCKS, COUNT, FAIL, JOURNAL, NODES, NOTICES, ROOM, SEED, STAND, TEAR, program,
 };
@@ -11,7 +13,6 @@ use opt_base::NoMemory;
 use opt_base::limits::{
     LEAST_BLOCKS, LEAST_JOURNAL, LEAST_NODES, MOST_BLOCKS, MOST_JOURNAL, MOST_NODES,
 };
-use opt_choice::{ChoiceRefusal, parse_choice};
 use std::alloc::Global;
 
 /// The numbers of the command line, and the range of each.

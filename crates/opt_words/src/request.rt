@@ -5,6 +5,8 @@ ghost use Rattle.std.specs.Prelude.{◌≡◌, IfOk, codes, option_and_then};
 ghost use Rattle.clap.specs.Words.{first_value, found_of};
 ghost use Rattle.opt_words.specs.Words.{IsInRange, asked_by, load_of, make_of, number_in, recording_of, replay_of, request_of, run_of, tree_of};
 
+use crate::choice_parse::parse_choice;
+use crate::choice_refusal::ChoiceRefusal;
 use crate::command::{
     AT, BLOCKS, COUNT, FAIL, IMAGE, JOURNAL, LOAD, MKFS, NODES, NOTICES, RECORD, REPLAY, ROOM, RUN,
     SEED, STAND, TEAR, TREE, program,
@@ -17,7 +19,6 @@ use opt_base::NoMemory;
 use opt_base::limits::{
     LEAST_BLOCKS, LEAST_JOURNAL, LEAST_NODES, MOST_BLOCKS, MOST_JOURNAL, MOST_NODES,
 };
-use opt_choice::{ChoiceRefusal, parse_choice};
 use opt_memdisk::Choice;
 use std::alloc::Global;
 

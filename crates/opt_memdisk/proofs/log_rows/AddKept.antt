@@ -8,8 +8,8 @@ use Rattle.opt_disk.specs.declared.event.Event.TheVariants.{Wrote, Lost, Noticed
 use Rattle.opt_disk.specs.Cell.{greatest_ticket, is_noticed}
 use Rattle.opt_disk.specs.Disk.{IsOpen}
 use Rattle.opt_disk.specs.Lawful.{IsEventOf}
-use Rattle.opt_ranks.specs.Ranks.{RanksState, with_next, without}
-use Rattle.opt_memdisk.specs.Log.{IsKept, tickets, write_count, accepted_places, lost_places, numbers_of}
+use Rattle.opt_memdisk.specs.Ranks.{RanksState, with_next, without}
+use Rattle.opt_memdisk.specs.Log.{IsKeptLog, tickets, write_count, accepted_places, lost_places, numbers_of}
 use Rattle.opt_memdisk.proofs.log_rows.AddNumbers.{numbers_of_more, numbers_of_same, numbers_without, one_less}
 use Rattle.opt_memdisk.proofs.log_rows.AddRows.{accepted_places-append, lost_places-append, write_count_of_more, places_count}
 use Rattle.opt_memdisk.proofs.log_rows.Events.{tickets-append, greatest_wrote, greatest_lost, greatest_noticed, noticed-append, noticed_last, lawful_more, events_more, unnoticed_above}
@@ -25,7 +25,7 @@ noticed_others log t u apart = ap not (noticed-append u log (Noticed t ∷ []) �
 
 -- rows that fit their log
 module _ {events : List Event} {row places lost : List ℕ} {ranks : RanksState} {room ready most_events most_tickets most_places most_lost : ℕ}
-    (kept : IsKept events row places lost ranks room ready most_events most_tickets most_places most_lost) where
+    (kept : IsKeptLog events row places lost ranks room ready most_events most_tickets most_places most_lost) where
   -- are as long as there are accepted writes, and writes that were lost
   pub lengths : (length places ≡ length row) × (length row + length lost ≡ write_count events)
   lengths =
@@ -77,7 +77,7 @@ module _ {events : List Event} {row places lost : List ℕ} {ranks : RanksState}
   pub kept_wrote : (t b : ℕ) (x : List ℕ) (left more_tickets more_places : ℕ) → greatest_ticket events < t → (0 < left → t ≡ length (tickets events) + 1) → write_count events + 1 + left ≤ room
       → most_tickets ≤ more_tickets → most_places ≤ more_places
       → IsEventOf (2 ^ 32) (Wrote t b x)
-      → IsKept (events ++ Wrote t b x ∷ []) (row ++ t ∷ []) (places ++ length events ∷ []) lost (with_next ranks) room left most_events more_tickets more_places most_lost
+      → IsKeptLog (events ++ Wrote t b x ∷ []) (row ++ t ∷ []) (places ++ length events ∷ []) lost (with_next ranks) room left most_events more_tickets more_places most_lost
   kept_wrote t b x left more_tickets more_places above next more tickets_fit places_fit event =
       let long = ap length kept.row_is in
       let all = length-append row (t ∷ []) in
@@ -112,7 +112,7 @@ module _ {events : List Event} {row places lost : List ℕ} {ranks : RanksState}
   -- the rows with one more write that was lost, where room for the bytes of so many is left
   pub kept_lost : (b : ℕ) (x : List ℕ) (left more_lost : ℕ) → left ≤ ready → write_count events + 1 + left ≤ room → most_lost ≤ more_lost
       → IsEventOf (2 ^ 32) (Lost b x)
-      → IsKept (events ++ Lost b x ∷ []) row places (lost ++ length events ∷ []) ranks room left most_events most_tickets most_places more_lost
+      → IsKeptLog (events ++ Lost b x ∷ []) row places (lost ++ length events ∷ []) ranks room left most_events most_tickets most_places more_lost
   kept_lost b x left more_lost fewer more lost_fit event =
       let events_long = length-append events (Lost b x ∷ []) in
       let writes = write_count_of_more events (Lost b x) in
@@ -139,7 +139,7 @@ module _ {events : List Event} {row places lost : List ℕ} {ranks : RanksState}
   -- the rows with the notice of an open ticket, whose number is none of the open ones any more
   pub kept_notice : (t number : ℕ) → IsOpen t events → 0 < number → slice_get (tickets events) (number - 1) ≡ Some t
       → IsEventOf (2 ^ 32) (Noticed t)
-      → IsKept (events ++ Noticed t ∷ []) row places lost (without number ranks) room ready most_events most_tickets most_places most_lost
+      → IsKeptLog (events ++ Noticed t ∷ []) row places lost (without number ranks) room ready most_events most_tickets most_places most_lost
   kept_notice t number is_open some at event =
       let events_long = length-append events (Noticed t ∷ []) in
       let writes = write_count_of_more events (Noticed t) in

@@ -12,7 +12,7 @@ use Rattle.opt_tree.proofs.basics.Strips.{strip_is, strip_at, not_behind, within
 use Rattle.opt_tree.proofs.basics.Finds.{tied, which_key, gone_here, stays}
 use Rattle.opt_tree.proofs.counting.PathCounts.{KeepApart}
 use Rattle.opt_tree.proofs.walking.Found.{none_held}
-use Rattle.opt_tree.proofs.moving.Renames.{none_at, found, two_apart, free_after}
+use Rattle.opt_tree.proofs.moves.Renames.{none_at, found, two_apart, free_after}
 use Rattle.opt_tree.proofs.soundness.SoundMoves.{not_own_parent}
 use Rattle.opt_tree.proofs.counting.Totals.{total, total_same, total_changed, total_moved}
 use Rattle.opt_tree.proofs.blocks.BlockSums.{one_in, last_name, in_parent, one_at_parent, none_elsewhere, none_without, held, held_total, held_less, held_one_less, dirs, dirs_total, dirs_freed, grown, freed}

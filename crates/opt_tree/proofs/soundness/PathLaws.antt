@@ -11,7 +11,7 @@ use Rattle.opt_tree.proofs.basics.Strips.{below_is, below_at}
 use Rattle.opt_tree.proofs.basics.Finds.{gone_here}
 use Rattle.opt_tree.proofs.counting.PathCounts.{used_by}
 use Rattle.opt_tree.proofs.walking.Found.{holds_some, some_held, above, target_apart, no_reasons, walked_there}
-use Rattle.opt_tree.proofs.moving.Renames.{free_after, count_renamed}
+use Rattle.opt_tree.proofs.moves.Renames.{free_after, count_renamed}
 use Rattle.opt_tree.proofs.soundness.Sound.{can_unlink, can_rmdir}
 
 pub path_of : (names : Names) (n : ℕ) → 1 ≤ path_count names n → (p : List (List ℕ)) × (get names p ≡ Some n)

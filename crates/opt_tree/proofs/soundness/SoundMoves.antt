@@ -13,7 +13,7 @@ use Rattle.opt_tree.proofs.basics.Strips.{none_some, some_same, has, strip_is, n
 use Rattle.opt_tree.proofs.basics.Finds.{gone_here, was, stays}
 use Rattle.opt_tree.proofs.counting.PathCounts.{unused, used_by}
 use Rattle.opt_tree.proofs.walking.Found.{none_held, CanMove}
-use Rattle.opt_tree.proofs.moving.Renames.{free_after, none_at, at_target, at_source, elsewhere}
+use Rattle.opt_tree.proofs.moves.Renames.{free_after, none_at, at_target, at_source, elsewhere}
 
 abbrev Place : Type 0
 Place = List (List ℕ)

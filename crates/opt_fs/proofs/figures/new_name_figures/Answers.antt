@@ -1,7 +1,7 @@
 use Rattle.std.proofs.Common.{◌∙◌, ap}
 use Rattle.opt_tree.specs.declared.command.Cmd.TheVariants.{Mkdir, Create, Link}
 use Rattle.opt_tree.specs.Figures.{adding, growth}
-use Rattle.opt_figures.specs.Values.{value_of}
+use Rattle.opt_tree.specs.Values.{value_of}
 use Rattle.opt_fs.proofs.figures.new_name_figures.Goals as goal
 
 pub returns-clause-mkdir : goal.returns-clause-mkdir

@@ -1,7 +1,7 @@
 use Rattle.std.proofs.Common.{◌∙◌, ap}
 use Rattle.opt_tree.specs.declared.command.Cmd.TheVariants.{Rmdir}
 use Rattle.opt_tree.specs.Figures.{removing, release}
-use Rattle.opt_figures.specs.Values.{value_of}
+use Rattle.opt_tree.specs.Values.{value_of}
 use Rattle.opt_fs.proofs.figures.rmdir_figures.Goals as goal
 
 pub returns : goal.returns

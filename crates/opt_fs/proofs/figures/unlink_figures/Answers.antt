@@ -1,7 +1,7 @@
 use Rattle.std.proofs.Common.{◌∙◌, ◌+◌, ap, ap₂}
 use Rattle.opt_tree.specs.declared.command.Cmd.TheVariants.{Unlink}
 use Rattle.opt_tree.specs.Figures.{removing, release}
-use Rattle.opt_figures.specs.Values.{value_of}
+use Rattle.opt_tree.specs.Values.{value_of}
 use Rattle.opt_fs.proofs.figures.unlink_figures.Goals as goal
 
 pub returns : goal.returns

@@ -3,7 +3,7 @@ use Rattle.opt_geom.specs.Geometry.{bitmap_blocks}
 use Rattle.opt_tree.specs.declared.command.Cmd.TheVariants.{Fill}
 use Rattle.opt_tree.specs.declared.command.Refusal.TheVariants.{TooLarge, NoMemory}
 use Rattle.opt_tree.specs.Figures.{figures}
-use Rattle.opt_figures.specs.Values.{value_of}
+use Rattle.opt_tree.specs.Values.{value_of}
 use Rattle.opt_fs.specs.Sessions.{inodes}
 use Rattle.opt_fs.proofs.applying.Passing.{nothing_issued}
 use Rattle.opt_fs.proofs.filling.Reasons.{ends_past, refusal_is, nothing_filled}

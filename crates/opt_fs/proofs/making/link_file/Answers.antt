@@ -1,7 +1,7 @@
 use Rattle.std.proofs.Common.{Err, refl, sym, subst, ap, ◌∙◌, arith}
 use Rattle.opt_tree.specs.Figures.{adding, growth}
+use Rattle.opt_tree.specs.Values.{value_of}
 use Rattle.opt_stands.specs.Inodes.{AFile}
-use Rattle.opt_figures.specs.Values.{value_of}
 use Rattle.opt_blocks.specs.Running.{Running}
 use Rattle.opt_dirs.specs.Directories.{inodes_in}
 use Rattle.opt_fs.specs.Plans.{Plans}

@@ -1,8 +1,8 @@
 use Rattle.std.proofs.Common.{◌+◌, IsTrue, Err, refl, sym, subst, ap, ◌∙◌, arith}
 use Rattle.opt_tree.specs.Figures.{adding, growth}
 use Rattle.opt_tree.specs.Step.{Session}
+use Rattle.opt_tree.specs.Values.{value_of}
 use Rattle.opt_inodes.specs.Changes.{new_inode}
-use Rattle.opt_figures.specs.Values.{value_of}
 use Rattle.opt_blocks.specs.Running.{Running}
 use Rattle.opt_dirs.specs.Directories.{inodes_in}
 use Rattle.opt_fs.specs.Making.{AcceptsName, AddsName, first_thing, make_cmd}

@@ -4,8 +4,8 @@ use Rattle.opt_geom.specs.Geometry.{Geometry, bitmap_blocks}
 use Rattle.opt_tree.specs.declared.command.Cmd.TheVariants.{Rename}
 use Rattle.opt_tree.specs.declared.command.Refusal.{Refusal}
 use Rattle.opt_tree.specs.Figures.{Figures, growth, release}
+use Rattle.opt_tree.specs.Values.{value_of}
 use Rattle.opt_stands.specs.Maps.{IsMapOf}
-use Rattle.opt_figures.specs.Values.{value_of}
 use Rattle.opt_blocks.specs.Running.{Running}
 use Rattle.opt_blocks.specs.State.{reusable_blocks}
 use Rattle.opt_files.specs.Calls.{GrowthRefused}

@@ -3,8 +3,8 @@ use Rattle.opt_geom.specs.Geometry.{Geometry, bitmap_blocks}
 use Rattle.opt_tree.specs.declared.command.Cmd.TheVariants.{Rename}
 use Rattle.opt_tree.specs.declared.command.Refusal.{Refusal}
 use Rattle.opt_tree.specs.Figures.{release}
+use Rattle.opt_tree.specs.Values.{value_of}
 use Rattle.opt_stands.specs.Maps.{IsMapOf}
-use Rattle.opt_figures.specs.Values.{value_of}
 use Rattle.opt_blocks.specs.State.{Bookkeeping}
 use Rattle.opt_fs.specs.Plans.{Plans}
 use Rattle.opt_fs.specs.Removing.{blocks_gone, first_after}

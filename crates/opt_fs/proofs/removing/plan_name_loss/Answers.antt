@@ -1,8 +1,8 @@
 use Rattle.std.proofs.Common.{Err, refl, sym, subst, ap, ◌∙◌}
 use Rattle.opt_geom.specs.Geometry.{Geometry, bitmap_blocks}
 use Rattle.opt_tree.specs.declared.command.Refusal.{Refusal}
+use Rattle.opt_tree.specs.Values.{value_of}
 use Rattle.opt_stands.specs.Maps.{IsMapOf}
-use Rattle.opt_figures.specs.Values.{value_of}
 use Rattle.opt_blocks.specs.State.{Bookkeeping}
 use Rattle.opt_fs.specs.Plans.{Plans}
 use Rattle.opt_fs.specs.Removing.{lose_cmd}

@@ -4,7 +4,7 @@ use Rattle.opt_geom.specs.Geometry.{bitmap_blocks}
 use Rattle.opt_tree.specs.declared.command.Cmd.TheVariants.{Truncate}
 use Rattle.opt_tree.specs.declared.command.Refusal.TheVariants.{TooLarge}
 use Rattle.opt_tree.specs.Figures.{figures}
-use Rattle.opt_figures.specs.Values.{value_of}
+use Rattle.opt_tree.specs.Values.{value_of}
 use Rattle.opt_stands.specs.Files.{FileNode}
 use Rattle.opt_files.specs.declared.look.FileFacts.{FileFacts}
 use Rattle.opt_fs.specs.Sessions.{inodes}

@@ -13,7 +13,7 @@ use Rattle.opt_tree.specs.Tree.{Tree}
 use Rattle.opt_trace.specs.Contents.{Contents, AreLawful, text_of}
 use Rattle.opt_trace.specs.Line.{end_line}
 use Rattle.opt_session.specs.Crashes.{LeavesPoints, StandsForOne}
-use Rattle.opt_show.specs.Images.{StandsForNone}
+use Rattle.opt_image.specs.Images.{StandsForNone}
 use Rattle.opt_replay.specs.declared.refusal.ReplayRefusal.{ReplayRefusal}
 use Rattle.opt_replay.specs.declared.refusal.ReplayRefusal.TheVariants.{Choice, Damaged, Spent, NoMemory}
 use Rattle.opt_replay.specs.Newest.{IsNewest}

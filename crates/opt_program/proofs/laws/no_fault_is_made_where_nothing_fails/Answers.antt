@@ -4,15 +4,15 @@ use Rattle.std.proofs.lemmas.Bool.{false≢true}
 use Rattle.opt_disk.specs.Bay.{BayState}
 use Rattle.opt_disk.specs.Disk.{State}
 use Rattle.opt_geom.specs.Geometry.{Geometry, data_start}
-use Rattle.opt_make.specs.declared.refusal.MakeRefusal.{MakeRefusal}
-use Rattle.opt_make.specs.Makes.{HasMakeReason}
+use Rattle.opt_image.specs.declared.make_refusal.MakeRefusal.{MakeRefusal}
+use Rattle.opt_image.specs.Makes.{HasMakeReason}
 use Rattle.opt_store.specs.declared.formatting.MkfsRefusal.{MkfsRefusal}
 use Rattle.opt_store.specs.declared.formatting.MkfsRefusal.TheVariants as mkfs
 use Rattle.opt_store.specs.Formatting.{MkfsSpends}
-use Rattle.opt_show.specs.Shows.{HasFaultReason}
-use Rattle.opt_run.specs.declared.ending.Ending.{Ending}
-use Rattle.opt_run.specs.declared.ending.RunRefusal.{RunRefusal}
-use Rattle.opt_run.specs.Runs.{HasRunReason, Streams}
+use Rattle.opt_image.specs.Shows.{HasFaultReason}
+use Rattle.opt_image.specs.declared.ending.Ending.{Ending}
+use Rattle.opt_image.specs.declared.ending.RunRefusal.{RunRefusal}
+use Rattle.opt_image.specs.Runs.{HasRunReason, Streams}
 use Rattle.opt_program.specs.Calm.{IsCalm, NothingFails}
 use Rattle.opt_program.proofs.Calm.{no_call_failed, no_reply, one_manner, opens_calmly}
 use Rattle.opt_program.proofs.laws.no_fault_is_made_where_nothing_fails.Goals as goal

@@ -1,6 +1,6 @@
 -- What was made is as the making of the image says, and then the line of its answer was told.
 use Rattle.std.proofs.Common.{Result, Err, refl, sym, ap, ◌∙◌, subst}
-use Rattle.opt_make.specs.declared.refusal.MakeRefusal.{MakeRefusal}
+use Rattle.opt_image.specs.declared.make_refusal.MakeRefusal.{MakeRefusal}
 use Rattle.opt_program.specs.Making.{EndsMaking}
 use Rattle.opt_program.specs.declared.status.Status.TheVariants.{Done, NoMemory}
 use Rattle.opt_program.proofs.Requests.{behind}

@@ -1,6 +1,6 @@
 -- What was shown is as the showing of the image says, and then the line of its answer was told.
 use Rattle.std.proofs.Common.{Result, Err, refl, sym, ap, ◌∙◌, subst}
-use Rattle.opt_show.specs.declared.refusal.ShowRefusal.{ShowRefusal}
+use Rattle.opt_image.specs.declared.show_refusal.ShowRefusal.{ShowRefusal}
 use Rattle.opt_program.specs.Showing.{EndsShowing}
 use Rattle.opt_program.specs.declared.status.Status.TheVariants.{Done}
 use Rattle.opt_program.proofs.Requests.{behind}

@@ -6,7 +6,7 @@ use Rattle.opt_store.specs.declared.refusal.StoreRefusal.{StoreRefusal}
 use Rattle.opt_store.specs.Mounting.{LeavesDisk}
 use Rattle.opt_store.specs.Refusal.{RefusalSays, is_disk_fault, is_read_fault}
 use Rattle.opt_store.specs.StoreOf.{state_of}
-use Rattle.opt_show.specs.declared.refusal.ImageDamage.TheVariants.{BadBit}
+use Rattle.opt_image.specs.declared.show_refusal.ImageDamage.TheVariants.{BadBit}
 use Rattle.opt_replay.specs.declared.refusal.ReplayRefusal.TheVariants.{Damaged}
 use Rattle.opt_replay.specs.Images.{RefusesImage}
 use Rattle.opt_replay.proofs.Mounting.{bad_bit, no_fault, no_header, refuses_by, stands, used_up}

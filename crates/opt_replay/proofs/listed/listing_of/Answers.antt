@@ -3,7 +3,7 @@ use Rattle.opt_base.specs.Seal.{blocks_of}
 use Rattle.opt_memdisk.specs.MemDisk.{MemDiskState}
 use Rattle.opt_tree.specs.Tree.{Tree}
 use Rattle.opt_tree.specs.Listing.{listing}
-use Rattle.opt_show.specs.Images.{StandsMounted}
+use Rattle.opt_image.specs.Images.{StandsMounted}
 use Rattle.opt_replay.specs.Images.{RefusesImage}
 use Rattle.opt_replay.proofs.listed.listing_of.Goals as goal
 

@@ -1,5 +1,6 @@
 use Rattle.std.proofs.Common.{◌∙◌, sym}
-use Rattle.opt_script.proofs.Steps.{digits_are_text, no_number}
+use Rattle.opt_script.proofs.Numbers.{digits_are_text}
+use Rattle.opt_script.proofs.Steps.{no_number}
 use Rattle.opt_script.proofs.arguments.number.Goals as goal
 
 pub returns-in_default : goal.returns-in_default

@@ -5,7 +5,7 @@ use Rattle.opt_stands.proofs.FormattedHeader.{stands_by}
 use Rattle.opt_stands.proofs.FormattedTree.{live_blocks_stand}
 use Rattle.opt_stands.proofs.laws.the_formatted_disk_stands_for_the_root.Goals as goal
 
--- the promises of opt_format at one geometry
+-- what opt_journal promises of the formatted disk, at one geometry
 law : (c : goal.After-images_alike_below_n_hold_the_same) (g : Geometry) → geometry_fits g ≡ true → IsFormatted g
 law c g fits = record {
   bits = λ b within. c.the_formatted_disk_is_empty.ensures.bits g b fits within;

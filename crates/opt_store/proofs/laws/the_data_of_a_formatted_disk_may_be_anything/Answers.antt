@@ -3,7 +3,7 @@ use Rattle.opt_geom.specs.Geometry.{Geometry, geometry_fits}
 use Rattle.opt_store.proofs.AnyData.{IsFormatted, held_whatever, stands_whatever}
 use Rattle.opt_store.proofs.laws.the_data_of_a_formatted_disk_may_be_anything.Goals as goal
 
--- the promises of opt_format at one geometry
+-- what opt_journal promises of the formatted disk, at one geometry
 law : (c : goal.After-the_formatted_disk_is_empty) (g : Geometry) → geometry_fits g ≡ true → IsFormatted g
 law c g fits = record {
   bits = λ b within. c.the_formatted_disk_is_empty.ensures.bits g b fits within;

@@ -1,4 +1,4 @@
-use Rattle.opt_tree.proofs.moving.MoveLaws.{same_node_stays, second_is, first_gone, others_stay}
+use Rattle.opt_tree.proofs.moves.MoveLaws.{same_node_stays, second_is, first_gone, others_stay}
 use Rattle.opt_tree.proofs.laws.a_move_takes_all_below.Goals as goal
 
 pub returns-clause-same : goal.returns-clause-same

@@ -1,2 +1,0 @@
-mod FirstBits
-mod Formatted

@@ -1,0 +1,15 @@
+pub mod Damages
+pub mod Standing
+pub mod Steps
+pub mod ShowBays
+pub mod Mountable
+pub mod Images
+pub mod MakeBays
+pub mod Lists
+pub mod Counting
+pub mod Rooms
+pub mod Going
+pub mod Beginning
+pub mod Finishing
+pub mod RunBays
+pub mod Reading

@@ -1,3 +1,0 @@
-pub mod Mountable
-pub mod Images
-pub mod Bays

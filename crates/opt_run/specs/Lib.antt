@@ -1,4 +1,0 @@
-pub mod Refusals
-pub mod Runs
-pub mod Serves
-pub mod Steps

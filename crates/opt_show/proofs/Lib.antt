@@ -1,4 +1,0 @@
-pub mod Damages
-pub mod Standing
-pub mod Steps
-pub mod Bays

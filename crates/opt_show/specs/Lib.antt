@@ -1,4 +1,0 @@
-pub mod Lent
-pub mod Images
-pub mod Shows
-pub mod Mounted
