@@ -1,4 +1,4 @@
-//! The process `optfs`: its words, its standard streams and the image files go into `opt_program`, and the status comes out.
+//! The process `optfs`: its words, its standard streams and the image files go into `cmd_program`, and the status comes out.
 //! Nothing here has a clause; what it is trusted for is in the README.
 #![tactic(auto)]
 
@@ -6,10 +6,10 @@ mod messages;
 mod replies;
 mod streams;
 
+use base_io::{ReadSource, WriteSink};
+use cmd_program::{Status, optfs};
+use disk_file::FileBay;
 use messages::say_why;
-use opt_filedisk::FileBay;
-use opt_io::{ReadSource, WriteSink};
-use opt_program::{Status, optfs};
 use replies::Replies;
 use std::cell::RefCell;
 use std::env;

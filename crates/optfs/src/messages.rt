@@ -2,9 +2,9 @@
 //! pages promise, and none of this; no contract reads it.
 
 use crate::streams::Streams;
-use opt_filedisk::FileBay;
-use opt_program::Status;
-use opt_words::complaint;
+use cmd_program::Status;
+use cmd_words::complaint;
+use disk_file::FileBay;
 use std::rt::HostRuntime;
 
 /// The commands and their words.

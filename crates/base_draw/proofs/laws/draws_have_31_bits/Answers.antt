@@ -1,0 +1,8 @@
+use Rattle.base_draw.proofs.Below.{draws_count, draws_below}
+use Rattle.base_draw.proofs.laws.draws_have_31_bits.Goals as goal
+
+pub returns-clause-count : goal.returns-clause-count
+returns-clause-count c = draws_count
+
+pub returns-clause-below : goal.returns-clause-below
+returns-clause-below c = draws_below

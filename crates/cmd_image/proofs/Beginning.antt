@@ -1,0 +1,146 @@
+-- How a run begins: over a store that was just mounted, whose file system was opened.
+use Rattle.std.proofs.Common.{◌≡◌, ℕ, ◌+◌, ◌-◌, Bool, false, true≢false, IsTrue, List, [], ◌∷◌, length, take, take_all, Option, refl, sym, ap, ap₂, ◌∙◌, subst, arith}
+use mathlib.Core.Path.{fun_ext}
+use Rattle.base_types.specs.Seal.{Blocks}
+use Rattle.disk_contract.specs.declared.bay.Mark.{Mark}
+use Rattle.disk_contract.specs.declared.disk.Disk.{Ghosts}
+use Rattle.disk_contract.specs.declared.event.Event.{Event}
+use Rattle.disk_contract.specs.Crash.{Window}
+use Rattle.disk_contract.specs.Disk as disk
+use Rattle.disk_contract.specs.Disk.{writes_in}
+use Rattle.layout_geometry.specs.Geometry.{Geometry, data_start}
+use Rattle.crash_argument.specs.Ledger.{HoldsUnder}
+use Rattle.lang_tree.specs.Figures.{blocks}
+use Rattle.lang_tree.specs.Step.{Session, session_on}
+use Rattle.lang_tree.specs.Tree.{Tree}
+use Rattle.crash_stands.specs.Stands.{IsTreeOf}
+use Rattle.engine_blocks.specs.Calls.{IsSound}
+use Rattle.engine_blocks.specs.Crashes.{IsBegun}
+use Rattle.engine_blocks.specs.State.{Bookkeeping, State, Ticking, reusable_blocks}
+use Rattle.engine_store.specs.StoreOf.{state_of}
+use Rattle.engine_store.specs.declared.store.Store.{Store}
+use Rattle.fs_files.specs.Calls.{places_of}
+use Rattle.fs_files.specs.Effects.{LooksOnly}
+use Rattle.fs_commands.specs.DiskRoom.{IsRoomOf}
+use Rattle.fs_commands.specs.Memory.{room_of}
+use Rattle.fs_commands.specs.Serving.{room_on}
+use Rattle.fs_commands.specs.Sessions.{IsSession}
+use Rattle.fs_commands.specs.Space.{left_of}
+use Rattle.cmd_session.specs.Budget.{KeepsBudget, SpendsByMarks}
+use Rattle.cmd_session.specs.Serving.{HasServed, IsDrawn, IsMountedWith}
+use Rattle.cmd_image.specs.Runs.{IsRoomAtMount}
+use Rattle.cmd_image.specs.Serves.{pace_at_mount}
+use Rattle.cmd_image.specs.Steps.{IsJustMounted, IsOfMount, KnownSoFar, SoFar, mark_in, pace_on}
+use Rattle.cmd_image.proofs.Rooms.{mount_stays}
+
+-- the view of crashes of a store is drawn from its disk
+pub drawn : {D : Type 0} {k : Ghosts D} (known : D → disk.State) (s : Store D k) → IsDrawn (state_of known s)
+drawn known s = record {
+  left = λ since k img from upto honest. record { moment = k; from = from; within = upto; honest = honest };
+  holds = λ img m h. h;
+  issued = λ m h. h;
+}
+
+module _ (tells : Bool) (told : IsTrue tells) (first : disk.State) (s : State) (h : IsJustMounted tells first s) where
+  -- the store has the map of its image, and so has each image so far
+  pub mounted_with : IsMountedWith s.books.geom s.map s
+  mounted_with =
+      let held = h.on.held told in
+      record {
+        geom = refl;
+        map = refl;
+        only = (h.begins told).only;
+        images = subst (λ (n : ℕ). Window n s.crash.base s.crash.log 0 (λ img. HoldsUnder n s.books.geom img s.map)) (sym h.on.blocks)
+            (subst (λ (x : Blocks). Window first.blocks x s.crash.log 0 (λ img. HoldsUnder first.blocks s.books.geom img s.map)) (sym (h.on.base told)) held.images);
+      }
+
+  -- What is said of the blocks once the file system was opened.
+  module _ (u : State) (t : Tree) (mark : Mark) (begun : IsBegun s) (looks : LooksOnly tells false s u) (tree : IsTreeOf s.books.geom s.map t)
+      (served : HasServed s.books.geom t (length s.crash.log) [] [] [] u) (budget : KeepsBudget s.books.geom t (writes_in s.crash.log + s.books.owed) [] [] u)
+      (room : (f : Session) → IsSession u f → IsRoomOf u.books.geom f (room_of u)) (left : (f : Session) → IsSession u f → left_of u.books ≡ u.books.area - blocks f.tree - u.books.running.held) (takeable : left_of u.books ≡ length (reusable_blocks u.books) + u.books.waiting)
+      (sound : IsSound u.books) (is_mark : mark ≡ mark_in s) (spends : SpendsByMarks s.books.geom (session_on s.books.geom.i t) (length u.crash.log) u.crash.log [] [] []) where
+    abbrev g : Geometry
+    g = s.books.geom
+
+    abbrev f : Session
+    f = session_on g.i t
+
+    session : IsSession u f
+    session = served.goes_on.session
+
+    -- no block waits, so that as many may be taken as the tree leaves
+    all : length (reusable_blocks u.books) ≡ (g.n - data_start g) - blocks t - u.books.running.held
+    all =
+        omega (arith, ap (λ (k : Bookkeeping). k.waiting) looks.books, (h.begins told).waiting, takeable)
+        ∙ left f session
+        ∙ ap (λ (n : ℕ). n - blocks t - u.books.running.held) (sound.area ∙ ap (λ (k : Bookkeeping). k.geom.n - data_start k.geom) looks.books)
+
+    pub begins_room : IsRoomAtMount g s.map f (room_of u)
+    begins_room = record {
+      weight = ap (λ (k : Bookkeeping). k.running.weight) looks.books ∙ begun.weight;
+      held = ap (λ (k : Bookkeeping). k.running.held) looks.books ∙ begun.held;
+      is_room = subst (λ (k : Geometry). IsRoomOf k f (room_of u)) (ap (λ (k : Bookkeeping). k.geom) looks.books) (room f session);
+      places = λ k. ap (λ (m : Blocks). places_of u.books.geom m k) (looks.map told) ∙ ap (λ (b : Bookkeeping). places_of b.geom s.map k) looks.books;
+      all = all;
+    }
+
+    same_log : u.crash.log ≡ s.crash.log
+    same_log = (looks.crash told).log
+
+    -- no block waits
+    pace_first : pace_on u f ≡ pace_at_mount first (length s.crash.log) f (room_of u)
+    pace_first =
+        ap₂ (λ (polls events : ℕ). record { polls = polls; events = events; over = u.books.stopped; session = f; room = room_on u }) (ap (λ (k : Ticking). k.polls) looks.counts.ticks ∙ h.on.polls) (ap (λ (es : List Event). length es) same_log)
+        ∙ ap₂ (λ (over : Bool) (since : ℕ → Option ℕ). record { polls = first.polls; events = length s.crash.log; over = over; session = f; room = record { room = room_of u; since = since } }) (ap (λ (k : Bookkeeping). k.stopped) looks.books ∙ h.on.going) (fun_ext (λ b. ap (λ (k : Bookkeeping). k.since b) looks.books ∙ (h.begins told).since b))
+
+    -- the blocks are of the mount
+    of_mount : IsOfMount (h.numbers told).session u
+    of_mount =
+        let numbers = h.numbers told in
+        let crash = looks.crash told in
+        mount_stays numbers.session s u (ap (λ (k : Bookkeeping). k.geom) looks.books) crash.base (omega (arith, ap (λ (es : List Event). length es) same_log)) crash.sure crash.records (record { geom = numbers.geom; late = omega (arith, numbers.mounted); sure = numbers.sure; records = numbers.records })
+
+    pub known_first : KnownSoFar first [] [] (mark ∷ []) u
+    known_first =
+        let held = h.on.held told in
+        let numbers = h.numbers told in
+        record {
+          geom = g;
+          tree = t;
+          image = record { mountable = held.mountable; stands = record { map = s.map; held = held.holds.held; tree = subst (λ (k : Geometry). IsTreeOf k s.map t) (sym held.holds.geom) tree } };
+          shape = held.holds.geom;
+          base = (looks.crash told).base ∙ h.on.base told;
+          mounted = length s.crash.log;
+          moments = [];
+          served = served;
+          first_room = room_of u;
+          begins = begins_room;
+          after = f;
+          session = session;
+          rooms = (refl, refl);
+          mount = numbers.session;
+          is_mount = record { found = numbers.found; is_found = numbers.is_found; geom = numbers.geom; epoch = numbers.epoch; mounted = numbers.mounted; first = numbers.first };
+          of_mount = of_mount;
+          serves = pace_first;
+          budget = subst (λ (n : ℕ). KeepsBudget g t n [] [] u)
+              (omega (arith, (h.begins told).owed, ap (λ (es : List Event). writes_in es) (sym (ap (λ (es : List Event). take (length s.crash.log) es) same_log ∙ take_all (length s.crash.log) s.crash.log (omega arith))))) budget;
+          spends = subst (λ (es : List Event). SpendsByMarks g f (length es) u.crash.log [] [] []) same_log spends;
+          within = omega (arith, ap (λ (es : List Event). length es) same_log);
+          marked = record {
+            later = [];
+            is = ap (λ (m : Mark). m ∷ []) (is_mark ∙ ap₂ (λ (r q : ℕ). record { moment = length s.crash.log; read_faults = r; faults = q }) h.on.read_faults h.on.faults);
+            go = ap (λ (n : ℕ). record { moment = n; read_faults = u.counts.read_faults; faults = u.counts.faults }) (ap (λ (es : List Event). length es) same_log)
+                ∙ ap₂ (λ (r q : ℕ). record { moment = length s.crash.log; read_faults = r; faults = q }) (looks.counts.read_faults ∙ h.on.read_faults) (looks.counts.faults ∙ h.on.faults);
+          };
+          manner = ap (λ (k : Ticking). k.manner) looks.counts.ticks ∙ h.on.manner;
+          among = tt;
+          reasons = tt;
+          over = λ stopped. absurd (true≢false (sym stopped ∙ ap (λ (k : Bookkeeping). k.stopped) looks.books ∙ h.on.going));
+          turns = s.books.turns;
+          numbers = record { found = numbers.found; is_found = numbers.is_found; most = numbers.most };
+          rises = omega (arith, ap (λ (k : Bookkeeping). k.turns) looks.books);
+          spent = λ i none. absurd cc;
+        }
+
+pub first_so_far : (tells : Bool) (first : disk.State) (s u : State) (mark : Mark) → IsJustMounted tells first s → LooksOnly tells false s u → (IsTrue tells → KnownSoFar first [] [] (mark ∷ []) u) → SoFar tells first [] [] (mark ∷ []) u
+first_so_far tells first s u mark h looks known = record { blocks = ap (λ (k : Bookkeeping). k.geom.n) looks.books ∙ h.on.blocks; known = known }

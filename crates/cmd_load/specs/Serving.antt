@@ -1,0 +1,83 @@
+-- A disk that was just formatted, and a file system on its way through a load. Only private contracts speak of it.
+use Rattle.std.specs.Prelude.{◌≡◌, ℕ, ◌+◌, ◌*◌, ◌^◌, ◌≤◌, ◌==◌, if◌then◌else◌, Bool, true, false, List, Some}
+use Rattle.layout_journal.specs.Formatted.{formatted}
+use Rattle.disk_memory.specs.Choice.{AreBlocksOf}
+use Rattle.disk_memory.specs.MemDisk.{MemDiskState, begun, by_rule}
+use Rattle.disk_memory.specs.declared.rule.Rule.{Rule}
+use Rattle.disk_memory.specs.declared.rule.Rule.TheVariants as rules
+use Rattle.lang_tree.specs.declared.command.Cmd.{Cmd}
+use Rattle.lang_tree.specs.declared.command.Refusal.TheVariants.{DiskFault, NoMemory, ReadFault, Spent, Stopped}
+use Rattle.lang_tree.specs.declared.command.Reply.{Reply}
+use Rattle.lang_tree.specs.declared.command.Reply.TheVariants.{Refused}
+use Rattle.lang_tree.specs.Step.{Session, start}
+use Rattle.crash_stands.specs.Stands.{IsTreeOf}
+use Rattle.engine_blocks.specs.Crashes.{IsBegun}
+use Rattle.engine_blocks.specs.State.{State}
+use Rattle.fs_commands.specs.Applying.{is_spent}
+use Rattle.fs_commands.specs.DiskRoom.{AnswersOn, IsRoomOf}
+use Rattle.fs_commands.specs.Memory.{room_of}
+use Rattle.fs_commands.specs.Sessions.{IsSession}
+use Rattle.cmd_load.specs.Summary.{Progress, shape}
+use Rattle.cmd_load.specs.Trees.{IsLoadTree}
+
+-- for how many writes the disk has room
+abbrev pub room : ℕ
+room = 65536
+
+-- by which rule the disk gives its notices: a seed of 0 gives none
+abbrev pub rule_of : ℕ → Rule
+rule_of seed = if seed == 0 then rules.Silent else rules.Seed seed
+
+-- A disk in memory that has the formatted disk's blocks and the room, and goes by this rule; none of its calls is listed to fail. No call of it was made yet.
+pub record IsFormattedDisk (rule : Rule) (d : MemDiskState) : Type 0 where
+  pub blocks : AreBlocksOf shape.n (formatted shape) d.base
+  pub behaves : d ≡ record (begun d.base room) { notices = by_rule rule; known = Some rule }
+
+-- No read of its disk fails.
+abbrev pub IsReadable : State → Type 0
+IsReadable s = s.counts.ticks.manner.reads_fail ≡ false
+
+-- A map of blocks that was mounted on such a disk: nothing was done yet, and the root alone stands in it.
+pub record IsMounted (s : State) : Type 0 where
+  pub begun : IsBegun s
+  pub geom : s.books.geom ≡ shape
+  pub tree : IsTreeOf shape s.map (start shape.i).tree
+  pub readable : IsReadable s
+  pub turns : s.books.turns ≤ 3
+
+-- The blocks have come so far with a load, by so many commands: they are those of its session, weigh and hold as much, and the disk never failed.
+pub record Serves (p : Progress) (made : ℕ) (s : State) : Type 0 where
+  pub session : IsSession s p.session
+  pub geom : s.books.geom ≡ shape
+  pub weight : s.books.running.weight ≡ p.weight
+  pub held : s.books.running.held ≡ p.held
+  pub going : s.books.stopped ≡ false
+  pub readable : IsReadable s
+  pub tree : IsLoadTree p.session.tree
+  -- nothing is held where nothing is weighed
+  pub none : p.weight ≡ 0 → p.held ≡ 0
+  pub refused : p.refused ≤ made
+  -- the journal's numbers rise little with each command
+  pub turns : s.books.turns ≤ 3 + made * 2 ^ 20
+
+-- whether memory, or room on the disk, ran out in a command
+abbrev pub has_run_out : Reply → Bool
+has_run_out (Refused DiskFault) = true
+has_run_out (Refused NoMemory) = true
+has_run_out _ = false
+
+-- how a command was answered over blocks of a session, by what the file system says of any blocks
+pub record IsAnswered (cmd : Cmd) (reply : Reply) (old new : State) : Type 0 where
+  pub room : (f : Session) → IsSession old f → IsRoomOf old.books.geom f (room_of old)
+  pub answers : (f : Session) → IsSession old f → (next : Session) × IsSession new next × (new.books.geom ≡ old.books.geom) × AnswersOn old.books.geom f (room_of old) cmd reply next (room_of new)
+  pub turns : new.books.turns ≤ old.books.turns + 2 ^ 20
+  pub manner : new.counts.ticks.manner ≡ old.counts.ticks.manner
+  pub going : old.books.stopped ≡ false → has_run_out reply ≡ false → new.books.stopped ≡ false
+  pub spent : (f : Session) → IsSession old f → reply ≡ Refused Spent → is_spent old.books ≡ true
+  pub stops : (f : Session) → IsSession old f → reply ≡ Refused Stopped → old.books.stopped ≡ true
+  pub reads : (f : Session) → IsSession old f → reply ≡ Refused ReadFault → new.counts.ticks.manner.reads_fail ≡ true
+
+-- a sink that keeps what it takes as a text: the text, and how many pushes failed
+pub record TextState : Type 0 where
+  pub text : List ℕ
+  pub faults : ℕ

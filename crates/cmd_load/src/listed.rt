@@ -1,0 +1,42 @@
+//! The digest of the listing of the tree of a file system. How a listing reads is described in docs/TREE.md.
+
+ghost use Rattle.std.specs.Prelude.{◌≡◌, true, false, IfOk};
+ghost use Rattle.base_types.specs.Seal.{sha256};
+ghost use Rattle.disk_memory.specs.MemDisk.{state_of as disk_state};
+ghost use Rattle.engine_store.specs.StoreOf.{state_of};
+ghost use Rattle.fs_commands.specs.Opened.{blocks_in, used_to};
+ghost use Rattle.fs_commands.specs.Sessions.{IsBetween, IsSession};
+ghost use Rattle.lang_tree.specs.Listing.{listing};
+ghost use Rattle.lang_tree.specs.Step.{Session};
+ghost use Rattle.cmd_load.specs.Serving.{IsReadable};
+
+use crate::mounting::System;
+use crate::text::TextSink;
+use base_types::NoMemory;
+use disk_contract::Disk;
+use fs_commands::ListRefusal;
+use sha2::{Digest, Sha256};
+use std::alloc::Global;
+
+/// The SHA-256 of the listing of the tree.
+///
+/// # Errors
+/// Out of memory.
+pub(crate) fn digest_of(alloc: Global, fs: &mut System) -> Result<[u8; 32], NoMemory>
+    requires between { IsBetween true (state_of disk_state (blocks_in fs.old)) (used_to fs.old) }
+    requires going { (state_of disk_state (blocks_in fs.old)).books.stopped ≡ false }
+    requires readable { IsReadable (state_of disk_state (blocks_in fs.old)) }
+    ensures { IfOk result (λ digest. (f : Session) → IsSession (state_of disk_state (blocks_in fs.old)) f → digest ≡ sha256 (listing f.tree)) }
+{
+    let mut out = TextSink::new(alloc);
+    match fs.listing(alloc, &mut out) {
+        Ok(()) => Ok(Sha256::digest(out.text())),
+        Err(ListRefusal::Stopped) => unreachable!(),
+        Err(ListRefusal::ReadFault) => {
+            fs.blocks().disk().lawful();
+            unreachable!()
+        }
+        Err(ListRefusal::SinkFault) => Err(NoMemory),
+        Err(ListRefusal::NoMemory) => Err(NoMemory),
+    }
+}

@@ -1,0 +1,336 @@
+-- What the program does for each request that words may be.
+use Rattle.std.proofs.Common.{◌≡◌, ◌↔◌, ℕ, ◌≤◌, ◌==◌, nat_lt, Bool, true, false, not, ◌&&◌, ◌||◌, List, [], Option, None, Some, Result, Ok, Err, IsOk, refl, sym, ap, ◌∙◌, subst, inl, inr, arith}
+use Rattle.std.specs.Io.KnownBytes.{Keeps}
+use Rattle.std.proofs.KnownBytes.{Consumes-nil}
+use Rattle.std.proofs.lemmas.Bool.{and_right, eqb-true, false≢true, lt-ltb, not_from_true, or_from}
+use Rattle.base_types.specs.Counts.{Rose}
+use Rattle.disk_contract.specs.declared.event.Event.{Event}
+use Rattle.disk_contract.specs.declared.bay.BayFault.TheVariants as failed
+use Rattle.disk_contract.specs.Bay.{BayState}
+use Rattle.layout_geometry.specs.Geometry.{Geometry, geometry_fits}
+use Rattle.disk_memory.specs.declared.calls.DiskCall.{DiskCall}
+use Rattle.disk_memory.specs.declared.calls.DiskCall.TheVariants as calls
+use Rattle.disk_memory.specs.declared.rule.Rule.{Rule}
+use Rattle.disk_memory.specs.Choice.{ChoiceState}
+use Rattle.disk_memory.specs.MemDisk.{has_listed, is_listed, manner_by, same_call}
+use Rattle.cmd_trace.specs.Contents.{Contents}
+use Rattle.cmd_trace_reader.specs.declared.input.TraceRefusal.{TraceRefusal}
+use Rattle.cmd_trace_reader.specs.declared.input.TraceRefusal.TheVariants as reading
+use Rattle.cmd_image.specs.declared.show_refusal.ShowRefusal.{ShowRefusal}
+use Rattle.cmd_image.specs.declared.show_refusal.ShowRefusal.TheVariants as show
+use Rattle.cmd_image.specs.Shows.{CountsFault, HasShowCause}
+use Rattle.cmd_load.specs.Summary.{summary_of, summary_text}
+use Rattle.cmd_image.specs.declared.make_refusal.MakeRefusal.{MakeRefusal}
+use Rattle.cmd_image.specs.declared.make_refusal.MakeRefusal.TheVariants as make
+use Rattle.cmd_image.specs.Makes.{HasMakeCause}
+use Rattle.cmd_replay.specs.declared.refusal.ReplayRefusal.{ReplayRefusal}
+use Rattle.cmd_replay.specs.declared.refusal.ReplayRefusal.TheVariants as crash
+use Rattle.cmd_replay.specs.Replays.{Found}
+use Rattle.cmd_image.specs.declared.ending.Ending.{Ending}
+use Rattle.cmd_image.specs.declared.ending.Ending.TheVariants as script
+use Rattle.cmd_image.specs.declared.ending.RunRefusal.{RunRefusal}
+use Rattle.cmd_image.specs.declared.ending.RunRefusal.TheVariants as run
+use Rattle.cmd_image.specs.Runs.{HasRunCause}
+use Rattle.cmd_words.specs.declared.request.Request.{Request}
+use Rattle.cmd_words.specs.declared.request.Request.TheVariants.{Record, Replay, Tree, Make, Run, Load}
+use Rattle.cmd_record.specs.declared.disk.Behaviour.{Behaviour}
+use Rattle.cmd_record.specs.Behaving.{MountFails, fails_of, rule_of}
+use Rattle.cmd_record.specs.Disks.{setting_on}
+use Rattle.cmd_program.specs.Endings.{EndsBehind, HasFault, Met, Tells, met, usage_line, disk_line, damaged_line, spent_line, no_prefix_line, shape_line, long_line, choice_line}
+use Rattle.cmd_program.specs.Loading.{LoadsTo}
+use Rattle.cmd_program.specs.Making.{EndsMaking, MakesTo}
+use Rattle.cmd_record.specs.Traces.{Setting}
+use Rattle.cmd_program.specs.Program.{Completes, Does, EndsLoad, EndsMake, EndsReplay, EndsRun, EndsShow, EndsSo, MakesWhere, RecordsWhere, RecordsTo, Refuses, setting_of, shape_of}
+use Rattle.cmd_program.specs.Replaying.{EndsAt, EndsCrash, EndsFound, EndsReading, ReplaysTo, trace_line}
+use Rattle.cmd_program.specs.Scripting.{EndsScript, RunsTo}
+use Rattle.cmd_program.specs.Showing.{EndsShowing, ShowsTo}
+use Rattle.cmd_program.specs.declared.status.Status.{Status}
+use Rattle.cmd_program.specs.declared.status.Status.TheVariants.{Done, Usage, BadTrace, NoMemory, DiskFault, Damaged, SourceFault, SinkFault, Spent, NoPrefix, BadShape, LongInput, BadChoice}
+use Rattle.cmd_program.proofs.ProgramLemmas.{never_begun}
+
+-- a line that was told ends the run
+pub behind : (status result : Status) (line : List ℕ) (told out : Option (List ℕ)) (sink sink_now : ℕ) → Tells status result line told out sink sink_now → EndsBehind status line result told out
+behind status result line told out sink sink_now (inl t) = inl t
+behind status result line told out sink sink_now (inr t) = inr (t.0, t.1)
+
+-- and is a refusal's line
+pub refused : (refusal result : Status) (line : List ℕ) (told out : Option (List ℕ)) (sink sink_now : ℕ)
+    → Tells refusal result line told out sink sink_now → Refuses refusal line result told out
+refused refusal result line told out sink sink_now t = inl (behind refusal result line told out sink sink_now t)
+
+-- where the sink failed as a line was told, its count rose
+pub told_fault : (status result : Status) (line : List ℕ) (told out : Option (List ℕ)) (source source_now sink sink_now : ℕ) → HasFault status source source_now sink sink_now
+    → Tells status result line told out sink sink_now → HasFault result source source_now sink sink_now
+told_fault status result line told out source source_now sink sink_now fault (inl t) = subst (λ (s : Status). HasFault s source source_now sink sink_now) (sym t.0) fault
+told_fault status result line told out source source_now sink sink_now fault (inr t) = subst (λ (s : Status). HasFault s source source_now sink sink_now) (sym t.0) t.2
+
+-- a geometry that `new` refused doesn't fit
+pub not_fitting : {E : Type 0} (r : Result Geometry E) (e : E) (fits : Bool) → r ≡ Err e → (IsOk r ↔ (fits ≡ true)) → fits ≡ false
+not_fitting r e true failed exact =
+    let P : Result Geometry _ → Type 0 = λ x. IsOk x in
+    absurd (false≢true (subst P failed (exact.1 refl)))
+not_fitting r e false failed exact = refl
+
+pub where_shape : (fits : Bool) (set : Setting) (result : Status) (left left_now told out : Option (List ℕ)) (source source_now sink sink_now : ℕ)
+    → fits ≡ false → Tells BadShape result shape_line told out sink sink_now → RecordsWhere fits set result left left_now told out source source_now
+where_shape fits set result left left_now told out source source_now sink sink_now not_so t =
+    subst (λ (b : Bool). RecordsWhere b set result left left_now told out source source_now) (sym not_so) (refused BadShape result shape_line told out sink sink_now t)
+
+pub where_fits : (fits : Bool) (set : Setting) (result : Status) (left left_now told out : Option (List ℕ)) (source source_now : ℕ)
+    → fits ≡ true → RecordsTo set result left left_now told out source source_now → RecordsWhere fits set result left left_now told out source source_now
+where_fits fits set result left left_now told out source source_now does t =
+    subst (λ (b : Bool). RecordsWhere b set result left left_now told out source source_now) (sym does) t
+
+pub made_shape : (fits tells : Bool) (image : List ℕ) (g : Geometry) (result : Status) (m : Met) → fits ≡ false → Tells BadShape result shape_line m.taken m.taken_now m.sink m.sink_now → MakesWhere fits tells image g result m
+made_shape fits tells image g result m not_so t =
+    subst (λ (b : Bool). MakesWhere b tells image g result m) (sym not_so) (refused BadShape result shape_line m.taken m.taken_now m.sink m.sink_now t)
+
+pub made_fits : (fits tells : Bool) (image : List ℕ) (g : Geometry) (result : Status) (m : Met) → fits ≡ true → MakesTo tells image g result m → MakesWhere fits tells image g result m
+made_fits fits tells image g result m does t = subst (λ (b : Bool). MakesWhere b tells image g result m) (sym does) t
+
+-- The first write.
+
+-- whether the first write is listed, of a list that has one write at most
+first_listed : (fail : Option ℕ) → is_listed calls.Write 1 (fails_of fail) ≡ true → fail ≡ Some 1
+first_listed None is = absurd (false≢true is)
+first_listed (Some write) is = ap Some (eqb-true write 1 (first (write == 1) is))
+  where
+    first : (b : Bool) → ((true && b) || false) ≡ true → b ≡ true
+    first true e = refl
+    first false e = e
+
+-- a list of one write at most has no other call
+no_call : (call : DiskCall) (fail : Option ℕ) → same_call calls.Write call ≡ false → has_listed call (fails_of fail) ≡ false
+no_call call None other = refl
+no_call call (Some write) other = or_from (same_call calls.Write call) false other refl
+
+-- only such a list fails a mount with room for a write
+fails_so : (room : ℕ) (fail : Option ℕ) (rule : Rule) (log : List Event) → 1 ≤ room → MountFails (manner_by room (fails_of fail) rule) log → fail ≡ Some 1
+fails_so room fail rule log some (inl reads) = absurd (false≢true (sym (no_call calls.Read fail refl) ∙ reads))
+fails_so room fail rule log some (inr (inl stalls)) = absurd (false≢true (sym (or_from _ _ (no_call calls.Poll fail refl) (no_call calls.Wait fail refl)) ∙ stalls))
+fails_so room fail rule log some (inr (inr (inl refuses))) = absurd (false≢true (sym (not_from_true (nat_lt 0 room) (lt-ltb 0 room some)) ∙ refuses))
+fails_so room fail rule log some (inr (inr (inr loses))) = first_listed fail (both (nat_lt 0 room) (is_listed calls.Write 1 (fails_of fail)) loses.1)
+  where
+    both : (a b : Bool) → (a && b) ≡ true → b ≡ true
+    both true b e = e
+    both false b e = absurd (false≢true e)
+
+-- where the first write may be accepted it isn't listed
+not_listed : (room : ℕ) (fail : Option ℕ) (rule : Rule) → (manner_by room (fails_of fail) rule).accepts [] ≡ true → fail ≡ Some 1 → ⊥
+not_listed room fail rule may is = absurd (false≢true (sym (and_right (nat_lt 0 room) (not (is_listed calls.Write 1 (fails_of fail))) (ap (λ (x : Option ℕ). not (is_listed calls.Write 1 (fails_of x))) is)) ∙ may))
+
+-- How a recording ends where nothing but the disk failed.
+
+pub ends_so : (g : Geometry) (b : Behaviour) (status : Status) (left left_now told out : Option (List ℕ)) (source source_now sink sink_now : ℕ) → 1 ≤ b.room
+    → RecordsTo (setting_on g b) status left left_now told out source source_now → HasFault status source source_now sink sink_now → ¬ Rose source source_now → ¬ Rose sink sink_now → EndsSo b.fail status
+ends_so g b Done left left_now told out source source_now sink sink_now some r fault no_source no_sink = not_listed b.room b.fail (rule_of b.notices) r.output.served.goes.opens
+ends_so g b LongInput left left_now told out source source_now sink sink_now some r fault no_source no_sink = not_listed b.room b.fail (rule_of b.notices) r.output.served.goes.opens
+ends_so g b NoMemory left left_now told out source source_now sink sink_now some r fault no_source no_sink = tt
+ends_so g b DiskFault left left_now told out source source_now sink sink_now some r fault no_source no_sink = fails_so b.room b.fail (rule_of b.notices) r.output.log some r.output.cause
+ends_so g b SourceFault left left_now told out source source_now sink sink_now some r fault no_source no_sink = no_source fault
+ends_so g b SinkFault left left_now told out source source_now sink sink_now some r fault no_source no_sink = no_sink fault
+ends_so g b Usage left left_now told out source source_now sink sink_now some r fault no_source no_sink = absurd r.reads
+ends_so g b BadTrace left left_now told out source source_now sink sink_now some r fault no_source no_sink = absurd r.reads
+ends_so g b Damaged left left_now told out source source_now sink sink_now some r fault no_source no_sink = absurd r.reads
+ends_so g b Spent left left_now told out source source_now sink sink_now some r fault no_source no_sink = absurd r.reads
+ends_so g b NoPrefix left left_now told out source source_now sink sink_now some r fault no_source no_sink = absurd r.reads
+ends_so g b BadShape left left_now told out source source_now sink sink_now some r fault no_source no_sink = absurd r.reads
+ends_so g b BadChoice left left_now told out source source_now sink sink_now some r fault no_source no_sink = absurd r.reads
+
+-- Want of memory before anything was read or written.
+
+keeps_same : (taken : Option (List ℕ)) → Keeps taken taken
+keeps_same None = tt
+keeps_same (Some xs) = refl
+
+-- want of memory is no fault
+unshown : (answer : Result (Unit {0}) ShowRefusal) → answer ≡ Err show.NoMemory → answer ≡ Err show.Fault → ⊥
+unshown answer is other = cc
+
+unmade : (answer : Result (Unit {0}) MakeRefusal) → answer ≡ Err make.NoMemory → answer ≡ Err make.Fault → ⊥
+unmade answer is other = cc
+
+unrun : (answer : Result Ending RunRefusal) → answer ≡ Err run.NoMemory → answer ≡ Err run.Fault → ⊥
+unrun answer is other = cc
+
+-- Where no memory is found before anything was read or written, that may be so for every request.
+pub does_memory : (tells : Bool) (request : Option Request) (left told : Option (List ℕ)) (source sink : ℕ) (bay : BayState)
+    → Does tells request NoMemory (met left left told told source source sink sink bay bay)
+does_memory tells None left told source sink bay = inr (refl, refl)
+does_memory tells (Some (Record blocks journal nodes notices room fail)) left told source sink bay = by (geometry_fits (shape_of blocks journal nodes))
+  where
+    by : (fits : Bool) → RecordsWhere fits (setting_of blocks journal nodes notices room fail) NoMemory left left told told source source
+    by true = never_begun (setting_of blocks journal nodes notices room fail) left told source source
+    by false = inr (refl, refl)
+does_memory tells (Some (Replay moment choice)) left told source sink bay = record {
+  told = Err reading.NoMemory;
+  tells = record { bytes = []; read = Consumes-nil left; short = omega arith };
+  ends = (refl, refl);
+}
+does_memory tells (Some (Tree image)) left told source sink bay = record {
+  answer = Err show.NoMemory;
+  between = told;
+  shown = λ known. tt;
+  refused = λ known. inl (keeps_same told);
+  silent = λ e. refl;
+  back = inl (record { kept = λ known each. refl; faults = omega arith; disk_faults = refl; handed = refl; closed = refl });
+  cause = refl;
+  reason = λ known fault. absurd (unshown (Err show.NoMemory) refl fault);
+  ends = (refl, refl);
+}
+does_memory tells (Some (Make image blocks journal nodes)) left told source sink bay = by (geometry_fits (shape_of blocks journal nodes))
+  where
+    g : Geometry
+    g = shape_of blocks journal nodes
+
+    by : (fits : Bool) → MakesWhere fits tells image g NoMemory (met left left told told source source sink sink bay bay)
+    by true = record {
+      answer = Err make.NoMemory;
+      made = λ known. tt;
+      back = inl (record {
+        fault = failed.NoMemory;
+        makes = record {
+          size = tt;
+          counts = tt;
+          disk = λ known. tt;
+          kept = λ known. tt;
+          image = λ known. refl;
+          others = λ known other apart. refl;
+          cause = (omega arith, tt);
+          disk_faults = refl;
+          handed = refl;
+          closed = refl;
+          manner = λ known. tt;
+          fails = λ known. tt;
+          same = record { may_fail = refl; manner = λ other. refl };
+        };
+        answer = refl;
+      });
+      others = λ known other apart. refl;
+      cause = refl;
+      reason = λ known fault. absurd (unmade (Err make.NoMemory) refl fault);
+      ends = (refl, refl);
+    }
+    by false = inr (refl, refl)
+does_memory tells (Some (Run image)) left told source sink bay = record {
+  answer = Err run.NoMemory;
+  between = told;
+  sink_between = sink;
+  comes = inl (record {
+    none = record { kept = λ known each. refl; faults = omega arith; disk_faults = refl; handed = refl; closed = refl };
+    same = refl;
+    answer = inr refl;
+  });
+  counts = record { source = omega arith; rises = omega arith; sink = refl };
+  cause = tt;
+  reason = λ known fault. absurd (unrun (Err run.NoMemory) refl fault);
+  ends = (refl, refl);
+}
+does_memory tells (Some (Load seed count)) left told source sink bay = inr (refl, refl)
+
+pub completes_memory : (request : Option Request) (m : Met) → Completes request NoMemory m
+completes_memory None m = tt
+completes_memory (Some (Record blocks journal nodes notices room fail)) m = λ fits no_source no_sink. tt
+completes_memory (Some (Replay moment choice)) m = λ no_source no_sink. tt
+completes_memory (Some (Tree image)) m = λ no_sink. tt
+completes_memory (Some (Make image blocks journal nodes)) m = λ fits no_sink. tt
+completes_memory (Some (Run image)) m = λ no_source no_sink. tt
+completes_memory (Some (Load seed count)) m = λ no_sink. tt
+
+-- Words that ask for nothing.
+pub does_usage : (tells : Bool) (request : Option Request) (result : Status) (m : Met) → request ≡ None → Tells Usage result usage_line m.taken m.taken_now m.sink m.sink_now → Does tells request result m
+does_usage tells request result m none t = subst (λ (r : Option Request). Does tells r result m) (sym none) (refused Usage result usage_line m.taken m.taken_now m.sink m.sink_now t)
+
+pub completes_none : (request : Option Request) (status : Status) (m : Met) → request ≡ None → Completes request status m
+completes_none request status m none = subst (λ (q : Option Request). Completes q status m) (sym none) tt
+
+-- How a replay, a showing, a making, a load and a run end where nothing failed.
+
+-- what may be of the status of a line may be of the end behind the line where the sink didn't fail
+ends_so_behind : (May : Status → Type 0) (X status : Status) (line : List ℕ) (told out : Option (List ℕ)) (source source_now sink sink_now : ℕ) → May X → EndsBehind X line status told out
+    → HasFault status source source_now sink sink_now → ¬ Rose sink sink_now → May status
+ends_so_behind May X status line told out source source_now sink sink_now may (inl t) fault no_sink = subst May (sym t.0) may
+ends_so_behind May X status line told out source source_now sink sink_now may (inr t) fault no_sink = absurd (no_sink (subst (λ (s : Status). HasFault s source source_now sink sink_now) t.0 fault))
+
+ends_found : (found : Found) (status : Status) (told out : Option (List ℕ)) (source source_now sink sink_now : ℕ) → EndsFound found status told out → HasFault status source source_now sink sink_now
+    → ¬ Rose sink sink_now → EndsReplay status
+ends_found found status told out source source_now sink sink_now (inl (between, took, ends)) fault no_sink = by found.point ends
+  where
+    by : (point : Option ℕ) → EndsAt point status between out → EndsReplay status
+    by None e = ends_so_behind EndsReplay NoPrefix status no_prefix_line between out source source_now sink sink_now tt e fault no_sink
+    by (Some p) e = subst EndsReplay (sym e.0) tt
+ends_found found status told out source source_now sink sink_now (inr t) fault no_sink = absurd (no_sink (subst (λ (s : Status). HasFault s source source_now sink sink_now) t.0 fault))
+
+ends_crash : (answer : Result Found ReplayRefusal) (status : Status) (told out : Option (List ℕ)) (source source_now sink sink_now : ℕ) → EndsCrash answer status told out → HasFault status source source_now sink sink_now
+    → ¬ Rose sink sink_now → EndsReplay status
+ends_crash (Ok found) status told out source source_now sink sink_now e fault no_sink = ends_found found status told out source source_now sink sink_now e fault no_sink
+ends_crash (Err crash.Choice) status told out source source_now sink sink_now e fault no_sink = ends_so_behind EndsReplay BadChoice status choice_line told out source source_now sink sink_now tt e fault no_sink
+ends_crash (Err (crash.Damaged damage)) status told out source source_now sink sink_now e fault no_sink = ends_so_behind EndsReplay Damaged status damaged_line told out source source_now sink sink_now tt e fault no_sink
+ends_crash (Err crash.Spent) status told out source source_now sink sink_now e fault no_sink = ends_so_behind EndsReplay Spent status spent_line told out source source_now sink sink_now tt e fault no_sink
+ends_crash (Err crash.NoMemory) status told out source source_now sink sink_now e fault no_sink = subst EndsReplay (sym e.0) tt
+
+pub completes_replay : (moment : ℕ) (choice : ChoiceState) (status : Status) (m : Met) → ReplaysTo moment choice status m → HasFault status m.source m.source_now m.sink m.sink_now
+    → ¬ Rose m.source m.source_now → ¬ Rose m.sink m.sink_now → EndsReplay status
+completes_replay moment choice status m r fault no_source no_sink = by r.told r.ends
+  where
+    by : (told : Result Contents TraceRefusal) → EndsReading moment choice told status m.taken m.taken_now → EndsReplay status
+    by (Ok c) e = ends_crash e.answer status m.taken m.taken_now m.source m.source_now m.sink m.sink_now e.ends fault no_sink
+    by (Err (reading.BadTrace line)) e = ends_so_behind EndsReplay BadTrace status (trace_line line) m.taken m.taken_now m.source m.source_now m.sink m.sink_now tt e fault no_sink
+    by (Err reading.SourceFault) (inl t) = absurd (no_source (subst (λ (s : Status). HasFault s m.source m.source_now m.sink m.sink_now) t.0 fault))
+    by (Err reading.SourceFault) (inr t) = absurd (no_sink (subst (λ (s : Status). HasFault s m.source m.source_now m.sink m.sink_now) t.0 fault))
+    by (Err reading.LongInput) e = ends_so_behind EndsReplay LongInput status long_line m.taken m.taken_now m.source m.source_now m.sink m.sink_now tt e fault no_sink
+    by (Err reading.NoMemory) e = subst EndsReplay (sym e.0) tt
+
+pub completes_show : (tells : Bool) (image : List ℕ) (status : Status) (m : Met) → ShowsTo tells image status m → HasFault status m.source m.source_now m.sink m.sink_now
+    → ¬ Rose m.sink m.sink_now → EndsShow (CountsFault m.bay m.bay_now) status
+completes_show tells image status m s fault no_sink = by s.answer s.cause s.ends
+  where
+    P : Type 0
+    P = CountsFault m.bay m.bay_now
+
+    by : (answer : Result (Unit {0}) ShowRefusal) → HasShowCause answer m.bay m.bay_now → EndsShowing answer status s.between m.taken_now → EndsShow P status
+    by (Ok x) cause e = subst (EndsShow P) (sym e.0) tt
+    by (Err show.Fault) cause e = ends_so_behind (EndsShow P) DiskFault status disk_line s.between m.taken_now m.source m.source_now m.sink m.sink_now cause e fault no_sink
+    by (Err (show.Damaged damage)) cause e = ends_so_behind (EndsShow P) Damaged status damaged_line s.between m.taken_now m.source m.source_now m.sink m.sink_now tt e fault no_sink
+    by (Err show.Spent) cause e = ends_so_behind (EndsShow P) Spent status spent_line s.between m.taken_now m.source m.source_now m.sink m.sink_now tt e fault no_sink
+    by (Err show.SinkFault) cause e = absurd (no_sink (subst (λ (x : Status). HasFault x m.source m.source_now m.sink m.sink_now) e.0 fault))
+    by (Err show.NoMemory) cause e = subst (EndsShow P) (sym e.0) tt
+
+completes_made : (tells : Bool) (image : List ℕ) (g : Geometry) (status : Status) (m : Met) → MakesTo tells image g status m → HasFault status m.source m.source_now m.sink m.sink_now
+    → ¬ Rose m.sink m.sink_now → EndsMake (CountsFault m.bay m.bay_now) status
+completes_made tells image g status m s fault no_sink = by s.answer s.cause s.ends
+  where
+    P : Type 0
+    P = CountsFault m.bay m.bay_now
+
+    by : (answer : Result (Unit {0}) MakeRefusal) → HasMakeCause answer m.bay m.bay_now → EndsMaking answer status m.taken m.taken_now → EndsMake P status
+    by (Ok x) cause e = subst (EndsMake P) (sym e.0) tt
+    by (Err make.Fault) cause e = ends_so_behind (EndsMake P) DiskFault status disk_line m.taken m.taken_now m.source m.source_now m.sink m.sink_now cause e fault no_sink
+    by (Err make.NoMemory) cause e = subst (EndsMake P) (sym e.0) tt
+
+pub completes_make : (fits tells : Bool) (image : List ℕ) (g : Geometry) (status : Status) (m : Met) → MakesWhere fits tells image g status m → HasFault status m.source m.source_now m.sink m.sink_now
+    → fits ≡ true → ¬ Rose m.sink m.sink_now → EndsMake (CountsFault m.bay m.bay_now) status
+completes_make true tells image g status m s fault does no_sink = completes_made tells image g status m s fault no_sink
+completes_make false tells image g status m s fault does no_sink = absurd (false≢true does)
+
+pub completes_load : (seed count : ℕ) (status : Status) (m : Met) → LoadsTo seed count status m.taken m.taken_now → HasFault status m.source m.source_now m.sink m.sink_now → ¬ Rose m.sink m.sink_now → EndsLoad status
+completes_load seed count status m (inl e) fault no_sink = ends_so_behind EndsLoad Done status (summary_text (summary_of seed count)) m.taken m.taken_now m.source m.source_now m.sink m.sink_now tt e fault no_sink
+completes_load seed count status m (inr e) fault no_sink = subst EndsLoad (sym e.0) tt
+
+pub completes_run : (tells : Bool) (image : List ℕ) (status : Status) (m : Met) → RunsTo tells image status m → HasFault status m.source m.source_now m.sink m.sink_now
+    → ¬ Rose m.source m.source_now → ¬ Rose m.sink m.sink_now → EndsRun (CountsFault m.bay m.bay_now) status
+completes_run tells image status m r fault no_source no_sink = by r.answer r.cause r.ends
+  where
+    P : Type 0
+    P = CountsFault m.bay m.bay_now
+
+    by : (answer : Result Ending RunRefusal) → HasRunCause answer m.bay m.bay_now → EndsScript answer status r.between m.taken_now → EndsRun P status
+    by (Ok script.End) cause e = subst (EndsRun P) (sym e.0) tt
+    by (Ok script.SourceFault) cause (inl t) = absurd (no_source (subst (λ (s : Status). HasFault s m.source m.source_now m.sink m.sink_now) t.0 fault))
+    by (Ok script.SourceFault) cause (inr t) = absurd (no_sink (subst (λ (s : Status). HasFault s m.source m.source_now m.sink m.sink_now) t.0 fault))
+    by (Ok script.LongInput) cause e = ends_so_behind (EndsRun P) LongInput status long_line r.between m.taken_now m.source m.source_now m.sink m.sink_now tt e fault no_sink
+    by (Err run.Fault) cause e = ends_so_behind (EndsRun P) DiskFault status disk_line r.between m.taken_now m.source m.source_now m.sink m.sink_now cause e fault no_sink
+    by (Err (run.Damaged damage)) cause e = ends_so_behind (EndsRun P) Damaged status damaged_line r.between m.taken_now m.source m.source_now m.sink m.sink_now tt e fault no_sink
+    by (Err run.Spent) cause e = ends_so_behind (EndsRun P) Spent status spent_line r.between m.taken_now m.source m.source_now m.sink m.sink_now tt e fault no_sink
+    by (Err run.SinkFault) cause e = absurd (no_sink (subst (λ (s : Status). HasFault s m.source m.source_now m.sink m.sink_now) e.0 fault))
+    by (Err run.NoMemory) cause e = subst (EndsRun P) (sym e.0) tt

@@ -1,0 +1,417 @@
+-- A run so far as a trace: what is served by it, and how it may go on, whatever commands come.
+use Rattle.std.proofs.Common.{◌≡◌, inl, inr, ℕ, zero, suc, ◌^◌, ◌<◌, ◌≤◌, nat_le, Bool, true, false, if◌then◌else◌, List, [], ◌∷◌, ◌++◌, length, take, take_all, drop, Some, refl, sym, ap, ap₂, ◌∙◌, subst, arith, append_assoc, append-nil}
+use Rattle.std.proofs.Math.Logic.{∥∥₁_map}
+use Rattle.std.proofs.lemmas.List.{take-append-le}
+use Rattle.std.specs.List.{slice_get}
+use Rattle.std.proofs.lemmas.Bool.{and_parts, or_parts}
+use Rattle.std.proofs.lemmas.Bool.Decides.{nat_tests}
+use Rattle.base_types.specs.Seal.{Blocks}
+use Rattle.disk_contract.specs.declared.event.Event.{Event}
+use Rattle.disk_contract.specs.Disk.{Grows, writes_in}
+use Rattle.disk_contract.specs.Lawful.{IsLogOf}
+use Rattle.disk_contract.specs.Manner.{Manner}
+use Rattle.layout_geometry.specs.Geometry.{Geometry, geometry_fits, bitmap_blocks}
+use Rattle.layout_journal.specs.Formatted.{formatted}
+use Rattle.crash_argument.specs.Counts.{AreAtMost}
+use Rattle.crash_argument.specs.Ledger.{issued}
+use Rattle.disk_memory.specs.Log.{has_lost}
+use Rattle.lang_script.specs.Text.{command_text}
+use Rattle.lang_script.specs.Values.{IsCommand, IsReply}
+use Rattle.cmd_trace.specs.Contents.{Each, front_of}
+use Rattle.cmd_trace.specs.Line.{command_line, geometry_line, event_lines}
+use Rattle.cmd_trace.specs.Trace.{Ascend, entry}
+use Rattle.lang_tree.specs.declared.command.Cmd.{Cmd}
+use Rattle.lang_tree.specs.declared.command.Cmd.TheVariants.{Mkdir, Create, Write, Fill, Read, Truncate, Link, Unlink, Rmdir, Rename, Stat, List as ListNames, Osync, Dsync, Durable, Poll, Bad}
+use Rattle.lang_tree.specs.declared.command.Refusal.TheVariants.{DiskFault, Stopped}
+use Rattle.lang_tree.specs.declared.command.Reply.{Reply}
+use Rattle.lang_tree.specs.declared.command.Reply.TheVariants.{Bad as NotUnderstood, Refused}
+use Rattle.lang_tree.specs.Step.{Session, start, session_on}
+use Rattle.lang_tree.specs.Tree.{Tree}
+use Rattle.engine_blocks.specs.State.{State}
+use Rattle.fs_commands.specs.Serving.{RoomOn, room_on}
+use Rattle.fs_commands.specs.DiskRoom.{AnswersOn, ComesBack, IsRoomOf, KeepsRoom, RunsOn}
+use Rattle.fs_commands.specs.Memory.{room_of}
+use Rattle.fs_commands.specs.Room.{Room, IsFirstRoom}
+use Rattle.fs_commands.specs.Sessions.{IsSession}
+use Rattle.cmd_session.specs.Budget.{KeepsBudget, SpendsByMarks, budget_of}
+use Rattle.cmd_session.specs.Crashes.{LeavesPoints, IsCrashConsistent}
+use Rattle.cmd_session.specs.Ending.{HasRun, is_none, over_after, ending_reply, ending_replies, ending_marks}
+use Rattle.cmd_session.specs.Histories.{last_mark, session_after}
+use Rattle.cmd_session.specs.Issued.{IssuesLast}
+use Rattle.cmd_session.specs.Records.{own_records}
+use Rattle.cmd_record.specs.Disks.{IsOpened}
+use Rattle.cmd_record.specs.Behaving.{Span, is_fault, makes_point, nothing_taken, session_by}
+use Rattle.cmd_record.specs.Mounts.{MountsOnce}
+use Rattle.cmd_record.specs.Traces.{Serves, ServesBy, Setting, says}
+use Rattle.cmd_record.specs.Running.{AnsweredIn, Ran, PacedRun, Records, GoesOnWith, RunLaws, KnownRun, IsAnswered, pace_of}
+use Rattle.cmd_record.proofs.Entries.{front_on, one_entry, first_line}
+use Rattle.cmd_record.proofs.MountLemmas.{honest_alike}
+use Rattle.cmd_record.proofs.Paces.{Waits, over_now, paced_on}
+use Rattle.cmd_record.proofs.Placed.{one_more, placed_first, placed_in}
+use Rattle.cmd_record.proofs.Rooms.{answered_by, room_first}
+use Rattle.cmd_record.proofs.Waiting.{calm_on, done_fits, hears_on, idle_on, keeps_at_first, keeps_on, knows_on, own_begun, ring_on, spends_on, unwritten_on}
+
+-- Runs joined.
+
+runs_on : (g : Geometry) (f t u : Session) (r q v : Room) (cmds : List Cmd) (replies : List Reply) (more : List Cmd) (later : List Reply)
+    → RunsOn g f r cmds replies t q → RunsOn g t q more later u v → RunsOn g f r (cmds ++ more) (replies ++ later) u v
+runs_on g f t u r q v [] [] more later run next = subst (λ x. RunsOn g x r more later u v) run.0 (subst (λ y. RunsOn g t y more later u v) run.1 next)
+runs_on g f t u r q v [] (x ∷ replies) more later run next = absurd run
+runs_on g f t u r q v (c ∷ cmds) [] more later run next = absurd run
+runs_on g f t u r q v (c ∷ cmds) (x ∷ replies) more later run next = (run.0, run.1, run.2, runs_on g run.0 t u run.1 q v cmds replies more later run.3 next)
+
+pub each_append : {A : Type 0} (P : A → Type 0) (xs ys : List A) → Each P xs → Each P ys → Each P (xs ++ ys)
+each_append P [] ys h k = k
+each_append P (x ∷ xs) ys h k = (h.0, each_append P xs ys h.1 k)
+
+-- A run that ends at once, in its room.
+
+back_at_once : (g : Geometry) (f : Session) (r : Room) → IsRoomOf g f r → ComesBack g f r r
+back_at_once g f r is = record { weight = refl; held = refl; keeps = record { places = refl; takeable = λ b h. h }; is_room = is }
+
+module _ (g : Geometry) (f : Session) (r : Room) (is : IsRoomOf g f r) where
+  kept : KeepsRoom r r
+  kept = record { places = refl; takeable = λ b h. h }
+
+  -- a command is refused as the disk fails, or as it failed before; a line that is none is told to be so
+  ends_in_room : (over : Bool) (cmd : Cmd) → AnswersOn g f r cmd (ending_reply over cmd) f r
+  ends_in_room over Bad = (refl, refl)
+  ends_in_room true Osync = inl (Stopped, inl refl, refl, refl, refl)
+  ends_in_room true Dsync = inl (Stopped, inl refl, refl, refl, refl)
+  ends_in_room true Durable = inl (Stopped, inl refl, refl, refl, refl)
+  ends_in_room true Poll = inl (Stopped, inl refl, refl, refl, refl)
+  ends_in_room true (Mkdir path) = inl (Stopped, inl refl, refl, refl, refl)
+  ends_in_room true (Create path) = inl (Stopped, inl refl, refl, refl, refl)
+  ends_in_room true (Write path offset bytes) = inl (Stopped, inl refl, refl, refl, refl)
+  ends_in_room true (Fill path offset count byte) = inl (Stopped, inl refl, refl, refl, refl)
+  ends_in_room true (Read path offset count) = inl (Stopped, inl refl, refl, refl, refl)
+  ends_in_room true (Truncate path size) = inl (Stopped, inl refl, refl, refl, refl)
+  ends_in_room true (Link path other) = inl (Stopped, inl refl, refl, refl, refl)
+  ends_in_room true (Unlink path) = inl (Stopped, inl refl, refl, refl, refl)
+  ends_in_room true (Rmdir path) = inl (Stopped, inl refl, refl, refl, refl)
+  ends_in_room true (Rename from to) = inl (Stopped, inl refl, refl, refl, refl)
+  ends_in_room true (Stat path) = inl (Stopped, inl refl, refl, refl, refl)
+  ends_in_room true (ListNames path) = inl (Stopped, inl refl, refl, refl, refl)
+  ends_in_room false Osync = inr (record { back = r; comes_back = back_at_once g f r is; answers = inr (inr (refl, refl, kept)); is_room = is })
+  ends_in_room false Dsync = inr (record { back = r; comes_back = back_at_once g f r is; answers = inr (inr (refl, refl, kept)); is_room = is })
+  ends_in_room false Durable = inr (record { back = r; comes_back = back_at_once g f r is; answers = inr (DiskFault, inl refl, refl, refl, refl); is_room = is })
+  ends_in_room false Poll = inr (record { back = r; comes_back = back_at_once g f r is; answers = inr (DiskFault, inl refl, refl, refl, refl); is_room = is })
+  ends_in_room false (Mkdir path) = inr (record { back = r; comes_back = back_at_once g f r is; answers = inr (DiskFault, inl refl, refl, refl, refl); is_room = is })
+  ends_in_room false (Create path) = inr (record { back = r; comes_back = back_at_once g f r is; answers = inr (DiskFault, inl refl, refl, refl, refl); is_room = is })
+  ends_in_room false (Write path offset bytes) = inr (record { back = r; comes_back = back_at_once g f r is; answers = inr (DiskFault, inl refl, refl, refl, refl); is_room = is })
+  ends_in_room false (Fill path offset count byte) = inr (record { back = r; comes_back = back_at_once g f r is; answers = inr (DiskFault, inl refl, refl, refl, refl); is_room = is })
+  ends_in_room false (Read path offset count) = inr (record { back = r; comes_back = back_at_once g f r is; answers = inr (DiskFault, inl refl, refl, refl, refl); is_room = is })
+  ends_in_room false (Truncate path size) = inr (record { back = r; comes_back = back_at_once g f r is; answers = inr (DiskFault, inl refl, refl, refl, refl); is_room = is })
+  ends_in_room false (Link path other) = inr (record { back = r; comes_back = back_at_once g f r is; answers = inr (DiskFault, inl refl, refl, refl, refl); is_room = is })
+  ends_in_room false (Unlink path) = inr (record { back = r; comes_back = back_at_once g f r is; answers = inr (DiskFault, inl refl, refl, refl, refl); is_room = is })
+  ends_in_room false (Rmdir path) = inr (record { back = r; comes_back = back_at_once g f r is; answers = inr (DiskFault, inl refl, refl, refl, refl); is_room = is })
+  ends_in_room false (Rename from to) = inr (record { back = r; comes_back = back_at_once g f r is; answers = inr (DiskFault, inl refl, refl, refl, refl); is_room = is })
+  ends_in_room false (Stat path) = inr (record { back = r; comes_back = back_at_once g f r is; answers = inr (DiskFault, inl refl, refl, refl, refl); is_room = is })
+  ends_in_room false (ListNames path) = inr (record { back = r; comes_back = back_at_once g f r is; answers = inr (DiskFault, inl refl, refl, refl, refl); is_room = is })
+
+  all_end : (over : Bool) (cmds : List Cmd) → RunsOn g f r cmds (ending_replies over cmds) f r
+  all_end over [] = (refl, refl)
+  all_end over (cmd ∷ cmds) = (f, r, ends_in_room over cmd, all_end (over_after over cmd) cmds)
+
+-- such a reply may be written
+reply_ends : (none over : Bool) → IsReply (if none then NotUnderstood else Refused (if over then Stopped else DiskFault))
+reply_ends true over = tt
+reply_ends false true = tt
+reply_ends false false = tt
+
+replies_end : (over : Bool) (cmds : List Cmd) → Each IsReply (ending_replies over cmds)
+replies_end over [] = tt
+replies_end over (cmd ∷ cmds) = (reply_ends (is_none cmd) over, replies_end (over_after over cmd) cmds)
+
+-- What is served.
+
+pub small : (g : Geometry) → geometry_fits g ≡ true → (g.n ≤ 1048576) × (g.j ≤ 65536) × (g.i ≤ 65536)
+unfolding geometry_fits
+small g fits =
+    let n = and_parts (nat_le 64 g.n) _ fits in
+    let low_n = and_parts (nat_le g.n 1048576) _ n.1 in
+    let j = and_parts (nat_le 16 g.j) _ low_n.1 in
+    let low_j = and_parts (nat_le g.j 65536) _ j.1 in
+    let i = and_parts (nat_le 16 g.i) _ low_j.1 in
+    let low_i = and_parts (nat_le g.i 65536) _ i.1 in
+    (below g.n 1048576 low_n.0, below g.j 65536 low_j.0, below g.i 65536 low_i.0)
+  where
+    below : (a b : ℕ) → nat_le a b ≡ true → a ≤ b
+    below a b h = grind (arith, nat_tests)
+
+-- A run on a disk that began with these blocks, which are the formatted disk's, in its room.
+pub record RunsOf (g : Geometry) (base : Blocks) (log : List Event) (mounted : ℕ) (cmds : List Cmd) (replies : List Reply) (marks : List ℕ) : Type 0 where
+  pub run : HasRun g (start g.i).tree base log mounted cmds replies marks
+  pub first : Room
+  pub empty : IsFirstRoom g first
+  pub after : Session
+  pub room : Room
+  pub rooms : RunsOn g (start g.i) first cmds replies after room
+  pub most : AreAtMost mounted log (budget_of (bitmap_blocks g) (start g.i) 0 cmds replies)
+  pub spends : SpendsByMarks g (start g.i) mounted log cmds replies marks
+  pub same : (b : ℕ) → b < g.n → base b ≡ formatted g b
+  pub fits : geometry_fits g ≡ true
+  pub lawful : IsLogOf g.n log
+  pub events : length log < 2 ^ 64
+  pub answers : Each IsReply replies
+
+module _ (g : Geometry) (laws : RunLaws g) (base : Blocks) (log : List Event) (mounted : ℕ) (cmds : List Cmd) (replies : List Reply) (marks : List ℕ) (r : RunsOf g base log mounted cmds replies marks) where
+  points_left : LeavesPoints g.n (formatted g) (start g.i) log mounted cmds replies marks
+  points_left = record { each = λ k img upto honest. r.run.crashes.each k img upto (honest_alike g.n (formatted g) base (take k log) img (λ b low. sym (r.same b low)) honest) }
+
+  consistent : IsCrashConsistent g.n g.i (formatted g) log mounted cmds replies marks
+  consistent = record {
+    points = λ t stands. subst (λ (x : Tree). LeavesPoints g.n (formatted g) (session_on g.i x) log mounted cmds replies marks) (laws.one g.n (formatted g) (start g.i).tree t laws.root stands) points_left;
+    none = λ none. absurd (none (start g.i).tree laws.root);
+  }
+
+  issued_alike : (es : List Event) (b : ℕ) → b < g.n → issued base es b ≡ issued (formatted g) es b
+  issued_alike es b low = ap (λ (x : List ℕ). issued (λ _. x) es b) (r.same b low)
+
+  issued_last : IssuesLast g.n (formatted g) (start g.i) log mounted cmds replies marks
+  issued_last = record {
+    each = λ i upto none. ∥∥₁_map (r.run.issued.each i upto none) (λ one. record {
+      point = one.point;
+      is = one.is;
+      stands = laws.alike g.n (issued base (take (last_mark mounted (take i marks)) log)) (issued (formatted g) (take (last_mark mounted (take i marks)) log)) one.point.tree (issued_alike (take (last_mark mounted (take i marks)) log)) one.stands;
+    });
+  }
+
+  pub serves : Each IsCommand cmds → Serves g cmds (front_of (says g log mounted cmds replies marks))
+  serves commands =
+      let low = small g r.fits in
+      record {
+        log = log;
+        mounted = mounted;
+        replies = replies;
+        marks = marks;
+        first = r.first;
+        after = r.after;
+        room = r.room;
+        lawful = record {
+          blocks = omega (arith, low.0);
+          journal = omega (arith, low.1);
+          nodes = omega (arith, low.2);
+          log = r.lawful;
+          events = r.events;
+          cmds = commands;
+          replies = r.answers;
+          each_answered = r.run.answered;
+          each_marked = r.run.marked;
+          ascend = r.run.ascend;
+        };
+        empty = r.empty;
+        run = r.rooms;
+        stops = r.run.stops;
+        begins = laws.root;
+        consistent = consistent;
+        issued = issued_last;
+        budget = r.most;
+        spends = r.spends;
+        is = refl;
+      }
+
+module _ (set : Setting) (laws : RunLaws set.shape) (s : State) (mounted : ℕ) (cmds : List Cmd) (replies : List Reply) (marks : List ℕ) (ran : Ran set.shape mounted cmds replies marks s) (paced : PacedRun set.shape set.manner mounted cmds replies marks s) (known : KnownRun set.shape s mounted cmds replies marks) where
+  abbrev g : Geometry
+  g = set.shape
+
+  abbrev later : List Cmd → List Reply
+  later more = ending_replies s.books.stopped more
+
+  ending : (more : List Cmd) → RunsOf g s.crash.base s.crash.log mounted (cmds ++ more) (replies ++ later more) (marks ++ ending_marks (length s.crash.log) more)
+  ending more = record {
+    run = known.ends more;
+    first = ran.first;
+    empty = ran.empty;
+    after = ran.after;
+    room = room_of s;
+    rooms = runs_on g (start g.i) ran.after ran.after ran.first (room_of s) (room_of s) cmds replies more (later more) ran.rooms (all_end g ran.after (room_of s) (known.room ran.after ran.session) s.books.stopped more);
+    most = record { each = λ k from upto. omega (arith, known.most.each k from upto, laws.budget cmds replies more (later more) ran.served.answered) };
+    spends = known.spends more;
+    same = ran.base;
+    fits = ran.fits;
+    lawful = ran.lawful;
+    events = ran.events;
+    answers = each_append IsReply replies (later more) ran.answers (replies_end s.books.stopped more);
+  }
+
+  abbrev text : List ℕ
+  text = front_of (says set.shape s.crash.log mounted cmds replies marks)
+
+  here : Each IsCommand cmds → Serves g cmds text
+  here = serves g laws s.crash.base s.crash.log mounted cmds replies marks (record {
+    run = record { run = ran.served.run; stops = ran.served.stops; answered = ran.served.answered; marked = ran.served.marked; ascend = ran.served.ascend; crashes = ran.served.crashes; issued = ran.served.issued };
+    first = ran.first;
+    empty = ran.empty;
+    after = ran.after;
+    room = room_of s;
+    rooms = ran.rooms;
+    most = known.most;
+    spends = ran.spends;
+    same = ran.base;
+    fits = ran.fits;
+    lawful = ran.lawful;
+    events = ran.events;
+    answers = ran.answers;
+  })
+
+  here_by : Each IsCommand cmds → ServesBy set cmds text
+  unfolding here serves
+  here_by commands = record { served = here commands; goes = record { writes = paced.writes; last = pace_of paced.taken s; paces = paced.paces; opens = paced.opens; mounts = paced.mounts; once = paced.once; unspent = paced.unspent } }
+
+  goes_on : (cmd : Cmd) (more : List Cmd) → GoesOnWith g cmds text cmd more
+  goes_on cmd more =
+      let log = s.crash.log in
+      let line = first_line log (length log) cmd more (ending_reply s.books.stopped cmd) (ending_replies (over_after s.books.stopped cmd) more) (length log) (ending_marks (length log) more) in
+      let all = front_on g log log [] mounted cmds replies marks (cmd ∷ more) (later (cmd ∷ more)) (ending_marks (length log) (cmd ∷ more)) (sym (append-nil log)) ran.served.answered ran.served.marked ran.served.ascend in
+      record {
+        rest = line.0;
+        served = λ lawful. subst (λ (xs : List ℕ). Serves g (cmds ++ cmd ∷ more) xs)
+            (all ∙ ap (λ (xs : List ℕ). text ++ xs) line.1 ∙ sym (append_assoc text (command_line (command_text cmd)) line.0))
+            (serves g laws s.crash.base log mounted (cmds ++ cmd ∷ more) (replies ++ later (cmd ∷ more)) (marks ++ ending_marks (length log) (cmd ∷ more)) (ending (cmd ∷ more)) lawful);
+      }
+
+  pub records : Records set cmds text s
+  records = record { mounted = mounted; replies = replies; marks = marks; ran = ran; paced = paced; is = refl; served = here_by; ends = goes_on }
+
+-- One command more.
+
+module _ (cmd : Cmd) (reply : Reply) (old new : State) (a : IsAnswered cmd reply old new) (lawful : IsReply reply) (g : Geometry) (mounted : ℕ) (cmds : List Cmd) (replies : List Reply) (marks : List ℕ) (ran : Ran g mounted cmds replies marks old) where
+  geom_is : new.books.geom ≡ g
+  geom_is = (a.room ran.after ran.session).2 ∙ ran.served.geom
+
+  mount_same : take mounted new.crash.log ≡ take mounted old.crash.log
+  mount_same = ap (λ (es : List Event). take mounted es) a.grows.log ∙ take_front mounted old.crash.log a.grows.more (from_le mounted marks (length old.crash.log) ran.served.ascend)
+    where
+      from_le : (from : ℕ) (ms : List ℕ) (events : ℕ) → Ascend from ms events → from ≤ events
+      from_le from [] events up = omega (arith, up)
+      from_le from (m ∷ ms) events up = omega (arith, up.0, from_le m ms events up.1)
+
+      take_front : (n : ℕ) (xs ys : List Event) → n ≤ length xs → take n (xs ++ ys) ≡ take n xs
+      take_front n xs ys le = take-append-le n xs ys le
+
+  budget_on : KeepsBudget g (start g.i).tree (writes_in (take mounted new.crash.log)) (cmds ++ cmd ∷ []) (replies ++ reply ∷ []) new
+  budget_on = subst (λ (es : List Event). KeepsBudget g (start g.i).tree (writes_in es) (cmds ++ cmd ∷ []) (replies ++ reply ∷ []) new) (sym mount_same)
+      (a.budget g (start g.i).tree mounted (writes_in (take mounted old.crash.log)) cmds replies marks ran.served ran.budget)
+
+  pub ran_on : Ran g mounted (cmds ++ cmd ∷ []) (replies ++ reply ∷ []) (marks ++ length new.crash.log ∷ []) new
+  ran_on =
+      let answered = a.room ran.after ran.session in
+      record {
+        served = a.serves g (start g.i).tree mounted cmds replies marks ran.served;
+        first = ran.first;
+        empty = ran.empty;
+        after = answered.0;
+        session = answered.1;
+        rooms = runs_on g (start g.i) ran.after answered.0 ran.first (room_of old) (room_of new) cmds replies (cmd ∷ []) (reply ∷ []) ran.rooms
+            (answered.0, room_of new, subst (λ (k : Geometry). AnswersOn k ran.after (room_of old) cmd reply answered.0 (room_of new)) ran.served.geom answered.3, (refl, refl));
+        budget = budget_on;
+        spends = a.spends g (start g.i).tree mounted cmds replies marks ran.served budget_on ran.spends;
+        base = λ b low. ap (λ (m : Blocks). m b) a.base ∙ ran.base b low;
+        fits = ran.fits;
+        lawful = subst (λ (k : Geometry). IsLogOf k.n new.crash.log) geom_is a.lawful;
+        events = a.events;
+        answers = each_append IsReply replies (reply ∷ []) ran.answers (lawful, tt);
+      }
+
+-- the text of the longer run is that so far, and the command's entry behind it
+pub text_on : (g : Geometry) (old new : List Event) (mounted : ℕ) (cmds : List Cmd) (replies : List Reply) (marks : List ℕ) (cmd : Cmd) (reply : Reply) → Grows old new → length cmds ≡ length replies → length marks ≡ length replies → Ascend mounted marks (length old)
+    → front_of (says g new mounted (cmds ++ cmd ∷ []) (replies ++ reply ∷ []) (marks ++ length new ∷ [])) ≡ front_of (says g old mounted cmds replies marks) ++ entry (drop (length old) new) cmd reply (length new)
+text_on g old new mounted cmds replies marks cmd reply grows answered marked up =
+    front_on g new old grows.more mounted cmds replies marks (cmd ∷ []) (reply ∷ []) (length new ∷ []) grows.log answered marked up
+    ∙ ap (λ (xs : List ℕ). front_of (says g old mounted cmds replies marks) ++ xs) (one_entry new old grows.more cmd reply grows.log)
+
+-- The recording with one command more: its text is that so far, and behind it the entry.
+pub records_on : (cmd : Cmd) (reply : Reply) (old new : State) → IsAnswered cmd reply old new → ((g : Geometry) → geometry_fits g ≡ true → RunLaws g)
+    → ((g : Geometry) (mounted : ℕ) (cmds : List Cmd) (replies : List Reply) (marks : List ℕ) → Ran g mounted cmds replies marks new → KnownRun g new mounted cmds replies marks) → IsReply reply
+    → (set : Setting) (past : List Cmd) (text : List ℕ) → Records set past text old → Records set (past ++ cmd ∷ []) (text ++ entry (drop (length old.crash.log) new.crash.log) cmd reply (length new.crash.log)) new
+records_on cmd reply old new a laws known lawful set past text r =
+    let g = set.shape in
+    let ran = ran_on cmd reply old new a lawful g r.mounted past r.replies r.marks r.ran in
+    let over = over_now cmd reply old new a.steps a.grows r.replies r.ran.served.goes_on.ended ran.served.goes_on.ended ran.served.goes_on.going in
+    let f = session_after (start g.i) past r.replies in
+    let in_room = a.rooms f r.ran.served.goes_on.session in
+    let room : AnsweredIn f cmd reply in_room.0 old new = in_room.1 in
+    let ses = session_by g r.mounted in
+    let alone : old.counts.ticks.manner.waits_alone ≡ true = ap (λ (m : Manner). m.waits_alone) r.paced.manner ∙ r.paced.alone in
+    let mine = own_begun cmd reply old new a.waits a.grows g r.mounted past r.replies r.marks r.ran.served ran.served r.ran.budget.weight over r.paced.taken r.paced.keeps r.paced.records r.paced.within in_room.0 room alone in
+    let rests : old.books.stopped ≡ true → new.crash.log ≡ old.crash.log = λ stopped. (a.steps.rests (inr stopped)).1.0 in
+    let keeps = keeps_on cmd reply old new a.waits a.grows g r.mounted past r.replies r.marks r.ran.served ran.served r.ran.budget.weight over r.paced.taken r.paced.keeps r.paced.records r.paced.within in_room.0 room alone mine.0 mine.1 rests in
+    let late : Span = record { begun = mine.0; mark = length new.crash.log } in
+    let own = own_records ses new.crash.log (length room.behind) (length new.crash.log) in
+    let asked : IsSession old r.paced.taken.session = subst (λ (x : Session). IsSession old x) (sym r.paced.keeps.session) r.ran.served.goes_on.session in
+    let placed = placed_in g (laws g r.ran.fits) r.paced.taken.session (length r.paced.taken.spans) cmd reply old new a.points r.ran.served.geom asked (a.waits.room r.paced.taken.session asked) (a.room r.paced.taken.session asked)
+    (λ going. (or_parts old.books.stopped (is_fault reply) (sym over ∙ going)).0) r.paced.keeps.spans (λ going. sym (one_more r.paced.taken.spans late (makes_point r.paced.taken.session cmd reply)) ∙ keeps.spans going) ran.base r.paced.placed in
+    let waits : Waits cmd reply old new a.steps a.grows r.replies r.ran.served.goes_on.ended ran.served.goes_on.ended ran.served.goes_on.going g r.mounted r.paced.taken room.behind mine.0 = record {
+      from = mine.1.from;
+      ring = ring_on cmd reply old new a.waits a.grows g r.mounted past r.replies r.marks r.ran.served ran.served r.ran.budget.weight over r.paced.taken r.paced.keeps r.paced.records r.paced.within in_room.0 room alone;
+      written = mine.1.written;
+      idle = idle_on cmd reply old new a.waits a.grows g r.mounted past r.replies r.marks r.ran.served ran.served r.ran.budget.weight over r.paced.taken r.paced.keeps r.paced.records r.paced.within in_room.0 room alone;
+      unwritten = unwritten_on cmd reply old new a.waits a.grows g r.mounted past r.replies r.marks r.ran.served ran.served r.ran.budget.weight over r.paced.taken r.paced.keeps r.paced.records r.paced.within in_room.0 room alone;
+      calm = calm_on cmd reply old new a.waits a.grows g r.mounted past r.replies r.marks r.ran.served ran.served r.ran.budget.weight over r.paced.taken r.paced.keeps r.paced.records r.paced.within in_room.0 room alone a.steps.ticks;
+      hears = hears_on cmd reply old new a.waits a.grows g r.mounted past r.replies r.marks r.ran.served ran.served r.ran.budget.weight over r.paced.taken r.paced.keeps r.paced.records r.paced.within in_room.0 room alone mine.0 mine.1 a.lawful.lawful;
+      knows = knows_on cmd reply old new a.waits a.grows g r.mounted past r.replies r.marks r.ran.served ran.served r.ran.budget.weight over r.paced.taken r.paced.keeps r.paced.records r.paced.within in_room.0 room alone;
+      told = λ n asks said. (a.waits.known n asks said).0;
+      rises = a.waits.floor;
+      spends = spends_on cmd reply old new a.waits a.grows g r.mounted past r.replies r.marks r.ran.served ran.served r.ran.budget.weight over r.paced.taken r.paced.keeps r.paced.records r.paced.within in_room.0 room alone mine.0 mine.1 rests;
+      placed = placed;
+    } in
+    let fits = done_fits cmd reply old new a.waits a.grows g r.mounted past r.replies r.marks r.ran.served ran.served r.ran.budget.weight over r.paced.taken r.paced.keeps r.paced.records r.paced.within in_room.0 room alone set.manner in
+    let by = answered_by g (laws g r.ran.fits) set.manner ses refl r.paced.taken old r.paced.manner r.paced.sure cmd reply new f in_room.0 room own late a.grows r.ran.served.geom r.paced.keeps.session fits in
+    let paced = paced_on cmd reply old new a.steps a.grows r.replies r.ran.served.goes_on.ended ran.served.goes_on.ended ran.served.goes_on.going g set.manner r.ran.after r.mounted past r.marks r.ran.session r.ran.served.ascend r.paced room.behind mine.0 room.goes_on waits by.0 by.1 a.sure a.records keeps in
+    subst (λ (xs : List ℕ). Records set (past ++ cmd ∷ []) xs new)
+    (text_on g old.crash.log new.crash.log r.mounted past r.replies r.marks cmd reply a.grows r.ran.served.answered r.ran.served.marked r.ran.served.ascend
+    ∙ ap (λ (xs : List ℕ). xs ++ entry (drop (length old.crash.log) new.crash.log) cmd reply (length new.crash.log)) (sym r.is))
+    (records set (laws g r.ran.fits) new r.mounted (past ++ cmd ∷ []) (r.replies ++ reply ∷ []) (r.marks ++ length new.crash.log ∷ []) ran paced
+    (known g r.mounted (past ++ cmd ∷ []) (r.replies ++ reply ∷ []) (r.marks ++ length new.crash.log ∷ []) ran))
+
+none_is : {A : Type 0} (i : ℕ) (x : A) → slice_get [] i ≡ Some x → ⊥
+none_is zero x is = cc
+none_is (suc i) x is = cc
+
+-- The first moment of a recording: the mount's events, and no command.
+
+pub front_at_first : (g : Geometry) (log : List Event) → front_of (says g log (length log) [] [] []) ≡ geometry_line g ++ event_lines log
+front_at_first g log = append-nil (geometry_line g ++ event_lines (take (length log) log)) ∙ ap (λ (es : List Event). geometry_line g ++ event_lines es) (take_all (length log) log (omega arith))
+
+pub at_first : (set : Setting) (s : State) → geometry_fits set.shape ≡ true → IsOpened set s → ((k : Geometry) → geometry_fits k ≡ true → RunLaws k)
+    → ((k : Geometry) (mounted : ℕ) (cmds : List Cmd) (replies : List Reply) (marks : List ℕ) → Ran k mounted cmds replies marks s → KnownRun k s mounted cmds replies marks)
+    → Records set [] (geometry_line set.shape ++ event_lines s.crash.log) s
+at_first set s fits opened laws known =
+    let g = set.shape in
+    let ran : Ran g (length s.crash.log) [] [] [] s = record {
+      served = opened.served;
+      first = room_of s;
+      empty = opened.room;
+      after = start g.i;
+      session = opened.served.goes_on.session;
+      rooms = (refl, refl);
+      budget = subst (λ (es : List Event). KeepsBudget g (start g.i).tree (writes_in es) [] [] s) (sym (take_all (length s.crash.log) s.crash.log (omega arith))) opened.budget;
+      spends = (laws g fits).spends s.crash.log;
+      base = opened.base;
+      fits = fits;
+      lawful = opened.lawful;
+      events = opened.events;
+      answers = tt;
+    } in
+    let paced : PacedRun g set.manner (length s.crash.log) [] [] [] s = record {
+      manner = opened.manner;
+      writes = opened.writes;
+      taken = nothing_taken g;
+      keeps = keeps_at_first g s opened.owed (omega (arith, opened.served.goes_on.exact (opened.served.goes_on.going (λ i is. none_is i _ is)))) opened.may;
+      paces = ap₂ (λ (n : ℕ) (over : Bool). record { polls = n; events = length s.crash.log; over = over; durable = s.books.floor; taken = nothing_taken g; room = room_on s }) opened.polls (opened.served.goes_on.going (λ i is. none_is i _ is))
+          ∙ ap₂ (λ (n : ℕ) (r : RoomOn). record { polls = 0; events = length s.crash.log; over = false; durable = n; taken = nothing_taken g; room = r }) opened.floor (room_first g s opened.room opened.since);
+      records = opened.records;
+      sure = opened.sure;
+      opens = opened.opens;
+      alone = opened.alone;
+      mounts = ap has_lost (take_all (length s.crash.log) s.crash.log (omega arith)) ∙ opened.unlost;
+      once = subst (MountsOnce g) (sym (take_all (length s.crash.log) s.crash.log (omega arith))) opened.once;
+      placed = placed_first g (laws g fits).places.limits (start g.i) s opened.served.geom (omega (arith, opened.served.goes_on.exact (opened.served.goes_on.going (λ i is. none_is i _ is)))) opened.only;
+      within = omega arith;
+      uncounted = λ going. opened.faults;
+      unlost = λ going. opened.unlost;
+      turns = omega (arith, opened.turns);
+      unspent = λ i few is. none_is i _ is;
+    } in
+    subst (λ (xs : List ℕ). Records set [] xs s) (front_at_first g s.crash.log) (records set (laws g fits) s (length s.crash.log) [] [] [] ran paced (known g (length s.crash.log) [] [] [] ran))

@@ -1,0 +1,225 @@
+-- What a run has taken by its log, and what it may have taken by its weights and needs.
+use Rattle.std.proofs.Common.{◌≡◌, ◌≢◌, ◌⊎◌, inl, inr, ℕ, zero, suc, ◌+◌, ◌-◌, ◌≤◌, ◌==◌, ◌&&◌, not, nat_le, if◌then◌else◌, Bool, true, false, List, [], ◌∷◌, ◌++◌, length, take, drop, refl, sym, ap, ◌∙◌, arith}
+use Rattle.std.proofs.Math.Logic.{∥∥₁_map}
+use Rattle.std.proofs.Math.Seq.{take-take}
+use Rattle.std.proofs.lemmas.Bool.Decides.{nat_tests}
+use Rattle.std.proofs.lemmas.Bool.{cases_Bool, cond-true, cond-false, eq-eqb, or_left, or_parts, or_right}
+use Rattle.std.proofs.lemmas.List.{take-append-drop}
+use Rattle.std.proofs.lemmas.List.FromFn.{length-range_with_len}
+use Rattle.std.specs.List.{filter}
+use Rattle.disk_contract.specs.declared.event.Event.{Event}
+use Rattle.disk_contract.specs.declared.event.Event.TheVariants.{Wrote, Lost, Noticed}
+use Rattle.disk_contract.specs.Cell.{cell_of}
+use Rattle.disk_contract.specs.Disk.{writes_in}
+use Rattle.disk_contract.specs.Manner.{Manner}
+use Rattle.layout_geometry.specs.Geometry.{Geometry, data_start}
+use Rattle.layout_journal.specs.Formatted.{formatted}
+use Rattle.layout_journal.specs.declared.header.Header.{Header}
+use Rattle.layout_journal.specs.declared.record.Commit.{Commit}
+use Rattle.layout_journal.specs.Run.{places_from, places_told}
+use Rattle.crash_argument.specs.Points.{MountedSession, commits_told}
+use Rattle.engine_checkpoint.specs.Serving.{IsNewestAtRest}
+use Rattle.lang_tree.specs.declared.command.Cmd.{Cmd}
+use Rattle.lang_tree.specs.declared.command.Refusal.TheVariants.{DiskFault, Spent}
+use Rattle.lang_tree.specs.declared.command.Reply.{Reply}
+use Rattle.lang_tree.specs.declared.command.Reply.TheVariants.{Refused}
+use Rattle.lang_tree.specs.Points.{is_refusal, is_sync}
+use Rattle.lang_tree.specs.Step.{Session, start}
+use Rattle.engine_blocks.specs.Running.{has}
+use Rattle.engine_blocks.specs.State.{data_blocks}
+use Rattle.fs_commands.specs.DiskRoom.{AnswersOn}
+use Rattle.fs_commands.specs.Moments.{answer_in_room}
+use Rattle.fs_commands.specs.Room.{Room, figures_in}
+use Rattle.cmd_session.specs.Budget.{sync_places}
+use Rattle.cmd_session.specs.Records.{own_records}
+use Rattle.cmd_record.specs.Behaving.{OrdersAtOnce, Pace, PacesBy, StepsBy, TellsRing, is_done_sync, is_fault, pace_at_first, places_wanted, session_by}
+use Rattle.cmd_record.specs.Weights.{blocks_needed, places_by_weight}
+use Rattle.cmd_record.proofs.Rooms.{sync_is_meant}
+
+-- Places of records.
+
+from_none : (n : ℕ) → nat_le 0 n ≡ true
+from_none n = grind (arith, nat_tests)
+
+places_more : (n : ℕ) (cs ds : List Commit) → places_from n (cs ++ ds) ≡ places_from n cs + places_from n ds
+places_more n [] ds = omega arith
+places_more n (c ∷ cs) ds = omega (arith, places_more n cs ds)
+
+-- from a later number on there are no more
+places_fewer : (n : ℕ) (cs : List Commit) → places_from n cs ≤ places_from 0 cs
+places_fewer n [] = omega arith
+places_fewer n (c ∷ cs) = omega (arith, ap (λ (b : Bool). if b then places_told c else 0) (from_none c.number), at_most (nat_le n c.number), places_fewer n cs)
+  where
+    at_most : (b : Bool) → (if b then places_told c else 0) ≤ places_told c
+    at_most true = omega arith
+    at_most false = omega arith
+
+places_of_one : (c : Commit) → places_from 0 (c ∷ []) ≡ places_told c
+places_of_one c = omega (arith, ap (λ (b : Bool). if b then places_told c else 0) (from_none c.number))
+
+-- Where no write came, no record is told.
+
+pub none_written : (g : Geometry) (epoch : ℕ) (es : List Event) → writes_in es ≡ 0 → commits_told g epoch es ≡ []
+none_written g epoch [] none = refl
+none_written g epoch (Wrote t b x ∷ es) none = absurd (omega (arith, none))
+none_written g epoch (Lost b x ∷ es) none = absurd (omega (arith, none))
+none_written g epoch (Noticed t ∷ es) none = none_written g epoch es none
+
+writes_both : (xs ys : List Event) → writes_in (xs ++ ys) ≡ writes_in xs + writes_in ys
+writes_both [] ys = omega arith
+writes_both (Wrote t b x ∷ xs) ys = omega (arith, writes_both xs ys)
+writes_both (Lost b x ∷ xs) ys = omega (arith, writes_both xs ys)
+writes_both (Noticed t ∷ xs) ys = writes_both xs ys
+
+-- a test that all pass keeps all
+keeps_all : (p : ℕ → Bool) (ys : List ℕ) → ((b : ℕ) → has ys b ≡ true → p b ≡ true) → filter p ys ≡ ys
+keeps_all p [] each = refl
+keeps_all p (y ∷ ys) each =
+    ap (λ (b : Bool). if b then y ∷ filter p ys else filter p ys) (each y (or_left (y == y) (has ys y) (eq-eqb y y refl)))
+    ∙ ap (λ (zs : List ℕ). y ∷ zs) (keeps_all p ys (λ b is. each b (or_right (b == y) (has ys b) is)))
+
+done_parts : (cmd : Cmd) (reply : Reply) → is_done_sync cmd reply ≡ true → (is_sync cmd ≡ true) × (is_refusal reply ≡ false)
+done_parts cmd reply = by (is_sync cmd) (is_refusal reply)
+  where
+    by : (a b : Bool) → (a && not b) ≡ true → (a ≡ true) × (b ≡ false)
+    by true true is = cc
+    by true false is = (refl, refl)
+    by false b is = cc
+
+parts_done : (a b : Bool) → a ≡ true → b ≡ false → (a && not b) ≡ true
+parts_done true false is other = refl
+parts_done true true is other = cc
+parts_done false b is other = cc
+
+module _ (ses : MountedSession) (m : Manner) (log : List Event) (cmd : Cmd) (reply : Reply) (old new : Pace) (step : StepsBy ses m log cmd reply old new) (going : old.over ≡ false) where
+  abbrev own : List Commit
+  own = own_records ses log step.room.behind new.events
+
+  -- a sync that is done has the places of its weight at most
+  own_places : is_done_sync cmd reply ≡ true → places_from 0 own ≤ sync_places old.taken.weight
+  own_places done = by old.taken.weight refl
+    where
+      by : (w : ℕ) → old.taken.weight ≡ w → places_from 0 own ≤ sync_places old.taken.weight
+      by zero none =
+          let parts = take-append-drop step.room.behind (take new.events log) in
+          let front = take-take step.room.behind new.events log step.room.upto in
+          let nothing : writes_in (drop step.room.behind (take new.events log)) ≡ 0 = omega (
+            arith,
+            step.does.idle done going none,
+            ap writes_in parts,
+            writes_both (take step.room.behind (take new.events log)) (drop step.room.behind (take new.events log)),
+            ap writes_in front,
+          ) in
+          omega (arith, ap (places_from 0) (none_written ses.geom ses.epoch (drop step.room.behind (take new.events log)) nothing))
+      by (suc w) some =
+          let x = step.does.written done going (omega (arith, some)) in
+          omega (arith, x.size, ap (places_from 0) x.own, places_of_one x.commit)
+
+  records_places : places_from 0 new.taken.records ≤ places_from 0 old.taken.records + (if is_sync cmd then sync_places old.taken.weight else 0)
+  records_places = by (cases_Bool (is_done_sync cmd reply))
+    where
+      is : places_from 0 new.taken.records ≡ places_from 0 old.taken.records + places_from 0 (if is_done_sync cmd reply then own else [])
+      is = ap (λ (cs : List Commit). places_from 0 cs) (ap (λ t. t.records) step.does.taken) ∙ places_more 0 old.taken.records (if is_done_sync cmd reply then own else [])
+
+      by : (is_done_sync cmd reply ≡ true) ⊎ (is_done_sync cmd reply ≡ false) → places_from 0 new.taken.records ≤ places_from 0 old.taken.records + (if is_sync cmd then sync_places old.taken.weight else 0)
+      by (inl done) = omega (
+        arith,
+        is,
+        ap (places_from 0) (cond-true {A = List Commit} (is_done_sync cmd reply) own [] done),
+        own_places done,
+        cond-true {A = ℕ} (is_sync cmd) (sync_places old.taken.weight) 0 (done_parts cmd reply done).0,
+      )
+      by (inr none) = omega (arith, is, ap (places_from 0) (cond-false {A = List Commit} (is_done_sync cmd reply) own [] none))
+
+  wanted_places : is_sync cmd ≡ true → places_wanted reply old.taken.weight own ≤ sync_places old.taken.weight
+  wanted_places sync = by (cases_Bool (is_refusal reply))
+    where
+      by : (is_refusal reply ≡ true) ⊎ (is_refusal reply ≡ false) → places_wanted reply old.taken.weight own ≤ sync_places old.taken.weight
+      by (inl refused) = omega (arith, cond-true {A = ℕ} (is_refusal reply) (sync_places old.taken.weight) (places_from 0 own) refused)
+      by (inr well) = omega (arith, cond-false {A = ℕ} (is_refusal reply) (sync_places old.taken.weight) (places_from 0 own) well, own_places (parts_done (is_sync cmd) (is_refusal reply) sync well))
+
+  -- so it orders at once where that many fit
+  orders : is_sync cmd ≡ true → reply ≢ Refused Spent → m.waits_alone ≡ true → places_from 0 old.taken.records + sync_places old.taken.weight ≤ ses.geom.j
+      → OrdersAtOnce ses (take step.room.behind log) old.taken (places_wanted reply old.taken.weight own) ⊎ ((new.events ≡ step.room.behind) × (reply ≡ Refused DiskFault))
+  orders sync unspent alone fits = by (step.does.ring (sync_is_meant cmd sync) going unspent alone)
+    where
+      by : TellsRing ses (take step.room.behind log) old.taken.records ⊎ ((new.events ≡ step.room.behind) × (reply ≡ Refused DiskFault))
+          → OrdersAtOnce ses (take step.room.behind log) old.taken (places_wanted reply old.taken.weight own) ⊎ ((new.events ≡ step.room.behind) × (reply ≡ Refused DiskFault))
+      by (inr all) = inr all
+      by (inl ring) = inl (inr (∥∥₁_map ring.header (λ (h : (header : Header) × IsNewestAtRest ses.geom.n (cell_of (formatted ses.geom) (take step.room.behind log)) header). (
+        h.0,
+        record {
+          newest = h.1;
+          fits = omega (
+            arith,
+            ap (λ (cs : List Commit). places_from h.0.start cs) ring.told,
+            places_fewer h.0.start old.taken.records,
+            wanted_places sync,
+            fits,
+          );
+        },
+      ))))
+
+-- Over a run.
+
+module _ (g : Geometry) (m : Manner) (log : List Event) (mounted : ℕ) where
+  abbrev ses : MountedSession
+  ses = session_by g mounted
+
+  -- where no call of the disk has failed at the end, none had before
+  going_on : (cmds : List Cmd) (replies : List Reply) (marks : List ℕ) (p last : Pace) → PacesBy ses m log p cmds replies marks last → last.over ≡ false → p.over ≡ false
+  going_on [] [] [] p last paces going = sym (ap (λ (x : Pace). x.over) paces) ∙ going
+  going_on [] [] (k ∷ marks) p last paces going = absurd paces
+  going_on [] (r ∷ replies) marks p last paces going = absurd paces
+  going_on (c ∷ cmds) [] marks p last paces going = absurd paces
+  going_on (c ∷ cmds) (r ∷ replies) [] p last paces going = absurd paces
+  going_on (c ∷ cmds) (r ∷ replies) (k ∷ marks) p last paces going = (or_parts p.over (is_fault r) (sym paces.2.over ∙ going_on cmds replies marks paces.0 last paces.3 going)).0
+
+  places_within : (cmds : List Cmd) (replies : List Reply) (marks : List ℕ) (p last : Pace) → PacesBy ses m log p cmds replies marks last → last.over ≡ false
+      → places_from 0 last.taken.records ≤ places_from 0 p.taken.records + places_by_weight g p.taken.session p.taken.weight cmds replies
+  places_within [] [] [] p last paces going = omega (arith, ap (λ (x : Pace). places_from 0 x.taken.records) paces)
+  places_within [] [] (k ∷ marks) p last paces going = absurd paces
+  places_within [] (r ∷ replies) marks p last paces going = absurd paces
+  places_within (c ∷ cmds) [] marks p last paces going = absurd paces
+  places_within (c ∷ cmds) (r ∷ replies) [] p last paces going = absurd paces
+  places_within (c ∷ cmds) (r ∷ replies) (k ∷ marks) p last paces going = omega (
+    arith,
+    places_within cmds replies marks paces.0 last paces.3 going,
+    ap (λ t. places_by_weight g t.session t.weight cmds replies) paces.2.does.taken,
+    records_places ses m log c r p paces.0 paces.2 (going_on (c ∷ cmds) (r ∷ replies) (k ∷ marks) p last paces going),
+  )
+
+  pub finds_places : (cmds : List Cmd) (replies : List Reply) (marks : List ℕ) (last next : Pace) (cmd : Cmd) (reply : Reply) → PacesBy ses m log (pace_at_first g mounted) cmds replies marks last → (step : StepsBy ses m log cmd reply last next)
+      → is_sync cmd ≡ true → last.over ≡ false → reply ≢ Refused Spent → m.waits_alone ≡ true → places_by_weight g (start g.i) 0 cmds replies + sync_places last.taken.weight ≤ g.j
+      → OrdersAtOnce ses (take step.room.behind log) last.taken (places_wanted reply last.taken.weight (own_records ses log step.room.behind next.events)) ⊎ ((next.events ≡ step.room.behind) × (reply ≡ Refused DiskFault))
+  finds_places cmds replies marks last next cmd reply paces step sync going unspent alone fits =
+      orders ses m log cmd reply last next step going sync unspent alone (omega (arith, fits, places_within cmds replies marks (pace_at_first g mounted) last paces going))
+
+  -- Blocks.
+
+  abbrev IsAscending : Room → Type 0
+  IsAscending r = r.takeable ≡ filter (has r.takeable) (data_blocks g)
+
+  -- what is said of one command
+  abbrev pub TakesFew : Type 0
+  TakesFew = (f next : Session) (old new : Room) (cmd : Cmd) (reply : Reply) → AnswersOn g f old cmd reply next new → IsAscending old → IsAscending new × (length old.takeable ≤ length new.takeable + (if is_refusal reply then 0 else (figures_in g f cmd).need))
+
+  blocks_within : TakesFew → (cmds : List Cmd) (replies : List Reply) (marks : List ℕ) (p last : Pace) → PacesBy ses m log p cmds replies marks last → IsAscending p.room.room
+      → length p.room.room.takeable ≤ length last.room.room.takeable + blocks_needed g p.taken.session cmds replies
+  blocks_within few [] [] [] p last paces up = omega (arith, ap (λ (x : Pace). length x.room.room.takeable) paces)
+  blocks_within few [] [] (k ∷ marks) p last paces up = absurd paces
+  blocks_within few [] (r ∷ replies) marks p last paces up = absurd paces
+  blocks_within few (c ∷ cmds) [] marks p last paces up = absurd paces
+  blocks_within few (c ∷ cmds) (r ∷ replies) [] p last paces up = absurd paces
+  blocks_within few (c ∷ cmds) (r ∷ replies) (k ∷ marks) p last paces up =
+      let next = paces.0 in
+      let one = few p.taken.session next.taken.session p.room.room next.room.room c r (answer_in_room g _ _ p.taken.session p.room c r next.taken.session next.room paces.2.room.answers) up in
+      omega (arith, one.1, blocks_within few cmds replies marks next last paces.3 one.0, ap (λ t. blocks_needed g t.session cmds replies) paces.2.does.taken)
+
+  pub finds_enough : TakesFew → (cmds : List Cmd) (replies : List Reply) (marks : List ℕ) (last : Pace) (need : ℕ) → PacesBy ses m log (pace_at_first g mounted) cmds replies marks last
+      → blocks_needed g (start g.i) cmds replies + need ≤ g.n - data_start g → need ≤ length last.room.room.takeable
+  finds_enough few cmds replies marks last need paces enough =
+      omega (arith, enough, blocks_within few cmds replies marks (pace_at_first g mounted) last paces all_data, length-range_with_len (data_start g) (g.n - data_start g))
+    where
+      all_data : data_blocks g ≡ filter (has (data_blocks g)) (data_blocks g)
+      all_data = sym (keeps_all (has (data_blocks g)) (data_blocks g) (λ b is. is))

@@ -1,0 +1,161 @@
+-- Traces of wrong programs, each refused by a field of the clause.
+use Rattle.std.proofs.Common.{◌≡◌, ◌≢◌, ◌⊎◌, inl, inr, ⊎_elim, ℕ, zero, suc, ◌+◌, ◌<◌, ◌≤◌, ◌&&◌, ◌||◌, not, if◌then◌else◌, Bool, true, false, List, [], ◌∷◌, ◌++◌, length, take, drop, Option, Some, None, refl, sym, ap, ◌∙◌, subst, arith}
+use Rattle.std.proofs.Props.{props}
+use Rattle.std.proofs.Math.Logic.{∥∥₁_elim, ∥∥₁_map}
+use Rattle.std.proofs.Math.Seq.{take-take}
+use Rattle.std.proofs.lemmas.Bool.{cases_Bool, false≢true, true≢false}
+use Rattle.std.proofs.lemmas.List.{take-append-drop}
+use Rattle.std.specs.List.{slice_get}
+use Rattle.disk_contract.specs.declared.event.Event.{Event}
+use Rattle.disk_contract.specs.declared.event.Event.TheVariants.{Wrote, Lost, Noticed}
+use Rattle.disk_contract.specs.Cell.{cell_of, is_accepted, is_noticed, IsNoticed}
+use Rattle.disk_contract.specs.Disk.{PollsThenWrites, writes_in}
+use Rattle.disk_contract.specs.Manner.{Manner, Polled, after_polls}
+use Rattle.layout_geometry.specs.Geometry.{Geometry, bitmap_blocks}
+use Rattle.layout_journal.specs.Formatted.{formatted}
+use Rattle.layout_journal.specs.declared.header.Header.{Header}
+use Rattle.layout_journal.specs.declared.record.Commit.{Commit}
+use Rattle.layout_journal.specs.Run.{places_from, writes_stood_for}
+use Rattle.crash_argument.specs.Points.{MountedSession}
+use Rattle.engine_checkpoint.specs.Serving.{IsNewestAtRest}
+use Rattle.disk_memory.specs.Log.{has_lost}
+use Rattle.lang_tree.specs.declared.command.Cmd.{Cmd}
+use Rattle.lang_tree.specs.declared.command.Cmd.TheVariants.{Dsync, Durable, Osync, Stat}
+use Rattle.lang_tree.specs.declared.command.Refusal.{Refusal}
+use Rattle.lang_tree.specs.declared.command.Refusal.TheVariants.{DiskFault}
+use Rattle.lang_tree.specs.declared.command.Reply.{Reply}
+use Rattle.lang_tree.specs.declared.command.Reply.TheVariants.{Known, Refused, Synced}
+use Rattle.lang_tree.specs.Conditions.{refusal}
+use Rattle.lang_tree.specs.Figures.{figures_by}
+use Rattle.lang_tree.specs.Points.{is_refusal, is_sync}
+use Rattle.lang_tree.specs.Tree.{Tree}
+use Rattle.cmd_session.specs.Budget.{commits, sync_budget}
+use Rattle.cmd_session.specs.Records.{own_records}
+use Rattle.cmd_record.specs.Behaving.{CameIn, FailsSince, OrdersAtOnce, Pace, Span, StepsBy, TellsRing, makes_point, pace_at_first, places_wanted, session_by}
+use Rattle.cmd_record.specs.WrongTraces.{Goes, IsHeard, IsUnwritten, LosesOwn, WaitsForNothing}
+use Rattle.cmd_record.proofs.Paces.{get_split}
+use Rattle.cmd_record.proofs.Waiting.{accepted_on}
+use Rattle.cmd_record.proofs.Weights.{none_written}
+
+-- Lost writes.
+
+pub lost_is_refused : (s : MountedSession) (m : Manner) (log : List Event) (cmd : Cmd) (reply : Reply) (old new : Pace) → StepsBy s m log cmd reply old new → LosesOwn log old new → (n : ℕ) → reply ≢ Synced n
+lost_is_refused s m log cmd reply old new step lost n is = false≢true (ap is_refusal (sym is ∙ step.loses lost))
+
+lost_behind_front : (n : ℕ) (xs : List Event) (block : ℕ) (bytes : List ℕ) → n ≤ length xs → has_lost (drop n (xs ++ Lost block bytes ∷ [])) ≡ true
+lost_behind_front zero [] block bytes le = refl
+lost_behind_front zero (Wrote t b x ∷ xs) block bytes le = lost_behind_front zero xs block bytes (omega arith)
+lost_behind_front zero (Lost b x ∷ xs) block bytes le = refl
+lost_behind_front zero (Noticed t ∷ xs) block bytes le = lost_behind_front zero xs block bytes (omega arith)
+lost_behind_front (suc n) [] block bytes le = absurd (omega (arith, le))
+lost_behind_front (suc n) (x ∷ xs) block bytes le = lost_behind_front n xs block bytes (omega (arith, le))
+
+pub at_last : (s : MountedSession) (m : Manner) (log : List Event) (cmd : Cmd) (old new : Pace) → StepsBy s m log cmd (Refused DiskFault) old new → m.refuses (take new.events log) ≡ false → m.stalls ≡ false → LosesOwn log old new
+at_last s m log cmd old new step room still = ∥∥₁_elim (step.fails refl) (search props) by
+  where
+    by : FailsSince m old.events (take new.events log) → LosesOwn log old new
+    by (inl lost) = ap (λ (es : List Event). has_lost (drop old.events es)) lost.last.is ∙ lost_behind_front old.events lost.last.before lost.last.block lost.last.bytes lost.since
+    by (inr (inl refuses)) = absurd (false≢true (sym room ∙ refuses))
+    by (inr (inr stalls)) = absurd (false≢true (sym still ∙ stalls))
+
+-- Writes for which nothing stands.
+
+pub writes_none : (g : Geometry) (m : Manner) (log : List Event) (mounted : ℕ) (cmd : Cmd) (reply : Reply) (new : Pace) → StepsBy (session_by g mounted) m log cmd reply (pace_at_first g mounted) new → is_sync cmd ≡ false → writes_in (take new.events log) ≤ writes_in (take mounted log)
+writes_none g m log mounted cmd reply new step other = omega (
+  arith,
+  step.spends,
+  ap (λ t. t.budget) step.does.taken,
+  none (is_sync cmd) (is_refusal reply) other (writes_stood_for own) (if commits cmd reply then sync_budget 0 else 0),
+  ap (λ (b : Bool). if b then sync_budget 0 else 0) (no_commit other),
+)
+  where
+    own : List Commit
+    own = own_records (session_by g mounted) log step.room.behind new.events
+
+    none : (a b : Bool) → a ≡ false → (n k : ℕ) → (if a && not b then n else k) ≡ k
+    none false b is n k = refl
+    none true b is n k = absurd (true≢false is)
+
+    no_commit : is_sync cmd ≡ false → commits cmd reply ≡ false
+    no_commit is = search
+
+-- Waits.
+
+module _ (s : MountedSession) (m : Manner) (log : List Event) (reply : Reply) (old new : Pace) where
+  pub waits_in_none : (step : StepsBy s m log Osync reply old new) → Goes m reply old → IsUnwritten s (take step.room.behind log) → places_wanted reply old.taken.weight (own_records s log step.room.behind new.events) ≤ s.geom.j → WaitsForNothing m log old new
+  waits_in_none step goes none fits = by (step.does.ring meant goes.going goes.unspent goes.alone)
+    where
+      meant : Osync ≢ Rattle.lang_tree.specs.declared.command.Cmd.TheVariants.Bad
+      meant is = cc
+
+      wanted : ℕ
+      wanted = places_wanted reply old.taken.weight (own_records s log step.room.behind new.events)
+
+      by : TellsRing s (take step.room.behind log) old.taken.records ⊎ ((new.events ≡ step.room.behind) × (reply ≡ Refused DiskFault)) → WaitsForNothing m log old new
+      by (inl ring) = step.does.calm meant goes.going goes.unspent goes.alone (inr (∥∥₁_map ring.header (λ (h : (header : Header) × IsNewestAtRest s.geom.n (cell_of (formatted s.geom) (take step.room.behind log)) header). (
+        h.0,
+        record { newest = h.1; fits = omega (arith, ap (λ (cs : List Commit). places_from h.0.start cs) (none_written s.geom s.epoch (drop s.mounted (take step.room.behind log)) none), fits) },
+      ))))
+      by (inr all) = λ p polled. ((step.ticks meant goes.going goes.unspent p polled).0, subst (λ (n : ℕ). Rattle.disk_contract.specs.Disk.GrowsByWrites p.log (take n log)) (sym all.0) (step.room.ticks meant goes.going goes.unspent p polled).1)
+
+  pub waits_to_look : (path : List (List ℕ)) → StepsBy s m log (Stat path) reply old new → Goes m reply old → WaitsForNothing m log old new
+  waits_to_look path step goes = step.does.calm (λ is. cc) goes.going goes.unspent goes.alone (omega (arith, none old.taken.session.tree (refusal old.taken.session.limit old.taken.session.tree (Stat path))))
+    where
+      none : (t : Tree) (why : Option Refusal) → (figures_by (bitmap_blocks s.geom) t (Stat path) why).need ≡ 0
+      none t None = refl
+      none t (Some why) = refl
+
+  -- a write that was accepted by then was so by later moments
+  accepted_later : (t behind begun upto : ℕ) → behind ≤ begun → behind ≤ upto → is_accepted t (take behind log) ≡ true → is_accepted t (take begun (take upto log)) ≡ true
+  accepted_later t behind begun upto early late is =
+      ap (is_accepted t) (sym (take-append-drop behind (take begun (take upto log))))
+      ∙ accepted_on t (take behind (take begun (take upto log))) (drop behind (take begun (take upto log))) (ap (is_accepted t) (take-take behind begun (take upto log) early ∙ take-take behind upto log late) ∙ is)
+
+  pub heard_behind : (p : Polled) (t : ℕ) → (step : StepsBy s m log Dsync reply old new) → Goes m reply old → OrdersAtOnce s (take step.room.behind log) old.taken (places_wanted reply old.taken.weight (own_records s log step.room.behind new.events)) → after_polls m 64 old.polls (take old.events log) ≡ Some p
+      → ((k : ℕ) (span : Span) → slice_get old.taken.spans k ≡ Some span → CameIn (take new.events log) span t → ⊥) → is_noticed t p.log ≡ false → IsNoticed t (take new.events log) → is_accepted t (take step.room.behind log) ≡ false
+  heard_behind p t step goes finds polled others not_yet noticed = by (step.does.waits refl goes.going goes.unspent goes.alone finds p polled t noticed)
+    where
+      late : Span
+      late = record { begun = step.does.begun; mark = new.events }
+
+      failed : Span
+      failed = record { begun = step.room.behind; mark = new.events }
+
+      -- a span that begins behind the tick
+      no_earlier : (span : Span) → step.room.behind ≤ span.begun → CameIn (take new.events log) span t → is_accepted t (take step.room.behind log) ≡ false
+      no_earlier span from came = ⊎_elim (λ early. absurd (true≢false (sym (accepted_later t step.room.behind span.begun new.events from step.room.upto early) ∙ came.not_before))) (λ none. none) (cases_Bool (is_accepted t (take step.room.behind log)))
+
+      at_end_or : (b : Bool) (xs : List Span) (y x : Span) (k : ℕ) → slice_get (xs ++ (if b then y ∷ [] else [])) k ≡ Some x → (slice_get xs k ≡ Some x) ⊎ (y ≡ x)
+      at_end_or true xs y x k is = get_split xs y x k is
+      at_end_or false xs y x k is = inl (ap (λ (ys : List Span). slice_get ys k) (sym (Rattle.std.proofs.Common.append-nil xs)) ∙ is)
+
+      in_new : (k : ℕ) (span : Span) → CameIn (take new.events log) span t → (slice_get old.taken.spans k ≡ Some span) ⊎ (late ≡ span) → is_accepted t (take step.room.behind log) ≡ false
+      in_new k span came (inl is) = absurd (others k span is came)
+      in_new k span came (inr is) = no_earlier span (subst (λ (x : Span). step.room.behind ≤ x.begun) is step.does.from) came
+
+      in_all : (k : ℕ) (span : Span) → CameIn (take new.events log) span t → (slice_get new.taken.spans k ≡ Some span) ⊎ (failed ≡ span) → is_accepted t (take step.room.behind log) ≡ false
+      in_all k span came (inr is) = no_earlier span (subst (λ (x : Span). step.room.behind ≤ x.begun) is (omega arith)) came
+      in_all k span came (inl is) = in_new k span came (at_end_or (makes_point old.taken.session Dsync reply) old.taken.spans late span k (ap (λ (xs : List Span). slice_get xs k) (sym (ap (λ t. t.spans) step.does.taken)) ∙ is))
+
+      by : IsNoticed t p.log ⊎ ∥ ((k : ℕ) × (span : Span) × (slice_get (new.taken.spans ++ (if is_refusal reply then failed ∷ [] else [])) k ≡ Some span) × CameIn (take new.events log) span t) ∥₁ → is_accepted t (take step.room.behind log) ≡ false
+      by (inl before) = absurd (true≢false (sym before ∙ not_yet))
+      by (inr some) = ∥∥₁_elim some (search props) (λ (x : (k : ℕ) × (span : Span) × (slice_get (new.taken.spans ++ (if is_refusal reply then failed ∷ [] else [])) k ≡ Some span) × CameIn (take new.events log) span t).
+          in_all x.0 x.1 x.3 (at_end_or (is_refusal reply) new.taken.spans failed x.1 x.0 x.2))
+
+-- What is known.
+
+below_length : {A : Type 0} (xs : List A) (x : A) (k : ℕ) → slice_get xs k ≡ Some x → k < length xs
+below_length [] x k is = absurd (none k is)
+  where
+    none : (k : ℕ) → slice_get [] k ≡ Some x → ⊥
+    none zero is = cc
+    none (suc k) is = cc
+below_length (y ∷ xs) x zero is = omega arith
+below_length (y ∷ xs) x (suc k) is = omega (arith, below_length xs x k is)
+
+pub knows_more : (s : MountedSession) (m : Manner) (log : List Event) (n : ℕ) (span : Span) (old new : Pace) → StepsBy s m log Durable (Known n) old new → m.waits_alone ≡ true → slice_get old.taken.spans n ≡ Some span → IsHeard (take new.events log) span → ⊥
+knows_more s m log n span old new step alone is heard = ∥∥₁_elim ((step.known n refl refl alone).next (below_length old.taken.spans span n is)) (λ one other. absurd one) (λ (x : (other : Span) × (t : ℕ) × (slice_get old.taken.spans n ≡ Some other) × CameIn (take new.events log) other t × ¬ IsNoticed t (take new.events log)).
+    x.4 (heard x.1 (subst (λ (y : Span). CameIn (take new.events log) y x.1) (same x.0 (sym x.2 ∙ is)) x.3)))
+  where
+    same : (other : Span) → Some other ≡ Some span → other ≡ span
+    same other e = search

@@ -1,0 +1,13 @@
+use Rattle.cmd_record.proofs.WrongTraces.{at_last, heard_behind, knows_more, lost_is_refused, waits_in_none, waits_to_look, writes_none}
+use Rattle.cmd_record.proofs.laws.wrong_traces_are_refused.Goals as goal
+
+pub returns : goal.returns
+returns c = record {
+  lost = λ s m log cmd reply old new step. lost_is_refused s m log cmd reply old new step;
+  later = λ s m log cmd old new step. at_last s m log cmd old new step;
+  writes = λ g m log mounted cmd reply new step. writes_none g m log mounted cmd reply new step;
+  empty = λ s m log reply old new step. waits_in_none s m log reply old new step;
+  looks = λ s m log path reply old new step. waits_to_look s m log reply old new path step;
+  home = λ s m log reply old new p t step. heard_behind s m log reply old new p t step;
+  known = λ s m log n span old new step. knows_more s m log n span old new step;
+}

@@ -1,0 +1,304 @@
+-- What commands do to a tree keeps its names lawful and its bytes bytes.
+use Rattle.std.proofs.Common.{◌≡◌, sym, refl, ◌∙◌, subst, arith, tests, ℕ, zero, suc, ◌+◌, ◌==◌, Bool, true, false, cond, if◌then◌else◌, List, [], ◌∷◌, ◌++◌, length, take, drop, map, replicate, Option, Some, None, bytes_eq, nat_lt, nat_le}
+use Rattle.std.specs.Prelude.{◌-◌}
+use Rattle.std.specs.List.{list_all}
+use Rattle.std.specs.Cmp.{nat_cmp_total, IsTotalOrder}
+use Rattle.std.specs.Cmp.Lexicographic.{lists_total}
+use Rattle.std.specs.FinMap.{IsAntisymmetric, get, insert, remove, empty, entries, find, get-insert, get-remove, get-empty, get-from_entries, nat_cmp-IsAntisymmetric, slice_cmp-IsAntisymmetric}
+use Rattle.std.specs.Ordering.{is_eq, eq_by_cmp, nat_cmp}
+use Rattle.std.specs.declared.cmp.Ordering.{Ordering}
+use Rattle.std.specs.declared.cmp.Ordering.TheVariants.{Less, Equal, Greater}
+use Rattle.std.proofs.lemmas.Bool.{and_parts}
+use Rattle.base_types.specs.Name.{is_name}
+use Rattle.lang_script.specs.Grammar.{fits}
+use Rattle.lang_script.specs.Values.{IsCommand}
+use Rattle.cmd_trace.specs.Contents.{Each}
+use Rattle.lang_tree.specs.declared.command.Cmd.{Cmd}
+use Rattle.lang_tree.specs.declared.command.Cmd.TheVariants.{Mkdir, Create, Write, Fill, Read, Truncate, Link, Unlink, Rmdir, Rename, Stat, List as ListNames, Osync, Dsync, Durable, Poll, Bad}
+use Rattle.lang_tree.specs.declared.command.Refusal.{Refusal}
+use Rattle.lang_tree.specs.declared.command.Reply.TheVariants.{Ok as Done}
+use Rattle.lang_tree.specs.Conditions.{least_unused, refusal}
+use Rattle.lang_tree.specs.Names.{path_count, renamed}
+use Rattle.lang_tree.specs.Paths.{strip, moved_by, moved_path}
+use Rattle.lang_tree.specs.Step.{Session, start, step, answered, accepted, osync, write, truncate, rename, written, resized, with_node, added, with_bytes, edited_at, edited, linked_by, linked, removed_by, removed, moved, changed_to}
+use Rattle.lang_tree.specs.Tree.{Tree, Names, Nodes, Thing, Dir, File, path_cmp}
+use Rattle.lang_tree.specs.Walk.{content, is_same_node}
+use Rattle.cmd_replay.specs.Named.{HasLawfulNames, HasBytes}
+use Rattle.cmd_replay.proofs.Lists.{some_is}
+use Rattle.cmd_replay.proofs.telling.Lines.{ThingBytes}
+use Rattle.cmd_replay.proofs.telling.Maps.{each_of, entry_each}
+use Rattle.cmd_replay.proofs.telling.Texts.{AreBytes}
+
+-- ---- names
+
+abbrev Lawful : List (List ℕ) → Type 0
+Lawful p = list_all is_name p ≡ true
+
+abbrev AreLawful : Names → Type 0
+AreLawful names = (p : List (List ℕ)) (n : ℕ) → get names p ≡ Some n → Lawful p
+
+path_total : IsTotalOrder path_cmp
+path_total = lists_total (lists_total nat_cmp_total)
+
+path_same : IsAntisymmetric path_cmp
+path_same = slice_cmp-IsAntisymmetric (slice_cmp-IsAntisymmetric nat_cmp-IsAntisymmetric)
+
+equal_of : (o : Ordering) → is_eq o ≡ true → o ≡ Equal
+equal_of Less e = absurd cc
+equal_of Equal e = refl
+equal_of Greater e = absurd cc
+
+same_path : (p q : List (List ℕ)) → eq_by_cmp path_cmp p q ≡ true → p ≡ q
+same_path p q e = path_same p q (equal_of (path_cmp p q) e)
+
+names_put : (names : Names) (k : List (List ℕ)) (v : ℕ) → Lawful k → AreLawful names → AreLawful (insert names k v)
+names_put names k v law h p n e = by (eq_by_cmp path_cmp p k) refl (sym (get-insert path_total names k v p) ∙ e)
+  where
+    by : (b : Bool) → eq_by_cmp path_cmp p k ≡ b → cond b (Some v) (get names p) ≡ Some n → Lawful p
+    by true same is = subst Lawful (sym (same_path p k same)) law
+    by false same is = h p n is
+
+names_out : (names : Names) (k : List (List ℕ)) → AreLawful names → AreLawful (remove names k)
+names_out names k h p n e = by (eq_by_cmp path_cmp p k) (sym (get-remove path_total names k p) ∙ e)
+  where
+    by : (b : Bool) → cond b None (get names p) ≡ Some n → Lawful p
+    by true is = cc is
+    by false is = h p n is
+
+behind_is_lawful : (front path rest : List (List ℕ)) → Lawful path → strip front path ≡ Some rest → Lawful rest
+behind_is_lawful [] path rest h e = subst Lawful (some_is path rest e) h
+behind_is_lawful (a ∷ front) [] rest h e = cc e
+behind_is_lawful (a ∷ front) (b ∷ path) rest h e = by (bytes_eq a b) (behind_is_lawful front path rest (and_parts (is_name b) (list_all is_name path) h).1) e
+  where
+    by : (t : Bool) → (strip front path ≡ Some rest → Lawful rest) → (if t then strip front path else None) ≡ Some rest → Lawful rest
+    by true later is = later is
+    by false later is = cc is
+
+both_lawful : (p q : List (List ℕ)) → Lawful p → Lawful q → Lawful (p ++ q)
+both_lawful [] q h k = k
+both_lawful (x ∷ p) q h k =
+    let parts = and_parts (is_name x) (list_all is_name p) h in
+    rw parts.0 (both_lawful p q parts.1 k)
+
+moved_is_lawful : (from to path : List (List ℕ)) → Lawful to → Lawful path → Lawful (moved_path from to path)
+moved_is_lawful from to path h k = by (strip from path) (λ rest. behind_is_lawful from path rest k)
+  where
+    by : (o : Option (List (List ℕ))) → ((rest : List (List ℕ)) → o ≡ Some rest → Lawful rest) → Lawful (moved_by to path o)
+    by None later = k
+    by (Some rest) later = both_lawful to rest h (later rest refl)
+
+each_moved : (from to : List (List ℕ)) (es : List (List (List ℕ) × ℕ)) → Lawful to → Each (λ e. Lawful e.0) es → Each (λ (e : List (List ℕ) × ℕ). Lawful e.0) (map (λ e. (moved_path from to e.0, e.1)) es)
+each_moved from to [] h k = tt
+each_moved from to (e ∷ es) h k = (moved_is_lawful from to e.0 h k.0, each_moved from to es h k.1)
+
+found_is_lawful : (es : List (List (List ℕ) × ℕ)) (q : List (List ℕ)) (n : ℕ) → Each (λ e. Lawful e.0) es → find path_cmp q es ≡ Some n → Lawful q
+found_is_lawful [] q n h e = cc e
+found_is_lawful (f ∷ es) q n h e = by (eq_by_cmp path_cmp q f.0) refl (found_is_lawful es q n h.1) e
+  where
+    by : (b : Bool) → eq_by_cmp path_cmp q f.0 ≡ b → (find path_cmp q es ≡ Some n → Lawful q) → cond b (Some f.1) (find path_cmp q es) ≡ Some n → Lawful q
+    by true same later is = subst Lawful (sym (same_path q f.0 same)) h.0
+    by false same later is = later is
+
+names_moved : (names : Names) (from to : List (List ℕ)) → Lawful to → AreLawful names → AreLawful (renamed names from to)
+names_moved names from to law h p n e =
+    let es = map (λ (e : List (List ℕ) × ℕ). (moved_path from to e.0, e.1)) (entries names) in
+    found_is_lawful es p n (each_moved from to (entries names) law (each_of (λ e is. h e.0 e.1 is) (entries names) (entry_each path_total names))) (sym (get-from_entries path_total es p) ∙ e)
+
+-- ---- bytes
+
+abbrev HaveBytes : Nodes → Type 0
+HaveBytes nodes = (n : ℕ) (bytes : List ℕ) → get nodes n ≡ Some (File bytes) → AreBytes bytes
+
+nodes_put : (nodes : Nodes) (k : ℕ) (x : Thing) → ThingBytes x → HaveBytes nodes → HaveBytes (insert nodes k x)
+nodes_put nodes k x law h n bytes e = by (eq_by_cmp nat_cmp n k) (sym (get-insert nat_cmp_total nodes k x n) ∙ e)
+  where
+    by : (b : Bool) → cond b (Some x) (get nodes n) ≡ Some (File bytes) → AreBytes bytes
+    by true is = subst ThingBytes (some_is x (File bytes) is) law
+    by false is = h n bytes is
+
+nodes_out : (nodes : Nodes) (k : ℕ) → HaveBytes nodes → HaveBytes (remove nodes k)
+nodes_out nodes k h n bytes e = by (eq_by_cmp nat_cmp n k) (sym (get-remove nat_cmp_total nodes k n) ∙ e)
+  where
+    by : (b : Bool) → cond b None (get nodes n) ≡ Some (File bytes) → AreBytes bytes
+    by true is = cc is
+    by false is = h n bytes is
+
+pub all_join : (xs ys : List ℕ) → AreBytes xs → AreBytes ys → AreBytes (xs ++ ys)
+all_join [] ys h k = k
+all_join (x ∷ xs) ys h k =
+    let parts = and_parts (nat_lt x 256) (list_all (λ b. nat_lt b 256) xs) h in
+    rw parts.0 (all_join xs ys parts.1 k)
+
+pub all_take : (n : ℕ) (xs : List ℕ) → AreBytes xs → AreBytes (take n xs)
+all_take zero xs h = refl
+all_take (suc n) [] h = refl
+all_take (suc n) (x ∷ xs) h =
+    let parts = and_parts (nat_lt x 256) (list_all (λ b. nat_lt b 256) xs) h in
+    rw parts.0 (all_take n xs parts.1)
+
+pub all_drop : (n : ℕ) (xs : List ℕ) → AreBytes xs → AreBytes (drop n xs)
+all_drop zero xs h = h
+all_drop (suc n) [] h = refl
+all_drop (suc n) (x ∷ xs) h = all_drop n xs (and_parts (nat_lt x 256) (list_all (λ b. nat_lt b 256) xs) h).1
+
+all_copies : (n b : ℕ) → nat_lt b 256 ≡ true → AreBytes (replicate n b)
+all_copies zero b h = refl
+all_copies (suc n) b h = rw h (all_copies n b h)
+
+written_bytes : (off : ℕ) (ys xs : List ℕ) → AreBytes ys → AreBytes xs → AreBytes (written off ys xs)
+written_bytes off ys xs h k =
+    all_join (take off (xs ++ replicate (off - length xs) 0)) (ys ++ drop (off + length ys) xs)
+    (all_take off (xs ++ replicate (off - length xs) 0) (all_join xs (replicate (off - length xs) 0) k (all_copies (off - length xs) 0 refl)))
+    (all_join ys (drop (off + length ys) xs) h (all_drop (off + length ys) xs k))
+
+resized_bytes : (size : ℕ) (xs : List ℕ) → AreBytes xs → AreBytes (resized size xs)
+resized_bytes size xs h = all_take size (xs ++ replicate (size - length xs) 0) (all_join xs (replicate (size - length xs) 0) h (all_copies (size - length xs) 0 refl))
+
+-- ---- changes of a tree
+
+-- What each change of a tree keeps.
+record IsKept (P : Tree → Type 0) : Type 0 where
+  made : (limit : ℕ) (t : Tree) (path : List (List ℕ)) (thing : Thing) → Lawful path → ThingBytes thing → P t → P (added limit t path thing)
+  changed : (t : Tree) (path : List (List ℕ)) (change : List ℕ → List ℕ) → ((xs : List ℕ) → AreBytes xs → AreBytes (change xs)) → P t → P (edited t path change)
+  tied : (t : Tree) (path other : List (List ℕ)) → Lawful other → P t → P (linked t path other)
+  gone : (t : Tree) (path : List (List ℕ)) → P t → P (removed t path)
+  shifted : (t : Tree) (from to : List (List ℕ)) → Lawful to → P t → P (moved t from to)
+
+names_kept : IsKept HasLawfulNames
+names_kept = record {
+  made = λ limit t path thing law bytes h. make t path thing law h (least_unused limit t.nodes);
+  changed = λ t path change same h. change_at t change h (get t.names path);
+  tied = λ t path other law h. link t other law h (get t.names path);
+  gone = λ t path h. out t path h (get t.names path);
+  shifted = λ t from to law h. names_moved t.names from to law h;
+}
+  where
+    make : (t : Tree) (path : List (List ℕ)) (thing : Thing) → Lawful path → HasLawfulNames t → (o : Option ℕ) → HasLawfulNames (with_node t path thing o)
+    make t path thing law h None = h
+    make t path thing law h (Some n) = names_put t.names path n law h
+
+    change_at : (t : Tree) (change : List ℕ → List ℕ) → HasLawfulNames t → (o : Option ℕ) → HasLawfulNames (edited_at t change o)
+    change_at t change h None = h
+    change_at t change h (Some n) = h
+
+    link : (t : Tree) (other : List (List ℕ)) → Lawful other → HasLawfulNames t → (o : Option ℕ) → HasLawfulNames (linked_by t other o)
+    link t other law h None = h
+    link t other law h (Some n) = names_put t.names other n law h
+
+    out : (t : Tree) (path : List (List ℕ)) → HasLawfulNames t → (o : Option ℕ) → HasLawfulNames (removed_by t path o)
+    out t path h None = h
+    out t path h (Some n) = names_out t.names path h
+
+bytes_kept : IsKept HasBytes
+bytes_kept = record {
+  made = λ limit t path thing law bytes h. make t path thing bytes h (least_unused limit t.nodes);
+  changed = λ t path change same h. change_at t change same h (get t.names path);
+  tied = λ t path other law h. link t other h (get t.names path);
+  gone = λ t path h. out t path h (get t.names path);
+  shifted = λ t from to law h. h;
+}
+  where
+    make : (t : Tree) (path : List (List ℕ)) (thing : Thing) → ThingBytes thing → HasBytes t → (o : Option ℕ) → HasBytes (with_node t path thing o)
+    make t path thing bytes h None = h
+    make t path thing bytes h (Some n) = nodes_put t.nodes n thing bytes h
+
+    node_at : (nodes : Nodes) (n : ℕ) (change : List ℕ → List ℕ) → ((xs : List ℕ) → AreBytes xs → AreBytes (change xs)) → HaveBytes nodes → (o : Option Thing) → get nodes n ≡ o
+        → HaveBytes (with_bytes nodes n change o)
+    node_at nodes n change same h None is = h
+    node_at nodes n change same h (Some Dir) is = h
+    node_at nodes n change same h (Some (File bytes)) is = nodes_put nodes n (File (change bytes)) (same bytes (h n bytes is)) h
+
+    change_at : (t : Tree) (change : List ℕ → List ℕ) → ((xs : List ℕ) → AreBytes xs → AreBytes (change xs)) → HasBytes t → (o : Option ℕ) → HasBytes (edited_at t change o)
+    change_at t change same h None = h
+    change_at t change same h (Some n) = node_at t.nodes n change same h (get t.nodes n) refl
+
+    link : (t : Tree) (other : List (List ℕ)) → HasBytes t → (o : Option ℕ) → HasBytes (linked_by t other o)
+    link t other h None = h
+    link t other h (Some n) = h
+
+    unused : (nodes : Nodes) (n : ℕ) → HaveBytes nodes → (b : Bool) → HaveBytes (if b then remove nodes n else nodes)
+    unused nodes n h true = nodes_out nodes n h
+    unused nodes n h false = h
+
+    out : (t : Tree) (path : List (List ℕ)) → HasBytes t → (o : Option ℕ) → HasBytes (removed_by t path o)
+    out t path h None = h
+    out t path h (Some n) = unused t.nodes n h (path_count (remove t.names path) n == 0)
+
+-- ---- commands
+
+module _ (P : Tree → Type 0) (kept : IsKept P) where
+  write_keeps : (s : Session) (path : List (List ℕ)) (offset : ℕ) (bytes : List ℕ) → AreBytes bytes → P s.tree → P (write s path offset bytes).0.tree
+  write_keeps s path offset bytes law h = by (length bytes == 0)
+    where
+      by : (b : Bool) → P (if b then (s, Done) else changed_to s (edited s.tree path (written offset bytes))).0.tree
+      by true = h
+      by false = kept.changed s.tree path (written offset bytes) (λ xs k. written_bytes offset bytes xs law k) h
+
+  truncate_keeps : (s : Session) (path : List (List ℕ)) (size : ℕ) → P s.tree → P (truncate s path size).0.tree
+  truncate_keeps s path size h = by (size == length (content s.tree path))
+    where
+      by : (b : Bool) → P (if b then (s, Done) else changed_to s (edited s.tree path (resized size))).0.tree
+      by true = h
+      by false = kept.changed s.tree path (resized size) (resized_bytes size) h
+
+  rename_keeps : (s : Session) (from to : List (List ℕ)) → Lawful to → P s.tree → P (rename s from to).0.tree
+  rename_keeps s from to law h = by (is_same_node s.tree from to)
+    where
+      by : (b : Bool) → P (if b then (s, Done) else changed_to s (moved (removed s.tree to) from to)).0.tree
+      by true = h
+      by false = kept.shifted (removed s.tree to) from to law (kept.gone s.tree to h)
+
+  sync_keeps : (s : Session) (changed : Bool) → P s.tree → P (osync s changed).0.tree
+  sync_keeps s true h = h
+  sync_keeps s false h = h
+
+  accepted_keeps : (s : Session) (cmd : Cmd) → IsCommand cmd → P s.tree → P (accepted s cmd).0.tree
+  accepted_keeps s (Mkdir path) law h = kept.made s.limit s.tree path Dir law tt h
+  accepted_keeps s (Create path) law h = kept.made s.limit s.tree path (File []) law refl h
+  accepted_keeps s (Write path offset bytes) law h =
+      let names = and_parts (list_all is_name path) _ law in
+      let numbers = and_parts (fits offset) _ names.1 in
+      write_keeps s path offset bytes (and_parts (nat_lt 0 (length bytes)) (list_all (λ b. nat_lt b 256) bytes) numbers.1).1 h
+  accepted_keeps s (Fill path offset count byte) law h =
+      let names = and_parts (list_all is_name path) _ law in
+      let numbers = and_parts (fits offset) _ names.1 in
+      let low = (and_parts (fits count) (nat_le byte 255) numbers.1).1 in
+      write_keeps s path offset (replicate count byte) (all_copies count byte (byte_low byte low)) h
+    where
+      byte_low : (b : ℕ) → nat_le b 255 ≡ true → nat_lt b 256 ≡ true
+      byte_low b k = grind (arith, tests)
+  accepted_keeps s (Read path offset count) law h = h
+  accepted_keeps s (Truncate path size) law h = truncate_keeps s path size h
+  accepted_keeps s (Link path other) law h = kept.tied s.tree path other (and_parts (list_all is_name path) (list_all is_name other) law).1 h
+  accepted_keeps s (Unlink path) law h = kept.gone s.tree path h
+  accepted_keeps s (Rmdir path) law h = kept.gone s.tree path h
+  accepted_keeps s (Rename from to) law h = rename_keeps s from to (and_parts (list_all is_name from) (list_all is_name to) law).1 h
+  accepted_keeps s (Stat path) law h = h
+  accepted_keeps s (ListNames path) law h = h
+  accepted_keeps s Osync law h = sync_keeps s s.changed h
+  accepted_keeps s Dsync law h = sync_keeps s s.changed h
+  accepted_keeps s Durable law h = h
+  accepted_keeps s Poll law h = h
+  accepted_keeps s Bad law h = h
+
+  step_keeps : (s : Session) (cmd : Cmd) → IsCommand cmd → P s.tree → P (step s cmd).0.tree
+  step_keeps s cmd law h = by (refusal s.limit s.tree cmd)
+    where
+      by : (o : Option Refusal) → P (answered s cmd o).0.tree
+      by None = accepted_keeps s cmd law h
+      by (Some why) = h
+
+pub step_names : (s : Session) (cmd : Cmd) → IsCommand cmd → HasLawfulNames s.tree → HasLawfulNames (step s cmd).0.tree
+step_names = step_keeps HasLawfulNames names_kept
+
+pub step_bytes : (s : Session) (cmd : Cmd) → IsCommand cmd → HasBytes s.tree → HasBytes (step s cmd).0.tree
+step_bytes = step_keeps HasBytes bytes_kept
+
+none_in_none : {X : Type 0} (x : X) → None ≡ Some x → ⊥
+none_in_none x e = cc e
+
+pub start_names : (limit : ℕ) → HasLawfulNames (start limit).tree
+start_names limit = names_put empty [] 1 refl (λ p n e. absurd (none_in_none n (sym (get-empty path_cmp p) ∙ e)))
+
+pub start_bytes : (limit : ℕ) → HasBytes (start limit).tree
+start_bytes limit = nodes_put empty 1 Dir tt (λ n bytes e. absurd (none_in_none (File bytes) (sym (get-empty nat_cmp n) ∙ e)))

@@ -1,0 +1,5 @@
+use Rattle.cmd_replay.proofs.telling.Entries.{one_tree}
+use Rattle.cmd_replay.proofs.laws.a_listing_says_the_tree.Goals as goal
+
+pub returns : goal.returns
+returns c = one_tree

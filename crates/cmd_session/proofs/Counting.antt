@@ -1,0 +1,323 @@
+-- What a command's reply tells of points: how many it made, what it promised, and whether the session has ended.
+use Rattle.std.proofs.Common.{◌≡◌, ◌≢◌, ◌⊎◌, inl, inr, ⊎_elim, ℕ, ◌+◌, ◌<◌, ◌≤◌, ◌==◌, nat_lt, Bool, true, false, IsTrue, ◌&&◌, if◌then◌else◌, List, [], ◌∷◌, length, Result, Ok, Err, refl, sym, ◌∙◌, ap, subst, arith}
+use Rattle.std.proofs.lemmas.Bool.{cases_Bool, cases_eq, cases_lt, cond-true, cond-false, eq-eqb, ne_eqb, lt-ltb, le-ltb, true≢false, false≢true}
+use Rattle.base_types.specs.Seal.{Blocks}
+use Rattle.layout_geometry.specs.Geometry.{Geometry}
+use Rattle.crash_stands.specs.Stands.{IsTreeOf}
+use Rattle.lang_tree.specs.declared.command.Cmd.{Cmd}
+use Rattle.lang_tree.specs.declared.command.Cmd.TheVariants.{Mkdir, Create, Write, Fill, Read, Truncate, Link, Unlink, Rmdir, Rename, Stat, List as ListNames, Osync, Dsync, Durable, Poll, Bad}
+use Rattle.lang_tree.specs.declared.command.Refusal.{Refusal}
+use Rattle.lang_tree.specs.declared.command.Refusal.TheVariants as because
+use Rattle.lang_tree.specs.declared.command.Reply.{Reply}
+use Rattle.lang_tree.specs.declared.command.Reply.TheVariants.{Known, Refused}
+use Rattle.lang_tree.specs.Points.{Point, is_sync, asks_for_durability, is_refusal, made_by, may_have_written, promised_by}
+use Rattle.lang_tree.specs.Run.{Answers, is_of_disk}
+use Rattle.lang_tree.specs.Step.{Session, step, osync}
+use Rattle.engine_blocks.specs.Running.{Running}
+use Rattle.engine_blocks.specs.State.{Bookkeeping, State}
+use Rattle.engine_blocks.specs.Calls.{if_changed}
+use Rattle.fs_commands.specs.Applying.{Ticks, Runs, Began, Applies, AnswersSession, is_spent, reply_for}
+use Rattle.fs_commands.specs.Commands.{Carries, is_disk_fault}
+use Rattle.fs_commands.specs.Sessions.{IsSession}
+use Rattle.fs_commands.specs.Syncs.{SyncsSession}
+
+-- the reason that a reply names
+abbrev reason_of : Reply → Refusal
+reason_of (Refused why) = why
+reason_of _ = because.NoMemory
+
+is_fault : (why : Refusal) → Refused why ≡ Refused because.DiskFault → is_disk_fault (Err why) ≡ true
+is_fault why e = ap (λ (w : Refusal). is_disk_fault (Err w)) (ap reason_of e)
+
+abbrev is_done : Result Reply Refusal → Bool
+is_done (Ok x) = true
+is_done (Err e) = false
+
+fault_is : (result : Result Reply Refusal) → is_disk_fault result ≡ true → reply_for result ≡ Refused because.DiskFault
+fault_is (Ok reply) e = absurd (false≢true e)
+fault_is (Err because.DiskFault) e = refl
+fault_is (Err why) e = absurd (false≢true e)
+
+-- So many points.
+
+abbrev one_where : Bool → ℕ
+one_where c = if c then 1 else 0
+
+-- the point of a sync, where there is one
+abbrev point_where : Session → ℕ → Bool → List Point
+point_where f begun c = if c then record { tree = f.tree; begun = begun } ∷ [] else []
+
+one_if : (c : Bool) (p : Point) → length (if c then p ∷ [] else []) ≡ one_where c
+one_if true p = refl
+one_if false p = refl
+
+one_list : (c : Bool) (p : Point) → 0 < length (if c then p ∷ [] else []) → (if c then p ∷ [] else []) ≡ p ∷ []
+one_list true p some = refl
+one_list false p some = absurd (omega (arith, some))
+
+-- one more where anything was weighed
+weighed : (r : Running) → if_changed r 1 0 ≡ one_where (nat_lt 0 r.weight)
+weighed r = by (cases_eq r.weight 0)
+  where
+    by : (r.weight ≡ 0) ⊎ (r.weight ≢ 0) → if_changed r 1 0 ≡ one_where (nat_lt 0 r.weight)
+    by (inl none) = cond-true {A = ℕ} (r.weight == 0) 0 1 (eq-eqb r.weight 0 none) ∙ sym (cond-false {A = ℕ} (nat_lt 0 r.weight) 1 0 (le-ltb 0 r.weight (omega (arith, none))))
+    by (inr some) = cond-false {A = ℕ} (r.weight == 0) 0 1 (ne_eqb r.weight 0 some) ∙ sym (cond-true {A = ℕ} (nat_lt 0 r.weight) 1 0 (lt-ltb 0 r.weight (positive r.weight some)))
+      where
+        positive : (w : ℕ) → w ≢ 0 → 0 < w
+        positive w not = ⊎_elim (λ is. is) (λ none. absurd (not (omega (arith, none)))) (cases_lt 0 w)
+
+and_true : (c : Bool) → (true && (c && true)) ≡ c
+and_true true = refl
+and_true false = refl
+
+and_false : (c : Bool) → (true && (c && false)) ≡ false
+and_false true = refl
+and_false false = refl
+
+pub osync_written : (f : Session) (b : Bool) → may_have_written (osync f b).1 ≡ true
+osync_written f true = refl
+osync_written f false = refl
+
+-- What a reply tells of the points: how many there are by then, that a new one has the session's tree, that what was promised is on the disk, and that a fault ends the session.
+pub record TellsPoints (f : Session) (cmd : Cmd) (reply : Reply) (begun : ℕ) (old new : State) : Type 0 where
+  pub upto : new.books.point ≤ old.books.point + length (made_by f cmd reply begun)
+  pub going : new.books.stopped ≡ false → new.books.point ≡ old.books.point + length (made_by f cmd reply begun)
+  pub made : old.books.point < new.books.point → made_by f cmd reply begun ≡ record { tree = f.tree; begun = begun } ∷ []
+  pub promised : promised_by reply ≤ new.books.floor
+  pub fault : reply ≡ Refused because.DiskFault → new.books.stopped ≡ true
+  pub stays : old.books.stopped ≡ true → new.books.stopped ≡ true
+  pub calm : old.books.stopped ≡ false → new.books.stopped ≡ true → reply ≡ Refused because.DiskFault
+  pub ended : old.books.stopped ≡ true → cmd ≢ Bad → reply ≡ Refused because.Stopped
+  pub awake : old.books.point < new.books.point → old.books.stopped ≡ false
+
+-- the same of points alone
+record CountsMade (f : Session) (cmd : Cmd) (reply : Reply) (begun : ℕ) (old new : State) : Type 0 where
+  exact : new.books.point ≡ old.books.point + length (made_by f cmd reply begun)
+  fault : reply ≡ Refused because.DiskFault → new.books.stopped ≡ true
+  calm : new.books.stopped ≡ true → reply ≡ Refused because.DiskFault
+
+-- a command that isn't a sync makes none
+none_made : (f : Session) (cmd : Cmd) (reply : Reply) (begun : ℕ) → is_sync cmd ≡ false → made_by f cmd reply begun ≡ []
+none_made f cmd reply begun is = ap (λ c. point_where f begun (c && (f.changed && may_have_written reply))) is
+
+-- whether the line was none
+abbrev is_bad_one : Cmd → Bool
+is_bad_one Bad = true
+is_bad_one _ = false
+
+pub is_bad : (cmd : Cmd) → (cmd ≡ Bad) ⊎ (cmd ≢ Bad)
+is_bad Bad = inl refl
+is_bad (Mkdir path) = inr (λ e. false≢true (ap is_bad_one e))
+is_bad (Create path) = inr (λ e. false≢true (ap is_bad_one e))
+is_bad (Write path offset bytes) = inr (λ e. false≢true (ap is_bad_one e))
+is_bad (Fill path offset count byte) = inr (λ e. false≢true (ap is_bad_one e))
+is_bad (Read path offset count) = inr (λ e. false≢true (ap is_bad_one e))
+is_bad (Truncate path size) = inr (λ e. false≢true (ap is_bad_one e))
+is_bad (Link path other) = inr (λ e. false≢true (ap is_bad_one e))
+is_bad (Unlink path) = inr (λ e. false≢true (ap is_bad_one e))
+is_bad (Rmdir path) = inr (λ e. false≢true (ap is_bad_one e))
+is_bad (Rename from to) = inr (λ e. false≢true (ap is_bad_one e))
+is_bad (Stat path) = inr (λ e. false≢true (ap is_bad_one e))
+is_bad (ListNames path) = inr (λ e. false≢true (ap is_bad_one e))
+is_bad Osync = inr (λ e. false≢true (ap is_bad_one e))
+is_bad Dsync = inr (λ e. false≢true (ap is_bad_one e))
+is_bad Durable = inr (λ e. false≢true (ap is_bad_one e))
+is_bad Poll = inr (λ e. false≢true (ap is_bad_one e))
+
+-- the session is one of the blocks after a tick too
+pub session_ticks : (tells failed : Bool) → IsTrue tells → (s t : State) (f : Session) → s.books.stopped ≡ false → Ticks tells failed s t → IsSession s f → IsSession t f
+session_ticks tells failed told s t f going h is = record {
+  tree = subst (λ (g : Geometry). IsTreeOf g t.map f.tree) (sym h.moves.pipeline.geom) (subst (λ (m : Blocks). IsTreeOf s.books.geom m f.tree) (sym (h.moves.map told)) is.tree);
+  limit = is.limit ∙ ap (λ (g : Geometry). g.i) (sym h.moves.pipeline.geom);
+  points = λ stopped. is.points going ∙ sym h.moves.pipeline.point;
+  changed = λ stopped. is.changed going ∙ ap (λ (r : Running). nat_lt 0 r.weight) (sym h.moves.pipeline.running);
+  durable = omega (arith, is.durable, h.moves.pipeline.floor);
+}
+
+module _ {S : Type 0} (tells : Bool) (state : S → State) (told : IsTrue tells) (never : (f : Session) (cmd : Cmd) → (step f cmd).1 ≡ Refused because.DiskFault → ⊥) (begun : ℕ) where
+  none : (f : Session) (cmd : Cmd) (reply : Reply) (old new : State) → is_sync cmd ≡ false → new.books.point ≡ old.books.point → (reply ≡ Refused because.DiskFault → new.books.stopped ≡ true) → (new.books.stopped ≡ true → reply ≡ Refused because.DiskFault) → CountsMade f cmd reply begun old new
+  none f cmd reply old new is same fault calm = record { exact = omega (arith, same, ap (λ (ps : List Point). length ps) (none_made f cmd reply begun is)); fault = fault; calm = calm }
+
+  of_carried : (f : Session) (cmd : Cmd) (result : Result Reply Refusal) (mid new : S) → is_sync cmd ≡ false → IsSession (state mid) f → Carries tells cmd result (state mid) (state new) → CountsMade f cmd (reply_for result) begun (state mid) (state new)
+  of_carried f cmd (Ok reply) mid new is h c = none f cmd reply (state mid) (state new) is c.runs.point (λ e. absurd (never f cmd (sym (c.done told f h).answer ∙ e))) (λ on. fault_is (Ok reply) (sym c.runs.stopped ∙ on))
+  of_carried f cmd (Err why) mid new is h c = none f cmd (Refused why) (state mid) (state new) is c.runs.point (λ e. c.runs.stopped ∙ is_fault why e) (λ on. fault_is (Err why) (sym c.runs.stopped ∙ on))
+
+  -- a sync whose reply says that it may have written, and one that was out of memory
+  written : (f : Session) (cmd : Cmd) (reply : Reply) (mid new : State) → is_sync cmd ≡ true → mid.books.stopped ≡ false → IsSession mid f → may_have_written reply ≡ true → new.books.point ≡ mid.books.point + if_changed mid.books.running 1 0
+      → new.books.point ≡ mid.books.point + length (made_by f cmd reply begun)
+  written f cmd reply mid new is going h wrote point = omega (
+    arith,
+    point,
+    weighed mid.books.running,
+    ap one_where (h.changed going),
+    one_if (is_sync cmd && (f.changed && may_have_written reply)) (record { tree = f.tree; begun = begun }),
+    ap one_where (ap (λ c. c && (f.changed && may_have_written reply)) is ∙ ap (λ c. true && (f.changed && c)) wrote ∙ and_true f.changed),
+  )
+
+  unwritten : (f : Session) (cmd : Cmd) (reply : Reply) (mid new : State) → is_sync cmd ≡ true → may_have_written reply ≡ false → new.books.point ≡ mid.books.point → new.books.point ≡ mid.books.point + length (made_by f cmd reply begun)
+  unwritten f cmd reply mid new is wrote same = omega (
+    arith,
+    same,
+    one_if (is_sync cmd && (f.changed && may_have_written reply)) (record { tree = f.tree; begun = begun }),
+    ap one_where (ap (λ c. c && (f.changed && may_have_written reply)) is ∙ ap (λ c. true && (f.changed && c)) wrote ∙ and_false f.changed),
+  )
+
+  of_synced : (orders : Bool) (f : Session) (cmd : Cmd) (result : Result Reply Refusal) (mid new : S) → is_sync cmd ≡ true → may_have_written (step f cmd).1 ≡ true → (state mid).books.stopped ≡ false → IsSession (state mid) f → SyncsSession tells orders cmd result (state mid) (state new)
+      → CountsMade f cmd (reply_for result) begun (state mid) (state new)
+  of_synced orders f cmd (Ok reply) mid new is wrote going h s = record {
+    exact = written f cmd reply (state mid) (state new) is going h (ap may_have_written (s.done told f h).0 ∙ wrote) (s.point (λ e. true≢false (ap is_done e)));
+    fault = λ e. absurd (never f cmd (sym (s.done told f h).0 ∙ e));
+    calm = λ on. fault_is (Ok reply) (sym s.disk.stopped ∙ on);
+  }
+  of_synced orders f cmd (Err why) mid new is wrote going h s = by s.refused
+    where
+      by : (why ≡ because.DiskFault) ⊎ (why ≡ because.NoMemory) → CountsMade f cmd (Refused why) begun (state mid) (state new)
+      by (inl disk) = record {
+        exact = written f cmd (Refused why) (state mid) (state new) is going h (ap (λ (w : Refusal). may_have_written (Refused w)) disk) (s.point (λ e. false≢true (sym (ap is_disk_fault (ap (λ (w : Refusal). Err w) (sym disk) ∙ e)))));
+        fault = λ e. s.disk.stopped ∙ is_fault why e;
+        calm = λ on. fault_is (Err why) (sym s.disk.stopped ∙ on);
+      }
+      by (inr memory) = record {
+        exact = unwritten f cmd (Refused why) (state mid) (state new) is (ap (λ (w : Refusal). may_have_written (Refused w)) memory) (ap (λ (b : Bookkeeping). b.point) (s.unspent (ap (λ (w : Refusal). Err w) memory)).0);
+        fault = λ e. s.disk.stopped ∙ is_fault why e;
+        calm = λ on. fault_is (Err why) (sym s.disk.stopped ∙ on);
+      }
+
+  -- what is done with no call of the disk
+  of_nothing : (f : Session) (cmd : Cmd) (reply : Reply) (mid new : S) → is_sync cmd ≡ false → (state mid).books.stopped ≡ false → new ≡ mid → (reply ≡ Refused because.DiskFault → ⊥) → CountsMade f cmd reply begun (state mid) (state new)
+  of_nothing f cmd reply mid new is going same calm = none f cmd reply (state mid) (state new) is (ap (λ (s : S). (state s).books.point) same) (λ e. absurd (calm e))
+      (λ on. absurd (true≢false (sym on ∙ ap (λ (s : S). (state s).books.stopped) same ∙ going)))
+
+  known_calm : (n : ℕ) → Known n ≡ Refused because.DiskFault → ⊥
+  known_calm n e = false≢true (ap is_refusal e)
+
+  of_run : (f : Session) (cmd : Cmd) (result : Result Reply Refusal) (mid new : S) → (state mid).books.stopped ≡ false → IsSession (state mid) f → Runs tells state cmd result mid new → CountsMade f cmd (reply_for result) begun (state mid) (state new)
+  of_run f Osync result mid new going h runs = of_synced true f Osync result mid new refl (osync_written f f.changed) going h runs
+  of_run f Dsync result mid new going h runs = of_synced false f Dsync result mid new refl refl going h runs
+  of_run f Durable result mid new going h runs = of_nothing f Durable (reply_for result) mid new refl going runs.1 (λ e. known_calm (state mid).books.floor (sym (ap reply_for runs.0) ∙ e))
+  of_run f Poll result mid new going h runs = of_nothing f Poll (reply_for result) mid new refl going runs.1 (λ e. never f Poll (sym (ap reply_for runs.0) ∙ e))
+  of_run f (Mkdir path) result mid new going h runs = of_carried f (Mkdir path) result mid new refl h runs
+  of_run f (Create path) result mid new going h runs = of_carried f (Create path) result mid new refl h runs
+  of_run f (Write path offset bytes) result mid new going h runs = of_carried f (Write path offset bytes) result mid new refl h runs
+  of_run f (Fill path offset count byte) result mid new going h runs = of_carried f (Fill path offset count byte) result mid new refl h runs
+  of_run f (Read path offset count) result mid new going h runs = of_carried f (Read path offset count) result mid new refl h runs
+  of_run f (Truncate path size) result mid new going h runs = of_carried f (Truncate path size) result mid new refl h runs
+  of_run f (Link path other) result mid new going h runs = of_carried f (Link path other) result mid new refl h runs
+  of_run f (Unlink path) result mid new going h runs = of_carried f (Unlink path) result mid new refl h runs
+  of_run f (Rmdir path) result mid new going h runs = of_carried f (Rmdir path) result mid new refl h runs
+  of_run f (Rename from to) result mid new going h runs = of_carried f (Rename from to) result mid new refl h runs
+  of_run f (Stat path) result mid new going h runs = of_carried f (Stat path) result mid new refl h runs
+  of_run f (ListNames path) result mid new going h runs = of_carried f (ListNames path) result mid new refl h runs
+  of_run f Bad result mid new going h runs = of_carried f Bad result mid new refl h runs
+
+  at_once : (f : Session) (cmd : Cmd) (reply : Reply) (old new : S) → new ≡ old → length (made_by f cmd reply begun) ≡ 0 → promised_by reply ≡ 0 → (reply ≡ Refused because.DiskFault → ⊥) → ((state old).books.stopped ≡ true → cmd ≢ Bad → reply ≡ Refused because.Stopped) → TellsPoints f cmd reply begun (state old) (state new)
+  at_once f cmd reply old new same zero low calm ended = record {
+    upto = omega (arith, ap (λ (s : S). (state s).books.point) same);
+    going = λ going. omega (arith, ap (λ (s : S). (state s).books.point) same, zero);
+    made = λ more. absurd (omega (arith, more, ap (λ (s : S). (state s).books.point) same));
+    promised = omega (arith, low);
+    fault = λ e. absurd (calm e);
+    stays = λ stopped. ap (λ (s : S). (state s).books.stopped) same ∙ stopped;
+    calm = λ off on. absurd (true≢false (sym on ∙ ap (λ (s : S). (state s).books.stopped) same ∙ off));
+    ended = ended;
+    awake = λ more. absurd (omega (arith, more, ap (λ (s : S). (state s).books.point) same));
+  }
+
+  refusal_made : (f : Session) (cmd : Cmd) (why : Refusal) (reply : Reply) → reply ≡ Refused why → may_have_written (Refused why) ≡ false → length (made_by f cmd reply begun) ≡ 0
+  refusal_made f cmd why reply e wrote = ap (λ (ps : List Point). length ps) (ap (λ c. point_where f begun (is_sync cmd && (f.changed && c))) (ap may_have_written e ∙ wrote) ∙ nothing (is_sync cmd) f.changed)
+    where
+      nothing : (c d : Bool) → point_where f begun (c && (d && false)) ≡ []
+      nothing true true = refl
+      nothing true false = refl
+      nothing false d = refl
+
+  calm_as : (why : Refusal) (reply : Reply) → reply ≡ Refused why → is_disk_fault (Err why) ≡ false → reply ≡ Refused because.DiskFault → ⊥
+  calm_as why reply e other fault = false≢true (sym other ∙ is_fault why (sym e ∙ fault))
+
+  of_began : (f : Session) (cmd : Cmd) (reply : Reply) (old new : S) → (state old).books.stopped ≡ false → IsSession (state old) f → Began tells state cmd reply old new → promised_by reply ≤ (state new).books.floor → TellsPoints f cmd reply begun (state old) (state new)
+  of_began f cmd reply old new going h began low = by began.ran
+    where
+      by : (Ticks tells true (state old) (state new) × (began.result ≡ Err because.DiskFault)) ⊎ (Ticks tells false (state old) (state began.mid) × Runs tells state cmd began.result began.mid new) → TellsPoints f cmd reply begun (state old) (state new)
+      by (inl failed) = record {
+        upto = omega (arith, failed.0.moves.pipeline.point);
+        going = λ on. absurd (true≢false (sym failed.0.moves.disk.stopped ∙ on));
+        made = λ more. absurd (omega (arith, more, failed.0.moves.pipeline.point));
+        promised = low;
+        fault = λ e. failed.0.moves.disk.stopped;
+        stays = λ stopped. failed.0.moves.disk.stopped;
+        calm = λ off on. began.is ∙ ap reply_for failed.1;
+        ended = λ stopped not. absurd (true≢false (sym stopped ∙ going));
+        awake = λ more. going;
+      }
+      by (inr ran) =
+          let counts : CountsMade f cmd reply begun (state began.mid) (state new) = subst (λ (r : Reply). CountsMade f cmd r begun (state began.mid) (state new)) (sym began.is)
+          (of_run f cmd began.result began.mid new ran.0.moves.disk.stopped (session_ticks tells false told (state old) (state began.mid) f going ran.0 h) ran.1) in
+          record {
+            upto = omega (arith, counts.exact, ran.0.moves.pipeline.point);
+            going = λ on. omega (arith, counts.exact, ran.0.moves.pipeline.point);
+            made = λ more. one_list (is_sync cmd && (f.changed && may_have_written reply)) (record { tree = f.tree; begun = begun }) (omega (arith, more, counts.exact, ran.0.moves.pipeline.point));
+            promised = low;
+            fault = counts.fault;
+            stays = λ stopped. absurd (true≢false (sym stopped ∙ going));
+            calm = λ off on. counts.calm on;
+            ended = λ stopped not. absurd (true≢false (sym stopped ∙ going));
+            awake = λ more. going;
+          }
+
+  -- What was promised is on the disk.
+
+  abbrev is_dsync : Cmd → Bool
+  is_dsync Dsync = true
+  is_dsync _ = false
+
+  dsync_promises : (f : Session) (reply : Reply) (next : Session) (new : State) → Answers is_of_disk f Dsync reply next → IsSession new next → promised_by reply ≤ new.books.floor
+  dsync_promises f reply next new (inl is) h = omega (arith, sym (ap (λ (x : Session × Reply). promised_by x.1) is) ∙ ap (λ (x : Session × Reply). x.0.durable) is, h.durable)
+  dsync_promises f reply next new (inr (inl refused)) h = omega (arith, ap promised_by refused.2)
+  dsync_promises f reply next new (inr (inr known)) h = absurd (true≢false (ap is_dsync known.1.asked))
+
+  module _ (unasked : (f next : Session) (cmd : Cmd) (reply : Reply) → Answers is_of_disk f cmd reply next → asks_for_durability cmd ≡ false → promised_by reply ≡ 0) where
+    durable_promises : (reply : Reply) (old new : S) → Began tells state Durable reply old new → promised_by reply ≤ (state new).books.floor
+    durable_promises reply old new began = by began.ran
+      where
+        by : (Ticks tells true (state old) (state new) × (began.result ≡ Err because.DiskFault)) ⊎ (Ticks tells false (state old) (state began.mid) × Runs tells state Durable began.result began.mid new) → promised_by reply ≤ (state new).books.floor
+        by (inl failed) = omega (arith, ap promised_by (began.is ∙ ap reply_for failed.1))
+        by (inr ran) = omega (arith, ap promised_by (began.is ∙ ap reply_for ran.1.0), ap (λ (s : S). (state s).books.floor) ran.1.1)
+
+    promised_of : (f : Session) (cmd : Cmd) (reply : Reply) (old new : S) → AnswersSession tells state f cmd reply new → Began tells state cmd reply old new → promised_by reply ≤ (state new).books.floor
+    promised_of f Dsync reply old new a began = dsync_promises f reply a.next (state new) a.answers a.session
+    promised_of f Durable reply old new a began = durable_promises reply old new began
+    promised_of f (Mkdir path) reply old new a began = omega (arith, unasked f a.next (Mkdir path) reply a.answers refl)
+    promised_of f (Create path) reply old new a began = omega (arith, unasked f a.next (Create path) reply a.answers refl)
+    promised_of f (Write path offset bytes) reply old new a began = omega (arith, unasked f a.next (Write path offset bytes) reply a.answers refl)
+    promised_of f (Fill path offset count byte) reply old new a began = omega (arith, unasked f a.next (Fill path offset count byte) reply a.answers refl)
+    promised_of f (Read path offset count) reply old new a began = omega (arith, unasked f a.next (Read path offset count) reply a.answers refl)
+    promised_of f (Truncate path size) reply old new a began = omega (arith, unasked f a.next (Truncate path size) reply a.answers refl)
+    promised_of f (Link path other) reply old new a began = omega (arith, unasked f a.next (Link path other) reply a.answers refl)
+    promised_of f (Unlink path) reply old new a began = omega (arith, unasked f a.next (Unlink path) reply a.answers refl)
+    promised_of f (Rmdir path) reply old new a began = omega (arith, unasked f a.next (Rmdir path) reply a.answers refl)
+    promised_of f (Rename from to) reply old new a began = omega (arith, unasked f a.next (Rename from to) reply a.answers refl)
+    promised_of f (Stat path) reply old new a began = omega (arith, unasked f a.next (Stat path) reply a.answers refl)
+    promised_of f (ListNames path) reply old new a began = omega (arith, unasked f a.next (ListNames path) reply a.answers refl)
+    promised_of f Osync reply old new a began = omega (arith, unasked f a.next Osync reply a.answers refl)
+    promised_of f Poll reply old new a began = omega (arith, unasked f a.next Poll reply a.answers refl)
+    promised_of f Bad reply old new a began = omega (arith, unasked f a.next Bad reply a.answers refl)
+
+    pub tells_points : (f : Session) (cmd : Cmd) (reply : Reply) (old new : S) → IsSession (state old) f → Applies tells state cmd reply old new → AnswersSession tells state f cmd reply new → TellsPoints f cmd reply begun (state old) (state new)
+    tells_points f cmd reply old new h applies a = ⊎_elim bad other (is_bad cmd)
+      where
+        bad : cmd ≡ Bad → TellsPoints f cmd reply begun (state old) (state new)
+        bad is = at_once f cmd reply old new (applies.bad is).1 (ap (λ (ps : List Point). length ps) (none_made f cmd reply begun (ap is_sync is))) (ap promised_by (applies.bad is).0) (λ e. never f Bad (sym (applies.bad is).0 ∙ e)) (λ stopped not. absurd (not is))
+
+        stopped : cmd ≢ Bad → (state old).books.stopped ≡ true → TellsPoints f cmd reply begun (state old) (state new)
+        stopped not on = at_once f cmd reply old new (applies.stopped not on).1 (refusal_made f cmd because.Stopped reply (applies.stopped not on).0 refl) (ap promised_by (applies.stopped not on).0)
+            (calm_as because.Stopped reply (applies.stopped not on).0 refl) (λ is not_bad. (applies.stopped not on).0)
+
+        spent : cmd ≢ Bad → (state old).books.stopped ≡ false → is_spent (state old).books ≡ true → TellsPoints f cmd reply begun (state old) (state new)
+        spent not going on = at_once f cmd reply old new (applies.spent not going on).1 (refusal_made f cmd because.Spent reply (applies.spent not going on).0 refl) (ap promised_by (applies.spent not going on).0)
+            (calm_as because.Spent reply (applies.spent not going on).0 refl) (λ is not_bad. absurd (true≢false (sym is ∙ going)))
+
+        began : cmd ≢ Bad → (state old).books.stopped ≡ false → is_spent (state old).books ≡ false → TellsPoints f cmd reply begun (state old) (state new)
+        began not going left = of_began f cmd reply old new going h (applies.began not going left) (promised_of f cmd reply old new a (applies.began not going left))
+
+        other : cmd ≢ Bad → TellsPoints f cmd reply begun (state old) (state new)
+        other not = ⊎_elim (stopped not) (λ going. ⊎_elim (spent not going) (began not going) (cases_Bool (is_spent (state old).books))) (cases_Bool (state old).books.stopped)

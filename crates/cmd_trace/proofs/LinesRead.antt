@@ -1,0 +1,243 @@
+-- The lines of the geometry, of events and of replies are read as what they say, and as nothing else.
+use Rattle.std.proofs.Common.{◌≡◌, sym, ap, refl, ◌∙◌, subst, arith, tests, ℕ, ◌<◌, ◌^◌, ◌==◌, Bool, true, false, List, [], ◌∷◌, ◌++◌, decimal, nat_lt, Option, Some, None}
+use Rattle.std.specs.Prelude.{if◌then◌else◌, option_map, option_and_then}
+use Rattle.std.proofs.lemmas.Bool.Decides.{Decides-ltb}
+use Rattle.hex.specs.Hex.{encode_lower}
+use Rattle.layout_geometry.specs.Geometry.{Geometry, geometry_fits}
+use Rattle.disk_contract.specs.declared.event.Event.{Event}
+use Rattle.disk_contract.specs.declared.event.Event.TheVariants.{Wrote, Lost, Noticed}
+use Rattle.disk_contract.specs.Lawful.{IsBlock, IsEventOf}
+use Rattle.lang_script.specs.Decimal.{number_of}
+use Rattle.cmd_trace.specs.ReadFields.{cut, small, small_number_of, block_of}
+use Rattle.cmd_trace.specs.ReadLines.{geometry_of, geometry_with, geometry_by, placed_of, both, wrote_of, wrote_by, lost_of, noticed_of, reply_of, marked, behind, event_by_letter, geometry_by_letter, reply_by_letter}
+use Rattle.cmd_trace.proofs.Blanks.{cut_is, number_at}
+use Rattle.cmd_trace.proofs.Digits.{block_read, block_is_read}
+
+-- What the law of numbers says, as it is handed to each lemma.
+pub record Numbers : Type 0 where
+  pub read : (number : ℕ) → number < 2 ^ 64 → number_of (decimal number) ≡ Some number
+  pub text : (text : List ℕ) (number : ℕ) → number_of text ≡ Some number → decimal number ≡ text
+  pub small : (text : List ℕ) (number : ℕ) → number_of text ≡ Some number → number < 2 ^ 64
+
+-- ---- numbers of 32 bits
+
+pub small_read : Numbers → (n : ℕ) → n < 2 ^ 32 → small_number_of (decimal n) ≡ Some n
+small_read law n low =
+    rw (law.read n (omega (arith, low))) (rw ((Decides-ltb n (2 ^ 32)).1 low) refl)
+
+small_is : (o : Option ℕ) (n : ℕ) → small o ≡ Some n → (o ≡ Some n) × (n < 2 ^ 32)
+small_is (Some k) n h = go (nat_lt k (2 ^ 32)) refl h
+  where
+    go : (b : Bool) → nat_lt k (2 ^ 32) ≡ b → (if b then Some k else None) ≡ Some n → (Some k ≡ Some n) × (n < 2 ^ 32)
+    go true e f =
+        let same : k ≡ n = cc f in
+        (ap Some same, subst (λ m. m < 2 ^ 32) same ((Decides-ltb k (2 ^ 32)).0 e))
+    go false e f = cc f
+small_is None n h = cc h
+
+pub small_is_read : Numbers → (text : List ℕ) (n : ℕ) → small_number_of text ≡ Some n → (decimal n ≡ text) × (n < 2 ^ 32)
+small_is_read law text n h =
+    let parts = small_is (number_of text) n h in
+    (law.text text n parts.0, parts.1)
+
+-- a value that comes of a cut
+pub cut_gave : {A : Type 0} (o : Option (List ℕ × List ℕ)) (f : List ℕ × List ℕ → Option A) (x : A) → option_and_then f o ≡ Some x
+    → (front : List ℕ) × (back : List ℕ) × (o ≡ Some (front, back)) × (f (front, back) ≡ Some x)
+cut_gave (Some parts) f x h = (parts.0, parts.1, refl, h)
+cut_gave None f x h = cc h
+
+-- ---- the geometry
+
+abbrev pub geometry_text : Geometry → List ℕ
+geometry_text g = decimal g.n ++ 32 ∷ (decimal g.j ++ 32 ∷ decimal g.i)
+
+pub geometry_read : Numbers → (g : Geometry) → g.n < 2 ^ 32 → g.j < 2 ^ 32 → g.i < 2 ^ 32 → geometry_fits g ≡ true → geometry_of (geometry_text g) ≡ Some g
+geometry_read law g n j i fits =
+    rw (number_at g.n (decimal g.j ++ 32 ∷ decimal g.i) (omega (arith, n)))
+    (rw (number_at g.j (decimal g.i) (omega (arith, j)))
+    (rw (small_read law g.n n) (rw (small_read law g.j j) (rw (small_read law g.i i) (rw fits refl)))))
+
+-- ---- events
+
+abbrev pub placed_text : ℕ → List ℕ → List ℕ
+placed_text block bytes = decimal block ++ 32 ∷ encode_lower bytes
+
+pub placed_read : Numbers → (block : ℕ) (bytes : List ℕ) → block < 2 ^ 32 → IsBlock bytes → placed_of (placed_text block bytes) ≡ Some (block, bytes)
+placed_read law block bytes low h =
+    rw (number_at block (encode_lower bytes) (omega (arith, low))) (rw (small_read law block low) (rw (block_read bytes h) refl))
+
+both_gave : (o : Option ℕ) (p : Option (List ℕ)) (x : ℕ × List ℕ) → both o p ≡ Some x → (o ≡ Some x.0) × (p ≡ Some x.1)
+both_gave (Some n) (Some bytes) x h =
+    let same : (n, bytes) ≡ x = cc h in
+    (ap (λ y. Some y.0) same, ap (λ y. Some y.1) same)
+both_gave (Some n) None x h = cc h
+both_gave None p x h = cc h
+
+pub placed_is_read : Numbers → (text : List ℕ) (x : ℕ × List ℕ) → placed_of text ≡ Some x → (placed_text x.0 x.1 ≡ text) × (x.0 < 2 ^ 32) × IsBlock x.1
+placed_is_read law text x h =
+    let parts = cut_gave (cut text) (λ parts. both (small_number_of parts.0) (block_of parts.1)) x h in
+    let found = both_gave (small_number_of parts.0) (block_of parts.1) x parts.3 in
+    let number = small_is_read law parts.0 x.0 found.0 in
+    let bytes = block_is_read parts.1 x.1 found.1 in
+    (ap (λ l. l ++ 32 ∷ encode_lower x.1) number.0 ∙ ap (λ l. parts.0 ++ 32 ∷ l) bytes.0 ∙ sym (cut_is text parts.0 parts.1 parts.2), number.1, bytes.1)
+
+abbrev pub event_text : Event → List ℕ
+event_text (Wrote ticket block bytes) = 119 ∷ 32 ∷ (decimal ticket ++ 32 ∷ placed_text block bytes)
+event_text (Lost block bytes) = 102 ∷ 32 ∷ placed_text block bytes
+event_text (Noticed ticket) = 100 ∷ 32 ∷ decimal ticket
+
+pub event_read : Numbers → (e : Event) → IsEventOf (2 ^ 32) e → behind event_by_letter (event_text e) ≡ Some e
+event_read law (Wrote ticket block bytes) h =
+    rw (number_at ticket (placed_text block bytes) h.0) (rw (law.read ticket h.0) (rw (placed_read law block bytes h.1 h.2) refl))
+event_read law (Lost block bytes) h = rw (placed_read law block bytes h.0 h.1) refl
+event_read law (Noticed ticket) h = rw (law.read ticket h) refl
+
+wrote_gave : (o : Option ℕ) (p : Option (ℕ × List ℕ)) (e : Event) → wrote_by o p ≡ Some e
+    → (ticket : ℕ) × (x : ℕ × List ℕ) × (o ≡ Some ticket) × (p ≡ Some x) × (Wrote ticket x.0 x.1 ≡ e)
+wrote_gave (Some ticket) (Some x) e h = (ticket, x, refl, refl, cc h)
+wrote_gave (Some ticket) None e h = cc h
+wrote_gave None p e h = cc h
+
+abbrev IsText : List ℕ → Event → Type 0
+IsText line e = (event_text e ≡ line) × IsEventOf (2 ^ 32) e
+
+wrote_is_read : Numbers → (rest : List ℕ) (e : Event) → wrote_of rest ≡ Some e → IsText (119 ∷ 32 ∷ rest) e
+wrote_is_read law rest e h =
+    let parts = cut_gave (cut rest) (λ parts. wrote_by (number_of parts.0) (placed_of parts.1)) e h in
+    let found = wrote_gave (number_of parts.0) (placed_of parts.1) e parts.3 in
+    let ticket = law.text parts.0 found.0 found.2 in
+    let low = law.small parts.0 found.0 found.2 in
+    let placed = placed_is_read law parts.1 found.1 found.3 in
+    let same : decimal found.0 ++ 32 ∷ placed_text found.1.0 found.1.1 ≡ rest =
+    ap (λ l. l ++ 32 ∷ placed_text found.1.0 found.1.1) ticket ∙ ap (λ l. parts.0 ++ 32 ∷ l) placed.0 ∙ sym (cut_is rest parts.0 parts.1 parts.2) in
+    subst (IsText (119 ∷ 32 ∷ rest)) found.4 (ap (λ l. 119 ∷ 32 ∷ l) same, (low, placed.1, placed.2))
+
+pub map_gave : {A B : Type 0} (f : A → B) (o : Option A) (y : B) → option_map f o ≡ Some y → (x : A) × (o ≡ Some x) × (f x ≡ y)
+map_gave f (Some x) y h = (x, refl, cc h)
+map_gave f None y h = cc h
+
+lost_is_read : Numbers → (rest : List ℕ) (e : Event) → lost_of rest ≡ Some e → IsText (102 ∷ 32 ∷ rest) e
+lost_is_read law rest e h =
+    let found = map_gave (λ (placed : ℕ × List ℕ). Lost placed.0 placed.1) (placed_of rest) e h in
+    let placed = placed_is_read law rest found.0 found.1 in
+    subst (IsText (102 ∷ 32 ∷ rest)) found.2 (ap (λ l. 102 ∷ 32 ∷ l) placed.0, (placed.1, placed.2))
+
+noticed_is_read : Numbers → (rest : List ℕ) (e : Event) → noticed_of rest ≡ Some e → IsText (100 ∷ 32 ∷ rest) e
+noticed_is_read law rest e h =
+    let found = map_gave (λ ticket. Noticed ticket) (number_of rest) e h in
+    subst (IsText (100 ∷ 32 ∷ rest)) found.2 (ap (λ l. 100 ∷ 32 ∷ l) (law.text rest found.0 found.1), law.small rest found.0 found.1)
+
+pub is_equal : (a b : ℕ) → (a == b) ≡ true → a ≡ b
+is_equal a b h = grind (arith, tests, h)
+
+letter_gave : Numbers → (first : ℕ) (rest : List ℕ) (e : Event) → event_by_letter first rest ≡ Some e → IsText (first ∷ 32 ∷ rest) e
+letter_gave law first rest e h = w (first == 119) refl h
+  where
+    d : (b : Bool) → (first == 100) ≡ b → (if b then noticed_of rest else None) ≡ Some e → IsText (first ∷ 32 ∷ rest) e
+    d true is f = subst (λ c. IsText (c ∷ 32 ∷ rest) e) (sym (is_equal first 100 is)) (noticed_is_read law rest e f)
+    d false is f = cc f
+
+    l : (b : Bool) → (first == 102) ≡ b → (if b then lost_of rest else if first == 100 then noticed_of rest else None) ≡ Some e → IsText (first ∷ 32 ∷ rest) e
+    l true is f = subst (λ c. IsText (c ∷ 32 ∷ rest) e) (sym (is_equal first 102 is)) (lost_is_read law rest e f)
+    l false is f = d (first == 100) refl f
+
+    w : (b : Bool) → (first == 119) ≡ b → (if b then wrote_of rest else if first == 102 then lost_of rest else if first == 100 then noticed_of rest else None) ≡ Some e
+        → IsText (first ∷ 32 ∷ rest) e
+    w true is f = subst (λ c. IsText (c ∷ 32 ∷ rest) e) (sym (is_equal first 119 is)) (wrote_is_read law rest e f)
+    w false is f = l (first == 102) refl f
+
+-- what stands behind a letter and a blank
+pub behind_gave : {A : Type 0} (says : ℕ → List ℕ → Option A) (line : List ℕ) (x : A) → behind says line ≡ Some x
+    → (first : ℕ) × (rest : List ℕ) × (line ≡ first ∷ 32 ∷ rest) × (says first rest ≡ Some x)
+behind_gave says [] x h = cc h
+behind_gave says (first ∷ []) x h = cc h
+behind_gave says (first ∷ second ∷ rest) x h = go (second == 32) refl h
+  where
+    go : (b : Bool) → (second == 32) ≡ b → (if b then says first rest else None) ≡ Some x
+        → (letter : ℕ) × (more : List ℕ) × (first ∷ second ∷ rest ≡ letter ∷ 32 ∷ more) × (says letter more ≡ Some x)
+    go true is f = (first, rest, ap (λ c. first ∷ c ∷ rest) (is_equal second 32 is), f)
+    go false is f = cc f
+
+pub event_is_read : Numbers → (line : List ℕ) (e : Event) → behind event_by_letter line ≡ Some e → (event_text e ≡ line) × IsEventOf (2 ^ 32) e
+event_is_read law line e h =
+    let found = behind_gave event_by_letter line e h in
+    subst (λ l. IsText l e) (sym found.2) (letter_gave law found.0 found.1 e found.3)
+
+-- ---- the geometry
+
+geometry_gave : (a b c : Option ℕ) (g : Geometry) → geometry_by a b c ≡ Some g
+    → (a ≡ Some g.n) × (b ≡ Some g.j) × (c ≡ Some g.i) × (geometry_fits g ≡ true)
+geometry_gave (Some n) (Some j) (Some i) g h = go (geometry_fits (record { n = n; j = j; i = i })) refl h
+  where
+    go : (b : Bool) → geometry_fits (record { n = n; j = j; i = i }) ≡ b → (if b then Some record { n = n; j = j; i = i } else None) ≡ Some g
+        → (Some n ≡ Some g.n) × (Some j ≡ Some g.j) × (Some i ≡ Some g.i) × (geometry_fits g ≡ true)
+    go true is f =
+        let same : record { n = n; j = j; i = i } ≡ g = cc f in
+        (ap (λ x. Some x.n) same, ap (λ x. Some x.j) same, ap (λ x. Some x.i) same, ap geometry_fits (sym same) ∙ is)
+    go false is f = cc f
+geometry_gave (Some n) (Some j) None g h = cc h
+geometry_gave (Some n) None c g h = cc h
+geometry_gave None b c g h = cc h
+
+with_gave : (n : List ℕ) (o : Option (List ℕ × List ℕ)) (g : Geometry) → geometry_with n o ≡ Some g
+    → (rest : List ℕ × List ℕ) × (o ≡ Some rest) × (geometry_by (small_number_of n) (small_number_of rest.0) (small_number_of rest.1) ≡ Some g)
+with_gave n (Some rest) g h = (rest, refl, h)
+with_gave n None g h = cc h
+
+pub geometry_is_read : Numbers → (text : List ℕ) (g : Geometry) → geometry_of text ≡ Some g
+    → (geometry_text g ≡ text) × (g.n < 2 ^ 32) × (g.j < 2 ^ 32) × (g.i < 2 ^ 32) × (geometry_fits g ≡ true)
+geometry_is_read law text g h =
+    let one = cut_gave (cut text) (λ parts. geometry_with parts.0 (cut parts.1)) g h in
+    let two = with_gave one.0 (cut one.1) g one.3 in
+    let numbers = geometry_gave (small_number_of one.0) (small_number_of two.0.0) (small_number_of two.0.1) g two.2 in
+    let n = small_is_read law one.0 g.n numbers.0 in
+    let j = small_is_read law two.0.0 g.j numbers.1 in
+    let i = small_is_read law two.0.1 g.i numbers.2 in
+    let behind : decimal g.j ++ 32 ∷ decimal g.i ≡ one.1 =
+    ap (λ l. l ++ 32 ∷ decimal g.i) j.0 ∙ ap (λ l. two.0.0 ++ 32 ∷ l) i.0 ∙ sym (cut_is one.1 two.0.0 two.0.1 two.1) in
+    (ap (λ l. l ++ 32 ∷ (decimal g.j ++ 32 ∷ decimal g.i)) n.0 ∙ ap (λ l. one.0 ++ 32 ∷ l) behind ∙ sym (cut_is text one.0 one.1 one.2), n.1, j.1, i.1, numbers.3)
+
+pub geometry_line_is_read : Numbers → (line : List ℕ) (g : Geometry) → behind geometry_by_letter line ≡ Some g
+    → (103 ∷ 32 ∷ geometry_text g ≡ line) × (geometry_fits g ≡ true)
+geometry_line_is_read law line g h =
+    let found = behind_gave geometry_by_letter line g h in
+    go found.0 found.1 found.2 (found.0 == 103) refl found.3
+  where
+    go : (first : ℕ) (rest : List ℕ) → line ≡ first ∷ 32 ∷ rest → (b : Bool) → (first == 103) ≡ b → (if b then geometry_of rest else None) ≡ Some g
+        → (103 ∷ 32 ∷ geometry_text g ≡ line) × (geometry_fits g ≡ true)
+    go first rest split true is f =
+        let read = geometry_is_read law rest g f in
+        (ap (λ l. 103 ∷ 32 ∷ l) read.0 ∙ ap (λ c. c ∷ 32 ∷ rest) (sym (is_equal first 103 is)) ∙ sym split, read.4)
+    go first rest split false is f = cc f
+
+-- ---- replies
+
+abbrev pub reply_text : ℕ × List ℕ → List ℕ
+reply_text reply = decimal reply.0 ++ 32 ∷ reply.1
+
+pub reply_read : Numbers → (reply : ℕ × List ℕ) → reply.0 < 2 ^ 64 → reply_of (reply_text reply) ≡ Some reply
+reply_read law reply low = rw (number_at reply.0 reply.1 low) (rw (law.read reply.0 low) refl)
+
+marked_gave : (o : Option ℕ) (text : List ℕ) (x : ℕ × List ℕ) → marked o text ≡ Some x → (o ≡ Some x.0) × (text ≡ x.1)
+marked_gave (Some moment) text x h =
+    let same : (moment, text) ≡ x = cc h in
+    (ap (λ (y : ℕ × List ℕ). Some y.0) same, ap (λ (y : ℕ × List ℕ). y.1) same)
+marked_gave None text x h = cc h
+
+reply_is_read : Numbers → (rest : List ℕ) (x : ℕ × List ℕ) → reply_of rest ≡ Some x → (reply_text x ≡ rest) × (x.0 < 2 ^ 64)
+reply_is_read law rest x h =
+    let parts = cut_gave (cut rest) (λ parts. marked (number_of parts.0) parts.1) x h in
+    let found = marked_gave (number_of parts.0) parts.1 x parts.3 in
+    (ap (λ l. l ++ 32 ∷ x.1) (law.text parts.0 x.0 found.0) ∙ ap (λ l. parts.0 ++ 32 ∷ l) (sym found.1) ∙ sym (cut_is rest parts.0 parts.1 parts.2), law.small parts.0 x.0 found.0)
+
+pub reply_line_is_read : Numbers → (line : List ℕ) (x : ℕ × List ℕ) → behind reply_by_letter line ≡ Some x → (114 ∷ 32 ∷ reply_text x ≡ line) × (x.0 < 2 ^ 64)
+reply_line_is_read law line x h =
+    let found = behind_gave reply_by_letter line x h in
+    go found.0 found.1 found.2 (found.0 == 114) refl found.3
+  where
+    go : (first : ℕ) (rest : List ℕ) → line ≡ first ∷ 32 ∷ rest → (b : Bool) → (first == 114) ≡ b → (if b then reply_of rest else None) ≡ Some x
+        → (114 ∷ 32 ∷ reply_text x ≡ line) × (x.0 < 2 ^ 64)
+    go first rest split true is f =
+        let read = reply_is_read law rest x f in
+        (ap (λ l. 114 ∷ 32 ∷ l) read.0 ∙ ap (λ c. c ∷ 32 ∷ rest) (sym (is_equal first 114 is)) ∙ sym split, read.1)
+    go first rest split false is f = cc f

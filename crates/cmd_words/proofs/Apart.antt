@@ -1,0 +1,90 @@
+-- Texts with their names: which lists have a name twice, and which rows `clap` keeps of one that has none.
+use Rattle.std.proofs.Common.{◌≡◌, ◌||◌, ◌&&◌, Bool, true, false, List, [], ◌∷◌, ◌++◌, map, refl, sym, ap, ◌∙◌, bytes_eq}
+use Rattle.std.specs.Prelude.{not}
+use Rattle.std.proofs.lemmas.Bool.{and_parts, false≢true}
+use Rattle.std.proofs.lemmas.Slice.Eq.{bytes_eq-Decides}
+use Rattle.clap.specs.Walk.{Row, Text, has_row, with_values, without}
+use Rattle.clap.specs.declared.builder.value_parser.Reading.TheVariants.{AsWritten}
+use Rattle.clap.specs.declared.parser.matches.ValueSource.TheVariants.{CommandLine}
+use Rattle.cmd_words.specs.Program.{kept}
+use Rattle.cmd_words.specs.Words.{Named, has_name, are_apart}
+
+-- ---- tests
+
+pub or_true : (b : Bool) → (b || true) ≡ true
+or_true true = refl
+or_true false = refl
+
+pub and_false : (b : Bool) → (b && false) ≡ false
+and_false true = refl
+and_false false = refl
+
+pub or_parts : (a b : Bool) → (a || b) ≡ false → (a ≡ false) × (b ≡ false)
+or_parts true b h = absurd (false≢true (sym h))
+or_parts false b h = (refl, h)
+
+pub not_parts : (a : Bool) → not a ≡ true → a ≡ false
+not_parts true h = absurd (false≢true h)
+not_parts false h = refl
+
+eq_sym : (a b : Text) → bytes_eq a b ≡ true → bytes_eq b a ≡ true
+eq_sym a b h = (bytes_eq-Decides b a).1 (sym ((bytes_eq-Decides a b).0 h))
+
+ne_sym : (a b : Text) → bytes_eq a b ≡ false → bytes_eq b a ≡ false
+ne_sym a b h = go (bytes_eq b a) refl
+  where
+    go : (c : Bool) → bytes_eq b a ≡ c → c ≡ false
+    go true e = absurd (false≢true (sym h ∙ eq_sym b a e))
+    go false e = refl
+
+-- ---- names
+
+pub has_there : (u t : Named) (us rest : List Named) → bytes_eq t.0 u.0 ≡ true → has_name u.0 (us ++ t ∷ rest) ≡ true
+has_there u t [] rest e = rw e refl
+has_there u t (v ∷ us) rest e = rw (has_there u t us rest e) (or_true (bytes_eq v.0 u.0))
+
+has_fresh : (name : Text) (t : Named) (us : List Named) → has_name name us ≡ false → bytes_eq t.0 name ≡ false → has_name name (us ++ t ∷ []) ≡ false
+has_fresh name t [] h e = rw e refl
+has_fresh name t (v ∷ us) h e =
+    let parts = or_parts (bytes_eq v.0 name) (has_name name us) h in
+    rw (parts.0, has_fresh name t us parts.1 e) refl
+
+-- a text whose name stands before
+pub apart_repeat : (t : Named) (us rest : List Named) → has_name t.0 us ≡ true → are_apart (us ++ t ∷ rest) ≡ false
+apart_repeat t [] rest has = absurd (false≢true has)
+apart_repeat t (u ∷ us) rest has = go (λ h. apart_repeat t us rest h) (bytes_eq u.0 t.0) refl has
+  where
+    go : (has_name t.0 us ≡ true → are_apart (us ++ t ∷ rest) ≡ false) → (b : Bool) → bytes_eq u.0 t.0 ≡ b → (b || has_name t.0 us) ≡ true
+        → (not (has_name u.0 (us ++ t ∷ rest)) && are_apart (us ++ t ∷ rest)) ≡ false
+    go later true e h = rw (has_there u t us rest (eq_sym u.0 t.0 e)) refl
+    go later false e h = rw (later h) (and_false (not (has_name u.0 (us ++ t ∷ rest))))
+
+-- and one whose name doesn't
+pub apart_more : (t : Named) (us : List Named) → are_apart us ≡ true → has_name t.0 us ≡ false → are_apart (us ++ t ∷ []) ≡ true
+apart_more t [] apart fresh = refl
+apart_more t (u ∷ us) apart fresh =
+    let here = or_parts (bytes_eq u.0 t.0) (has_name t.0 us) fresh in
+    let parts = and_parts (not (has_name u.0 us)) (are_apart us) apart in
+    rw (has_fresh u.0 t us (not_parts _ parts.0) (ne_sym u.0 t.0 here.0), apart_more t us parts.1 here.1) refl
+
+-- ---- what `clap` keeps
+
+abbrev pub rows : List Named → List Row
+rows texts = map kept texts
+
+pub has_row_is : (name : Text) (texts : List Named) → has_row name (rows texts) ≡ has_name name texts
+has_row_is name [] = refl
+has_row_is name (t ∷ texts) = ap (λ b. bytes_eq t.0 name || b) (has_row_is name texts)
+
+pub without_fresh : (name : Text) (texts : List Named) → has_name name texts ≡ false → without name (rows texts) ≡ rows texts
+without_fresh name [] fresh = refl
+without_fresh name (t ∷ texts) fresh =
+    let parts = or_parts (bytes_eq t.0 name) (has_name name texts) fresh in
+    rw parts.0 (ap (λ rs. kept t ∷ rs) (without_fresh name texts parts.1))
+
+pub with_fresh : (name word : Text) (texts : List Named) → has_name name texts ≡ false
+    → with_values name AsWritten CommandLine (word ∷ []) (rows texts) ≡ rows (texts ++ (name, word) ∷ [])
+with_fresh name word [] fresh = refl
+with_fresh name word (t ∷ texts) fresh =
+    let parts = or_parts (bytes_eq t.0 name) (has_name name texts) fresh in
+    rw parts.0 (ap (λ rs. kept t ∷ rs) (with_fresh name word texts parts.1))

@@ -1,0 +1,59 @@
+-- Blocks that may be written fresh stay so: what a crash may leave loses maps and gains none, and a checkpoint write goes to a live block.
+use Rattle.std.proofs.Common.{◌≡◌, ◌⊎◌, inl, inr, ⊎_elim, ℕ, zero, suc, ◌+◌, ◌<◌, ◌≤◌, Bool, true, false, ◌||◌, List, [], ◌∷◌, ◌++◌, slice_get, Some, refl, sym, ◌∙◌, ap, arith}
+use Rattle.std.proofs.lemmas.Bool.{or_cases, false≢true}
+use Rattle.std.proofs.lemmas.Option.{same_Some, none-some}
+use Rattle.base_types.specs.Seal.{Blocks}
+use Rattle.disk_contract.specs.declared.event.Event.{Event}
+use Rattle.disk_contract.specs.declared.event.Event.TheVariants.{Wrote, Lost, Noticed}
+use Rattle.disk_contract.specs.Cell.{IsNoticed}
+use Rattle.layout_journal.specs.declared.header.Header.{Header}
+use Rattle.layout_journal.specs.Run.{is_live}
+use Rattle.crash_argument.specs.Ledger.{Ledger, WrittenRecord, IsConsistentWith, next_number}
+use Rattle.crash_argument.specs.Steps.{with_known, with_header, with_durable_header}
+use Rattle.crash_argument.specs.OnePending.{MayWriteAllFresh}
+use Rattle.crash_argument.specs.PipelineData.{PipelineData, NeedsCheckpoint, with_home}
+use Rattle.crash_argument.proofs.pipe.BetweenSteps.{same_next}
+
+-- what is noticed stays so in a longer log
+noticed_stays : (t : ℕ) (log more : List Event) → IsNoticed t log → IsNoticed t (log ++ more)
+noticed_stays t [] more h = absurd (false≢true h)
+noticed_stays t (Wrote u b x ∷ log) more h = noticed_stays t log more h
+noticed_stays t (Lost b x ∷ log) more h = noticed_stays t log more h
+noticed_stays t (Noticed u ∷ log) more h = ⊎_elim (λ e. left _ _ e) (λ r. right _ _ (noticed_stays t log more r)) (or_cases _ _ h)
+  where
+    left : (p q : Bool) → p ≡ true → (p || q) ≡ true
+    left true q e = refl
+    left false q e = cc
+
+    right : (p q : Bool) → q ≡ true → (p || q) ≡ true
+    right true q e = refl
+    right false q e = e
+
+pub stay_by_events : (log more : List Event) (l : Ledger) (p : PipelineData) (taken : List ℕ) → MayWriteAllFresh log l p taken → MayWriteAllFresh (log ++ more) l p taken
+stay_by_events log more l p taken free b own = let f = free b own in (f.0, λ k t is. noticed_stays t log more (f.1 k t is))
+
+pub stay_known : (log : List Event) (l : Ledger) (p : PipelineData) (taken : List ℕ) (number : ℕ) → MayWriteAllFresh log l p taken → MayWriteAllFresh log (with_known l number) p taken
+stay_known log l p taken number free b own = free b own
+
+pub stay_header : (log : List Event) (l : Ledger) (p : PipelineData) (taken : List ℕ) (h : Header) → MayWriteAllFresh log l p taken → MayWriteAllFresh log (with_header l h) p taken
+stay_header log l p taken h free b own = free b own
+
+pub stay_durable : (base : Blocks) (log : List Event) (l : Ledger) (p : PipelineData) (taken : List ℕ) (h : Header) → IsConsistentWith base log l → l.next ≡ Some h → MayWriteAllFresh log l p taken → MayWriteAllFresh log (with_durable_header l h) p taken
+stay_durable base log l p taken h keeps is free b own = let f = free b own in
+    (λ n low upto. f.0 n (omega (arith, low, (keeps.headers.fits h (inr is)).sure_grows)) (omega (arith, upto, same_next base log l h keeps is)), f.1)
+
+-- one more at the end of a list
+last_or : {A : Type 0} (xs : List A) (y : A) (k : ℕ) (z : A) → slice_get (xs ++ y ∷ []) k ≡ Some z → (slice_get xs k ≡ Some z) ⊎ (y ≡ z)
+last_or [] y zero z is = inr (same_Some _ _ is)
+last_or [] y (suc k) z is = absurd (none-some z is)
+last_or (v ∷ xs) y zero z is = inl is
+last_or (v ∷ xs) y (suc k) z is = last_or xs y k z is
+
+pub stay_home : (base : Blocks) (log : List Event) (l : Ledger) (p : PipelineData) (taken : List ℕ) (batch : List WrittenRecord) (b t : ℕ) (x : List ℕ) → IsConsistentWith base log l → NeedsCheckpoint l batch b x → MayWriteAllFresh log l p taken → MayWriteAllFresh log l (with_home p b t) taken
+stay_home base log l p taken batch b t x keeps needs free c own = let f = free c own in (f.0, λ k u is. ⊎_elim (λ old. f.1 k u old) (λ e. absurd (unlike (ap (λ (q : ℕ × ℕ). q.0) e) f.0)) (last_or p.home (b, t) k (c, u) is))
+  where
+    now : l.header.sure < next_number l
+    now = (keeps.headers.fits l.header (inl refl)).last
+
+    unlike : b ≡ c → ((n : ℕ) → l.header.sure < n → n ≤ next_number l → is_live l.geom (l.map_before n) c ≡ false) → ⊥
+    unlike e dead = false≢true (sym (dead (l.header.sure + 1) (omega arith) (omega (arith, now))) ∙ sym (ap (is_live l.geom (l.map_before (l.header.sure + 1))) e) ∙ needs.live)

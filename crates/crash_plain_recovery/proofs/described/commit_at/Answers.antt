@@ -1,0 +1,5 @@
+use Rattle.base_types.specs.Seal.{blocks_of}
+use Rattle.crash_plain_recovery.proofs.described.commit_at.Goals as goal
+
+pub returns-clause-missing : goal.returns-clause-missing
+returns-clause-missing c = c.commit_in.ensures.missing (blocks_of c.args.image.now) c.args.place c.ring_block.ensures

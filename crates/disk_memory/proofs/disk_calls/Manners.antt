@@ -1,0 +1,225 @@
+-- A disk in memory goes by its manner: what its log is, which calls fail, and what its polls answer.
+use Rattle.std.proofs.Common.{◌≡◌, inl, inr, ℕ, suc, ◌+◌, ◌-◌, ◌^◌, ◌<◌, ◌==◌, ◌&&◌, ◌||◌, Bool, true, false, not, nat_lt, List, [], ◌∷◌, ◌++◌, length, Option, Some, None, Result, Ok, Err, OnErr, is_ok, if◌then◌else◌, refl, sym, ◌∙◌, ap, ap₂, subst, arith, append-nil, append_assoc}
+use Rattle.std.proofs.lemmas.Bool.{and_parts, cond-true, cond-false, false≢true, or_left, or_right, ltb-true, eqb-true}
+use Rattle.base_types.specs.Counts.{next_count}
+use Rattle.disk_contract.specs.declared.event.Event.{Event}
+use Rattle.disk_contract.specs.declared.event.Event.TheVariants.{Wrote, Lost, Noticed}
+use Rattle.disk_contract.specs.Manner.{Manner, any_manner, MayComeBy, MayAllComeBy, GoesBy, HasFailedBy, AnswersBy}
+use Rattle.disk_memory.specs.declared.calls.DiskCall.{DiskCall}
+use Rattle.disk_memory.specs.declared.calls.DiskCall.TheVariants as calls
+use Rattle.disk_memory.specs.declared.calls.Fail.{Fail}
+use Rattle.disk_memory.specs.declared.rule.Rule.{Rule}
+use Rattle.disk_memory.specs.declared.rule.Notices.{Notices}
+use Rattle.disk_memory.specs.Log.{has_lost, write_count, open_tickets}
+use Rattle.disk_contract.specs.Cell.{IsAccepted}
+use Rattle.disk_memory.specs.MemDisk.{MemDiskState, next_call, fails_next, has_room, can_wait, manner_of, after_write, after_poll, after_wait, same_call, is_listed, has_listed, polled, turned, turns, by_rule, manner_by, manner_known, CountsLost, GoesAsKnown}
+
+-- any log goes by the manner of a disk of which nothing is known
+any_goes : (before log : List Event) → MayAllComeBy any_manner before log
+any_goes before [] = tt
+any_goes before (Wrote t b x ∷ es) = (refl, any_goes (before ++ Wrote t b x ∷ []) es)
+any_goes before (Lost b x ∷ es) = (refl, any_goes (before ++ Lost b x ∷ []) es)
+any_goes before (Noticed t ∷ es) = (tt, any_goes (before ++ Noticed t ∷ []) es)
+
+-- one event more, behind more events
+goes_more : (m : Manner) (before log : List Event) (e : Event) → MayAllComeBy m before log → MayComeBy m (before ++ log) e → MayAllComeBy m before (log ++ e ∷ [])
+goes_more m before [] e goes may = (subst (λ (l : List Event). MayComeBy m l e) (append-nil before) may, tt)
+goes_more m before (f ∷ es) e goes may = (goes.0, goes_more m (before ++ f ∷ []) es e goes.1 (subst (λ (l : List Event). MayComeBy m l e) (sym (append_assoc before (f ∷ []) es)) may))
+
+-- the log goes by the disk's manner
+pub known_goes : (room : ℕ) (log : List Event) (notices : Notices) (fails : List Fail) (read_faults polls : ℕ) (known : Option Rule) → GoesAsKnown room log notices fails read_faults polls known → GoesBy (manner_known room fails known) log
+known_goes room log notices fails read_faults polls None goes = any_goes [] log
+known_goes room log notices fails read_faults polls (Some rule) goes = goes.writes
+
+-- and a read has failed only where one may
+pub known_reads : (room : ℕ) (log : List Event) (notices : Notices) (fails : List Fail) (read_faults polls : ℕ) (known : Option Rule) → GoesAsKnown room log notices fails read_faults polls known → 0 < read_faults → (manner_known room fails known).reads_fail ≡ true
+known_reads room log notices fails read_faults polls None goes some = refl
+known_reads room log notices fails read_faults polls (Some rule) goes some = goes.reads some
+
+-- a call that is listed is one of its kind
+pub listed_some : (call : DiskCall) (n : ℕ) (fails : List Fail) → is_listed call n fails ≡ true → has_listed call fails ≡ true
+listed_some call n [] is = is
+listed_some call n (f ∷ fs) is = by (listed_some call n fs) (same_call f.kind call) (f.nth == n) is
+  where
+    by : (is_listed call n fs ≡ true → has_listed call fs ≡ true) → (same nth : Bool) → ((same && nth) || is_listed call n fs) ≡ true → (same || has_listed call fs) ≡ true
+    by rest true nth e = refl
+    by rest false nth e = rest e
+
+-- where none of its kind is listed, a call isn't
+pub unlisted_none : (call : DiskCall) (n : ℕ) (fails : List Fail) → has_listed call fails ≡ false → is_listed call n fails ≡ false
+unlisted_none call n fails none = by (is_listed call n fails) refl
+  where
+    by : (v : Bool) → is_listed call n fails ≡ v → is_listed call n fails ≡ false
+    by false e = e
+    by true e = absurd (false≢true (sym none ∙ listed_some call n fails e))
+
+-- Which writes are lost.
+
+lost_not : (log : List Event) (t b : ℕ) (x : List ℕ) → has_lost (log ++ Wrote t b x ∷ []) ≡ has_lost log
+lost_not [] t b x = refl
+lost_not (Wrote u c y ∷ es) t b x = lost_not es t b x
+lost_not (Lost c y ∷ es) t b x = refl
+lost_not (Noticed u ∷ es) t b x = lost_not es t b x
+
+heard_not : (log : List Event) (t : ℕ) → has_lost (log ++ Noticed t ∷ []) ≡ has_lost log
+heard_not [] t = refl
+heard_not (Wrote u c y ∷ es) t = heard_not es t
+heard_not (Lost c y ∷ es) t = refl
+heard_not (Noticed u ∷ es) t = heard_not es t
+
+-- one more write that is accepted, a notice, and a call that fails, whether it loses a write or not
+pub counts_wrote : (known : Option Rule) (faults : ℕ) (log : List Event) (t b : ℕ) (x : List ℕ) → CountsLost known faults log → CountsLost known faults (log ++ Wrote t b x ∷ [])
+counts_wrote None faults log t b x counts = tt
+counts_wrote (Some rule) faults log t b x counts = λ none. lost_not log t b x ∙ counts none
+
+pub counts_noticed : (known : Option Rule) (faults : ℕ) (log : List Event) (t : ℕ) → CountsLost known faults log → CountsLost known faults (log ++ Noticed t ∷ [])
+counts_noticed None faults log t counts = tt
+counts_noticed (Some rule) faults log t counts = λ none. heard_not log t ∙ counts none
+
+pub counts_fault : (known : Option Rule) (faults : ℕ) (log : List Event) → 0 < faults → CountsLost known faults log
+counts_fault None faults log some = tt
+counts_fault (Some rule) faults log some = λ none. absurd (omega (arith, some, none))
+
+-- before anything happened, whatever the rule is then
+pub counts_at_first : (log : List Event) (polls read_faults faults : ℕ) (known now : Option Rule) → now ≡ (if (length log == 0) && ((polls == 0) && (read_faults == 0)) then known else None) → CountsLost now faults log
+counts_at_first log polls read_faults faults known now is = subst (λ (k : Option Rule). CountsLost k faults log) (sym is) (by known ((length log == 0) && ((polls == 0) && (read_faults == 0))) refl)
+  where
+    none_there : (es : List Event) → length es ≡ 0 → has_lost es ≡ false
+    none_there [] e = refl
+    none_there (f ∷ es) e = absurd (omega (arith, e))
+
+    by : (k : Option Rule) (v : Bool) → ((length log == 0) && ((polls == 0) && (read_faults == 0))) ≡ v → CountsLost (if v then k else None) faults log
+    by k false e = tt
+    by None true e = tt
+    by (Some rule) true e = λ none. none_there log (eqb-true (length log) 0 (and_parts (length log == 0) ((polls == 0) && (read_faults == 0)) e).0)
+
+-- so of a disk whose waits bring the notice of their own ticket alone
+pub known_counts : (room : ℕ) (fails : List Fail) (known : Option Rule) (faults : ℕ) (log : List Event) → CountsLost known faults log → (manner_known room fails known).waits_alone ≡ true → faults ≡ 0 → has_lost log ≡ false
+known_counts room fails None faults log counts alone none = absurd (false≢true alone)
+known_counts room fails (Some rule) faults log counts alone none = counts none
+
+module _ (room : ℕ) (log : List Event) (notices : Notices) (fails : List Fail) (read_faults polls : ℕ) where
+  -- all goes by the rule still after a write that is accepted, one that is lost, and a notice
+  pub goes_wrote : (known : Option Rule) (t b : ℕ) (x : List ℕ) → nat_lt (write_count log) room ≡ true → is_listed calls.Write (write_count log + 1) fails ≡ false → GoesAsKnown room log notices fails read_faults polls known → GoesAsKnown room (log ++ Wrote t b x ∷ []) notices fails read_faults polls known
+  goes_wrote None t b x some unlisted goes = tt
+  goes_wrote (Some rule) t b x some unlisted goes = record { writes = goes_more (manner_by room fails rule) [] log (Wrote t b x) goes.writes (ap₂ (λ (v w : Bool). v && not w) some unlisted); reads = goes.reads; first = goes.first; turn = goes.turn }
+
+  pub goes_lost : (known : Option Rule) (b : ℕ) (x : List ℕ) → nat_lt (write_count log) room ≡ true → is_listed calls.Write (write_count log + 1) fails ≡ true → GoesAsKnown room log notices fails read_faults polls known → GoesAsKnown room (log ++ Lost b x ∷ []) notices fails read_faults polls known
+  goes_lost None b x some listed goes = tt
+  goes_lost (Some rule) b x some listed goes = record { writes = goes_more (manner_by room fails rule) [] log (Lost b x) goes.writes (ap₂ (λ (v w : Bool). v && w) some listed); reads = goes.reads; first = goes.first; turn = goes.turn }
+
+  pub goes_noticed : (known : Option Rule) (t : ℕ) → GoesAsKnown room log notices fails read_faults polls known → GoesAsKnown room (log ++ Noticed t ∷ []) notices fails read_faults polls known
+  goes_noticed None t goes = tt
+  goes_noticed (Some rule) t goes = record { writes = goes_more (manner_by room fails rule) [] log (Noticed t) goes.writes tt; reads = goes.reads; first = goes.first; turn = goes.turn }
+
+  -- after a failed read, which was listed
+  pub goes_unread : (known : Option Rule) (n now : ℕ) → is_listed calls.Read n fails ≡ true → GoesAsKnown room log notices fails read_faults polls known → GoesAsKnown room log notices fails now polls known
+  goes_unread None n now listed goes = tt
+  goes_unread (Some rule) n now listed goes = record { writes = goes.writes; reads = λ some. listed_some calls.Read n fails listed; first = goes.first; turn = goes.turn }
+
+  -- after a poll that was listed, and one that turned the rule
+  pub goes_unpolled : (known : Option Rule) (n now : ℕ) → now ≡ next_count polls → is_listed calls.Poll n fails ≡ true → GoesAsKnown room log notices fails read_faults polls known → GoesAsKnown room log notices fails read_faults now known
+  goes_unpolled None n now counted listed goes = tt
+  goes_unpolled (Some rule) n now counted listed goes = record { writes = goes.writes; reads = goes.reads; first = λ none. absurd (omega (arith, counted, none)); turn = λ none few. absurd (false≢true (sym none ∙ listed_some calls.Poll n fails listed)) }
+
+  pub goes_polled : (known : Option Rule) → GoesAsKnown room log notices fails read_faults polls known → GoesAsKnown room log (turned notices) fails read_faults (next_count polls) known
+  goes_polled None goes = tt
+  goes_polled (Some rule) goes = record {
+    writes = goes.writes;
+    reads = goes.reads;
+    first = λ none. absurd (omega (arith, none));
+    turn = λ none few. ap turned (goes.turn none (omega (arith, few))) ∙ ap (λ k. turns k (by_rule rule)) (step (omega (arith, few)));
+  }
+    where
+      step : polls < 2 ^ 64 - 1 → suc polls ≡ next_count polls
+      step few = omega (arith, few)
+
+  -- a poll answers what its manner says
+  pub answers_known : {E : Type 0} (known : Option Rule) (n : ℕ) (r : Result (Option ℕ) E) → (is_listed calls.Poll n fails ≡ false → r ≡ Ok (polled notices (open_tickets log))) → GoesAsKnown room log notices fails read_faults polls known → AnswersBy ((manner_known room fails known).notice polls log) r
+  answers_known None n r is goes = tt
+  answers_known {E} (Some rule) n r is goes = by_listed (has_listed calls.Poll fails) refl
+    where
+      by_few : has_listed calls.Poll fails ≡ false → (v : Bool) → nat_lt polls (2 ^ 64 - 1) ≡ v → AnswersBy (if v then Some (polled (turns polls (by_rule rule)) (open_tickets log)) else None) r
+      by_few none false e = tt
+      by_few none true e = is (unlisted_none calls.Poll n fails none) ∙ ap (λ (k : Notices). Ok (polled k (open_tickets log))) (goes.turn none (ltb-true polls (2 ^ 64 - 1) e))
+
+      by_listed : (v : Bool) → has_listed calls.Poll fails ≡ v → AnswersBy (if v then None else (if nat_lt polls (2 ^ 64 - 1) then Some (polled (turns polls (by_rule rule)) (open_tickets log)) else None)) r
+      by_listed true e = tt
+      by_listed false e = by_few e (nat_lt polls (2 ^ 64 - 1)) refl
+
+-- a call fails for a reason that the manner has: past the room, as a listed poll or wait, or as a listed write that is lost
+pub full_fails : (room : ℕ) (fails : List Fail) (known : Option Rule) (log : List Event) → nat_lt (write_count log) room ≡ false → HasFailedBy (manner_known room fails known) log
+full_fails room fails None log full = inr (inl refl)
+full_fails room fails (Some rule) log full = inr (inl (ap not full))
+
+-- a poll or a wait that is listed fails where the manner lets these fail
+pub poll_stalls : (room : ℕ) (fails : List Fail) (known : Option Rule) (n : ℕ) → is_listed calls.Poll n fails ≡ true → (manner_known room fails known).stalls ≡ true
+poll_stalls room fails None n listed = refl
+poll_stalls room fails (Some rule) n listed = or_left _ (has_listed calls.Wait fails) (listed_some calls.Poll n fails listed)
+
+pub wait_stalls : (room : ℕ) (fails : List Fail) (known : Option Rule) (n : ℕ) → is_listed calls.Wait n fails ≡ true → (manner_known room fails known).stalls ≡ true
+wait_stalls room fails None n listed = refl
+wait_stalls room fails (Some rule) n listed = or_right (has_listed calls.Poll fails) _ (listed_some calls.Wait n fails listed)
+
+pub poll_fails : (room : ℕ) (fails : List Fail) (known : Option Rule) (log : List Event) (n : ℕ) → is_listed calls.Poll n fails ≡ true → HasFailedBy (manner_known room fails known) log
+poll_fails room fails known log n listed = inr (inr (poll_stalls room fails known n listed))
+
+pub wait_fails : (room : ℕ) (fails : List Fail) (known : Option Rule) (log : List Event) (n : ℕ) → is_listed calls.Wait n fails ≡ true → HasFailedBy (manner_known room fails known) log
+wait_fails room fails known log n listed = inr (inr (wait_stalls room fails known n listed))
+
+pub lost_fails : (room : ℕ) (fails : List Fail) (known : Option Rule) (log : List Event) (b : ℕ) (x : List ℕ) → nat_lt (write_count log) room ≡ true → is_listed calls.Write (write_count log + 1) fails ≡ true → HasFailedBy (manner_known room fails known) (log ++ Lost b x ∷ [])
+lost_fails room fails None log b x some listed = inr (inl refl)
+lost_fails room fails (Some rule) log b x some listed = inl (record { before = log; block = b; bytes = x; is = refl; may = ap₂ (λ (v w : Bool). v && w) some listed })
+
+-- another list before anything happened
+pub goes_at_first : (room : ℕ) (log : List Event) (notices : Notices) (fails list : List Fail) (read_faults polls : ℕ) (known now : Option Rule) → now ≡ (if (length log == 0) && ((polls == 0) && (read_faults == 0)) then known else None)
+    → GoesAsKnown room log notices fails read_faults polls known → GoesAsKnown room log notices list read_faults polls now
+goes_at_first room log notices fails list read_faults polls known now is goes = subst (λ (k : Option Rule). GoesAsKnown room log notices list read_faults polls k) (sym is) (by known goes ((length log == 0) && ((polls == 0) && (read_faults == 0))) refl)
+  where
+    none_there : (es : List Event) → length es ≡ 0 → es ≡ []
+    none_there [] e = refl
+    none_there (f ∷ es) e = absurd (omega (arith, e))
+
+    by : (k : Option Rule) → GoesAsKnown room log notices fails read_faults polls k → (v : Bool) → ((length log == 0) && ((polls == 0) && (read_faults == 0))) ≡ v → GoesAsKnown room log notices list read_faults polls (if v then k else None)
+    by k goes false e = tt
+    by None goes true e = tt
+    by (Some rule) goes true e =
+        let both = and_parts (length log == 0) ((polls == 0) && (read_faults == 0)) e in
+        let counts = and_parts (polls == 0) (read_faults == 0) both.1 in
+        let no_polls = eqb-true polls 0 counts.0 in
+        record {
+          writes = subst (λ (l : List Event). GoesBy (manner_by room list rule) l) (sym (none_there log (eqb-true (length log) 0 both.0))) tt;
+          reads = λ some. absurd (omega (arith, some, eqb-true read_faults 0 counts.1));
+          first = goes.first;
+          turn = λ none few. goes.first no_polls ∙ ap (λ k. turns k (by_rule rule)) (sym no_polls);
+        }
+
+-- by the disk's value alone: a write that failed, a poll, and a wait for a ticket that was given, had a reason
+pub write_failed : {E : Type 0} (d new : MemDiskState) (b : ℕ) (x : List ℕ) (r : Result ℕ E) → is_ok r ≡ (if fails_next calls.Write d then false else has_room d) → new ≡ after_write d b x → OnErr r (HasFailedBy (manner_of new) new.log)
+write_failed d new b x (Ok t) exact state = tt
+write_failed d new b x (Err e) exact state = subst (λ (n : MemDiskState). HasFailedBy (manner_of n) n.log) (sym state) (by (has_room d) refl (fails_next calls.Write d) refl)
+  where
+    by : (room : Bool) → has_room d ≡ room → (listed : Bool) → fails_next calls.Write d ≡ listed → HasFailedBy (manner_of (after_write d b x)) (after_write d b x).log
+    by false full listed is = subst (λ (n : MemDiskState). HasFailedBy (manner_of n) n.log) (sym (cond-false (has_room d) _ _ full)) (full_fails d.room d.fails d.known d.log full)
+    by true some true is = subst (λ (n : MemDiskState). HasFailedBy (manner_of n) n.log) (sym (cond-true (has_room d) _ _ some ∙ cond-true (fails_next calls.Write d) _ _ is)) (lost_fails d.room d.fails d.known d.log b x some is)
+    by true some false is = absurd (false≢true (exact ∙ cond-false (fails_next calls.Write d) false (has_room d) is ∙ some))
+
+pub poll_failed : {E : Type 0} (d new : MemDiskState) (r : Result (Option ℕ) E) → is_ok r ≡ not (fails_next calls.Poll d) → new ≡ after_poll d → OnErr r (HasFailedBy (manner_of new) new.log)
+poll_failed d new (Ok t) exact state = tt
+poll_failed d new (Err e) exact state = subst (λ (n : MemDiskState). HasFailedBy (manner_of n) n.log) (sym state) (by (fails_next calls.Poll d) refl)
+  where
+    by : (listed : Bool) → fails_next calls.Poll d ≡ listed → HasFailedBy (manner_of (after_poll d)) (after_poll d).log
+    by true is = subst (λ (n : MemDiskState). HasFailedBy (manner_of n) n.log) (sym (cond-true (fails_next calls.Poll d) _ _ is)) (poll_fails d.room d.fails d.known d.log (next_call calls.Poll d) is)
+    by false is = absurd (false≢true (exact ∙ ap not is))
+
+pub wait_failed : {E : Type 0} (d new : MemDiskState) (t : ℕ) (r : Result (Unit {0}) E) → is_ok r ≡ can_wait d t → new ≡ after_wait d t → IsAccepted t d.log → OnErr r (HasFailedBy (manner_of new) new.log)
+wait_failed d new t (Ok a) exact state given = tt
+wait_failed d new t (Err e) exact state given = subst (λ (n : MemDiskState). HasFailedBy (manner_of n) n.log) (sym state) (by (fails_next calls.Wait d) refl)
+  where
+    by : (listed : Bool) → fails_next calls.Wait d ≡ listed → HasFailedBy (manner_of (after_wait d t)) (after_wait d t).log
+    by true is = subst (λ (n : MemDiskState). HasFailedBy (manner_of n) n.log) (sym (cond-false (can_wait d t) _ _ (sym exact))) (wait_fails d.room d.fails d.known d.log (next_call calls.Wait d) is)
+    by false is = absurd (false≢true (exact ∙ ap₂ (λ (v w : Bool). not v && w) is given))
+
+-- and a poll answers what the manner says
+pub known_answer : {E : Type 0} (d : MemDiskState) (r : Result (Option ℕ) E) → GoesAsKnown d.room d.log d.notices d.fails d.read_faults d.polls d.known → (fails_next calls.Poll d ≡ false → r ≡ Ok (polled d.notices (open_tickets d.log))) → AnswersBy ((manner_of d).notice d.polls d.log) r
+known_answer d r goes is = answers_known d.room d.log d.notices d.fails d.read_faults d.polls d.known (next_call calls.Poll d) r is goes

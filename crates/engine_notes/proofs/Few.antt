@@ -1,0 +1,53 @@
+-- Notes whose tickets ascend are no more than a list that has all these tickets.
+use Rattle.std.proofs.Common.{◌≡◌, ℕ, suc, ◌≤◌, ◌==◌, Bool, true, false, if◌then◌else◌, List, [], ◌∷◌, length, refl, sym, ◌∙◌, ap, arith}
+use Rattle.std.proofs.lemmas.Bool.{eqb-true, eq-eqb, false≢true}
+use Rattle.engine_notes.specs.declared.notes.Note.{Note}
+use Rattle.engine_notes.specs.Notes.{is_expected, is_among, are_rising}
+use Rattle.engine_notes.proofs.Marks.{if_true}
+use Rattle.engine_notes.proofs.Rising.{rises, not_above}
+
+-- the list without the first of these
+abbrev without : ℕ → List ℕ → List ℕ
+without u [] = []
+without u (t ∷ ts) = if t == u then ts else t ∷ without u ts
+
+one_less : (u : ℕ) (ts : List ℕ) → is_among u ts ≡ true → length ts ≡ suc (length (without u ts))
+one_less u [] e = absurd (false≢true e)
+one_less u (t ∷ ts) e = by (t == u) e (one_less u ts)
+  where
+    by : (v : Bool) → (if v then true else is_among u ts) ≡ true → (is_among u ts ≡ true → length ts ≡ suc (length (without u ts))) → suc (length ts) ≡ suc (length (if v then ts else t ∷ without u ts))
+    by true e rest = refl
+    by false e rest = ap suc (rest e)
+
+others_stay : (u w : ℕ) (ts : List ℕ) → (u == w) ≡ false → is_among w ts ≡ true → is_among w (without u ts) ≡ true
+others_stay u w [] other e = e
+others_stay u w (t ∷ ts) other e = by (t == u) refl (t == w) refl (others_stay u w ts other)
+  where
+    by : (p : Bool) → (t == u) ≡ p → (q : Bool) → (t == w) ≡ q → (is_among w ts ≡ true → is_among w (without u ts) ≡ true) → is_among w (if t == u then ts else t ∷ without u ts) ≡ true
+    by true f true g rest = absurd (false≢true (sym other ∙ eq-eqb u w (sym (eqb-true t u f) ∙ eqb-true t w g)))
+    by true f false g rest = ap (λ b. is_among w (if b then ts else t ∷ without u ts)) f ∙ sym (ap (λ b. if b then true else is_among w ts) g) ∙ e
+    by false f true g rest = ap (λ b. is_among w (if b then ts else t ∷ without u ts)) f ∙ ap (λ b. if b then true else is_among w (without u ts)) g
+    by false f false g rest = ap (λ b. is_among w (if b then ts else t ∷ without u ts)) f ∙ ap (λ b. if b then true else is_among w (without u ts)) g ∙ rest (sym (ap (λ b. if b then true else is_among w ts) g) ∙ e)
+
+-- the first ticket isn't that of a later note
+first_alone : (n : Note) (ns : List Note) → are_rising (n ∷ ns) ≡ true → (u : ℕ) → is_expected u ns ≡ true → (n.ticket == u) ≡ false
+first_alone n ns up u e = by (n.ticket == u) refl
+  where
+    by : (v : Bool) → (n.ticket == u) ≡ v → v ≡ false
+    by true same = absurd (false≢true (sym (not_above u n.ticket ns (omega (arith, eqb-true n.ticket u same)) up) ∙ e))
+    by false same = refl
+
+later_expected : (n : Note) (ns : List Note) (u : ℕ) → is_expected u ns ≡ true → is_expected u (n ∷ ns) ≡ true
+later_expected n ns u e = by (n.ticket == u)
+  where
+    by : (v : Bool) → (if v then true else is_expected u ns) ≡ true
+    by true = refl
+    by false = e
+
+pub no_more : (ns : List Note) (ts : List ℕ) → are_rising ns ≡ true → ((u : ℕ) → is_expected u ns ≡ true → is_among u ts ≡ true) → length ns ≤ length ts
+no_more [] ts up within = omega arith
+no_more (n ∷ ns) ts up within = omega (
+  arith,
+  one_less n.ticket ts (within n.ticket (if_true (n.ticket == n.ticket) true (is_expected n.ticket ns) (eq-eqb n.ticket n.ticket refl))),
+  no_more ns (without n.ticket ts) (rises n.ticket ns up) (λ u e. others_stay n.ticket u ts (first_alone n ns up u e) (within u (later_expected n ns u e))),
+)

@@ -1,0 +1,311 @@
+-- Notes whose tickets ascend: what a search finds among them, and how they are with a ticket more or less.
+use Rattle.std.proofs.Common.{◌≡◌, ◌≢◌, ⊎_elim, ℕ, zero, suc, ◌+◌, ◌<◌, ◌≤◌, ◌==◌, ◌&&◌, ◌||◌, nat_lt, not, Bool, true, false, if◌then◌else◌, List, [], ◌∷◌, length, take, slice_get, slice_set, slice_index_or, insert, remove, Some, refl, sym, ◌∙◌, ap, subst, arith}
+use Rattle.std.proofs.lemmas.Bool.{cases_Bool, cases_eq, eqb-true, eq-eqb, false≢true, ltb-true, ltb-false, lt-ltb, le-ltb, and_parts}
+use Rattle.std.proofs.lemmas.Option.{same_Some, none-some, slice_get-get_or}
+use Rattle.std.specs.List.Sorted.{IsPartitionedBy}
+use Rattle.engine_notes.specs.declared.notes.Note.{Note}
+use Rattle.engine_notes.specs.Notes.{is_expected, is_noticed, is_among, are_above, are_rising, with_ticket, without_ticket}
+use Rattle.engine_notes.proofs.Marks.{if_true, if_false, marked}
+
+-- the parts of an ascent
+head_above : (s : ℕ) (n : Note) (ns : List Note) → are_above s (n ∷ ns) ≡ true → s < n.ticket
+head_above s n ns up = ltb-true s n.ticket (and_parts (nat_lt s n.ticket) (are_above n.ticket ns) up).0
+
+rest_above : (s : ℕ) (n : Note) (ns : List Note) → are_above s (n ∷ ns) ≡ true → are_above n.ticket ns ≡ true
+rest_above s n ns up = (and_parts (nat_lt s n.ticket) (are_above n.ticket ns) up).1
+
+both : (b c : Bool) → b ≡ true → c ≡ true → (b && c) ≡ true
+both true true e f = refl
+both true false e f = f
+both false c e f = absurd (false≢true e)
+
+above_cons : (s : ℕ) (n : Note) (ns : List Note) → s < n.ticket → are_above n.ticket ns ≡ true → are_above s (n ∷ ns) ≡ true
+above_cons s n ns lt up = both (nat_lt s n.ticket) (are_above n.ticket ns) (lt-ltb s n.ticket lt) up
+
+lower : (r s : ℕ) (ns : List Note) → r ≤ s → are_above s ns ≡ true → are_above r ns ≡ true
+lower r s [] le up = refl
+lower r s (n ∷ ns) le up = above_cons r n ns (omega (arith, le, head_above s n ns up)) (rest_above s n ns up)
+
+pub rises : (s : ℕ) (ns : List Note) → are_above s ns ≡ true → are_rising ns ≡ true
+rises s [] up = refl
+rises s (n ∷ ns) up = rest_above s n ns up
+
+-- each ticket of a list above s is above it
+pub member_above : (s : ℕ) (ns : List Note) → are_above s ns ≡ true → (k : ℕ) (n : Note) → slice_get ns k ≡ Some n → s < n.ticket
+member_above s [] up k n is = absurd (none-some n is)
+member_above s (m ∷ ms) up zero n is = subst (λ (q : Note). s < q.ticket) (same_Some _ _ is) (head_above s m ms up)
+member_above s (m ∷ ms) up (suc k) n is = omega (arith, head_above s m ms up, member_above m.ticket ms (rest_above s m ms up) k n is)
+
+ordered : (ns : List Note) → are_rising ns ≡ true → (i k : ℕ) (m n : Note) → i < k → slice_get ns i ≡ Some m → slice_get ns k ≡ Some n → m.ticket < n.ticket
+ordered [] up i k m n lt is at = absurd (none-some m is)
+ordered (q ∷ qs) up i zero m n lt is at = absurd (omega arith)
+ordered (q ∷ qs) up zero (suc k) m n lt is at = subst (λ (r : Note). r.ticket < n.ticket) (same_Some _ _ is) (member_above q.ticket qs up k n at)
+ordered (q ∷ qs) up (suc i) (suc k) m n lt is at = ordered qs (rises q.ticket qs up) i k m n (omega arith) is at
+
+-- the lower ones come first
+pub parted : (ns : List Note) (t : ℕ) → are_rising ns ≡ true → IsPartitionedBy (λ (n : Note). nat_lt n.ticket t) ns
+parted ns t up i j d le lt low = ⊎_elim (λ e. subst (λ k. nat_lt (slice_index_or ns k d).ticket t ≡ true) (sym e) low)
+    (λ ne. lt-ltb _ _ (omega (arith, ltb-true _ _ low, ordered ns up i j (slice_index_or ns i d) (slice_index_or ns j d) (omega (arith, le, ne)) (slice_get-get_or ns i d (omega arith)) (slice_get-get_or ns j d lt)))) (cases_eq i j)
+
+-- all before this place are of lower tickets, and all from it on aren't
+abbrev pub Below : List Note → ℕ → ℕ → Type 0
+Below ns at t = (k : ℕ) (n : Note) → slice_get ns k ≡ Some n → k < at → n.ticket < t
+
+abbrev pub From : List Note → ℕ → ℕ → Type 0
+From ns at t = (k : ℕ) (n : Note) → slice_get ns k ≡ Some n → at ≤ k → t ≤ n.ticket
+
+less : (a b : ℕ) → a < b → a ≡ b → ⊥
+less a b lt e = omega (arith, lt, e)
+
+eqb_not : (a b : ℕ) → a ≢ b → (a == b) ≡ false
+eqb_not a b ne = ⊎_elim (λ e. absurd (ne (eqb-true a b e))) (λ e. e) (cases_Bool (a == b))
+
+-- a ticket that is at or below s isn't in a list above s
+pub not_above : (t s : ℕ) (ns : List Note) → t ≤ s → are_above s ns ≡ true → is_expected t ns ≡ false
+not_above t s [] le up = refl
+not_above t s (n ∷ ns) le up =
+    if_false (n.ticket == t) true (is_expected t ns) (eqb_not n.ticket t (λ e. less t n.ticket (omega (arith, le, head_above s n ns up)) (sym e)))
+    ∙ not_above t n.ticket ns (omega (arith, le, head_above s n ns up)) (rest_above s n ns up)
+
+pub no_mark_above : (t s : ℕ) (ns : List Note) → t ≤ s → are_above s ns ≡ true → is_noticed t ns ≡ false
+no_mark_above t s [] le up = refl
+no_mark_above t s (n ∷ ns) le up =
+    if_false (n.ticket == t) n.noticed (is_noticed t ns) (eqb_not n.ticket t (λ e. less t n.ticket (omega (arith, le, head_above s n ns up)) (sym e)))
+    ∙ no_mark_above t n.ticket ns (omega (arith, le, head_above s n ns up)) (rest_above s n ns up)
+
+-- the front up to the search's place has no note of the ticket
+pub front_lacks : (t : ℕ) (ns : List Note) (at : ℕ) → Below ns at t → is_expected t (take at ns) ≡ false
+front_lacks t [] zero low = refl
+front_lacks t [] (suc at) low = refl
+front_lacks t (n ∷ ns) zero low = refl
+front_lacks t (n ∷ ns) (suc at) low =
+    if_false (n.ticket == t) true (is_expected t (take at ns)) (eqb_not n.ticket t (less n.ticket t (low 0 n refl (omega arith))))
+    ∙ front_lacks t ns at (λ k m is lt. low (suc k) m is (omega arith))
+
+-- nor has the whole, where the one at the search's place is of another
+pub lacks : (t : ℕ) (ns : List Note) (at : ℕ) → are_rising ns ≡ true → Below ns at t → From ns at t → ((n : Note) → slice_get ns at ≡ Some n → n.ticket ≢ t) → is_expected t ns ≡ false
+lacks t [] at up low from other = refl
+lacks t (n ∷ ns) zero up low from other =
+    if_false (n.ticket == t) true (is_expected t ns) (eqb_not n.ticket t (other n refl)) ∙ not_above t n.ticket ns (from 0 n refl (omega arith)) up
+lacks t (n ∷ ns) (suc at) up low from other =
+    if_false (n.ticket == t) true (is_expected t ns) (eqb_not n.ticket t (less n.ticket t (low 0 n refl (omega arith))))
+    ∙ lacks t ns at (rises n.ticket ns up) (λ k m is lt. low (suc k) m is (omega arith)) (λ k m is le. from (suc k) m is (omega arith)) other
+
+-- a new ticket goes to the search's place
+abbrev pub new_note : ℕ → Note
+new_note t = record { ticket = t; noticed = false }
+
+strict : (a b : ℕ) → b ≤ a → a ≢ b → b < a
+strict a b le ne = omega (arith, le, ne)
+
+pub put_new : (t : ℕ) (ns : List Note) (at : ℕ) → at ≤ length ns → Below ns at t → From ns at t → ((n : Note) → slice_get ns at ≡ Some n → n.ticket ≢ t) → insert ns at (new_note t) ≡ with_ticket t ns
+put_new t [] zero le low from other = refl
+put_new t [] (suc at) le low from other = absurd (omega arith)
+put_new t (n ∷ ns) zero le low from other =
+    sym (if_false (nat_lt n.ticket t) (n ∷ with_ticket t ns) (if n.ticket == t then n ∷ ns else new_note t ∷ n ∷ ns) (le-ltb n.ticket t (from 0 n refl (omega arith)))
+    ∙ if_false (n.ticket == t) (n ∷ ns) (new_note t ∷ n ∷ ns) (eqb_not n.ticket t (other n refl)))
+put_new t (n ∷ ns) (suc at) le low from other =
+    ap (λ (l : List Note). n ∷ l) (put_new t ns at (omega arith) (λ k m is lt. low (suc k) m is (omega arith)) (λ k m is le. from (suc k) m is (omega arith)) other)
+    ∙ sym (if_true (nat_lt n.ticket t) (n ∷ with_ticket t ns) (if n.ticket == t then n ∷ ns else new_note t ∷ n ∷ ns) (lt-ltb n.ticket t (low 0 n refl (omega arith))))
+
+-- and one that is there stays
+pub put_again : (t : ℕ) (ns : List Note) (at : ℕ) → at < length ns → Below ns at t → ((n : Note) → slice_get ns at ≡ Some n → n.ticket ≡ t) → ns ≡ with_ticket t ns
+put_again t [] at lt low own = absurd (omega arith)
+put_again t (n ∷ ns) zero lt low own =
+    sym (if_false (nat_lt n.ticket t) (n ∷ with_ticket t ns) (if n.ticket == t then n ∷ ns else new_note t ∷ n ∷ ns) (le-ltb n.ticket t (omega (arith, own n refl)))
+    ∙ if_true (n.ticket == t) (n ∷ ns) (new_note t ∷ n ∷ ns) (eq-eqb n.ticket t (own n refl)))
+put_again t (n ∷ ns) (suc at) lt low own =
+    ap (λ (l : List Note). n ∷ l) (put_again t ns at (omega arith) (λ k m is lt. low (suc k) m is (omega arith)) own)
+    ∙ sym (if_true (nat_lt n.ticket t) (n ∷ with_ticket t ns) (if n.ticket == t then n ∷ ns else new_note t ∷ n ∷ ns) (lt-ltb n.ticket t (low 0 n refl (omega arith))))
+
+-- the ticket at the search's place goes
+pub taken_out : (t : ℕ) (ns : List Note) (at : ℕ) → at < length ns → Below ns at t → ((n : Note) → slice_get ns at ≡ Some n → n.ticket ≡ t) → remove ns at ≡ without_ticket t ns
+taken_out t [] at lt low own = absurd (omega arith)
+taken_out t (n ∷ ns) zero lt low own = sym (if_true (n.ticket == t) ns (n ∷ without_ticket t ns) (eq-eqb n.ticket t (own n refl)))
+taken_out t (n ∷ ns) (suc at) lt low own =
+    ap (λ (l : List Note). n ∷ l) (taken_out t ns at (omega arith) (λ k m is lt. low (suc k) m is (omega arith)) own)
+    ∙ sym (if_false (n.ticket == t) ns (n ∷ without_ticket t ns) (eqb_not n.ticket t (less n.ticket t (low 0 n refl (omega arith)))))
+
+pub none_out : (t : ℕ) (ns : List Note) → is_expected t ns ≡ false → ns ≡ without_ticket t ns
+none_out t [] out = refl
+none_out t (n ∷ ns) out = by (n.ticket == t) refl (none_out t ns)
+  where
+    by : (v : Bool) → (n.ticket == t) ≡ v → (is_expected t ns ≡ false → ns ≡ without_ticket t ns) → n ∷ ns ≡ without_ticket t (n ∷ ns)
+    by true e rest = absurd (false≢true (sym out ∙ if_true (n.ticket == t) true (is_expected t ns) e))
+    by false e rest = ap (λ (l : List Note). n ∷ l) (rest (sym (if_false (n.ticket == t) true (is_expected t ns) e) ∙ out)) ∙ sym (if_false (n.ticket == t) ns (n ∷ without_ticket t ns) e)
+
+-- The set with a ticket more.
+
+pub above_with : (s t : ℕ) (ns : List Note) → s < t → are_above s ns ≡ true → are_above s (with_ticket t ns) ≡ true
+above_with s t [] lt up = above_cons s (new_note t) [] lt refl
+above_with s t (n ∷ ns) lt up = by (nat_lt n.ticket t) refl (n.ticket == t) refl (above_with n.ticket t ns)
+  where
+    by : (u : Bool) → nat_lt n.ticket t ≡ u → (v : Bool) → (n.ticket == t) ≡ v → (n.ticket < t → are_above n.ticket ns ≡ true → are_above n.ticket (with_ticket t ns) ≡ true) → are_above s (with_ticket t (n ∷ ns)) ≡ true
+    by true e v f more = ap (are_above s) (if_true (nat_lt n.ticket t) (n ∷ with_ticket t ns) (if n.ticket == t then n ∷ ns else new_note t ∷ n ∷ ns) e)
+        ∙ above_cons s n (with_ticket t ns) (head_above s n ns up) (more (ltb-true n.ticket t e) (rest_above s n ns up))
+    by false e true f more = ap (are_above s) (if_false (nat_lt n.ticket t) (n ∷ with_ticket t ns) (if n.ticket == t then n ∷ ns else new_note t ∷ n ∷ ns) e ∙ if_true (n.ticket == t) (n ∷ ns) (new_note t ∷ n ∷ ns) f) ∙ up
+    by false e false f more = ap (are_above s) (if_false (nat_lt n.ticket t) (n ∷ with_ticket t ns) (if n.ticket == t then n ∷ ns else new_note t ∷ n ∷ ns) e ∙ if_false (n.ticket == t) (n ∷ ns) (new_note t ∷ n ∷ ns) f)
+        ∙ above_cons s (new_note t) (n ∷ ns) lt (above_cons t n ns (strict n.ticket t (ltb-false n.ticket t e) (λ same. false≢true (sym f ∙ eq-eqb n.ticket t same))) (rest_above s n ns up))
+
+pub rising_with : (t : ℕ) (ns : List Note) → are_rising ns ≡ true → are_rising (with_ticket t ns) ≡ true
+rising_with t [] up = refl
+rising_with t (n ∷ ns) up = by (nat_lt n.ticket t) refl (n.ticket == t) refl
+  where
+    by : (u : Bool) → nat_lt n.ticket t ≡ u → (v : Bool) → (n.ticket == t) ≡ v → are_rising (with_ticket t (n ∷ ns)) ≡ true
+    by true e v f = ap are_rising (if_true (nat_lt n.ticket t) (n ∷ with_ticket t ns) (if n.ticket == t then n ∷ ns else new_note t ∷ n ∷ ns) e) ∙ above_with n.ticket t ns (ltb-true n.ticket t e) up
+    by false e true f = ap are_rising (if_false (nat_lt n.ticket t) (n ∷ with_ticket t ns) (if n.ticket == t then n ∷ ns else new_note t ∷ n ∷ ns) e ∙ if_true (n.ticket == t) (n ∷ ns) (new_note t ∷ n ∷ ns) f) ∙ up
+    by false e false f = ap are_rising (if_false (nat_lt n.ticket t) (n ∷ with_ticket t ns) (if n.ticket == t then n ∷ ns else new_note t ∷ n ∷ ns) e ∙ if_false (n.ticket == t) (n ∷ ns) (new_note t ∷ n ∷ ns) f)
+        ∙ above_cons t n ns (strict n.ticket t (ltb-false n.ticket t e) (λ same. false≢true (sym f ∙ eq-eqb n.ticket t same))) up
+
+pub expected_with : (t u : ℕ) (ns : List Note) → is_expected u (with_ticket t ns) ≡ (t == u || is_expected u ns)
+expected_with t u [] = here (t == u)
+  where
+    here : (v : Bool) → (if v then true else false) ≡ (v || false)
+    here true = refl
+    here false = refl
+expected_with t u (n ∷ ns) = by (nat_lt n.ticket t) refl (n.ticket == t) refl (expected_with t u ns)
+  where
+    shift : (v w x y : Bool) → x ≡ (w || y) → (if v then true else x) ≡ (w || (if v then true else y))
+    shift true true x y e = refl
+    shift true false x y e = refl
+    shift false w x y e = e
+
+    twice : (v w y : Bool) → v ≡ w → (if v then true else y) ≡ (w || (if v then true else y))
+    twice true true y e = refl
+    twice true false y e = absurd (false≢true (sym e))
+    twice false true y e = absurd (false≢true e)
+    twice false false y e = refl
+
+    first : (w y : Bool) → (if w then true else y) ≡ (w || y)
+    first true y = refl
+    first false y = refl
+
+    by : (c : Bool) → nat_lt n.ticket t ≡ c → (v : Bool) → (n.ticket == t) ≡ v → is_expected u (with_ticket t ns) ≡ (t == u || is_expected u ns) → is_expected u (with_ticket t (n ∷ ns)) ≡ (t == u || is_expected u (n ∷ ns))
+    by true e v f more = ap (is_expected u) (if_true (nat_lt n.ticket t) (n ∷ with_ticket t ns) (if n.ticket == t then n ∷ ns else new_note t ∷ n ∷ ns) e) ∙ shift (n.ticket == u) (t == u) (is_expected u (with_ticket t ns)) (is_expected u ns) more
+    by false e true f more = ap (is_expected u) (if_false (nat_lt n.ticket t) (n ∷ with_ticket t ns) (if n.ticket == t then n ∷ ns else new_note t ∷ n ∷ ns) e ∙ if_true (n.ticket == t) (n ∷ ns) (new_note t ∷ n ∷ ns) f)
+        ∙ twice (n.ticket == u) (t == u) (is_expected u ns) (ap (λ k. k == u) (eqb-true n.ticket t f))
+    by false e false f more = ap (is_expected u) (if_false (nat_lt n.ticket t) (n ∷ with_ticket t ns) (if n.ticket == t then n ∷ ns else new_note t ∷ n ∷ ns) e ∙ if_false (n.ticket == t) (n ∷ ns) (new_note t ∷ n ∷ ns) f)
+        ∙ first (t == u) (is_expected u (n ∷ ns))
+
+pub noticed_with : (t u : ℕ) (ns : List Note) → are_rising ns ≡ true → is_noticed u (with_ticket t ns) ≡ is_noticed u ns
+noticed_with t u [] up = here (t == u)
+  where
+    here : (v : Bool) → (if v then false else false) ≡ false
+    here true = refl
+    here false = refl
+noticed_with t u (n ∷ ns) up = by (nat_lt n.ticket t) refl (n.ticket == t) refl (noticed_with t u ns (rises n.ticket ns up))
+  where
+    none : (w : Bool) → (t == u) ≡ w → is_noticed t (n ∷ ns) ≡ false → (if w then false else is_noticed u (n ∷ ns)) ≡ is_noticed u (n ∷ ns)
+    none true same e = sym (ap (λ k. is_noticed k (n ∷ ns)) (sym (eqb-true t u same)) ∙ e)
+    none false same e = refl
+
+    by : (c : Bool) → nat_lt n.ticket t ≡ c → (v : Bool) → (n.ticket == t) ≡ v → is_noticed u (with_ticket t ns) ≡ is_noticed u ns → is_noticed u (with_ticket t (n ∷ ns)) ≡ is_noticed u (n ∷ ns)
+    by true e v f more = ap (is_noticed u) (if_true (nat_lt n.ticket t) (n ∷ with_ticket t ns) (if n.ticket == t then n ∷ ns else new_note t ∷ n ∷ ns) e) ∙ ap (λ b. if n.ticket == u then n.noticed else b) more
+    by false e true f more = ap (is_noticed u) (if_false (nat_lt n.ticket t) (n ∷ with_ticket t ns) (if n.ticket == t then n ∷ ns else new_note t ∷ n ∷ ns) e ∙ if_true (n.ticket == t) (n ∷ ns) (new_note t ∷ n ∷ ns) f)
+    by false e false f more = ap (is_noticed u) (if_false (nat_lt n.ticket t) (n ∷ with_ticket t ns) (if n.ticket == t then n ∷ ns else new_note t ∷ n ∷ ns) e ∙ if_false (n.ticket == t) (n ∷ ns) (new_note t ∷ n ∷ ns) f)
+        ∙ none (t == u) refl (if_false (n.ticket == t) n.noticed (is_noticed t ns) f ∙ no_mark_above t n.ticket ns (ltb-false n.ticket t e) up)
+
+-- The set with a ticket less.
+
+pub above_without : (s t : ℕ) (ns : List Note) → are_above s ns ≡ true → are_above s (without_ticket t ns) ≡ true
+above_without s t [] up = refl
+above_without s t (n ∷ ns) up = by (n.ticket == t) refl (above_without n.ticket t ns (rest_above s n ns up))
+  where
+    by : (v : Bool) → (n.ticket == t) ≡ v → are_above n.ticket (without_ticket t ns) ≡ true → are_above s (without_ticket t (n ∷ ns)) ≡ true
+    by true e more = ap (are_above s) (if_true (n.ticket == t) ns (n ∷ without_ticket t ns) e) ∙ lower s n.ticket ns (omega (arith, head_above s n ns up)) (rest_above s n ns up)
+    by false e more = ap (are_above s) (if_false (n.ticket == t) ns (n ∷ without_ticket t ns) e) ∙ above_cons s n (without_ticket t ns) (head_above s n ns up) more
+
+pub rising_without : (t : ℕ) (ns : List Note) → are_rising ns ≡ true → are_rising (without_ticket t ns) ≡ true
+rising_without t [] up = refl
+rising_without t (n ∷ ns) up = by (n.ticket == t) refl
+  where
+    by : (v : Bool) → (n.ticket == t) ≡ v → are_rising (without_ticket t (n ∷ ns)) ≡ true
+    by true e = ap are_rising (if_true (n.ticket == t) ns (n ∷ without_ticket t ns) e) ∙ rises n.ticket ns up
+    by false e = ap are_rising (if_false (n.ticket == t) ns (n ∷ without_ticket t ns) e) ∙ above_without n.ticket t ns up
+
+pub expected_without : (t u : ℕ) (ns : List Note) → are_rising ns ≡ true → is_expected u (without_ticket t ns) ≡ (not (t == u) && is_expected u ns)
+expected_without t u [] up = here (t == u)
+  where
+    here : (v : Bool) → false ≡ (not v && false)
+    here true = refl
+    here false = refl
+expected_without t u (n ∷ ns) up = by (n.ticket == t) refl (expected_without t u ns (rises n.ticket ns up))
+  where
+    shift : (v w x y : Bool) → (v ≡ true → w ≡ false) → x ≡ (not w && y) → (if v then true else x) ≡ (not w && (if v then true else y))
+    shift true true x y other e = absurd (false≢true (sym (other refl)))
+    shift true false x y other e = refl
+    shift false w x y other e = e
+
+    apart : (n.ticket == t) ≡ false → (n.ticket == u) ≡ true → (t == u) ≡ false
+    apart f own = eqb_not t u (λ same. false≢true (sym f ∙ eq-eqb n.ticket t (eqb-true n.ticket u own ∙ sym same)))
+
+    gone : (w : Bool) → (t == u) ≡ w → (n.ticket == t) ≡ true → is_expected u ns ≡ (not w && (if n.ticket == u then true else is_expected u ns))
+    gone true same f = ap (λ k. is_expected k ns) (sym (eqb-true t u same)) ∙ not_above t n.ticket ns (omega (arith, eqb-true n.ticket t f)) up
+    gone false same f = sym (if_false (n.ticket == u) true (is_expected u ns) (ap (λ k. k == u) (eqb-true n.ticket t f) ∙ same))
+
+    by : (v : Bool) → (n.ticket == t) ≡ v → is_expected u (without_ticket t ns) ≡ (not (t == u) && is_expected u ns) → is_expected u (without_ticket t (n ∷ ns)) ≡ (not (t == u) && is_expected u (n ∷ ns))
+    by true f more = ap (is_expected u) (if_true (n.ticket == t) ns (n ∷ without_ticket t ns) f) ∙ gone (t == u) refl f
+    by false f more = ap (is_expected u) (if_false (n.ticket == t) ns (n ∷ without_ticket t ns) f) ∙ shift (n.ticket == u) (t == u) (is_expected u (without_ticket t ns)) (is_expected u ns) (apart f) more
+
+pub noticed_without : (t u : ℕ) (ns : List Note) → are_rising ns ≡ true → is_noticed u (without_ticket t ns) ≡ (not (t == u) && is_noticed u ns)
+noticed_without t u [] up = here (t == u)
+  where
+    here : (v : Bool) → false ≡ (not v && false)
+    here true = refl
+    here false = refl
+noticed_without t u (n ∷ ns) up = by (n.ticket == t) refl (noticed_without t u ns (rises n.ticket ns up))
+  where
+    shift : (v w m x y : Bool) → (v ≡ true → w ≡ false) → x ≡ (not w && y) → (if v then m else x) ≡ (not w && (if v then m else y))
+    shift true true m x y other e = absurd (false≢true (sym (other refl)))
+    shift true false true x y other e = refl
+    shift true false false x y other e = refl
+    shift false w m x y other e = e
+
+    apart : (n.ticket == t) ≡ false → (n.ticket == u) ≡ true → (t == u) ≡ false
+    apart f own = eqb_not t u (λ same. false≢true (sym f ∙ eq-eqb n.ticket t (eqb-true n.ticket u own ∙ sym same)))
+
+    gone : (w : Bool) → (t == u) ≡ w → (n.ticket == t) ≡ true → is_noticed u ns ≡ (not w && (if n.ticket == u then n.noticed else is_noticed u ns))
+    gone true same f = ap (λ k. is_noticed k ns) (sym (eqb-true t u same)) ∙ no_mark_above t n.ticket ns (omega (arith, eqb-true n.ticket t f)) up
+    gone false same f = sym (if_false (n.ticket == u) n.noticed (is_noticed u ns) (ap (λ k. k == u) (eqb-true n.ticket t f) ∙ same))
+
+    by : (v : Bool) → (n.ticket == t) ≡ v → is_noticed u (without_ticket t ns) ≡ (not (t == u) && is_noticed u ns) → is_noticed u (without_ticket t (n ∷ ns)) ≡ (not (t == u) && is_noticed u (n ∷ ns))
+    by true f more = ap (is_noticed u) (if_true (n.ticket == t) ns (n ∷ without_ticket t ns) f) ∙ gone (t == u) refl f
+    by false f more = ap (is_noticed u) (if_false (n.ticket == t) ns (n ∷ without_ticket t ns) f) ∙ shift (n.ticket == u) (t == u) n.noticed (is_noticed u (without_ticket t ns)) (is_noticed u ns) (apart f) more
+
+-- The set with a mark.
+
+above_set : (s t : ℕ) (ns : List Note) (at : ℕ) → ((n : Note) → slice_get ns at ≡ Some n → n.ticket ≡ t) → are_above s ns ≡ true → are_above s (slice_set ns at (marked t)) ≡ true
+above_set s t [] at own up = refl
+above_set s t (n ∷ ns) zero own up = subst (λ k. (nat_lt s k && are_above k ns) ≡ true) (own n refl) up
+above_set s t (n ∷ ns) (suc at) own up = above_cons s n (slice_set ns at (marked t)) (head_above s n ns up) (above_set n.ticket t ns at own (rest_above s n ns up))
+
+pub rising_set : (t : ℕ) (ns : List Note) (at : ℕ) → ((n : Note) → slice_get ns at ≡ Some n → n.ticket ≡ t) → are_rising ns ≡ true → are_rising (slice_set ns at (marked t)) ≡ true
+rising_set t [] at own up = refl
+rising_set t (n ∷ ns) zero own up = subst (λ k. are_above k ns ≡ true) (own n refl) up
+rising_set t (n ∷ ns) (suc at) own up = above_set n.ticket t ns at own up
+
+-- The set without the tickets of a list.
+
+among_more : (u : ℕ) (ts : List ℕ) (k : ℕ) → k < length ts → is_among u (take (k + 1) ts) ≡ (slice_index_or ts k 0 == u || is_among u (take k ts))
+among_more u [] k lt = absurd (omega arith)
+among_more u (t ∷ ts) zero lt = first (t == u)
+  where
+    first : (v : Bool) → (if v then true else false) ≡ (v || false)
+    first true = refl
+    first false = refl
+among_more u (t ∷ ts) (suc k) lt = ap (λ m. is_among u (take m (t ∷ ts))) (one k) ∙ shift (t == u) (slice_index_or ts k 0 == u) (is_among u (take (k + 1) ts)) (is_among u (take k ts)) (among_more u ts k (omega arith))
+  where
+    one : (k : ℕ) → suc k + 1 ≡ suc (k + 1)
+    one k = omega arith
+
+    shift : (v w x y : Bool) → x ≡ (w || y) → (if v then true else x) ≡ (w || (if v then true else y))
+    shift true true x y e = refl
+    shift true false x y e = refl
+    shift false w x y e = e
+
+pub without_more : (u : ℕ) (ts : List ℕ) (k : ℕ) (x b : Bool) → k < length ts → x ≡ (not (is_among u (take k ts)) && b) → (not (slice_index_or ts k 0 == u) && x) ≡ (not (is_among u (take (k + 1) ts)) && b)
+without_more u ts k x b lt e = ap (λ y. not (slice_index_or ts k 0 == u) && y) e ∙ joined (slice_index_or ts k 0 == u) (is_among u (take k ts)) ∙ ap (λ y. not y && b) (sym (among_more u ts k lt))
+  where
+    joined : (v w : Bool) → (not v && (not w && b)) ≡ (not (v || w) && b)
+    joined true w = refl
+    joined false w = refl

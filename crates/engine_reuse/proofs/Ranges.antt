@@ -1,0 +1,101 @@
+-- What a test keeps of a range of numbers.
+use Rattle.std.proofs.Common.{◌≡◌, ◌≢◌, ℕ, zero, suc, ◌+◌, ◌<◌, ◌≤◌, ◌==◌, ◌&&◌, ◌||◌, Bool, true, false, cond, ◌⊎◌, inl, inr, List, [], ◌∷◌, ◌++◌, length, filter, refl, sym, ap, ap₂, ◌∙◌, arith}
+use Rattle.std.proofs.Math.Bool.{and-false}
+use Rattle.std.proofs.lemmas.Bool.{cases_eq, eq-eqb, eqb-true, ne_eqb, cond-true, cond-false, false≢true}
+use Rattle.std.proofs.lemmas.List.Elements.{filter-append}
+use Rattle.std.specs.List.{range_with_len}
+use Rattle.engine_reuse.specs.Numbers.{is_among}
+
+-- a number passes the filter where it is there and passes the test
+pub among-filter : (p : ℕ → Bool) (b : ℕ) (xs : List ℕ) → is_among b (filter p xs) ≡ (p b && is_among b xs)
+among-filter p b [] = sym (and-false (p b))
+among-filter p b (x ∷ xs) = by (p x) refl (among-filter p b xs)
+  where
+    kept : (t u v : Bool) → (t ≡ true → u ≡ true) → (t || (u && v)) ≡ (u && (t || v))
+    kept true true v same = refl
+    kept true false v same = absurd (false≢true (same refl))
+    kept false u v same = refl
+
+    left_out : (t u v : Bool) → (t ≡ true → u ≡ false) → (u && v) ≡ (u && (t || v))
+    left_out true true v same = absurd (false≢true (sym (same refl)))
+    left_out true false v same = refl
+    left_out false u v same = refl
+
+    by : (t : Bool) → p x ≡ t → is_among b (filter p xs) ≡ (p b && is_among b xs) → is_among b (cond (p x) (x ∷ filter p xs) (filter p xs)) ≡ (p b && ((x == b) || is_among b xs))
+    by true is rest =
+        ap (is_among b) (cond-true (p x) (x ∷ filter p xs) (filter p xs) is) ∙ ap (λ v. (x == b) || v) rest
+        ∙ kept (x == b) (p b) (is_among b xs) (λ same. ap p (sym (eqb-true x b same)) ∙ is)
+    by false is rest =
+        ap (is_among b) (cond-false (p x) (x ∷ filter p xs) (filter p xs) is) ∙ rest
+        ∙ left_out (x == b) (p b) (is_among b xs) (λ same. ap p (sym (eqb-true x b same)) ∙ is)
+
+-- a number is in a range, or it isn't
+pub among_inside : (b a n : ℕ) → a ≤ b → b < a + n → is_among b (range_with_len a n) ≡ true
+among_inside b a zero low high = absurd (omega (arith, low, high))
+among_inside b a (suc n) low high = by (cases_eq a b) (λ d. among_inside b (a + 1) n (omega (arith, low, d)) (omega (arith, high)))
+  where
+    rest : (t u : Bool) → u ≡ true → (t || u) ≡ true
+    rest true u e = refl
+    rest false u e = e
+
+    by : (a ≡ b) ⊎ (a ≢ b) → (a ≢ b → is_among b (range_with_len (a + 1) n) ≡ true) → ((a == b) || is_among b (range_with_len (a + 1) n)) ≡ true
+    by (inl e) later = ap (λ t. t || is_among b (range_with_len (a + 1) n)) (eq-eqb a b e)
+    by (inr d) later = rest (a == b) (is_among b (range_with_len (a + 1) n)) (later d)
+
+pub among_outside : (b a n : ℕ) → (b < a) ⊎ (a + n ≤ b) → is_among b (range_with_len a n) ≡ false
+among_outside b a zero out = refl
+among_outside b a (suc n) out =
+    ap (λ t. t || is_among b (range_with_len (a + 1) n)) (ne_eqb a b (apart out)) ∙ among_outside b (a + 1) n (later out)
+  where
+    apart : (b < a) ⊎ (a + suc n ≤ b) → a ≡ b → ⊥
+    apart (inl l) e = omega (arith, l, e)
+    apart (inr h) e = omega (arith, h, e)
+
+    later : (b < a) ⊎ (a + suc n ≤ b) → (b < a + 1) ⊎ (a + 1 + n ≤ b)
+    later (inl l) = inl (omega (arith, l))
+    later (inr h) = inr (omega (arith, h))
+
+-- two tests that agree on a range keep the same of it
+pub same_from : (p q : ℕ → Bool) (a n : ℕ) → ((b : ℕ) → a ≤ b → b < a + n → p b ≡ q b) → filter p (range_with_len a n) ≡ filter q (range_with_len a n)
+same_from p q a zero same = refl
+same_from p q a (suc n) same =
+    ap₂ (λ x rest. cond x (a ∷ rest) rest) (same a (omega arith) (omega arith)) (same_from p q (a + 1) n (λ b from below. same b (omega (arith, from)) (omega (arith, below))))
+
+-- nothing is kept where nothing passes
+pub none_from : (p : ℕ → Bool) (a n : ℕ) → ((b : ℕ) → a ≤ b → b < a + n → p b ≡ false) → filter p (range_with_len a n) ≡ []
+none_from p a zero fails = refl
+none_from p a (suc n) fails =
+    cond-false (p a) (a ∷ filter p (range_with_len (a + 1) n)) (filter p (range_with_len (a + 1) n)) (fails a (omega arith) (omega arith))
+    ∙ none_from p (a + 1) n (λ b from below. fails b (omega (arith, from)) (omega (arith, below)))
+
+-- what is kept of a range is what is kept of its two parts
+range_split : (a m k : ℕ) → range_with_len a (m + k) ≡ range_with_len a m ++ range_with_len (a + m) k
+range_split a zero k = ap₂ range_with_len {x = a} {y = a + 0} {u = 0 + k} {v = k} (omega arith) (omega arith)
+range_split a (suc m) k =
+    ap (range_with_len a) {x = suc m + k} {y = suc (m + k)} (omega arith)
+    ∙ ap (λ rest. a ∷ rest) (range_split (a + 1) m k)
+    ∙ ap (λ s. a ∷ (range_with_len (a + 1) m ++ range_with_len s k)) {x = a + 1 + m} {y = a + suc m} (omega arith)
+
+pub kept_split : (p : ℕ → Bool) (a m k : ℕ) → filter p (range_with_len a (m + k)) ≡ filter p (range_with_len a m) ++ filter p (range_with_len (a + m) k)
+kept_split p a m k = ap (filter p) (range_split a m k) ∙ filter-append p (range_with_len a m) (range_with_len (a + m) k)
+
+-- the tests differ at one number, which only the first of them keeps: it keeps one more
+pub one_more : (p q : ℕ → Bool) (b a n : ℕ) → a ≤ b → b < a + n → p b ≡ true → q b ≡ false → ((k : ℕ) → k ≢ b → q k ≡ p k)
+    → length (filter p (range_with_len a n)) ≡ length (filter q (range_with_len a n)) + 1
+one_more p q b a zero low high has hasnt same = absurd (omega (arith, low, high))
+one_more p q b a (suc n) low high has hasnt same = by (cases_eq a b) (λ d. one_more p q b (a + 1) n (omega (arith, low, d)) (omega (arith, high)) has hasnt same)
+  where
+    more : (t : Bool) (xs ys : List ℕ) → length xs ≡ length ys + 1 → length (cond t (a ∷ xs) xs) ≡ length (cond t (a ∷ ys) ys) + 1
+    more true xs ys e = omega (arith, e)
+    more false xs ys e = e
+
+    by : (a ≡ b) ⊎ (a ≢ b) → (a ≢ b → length (filter p (range_with_len (a + 1) n)) ≡ length (filter q (range_with_len (a + 1) n)) + 1)
+        → length (filter p (range_with_len a (suc n))) ≡ length (filter q (range_with_len a (suc n))) + 1
+    by (inl e) later =
+        ap length (cond-true (p a) (a ∷ filter p (range_with_len (a + 1) n)) (filter p (range_with_len (a + 1) n)) (ap p e ∙ has))
+        ∙ ap (λ xs. length (a ∷ xs)) (same_from p q (a + 1) n (λ k from below. sym (same k (λ is. omega (arith, is, from, e)))))
+        ∙ omega arith
+        ∙ ap (λ xs. length xs + 1) (sym (cond-false (q a) (a ∷ filter q (range_with_len (a + 1) n)) (filter q (range_with_len (a + 1) n)) (ap q e ∙ hasnt)))
+    by (inr d) later =
+        more (p a) (filter p (range_with_len (a + 1) n)) (filter q (range_with_len (a + 1) n)) (later d)
+        ∙ ap (λ t. length (cond t (a ∷ filter q (range_with_len (a + 1) n)) (filter q (range_with_len (a + 1) n))) + 1) (sym (same a d))

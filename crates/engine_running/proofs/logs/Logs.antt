@@ -1,0 +1,127 @@
+-- Writes join a log one by one.
+use Rattle.std.proofs.Common.{◌≡◌, ◌⊎◌, ⊎_elim, inl, inr, Bool, false, ℕ, zero, suc, ◌+◌, ◌<◌, ◌≤◌, List, [], ◌∷◌, ◌++◌, length, take, drop, slice_get, Some, Result, Ok, Err, IsErr, refl, sym, ◌∙◌, ap, subst, arith, append_assoc, append-nil}
+use Rattle.std.proofs.lemmas.Bool.{false≢true}
+use Rattle.std.proofs.lemmas.List.{take_all, take-append-drop}
+use Rattle.std.proofs.lemmas.Option.{same_Some}
+use Rattle.disk_contract.specs.declared.event.Event.{Event}
+use Rattle.disk_contract.specs.declared.event.Event.TheVariants.{Wrote, Lost}
+use Rattle.disk_contract.specs.Cell.{greatest_ticket, IsNoticed}
+use Rattle.base_types.specs.Counts.{after_call}
+use Rattle.disk_contract.specs.Disk.{State, OnlyWrites}
+use Rattle.layout_geometry.specs.Geometry.{Geometry, ring_block}
+use Rattle.crash_argument.specs.Writes.{AddsWrites, AddsFront, AddsAll, HasWritten}
+use Rattle.engine_running.specs.Writes.{ring_writes}
+use Rattle.engine_running.proofs.spelling.Forms.{push, drop_get}
+
+-- writes behind others
+pub adds_then : (vs ws : List (ℕ × List ℕ)) (ts us : List ℕ) (old mid new : List Event) → AddsWrites vs ts old mid → AddsWrites ws us mid new → AddsWrites (vs ++ ws) (ts ++ us) old new
+adds_then [] ws [] us old mid new one two = subst (λ (l : List Event). AddsWrites ws us l new) one two
+adds_then [] ws (t ∷ ts) us old mid new one two = absurd one
+adds_then (v ∷ vs) ws [] us old mid new one two = absurd one
+adds_then (v ∷ vs) ws (t ∷ ts) us old mid new one two = (one.0, one.1, adds_then vs ws ts us (old ++ Wrote t v.0 v.1 ∷ []) mid new one.2 two)
+
+-- before the first
+pub none_written : (ws : List (ℕ × List ℕ)) (start : List ℕ) (old : List Event) → HasWritten ws 0 start start old old
+none_written ws start old = ([], sym (append-nil start), refl)
+
+-- one more
+pub one_more : (ws : List (ℕ × List ℕ)) (k b : ℕ) (x : List ℕ) (t : ℕ) (start now next : List ℕ) (old mid new : List Event) → slice_get ws k ≡ Some (b, x) → next ≡ now ++ t ∷ [] → HasWritten ws k start now old mid → (greatest_ticket mid < t) × (¬ IsNoticed t mid) × (new ≡ mid ++ Wrote t b x ∷ [])
+    → HasWritten ws (k + 1) start next old new
+one_more ws k b x t start now next old mid new is joined so_far a = (
+  so_far.0 ++ t ∷ [],
+  joined ∙ ap (λ (l : List ℕ). l ++ t ∷ []) so_far.1 ∙ append_assoc start so_far.0 (t ∷ []),
+  subst (λ (l : List (ℕ × List ℕ)). AddsWrites l (so_far.0 ++ t ∷ []) old new) (push ws k (b, x) is) (adds_then (take k ws) ((b, x) ∷ []) so_far.0 (t ∷ []) old mid new so_far.2 a),
+)
+
+-- all of them
+pub all_written : (ws : List (ℕ × List ℕ)) (k : ℕ) (start now : List ℕ) (old new : List Event) → length ws ≤ k → HasWritten ws k start now old new → (ts : List ℕ) × (now ≡ start ++ ts) × AddsWrites ws ts old new
+all_written ws k start now old new le so_far = (so_far.0, so_far.1, subst (λ (l : List (ℕ × List ℕ)). AddsWrites l so_far.0 old new) (take_all k ws le) so_far.2)
+
+-- or the next of them fails
+pub front_lost : (ws : List (ℕ × List ℕ)) (k b : ℕ) (x : List ℕ) (start now : List ℕ) (old mid new : List Event) → slice_get ws k ≡ Some (b, x) → HasWritten ws k start now old mid → (new ≡ mid) ⊎ (new ≡ mid ++ Lost b x ∷ []) → AddsFront ws old new
+front_lost ws k b x start now old mid new is so_far a = record {
+  front = take k ws;
+  rest = drop k ws;
+  split = sym (take-append-drop k ws);
+  tickets = so_far.0;
+  middle = mid;
+  accepted = so_far.2;
+  ends = ⊎_elim (λ same. inl same) (λ lost. inr (b, x, drop (k + 1) ws, drop_get ws k (b, x) is, lost)) a;
+}
+
+pub front_written : {A E : Type 0} (ws : List (ℕ × List ℕ)) (k b : ℕ) (x : List ℕ) (r : Result A E) (start now next : List ℕ) (old mid new : List Event) → IsErr r → slice_get ws k ≡ Some (b, x) → HasWritten ws k start now old mid → (new ≡ mid) ⊎ (new ≡ mid ++ Lost b x ∷ [])
+    → AddsAll ws r start next old new
+front_written ws k b x (Ok a) start now next old mid new e is so_far a2 = absurd (false≢true e)
+front_written ws k b x (Err e2) start now next old mid new e is so_far a = front_lost ws k b x start now old mid new is so_far a
+
+-- the tickets of some calls behind those of others
+pub then_all : (vs ws : List (ℕ × List ℕ)) (start mid now : List ℕ) (a b c : List Event) → ((ts : List ℕ) × (mid ≡ start ++ ts) × AddsWrites vs ts a b) → ((us : List ℕ) × (now ≡ mid ++ us) × AddsWrites ws us b c)
+    → (us : List ℕ) × (now ≡ start ++ us) × AddsWrites (vs ++ ws) us a c
+then_all vs ws start mid now a b c one two = (one.0 ++ two.0, two.1 ∙ ap (λ (l : List ℕ). l ++ two.0) one.1 ∙ append_assoc start one.0 two.0, adds_then vs ws one.0 two.0 a b c one.2 two.2)
+
+-- a front of the first writes
+pub front_first : (vs ws : List (ℕ × List ℕ)) (a b : List Event) → AddsFront vs a b → AddsFront (vs ++ ws) a b
+front_first vs ws a b f = record {
+  front = f.front;
+  rest = f.rest ++ ws;
+  split = ap (λ (l : List (ℕ × List ℕ)). l ++ ws) f.split ∙ append_assoc f.front f.rest ws;
+  tickets = f.tickets;
+  middle = f.middle;
+  accepted = f.accepted;
+  ends = ⊎_elim (λ same. inl same) (λ lost. inr (lost.0, lost.1, lost.2 ++ ws, ap (λ (l : List (ℕ × List ℕ)). l ++ ws) lost.3, lost.4)) f.ends;
+}
+
+-- all of the first writes, and a front of those behind them
+pub front_behind : (vs ws : List (ℕ × List ℕ)) (ts : List ℕ) (a b c : List Event) → AddsWrites vs ts a b → AddsFront ws b c → AddsFront (vs ++ ws) a c
+front_behind vs ws ts a b c one f = record {
+  front = vs ++ f.front;
+  rest = f.rest;
+  split = ap (λ (l : List (ℕ × List ℕ)). vs ++ l) f.split ∙ sym (append_assoc vs f.front f.rest);
+  tickets = ts ++ f.tickets;
+  middle = f.middle;
+  accepted = adds_then vs f.front ts f.tickets a b f.middle one f.accepted;
+  ends = f.ends;
+}
+
+-- one write that failed
+pub front_one : (b : ℕ) (x : List ℕ) (old new : List Event) → (new ≡ old) ⊎ (new ≡ old ++ Lost b x ∷ []) → AddsFront ((b, x) ∷ []) old new
+front_one b x old new a = record { front = []; rest = (b, x) ∷ []; split = refl; tickets = []; middle = old; accepted = refl; ends = ⊎_elim (λ same. inl same) (λ lost. inr (b, x, [], refl, lost)) a }
+
+-- a write into the ring among those from a place on
+pub ring_write_is : (g : Geometry) (place : ℕ) (xs : List (List ℕ)) (k : ℕ) (x : List ℕ) → slice_get xs k ≡ Some x → slice_get (ring_writes g place xs) k ≡ Some (ring_block g (place + k), x)
+ring_write_is g place [] k x e = cc
+ring_write_is g place (y ∷ xs) zero x e = ap (λ n. Some (ring_block g n, y)) (z place) ∙ ap (λ (w : List ℕ). Some (ring_block g (place + 0), w)) (same_Some _ _ e)
+  where
+    z : (n : ℕ) → n ≡ n + 0
+    z n = omega arith
+ring_write_is g place (y ∷ xs) (suc k) x e = ring_write_is g (place + 1) xs k x e ∙ ap (λ n. Some (ring_block g n, x)) (s place k)
+  where
+    s : (a b : ℕ) → a + 1 + b ≡ a + suc b
+    s a b = omega arith
+
+pub length_ring_writes : (g : Geometry) (place : ℕ) (xs : List (List ℕ)) → length (ring_writes g place xs) ≡ length xs
+length_ring_writes g place [] = refl
+length_ring_writes g place (x ∷ xs) = omega (arith, length_ring_writes g (place + 1) xs)
+
+-- nothing is spent by no call
+pub still : (s : State) → OnlyWrites false s s
+still s = record { same = record { blocks = refl; base = refl; manner = refl }; faults = refl; read_faults = refl; waits = refl; polls = refl }
+
+-- and writes behind writes of which none failed only write
+pub still_more : (failed : Bool) (old mid new : State) → OnlyWrites false old mid → OnlyWrites failed mid new → OnlyWrites failed old new
+still_more failed old mid new so_far more = record {
+  same = record { blocks = more.same.blocks ∙ so_far.same.blocks; base = more.same.base ∙ so_far.same.base; manner = more.same.manner ∙ so_far.same.manner };
+  faults = more.faults ∙ ap (after_call failed) so_far.faults;
+  read_faults = more.read_faults ∙ so_far.read_faults;
+  waits = more.waits ∙ so_far.waits;
+  polls = more.polls ∙ so_far.polls;
+}
+
+-- where a call failed, a front is what is asked for
+pub all_err : {A E : Type 0} (ws : List (ℕ × List ℕ)) (r : Result A E) (start now : List ℕ) (old new : List Event) → IsErr r → AddsFront ws old new → AddsAll ws r start now old new
+all_err ws (Ok a) start now old new e f = absurd (false≢true e)
+all_err ws (Err a) start now old new e f = f
+
+pub all_front : {A E : Type 0} (ws : List (ℕ × List ℕ)) (r : Result A E) (start now : List ℕ) (old new : List Event) → IsErr r → AddsAll ws r start now old new → AddsFront ws old new
+all_front ws (Ok a) start now old new e f = absurd (false≢true e)
+all_front ws (Err a) start now old new e f = f

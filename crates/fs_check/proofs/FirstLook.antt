@@ -1,0 +1,88 @@
+-- The first look at the nodes, one node more, and all of them.
+use Rattle.std.proofs.Common.{◌≡◌, ◌≢◌, ℕ, zero, suc, ◌+◌, ◌/◌, ◌<◌, ◌≤◌, Bool, true, false, ◌&&◌, nat_le, List, [], ◌∷◌, ◌++◌, length, Option, None, Some, option_map, refl, sym, ap, ◌∙◌, arith, subst, ◌⊎◌, inl, inr}
+use Rattle.std.proofs.lemmas.Bool.{cases_lt, ne_eqb, lt-leb}
+use Rattle.std.proofs.lemmas.List.{get_or_append_left, get_or_push, get_or_past}
+use Rattle.std.proofs.lemmas.Option.{none-some, same_Some}
+use Rattle.base_types.specs.Seal.{Blocks}
+use Rattle.layout_geometry.specs.Geometry.{Geometry}
+use Rattle.layout_bytes.specs.declared.node.Node.{Node}
+use Rattle.layout_bytes.specs.declared.node.NodeKind.{NodeKind}
+use Rattle.layout_bytes.specs.declared.node.NodeKind.TheVariants as kind
+use Rattle.layout_bytes.specs.Bytes.{when}
+use Rattle.layout_bytes.specs.Node.{node_at}
+use Rattle.crash_stands.specs.Files.{FileNode, Files, file_of, files_of}
+use Rattle.crash_stands.specs.Inodes.{ADir, inode_by, inode_of}
+use Rattle.layout_bytes.specs.Slot.{slots_in}
+use Rattle.fs_files.specs.declared.look.FileFacts.{FileFacts}
+use Rattle.fs_files.specs.Calls.{facts_of}
+use Rattle.fs_check.specs.declared.damage.TreeDamage.{TreeDamage}
+use Rattle.fs_check.specs.declared.looked.Looked.{Looked}
+use Rattle.fs_check.specs.declared.looked.Looked.TheVariants.{Unused}
+use Rattle.fs_check.specs.Damage.{IsBroken}
+use Rattle.fs_check.specs.Looked.{seen, IsSeen, IsSeenAs, IsLookOf, IsLookAs, HasWrongLink, AreSeen}
+
+look_as : (x : FileNode) (k : NodeKind) (look : Looked) → IsLookAs k (facts_of x) look → IsSeenAs k x look
+look_as x kind.Free look h = h
+look_as x kind.Dir look h = h
+look_as x kind.File look h = h
+
+-- what is kept of a look is what is seen of the node
+look_seen : (o : Option FileNode) (found : Option FileFacts) (look : Looked) → found ≡ option_map facts_of o → IsLookOf found look → IsSeen o look
+look_seen None found look e h = subst (λ f. IsLookOf f look) e h
+look_seen (Some x) found look e h = look_as x x.kind look (subst (λ f. IsLookOf f look) e h)
+
+-- one node more
+pub seen_push : (files : Files) (nodes : List Looked) (n : ℕ) (found : Option FileFacts) (look : Looked) → length nodes ≡ n → ((k : ℕ) → k < n → IsSeen (files k) (seen nodes k)) → found ≡ option_map facts_of (files n) → IsLookOf found look
+    → (k : ℕ) → k < n + 1 → IsSeen (files k) (seen (nodes ++ look ∷ []) k)
+seen_push files nodes n found look len before e h k low = by (cases_lt k n)
+  where
+    by : (k < n) ⊎ (n ≤ k) → IsSeen (files k) (seen (nodes ++ look ∷ []) k)
+    by (inl less) = subst (IsSeen (files k)) (sym (get_or_append_left nodes (look ∷ []) Unused k (omega (arith, less, len)))) (before k less)
+    by (inr more) =
+        let same : n ≡ k = omega (arith, low, more) in
+        subst (IsSeen (files k)) (sym (get_or_push nodes look Unused k (len ∙ same))) (look_seen (files k) found look (e ∙ ap (λ j. option_map facts_of (files j)) same) h)
+
+-- the first place stays
+pub zero_push : (nodes : List Looked) (n : ℕ) (look : Looked) → length nodes ≡ n → 1 ≤ n → seen nodes 0 ≡ Unused → seen (nodes ++ look ∷ []) 0 ≡ Unused
+zero_push nodes n look len low e = get_or_append_left nodes (look ∷ []) Unused 0 (omega (arith, low, len)) ∙ e
+
+none_by : (a b : Bool) (o : Option Node) → b ≡ false → when (a && b) o ≡ None
+none_by true true o e = absurd cc
+none_by true false o e = refl
+none_by false b o e = refl
+
+-- a number above the limit is that of no node
+none_above : (g : Geometry) (m : Blocks) (k : ℕ) → g.i < k → files_of g m k ≡ None
+none_above g m k h = ap (option_map (file_of m)) (none_by (nat_le 1 k) (nat_le k g.i) (node_at g m k) (lt-leb k g.i h))
+
+-- all nodes were seen
+pub all_seen : (g : Geometry) (m : Blocks) (nodes : List Looked) (n : ℕ) → length nodes ≡ n → g.i < n → ((k : ℕ) → k < n → IsSeen (files_of g m k) (seen nodes k)) → AreSeen (files_of g m) nodes
+all_seen g m nodes n len most before k = by (cases_lt k n)
+  where
+    by : (k < n) ⊎ (n ≤ k) → IsSeen (files_of g m k) (seen nodes k)
+    by (inl less) = before k less
+    by (inr more) = subst (λ o. IsSeen o (seen nodes k)) (sym (none_above g m k (omega (arith, most, more)))) (get_or_past nodes k Unused (omega (arith, len, more)))
+
+wrong_inode : (x : FileNode) → x.kind ≡ kind.Dir → x.links ≢ 1 → inode_of x ≡ None
+wrong_inode x is link =
+    ap (λ k. inode_by k x.links x.bytes) is ∙ ap (λ b. when b (option_map ADir (slots_in (length x.bytes / 64) x.bytes))) (ne_eqb x.links 1 link)
+
+at_facts : (o : Option FileNode) (facts : FileFacts) → Some facts ≡ option_map facts_of o → (x : FileNode) × (o ≡ Some x) × (facts ≡ facts_of x)
+at_facts None facts h = absurd (none-some facts (sym h))
+at_facts (Some x) facts h = (x, refl, same_Some facts (facts_of x) h)
+
+-- a directory with another number of links than one is broken
+pub link_broken : (limit node : ℕ) (files : Files) (found : Option FileFacts) (why : TreeDamage) → found ≡ option_map facts_of (files node) → HasWrongLink node found why → IsBroken limit files why
+link_broken limit node files found why e h =
+    let x = at_facts (files node) h.facts (sym h.there ∙ e) in
+    subst (IsBroken limit files) (sym h.is)
+    (record {
+      file = x.0;
+      used = x.1;
+      unread = wrong_inode x.0 (ap (λ (f : FileFacts). f.kind) (sym x.2) ∙ h.is_dir) (λ l. h.link (ap (λ (f : FileFacts). f.links) x.2 ∙ l));
+    })
+
+-- number 0 is that of no node
+pub first_seen : (g : Geometry) (m : Blocks) (k : ℕ) → k < 1 → IsSeen (files_of g m k) (seen (Unused ∷ []) k)
+first_seen g m zero low = refl
+first_seen g m (suc k) low = absurd (omega (arith, low))

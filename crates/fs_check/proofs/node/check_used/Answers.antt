@@ -1,0 +1,35 @@
+use Rattle.std.proofs.Common.{sym, ap, subst, ◌∙◌, length}
+use Rattle.std.specs.List.{All}
+use Rattle.std.proofs.lemmas.Result.{err_from_is_err_and}
+use Rattle.base_types.specs.Seal.{blocks_of}
+use Rattle.engine_blocks.specs.Puts.{IsData}
+use Rattle.fs_check.specs.Meeting.{HasPlaces}
+use Rattle.fs_check.proofs.sound.Nodes.{places_fit}
+use Rattle.fs_check.proofs.sound.Steps.{all_marked, tail_broken, used_step}
+use Rattle.fs_check.proofs.node.check_used.Goals as goal
+
+pub meet_places-requires-clause-data : goal.meet_places-requires-clause-data
+meet_places-requires-clause-data g c = subst (All (IsData c.args.geom.now)) (sym c.of-places.ensures) (places_fit c.args.geom.now c.args.node c.requires.fits).«data»
+
+pub check_tail-requires-clause-data : goal.check_tail-requires-clause-data
+check_tail-requires-clause-data g c = subst (All (IsData c.args.geom.now)) (sym c.of-places.ensures) (places_fit c.args.geom.now c.args.node c.requires.fits).«data»
+
+pub check_tail-requires-clause-count : goal.check_tail-requires-clause-count
+check_tail-requires-clause-count g c = ap length c.of-places.ensures ∙ (places_fit c.args.geom.now c.args.node c.requires.fits).count
+
+pub returns-in_err-check_tail-clause-damage : goal.returns-in_err-check_tail-clause-damage
+returns-in_err-check_tail-clause-damage g c = λ tells used checked.
+    let m = (g.S.Blocks.state c.args.blocks.now).map in
+    let node : HasPlaces c.args.geom.now m c.args.number c.of-places.result = record { node = c.args.node; is_node = used; places = sym c.of-places.ensures } in
+    let so_far = c.in_ok-meet_places.ensures.met m checked.are node checked.sound.blocks in
+    let p = err_from_is_err_and c.from_residual-in_err-check_tail.result c.from_residual-in_err-check_tail.ensures.1 in
+    rw (p.1, p.2) (tail_broken c.args.geom.now m c.args.number c.args.node c.of-places.result c.in_err-check_tail.field-0.0 used c.of-places.ensures
+    (c.in_err-check_tail.ensures.tail tells (all_marked c.args.geom.now m c.args.number c.of-places.result (blocks_of c.meet_places.new.met) node so_far)))
+
+pub returns-clause-sound : goal.returns-clause-sound
+returns-clause-sound g c = λ tells used checked.
+    let m = (g.S.Blocks.state c.args.blocks.now).map in
+    let node : HasPlaces c.args.geom.now m c.args.number c.of-places.result = record { node = c.args.node; is_node = used; places = sym c.of-places.ensures } in
+    let so_far = c.in_ok-meet_places.ensures.met m checked.are node checked.sound.blocks in
+    used_step c.args.geom.now m c.args.bits.now c.args.met.now c.meet_places.new.met c.args.number c.args.node c.of-places.result used c.of-places.ensures checked so_far
+    (c.in_ok-check_tail.ensures.zeros tells (all_marked c.args.geom.now m c.args.number c.of-places.result (blocks_of c.meet_places.new.met) node so_far))

@@ -1,0 +1,104 @@
+-- A node in use fits the disk: its blocks are data blocks, as many as its size needs.
+use Rattle.std.proofs.Common.{◌≡◌, ℕ, zero, suc, ◌+◌, ◌/◌, ◌≤◌, Bool, true, false, nat_lt, nat_le, ◌&&◌, not, ◌==◌, List, [], ◌∷◌, ◌++◌, length, slice_index, slice_get, All, Option, Some, None, refl, ap, ap₂, subst, ◌∙◌, arith, length-append}
+use Rattle.std.proofs.lemmas.Bool.{and_parts, leb-true, le-leb, eqb-true}
+use Rattle.std.proofs.lemmas.Option.{none-some, same_Some, slice_get_within, get_or_from_slice_get}
+use Rattle.base_types.specs.Seal.{Blocks}
+use Rattle.base_types.specs.Runs.{blocks_from, run_places}
+use Rattle.base_types.specs.declared.places.Run.{Run}
+use Rattle.engine_blocks.specs.Puts.{IsData}
+use Rattle.layout_geometry.specs.Geometry.{Geometry, data_start}
+use Rattle.layout_bytes.specs.declared.node.Node.{Node}
+use Rattle.layout_bytes.specs.declared.node.NodeKind.{NodeKind}
+use Rattle.layout_bytes.specs.Bytes.{when}
+use Rattle.layout_bytes.specs.Node.{runs_fit, run_blocks, kind_fits, node_fits, node_fields, spare_zeros, used_kind, node_with, node_of, node_bytes, node_at}
+use Rattle.crash_stands.specs.Files.{used_node}
+use Rattle.crash_stands.specs.Stands.{HasBlock}
+
+when_some : {A : Type 0} (t : Bool) (x : Option A) (y : A) → when t x ≡ Some y → (t ≡ true) × (x ≡ Some y)
+when_some true x y e = (refl, e)
+when_some false x y e = absurd (none-some y e)
+
+fits_with : (g : Geometry) (b : List ℕ) (x : Option NodeKind) (node : Node) → node_with g b x ≡ Some node → node_fits g node ≡ true
+fits_with g b None node e = absurd (none-some node e)
+fits_with g b (Some kind) node e =
+    let outer = when_some (spare_zeros b) (when (node_fits g (node_fields kind b)) (Some (node_fields kind b))) node e in
+    let inner = when_some (node_fits g (node_fields kind b)) (Some (node_fields kind b)) node outer.1 in
+    subst (λ (x : Node). node_fits g x ≡ true) (same_Some (node_fields kind b) node inner.1) inner.0
+
+pub read_fits : (g : Geometry) (b : List ℕ) (node : Node) → node_of g b ≡ Some node → node_fits g node ≡ true
+unfolding node_of
+read_fits g b node e = fits_with g b (used_kind (slice_index b 0)) node e
+
+-- what a node in use says of its number and its bytes
+pub record IsUsed (g : Geometry) (m : Blocks) (k : ℕ) (node : Node) : Type 0 where
+  pub from : 1 ≤ k
+  pub upto : k ≤ g.i
+  pub read : node_at g m k ≡ Some node
+  pub fits : node_fits g node ≡ true
+
+pub used_is : (g : Geometry) (m : Blocks) (k : ℕ) (node : Node) → used_node g m k ≡ Some node → IsUsed g m k node
+used_is g m k node e =
+    let outer = when_some (nat_le 1 k && nat_le k g.i) (node_at g m k) node e in
+    let both = and_parts (nat_le 1 k) (nat_le k g.i) outer.0 in
+    record { from = leb-true 1 k both.0; upto = leb-true k g.i both.1; read = outer.1; fits = read_fits g (node_bytes g m k) node outer.1 }
+
+-- a node of the table is the one in its bytes
+pub used_at : (g : Geometry) (m : Blocks) (k : ℕ) → 1 ≤ k → k ≤ g.i → used_node g m k ≡ node_at g m k
+used_at g m k from upto = ap (λ t. when t (node_at g m k)) (ap₂ (λ x y. x && y) (le-leb 1 k from) (le-leb k g.i upto))
+
+-- Its blocks are data.
+
+all_cons : (P : ℕ → Type 0) (x : ℕ) (xs : List ℕ) → P x → All P xs → All P (x ∷ xs)
+all_cons P x xs p ps zero d low = p
+all_cons P x xs p ps (suc i) d low = ps i d (omega (arith, low))
+
+pub tail_all : (P : ℕ → Type 0) (x : ℕ) (xs : List ℕ) → All P (x ∷ xs) → All P xs
+tail_all P x xs all i d low = all (suc i) d (omega (arith, low))
+
+all_append : (P : ℕ → Type 0) (xs ys : List ℕ) → All P xs → All P ys → All P (xs ++ ys)
+all_append P [] ys px py = py
+all_append P (x ∷ xs) ys px py = all_cons P x (xs ++ ys) (px 0 0 (omega arith)) (all_append P xs ys (tail_all P x xs px) py)
+
+blocks_data : (g : Geometry) (first n : ℕ) → data_start g ≤ first → first + n ≤ g.n → All (IsData g) (blocks_from first n)
+blocks_data g first zero from upto = λ i d low. absurd (omega (arith, low))
+blocks_data g first (suc n) from upto = all_cons (IsData g) first (blocks_from (first + 1) n) (record { from = from; below = omega (arith, upto) }) (blocks_data g (first + 1) n (omega (arith, from)) (omega (arith, upto)))
+
+runs_data : (g : Geometry) (end : ℕ) (rs : List Run) → runs_fit g end rs ≡ true → All (IsData g) (run_places rs)
+runs_data g end [] e = λ i d low. absurd (omega (arith, low))
+runs_data g end (r ∷ rs) e =
+    let some = and_parts (nat_lt 0 r.count) (nat_le (data_start g) r.first && (nat_le (r.first + r.count) g.n && (not (r.first == end) && runs_fit g (r.first + r.count) rs))) e in
+    let from = and_parts (nat_le (data_start g) r.first) (nat_le (r.first + r.count) g.n && (not (r.first == end) && runs_fit g (r.first + r.count) rs)) some.1 in
+    let upto = and_parts (nat_le (r.first + r.count) g.n) (not (r.first == end) && runs_fit g (r.first + r.count) rs) from.1 in
+    let apart = and_parts (not (r.first == end)) (runs_fit g (r.first + r.count) rs) upto.1 in
+    all_append (IsData g) (blocks_from r.first r.count) (run_places rs) (blocks_data g r.first r.count (leb-true (data_start g) r.first from.0) (leb-true (r.first + r.count) g.n upto.0)) (runs_data g (r.first + r.count) rs apart.1)
+
+blocks_count : (first n : ℕ) → length (blocks_from first n) ≡ n
+blocks_count first zero = refl
+blocks_count first (suc n) = omega (arith, blocks_count (first + 1) n)
+
+places_count : (rs : List Run) → length (run_places rs) ≡ run_blocks rs
+places_count [] = refl
+places_count (r ∷ rs) = omega (arith, length-append (blocks_from r.first r.count) (run_places rs), blocks_count r.first r.count, places_count rs)
+
+-- what the blocks of a node that fits are
+pub record PlacesFit (g : Geometry) (node : Node) : Type 0 where
+  pub «data» : All (IsData g) (run_places node.runs)
+  pub count : length (run_places node.runs) ≡ (node.size + 1023) / 1024
+
+pub places_fit : (g : Geometry) (node : Node) → node_fits g node ≡ true → PlacesFit g node
+places_fit g node e =
+    let links = and_parts (nat_lt 0 node.links) (nat_le (length node.runs) 28 && (runs_fit g 0 node.runs && ((run_blocks node.runs == (node.size + 1023) / 1024) && kind_fits node node.kind))) e in
+    let few = and_parts (nat_le (length node.runs) 28) (runs_fit g 0 node.runs && ((run_blocks node.runs == (node.size + 1023) / 1024) && kind_fits node node.kind)) links.1 in
+    let runs = and_parts (runs_fit g 0 node.runs) ((run_blocks node.runs == (node.size + 1023) / 1024) && kind_fits node node.kind) few.1 in
+    let blocks = and_parts (run_blocks node.runs == (node.size + 1023) / 1024) (kind_fits node node.kind) runs.1 in
+    record { «data» = runs_data g 0 node.runs runs.0; count = places_count node.runs ∙ eqb-true (run_blocks node.runs) ((node.size + 1023) / 1024) blocks.0 }
+
+-- each block that a node has is a data block
+pub has_data : (g : Geometry) (m : Blocks) (k i b : ℕ) → HasBlock g m k i b → IsData g b
+has_data g m k i b h =
+    let all = (places_fit g h.node (used_is g m k h.node h.is_node).fits).«data» in
+    subst (IsData g) (get_or_from_slice_get (run_places h.node.runs) i b 0 h.place) (all i 0 (slice_get_within (run_places h.node.runs) i b h.place))
+
+-- the block at a place of a list of data blocks is one
+pub data_at : (g : Geometry) (places : List ℕ) (i b : ℕ) → All (IsData g) places → slice_get places i ≡ Some b → IsData g b
+data_at g places i b all at = subst (IsData g) (get_or_from_slice_get places i b 0 at) (all i 0 (slice_get_within places i b at))

@@ -1,0 +1,146 @@
+-- A check goes on from node to node.
+use Rattle.std.proofs.Common.{◌≡◌, ◌⊎◌, inl, inr, ℕ, ◌+◌, ◌-◌, ◌*◌, ◌/◌, ◌%◌, ◌<◌, ◌≤◌, Bool, true, false, IsTrue, List, length, take, drop, replicate, get_or, None, Some, refl, sym, ap, subst, ◌∙◌, arith, Err}
+use Rattle.std.specs.List.{All}
+use Rattle.std.proofs.lemmas.Bool.{cases_lt}
+use Rattle.std.proofs.lemmas.Option.{none-some, same_Some, slice_get-get_or}
+use Rattle.base_types.specs.Runs.{run_places}
+use Rattle.base_types.specs.Seal.{Blocks, blocks_of}
+use Rattle.engine_blocks.specs.State.{State}
+use Rattle.layout_geometry.specs.Geometry.{Geometry, node_size, nodes_in_block, table_start}
+use Rattle.layout_bytes.specs.declared.node.Node.{Node}
+use Rattle.layout_bytes.specs.declared.node.NodeKind.TheVariants.{Dir}
+use Rattle.layout_bytes.specs.Bitmap.{bit_in, is_set}
+use Rattle.layout_bytes.specs.Bytes.{are_zeros}
+use Rattle.layout_bytes.specs.Node.{node_at, node_bytes}
+use Rattle.crash_stands.specs.Files.{joined, used_node, past_content}
+use Rattle.fs_check.specs.declared.block_damage.BlockDamage.TheVariants.{WrongBit, BadNode, Unmarked, Shared, Tail, Lost}
+use Rattle.fs_check.specs.declared.block_damage.BlocksRefusal.{BlocksRefusal}
+use Rattle.fs_check.specs.declared.block_damage.BlocksRefusal.TheVariants as refusal
+use Rattle.fs_check.specs.Broken.{IsBroken}
+use Rattle.fs_check.specs.Calls.{IfDamaged}
+use Rattle.fs_files.specs.Effects.{LooksOnly}
+use Rattle.fs_check.specs.Meeting.{AreBits, HasMet, HasPlaces, IsCheckedTo, IsTailOf}
+use Rattle.fs_check.proofs.sound.Looks.{looks_none, looks_more}
+use Rattle.fs_check.proofs.sound.Meets.{at_place, meet_all, meet_begins, meet_none}
+use Rattle.fs_check.proofs.sound.Nodes.{used_at, used_is}
+
+-- One node.
+
+-- the bit of each block of node k is set once they were met
+pub all_marked : (g : Geometry) (m : Blocks) (k : ℕ) (places : List ℕ) (met : Blocks) → HasPlaces g m k places → HasMet g m k (length places) met → All (λ b. is_set g m b ≡ true) places
+all_marked g m k places met node so_far = λ i d low.
+    so_far.marked k i (get_or places i d) (inr (refl, low)) (at_place g m k i (get_or places i d) places node (slice_get-get_or places i d low))
+
+-- a node in use, whose blocks were met and whose tail is zeros if it is a directory
+pub used_step : (g : Geometry) (m : Blocks) (bits met new : List (List ℕ)) (k : ℕ) (node : Node) (places : List ℕ) → used_node g m k ≡ Some node → places ≡ run_places node.runs → IsCheckedTo g m bits met k
+    → HasMet g m k (length places) (blocks_of new) → (node.kind ≡ Dir → IsTrue (are_zeros (drop node.size (joined m places)))) → IsCheckedTo g m bits new (k + 1)
+used_step g m bits met new k node places used are checked so_far tail = record {
+  are = checked.are;
+  sound = record {
+    blocks = meet_all g m (blocks_of new) k places (record { node = node; is_node = used; places = sym are }) so_far;
+    free = λ l from low none. free l from low none (cases_lt l k);
+    tail = λ l other low is_node is_dir. tails l other low is_node is_dir (cases_lt l k);
+  };
+}
+  where
+    free : (l : ℕ) → 1 ≤ l → l < k + 1 → node_at g m l ≡ None → (l < k) ⊎ (k ≤ l) → node_bytes g m l ≡ replicate node_size 0
+    free l from low none (inl under) = checked.sound.free l from under none
+    free l from low none (inr over) =
+        let same : l ≡ k = omega (arith, low, over) in
+        absurd (none-some node (sym none ∙ ap (node_at g m) same ∙ (used_is g m k node used).read))
+
+    tails : (l : ℕ) (other : Node) → l < k + 1 → used_node g m l ≡ Some other → other.kind ≡ Dir → (l < k) ⊎ (k ≤ l) → IsTrue (are_zeros (past_content m other))
+    tails l other low is_node is_dir (inl under) = checked.sound.tail l other under is_node is_dir
+    tails l other low is_node is_dir (inr over) =
+        let same : l ≡ k = omega (arith, low, over) in
+        let one : node ≡ other = same_Some node other (sym used ∙ ap (used_node g m) (sym same) ∙ is_node) in
+        let zeros : IsTrue (are_zeros (drop node.size (joined m (run_places node.runs)))) = subst (λ ps. IsTrue (are_zeros (drop node.size (joined m ps)))) are (tail (ap (λ (n : Node). n.kind) one ∙ is_dir)) in
+        subst (λ (n : Node). IsTrue (are_zeros (past_content m n))) one zeros
+
+-- a node out of use, which is zeros
+pub free_step : (g : Geometry) (m : Blocks) (bits met : List (List ℕ)) (k : ℕ) → 1 ≤ k → k ≤ g.i → node_at g m k ≡ None → node_bytes g m k ≡ replicate node_size 0 → IsCheckedTo g m bits met k → IsCheckedTo g m bits met (k + 1)
+free_step g m bits met k from upto none zeros checked = record {
+  are = checked.are;
+  sound = record {
+    blocks = meet_none g m (blocks_of met) k (used_at g m k from upto ∙ none) checked.sound.blocks;
+    free = λ l low high unread. free l low high unread (cases_lt l k);
+    tail = λ l other low is_node is_dir. tails l other low is_node is_dir (cases_lt l k);
+  };
+}
+  where
+    free : (l : ℕ) → 1 ≤ l → l < k + 1 → node_at g m l ≡ None → (l < k) ⊎ (k ≤ l) → node_bytes g m l ≡ replicate node_size 0
+    free l low high unread (inl under) = checked.sound.free l low under unread
+    free l low high unread (inr over) = let same : l ≡ k = omega (arith, high, over) in ap (node_bytes g m) same ∙ zeros
+
+    tails : (l : ℕ) (other : Node) → l < k + 1 → used_node g m l ≡ Some other → other.kind ≡ Dir → (l < k) ⊎ (k ≤ l) → IsTrue (are_zeros (past_content m other))
+    tails l other low is_node is_dir (inl under) = checked.sound.tail l other under is_node is_dir
+    tails l other low is_node is_dir (inr over) =
+        let same : l ≡ k = omega (arith, low, over) in
+        absurd (none-some other (sym (used_at g m k from upto ∙ none) ∙ ap (used_node g m) (sym same) ∙ is_node))
+
+-- what is broken where the tail isn't zeros
+pub tail_broken : (g : Geometry) (m : Blocks) (k : ℕ) (node : Node) (places : List ℕ) (why : BlocksRefusal) → used_node g m k ≡ Some node → places ≡ run_places node.runs
+    → IfDamaged {T = Unit {0}} (Err why) (IsTailOf k node.kind (drop node.size (joined m places))) → IfDamaged {T = Unit {0}} (Err why) (IsBroken g m)
+tail_broken g m k node places refusal.ReadFault used are is = tt
+tail_broken g m k node places refusal.NoMemory used are is = tt
+tail_broken g m k node places (refusal.Damaged (WrongBit c)) used are is = absurd is
+tail_broken g m k node places (refusal.Damaged (BadNode l)) used are is = absurd is
+tail_broken g m k node places (refusal.Damaged (Unmarked l c)) used are is = absurd is
+tail_broken g m k node places (refusal.Damaged (Shared l c)) used are is = absurd is
+tail_broken g m k node places (refusal.Damaged (Tail l)) used are is = record {
+  node = node;
+  is_node = ap (used_node g m) is.0 ∙ used;
+  is_dir = is.1;
+  carries = subst (λ ps. are_zeros (drop node.size (joined m ps)) ≡ false) are is.2;
+}
+tail_broken g m k node places (refusal.Damaged (Lost c)) used are is = absurd is
+
+-- Many nodes.
+
+-- what a check knows in the midst of its way
+pub record Goes (P : Type 0) (tells : Bool) (g : Geometry) (s t : State) (bits met new : List (List ℕ)) (from at : ℕ) : Type 0 where
+  pub looks : LooksOnly tells false s t
+  pub size : length new ≡ length met
+  pub sound : P → IsCheckedTo g s.map bits met from → IsCheckedTo g s.map bits new at
+
+pub goes_none : (P : Type 0) (tells : Bool) (g : Geometry) (s : State) (bits met : List (List ℕ)) (from at : ℕ) → from ≡ at → Goes P tells g s s bits met met from at
+goes_none P tells g s bits met from at same = record { looks = looks_none tells s; size = refl; sound = λ p checked. subst (IsCheckedTo g s.map bits met) same checked }
+
+-- the map is the same in the midst
+pub goes_here : (tells : Bool) (g : Geometry) (s t : State) (bits new : List (List ℕ)) (at here : ℕ) → LooksOnly tells false s t → at ≡ here → IsTrue tells → IsCheckedTo g s.map bits new at → IsCheckedTo g t.map bits new here
+goes_here tells g s t bits new at here looks same told checked =
+    subst (λ (m : Blocks). IsCheckedTo g m bits new here) (sym (looks.map told)) (subst (IsCheckedTo g s.map bits new) same checked)
+
+pub goes_more : (P : Type 0) (tells : Bool) (g : Geometry) (s t u : State) (bits met new newer : List (List ℕ)) (from at here then next : ℕ) → (P → IsTrue tells) → at ≡ here → then ≡ next → Goes P tells g s t bits met new from at
+    → LooksOnly tells false t u → length newer ≡ length new → (P → IsCheckedTo g t.map bits new here → IsCheckedTo g t.map bits newer then) → Goes P tells g s u bits met newer from next
+goes_more P tells g s t u bits met new newer from at here then next told same on goes looks size step = record {
+  looks = looks_more tells false s t u goes.looks looks;
+  size = size ∙ goes.size;
+  sound = λ p checked. subst (IsCheckedTo g s.map bits newer) on (subst (λ (m : Blocks). IsCheckedTo g m bits newer then) (goes.looks.map (told p))
+      (step p (goes_here tells g s t bits new at here goes.looks same (told p) (goes.sound p checked))));
+}
+
+pub goes_broken : (P : Type 0) (tells : Bool) (g : Geometry) (s t : State) (bits met new : List (List ℕ)) (from at here : ℕ) (why : BlocksRefusal) → (P → IsTrue tells) → at ≡ here → Goes P tells g s t bits met new from at
+    → (P → IsCheckedTo g t.map bits new here → IfDamaged {T = Unit {0}} (Err why) (IsBroken g t.map)) → P → IsCheckedTo g s.map bits met from → IfDamaged {T = Unit {0}} (Err why) (IsBroken g s.map)
+goes_broken P tells g s t bits met new from at here why told same goes broken p checked =
+    subst (λ (m : Blocks). IfDamaged {T = Unit {0}} (Err why) (IsBroken g m)) (goes.looks.map (told p))
+    (broken p (goes_here tells g s t bits new at here goes.looks same (told p) (goes.sound p checked)))
+
+-- the bytes of a node are in their block of the table
+pub bytes_at : (g : Geometry) (m : Blocks) (t place number at n : ℕ) (table : List ℕ) → table ≡ m (table_start g + t) → number ≡ 4 * t + place + 1 → place < 4 → at ≡ 256 * place → n ≡ 256
+    → take n (drop at table) ≡ node_bytes g m number
+bytes_at g m t place number at n table is number_is low at_is n_is =
+    ap (λ k. take k (drop at table)) n_is
+    ∙ ap (λ j. take 256 (drop j table)) {x = at} {y = node_size * ((number - 1) % nodes_in_block)} (omega (arith, number_is, low, at_is))
+    ∙ ap (λ b. take node_size (drop (node_size * ((number - 1) % nodes_in_block)) b)) (is ∙ ap (λ j. m (table_start g + j)) {x = t} {y = (number - 1) / nodes_in_block} (omega (arith, number_is, low)))
+
+-- a check begins with the first node
+pub begins : (g : Geometry) (m : Blocks) (bits met : List (List ℕ)) → AreBits g m bits → ((b : ℕ) → bit_in (blocks_of met) b ≡ false) → IsCheckedTo g m bits met 1
+begins g m bits met are unmet = record {
+  are = are;
+  sound = record {
+    blocks = meet_begins g m (blocks_of met) unmet;
+    free = λ l from low none. absurd (omega (arith, from, low));
+    tail = λ l node low used dir. absurd (let from = (used_is g m l node used).from in omega (arith, from, low));
+  };
+}

@@ -1,0 +1,103 @@
+//! The node table, block by block: each of its blocks is read once, and its nodes are checked in order.
+
+ghost use Rattle.std.specs.Prelude.{◌≡◌, ◌+◌, ◌*◌, ◌<◌, IsTrue, OnOk, length};
+ghost use Rattle.fs_check.specs.Broken.{IsBroken};
+ghost use Rattle.fs_check.specs.Calls.{IfDamaged, fails_reading};
+ghost use Rattle.fs_files.specs.Effects.{LooksOnly};
+ghost use Rattle.fs_check.specs.Meeting.{IsCheckedTo, MayCheck};
+ghost use Rattle.layout_geometry.specs.Geometry.{table_start};
+
+use crate::BlocksRefusal;
+use crate::node::check_node;
+use base_types::Block;
+use base_types::limits::BLOCK_LENGTH;
+use engine_blocks::Blocks;
+use layout_geometry::{Geom, NODE_LENGTH};
+
+/// How many nodes a block of the table has.
+const NODES_IN_BLOCK: u32 = (BLOCK_LENGTH / NODE_LENGTH) as u32;
+
+/// Checks all nodes of the table, where none was checked before.
+///
+/// # Errors
+/// As of one node.
+pub(crate) fn check_table<S: Blocks>(
+    blocks: &mut S,
+    geom: &Geom,
+    bits: &[Block],
+    met: &mut [Block],
+) -> Result<(), BlocksRefusal>
+    requires may { MayCheck geom.now (S.state blocks.old) bits.now met.old }
+    ensures size { length met.new ≡ length met.old }
+    ensures sound { IsTrue S.tells → IsCheckedTo geom.now (S.state blocks.old).map bits.now met.old 1 → OnOk result (IsCheckedTo geom.now (S.state blocks.old).map bits.now met.new (geom.now.i + 1)) }
+    ensures damage { IsTrue S.tells → IsCheckedTo geom.now (S.state blocks.old).map bits.now met.old 1 → IfDamaged result (IsBroken geom.now (S.state blocks.old).map) }
+    ensures looks { LooksOnly S.tells (fails_reading result) (S.state blocks.old) (S.state blocks.new) }
+{
+    geom.lawful();
+    for t in 0..geom.i() / NODES_IN_BLOCK {
+        check_block(blocks, geom, bits, met, t)?;
+    }
+    Ok(())
+}
+
+/// Reads block `t` of the table, the first of which is 0, and checks its nodes.
+///
+/// # Errors
+/// As of one node.
+fn check_block<S: Blocks>(
+    blocks: &mut S,
+    geom: &Geom,
+    bits: &[Block],
+    met: &mut [Block],
+    t: u32,
+) -> Result<(), BlocksRefusal>
+    requires may { MayCheck geom.now (S.state blocks.old) bits.now met.old }
+    requires in_table { 4 * t < geom.now.i }
+    ensures size { length met.new ≡ length met.old }
+    ensures sound { IsTrue S.tells → IsCheckedTo geom.now (S.state blocks.old).map bits.now met.old (4 * t + 1) → OnOk result (IsCheckedTo geom.now (S.state blocks.old).map bits.now met.new (4 * t + 5)) }
+    ensures damage { IsTrue S.tells → IsCheckedTo geom.now (S.state blocks.old).map bits.now met.old (4 * t + 1) → IfDamaged result (IsBroken geom.now (S.state blocks.old).map) }
+    ensures looks { LooksOnly S.tells (fails_reading result) (S.state blocks.old) (S.state blocks.new) }
+{
+    geom.lawful();
+    let mut table = [0u8; BLOCK_LENGTH];
+    blocks.get(geom.table_start() + t, &mut table)?;
+    check_nodes(blocks, geom, bits, met, t, &table)?;
+    Ok(())
+}
+
+/// Checks the nodes of block `t` of the table, whose bytes these are.
+///
+/// # Errors
+/// As of one node.
+fn check_nodes<S: Blocks>(
+    blocks: &mut S,
+    geom: &Geom,
+    bits: &[Block],
+    met: &mut [Block],
+    t: u32,
+    table: &Block,
+) -> Result<(), BlocksRefusal>
+    requires may { MayCheck geom.now (S.state blocks.old) bits.now met.old }
+    requires in_table { 4 * t < geom.now.i }
+    ensures size { length met.new ≡ length met.old }
+    ensures sound { IsTrue S.tells → table.now ≡ (S.state blocks.old).map (table_start geom.now + t) → IsCheckedTo geom.now (S.state blocks.old).map bits.now met.old (4 * t + 1)
+        → OnOk result (IsCheckedTo geom.now (S.state blocks.old).map bits.now met.new (4 * t + 5)) }
+    ensures damage { IsTrue S.tells → table.now ≡ (S.state blocks.old).map (table_start geom.now + t) → IsCheckedTo geom.now (S.state blocks.old).map bits.now met.old (4 * t + 1)
+        → IfDamaged result (IsBroken geom.now (S.state blocks.old).map) }
+    ensures looks { LooksOnly S.tells (fails_reading result) (S.state blocks.old) (S.state blocks.new) }
+{
+    geom.lawful();
+    for place in 0..NODES_IN_BLOCK {
+        let at = NODE_LENGTH * place as usize;
+        let number = NODES_IN_BLOCK * t + place + 1;
+        check_node(
+            blocks,
+            geom,
+            bits,
+            met,
+            number,
+            &table[at..at + NODE_LENGTH],
+        )?;
+    }
+    Ok(())
+}

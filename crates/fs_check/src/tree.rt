@@ -1,0 +1,108 @@
+//! The check that the nodes of a map of blocks are those of a tree. Whether its blocks are sound is checked
+//! elsewhere, and comes first.
+
+ghost use Rattle.std.specs.Prelude.{◌≡◌, ℕ, false, IsTrue, IfErr, OnOk};
+ghost use Rattle.base_types.specs.Seal.{Blocks as BlockMap};
+ghost use Rattle.layout_geometry.specs.Geometry.{Geometry};
+ghost use Rattle.lang_tree.specs.Tree.{Tree};
+ghost use Rattle.crash_stands.specs.Files.{files_of};
+ghost use Rattle.crash_stands.specs.Stands.{AreSound, IsTreeOf};
+ghost use Rattle.engine_blocks.specs.Running.{HasNoBare};
+ghost use Rattle.fs_files.specs.Calls.{files_in};
+ghost use Rattle.fs_files.specs.Effects.{LooksOnly};
+ghost use Rattle.fs_check.specs.declared.damage.TreeDamage.{TreeDamage as DamageValue};
+ghost use Rattle.fs_check.specs.Damage.{IsBroken};
+ghost use Rattle.fs_check.specs.Looked.{AreSeen, HasPlaces};
+ghost use Rattle.fs_check.specs.Marks.{WasDir};
+ghost use Rattle.fs_check.specs.Reading.{MayRead, IfDamaged, fails_reading};
+ghost use Rattle.fs_check.specs.Rules.{AreTreeFiles};
+
+use crate::census::look_at_nodes;
+use crate::damage::{TreeDamage, TreeRefusal};
+use crate::directories::check_directories;
+use crate::judge::judge;
+use crate::looked::{Looked, seen};
+use crate::reach::reach;
+use crash_stands::{a_map_is_of_one_tree, blocks_have_a_map, files_have_one_map};
+use engine_blocks::Blocks;
+use fs_files::{Draft, a_draft_begins};
+use fs_inodes::the_rules_make_a_tree;
+use std::alloc::Global;
+
+/// Checks that a tree stands in a map of blocks, which are sound where they are known. Blocks are read, and
+/// nothing else is done. The node table is read once, and each directory twice.
+///
+/// # Errors
+/// Something is broken, and no tree stands; a read of the disk failed, which the disk has counted; or out of
+/// memory.
+pub fn check_tree<S: Blocks>(alloc: Global, blocks: &mut S) -> Result<(), TreeRefusal>
+    requires going { (S.state blocks.old).books.stopped ≡ false }
+    requires none_bare { HasNoBare (S.state blocks.old).books.running }
+    requires sound { IsTrue S.tells → AreSound (S.state blocks.old).books.geom (S.state blocks.old).map }
+    ensures tree { IsTrue S.tells → OnOk result ((t : Tree) × IsTreeOf (S.state blocks.old).books.geom (S.state blocks.old).map t) }
+    ensures broken { IsTrue S.tells → IfErr result (λ why. IfDamaged why (IsBroken (S.state blocks.old).books.geom.i (files_of (S.state blocks.old).books.geom (S.state blocks.old).map))) }
+    ensures none { IsTrue S.tells → IfErr result (λ why. IfDamaged why (λ _. (t : Tree) → IsTreeOf (S.state blocks.old).books.geom (S.state blocks.old).map t → ⊥)) }
+    ensures looks { LooksOnly S.tells (fails_reading result) (S.state blocks.old) (S.state blocks.new) }
+{
+    a_draft_begins(blocks);
+    the_rules_make_a_tree();
+    a_map_is_of_one_tree();
+    blocks_have_a_map();
+    files_have_one_map();
+    no_tree_stands_where_it_is_broken();
+    let draft = Draft::new(alloc);
+    find_tree(&draft, alloc, blocks)?;
+    Ok(())
+}
+
+/// No tree stands in blocks among whose nodes something is broken.
+pub fn no_tree_stands_where_it_is_broken()
+    ensures { (g : Geometry) (m : BlockMap) (what : DamageValue) (t : Tree) → IsBroken g.i (files_of g m) what → IsTreeOf g m t → ⊥ }
+{
+    the_rules_make_a_tree();
+    a_map_is_of_one_tree();
+    files_have_one_map();
+}
+
+/// Checks the nodes as an empty draft has them.
+///
+/// # Errors
+/// Something is broken; a read of the disk failed, which the disk has counted; or out of memory.
+fn find_tree<S: Blocks>(draft: &Draft, alloc: Global, blocks: &mut S) -> Result<(), TreeRefusal>
+    requires may_read { MayRead S.tells (S.state blocks.old) draft.now }
+    ensures rules { IsTrue S.tells → OnOk result (AreTreeFiles (S.state blocks.old).books.geom.i (files_in (S.state blocks.old) draft.now)) }
+    ensures broken { IsTrue S.tells → IfErr result (λ why. IfDamaged why (IsBroken (S.state blocks.old).books.geom.i (files_in (S.state blocks.old) draft.now))) }
+    ensures looks { LooksOnly S.tells (fails_reading result) (S.state blocks.old) (S.state blocks.new) }
+{
+    let nodes = look_at_nodes(draft, alloc, blocks)?;
+    let list = nodes.as_slice();
+    let Looked::Directory(_) = seen(list, 1) else {
+        return Err(TreeRefusal::Damaged(TreeDamage::NoRoot));
+    };
+    judge_nodes(draft, alloc, blocks, list)?;
+    Ok(())
+}
+
+/// Checks nodes that were looked at, of which the first is a directory.
+///
+/// # Errors
+/// Something is broken; a read of the disk failed, which the disk has counted; or out of memory.
+fn judge_nodes<S: Blocks>(
+    draft: &Draft,
+    alloc: Global,
+    blocks: &mut S,
+    nodes: &[Looked],
+) -> Result<(), TreeRefusal>
+    requires may_read { MayRead S.tells (S.state blocks.old) draft.now }
+    requires places { HasPlaces (S.state blocks.old).books.geom.i nodes.now }
+    requires root { WasDir nodes.now 1 }
+    requires seen { IsTrue S.tells → AreSeen (files_in (S.state blocks.old) draft.now) nodes.now }
+    ensures rules { IsTrue S.tells → OnOk result (AreTreeFiles (S.state blocks.old).books.geom.i (files_in (S.state blocks.old) draft.now)) }
+    ensures broken { IsTrue S.tells → IfErr result (λ why. IfDamaged why (IsBroken (S.state blocks.old).books.geom.i (files_in (S.state blocks.old) draft.now))) }
+    ensures looks { LooksOnly S.tells (fails_reading result) (S.state blocks.old) (S.state blocks.new) }
+{
+    let named = check_directories(draft, alloc, blocks, nodes)?;
+    let marks = reach(draft, alloc, blocks, nodes)?;
+    judge(nodes, named.as_slice(), marks.as_slice())?;
+    Ok(())
+}

@@ -1,0 +1,66 @@
+-- What laws say that proofs take as arguments.
+use Rattle.std.proofs.Common.{◌≡◌, ℕ, ◌+◌, ◌-◌, ◌*◌, ◌/◌, ◌≤◌, min, max, false, List, ◌++◌, length, slice_get, Some, Ok}
+use Rattle.layout_geometry.specs.Geometry.{Geometry, bitmap_blocks}
+use Rattle.layout_bytes.specs.declared.slot.Slot.{Slot}
+use Rattle.layout_directory.specs.Directory.{place_of}
+use Rattle.lang_tree.specs.declared.command.Cmd.{Cmd}
+use Rattle.lang_tree.specs.Conditions.{refusal}
+use Rattle.lang_tree.specs.Figures.{blocks_for, blocks_met, figures, writing}
+use Rattle.lang_tree.specs.Points.{answers_point}
+use Rattle.lang_tree.specs.Step.{Session, step}
+use Rattle.lang_tree.specs.Tree.{Tree}
+use Rattle.crash_stands.specs.Files.{Files}
+use Rattle.crash_stands.specs.Inodes.{AreInodesOf, Inodes, inodes_of}
+use Rattle.crash_stands.specs.Maps.{IsMapOf}
+use Rattle.crash_stands.specs.Walks.{LeadsTo, node_in}
+use Rattle.fs_inodes.specs.Changes.{slot_of}
+use Rattle.fs_inodes.specs.Figures.{cost}
+use Rattle.fs_inodes.specs.Lookups.{walk_on}
+use Rattle.fs_inodes.specs.Refusals.{reason}
+use Rattle.fs_inodes.specs.Replies.{reply_of}
+use Rattle.fs_files.specs.Drafts.{DraftState, nothing_drafted}
+use Rattle.fs_files.specs.Finish.{ChangesOnly, price}
+use Rattle.fs_dirs.specs.Changing.{Alters, IsWithSlots}
+use Rattle.fs_commands.specs.Changes.{ChangesAtMost, IsWithinCost}
+
+-- the tree refuses a command for the reason that its inode map gives
+abbrev pub RefusalLaw : Type 0
+RefusalLaw = (limit : ℕ) (m : Inodes) (t : Tree) (cmd : Cmd) → IsMapOf limit m t → refusal limit t cmd ≡ reason limit m cmd
+
+-- a command takes what its inode map says
+abbrev pub FiguresLaw : Type 0
+FiguresLaw = (bitmap : ℕ) (s : Session) (m : Inodes) (cmd : Cmd) → IsMapOf s.limit m s.tree → figures bitmap s cmd ≡ cost bitmap s.limit m cmd
+
+-- and is answered as it says
+abbrev pub ReplyLaw : Type 0
+ReplyLaw = (s : Session) (m : Inodes) (cmd : Cmd) → IsMapOf s.limit m s.tree → answers_point cmd ≡ false → (step s cmd).1 ≡ reply_of s.limit m cmd
+
+-- a walk along a path ends where the path leads
+abbrev pub EndsLaw : Type 0
+EndsLaw = (m : Inodes) (path : List (List ℕ)) (k : ℕ) → walk_on m 1 path ≡ Ok k → LeadsTo m path k
+
+-- where a name was found, its slot is there and names the node
+abbrev pub PlaceLaw : Type 0
+PlaceLaw = (slots : List Slot) (name : List ℕ) (place : ℕ) → place_of name slots ≡ Some place → (node : ℕ) × (slice_get slots place ≡ Some (slot_of node name)) × (node_in slots name ≡ Some node)
+
+-- where a directory has other slots, each node in use reads as an inode still
+abbrev pub SlotsReadLaw : Type 0
+SlotsReadLaw = (old new : Files) (k : ℕ) (slots : List Slot) → IsWithSlots old new k slots → AreInodesOf old (inodes_of old) → AreInodesOf new (inodes_of new)
+
+-- two alterations of a draft add up to one
+abbrev pub SumLaw : Type 0
+SumLaw = (a b frees more : ℕ) (takes others : List ℕ) (c d e : DraftState) → Alters a takes frees c d → Alters b others more d e → Alters (a + b) (takes ++ others) (frees + more) c e
+
+-- what is altered of an empty draft bounds its price
+abbrev pub PriceLaw : Type 0
+PriceLaw = (g : Geometry) (most frees : ℕ) (takes : List ℕ) (e : DraftState) → Alters most takes frees nothing_drafted e
+    → (bs : List ℕ) × ChangesOnly bs e × (price g bs e ≤ 25 * (most + (min (length takes) (bitmap_blocks g) + min frees (bitmap_blocks g))))
+
+-- the blocks that bytes meet are counted by division
+abbrev pub DivisionLaw : Type 0
+DivisionLaw = (size lo hi : ℕ) → min (blocks_for size) (blocks_for hi) - lo / 1024 ≡ blocks_met size lo hi
+
+-- a draft that puts bytes into a file is within the cost of that
+abbrev pub WritingLaw : Type 0
+WritingLaw = (g : Geometry) (d : DraftState) (size lo hi : ℕ) → ChangesAtMost d (blocks_met size lo hi + 1) (blocks_for (max size hi) - blocks_for size) (blocks_for (max size hi) - blocks_for size) 0
+    → IsWithinCost g d (writing (bitmap_blocks g) size lo hi).cost

@@ -1,0 +1,54 @@
+-- Blocks of nodes before and after: each node has the first of its own, or all of them and others behind.
+use Rattle.std.proofs.Common.{◌≡◌, ◌≢◌, ◌⊎◌, inl, inr, ℕ, ◌≤◌, min, List, [], ◌++◌, length, take, refl, sym, ap, ◌∙◌, subst, arith}
+use Rattle.std.proofs.Math.Seq.{take-append_seam}
+use Rattle.std.proofs.lemmas.Bool.{cases_eq}
+use Rattle.std.proofs.lemmas.List.{append-nil, length-take, take_all, take_min, take-append-le, take-take}
+use Rattle.fs_files.specs.Calls.{IsWithPlaces}
+use Rattle.fs_commands.specs.Space.{ArePlaced}
+
+-- what is the first of a list is so by its own length
+pub front : (xs zs : List ℕ) (n : ℕ) → xs ≡ take n zs → xs ≡ take (length xs) zs
+front xs zs n is =
+    let long : length xs ≡ min n (length zs) = ap (λ (ys : List ℕ). length ys) is ∙ length-take n zs in
+    is ∙ sym (take_min n zs) ∙ ap (λ i. take i zs) (sym long)
+
+pub own_front : (ps more : List ℕ) → ps ≡ take (length ps) (ps ++ more)
+own_front ps more = sym (take-append_seam ps more)
+
+pub cut_front : (n : ℕ) (ps more : List ℕ) → take n ps ≡ take (length (take n ps)) (ps ++ more)
+cut_front n ps more =
+    front (take n ps) ps n refl ∙ sym (take-append-le (length (take n ps)) ps more (omega (arith, length-take n ps)))
+
+pub grown_front : (ps more : List ℕ) → ps ++ more ≡ take (length (ps ++ more)) (ps ++ more)
+grown_front ps more = sym (take_all (length (ps ++ more)) (ps ++ more) (omega arith))
+
+-- no node has other blocks
+pub placed_same : (old new : ℕ → List ℕ) (more : List ℕ) → ((k : ℕ) → new k ≡ old k) → ArePlaced old new more
+placed_same old new more same k = subst (λ (ps : List ℕ). ps ≡ take (length ps) (old k ++ more)) (sym (same k)) (own_front (old k) more)
+
+-- one node has
+pub placed_by : (old new : ℕ → List ℕ) (k : ℕ) (ps more : List ℕ) → IsWithPlaces old new k ps → ps ≡ take (length ps) (old k ++ more) → ArePlaced old new more
+placed_by old new k ps more w is l = by (cases_eq l k)
+  where
+    by : (l ≡ k) ⊎ (l ≢ k) → new l ≡ take (length (new l)) (old l ++ more)
+    by (inl e) = subst (λ n. new n ≡ take (length (new n)) (old n ++ more)) (sym e) (subst (λ (qs : List ℕ). qs ≡ take (length qs) (old k ++ more)) (sym w.own) is)
+    by (inr d) = subst (λ (qs : List ℕ). qs ≡ take (length qs) (old l ++ more)) (sym (w.others l d)) (own_front (old l) more)
+
+-- it keeps the first of its own, and it has others behind all of its own
+pub placed_cut : (old new : ℕ → List ℕ) (k n : ℕ) (more : List ℕ) → IsWithPlaces old new k (take n (old k)) → ArePlaced old new more
+placed_cut old new k n more w = placed_by old new k (take n (old k)) more w (cut_front n (old k) more)
+
+pub placed_grown : (old new : ℕ → List ℕ) (k : ℕ) (more : List ℕ) → IsWithPlaces old new k (old k ++ more) → ArePlaced old new more
+placed_grown old new k more w = placed_by old new k (old k ++ more) more w (grown_front (old k) more)
+
+-- it has the blocks that it had
+pub placed_kept : (old new : ℕ → List ℕ) (k : ℕ) (more : List ℕ) → IsWithPlaces old new k (old k) → ArePlaced old new more
+placed_kept old new k more w = placed_by old new k (old k) more w (own_front (old k) more)
+
+-- One change behind another: the second one takes none.
+pub placed_then : (old mid new : ℕ → List ℕ) (more : List ℕ) → ArePlaced old mid more → ArePlaced mid new [] → ArePlaced old new more
+placed_then old mid new more first second k =
+    let all = old k ++ more in
+    let of_mid : new k ≡ take (length (new k)) (mid k) = second k ∙ ap (λ (xs : List ℕ). take (length (new k)) xs) (append-nil (mid k)) in
+    let within : length (new k) ≤ length (mid k) = omega (arith, ap (λ (xs : List ℕ). length xs) of_mid, length-take (length (new k)) (mid k)) in
+    of_mid ∙ ap (λ (xs : List ℕ). take (length (new k)) xs) (first k) ∙ take-take (length (new k)) (length (mid k)) all within

@@ -1,0 +1,61 @@
+-- What stays of a session while blocks are read and the pipeline settles, and while a draft isn't made.
+use Rattle.std.proofs.Common.{◌≡◌, ℕ, ◌≤◌, nat_lt, Bool, false, IsTrue, sym, subst, ap, ◌∙◌, arith}
+use Rattle.base_types.specs.Seal.{Blocks}
+use Rattle.layout_geometry.specs.Geometry.{Geometry}
+use Rattle.lang_tree.specs.Step.{Session}
+use Rattle.lang_tree.specs.Tree.{Tree}
+use Rattle.crash_stands.specs.Files.{files_of}
+use Rattle.crash_stands.specs.Stands.{AreSound, IsTreeOf}
+use Rattle.engine_blocks.specs.State.{Bookkeeping, State}
+use Rattle.engine_blocks.specs.Running.{Running}
+use Rattle.fs_files.specs.Effects.{LooksAndSettles}
+use Rattle.fs_files.specs.Finish.{MayGoOn}
+use Rattle.fs_commands.specs.Sessions.{IsSession, IsBetween, AreUsedBelow, Stands}
+
+-- Where blocks and geometry are the same.
+module _ (s t : State) where
+  -- they stand for the same tree
+  pub tree_stays : (tree : Tree) → t.books.geom ≡ s.books.geom → t.map ≡ s.map → IsTreeOf s.books.geom s.map tree → IsTreeOf t.books.geom t.map tree
+  tree_stays tree g m h = subst (λ (k : Geometry). IsTreeOf k t.map tree) (sym g) (subst (λ (b : Blocks). IsTreeOf s.books.geom b tree) (sym m) h)
+
+  pub stands_still : t.books.geom ≡ s.books.geom → t.map ≡ s.map → Stands s → Stands t
+  stands_still g m stands = (stands.0, tree_stays stands.0 g m stands.1)
+
+  -- they are sound still
+  pub sound_stays : t.books.geom ≡ s.books.geom → t.map ≡ s.map → AreSound s.books.geom s.map → AreSound t.books.geom t.map
+  sound_stays g m h = subst (λ (k : Geometry). AreSound k t.map) (sym g) (subst (λ (b : Blocks). AreSound s.books.geom b) (sym m) h)
+
+  -- and the same nodes are in use
+  pub below_stays : (first : ℕ) → t.books.geom ≡ s.books.geom → t.map ≡ s.map → AreUsedBelow (files_of s.books.geom s.map) first → AreUsedBelow (files_of t.books.geom t.map) first
+  below_stays first g m h = subst (λ (k : Geometry). AreUsedBelow (files_of k t.map) first) (sym g) (subst (λ (b : Blocks). AreUsedBelow (files_of s.books.geom b) first) (sym m) h)
+
+-- The session is one of a state in which blocks, geometry, last point and weight are the same, and the floor didn't fall.
+pub session_stays : (s t : State) (f : Session) → s.books.stopped ≡ false → t.books.geom ≡ s.books.geom → t.map ≡ s.map → t.books.point ≡ s.books.point → t.books.running.weight ≡ s.books.running.weight → s.books.floor ≤ t.books.floor
+    → IsSession s f → IsSession t f
+session_stays s t f going g m p w fl h = record {
+  tree = tree_stays s t f.tree g m h.tree;
+  limit = h.limit ∙ ap (λ (k : Geometry). k.i) (sym g);
+  points = λ stopped. h.points going ∙ sym p;
+  changed = λ stopped. h.changed going ∙ ap (λ n. nat_lt 0 n) (sym w);
+  durable = omega (arith, h.durable, fl);
+}
+
+-- so it is after reads and a settling
+pub session_settles : (tells read_failed failed : Bool) (s t : State) (f : Session) → s.books.stopped ≡ false → IsTrue tells → LooksAndSettles tells read_failed failed s t → IsSession s f → IsSession t f
+session_settles tells read_failed failed s t f going told h =
+    session_stays s t f going h.pipeline.geom (h.map told) h.pipeline.point (ap (λ (r : Running). r.weight) h.pipeline.running) h.pipeline.floor
+
+-- What holds between commands holds still where blocks and geometry are the same, and a sync may follow.
+pub between_stays : (tells : Bool) (s t : State) (first : ℕ) → t.books.geom ≡ s.books.geom → (IsTrue tells → t.map ≡ s.map) → MayGoOn t.books → IsBetween tells s first → IsBetween tells t first
+between_stays tells s t first g m goes_on h = record {
+  goes_on = goes_on;
+  sound = λ told. sound_stays s t g (m told) (h.sound told);
+  above = h.above;
+  used = λ told. below_stays s t first g (m told) (h.used told);
+}
+
+-- so it does after reads and a settling
+pub between_settles : (tells read_failed failed : Bool) (s t : State) (first : ℕ) → ((new : Bookkeeping) → new.geom ≡ s.books.geom → new.running ≡ s.books.running → MayGoOn s.books → MayGoOn new)
+    → LooksAndSettles tells read_failed failed s t → IsBetween tells s first → IsBetween tells t first
+between_settles tells read_failed failed s t first rests h between =
+    between_stays tells s t first h.pipeline.geom h.map (rests t.books h.pipeline.geom h.pipeline.running between.goes_on) between

@@ -1,0 +1,35 @@
+use Rattle.std.proofs.Common.{true, false, inl, inr, Err, refl, sym}
+use Rattle.std.proofs.lemmas.Bool.{false≢true}
+use Rattle.lang_tree.specs.declared.command.Refusal.TheVariants.{DiskFault}
+use Rattle.fs_commands.proofs.applying.Ticked.{between_ticks, stands_ticks}
+use Rattle.fs_commands.proofs.commands.begin.Goals as goal
+
+pub run-requires-clause-between : goal.run-requires-clause-between
+run-requires-clause-between g c =
+    between_ticks g.S.Blocks.tells false (g.S.Blocks.state c.args.blocks.now) (g.S.Blocks.state c.tick.new.self) (record { moves = c.in-Ok.ensures.moves; waits = c.in-Ok.ensures.waits; ticks = c.in-Ok.ensures.ticks; writes = c.in-Ok.ensures.writes; serves = λ told alone well. c.in-Ok.ensures.serves told alone; ring = λ told alone well. c.in-Ok.ensures.ring told alone }) c.args.first_unused.now
+    (λ new. c.a_sync_may_follow.ensures.rests (g.S.Blocks.state c.args.blocks.now).books new) c.requires.between
+
+pub returns-in-Ok-clause-began : goal.returns-in-Ok-clause-began
+returns-in-Ok-clause-began g c = record {
+  mid = c.tick.new.self;
+  result = c.run.result;
+  is = c.reply_for.ensures;
+  ran = inr (record { moves = c.in-Ok.ensures.moves; waits = c.in-Ok.ensures.waits; ticks = c.in-Ok.ensures.ticks; writes = c.in-Ok.ensures.writes; serves = λ told alone well. c.in-Ok.ensures.serves told alone; ring = λ told alone well. c.in-Ok.ensures.ring told alone }, c.run.ensures.runs);
+}
+
+pub returns-in-Err-clause-began : goal.returns-in-Err-clause-began
+returns-in-Err-clause-began g c = record {
+  mid = c.args.blocks.now;
+  result = Err DiskFault;
+  is = refl;
+  ran = inl (record { moves = c.in-Err.ensures.moves; waits = c.in-Err.ensures.waits; ticks = c.in-Err.ensures.ticks; writes = c.in-Err.ensures.writes; serves = λ told alone well. absurd (false≢true (sym well)); ring = λ told alone well. absurd (false≢true (sym well)) }, refl);
+}
+
+pub returns-in-Err-clause-between : goal.returns-in-Err-clause-between
+returns-in-Err-clause-between g c =
+    between_ticks g.S.Blocks.tells true (g.S.Blocks.state c.args.blocks.now) (g.S.Blocks.state c.tick.new.self) (record { moves = c.in-Err.ensures.moves; waits = c.in-Err.ensures.waits; ticks = c.in-Err.ensures.ticks; writes = c.in-Err.ensures.writes; serves = λ told alone well. absurd (false≢true (sym well)); ring = λ told alone well. absurd (false≢true (sym well)) }) c.args.first_unused.now
+    (λ new. c.a_sync_may_follow.ensures.rests (g.S.Blocks.state c.args.blocks.now).books new) c.requires.between
+
+pub run-requires-clause-stands : goal.run-requires-clause-stands
+run-requires-clause-stands g c = λ told.
+    stands_ticks g.S.Blocks.tells false (g.S.Blocks.state c.args.blocks.now) (g.S.Blocks.state c.tick.new.self) (record { moves = c.in-Ok.ensures.moves; waits = c.in-Ok.ensures.waits; ticks = c.in-Ok.ensures.ticks; writes = c.in-Ok.ensures.writes; serves = λ told alone well. c.in-Ok.ensures.serves told alone; ring = λ told alone well. c.in-Ok.ensures.ring told alone }) told (c.requires.stands told)

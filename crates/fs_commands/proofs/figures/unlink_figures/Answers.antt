@@ -1,0 +1,10 @@
+use Rattle.std.proofs.Common.{◌∙◌, ◌+◌, ap, ap₂}
+use Rattle.lang_tree.specs.declared.command.Cmd.TheVariants.{Unlink}
+use Rattle.lang_tree.specs.Figures.{removing, release}
+use Rattle.lang_tree.specs.Values.{value_of}
+use Rattle.fs_commands.proofs.figures.unlink_figures.Goals as goal
+
+pub returns : goal.returns
+returns c = λ m path above facts.
+    c.figures_come_from_inodes.ensures c.args.bitmap m (Unlink path) (value_of c.removing.result)
+    (c.removing.ensures ∙ ap₂ (λ a b. removing c.args.bitmap (a + b)) (c.release.ensures.value ∙ ap release above) (c.blocks_gone.ensures.value m path facts))

@@ -1,0 +1,81 @@
+-- What inodes say of the node at a path, from what is known of the node.
+use Rattle.std.proofs.Common.{◌≡◌, ℕ, ◌*◌, ◌%◌, Bool, true, false, not, nat_lt, List, [], ◌∷◌, length, Option, None, Some, option_map, option_and_then, ◌==◌, refl, sym, subst, ap, ◌∙◌, arith}
+use Rattle.std.proofs.lemmas.Bool.{true≢false, lt-ltb, eqb-true}
+use Rattle.std.proofs.lemmas.Option.{none-some, same_Some}
+use Rattle.layout_bytes.specs.declared.slot.Slot.{Slot}
+use Rattle.layout_bytes.specs.declared.node.NodeKind.{NodeKind}
+use Rattle.layout_bytes.specs.declared.node.NodeKind.TheVariants.{Free, Dir, File}
+use Rattle.layout_bytes.specs.Bytes.{when}
+use Rattle.crash_stands.specs.Files.{FileNode, Files}
+use Rattle.crash_stands.specs.Inodes.{Inode, ADir, AFile, inode_by, inode_of, inodes_of}
+use Rattle.crash_stands.specs.Walks.{LeadsTo}
+use Rattle.fs_inodes.specs.Lookups.{is_dir_inode, is_file_inode, is_list, has_slots, links_in, bytes_of, inode_at}
+use Rattle.fs_files.specs.Calls.{facts_of, is_dir}
+use Rattle.fs_commands.specs.Looks.{ShowsFacts}
+
+-- what reads as a directory isn't a file
+pub not_file : (b : Bool) (o : Option (List Slot)) (links : ℕ) (bytes : List ℕ) → when b (option_map ADir o) ≡ Some (AFile links bytes) → ⊥
+not_file false o links bytes e = absurd cc
+not_file true None links bytes e = absurd cc
+not_file true (Some slots) links bytes e = absurd cc
+
+-- and it has one link
+one_link : (links : ℕ) (b : Bool) (o : Option Inode) (slots : List Slot) → (links == 1) ≡ b → when b o ≡ Some (ADir slots) → 1 ≡ links
+one_link links false o slots is e = absurd (none-some (ADir slots) e)
+one_link links true o slots is e = sym (eqb-true links 1 is)
+
+-- what an inode says of the node that reads as it
+record Tells (kind : NodeKind) (links : ℕ) (bytes : List ℕ) (inode : Option Inode) : Type 0 where
+  dir : is_dir_inode inode ≡ is_dir kind
+  file : is_file_inode inode ≡ not (is_dir kind)
+  links_are : links_in inode ≡ links
+  bytes_are : is_dir kind ≡ false → length (bytes_of inode) ≡ length bytes
+  slots_are : is_dir kind ≡ true → has_slots inode ≡ nat_lt 0 (length bytes)
+
+any_slots : (slots : List Slot) (size : ℕ) → size ≡ 64 * length slots → is_list slots ≡ nat_lt 0 size
+any_slots [] size e = ap (nat_lt 0) {x = 0} {y = size} (sym e)
+any_slots (s ∷ slots) size e = sym (lt-ltb 0 size (omega (arith, e)))
+
+tells : (kind : NodeKind) (links : ℕ) (bytes : List ℕ) (inode : Inode) → inode_by kind links bytes ≡ Some inode → ((slots : List Slot) → kind ≡ Dir → inode ≡ ADir slots → length bytes ≡ 64 * length slots) → Tells kind links bytes (Some inode)
+tells Free links bytes inode reads size = absurd (none-some inode reads)
+tells File links bytes inode reads size = subst (λ i. Tells File links bytes (Some i)) (same_Some (AFile links bytes) inode reads) (record { dir = refl; file = refl; links_are = refl; bytes_are = λ file. refl; slots_are = λ dir. absurd (true≢false (sym dir)) })
+tells Dir links bytes (AFile l b) reads size = absurd (not_file (links == 1) _ l b reads)
+tells Dir links bytes (ADir slots) reads size = record {
+  dir = refl;
+  file = refl;
+  links_are = one_link links (links == 1) _ slots refl reads;
+  bytes_are = λ file. absurd (true≢false file);
+  slots_are = λ dir. any_slots slots (length bytes) (size slots refl refl);
+}
+
+-- what is told of a node's kind and links, whatever size it has
+pub kind_told : (kind : NodeKind) (links : ℕ) (bytes : List ℕ) (inode : Inode) → inode_by kind links bytes ≡ Some inode → (is_dir_inode (Some inode) ≡ is_dir kind) × (links_in (Some inode) ≡ links)
+kind_told Free links bytes inode reads = absurd (none-some inode reads)
+kind_told File links bytes inode reads = subst (λ i. (is_dir_inode (Some i) ≡ false) × (links_in (Some i) ≡ links)) (same_Some (AFile links bytes) inode reads) (refl, refl)
+kind_told Dir links bytes (AFile l b) reads = absurd (not_file (links == 1) _ l b reads)
+kind_told Dir links bytes (ADir slots) reads = (refl, one_link links (links == 1) _ slots refl reads)
+
+-- a node that is no directory is a file
+pub file_told : (kind : NodeKind) (links : ℕ) (bytes : List ℕ) (inode : Inode) → inode_by kind links bytes ≡ Some inode → is_dir kind ≡ false → inode_by kind links bytes ≡ Some (AFile links bytes)
+file_told Free links bytes inode reads none = absurd (none-some inode reads)
+file_told File links bytes inode reads none = refl
+file_told Dir links bytes inode reads none = absurd (true≢false none)
+
+-- the inode at a path
+pub inode_is : (files : Files) (path : List (List ℕ)) (k : ℕ) (x : FileNode) → LeadsTo (inodes_of files) path k → files k ≡ Some x → inode_at (inodes_of files) path ≡ inode_of x
+inode_is files path k x leads is = ap (option_and_then (inodes_of files)) leads ∙ ap (option_and_then inode_of) is
+
+pub facts_shown : (files : Files) (path : List (List ℕ)) (k : ℕ) (x : FileNode) (inode : Inode) → LeadsTo (inodes_of files) path k → files k ≡ Some x → inodes_of files k ≡ Some inode
+    → ((slots : List Slot) → inode_of x ≡ Some (ADir slots) → length x.bytes % 64 ≡ 0 → length x.bytes ≡ 64 * length slots) → (x.kind ≡ Dir → length x.bytes % 64 ≡ 0)
+    → ShowsFacts (inodes_of files) path (facts_of x)
+facts_shown files path k x inode leads is reads count whole =
+    let so : inode_of x ≡ Some inode = sym (ap (option_and_then inode_of) is) ∙ reads in
+    let at : inode_at (inodes_of files) path ≡ Some inode = inode_is files path k x leads is ∙ so in
+    let t = tells x.kind x.links x.bytes inode so (λ slots dir e. count slots (so ∙ ap Some e) (whole dir)) in
+    record {
+      dir = ap is_dir_inode at ∙ t.dir;
+      file = ap is_file_inode at ∙ t.file;
+      links = ap links_in at ∙ t.links_are;
+      bytes = λ file. ap (λ i. length (bytes_of i)) at ∙ t.bytes_are file;
+      slots = λ dir. ap has_slots at ∙ t.slots_are dir;
+    }

@@ -1,0 +1,108 @@
+-- What a path leads to, from the number that a walk comes to and what is known of the node. Looks come one behind the other.
+use Rattle.std.proofs.Common.{◌≡◌, ◌↔◌, ℕ, Bool, false, IsTrue, List, Option, None, Some, Result, Ok, option_map, option_and_then, refl, sym, subst, ap, ap₂, ◌∙◌}
+use Rattle.std.proofs.lemmas.Option.{none-some}
+use Rattle.base_types.specs.Counts.{after_call}
+use Rattle.base_types.specs.Seal.{Blocks}
+use Rattle.engine_blocks.specs.State.{Bookkeeping, State}
+use Rattle.lang_tree.specs.declared.command.Refusal.{Refusal}
+use Rattle.lang_tree.specs.Tree.{Tree}
+use Rattle.crash_stands.specs.Files.{FileNode, Files, files_of}
+use Rattle.crash_stands.specs.Inodes.{Inode, inode_of, inodes_of}
+use Rattle.crash_stands.specs.Maps.{IsMapOf}
+use Rattle.crash_stands.specs.Walks.{LeadsTo}
+use Rattle.fs_inodes.specs.Lookups.{walk_on}
+use Rattle.fs_files.specs.declared.look.FileFacts.{FileFacts}
+use Rattle.fs_files.specs.Calls.{facts_of, files_in}
+use Rattle.fs_files.specs.Drafts.{DraftState, nothing_drafted, drafted}
+use Rattle.fs_files.specs.Effects.{LooksOnly}
+use Rattle.fs_files.specs.Sound.{FitsBooks, IsSoundDraft, IsDraftOf}
+use Rattle.fs_dirs.specs.Directories.{inodes_in}
+
+iff_on : {A B C : Type 0} → A ↔ B → B ↔ C → A ↔ C
+iff_on p q = (λ a. q.0 (p.0 a), λ c. p.1 (q.1 c))
+
+-- two looks, of which the first didn't fail
+pub looks_more : (tells failed : Bool) (s t u : State) → LooksOnly tells false s t → LooksOnly tells failed t u → LooksOnly tells failed s u
+looks_more tells failed s t u first second = record {
+  books = second.books ∙ first.books;
+  counts = record {
+    read_faults = second.counts.read_faults ∙ ap (λ n. after_call failed n) first.counts.read_faults;
+    faults = second.counts.faults ∙ first.counts.faults;
+    waits = second.counts.waits ∙ first.counts.waits;
+    ticks = second.counts.ticks ∙ first.counts.ticks;
+  };
+  map = λ told. second.map told ∙ first.map told;
+  crash = λ told. let a = first.crash told in let b = second.crash told in record {
+    base = b.base ∙ a.base;
+    log = b.log ∙ a.log;
+    point = λ p m. iff_on (b.point p m) (a.point p m);
+    left = λ n img. iff_on (b.left n img) (a.left n img);
+    holds = λ img m. iff_on (b.holds img m) (a.holds img m);
+    sure = λ log p. iff_on (b.sure log p) (a.sure log p);
+    records = record { told = b.records.told ∙ a.records.told; starts = λ log n. iff_on (b.records.starts log n) (a.records.starts log n) };
+    issued = λ m. iff_on (b.issued m) (a.issued m);
+    awaits = λ p n. iff_on (b.awaits p n) (a.awaits p n);
+  };
+}
+
+module _ (tells failed : Bool) (s t : State) (d : DraftState) (k : LooksOnly tells failed s t) where
+  -- the files are as before
+  pub same_files : IsTrue tells → files_in t d ≡ files_in s d
+  same_files told = ap₂ (λ (b : Bookkeeping) (m : Blocks). files_of b.geom (drafted d m)) k.books (k.map told)
+
+  -- the draft is one of the blocks still
+  pub draft_stays : IsDraftOf tells s d → IsDraftOf tells t d
+  draft_stays h = record {
+    fits = subst (λ b. FitsBooks b d) (sym k.books) h.fits;
+    sound = λ told. subst (λ b. IsSoundDraft b t.map d) (sym k.books) (subst (λ m. IsSoundDraft s.books m d) (sym (k.map told)) (h.sound told));
+    content = h.content;
+  }
+
+-- what a walk in an empty draft comes to
+pub walked_as : (s : State) (d : DraftState) (path : List (List ℕ)) (end r : Result ℕ Refusal) → d ≡ nothing_drafted → end ≡ r
+    → ((t : Tree) → IsMapOf s.books.geom.i (inodes_in s d) t → end ≡ walk_on (inodes_in s d) 1 path)
+    → (t : Tree) → IsMapOf s.books.geom.i (inodes_in s nothing_drafted) t → walk_on (inodes_of (files_in s nothing_drafted)) 1 path ≡ r
+walked_as s d path end r none is ends t map =
+    sym (sym is ∙ ends t (subst (λ e. IsMapOf s.books.geom.i (inodes_in s e) t) (sym none) map) ∙ ap (λ e. walk_on (inodes_in s e) 1 path) none)
+
+-- where something is known of a node, it is in use
+pub facts_are : (o : Option FileNode) (facts : FileFacts) → Some facts ≡ option_map facts_of o → (x : FileNode) × (o ≡ Some x) × (facts ≡ facts_of x)
+facts_are None facts e = absurd (none-some facts (sym e))
+facts_are (Some x) facts e = (x, refl, cc)
+
+-- a node that reads as an inode is in use
+pub is_used : (o : Option FileNode) (x : Inode) → option_and_then inode_of o ≡ Some x → None ≡ option_map facts_of o → ⊥
+is_used None x e none = none-some x e
+is_used (Some file) x e none = none-some (facts_of file) none
+
+-- after looks an empty draft has the files that it had
+pub files_stay : (tells : Bool) (s t : State) (d : DraftState) → d ≡ nothing_drafted → IsTrue tells → LooksOnly tells false s t → files_in t d ≡ files_in s nothing_drafted
+files_stay tells s t d none told looks = same_files tells false s t d looks told ∙ ap (files_in s) none
+
+-- a node that something is known of is in use
+pub there_so : (tells : Bool) (s mid : State) (d : DraftState) (number : ℕ) (facts : FileFacts) → d ≡ nothing_drafted → IsTrue tells → LooksOnly tells false s mid → Some facts ≡ option_map facts_of (files_in mid d number)
+    → (x : FileNode) × (files_in s nothing_drafted number ≡ Some x) × (facts ≡ facts_of x)
+there_so tells s mid d number facts none told looks known =
+    facts_are (files_in s nothing_drafted number) facts (known ∙ ap (λ (files : Files). option_map facts_of (files number)) (files_stay tells s mid d none told looks))
+
+-- what an empty draft has after a look is what it had before
+pub file_stays : (tells : Bool) (s mid : State) (d : DraftState) (number : ℕ) (x : FileNode) → d ≡ nothing_drafted → IsTrue tells → LooksOnly tells false s mid → files_in s nothing_drafted number ≡ Some x → files_in mid d number ≡ Some x
+file_stays tells s mid d number x none told looks at =
+    ap (λ (files : Files). files number) (files_stay tells s mid d none told looks) ∙ at
+
+pub inode_stays : (tells : Bool) (s mid : State) (d : DraftState) (number : ℕ) (x : Inode) → d ≡ nothing_drafted → IsTrue tells → LooksOnly tells false s mid → inodes_in s nothing_drafted number ≡ Some x → inodes_in mid d number ≡ Some x
+inode_stays tells s mid d number x none told looks at =
+    ap (λ (files : Files). inodes_of files number) (files_stay tells s mid d none told looks) ∙ at
+
+-- the node that a path leads to, once it was looked at
+pub found_so : (tells : Bool) (s mid : State) (d : DraftState) (path : List (List ℕ)) (number : ℕ) (facts : FileFacts) → d ≡ nothing_drafted → IsTrue tells → LooksOnly tells false s mid
+    → walk_on (inodes_of (files_in s nothing_drafted)) 1 path ≡ Ok number → Some facts ≡ option_map facts_of (files_in mid d number)
+    → (walk_on (inodes_of (files_in s nothing_drafted)) 1 path ≡ Ok number) × ((x : FileNode) × (files_in s nothing_drafted number ≡ Some x) × (facts ≡ facts_of x))
+found_so tells s mid d path number facts none told looks walked known = (walked, there_so tells s mid d number facts none told looks known)
+
+-- a path that leads to a number leads to a node in use
+pub found_none : {A : Type 0} (tells : Bool) (s mid : State) (d : DraftState) (path : List (List ℕ)) (number : ℕ) (t : Tree) → d ≡ nothing_drafted → IsTrue tells → LooksOnly tells false s mid
+    → IsMapOf s.books.geom.i (inodes_in s nothing_drafted) t → LeadsTo (inodes_in s nothing_drafted) path number → None ≡ option_map facts_of (files_in mid d number) → A
+found_none {A} tells s mid d path number t none told looks map leads unknown =
+    let used = map.shows.used path number leads in
+    absurd (is_used (files_in s nothing_drafted number) used.0 used.1 (unknown ∙ ap (λ (files : Files). option_map facts_of (files number)) (files_stay tells s mid d none told looks)))

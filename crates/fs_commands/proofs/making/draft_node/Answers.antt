@@ -1,0 +1,107 @@
+use Rattle.std.proofs.Common.{◌≡◌, ◌≢◌, ◌≤◌, ◌++◌, ◌∷◌, ℕ, false, Some, Err, IfSome, [], sym, subst, ap, ◌∙◌, arith, length, take, refl}
+use Rattle.std.proofs.lemmas.Option.{none-some}
+use Rattle.layout_geometry.specs.Geometry.{Geometry}
+use Rattle.layout_extent.specs.Runs.{stretches}
+use Rattle.lang_tree.specs.Figures.{growth}
+use Rattle.crash_stands.specs.Files.{FileNode}
+use Rattle.crash_stands.specs.Inodes.{Inode, ADir, inode_of}
+use Rattle.fs_inodes.specs.Changes.{new_inode}
+use Rattle.engine_blocks.specs.State.{Bookkeeping, reusable_blocks}
+use Rattle.fs_files.specs.Calls.{files_in, places_in, IsUsed, IsWithPlaces, GrowthRefused, SetsNode}
+use Rattle.fs_files.specs.Content.{fails_reading}
+use Rattle.fs_files.specs.Drafts.{ChangesSome, DraftState, nothing_drafted}
+use Rattle.fs_files.specs.Effects.{LooksAndSettles}
+use Rattle.fs_dirs.specs.Changing.{Alters, IsWithSlots}
+use Rattle.fs_dirs.specs.Directories.{inodes_in}
+use Rattle.fs_commands.specs.Making.{first_thing}
+use Rattle.fs_commands.specs.Sessions.{inodes}
+use Rattle.fs_commands.proofs.Placing.{placed_by}
+use Rattle.fs_commands.proofs.looking.Found.{same_files}
+use Rattle.fs_commands.proofs.naming.Drafting.{used_upto, found_is, no_node, first_read, name_added}
+use Rattle.fs_commands.proofs.planning.Looking.{looked_after, quiet_settling}
+use Rattle.fs_commands.proofs.making.draft_node.Goals as goal
+
+pub returns-in-Err-clause-refused : goal.returns-in-Err-clause-refused
+returns-in-Err-clause-refused g c = λ told slots at.
+    let s = g.S.Blocks.state c.args.blocks.now in
+    let mid = g.S.Blocks.state c.add_slot.new.blocks in
+    subst (λ d. inodes_in s d c.args.dir ≡ Some (ADir slots) → GrowthRefused (growth (length slots)) (places_in s d c.args.dir) s.books mid.books c.in-Err.why) c.new-draft.ensures (c.in-Err.ensures.refused told slots) at
+
+pub new_node-requires-clause-below : goal.new_node-requires-clause-below
+new_node-requires-clause-below g c = λ told l above below.
+    let s = g.S.Blocks.state c.args.blocks.now in
+    c.in-Ok.ensures.used told l (subst (λ d. IsUsed (files_in s d) l) (sym c.new-draft.ensures) (c.requires.may.used told l above below))
+
+pub returns-in-Ok-new_node-clause-used : goal.returns-in-Ok-new_node-clause-used
+returns-in-Ok-new_node-clause-used g c = λ told.
+    let s = g.S.Blocks.state c.args.blocks.now in
+    let mid = g.S.Blocks.state c.add_slot.new.blocks in
+    let new = g.S.Blocks.state c.new_node.new.blocks in
+    used_upto mid.books.geom.i c.args.slot.now.node (files_in mid c.add_slot.new.draft) (files_in new c.new_node.new.self) _ _ c.in-Ok-new_node.field-0
+    (omega (arith, c.requires.node.upto, ap (λ (h : Geometry). h.i) c.in-Ok.ensures.settles.pipeline.geom))
+    (λ l above below. c.in-Ok.ensures.used told l (subst (λ d. IsUsed (files_in s d) l) (sym c.new-draft.ensures) (c.requires.may.used told l above below)))
+    (λ e l. ap (λ d. files_in new d l) e ∙ ap (λ f. f l) (same_files g.S.Blocks.tells false mid new c.add_slot.new.draft c.in-Ok-new_node.ensures.looks told))
+    (c.in-Ok-new_node.ensures.node told) (c.in-Ok-new_node.ensures.none told)
+
+pub returns-in-Ok-new_node-clause-names : goal.returns-in-Ok-new_node-clause-names
+returns-in-Ok-new_node-clause-names g c = λ told t slots h unused at.
+    let s = g.S.Blocks.state c.args.blocks.now in
+    let mid = g.S.Blocks.state c.add_slot.new.blocks in
+    let new = g.S.Blocks.state c.new_node.new.blocks in
+    let d = c.add_slot.new.draft in
+    let e = c.new_node.new.self in
+    let node = c.args.slot.now.node in
+    let reads : (k : ℕ) (file : FileNode) → files_in s nothing_drafted k ≡ Some file → (x : Inode) × (inode_of file ≡ Some x) = λ k file is. c.blocks_have_a_map.ensures.reads s.books.geom s.map t k file h is in
+    let apart : c.args.dir ≢ node = λ same. none-some (ADir slots) (sym unused ∙ ap (inodes s) (sym same) ∙ at) in
+    let slotted = subst (λ b. inodes_in s b c.args.dir ≡ Some (ADir slots) → IsWithSlots (files_in s b) (files_in mid d) c.args.dir (slots ++ c.args.slot.now ∷ [])) c.new-draft.ensures (c.in-Ok.ensures.slots told slots) at in
+    let altered = subst (λ b. inodes_in s b c.args.dir ≡ Some (ADir slots) → Alters 2 (take (growth (length slots)) (reusable_blocks mid.books)) 0 b d) c.new-draft.ensures (c.in-Ok.ensures.alters told slots) at in
+    let grown = subst (λ b. inodes_in s b c.args.dir ≡ Some (ADir slots) → IsWithPlaces (places_in s b) (places_in mid d) c.args.dir (places_in s b c.args.dir ++ take (growth (length slots)) (reusable_blocks mid.books))) c.new-draft.ensures (c.in-Ok.ensures.places told slots) at in
+    let at_first = subst (λ b. inodes_in s b c.args.dir ≡ Some (ADir slots)) (sym c.new-draft.ensures) at in
+    let found = found_is mid.books.geom.i node (files_in mid d) _ _ c.in-Ok-new_node.field-0 c.requires.node.from (omega (arith, c.requires.node.upto, ap (λ (h : Geometry). h.i) c.in-Ok.ensures.settles.pipeline.geom))
+    (slotted.others node (λ same. apart (sym same)) ∙ no_node (files_in s nothing_drafted) reads node unused)
+    (λ l above below. c.in-Ok.ensures.used told l (subst (λ b. IsUsed (files_in s b) l) (sym c.new-draft.ensures) (c.requires.may.used told l above below)))
+    (c.in-Ok-new_node.ensures.node told) (c.in-Ok-new_node.ensures.none told) in
+    name_added g.S.Blocks.tells s mid new d e c.args.dir node c.args.slot.now.name slots (new_inode (first_thing c.args.kind)) (record { kind = c.node_kind.result; links = 1; bytes = [] }) at apart reads slotted found.1
+    (subst (λ q. inode_of (record { kind = q; links = 1; bytes = [] }) ≡ Some (new_inode (first_thing c.args.kind))) (sym c.node_kind.ensures.value) (first_read c.a_file_reads_as_itself.ensures.directory c.a_file_reads_as_itself.ensures.file c.args.kind))
+    altered
+    (c.alterations_add_up.ensures.node mid.books.geom node [] d e (subst (λ o. IfSome o (λ k. SetsNode mid.books.geom k [] d e)) found.0 c.in-Ok-new_node.ensures.among) (subst (λ o. IfSome o (λ k. ChangesSome e)) found.0 c.in-Ok-new_node.ensures.changes))
+    c.in-Ok.ensures.settles c.in-Ok-new_node.ensures.looks (λ few. c.in-Ok.ensures.looks told slots at_first few) grown
+    (placed_by (places_in mid d) (places_in new e) node [] [] (subst (λ o. IfSome o (λ k. IsWithPlaces (places_in mid d) (places_in new e) k [])) found.0 (c.in-Ok-new_node.ensures.places told)) refl) (c.in-Ok.ensures.room told slots at_first)
+    (subst (λ b. inodes_in s b c.args.dir ≡ Some (ADir slots) → stretches (places_in s b c.args.dir ++ take (growth (length slots)) (reusable_blocks mid.books)) ≤ 28) c.new-draft.ensures (c.in-Ok.ensures.runs told slots) at)
+    c.alterations_add_up.ensures.both c.alterations_add_up.ensures.price c.files_have_one_map.ensures.read
+
+pub returns-in-Ok-new_node-clause-settles : goal.returns-in-Ok-new_node-clause-settles
+returns-in-Ok-new_node-clause-settles g c =
+    let s = g.S.Blocks.state c.args.blocks.now in
+    let looks = c.in-Ok-new_node.ensures.looks in
+    looked_after g.S.Blocks.tells false s (g.S.Blocks.state c.add_slot.new.blocks) (g.S.Blocks.state c.new_node.new.blocks) c.in-Ok.ensures.settles looks
+    (λ told. c.calls_compose.ensures.advances c.args.blocks.now c.add_slot.new.blocks c.new_node.new.blocks (c.in-Ok.ensures.settles.crash told)
+    (c.calls_compose.ensures.rests told c.add_slot.new.blocks c.new_node.new.blocks (ap (λ (b : Bookkeeping). b.point) looks.books) (ap (λ (b : Bookkeeping). b.floor) looks.books) (looks.crash told)))
+
+pub returns-in-Err-new_node-clause-settles : goal.returns-in-Err-new_node-clause-settles
+returns-in-Err-new_node-clause-settles g c =
+    let s = g.S.Blocks.state c.args.blocks.now in
+    let new = g.S.Blocks.state c.new_node.new.blocks in
+    let looks = c.in-Err-new_node.ensures.looks in
+    subst (λ b. LooksAndSettles g.S.Blocks.tells (fails_reading {T = DraftState} (Err c.in-Err-new_node.why)) b s new) (sym (quiet_settling c.in-Err-new_node.why c.in-Err-new_node.ensures.refused))
+    (looked_after g.S.Blocks.tells (fails_reading {T = DraftState} (Err c.in-Err-new_node.why)) s (g.S.Blocks.state c.add_slot.new.blocks) new c.in-Ok.ensures.settles looks
+    (λ told. c.calls_compose.ensures.advances c.args.blocks.now c.add_slot.new.blocks c.new_node.new.blocks (c.in-Ok.ensures.settles.crash told)
+    (c.calls_compose.ensures.rests told c.add_slot.new.blocks c.new_node.new.blocks (ap (λ (b : Bookkeeping). b.point) looks.books) (ap (λ (b : Bookkeeping). b.floor) looks.books) (looks.crash told))))
+
+pub returns-in-Err-clause-quiet : goal.returns-in-Err-clause-quiet
+returns-in-Err-clause-quiet g c = λ told slots at enough.
+    let s = g.S.Blocks.state c.args.blocks.now in
+    let looked = c.in-Err.ensures.looks told slots (subst (λ d. inodes_in s d c.args.dir ≡ Some (ADir slots)) (sym c.new-draft.ensures) at) enough in
+    (looked.books, (looked.crash told).log)
+
+pub returns-in-Ok-new_node-clause-quiet : goal.returns-in-Ok-new_node-clause-quiet
+returns-in-Ok-new_node-clause-quiet g c = λ told slots at enough.
+    let s = g.S.Blocks.state c.args.blocks.now in
+    let looked = c.in-Ok.ensures.looks told slots (subst (λ d. inodes_in s d c.args.dir ≡ Some (ADir slots)) (sym c.new-draft.ensures) at) enough in
+    (c.in-Ok-new_node.ensures.looks.books ∙ looked.books, (c.in-Ok-new_node.ensures.looks.crash told).log ∙ (looked.crash told).log)
+
+pub returns-in-Err-new_node-clause-quiet : goal.returns-in-Err-new_node-clause-quiet
+returns-in-Err-new_node-clause-quiet g c = λ told slots at enough.
+    let s = g.S.Blocks.state c.args.blocks.now in
+    let looked = c.in-Ok.ensures.looks told slots (subst (λ d. inodes_in s d c.args.dir ≡ Some (ADir slots)) (sym c.new-draft.ensures) at) enough in
+    (c.in-Err-new_node.ensures.looks.books ∙ looked.books, (c.in-Err-new_node.ensures.looks.crash told).log ∙ (looked.crash told).log)

@@ -1,0 +1,51 @@
+use Rattle.std.proofs.Common.{Err, refl, sym, subst, ap, ◌∙◌, arith}
+use Rattle.lang_tree.specs.Figures.{adding, growth}
+use Rattle.lang_tree.specs.Values.{value_of}
+use Rattle.crash_stands.specs.Inodes.{AFile}
+use Rattle.engine_blocks.specs.Running.{Running}
+use Rattle.fs_dirs.specs.Directories.{inodes_in}
+use Rattle.fs_commands.specs.Plans.{Plans}
+use Rattle.fs_commands.proofs.naming.Planning.{named_plan, name_refused}
+use Rattle.fs_commands.proofs.planning.Looking.{full_plan, no_look}
+use Rattle.fs_commands.proofs.making.link_file.Goals as goal
+
+pub returns-in-Err-clause-plans : goal.returns-in-Err-clause-plans
+returns-in-Err-clause-plans g c = λ cmd may.
+    let s = g.S.Blocks.state c.args.blocks.now in
+    full_plan g.S.Blocks.tells cmd s s (value_of c.new_name_figures-figures.result) c.in-Err.why c.requires.may.begin.going c.in-Err.ensures.refused
+    (λ told f h. let a = (may told f h).accepts in (a.accepted, a.figures ∙ sym (c.new_name_figures-figures.ensures.value ∙ ap (λ n. adding (growth n)) c.from.ensures)))
+    (no_look g.S.Blocks.tells s) (λ told. c.calls_compose.ensures.rests told c.args.blocks.now c.args.blocks.now refl refl ((no_look g.S.Blocks.tells s).crash told))
+
+pub returns-in-Ok-draft_link-clause-plans : goal.returns-in-Ok-draft_link-clause-plans
+returns-in-Ok-draft_link-clause-plans g c = λ cmd may.
+    let s = g.S.Blocks.state c.args.blocks.now in
+    let new = g.S.Blocks.state c.draft_link.new.blocks in
+    let v = c.args.vacancy.now in
+    let slot = c.args.slot.now in
+    let d = c.in-Ok-draft_link.draft in
+    named_plan g.S.Blocks.tells cmd s new v.dir v.count (value_of c.new_name_figures-figures.result) c.requires.may.begin.going (c.new_name_figures-figures.ensures.value ∙ ap (λ n. adding (growth n)) c.from.ensures)
+    c.in-Ok.ensures.room (λ told f h. (may told f h).accepts) c.in-Ok-draft_link.ensures.quiet d c.args.first_unused c.in-Ok-draft_link.ensures.settles
+    (λ told f h.
+    let m = may told f h in
+    let adds = c.in-Ok-draft_link.ensures.names told f.tree m.accepts.slots m.before m.bytes h.tree m.file m.accepts.is_dir in
+    record { node = slot.node; name = slot.name; inode = AFile c.args.links m.bytes; adds = adds; map = m.map (inodes_in new d) adds.adds })
+
+pub returns-in-Ok-draft_link-clause-made : goal.returns-in-Ok-draft_link-clause-made
+returns-in-Ok-draft_link-clause-made g c =
+    let settles = c.in-Ok-draft_link.ensures.settles in
+    record {
+      draft = c.in-Ok-draft_link.ensures.draft;
+      weight = omega (arith, c.in-Ok.ensures.room.weight, ap (λ (r : Running). r.weight) settles.pipeline.running, settles.pipeline.room);
+      above = c.requires.may.above;
+      used = λ told l above below. c.in-Ok-draft_link.ensures.used told l (c.requires.may.used told l above below);
+    }
+
+pub returns-in-Err-draft_link-clause-plans : goal.returns-in-Err-draft_link-clause-plans
+returns-in-Err-draft_link-clause-plans g c = λ cmd may.
+    let s = g.S.Blocks.state c.args.blocks.now in
+    let new = g.S.Blocks.state c.draft_link.new.blocks in
+    let v = c.args.vacancy.now in
+    subst (λ why. Plans g.S.Blocks.tells cmd (Err why) s new) (sym c.refusal_of.ensures)
+    (name_refused g.S.Blocks.tells cmd s new v.dir v.count (value_of c.new_name_figures-figures.result) c.requires.may.begin.going (c.new_name_figures-figures.ensures.value ∙ ap (λ n. adding (growth n)) c.from.ensures)
+    c.in-Ok.ensures.room (λ told f h. (may told f h).accepts) c.in-Err-draft_link.ensures.quiet
+    (g.met.S.Blocks.is_sound c.draft_link.new.blocks) c.a_disk_is_small.ensures.disk (λ told. c.a_disk_is_small.ensures.places told c.requires.may.begin v.dir) c.in-Err-draft_link.why c.in-Err-draft_link.ensures.settles c.in-Err-draft_link.ensures.refused)

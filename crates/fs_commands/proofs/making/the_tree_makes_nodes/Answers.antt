@@ -1,0 +1,20 @@
+use Rattle.crash_stands.specs.Maps.{IsMapOf}
+use Rattle.lang_tree.specs.Step.{Session}
+use Rattle.engine_blocks.specs.State.{State}
+use Rattle.fs_commands.specs.Sessions.{IsSession, inodes}
+use Rattle.fs_commands.proofs.naming.Accepting.{node_refused, no_node_left, node_accepted, node_mapped}
+use Rattle.fs_commands.proofs.making.the_tree_makes_nodes.Goals as goal
+
+pub returns : goal.returns
+returns g c =
+    let map : (old : State) (f : Session) → IsSession old f → IsMapOf old.books.geom.i (inodes old) f.tree = λ old f h. c.blocks_have_the_map_of_their_tree.ensures.map old.books.geom old.map f.tree h.tree in
+    let law = c.the_map_gives_the_refusal.ensures.refusal in
+    let ends = c.walks_are_the_same.ensures.ends in
+    let comes = c.what_a_path_comes_to_gives_the_walk.ensures in
+    record {
+      refused = λ s f kind path why h e. node_refused (g.S.Blocks.state s) f h (map (g.S.Blocks.state s) f h) law kind path why e;
+      no_node = λ s f kind path v h e least. no_node_left (g.S.Blocks.state s) f h (map (g.S.Blocks.state s) f h) law kind path comes.parent comes.number v e least;
+      accepted = λ s f kind path v node h e least. node_accepted (g.S.Blocks.state s) f h (map (g.S.Blocks.state s) f h) law kind path comes.parent comes.number v e c.the_map_gives_the_figures.ensures.figures ends comes.slots node least;
+      map = λ s new f kind path v node h e least adds. node_mapped (g.S.Blocks.state s) f h (map (g.S.Blocks.state s) f h) law kind path comes.parent comes.number v e ends c.a_new_node_is_mapped.ensures.mkdir c.a_new_node_is_mapped.ensures.create new node
+          (node_accepted (g.S.Blocks.state s) f h (map (g.S.Blocks.state s) f h) law kind path comes.parent comes.number v e c.the_map_gives_the_figures.ensures.figures ends comes.slots node least).accepted least adds;
+    }

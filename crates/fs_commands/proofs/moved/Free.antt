@@ -1,0 +1,38 @@
+-- A name that moves to a free one: of its directory, and of another one.
+use Rattle.std.proofs.Common.{◌≡◌, ◌≢◌, ℕ, ◌<◌, List, [], ◌∷◌, ◌++◌, length, set, None, sym, subst, ◌∙◌}
+use Rattle.layout_bytes.specs.declared.slot.Slot.{Slot}
+use Rattle.layout_directory.specs.Directory.{place_of, without_at}
+use Rattle.crash_stands.specs.Files.{Files}
+use Rattle.crash_stands.specs.Inodes.{inodes_of}
+use Rattle.crash_stands.specs.Walks.{node_in}
+use Rattle.fs_inodes.specs.Changes.{slot_of, with_slot, MovesSlot}
+use Rattle.fs_dirs.specs.Changing.{IsWithSlots}
+use Rattle.fs_commands.specs.declared.removing.Named.{Named}
+use Rattle.fs_commands.specs.Moving.{HasNamed, LacksName}
+use Rattle.fs_commands.specs.Sessions.{AreUsedBelow}
+use Rattle.fs_commands.proofs.moved.Onto.{place_within}
+use Rattle.fs_commands.proofs.moved.Slots.{within, across, slots_same}
+use Rattle.fs_commands.proofs.removed.Slots.{slots_used}
+
+-- within one directory
+module _ (f0 f1 : Files) (source : Named) (name other : List ℕ) (hs : HasNamed (inodes_of f0) name source) (free : LacksName (inodes_of f0) other source.dir source.count)
+    (one : IsWithSlots f0 f1 source.dir (set hs.slots source.entry.place (slot_of source.entry.node.number other)))
+    (law : (slots : List Slot) (s : Slot) (place : ℕ) → place_of s.name slots ≡ None → place < length slots → without_at place (with_slot slots s) ≡ set slots place s) where
+  pub moves_within : MovesSlot (inodes_of f0) (inodes_of f1) source.dir source.dir source.entry.node.number name other
+  moves_within =
+      let same = slots_same free.slots hs.slots (sym free.dir_is ∙ hs.dir) in
+      within (inodes_of f0) (inodes_of f1) source.dir source.entry.node.number source.entry.place name other hs.slots law hs.dir hs.slot (place_within (inodes_of f0) name source hs)
+      (subst (λ (xs : List Slot). place_of other xs ≡ None) same free.none) (subst (λ (xs : List Slot). node_in xs other ≡ None) same free.nothing) one.inodes
+
+  pub used_within : (first : ℕ) → AreUsedBelow f0 first → AreUsedBelow f1 first
+  used_within first used l above below = slots_used f0 f1 source.dir (set hs.slots source.entry.place (slot_of source.entry.node.number other)) one l (used l above below)
+
+-- across two directories
+module _ (f0 f1 f2 : Files) (source : Named) (into count : ℕ) (name other : List ℕ) (hs : HasNamed (inodes_of f0) name source) (free : LacksName (inodes_of f0) other into count) (apart : source.dir ≢ into)
+    (one : IsWithSlots f0 f1 into (free.slots ++ slot_of source.entry.node.number other ∷ [])) (two : IsWithSlots f1 f2 source.dir (without_at source.entry.place hs.slots)) where
+  pub moves_across : MovesSlot (inodes_of f0) (inodes_of f2) source.dir into source.entry.node.number name other
+  moves_across = across (inodes_of f0) (inodes_of f1) (inodes_of f2) source.dir into source.entry.node.number source.entry.place name other hs.slots free.slots apart hs.dir free.dir_is hs.slot free.none free.nothing one.inodes two.inodes
+
+  pub used_across : (first : ℕ) → AreUsedBelow f0 first → AreUsedBelow f2 first
+  used_across first used l above below =
+      slots_used f1 f2 source.dir (without_at source.entry.place hs.slots) two l (slots_used f0 f1 into (free.slots ++ slot_of source.entry.node.number other ∷ []) one l (used l above below))

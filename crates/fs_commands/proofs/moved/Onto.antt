@@ -1,0 +1,70 @@
+-- A name that moves onto another one, in three steps over the files of a draft.
+use Rattle.std.proofs.Common.{◌≡◌, ◌≢◌, ◌⊎◌, inl, inr, ℕ, ◌<◌, List, length, set, Some, sym, ap, ◌∙◌}
+use Rattle.std.proofs.lemmas.Bool.{cases_eq}
+use Rattle.std.proofs.lemmas.List.{length-set}
+use Rattle.std.proofs.lemmas.Option.{slice_get_within}
+use Rattle.layout_bytes.specs.declared.slot.Slot.{Slot}
+use Rattle.layout_directory.specs.Directory.{without_at}
+use Rattle.crash_stands.specs.Files.{Files}
+use Rattle.crash_stands.specs.Inodes.{Inode, Inodes, ADir, AreInodesOf, inodes_of}
+use Rattle.fs_inodes.specs.Changes.{slot_of, MovesSlot}
+use Rattle.fs_dirs.specs.Changing.{IsWithSlots}
+use Rattle.fs_commands.specs.declared.removing.Named.{Named}
+use Rattle.fs_commands.specs.Moving.{HasNamed}
+use Rattle.fs_commands.specs.Removing.{IsFound, LosesLink, first_after}
+use Rattle.fs_commands.specs.Sessions.{AreUsedBelow}
+use Rattle.fs_commands.proofs.moved.Slots.{onto, slots_same}
+use Rattle.fs_commands.proofs.removed.Slots.{found_still, lost_inode, lost_others, lost_reads, lost_used, slots_used, used_inode}
+use Rattle.fs_commands.proofs.Given.{SlotsReadLaw}
+
+-- the place of a name is one of the directory's
+pub place_within : (m : Inodes) (name : List ℕ) (n : Named) (h : HasNamed m name n) → n.entry.place < length h.slots
+place_within m name n h = slice_get_within h.slots n.entry.place (slot_of n.entry.node.number name) h.slot
+
+-- The slots of the source's directory once the target's was set: as many as before.
+pub record Between (m1 : Inodes) (dir count : ℕ) : Type 0 where
+  pub slots : List Slot
+  pub is : m1 dir ≡ Some (ADir slots)
+  pub many : length slots ≡ count
+
+module _ (f0 f1 : Files) (source target : Named) (name other : List ℕ) (s : Slot) (hs : HasNamed (inodes_of f0) name source) (ht : HasNamed (inodes_of f0) other target) (one : IsWithSlots f0 f1 target.dir (set ht.slots target.entry.place s)) where
+  pub between : Between (inodes_of f1) source.dir source.count
+  between = by (cases_eq source.dir target.dir)
+    where
+      by : (source.dir ≡ target.dir) ⊎ (source.dir ≢ target.dir) → Between (inodes_of f1) source.dir source.count
+      by (inl e) = record {
+        slots = set ht.slots target.entry.place s;
+        is = ap (inodes_of f1) e ∙ one.inodes.here;
+        many = length-set ht.slots target.entry.place s ∙ ap length (slots_same ht.slots hs.slots (sym ht.dir ∙ sym (ap (inodes_of f0) e) ∙ hs.dir)) ∙ sym hs.count;
+      }
+      by (inr d) = record { slots = hs.slots; is = one.inodes.others source.dir d ∙ hs.dir; many = sym hs.count }
+
+-- All three steps.
+module _ (f0 f1 f2 f3 : Files) (source target : Named) (name other : List ℕ) (hs : HasNamed (inodes_of f0) name source) (ht : HasNamed (inodes_of f0) other target)
+    (not_node : target.entry.node.number ≢ source.entry.node.number) (not_from : target.entry.node.number ≢ source.dir) (not_into : target.entry.node.number ≢ target.dir) (found : IsFound f0 target.entry.node)
+    (reads0 : AreInodesOf f0 (inodes_of f0)) (one : IsWithSlots f0 f1 target.dir (set ht.slots target.entry.place (slot_of source.entry.node.number other)))
+    (mid : Between (inodes_of f1) source.dir source.count) (two : IsWithSlots f1 f2 source.dir (without_at source.entry.place mid.slots))
+    (still_read : SlotsReadLaw) where
+  pub reads2 : AreInodesOf f2 (inodes_of f2)
+  reads2 = still_read f1 f2 source.dir (without_at source.entry.place mid.slots) two (still_read f0 f1 target.dir (set ht.slots target.entry.place (slot_of source.entry.node.number other)) one reads0)
+
+  -- the target's node is as it was found until it loses its link
+  pub found2 : IsFound f2 target.entry.node
+  found2 = found_still f1 f2 source.dir (without_at source.entry.place mid.slots) two target.entry.node not_from
+      (found_still f0 f1 target.dir (set ht.slots target.entry.place (slot_of source.entry.node.number other)) one target.entry.node not_into found)
+
+  pub inode2 : (x : Inode) × (inodes_of f2 target.entry.node.number ≡ Some x)
+  inode2 = used_inode f2 reads2 target.entry.node.number found2.file found2.is
+
+  module _ (three : LosesLink f2 f3 target.entry.node.number) where
+    pub moves : MovesSlot (inodes_of f0) (inodes_of f3) source.dir target.dir source.entry.node.number name other
+    moves = onto (inodes_of f0) (inodes_of f1) (inodes_of f2) (inodes_of f3) source.dir target.dir source.entry.node.number target.entry.node.number source.entry.place target.entry.place name other hs.slots ht.slots mid.slots
+        hs.dir ht.dir hs.slot ht.first ht.node not_node not_from not_into one.inodes mid.is two.inodes (lost_inode f2 f3 target.entry.node.number three) (lost_others f2 f3 target.entry.node.number three)
+
+    pub reads3 : AreInodesOf f3 (inodes_of f3)
+    reads3 = lost_reads f2 f3 target.entry.node.number three reads2
+
+    pub used3 : (first : ℕ) → AreUsedBelow f0 first → AreUsedBelow f3 (first_after target.entry.node first)
+    used3 first used = lost_used f2 f3 target.entry.node three found2 reads2 first
+        (λ l above below. slots_used f1 f2 source.dir (without_at source.entry.place mid.slots) two l
+        (slots_used f0 f1 target.dir (set ht.slots target.entry.place (slot_of source.entry.node.number other)) one l (used l above below)))

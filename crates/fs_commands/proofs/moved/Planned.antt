@@ -1,0 +1,155 @@
+-- A draft in which a name moved makes the tree of the rename, and is within its cost.
+use Rattle.std.proofs.Common.{◌≡◌, ◌≢◌, ℕ, ◌+◌, ◌≤◌, ◌==◌, cond, IsTrue, Bool, true, false, List, [], ◌∷◌, ◌++◌, length, take, None, Some, is_some, refl, sym, subst, ap, ap₂, ◌∙◌, arith}
+use Rattle.std.proofs.lemmas.Bool.{cond-true, cond-false, eq-eqb, ne_eqb}
+use Rattle.std.proofs.lemmas.List.{length-take}
+use Rattle.layout_geometry.specs.Geometry.{Geometry, bitmap_blocks}
+use Rattle.layout_bytes.specs.declared.slot.Slot.{Slot}
+use Rattle.lang_tree.specs.declared.command.Cmd.{Cmd}
+use Rattle.lang_tree.specs.declared.command.Cmd.TheVariants.{Rename}
+use Rattle.lang_tree.specs.Conditions.{refusal}
+use Rattle.lang_tree.specs.Figures.{Figures, figures, nothing, moving, growth, release, are_in_one}
+use Rattle.lang_tree.specs.Paths.{parent}
+use Rattle.lang_tree.specs.Step.{Session, step}
+use Rattle.lang_tree.specs.Tree.{Tree}
+use Rattle.lang_tree.specs.Walk.{are_same}
+use Rattle.crash_stands.specs.Inodes.{Inodes, ADir}
+use Rattle.crash_stands.specs.Maps.{IsMapOf}
+use Rattle.crash_stands.specs.Walks.{LeadsTo}
+use Rattle.fs_inodes.specs.Changes.{MovesSlot}
+use Rattle.fs_inodes.specs.Figures.{cost, cost_by, move_cost, slots_above, blocks_lost}
+use Rattle.fs_inodes.specs.Lookups.{number_at}
+use Rattle.fs_inodes.specs.Refusals.{reason, rename_reason}
+use Rattle.fs_inodes.specs.Replies.{reply_by}
+use Rattle.engine_blocks.specs.State.{Bookkeeping, State, reusable_blocks}
+use Rattle.fs_files.specs.Calls.{files_in, places_in}
+use Rattle.fs_files.specs.Sound.{IsDraftOf}
+use Rattle.fs_files.specs.Drafts.{DraftState, nothing_drafted}
+use Rattle.fs_dirs.specs.Changing.{Alters}
+use Rattle.fs_dirs.specs.Directories.{inodes_in}
+use Rattle.fs_commands.specs.Changes.{IsWithinCost, Uses}
+use Rattle.fs_commands.specs.Commands.{FindsRuns, figures_on, grown_by, places_of}
+use Rattle.fs_commands.specs.declared.removing.Named.{Named}
+use Rattle.fs_commands.specs.Moving.{KnowsMove, KnowsPaths, MayMoveAway, MayRename, MovesName}
+use Rattle.fs_commands.specs.Plans.{MakesTree, MayBeMade}
+use Rattle.fs_commands.specs.Removing.{blocks_gone}
+use Rattle.fs_commands.specs.Sessions.{AreUsedBelow, IsSession, inodes}
+use Rattle.fs_commands.specs.Space.{ArePlaced, HasRoom}
+use Rattle.fs_commands.specs.Writing.{IsWeighed}
+use Rattle.fs_commands.proofs.looking.Spots.{above}
+use Rattle.fs_commands.proofs.moved.Known.{entry_lacks}
+use Rattle.fs_commands.proofs.Given.{FiguresLaw, PriceLaw, RefusalLaw, ReplyLaw}
+
+-- what is altered bounds the price
+pub within_move : (g : Geometry) (d : DraftState) (most frees grown : ℕ) (takes : List ℕ) → PriceLaw → Alters most takes frees nothing_drafted d → most ≤ 6 → length takes ≤ grown → IsWithinCost g d (moving (bitmap_blocks g) grown frees).cost
+within_move g d most frees grown takes law alters few less =
+    let p = law g most frees takes d alters in
+    record { blocks = p.0; only = p.1; price = omega (arith, p.2, few, less); some = λ costs. alters.some }
+
+-- what a rename takes, by what the two paths lead to
+module _ (bitmap : ℕ) (f : Session) (m : Inodes) (from to : List (List ℕ)) (map : IsMapOf f.limit m f.tree) (accepted : rename_reason m from to ≡ None) (apart : are_same (number_at m from) (number_at m to) ≡ false)
+    (law : FiguresLaw) where
+  moves_cost : figures bitmap f (Rename from to) ≡ move_cost bitmap m from to
+  moves_cost = law bitmap f m (Rename from to) map ∙ ap (λ r. cost_by bitmap m (Rename from to) r) accepted ∙ cond-false (are_same (number_at m from) (number_at m to)) nothing (move_cost bitmap m from to) apart
+
+  pub onto_cost : is_some (number_at m to) ≡ true → figures bitmap f (Rename from to) ≡ moving bitmap 0 (release (slots_above m from) + blocks_lost m to)
+  onto_cost there = moves_cost ∙ cond-true (is_some (number_at m to)) (moving bitmap 0 (release (slots_above m from) + blocks_lost m to))
+      (cond (are_in_one from to) (moving bitmap 0 0) (moving bitmap (growth (slots_above m to)) (release (slots_above m from)))) there
+
+  pub within_cost : is_some (number_at m to) ≡ false → are_in_one from to ≡ true → figures bitmap f (Rename from to) ≡ moving bitmap 0 0
+  within_cost free one = moves_cost
+      ∙ cond-false (is_some (number_at m to)) (moving bitmap 0 (release (slots_above m from) + blocks_lost m to)) (cond (are_in_one from to) (moving bitmap 0 0) (moving bitmap (growth (slots_above m to)) (release (slots_above m from)))) free
+      ∙ cond-true (are_in_one from to) (moving bitmap 0 0) (moving bitmap (growth (slots_above m to)) (release (slots_above m from))) one
+
+  pub across_cost : is_some (number_at m to) ≡ false → are_in_one from to ≡ false → figures bitmap f (Rename from to) ≡ moving bitmap (growth (slots_above m to)) (release (slots_above m from))
+  across_cost free two = moves_cost
+      ∙ cond-false (is_some (number_at m to)) (moving bitmap 0 (release (slots_above m from) + blocks_lost m to)) (cond (are_in_one from to) (moving bitmap 0 0) (moving bitmap (growth (slots_above m to)) (release (slots_above m from)))) free
+      ∙ cond-false (are_in_one from to) (moving bitmap 0 0) (moving bitmap (growth (slots_above m to)) (release (slots_above m from))) two
+
+-- the blocks that a rename uses are those taken
+move_uses : (s t : State) (source into node most frees grown : ℕ) (takes : List ℕ) (name other : List ℕ) (d : DraftState) (then : ℕ → ℕ) → MovesName s t d source into node name other most takes frees then
+    → takes ≡ take grown (reusable_blocks t.books) → Uses grown frees (reusable_blocks t.books) (places_of s) (places_in t d) d
+move_uses s t source into node most frees grown takes name other d then made are = record {
+  taken = made.alters.taken ∙ are;
+  freed_are = omega (arith, made.alters.freed);
+  placed = subst (λ (bs : List ℕ). ArePlaced (places_of s) (places_in t d) bs) are made.placed;
+}
+
+-- the tree of a rename
+pub planned_move : (s t : State) (f : Session) (from to : List (List ℕ)) (source into node most frees grown cost : ℕ) (takes : List ℕ) (name other : List ℕ) (d : DraftState) (then : ℕ → ℕ) → IsSession s f
+    → IsMapOf s.books.geom.i (inodes s) f.tree → KnowsPaths (inodes s) from to source into name other → MovesName s t d source into node name other most takes frees then → IsWeighed s f (Rename from to) cost
+    → figures_on s f (Rename from to) ≡ moving (bitmap_blocks s.books.geom) grown frees → most ≤ 6 → takes ≡ take grown (reusable_blocks t.books) → grown ≤ length (reusable_blocks t.books) → (grown ≤ length (reusable_blocks s.books) → t.books ≡ s.books) → t.books.geom ≡ s.books.geom
+    → FindsRuns s t.books f (Rename from to)
+    → ((s : Session) (m new : Inodes) (up to : List (List ℕ)) (name other : List ℕ) (from into node : ℕ) → IsMapOf s.limit m s.tree → refusal s.limit s.tree (Rename (up ++ name ∷ []) (to ++ other ∷ [])) ≡ None
+    → LeadsTo m up from → LeadsTo m to into → MovesSlot m new from into node name other → IsMapOf s.limit new (step s (Rename (up ++ name ∷ []) (to ++ other ∷ []))).0.tree)
+    → ReplyLaw → rename_reason (inodes s) from to ≡ None → PriceLaw
+    → MakesTree (Rename from to) d cost s t f
+planned_move s t f from to source into node most frees grown cost takes name other d then h map paths made weighed formula few are enough rests geom runs moved replies reason prices =
+    let mine = subst (λ n. IsMapOf n (inodes s) f.tree) (sym h.limit) map in
+    let same : Rename (paths.up ++ name ∷ []) (paths.above ++ other ∷ []) ≡ Rename from to = ap₂ (λ a b. Rename a b) (sym paths.from_is) (sym paths.to_is) in
+    record {
+      accepted = weighed.accepted;
+      answer = replies f (inodes s) (Rename from to) mine refl ∙ ap (λ r. reply_by (inodes s) (Rename from to) r) reason;
+      costs = weighed.costs;
+      room = weighed.room;
+      runs = runs;
+      reads = made.reads;
+      map = subst (λ (cmd : Cmd). IsMapOf f.limit (inodes_in t d) (step f cmd).0.tree) same
+          (moved f (inodes s) (inodes_in t d) paths.up paths.above name other source into node mine (subst (λ (cmd : Cmd). refusal f.limit f.tree cmd ≡ None) (sym same) weighed.accepted) paths.source_leads paths.into_leads made.moves);
+      within = subst (λ n. IsWithinCost t.books.geom d n) (sym (ap (λ (n : Figures). n.cost) formula) ∙ weighed.costs)
+          (subst (λ (g : Geometry). IsWithinCost t.books.geom d (moving (bitmap_blocks g) grown frees).cost) geom (within_move t.books.geom d most frees grown takes prices made.alters few (omega (arith, ap (λ (bs : List ℕ). length bs) are, length-take grown (reusable_blocks t.books)))));
+      uses = subst (λ (n : Figures). Uses n.need n.freed (reusable_blocks t.books) (places_of s) (places_in t d) d) (sym formula) (move_uses s t source into node most frees grown takes name other d then made are);
+      enough = subst (λ (n : Figures). n.need ≤ length (reusable_blocks t.books)) (sym formula) enough;
+      rests = λ enough. rests (subst (λ (n : Figures). n.need ≤ length (reusable_blocks s.books)) formula enough);
+    }
+
+-- the tree accepts it
+pub move_refusal : (f : Session) (m : Inodes) (from to : List (List ℕ)) → IsMapOf f.limit m f.tree → RefusalLaw
+    → rename_reason m from to ≡ None → refusal f.limit f.tree (Rename from to) ≡ None
+move_refusal f m from to map law none = law f.limit m f.tree (Rename from to) map ∙ none
+
+-- it needs no blocks
+pub no_growth : (s : State) (settled : Bookkeeping) (f : Session) (cmd : Cmd) (bitmap freed : ℕ) → figures_on s f cmd ≡ moving bitmap 0 freed → FindsRuns s settled f cmd
+no_growth s settled f cmd bitmap freed are = λ k some grown. absurd (omega (arith, some, ap (λ (n : Figures). n.need) are))
+
+-- its figures are those that were counted
+module _ (s : State) (f : Session) (from to : List (List ℕ)) (source : Named) (other : List ℕ) (map : IsMapOf f.limit (inodes s) f.tree) (accepted : rename_reason (inodes s) from to ≡ None)
+    (law : FiguresLaw) where
+  pub onto_counted : (target : Named) → KnowsMove (files_in s nothing_drafted) from to source target.dir target.count (Some target.entry) other → blocks_lost (inodes s) to ≡ blocks_gone target.entry.node.facts
+      → figures_on s f (Rename from to) ≡ moving (bitmap_blocks s.books.geom) 0 (release source.count + blocks_gone target.entry.node.facts)
+  onto_counted target k lost = onto_cost (bitmap_blocks s.books.geom) f (inodes s) from to map accepted k.apart law k.there
+      ∙ ap₂ (λ c g. moving (bitmap_blocks s.books.geom) 0 (release c + g)) (sym k.slots) lost
+
+  module _ (into count : ℕ) (k : KnowsMove (files_in s nothing_drafted) from to source into count None other)
+      (one : (limit : ℕ) (m : Inodes) (t : Tree) (up to : List (List ℕ)) (name other : List ℕ) (dir into : ℕ) (slots : List Slot) → IsMapOf limit m t → LeadsTo m up dir → LeadsTo m to into → m dir ≡ Some (ADir slots)
+      → are_in_one (up ++ name ∷ []) (to ++ other ∷ []) ≡ (dir == into)) where
+    in_one : are_in_one from to ≡ (source.dir == into)
+    in_one = ap₂ are_in_one k.paths.from_is k.paths.to_is
+        ∙ one f.limit (inodes s) f.tree k.paths.up k.paths.above k.name other source.dir into k.named.slots map k.paths.source_leads k.paths.into_leads k.named.dir
+
+    pub within_counted : source.dir ≡ into → figures_on s f (Rename from to) ≡ moving (bitmap_blocks s.books.geom) 0 0
+    within_counted same = within_cost (bitmap_blocks s.books.geom) f (inodes s) from to map accepted k.apart law k.there (in_one ∙ eq-eqb source.dir into same)
+
+    pub across_counted : source.dir ≢ into → figures_on s f (Rename from to) ≡ moving (bitmap_blocks s.books.geom) (growth count) (release source.count)
+    across_counted two = across_cost (bitmap_blocks s.books.geom) f (inodes s) from to map accepted k.apart law k.there (in_one ∙ ne_eqb source.dir into two)
+        ∙ ap₂ (λ c n. moving (bitmap_blocks s.books.geom) (growth c) (release n)) (sym k.more) (sym k.slots)
+
+-- figures that were made of equal numbers
+pub counted_as : (bitmap grown freed b g n : ℕ) (fs : Figures) → fs ≡ moving bitmap grown freed → bitmap ≡ b → grown ≡ g → freed ≡ n → fs ≡ moving b g n
+counted_as bitmap grown freed b g n fs is x y z = is ∙ ap (λ i. moving i grown freed) x ∙ ap₂ (λ i j. moving b i j) y z
+
+-- the draft may be made, where no node goes
+pub move_made : (tells : Bool) (s now : State) (d : DraftState) (fs : Figures) (first : ℕ) → IsDraftOf tells now d → now.books.running.weight ≡ s.books.running.weight → now.books.room ≡ s.books.room → HasRoom s.books fs → 1 ≤ first
+    → (IsTrue tells → AreUsedBelow (files_in now d) first) → MayBeMade tells d fs.cost first now
+move_made tells s now d fs first draft weight room has above used = record { draft = draft; weight = omega (arith, weight, room, has.weight); above = above; used = used }
+
+-- what moves to a free name of its directory, and of another one
+pub may_rename : (s : State) (from to : List (List ℕ)) (source : Named) (other : List ℕ) → (k : KnowsMove (files_in s nothing_drafted) from to source source.dir source.count None other) → MayRename s source k.name other
+may_rename s from to source other k = record { from = k.named; into = entry_lacks (files_in s nothing_drafted) other source.dir source.count k.entry }
+
+pub may_move_away : (s : State) (from to : List (List ℕ)) (source : Named) (into count : ℕ) (other : List ℕ) → source.dir ≢ into → (k : KnowsMove (files_in s nothing_drafted) from to source into count None other)
+    → MayMoveAway s source into count k.name other
+may_move_away s from to source into count other apart k = record { from = k.named; into = entry_lacks (files_in s nothing_drafted) other into count k.entry; apart = apart }
+
+-- the second directory is what grows
+pub grown_into : (m : Inodes) (from to : List (List ℕ)) (source into : ℕ) (name other : List ℕ) → KnowsPaths m from to source into name other → grown_by m (Rename from to) ≡ Some into
+grown_into m from to source into name other paths = ap (number_at m) (ap parent paths.to_is ∙ above paths.above other) ∙ paths.into_leads

@@ -1,0 +1,135 @@
+use Rattle.std.proofs.Common.{ℕ, ◌+◌, ◌-◌, ◌≤◌, [], ◌∷◌, ◌++◌, false, List, take, length, Err, sym, subst, ap, ◌∙◌, arith}
+use Rattle.std.proofs.lemmas.List.{append-nil}
+use Rattle.layout_extent.specs.Runs.{stretches}
+use Rattle.layout_directory.specs.Directory.{without_at}
+use Rattle.lang_tree.specs.Figures.{directory_blocks, growth, release}
+use Rattle.crash_stands.specs.Files.{files_of}
+use Rattle.fs_inodes.specs.Changes.{slot_of}
+use Rattle.engine_blocks.specs.State.{Bookkeeping, reusable_blocks}
+use Rattle.fs_files.specs.Calls.{GrowthRefused, IsWithPlaces, files_in, places_in}
+use Rattle.fs_files.specs.Content.{fails_reading}
+use Rattle.fs_files.specs.Effects.{LooksAndSettles}
+use Rattle.fs_files.specs.Drafts.{nothing_drafted}
+use Rattle.fs_dirs.specs.Changing.{Alters, IsWithSlots}
+use Rattle.fs_dirs.specs.Directories.{inodes_in}
+use Rattle.fs_commands.specs.Commands.{GrowsInRuns, places_of}
+use Rattle.fs_commands.specs.Space.{ArePlaced}
+use Rattle.fs_commands.proofs.Placing.{placed_cut, placed_grown, placed_then}
+use Rattle.fs_commands.proofs.planning.Looking.{looked_after, cut_growth, quiet_settling}
+use Rattle.fs_commands.proofs.moved.Free.{moves_across, used_across}
+use Rattle.fs_commands.proofs.moved.Onto.{place_within}
+use Rattle.fs_commands.proofs.moving.draft_across.Goals as goal
+
+pub take_slot-requires-clause-there : goal.take_slot-requires-clause-there
+take_slot-requires-clause-there g c = λ told.
+    let s = g.S.Blocks.state c.args.blocks.now in
+    let count = (c.requires.moves told).0 in
+    let name = (c.requires.moves told).1 in
+    let may = (c.requires.moves told).2 in
+    let at = ap (λ d. inodes_in s d c.args.into) c.new-draft.ensures ∙ may.into.dir_is in
+    let one = c.in-Ok.ensures.slots told may.into.slots at in
+    (may.from.slots, one.inodes.others c.args.source.now.dir may.apart ∙ ap (λ d. inodes_in s d c.args.source.now.dir) c.new-draft.ensures ∙ may.from.dir, place_within (inodes_in s nothing_drafted) name c.args.source.now may.from)
+
+pub returns-in-Err-clause-refused : goal.returns-in-Err-clause-refused
+returns-in-Err-clause-refused g c = λ told count name may.
+    let s = g.S.Blocks.state c.args.blocks.now in
+    let t = g.S.Blocks.state c.add_slot.new.blocks in
+    let at = ap (λ d. inodes_in s d c.args.into) c.new-draft.ensures ∙ may.into.dir_is in
+    subst (λ n. GrowthRefused (growth n) (places_of s c.args.into) s.books t.books c.in-Err.why) (sym may.into.many_are)
+    (subst (λ d. GrowthRefused (growth (length may.into.slots)) (places_in s d c.args.into) s.books t.books c.in-Err.why) c.new-draft.ensures (c.in-Err.ensures.refused told may.into.slots at))
+
+pub returns-in-Ok-take_slot-clause-settles : goal.returns-in-Ok-take_slot-clause-settles
+returns-in-Ok-take_slot-clause-settles g c =
+    let looks = c.in-Ok-take_slot.ensures.looks in
+    looked_after g.S.Blocks.tells false (g.S.Blocks.state c.args.blocks.now) (g.S.Blocks.state c.add_slot.new.blocks) (g.S.Blocks.state c.take_slot.new.blocks) c.in-Ok.ensures.settles looks
+    (λ told. c.calls_compose.ensures.advances c.args.blocks.now c.add_slot.new.blocks c.take_slot.new.blocks (c.in-Ok.ensures.settles.crash told)
+    (c.calls_compose.ensures.rests told c.add_slot.new.blocks c.take_slot.new.blocks (ap (λ (b : Bookkeeping). b.point) looks.books) (ap (λ (b : Bookkeeping). b.floor) looks.books) (looks.crash told)))
+
+pub returns-in-Err-take_slot-clause-settles : goal.returns-in-Err-take_slot-clause-settles
+returns-in-Err-take_slot-clause-settles g c =
+    let looks = c.in-Err-take_slot.ensures.looks in
+    subst (λ b. LooksAndSettles g.S.Blocks.tells (fails_reading {T = ℕ} (Err c.in-Err-take_slot.why)) b (g.S.Blocks.state c.args.blocks.now) (g.S.Blocks.state c.take_slot.new.blocks)) (sym (quiet_settling c.in-Err-take_slot.why c.in-Err-take_slot.ensures.refused))
+    (looked_after g.S.Blocks.tells (fails_reading {T = ℕ} (Err c.in-Err-take_slot.why)) (g.S.Blocks.state c.args.blocks.now) (g.S.Blocks.state c.add_slot.new.blocks) (g.S.Blocks.state c.take_slot.new.blocks) c.in-Ok.ensures.settles looks
+    (λ told. c.calls_compose.ensures.advances c.args.blocks.now c.add_slot.new.blocks c.take_slot.new.blocks (c.in-Ok.ensures.settles.crash told)
+    (c.calls_compose.ensures.rests told c.add_slot.new.blocks c.take_slot.new.blocks (ap (λ (b : Bookkeeping). b.point) looks.books) (ap (λ (b : Bookkeeping). b.floor) looks.books) (looks.crash told))))
+
+pub returns-in-Err-take_slot-clause-refused : goal.returns-in-Err-take_slot-clause-refused
+returns-in-Err-take_slot-clause-refused g c = λ told count name may.
+    cut_growth (growth count) (places_of (g.S.Blocks.state c.args.blocks.now) c.args.into) (g.S.Blocks.state c.args.blocks.now).books (g.S.Blocks.state c.take_slot.new.blocks).books c.in-Err-take_slot.why c.in-Err-take_slot.ensures.refused
+
+pub returns-in-Ok-take_slot-clause-grows : goal.returns-in-Ok-take_slot-clause-grows
+returns-in-Ok-take_slot-clause-grows g c = λ told count name may.
+    let s = g.S.Blocks.state c.args.blocks.now in
+    let t = g.S.Blocks.state c.add_slot.new.blocks in
+    let at = ap (λ d. inodes_in s d c.args.into) c.new-draft.ensures ∙ may.into.dir_is in
+    subst (λ (k : Bookkeeping). GrowsInRuns s k c.args.into (growth count)) (sym c.in-Ok-take_slot.ensures.looks.books)
+    (subst (λ n. GrowsInRuns s t.books c.args.into (growth n)) (sym may.into.many_are) (record {
+      enough = c.in-Ok.ensures.room told may.into.slots at;
+      runs = subst (λ d. stretches (places_in s d c.args.into ++ take (growth (length may.into.slots)) (reusable_blocks t.books)) ≤ 28) c.new-draft.ensures (c.in-Ok.ensures.runs told may.into.slots at);
+    }))
+
+pub returns-in-Ok-take_slot-clause-rests : goal.returns-in-Ok-take_slot-clause-rests
+returns-in-Ok-take_slot-clause-rests g c = λ told count name may enough.
+    let s = g.S.Blocks.state c.args.blocks.now in
+    let at = ap (λ d. inodes_in s d c.args.into) c.new-draft.ensures ∙ may.into.dir_is in
+    c.in-Ok-take_slot.ensures.looks.books
+    ∙ (c.in-Ok.ensures.looks told may.into.slots at (subst (λ n. growth n ≤ length (reusable_blocks s.books)) may.into.many_are enough)).books
+
+pub returns-in-Ok-take_slot-clause-moves : goal.returns-in-Ok-take_slot-clause-moves
+returns-in-Ok-take_slot-clause-moves g c = λ told count name may.
+    let s = g.S.Blocks.state c.args.blocks.now in
+    let t = g.S.Blocks.state c.add_slot.new.blocks in
+    let u = g.S.Blocks.state c.take_slot.new.blocks in
+    let tree = c.requires.stands told in
+    let f0 = files_in s nothing_drafted in
+    let f1 = files_in t c.add_slot.new.draft in
+    let f2 = files_in u c.take_slot.new.draft in
+    let reads = c.files_have_one_map.ensures.read (files_of s.books.geom s.map) (λ k file is. c.blocks_have_a_map.ensures.reads s.books.geom s.map tree.0 k file tree.1 is) in
+    let at = ap (λ d. inodes_in s d c.args.into) c.new-draft.ensures ∙ may.into.dir_is in
+    let one = subst (λ d. IsWithSlots (files_in s d) f1 c.args.into (may.into.slots ++ slot_of c.args.source.now.entry.node.number c.copy.result ∷ [])) c.new-draft.ensures (c.in-Ok.ensures.slots told may.into.slots at) in
+    let named = subst (λ (n : List ℕ). IsWithSlots f0 f1 c.args.into (may.into.slots ++ slot_of c.args.source.now.entry.node.number n ∷ [])) c.copy.ensures one in
+    let from_at = one.inodes.others c.args.source.now.dir may.apart ∙ may.from.dir in
+    let two = c.in-Ok-take_slot.ensures.slots told may.from.slots from_at in
+    let takes = take (growth (length may.into.slots)) (reusable_blocks t.books) in
+    let a1 = subst (λ d. Alters 2 takes 0 d c.add_slot.new.draft) c.new-draft.ensures (c.in-Ok.ensures.alters told may.into.slots at) in
+    let a2 = c.in-Ok-take_slot.ensures.alters told may.from.slots from_at in
+    let all = c.alterations_add_up.ensures.both 2 3 0 (release (length may.from.slots)) takes [] nothing_drafted c.add_slot.new.draft c.take_slot.new.draft a1 a2 in
+    let flat = subst (λ (xs : List ℕ). Alters 5 xs (0 + release (length may.from.slots)) nothing_drafted c.take_slot.new.draft) (append-nil takes) all in
+    let freed = subst (λ n. Alters 5 takes n nothing_drafted c.take_slot.new.draft) {x = 0 + release (length may.from.slots)} {y = release (length may.from.slots)} (omega arith) flat in
+    let many = subst (λ n. Alters 5 takes (release n) nothing_drafted c.take_slot.new.draft) (sym may.from.count) freed in
+    let counted = subst (λ n. Alters 5 (take (growth n) (reusable_blocks t.books)) (release c.args.source.now.count) nothing_drafted c.take_slot.new.draft) (sym may.into.many_are) many in
+    let p0 = places_of s in
+    let p1 = places_in t c.add_slot.new.draft in
+    let p2 = places_in u c.take_slot.new.draft in
+    let grown = placed_grown p0 p1 c.args.into takes (subst (λ d. IsWithPlaces (places_in s d) p1 c.args.into (places_in s d c.args.into ++ takes)) c.new-draft.ensures (c.in-Ok.ensures.places told may.into.slots at)) in
+    let cut = placed_cut p1 p2 c.args.source.now.dir (directory_blocks (length may.from.slots - 1)) [] (c.in-Ok-take_slot.ensures.places told may.from.slots from_at) in
+    let placed = subst (λ n. ArePlaced p0 p2 (take (growth n) (reusable_blocks t.books))) (sym may.into.many_are) (placed_then p0 p1 p2 takes grown cut) in
+    record {
+      moves = moves_across f0 f1 f2 c.args.source.now c.args.into count name c.args.other.now may.from may.into may.apart named two;
+      reads = c.directories_are_read.ensures f1 f2 c.args.source.now.dir (without_at c.args.source.now.entry.place may.from.slots) two
+          (c.directories_are_read.ensures f0 f1 c.args.into (may.into.slots ++ slot_of c.args.source.now.entry.node.number c.args.other.now ∷ []) named reads);
+      alters = subst (λ (k : Bookkeeping). Alters 5 (take (growth count) (reusable_blocks k)) (release c.args.source.now.count) nothing_drafted c.take_slot.new.draft) (sym c.in-Ok-take_slot.ensures.looks.books) counted;
+      placed = subst (λ (k : Bookkeeping). ArePlaced p0 p2 (take (growth count) (reusable_blocks k))) (sym c.in-Ok-take_slot.ensures.looks.books) placed;
+      used = used_across f0 f1 f2 c.args.source.now c.args.into count name c.args.other.now may.from may.into may.apart named two;
+    }
+
+pub returns-in-Err-clause-quiet : goal.returns-in-Err-clause-quiet
+returns-in-Err-clause-quiet g c = λ told count name may enough.
+    let s = g.S.Blocks.state c.args.blocks.now in
+    let at = ap (λ d. inodes_in s d c.args.into) c.new-draft.ensures ∙ may.into.dir_is in
+    let looked = c.in-Err.ensures.looks told may.into.slots at (subst (λ n. growth n ≤ length (reusable_blocks s.books)) may.into.many_are enough) in
+    (looked.books, (looked.crash told).log)
+
+pub returns-in-Ok-take_slot-clause-quiet : goal.returns-in-Ok-take_slot-clause-quiet
+returns-in-Ok-take_slot-clause-quiet g c = λ told count name may enough.
+    let s = g.S.Blocks.state c.args.blocks.now in
+    let at = ap (λ d. inodes_in s d c.args.into) c.new-draft.ensures ∙ may.into.dir_is in
+    let looked = c.in-Ok.ensures.looks told may.into.slots at (subst (λ n. growth n ≤ length (reusable_blocks s.books)) may.into.many_are enough) in
+    (c.in-Ok-take_slot.ensures.looks.books ∙ looked.books, (c.in-Ok-take_slot.ensures.looks.crash told).log ∙ (looked.crash told).log)
+
+pub returns-in-Err-take_slot-clause-quiet : goal.returns-in-Err-take_slot-clause-quiet
+returns-in-Err-take_slot-clause-quiet g c = λ told count name may enough.
+    let s = g.S.Blocks.state c.args.blocks.now in
+    let at = ap (λ d. inodes_in s d c.args.into) c.new-draft.ensures ∙ may.into.dir_is in
+    let looked = c.in-Ok.ensures.looks told may.into.slots at (subst (λ n. growth n ≤ length (reusable_blocks s.books)) may.into.many_are enough) in
+    (c.in-Err-take_slot.ensures.looks.books ∙ looked.books, (c.in-Err-take_slot.ensures.looks.crash told).log ∙ (looked.crash told).log)

@@ -1,0 +1,104 @@
+use Rattle.std.proofs.Common.{ℕ, ◌+◌, ◌-◌, ◌<◌, [], false, List, set, length, Err, sym, subst, ap, ◌∙◌, arith}
+use Rattle.lang_tree.specs.Figures.{directory_blocks, release}
+use Rattle.crash_stands.specs.Files.{files_of}
+use Rattle.fs_inodes.specs.Changes.{slot_of}
+use Rattle.fs_files.specs.Calls.{IsWithPlaces, files_in, places_in}
+use Rattle.fs_files.specs.Content.{fails_reading}
+use Rattle.fs_files.specs.Drafts.{nothing_drafted}
+use Rattle.fs_dirs.specs.Changing.{Alters, IsWithSlots}
+use Rattle.fs_dirs.specs.Directories.{inodes_in}
+use Rattle.fs_commands.specs.Commands.{places_of}
+use Rattle.fs_commands.specs.Removing.{blocks_gone}
+use Rattle.fs_commands.proofs.Placing.{placed_cut, placed_kept, placed_then}
+use Rattle.fs_commands.proofs.looking.Found.{looks_more}
+use Rattle.fs_commands.proofs.moved.Onto.{place_within, between, found2, inode2, moves, reads3, used3}
+use Rattle.fs_commands.proofs.moving.draft_onto.Goals as goal
+
+pub set_slot-requires-clause-there : goal.set_slot-requires-clause-there
+set_slot-requires-clause-there g c = λ told.
+    let s = g.S.Blocks.state c.args.blocks.now in
+    let may = (c.requires.moves told).1 in
+    (may.onto.slots, ap (λ d. inodes_in s d c.args.target.now.dir) c.new-draft.ensures ∙ may.onto.dir, place_within (inodes_in s nothing_drafted) c.args.other.now c.args.target.now may.onto)
+
+pub take_slot-requires-clause-there : goal.take_slot-requires-clause-there
+take_slot-requires-clause-there g c = λ told.
+    let s = g.S.Blocks.state c.args.blocks.now in
+    let t = g.S.Blocks.state c.set_slot.new.blocks in
+    let name = (c.requires.moves told).0 in
+    let may = (c.requires.moves told).1 in
+    let named = slot_of c.args.source.now.entry.node.number c.copy.result in
+    let one = subst (λ d. IsWithSlots (files_in s d) (files_in t c.set_slot.new.draft) c.args.target.now.dir (set may.onto.slots c.args.target.now.entry.place named)) c.new-draft.ensures
+    (c.in-Ok.ensures.slots told may.onto.slots (ap (λ d. inodes_in s d c.args.target.now.dir) c.new-draft.ensures ∙ may.onto.dir)) in
+    let mid = between (files_in s nothing_drafted) (files_in t c.set_slot.new.draft) c.args.source.now c.args.target.now name c.args.other.now named may.from may.onto one in
+    (mid.slots, mid.is, subst (λ n. c.args.source.now.entry.place < n) (sym (mid.many ∙ may.from.count)) (place_within (inodes_in s nothing_drafted) name c.args.source.now may.from))
+
+pub lose_link-requires-clause-found : goal.lose_link-requires-clause-found
+lose_link-requires-clause-found g c = λ told.
+    let s = g.S.Blocks.state c.args.blocks.now in
+    let t = g.S.Blocks.state c.set_slot.new.blocks in
+    let u = g.S.Blocks.state c.take_slot.new.blocks in
+    let name = (c.requires.moves told).0 in
+    let may = (c.requires.moves told).1 in
+    let tree = c.requires.stands told in
+    let reads = c.files_have_one_map.ensures.read (files_of s.books.geom s.map) (λ k file is. c.blocks_have_a_map.ensures.reads s.books.geom s.map tree.0 k file tree.1 is) in
+    let named = slot_of c.args.source.now.entry.node.number c.copy.result in
+    let one = subst (λ d. IsWithSlots (files_in s d) (files_in t c.set_slot.new.draft) c.args.target.now.dir (set may.onto.slots c.args.target.now.entry.place named)) c.new-draft.ensures
+    (c.in-Ok.ensures.slots told may.onto.slots (ap (λ d. inodes_in s d c.args.target.now.dir) c.new-draft.ensures ∙ may.onto.dir)) in
+    let named_one = subst (λ (n : List ℕ). IsWithSlots (files_in s nothing_drafted) (files_in t c.set_slot.new.draft) c.args.target.now.dir (set may.onto.slots c.args.target.now.entry.place (slot_of c.args.source.now.entry.node.number n))) c.copy.ensures one in
+    let mid = between (files_in s nothing_drafted) (files_in t c.set_slot.new.draft) c.args.source.now c.args.target.now name c.args.other.now named may.from may.onto one in
+    found2 (files_in s nothing_drafted) (files_in t c.set_slot.new.draft) (files_in u c.take_slot.new.draft) (files_in u c.take_slot.new.draft) c.args.source.now c.args.target.now name c.args.other.now may.from may.onto may.not_node may.not_from may.not_into may.found reads named_one mid
+    (c.in-Ok-take_slot.ensures.slots told mid.slots mid.is) c.directories_are_read.ensures
+
+pub returns-in-Ok-lose_link-clause-moves : goal.returns-in-Ok-lose_link-clause-moves
+returns-in-Ok-lose_link-clause-moves g c = λ told name may.
+    let s = g.S.Blocks.state c.args.blocks.now in
+    let t = g.S.Blocks.state c.set_slot.new.blocks in
+    let u = g.S.Blocks.state c.take_slot.new.blocks in
+    let v = g.S.Blocks.state c.lose_link.new.blocks in
+    let tree = c.requires.stands told in
+    let f0 = files_in s nothing_drafted in
+    let f1 = files_in t c.set_slot.new.draft in
+    let f2 = files_in u c.take_slot.new.draft in
+    let f3 = files_in v c.lose_link.new.draft in
+    let reads = c.files_have_one_map.ensures.read (files_of s.books.geom s.map) (λ k file is. c.blocks_have_a_map.ensures.reads s.books.geom s.map tree.0 k file tree.1 is) in
+    let named = slot_of c.args.source.now.entry.node.number c.copy.result in
+    let at = ap (λ d. inodes_in s d c.args.target.now.dir) c.new-draft.ensures ∙ may.onto.dir in
+    let one = subst (λ d. IsWithSlots (files_in s d) f1 c.args.target.now.dir (set may.onto.slots c.args.target.now.entry.place named)) c.new-draft.ensures (c.in-Ok.ensures.slots told may.onto.slots at) in
+    let named_one = subst (λ (n : List ℕ). IsWithSlots f0 f1 c.args.target.now.dir (set may.onto.slots c.args.target.now.entry.place (slot_of c.args.source.now.entry.node.number n))) c.copy.ensures one in
+    let mid = between f0 f1 c.args.source.now c.args.target.now name c.args.other.now named may.from may.onto one in
+    let two = c.in-Ok-take_slot.ensures.slots told mid.slots mid.is in
+    let x = inode2 f0 f1 f2 f3 c.args.source.now c.args.target.now name c.args.other.now may.from may.onto may.not_node may.not_from may.not_into may.found reads named_one mid two c.directories_are_read.ensures in
+    let three = c.in-Ok-lose_link.ensures.link told x.0 x.1 in
+    let both = c.alterations_add_up.ensures.both in
+    let a1 = subst (λ d. Alters 1 [] 0 d c.set_slot.new.draft) c.new-draft.ensures (c.in-Ok.ensures.alters told) in
+    let a2 = c.in-Ok-take_slot.ensures.alters told mid.slots mid.is in
+    let a3 = c.in-Ok-lose_link.ensures.alters told in
+    let a12 = subst (λ n. Alters 4 [] n nothing_drafted c.take_slot.new.draft) {x = 0 + release (length mid.slots)} {y = release (length mid.slots)} (omega arith) (both 1 3 0 (release (length mid.slots)) [] [] nothing_drafted c.set_slot.new.draft c.take_slot.new.draft a1 a2) in
+    let all = both 4 1 (release (length mid.slots)) (blocks_gone c.args.target.now.entry.node.facts) [] [] nothing_drafted c.take_slot.new.draft c.lose_link.new.draft a12 a3 in
+    let p0 = places_of s in
+    let p1 = places_in t c.set_slot.new.draft in
+    let p2 = places_in u c.take_slot.new.draft in
+    let p3 = places_in v c.lose_link.new.draft in
+    let kept = placed_kept p0 p1 c.args.target.now.dir [] (subst (λ d. IsWithPlaces (places_in s d) p1 c.args.target.now.dir (places_in s d c.args.target.now.dir)) c.new-draft.ensures (c.in-Ok.ensures.places told)) in
+    let cut = placed_cut p1 p2 c.args.source.now.dir (directory_blocks (length mid.slots - 1)) [] (c.in-Ok-take_slot.ensures.places told mid.slots mid.is) in
+    record {
+      moves = moves f0 f1 f2 f3 c.args.source.now c.args.target.now name c.args.other.now may.from may.onto may.not_node may.not_from may.not_into may.found reads named_one mid two c.directories_are_read.ensures three;
+      reads = reads3 f0 f1 f2 f3 c.args.source.now c.args.target.now name c.args.other.now may.from may.onto may.not_node may.not_from may.not_into may.found reads named_one mid two c.directories_are_read.ensures three;
+      alters = subst (λ n. Alters 5 [] (release n + blocks_gone c.args.target.now.entry.node.facts) nothing_drafted c.lose_link.new.draft) mid.many all;
+      placed = placed_then p0 p2 p3 [] (placed_then p0 p1 p2 [] kept cut) (c.in-Ok-lose_link.ensures.placed told);
+      used = used3 f0 f1 f2 f3 c.args.source.now c.args.target.now name c.args.other.now may.from may.onto may.not_node may.not_from may.not_into may.found reads named_one mid two c.directories_are_read.ensures three;
+    }
+
+pub returns-in-Err-take_slot-clause-looks : goal.returns-in-Err-take_slot-clause-looks
+returns-in-Err-take_slot-clause-looks g c =
+    looks_more g.S.Blocks.tells (fails_reading {T = ℕ} (Err c.in-Err-take_slot.why)) (g.S.Blocks.state c.args.blocks.now) (g.S.Blocks.state c.set_slot.new.blocks) (g.S.Blocks.state c.take_slot.new.blocks) c.in-Ok.ensures.looks c.in-Err-take_slot.ensures.looks
+
+pub returns-in-Ok-lose_link-clause-looks : goal.returns-in-Ok-lose_link-clause-looks
+returns-in-Ok-lose_link-clause-looks g c =
+    let first = looks_more g.S.Blocks.tells false (g.S.Blocks.state c.args.blocks.now) (g.S.Blocks.state c.set_slot.new.blocks) (g.S.Blocks.state c.take_slot.new.blocks) c.in-Ok.ensures.looks c.in-Ok-take_slot.ensures.looks in
+    looks_more g.S.Blocks.tells false (g.S.Blocks.state c.args.blocks.now) (g.S.Blocks.state c.take_slot.new.blocks) (g.S.Blocks.state c.lose_link.new.blocks) first c.in-Ok-lose_link.ensures.looks
+
+pub returns-in-Err-lose_link-clause-looks : goal.returns-in-Err-lose_link-clause-looks
+returns-in-Err-lose_link-clause-looks g c =
+    let first = looks_more g.S.Blocks.tells false (g.S.Blocks.state c.args.blocks.now) (g.S.Blocks.state c.set_slot.new.blocks) (g.S.Blocks.state c.take_slot.new.blocks) c.in-Ok.ensures.looks c.in-Ok-take_slot.ensures.looks in
+    looks_more g.S.Blocks.tells (fails_reading {T = ℕ} (Err c.in-Err-lose_link.why)) (g.S.Blocks.state c.args.blocks.now) (g.S.Blocks.state c.take_slot.new.blocks) (g.S.Blocks.state c.lose_link.new.blocks) first c.in-Err-lose_link.ensures.looks

@@ -1,0 +1,215 @@
+-- What the tree makes of a command by which a name comes to be, from what was looked up first.
+use Rattle.std.proofs.Common.{◌≡◌, ℕ, ◌+◌, ◌≤◌, ◌<◌, Bool, true, false, List, [], ◌∷◌, ◌++◌, is_some, is_none, Option, None, Some, option_and_then, Ok, Err, nat_le, refl, sym, subst, ap, ◌∙◌}
+use Rattle.std.proofs.lemmas.Bool.{le-leb, lt-leb}
+use Rattle.layout_geometry.specs.Geometry.{bitmap_blocks}
+use Rattle.lang_tree.specs.declared.command.Cmd.{Cmd}
+use Rattle.lang_tree.specs.declared.command.Cmd.TheVariants.{Mkdir, Create, Link}
+use Rattle.lang_tree.specs.declared.command.Kind.{Kind}
+use Rattle.lang_tree.specs.declared.command.Kind.TheVariants.{Dir, File}
+use Rattle.lang_tree.specs.declared.command.Refusal.{Refusal}
+use Rattle.lang_tree.specs.declared.command.Refusal.TheVariants.{Exists, NoNode, IsDir, TooManyLinks}
+use Rattle.lang_tree.specs.declared.command.Reply.TheVariants.{Ok as Done}
+use Rattle.lang_tree.specs.Conditions.{when, first_reason, refusal}
+use Rattle.lang_tree.specs.Figures.{adding, growth}
+use Rattle.lang_tree.specs.Paths.{parent}
+use Rattle.lang_tree.specs.Step.{Session, step, answered}
+use Rattle.lang_tree.specs.Tree.{Dir as DirThing, File as FileThing}
+use Rattle.lang_tree.specs.Walk.{refusal_in}
+use Rattle.crash_stands.specs.Files.{Files}
+use Rattle.crash_stands.specs.Inodes.{Inode, Inodes, AFile, inode_of, inodes_of}
+use Rattle.crash_stands.specs.Maps.{IsMapOf}
+use Rattle.crash_stands.specs.Walks.{LeadsTo}
+use Rattle.fs_inodes.specs.Changes.{AddsSlot, new_inode, slot_of}
+use Rattle.fs_inodes.specs.Figures.{cost_by, accepted_cost, slots_above}
+use Rattle.fs_inodes.specs.Lookups.{least_free, is_dir_inode, links_in, number_at, inode_at, walk_on}
+use Rattle.fs_inodes.specs.Refusals.{reason, make_reason, parent_reason}
+use Rattle.engine_blocks.specs.State.{State}
+use Rattle.fs_files.specs.Calls.{files_in, is_dir}
+use Rattle.fs_files.specs.Drafts.{nothing_drafted}
+use Rattle.fs_commands.specs.declared.making.Vacancy.{Vacancy}
+use Rattle.fs_files.specs.declared.look.FileFacts.{FileFacts}
+use Rattle.fs_commands.specs.declared.paths.NodeFound.{NodeFound}
+use Rattle.fs_commands.specs.declared.paths.Entry.{Entry}
+use Rattle.fs_commands.specs.declared.paths.Spot.{Spot}
+use Rattle.fs_commands.specs.declared.paths.Spot.TheVariants.{Inside}
+use Rattle.fs_commands.specs.Commands.{grown_by}
+use Rattle.fs_commands.specs.Looks.{ComesTo, LeadsToFound, number_of}
+use Rattle.fs_commands.specs.Making.{AcceptsName, MayAppear, MayLink, first_thing, make_cmd}
+use Rattle.fs_commands.specs.Sessions.{IsSession, inodes}
+use Rattle.fs_commands.proofs.looking.Facts.{inode_is, kind_told, file_told}
+use Rattle.fs_commands.proofs.looking.Spots.{above}
+use Rattle.fs_commands.proofs.FirstReason.{alone, first_more}
+use Rattle.fs_commands.proofs.Given.{RefusalLaw, FiguresLaw, EndsLaw}
+
+-- What the laws on what a path comes to say.
+
+abbrev pub ParentLaw : Type 0
+ParentLaw = (files : Files) (path : List (List ℕ)) (spot : Spot) → ComesTo files path (Ok spot) → parent_reason (inodes_of files) path ≡ None
+
+abbrev pub NumberLaw : Type 0
+NumberLaw = (files : Files) (path : List (List ℕ)) (spot : Spot) → ComesTo files path (Ok spot) → number_at (inodes_of files) path ≡ number_of spot
+
+abbrev pub SlotsLaw : Type 0
+SlotsLaw = (files : Files) (path : List (List ℕ)) (dir count : ℕ) (entry : Option Entry) → ComesTo files path (Ok (Inside dir count entry)) → count ≡ slots_above (inodes_of files) path
+
+-- The reasons.
+
+-- a command is refused for the reason of making
+made_reason : (limit : ℕ) (m : Inodes) (kind : Kind) (path : List (List ℕ)) → reason limit m (make_cmd kind path) ≡ make_reason limit m path
+made_reason limit m Dir path = refl
+made_reason limit m File path = refl
+
+made_cost : (bitmap : ℕ) (m : Inodes) (kind : Kind) (path : List (List ℕ)) → accepted_cost bitmap m (make_cmd kind path) ≡ adding (growth (slots_above m path))
+made_cost bitmap m Dir path = refl
+made_cost bitmap m File path = refl
+
+made_done : (f : Session) (kind : Kind) (path : List (List ℕ)) → (answered f (make_cmd kind path) None).1 ≡ Done
+made_done f Dir path = refl
+made_done f File path = refl
+
+made_grows : (m : Inodes) (kind : Kind) (path : List (List ℕ)) → grown_by m (make_cmd kind path) ≡ number_at m (parent path)
+made_grows m Dir path = refl
+made_grows m File path = refl
+
+-- the directory above a path is where its parent leads
+pub parent_leads : EndsLaw → (files : Files) (path : List (List ℕ)) (dir count : ℕ) (entry : Option Entry) → ComesTo files path (Ok (Inside dir count entry)) → LeadsTo (inodes_of files) (parent path) dir
+parent_leads ends files path dir count entry (up, name, is, at, h) = ap (number_at (inodes_of files)) (ap parent is ∙ above up name) ∙ ends (inodes_of files) up dir at
+
+module _ (old : State) (f : Session) (h : IsSession old f) (map : IsMapOf old.books.geom.i (inodes old) f.tree) where
+  abbrev m : Inodes
+  m = inodes old
+
+  abbrev files : Files
+  files = files_in old nothing_drafted
+
+  its_map : IsMapOf f.limit (inodes old) f.tree
+  its_map = subst (λ n. IsMapOf n (inodes old) f.tree) (sym h.limit) map
+
+  -- what holds of each command that gives a name to a directory, once the tree has no reason against it
+  pub accepts : RefusalLaw → FiguresLaw → EndsLaw → SlotsLaw → (cmd : Cmd) (path : List (List ℕ)) (dir count : ℕ) → ComesTo files path (Ok (Inside dir count None)) → reason f.limit m cmd ≡ None
+      → (answered f cmd None).1 ≡ Done → accepted_cost (bitmap_blocks old.books.geom) m cmd ≡ adding (growth (slots_above m path)) → grown_by m cmd ≡ number_at m (parent path) → AcceptsName old f cmd dir count
+  accepts law figured ends counted cmd path dir count comes none done costs grown =
+      let accepted : refusal f.limit f.tree cmd ≡ None = law f.limit m f.tree cmd its_map ∙ none in
+      record {
+        accepted = accepted;
+        answer = ap (λ r. (answered f cmd r).1) accepted ∙ done;
+        grows = grown ∙ parent_leads ends files path dir count None comes;
+        figures = figured (bitmap_blocks old.books.geom) f m cmd its_map ∙ ap (cost_by (bitmap_blocks old.books.geom) m cmd) none ∙ costs ∙ ap (λ n. adding (growth n)) (sym (counted files path dir count None comes));
+        slots = comes.4.slots;
+        is_dir = comes.4.dir;
+        count = comes.4.count;
+      }
+
+  -- a new node
+  module _ (law : RefusalLaw) (kind : Kind) (path : List (List ℕ)) where
+    pub node_refused : (why : Refusal) → MayAppear files path (Err why) → refusal f.limit f.tree (make_cmd kind path) ≡ Some why
+    node_refused why e = law f.limit m f.tree (make_cmd kind path) its_map ∙ made_reason f.limit m kind path
+        ∙ first_more (parent_reason m path) (when (is_some (number_at m path)) Exists) (when (is_none (least_free f.limit m)) NoNode ∷ []) why e
+
+    module _ (none_against : ParentLaw) (at : NumberLaw) (v : Vacancy) (comes : MayAppear files path (Ok v)) where
+      reason_is : (least : Option ℕ) → least_free old.books.geom.i m ≡ least → make_reason f.limit m path ≡ when (is_none least) NoNode
+      reason_is least e =
+          ap (λ r. first_reason (r ∷ when (is_some (number_at m path)) Exists ∷ when (is_none (least_free f.limit m)) NoNode ∷ [])) (none_against files path (Inside v.dir v.count None) comes.0)
+          ∙ ap (λ o. first_reason (when (is_some o) Exists ∷ when (is_none (least_free f.limit m)) NoNode ∷ [])) (at files path (Inside v.dir v.count None) comes.0)
+          ∙ ap (λ o. first_reason (when (is_none o) NoNode ∷ [])) (ap (λ n. least_free n m) h.limit ∙ e) ∙ alone (when (is_none least) NoNode)
+
+      pub no_node_left : least_free old.books.geom.i m ≡ None → refusal f.limit f.tree (make_cmd kind path) ≡ Some NoNode
+      no_node_left e = law f.limit m f.tree (make_cmd kind path) its_map ∙ made_reason f.limit m kind path ∙ reason_is None e
+
+      pub node_accepted : FiguresLaw → EndsLaw → SlotsLaw → (node : ℕ) → least_free old.books.geom.i m ≡ Some node → AcceptsName old f (make_cmd kind path) v.dir v.count
+      node_accepted figured ends counted node e =
+          accepts law figured ends counted (make_cmd kind path) path v.dir v.count comes.0 (made_reason f.limit m kind path ∙ reason_is (Some node) e) (made_done f kind path) (made_cost (bitmap_blocks old.books.geom) m kind path) (made_grows m kind path)
+
+      -- what the draft makes is the map of the tree with the new node
+      pub node_mapped : EndsLaw
+          → ((s : Session) (m new : Inodes) (up : List (List ℕ)) (name : List ℕ) (dir node : ℕ) → IsMapOf s.limit m s.tree → refusal s.limit s.tree (Mkdir (up ++ name ∷ [])) ≡ None
+          → LeadsTo m up dir → least_free s.limit m ≡ Some node → AddsSlot m new dir node name (new_inode DirThing) → IsMapOf s.limit new (step s (Mkdir (up ++ name ∷ []))).0.tree)
+          → ((s : Session) (m new : Inodes) (up : List (List ℕ)) (name : List ℕ) (dir node : ℕ) → IsMapOf s.limit m s.tree → refusal s.limit s.tree (Create (up ++ name ∷ [])) ≡ None
+          → LeadsTo m up dir → least_free s.limit m ≡ Some node → AddsSlot m new dir node name (new_inode (FileThing [])) → IsMapOf s.limit new (step s (Create (up ++ name ∷ []))).0.tree)
+          → (new : Inodes) (node : ℕ) → refusal f.limit f.tree (make_cmd kind path) ≡ None → least_free old.books.geom.i m ≡ Some node → AddsSlot m new v.dir node v.name (new_inode (first_thing kind))
+          → IsMapOf f.limit new (step f (make_cmd kind path)).0.tree
+      node_mapped ends mkdir create new node accepted least adds =
+          let up = comes.1.0 in
+          let is : path ≡ up ++ v.name ∷ [] = comes.1.1 in
+          let leads : LeadsTo m up v.dir = subst (λ p. LeadsTo m p v.dir) (ap parent is ∙ above up v.name) (parent_leads ends files path v.dir v.count None comes.0) in
+          subst (λ p. IsMapOf f.limit new (step f (make_cmd kind p)).0.tree) (sym is)
+          (by kind up leads (subst (λ p. refusal f.limit f.tree (make_cmd kind p) ≡ None) is accepted) adds)
+        where
+          by : (kind : Kind) (up : List (List ℕ)) → LeadsTo m up v.dir → refusal f.limit f.tree (make_cmd kind (up ++ v.name ∷ [])) ≡ None → AddsSlot m new v.dir node v.name (new_inode (first_thing kind))
+              → IsMapOf f.limit new (step f (make_cmd kind (up ++ v.name ∷ []))).0.tree
+          by Dir up leads accepted adds = mkdir f m new up v.name v.dir node its_map accepted leads (ap (λ n. least_free n m) h.limit ∙ least) adds
+          by File up leads accepted adds = create f m new up v.name v.dir node its_map accepted leads (ap (λ n. least_free n m) h.limit ∙ least) adds
+
+  -- a link
+  module _ (law : RefusalLaw) (path other : List (List ℕ)) where
+    -- its reasons but the walk to the first path
+    abbrev later : List (Option Refusal)
+    later = parent_reason m other ∷ when (is_some (number_at m other)) Exists ∷ when (is_dir_inode (inode_at m path)) IsDir ∷ when (nat_le 65535 (links_in (inode_at m path))) TooManyLinks ∷ []
+
+    pub link_nowhere : (why : Refusal) → walk_on m 1 path ≡ Err why → refusal f.limit f.tree (Link path other) ≡ Some why
+    link_nowhere why e = law f.limit m f.tree (Link path other) its_map ∙ ap (λ r. first_reason (refusal_in r ∷ later)) e
+
+    module _ (ends : EndsLaw) (found : NodeFound) (walked : LeadsToFound files path (Ok found)) where
+      leads : LeadsTo m path found.number
+      leads = ends m path found.number walked.0
+
+      used : (i : Inode) × (inode_of walked.1.0 ≡ Some i)
+      used = let u = map.shows.used path found.number leads in (u.0, sym (ap (option_and_then inode_of) walked.1.1) ∙ u.1)
+
+      at_path : inode_at m path ≡ Some used.0
+      at_path = inode_is files path found.number walked.1.0 leads walked.1.1 ∙ used.1
+
+      told : (is_dir_inode (inode_at m path) ≡ is_dir found.facts.kind) × (links_in (inode_at m path) ≡ found.facts.links)
+      told =
+          let t = kind_told walked.1.0.kind walked.1.0.links walked.1.0.bytes used.0 used.1 in
+          (ap is_dir_inode at_path ∙ t.0 ∙ ap (λ (q : FileFacts). is_dir q.kind) (sym walked.1.2), ap links_in at_path ∙ t.1 ∙ ap (λ (q : FileFacts). q.links) (sym walked.1.2))
+
+      past_walk : reason f.limit m (Link path other) ≡ first_reason later
+      past_walk = ap (λ r. first_reason (refusal_in r ∷ later)) walked.0
+
+      pub link_refused : (why : Refusal) → MayAppear files other (Err why) → refusal f.limit f.tree (Link path other) ≡ Some why
+      link_refused why e =
+          law f.limit m f.tree (Link path other) its_map ∙ past_walk
+          ∙ first_more (parent_reason m other) (when (is_some (number_at m other)) Exists) (when (is_dir_inode (inode_at m path)) IsDir ∷ when (nat_le 65535 (links_in (inode_at m path))) TooManyLinks ∷ []) why e
+
+      module _ (none_against : ParentLaw) (at : NumberLaw) (v : Vacancy) (comes : MayAppear files other (Ok v)) where
+        -- the reasons that are left are those of the node
+        link_reason_is : (dir many : Bool) → is_dir found.facts.kind ≡ dir → nat_le 65535 found.facts.links ≡ many → reason f.limit m (Link path other) ≡ first_reason (when dir IsDir ∷ when many TooManyLinks ∷ [])
+        link_reason_is dir many d n =
+            past_walk
+            ∙ ap (λ r. first_reason (r ∷ when (is_some (number_at m other)) Exists ∷ when (is_dir_inode (inode_at m path)) IsDir ∷ when (nat_le 65535 (links_in (inode_at m path))) TooManyLinks ∷ [])) (none_against files other (Inside v.dir v.count None) comes.0)
+            ∙ ap (λ o. first_reason (when (is_some o) Exists ∷ when (is_dir_inode (inode_at m path)) IsDir ∷ when (nat_le 65535 (links_in (inode_at m path))) TooManyLinks ∷ [])) (at files other (Inside v.dir v.count None) comes.0)
+            ∙ ap (λ b. first_reason (when b IsDir ∷ when (nat_le 65535 (links_in (inode_at m path))) TooManyLinks ∷ [])) (told.0 ∙ d)
+            ∙ ap (λ b. first_reason (when dir IsDir ∷ when b TooManyLinks ∷ [])) (ap (nat_le 65535) told.1 ∙ n)
+
+        pub link_directory : is_dir found.facts.kind ≡ true → refusal f.limit f.tree (Link path other) ≡ Some IsDir
+        link_directory d = law f.limit m f.tree (Link path other) its_map ∙ link_reason_is true (nat_le 65535 found.facts.links) d refl
+
+        pub link_many : is_dir found.facts.kind ≡ false → 65535 ≤ found.facts.links → refusal f.limit f.tree (Link path other) ≡ Some TooManyLinks
+        link_many d n = law f.limit m f.tree (Link path other) its_map ∙ link_reason_is false true d (le-leb 65535 found.facts.links n)
+
+        -- it is accepted, and a slot for the file makes its tree
+        module _ (figured : FiguresLaw) (counted : SlotsLaw) (file : is_dir found.facts.kind ≡ false) (few : found.facts.links < 65535) where
+          link_accepted : AcceptsName old f (Link path other) v.dir v.count
+          link_accepted = accepts law figured ends counted (Link path other) other v.dir v.count comes.0 (link_reason_is false false file (lt-leb 65535 found.facts.links few)) refl refl refl
+
+          is_file : m found.number ≡ Some (AFile found.facts.links walked.1.0.bytes)
+          is_file =
+              ap (option_and_then inode_of) walked.1.1 ∙ file_told walked.1.0.kind walked.1.0.links walked.1.0.bytes used.0 used.1 (sym (ap (λ (q : FileFacts). is_dir q.kind) walked.1.2) ∙ file)
+              ∙ ap (λ (q : FileFacts). Some (AFile q.links walked.1.0.bytes)) (sym walked.1.2)
+
+          pub link_made : ((s : Session) (m new : Inodes) (path up : List (List ℕ)) (name : List ℕ) (dir node links : ℕ) (bytes : List ℕ) → IsMapOf s.limit m s.tree → refusal s.limit s.tree (Link path (up ++ name ∷ [])) ≡ None
+              → LeadsTo m path node → m node ≡ Some (AFile links bytes) → LeadsTo m up dir → AddsSlot m new dir node name (AFile (links + 1) bytes) → IsMapOf s.limit new (step s (Link path (up ++ name ∷ []))).0.tree)
+              → MayLink old f (Link path other) v.dir v.count (slot_of found.number v.name) (found.facts.links + 1)
+          link_made linked = record {
+            accepts = link_accepted;
+            before = found.facts.links;
+            bytes = walked.1.0.bytes;
+            file = is_file;
+            map = λ new adds.
+                let up = comes.1.0 in
+                let is : other ≡ up ++ v.name ∷ [] = comes.1.1 in
+                let to : LeadsTo m up v.dir = subst (λ p. LeadsTo m p v.dir) (ap parent is ∙ above up v.name) (parent_leads ends files other v.dir v.count None comes.0) in
+                subst (λ p. IsMapOf f.limit new (step f (Link path p)).0.tree) (sym is)
+                (linked f m new path up v.name v.dir found.number found.facts.links walked.1.0.bytes its_map (subst (λ p. refusal f.limit f.tree (Link path p) ≡ None) is link_accepted.accepted) leads is_file to adds);
+          }

@@ -1,0 +1,90 @@
+-- The plan of a command by which a name comes to be, once it is accepted and there is room.
+use Rattle.std.proofs.Common.{◌≡◌, ℕ, ◌≤◌, Bool, false, IsTrue, List, length, Some, Ok, Err, sym, subst, ap, ◌∙◌}
+use Rattle.std.proofs.lemmas.Option.{same_Some}
+use Rattle.layout_bytes.specs.declared.slot.Slot.{Slot}
+use Rattle.lang_tree.specs.declared.command.Cmd.{Cmd}
+use Rattle.lang_tree.specs.Figures.{Figures, adding, growth}
+use Rattle.lang_tree.specs.Step.{Session, step}
+use Rattle.crash_stands.specs.Inodes.{Inode, ADir}
+use Rattle.crash_stands.specs.Maps.{IsMapOf}
+use Rattle.engine_blocks.specs.Calls.{IsSound, MovesPipeline}
+use Rattle.engine_blocks.specs.State.{State, reusable_blocks}
+use Rattle.fs_files.specs.declared.refusal.FileRefusal.{FileRefusal}
+use Rattle.fs_files.specs.Calls.{places_in, GrowthRefused}
+use Rattle.fs_files.specs.Content.{fails_reading, fails_settling}
+use Rattle.fs_files.specs.Drafts.{DraftState}
+use Rattle.fs_files.specs.Effects.{LooksAndSettles}
+use Rattle.fs_dirs.specs.Directories.{inodes_in}
+use Rattle.fs_commands.specs.declared.plan.Plan.TheVariants.{Change}
+use Rattle.fs_commands.specs.Changes.{IsWithinCost, Uses}
+use Rattle.fs_commands.specs.Commands.{figures_on, places_of, GrowsInRuns, IsCalm, IsRefusedFor}
+use Rattle.fs_commands.specs.Making.{AcceptsName, AddsName}
+use Rattle.fs_commands.specs.Plans.{Plans, MakesTree}
+use Rattle.fs_commands.specs.Refusals.{refusal_of}
+use Rattle.fs_commands.specs.Sessions.{IsSession, inodes}
+use Rattle.fs_commands.specs.Space.{HasRoom}
+use Rattle.fs_commands.proofs.growing.Refused.{growth_refused}
+use Rattle.fs_commands.proofs.planning.Looking.{growth_plan}
+
+module _ (old now : State) (f : Session) (cmd : Cmd) (dir count : ℕ) (h : AcceptsName old f cmd dir count) (v : Figures) (value : v ≡ adding (growth count)) (room : HasRoom old.books v) where
+  room_is : HasRoom old.books (figures_on old f cmd)
+  room_is = subst (λ w. HasRoom old.books w) (value ∙ sym h.figures) room
+
+  need_is : (figures_on old f cmd).need ≡ growth (length h.slots)
+  need_is = ap (λ (w : Figures). w.need) h.figures ∙ ap growth h.count
+
+  cost_is : (adding (growth (length h.slots))).cost ≡ v.cost
+  cost_is = ap (λ n. (adding (growth n)).cost) (sym h.count) ∙ ap (λ (w : Figures). w.cost) (sym value)
+
+  -- the draft makes the tree
+  pub made_so : (d : DraftState) (node : ℕ) (name : List ℕ) (x : Inode) → AddsName old now d dir node name x h.slots → IsMapOf f.limit (inodes_in now d) (step f cmd).0.tree → MakesTree cmd d v.cost old now f
+  made_so d node name x a map = record {
+    accepted = h.accepted;
+    answer = h.answer;
+    costs = ap (λ (w : Figures). w.cost) (h.figures ∙ sym value);
+    room = room_is;
+    runs = λ k some grows. subst (λ n. GrowsInRuns old now.books k n) (sym need_is) (subst (λ l. GrowsInRuns old now.books l (growth (length h.slots))) (same_Some dir k (sym h.grows ∙ grows)) a.runs);
+    reads = a.reads;
+    map = map;
+    within = subst (λ n. IsWithinCost now.books.geom d n) cost_is a.within;
+    uses = subst (λ (w : Figures). Uses w.need w.freed (reusable_blocks now.books) (places_of old) (places_in now d) d) (ap (λ n. adding (growth n)) (sym h.count) ∙ sym h.figures) a.uses;
+    enough = subst (λ n. n ≤ length (reusable_blocks now.books)) (sym need_is) a.runs.enough;
+    rests = λ enough. a.rests (subst (λ n. n ≤ length (reusable_blocks old.books)) need_is enough);
+  }
+
+  -- it has no event where the directory's block may be taken
+  pub quiet_so : IsCalm (growth (length h.slots)) old now → IsCalm (figures_on old f cmd).need old now
+  quiet_so quiet = subst (λ n. IsCalm n old now) (sym need_is) quiet
+
+  -- the directory couldn't grow
+  pub refused_so : IsSound now.books → MovesPipeline old.books now.books → old.books.geom.n ≤ 1048576 → length (places_of old dir) ≤ 1048576 → (why : FileRefusal) → GrowthRefused (growth (length h.slots)) (places_of old dir) old.books now.books why
+      → IsRefusedFor old now f cmd (refusal_of why)
+  refused_so sound moves small few why grown =
+      growth_refused old now f cmd dir sound moves small h.accepted room_is h.grows few why (subst (λ n. GrowthRefused n (places_of old dir) old.books now.books why) (sym need_is) grown)
+
+-- A draft adds a name to the directory, and makes the command's tree.
+pub record Names (old now : State) (f : Session) (cmd : Cmd) (d : DraftState) (dir : ℕ) (slots : List Slot) : Type 0 where
+  pub node : ℕ
+  pub name : List ℕ
+  pub inode : Inode
+  pub adds : AddsName old now d dir node name inode slots
+  pub map : IsMapOf f.limit (inodes_in now d) (step f cmd).0.tree
+
+-- The plans.
+module _ (tells : Bool) (cmd : Cmd) (s t : State) (dir count : ℕ) (v : Figures) (going : s.books.stopped ≡ false) (value : v ≡ adding (growth count)) (room : HasRoom s.books v) (accepts : IsTrue tells → (f : Session) → IsSession s f → AcceptsName s f cmd dir count)
+    (quiet : IsTrue tells → (slots : List Slot) → inodes s dir ≡ Some (ADir slots) → IsCalm (growth (length slots)) s t) where
+  quiet_is : IsTrue tells → (f : Session) → IsSession s f → IsCalm (figures_on s f cmd).need s t
+  quiet_is told f h = let a = accepts told f h in quiet_so s t f cmd dir count a v value room (quiet told a.slots a.is_dir)
+
+  pub named_plan : (d : DraftState) (first : ℕ) → LooksAndSettles tells false false s t → ((told : IsTrue tells) (f : Session) (h : IsSession s f) → Names s t f cmd d dir (accepts told f h).slots) → Plans tells cmd (Ok (Change d v.cost first)) s t
+  named_plan d first settles names = record {
+    is = λ told f h. let n = names told f h in made_so s t f cmd dir count (accepts told f h) v value room d n.node n.name n.inode n.adds n.map;
+    going = going;
+    quiet = quiet_is;
+    settles = settles;
+  }
+
+  pub name_refused : IsSound t.books → s.books.geom.n ≤ 1048576 → (IsTrue tells → length (places_of s dir) ≤ 1048576) → (why : FileRefusal) → LooksAndSettles tells (fails_reading {T = DraftState} (Err why)) (fails_settling {T = DraftState} (Err why)) s t
+      → (IsTrue tells → (slots : List Slot) → inodes s dir ≡ Some (ADir slots) → GrowthRefused (growth (length slots)) (places_of s dir) s.books t.books why) → Plans tells cmd (Err (refusal_of why)) s t
+  name_refused sound small few why settles refused =
+      growth_plan tells cmd s t why going (λ told f h. let a = accepts told f h in refused_so s t f cmd dir count a v value room sound settles.pipeline small (few told) why (refused told a.slots a.is_dir)) quiet_is settles

@@ -1,0 +1,67 @@
+-- What may be planned still may behind reads, and what was looked up is there still.
+use Rattle.std.proofs.Common.{◌≡◌, ℕ, Bool, false, IsTrue, List, Some, Result, Ok, sym, subst, ap, ap₂, ◌∙◌}
+use Rattle.lang_tree.specs.declared.command.Refusal.{Refusal}
+use Rattle.crash_stands.specs.Files.{Files}
+use Rattle.crash_stands.specs.Inodes.{inodes_of}
+use Rattle.fs_inodes.specs.Lookups.{least_free, walk_on}
+use Rattle.engine_blocks.specs.Calls.{HasTurns}
+use Rattle.engine_blocks.specs.Running.{HasNoBare}
+use Rattle.engine_blocks.specs.State.{Bookkeeping, State}
+use Rattle.fs_files.specs.Calls.{files_in, IsUsed}
+use Rattle.fs_files.specs.Drafts.{nothing_drafted}
+use Rattle.fs_files.specs.Effects.{LooksOnly}
+use Rattle.fs_commands.specs.declared.making.Vacancy.{Vacancy}
+use Rattle.fs_commands.specs.declared.paths.NodeFound.{NodeFound}
+use Rattle.fs_commands.specs.declared.paths.Spot.{Spot}
+use Rattle.fs_commands.specs.Looks.{ComesTo, LeadsToFile, LeadsToFound}
+use Rattle.fs_commands.specs.Making.{MayAppear}
+use Rattle.fs_commands.specs.Sessions.{MayBegin, MayPlan, inodes}
+use Rattle.fs_commands.specs.Writing.{IsFile}
+use Rattle.fs_commands.proofs.carrying.Staying.{below_stays, sound_stays, stands_still}
+use Rattle.fs_commands.proofs.looking.Found.{same_files}
+
+module _ (tells : Bool) (s t : State) (looks : LooksOnly tells false s t) where
+  may_begin_still : MayBegin tells s → MayBegin tells t
+  may_begin_still may = record {
+    going = ap (λ (b : Bookkeeping). b.stopped) looks.books ∙ may.going;
+    none_bare = subst (λ (b : Bookkeeping). HasNoBare b.running) (sym looks.books) may.none_bare;
+    sound = λ told. sound_stays s t (ap (λ (b : Bookkeeping). b.geom) looks.books) (looks.map told) (may.sound told);
+  }
+
+  -- a command that may be planned still may
+  pub may_plan_still : (first : ℕ) → MayPlan tells s first → MayPlan tells t first
+  may_plan_still first may = record {
+    begin = may_begin_still may.begin;
+    stands = λ told. stands_still s t (ap (λ (b : Bookkeeping). b.geom) looks.books) (looks.map told) (may.stands told);
+    turns = subst HasTurns (sym looks.books) may.turns;
+    above = may.above;
+    used = λ told. below_stays s t first (ap (λ (b : Bookkeeping). b.geom) looks.books) (looks.map told) (may.used told);
+  }
+
+  -- What was looked up is there still.
+  module _ (told : IsTrue tells) where
+    files_still : files_in t nothing_drafted ≡ files_in s nothing_drafted
+    files_still = same_files tells false s t nothing_drafted looks told
+
+    pub comes_still : (path : List (List ℕ)) (spot : Result Spot Refusal) → ComesTo (files_in s nothing_drafted) path spot → ComesTo (files_in t nothing_drafted) path spot
+    comes_still path spot comes = subst (λ (files : Files). ComesTo files path spot) (sym files_still) comes
+
+    pub may_appear_still : (path : List (List ℕ)) (v : Result Vacancy Refusal) → MayAppear (files_in s nothing_drafted) path v → MayAppear (files_in t nothing_drafted) path v
+    may_appear_still path v may = subst (λ (files : Files). MayAppear files path v) (sym files_still) may
+
+    pub found_still : (path : List (List ℕ)) (r : Result NodeFound Refusal) → LeadsToFound (files_in s nothing_drafted) path r → LeadsToFound (files_in t nothing_drafted) path r
+    found_still path r found = subst (λ (files : Files). LeadsToFound files path r) (sym files_still) found
+
+    pub used_still : (k : ℕ) → IsUsed (files_in s nothing_drafted) k → IsUsed (files_in t nothing_drafted) k
+    used_still k used = subst (λ (files : Files). IsUsed files k) (sym files_still) used
+
+    pub least_still : (node : ℕ) → least_free s.books.geom.i (inodes s) ≡ Some node → least_free t.books.geom.i (inodes t) ≡ Some node
+    least_still node least = ap₂ (λ (b : Bookkeeping) (files : Files). least_free b.geom.i (inodes_of files)) looks.books files_still ∙ least
+
+    -- a file that a path leads to
+    module _ (path : List (List ℕ)) (found : NodeFound) (led : LeadsToFile (files_in s nothing_drafted) path (Ok found)) where
+      pub file_still : IsFile (files_in t nothing_drafted) found
+      file_still = subst (λ (files : Files). IsFile files found) (sym files_still) led.1
+
+      pub walk_still : walk_on (inodes_of (files_in t nothing_drafted)) 1 path ≡ Ok found.number
+      walk_still = subst (λ (files : Files). walk_on (inodes_of files) 1 path ≡ Ok found.number) (sym files_still) led.0

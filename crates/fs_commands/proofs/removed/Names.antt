@@ -1,0 +1,68 @@
+-- A name that goes: its slot, and then a link of its node.
+use Rattle.std.proofs.Common.{◌≡◌, ◌≢◌, ℕ, ◌+◌, List, [], length, take, Some, option_and_then, sym, ap, subst, ◌∙◌}
+use Rattle.std.proofs.lemmas.Option.{slice_get_within}
+use Rattle.layout_directory.specs.Directory.{without_at}
+use Rattle.lang_tree.specs.Figures.{release}
+use Rattle.crash_stands.specs.Inodes.{Inode, AreInodesOf}
+use Rattle.fs_inodes.specs.Changes.{one_link_less, slot_of, TakesSlot}
+use Rattle.engine_blocks.specs.State.{State}
+use Rattle.fs_files.specs.Calls.{files_in, places_in, IsWithPlaces}
+use Rattle.fs_files.specs.Drafts.{DraftState, nothing_drafted}
+use Rattle.fs_dirs.specs.Changing.{Alters, IsWithSlots, HasPlace}
+use Rattle.fs_dirs.specs.Directories.{inodes_in}
+use Rattle.fs_commands.specs.declared.removing.Named.{Named}
+use Rattle.fs_commands.specs.Commands.{places_of}
+use Rattle.fs_commands.specs.Removing.{IsFound, IsNamed, LosesLink, LosesName, blocks_gone}
+use Rattle.fs_commands.specs.Sessions.{inodes}
+use Rattle.fs_commands.specs.Space.{ArePlaced}
+use Rattle.fs_commands.proofs.Placing.{placed_cut, placed_then}
+use Rattle.fs_commands.proofs.removed.Slots.{apart, used_inode, slots_used, found_still, lost_inode, lost_others, lost_reads, lost_used}
+use Rattle.fs_commands.proofs.Given.{SlotsReadLaw, SumLaw}
+
+-- the slot has its place
+pub has_place : (s : State) (d : DraftState) (name : List ℕ) (n : Named) → d ≡ nothing_drafted → IsNamed (files_in s nothing_drafted) name n → HasPlace s d n.dir n.entry.place
+has_place s d name n none named =
+    (named.slots, ap (λ e. inodes_in s e n.dir) none ∙ named.dir, slice_get_within named.slots n.entry.place (slot_of n.entry.node.number name) named.slot)
+
+module _ (old mid : State) (d : DraftState) (name : List ℕ) (n : Named) (named : IsNamed (files_in old nothing_drafted) name n) (taken : IsWithSlots (files_in old nothing_drafted) (files_in mid d) n.dir (without_at n.entry.place named.slots)) where
+  -- the node is another one than the directory
+  node_apart : n.entry.node.number ≢ n.dir
+  node_apart = apart (inodes old) n.dir n.entry.node.number n.entry.place named.slots (slot_of n.entry.node.number name) named.dir named.slot named.bare
+
+  -- and is as it was once the slot went
+  pub node_still : IsFound (files_in mid d) n.entry.node
+  node_still = found_still (files_in old nothing_drafted) (files_in mid d) n.dir (without_at n.entry.place named.slots) taken n.entry.node node_apart named.node
+
+  pub node_reads : AreInodesOf (files_in old nothing_drafted) (inodes old) → (x : Inode) × (inodes_in mid d n.entry.node.number ≡ Some x)
+  node_reads reads =
+      let x = used_inode (files_in old nothing_drafted) reads n.entry.node.number named.node.file named.node.is in
+      (x.0, taken.inodes.others n.entry.node.number node_apart ∙ x.1)
+
+  module _ (now : State) (e : DraftState) (lost : LosesLink (files_in mid d) (files_in now e) n.entry.node.number) where
+    slot_taken : TakesSlot (inodes old) (inodes_in now e) n.dir n.entry.node.number name
+    slot_taken = record {
+      slots = named.slots;
+      place = n.entry.place;
+      dir = named.dir;
+      slot = named.slot;
+      taken = lost_others (files_in mid d) (files_in now e) n.entry.node.number lost n.dir (λ same. node_apart (sym same)) ∙ taken.inodes.here;
+      left = lost_inode (files_in mid d) (files_in now e) n.entry.node.number lost ∙ ap (option_and_then one_link_less) (taken.inodes.others n.entry.node.number node_apart);
+      others = λ k up node. lost_others (files_in mid d) (files_in now e) n.entry.node.number lost k node ∙ taken.inodes.others k up;
+    }
+
+    pub name_lost : AreInodesOf (files_in old nothing_drafted) (inodes old)
+        → SlotsReadLaw
+        → SumLaw
+        → Alters 3 [] (release (length named.slots)) nothing_drafted d → Alters 1 [] (blocks_gone n.entry.node.facts) d e
+        → (blocks : ℕ) → IsWithPlaces (places_of old) (places_in mid d) n.dir (take blocks (places_of old n.dir)) → ArePlaced (places_in mid d) (places_in now e) [] → LosesName old now e name n
+    name_lost reads read both first second blocks cut left =
+        let still = read (files_in old nothing_drafted) (files_in mid d) n.dir (without_at n.entry.place named.slots) taken reads in
+        record {
+          takes = slot_taken;
+          reads = lost_reads (files_in mid d) (files_in now e) n.entry.node.number lost still;
+          alters = subst (λ count. Alters 4 [] (release count + blocks_gone n.entry.node.facts) nothing_drafted e) (sym named.count)
+              (both 3 1 (release (length named.slots)) (blocks_gone n.entry.node.facts) [] [] nothing_drafted d e first second);
+          placed = placed_then (places_of old) (places_in mid d) (places_in now e) [] (placed_cut (places_of old) (places_in mid d) n.dir blocks [] cut) left;
+          used = λ first used. lost_used (files_in mid d) (files_in now e) n.entry.node lost node_still still first
+              (λ l above below. slots_used (files_in old nothing_drafted) (files_in mid d) n.dir (without_at n.entry.place named.slots) taken l (used l above below));
+        }

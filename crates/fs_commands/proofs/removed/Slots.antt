@@ -1,0 +1,101 @@
+-- What becomes of files and their inodes where a directory has other slots, and where a node loses a link.
+use Rattle.std.proofs.Common.{◌≡◌, ◌≢◌, ◌⊎◌, inl, inr, ℕ, ◌-◌, ◌<◌, ◌==◌, min, Bool, true, false, List, [], ◌∷◌, slice_get, if◌then◌else◌, Option, Some, None, option_and_then, refl, sym, ap, subst, ◌∙◌, arith}
+use Rattle.std.proofs.lemmas.Bool.{cases_eq, true≢false, eqb-true, eq-eqb}
+use Rattle.std.proofs.lemmas.Option.{none-some}
+use Rattle.layout_bytes.specs.declared.node.NodeKind.{NodeKind}
+use Rattle.layout_bytes.specs.declared.node.NodeKind.TheVariants.{Free, Dir, File}
+use Rattle.layout_bytes.specs.declared.slot.Slot.{Slot}
+use Rattle.crash_stands.specs.Files.{FileNode, Files}
+use Rattle.crash_stands.specs.Inodes.{Inode, Inodes, ADir, AFile, IsInodeOf, AreInodesOf, inode_by, inode_of, inodes_of}
+use Rattle.fs_inodes.specs.Changes.{one_link_less}
+use Rattle.fs_inodes.specs.Lookups.{has_slots, is_list}
+use Rattle.fs_files.specs.declared.look.FileFacts.{FileFacts}
+use Rattle.fs_files.specs.Calls.{IsUsed}
+use Rattle.fs_dirs.specs.Changing.{IsWithSlots}
+use Rattle.fs_commands.specs.declared.paths.NodeFound.{NodeFound}
+use Rattle.fs_commands.specs.Removing.{IsFound, LosesLink, first_after}
+use Rattle.fs_commands.specs.Sessions.{AreUsedBelow}
+use Rattle.fs_commands.proofs.standing.Nodes.{when_some}
+use Rattle.fs_commands.proofs.looking.InUse.{node_there, own_inode, read_still}
+
+-- A node and its inode.
+
+-- a node in use reads as an inode
+pub used_inode : (files : Files) → AreInodesOf files (inodes_of files) → (k : ℕ) (x : FileNode) → files k ≡ Some x → (inode : Inode) × (inodes_of files k ≡ Some inode)
+used_inode files reads k x is = by (inodes_of files k) refl (subst (λ (o : Option FileNode). IsInodeOf o (inodes_of files k)) is (reads k))
+  where
+    by : (i : Option Inode) → inodes_of files k ≡ i → IsInodeOf (Some x) (inodes_of files k) → (inode : Inode) × (inodes_of files k ≡ Some inode)
+    by None e h = absurd (subst (λ (i : Option Inode). IsInodeOf (Some x) i) e h)
+    by (Some inode) e h = (inode, e)
+
+-- a directory in which a slot has a place isn't a node without slots
+pub apart : (m : Inodes) (dir node place : ℕ) (slots : List Slot) (s : Slot) → m dir ≡ Some (ADir slots) → slice_get slots place ≡ Some s → has_slots (m node) ≡ false → node ≢ dir
+apart m dir node place slots s at slot bare same = true≢false (sym (has_some slots slot) ∙ sym (ap has_slots (ap m same ∙ at)) ∙ bare)
+  where
+    has_some : (slots : List Slot) → slice_get slots place ≡ Some s → is_list slots ≡ true
+    has_some [] e = absurd (none-some s e)
+    has_some (x ∷ slots) e = refl
+
+-- A directory with other slots.
+
+module _ (old new : Files) (dir : ℕ) (slots : List Slot) (set : IsWithSlots old new dir slots) where
+  -- nodes in use stay so
+  pub slots_used : (l : ℕ) → IsUsed old l → IsUsed new l
+  slots_used l used = by (cases_eq l dir)
+    where
+      by : (l ≡ dir) ⊎ (l ≢ dir) → IsUsed new l
+      by (inl e) = let x = node_there (new l) (ADir slots) (ap (inodes_of new) e ∙ set.inodes.here) in (x.0, x.1)
+      by (inr n) = (used.0, set.others l n ∙ used.1)
+
+  -- another node is as it was found
+  pub found_still : (node : NodeFound) → node.number ≢ dir → IsFound old node → IsFound new node
+  found_still node other found = record { file = found.file; is = set.others node.number other ∙ found.is; facts = found.facts }
+
+-- A node with one link less.
+
+module _ (old new : Files) (k : ℕ) (lost : LosesLink old new k) where
+  pub lost_inode : inodes_of new k ≡ option_and_then one_link_less (inodes_of old k)
+  lost_inode = sym (own_inode (new k) (option_and_then one_link_less (inodes_of old k)) lost.own)
+
+  pub lost_others : (l : ℕ) → l ≢ k → inodes_of new l ≡ inodes_of old l
+  lost_others l other = ap (option_and_then inode_of) (lost.others l other)
+
+  -- each node in use still reads as an inode
+  pub lost_reads : AreInodesOf old (inodes_of old) → AreInodesOf new (inodes_of new)
+  lost_reads = read_still old new k (subst (λ (i : Option Inode). IsInodeOf (new k) i) (sym lost_inode) lost.own) lost.others
+
+-- a node with more links than one is in use still
+more_left : (kind : NodeKind) (links : ℕ) (bytes : List ℕ) (inode : Inode) → links ≢ 1 → inode_by kind links bytes ≡ Some inode → (left : Inode) × (one_link_less inode ≡ Some left)
+more_left Free links bytes inode more reads = absurd (none-some inode reads)
+more_left Dir links bytes inode more reads = absurd (more (eqb-true links 1 (when_some (links == 1) _ inode reads).0))
+more_left File links bytes (ADir slots) more reads = absurd cc
+more_left File links bytes (AFile l b) more reads = by (l == 1) refl
+  where
+    same : links ≡ l
+    same = cc
+
+    by : (t : Bool) → (l == 1) ≡ t → (left : Inode) × (one_link_less (AFile l b) ≡ Some left)
+    by true e = absurd (more (same ∙ eqb-true l 1 e))
+    by false e = (AFile (l - 1) b, ap (λ t. if t then None else Some (AFile (l - 1) b)) e)
+
+module _ (old new : Files) (node : NodeFound) (lost : LosesLink old new node.number) (found : IsFound old node) (reads : AreInodesOf old (inodes_of old)) where
+  stays_used : node.facts.links ≢ 1 → IsUsed new node.number
+  stays_used more =
+      let x = found.file in
+      let inode = used_inode old reads node.number x found.is in
+      let left = more_left x.kind x.links x.bytes inode.0 (λ e. more (ap (λ (f : FileFacts). f.links) found.facts ∙ e)) (sym (ap (option_and_then inode_of) found.is) ∙ inode.1) in
+      let there = node_there (new node.number) left.0 (lost_inode old new node.number lost ∙ ap (option_and_then one_link_less) inode.1 ∙ left.1) in
+      (there.0, there.1)
+
+  -- no number below the first one that may be unused is so
+  pub lost_used : (first : ℕ) → AreUsedBelow old first → AreUsedBelow new (first_after node first)
+  lost_used first used l above below = by (node.facts.links == 1) refl (cases_eq l node.number)
+    where
+      other : l ≢ node.number → l < first → IsUsed new l
+      other n low = let u = used l above low in (u.0, lost.others l n ∙ u.1)
+
+      by : (t : Bool) → (node.facts.links == 1) ≡ t → (l ≡ node.number) ⊎ (l ≢ node.number) → IsUsed new l
+      by true last (inl e) = absurd (omega (arith, e, subst (λ (n : ℕ). l < n) (ap (λ t. if t then min first node.number else first) last) below))
+      by true last (inr n) = other n (omega (arith, subst (λ (n : ℕ). l < n) (ap (λ t. if t then min first node.number else first) last) below))
+      by false more (inl e) = subst (λ (n : ℕ). IsUsed new n) (sym e) (stays_used (λ is. true≢false (sym (eq-eqb node.facts.links 1 is) ∙ more)))
+      by false more (inr n) = other n (subst (λ (n : ℕ). l < n) (ap (λ t. if t then min first node.number else first) more) below)

@@ -1,0 +1,23 @@
+use Rattle.std.proofs.Common.{◌≡◌, [], ◌∷◌, None, Some, sym, subst, ap, ◌∙◌}
+use Rattle.lang_tree.specs.declared.command.Kind.{Kind}
+use Rattle.lang_tree.specs.declared.command.Refusal.TheVariants.{IsDir}
+use Rattle.lang_tree.specs.Conditions.{first_reason, when}
+use Rattle.crash_stands.specs.Inodes.{ADir}
+use Rattle.fs_inodes.specs.Lookups.{is_dir_inode}
+use Rattle.fs_dirs.specs.Directories.{inodes_in}
+use Rattle.fs_commands.specs.Removing.{lose_reason}
+use Rattle.fs_commands.specs.Sessions.{inodes}
+use Rattle.fs_commands.proofs.removing.root_refusal.Goals as goal
+
+pub returns-in-File-clause-reason : goal.returns-in-File-clause-reason
+returns-in-File-clause-reason g c = λ told t h.
+    let s = g.S.Blocks.state c.args.blocks.now in
+    let root = (c.blocks_have_the_map_of_their_tree.ensures.map s.books.geom s.map t h).root in
+    subst (λ (k : Kind). lose_reason k (inodes s) [] ≡ Some IsDir) (sym c.in-File.is) (ap (λ i. first_reason (None ∷ when (is_dir_inode i) IsDir ∷ [])) root.1)
+
+pub returns-in_ok-count-in-Dir-clause-reason : goal.returns-in_ok-count-in-Dir-clause-reason
+returns-in_ok-count-in-Dir-clause-reason g c = λ told t h.
+    let s = g.S.Blocks.state c.args.blocks.now in
+    let root = (c.blocks_have_the_map_of_their_tree.ensures.map s.books.geom s.map t h).root in
+    subst (λ (k : Kind). lose_reason k (inodes s) [] ≡ Some c.root_refusal_by.result) (sym c.in-Dir.is)
+    (c.root_refusal_by.ensures (inodes s) root.0 root.1 (c.in_ok-count-in-Dir.ensures.count told (ADir root.0) (ap (λ d. inodes_in s d 1) c.new-draft.ensures ∙ root.1)))

@@ -1,0 +1,45 @@
+-- Why a truncate of a file that was found is refused, or isn't; and what becomes of one to the size that the file has.
+use Rattle.std.proofs.Common.{◌≡◌, ℕ, ◌-◌, ◌==◌, nat_lt, Bool, false, cond, List, [], ◌∷◌, length, None, Some, Result, sym, ap, ap₂, ◌∙◌, arith}
+use Rattle.std.proofs.lemmas.Bool.{cond-true, cond-false, eq-eqb, le-ltb}
+use Rattle.lang_tree.specs.declared.command.Cmd.TheVariants.{Truncate}
+use Rattle.lang_tree.specs.declared.command.Refusal.{Refusal}
+use Rattle.lang_tree.specs.declared.command.Refusal.TheVariants.{IsDir, TooLarge}
+use Rattle.lang_tree.specs.declared.command.Reply.TheVariants.{Ok as Done}
+use Rattle.lang_tree.specs.Conditions.{refusal, when, first_reason, is_too_large}
+use Rattle.lang_tree.specs.Figures.{nothing, figures, figures_by, writing, shrinking, truncate_figures, blocks_for}
+use Rattle.lang_tree.specs.Step.{Session, step, answered, resized, changed_to, edited}
+use Rattle.lang_tree.specs.Walk.{content, refusal_in}
+use Rattle.crash_stands.specs.Inodes.{Inodes}
+use Rattle.crash_stands.specs.Maps.{IsMapOf}
+use Rattle.fs_inodes.specs.Lookups.{is_dir_inode, inode_at}
+use Rattle.fs_inodes.specs.Refusals.{file_reason}
+use Rattle.fs_commands.specs.declared.paths.NodeFound.{NodeFound}
+use Rattle.fs_commands.specs.Found.{IsKnownFile}
+use Rattle.fs_commands.proofs.FirstReason.{first_more}
+use Rattle.fs_commands.proofs.Given.{RefusalLaw}
+
+-- no change takes nothing
+same_takes_nothing : (bitmap n : ℕ) → truncate_figures bitmap n n ≡ nothing
+same_takes_nothing bitmap n =
+    let less : nat_lt n n ≡ false = le-ltb n n (omega arith) in
+    cond-false (nat_lt n n) (writing bitmap n n n) (cond (nat_lt n n) (shrinking bitmap (blocks_for n - blocks_for n)) nothing) less ∙ cond-false (nat_lt n n) (shrinking bitmap (blocks_for n - blocks_for n)) nothing less
+
+module _ (m : Inodes) (f : Session) (path : List (List ℕ)) (size : ℕ) (law : RefusalLaw) where
+  -- one that no file is found for
+  pub refused_by : (why : Refusal) → IsMapOf f.limit m f.tree → file_reason m path ≡ Some why → refusal f.limit f.tree (Truncate path size) ≡ Some why
+  refused_by why map e = law f.limit m f.tree (Truncate path size) map ∙ first_more _ _ (when (is_too_large size) TooLarge ∷ []) why e
+
+  module _ (found : NodeFound) (k : IsKnownFile m f path found) where
+    pub refusal_is : (b : Bool) → is_too_large size ≡ b → refusal f.limit f.tree (Truncate path size) ≡ first_reason (None ∷ when false IsDir ∷ when b TooLarge ∷ [])
+    refusal_is b large = law f.limit m f.tree (Truncate path size) k.map
+        ∙ ap (λ (r : Result ℕ Refusal). first_reason (refusal_in r ∷ when (is_dir_inode (inode_at m path)) IsDir ∷ when (is_too_large size) TooLarge ∷ [])) k.walk
+        ∙ ap₂ (λ (d l : Bool). first_reason (None ∷ when d IsDir ∷ when l TooLarge ∷ [])) k.file large
+
+    -- to the size that it has
+    pub nothing_resized : (bitmap : ℕ) → is_too_large size ≡ false → size ≡ found.facts.size → (step f (Truncate path size) ≡ (f, Done)) × (figures bitmap f (Truncate path size) ≡ nothing)
+    nothing_resized bitmap large same =
+        let held : size ≡ length (content f.tree path) = same ∙ sym k.holds in (
+          ap (λ r. answered f (Truncate path size) r) (refusal_is false large)
+              ∙ cond-true (size == length (content f.tree path)) (f, Done) (changed_to f (edited f.tree path (resized size))) (eq-eqb size (length (content f.tree path)) held),
+          ap (λ r. figures_by bitmap f.tree (Truncate path size) r) (refusal_is false large) ∙ ap (λ n. truncate_figures bitmap n size) (sym held) ∙ same_takes_nothing bitmap size,
+        )

@@ -1,0 +1,173 @@
+-- Lists of numbers: which numbers are in one, and how long two lists are that have the same ones.
+use Rattle.std.proofs.Common.{◌≡◌, ◌≢◌, ◌⊎◌, inl, inr, ℕ, zero, suc, ◌+◌, ◌<◌, ◌≤◌, ◌==◌, ◌||◌, Bool, true, false, cond, List, [], ◌∷◌, ◌++◌, length, get_or, slice_get, filter, Some, refl, sym, ap, ◌∙◌, arith}
+use Rattle.std.specs.Cmp.{nat_eq_equiv, unsigned_Decides}
+use Rattle.std.specs.List.{AllByRecursion, IsDistinct, range_with_len}
+use Rattle.std.specs.Set.{is_member}
+use Rattle.std.proofs.lemmas.Bool.{cases_Bool, cases_order, eqb-true, eq-eqb, false≢true, or_right, or_cases}
+use Rattle.std.proofs.lemmas.List.FromFn.{get_or-range_with_len, length-range_with_len}
+use Rattle.std.proofs.lemmas.List.Kept.{AllPairs-filter}
+use Rattle.std.proofs.lemmas.Map.Made.{IsDistinct-from_AllPairs, length-le_from_is_member}
+use Rattle.std.proofs.lemmas.Option.{none-some, same_Some, slice_get-get_or}
+use Rattle.engine_blocks.specs.Running.{has}
+
+-- Places in a list.
+
+-- a number of a list has a place in it
+pub place_of : (xs : List ℕ) (b : ℕ) → has xs b ≡ true → (i : ℕ) × (slice_get xs i ≡ Some b)
+place_of [] b e = absurd (false≢true e)
+place_of (x ∷ xs) b e = by (place_of xs b) (or_cases (b == x) (has xs b) e)
+  where
+    by : (has xs b ≡ true → (i : ℕ) × (slice_get xs i ≡ Some b)) → ((b == x) ≡ true) ⊎ (has xs b ≡ true) → (i : ℕ) × (slice_get (x ∷ xs) i ≡ Some b)
+    by further (inl same) = (0, ap Some (sym (eqb-true b x same)))
+    by further (inr rest) = let r = further rest in (suc r.0, r.1)
+
+-- and what has a place is a number of it
+pub has_place : (xs : List ℕ) (i b : ℕ) → slice_get xs i ≡ Some b → has xs b ≡ true
+has_place [] i b e = absurd (none-some b e)
+has_place (x ∷ xs) zero b e = ap (λ t. t || has xs b) (eq-eqb b x (sym (same_Some x b e)))
+has_place (x ∷ xs) (suc i) b e = or_right (b == x) (has xs b) (has_place xs i b e)
+
+-- a number of two lists, one behind the other, is in one of them
+pub in_append : (xs ys : List ℕ) (b : ℕ) → has (xs ++ ys) b ≡ true → (has xs b ≡ true) ⊎ (has ys b ≡ true)
+in_append [] ys b e = inr e
+in_append (x ∷ xs) ys b e = by (in_append xs ys b) (or_cases (b == x) (has (xs ++ ys) b) e)
+  where
+    by : (has (xs ++ ys) b ≡ true → (has xs b ≡ true) ⊎ (has ys b ≡ true)) → ((b == x) ≡ true) ⊎ (has (xs ++ ys) b ≡ true) → (((b == x) || has xs b) ≡ true) ⊎ (has ys b ≡ true)
+    by further (inl same) = inl (ap (λ t. t || has xs b) same)
+    by further (inr rest) = later (further rest)
+      where
+        later : (has xs b ≡ true) ⊎ (has ys b ≡ true) → (((b == x) || has xs b) ≡ true) ⊎ (has ys b ≡ true)
+        later (inl first) = inl (or_right (b == x) (has xs b) first)
+        later (inr second) = inr second
+
+-- and what is in one of them is in both
+pub in_first : (xs ys : List ℕ) (b : ℕ) → has xs b ≡ true → has (xs ++ ys) b ≡ true
+in_first [] ys b e = absurd (false≢true e)
+in_first (x ∷ xs) ys b e = by (in_first xs ys b) (or_cases (b == x) (has xs b) e)
+  where
+    by : (has xs b ≡ true → has (xs ++ ys) b ≡ true) → ((b == x) ≡ true) ⊎ (has xs b ≡ true) → ((b == x) || has (xs ++ ys) b) ≡ true
+    by further (inl same) = ap (λ t. t || has (xs ++ ys) b) same
+    by further (inr rest) = or_right (b == x) (has (xs ++ ys) b) (further rest)
+
+pub in_second : (xs ys : List ℕ) (b : ℕ) → has ys b ≡ true → has (xs ++ ys) b ≡ true
+in_second [] ys b e = e
+in_second (x ∷ xs) ys b e = or_right (b == x) (has (xs ++ ys) b) (in_second xs ys b e)
+
+-- Lists without repeats.
+
+-- no number is there twice: each has one place
+abbrev HasOnce : List ℕ → Type 0
+HasOnce xs = (i j b : ℕ) → slice_get xs i ≡ Some b → slice_get xs j ≡ Some b → i ≡ j
+
+distinct_once : (xs : List ℕ) → HasOnce xs → IsDistinct (λ a b. a == b) xs
+distinct_once xs once = IsDistinct-from_AllPairs unsigned_Decides xs (λ i j d low high e.
+    absurd (omega (arith, low, once i j (get_or xs i d) (slice_get-get_or xs i d (omega (arith, low, high))) (slice_get-get_or xs j d high ∙ ap Some (sym e)))))
+
+-- two lists, one behind the other, have no repeats where neither has and they share no number
+absent : (x : ℕ) (ys : List ℕ) → (has ys x ≡ true → ⊥) → AllByRecursion (λ y. (x == y) ≡ false) ys
+absent x [] none = tt
+absent x (y ∷ ys) none = (by (cases_Bool (x == y)), absent x ys (λ is. none (or_right (x == y) (has ys x) is)))
+  where
+    by : ((x == y) ≡ true) ⊎ ((x == y) ≡ false) → (x == y) ≡ false
+    by (inl same) = absurd (none (ap (λ t. t || has ys x) same))
+    by (inr other) = other
+
+all_both : (P : ℕ → Type 0) (xs ys : List ℕ) → AllByRecursion P xs → AllByRecursion P ys → AllByRecursion P (xs ++ ys)
+all_both P [] ys first second = second
+all_both P (x ∷ xs) ys first second = (first.0, all_both P xs ys first.1 second)
+
+distinct_append : (xs ys : List ℕ) → IsDistinct (λ a b. a == b) xs → IsDistinct (λ a b. a == b) ys → ((b : ℕ) → has xs b ≡ true → has ys b ≡ true → ⊥) → IsDistinct (λ a b. a == b) (xs ++ ys)
+unfolding IsDistinct
+distinct_append [] ys first second apart = second
+distinct_append (x ∷ xs) ys first second apart = (
+  all_both (λ y. (x == y) ≡ false) xs ys first.0 (absent x ys (apart x (ap (λ t. t || has xs x) (eq-eqb x x refl)))),
+  distinct_append xs ys first.1 second (λ b is. apart b (or_right (b == x) (has xs b) is)),
+)
+
+-- Two lists with the same numbers.
+
+member_is : (xs : List ℕ) (b : ℕ) → is_member (λ a b. a == b) xs b ≡ has xs b
+member_is [] b = refl
+member_is (x ∷ xs) b = ap (λ t. (b == x) || t) (member_is xs b)
+
+-- a list without repeats is no longer than one that has its numbers
+no_longer : (xs ys : List ℕ) → IsDistinct (λ a b. a == b) xs → ((b : ℕ) → has xs b ≡ true → has ys b ≡ true) → length xs ≤ length ys
+no_longer xs ys once all = length-le_from_is_member nat_eq_equiv xs ys once (λ b is. member_is ys b ∙ all b (sym (member_is xs b) ∙ is))
+
+pub as_long : (xs ys : List ℕ) → IsDistinct (λ a b. a == b) xs → IsDistinct (λ a b. a == b) ys → ((b : ℕ) → has xs b ≡ true → has ys b ≡ true) → ((b : ℕ) → has ys b ≡ true → has xs b ≡ true) → length xs ≡ length ys
+as_long xs ys first second there back = omega (arith, no_longer xs ys first there, no_longer ys xs second back)
+
+-- The numbers of a range that pass a test.
+
+pub kept_is : (p : ℕ → Bool) (a n b : ℕ) → has (filter p (range_with_len a n)) b ≡ true → (a ≤ b) × (b < a + n) × (p b ≡ true)
+kept_is p a zero b e = absurd (false≢true e)
+kept_is p a (suc n) b e = by (cases_Bool (p a)) (kept_is p (a + 1) n b)
+  where
+    rest : List ℕ
+    rest = filter p (range_with_len (a + 1) n)
+
+    wider : (a + 1 ≤ b) × (b < a + 1 + n) × (p b ≡ true) → (a ≤ b) × (b < a + suc n) × (p b ≡ true)
+    wider r = (omega (arith, r.0), omega (arith, r.1), r.2)
+
+    first : p a ≡ true → (has rest b ≡ true → (a + 1 ≤ b) × (b < a + 1 + n) × (p b ≡ true)) → ((b == a) ≡ true) ⊎ (has rest b ≡ true) → (a ≤ b) × (b < a + suc n) × (p b ≡ true)
+    first passes further (inl same) = let is = eqb-true b a same in (omega (arith, is), omega (arith, is), ap p is ∙ passes)
+    first passes further (inr later) = wider (further later)
+
+    by : (p a ≡ true) ⊎ (p a ≡ false) → (has rest b ≡ true → (a + 1 ≤ b) × (b < a + 1 + n) × (p b ≡ true)) → (a ≤ b) × (b < a + suc n) × (p b ≡ true)
+    by (inl passes) further = first passes further (or_cases (b == a) (has rest b) (sym (ap (λ t. has (cond t (a ∷ rest) rest) b) passes) ∙ e))
+    by (inr fails) further = wider (further (sym (ap (λ t. has (cond t (a ∷ rest) rest) b) fails) ∙ e))
+
+pub is_kept : (p : ℕ → Bool) (a n b : ℕ) → a ≤ b → b < a + n → p b ≡ true → has (filter p (range_with_len a n)) b ≡ true
+is_kept p a zero b low high passes = absurd (omega (arith, low, high))
+is_kept p a (suc n) b low high passes = by (cases_order a b) (cases_Bool (p a)) (λ from. is_kept p (a + 1) n b from (omega (arith, high)) passes)
+  where
+    rest : List ℕ
+    rest = filter p (range_with_len (a + 1) n)
+
+    by : (a ≡ b) ⊎ ((a < b) ⊎ (b < a)) → (p a ≡ true) ⊎ (p a ≡ false) → (a + 1 ≤ b → has rest b ≡ true) → has (cond (p a) (a ∷ rest) rest) b ≡ true
+    by (inl same) keeps further = ap (λ t. has (cond t (a ∷ rest) rest) b) (ap p same ∙ passes) ∙ ap (λ t. t || has rest b) (eq-eqb b a (sym same))
+    by (inr (inl later)) (inl keeps) further = ap (λ t. has (cond t (a ∷ rest) rest) b) keeps ∙ or_right (b == a) (has rest b) (further (omega (arith, later)))
+    by (inr (inl later)) (inr drops) further = ap (λ t. has (cond t (a ∷ rest) rest) b) drops ∙ further (omega (arith, later))
+    by (inr (inr before)) keeps further = absurd (omega (arith, low, before))
+
+pub distinct_kept : (p : ℕ → Bool) (a n : ℕ) → IsDistinct (λ a b. a == b) (filter p (range_with_len a n))
+distinct_kept p a n = IsDistinct-from_AllPairs unsigned_Decides (filter p (range_with_len a n)) (AllPairs-filter (λ x y. x ≢ y) p (range_with_len a n) (λ i j d before low e.
+    let long = length-range_with_len a n in
+    absurd (omega (arith, before, low, long, e, get_or-range_with_len a n i d (omega (arith, before, low, long)), get_or-range_with_len a n j d (omega (arith, low, long))))))
+
+-- Lists one behind the other.
+
+-- those of n numbers from k on
+abbrev pub in_turn : (ℕ → List ℕ) → ℕ → ℕ → List ℕ
+in_turn f k zero = []
+in_turn f k (suc n) = f k ++ in_turn f (k + 1) n
+
+pub turn_of : (f : ℕ → List ℕ) (k n b : ℕ) → has (in_turn f k n) b ≡ true → (l : ℕ) × (k ≤ l) × (l < k + n) × (has (f l) b ≡ true)
+turn_of f k zero b e = absurd (false≢true e)
+turn_of f k (suc n) b e = by (turn_of f (k + 1) n b) (in_append (f k) (in_turn f (k + 1) n) b e)
+  where
+    by : (has (in_turn f (k + 1) n) b ≡ true → (l : ℕ) × (k + 1 ≤ l) × (l < k + 1 + n) × (has (f l) b ≡ true)) → (has (f k) b ≡ true) ⊎ (has (in_turn f (k + 1) n) b ≡ true) → (l : ℕ) × (k ≤ l) × (l < k + suc n) × (has (f l) b ≡ true)
+    by further (inl here) = (k, omega arith, omega arith, here)
+    by further (inr later) = let r = further later in (r.0, omega (arith, r.1), omega (arith, r.2), r.3)
+
+pub in_its_turn : (f : ℕ → List ℕ) (k n b l : ℕ) → k ≤ l → l < k + n → has (f l) b ≡ true → has (in_turn f k n) b ≡ true
+in_its_turn f k zero b l low high e = absurd (omega (arith, low, high))
+in_its_turn f k (suc n) b l low high e = by (cases_order k l) (λ from. in_its_turn f (k + 1) n b l from (omega (arith, high)) e)
+  where
+    by : (k ≡ l) ⊎ ((k < l) ⊎ (l < k)) → (k + 1 ≤ l → has (in_turn f (k + 1) n) b ≡ true) → has (f k ++ in_turn f (k + 1) n) b ≡ true
+    by (inl same) further = in_first (f k) (in_turn f (k + 1) n) b (ap (λ j. has (f j) b) same ∙ e)
+    by (inr (inl later)) further = in_second (f k) (in_turn f (k + 1) n) b (further (omega (arith, later)))
+    by (inr (inr before)) further = absurd (omega (arith, low, before))
+
+-- a number has one place in one of the lists
+abbrev pub HasOnePlace : (ℕ → List ℕ) → Type 0
+HasOnePlace f = (k l i j b : ℕ) → slice_get (f k) i ≡ Some b → slice_get (f l) j ≡ Some b → (k ≡ l) × (i ≡ j)
+
+pub distinct_turns : (f : ℕ → List ℕ) (k n : ℕ) → HasOnePlace f → IsDistinct (λ a b. a == b) (in_turn f k n)
+unfolding IsDistinct
+distinct_turns f k zero once = tt
+distinct_turns f k (suc n) once = distinct_append (f k) (in_turn f (k + 1) n) (distinct_once (f k) (λ i j b at_i at_j. (once k k i j b at_i at_j).1)) (distinct_turns f (k + 1) n once) (λ b here later.
+    let r = turn_of f (k + 1) n b later in
+    let first = place_of (f k) b here in
+    let second = place_of (f r.0) b r.3 in
+    absurd (omega (arith, r.1, (once k r.0 first.0 second.0 b first.1 second.1).0)))

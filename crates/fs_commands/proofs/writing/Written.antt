@@ -1,0 +1,157 @@
+-- A draft that puts bytes into a file makes the tree of the command, and is within its cost.
+use Rattle.std.proofs.Common.{◌≡◌, ◌≢◌, ℕ, ◌+◌, ◌-◌, ◌/◌, ◌<◌, ◌≤◌, ◌==◌, nat_le, min, max, Bool, true, false, cond, List, [], ◌∷◌, ◌++◌, take, drop, length, Some, option_and_then, sym, subst, ap, ◌∙◌, arith}
+use Rattle.std.proofs.lemmas.Bool.{ne_eqb, cond-false}
+use Rattle.std.proofs.lemmas.List.{length-append, length-take, length-drop}
+use Rattle.std.proofs.lemmas.Option.{same_Some}
+use Rattle.layout_geometry.specs.Geometry.{Geometry, bitmap_blocks}
+use Rattle.layout_extent.specs.Runs.{stretches}
+use Rattle.layout_bytes.specs.declared.node.NodeKind.TheVariants.{File}
+use Rattle.lang_tree.specs.declared.command.Cmd.{Cmd}
+use Rattle.lang_tree.specs.declared.command.Reply.TheVariants.{Ok as Done}
+use Rattle.lang_tree.specs.declared.command.Reply.{Reply}
+use Rattle.lang_tree.specs.Figures.{Figures, nothing, writing, write_figures, blocks_met, blocks_for}
+use Rattle.lang_tree.specs.Walk.{content}
+use Rattle.lang_tree.specs.Step.{Session, written, changed_to, edited}
+use Rattle.crash_stands.specs.Files.{FileNode, Files}
+use Rattle.crash_stands.specs.Inodes.{Inode, AFile, IsInodeOf, AreInodesOf, inode_of, inodes_of}
+use Rattle.crash_stands.specs.Maps.{IsMapOf}
+use Rattle.crash_stands.specs.Walks.{LeadsTo}
+use Rattle.fs_inodes.specs.Changes.{Sets}
+use Rattle.fs_inodes.specs.Lookups.{bytes_of}
+use Rattle.engine_blocks.specs.State.{Bookkeeping, State, reusable_blocks}
+use Rattle.fs_files.specs.Bytes.{met, overwritten}
+use Rattle.fs_files.specs.Calls.{IsWithFile, ChangesAmong, Grows, is_dir, files_in, places_in, written_blocks, with_bytes}
+use Rattle.fs_files.specs.Drafts.{DraftState, nothing_drafted}
+use Rattle.fs_files.specs.Nodes.{node_block}
+use Rattle.fs_files.specs.Effects.{LooksAndSettles}
+use Rattle.fs_dirs.specs.Directories.{inodes_in}
+use Rattle.fs_commands.specs.Changes.{ChangesAtMost, IsWithinCost, Uses}
+use Rattle.fs_commands.specs.Commands.{GrowsInRuns, figures_on, places_of}
+use Rattle.fs_commands.specs.Plans.{MakesTree}
+use Rattle.fs_commands.specs.Sessions.{IsSession, AreUsedBelow, inodes}
+use Rattle.fs_commands.specs.Writing.{IsWeighed}
+use Rattle.fs_commands.proofs.AtMost.{only_these}
+use Rattle.fs_commands.proofs.Placing.{placed_grown}
+use Rattle.fs_commands.proofs.writing.Puts.{PutsSo}
+use Rattle.fs_commands.proofs.Given.{DivisionLaw, WritingLaw}
+use Rattle.fs_commands.proofs.looking.InUse.{still_used, read_still}
+
+-- some bytes over others
+pub overwritten_some : (off : ℕ) (ys xs : List ℕ) → 0 < length ys → overwritten off ys xs ≡ written off ys xs
+overwritten_some off ys xs some = cond-false (length ys == 0) xs (written off ys xs) (ne_eqb (length ys) 0 (λ e. absurd (omega (arith, e, some))))
+
+-- One node became a file with other bytes.
+
+pub file_reads : (x : FileNode) → x.kind ≡ File → inode_of x ≡ Some (AFile x.links x.bytes)
+file_reads x e = cc
+
+pub file_bytes : (x : FileNode) → x.kind ≡ File → bytes_of (inode_of x) ≡ x.bytes
+file_bytes x e = ap bytes_of (file_reads x e)
+
+pub read_with : (old new : Files) (k : ℕ) (x : FileNode) (i : Inode) → inode_of x ≡ Some i → IsWithFile old new k (Some x) → AreInodesOf old (inodes_of old) → AreInodesOf new (inodes_of new)
+read_with old new k x i is h = read_still old new k (subst (λ o. IsInodeOf o (option_and_then inode_of o)) (sym h.own) (subst (λ o. IsInodeOf (Some x) o) (sym is) is)) h.others
+
+-- so one inode is set
+pub sets_inode : (old new : Files) (k : ℕ) (x : FileNode) (i : Inode) → inode_of x ≡ Some i → IsWithFile old new k (Some x) → Sets (inodes_of old) (inodes_of new) k (Some i)
+sets_inode old new k x i is h = record {
+  here = ap (option_and_then inode_of) h.own ∙ is;
+  others = λ l d. ap (option_and_then inode_of) (h.others l d);
+}
+
+last_one : (b : Bool) (x : ℕ) → length (cond {A = List ℕ} b [] (x ∷ [])) ≤ 1
+last_one true x = omega arith
+last_one false x = omega arith
+
+met_places : (lo hi : ℕ) (places : List ℕ) → length (met lo hi places) ≡ min (blocks_for hi) (length places) - lo / 1024
+met_places lo hi places = omega (arith, length-drop (lo / 1024) (take (blocks_for hi) places), length-take (blocks_for hi) places)
+
+module _ (g : Geometry) (number : ℕ) (x : FileNode) (places new_places : List ℕ) (k : Bookkeeping) (d : DraftState) (lo hi : ℕ) (file : x.kind ≡ File) (count : length places ≡ blocks_for (length x.bytes))
+    (division : DivisionLaw)
+    (grows : Grows k x places new_places hi nothing_drafted d) (among : ChangesAmong (written_blocks g number x places (drop (length places) new_places) lo hi) nothing_drafted d) where
+  few : length (written_blocks g number x places (drop (length places) new_places) lo hi) ≤ blocks_met (length x.bytes) lo hi + 1
+  few =
+      let more = drop (length places) new_places in
+      let node = cond {A = List ℕ} (nat_le hi (length x.bytes)) [] (node_block g number ∷ []) in
+      let none : cond (is_dir x.kind) more [] ≡ [] = ap (λ kind. cond (is_dir kind) more []) file in
+      omega (arith, length-append (met lo hi places) (cond (is_dir x.kind) more [] ++ node), length-append (cond (is_dir x.kind) more []) node, ap (λ (xs : List ℕ). length xs) none, last_one (nat_le hi (length x.bytes)) (node_block g number), met_places lo hi places, count, division (length x.bytes) lo hi)
+
+  pub at_most : ChangesAtMost d (blocks_met (length x.bytes) lo hi + 1) (blocks_for (max (length x.bytes) hi) - blocks_for (length x.bytes)) (blocks_for (max (length x.bytes) hi) - blocks_for (length x.bytes)) 0
+  at_most = record {
+    blocks = written_blocks g number x places (drop (length places) new_places) lo hi;
+    only = only_these (written_blocks g number x places (drop (length places) new_places) lo hi) d among;
+    few_changed = few;
+    few_fresh = omega (arith, grows.fresh, ap (λ kind. cond (is_dir kind) 0 (blocks_for hi - blocks_for (length x.bytes))) file);
+    few_taken = omega (arith, ap (λ (xs : List ℕ). length xs) grows.taken, length-take (blocks_for hi - blocks_for (length x.bytes)) (reusable_blocks k));
+    few_freed = omega (arith, ap (λ (xs : List ℕ). length xs) grows.freed);
+    some = grows.changes;
+  }
+
+-- nodes in use stay so where one has other bytes
+pub used_stays : (old new : Files) (k first : ℕ) (y : FileNode) → IsWithFile old new k (Some y) → AreUsedBelow old first → AreUsedBelow new first
+used_stays old new k first y h used l from below = still_used old new k y h l (used l from below)
+
+-- what holds of a draft and an offset holds of those that are the same
+pub moved_to : (P : DraftState → ℕ → Type 0) (d e : DraftState) (m n : ℕ) → d ≡ e → m ≡ n → P d m → P e n
+moved_to P d e m n p q h = subst (λ i. P e i) q (subst (λ c. P c m) p h)
+
+-- A draft that gives a file bytes up to `hi` uses the blocks by which the file grows.
+pub grown_uses : (s t : State) (d : DraftState) (number hi need freed : ℕ) (x : FileNode) → need ≡ blocks_for hi - blocks_for (length x.bytes) → freed ≡ 0
+    → Grows t.books x (places_of s number) (places_in t d number) hi nothing_drafted d → ((l : ℕ) → l ≢ number → places_in t d l ≡ places_of s l) → Uses need freed (reusable_blocks t.books) (places_of s) (places_in t d) d
+grown_uses s t d number hi need freed x is none grows others =
+    let same = ap (λ n. take n (reusable_blocks t.books)) (sym is) in
+    record {
+      taken = grows.taken ∙ same;
+      freed_are = ap (λ (xs : List ℕ). length xs) grows.freed ∙ sym none;
+      placed = placed_grown (places_of s) (places_in t d) number (take need (reusable_blocks t.books))
+          (record { own = grows.behind ∙ ap (λ (xs : List ℕ). places_of s number ++ xs) same; others = others });
+    }
+
+-- Bytes that a command puts into a file: the draft makes the command's tree.
+module _ (s t : State) (f : Session) (cmd : Cmd) (path : List (List ℕ)) (offset number cost : ℕ) (bytes : List ℕ) (x : FileNode) (d : DraftState) (tells failed settling : Bool)
+    (h : IsSession s f) (so : PutsSo cmd path offset bytes) (weighed : IsWeighed s f cmd cost) (map : IsMapOf s.books.geom.i (inodes_in s nothing_drafted) f.tree) (leads : LeadsTo (inodes_in s nothing_drafted) path number)
+    (is : files_in s nothing_drafted number ≡ Some x) (file : x.kind ≡ File) (some : 0 < length bytes) (holds : content f.tree path ≡ x.bytes)
+    (count : length (places_of s number) ≡ blocks_for (length x.bytes)) (division : DivisionLaw)
+    (small : WritingLaw) where
+  abbrev pub lo : ℕ
+  lo = min offset (length x.bytes)
+
+  abbrev pub hi : ℕ
+  hi = offset + length bytes
+
+  -- what the command takes
+  pub figures_are : figures_on s f cmd ≡ writing (bitmap_blocks s.books.geom) (length x.bytes) lo hi
+  figures_are = so.takes (bitmap_blocks s.books.geom) f weighed.accepted ∙ ap (λ (xs : List ℕ). write_figures (bitmap_blocks s.books.geom) (length xs) offset (length bytes)) holds
+      ∙ cond-false (length bytes == 0) nothing (writing (bitmap_blocks s.books.geom) (length x.bytes) lo hi) (ne_eqb (length bytes) 0 (λ e. absurd (omega (arith, e, some))))
+
+  pub need_is : (figures_on s f cmd).need ≡ blocks_for hi - blocks_for (length x.bytes)
+  need_is = ap (λ (n : Figures). n.need) figures_are ∙ omega arith
+
+  pub puts_tree : LooksAndSettles tells failed settling s t → (blocks_for hi - blocks_for (length x.bytes) ≤ length (reusable_blocks s.books) → t.books ≡ s.books)
+      → IsWithFile (files_in s nothing_drafted) (files_in t d) number (Some (with_bytes x (overwritten offset bytes x.bytes))) → AreInodesOf (files_in s nothing_drafted) (inodes_in s nothing_drafted)
+      → Grows t.books x (places_of s number) (places_in t d number) hi nothing_drafted d
+      → ChangesAmong (written_blocks s.books.geom number x (places_of s number) (drop (length (places_of s number)) (places_in t d number)) lo hi) nothing_drafted d
+      → ((l : ℕ) → l ≢ number → places_in t d l ≡ places_of s l) → MakesTree cmd d cost s t f
+  puts_tree settles rests with reads grows among others =
+      let new : FileNode = with_bytes x (overwritten offset bytes x.bytes) in
+      let becomes : inode_of new ≡ Some (AFile x.links (written offset bytes x.bytes)) = file_reads new file ∙ ap (λ xs. Some (AFile x.links xs)) (overwritten_some offset bytes x.bytes some) in
+      let was : inodes_in s nothing_drafted number ≡ Some (AFile x.links x.bytes) = ap (option_and_then inode_of) is ∙ file_reads x file in
+      record {
+        accepted = weighed.accepted;
+        answer = so.answer f weighed.accepted ∙ ap (λ (p : Session × Reply). p.1) (cond-false (length bytes == 0) (f, Done) (changed_to f (edited f.tree path (written offset bytes))) (ne_eqb (length bytes) 0 (λ e. absurd (omega (arith, e, some)))));
+        costs = weighed.costs;
+        room = weighed.room;
+        runs = λ k more grown. subst (λ n. GrowsInRuns s t.books n (figures_on s f cmd).need) (same_Some number k (sym leads ∙ sym (so.grown (inodes s)) ∙ grown))
+            (subst (λ n. GrowsInRuns s t.books number n) (sym need_is) (record {
+              enough = grows.enough;
+              runs = subst (λ (places : List ℕ). stretches places ≤ 28) grows.behind grows.runs;
+            }));
+        reads = read_with (files_in s nothing_drafted) (files_in t d) number new (AFile x.links (written offset bytes x.bytes)) becomes with reads;
+        map = so.maps f (inodes_in s nothing_drafted) (inodes_in t d) number x.links x.bytes (subst (λ n. IsMapOf n (inodes_in s nothing_drafted) f.tree) (sym h.limit) map) weighed.accepted some leads was
+            (sets_inode (files_in s nothing_drafted) (files_in t d) number new (AFile x.links (written offset bytes x.bytes)) becomes with);
+        within = subst (λ n. IsWithinCost t.books.geom d n) (sym (ap (λ (n : Figures). n.cost) figures_are) ∙ weighed.costs)
+            (subst (λ (g : Geometry). IsWithinCost t.books.geom d (writing (bitmap_blocks g) (length x.bytes) lo hi).cost) settles.pipeline.geom
+            (small t.books.geom d (length x.bytes) lo hi (at_most s.books.geom number x (places_of s number) (places_in t d number) t.books d lo hi file count division grows among)));
+        uses = grown_uses s t d number hi (figures_on s f cmd).need (figures_on s f cmd).freed x need_is (ap (λ (n : Figures). n.freed) figures_are) grows others;
+        enough = subst (λ n. n ≤ length (reusable_blocks t.books)) (sym need_is) grows.enough;
+        rests = λ enough. rests (omega (arith, enough, need_is));
+      }

@@ -1,0 +1,19 @@
+-- What a file system shows of itself.
+use Rattle.std.specs.Prelude.{ℕ, Bool, IsTrue}
+use Rattle.engine_blocks.specs.State.{State}
+use Rattle.fs_commands.specs.declared.fs.Fs.{Fs}
+use Rattle.fs_commands.specs.Sessions.{IsBetween, Stands}
+
+module _ {S : Type 0} where
+  -- the blocks over which it is
+  abbrev pub blocks_in : Fs S → S
+  blocks_in fs = fs.blocks
+
+  -- a number from 1 on below which all nodes are in use
+  abbrev pub used_to : Fs S → ℕ
+  used_to fs = fs.first_unused
+
+  -- A command may follow: what must hold between two commands does, and where the blocks are known, a tree stands in them.
+  pub record MayFollow (tells : Bool) (state : S → State) (fs : Fs S) : Type 0 where
+    pub between : IsBetween tells (state (blocks_in fs)) (used_to fs)
+    pub stands : IsTrue tells → Stands (state (blocks_in fs))

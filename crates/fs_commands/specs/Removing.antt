@@ -1,0 +1,98 @@
+-- What a command that takes a name away looks up first, and what it drafts. It is described in docs/FILE-SYSTEM.md.
+use Rattle.std.specs.Prelude.{◌≡◌, ◌≢◌, ℕ, ◌+◌, ◌≤◌, ◌==◌, min, false, if◌then◌else◌, List, [], ◌∷◌, ◌++◌, length, slice_get, Option, None, Some, option_and_then, Result, Ok, Err}
+use Rattle.layout_bytes.specs.declared.slot.Slot.{Slot}
+use Rattle.lang_tree.specs.declared.command.Cmd.{Cmd}
+use Rattle.lang_tree.specs.declared.command.Cmd.TheVariants.{Unlink, Rmdir}
+use Rattle.lang_tree.specs.declared.command.Kind.{Kind}
+use Rattle.lang_tree.specs.declared.command.Kind.TheVariants.{Dir, File}
+use Rattle.lang_tree.specs.declared.command.Refusal.{Refusal}
+use Rattle.lang_tree.specs.Figures.{blocks_for, release}
+use Rattle.crash_stands.specs.Files.{FileNode, Files}
+use Rattle.crash_stands.specs.Inodes.{Inodes, ADir, IsInodeOf, AreInodesOf, inodes_of}
+use Rattle.crash_stands.specs.Walks.{LeadsTo}
+use Rattle.fs_inodes.specs.Changes.{slot_of, one_link_less, TakesSlot}
+use Rattle.fs_inodes.specs.Figures.{slots_above}
+use Rattle.fs_inodes.specs.Lookups.{has_slots}
+use Rattle.fs_inodes.specs.Refusals.{file_reason, rmdir_reason}
+use Rattle.engine_blocks.specs.State.{State}
+use Rattle.fs_files.specs.declared.look.FileFacts.{FileFacts}
+use Rattle.fs_files.specs.Calls.{facts_of, files_in, places_in}
+use Rattle.fs_files.specs.Drafts.{DraftState, nothing_drafted}
+use Rattle.fs_dirs.specs.Changing.{Alters}
+use Rattle.fs_dirs.specs.Directories.{inodes_in}
+use Rattle.fs_commands.specs.declared.paths.Entry.{Entry}
+use Rattle.fs_commands.specs.declared.paths.NodeFound.{NodeFound}
+use Rattle.fs_commands.specs.declared.paths.Spot.TheVariants.{Inside}
+use Rattle.fs_commands.specs.declared.removing.Named.{Named}
+use Rattle.fs_commands.specs.Commands.{places_of}
+use Rattle.fs_commands.specs.Figures.{HasFacts}
+use Rattle.fs_commands.specs.Looks.{ComesTo}
+use Rattle.fs_commands.specs.Sessions.{AreUsedBelow, inodes}
+use Rattle.fs_commands.specs.Space.{ArePlaced}
+
+-- the command that takes the path to a node of this kind away, and why the tree refuses it
+abbrev pub lose_cmd : Kind → List (List ℕ) → Cmd
+lose_cmd Dir path = Rmdir path
+lose_cmd File path = Unlink path
+
+abbrev pub lose_reason : Kind → Inodes → List (List ℕ) → Option Refusal
+lose_reason Dir m path = rmdir_reason m path
+lose_reason File m path = file_reason m path
+
+-- The entry may go, and is the one that was found; or the tree refuses it for this reason.
+abbrev pub MayLose : Kind → Inodes → List (List ℕ) → Option Entry → Result Entry Refusal → Type 0
+MayLose kind m path found (Ok entry) = (found ≡ Some entry) × (lose_reason kind m path ≡ None)
+MayLose kind m path found (Err why) = lose_reason kind m path ≡ Some why
+
+-- the blocks that go with one link of a node with these facts: its own, where the link is the last one
+abbrev pub blocks_gone : FileFacts → ℕ
+blocks_gone f = if f.links == 1 then blocks_for f.size else 0
+
+-- the first number that may be unused once a link of the node is gone
+abbrev pub first_after : NodeFound → ℕ → ℕ
+first_after node first = if node.facts.links == 1 then min first node.number else first
+
+-- The node is in use with these facts.
+pub record IsFound (files : Files) (node : NodeFound) : Type 0 where
+  pub file : FileNode
+  pub is : files node.number ≡ Some file
+  pub facts : node.facts ≡ facts_of file
+
+-- Node k has one link less, or is gone with its last one, and no other node changed.
+pub record LosesLink (old new : Files) (k : ℕ) : Type 0 where
+  pub own : IsInodeOf (new k) (option_and_then one_link_less (inodes_of old k))
+  pub others : (l : ℕ) → l ≢ k → new l ≡ old l
+
+-- The slot at the entry's place names the entry's node, under this name, in a directory of so many slots. The node has no slots.
+pub record IsNamed (files : Files) (name : List ℕ) (n : Named) : Type 0 where
+  pub slots : List Slot
+  pub dir : inodes_of files n.dir ≡ Some (ADir slots)
+  pub count : n.count ≡ length slots
+  pub slot : slice_get slots n.entry.place ≡ Some (slot_of n.entry.node.number name)
+  pub node : IsFound files n.entry.node
+  pub bare : has_slots (inodes_of files n.entry.node.number) ≡ false
+
+-- The name was taken away in a draft: its slot went, and its node has one link less. Each node in use reads as an inode and has the first of its own blocks, so much is altered, and no node below the first one that may be unused is so.
+pub record LosesName (old now : State) (d : DraftState) (name : List ℕ) (n : Named) : Type 0 where
+  pub takes : TakesSlot (inodes old) (inodes_in now d) n.dir n.entry.node.number name
+  pub reads : AreInodesOf (files_in now d) (inodes_in now d)
+  pub alters : Alters 4 [] (release n.count + blocks_gone n.entry.node.facts) nothing_drafted d
+  pub placed : ArePlaced (places_of old) (places_in now d) []
+  pub used : (first : ℕ) → AreUsedBelow (files_in old nothing_drafted) first → AreUsedBelow (files_in now d) (first_after n.entry.node first)
+
+-- The path leads to what stands under the name, and the tree accepts that the path goes.
+pub record IsLoss (kind : Kind) (files : Files) (path : List (List ℕ)) (n : Named) : Type 0 where
+  pub comes : ComesTo files path (Ok (Inside n.dir n.count (Some n.entry)))
+  pub accepted : lose_reason kind (inodes_of files) path ≡ None
+
+-- What is known of what goes: the directory above the path, the slot there that names its node, how many slots there are, and the links and bytes at the path, which are few.
+pub record KnowsLoss (kind : Kind) (files : Files) (path : List (List ℕ)) (n : Named) : Type 0 where
+  pub up : List (List ℕ)
+  pub name : List ℕ
+  pub is : path ≡ up ++ name ∷ []
+  pub leads : LeadsTo (inodes_of files) up n.dir
+  pub named : IsNamed files name n
+  pub above : n.count ≡ slots_above (inodes_of files) path
+  pub facts : HasFacts (inodes_of files) path n.entry.node.facts.links n.entry.node.facts.size
+  pub small : n.entry.node.facts.size ≤ 1073741824
+  pub accepted : lose_reason kind (inodes_of files) path ≡ None

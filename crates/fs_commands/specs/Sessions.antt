@@ -1,0 +1,54 @@
+-- When the state of a map of blocks is that of a session of the tree, and what a command may begin with. It is described in docs/FILE-SYSTEM.md.
+use Rattle.std.specs.Prelude.{◌≡◌, ℕ, ◌<◌, ◌≤◌, nat_lt, Bool, false, IsTrue}
+use Rattle.lang_tree.specs.Tree.{Tree}
+use Rattle.lang_tree.specs.Step.{Session}
+use Rattle.crash_stands.specs.Files.{Files, files_of}
+use Rattle.crash_stands.specs.Inodes.{Inodes, inodes_of}
+use Rattle.crash_stands.specs.Stands.{AreSound, IsTreeOf}
+use Rattle.engine_blocks.specs.Running.{HasNoBare}
+use Rattle.engine_blocks.specs.Calls.{HasTurns}
+use Rattle.engine_blocks.specs.State.{State}
+use Rattle.fs_files.specs.Calls.{IsUsed}
+use Rattle.fs_files.specs.Finish.{MayGoOn}
+
+-- what the nodes in use read as
+abbrev pub inodes : State → Inodes
+inodes s = inodes_of (files_of s.books.geom s.map)
+
+-- The blocks stand for the session's tree. While no call of the disk failed, the last point is the session's, and the tree changed since exactly where the transaction has a weight.
+-- The point that the session knows to be on the disk is one to which no crash goes back.
+pub record IsSession (s : State) (f : Session) : Type 0 where
+  pub tree : IsTreeOf s.books.geom s.map f.tree
+  pub limit : f.limit ≡ s.books.geom.i
+  pub points : s.books.stopped ≡ false → f.points ≡ s.books.point
+  pub changed : s.books.stopped ≡ false → f.changed ≡ nat_lt 0 s.books.running.weight
+  pub durable : f.durable ≤ s.books.floor
+
+-- A draft may begin: no call of the disk failed, each block that was taken is filled or freed, and the blocks are sound where they are known.
+pub record MayBegin (tells : Bool) (s : State) : Type 0 where
+  pub going : s.books.stopped ≡ false
+  pub none_bare : HasNoBare s.books.running
+  pub sound : IsTrue tells → AreSound s.books.geom s.map
+
+-- all nodes of a number from 1 on below this one are in use
+abbrev pub AreUsedBelow : Files → ℕ → Type 0
+AreUsedBelow files first = (l : ℕ) → 1 ≤ l → l < first → IsUsed files l
+
+-- a tree stands in the blocks
+abbrev pub Stands : State → Type 0
+Stands s = (t : Tree) × IsTreeOf s.books.geom s.map t
+
+-- A command may be planned: a draft may begin, a tree stands in the blocks where they are known, the journal's numbers leave room, and no node below the first one that may be unused is so.
+pub record MayPlan (tells : Bool) (s : State) (first : ℕ) : Type 0 where
+  pub begin : MayBegin tells s
+  pub stands : IsTrue tells → Stands s
+  pub turns : HasTurns s.books
+  pub above : 1 ≤ first
+  pub used : IsTrue tells → AreUsedBelow (files_of s.books.geom s.map) first
+
+-- What holds of blocks between two commands: a sync may follow, the blocks are sound where they are known, and no node below the first one that may be unused is so.
+pub record IsBetween (tells : Bool) (s : State) (first : ℕ) : Type 0 where
+  pub goes_on : MayGoOn s.books
+  pub sound : IsTrue tells → AreSound s.books.geom s.map
+  pub above : 1 ≤ first
+  pub used : IsTrue tells → AreUsedBelow (files_of s.books.geom s.map) first

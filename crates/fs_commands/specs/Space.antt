@@ -1,0 +1,58 @@
+-- When a command that the tree accepts has room in the blocks, and how the blocks of the nodes are chosen. It is described in docs/SPACE.md.
+use Rattle.std.specs.Prelude.{◌≡◌, ◌⊎◌, ℕ, ◌+◌, ◌-◌, ◌<◌, ◌≤◌, List, ◌++◌, length, take, Option, None, Some}
+use Rattle.lang_tree.specs.declared.command.Cmd.{Cmd}
+use Rattle.lang_tree.specs.declared.command.Cmd.TheVariants as cmds
+use Rattle.lang_tree.specs.declared.command.Refusal.{Refusal}
+use Rattle.lang_tree.specs.declared.command.Refusal.TheVariants.{Full, TooBig}
+use Rattle.lang_tree.specs.Figures.{Figures}
+use Rattle.lang_tree.specs.Paths.{parent}
+use Rattle.engine_blocks.specs.State.{Bookkeeping, live_blocks}
+
+-- In what follows, so many blocks are left, the running transaction weighs so much, and so much is the most that one may weigh.
+
+-- The command's file or directory can grow, and its cost fits the transaction.
+pub record FitsIn (left weighs most : ℕ) (f : Figures) : Type 0 where
+  pub blocks : f.need ≤ left
+  pub weight : weighs + f.cost ≤ most
+
+-- It is refused as it needs more blocks than are left.
+pub record IsFull (left : ℕ) (f : Figures) (why : Refusal) : Type 0 where
+  pub is : why ≡ Full f.need left
+  pub blocks : left < f.need
+
+-- It is refused as its cost doesn't fit the transaction, with blocks enough.
+pub record IsTooBig (left weighs most : ℕ) (f : Figures) (why : Refusal) : Type 0 where
+  pub is : why ≡ TooBig weighs f.cost most
+  pub blocks : f.need ≤ left
+  pub weight : most < weighs + f.cost
+
+-- why it doesn't fit
+abbrev pub FailsToFit : ℕ → ℕ → ℕ → Figures → Refusal → Type 0
+FailsToFit left weighs most f why = IsFull left f why ⊎ IsTooBig left weighs most f why
+
+-- how many data blocks no file has and the running transaction doesn't hold
+abbrev pub left_of : Bookkeeping → ℕ
+left_of k = k.area - length (live_blocks k) - k.running.held
+
+-- the command has room in these blocks
+abbrev pub HasRoom : Bookkeeping → Figures → Type 0
+HasRoom k f = FitsIn (left_of k) k.running.weight k.room f
+
+-- why it has none
+abbrev pub LacksRoom : Bookkeeping → Figures → Refusal → Type 0
+LacksRoom k f why = FailsToFit (left_of k) k.running.weight k.room f why
+
+-- the path of the node that the command may grow: that of its file, or of the directory in which a name comes to be
+abbrev pub grown_path : Cmd → Option (List (List ℕ))
+grown_path (cmds.Mkdir path) = Some (parent path)
+grown_path (cmds.Create path) = Some (parent path)
+grown_path (cmds.Link path other) = Some (parent other)
+grown_path (cmds.Rename from to) = Some (parent to)
+grown_path (cmds.Write path offset bytes) = Some path
+grown_path (cmds.Fill path offset count byte) = Some path
+grown_path (cmds.Truncate path size) = Some path
+grown_path _ = None
+
+-- Each node has the first of its own blocks, or all of its own and behind them the first of these.
+abbrev pub ArePlaced : (ℕ → List ℕ) → (ℕ → List ℕ) → List ℕ → Type 0
+ArePlaced old new more = (k : ℕ) → new k ≡ take (length (new k)) (old k ++ more)

@@ -1,0 +1,141 @@
+//! A command carried out once it began: which call plans or does it. Whether a command begins is decided
+//! elsewhere, and so is what each one plans.
+
+ghost use Rattle.std.specs.Prelude.{◌≡◌, ◌≢◌, true, false, IsTrue};
+ghost use Rattle.lang_tree.specs.declared.command.Cmd.TheVariants.{Bad as NoCommand};
+ghost use Rattle.fs_commands.specs.Applying.{Began, Runs, is_spent, reply_for};
+ghost use Rattle.fs_commands.specs.Commands.{is_on_tree};
+ghost use Rattle.fs_commands.specs.Plans.{MayBeMade, OnChange, Plans};
+ghost use Rattle.fs_commands.specs.Sessions.{IsBetween, MayPlan, Stands};
+ghost use Rattle.fs_commands.specs.Syncs.{MaySyncNow};
+
+use crate::bytes::plan_write;
+use crate::fills::plan_fill;
+use crate::look::{plan_list, plan_read, plan_stat};
+use crate::making::{plan_link, plan_node};
+use crate::plan::{Plan, carry};
+use crate::removing::{plan_rmdir, plan_unlink};
+use crate::renaming::plan_rename;
+use crate::sizes::plan_truncate;
+use crate::syncs::{dsync, osync};
+use engine_blocks::Blocks;
+use fs_files::a_sync_may_follow;
+use lang_tree::{Cmd, Kind, Refusal, Reply};
+use std::alloc::Global;
+
+/// Begins a command with a tick, and carries it out. All nodes of a number below `first_unused` are in use.
+pub(crate) fn begin<S: Blocks>(
+    alloc: Global,
+    blocks: &mut S,
+    cmd: &Cmd,
+    first_unused: &mut u32,
+) -> Reply
+    requires going { (S.state blocks.old).books.stopped ≡ false }
+    requires unspent { is_spent (S.state blocks.old).books ≡ false }
+    requires between { IsBetween S.tells (S.state blocks.old) first_unused.old }
+    requires stands { IsTrue S.tells → Stands (S.state blocks.old) }
+    requires some { cmd.now ≢ NoCommand }
+    ensures began { Began S.tells S.state cmd.now result blocks.old blocks.new }
+    ensures between { IsBetween S.tells (S.state blocks.new) first_unused.new }
+{
+    a_sync_may_follow();
+    match blocks.tick() {
+        Ok(()) => reply_for(run(alloc, blocks, cmd, first_unused)),
+        Err(_) => Reply::Refused(Refusal::DiskFault),
+    }
+}
+
+/// The reply to a command that ended so.
+fn reply_for(ended: Result<Reply, Refusal>) -> Reply
+    ensures { result ≡ reply_for ended }
+{
+    match ended {
+        Ok(reply) => reply,
+        Err(why) => Reply::Refused(why),
+    }
+}
+
+/// Carries a command out. All nodes of a number below `first_unused` are in use.
+///
+/// # Errors
+/// The blocks have no room for it; a read of the disk failed, or another call of it; or out of memory.
+pub(crate) fn run<S: Blocks>(
+    alloc: Global,
+    blocks: &mut S,
+    cmd: &Cmd,
+    first_unused: &mut u32,
+) -> Result<Reply, Refusal>
+    requires may { MaySyncNow (S.state blocks.old).books }
+    requires between { IsBetween S.tells (S.state blocks.old) first_unused.old }
+    requires stands { IsTrue S.tells → Stands (S.state blocks.old) }
+    requires some { cmd.now ≢ NoCommand }
+    ensures runs { Runs S.tells S.state cmd.now result blocks.old blocks.new }
+    ensures between { IsBetween S.tells (S.state blocks.new) first_unused.new }
+{
+    match cmd {
+        Cmd::Osync => osync(alloc, blocks, *first_unused),
+        Cmd::Dsync => dsync(alloc, blocks, *first_unused),
+        Cmd::Durable => Ok(Reply::Known(blocks.durable())),
+        Cmd::Poll => Ok(Reply::Ok),
+        Cmd::Bad => Ok(Reply::Bad),
+        _ => run_on_tree(alloc, blocks, cmd, first_unused),
+    }
+}
+
+/// Plans a command on the tree, and carries it out.
+///
+/// # Errors
+/// As `run`.
+fn run_on_tree<S: Blocks>(
+    alloc: Global,
+    blocks: &mut S,
+    cmd: &Cmd,
+    first_unused: &mut u32,
+) -> Result<Reply, Refusal>
+    requires may { MaySyncNow (S.state blocks.old).books }
+    requires between { IsBetween S.tells (S.state blocks.old) first_unused.old }
+    requires stands { IsTrue S.tells → Stands (S.state blocks.old) }
+    requires on_tree { is_on_tree cmd.now ≡ true }
+    ensures runs { Runs S.tells S.state cmd.now result blocks.old blocks.new }
+    ensures between { IsBetween S.tells (S.state blocks.new) first_unused.new }
+{
+    a_sync_may_follow();
+    let planned = plan(alloc, blocks, cmd, *first_unused);
+    carry(alloc, blocks, planned, first_unused)
+}
+
+/// Plans a command on the tree. All nodes of a number below `first_unused` are in use.
+///
+/// # Errors
+/// As `run`.
+fn plan<S: Blocks>(
+    alloc: Global,
+    blocks: &mut S,
+    cmd: &Cmd,
+    first_unused: u32,
+) -> Result<Plan, Refusal>
+    requires may { MayPlan S.tells (S.state blocks.old) first_unused }
+    requires on_tree { is_on_tree cmd.now ≡ true }
+    ensures plans { Plans S.tells cmd.now result (S.state blocks.old) (S.state blocks.new) }
+    ensures made { OnChange result (λ draft cost first. MayBeMade S.tells draft cost first (S.state blocks.new)) }
+{
+    match cmd {
+        Cmd::Mkdir(path) => plan_node(alloc, blocks, Kind::Dir, path, first_unused),
+        Cmd::Create(path) => plan_node(alloc, blocks, Kind::File, path, first_unused),
+        Cmd::Write(path, offset, bytes) => {
+            plan_write(alloc, blocks, path, *offset, bytes.as_slice(), first_unused)
+        }
+        Cmd::Fill(path, offset, count, byte) => {
+            plan_fill(alloc, blocks, path, *offset, *count, *byte, first_unused)
+        }
+        Cmd::Truncate(path, size) => plan_truncate(alloc, blocks, path, *size, first_unused),
+        Cmd::Link(path, other) => plan_link(alloc, blocks, path, other, first_unused),
+        Cmd::Unlink(path) => plan_unlink(alloc, blocks, path, first_unused),
+        Cmd::Rmdir(path) => plan_rmdir(alloc, blocks, path, first_unused),
+        Cmd::Read(path, offset, len) => plan_read(alloc, blocks, path, *offset, *len, first_unused),
+        Cmd::Stat(path) => plan_stat(alloc, blocks, path, first_unused),
+        Cmd::List(path) => plan_list(alloc, blocks, path, first_unused),
+        Cmd::Rename(from, to) => plan_rename(alloc, blocks, from, to, first_unused),
+        Cmd::Osync | Cmd::Dsync | Cmd::Durable | Cmd::Poll | Cmd::Bad => unreachable!(),
+    }
+}

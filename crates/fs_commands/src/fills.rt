@@ -1,0 +1,101 @@
+//! The command that fills a part of a file with one byte: fill. It finds its refusal from reads alone, weighs
+//! what it needs, and plans a draft. Its bytes are made only where there is room for them.
+
+ghost use Rattle.std.specs.Prelude.{◌≡◌, ℕ, IsTrue, List, Ok as Fine};
+ghost use Rattle.lang_tree.specs.declared.command.Cmd.TheVariants.{Fill};
+ghost use Rattle.crash_stands.specs.Inodes.{inodes_of};
+ghost use Rattle.fs_inodes.specs.Lookups.{walk_on};
+ghost use Rattle.fs_files.specs.Calls.{files_in};
+ghost use Rattle.fs_files.specs.Drafts.{nothing_drafted};
+ghost use Rattle.fs_dirs.specs.Directories.{IsNumber};
+ghost use Rattle.fs_commands.specs.Plans.{MayBeMade, OnChange, Plans};
+ghost use Rattle.fs_commands.specs.Sessions.{MayPlan};
+ghost use Rattle.fs_commands.specs.Writing.{IsFile};
+
+use crate::bytes::{find_file, is_too_large, plan_bytes, size_of};
+use crate::figures::overwrite_figures;
+use crate::found::a_file_is_at_its_path;
+use crate::laws::blocks_have_the_map_of_their_tree;
+use crate::paths::NodeFound;
+use crate::plan::Plan;
+use crate::refusals::refusal_of;
+use crate::space::has_room;
+use engine_blocks::{Blocks, calls_compose};
+use fs_inodes::the_map_gives_the_refusal;
+use lang_tree::{Path, Refusal, Reply};
+use std::alloc::Global;
+
+/// Plans to put `byte` into a file `count` times from `offset` on.
+///
+/// # Errors
+/// There is no room; the file's blocks would lie in too many runs; a read of the disk failed, or another call
+/// of it; or out of memory.
+pub(crate) fn plan_fill<S: Blocks>(
+    alloc: Global,
+    blocks: &mut S,
+    path: &Path,
+    offset: u32,
+    count: u32,
+    byte: u8,
+    first_unused: u32,
+) -> Result<Plan, Refusal>
+    requires may { MayPlan S.tells (S.state blocks.old) first_unused }
+    ensures plans { Plans S.tells (Fill path.now offset count byte) result (S.state blocks.old) (S.state blocks.new) }
+    ensures made { OnChange result (λ draft cost first. MayBeMade S.tells draft cost first (S.state blocks.new)) }
+{
+    calls_compose::<S>();
+    the_map_gives_the_refusal();
+    blocks_have_the_map_of_their_tree();
+    match find_file(alloc, blocks, path) {
+        Ok(Ok(found)) => fill_found(alloc, blocks, &found, offset, count, byte, first_unused),
+        Ok(Err(why)) => Ok(Plan::Answer(Reply::Refused(why))),
+        Err(why) => Err(refusal_of(why)),
+    }
+}
+
+/// Plans to put `byte` into a file that was found, `count` times from `offset` on.
+///
+/// # Errors
+/// As `plan_fill`.
+fn fill_found<S: Blocks>(
+    alloc: Global,
+    blocks: &mut S,
+    found: &NodeFound,
+    offset: u32,
+    count: u32,
+    byte: u8,
+    first_unused: u32,
+) -> Result<Plan, Refusal>
+    requires may { MayPlan S.tells (S.state blocks.old) first_unused }
+    requires number { IsNumber (S.state blocks.old).books.geom.i found.now.number }
+    requires file { IsTrue S.tells → IsFile (files_in (S.state blocks.old) nothing_drafted) found.now }
+    ensures plans { (path : List (List ℕ)) → (IsTrue S.tells → walk_on (inodes_of (files_in (S.state blocks.old) nothing_drafted)) 1 path ≡ Fine found.now.number) → Plans S.tells (Fill path offset count byte) result (S.state blocks.old) (S.state blocks.new) }
+    ensures made { OnChange result (λ draft cost first. MayBeMade S.tells draft cost first (S.state blocks.new)) }
+{
+    calls_compose::<S>();
+    a_file_is_at_its_path(blocks);
+    the_map_gives_the_refusal();
+    if is_too_large(offset, u64::from(count)) {
+        return Ok(Plan::Answer(Reply::Refused(Refusal::TooLarge)));
+    }
+    if count == 0 {
+        return Ok(Plan::Answer(Reply::Ok));
+    }
+    let figures = overwrite_figures(blocks.geom().bitmap_blocks(), size_of(found), offset, count);
+    match has_room(blocks, &figures) {
+        Ok(()) => {}
+        Err(why) => return Err(why),
+    }
+    match vec![in alloc; byte; count as usize] {
+        Ok(bytes) => plan_bytes(
+            alloc,
+            blocks,
+            found.number,
+            offset,
+            bytes.as_slice(),
+            figures.cost,
+            first_unused,
+        ),
+        Err(_) => Err(Refusal::NoMemory),
+    }
+}

@@ -1,0 +1,430 @@
+//! The listing of the tree that stands in a map of blocks, written to a sink. The walk goes down from the
+//! root, directory by directory, and keeps the names of those that it is in, and of no others. A file is
+//! read and written in pieces. How the lines read is described elsewhere.
+
+ghost use Rattle.std.specs.Prelude.{◌≡◌, ◌≢◌, ◌≤◌, ◌<◌, ◌+◌, ◌^◌, ◌++◌, ℕ, IsTrue, true, false, List, [], length, drop, Some, IfErr, IfSome, IfNone, OnOk, OnErr};
+ghost use Rattle.std.specs.Io.KnownBytes.{Appends};
+ghost use Rattle.base_io.specs.Prefix.{TakesPrefix};
+ghost use Rattle.layout_bytes.specs.declared.slot.Slot.{Slot};
+ghost use Rattle.lang_tree.specs.Tree.{Tree, File};
+ghost use Rattle.lang_tree.specs.Listing.{digits_behind_blank, line_of, listing as listing_of};
+ghost use Rattle.lang_tree.specs.Paths.{parent};
+ghost use Rattle.lang_tree.specs.Step.{Session};
+ghost use Rattle.crash_stands.specs.Files.{FileNode};
+ghost use Rattle.crash_stands.specs.Inodes.{Inodes, ADir};
+ghost use Rattle.crash_stands.specs.Walks.{LeadsTo};
+ghost use Rattle.fs_inodes.specs.Names.{names_of};
+ghost use Rattle.fs_inodes.specs.Listing.{at_and_below};
+ghost use Rattle.fs_files.specs.Calls.{files_in};
+ghost use Rattle.fs_files.specs.Effects.{LooksOnly};
+ghost use Rattle.fs_dirs.specs.Directories.{IsNumber};
+ghost use Rattle.fs_dirs.specs.Reading.{MayRead};
+ghost use Rattle.fs_commands.specs.Listing.{ended_by_read, ended_by_push, ended_by_stop, CountsPushes, Lists, MayList, MayWalk, IsMapIn, IsFrame, AreFrames, IsWalk, HasWritten, Enters, TakesName, HaveNumbers, lines_of, under_frame, to_come, turns_of, turns_left};
+ghost use Rattle.fs_commands.specs.Sessions.{IsSession};
+
+use crate::laws::blocks_have_the_map_of_their_tree;
+use crate::lines::{write_digits, write_dir, write_file_head};
+use crate::look::is_dir;
+use base_io::{Sink, SinkFault, prefixes_join, push_all};
+use base_types::{Name, NoMemory, ReadFault};
+use crash_stands::a_map_is_of_one_tree;
+use engine_blocks::Blocks;
+use fs_dirs::{find, names};
+use fs_files::{Draft, FileRefusal, a_draft_begins};
+use fs_inodes::{a_listing_goes_down, the_map_gives_the_names, walks_are_the_same};
+use lang_tree::{NameList, paths_are_counted};
+use std::alloc::{AllocFailed, Global};
+use std::error::Error;
+use std::fmt;
+
+/// The number of the root.
+const ROOT: u32 = 1;
+
+/// How many bytes of a file are read and written at a time.
+const PIECE: u64 = 65536;
+
+/// Why a listing was refused.
+#[derive(Clone, Copy, Debug, PartialEq, Eq)]
+pub enum ListRefusal {
+    /// A write, a poll or a wait of the disk failed before, and nothing is read any more.
+    Stopped,
+    /// A read of the disk failed, which the disk has counted.
+    ReadFault,
+    /// The sink failed, which it has counted.
+    SinkFault,
+    /// Out of memory.
+    NoMemory,
+}
+
+impl fmt::Display for ListRefusal {
+    fn fmt<W: fmt::Write>(&self, f: &mut fmt::Formatter<W>) -> fmt::Result {
+        match self {
+            ListRefusal::Stopped => write!(f, "a call of the disk failed before"),
+            ListRefusal::ReadFault => write!(f, "a block could not be read"),
+            ListRefusal::SinkFault => write!(f, "the output failed"),
+            ListRefusal::NoMemory => write!(f, "out of memory"),
+        }
+    }
+}
+
+impl Error for ListRefusal {}
+
+impl From<NoMemory> for ListRefusal {
+    ghost use Rattle.std.specs.Prelude.{◌≡◌};
+    ghost use Rattle.fs_commands.specs.declared.listing.ListRefusal.TheVariants.{NoMemory as OutOfMemory};
+
+    ghost from_gives = { λ _ refusal. refusal ≡ OutOfMemory };
+
+    fn from(_: NoMemory) -> ListRefusal {
+        ListRefusal::NoMemory
+    }
+}
+
+impl<T: Drop> From<AllocFailed<T>> for ListRefusal {
+    ghost use Rattle.std.specs.Prelude.{◌≡◌};
+    ghost use Rattle.fs_commands.specs.declared.listing.ListRefusal.TheVariants.{NoMemory as OutOfMemory};
+
+    ghost from_gives = { λ _ refusal. refusal ≡ OutOfMemory };
+
+    fn from(_: AllocFailed<T>) -> ListRefusal {
+        ListRefusal::NoMemory
+    }
+}
+
+impl From<ReadFault> for ListRefusal {
+    ghost use Rattle.std.specs.Prelude.{◌≡◌};
+    ghost use Rattle.fs_commands.specs.declared.listing.ListRefusal.TheVariants.{ReadFault as Unread};
+
+    ghost from_gives = { λ _ refusal. refusal ≡ Unread };
+
+    fn from(_: ReadFault) -> ListRefusal {
+        ListRefusal::ReadFault
+    }
+}
+
+impl From<SinkFault> for ListRefusal {
+    ghost use Rattle.std.specs.Prelude.{◌≡◌};
+    ghost use Rattle.fs_commands.specs.declared.listing.ListRefusal.TheVariants.{SinkFault as Unwritten};
+
+    ghost from_gives = { λ _ refusal. refusal ≡ Unwritten };
+
+    fn from(_: SinkFault) -> ListRefusal {
+        ListRefusal::SinkFault
+    }
+}
+
+/// A call on a file that only looks is refused by a read or out of memory alone.
+impl From<FileRefusal> for ListRefusal {
+    ghost use Rattle.std.specs.Prelude.{◌≡◌};
+    ghost use Rattle.fs_commands.specs.Listing.{list_refusal_of};
+
+    ghost from_gives = { λ why refusal. refusal ≡ list_refusal_of why };
+
+    fn from(why: FileRefusal) -> ListRefusal {
+        match why {
+            FileRefusal::ReadFault => ListRefusal::ReadFault,
+            FileRefusal::Short { .. } => ListRefusal::NoMemory,
+            FileRefusal::Scattered { .. } => ListRefusal::NoMemory,
+            FileRefusal::DiskFault => ListRefusal::NoMemory,
+            FileRefusal::NoMemory => ListRefusal::NoMemory,
+        }
+    }
+}
+
+/// A directory that the walk is in.
+#[derive(Drop)]
+struct Frame {
+    dir: u32,
+    names: NameList,
+    /// The place of the first name that is still to come.
+    next: usize,
+}
+
+/// A walk that goes down from the root, in the order of paths.
+#[derive(Drop)]
+struct Walk {
+    /// The names that lead to the deepest directory, and while a line is written, to its node.
+    path: Vec<Name>,
+    /// The directories that the walk is in, from the root on.
+    frames: Vec<Frame>,
+    /// How many directories it may still enter.
+    left: u32,
+}
+
+/// Writes the listing of the tree that stands in these blocks. It takes memory for the names of the
+/// directories on one path and for a piece of a file. A directory's names are read once, and then each is
+/// looked up.
+///
+/// Where no tree stands, a directory may lead back to one above it. As many directories are entered as there
+/// are nodes; of any more the line alone is written.
+///
+/// # Errors
+/// The disk failed before in another call than a read, and then nothing is read or written; a read of the
+/// disk failed, which the disk has counted; a push of the sink failed, which the sink has counted; or out of
+/// memory. By then the sink took a prefix of the listing and nothing else.
+pub fn listing<S: Blocks, K: Sink>(
+    alloc: Global,
+    blocks: &mut S,
+    out: &mut K,
+) -> Result<(), ListRefusal>
+    requires may_list { MayList S.tells (S.state blocks.old) }
+    ensures all { IsTrue S.tells → OnOk result ((f : Session) → IsSession (S.state blocks.old) f → Appends (K.taken out.old) (K.taken out.new) (listing_of f.tree)) }
+    ensures front { IsTrue S.tells → OnErr result ((f : Session) → IsSession (S.state blocks.old) f → TakesPrefix (K.taken out.old) (K.taken out.new) (listing_of f.tree)) }
+    ensures stopped { ended_by_stop result ≡ (S.state blocks.old).books.stopped }
+    ensures nothing { (S.state blocks.old).books.stopped ≡ true → (blocks.new ≡ blocks.old) × (out.new ≡ out.old) }
+    ensures looks { LooksOnly S.tells (ended_by_read result) (S.state blocks.old) (S.state blocks.new) }
+    ensures pushes { CountsPushes (ended_by_push result) (K.faults out.old) (K.faults out.new) }
+{
+    a_draft_begins(blocks);
+    blocks_have_the_map_of_their_tree();
+    if blocks.figures().stopped {
+        return Err(ListRefusal::Stopped);
+    }
+    let draft = Draft::new(alloc);
+    list_from_root(&draft, alloc, blocks, out)?;
+    Ok(())
+}
+
+/// Writes the listing of the tree whose map the inodes of the draft are.
+///
+/// # Errors
+/// As `listing`, but for the first one.
+fn list_from_root<S: Blocks, K: Sink>(
+    draft: &Draft,
+    alloc: Global,
+    blocks: &mut S,
+    out: &mut K,
+) -> Result<(), ListRefusal>
+    requires look { MayWalk S.tells (S.state blocks.old) draft.now }
+    ensures all { IsTrue S.tells → OnOk result ((m : Inodes) (t : Tree) → IsMapIn (S.state blocks.old) draft.now m t → Appends (K.taken out.old) (K.taken out.new) (listing_of t)) }
+    ensures front { IsTrue S.tells → OnErr result ((m : Inodes) (t : Tree) → IsMapIn (S.state blocks.old) draft.now m t → TakesPrefix (K.taken out.old) (K.taken out.new) (listing_of t)) }
+    ensures lists { Lists S.tells result (S.state blocks.old) (S.state blocks.new) (K.faults out.old) (K.faults out.new) }
+{
+    a_listing_goes_down();
+    a_map_is_of_one_tree();
+    paths_are_counted();
+    prefixes_join();
+    let geom = blocks.geom();
+    geom.lawful();
+    let mut walk = Walk {
+        path: Vec::new(alloc),
+        frames: Vec::new(alloc),
+        left: geom.i(),
+    };
+    show(draft, alloc, blocks, out, &mut walk, ROOT)?;
+    while let Some(frame) = walk.frames.pop() {
+        turn(draft, alloc, blocks, out, &mut walk, frame)?;
+    }
+    Ok(())
+}
+
+/// Takes the deepest directory's next name and shows what is under it, or leaves the directory where no name
+/// is to come. The directory was taken off the walk for this.
+///
+/// # Errors
+/// As `list_from_root`. The walk isn't to be used any more then.
+fn turn<S: Blocks, K: Sink>(
+    draft: &Draft,
+    alloc: Global,
+    blocks: &mut S,
+    out: &mut K,
+    walk: &mut Walk,
+    mut frame: Frame,
+) -> Result<(), ListRefusal>
+    requires look { MayWalk S.tells (S.state blocks.old) draft.now }
+    requires numbers { HaveNumbers (S.state blocks.old).books.geom.i walk.old.frames.items }
+    requires number { IsNumber (S.state blocks.old).books.geom.i frame.dir }
+    ensures writes { IsTrue S.tells → OnOk result ((m : Inodes) (t : Tree) → IsMapIn (S.state blocks.old) draft.now m t → IsFrame m walk.old.path.items (length walk.old.frames.items) frame
+        → IsWalk m t (under_frame t walk.old frame) walk.old
+        → HasWritten m t (under_frame t walk.old frame ++ to_come t walk.old) walk.new (K.taken out.old) (K.taken out.new)) }
+    ensures front { IsTrue S.tells → OnErr result ((m : Inodes) (t : Tree) → IsMapIn (S.state blocks.old) draft.now m t → IsFrame m walk.old.path.items (length walk.old.frames.items) frame
+        → IsWalk m t (under_frame t walk.old frame) walk.old
+        → TakesPrefix (K.taken out.old) (K.taken out.new) (lines_of t (under_frame t walk.old frame ++ to_come t walk.old))) }
+    ensures numbers { OnOk result (HaveNumbers (S.state blocks.old).books.geom.i walk.new.frames.items) }
+    ensures turns { OnOk result (turns_left walk.new < turns_left walk.old + turns_of frame) }
+    ensures lists { Lists S.tells result (S.state blocks.old) (S.state blocks.new) (K.faults out.old) (K.faults out.new) }
+{
+    walks_are_the_same();
+    let Some(name) = next_name(&mut frame) else {
+        leave(&mut walk.path);
+        return Ok(());
+    };
+    let dir = frame.dir;
+    walk.frames.push(frame)?;
+    let Some(found) = find(draft, blocks, dir, &name)? else {
+        return Ok(());
+    };
+    walk.path.push(name)?;
+    show(draft, alloc, blocks, out, walk, found.node)?;
+    Ok(())
+}
+
+/// Takes the first of the names that the directory has still to come. `None` where it has none.
+fn next_name(frame: &mut Frame) -> Option<Name>
+    ensures some { IfSome result (λ name. TakesName frame.old frame.new name) }
+    ensures none { IfNone result (drop frame.old.next frame.old.names ≡ []) }
+{
+    let names = frame.names.names();
+    if names.len() <= frame.next {
+        return None;
+    }
+    let name = names[frame.next].copy();
+    frame.next += 1;
+    Some(name)
+}
+
+/// Takes a path's last name off it.
+fn leave(path: &mut Vec<Name>)
+    ensures { path.new.items ≡ parent path.old.items }
+{
+    path.pop();
+}
+
+/// Writes the line of node `number` at the walk's path, and enters it where it is a directory.
+///
+/// # Errors
+/// As `turn`.
+fn show<S: Blocks, K: Sink>(
+    draft: &Draft,
+    alloc: Global,
+    blocks: &mut S,
+    out: &mut K,
+    walk: &mut Walk,
+    number: u32,
+) -> Result<(), ListRefusal>
+    requires look { MayWalk S.tells (S.state blocks.old) draft.now }
+    requires numbers { HaveNumbers (S.state blocks.old).books.geom.i walk.old.frames.items }
+    requires number { IsNumber (S.state blocks.old).books.geom.i number }
+    ensures writes { IsTrue S.tells → OnOk result ((m : Inodes) (t : Tree) → IsMapIn (S.state blocks.old) draft.now m t → LeadsTo m walk.old.path.items number
+        → IsWalk m t (at_and_below t walk.old.path.items) walk.old
+        → HasWritten m t (at_and_below t walk.old.path.items ++ to_come t walk.old) walk.new (K.taken out.old) (K.taken out.new)) }
+    ensures front { IsTrue S.tells → OnErr result ((m : Inodes) (t : Tree) → IsMapIn (S.state blocks.old) draft.now m t → LeadsTo m walk.old.path.items number
+        → IsWalk m t (at_and_below t walk.old.path.items) walk.old
+        → TakesPrefix (K.taken out.old) (K.taken out.new) (lines_of t (at_and_below t walk.old.path.items ++ to_come t walk.old))) }
+    ensures numbers { OnOk result (HaveNumbers (S.state blocks.old).books.geom.i walk.new.frames.items) }
+    ensures turns { OnOk result (turns_left walk.new ≤ turns_left walk.old) }
+    ensures lists { Lists S.tells result (S.state blocks.old) (S.state blocks.new) (K.faults out.old) (K.faults out.new) }
+{
+    a_listing_goes_down();
+    prefixes_join();
+    let Some(facts) = draft.look(blocks, number)? else {
+        leave(&mut walk.path);
+        return Ok(());
+    };
+    if is_dir(facts.kind) {
+        write_dir(out, walk.path.as_slice(), number)?;
+        enter(draft, alloc, blocks, walk, number)?;
+        return Ok(());
+    }
+    let path = walk.path.as_slice();
+    write_file(draft, alloc, blocks, out, path, number, facts.size)?;
+    leave(&mut walk.path);
+    Ok(())
+}
+
+/// Goes into the directory at the walk's path, unless no more may be entered.
+///
+/// # Errors
+/// A read of the disk failed, which the disk has counted; or out of memory. The walk isn't to be used any
+/// more then.
+fn enter<S: Blocks>(
+    draft: &Draft,
+    alloc: Global,
+    blocks: &mut S,
+    walk: &mut Walk,
+    number: u32,
+) -> Result<(), ListRefusal>
+    requires look { MayWalk S.tells (S.state blocks.old) draft.now }
+    requires numbers { HaveNumbers (S.state blocks.old).books.geom.i walk.old.frames.items }
+    requires number { IsNumber (S.state blocks.old).books.geom.i number }
+    ensures enters { IsTrue S.tells → OnOk result ((m : Inodes) (t : Tree) (slots : List Slot) → IsMapIn (S.state blocks.old) draft.now m t → LeadsTo m walk.old.path.items number
+        → m number ≡ Some (ADir slots) → 0 < walk.old.left → AreFrames m walk.old.path.items 0 walk.old.frames.items → length walk.old.path.items ≡ length walk.old.frames.items
+        → Enters m t (names_of slots) walk.old walk.new) }
+    ensures numbers { OnOk result (HaveNumbers (S.state blocks.old).books.geom.i walk.new.frames.items) }
+    ensures turns { OnOk result (turns_left walk.new ≤ turns_left walk.old) }
+    ensures looks { LooksOnly S.tells (ended_by_read result) (S.state blocks.old) (S.state blocks.new) }
+    ensures writes_nothing { ended_by_push result ≡ false }
+    ensures going { ended_by_stop result ≡ false }
+{
+    the_map_gives_the_names();
+    if walk.left == 0 {
+        leave(&mut walk.path);
+        return Ok(());
+    }
+    let names = names(draft, alloc, blocks, number)?;
+    walk.frames.push(entered(number, names))?;
+    walk.left -= 1;
+    Ok(())
+}
+
+/// A directory that was just entered, with these names.
+fn entered(dir: u32, names: NameList) -> Frame
+    ensures value { result ≡ record { dir = dir; names = names; next = 0 } }
+    ensures turns { turns_of result ≤ 2 ^ 64 }
+{
+    // A list in memory has fewer than 2^64 names.
+    let _count = names.names().len();
+    Frame {
+        dir,
+        names,
+        next: 0,
+    }
+}
+
+/// Writes the line of file `number`, which has so many bytes.
+///
+/// # Errors
+/// As `turn`.
+fn write_file<S: Blocks, K: Sink>(
+    draft: &Draft,
+    alloc: Global,
+    blocks: &mut S,
+    out: &mut K,
+    path: &[Name],
+    number: u32,
+    size: u64,
+) -> Result<(), ListRefusal>
+    requires read { MayRead S.tells (S.state blocks.old) draft.now number }
+    ensures all { IsTrue S.tells → OnOk result ((x : FileNode) → files_in (S.state blocks.old) draft.now number ≡ Some x → size ≡ length x.bytes → Appends (K.taken out.old) (K.taken out.new) (line_of path.now number (Some (File x.bytes)))) }
+    ensures front { IsTrue S.tells → OnErr result ((x : FileNode) → files_in (S.state blocks.old) draft.now number ≡ Some x → size ≡ length x.bytes → TakesPrefix (K.taken out.old) (K.taken out.new) (line_of path.now number (Some (File x.bytes)))) }
+    ensures lists { Lists S.tells result (S.state blocks.old) (S.state blocks.new) (K.faults out.old) (K.faults out.new) }
+{
+    prefixes_join();
+    write_file_head(out, path, number, size)?;
+    write_content(draft, alloc, blocks, out, number, size)?;
+    push_all(out, b"\n")?;
+    Ok(())
+}
+
+/// Writes a blank and the digits of all bytes of file `number`, which has so many, and nothing where it has
+/// none.
+///
+/// # Errors
+/// As `turn`.
+fn write_content<S: Blocks, K: Sink>(
+    draft: &Draft,
+    alloc: Global,
+    blocks: &mut S,
+    out: &mut K,
+    number: u32,
+    size: u64,
+) -> Result<(), ListRefusal>
+    requires read { MayRead S.tells (S.state blocks.old) draft.now number }
+    ensures all { IsTrue S.tells → OnOk result ((x : FileNode) → files_in (S.state blocks.old) draft.now number ≡ Some x → size ≡ length x.bytes → Appends (K.taken out.old) (K.taken out.new) (digits_behind_blank x.bytes)) }
+    ensures front { IsTrue S.tells → OnErr result ((x : FileNode) → files_in (S.state blocks.old) draft.now number ≡ Some x → size ≡ length x.bytes → TakesPrefix (K.taken out.old) (K.taken out.new) (digits_behind_blank x.bytes)) }
+    ensures lists { Lists S.tells result (S.state blocks.old) (S.state blocks.new) (K.faults out.old) (K.faults out.new) }
+{
+    if size == 0 {
+        return Ok(());
+    }
+    prefixes_join();
+    push_all(out, b" ")?;
+    let mut at = 0;
+    while at < size {
+        let count = (size - at).min(PIECE);
+        let bytes = draft.read_at(alloc, blocks, number, at, count as u32)?;
+        write_digits(out, bytes.as_slice())?;
+        at += count;
+    }
+    Ok(())
+}

@@ -1,0 +1,430 @@
+//! The command rename: a name moves, with all that lies below it. It finds its refusal from reads alone, weighs
+//! what it needs, and plans a draft. Nothing of that is made here.
+
+ghost use Rattle.std.specs.Prelude.{◌≡◌, ◌≢◌, ◌≤◌, ◌+◌, [], ℕ, IsTrue, List, length, take, Option, None, Some, IfSome, IfOk, IfErr};
+ghost use Rattle.lang_tree.specs.declared.command.Cmd.TheVariants.{Rename};
+ghost use Rattle.lang_tree.specs.Figures.{growth, release};
+ghost use Rattle.lang_tree.specs.Tree.{Tree};
+ghost use Rattle.crash_stands.specs.Stands.{IsTreeOf};
+ghost use Rattle.fs_inodes.specs.Figures.{blocks_lost};
+ghost use Rattle.engine_blocks.specs.Calls.{HasTurns};
+ghost use Rattle.engine_blocks.specs.State.{reusable_blocks};
+ghost use Rattle.fs_files.specs.Calls.{GrowthRefused, LookRefused, files_in};
+ghost use Rattle.fs_files.specs.Content.{fails_reading, fails_settling};
+ghost use Rattle.fs_files.specs.Drafts.{nothing_drafted};
+ghost use Rattle.fs_files.specs.Effects.{LooksOnly, LooksAndSettles};
+ghost use Rattle.fs_files.specs.Sound.{IsDraftOf};
+ghost use Rattle.fs_dirs.specs.Directories.{IsNumber};
+ghost use Rattle.fs_commands.specs.Looks.{MayBeEntry};
+ghost use Rattle.fs_commands.specs.Commands.{GrowsInRuns, places_of, IsCalm};
+ghost use Rattle.fs_commands.specs.Moving.{IsMove, KnowsMove, MayMoveAway, MayMoveOnto, MayRename, MovesName};
+ghost use Rattle.fs_commands.specs.Plans.{MayBeMade, OnChange, Plans};
+ghost use Rattle.fs_commands.specs.Removing.{blocks_gone, first_after};
+ghost use Rattle.fs_commands.specs.Sessions.{MayBegin, MayPlan, Stands, inodes};
+
+use crate::facts::{the_node_at_a_path_gives_the_inode, what_a_path_comes_to_gives_the_walk};
+use crate::laws::blocks_have_the_map_of_their_tree;
+use crate::making::a_disk_is_small;
+use crate::paths::{Entry, NodeFound};
+use crate::plan::Plan;
+use crate::refusals::refusal_of;
+use crate::removing::{Named, first_after, lose_link};
+use crate::space::has_room;
+use base_types::Name;
+use base_types::limits::LARGEST_FILE;
+use crash_stands::{blocks_have_a_map, files_have_one_map};
+use engine_blocks::{Blocks, calls_compose};
+use fs_dirs::{add_slot, alterations_add_up, directories_are_read, set_slot, take_slot};
+use fs_files::{
+    Draft, FileRefusal, a_directory_has_whole_slots, a_draft_begins, a_file_fits_the_disk,
+};
+use fs_inodes::{
+    a_move_is_mapped, a_name_stands_at_its_place, paths_lead_to_inodes, the_map_gives_the_figures,
+    the_map_gives_the_refusal, the_map_gives_the_reply, walks_are_the_same,
+};
+use lang_tree::{Refusal, blocks_for, growth, moving, release};
+use layout_bytes::Slot;
+use std::alloc::Global;
+
+/// A name in directory `dir`, which has `count` slots, and what stands under it, if anything does.
+#[derive(Clone, Copy, Debug, PartialEq, Eq)]
+pub(crate) struct Goal {
+    pub dir: u32,
+    pub count: u32,
+    pub found: Option<Entry>,
+}
+
+/// A draft in which the source's name moved onto the target's: the target's slot names the source's node, the
+/// source's slot went, and the target's node has one link less.
+///
+/// # Errors
+/// A read of the disk failed, which the disk has counted; or out of memory.
+fn draft_onto<S: Blocks>(
+    alloc: Global,
+    blocks: &mut S,
+    source: &Named,
+    target: &Named,
+    other: &Name,
+) -> Result<Draft, FileRefusal>
+    requires begin { MayBegin S.tells (S.state blocks.old) }
+    requires stands { IsTrue S.tells → Stands (S.state blocks.old) }
+    requires from_dir { IsNumber (S.state blocks.old).books.geom.i source.now.dir }
+    requires from_entry { MayBeEntry (S.state blocks.old).books.geom.i source.now.entry }
+    requires onto_dir { IsNumber (S.state blocks.old).books.geom.i target.now.dir }
+    requires onto_entry { MayBeEntry (S.state blocks.old).books.geom.i target.now.entry }
+    requires moves { IsTrue S.tells → (name : List ℕ) × MayMoveOnto (S.state blocks.old) source.now target.now name other.now }
+    ensures draft { IfOk result (λ draft. IsDraftOf S.tells (S.state blocks.new) draft) }
+    ensures moves { IsTrue S.tells → IfOk result (λ draft. (name : List ℕ) → MayMoveOnto (S.state blocks.old) source.now target.now name other.now
+        → MovesName (S.state blocks.old) (S.state blocks.new) draft source.now.dir target.now.dir source.now.entry.node.number name other.now 5 [] (release source.now.count + blocks_gone target.now.entry.node.facts) (first_after target.now.entry.node)) }
+    ensures refused { IfErr result LookRefused }
+    ensures looks { LooksOnly S.tells (fails_reading result) (S.state blocks.old) (S.state blocks.new) }
+{
+    a_draft_begins(blocks);
+    alterations_add_up();
+    blocks_have_a_map();
+    files_have_one_map();
+    directories_are_read();
+    let mut draft = Draft::new(alloc);
+    let slot = Slot {
+        node: source.entry.node.number,
+        name: other.copy(),
+    };
+    match set_slot(
+        &mut draft,
+        alloc,
+        blocks,
+        target.dir,
+        target.entry.place,
+        &slot,
+    ) {
+        Ok(()) => {}
+        Err(why) => return Err(why),
+    }
+    match take_slot(&mut draft, alloc, blocks, source.dir, source.entry.place) {
+        Ok(()) => {}
+        Err(why) => return Err(why),
+    }
+    match lose_link(&mut draft, alloc, blocks, &target.entry.node) {
+        Ok(()) => Ok(draft),
+        Err(why) => Err(why),
+    }
+}
+
+/// A draft in which the source's name moved to a free one of its directory: its slot changed the name.
+///
+/// # Errors
+/// As `draft_onto`.
+fn draft_within<S: Blocks>(
+    alloc: Global,
+    blocks: &mut S,
+    source: &Named,
+    other: &Name,
+) -> Result<Draft, FileRefusal>
+    requires begin { MayBegin S.tells (S.state blocks.old) }
+    requires stands { IsTrue S.tells → Stands (S.state blocks.old) }
+    requires dir { IsNumber (S.state blocks.old).books.geom.i source.now.dir }
+    requires entry { MayBeEntry (S.state blocks.old).books.geom.i source.now.entry }
+    requires moves { IsTrue S.tells → (name : List ℕ) × MayRename (S.state blocks.old) source.now name other.now }
+    ensures draft { IfOk result (λ draft. IsDraftOf S.tells (S.state blocks.new) draft) }
+    ensures moves { IsTrue S.tells → IfOk result (λ draft. (name : List ℕ) → MayRename (S.state blocks.old) source.now name other.now
+        → MovesName (S.state blocks.old) (S.state blocks.new) draft source.now.dir source.now.dir source.now.entry.node.number name other.now 1 [] 0 (λ first. first)) }
+    ensures refused { IfErr result LookRefused }
+    ensures looks { LooksOnly S.tells (fails_reading result) (S.state blocks.old) (S.state blocks.new) }
+{
+    a_draft_begins(blocks);
+    a_name_stands_at_its_place();
+    blocks_have_a_map();
+    files_have_one_map();
+    directories_are_read();
+    let mut draft = Draft::new(alloc);
+    let slot = Slot {
+        node: source.entry.node.number,
+        name: other.copy(),
+    };
+    match set_slot(
+        &mut draft,
+        alloc,
+        blocks,
+        source.dir,
+        source.entry.place,
+        &slot,
+    ) {
+        Ok(()) => Ok(draft),
+        Err(why) => Err(why),
+    }
+}
+
+/// A draft in which the source's name moved to a free one of directory `into`, which is another one: a slot came
+/// there, and the source's went.
+///
+/// # Errors
+/// Where the directory grows by a block: none may be taken; its blocks would lie in more than 28 runs; or the
+/// disk failed as it settled. Else as `draft_onto`.
+fn draft_across<S: Blocks>(
+    alloc: Global,
+    blocks: &mut S,
+    source: &Named,
+    into: u32,
+    other: &Name,
+) -> Result<Draft, FileRefusal>
+    requires begin { MayBegin S.tells (S.state blocks.old) }
+    requires turns { HasTurns (S.state blocks.old).books }
+    requires stands { IsTrue S.tells → Stands (S.state blocks.old) }
+    requires dir { IsNumber (S.state blocks.old).books.geom.i source.now.dir }
+    requires entry { MayBeEntry (S.state blocks.old).books.geom.i source.now.entry }
+    requires into { IsNumber (S.state blocks.old).books.geom.i into }
+    requires moves { IsTrue S.tells → (count : ℕ) × (name : List ℕ) × MayMoveAway (S.state blocks.old) source.now into count name other.now }
+    ensures draft { IfOk result (λ draft. IsDraftOf S.tells (S.state blocks.new) draft) }
+    ensures moves { IsTrue S.tells → IfOk result (λ draft. (count : ℕ) (name : List ℕ) → MayMoveAway (S.state blocks.old) source.now into count name other.now
+        → MovesName (S.state blocks.old) (S.state blocks.new) draft source.now.dir into source.now.entry.node.number name other.now 5 (take (growth count) (reusable_blocks (S.state blocks.new).books)) (release source.now.count) (λ first. first)) }
+    ensures rests { IsTrue S.tells → IfOk result (λ draft. (count : ℕ) (name : List ℕ) → MayMoveAway (S.state blocks.old) source.now into count name other.now
+        → growth count ≤ length (reusable_blocks (S.state blocks.old).books) → (S.state blocks.new).books ≡ (S.state blocks.old).books) }
+    ensures grows { IsTrue S.tells → IfOk result (λ draft. (count : ℕ) (name : List ℕ) → MayMoveAway (S.state blocks.old) source.now into count name other.now → GrowsInRuns (S.state blocks.old) (S.state blocks.new).books into (growth count)) }
+    ensures refused { IsTrue S.tells → IfErr result (λ why. (count : ℕ) (name : List ℕ) → MayMoveAway (S.state blocks.old) source.now into count name other.now
+        → GrowthRefused (growth count) (places_of (S.state blocks.old) into) (S.state blocks.old).books (S.state blocks.new).books why) }
+    ensures quiet { IsTrue S.tells → (count : ℕ) (name : List ℕ) → MayMoveAway (S.state blocks.old) source.now into count name other.now → IsCalm (growth count) (S.state blocks.old) (S.state blocks.new) }
+    ensures settles { LooksAndSettles S.tells (fails_reading result) (fails_settling result) (S.state blocks.old) (S.state blocks.new) }
+{
+    a_draft_begins(blocks);
+    alterations_add_up();
+    blocks_have_a_map();
+    calls_compose::<S>();
+    files_have_one_map();
+    directories_are_read();
+    let mut draft = Draft::new(alloc);
+    let slot = Slot {
+        node: source.entry.node.number,
+        name: other.copy(),
+    };
+    match add_slot(&mut draft, alloc, blocks, into, &slot) {
+        Ok(()) => {}
+        Err(why) => return Err(why),
+    }
+    match take_slot(&mut draft, alloc, blocks, source.dir, source.entry.place) {
+        Ok(()) => Ok(draft),
+        Err(why) => Err(why),
+    }
+}
+
+/// Plans a move that the tree accepts: of what was found to this name in directory `into`, which has `count`
+/// slots, and under which `found` is.
+///
+/// # Errors
+/// There is no room; the directory's blocks would lie in too many runs; a read of the disk failed, or another
+/// call of it; or out of memory.
+pub(crate) fn plan_move<S: Blocks>(
+    alloc: Global,
+    blocks: &mut S,
+    source: &Named,
+    spot: &Goal,
+    other: &Name,
+    first_unused: u32,
+) -> Result<Plan, Refusal>
+    requires may { MayPlan S.tells (S.state blocks.old) first_unused }
+    requires dir { IsNumber (S.state blocks.old).books.geom.i source.now.dir }
+    requires entry { MayBeEntry (S.state blocks.old).books.geom.i source.now.entry }
+    requires into { IsNumber (S.state blocks.old).books.geom.i spot.now.dir }
+    requires found { IfSome spot.now.found (MayBeEntry (S.state blocks.old).books.geom.i) }
+    requires known { IsTrue S.tells → (from : List (List ℕ)) × (to : List (List ℕ)) × IsMove (files_in (S.state blocks.old) nothing_drafted) from to source.now spot.now.dir spot.now.count spot.now.found other.now }
+    ensures plans { (from to : List (List ℕ)) → (IsTrue S.tells → IsMove (files_in (S.state blocks.old) nothing_drafted) from to source.now spot.now.dir spot.now.count spot.now.found other.now) → Plans S.tells (Rename from to) result (S.state blocks.old) (S.state blocks.new) }
+    ensures made { OnChange result (λ draft cost first. MayBeMade S.tells draft cost first (S.state blocks.new)) }
+{
+    match spot.found {
+        Some(entry) => {
+            let target = Named {
+                dir: spot.dir,
+                count: spot.count,
+                entry,
+            };
+            plan_onto(alloc, blocks, source, &target, other, first_unused)
+        }
+        None => {
+            if source.dir == spot.dir {
+                return plan_within(alloc, blocks, source, other, first_unused);
+            }
+            plan_across(
+                alloc,
+                blocks,
+                source,
+                spot.dir,
+                spot.count,
+                other,
+                first_unused,
+            )
+        }
+    }
+}
+
+/// Plans a move onto what is at the second path, which the tree accepts.
+///
+/// # Errors
+/// There is no room; a read of the disk failed; or out of memory.
+fn plan_onto<S: Blocks>(
+    alloc: Global,
+    blocks: &mut S,
+    source: &Named,
+    target: &Named,
+    other: &Name,
+    first_unused: u32,
+) -> Result<Plan, Refusal>
+    requires may { MayPlan S.tells (S.state blocks.old) first_unused }
+    requires from_dir { IsNumber (S.state blocks.old).books.geom.i source.now.dir }
+    requires from_entry { MayBeEntry (S.state blocks.old).books.geom.i source.now.entry }
+    requires onto_dir { IsNumber (S.state blocks.old).books.geom.i target.now.dir }
+    requires onto_entry { MayBeEntry (S.state blocks.old).books.geom.i target.now.entry }
+    requires known { IsTrue S.tells → (from : List (List ℕ)) × (to : List (List ℕ)) × IsMove (files_in (S.state blocks.old) nothing_drafted) from to source.now target.now.dir target.now.count (Some target.now.entry) other.now }
+    ensures plans { (from to : List (List ℕ)) → (IsTrue S.tells → IsMove (files_in (S.state blocks.old) nothing_drafted) from to source.now target.now.dir target.now.count (Some target.now.entry) other.now) → Plans S.tells (Rename from to) result (S.state blocks.old) (S.state blocks.new) }
+    ensures made { OnChange result (λ draft cost first. MayBeMade S.tells draft cost first (S.state blocks.new)) }
+{
+    calls_compose::<S>();
+    a_move_is_known(blocks);
+    a_move_is_mapped();
+    alterations_add_up();
+    blocks_have_the_map_of_their_tree();
+    the_map_gives_the_figures();
+    the_map_gives_the_refusal();
+    the_map_gives_the_reply();
+    let bitmap = blocks.geom().bitmap_blocks();
+    let freed = release(u64::from(source.count)) + blocks_gone_with(&target.entry.node);
+    let figures = moving(bitmap, 0, freed);
+    match has_room(blocks, &figures) {
+        Ok(()) => {}
+        Err(why) => return Err(why),
+    }
+    match draft_onto(alloc, blocks, source, target, other) {
+        Ok(draft) => Ok(Plan::Change {
+            draft,
+            cost: figures.cost,
+            first_unused: first_after(&target.entry.node, first_unused),
+        }),
+        Err(why) => Err(refusal_of(why)),
+    }
+}
+
+/// The blocks that go with one link of a node.
+fn blocks_gone_with(node: &NodeFound) -> u32
+    ensures value { node.now.facts.size ≤ 1073741824 → result ≡ blocks_gone node.now.facts }
+    ensures bound { result ≤ 1048576 }
+{
+    if node.facts.links == 1 {
+        blocks_for(node.facts.size.min(LARGEST_FILE) as u32)
+    } else {
+        0
+    }
+}
+
+/// Plans a move to a free name of the directory.
+///
+/// # Errors
+/// As `plan_onto`.
+fn plan_within<S: Blocks>(
+    alloc: Global,
+    blocks: &mut S,
+    source: &Named,
+    other: &Name,
+    first_unused: u32,
+) -> Result<Plan, Refusal>
+    requires may { MayPlan S.tells (S.state blocks.old) first_unused }
+    requires dir { IsNumber (S.state blocks.old).books.geom.i source.now.dir }
+    requires entry { MayBeEntry (S.state blocks.old).books.geom.i source.now.entry }
+    requires known { IsTrue S.tells → (from : List (List ℕ)) × (to : List (List ℕ)) × IsMove (files_in (S.state blocks.old) nothing_drafted) from to source.now source.now.dir source.now.count None other.now }
+    ensures plans { (from to : List (List ℕ)) → (IsTrue S.tells → IsMove (files_in (S.state blocks.old) nothing_drafted) from to source.now source.now.dir source.now.count None other.now) → Plans S.tells (Rename from to) result (S.state blocks.old) (S.state blocks.new) }
+    ensures made { OnChange result (λ draft cost first. MayBeMade S.tells draft cost first (S.state blocks.new)) }
+{
+    calls_compose::<S>();
+    a_move_is_known(blocks);
+    a_move_is_mapped();
+    alterations_add_up();
+    blocks_have_the_map_of_their_tree();
+    paths_lead_to_inodes();
+    the_map_gives_the_figures();
+    the_map_gives_the_refusal();
+    the_map_gives_the_reply();
+    let figures = moving(blocks.geom().bitmap_blocks(), 0, 0);
+    match has_room(blocks, &figures) {
+        Ok(()) => {}
+        Err(why) => return Err(why),
+    }
+    match draft_within(alloc, blocks, source, other) {
+        Ok(draft) => Ok(Plan::Change {
+            draft,
+            cost: figures.cost,
+            first_unused,
+        }),
+        Err(why) => Err(refusal_of(why)),
+    }
+}
+
+/// Plans a move to a free name of another directory, which has so many slots.
+///
+/// # Errors
+/// There is no room; the directory's blocks would lie in too many runs; a read of the disk failed, or another
+/// call of it; or out of memory.
+fn plan_across<S: Blocks>(
+    alloc: Global,
+    blocks: &mut S,
+    source: &Named,
+    into: u32,
+    count: u32,
+    other: &Name,
+    first_unused: u32,
+) -> Result<Plan, Refusal>
+    requires may { MayPlan S.tells (S.state blocks.old) first_unused }
+    requires dir { IsNumber (S.state blocks.old).books.geom.i source.now.dir }
+    requires entry { MayBeEntry (S.state blocks.old).books.geom.i source.now.entry }
+    requires into { IsNumber (S.state blocks.old).books.geom.i into }
+    requires apart { source.now.dir ≢ into }
+    requires known { IsTrue S.tells → (from : List (List ℕ)) × (to : List (List ℕ)) × IsMove (files_in (S.state blocks.old) nothing_drafted) from to source.now into count None other.now }
+    ensures plans { (from to : List (List ℕ)) → (IsTrue S.tells → IsMove (files_in (S.state blocks.old) nothing_drafted) from to source.now into count None other.now) → Plans S.tells (Rename from to) result (S.state blocks.old) (S.state blocks.new) }
+    ensures made { OnChange result (λ draft cost first. MayBeMade S.tells draft cost first (S.state blocks.new)) }
+{
+    calls_compose::<S>();
+    a_disk_is_small(blocks);
+    a_move_is_known(blocks);
+    a_move_is_mapped();
+    alterations_add_up();
+    blocks_have_the_map_of_their_tree();
+    paths_lead_to_inodes();
+    the_map_gives_the_figures();
+    the_map_gives_the_refusal();
+    the_map_gives_the_reply();
+    let bitmap = blocks.geom().bitmap_blocks();
+    let figures = moving(
+        bitmap,
+        growth(u64::from(count)),
+        release(u64::from(source.count)),
+    );
+    match has_room(blocks, &figures) {
+        Ok(()) => {}
+        Err(why) => return Err(why),
+    }
+    match draft_across(alloc, blocks, source, into, other) {
+        Ok(draft) => Ok(Plan::Change {
+            draft,
+            cost: figures.cost,
+            first_unused,
+        }),
+        Err(why) => Err(refusal_of(why)),
+    }
+}
+
+/// What a rename comes upon, where the tree accepts it, is known; and what is at the second path has no slots.
+fn a_move_is_known<S: Blocks>(blocks: &S)
+    requires begin { MayBegin S.tells (S.state blocks.now) }
+    ensures knows { IsTrue S.tells → (from to : List (List ℕ)) (source : Named) (into count : ℕ) (found : Option Entry) (other : List ℕ) → IsMove (files_in (S.state blocks.now) nothing_drafted) from to source into count found other
+        → KnowsMove (files_in (S.state blocks.now) nothing_drafted) from to source into count found other }
+    ensures onto { IsTrue S.tells → (t : Tree) (from to : List (List ℕ)) (source target : Named) (other : List ℕ) → IsTreeOf (S.state blocks.now).books.geom (S.state blocks.now).map t
+        → IsMove (files_in (S.state blocks.now) nothing_drafted) from to source target.dir target.count (Some target.entry) other → (k : KnowsMove (files_in (S.state blocks.now) nothing_drafted) from to source target.dir target.count (Some target.entry) other)
+        → MayMoveOnto (S.state blocks.now) source target k.name other × (blocks_lost (inodes (S.state blocks.now)) to ≡ blocks_gone target.entry.node.facts) × (target.entry.node.facts.size ≤ 1073741824) }
+{
+    a_draft_begins(blocks);
+    a_directory_has_whole_slots::<S>();
+    a_file_fits_the_disk(blocks);
+    a_name_stands_at_its_place();
+    blocks_have_a_map();
+    files_have_one_map();
+    blocks_have_the_map_of_their_tree();
+    the_node_at_a_path_gives_the_inode();
+    what_a_path_comes_to_gives_the_walk();
+    walks_are_the_same();
+}

@@ -1,0 +1,163 @@
+//! What paths lead to: the node at a path with what is known of it but for its bytes. The blocks are read as
+//! they are, and nothing else is done.
+
+ghost use Rattle.std.specs.Prelude.{◌≡◌, ◌≢◌, IsTrue, false, List, length, Some, IfOk, IfErr, IfSome};
+ghost use Rattle.layout_bytes.specs.declared.slot.Slot.{Slot};
+ghost use Rattle.layout_bytes.specs.declared.node.NodeKind.TheVariants.{Free};
+ghost use Rattle.lang_tree.specs.Tree.{Tree};
+ghost use Rattle.crash_stands.specs.Stands.{IsTreeOf};
+ghost use Rattle.crash_stands.specs.Files.{FileNode};
+ghost use Rattle.crash_stands.specs.Inodes.{ADir};
+ghost use Rattle.crash_stands.specs.Maps.{IsMapOf};
+ghost use Rattle.fs_files.specs.Sound.{IsDraftOf};
+ghost use Rattle.fs_files.specs.Calls.{facts_of, files_in, LookRefused};
+ghost use Rattle.fs_files.specs.Content.{fails_reading};
+ghost use Rattle.fs_files.specs.Drafts.{nothing_drafted};
+ghost use Rattle.fs_files.specs.Effects.{LooksOnly};
+ghost use Rattle.fs_dirs.specs.Directories.{inodes_in, IsNumber};
+ghost use Rattle.fs_commands.specs.Looks.{LeadsToFound, ComesTo, HasEntry, IsWithin, MayBeEntry};
+ghost use Rattle.fs_commands.specs.Sessions.{MayBegin};
+
+use crate::laws::blocks_have_the_map_of_their_tree;
+use base_types::Name;
+use crash_stands::slots_name_nodes_in_use;
+use engine_blocks::{Blocks, calls_compose};
+use fs_dirs::{count_slots, find, walk, walk_to_parent};
+use fs_files::{Draft, FileFacts, FileRefusal, a_draft_begins};
+use fs_inodes::{a_name_stands_at_its_place, walks_are_the_same};
+use lang_tree::{Path, Refusal};
+use std::alloc::Global;
+
+/// A node in use that a path leads to.
+#[derive(Clone, Copy, Debug, PartialEq, Eq)]
+pub struct NodeFound {
+    pub number: u32,
+    pub facts: FileFacts,
+}
+
+/// What stands under a name in a directory.
+#[derive(Clone, Copy, Debug, PartialEq, Eq)]
+pub struct Entry {
+    /// The place of its slot, from 0 on.
+    pub place: u32,
+    /// The node that the slot names.
+    pub node: NodeFound,
+}
+
+/// What a path comes to, whose directory is there.
+#[derive(Clone, Copy, Debug, PartialEq, Eq)]
+pub enum Spot {
+    /// The root, which has no directory above it.
+    Root,
+    /// The directory `dir` above the path, which has `count` slots, and what stands under the path's last name
+    /// there.
+    Inside {
+        dir: u32,
+        count: u32,
+        entry: Option<Entry>,
+    },
+}
+
+/// The node at a path, or why the path leads nowhere.
+///
+/// # Errors
+/// A read of the disk failed, which the disk has counted; or out of memory.
+pub(crate) fn find_node<S: Blocks>(
+    alloc: Global,
+    blocks: &mut S,
+    path: &Path,
+) -> Result<Result<NodeFound, Refusal>, FileRefusal>
+    requires begin { MayBegin S.tells (S.state blocks.old) }
+    ensures found { IsTrue S.tells → IfOk result (λ found. (t : Tree) → IsTreeOf (S.state blocks.old).books.geom (S.state blocks.old).map t → LeadsToFound (files_in (S.state blocks.old) nothing_drafted) path.now found) }
+    ensures there { IsTrue S.tells → IfOk result (λ found. IfOk found (λ f. (x : FileNode) × (files_in (S.state blocks.old) nothing_drafted f.number ≡ Some x) × (f.facts ≡ facts_of x))) }
+    ensures number { IfOk result (λ found. IfOk found (λ f. IsNumber (S.state blocks.old).books.geom.i f.number)) }
+    ensures used { IfOk result (λ found. IfOk found (λ f. f.facts.kind ≢ Free)) }
+    ensures refused { IfErr result LookRefused }
+    ensures looks { LooksOnly S.tells (fails_reading result) (S.state blocks.old) (S.state blocks.new) }
+{
+    a_draft_begins(blocks);
+    calls_compose::<S>();
+    blocks_have_the_map_of_their_tree();
+    walks_are_the_same();
+    let draft = Draft::new(alloc);
+    let number = match walk(&draft, blocks, path)? {
+        Ok(number) => number,
+        Err(why) => return Ok(Err(why)),
+    };
+    match draft.look(blocks, number)? {
+        Some(facts) => Ok(Ok(NodeFound { number, facts })),
+        None => Ok(Err(Refusal::NotFound)),
+    }
+}
+
+/// What a path comes to, or why nothing can come to be there.
+///
+/// # Errors
+/// A read of the disk failed, which the disk has counted; or out of memory.
+pub(crate) fn look_up<S: Blocks>(
+    alloc: Global,
+    blocks: &mut S,
+    path: &Path,
+) -> Result<Result<Spot, Refusal>, FileRefusal>
+    requires begin { MayBegin S.tells (S.state blocks.old) }
+    ensures comes { IsTrue S.tells → IfOk result (λ spot. (t : Tree) → IsTreeOf (S.state blocks.old).books.geom (S.state blocks.old).map t → ComesTo (files_in (S.state blocks.old) nothing_drafted) path.now spot) }
+    ensures within { IfOk result (λ spot. IfOk spot (IsWithin (S.state blocks.old).books.geom.i)) }
+    ensures refused { IfErr result LookRefused }
+    ensures looks { LooksOnly S.tells (fails_reading result) (S.state blocks.old) (S.state blocks.new) }
+{
+    a_draft_begins(blocks);
+    calls_compose::<S>();
+    blocks_have_the_map_of_their_tree();
+    walks_are_the_same();
+    let draft = Draft::new(alloc);
+    let dir = match walk_to_parent(&draft, blocks, path)? {
+        Ok(Some(dir)) => dir,
+        Ok(None) => return Ok(Ok(Spot::Root)),
+        Err(why) => return Ok(Err(why)),
+    };
+    let Some(name) = path.names().last() else {
+        return Ok(Ok(Spot::Root));
+    };
+    let Some(count) = count_slots(&draft, blocks, dir)? else {
+        return Ok(Err(Refusal::NotDir));
+    };
+    let entry = find_entry(&draft, blocks, dir, name)?;
+    Ok(Ok(Spot::Inside { dir, count, entry }))
+}
+
+/// What stands under a name in directory `dir`.
+///
+/// # Errors
+/// A read of the disk failed, which the disk has counted.
+fn find_entry<S: Blocks>(
+    draft: &Draft,
+    blocks: &mut S,
+    dir: u32,
+    name: &Name,
+) -> Result<Option<Entry>, FileRefusal>
+    requires going { (S.state blocks.old).books.stopped ≡ false }
+    requires number { IsNumber (S.state blocks.old).books.geom.i dir }
+    requires draft { IsDraftOf S.tells (S.state blocks.old) draft.now }
+    ensures entry { IsTrue S.tells → IfOk result (λ entry. (t : Tree) (slots : List Slot) → IsMapOf (S.state blocks.old).books.geom.i (inodes_in (S.state blocks.old) draft.now) t
+        → inodes_in (S.state blocks.old) draft.now dir ≡ Some (ADir slots) → HasEntry (files_in (S.state blocks.old) draft.now) dir (length slots) name.now entry) }
+    ensures within { IfOk result (λ entry. IfSome entry (MayBeEntry (S.state blocks.old).books.geom.i)) }
+    ensures refused { IfErr result LookRefused }
+    ensures looks { LooksOnly S.tells (fails_reading result) (S.state blocks.old) (S.state blocks.new) }
+{
+    calls_compose::<S>();
+    slots_name_nodes_in_use();
+    a_name_stands_at_its_place();
+    let Some(found) = find(draft, blocks, dir, name)? else {
+        return Ok(None);
+    };
+    let Some(facts) = draft.look(blocks, found.node)? else {
+        return Ok(None);
+    };
+    Ok(Some(Entry {
+        place: found.place,
+        node: NodeFound {
+            number: found.node,
+            facts,
+        },
+    }))
+}

@@ -1,0 +1,127 @@
+use Rattle.std.proofs.Common.{◌≡◌, ◌+◌, ◌-◌, ◌<◌, false, IsTrue, List, [], length, set, slice_get, Some, sym, subst, ap, ◌∙◌, arith, length-set}
+use Rattle.std.proofs.lemmas.Option.{none-some, same_Some, slice_get-get_or}
+use Rattle.layout_bytes.specs.declared.slot.Slot.{Slot}
+use Rattle.lang_tree.specs.Figures.{directory_blocks, release}
+use Rattle.crash_stands.specs.Files.{Files}
+use Rattle.crash_stands.specs.Inodes.{ADir}
+use Rattle.engine_blocks.specs.State.{State}
+use Rattle.fs_files.specs.Calls.{files_in, places_in}
+use Rattle.fs_files.specs.Content.{fails_reading}
+use Rattle.fs_files.specs.Effects.{LooksOnly}
+use Rattle.fs_dirs.specs.Changing.{Alters, IsWithSlots}
+use Rattle.fs_dirs.specs.Directories.{inodes_in}
+use Rattle.fs_dirs.proofs.reading.Looks.{looks_more, same_files, same_inodes, same_places}
+use Rattle.fs_dirs.proofs.writing.Alterings.{alters_both}
+use Rattle.fs_dirs.proofs.writing.Nodes.{place_of_slots}
+use Rattle.fs_dirs.proofs.writing.Taking.{out_is, slots_twice, places_twice, same_error}
+use Rattle.fs_dirs.proofs.changing.take_slot.Goals as goal
+use Rattle.fs_dirs.proofs.changing.take_slot.Goals.{In-Some, In_ok-set_slot}
+
+-- the last place was found
+module _ (g : _) (c : In-Some g) where
+  abbrev s : State
+  s = g.S.Blocks.state c.args.blocks.now
+
+  abbrev t : State
+  t = g.S.Blocks.state c.last_place.new.blocks
+
+  place_low : IsTrue g.S.Blocks.tells → (slots : List Slot) → inodes_in s c.args.draft.now c.args.dir ≡ Some (ADir slots) → c.args.place < length slots
+  place_low told slots is = place_of_slots _ c.args.place slots (c.requires.there told) is
+
+  last_is : IsTrue g.S.Blocks.tells → (slots : List Slot) → inodes_in s c.args.draft.now c.args.dir ≡ Some (ADir slots) → c.in-Some.last ≡ length slots - 1
+  last_is told slots is = same_Some _ _ (sym c.in-Some.is ∙ c.in_ok-last.ensures.last told slots is (omega (arith, place_low told slots is)))
+
+  still : IsTrue g.S.Blocks.tells → (slots : List Slot) → inodes_in s c.args.draft.now c.args.dir ≡ Some (ADir slots) → inodes_in t c.args.draft.now c.args.dir ≡ Some (ADir slots)
+  still told slots is = ap (λ m. m c.args.dir) (same_inodes g.S.Blocks.tells false s t c.args.draft.now c.in_ok-last.ensures.looks told) ∙ is
+
+pub returns-in_default-2-clause-places : goal.returns-in_default-2-clause-places
+returns-in_default-2-clause-places g c = λ told slots is.
+    let b = (goal.at.returns-in_default-2-clause-places g c).In-Some in
+    absurd (none-some _ (sym c.in_default-2.is ∙ c.in_ok-moved.ensures.slot told slots (still g b told slots is) (omega (arith, last_is g b told slots is, place_low g b told slots is))
+    ∙ slice_get-get_or slots c.in-Some.last (record { node = 0; name = [] }) (omega (arith, last_is g b told slots is, place_low g b told slots is))))
+
+pub returns-in_default-2-clause-alters : goal.returns-in_default-2-clause-alters
+returns-in_default-2-clause-alters g c = λ told slots is.
+    let b = (goal.at.returns-in_default-2-clause-alters g c).In-Some in
+    absurd (none-some _ (sym c.in_default-2.is ∙ c.in_ok-moved.ensures.slot told slots (still g b told slots is) (omega (arith, last_is g b told slots is, place_low g b told slots is))
+    ∙ slice_get-get_or slots c.in-Some.last (record { node = 0; name = [] }) (omega (arith, last_is g b told slots is, place_low g b told slots is))))
+
+-- and its slot was written over the one at the place
+module _ (g : _) (c : In_ok-set_slot g) where
+  abbrev start : State
+  start = g.S.Blocks.state c.args.blocks.now
+
+  abbrev mid : State
+  mid = g.S.Blocks.state c.last_place.new.blocks
+
+  abbrev read : State
+  read = g.S.Blocks.state c.slot_at.new.blocks
+
+  abbrev put : State
+  put = g.S.Blocks.state c.set_slot.new.blocks
+
+  looks : LooksOnly g.S.Blocks.tells false start read
+  looks = looks_more g.S.Blocks.tells false start mid read c.in_ok-last.ensures.looks c.in_ok-moved.ensures.looks
+
+  put_looks : LooksOnly g.S.Blocks.tells false start put
+  put_looks = looks_more g.S.Blocks.tells false start read put looks c.in_ok-set_slot.ensures.looks
+
+  low : IsTrue g.S.Blocks.tells → (slots : List Slot) → inodes_in start c.args.draft.now c.args.dir ≡ Some (ADir slots) → c.args.place < length slots
+  low told slots is = place_of_slots _ c.args.place slots (c.requires.there told) is
+
+  its_last : IsTrue g.S.Blocks.tells → (slots : List Slot) → inodes_in start c.args.draft.now c.args.dir ≡ Some (ADir slots) → c.in-Some.last ≡ length slots - 1
+  its_last told slots is = same_Some _ _ (sym c.in-Some.is ∙ c.in_ok-last.ensures.last told slots is (omega (arith, low told slots is)))
+
+  moved_is : IsTrue g.S.Blocks.tells → (slots : List Slot) → inodes_in start c.args.draft.now c.args.dir ≡ Some (ADir slots) → slice_get slots c.in-Some.last ≡ Some c.in-Some-2.moved
+  moved_is told slots is =
+      sym (c.in_ok-moved.ensures.slot told slots (ap (λ m. m c.args.dir) (same_inodes g.S.Blocks.tells false start mid c.args.draft.now c.in_ok-last.ensures.looks told) ∙ is) (omega (arith, its_last told slots is, low told slots is)))
+      ∙ c.in-Some-2.is
+
+  -- its slots then
+  set_is : IsTrue g.S.Blocks.tells → (slots : List Slot) → inodes_in start c.args.draft.now c.args.dir ≡ Some (ADir slots) → IsWithSlots (files_in start c.args.draft.now) (files_in put c.set_slot.new.draft) c.args.dir (set slots c.args.place c.in-Some-2.moved)
+  set_is told slots is =
+      subst (λ (f : Files). IsWithSlots f (files_in put c.set_slot.new.draft) c.args.dir (set slots c.args.place c.in-Some-2.moved)) (same_files g.S.Blocks.tells false start read c.args.draft.now looks told)
+      (c.in_ok-set_slot.ensures.slots told slots (ap (λ m. m c.args.dir) (same_inodes g.S.Blocks.tells false start read c.args.draft.now looks told) ∙ is))
+
+pub cut_slots-requires-clause-there : goal.cut_slots-requires-clause-there
+cut_slots-requires-clause-there g c = λ told.
+    let b = (goal.at.cut_slots-requires-clause-there g c).In_ok-set_slot in
+    let there = c.requires.there told in
+    (set there.0 c.args.place c.in-Some-2.moved, (set_is g b told there.0 there.1).inodes.here, omega (arith, its_last g b told there.0 there.1, there.2, length-set there.0 c.args.place c.in-Some-2.moved))
+
+pub returns-clause-slots : goal.returns-clause-slots
+returns-clause-slots g c = λ told slots is.
+    let b = (goal.at.returns-clause-slots g c).In_ok-set_slot in
+    let mine = set_is g b told slots is in
+    let new = files_in (g.S.Blocks.state c.cut_slots.new.blocks) c.cut_slots.new.draft in
+    subst (λ xs. IsWithSlots (files_in (start g b) c.args.draft.now) new c.args.dir xs) (out_is slots c.args.place c.in-Some.last c.in-Some-2.moved (its_last g b told slots is) (moved_is g b told slots is))
+    (slots_twice (files_in (start g b) c.args.draft.now) (files_in (put g b) c.set_slot.new.draft) new c.args.dir (set slots c.args.place c.in-Some-2.moved) _ mine (c.in_ok-cut_slots.ensures.slots told (set slots c.args.place c.in-Some-2.moved) mine.inodes.here))
+
+pub returns-clause-places : goal.returns-clause-places
+returns-clause-places g c = λ told slots is.
+    let b = (goal.at.returns-clause-places g c).In_ok-set_slot in
+    places_twice (places_in (read g b) c.args.draft.now) (places_in (start g b) c.args.draft.now) (places_in (put g b) c.set_slot.new.draft) (places_in (g.S.Blocks.state c.cut_slots.new.blocks) c.cut_slots.new.draft) c.args.dir _ _
+    (λ l. same_places g.S.Blocks.tells false (start g b) (read g b) c.args.draft.now (looks g b) l told) (ap directory_blocks (its_last g b told slots is))
+    (c.in_ok-set_slot.ensures.places told) (c.in_ok-cut_slots.ensures.places told)
+
+pub returns-clause-alters : goal.returns-clause-alters
+returns-clause-alters g c = λ told slots is.
+    let b = (goal.at.returns-clause-alters g c).In_ok-set_slot in
+    let mine = set_is g b told slots is in
+    let long = length-set slots c.args.place c.in-Some-2.moved in
+    let last = its_last g b told slots is in
+    let fewer : 0 + (directory_blocks (length (set slots c.args.place c.in-Some-2.moved)) - directory_blocks c.in-Some.last) ≡ release (length slots) = omega (arith, long, last) in
+    subst (λ n. Alters 3 [] n c.args.draft.now c.cut_slots.new.draft) fewer
+    (alters_both 1 2 0 _ [] [] c.args.draft.now c.set_slot.new.draft c.cut_slots.new.draft (c.in_ok-set_slot.ensures.alters told) (c.in_ok-cut_slots.ensures.alters told (set slots c.args.place c.in-Some-2.moved) mine.inodes.here))
+
+pub returns-clause-looks : goal.returns-clause-looks
+returns-clause-looks g c =
+    let b = (goal.at.returns-clause-looks g c).In_ok-set_slot in
+    looks_more g.S.Blocks.tells false (start g b) (put g b) (g.S.Blocks.state c.cut_slots.new.blocks) (put_looks g b) c.in_ok-cut_slots.ensures.looks
+
+pub returns-in_err-cut_slots-clause-looks : goal.returns-in_err-cut_slots-clause-looks
+returns-in_err-cut_slots-clause-looks g c =
+    let b = (goal.at.returns-in_err-cut_slots-clause-looks g c).In_ok-set_slot in
+    let new = g.S.Blocks.state c.cut_slots.new.blocks in
+    same_error c.from_residual-in_err-cut_slots.result c.in_err-cut_slots.field-0.0 (λ r. LooksOnly g.S.Blocks.tells (fails_reading r) (start g b) new) c.from_residual-in_err-cut_slots.ensures.1
+    (looks_more g.S.Blocks.tells _ (start g b) (put g b) new (put_looks g b) c.in_err-cut_slots.ensures.looks)

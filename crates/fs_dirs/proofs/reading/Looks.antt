@@ -1,0 +1,90 @@
+-- Looking at the blocks of a draft, one look behind the other: what may be read still may, and reads as before.
+use Rattle.std.proofs.Common.{◌≡◌, ◌↔◌, ℕ, Bool, false, IsTrue, refl, sym, subst, ap, ap₂, ◌∙◌, arith}
+use Rattle.base_types.specs.Counts.{after_call}
+use Rattle.base_types.specs.Seal.{Blocks}
+use Rattle.engine_blocks.specs.State.{Bookkeeping, State}
+use Rattle.crash_stands.specs.Files.{files_of, used_node}
+use Rattle.crash_stands.specs.Inodes.{inodes_of}
+use Rattle.crash_stands.specs.Maps.{IsMapOf}
+use Rattle.lang_tree.specs.Tree.{Tree}
+use Rattle.fs_files.specs.Calls.{files_in, places_in, places_or_none}
+use Rattle.fs_files.specs.Drafts.{DraftState, drafted}
+use Rattle.fs_files.specs.Effects.{LooksOnly}
+use Rattle.fs_files.specs.Sound.{FitsBooks, IsSoundDraft, IsDraftOf}
+use Rattle.fs_dirs.specs.Directories.{inodes_in}
+use Rattle.fs_dirs.specs.Reading.{MayLook, MayRead}
+
+-- what holds the same of two holds the same of both
+iff_on : {A B C : Type 0} → A ↔ B → B ↔ C → A ↔ C
+iff_on p q = (λ a. q.0 (p.0 a), λ c. p.1 (q.1 c))
+
+-- nothing was done
+pub looks_none : (tells : Bool) (s : State) → LooksOnly tells false s s
+looks_none tells s = record {
+  books = refl;
+  counts = record { read_faults = refl; faults = refl; waits = refl; ticks = refl };
+  map = λ t. refl;
+  crash = λ t. record { base = refl; log = refl; point = λ p m. (λ x. x, λ x. x); left = λ t img. (λ x. x, λ x. x); holds = λ img m. (λ x. x, λ x. x); issued = λ m. (λ x. x, λ x. x); awaits = λ p t. (λ x. x, λ x. x); sure = λ log p. (λ x. x, λ x. x); records = record { told = refl; starts = λ log n. (λ x. x, λ x. x) } };
+}
+
+-- two looks, of which the first didn't fail
+pub looks_more : (tells failed : Bool) (s t u : State) → LooksOnly tells false s t → LooksOnly tells failed t u → LooksOnly tells failed s u
+looks_more tells failed s t u first second = record {
+  books = second.books ∙ first.books;
+  counts = record {
+    read_faults = second.counts.read_faults ∙ ap (λ n. after_call failed n) first.counts.read_faults;
+    faults = second.counts.faults ∙ first.counts.faults;
+    waits = second.counts.waits ∙ first.counts.waits;
+    ticks = second.counts.ticks ∙ first.counts.ticks;
+  };
+  map = λ told. second.map told ∙ first.map told;
+  crash = λ told. let a = first.crash told in let b = second.crash told in record {
+    base = b.base ∙ a.base;
+    log = b.log ∙ a.log;
+    point = λ p m. iff_on (b.point p m) (a.point p m);
+    left = λ n img. iff_on (b.left n img) (a.left n img);
+    holds = λ img m. iff_on (b.holds img m) (a.holds img m);
+    sure = λ log p. iff_on (b.sure log p) (a.sure log p);
+    records = record { told = b.records.told ∙ a.records.told; starts = λ log n. iff_on (b.records.starts log n) (a.records.starts log n) };
+    issued = λ m. iff_on (b.issued m) (a.issued m);
+    awaits = λ p t. iff_on (b.awaits p t) (a.awaits p t);
+  };
+}
+
+module _ (tells failed : Bool) (s t : State) (d : DraftState) (k : LooksOnly tells failed s t) where
+  -- the files are as before
+  pub same_files : IsTrue tells → files_in t d ≡ files_in s d
+  same_files told = ap₂ (λ (b : Bookkeeping) (m : Blocks). files_of b.geom (drafted d m)) k.books (k.map told)
+
+  -- and so are the inodes
+  pub same_inodes : IsTrue tells → inodes_in t d ≡ inodes_in s d
+  same_inodes told = ap inodes_of (same_files told)
+
+  -- and the blocks of each node
+  pub same_places : (n : ℕ) → IsTrue tells → places_in t d n ≡ places_in s d n
+  same_places n told = ap₂ (λ (b : Bookkeeping) (m : Blocks). places_or_none (used_node b.geom (drafted d m) n)) k.books (k.map told)
+
+  -- so they are the map of the same tree
+  pub same_map : (tree : Tree) → IsTrue tells → IsMapOf s.books.geom.i (inodes_in s d) tree → IsMapOf t.books.geom.i (inodes_in t d) tree
+  same_map tree told h = subst (λ (b : Bookkeeping). IsMapOf b.geom.i (inodes_in t d) tree) (sym k.books) (subst (λ m. IsMapOf s.books.geom.i m tree) (sym (same_inodes told)) h)
+
+  -- the draft is one of the blocks still
+  pub draft_stays : IsDraftOf tells s d → IsDraftOf tells t d
+  draft_stays h = record {
+    fits = subst (λ b. FitsBooks b d) (sym k.books) h.fits;
+    sound = λ told. subst (λ b. IsSoundDraft b t.map d) (sym k.books) (subst (λ m. IsSoundDraft s.books m d) (sym (k.map told)) (h.sound told));
+    content = h.content;
+  }
+
+  -- what may be looked at still may
+  pub may_look : (n : ℕ) → MayLook tells s d n → MayLook tells t d n
+  may_look n h = record {
+    going = ap (λ (b : Bookkeeping). b.stopped) k.books ∙ h.going;
+    from = h.from;
+    upto = omega (arith, h.upto, ap (λ (b : Bookkeeping). b.geom.i) k.books);
+    draft = draft_stays h.draft;
+  }
+
+  -- and what may be read
+  pub may_read : (n : ℕ) → MayRead tells s d n → MayRead tells t d n
+  may_read n h = record { look = may_look n h.look; used = λ told. let u = h.used told in (u.0, ap (λ f. f n) (same_files told) ∙ u.1) }

@@ -1,0 +1,74 @@
+-- What the steps of reading a directory need and give.
+use Rattle.std.specs.Prelude.{◌≡◌, ◌≢◌, ℕ, ◌%◌, ◌≤◌, ◌<◌, Bool, false, IsTrue, IfOk, List, ◌++◌, length, map, take, drop, slice_get, Some, Result, Ok}
+use Rattle.std.specs.List.{All}
+use Rattle.layout_bytes.specs.declared.slot.Slot.{Slot}
+use Rattle.lang_tree.specs.declared.command.Refusal.{Refusal}
+use Rattle.lang_tree.specs.Tree.{Tree}
+use Rattle.lang_tree.specs.Walk.{enter}
+use Rattle.crash_stands.specs.Inodes.{Inode, Inodes, ADir}
+use Rattle.crash_stands.specs.Maps.{IsMapOf}
+use Rattle.crash_stands.specs.Walks.{entry_in}
+use Rattle.fs_inodes.specs.Lookups.{is_dir_inode, walk_on}
+use Rattle.engine_blocks.specs.State.{State}
+use Rattle.engine_blocks.specs.Puts.{IsData}
+use Rattle.fs_files.specs.Drafts.{DraftState}
+use Rattle.fs_files.specs.Sound.{IsDraftOf}
+use Rattle.fs_files.specs.Calls.{files_in, places_in, IsUsed}
+use Rattle.fs_files.specs.Effects.{LooksOnly}
+use Rattle.fs_dirs.specs.Directories.{inodes_in, IsNumber}
+
+-- Node k may be looked at in this draft.
+pub record MayLook (tells : Bool) (s : State) (d : DraftState) (k : ℕ) : Type 0 where
+  pub going : s.books.stopped ≡ false
+  pub from : 1 ≤ k
+  pub upto : k ≤ s.books.geom.i
+  pub draft : IsDraftOf tells s d
+
+-- Node k may be read: it is in use too.
+pub record MayRead (tells : Bool) (s : State) (d : DraftState) (k : ℕ) : Type 0 where
+  pub look : MayLook tells s d k
+  pub used : IsTrue tells → IsUsed (files_in s d) k
+
+-- These blocks of a node may be read.
+pub record MayReadBlocks (tells : Bool) (s : State) (d : DraftState) (node : List ℕ) : Type 0 where
+  pub going : s.books.stopped ≡ false
+  pub draft : IsDraftOf tells s d
+  pub inside : All (IsData s.books.geom) node
+
+-- A directory with these blocks has these slots.
+pub record HasSlots (s : State) (d : DraftState) (node : List ℕ) (slots : List Slot) : Type 0 where
+  pub dir : ℕ
+  pub is : inodes_in s d dir ≡ Some (ADir slots)
+  pub blocks : node ≡ places_in s d dir
+
+-- the slots of the block that begins with a place: at most 16
+abbrev pub slots_from : ℕ → List Slot → List Slot
+slots_from first slots = take 16 (drop first slots)
+
+-- no slot before this place has the name
+abbrev pub MissesBefore : List Slot → List ℕ → ℕ → Type 0
+MissesBefore slots name first = (k : ℕ) (s : Slot) → k < first → slice_get slots k ≡ Some s → s.name ≢ name
+
+-- A search in the blocks of a directory of so many slots has come to this place, which begins a block, and found nothing before it.
+pub record HasSought (tells : Bool) (start now : State) (d : DraftState) (node : List ℕ) (count : ℕ) (name : List ℕ) (first : ℕ) : Type 0 where
+  pub looks : LooksOnly tells false start now
+  pub begins : first % 16 ≡ 0
+  pub misses : IsTrue tells → (slots : List Slot) → HasSlots start d node slots → length slots ≡ count → MissesBefore slots name first
+
+-- What one name more of a walk comes to: the number under the name, which is a node in use, or why there is none.
+pub record EntersOn (m : Inodes) (k : ℕ) (name : List ℕ) (next : Result ℕ Refusal) : Type 0 where
+  pub step : next ≡ enter (is_dir_inode (m k)) (entry_in (m k) name) Ok
+  pub used : IfOk next (λ j. (x : Inode) × (m j ≡ Some x))
+
+-- A walk has come to a node, and has these names to go.
+pub record HasWalked (tells : Bool) (start now : State) (d : DraftState) (names rest : List (List ℕ)) (k : ℕ) : Type 0 where
+  pub looks : LooksOnly tells false start now
+  pub number : IsNumber start.books.geom.i k
+  pub walks : IsTrue tells → (t : Tree) → IsMapOf start.books.geom.i (inodes_in start d) t → walk_on (inodes_in start d) 1 names ≡ walk_on (inodes_in start d) k rest
+  pub used : IsTrue tells → (t : Tree) → IsMapOf start.books.geom.i (inodes_in start d) t → (x : Inode) × (inodes_in start d k ≡ Some x)
+
+-- Of a directory of so many slots the names of those before this place, which begins a block, were appended.
+pub record HasListed (tells : Bool) (start now : State) (d : DraftState) (node : List ℕ) (count first : ℕ) (before into : List (List ℕ)) : Type 0 where
+  pub looks : LooksOnly tells false start now
+  pub begins : first % 16 ≡ 0
+  pub names : IsTrue tells → (slots : List Slot) → HasSlots start d node slots → length slots ≡ count → into ≡ before ++ map (λ (s : Slot). s.name) (take first slots)

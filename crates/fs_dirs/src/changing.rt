@@ -1,0 +1,197 @@
+//! Slots of a directory of a draft changed in place and taken out. One slot is written at a time, and never a
+//! whole directory; and no call here grows it.
+
+ghost use Rattle.std.specs.Prelude.{◌≡◌, ◌≤◌, ◌<◌, ◌-◌, ◌^◌, ℕ, IsTrue, false, List, [], length, take, set, slice_get, Some, IfOk, IfSome, IfErr, OnOk};
+ghost use Rattle.layout_bytes.specs.declared.slot.Slot.{Slot as SlotValue};
+ghost use Rattle.layout_bytes.specs.Slot.{slot_spelling};
+ghost use Rattle.layout_directory.specs.Slots.{IsLawful};
+ghost use Rattle.layout_directory.specs.Directory.{without_at};
+ghost use Rattle.lang_tree.specs.Figures.{directory_blocks, release};
+ghost use Rattle.crash_stands.specs.Inodes.{ADir};
+ghost use Rattle.fs_files.specs.Sound.{IsDraftOf};
+ghost use Rattle.fs_files.specs.Content.{fails_reading};
+ghost use Rattle.fs_files.specs.Effects.{LooksOnly};
+ghost use Rattle.fs_files.specs.Calls.{files_in, places_in, IsWithPlaces, LookRefused};
+ghost use Rattle.fs_dirs.specs.Directories.{inodes_in};
+ghost use Rattle.fs_dirs.specs.Reading.{MayRead};
+ghost use Rattle.fs_dirs.specs.Changing.{Alters, HasPlace, IsWithSlots};
+
+use crate::block::{SLOTS_IN_BLOCK, ZEROS, read_slots, slot_in};
+use crate::lookup::count_slots;
+use engine_blocks::{Blocks, calls_compose};
+use fs_files::{
+    Draft, FileRefusal, a_directory_has_whole_slots, a_file_has_its_blocks, bytes_lie_in_blocks,
+};
+use fs_inodes::slots_follow_the_bytes;
+use layout_bytes::{SLOT_LENGTH, Slot};
+use layout_directory::write_slot;
+use std::alloc::Global;
+
+/// The slot at `place` of directory `dir` is another one.
+///
+/// # Errors
+/// A read of the disk failed, which the disk has counted; or out of memory. The draft isn't to be used any
+/// more then.
+pub fn set_slot<S: Blocks>(
+    draft: &mut Draft,
+    alloc: Global,
+    blocks: &mut S,
+    dir: u32,
+    place: u32,
+    slot: &Slot,
+) -> Result<(), FileRefusal>
+    requires going { (S.state blocks.old).books.stopped ≡ false }
+    requires above_zero { 1 ≤ dir }
+    requires in_table { dir ≤ (S.state blocks.old).books.geom.i }
+    requires draft { IsDraftOf S.tells (S.state blocks.old) draft.old }
+    requires low { place < 2 ^ 24 }
+    requires there { IsTrue S.tells → HasPlace (S.state blocks.old) draft.old dir place }
+    ensures slots { IsTrue S.tells → OnOk result ((slots : List SlotValue) → inodes_in (S.state blocks.old) draft.old dir ≡ Some (ADir slots)
+        → IsWithSlots (files_in (S.state blocks.old) draft.old) (files_in (S.state blocks.new) draft.new) dir (set slots place slot.now)) }
+    ensures places { IsTrue S.tells → OnOk result (IsWithPlaces (places_in (S.state blocks.old) draft.old) (places_in (S.state blocks.new) draft.new) dir (places_in (S.state blocks.old) draft.old dir)) }
+    ensures draft { OnOk result (IsDraftOf S.tells (S.state blocks.new) draft.new) }
+    ensures alters { IsTrue S.tells → OnOk result (Alters 1 [] 0 draft.old draft.new) }
+    ensures refused { IfErr result LookRefused }
+    ensures looks { LooksOnly S.tells (fails_reading result) (S.state blocks.old) (S.state blocks.new) }
+{
+    a_directory_has_whole_slots::<S>();
+    bytes_lie_in_blocks();
+    slots_follow_the_bytes();
+    let text = slot_text(slot);
+    let offset = SLOT_LENGTH as u64 * u64::from(place);
+    draft.overwrite(alloc, blocks, dir, offset, text.as_slice())?;
+    Ok(())
+}
+
+/// Takes the slot at `place` of directory `dir` out: the last slot comes into its place, and the directory has
+/// one slot less.
+///
+/// # Errors
+/// As `set_slot`.
+pub fn take_slot<S: Blocks>(
+    draft: &mut Draft,
+    alloc: Global,
+    blocks: &mut S,
+    dir: u32,
+    place: u32,
+) -> Result<(), FileRefusal>
+    requires going { (S.state blocks.old).books.stopped ≡ false }
+    requires above_zero { 1 ≤ dir }
+    requires in_table { dir ≤ (S.state blocks.old).books.geom.i }
+    requires draft { IsDraftOf S.tells (S.state blocks.old) draft.old }
+    requires low { place < 2 ^ 24 }
+    requires there { IsTrue S.tells → HasPlace (S.state blocks.old) draft.old dir place }
+    ensures slots { IsTrue S.tells → OnOk result ((slots : List SlotValue) → inodes_in (S.state blocks.old) draft.old dir ≡ Some (ADir slots)
+        → IsWithSlots (files_in (S.state blocks.old) draft.old) (files_in (S.state blocks.new) draft.new) dir (without_at place slots)) }
+    ensures places { IsTrue S.tells → OnOk result ((slots : List SlotValue) → inodes_in (S.state blocks.old) draft.old dir ≡ Some (ADir slots)
+        → IsWithPlaces (places_in (S.state blocks.old) draft.old) (places_in (S.state blocks.new) draft.new) dir (take (directory_blocks (length slots - 1)) (places_in (S.state blocks.old) draft.old dir))) }
+    ensures draft { OnOk result (IsDraftOf S.tells (S.state blocks.new) draft.new) }
+    ensures alters { IsTrue S.tells → OnOk result ((slots : List SlotValue) → inodes_in (S.state blocks.old) draft.old dir ≡ Some (ADir slots) → Alters 3 [] (release (length slots)) draft.old draft.new) }
+    ensures refused { IfErr result LookRefused }
+    ensures looks { LooksOnly S.tells (fails_reading result) (S.state blocks.old) (S.state blocks.new) }
+{
+    calls_compose::<S>();
+    let Some(last) = last_place(draft, blocks, dir)? else {
+        return Ok(());
+    };
+    let Some(moved) = slot_at(draft, blocks, dir, last)? else {
+        return Ok(());
+    };
+    set_slot(draft, alloc, blocks, dir, place, &moved)?;
+    cut_slots(draft, alloc, blocks, dir, last)?;
+    Ok(())
+}
+
+/// The place of the last slot of a directory that has one.
+///
+/// # Errors
+/// A read of the disk failed, which the disk has counted.
+fn last_place<S: Blocks>(
+    draft: &Draft,
+    blocks: &mut S,
+    dir: u32,
+) -> Result<Option<u32>, FileRefusal>
+    requires going { (S.state blocks.old).books.stopped ≡ false }
+    requires above_zero { 1 ≤ dir }
+    requires in_table { dir ≤ (S.state blocks.old).books.geom.i }
+    requires draft { IsDraftOf S.tells (S.state blocks.old) draft.now }
+    ensures last { IsTrue S.tells → IfOk result (λ last. (slots : List SlotValue) → inodes_in (S.state blocks.old) draft.now dir ≡ Some (ADir slots) → 0 < length slots → last ≡ Some (length slots - 1)) }
+    ensures low { IfOk result (λ last. IfSome last (λ n. n < 2 ^ 24)) }
+    ensures read { IfOk result (λ last. IfSome last (λ n. MayRead S.tells (S.state blocks.new) draft.now dir)) }
+    ensures refused { IfErr result LookRefused }
+    ensures looks { LooksOnly S.tells (fails_reading result) (S.state blocks.old) (S.state blocks.new) }
+{
+    let Some(count) = count_slots(draft, blocks, dir)? else {
+        return Ok(None);
+    };
+    if count == 0 {
+        return Ok(None);
+    }
+    Ok(Some(count - 1))
+}
+
+/// The slot at `place` of directory `dir`, or `None` where its bytes are none.
+///
+/// # Errors
+/// A read of the disk failed, which the disk has counted.
+fn slot_at<S: Blocks>(
+    draft: &Draft,
+    blocks: &mut S,
+    dir: u32,
+    place: u32,
+) -> Result<Option<Slot>, FileRefusal>
+    requires { MayRead S.tells (S.state blocks.old) draft.now dir }
+    ensures slot { IsTrue S.tells → IfOk result (λ found. (slots : List SlotValue) → inodes_in (S.state blocks.old) draft.now dir ≡ Some (ADir slots) → place < length slots → found ≡ slice_get slots place) }
+    ensures refused { IfErr result LookRefused }
+    ensures looks { LooksOnly S.tells (fails_reading result) (S.state blocks.old) (S.state blocks.new) }
+{
+    calls_compose::<S>();
+    let node = draft.blocks_of(blocks, dir)?;
+    let within = place % SLOTS_IN_BLOCK;
+    let mut block = ZEROS;
+    read_slots(draft, blocks, &node, place - within, &mut block)?;
+    Ok(slot_in(&block, within))
+}
+
+/// Directory `dir` keeps its first `count` slots, which are fewer than it has.
+///
+/// # Errors
+/// As `set_slot`.
+fn cut_slots<S: Blocks>(
+    draft: &mut Draft,
+    alloc: Global,
+    blocks: &mut S,
+    dir: u32,
+    count: u32,
+) -> Result<(), FileRefusal>
+    requires going { (S.state blocks.old).books.stopped ≡ false }
+    requires above_zero { 1 ≤ dir }
+    requires in_table { dir ≤ (S.state blocks.old).books.geom.i }
+    requires draft { IsDraftOf S.tells (S.state blocks.old) draft.old }
+    requires low { count < 2 ^ 24 }
+    requires there { IsTrue S.tells → HasPlace (S.state blocks.old) draft.old dir count }
+    ensures slots { IsTrue S.tells → OnOk result ((slots : List SlotValue) → inodes_in (S.state blocks.old) draft.old dir ≡ Some (ADir slots)
+        → IsWithSlots (files_in (S.state blocks.old) draft.old) (files_in (S.state blocks.new) draft.new) dir (take count slots)) }
+    ensures places { IsTrue S.tells → OnOk result (IsWithPlaces (places_in (S.state blocks.old) draft.old) (places_in (S.state blocks.new) draft.new) dir (take (directory_blocks count) (places_in (S.state blocks.old) draft.old dir))) }
+    ensures draft { OnOk result (IsDraftOf S.tells (S.state blocks.new) draft.new) }
+    ensures alters { IsTrue S.tells → OnOk result ((slots : List SlotValue) → inodes_in (S.state blocks.old) draft.old dir ≡ Some (ADir slots) → Alters 2 [] (directory_blocks (length slots) - directory_blocks count) draft.old draft.new) }
+    ensures refused { IfErr result LookRefused }
+    ensures looks { LooksOnly S.tells (fails_reading result) (S.state blocks.old) (S.state blocks.new) }
+{
+    a_directory_has_whole_slots::<S>();
+    a_file_has_its_blocks::<S>();
+    slots_follow_the_bytes();
+    let size = SLOT_LENGTH as u64 * u64::from(count);
+    draft.cut_to(alloc, blocks, dir, size)?;
+    Ok(())
+}
+
+/// The 64 bytes of a slot.
+pub(crate) fn slot_text(slot: &Slot) -> [u8; SLOT_LENGTH]
+    ensures text { result ≡ slot_spelling slot.now }
+    ensures lawful { IsLawful slot.now }
+{
+    let mut text = [0; SLOT_LENGTH];
+    write_slot(slot, text.as_mut_slice());
+    text
+}

@@ -1,0 +1,214 @@
+//! Names looked up in a directory of a draft. A directory is read a block at a time, and nothing of it is
+//! kept.
+
+ghost use Rattle.std.specs.Prelude.{◌≡◌, ◌≤◌, ◌<◌, ◌/◌, ◌^◌, ℕ, IsTrue, false, is_err, List, length, Some, IfOk, IfErr, IfSome};
+ghost use Rattle.layout_bytes.specs.declared.node.NodeKind.TheVariants.{Dir, File};
+ghost use Rattle.layout_bytes.specs.declared.slot.Slot.{Slot};
+ghost use Rattle.lang_tree.specs.Tree.{Tree};
+ghost use Rattle.crash_stands.specs.Inodes.{Inode, ADir};
+ghost use Rattle.crash_stands.specs.Maps.{IsMapOf};
+ghost use Rattle.fs_files.specs.Sound.{IsDraftOf};
+ghost use Rattle.fs_files.specs.Content.{fails_reading};
+ghost use Rattle.fs_files.specs.Effects.{LooksOnly};
+ghost use Rattle.fs_files.specs.Calls.{files_in, IsUsed, LookRefused};
+ghost use Rattle.fs_dirs.specs.Directories.{inodes_in, slot_count, Finds, IsNumber};
+ghost use Rattle.fs_dirs.specs.Reading.{MayRead, MayLook, MayReadBlocks, HasSlots};
+
+use crate::block::{SLOTS_IN_BLOCK, ZEROS, find_in, read_slots};
+use base_types::{Name, ReadFault};
+use crash_stands::slots_name_nodes_in_use;
+use engine_blocks::{Blocks, calls_compose};
+use fs_files::{Draft, FileRefusal, NodeBlocks, a_directory_has_whole_slots, a_file_fits_the_disk};
+use fs_inodes::{a_name_stands_at_its_place, slots_follow_the_bytes};
+use layout_bytes::{NodeKind, SLOT_LENGTH};
+use layout_directory::a_name_has_its_first_place;
+
+/// Where a name stands in a directory.
+#[derive(Clone, Copy, Debug, PartialEq, Eq)]
+pub struct Found {
+    /// The place of its slot, from 0 on.
+    pub place: u32,
+    /// The number of the node that the slot names.
+    pub node: u32,
+}
+
+/// The most bytes of a directory, which no directory on a disk has.
+const MOST_BYTES: u64 = 1 << 30;
+
+/// How many slots node `number` has, where it is a directory.
+///
+/// # Errors
+/// A read of the disk failed, which the disk has counted.
+pub fn count_slots<S: Blocks>(
+    draft: &Draft,
+    blocks: &mut S,
+    number: u32,
+) -> Result<Option<u32>, ReadFault>
+    requires going { (S.state blocks.old).books.stopped ≡ false }
+    requires above_zero { 1 ≤ number }
+    requires in_table { number ≤ (S.state blocks.old).books.geom.i }
+    requires draft { IsDraftOf S.tells (S.state blocks.old) draft.now }
+    ensures count { IsTrue S.tells → IfOk result (λ count. (x : Inode) → inodes_in (S.state blocks.old) draft.now number ≡ Some x → count ≡ slot_count x) }
+    ensures used { IsTrue S.tells → IfOk result (λ count. IfSome count (λ n. IsUsed (files_in (S.state blocks.old) draft.now) number)) }
+    ensures few { IfOk result (λ count. IfSome count (λ n. n < 2 ^ 24)) }
+    ensures looks { LooksOnly S.tells (is_err result) (S.state blocks.old) (S.state blocks.new) }
+{
+    a_directory_has_whole_slots::<S>();
+    a_file_fits_the_disk::<S>(blocks);
+    slots_follow_the_bytes();
+    let Some(facts) = draft.look(blocks, number)? else {
+        return Ok(None);
+    };
+    Ok(slots_of(facts.kind, facts.size))
+}
+
+/// How many slots a node of this kind and so many bytes has. `None` for a file, and where there are more bytes
+/// than a disk has.
+fn slots_of(kind: NodeKind, size: u64) -> Option<u32>
+    ensures few { IfSome result (λ count. count < 2 ^ 24) }
+    ensures file { kind ≡ File → result ≡ None }
+    ensures dir { kind ≡ Dir → size < 2 ^ 30 → result ≡ Some (size / 64) }
+{
+    match kind {
+        NodeKind::Free => None,
+        NodeKind::Dir if size < MOST_BYTES => Some((size / SLOT_LENGTH as u64) as u32),
+        NodeKind::Dir => None,
+        NodeKind::File => None,
+    }
+}
+
+/// What stands under a name in directory `dir`: the first slot that has it. `None` where no slot has it, and
+/// where the node is no directory.
+///
+/// # Errors
+/// A read of the disk failed, which the disk has counted.
+pub fn find<S: Blocks>(
+    draft: &Draft,
+    blocks: &mut S,
+    dir: u32,
+    name: &Name,
+) -> Result<Option<Found>, FileRefusal>
+    requires going { (S.state blocks.old).books.stopped ≡ false }
+    requires above_zero { 1 ≤ dir }
+    requires in_table { dir ≤ (S.state blocks.old).books.geom.i }
+    requires draft { IsDraftOf S.tells (S.state blocks.old) draft.now }
+    ensures found { IsTrue S.tells → IfOk result (λ found. (t : Tree) (slots : List Slot) → IsMapOf (S.state blocks.old).books.geom.i (inodes_in (S.state blocks.old) draft.now) t
+        → inodes_in (S.state blocks.old) draft.now dir ≡ Some (ADir slots) → Finds slots name.now found) }
+    ensures place { IfOk result (λ found. IfSome found (λ f. f.place < 2 ^ 24)) }
+    ensures number { IfOk result (λ found. IfSome found (λ f. IsNumber (S.state blocks.old).books.geom.i f.node)) }
+    ensures refused { IfErr result LookRefused }
+    ensures looks { LooksOnly S.tells (fails_reading result) (S.state blocks.old) (S.state blocks.new) }
+{
+    calls_compose::<S>();
+    let Some(count) = count_slots(draft, blocks, dir)? else {
+        return Ok(None);
+    };
+    find_among(draft, blocks, dir, count, name)
+}
+
+/// What stands under a name in directory `dir`, which has so many slots. A slot that names no number of the
+/// table isn't one.
+///
+/// # Errors
+/// As `find`.
+pub(crate) fn find_among<S: Blocks>(
+    draft: &Draft,
+    blocks: &mut S,
+    dir: u32,
+    count: u32,
+    name: &Name,
+) -> Result<Option<Found>, FileRefusal>
+    requires read { MayRead S.tells (S.state blocks.old) draft.now dir }
+    requires count { IsTrue S.tells → (x : Inode) → inodes_in (S.state blocks.old) draft.now dir ≡ Some x → Some count ≡ slot_count x }
+    requires few { count < 2 ^ 24 }
+    ensures found { IsTrue S.tells → IfOk result (λ found. (t : Tree) (slots : List Slot) → IsMapOf (S.state blocks.old).books.geom.i (inodes_in (S.state blocks.old) draft.now) t
+        → inodes_in (S.state blocks.old) draft.now dir ≡ Some (ADir slots) → Finds slots name.now found) }
+    ensures place { IfOk result (λ found. IfSome found (λ f. f.place < 2 ^ 24)) }
+    ensures number { IfOk result (λ found. IfSome found (λ f. IsNumber (S.state blocks.old).books.geom.i f.node)) }
+    ensures refused { IfErr result LookRefused }
+    ensures looks { LooksOnly S.tells (fails_reading result) (S.state blocks.old) (S.state blocks.new) }
+{
+    slots_name_nodes_in_use();
+    a_name_stands_at_its_place();
+    let limit = blocks.geom().i();
+    let found = find_slot(draft, blocks, dir, count, name)?;
+    Ok(in_table(found, limit))
+}
+
+/// What was found, if the number is one of the table.
+fn in_table(found: Option<Found>, limit: u32) -> Option<Found>
+    ensures same { IfSome found (λ f. IsNumber limit f.node) → result ≡ found }
+    ensures number { IfSome result (λ f. IsNumber limit f.node) }
+    ensures place { IfSome found (λ f. f.place < 2 ^ 24) → IfSome result (λ f. f.place < 2 ^ 24) }
+{
+    let found = found?;
+    if found.node == 0 {
+        return None;
+    }
+    if limit < found.node {
+        return None;
+    }
+    Some(found)
+}
+
+/// The first of the slots of directory `dir` that has this name; there are so many slots.
+///
+/// # Errors
+/// As `find`.
+fn find_slot<S: Blocks>(
+    draft: &Draft,
+    blocks: &mut S,
+    dir: u32,
+    count: u32,
+    name: &Name,
+) -> Result<Option<Found>, FileRefusal>
+    requires read { MayRead S.tells (S.state blocks.old) draft.now dir }
+    requires count { IsTrue S.tells → (x : Inode) → inodes_in (S.state blocks.old) draft.now dir ≡ Some x → Some count ≡ slot_count x }
+    requires few { count < 2 ^ 24 }
+    ensures found { IsTrue S.tells → IfOk result (λ found. (slots : List Slot) → inodes_in (S.state blocks.old) draft.now dir ≡ Some (ADir slots) → Finds slots name.now found) }
+    ensures place { IfOk result (λ found. IfSome found (λ f. f.place < 2 ^ 24)) }
+    ensures refused { IfErr result LookRefused }
+    ensures looks { LooksOnly S.tells (fails_reading result) (S.state blocks.old) (S.state blocks.new) }
+{
+    calls_compose::<S>();
+    let node = draft.blocks_of(blocks, dir)?;
+    Ok(search(draft, blocks, &node, count, name)?)
+}
+
+/// The first slot with this name of the directory with these blocks, which has so many slots.
+///
+/// # Errors
+/// A read of the disk failed, which the disk has counted.
+fn search<S: Blocks>(
+    draft: &Draft,
+    blocks: &mut S,
+    node: &NodeBlocks,
+    count: u32,
+    name: &Name,
+) -> Result<Option<Found>, ReadFault>
+    requires read { MayReadBlocks S.tells (S.state blocks.old) draft.now node.now }
+    requires few { count < 2 ^ 24 }
+    ensures found { IsTrue S.tells → IfOk result (λ found. (slots : List Slot) → HasSlots (S.state blocks.old) draft.now node.now slots → length slots ≡ count → Finds slots name.now found) }
+    ensures place { IfOk result (λ found. IfSome found (λ f. f.place < 2 ^ 24)) }
+    ensures looks { LooksOnly S.tells (is_err result) (S.state blocks.old) (S.state blocks.new) }
+{
+    calls_compose::<S>();
+    a_name_has_its_first_place();
+    a_name_stands_at_its_place();
+    let mut block = ZEROS;
+    let mut first = 0;
+    while first < count {
+        read_slots(draft, blocks, node, first, &mut block)?;
+        let entries = (count - first).min(SLOTS_IN_BLOCK);
+        match find_in(&block, entries, name) {
+            Some(found) => {
+                return Ok(Some(Found {
+                    place: first + found.place,
+                    node: found.node,
+                }));
+            }
+            None => first += SLOTS_IN_BLOCK,
+        }
+    }
+    Ok(None)
+}

@@ -1,0 +1,139 @@
+//! Paths walked from the root, name by name, in the directories of a draft.
+
+ghost use Rattle.std.specs.Prelude.{◌≡◌, ◌≤◌, ◌<◌, ◌^◌, ℕ, IsTrue, false, is_err, List, length, Some, IfOk, IfErr, IfSome};
+ghost use Rattle.layout_bytes.specs.declared.slot.Slot.{Slot};
+ghost use Rattle.lang_tree.specs.Tree.{Tree};
+ghost use Rattle.crash_stands.specs.Inodes.{Inode, ADir};
+ghost use Rattle.crash_stands.specs.Maps.{IsMapOf};
+ghost use Rattle.fs_inodes.specs.Lookups.{walk_on};
+ghost use Rattle.fs_files.specs.Sound.{IsDraftOf};
+ghost use Rattle.fs_files.specs.Content.{fails_reading};
+ghost use Rattle.fs_files.specs.Effects.{LooksOnly};
+ghost use Rattle.fs_files.specs.Calls.{LookRefused};
+ghost use Rattle.fs_dirs.specs.Directories.{inodes_in, EndsAtParent, IsNumber};
+ghost use Rattle.fs_dirs.specs.Reading.{EntersOn};
+
+use crate::lookup::{count_slots, find_among};
+use base_types::Name;
+use crash_stands::slots_name_nodes_in_use;
+use engine_blocks::{Blocks, calls_compose};
+use fs_files::{Draft, FileRefusal};
+use fs_inodes::a_name_stands_at_its_place;
+use lang_tree::{Path, Refusal};
+
+/// The number of the root.
+const ROOT: u32 = 1;
+
+/// The number that a path leads to, or why it leads nowhere.
+///
+/// # Errors
+/// A read of the disk failed, which the disk has counted.
+pub fn walk<S: Blocks>(
+    draft: &Draft,
+    blocks: &mut S,
+    path: &Path,
+) -> Result<Result<u32, Refusal>, FileRefusal>
+    requires going { (S.state blocks.old).books.stopped ≡ false }
+    requires draft { IsDraftOf S.tells (S.state blocks.old) draft.now }
+    ensures end { IsTrue S.tells → IfOk result (λ end. (t : Tree) → IsMapOf (S.state blocks.old).books.geom.i (inodes_in (S.state blocks.old) draft.now) t → end ≡ walk_on (inodes_in (S.state blocks.old) draft.now) 1 path.now) }
+    ensures number { IfOk result (λ end. IfOk end (IsNumber (S.state blocks.old).books.geom.i)) }
+    ensures refused { IfErr result LookRefused }
+    ensures looks { LooksOnly S.tells (fails_reading result) (S.state blocks.old) (S.state blocks.new) }
+{
+    walk_names(draft, blocks, path.names())
+}
+
+/// The number of the directory above a path, or why nothing can come to be at the path. `None` for the
+/// root, which has none above it.
+///
+/// # Errors
+/// As `walk`.
+pub fn walk_to_parent<S: Blocks>(
+    draft: &Draft,
+    blocks: &mut S,
+    path: &Path,
+) -> Result<Result<Option<u32>, Refusal>, FileRefusal>
+    requires going { (S.state blocks.old).books.stopped ≡ false }
+    requires draft { IsDraftOf S.tells (S.state blocks.old) draft.now }
+    ensures end { IsTrue S.tells → IfOk result (λ end. (t : Tree) → IsMapOf (S.state blocks.old).books.geom.i (inodes_in (S.state blocks.old) draft.now) t → EndsAtParent (inodes_in (S.state blocks.old) draft.now) path.now end) }
+    ensures number { IfOk result (λ end. IfOk end (λ up. IfSome up (IsNumber (S.state blocks.old).books.geom.i))) }
+    ensures refused { IfErr result LookRefused }
+    ensures looks { LooksOnly S.tells (fails_reading result) (S.state blocks.old) (S.state blocks.new) }
+{
+    calls_compose::<S>();
+    let names = path.names();
+    let count = names.len();
+    if count == 0 {
+        return Ok(Ok(None));
+    }
+    let up = &names[..count - 1];
+    let number = match walk_names(draft, blocks, up)? {
+        Ok(number) => number,
+        Err(why) => return Ok(Err(why)),
+    };
+    match count_slots(draft, blocks, number)? {
+        Some(_) => Ok(Ok(Some(number))),
+        None => Ok(Err(Refusal::NotDir)),
+    }
+}
+
+/// The number that these names lead to from the root, or why they lead nowhere.
+///
+/// # Errors
+/// As `walk`.
+fn walk_names<S: Blocks>(
+    draft: &Draft,
+    blocks: &mut S,
+    names: &[Name],
+) -> Result<Result<u32, Refusal>, FileRefusal>
+    requires going { (S.state blocks.old).books.stopped ≡ false }
+    requires draft { IsDraftOf S.tells (S.state blocks.old) draft.now }
+    ensures end { IsTrue S.tells → IfOk result (λ end. (t : Tree) → IsMapOf (S.state blocks.old).books.geom.i (inodes_in (S.state blocks.old) draft.now) t → end ≡ walk_on (inodes_in (S.state blocks.old) draft.now) 1 names.now) }
+    ensures used { IsTrue S.tells → IfOk result (λ end. (t : Tree) → IsMapOf (S.state blocks.old).books.geom.i (inodes_in (S.state blocks.old) draft.now) t → IfOk end (λ k. (x : Inode) × (inodes_in (S.state blocks.old) draft.now k ≡ Some x))) }
+    ensures number { IfOk result (λ end. IfOk end (IsNumber (S.state blocks.old).books.geom.i)) }
+    ensures refused { IfErr result LookRefused }
+    ensures looks { LooksOnly S.tells (fails_reading result) (S.state blocks.old) (S.state blocks.new) }
+{
+    calls_compose::<S>();
+    blocks.geom().lawful();
+    let mut number = ROOT;
+    for name in names {
+        match enter(draft, blocks, number, name)? {
+            Ok(next) => number = next,
+            Err(why) => return Ok(Err(why)),
+        }
+    }
+    Ok(Ok(number))
+}
+
+/// The number under a name in node `number`, or why there is none.
+///
+/// # Errors
+/// As `walk`.
+fn enter<S: Blocks>(
+    draft: &Draft,
+    blocks: &mut S,
+    number: u32,
+    name: &Name,
+) -> Result<Result<u32, Refusal>, FileRefusal>
+    requires going { (S.state blocks.old).books.stopped ≡ false }
+    requires above_zero { 1 ≤ number }
+    requires in_table { number ≤ (S.state blocks.old).books.geom.i }
+    requires draft { IsDraftOf S.tells (S.state blocks.old) draft.now }
+    ensures step { IsTrue S.tells → IfOk result (λ next. (t : Tree) (x : Inode) → IsMapOf (S.state blocks.old).books.geom.i (inodes_in (S.state blocks.old) draft.now) t
+        → inodes_in (S.state blocks.old) draft.now number ≡ Some x → EntersOn (inodes_in (S.state blocks.old) draft.now) number name.now next) }
+    ensures number { IfOk result (λ next. IfOk next (IsNumber (S.state blocks.old).books.geom.i)) }
+    ensures refused { IfErr result LookRefused }
+    ensures looks { LooksOnly S.tells (fails_reading result) (S.state blocks.old) (S.state blocks.new) }
+{
+    calls_compose::<S>();
+    slots_name_nodes_in_use();
+    a_name_stands_at_its_place();
+    let Some(count) = count_slots(draft, blocks, number)? else {
+        return Ok(Err(Refusal::NotDir));
+    };
+    match find_among(draft, blocks, number, count, name)? {
+        Some(found) => Ok(Ok(found.node)),
+        None => Ok(Err(Refusal::NotFound)),
+    }
+}

@@ -1,0 +1,54 @@
+-- What the calls on a file make of its bytes. The file's content is the first `size` bytes of xs, the bytes of its blocks, and `room` is how many these are; n is how many bytes its new blocks have.
+use Rattle.std.proofs.Common.{◌≡◌, ℕ, ◌+◌, ◌-◌, ◌≤◌, ◌<◌, Bool, true, false, ◌==◌, if◌then◌else◌, List, ◌++◌, length, take, drop, replicate, min, max, refl, ap, ◌∙◌, arith, rules}
+use Rattle.std.proofs.lemmas.Bool.Decides.{nat_tests}
+use Rattle.std.proofs.lemmas.List.{places, same_lists}
+use Rattle.lang_tree.specs.Step.{written, resized}
+use Rattle.fs_files.specs.Bytes.{overwrite, overwritten}
+
+-- Reading.
+
+-- the bytes from `offset` on, at most `len`, are those of the blocks from the lesser of it and the size, up to where either ends
+pub read_part : (size offset len : ℕ) (xs : List ℕ) → size ≤ length xs
+    → take len (drop offset (take size xs)) ≡ take (min size (min offset size + len) - min offset size) (drop (min offset size) xs)
+read_part size offset len xs fits = same_lists _ _ (search (rules, places)) (λ k d h. grind (arith, places))
+
+-- Writing.
+
+-- from within the file or its end on, in its blocks and new ones of zeros
+pub written_within : (size off n : ℕ) (ys xs : List ℕ) → size ≤ length xs → off ≤ size → off + length ys ≤ length xs + n
+    → take (max size (off + length ys)) (overwrite off ys (xs ++ replicate n 0)) ≡ written off ys (take size xs)
+written_within size off n ys xs fits within ends = same_lists _ _ (search (rules, places)) (λ k d h. grind (arith, places))
+
+-- past its end, once the gap within its blocks was filled with zeros
+pub written_past : (size off room n : ℕ) (ys xs : List ℕ) → length xs ≡ room → size ≤ room → size ≤ off → off + length ys ≤ room + n
+    → take (max size (off + length ys)) (overwrite off ys (overwrite size (replicate (min off room - size) 0) xs ++ replicate n 0)) ≡ written off ys (take size xs)
+written_past size off room n ys xs is fits past ends = same_lists _ _ (search (rules, places)) (λ k d h. grind (arith, places))
+
+-- Another size.
+
+-- growth, once the bytes of its blocks past its end were filled with zeros, in new blocks of zeros too
+pub grown : (size wide room n : ℕ) (xs : List ℕ) → length xs ≡ room → size ≤ room → size ≤ wide → wide ≤ room + n
+    → take wide (overwrite size (replicate (min wide room - size) 0) xs ++ replicate n 0) ≡ resized wide (take size xs)
+grown size wide room n xs is fits grows ends = same_lists _ _ (search (rules, places)) (λ k d h. grind (arith, places))
+
+-- a cut, which keeps the first `room` bytes of the blocks
+pub cut_short : (size less room : ℕ) (xs : List ℕ) → less ≤ size → size ≤ length xs → less ≤ room
+    → take less (take room xs) ≡ resized less (take size xs)
+cut_short size less room xs cuts fits keeps = same_lists _ _ (search (rules, places)) (λ k d h. grind (arith, places))
+
+-- the same, once something was written over what is past the new end
+pub cut_over : (size less room : ℕ) (ys xs : List ℕ) → less ≤ size → size ≤ length xs → less ≤ room → less + length ys ≤ min room (length xs)
+    → take less (overwrite less ys (take room xs)) ≡ resized less (take size xs)
+cut_over size less room ys xs cuts fits keeps ends = same_lists _ _ (search (rules, places)) (λ k d h. grind (arith, places))
+
+-- No bytes change nothing; others are written.
+pub overwritten_some : (off : ℕ) (ys xs : List ℕ) → 0 < length ys → overwritten off ys xs ≡ written off ys xs
+overwritten_some off ys xs some = by (length ys == 0) (grind (arith, nat_tests))
+  where
+    by : (t : Bool) → t ≡ false → (if t then xs else written off ys xs) ≡ written off ys xs
+    by true e = absurd cc
+    by false e = refl
+
+-- how many bytes a file has then
+pub overwritten_length : (off : ℕ) (ys xs : List ℕ) → 0 < length ys → length (overwritten off ys xs) ≡ max (length xs) (off + length ys)
+overwritten_length off ys xs some = ap length (overwritten_some off ys xs some) ∙ grind (arith, places)

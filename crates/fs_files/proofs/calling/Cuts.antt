@@ -1,0 +1,374 @@
+-- A cut to fewer bytes: d, then f without the places past them, then g with zeros over the rest of a directory's last block, then e with the node.
+use Rattle.std.proofs.Common.{◌≡◌, ◌≢◌, ◌⊎◌, inl, inr, ℕ, ◌+◌, ◌-◌, ◌*◌, ◌/◌, ◌%◌, ◌^◌, ◌<◌, ◌≤◌, ◌==◌, nat_le, nat_lt, Bool, true, false, not, ◌&&◌, ◌||◌, if◌then◌else◌, IsTrue, List, [], ◌∷◌, ◌++◌, length, take, drop, replicate, All, Option, Some, None, is_some, refl, sym, ap, subst, ◌∙◌, arith}
+use Rattle.std.specs.List.{AllPairs}
+use Rattle.std.proofs.lemmas.Bool.{cases_Bool, false≢true, or_left, or_right, or_cases, and_parts, and_from, eq-eqb, le-leb, ltb-true}
+use Rattle.std.proofs.lemmas.List.{take-append-drop, length-take}
+use Rattle.base_types.specs.Seal.{Blocks}
+use Rattle.base_types.specs.Runs.{run_places}
+use Rattle.base_types.specs.declared.places.Run.{Run}
+use Rattle.base_types.specs.declared.words.Class.TheVariants.{Meta}
+use Rattle.layout_extent.specs.Runs.{AreTidy, runs_of, stretches}
+use Rattle.layout_geometry.specs.Geometry.{Geometry, IsGeometry, table_start, data_start}
+use Rattle.layout_bytes.specs.declared.node.Node.{Node}
+use Rattle.layout_bytes.specs.declared.node.NodeKind.{NodeKind}
+use Rattle.layout_bytes.specs.declared.node.NodeKind.TheVariants.{Free, Dir, File}
+use Rattle.layout_bytes.specs.Bytes.{are_zeros}
+use Rattle.layout_bytes.specs.Node.{node_fits, node_spelling, kind_fits, run_blocks, runs_fit, most_runs, FitsAs}
+use Rattle.engine_blocks.specs.Puts.{IsData}
+use Rattle.engine_blocks.specs.Running.{has}
+use Rattle.engine_blocks.specs.State.{Bookkeeping, State}
+use Rattle.crash_stands.specs.Files.{FileNode, Files, joined, content, past_content, used_node, file_of, files_of}
+use Rattle.lang_tree.specs.Step.{resized}
+use Rattle.fs_files.specs.declared.changes.Changed.{Changed}
+use Rattle.fs_files.specs.declared.nodes.OpenNode.{OpenNode}
+use Rattle.fs_files.specs.Bytes.{overwrite, blocks_for}
+use Rattle.fs_files.specs.Calls.{IsWithFile, IsWithPlaces, Shrinks, ChangesAmong, files_in, places_in, places_or_none, with_bytes, is_dir, cut_blocks}
+use Rattle.fs_files.specs.Content.{HasContent}
+use Rattle.fs_files.specs.Drafts.{DraftState, ChangesSome, change_of, drafted, marks_of, PutsBlock, FreesBlocks}
+use Rattle.fs_files.specs.Effects.{LooksOnly}
+use Rattle.fs_files.specs.Growing.{ShrinksPlaces}
+use Rattle.fs_files.specs.Frames.{used_of, ReadsBack}
+use Rattle.fs_files.specs.Nodes.{node_block, node_byte, node_of_open}
+use Rattle.fs_files.specs.Resizing.{IsLoaded, ClearsRest, IsCleared}
+use Rattle.fs_files.specs.Sound.{FitsBooks, IsSoundDraft, IsDraftOf}
+use Rattle.fs_files.proofs.bytes.Calls.{cut_bytes, cut_filled}
+use Rattle.fs_files.proofs.bytes.Places.{content_cut, rest_apart}
+use Rattle.fs_files.proofs.bytes.Sizes.{blocks_hold, blocks_rise}
+use Rattle.fs_files.proofs.calling.Nodes.{its_file}
+use Rattle.fs_files.proofs.calling.Resizes.{in_cleared, pairs_drop}
+use Rattle.fs_files.proofs.drafts.Lists.{turned, in_rest, in_front, none_of_table, has_append, each_of}
+use Rattle.fs_files.proofs.frames.After.{IsStored, stored_after, stored_content, stored_cut}
+use Rattle.fs_files.proofs.frames.Carry.{draft_looks, files_look, places_look}
+use Rattle.fs_files.proofs.frames.Cells.{block_from, block_below}
+use Rattle.fs_files.proofs.frames.Fits.{fits_with}
+use Rattle.fs_files.proofs.frames.Frames.{node_places}
+use Rattle.fs_files.proofs.frames.Places.{used_marked, used_whole}
+use Rattle.fs_files.proofs.frames.Puts.{put_fits, put_changed, put_changes}
+use Rattle.fs_files.proofs.frames.Rules.{HasRules, rules_of, frees_others, frees_marks, frees_fits, frees_rules, writes_others, writes_marks, writes_fits, writes_rules}
+use Rattle.fs_files.proofs.frames.Spelled.{used_some, fits_as}
+use Rattle.fs_files.proofs.frames.Steps.{all_of, used_once}
+
+-- the first blocks, which the node keeps, and the others
+abbrev pub kept_of : ℕ → OpenNode → List ℕ
+kept_of size o = take (blocks_for size) o.places
+
+-- the rules of a kind with another size
+pub sized_kind : (kind : NodeKind) (links was size : ℕ) (old_runs new_runs : List Run) → (kind ≡ Dir → size % 64 ≡ 0) → size ≤ 2 ^ 30
+    → kind_fits (record { kind = kind; links = links; size = was; runs = old_runs }) kind ≡ true → kind_fits (record { kind = kind; links = links; size = size; runs = new_runs }) kind ≡ true
+sized_kind Free links was size old_runs new_runs slots few e = refl
+sized_kind Dir links was size old_runs new_runs slots few e = eq-eqb (size % 64) 0 (slots refl)
+sized_kind File links was size old_runs new_runs slots few e =
+    and_from (nat_le links 65535) (nat_le size 1073741824) (and_parts (nat_le links 65535) (nat_le was 1073741824) e).0 (le-leb size 1073741824 (omega (arith, few)))
+
+-- what a node in use that fits has: a link, and the rules of its kind
+
+pub links_some : (g : Geometry) (node : Node) → node_fits g node ≡ true → 0 < node.links
+links_some g node e = ltb-true 0 node.links (and_parts (nat_lt 0 node.links) _ e).0
+
+pub kind_of : (g : Geometry) (node : Node) → node_fits g node ≡ true → kind_fits node node.kind ≡ true
+kind_of g node e =
+    let blocks = run_blocks node.runs == (node.size + 1023) / 1024 in
+    let a = and_parts (nat_lt 0 node.links) (nat_le (length node.runs) most_runs && (runs_fit g 0 node.runs && (blocks && kind_fits node node.kind))) e in
+    let b = and_parts (nat_le (length node.runs) most_runs) (runs_fit g 0 node.runs && (blocks && kind_fits node node.kind)) a.1 in
+    let d = and_parts (runs_fit g 0 node.runs) (blocks && kind_fits node node.kind) b.1 in
+    (and_parts blocks (kind_fits node node.kind) d.1).1
+
+pub not_in : (xs : List ℕ) (b : ℕ) → (has xs b ≡ true → ⊥) → has xs b ≡ false
+not_in xs b isnt = by (cases_Bool (has xs b))
+  where
+    by : (has xs b ≡ true) ⊎ (has xs b ≡ false) → has xs b ≡ false
+    by (inl is) = absurd (isnt is)
+    by (inr out) = out
+
+-- what a cut leaves, and what is known of the steps
+pub record CutsNode (tells : Bool) (s : State) (number size : ℕ) (o : OpenNode) (node : Node) (table : List ℕ) (d f g e : DraftState) : Type 0 where
+  pub geom : IsGeometry s.books.geom
+  pub loaded : IsLoaded tells s d number o table
+  pub less : size < o.size
+  pub most : size ≤ 2 ^ 30
+  pub slots : IsTrue tells → o.kind ≡ Dir → size % 64 ≡ 0
+  pub few : stretches (kept_of size o) ≤ 28
+  pub is : node ≡ record { kind = o.kind; links = o.links; size = size; runs = runs_of (kept_of size o) }
+  pub frees : FreesBlocks (drop (blocks_for size) o.places) d f
+  pub clears : ClearsRest o.kind size (kept_of size o) f g
+  pub cleared : IsTrue tells → HasContent s.map f (kept_of size o) → IsCleared s.map o.kind size (kept_of size o) f g
+  pub puts : PutsBlock (node_block s.books.geom number) (record { class = Meta; bytes = overwrite (node_byte number) (node_spelling node) table }) g e
+  pub back : FitsAs s.books.geom node node.kind → ReadsBack s.books.geom node
+  pub places : (xs : List ℕ) → run_places (runs_of xs) ≡ xs
+  pub count : (xs : List ℕ) → length (runs_of xs) ≡ stretches xs
+  pub tidy : (xs : List ℕ) → AreTidy (runs_of xs)
+
+module _ (tells : Bool) (s : State) (number size : ℕ) (o : OpenNode) (node : Node) (table : List ℕ) (d f g e : DraftState) (is : CutsNode tells s number size o node table d f g e) where
+  abbrev k : Bookkeeping
+  k = s.books
+
+  abbrev kept : List ℕ
+  kept = kept_of size o
+
+  abbrev gone : List ℕ
+  gone = drop (blocks_for size) o.places
+
+  abbrev rest : List ℕ
+  rest = if is_dir o.kind then drop (size / 1024) kept else []
+
+  abbrev c : Changed
+  c = record { class = Meta; bytes = overwrite (node_byte number) (node_spelling node) table }
+
+  abbrev new : Node
+  new = record { kind = o.kind; links = o.links; size = size; runs = runs_of kept }
+
+  in_kept : (b : ℕ) → has rest b ≡ true → has kept b ≡ true
+  in_kept b mine = in_cleared (is_dir o.kind) (size / 1024) kept b mine
+
+  in_places : (b : ℕ) → has kept b ≡ true → has o.places b ≡ true
+  in_places b mine = in_front (blocks_for size) o.places b mine
+
+  kept_data : All (IsData k.geom) kept
+  kept_data = all_of (IsData k.geom) kept (λ b mine. each_of (IsData k.geom) o.places is.loaded.fits.«data» b (in_places b mine))
+
+  rest_data : All (IsData k.geom) rest
+  rest_data = all_of (IsData k.geom) rest (λ b mine. each_of (IsData k.geom) kept kept_data b (in_kept b mine))
+
+  gone_data : All (IsData k.geom) gone
+  gone_data = all_of (IsData k.geom) gone (λ b mine. each_of (IsData k.geom) o.places is.loaded.fits.«data» b (in_rest (blocks_for size) o.places b mine))
+
+  low : table_start k.geom ≤ node_block k.geom number
+  low = block_from k.geom number
+
+  high : node_block k.geom number < data_start k.geom
+  high = block_below k.geom number is.geom.whole_blocks is.loaded.from is.loaded.upto
+
+  f_fits : FitsBooks k f
+  f_fits = frees_fits k gone d f is.frees gone_data is.loaded.draft.fits
+
+  g_fits : FitsBooks k g
+  g_fits = writes_fits k Meta rest f g is.clears.writes is.geom rest_data f_fits
+
+  pub cut_fits : FitsBooks k e
+  cut_fits = put_fits k g e (node_block k.geom number) c is.geom low high g_fits is.puts
+
+  -- the node's block changed
+  pub cut_some : ChangesSome e
+  cut_some = put_changes k k.geom number c g e refl is.geom is.loaded.from is.loaded.upto cut_fits is.puts
+
+  -- what changed
+  pub cut_among : ChangesAmong (rest ++ node_block k.geom number ∷ []) d e
+  cut_among b some = by (cases_Bool (node_block k.geom number == b))
+    where
+      was : is_some (change_of g.changed b) ≡ true → (has (rest ++ node_block k.geom number ∷ []) b || is_some (change_of d.changed b)) ≡ true
+      was old = step (or_cases (has rest b) (is_some (change_of f.changed b)) (is.clears.writes.keys b old))
+        where
+          freed : (t : Bool) → is_some (if t then None else change_of d.changed b) ≡ true → is_some (change_of d.changed b) ≡ true
+          freed true e = absurd (false≢true e)
+          freed false e = e
+
+          step : (has rest b ≡ true) ⊎ (is_some (change_of f.changed b) ≡ true) → (has (rest ++ node_block k.geom number ∷ []) b || is_some (change_of d.changed b)) ≡ true
+          step (inl mine) = or_left (has (rest ++ node_block k.geom number ∷ []) b) (is_some (change_of d.changed b)) (has_append rest (node_block k.geom number ∷ []) b ∙ or_left (has rest b) (has (node_block k.geom number ∷ []) b) mine)
+          step (inr old) = or_right (has (rest ++ node_block k.geom number ∷ []) b) (is_some (change_of d.changed b)) (freed (has gone b) (ap is_some (sym (is.frees.changed b)) ∙ old))
+
+      by : ((node_block k.geom number == b) ≡ true) ⊎ ((node_block k.geom number == b) ≡ false) → (has (rest ++ node_block k.geom number ∷ []) b || is_some (change_of d.changed b)) ≡ true
+      by (inl here) = or_left (has (rest ++ node_block k.geom number ∷ []) b) (is_some (change_of d.changed b))
+          (has_append rest (node_block k.geom number ∷ []) b ∙ or_right (has rest b) (has (node_block k.geom number ∷ []) b) (or_left (b == node_block k.geom number) false (turned b (node_block k.geom number) ∙ here)))
+      by (inr away) = was (ap is_some (sym (put_changed k g e (node_block k.geom number) c is.geom low high g_fits is.puts b ∙ ap (λ t. if t then Some c else change_of g.changed b) away)) ∙ some)
+
+  pub cut_taken : e.taken ≡ d.taken
+  cut_taken = is.puts.taken ∙ is.clears.writes.taken ∙ is.frees.taken
+
+  pub cut_freed : e.freed ≡ d.freed ++ gone
+  cut_freed = is.puts.freed ∙ is.clears.writes.freed ∙ is.frees.freed
+
+  pub cut_fresh : length e.fresh ≤ length d.fresh
+  cut_fresh = omega (arith, is.puts.fresh_len, is.clears.writes.fresh_len, is.frees.fresh_len)
+
+  -- where the blocks are known
+  module _ (known : IsTrue tells) where
+    abbrev m : Blocks
+    m = s.map
+
+    sound : IsSoundDraft k m d
+    sound = is.loaded.draft.sound known
+
+    used : used_node k.geom (drafted d m) number ≡ Some (node_of_open o)
+    used = sym (is.loaded.is known)
+
+    ps : run_places (runs_of o.places) ≡ o.places
+    ps = is.places o.places
+
+    marked_of : (b : ℕ) → has o.places b ≡ true → marks_of d k.marked b ≡ true
+    marked_of b mine = used_marked k.geom (marks_of d k.marked) (drafted d m) number (node_of_open o) sound.blocks used b (ap (λ xs. has xs b) ps ∙ mine)
+
+    d_content : HasContent m d o.places
+    d_content = record {
+      whole = all_of (λ b. length (drafted d m b) ≡ 1024) o.places (λ b mine. used_whole k.geom (marks_of d k.marked) (drafted d m) number (node_of_open o) sound.blocks used b (ap (λ xs. has xs b) ps ∙ mine));
+      once = subst (AllPairs (λ a b. a ≢ b)) ps (used_once k.geom (marks_of d k.marked) (drafted d m) number (node_of_open o) sound.blocks used);
+      apart = all_of (λ b. is_some (change_of d.fresh b) ≡ true → change_of d.changed b ≡ None) o.places (λ b mine. sound.apart b);
+    }
+
+    f_content : HasContent m f kept
+    f_content = content_cut m (blocks_for size) o.places d f d_content is.frees
+
+    done : IsCleared m o.kind size kept f g
+    done = is.cleared known f_content
+
+    f_rules : HasRules k f
+    f_rules = frees_rules k gone d f is.frees
+        (all_of (λ b. marks_of d k.marked b ≡ true) gone (λ b mine. marked_of b (in_rest (blocks_for size) o.places b mine)))
+        (pairs_drop (blocks_for size) o.places d_content.once) (rules_of k m d sound)
+
+    kept_marked : (b : ℕ) → has kept b ≡ true → marks_of f k.marked b ≡ true
+    kept_marked b mine = frees_marks k gone d f is.frees k.marked b
+        ∙ (λ i. marked_of b (in_places b mine) i && not (rest_apart (blocks_for size) o.places b d_content.once mine i))
+
+    g_rules : HasRules k g
+    g_rules = writes_rules k Meta rest f g is.clears.writes (all_of (λ b. marks_of f k.marked b ≡ true) rest (λ b mine. kept_marked b (in_kept b mine))) f_rules
+
+    -- a block that isn't the node's is as before
+    others : (b : ℕ) → has o.places b ≡ false → drafted g m b ≡ drafted d m b
+    others b out =
+        writes_others k Meta rest f g is.clears.writes m b (not_in rest b (λ mine. false≢true (sym out ∙ in_places b (in_kept b mine))))
+        ∙ frees_others k gone d f is.frees m b (not_in gone b (λ mine. false≢true (sym out ∙ in_rest (blocks_for size) o.places b mine)))
+
+    fits_new : node_fits k.geom new ≡ true
+    fits_new = fits_with k.geom o.kind o.links size kept (is.places kept) (is.count kept) (is.tidy kept) (links_some k.geom (node_of_open o) is.loaded.fits.fits) is.few kept_data
+        (omega (arith, length-take (blocks_for size) o.places, is.loaded.fits.count, blocks_rise size o.size (omega (arith, is.less))))
+        (sized_kind o.kind o.links o.size size (runs_of o.places) (runs_of kept) (is.slots known) is.most (kind_of k.geom (node_of_open o) is.loaded.fits.fits))
+
+    back : ReadsBack k.geom new
+    back = subst (ReadsBack k.geom) is.is (is.back (subst (λ n. FitsAs k.geom n n.kind) (sym is.is) (fits_as k.geom new is.loaded.fits.used fits_new)))
+
+    stored : IsStored k m number new d g e
+    stored = stored_after k m (marks_of d k.marked) number new c d g e is.geom is.loaded.from is.loaded.upto sound.blocks g_fits g_rules
+        (λ b from below. others b (none_of_table k.geom o.places b is.loaded.fits.«data» below))
+        (ap (λ n. overwrite (node_byte number) (node_spelling n) table) is.is ∙ ap (overwrite (node_byte number) (node_spelling new)) (is.loaded.block known))
+        is.puts back
+
+    -- the bytes, and what is past them
+    size_fits : o.size ≤ 1024 * length o.places
+    size_fits = omega (arith, is.loaded.fits.count, (blocks_hold o.size).0)
+
+    kept_count : length kept ≡ blocks_for size
+    kept_count = omega (arith, length-take (blocks_for size) o.places, is.loaded.fits.count, blocks_rise size o.size (omega (arith, is.less)))
+
+    filled : is_dir o.kind ≡ true → joined (drafted g m) kept ≡ overwrite size (replicate (1024 * blocks_for size - size) 0) (joined (drafted f m) kept)
+    filled dir = done.bytes ∙ ap (λ t. if t then overwrite size (replicate (1024 * length kept - size) 0) (joined (drafted f m) kept) else joined (drafted f m) kept) dir
+        ∙ ap (λ n. overwrite size (replicate (1024 * n - size) 0) (joined (drafted f m) kept)) kept_count
+
+    bytes : take size (joined (drafted g m) kept) ≡ resized size (take o.size (joined (drafted d m) o.places))
+    bytes = by (cases_Bool (is_dir o.kind))
+      where
+        by : (is_dir o.kind ≡ true) ⊎ (is_dir o.kind ≡ false) → take size (joined (drafted g m) kept) ≡ resized size (take o.size (joined (drafted d m) o.places))
+        by (inl dir) = (cut_filled m o.places o.size size d f g d_content size_fits (omega (arith, is.less)) is.frees (filled dir)).0
+        by (inr not_dir) = ap (take size) (done.bytes ∙ ap (λ t. if t then overwrite size (replicate (1024 * length kept - size) 0) (joined (drafted f m) kept) else joined (drafted f m) kept) not_dir)
+            ∙ cut_bytes m o.places o.size size d f d_content size_fits (omega (arith, is.less)) is.frees
+
+    tail : o.kind ≡ Dir → IsTrue (are_zeros (past_content (drafted g m) new))
+    tail dir = ap (λ xs. are_zeros (drop size (joined (drafted g m) xs))) (is.places kept)
+        ∙ (cut_filled m o.places o.size size d f g d_content size_fits (omega (arith, is.less)) is.frees (filled (ap is_dir dir))).1
+
+    whole : All (λ b. length (drafted g m b) ≡ 1024) (run_places (runs_of kept))
+    whole = subst (All (λ b. length (drafted g m b) ≡ 1024)) (sym (is.places kept)) done.content.whole
+
+    inside : All (IsData k.geom) (run_places (runs_of kept))
+    inside = subst (All (IsData k.geom)) (sym (is.places kept)) kept_data
+
+    is_used : used_of new ≡ Some new
+    is_used = used_some new is.loaded.fits.used
+
+    all : IsSoundDraft k m e × IsWithFile (files_of k.geom (drafted d m)) (files_of k.geom (drafted e m)) number (Some (file_of (drafted e m) new))
+    all = stored_cut k m number new (node_of_open o) d g e sound stored is_used used inside whole tail kept gone
+        (ps ∙ sym (take-append-drop (blocks_for size) o.places)) (is.places kept)
+        (λ b from below out. others b (ap (λ xs. has xs b) (sym ps) ∙ out))
+        (λ b. writes_marks k Meta rest f g is.clears.writes k.marked b ∙ frees_marks k gone d f is.frees k.marked b)
+
+    pub cut_sound : IsSoundDraft k m e
+    cut_sound = all.0
+
+    pub cut_node : used_node k.geom (drafted e m) number ≡ Some new
+    cut_node = stored.node_is.own ∙ is_used
+
+    now_bytes : content (drafted e m) new ≡ resized size (content (drafted d m) (node_of_open o))
+    now_bytes = stored_content k m number new (node_of_open o) d g e sound stored is_used used inside whole tail
+        ∙ ap (λ xs. take size (joined (drafted g m) xs)) (is.places kept)
+        ∙ bytes
+        ∙ ap (λ xs. resized size (take o.size (joined (drafted d m) xs))) (sym ps)
+
+    pub cut_file : (x : FileNode) → files_of k.geom (drafted d m) number ≡ Some x
+        → IsWithFile (files_of k.geom (drafted d m)) (files_of k.geom (drafted e m)) number (Some (with_bytes x (resized size x.bytes)))
+    cut_file x at =
+        let file : x ≡ file_of (drafted d m) (node_of_open o) = its_file k.geom (drafted d m) number x (node_of_open o) (is.loaded.is known) at in
+        subst (λ (y : FileNode). IsWithFile (files_of k.geom (drafted d m)) (files_of k.geom (drafted e m)) number (Some y))
+        (ap (λ xs. record { kind = o.kind; links = o.links; bytes = xs }) now_bytes ∙ ap (λ (y : FileNode). with_bytes y (resized size y.bytes)) (sym file)) all.1
+
+    places_d : places_in s d number ≡ o.places
+    places_d = ap places_or_none used ∙ ps
+
+    module _ (t : State) (looks : LooksOnly tells false s t) where
+      places_e : places_in t e number ≡ kept
+      places_e = ap (λ (b : Bookkeeping). places_or_none (used_node b.geom (drafted e t.map) number)) looks.books
+          ∙ ap (λ (n : Blocks). places_or_none (used_node k.geom (drafted e n) number)) (looks.map known)
+          ∙ ap places_or_none cut_node ∙ is.places kept
+
+      pub cut_places : IsWithPlaces (places_in s d) (places_in t e) number (take (blocks_for size) (places_in s d number))
+      cut_places = record {
+        own = places_e ∙ ap (take (blocks_for size)) (sym places_d);
+        others = λ l other. places_look tells false s t e looks known l ∙ (node_places k.geom (drafted d m) (drafted e m) number (used_of new) stored.node_is).others l other;
+      }
+
+      pub cut_shrinks : (x : FileNode) → Shrinks x (places_in s d number) (places_in t e number) size d e
+      cut_shrinks x = record {
+        kept = places_e ∙ ap (take (blocks_for size)) (sym places_d);
+        taken = cut_taken;
+        freed = cut_freed ∙ ap (λ xs. d.freed ++ drop (blocks_for size) xs) (sym places_d);
+        fresh = cut_fresh;
+        changes = cut_some;
+      }
+
+    pub cut_changes : (x : FileNode) → files_of k.geom (drafted d m) number ≡ Some x → ChangesAmong (cut_blocks k.geom number x (places_in s d number) size) d e
+    cut_changes x at =
+        let kind : o.kind ≡ x.kind = ap (λ (y : FileNode). y.kind) (sym (its_file k.geom (drafted d m) number x (node_of_open o) (is.loaded.is known) at)) in
+        subst (λ bs. ChangesAmong bs d e) (λ i. (if is_dir (kind i) then drop (size / 1024) (take (blocks_for size) (sym places_d i)) else []) ++ node_block k.geom number ∷ []) cut_among
+
+-- the steps of a cut are one
+pub cut_steps : (tells : Bool) (s : State) (number size n : ℕ) (o p : OpenNode) (node : Node) (table : List ℕ) (d f g e : DraftState) (h : Geometry) → h ≡ s.books.geom → IsGeometry h
+    → IsLoaded tells s d number o table → size < o.size → size ≤ 2 ^ 30 → (IsTrue tells → o.kind ≡ Dir → size % 64 ≡ 0)
+    → n ≡ blocks_for size → ShrinksPlaces n o p d f → stretches p.places ≤ 28
+    → ClearsRest p.kind size p.places f g → (IsTrue tells → HasContent s.map f p.places → IsCleared s.map p.kind size p.places f g)
+    → node ≡ record { kind = p.kind; links = p.links; size = size; runs = runs_of p.places }
+    → PutsBlock (node_block h number) (record { class = Meta; bytes = overwrite (node_byte number) (node_spelling node) table }) g e → (FitsAs h node node.kind → ReadsBack h node)
+    → ((xs : List ℕ) → run_places (runs_of xs) ≡ xs) → ((xs : List ℕ) → length (runs_of xs) ≡ stretches xs) → ((xs : List ℕ) → AreTidy (runs_of xs))
+    → CutsNode tells s number size o node table d f g e
+cut_steps tells s number size n o p node table d f g e h same geom loaded less most slots count shrinks few clears cleared node_is puts back places runs tidy =
+    let new : p ≡ record o { places = kept_of size o } = shrinks.node ∙ ap (λ j. record o { places = take j o.places }) count in
+    record {
+      geom = subst IsGeometry same geom;
+      loaded = loaded;
+      less = less;
+      most = most;
+      slots = slots;
+      few = subst (λ (q : OpenNode). stretches q.places ≤ 28) new few;
+      is = node_is ∙ ap (λ (q : OpenNode). record { kind = q.kind; links = q.links; size = size; runs = runs_of q.places }) new;
+      frees = subst (λ j. FreesBlocks (drop j o.places) d f) count shrinks.frees;
+      clears = subst (λ (q : OpenNode). ClearsRest q.kind size q.places f g) new clears;
+      cleared = subst (λ (q : OpenNode). IsTrue tells → HasContent s.map f q.places → IsCleared s.map q.kind size q.places f g) new cleared;
+      puts = subst (λ (l : Geometry). PutsBlock (node_block l number) (record { class = Meta; bytes = overwrite (node_byte number) (node_spelling node) table }) g e) same puts;
+      back = subst (λ (l : Geometry). FitsAs l node node.kind → ReadsBack l node) same back;
+      places = places;
+      count = runs;
+      tidy = tidy;
+    }
+
+-- the files are those of the map that was looked at
+pub file_looks : (tells : Bool) (s t : State) (e : DraftState) (old : Files) (number : ℕ) (x : Option FileNode) → LooksOnly tells false s t → IsTrue tells
+    → IsWithFile old (files_in s e) number x → IsWithFile old (files_in t e) number x
+file_looks tells s t e old number x looks known w = record {
+  own = files_look tells false s t e looks known number ∙ w.own;
+  others = λ l away. files_look tells false s t e looks known l ∙ w.others l away;
+}
+
+-- the draft after it
+pub cut_draft : (tells : Bool) (s t : State) (number size : ℕ) (o : OpenNode) (node : Node) (table : List ℕ) (d f g e : DraftState) → CutsNode tells s number size o node table d f g e → LooksOnly tells false s t → IsDraftOf tells t e
+cut_draft tells s t number size o node table d f g e is looks = draft_looks tells false s t e looks (record {
+  fits = cut_fits tells s number size o node table d f g e is;
+  sound = λ known. cut_sound tells s number size o node table d f g e is known;
+  content = λ b some. cut_some tells s number size o node table d f g e is;
+})

@@ -1,0 +1,84 @@
+-- A call on a file that drops its node, and one that reads its bytes.
+use Rattle.std.proofs.Common.{◌≡◌, ℕ, ◌≤◌, ◌==◌, ◌||◌, Bool, true, false, cond, List, [], ◌∷◌, All, Option, Some, None, is_some, option_map, refl, sym, ap, ◌∙◌, arith, subst, ◌⊎◌, inl, inr}
+use Rattle.std.proofs.lemmas.Bool.{cases_Bool, cond-false, false≢true, or_left, or_right}
+use Rattle.base_types.specs.Seal.{Blocks}
+use Rattle.base_types.specs.Runs.{run_places}
+use Rattle.base_types.specs.declared.words.Class.TheVariants.{Meta}
+use Rattle.layout_geometry.specs.Geometry.{Geometry, IsGeometry}
+use Rattle.layout_extent.specs.Runs.{runs_of}
+use Rattle.layout_bytes.specs.declared.node.Node.{Node}
+use Rattle.layout_bytes.specs.Node.{node_spelling, free_node, FitsAs}
+use Rattle.engine_blocks.specs.Puts.{IsData}
+use Rattle.engine_blocks.specs.Running.{has}
+use Rattle.engine_blocks.specs.State.{Bookkeeping}
+use Rattle.crash_stands.specs.Files.{files_of, used_node}
+use Rattle.fs_files.specs.declared.changes.Changed.{Changed}
+use Rattle.fs_files.specs.declared.nodes.OpenNode.{OpenNode}
+use Rattle.fs_files.specs.Bytes.{overwrite}
+use Rattle.fs_files.specs.Calls.{IsWithFile, IsWithPlaces, SetsNode, places_or_none, places_of}
+use Rattle.fs_files.specs.Drafts.{DraftState, change_of, drafted, PutsBlock, FreesBlocks}
+use Rattle.fs_files.specs.Frames.{ReadsBack}
+use Rattle.fs_files.specs.Nodes.{node_of_open, node_block, node_byte}
+use Rattle.fs_files.specs.Sound.{FitsBooks, IsSoundDraft}
+use Rattle.fs_files.proofs.frames.Cells.{block_from, block_below}
+use Rattle.fs_files.proofs.frames.Dropped.{dropped_sound, dropped_file, dropped_places}
+use Rattle.fs_files.proofs.frames.Puts.{put_changed}
+use Rattle.fs_files.proofs.frames.Rules.{frees_fits}
+use Rattle.fs_files.proofs.calling.Nodes.{put_still_fits}
+use Rattle.fs_files.proofs.drafts.Lists.{has_one, turned}
+
+-- its blocks were freed and the node put: the draft fits, also where nothing is known of the blocks
+pub drop_fits : (k : Bookkeeping) (g : Geometry) (number : ℕ) (ps : List ℕ) (c : Changed) (d f e : DraftState) → g ≡ k.geom → IsGeometry g → 1 ≤ number → number ≤ k.geom.i → FitsBooks k d → All (IsData k.geom) ps
+    → FreesBlocks ps d f → PutsBlock (node_block g number) c f e → FitsBooks k e
+drop_fits k g number ps c d f e same geom from upto fits inside frees puts =
+    put_still_fits k g number c f e same geom from upto (frees_fits k ps d f frees inside fits) puts
+
+-- what changed in the draft
+drop_sets : (k : Bookkeeping) (number : ℕ) (ps : List ℕ) (c : Changed) (d f e : DraftState) → IsGeometry k.geom → 1 ≤ number → number ≤ k.geom.i → FitsBooks k f
+    → FreesBlocks ps d f → PutsBlock (node_block k.geom number) c f e → SetsNode k.geom number ps d e
+drop_sets k number ps c d f e geom from upto fits frees puts = record {
+  among = λ b is. by b (cases_Bool (node_block k.geom number == b)) is;
+  taken = puts.taken ∙ frees.taken;
+  freed = puts.freed ∙ frees.freed;
+  fresh = omega (arith, puts.fresh_len, frees.fresh_len);
+}
+  where
+    at : ℕ
+    at = node_block k.geom number
+
+    changed : (b : ℕ) → change_of e.changed b ≡ cond (at == b) (Some c) (change_of f.changed b)
+    changed b = put_changed k f e at c geom (block_from k.geom number) (block_below k.geom number geom.whole_blocks from upto) fits puts b
+
+    was : (t : Bool) (o p : Option Changed) → p ≡ cond t None o → is_some p ≡ true → is_some o ≡ true
+    was true o p e is = absurd (false≢true (sym (ap is_some e) ∙ is))
+    was false o p e is = ap is_some (sym e) ∙ is
+
+    by : (b : ℕ) → ((at == b) ≡ true) ⊎ ((at == b) ≡ false) → is_some (change_of e.changed b) ≡ true → (has (at ∷ []) b || is_some (change_of d.changed b)) ≡ true
+    by b (inl here) is = or_left (has (at ∷ []) b) (is_some (change_of d.changed b)) (has_one at b ∙ turned b at ∙ here)
+    by b (inr away) is =
+        or_right (has (at ∷ []) b) (is_some (change_of d.changed b))
+        (was (has ps b) (change_of d.changed b) (change_of f.changed b) (frees.changed b) (ap is_some (sym (changed b ∙ cond-false (at == b) (Some c) (change_of f.changed b) away)) ∙ is))
+
+-- the draft is sound, the node is gone, and its blocks are freed
+pub drops : (k : Bookkeeping) (m : Blocks) (g : Geometry) (number : ℕ) (o : OpenNode) (n : Node) (table : List ℕ) (d f e : DraftState) → g ≡ k.geom → IsGeometry g → 1 ≤ number → number ≤ k.geom.i
+    → FitsBooks k d → IsSoundDraft k m d → All (IsData k.geom) o.places → run_places (runs_of o.places) ≡ o.places
+    → option_map node_of_open (Some o) ≡ used_node k.geom (drafted d m) number → table ≡ drafted d m (node_block k.geom number)
+    → FreesBlocks o.places d f → n ≡ free_node
+    → PutsBlock (node_block g number) (record { class = Meta; bytes = overwrite (node_byte number) (node_spelling n) table }) f e
+    → (FitsAs g n n.kind → ReadsBack g n)
+    → IsSoundDraft k m e × IsWithFile (files_of k.geom (drafted d m)) (files_of k.geom (drafted e m)) number None × SetsNode k.geom number (places_or_none (used_node k.geom (drafted d m) number)) d e
+    × IsWithPlaces (places_of k.geom (drafted d m)) (places_of k.geom (drafted e m)) number []
+drops k m g number o n table d f e same geom from upto fits sound inside runs used bytes frees is puts back =
+    let right : IsGeometry k.geom = subst IsGeometry same geom in
+    let c : Changed = record { class = Meta; bytes = overwrite (node_byte number) (node_spelling n) table } in
+    let old : Node = node_of_open o in
+    let all_freed : FreesBlocks (run_places old.runs) d f = subst (λ ps. FreesBlocks ps d f) (sym runs) frees in
+    let text : c.bytes ≡ overwrite (node_byte number) (node_spelling free_node) (drafted d m (node_block k.geom number)) =
+    ap (λ x. overwrite (node_byte number) (node_spelling x) table) is ∙ ap (overwrite (node_byte number) (node_spelling free_node)) bytes in
+    let put : PutsBlock (node_block k.geom number) c f e = subst (λ h. PutsBlock (node_block h number) c f e) same puts in
+    let reads : ReadsBack k.geom free_node = subst (λ h. ReadsBack h free_node) same (subst (λ x. FitsAs g x x.kind → ReadsBack g x) is back refl) in (
+      dropped_sound k m number old c d f e right fits sound (sym used) all_freed text put reads,
+      dropped_file k m number old c d f e right fits sound (sym used) all_freed text put reads,
+      subst (λ ps. SetsNode k.geom number ps d e) (sym runs ∙ ap places_or_none used) (drop_sets k number o.places c d f e right from upto (frees_fits k o.places d f frees inside fits) frees put),
+      dropped_places k m number old c d f e right fits sound (sym used) all_freed text put reads,
+    )

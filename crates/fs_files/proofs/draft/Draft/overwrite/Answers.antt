@@ -1,0 +1,96 @@
+use Rattle.std.proofs.Common.{◌≡◌, ◌+◌, false, IsTrue, length, option_map, Some, sym, ap, subst, ◌∙◌, rules, arith}
+use Rattle.std.specs.Prelude.{IfSome}
+use Rattle.base_types.specs.Seal.{Blocks}
+use Rattle.base_types.specs.declared.words.Class.{Class}
+use Rattle.layout_geometry.specs.Geometry.{IsGeometry}
+use Rattle.engine_blocks.specs.State.{State}
+use Rattle.crash_stands.specs.Files.{joined, used_node}
+use Rattle.fs_files.specs.Bytes.{met, overwrite}
+use Rattle.fs_files.specs.Content.{HasContent, WritesContent}
+use Rattle.fs_files.specs.Drafts.{drafted}
+use Rattle.fs_files.specs.Effects.{LooksOnly}
+use Rattle.fs_files.specs.Nodes.{node_of_open, IsOpen}
+use Rattle.fs_files.proofs.bytes.Looks.{looks_more}
+use Rattle.fs_files.proofs.calling.Nodes.{has_table}
+use Rattle.fs_files.proofs.calling.WriteAt.{is_long}
+use Rattle.fs_files.proofs.calling.Within.{WritesWithin, some_bytes, within_draft, within_file, within_places, within_changes}
+use Rattle.fs_files.proofs.draft.Draft.overwrite.Goals as goal
+use Rattle.fs_files.proofs.draft.Draft.overwrite.Goals.{In-Some}
+
+-- the node that was read
+module _ (g : _) (c : In-Some g) where
+  abbrev s : State
+  s = g.S.Blocks.state c.args.blocks.now
+
+  abbrev t : State
+  t = g.S.Blocks.state c.load.new.blocks
+
+  opened : IsOpen s.books.geom c.in-Some.node
+  opened = search (rules, c.in_ok-node.ensures.open)
+
+  used : IsTrue g.S.Blocks.tells → Some (node_of_open c.in-Some.node) ≡ used_node s.books.geom (drafted c.args.self.now s.map) c.args.number
+  used told =
+      ap (option_map node_of_open) (sym c.in-Some.is)
+      ∙ c.in_ok-node.ensures.node told (has_table s c.args.self.now c.args.number (subst IsGeometry c.geom.ensures c.lawful.ensures.limits) c.requires.above_zero c.requires.in_table (c.requires.draft.sound told))
+
+pub returns-then-node-offset-clause-changes : goal.returns-then-node-offset-clause-changes
+returns-then-node-offset-clause-changes g c = λ told some.
+    let b = (goal.at.returns-then-node-offset-clause-changes g c).In-Some in
+    let there = c.requires.used told in
+    absurd (omega (
+      arith,
+      c.if-node-offset.true,
+      c.requires.within told there.0 there.1,
+      is_long g.S.Blocks.tells (s g b) (t g b) c.args.number c.args.self.now c.in-Some.node c.in_ok-node.ensures.looks told (c.requires.draft.sound told) (opened g b) (used g b told) there.0 there.1,
+    ))
+
+-- the node was written
+module _ (g : _) (c : goal.In_ok-write_content g) where
+  abbrev old : State
+  old = g.S.Blocks.state c.args.blocks.now
+
+  abbrev mid : State
+  mid = g.S.Blocks.state c.load.new.blocks
+
+  abbrev new : State
+  new = g.S.Blocks.state c.write_content.new.blocks
+
+  looks : LooksOnly g.S.Blocks.tells false old new
+  looks = looks_more g.S.Blocks.tells false old mid new c.in_ok-node.ensures.looks c.in_ok-write_content.ensures.looks
+
+  written : WritesWithin g.S.Blocks.tells old c.args.number c.args.offset c.args.bytes.now c.in-Some.node c.args.self.now c.write_content.new.draft
+  written = record {
+    geom = subst IsGeometry c.geom.ensures c.lawful.ensures.limits;
+    from = c.requires.above_zero;
+    upto = c.requires.in_table;
+    draft = c.requires.draft;
+    opened = subst (λ f. IfSome f (IsOpen old.books.geom)) c.in-Some.is c.in_ok-node.ensures.open;
+    used = λ told. ap (option_map node_of_open) (sym c.in-Some.is)
+        ∙ c.in_ok-node.ensures.node told (has_table old c.args.self.now c.args.number (subst IsGeometry c.geom.ensures c.lawful.ensures.limits) c.requires.above_zero c.requires.in_table (c.requires.draft.sound told));
+    within = omega (arith, c.if-node-offset.false);
+    few = c.requires.size;
+    some = some_bytes (length c.args.bytes.now) (sym c.is_empty.ensures ∙ c.if-is_empty.false);
+    writes = subst (λ (x : Class). WritesContent x (met c.args.offset (c.args.offset + length c.args.bytes.now) c.in-Some.node.places) c.args.self.now c.write_content.new.draft) c.class_of-class.ensures c.in_ok-write_content.ensures.writes;
+    new = c.in_ok-write_content.ensures.some;
+    content = λ told. subst (λ (m : Blocks). HasContent m c.args.self.now c.in-Some.node.places → HasContent m c.write_content.new.draft c.in-Some.node.places) (c.in_ok-node.ensures.looks.map told) (c.in_ok-write_content.ensures.content told);
+    bytes = λ told. subst (λ (m : Blocks). HasContent m c.args.self.now c.in-Some.node.places → joined (drafted c.write_content.new.draft m) c.in-Some.node.places ≡ overwrite c.args.offset c.args.bytes.now (joined (drafted c.args.self.now m) c.in-Some.node.places)) (c.in_ok-node.ensures.looks.map told) (c.in_ok-write_content.ensures.bytes told);
+    free = (g.met.S.Blocks.is_sound c.args.blocks.now).unmarked;
+    places = c.a_list_has_its_runs.ensures.places;
+    count = c.a_list_has_its_runs.ensures.count;
+    tidy = c.a_list_has_its_runs.ensures.tidy;
+  }
+
+pub returns-clause-file : goal.returns-clause-file
+returns-clause-file g c = within_file g.S.Blocks.tells (old g c) c.args.number c.args.offset c.args.bytes.now c.in-Some.node c.args.self.now c.write_content.new.draft (written g c) false (new g c) (looks g c)
+
+pub returns-clause-places : goal.returns-clause-places
+returns-clause-places g c = within_places g.S.Blocks.tells (old g c) c.args.number c.args.offset c.args.bytes.now c.in-Some.node c.args.self.now c.write_content.new.draft (written g c) false (new g c) (looks g c)
+
+pub returns-clause-draft : goal.returns-clause-draft
+returns-clause-draft g c = within_draft g.S.Blocks.tells (old g c) c.args.number c.args.offset c.args.bytes.now c.in-Some.node c.args.self.now c.write_content.new.draft (written g c) false (new g c) (looks g c)
+
+pub returns-clause-changes : goal.returns-clause-changes
+returns-clause-changes g c = λ told some. within_changes g.S.Blocks.tells (old g c) c.args.number c.args.offset c.args.bytes.now c.in-Some.node c.args.self.now c.write_content.new.draft (written g c)
+
+pub returns-clause-looks : goal.returns-clause-looks
+returns-clause-looks g c = looks g c

@@ -1,0 +1,118 @@
+use Rattle.std.proofs.Common.{◌≡◌, ◌+◌, ◌==◌, true, false, IsTrue, length, Some, refl, sym, ap, subst, ◌∙◌, rules}
+use Rattle.layout_geometry.specs.Geometry.{IsGeometry}
+use Rattle.engine_blocks.specs.State.{Bookkeeping, State, reusable_blocks}
+use Rattle.crash_stands.specs.Files.{used_node}
+use Rattle.fs_files.specs.Calls.{places_in}
+use Rattle.fs_files.specs.declared.refusal.FileRefusal.TheVariants as refusal
+use Rattle.fs_files.specs.Content.{fails_reading, fails_settling}
+use Rattle.fs_files.specs.Effects.{LooksAndSettles}
+use Rattle.fs_files.specs.Drafts.{drafted}
+use Rattle.fs_files.specs.Nodes.{node_of_open, IsOpen}
+use Rattle.fs_files.proofs.bytes.Looks.{looks_more}
+use Rattle.fs_files.proofs.calling.Nodes.{has_table}
+use Rattle.fs_files.proofs.calling.WriteAt.{once_then, slots_then, refused_then, few_then, file_then, grows_then, has_then, among_then, none_come}
+use Rattle.fs_files.proofs.drafts.Refused.{ok_maps, err_maps, same_error}
+use Rattle.fs_files.proofs.calling.WriteLooks.{looked, looks_then}
+use Rattle.fs_files.proofs.draft.Draft.write_at.Goals as goal
+use Rattle.fs_files.proofs.draft.Draft.write_at.Goals.{In-Some, After-write_loaded}
+
+-- the node that was read
+module _ (g : _) (c : In-Some g) where
+  abbrev s : State
+  s = g.S.Blocks.state c.args.blocks.now
+
+  abbrev t : State
+  t = g.S.Blocks.state c.load.new.blocks
+
+  opened : IsOpen s.books.geom c.in-Some.node
+  opened = search (rules, c.in_ok-node.ensures.open)
+
+  used : IsTrue g.S.Blocks.tells → Some (node_of_open c.in-Some.node) ≡ used_node s.books.geom (drafted c.args.self.now s.map) c.args.number
+  used told =
+      let there = c.in_ok-node.ensures.node told (has_table s c.args.self.now c.args.number (subst IsGeometry c.geom-geom.ensures c.lawful.ensures.limits) c.requires.above_zero c.requires.in_table (c.requires.draft.sound told)) in
+      search (rules, there)
+
+-- the geometry stays
+geom_same : (g : _) (c : After-write_loaded g) → (g.S.Blocks.state c.write_loaded.new.blocks).books.geom ≡ (g.S.Blocks.state c.args.blocks.now).books.geom
+geom_same g c = c.write_loaded.ensures.settles.pipeline.geom ∙ ap (λ (k : Bookkeeping). k.geom) c.in_ok-node.ensures.looks.books
+
+pub write_loaded-requires-clause-once : goal.write_loaded-requires-clause-once
+write_loaded-requires-clause-once g c = λ told more.
+    let b = (goal.at.write_loaded-requires-clause-once g c).In-Some in
+    once_then g.S.Blocks.tells (s g b) (t g b) c.args.number c.args.self.now c.in-Some.node c.in_ok-node.ensures.looks told (c.requires.draft.sound told) (opened g b) (used g b told) (c.args.offset + length c.args.bytes.now) (c.requires.once told) more
+
+pub write_loaded-requires-clause-slots : goal.write_loaded-requires-clause-slots
+write_loaded-requires-clause-slots g c = λ told dir.
+    let b = (goal.at.write_loaded-requires-clause-slots g c).In-Some in
+    slots_then g.S.Blocks.tells (s g b) (t g b) c.args.number c.args.self.now c.in-Some.node c.in_ok-node.ensures.looks told (c.requires.draft.sound told) (opened g b) (used g b told) (c.args.offset + length c.args.bytes.now) (c.requires.slots told) dir
+
+pub returns-clause-file : goal.returns-clause-file
+returns-clause-file g c = λ told.
+    let b = (goal.at.returns-clause-file g c).In-Some in
+    let u = g.S.Blocks.state c.write_loaded.new.blocks in
+    let geom = geom_same g (goal.at.returns-clause-file g c).After-write_loaded in
+    ok_maps c.write_loaded.result (λ w. file_then (s g b) (t g b) u c.args.number c.args.offset c.args.bytes.now c.args.self.now c.write_loaded.new.draft geom (c.in_ok-node.ensures.looks.map told) (sym (c.write_loaded.ensures.settles.map told)) w)
+    (c.write_loaded.ensures.file told)
+
+pub returns-then-is_empty-clause-places : goal.returns-then-is_empty-clause-places
+returns-then-is_empty-clause-places g c = λ told x at.
+    let s = g.S.Blocks.state c.args.blocks.now in
+    let ps = places_in s c.args.self.now c.args.number in
+    let none : (length c.args.bytes.now == 0) ≡ true = sym c.is_empty.ensures ∙ c.if-is_empty.true in
+    record { own = none_come ps (reusable_blocks s.books) c.args.bytes.now x c.args.offset none; others = λ l other. refl }
+
+pub returns-clause-places : goal.returns-clause-places
+returns-clause-places g c = λ told.
+    let b = (goal.at.returns-clause-places g c).In-Some in
+    let u = g.S.Blocks.state c.write_loaded.new.blocks in
+    let geom = geom_same g (goal.at.returns-clause-places g c).After-write_loaded in
+    ok_maps c.write_loaded.result (λ w. has_then (s g b) (t g b) u c.args.number c.args.offset c.args.bytes.now c.args.self.now c.write_loaded.new.draft geom (c.in_ok-node.ensures.looks.map told) (sym (c.write_loaded.ensures.settles.map told)) w)
+    (c.write_loaded.ensures.file told)
+
+pub returns-clause-grows : goal.returns-clause-grows
+returns-clause-grows g c = λ told.
+    let b = (goal.at.returns-clause-grows g c).In-Some in
+    let u = g.S.Blocks.state c.write_loaded.new.blocks in
+    let geom = geom_same g (goal.at.returns-clause-grows g c).After-write_loaded in
+    ok_maps c.write_loaded.result (λ w x at some. grows_then (s g b) (t g b) u c.args.number c.args.offset c.args.bytes.now c.args.self.now c.write_loaded.new.draft geom (c.in_ok-node.ensures.looks.map told) (sym (c.write_loaded.ensures.settles.map told)) w x at)
+    (c.write_loaded.ensures.file told)
+
+pub returns-clause-among : goal.returns-clause-among
+returns-clause-among g c = λ told.
+    let b = (goal.at.returns-clause-among g c).In-Some in
+    let u = g.S.Blocks.state c.write_loaded.new.blocks in
+    let geom = geom_same g (goal.at.returns-clause-among g c).After-write_loaded in
+    ok_maps c.write_loaded.result (λ w. among_then (s g b) (t g b) u c.args.number c.args.offset c.args.bytes.now c.args.self.now c.write_loaded.new.draft geom (c.in_ok-node.ensures.looks.map told) (sym (c.write_loaded.ensures.settles.map told)) w)
+    (c.write_loaded.ensures.file told)
+
+pub returns-clause-changes : goal.returns-clause-changes
+returns-clause-changes g c = λ told.
+    let b = (goal.at.returns-clause-changes g c).In-Some in
+    let u = g.S.Blocks.state c.write_loaded.new.blocks in
+    let geom = geom_same g (goal.at.returns-clause-changes g c).After-write_loaded in
+    let there = c.requires.used told in
+    ok_maps c.write_loaded.result (λ w some. (grows_then (s g b) (t g b) u c.args.number c.args.offset c.args.bytes.now c.args.self.now c.write_loaded.new.draft geom (c.in_ok-node.ensures.looks.map told) (sym (c.write_loaded.ensures.settles.map told)) w there.0 there.1).changes)
+    (c.write_loaded.ensures.file told)
+
+pub returns-clause-refused : goal.returns-clause-refused
+returns-clause-refused g c = λ told.
+    let b = (goal.at.returns-clause-refused g c).In-Some in
+    err_maps c.write_loaded.result (λ why h x at. refused_then g.S.Blocks.tells (s g b) (t g b) c.args.number c.args.self.now c.in-Some.node c.in_ok-node.ensures.looks told (c.requires.draft.sound told) (opened g b) (used g b told)
+    (c.args.offset + length c.args.bytes.now) x (g.S.Blocks.state c.write_loaded.new.blocks).books why c.a_list_has_its_runs.ensures.places at h) c.write_loaded.ensures.refused
+
+pub returns-clause-looks : goal.returns-clause-looks
+returns-clause-looks g c = λ told x at few.
+    let b = (goal.at.returns-clause-looks g c).In-Some in
+    looks_more g.S.Blocks.tells (fails_reading c.write_loaded.result) (s g b) (t g b) (g.S.Blocks.state c.write_loaded.new.blocks) c.in_ok-node.ensures.looks
+    (c.write_loaded.ensures.looks (few_then g.S.Blocks.tells (s g b) (t g b) c.args.number c.args.self.now c.in-Some.node c.in_ok-node.ensures.looks told (c.requires.draft.sound told) (opened g b) (used g b told) (c.args.offset + length c.args.bytes.now) x at few))
+
+pub returns-clause-settles : goal.returns-clause-settles
+returns-clause-settles g c = looks_then g.S.Blocks.state g.S.Blocks.tells c.calls_compose.ensures.advances c.calls_compose.ensures.rests _ _ c.args.blocks.now c.load.new.blocks c.write_loaded.new.blocks c.requires.going c.in_ok-node.ensures.looks c.write_loaded.ensures.settles
+
+pub returns-in_default-clause-settles : goal.returns-in_default-clause-settles
+returns-in_default-clause-settles g c = looked g.S.Blocks.state g.S.Blocks.tells c.calls_compose.ensures.advances c.calls_compose.ensures.rests false c.args.blocks.now c.load.new.blocks c.requires.going c.in_ok-node.ensures.looks
+
+pub returns-in_err-node-clause-settles : goal.returns-in_err-node-clause-settles
+returns-in_err-node-clause-settles g c =
+    same_error c.from_residual.result refusal.ReadFault (λ r. LooksAndSettles g.S.Blocks.tells (fails_reading r) (fails_settling r) (g.S.Blocks.state c.args.blocks.now) (g.S.Blocks.state c.load.new.blocks)) c.from_residual.ensures.1
+    (looked g.S.Blocks.state g.S.Blocks.tells c.calls_compose.ensures.advances c.calls_compose.ensures.rests true c.args.blocks.now c.load.new.blocks c.requires.going c.in_err-node.ensures.looks)

@@ -1,0 +1,73 @@
+-- Which numbers a list has.
+use Rattle.std.proofs.Common.{◌≡◌, ℕ, zero, suc, ◌<◌, ◌==◌, Bool, true, false, cond, ◌||◌, List, [], ◌∷◌, ◌++◌, take, drop, All, refl, sym, ap, subst, ◌∙◌, arith, ◌⊎◌, inl, inr}
+use Rattle.std.proofs.lemmas.Bool.{cases_Bool, eqb-true, eq-eqb, false≢true, or_left, or_right, or_cases}
+use Rattle.layout_geometry.specs.Geometry.{Geometry, data_start}
+use Rattle.engine_blocks.specs.Puts.{IsData}
+use Rattle.engine_blocks.specs.Running.{has}
+
+or_none : (a : Bool) → (a || false) ≡ a
+or_none true = refl
+or_none false = refl
+
+or_assoc : (a b c : Bool) → (a || (b || c)) ≡ ((a || b) || c)
+or_assoc true b c = refl
+or_assoc false b c = refl
+
+pub has_one : (b c : ℕ) → has (b ∷ []) c ≡ (c == b)
+has_one b c = or_none (c == b)
+
+pub has_append : (xs ys : List ℕ) (c : ℕ) → has (xs ++ ys) c ≡ (has xs c || has ys c)
+has_append [] ys c = refl
+has_append (x ∷ xs) ys c = ap (λ t. (c == x) || t) (has_append xs ys c) ∙ or_assoc (c == x) (has xs c) (has ys c)
+
+pub has_push : (xs : List ℕ) (b c : ℕ) → has (xs ++ b ∷ []) c ≡ (has xs c || (c == b))
+has_push xs b c = has_append xs (b ∷ []) c ∙ ap (λ t. has xs c || t) (has_one b c)
+
+-- a test of two numbers doesn't ask which is first
+pub turned : (a b : ℕ) → (a == b) ≡ (b == a)
+turned a b = by (cases_Bool (a == b)) (cases_Bool (b == a))
+  where
+    by : ((a == b) ≡ true) ⊎ ((a == b) ≡ false) → ((b == a) ≡ true) ⊎ ((b == a) ≡ false) → (a == b) ≡ (b == a)
+    by (inl e) (inl f) = e ∙ sym f
+    by (inr e) (inr f) = e ∙ sym f
+    by (inl e) (inr f) = absurd (false≢true (sym f ∙ eq-eqb b a (sym (eqb-true a b e))))
+    by (inr e) (inl f) = absurd (false≢true (sym e ∙ eq-eqb a b (sym (eqb-true b a f))))
+
+-- what holds of all numbers of a list holds of each that it has
+pub each_of : (P : ℕ → Type 0) (bs : List ℕ) → All P bs → (c : ℕ) → has bs c ≡ true → P c
+each_of P [] all c is = absurd (false≢true is)
+each_of P (x ∷ xs) all c is = by (cases_Bool (c == x)) (each_of P xs (λ i d low. all (suc i) d (omega (arith, low))) c)
+  where
+    by : ((c == x) ≡ true) ⊎ ((c == x) ≡ false) → (has xs c ≡ true → P c) → P c
+    by (inl e) rest = subst P (sym (eqb-true c x e)) (all 0 0 (omega arith))
+    by (inr f) rest = rest (sym (ap (λ t. t || has xs c) f) ∙ is)
+
+-- what is behind a place of a list, or before it, is of the list
+pub in_rest : (n : ℕ) (xs : List ℕ) (c : ℕ) → has (drop n xs) c ≡ true → has xs c ≡ true
+in_rest zero xs c e = e
+in_rest (suc n) [] c e = e
+in_rest (suc n) (x ∷ xs) c e = or_right (c == x) (has xs c) (in_rest n xs c e)
+
+pub in_front : (n : ℕ) (xs : List ℕ) (c : ℕ) → has (take n xs) c ≡ true → has xs c ≡ true
+in_front zero xs c e = absurd (false≢true e)
+in_front (suc n) [] c e = e
+in_front (suc n) (x ∷ xs) c e = by (in_front n xs c) (or_cases (c == x) (has (take n xs) c) e)
+  where
+    by : (has (take n xs) c ≡ true → has xs c ≡ true) → ((c == x) ≡ true) ⊎ (has (take n xs) c ≡ true) → ((c == x) || has xs c) ≡ true
+    by further (inl same) = or_left (c == x) (has xs c) same
+    by further (inr rest) = or_right (c == x) (has xs c) (further rest)
+
+-- a block of the table is no data block
+pub none_of_table : (g : Geometry) (bs : List ℕ) (c : ℕ) → All (IsData g) bs → c < data_start g → has bs c ≡ false
+none_of_table g bs c all low = by (cases_Bool (has bs c))
+  where
+    by : (has bs c ≡ true) ⊎ (has bs c ≡ false) → has bs c ≡ false
+    by (inl is) = absurd (omega (arith, (each_of (IsData g) bs all c is).from, low))
+    by (inr out) = out
+
+-- one value for these and then for those is one value for both
+pub merged : {A : Type 0} (h t : Bool) (z o : A) → cond t z (cond h z o) ≡ cond (h || t) z o
+merged true true z o = refl
+merged true false z o = refl
+merged false true z o = refl
+merged false false z o = refl

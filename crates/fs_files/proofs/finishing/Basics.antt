@@ -1,0 +1,62 @@
+-- Numbers of a list, bits of the bitmap, and calls that leave the disk alone.
+use Rattle.std.proofs.Common.{◌≡◌, ◌≢◌, ℕ, zero, suc, ◌+◌, ◌*◌, ◌/◌, ◌%◌, ◌<◌, ◌==◌, Bool, false, ◌||◌, List, [], ◌∷◌, length, take, slice_index, get_or, AllPairs, refl, sym, ap, ◌∙◌, arith}
+use Rattle.std.proofs.lemmas.Bool.{ne_eqb}
+use Rattle.std.specs.Int.{bit_at}
+use Rattle.base_types.specs.Seal.{Blocks}
+use Rattle.layout_geometry.specs.Geometry.{Geometry, bitmap_start, bitmap_blocks, table_start}
+use Rattle.layout_bytes.specs.Bitmap.{is_set}
+use Rattle.engine_blocks.specs.Running.{has}
+use Rattle.engine_blocks.specs.State.{State}
+use Rattle.engine_blocks.specs.Crashes.{IssuesNothing}
+use Rattle.engine_blocks.specs.Effects.{LeavesDisk}
+
+-- The numbers of a list.
+
+-- where no two are the same, a number isn't among those before it
+pub not_before : (xs : List ℕ) (i d : ℕ) → i < length xs → AllPairs (λ a b. a ≢ b) xs → has (take i xs) (get_or xs i d) ≡ false
+not_before [] i d low pairs = absurd (omega (arith, low))
+not_before (x ∷ xs) zero d low pairs = refl
+not_before (x ∷ xs) (suc i) d low pairs =
+    ap (λ t. t || has (take i xs) (get_or xs i d)) (ne_eqb (get_or xs i d) x (λ e. pairs 0 (suc i) d (omega arith) low (sym e)))
+    ∙ not_before xs i d (omega (arith, low)) (λ j k e a b. pairs (suc j) (suc k) e (omega (arith, a)) (omega (arith, b)))
+
+-- Bits.
+
+-- the bits are those of the blocks before the node table
+pub bits_alike : (g : Geometry) (old new : Blocks) → ((b : ℕ) → b < table_start g → new b ≡ old b) → (k : ℕ) → k < 8192 * bitmap_blocks g → is_set g new k ≡ is_set g old k
+bits_alike g old new same k low = ap (λ y. bit_at (slice_index y (k % 8192 / 8)) (k % 8) == 1) (same (bitmap_start g + k / 8192) (omega (arith, low)))
+
+-- The disk.
+
+nothing_on : (old mid new : State) → IssuesNothing old mid → IssuesNothing mid new → IssuesNothing old new
+nothing_on old mid new a b = record {
+  base = b.base ∙ a.base;
+  log = b.log ∙ a.log;
+  point = λ p m. (λ is. (a.point p m).0 ((b.point p m).0 is), λ is. (b.point p m).1 ((a.point p m).1 is));
+  left = λ t m. (λ is. (a.left t m).0 ((b.left t m).0 is), λ is. (b.left t m).1 ((a.left t m).1 is));
+  holds = λ img m. (λ is. (a.holds img m).0 ((b.holds img m).0 is), λ is. (b.holds img m).1 ((a.holds img m).1 is));
+  sure = λ log p. (λ is. (a.sure log p).0 ((b.sure log p).0 is), λ is. (b.sure log p).1 ((a.sure log p).1 is));
+  records = record { told = b.records.told ∙ a.records.told; starts = λ log n. (λ is. (a.records.starts log n).0 ((b.records.starts log n).0 is), λ is. (b.records.starts log n).1 ((a.records.starts log n).1 is)) };
+  issued = λ m. (λ is. (a.issued m).0 ((b.issued m).0 is), λ is. (b.issued m).1 ((a.issued m).1 is));
+  awaits = λ p t. (λ is. (a.awaits p t).0 ((b.awaits p t).0 is), λ is. (b.awaits p t).1 ((a.awaits p t).1 is));
+}
+
+nothing_not : (s : State) → IssuesNothing s s
+nothing_not s = record {
+  base = refl;
+  log = refl;
+  point = λ p m. (λ is. is, λ is. is);
+  left = λ t m. (λ is. is, λ is. is);
+  holds = λ img m. (λ is. is, λ is. is);
+  sure = λ log p. (λ is. is, λ is. is);
+  records = record { told = refl; starts = λ log n. (λ is. is, λ is. is) };
+  issued = λ m. (λ is. is, λ is. is);
+  awaits = λ p t. (λ is. is, λ is. is);
+}
+
+-- the disk is left alone, twice
+pub leaves_on : (tells : Bool) (old mid new : State) → LeavesDisk tells old mid → LeavesDisk tells mid new → LeavesDisk tells old new
+leaves_on tells old mid new a b = record { counts = b.counts ∙ a.counts; crash = λ t. nothing_on old mid new (a.crash t) (b.crash t) }
+
+pub leaves_not : (tells : Bool) (s : State) → LeavesDisk tells s s
+leaves_not tells s = record { counts = refl; crash = λ t. nothing_not s }

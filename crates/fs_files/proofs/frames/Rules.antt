@@ -1,0 +1,364 @@
+-- What holds of a draft besides its blocks, kept by each change of it: blocks put, taken, freed, and content written.
+use Rattle.std.proofs.Common.{◌≡◌, ◌≢◌, ◌⊎◌, inl, inr, ℕ, ◌<◌, ◌≤◌, Bool, true, false, not, ◌&&◌, ◌||◌, if◌then◌else◌, List, [], ◌++◌, replicate, All, Option, Some, None, is_some, refl, sym, ap, subst, ◌∙◌, arith}
+use Rattle.std.specs.List.{AllPairs}
+use Rattle.std.proofs.lemmas.Bool.{cases_Bool, false≢true, or_left, or_right, or_cases, and_parts}
+use Rattle.std.proofs.lemmas.Option.{none-some}
+use Rattle.base_types.specs.Seal.{Blocks}
+use Rattle.base_types.specs.declared.words.Class.{Class}
+use Rattle.layout_geometry.specs.Geometry.{IsGeometry, table_start, data_start}
+use Rattle.engine_blocks.specs.Running.{has}
+use Rattle.engine_blocks.specs.State.{Bookkeeping, IsReusable, MayBeTaken}
+use Rattle.engine_blocks.specs.Puts.{IsData}
+use Rattle.fs_files.specs.declared.changes.Changed.{Changed}
+use Rattle.fs_files.specs.Content.{WritesContent}
+use Rattle.fs_files.specs.Drafts.{DraftState, change_of, bytes_or, drafted, marks_of, is_meta, zeros_of, TakesBlocks, FreesBlocks}
+use Rattle.fs_files.specs.Sound.{AreSoundBy, FitsBooks, IsSoundDraft, is_filled}
+use Rattle.fs_files.proofs.frames.Steps.{all_of, once_append}
+use Rattle.fs_files.proofs.drafts.Lists.{has_append, each_of}
+
+-- A draft's changes lie in marked blocks, no freed block has any, and each freed one was marked or taken, once.
+pub record HasRules (k : Bookkeeping) (d : DraftState) : Type 0 where
+  pub changed : (b : ℕ) (c : Changed) → change_of d.changed b ≡ Some c → data_start k.geom ≤ b → marks_of d k.marked b ≡ true
+  pub fresh : (b : ℕ) (c : Changed) → change_of d.fresh b ≡ Some c → has d.freed b ≡ false
+  pub apart : (b : ℕ) → is_some (change_of d.fresh b) ≡ true → change_of d.changed b ≡ None
+  pub freed : All (λ b. (has d.taken b || k.marked b) ≡ true) d.freed
+  pub once : AllPairs (λ a b. a ≢ b) d.freed
+
+pub rules_of : (k : Bookkeeping) (m : Blocks) (d : DraftState) → IsSoundDraft k m d → HasRules k d
+rules_of k m d is = record { changed = is.changed; fresh = is.fresh; apart = is.apart; freed = is.freed; once = is.once }
+
+pub sound_from : (k : Bookkeeping) (m : Blocks) (d : DraftState) → HasRules k d → AreSoundBy k.geom (marks_of d k.marked) (drafted d m) → IsSoundDraft k m d
+sound_from k m d rules blocks = record { blocks = blocks; changed = rules.changed; fresh = rules.fresh; apart = rules.apart; freed = rules.freed; once = rules.once }
+
+some_of : {A : Type 0} (o : Option A) → is_some o ≡ true → (x : A) × (o ≡ Some x)
+some_of None e = absurd (false≢true e)
+some_of (Some x) e = (x, refl)
+
+pub none_of : {A : Type 0} (o : Option A) → ((x : A) → o ≡ Some x → ⊥) → o ≡ None
+none_of None isnt = refl
+none_of (Some x) isnt = absurd (isnt x refl)
+
+-- a choice is the one or the other
+
+when_in : {A : Type 0} (t : Bool) (x y : A) → t ≡ true → (if t then x else y) ≡ x
+when_in true x y e = refl
+when_in false x y e = absurd (false≢true e)
+
+when_out : {A : Type 0} (t : Bool) (x y : A) → t ≡ false → (if t then x else y) ≡ y
+when_out true x y e = absurd (false≢true (sym e))
+when_out false x y e = refl
+
+-- what the marks of a draft say
+
+marked_parts : (freed taken marked : Bool) → (not freed && (taken || marked)) ≡ true → (freed ≡ false) × ((taken || marked) ≡ true)
+marked_parts true taken marked e = absurd (false≢true e)
+marked_parts false taken marked e = (refl, e)
+
+-- Blocks freed.
+
+module _ (k : Bookkeeping) (bs : List ℕ) (d e : DraftState) (frees : FreesBlocks bs d e) where
+  freed_has : (b : ℕ) → has e.freed b ≡ (has d.freed b || has bs b)
+  freed_has b = ap (λ fs. has fs b) frees.freed ∙ has_append d.freed bs b
+
+  not_freed_some : (b : ℕ) (c : Changed) → change_of e.changed b ≡ Some c → (has bs b ≡ false) × (change_of d.changed b ≡ Some c)
+  not_freed_some b c is = by (has bs b) refl (sym (frees.changed b) ∙ is)
+    where
+      by : (t : Bool) → has bs b ≡ t → (if has bs b then None else change_of d.changed b) ≡ Some c → (has bs b ≡ false) × (change_of d.changed b ≡ Some c)
+      by true at x = absurd (none-some c (sym (when_in (has bs b) None (change_of d.changed b) at) ∙ x))
+      by false at x = (at, sym (when_out (has bs b) None (change_of d.changed b) at) ∙ x)
+
+  not_freed_fresh : (b : ℕ) (c : Changed) → change_of e.fresh b ≡ Some c → (has bs b ≡ false) × (change_of d.fresh b ≡ Some c)
+  not_freed_fresh b c is = by (has bs b) refl (sym (frees.fresh b) ∙ is)
+    where
+      by : (t : Bool) → has bs b ≡ t → (if has bs b then None else change_of d.fresh b) ≡ Some c → (has bs b ≡ false) × (change_of d.fresh b ≡ Some c)
+      by true at x = absurd (none-some c (sym (when_in (has bs b) None (change_of d.fresh b) at) ∙ x))
+      by false at x = (at, sym (when_out (has bs b) None (change_of d.fresh b) at) ∙ x)
+
+  -- the blocks after it
+  pub frees_others : (m : Blocks) (b : ℕ) → has bs b ≡ false → drafted e m b ≡ drafted d m b
+  frees_others m b out =
+      let freed : has e.freed b ≡ has d.freed b = freed_has b ∙ or_none (has d.freed b) (has bs b) out in
+      let changed : change_of e.changed b ≡ change_of d.changed b = frees.changed b ∙ when_out (has bs b) None (change_of d.changed b) out in
+      let fresh : change_of e.fresh b ≡ change_of d.fresh b = frees.fresh b ∙ when_out (has bs b) None (change_of d.fresh b) out in
+      λ i. if freed i then [] else bytes_or (bytes_or (m b) (fresh i)) (changed i)
+    where
+      or_none : (x y : Bool) → y ≡ false → (x || y) ≡ x
+      or_none true y e = refl
+      or_none false y e = e
+
+  -- the marks after it
+  pub frees_marks : (marked : ℕ → Bool) (b : ℕ) → marks_of e marked b ≡ (marks_of d marked b && not (has bs b))
+  frees_marks marked b =
+      (λ i. not (freed_has b i) && (has (frees.taken i) b || marked b)) ∙ parted (has d.freed b) (has bs b) (has d.taken b || marked b)
+    where
+      parted : (x y z : Bool) → (not (x || y) && z) ≡ ((not x && z) && not y)
+      parted true y z = refl
+      parted false true true = refl
+      parted false true false = refl
+      parted false false true = refl
+      parted false false false = refl
+
+  -- the draft still fits
+  pub frees_fits : All (IsData k.geom) bs → FitsBooks k d → FitsBooks k e
+  frees_fits inside fits = record {
+    none_bare = fits.none_bare;
+    changed = λ b c is. fits.changed b c (not_freed_some b c is).1;
+    fresh = λ b c is. ap (λ ts. has ts b) frees.taken ∙ fits.fresh b c (not_freed_fresh b c is).1;
+    taken = subst (MayBeTaken k.geom k.reusable) (sym frees.taken) fits.taken;
+    filled = λ b is. filled b (fits.filled b (sym (ap (λ ts. has ts b) frees.taken) ∙ is)) (cases_Bool (has bs b));
+    freed = subst (All (IsData k.geom)) (sym frees.freed) (all_of (IsData k.geom) (d.freed ++ bs) (λ b is. data_of b (or_cases (has d.freed b) (has bs b) (sym (has_append d.freed bs b) ∙ is))));
+  }
+    where
+      data_of : (b : ℕ) → (has d.freed b ≡ true) ⊎ (has bs b ≡ true) → IsData k.geom b
+      data_of b (inl is) = each_of (IsData k.geom) d.freed fits.freed b is
+      data_of b (inr is) = each_of (IsData k.geom) bs inside b is
+
+      filled : (b : ℕ) → is_filled d b ≡ true → (has bs b ≡ true) ⊎ (has bs b ≡ false) → is_filled e b ≡ true
+      filled b was (inl is) = or_left (has e.freed b) (is_some (change_of e.changed b) || is_some (change_of e.fresh b)) (freed_has b ∙ or_right (has d.freed b) (has bs b) is)
+      filled b was (inr out) =
+          let changed : change_of e.changed b ≡ change_of d.changed b = frees.changed b ∙ when_out (has bs b) None (change_of d.changed b) out in
+          let fresh : change_of e.fresh b ≡ change_of d.fresh b = frees.fresh b ∙ when_out (has bs b) None (change_of d.fresh b) out in
+          let freed : has e.freed b ≡ has d.freed b = freed_has b ∙ ap (λ t. has d.freed b || t) out ∙ false_last (has d.freed b) in
+          (λ i. freed i || (is_some (changed i) || is_some (fresh i))) ∙ was
+        where
+          false_last : (x : Bool) → (x || false) ≡ x
+          false_last true = refl
+          false_last false = refl
+
+  -- and has its rules, where what is freed was marked, once
+  pub frees_rules : All (λ b. marks_of d k.marked b ≡ true) bs → AllPairs (λ a b. a ≢ b) bs → HasRules k d → HasRules k e
+  frees_rules marked once rules = record {
+    changed = λ b c is low.
+        let was = not_freed_some b c is in
+        frees_marks k.marked b ∙ (λ i. marks_of d k.marked b && not (was.0 i)) ∙ kept (marks_of d k.marked b) (rules.changed b c was.1 low);
+    fresh = λ b c is. let was = not_freed_fresh b c is in freed_has b ∙ (λ i. rules.fresh b c was.1 i || was.0 i);
+    apart = λ b some. let x = some_of (change_of e.fresh b) some in let was = not_freed_fresh b x.0 x.1 in
+        frees.changed b ∙ when_out (has bs b) None (change_of d.changed b) was.0 ∙ rules.apart b (ap is_some was.1);
+    freed = subst (All (λ b. (has e.taken b || k.marked b) ≡ true)) (sym frees.freed)
+        (all_of (λ b. (has e.taken b || k.marked b) ≡ true) (d.freed ++ bs) (λ b is. ap (λ ts. has ts b || k.marked b) frees.taken ∙ held b (or_cases (has d.freed b) (has bs b) (sym (has_append d.freed bs b) ∙ is))));
+    once = subst (AllPairs (λ a b. a ≢ b)) (sym frees.freed) (once_append d.freed bs rules.once once
+        (λ b first second. false≢true (sym (parts b second).0 ∙ first)));
+  }
+    where
+      parts : (b : ℕ) → has bs b ≡ true → (has d.freed b ≡ false) × ((has d.taken b || k.marked b) ≡ true)
+      parts b is = marked_parts (has d.freed b) (has d.taken b) (k.marked b) (each_of (λ c. marks_of d k.marked c ≡ true) bs marked b is)
+
+      held : (b : ℕ) → (has d.freed b ≡ true) ⊎ (has bs b ≡ true) → (has d.taken b || k.marked b) ≡ true
+      held b (inl is) = each_of (λ c. (has d.taken c || k.marked c) ≡ true) d.freed rules.freed b is
+      held b (inr is) = (parts b is).1
+
+      kept : (x : Bool) → x ≡ true → (x && true) ≡ true
+      kept true e = refl
+      kept false e = e
+
+-- a draft that takes nothing has no new content in taken blocks
+pub no_fresh : (k : Bookkeeping) (d : DraftState) → d.taken ≡ [] → FitsBooks k d → (b : ℕ) → change_of d.fresh b ≡ None
+no_fresh k d none fits b = none_of (change_of d.fresh b) (λ c is. false≢true (sym (ap (λ ts. has ts b) none) ∙ fits.fresh b c is))
+
+-- Blocks taken, with zeros in them.
+
+module _ (k : Bookkeeping) (class : Class) (bs : List ℕ) (d e : DraftState) (takes : TakesBlocks class bs d e) (none : d.taken ≡ []) (free : MayBeTaken k.geom k.reusable bs) where
+  taken_is : e.taken ≡ bs
+  taken_is = takes.taken ∙ ap (λ ts. ts ++ bs) none
+
+  -- what the changes of a block are: zeros in a taken one, and else as before
+  takes_changed : (b : ℕ) (c : Changed) → change_of e.changed b ≡ Some c → (has bs b ≡ true) ⊎ (change_of d.changed b ≡ Some c)
+  takes_changed b c is = by (cases_Bool (is_meta class && has bs b))
+    where
+      by : ((is_meta class && has bs b) ≡ true) ⊎ ((is_meta class && has bs b) ≡ false) → (has bs b ≡ true) ⊎ (change_of d.changed b ≡ Some c)
+      by (inl both) = inl (and_parts (is_meta class) (has bs b) both).1
+      by (inr isnt) = inr (sym (when_out (is_meta class && has bs b) (Some (zeros_of class)) (change_of d.changed b) isnt) ∙ sym (takes.changed b) ∙ is)
+
+  takes_fresh : (b : ℕ) (c : Changed) → change_of e.fresh b ≡ Some c → (has bs b ≡ true) ⊎ (change_of d.fresh b ≡ Some c)
+  takes_fresh b c is = by (cases_Bool (not (is_meta class) && has bs b))
+    where
+      by : ((not (is_meta class) && has bs b) ≡ true) ⊎ ((not (is_meta class) && has bs b) ≡ false) → (has bs b ≡ true) ⊎ (change_of d.fresh b ≡ Some c)
+      by (inl both) = inl (and_parts (not (is_meta class)) (has bs b) both).1
+      by (inr isnt) = inr (sym (when_out (not (is_meta class) && has bs b) (Some (zeros_of class)) (change_of d.fresh b) isnt) ∙ sym (takes.fresh b) ∙ is)
+
+  -- a block that isn't taken is as before
+  pub takes_others : (m : Blocks) (b : ℕ) → has bs b ≡ false → drafted e m b ≡ drafted d m b
+  takes_others m b out =
+      let changed : change_of e.changed b ≡ change_of d.changed b = takes.changed b ∙ when_out (is_meta class && has bs b) (Some (zeros_of class)) (change_of d.changed b) (and_out (is_meta class) (has bs b) out) in
+      let fresh : change_of e.fresh b ≡ change_of d.fresh b = takes.fresh b ∙ when_out (not (is_meta class) && has bs b) (Some (zeros_of class)) (change_of d.fresh b) (and_out (not (is_meta class)) (has bs b) out) in
+      λ i. if has (takes.freed i) b then [] else bytes_or (bytes_or (m b) (fresh i)) (changed i)
+    where
+      and_out : (x y : Bool) → y ≡ false → (x && y) ≡ false
+      and_out true y e = e
+      and_out false y e = refl
+
+  -- the draft still fits
+  pub takes_fits : IsGeometry k.geom → FitsBooks k d → FitsBooks k e
+  takes_fits geom fits = record {
+    none_bare = fits.none_bare;
+    changed = λ b c is. inside b c (takes_changed b c is);
+    fresh = λ b c is. ap (λ ts. has ts b) taken_is ∙ mine b c (takes_fresh b c is);
+    taken = subst (MayBeTaken k.geom k.reusable) (sym taken_is) free;
+    filled = λ b is. filled b (sym (ap (λ ts. has ts b) taken_is) ∙ is) (cases_Bool (is_meta class));
+    freed = subst (All (IsData k.geom)) (sym takes.freed) fits.freed;
+  }
+    where
+      inside : (b : ℕ) (c : Changed) → (has bs b ≡ true) ⊎ (change_of d.changed b ≡ Some c) → (table_start k.geom ≤ b) × (b < k.geom.n)
+      inside b c (inl is) = let r = each_of (IsReusable k.geom k.reusable) bs free.each b is in (omega (arith, r.from), r.below)
+      inside b c (inr was) = fits.changed b c was
+
+      mine : (b : ℕ) (c : Changed) → (has bs b ≡ true) ⊎ (change_of d.fresh b ≡ Some c) → has bs b ≡ true
+      mine b c (inl is) = is
+      mine b c (inr was) = absurd (false≢true (sym (ap (λ ts. has ts b) none) ∙ fits.fresh b c was))
+
+      filled : (b : ℕ) → has bs b ≡ true → (is_meta class ≡ true) ⊎ (is_meta class ≡ false) → is_filled e b ≡ true
+      filled b is (inl meta) =
+          let changed : change_of e.changed b ≡ Some (zeros_of class) = takes.changed b ∙ when_in (is_meta class && has bs b) (Some (zeros_of class)) (change_of d.changed b) (λ i. meta i && is i) in
+          or_right (has e.freed b) (is_some (change_of e.changed b) || is_some (change_of e.fresh b)) (or_left (is_some (change_of e.changed b)) (is_some (change_of e.fresh b)) (ap is_some changed))
+      filled b is (inr content) =
+          let fresh : change_of e.fresh b ≡ Some (zeros_of class) = takes.fresh b ∙ when_in (not (is_meta class) && has bs b) (Some (zeros_of class)) (change_of d.fresh b) (λ i. not (content i) && is i) in
+          or_right (has e.freed b) (is_some (change_of e.changed b) || is_some (change_of e.fresh b)) (or_right (is_some (change_of e.changed b)) (is_some (change_of e.fresh b)) (ap is_some fresh))
+
+  module _ (unmarked : All (λ b. k.marked b ≡ false) bs) (rules : HasRules k d) where
+    -- a taken block wasn't freed, since it was neither taken nor marked
+    pub taken_not_freed : (b : ℕ) → has bs b ≡ true → has d.freed b ≡ false
+    taken_not_freed b is = by (cases_Bool (has d.freed b))
+      where
+        by : (has d.freed b ≡ true) ⊎ (has d.freed b ≡ false) → has d.freed b ≡ false
+        by (inl freed) =
+            let held = each_of (λ c. (has d.taken c || k.marked c) ≡ true) d.freed rules.freed b freed in
+            absurd (false≢true (sym (λ i. has (none i) b || each_of (λ c. k.marked c ≡ false) bs unmarked b is i) ∙ held))
+        by (inr isnt) = isnt
+
+    -- it wasn't marked before
+    pub takes_unmarked : (b : ℕ) → has bs b ≡ true → marks_of d k.marked b ≡ false
+    takes_unmarked b is = (λ i. not (has d.freed b) && (has (none i) b || each_of (λ c. k.marked c ≡ false) bs unmarked b is i)) ∙ neither (has d.freed b)
+      where
+        neither : (x : Bool) → (not x && false) ≡ false
+        neither true = refl
+        neither false = refl
+
+    -- the marks after it
+    pub takes_marks : (b : ℕ) → marks_of e k.marked b ≡ (has bs b || marks_of d k.marked b)
+    takes_marks b =
+        (λ i. not (has (takes.freed i) b) && (has (taken_is i) b || k.marked b))
+        ∙ marked (has d.freed b) (has bs b) (k.marked b) (taken_not_freed b)
+        ∙ (λ i. has bs b || (not (has d.freed b) && (has (sym none i) b || k.marked b)))
+      where
+        marked : (freed mine was : Bool) → (mine ≡ true → freed ≡ false) → (not freed && (mine || was)) ≡ (mine || (not freed && was))
+        marked true true was e = absurd (false≢true (sym (e refl)))
+        marked true false was e = refl
+        marked false mine was e = refl
+
+    -- a taken block has zeros
+    pub takes_zeros : (m : Blocks) → (b : ℕ) → has bs b ≡ true → drafted e m b ≡ replicate 1024 0
+    takes_zeros m b is =
+        (λ i. if has (takes.freed i) b then [] else bytes_or (bytes_or (m b) (change_of e.fresh b)) (change_of e.changed b))
+        ∙ (λ i. if taken_not_freed b is i then [] else bytes_or (bytes_or (m b) (change_of e.fresh b)) (change_of e.changed b))
+        ∙ by (cases_Bool (is_meta class))
+      where
+        nothing : change_of d.changed b ≡ None
+        nothing = none_of (change_of d.changed b) (λ c was. false≢true (sym (takes_unmarked b is) ∙ rules.changed b c was (each_of (IsReusable k.geom k.reusable) bs free.each b is).from))
+
+        by : (is_meta class ≡ true) ⊎ (is_meta class ≡ false) → bytes_or (bytes_or (m b) (change_of e.fresh b)) (change_of e.changed b) ≡ replicate 1024 0
+        by (inl meta) =
+            let changed : change_of e.changed b ≡ Some (zeros_of class) = takes.changed b ∙ when_in (is_meta class && has bs b) (Some (zeros_of class)) (change_of d.changed b) (λ i. meta i && is i) in
+            ap (bytes_or (bytes_or (m b) (change_of e.fresh b))) changed
+        by (inr content) =
+            let changed : change_of e.changed b ≡ None = takes.changed b ∙ when_out (is_meta class && has bs b) (Some (zeros_of class)) (change_of d.changed b) (λ i. content i && has bs b) ∙ nothing in
+            let fresh : change_of e.fresh b ≡ Some (zeros_of class) = takes.fresh b ∙ when_in (not (is_meta class) && has bs b) (Some (zeros_of class)) (change_of d.fresh b) (λ i. not (content i) && is i) in
+            λ i. bytes_or (bytes_or (m b) (fresh i)) (changed i)
+
+    -- none of the blocks with new content is changed otherwise
+    takes_apart : FitsBooks k d → (b : ℕ) → is_some (change_of e.fresh b) ≡ true → change_of e.changed b ≡ None
+    takes_apart fits b some =
+        let x = some_of (change_of e.fresh b) some in
+        by (cases_Bool (not (is_meta class) && has bs b)) x.0 x.1
+      where
+        by : ((not (is_meta class) && has bs b) ≡ true) ⊎ ((not (is_meta class) && has bs b) ≡ false) → (c : Changed) → change_of e.fresh b ≡ Some c → change_of e.changed b ≡ None
+        by (inl mine) c is =
+            let parts = and_parts (not (is_meta class)) (has bs b) mine in
+            let out : (is_meta class && has bs b) ≡ false = meta_out (is_meta class) (has bs b) parts.0 in
+            takes.changed b ∙ when_out (is_meta class && has bs b) (Some (zeros_of class)) (change_of d.changed b) out
+            ∙ none_of (change_of d.changed b) (λ w was. false≢true (sym (takes_unmarked b parts.1) ∙ rules.changed b w was (each_of (IsReusable k.geom k.reusable) bs free.each b parts.1).from))
+          where
+            meta_out : (t h : Bool) → not t ≡ true → (t && h) ≡ false
+            meta_out true h e = absurd (false≢true e)
+            meta_out false h e = refl
+        by (inr other) c is =
+            absurd (none-some c (sym (no_fresh k d none fits b) ∙ sym (when_out (not (is_meta class) && has bs b) (Some (zeros_of class)) (change_of d.fresh b) other) ∙ sym (takes.fresh b) ∙ is))
+
+    -- and the draft has its rules
+    pub takes_rules : FitsBooks k d → HasRules k e
+    takes_rules fits = record {
+      changed = λ b c is low. takes_marks b ∙ marked b c low (takes_changed b c is);
+      fresh = λ b c is. ap (λ fs. has fs b) takes.freed ∙ kept b c (takes_fresh b c is);
+      apart = takes_apart fits;
+      freed = subst (All (λ b. (has e.taken b || k.marked b) ≡ true)) (sym takes.freed)
+          (all_of (λ b. (has e.taken b || k.marked b) ≡ true) d.freed (λ b is. held b (each_of (λ c. (has d.taken c || k.marked c) ≡ true) d.freed rules.freed b is)));
+      once = subst (AllPairs (λ a b. a ≢ b)) (sym takes.freed) rules.once;
+    }
+      where
+        marked : (b : ℕ) (c : Changed) → data_start k.geom ≤ b → (has bs b ≡ true) ⊎ (change_of d.changed b ≡ Some c) → (has bs b || marks_of d k.marked b) ≡ true
+        marked b c low (inl is) = or_left (has bs b) (marks_of d k.marked b) is
+        marked b c low (inr was) = or_right (has bs b) (marks_of d k.marked b) (rules.changed b c was low)
+
+        kept : (b : ℕ) (c : Changed) → (has bs b ≡ true) ⊎ (change_of d.fresh b ≡ Some c) → has d.freed b ≡ false
+        kept b c (inl is) = taken_not_freed b is
+        kept b c (inr was) = rules.fresh b c was
+
+        held : (b : ℕ) → (has d.taken b || k.marked b) ≡ true → (has e.taken b || k.marked b) ≡ true
+        held b was = or_right (has e.taken b) (k.marked b) (sym (λ i. has (none i) b || k.marked b) ∙ was)
+
+-- Content written into blocks that are marked.
+
+module _ (k : Bookkeeping) (class : Class) (bs : List ℕ) (d e : DraftState) (writes : WritesContent class bs d e) where
+  -- a block that isn't written is as before, and so are the marks
+  pub writes_others : (m : Blocks) (b : ℕ) → has bs b ≡ false → drafted e m b ≡ drafted d m b
+  writes_others m b out = λ i. if has (writes.freed i) b then [] else bytes_or (bytes_or (m b) (writes.other_fresh b out i)) (writes.others b out i)
+
+  pub writes_marks : (marked : ℕ → Bool) (b : ℕ) → marks_of e marked b ≡ marks_of d marked b
+  writes_marks marked b = λ i. not (has (writes.freed i) b) && (has (writes.taken i) b || marked b)
+
+  writes_changed : (b : ℕ) (c : Changed) → change_of e.changed b ≡ Some c → (has bs b ≡ true) ⊎ ((x : Changed) × (change_of d.changed b ≡ Some x))
+  writes_changed b c is = by (or_cases (has bs b) (is_some (change_of d.changed b)) (writes.keys b (ap is_some is)))
+    where
+      by : (has bs b ≡ true) ⊎ (is_some (change_of d.changed b) ≡ true) → (has bs b ≡ true) ⊎ ((x : Changed) × (change_of d.changed b ≡ Some x))
+      by (inl mine) = inl mine
+      by (inr was) = inr (some_of (change_of d.changed b) was)
+
+  writes_fresh : (b : ℕ) (c : Changed) → change_of e.fresh b ≡ Some c → (x : Changed) × (change_of d.fresh b ≡ Some x)
+  writes_fresh b c is = some_of (change_of d.fresh b) (sym (writes.fresh_keys b) ∙ ap is_some is)
+
+  -- the draft still fits
+  pub writes_fits : IsGeometry k.geom → All (IsData k.geom) bs → FitsBooks k d → FitsBooks k e
+  writes_fits geom inside fits = record {
+    none_bare = fits.none_bare;
+    changed = λ b c is. changed b (writes_changed b c is);
+    fresh = λ b c is. let was = writes_fresh b c is in ap (λ ts. has ts b) writes.taken ∙ fits.fresh b was.0 was.1;
+    taken = subst (MayBeTaken k.geom k.reusable) (sym writes.taken) fits.taken;
+    filled = λ b is. filled b (or_cases (has d.freed b) (is_some (change_of d.changed b) || is_some (change_of d.fresh b)) (fits.filled b (sym (ap (λ ts. has ts b) writes.taken) ∙ is)));
+    freed = subst (All (IsData k.geom)) (sym writes.freed) fits.freed;
+  }
+    where
+      changed : (b : ℕ) → (has bs b ≡ true) ⊎ ((x : Changed) × (change_of d.changed b ≡ Some x)) → (table_start k.geom ≤ b) × (b < k.geom.n)
+      changed b (inl mine) = let at = each_of (IsData k.geom) bs inside b mine in (omega (arith, at.from), at.below)
+      changed b (inr was) = fits.changed b was.0 was.1
+
+      rest : (b : ℕ) → (is_some (change_of d.changed b) ≡ true) ⊎ (is_some (change_of d.fresh b) ≡ true) → (is_some (change_of e.changed b) || is_some (change_of e.fresh b)) ≡ true
+      rest b (inl was) = or_left (is_some (change_of e.changed b)) (is_some (change_of e.fresh b)) (writes.stays b was)
+      rest b (inr was) = or_right (is_some (change_of e.changed b)) (is_some (change_of e.fresh b)) (writes.fresh_keys b ∙ was)
+
+      filled : (b : ℕ) → (has d.freed b ≡ true) ⊎ ((is_some (change_of d.changed b) || is_some (change_of d.fresh b)) ≡ true) → is_filled e b ≡ true
+      filled b (inl was) = or_left (has e.freed b) (is_some (change_of e.changed b) || is_some (change_of e.fresh b)) (ap (λ fs. has fs b) writes.freed ∙ was)
+      filled b (inr was) =
+          or_right (has e.freed b) (is_some (change_of e.changed b) || is_some (change_of e.fresh b)) (rest b (or_cases (is_some (change_of d.changed b)) (is_some (change_of d.fresh b)) was))
+
+  -- and has its rules
+  pub writes_rules : All (λ b. marks_of d k.marked b ≡ true) bs → HasRules k d → HasRules k e
+  writes_rules marked rules = record {
+    changed = λ b c is low. writes_marks k.marked b ∙ by b low (writes_changed b c is);
+    fresh = λ b c is. let was = writes_fresh b c is in ap (λ fs. has fs b) writes.freed ∙ rules.fresh b was.0 was.1;
+    apart = λ b some. let was : is_some (change_of d.fresh b) ≡ true = sym (writes.fresh_keys b) ∙ some in writes.apart b was ∙ rules.apart b was;
+    freed = subst (All (λ b. (has e.taken b || k.marked b) ≡ true)) (sym writes.freed) (subst (λ ts. All (λ b. (has ts b || k.marked b) ≡ true) d.freed) (sym writes.taken) rules.freed);
+    once = subst (AllPairs (λ a b. a ≢ b)) (sym writes.freed) rules.once;
+  }
+    where
+      by : (b : ℕ) → data_start k.geom ≤ b → (has bs b ≡ true) ⊎ ((x : Changed) × (change_of d.changed b ≡ Some x)) → marks_of d k.marked b ≡ true
+      by b low (inl mine) = each_of (λ c. marks_of d k.marked c ≡ true) bs marked b mine
+      by b low (inr was) = rules.changed b was.0 was.1 low

@@ -1,0 +1,56 @@
+-- What a draft is after content was written within the blocks of a node, and nothing else was done.
+use Rattle.std.proofs.Common.{◌≡◌, ◌⊎◌, inl, inr, ℕ, ◌<◌, true, false, IsTrue, List, length, All, Some, sym, ◌∙◌, arith}
+use Rattle.std.proofs.lemmas.Bool.{cases_Bool, false≢true}
+use Rattle.base_types.specs.Seal.{Blocks}
+use Rattle.base_types.specs.declared.words.Class.{Class}
+use Rattle.base_types.specs.Runs.{run_places}
+use Rattle.layout_geometry.specs.Geometry.{IsGeometry, data_start}
+use Rattle.layout_bytes.specs.declared.node.Node.{Node}
+use Rattle.layout_bytes.specs.declared.node.NodeKind.TheVariants.{Dir}
+use Rattle.layout_bytes.specs.Bytes.{are_zeros}
+use Rattle.engine_blocks.specs.Running.{has}
+use Rattle.engine_blocks.specs.State.{Bookkeeping}
+use Rattle.engine_blocks.specs.Puts.{IsData}
+use Rattle.crash_stands.specs.Files.{past_content, used_node, file_of, files_of}
+use Rattle.fs_files.specs.Calls.{IsWithFile}
+use Rattle.fs_files.specs.Content.{WritesContent}
+use Rattle.fs_files.specs.Drafts.{DraftState, drafted, marks_of}
+use Rattle.fs_files.specs.Sound.{FitsBooks, IsSoundDraft}
+use Rattle.fs_files.proofs.frames.Places.{used_data, used_marked}
+use Rattle.fs_files.proofs.frames.Rules.{rules_of, sound_from, writes_others, writes_marks, writes_fits, writes_rules}
+use Rattle.fs_files.proofs.frames.Steps.{both, all_of, content_changes}
+
+module _ (k : Bookkeeping) (m : Blocks) (number : ℕ) (node : Node) (class : Class) (bs : List ℕ) (d e : DraftState) (geom : IsGeometry k.geom) (fits : FitsBooks k d) (sound : IsSoundDraft k m d)
+    (used : used_node k.geom (drafted d m) number ≡ Some node) (writes : WritesContent class bs d e) (its : (b : ℕ) → has bs b ≡ true → has (run_places node.runs) b ≡ true) where
+  -- a block that isn't the node's is as before
+  pub written_others : (b : ℕ) → has (run_places node.runs) b ≡ false → drafted e m b ≡ drafted d m b
+  written_others b out = writes_others k class bs d e writes m b (by (cases_Bool (has bs b)))
+    where
+      by : (has bs b ≡ true) ⊎ (has bs b ≡ false) → has bs b ≡ false
+      by (inl mine) = absurd (false≢true (sym out ∙ its b mine))
+      by (inr isnt) = isnt
+
+  -- a block of the table is none of the node's
+  pub written_table : (b : ℕ) → b < data_start k.geom → drafted e m b ≡ drafted d m b
+  written_table b below = written_others b (by (cases_Bool (has (run_places node.runs) b)))
+    where
+      by : (has (run_places node.runs) b ≡ true) ⊎ (has (run_places node.runs) b ≡ false) → has (run_places node.runs) b ≡ false
+      by (inl is) = absurd (omega (arith, (used_data k.geom (drafted d m) number node used b is).from, below))
+      by (inr isnt) = isnt
+
+  pub written_fits : FitsBooks k e
+  written_fits = writes_fits k class bs d e writes geom (all_of (IsData k.geom) bs (λ b mine. used_data k.geom (drafted d m) number node used b (its b mine))) fits
+
+  pub written_sound : All (λ b. length (drafted e m b) ≡ 1024) (run_places node.runs) → (node.kind ≡ Dir → IsTrue (are_zeros (past_content (drafted e m) node)))
+      → IsSoundDraft k m e × IsWithFile (files_of k.geom (drafted d m)) (files_of k.geom (drafted e m)) number (Some (file_of (drafted e m) node))
+  written_sound whole tail =
+      let all = both k.geom (marks_of d k.marked) (marks_of e k.marked) (drafted d m) (drafted e m) number (Some node) (Some node) sound.blocks
+      (content_changes k.geom (marks_of d k.marked) (marks_of e k.marked) (drafted d m) (drafted e m) number node geom.whole_blocks sound.blocks used
+      (λ b from below. written_table b below)
+      (λ b from below out. written_others b out)
+      (λ b from below. writes_marks k class bs d e writes k.marked b)
+      whole tail) in
+      let rules = writes_rules k class bs d e writes
+      (all_of (λ b. marks_of d k.marked b ≡ true) bs (λ b mine. used_marked k.geom (marks_of d k.marked) (drafted d m) number node sound.blocks used b (its b mine)))
+      (rules_of k m d sound) in
+      (sound_from k m e rules all.0, all.1)

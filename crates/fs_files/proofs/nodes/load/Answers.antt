@@ -1,0 +1,16 @@
+use Rattle.std.proofs.Common.{◌≡◌, length, ap, ◌∙◌}
+use Rattle.std.specs.Prelude.{option_map}
+use Rattle.fs_files.specs.Drafts.{drafted}
+use Rattle.fs_files.specs.Nodes.{node_block, node_of_open}
+use Rattle.fs_files.proofs.drafts.Opening.{loaded}
+use Rattle.fs_files.proofs.nodes.load.Goals as goal
+
+pub returns-clause-node : goal.returns-clause-node
+returns-clause-node g c = λ tells has.
+    let s = g.S.Blocks.state c.args.blocks.now in
+    let there : c.node_place-block.result.0 ≡ node_block s.books.geom c.args.number =
+    c.node_place-block.ensures.block ∙ ap (λ x. node_block x c.args.number) c.geom-geom.ensures in
+    loaded (option_map node_of_open c.open_node.result) s.books.geom c.geom-geom.result (drafted c.args.draft.now s.map) c.args.number c.node_place-block.result.1 c.read.new.into
+    c.geom-geom.ensures c.node_place-block.ensures.byte c.requires.above_zero c.requires.in_table
+    (c.in_ok-read.ensures.block tells (ap (λ b. length (drafted c.args.draft.now s.map b)) there ∙ has) ∙ ap (drafted c.args.draft.now s.map) there)
+    c.open_node.ensures.node

@@ -1,0 +1,53 @@
+-- Which drafts fit a map of blocks, and when its blocks are sound with them. It is described in docs/FILES.md.
+use Rattle.std.specs.Prelude.{◌≡◌, ◌≢◌, ◌↔◌, ℕ, ◌<◌, ◌≤◌, Bool, true, false, IsTrue, ◌||◌, length, replicate, None, Some, is_some}
+use Rattle.std.specs.List.{All, AllPairs}
+use Rattle.base_types.specs.Seal.{Blocks}
+use Rattle.layout_geometry.specs.Geometry.{Geometry, table_start, data_start}
+use Rattle.layout_bytes.specs.declared.node.Node.{Node}
+use Rattle.layout_bytes.specs.declared.node.NodeKind.TheVariants.{Dir}
+use Rattle.layout_bytes.specs.Bytes.{are_zeros}
+use Rattle.layout_bytes.specs.Node.{node_size, node_at, node_bytes}
+use Rattle.engine_blocks.specs.Running.{has, HasNoBare}
+use Rattle.engine_blocks.specs.State.{Bookkeeping, State, MayBeTaken}
+use Rattle.engine_blocks.specs.Puts.{IsData}
+use Rattle.crash_stands.specs.Files.{used_node, past_content}
+use Rattle.crash_stands.specs.Stands.{HasBlock}
+use Rattle.fs_files.specs.declared.changes.Changed.{Changed}
+use Rattle.fs_files.specs.Drafts.{DraftState, ChangesSome, change_of, drafted, marks_of}
+
+-- Blocks with these marks are sound: each node has its blocks to itself, of the data just these are marked, and what carries nothing is zeros.
+pub record AreSoundBy (g : Geometry) (marks : ℕ → Bool) (m : Blocks) : Type 0 where
+  pub table : (b : ℕ) → table_start g ≤ b → b < data_start g → length (m b) ≡ 1024
+  pub «data» : (b : ℕ) → data_start g ≤ b → b < g.n → marks b ≡ true → length (m b) ≡ 1024
+  pub own : (k l i j b : ℕ) → HasBlock g m k i b → HasBlock g m l j b → (k ≡ l) × (i ≡ j)
+  pub marked : (b : ℕ) → data_start g ≤ b → b < g.n → (marks b ≡ true) ↔ ((k : ℕ) × (i : ℕ) × HasBlock g m k i b)
+  pub free : (k : ℕ) → 1 ≤ k → k ≤ g.i → node_at g m k ≡ None → node_bytes g m k ≡ replicate node_size 0
+  pub tail : (k : ℕ) (node : Node) → used_node g m k ≡ Some node → node.kind ≡ Dir → IsTrue (are_zeros (past_content m node))
+
+-- something is put into the block, or it is freed
+abbrev pub is_filled : DraftState → ℕ → Bool
+is_filled d b = has d.freed b || (is_some (change_of d.changed b) || is_some (change_of d.fresh b))
+
+-- The draft may be finished on such a bookkeeping: it changes blocks of the node table and the data, what it takes may be taken, and each block that it takes is filled or freed.
+pub record FitsBooks (k : Bookkeeping) (d : DraftState) : Type 0 where
+  pub none_bare : HasNoBare k.running
+  pub changed : (b : ℕ) (c : Changed) → change_of d.changed b ≡ Some c → (table_start k.geom ≤ b) × (b < k.geom.n)
+  pub fresh : (b : ℕ) (c : Changed) → change_of d.fresh b ≡ Some c → has d.taken b ≡ true
+  pub taken : MayBeTaken k.geom k.reusable d.taken
+  pub filled : (b : ℕ) → has d.taken b ≡ true → is_filled d b ≡ true
+  pub freed : All (IsData k.geom) d.freed
+
+-- The blocks are sound with the draft's changes: no freed block has bytes, new content has no other change beside it, and each block is freed once and was marked or taken.
+pub record IsSoundDraft (k : Bookkeeping) (m : Blocks) (d : DraftState) : Type 0 where
+  pub blocks : AreSoundBy k.geom (marks_of d k.marked) (drafted d m)
+  pub changed : (b : ℕ) (c : Changed) → change_of d.changed b ≡ Some c → data_start k.geom ≤ b → marks_of d k.marked b ≡ true
+  pub fresh : (b : ℕ) (c : Changed) → change_of d.fresh b ≡ Some c → has d.freed b ≡ false
+  pub apart : (b : ℕ) → is_some (change_of d.fresh b) ≡ true → change_of d.changed b ≡ None
+  pub freed : All (λ b. (has d.taken b || k.marked b) ≡ true) d.freed
+  pub once : AllPairs (λ a b. a ≢ b) d.freed
+
+-- The draft is one of these blocks: it fits their bookkeeping, where they are known they are sound with it, and where it has new content it changes a block too.
+pub record IsDraftOf (tells : Bool) (s : State) (d : DraftState) : Type 0 where
+  pub fits : FitsBooks s.books d
+  pub sound : IsTrue tells → IsSoundDraft s.books s.map d
+  pub content : (b : ℕ) → is_some (change_of d.fresh b) ≡ true → ChangesSome d

@@ -1,0 +1,54 @@
+//! What is known of a file but for its bytes: its kind, its links and its size. Which bytes it has is
+//! read elsewhere.
+
+ghost use Rattle.std.specs.Prelude.{◌≡◌, ◌≢◌, ◌≤◌, IsTrue, false, is_err, IfOk, IfSome, option_map};
+ghost use Rattle.layout_bytes.specs.declared.node.NodeKind.TheVariants.{Free};
+ghost use Rattle.fs_files.specs.Calls.{facts_of, files_in};
+ghost use Rattle.fs_files.specs.Effects.{LooksOnly};
+ghost use Rattle.fs_files.specs.Sound.{IsDraftOf};
+
+use crate::draft::{Draft, ZEROS};
+use crate::nodes::load;
+use base_types::ReadFault;
+use engine_blocks::Blocks;
+use layout_node::NodeKind;
+
+/// What a node in use is, but for its bytes.
+#[derive(Clone, Copy, Debug, PartialEq, Eq)]
+pub struct FileFacts {
+    pub kind: NodeKind,
+    pub links: u32,
+    /// In bytes.
+    pub size: u64,
+}
+
+impl Draft {
+    /// What node `number` is as the draft has it. `None` where it isn't in use.
+    ///
+    /// # Errors
+    /// A read of the disk failed, which the disk has counted.
+    pub fn look<S: Blocks>(
+        &self,
+        blocks: &mut S,
+        number: u32,
+    ) -> Result<Option<FileFacts>, ReadFault>
+        requires going { (S.state blocks.old).books.stopped ≡ false }
+        requires above_zero { 1 ≤ number }
+        requires in_table { number ≤ (S.state blocks.old).books.geom.i }
+        requires draft { IsDraftOf S.tells (S.state blocks.old) self.now }
+        ensures facts { IsTrue S.tells → IfOk result (λ found. found ≡ option_map facts_of (files_in (S.state blocks.old) self.now number)) }
+        ensures used { IfOk result (λ found. IfSome found (λ f. f.kind ≢ Free)) }
+        ensures looks { LooksOnly S.tells (is_err result) (S.state blocks.old) (S.state blocks.new) }
+    {
+        blocks.geom().lawful();
+        let mut table = ZEROS;
+        let Some(node) = load(self, blocks, number, &mut table)? else {
+            return Ok(None);
+        };
+        Ok(Some(FileFacts {
+            kind: node.kind,
+            links: node.links,
+            size: node.size,
+        }))
+    }
+}

@@ -1,0 +1,249 @@
+//! Resizing a file of a draft: it is cut to fewer bytes, or grows to more with zeros. Its node and its
+//! blocks are changed by other modules.
+
+ghost use Rattle.std.specs.Prelude.{◌≡◌, ◌≢◌, ◌≤◌, ◌<◌, ◌*◌, ◌-◌, ◌/◌, ◌%◌, ◌^◌, IsTrue, false, [], ◌++◌, length, take, drop, replicate, Some, IfErr, OnOk};
+ghost use Rattle.std.specs.List.{All};
+ghost use Rattle.base_types.specs.declared.words.Class.TheVariants.{Meta};
+ghost use Rattle.layout_extent.specs.Runs.{stretches};
+ghost use Rattle.layout_bytes.specs.declared.node.NodeKind.TheVariants.{Dir};
+ghost use Rattle.lang_tree.specs.Step.{resized};
+ghost use Rattle.crash_stands.specs.Files.{FileNode, joined};
+ghost use Rattle.engine_blocks.specs.Calls.{HasTurns};
+ghost use Rattle.engine_blocks.specs.Puts.{IsData};
+ghost use Rattle.engine_blocks.specs.State.{reusable_blocks};
+ghost use Rattle.fs_files.specs.Bytes.{blocks_for, overwrite};
+ghost use Rattle.fs_files.specs.Calls.{files_in, places_in, IsUsed, IsWithFile, IsWithPlaces, with_bytes, ChangesAmong, Grows, Resizes, Shrinks, cut_blocks, growth, written_blocks, GrowthRefused, LookRefused};
+ghost use Rattle.fs_files.specs.Content.{HasContent, WritesContent, fails_reading, fails_settling};
+ghost use Rattle.fs_files.specs.Drafts.{drafted};
+ghost use Rattle.fs_files.specs.Effects.{LooksOnly, LooksAndSettles};
+ghost use Rattle.fs_files.specs.Growing.{more_blocks};
+ghost use Rattle.fs_files.specs.Nodes.{largest_node};
+ghost use Rattle.fs_files.specs.Resizing.{IsLoaded, ClearsRest, IsCleared};
+ghost use Rattle.fs_files.specs.Sound.{IsDraftOf};
+
+use crate::FileRefusal;
+use crate::calls::fill_gap;
+use crate::content::write_content;
+use crate::draft::{Draft, ZEROS};
+use crate::grow::{blocks_for, shrink};
+use crate::nodes::{OpenNode, load, store};
+use crate::write::make_room;
+use base_types::limits::BLOCK_LENGTH;
+use base_types::{Block, Class};
+use engine_blocks::{Blocks, calls_compose};
+use layout_extent::{Runs, a_list_has_its_runs};
+use layout_node::NodeKind;
+use std::alloc::Global;
+
+impl Draft {
+    /// Node `number` has so many bytes: its first ones, and zeros where it grows.
+    ///
+    /// # Errors
+    /// As `write_at`.
+    pub fn resize<S: Blocks>(
+        &mut self,
+        alloc: Global,
+        blocks: &mut S,
+        number: u32,
+        size: u64,
+    ) -> Result<(), FileRefusal>
+        requires going { (S.state blocks.old).books.stopped ≡ false }
+        requires turns { HasTurns (S.state blocks.old).books }
+        requires above_zero { 1 ≤ number }
+        requires in_table { number ≤ (S.state blocks.old).books.geom.i }
+        requires size { size ≤ 2 ^ 30 }
+        requires once { IsTrue S.tells → (x : FileNode) → files_in (S.state blocks.old) self.old number ≡ Some x → 0 < growth (length x.bytes) size → self.old.taken ≡ [] }
+        requires draft { IsDraftOf S.tells (S.state blocks.old) self.old }
+        requires used { IsTrue S.tells → IsUsed (files_in (S.state blocks.old) self.old) number }
+        requires slots { IsTrue S.tells → (x : FileNode) → files_in (S.state blocks.old) self.old number ≡ Some x → x.kind ≡ Dir → size % 64 ≡ 0 }
+        ensures file { IsTrue S.tells → OnOk result ((x : FileNode) → files_in (S.state blocks.old) self.old number ≡ Some x
+            → IsWithFile (files_in (S.state blocks.old) self.old) (files_in (S.state blocks.new) self.new) number (Some (with_bytes x (resized size x.bytes)))) }
+        ensures places { IsTrue S.tells → OnOk result ((x : FileNode) → files_in (S.state blocks.old) self.old number ≡ Some x
+            → IsWithPlaces (places_in (S.state blocks.old) self.old) (places_in (S.state blocks.new) self.new) number (take (blocks_for size) (places_in (S.state blocks.old) self.old number) ++ take (growth (length x.bytes) size) (reusable_blocks (S.state blocks.new).books))) }
+        ensures draft { OnOk result (IsDraftOf S.tells (S.state blocks.new) self.new) }
+        ensures resizes { IsTrue S.tells → OnOk result ((x : FileNode) → files_in (S.state blocks.old) self.old number ≡ Some x
+            → Resizes (S.state blocks.new).books number x (places_in (S.state blocks.old) self.old number) (places_in (S.state blocks.new) self.new number) size self.old self.new) }
+        ensures refused { IsTrue S.tells → IfErr result (λ why. (x : FileNode) → files_in (S.state blocks.old) self.old number ≡ Some x
+            → GrowthRefused (growth (length x.bytes) size) (places_in (S.state blocks.old) self.old number) (S.state blocks.old).books (S.state blocks.new).books why) }
+        ensures settles { LooksAndSettles S.tells (fails_reading result) (fails_settling result) (S.state blocks.old) (S.state blocks.new) }
+        ensures looks { IsTrue S.tells → (x : FileNode) → files_in (S.state blocks.old) self.old number ≡ Some x → growth (length x.bytes) size ≤ length (reusable_blocks (S.state blocks.old).books)
+            → LooksOnly S.tells (fails_reading result) (S.state blocks.old) (S.state blocks.new) }
+    {
+        calls_compose::<S>();
+        a_list_has_its_runs();
+        blocks.geom().lawful();
+        let mut table = ZEROS;
+        let Some(mut node) = load(self, blocks, number, &mut table)? else {
+            return Ok(());
+        };
+        if size == node.size {
+            return Ok(());
+        }
+        if size < node.size {
+            return cut(self, alloc, blocks, number, &mut node, size, &mut table);
+        }
+        if !may_grow(self, &node, size) {
+            return Ok(());
+        }
+        extend(self, alloc, blocks, number, &mut node, size, &mut table)
+    }
+}
+
+/// Whether the node needs no blocks for so many bytes, or the draft takes none so far.
+fn may_grow(draft: &Draft, node: &OpenNode, size: u64) -> bool
+    requires { size ≤ largest_node }
+    ensures yes { IsTrue result → 0 < more_blocks size node.now → draft.now.taken ≡ [] }
+    ensures no { result ≡ false → (0 < more_blocks size node.now) × (draft.now.taken ≢ []) }
+{
+    blocks_for(size) <= node.places.count() || draft.takes_none()
+}
+
+/// The node keeps its bytes before `size`, which is below its size, and is stored; what it needs no more is
+/// to be freed. Of a directory, the rest of the last block is zeros.
+///
+/// # Errors
+/// A read of the disk failed, which the disk has counted; or out of memory. The draft isn't to be used
+/// any more then.
+pub(crate) fn cut<S: Blocks>(
+    draft: &mut Draft,
+    alloc: Global,
+    blocks: &mut S,
+    number: u32,
+    node: &mut OpenNode,
+    size: u64,
+    table: &mut Block,
+) -> Result<(), FileRefusal>
+    requires going { (S.state blocks.old).books.stopped ≡ false }
+    requires loaded { IsLoaded S.tells (S.state blocks.old) draft.old number node.old table.old }
+    requires size { size ≤ 2 ^ 30 }
+    requires less { size < node.old.size }
+    requires slots { IsTrue S.tells → node.old.kind ≡ Dir → size % 64 ≡ 0 }
+    ensures file { IsTrue S.tells → OnOk result ((x : FileNode) → files_in (S.state blocks.old) draft.old number ≡ Some x
+        → IsWithFile (files_in (S.state blocks.old) draft.old) (files_in (S.state blocks.new) draft.new) number (Some (with_bytes x (resized size x.bytes)))) }
+    ensures places { IsTrue S.tells → OnOk result (IsWithPlaces (places_in (S.state blocks.old) draft.old) (places_in (S.state blocks.new) draft.new) number (take (blocks_for size) (places_in (S.state blocks.old) draft.old number))) }
+    ensures draft { OnOk result (IsDraftOf S.tells (S.state blocks.new) draft.new) }
+    ensures shrinks { IsTrue S.tells → OnOk result ((x : FileNode) → files_in (S.state blocks.old) draft.old number ≡ Some x
+        → Shrinks x (places_in (S.state blocks.old) draft.old number) (places_in (S.state blocks.new) draft.new number) size draft.old draft.new) }
+    ensures among { IsTrue S.tells → OnOk result ((x : FileNode) → files_in (S.state blocks.old) draft.old number ≡ Some x
+        → ChangesAmong (cut_blocks (S.state blocks.old).books.geom number x (places_in (S.state blocks.old) draft.old number) size) draft.old draft.new) }
+    ensures refused { IfErr result LookRefused }
+    ensures looks { LooksOnly S.tells (fails_reading result) (S.state blocks.old) (S.state blocks.new) }
+{
+    let geom = blocks.geom();
+    geom.lawful();
+    a_list_has_its_runs();
+    shrink(draft, node, blocks_for(size))?;
+    few_runs(&node.places);
+    clear_rest(draft, alloc, blocks, node.kind, &node.places, size)?;
+    node.size = size;
+    store(draft, alloc, &geom, number, &node.to_node(), table)?;
+    Ok(())
+}
+
+/// The node gets bytes up to `size`, which is past its end, and is stored: its new bytes are zeros.
+///
+/// # Errors
+/// As `Draft::resize`. The draft isn't to be used any more then.
+fn extend<S: Blocks>(
+    draft: &mut Draft,
+    alloc: Global,
+    blocks: &mut S,
+    number: u32,
+    node: &mut OpenNode,
+    size: u64,
+    table: &mut Block,
+) -> Result<(), FileRefusal>
+    requires going { (S.state blocks.old).books.stopped ≡ false }
+    requires turns { HasTurns (S.state blocks.old).books }
+    requires loaded { IsLoaded S.tells (S.state blocks.old) draft.old number node.old table.old }
+    requires size { size ≤ 2 ^ 30 }
+    requires more { node.old.size < size }
+    requires slots { IsTrue S.tells → node.old.kind ≡ Dir → size % 64 ≡ 0 }
+    requires once { 0 < more_blocks size node.old → draft.old.taken ≡ [] }
+    ensures file { IsTrue S.tells → OnOk result ((x : FileNode) → files_in (S.state blocks.old) draft.old number ≡ Some x
+        → IsWithFile (files_in (S.state blocks.old) draft.old) (files_in (S.state blocks.new) draft.new) number (Some (with_bytes x (resized size x.bytes)))) }
+    ensures places { IsTrue S.tells → OnOk result ((x : FileNode) → files_in (S.state blocks.old) draft.old number ≡ Some x
+        → IsWithPlaces (places_in (S.state blocks.old) draft.old) (places_in (S.state blocks.new) draft.new) number (take (blocks_for size) (places_in (S.state blocks.old) draft.old number) ++ take (growth (length x.bytes) size) (reusable_blocks (S.state blocks.new).books))) }
+    ensures draft { OnOk result (IsDraftOf S.tells (S.state blocks.new) draft.new) }
+    ensures grows { IsTrue S.tells → OnOk result ((x : FileNode) → files_in (S.state blocks.old) draft.old number ≡ Some x
+        → Grows (S.state blocks.new).books x (places_in (S.state blocks.old) draft.old number) (places_in (S.state blocks.new) draft.new number) size draft.old draft.new) }
+    ensures among { IsTrue S.tells → OnOk result ((x : FileNode) → files_in (S.state blocks.old) draft.old number ≡ Some x
+        → ChangesAmong (written_blocks (S.state blocks.new).books.geom number x (places_in (S.state blocks.old) draft.old number) (drop (length (places_in (S.state blocks.old) draft.old number)) (places_in (S.state blocks.new) draft.new number)) (length x.bytes) size) draft.old draft.new) }
+    ensures refused { IfErr result (λ why. GrowthRefused (more_blocks size node.old) node.old.places (S.state blocks.old).books (S.state blocks.new).books why) }
+    ensures settles { LooksAndSettles S.tells (fails_reading result) (fails_settling result) (S.state blocks.old) (S.state blocks.new) }
+    ensures looks { more_blocks size node.old ≤ length (reusable_blocks (S.state blocks.old).books) → LooksOnly S.tells (fails_reading result) (S.state blocks.old) (S.state blocks.new) }
+{
+    calls_compose::<S>();
+    a_list_has_its_runs();
+    let geom = blocks.geom();
+    geom.lawful();
+    fill_gap(draft, alloc, blocks, node, size)?;
+    make_room(draft, alloc, blocks, node, size)?;
+    few_runs(&node.places);
+    node.size = size;
+    store(draft, alloc, &geom, number, &node.to_node(), table)?;
+    Ok(())
+}
+
+// A list of places has at most 28 stretches.
+fn few_runs(places: &Runs)
+    ensures { stretches places.now ≤ 28 }
+{
+    a_list_has_its_runs();
+    let _ = places.list().as_slice().len();
+}
+
+/// The bytes from `size` on of these blocks, which so many bytes need, become zeros where they are a
+/// directory's.
+///
+/// # Errors
+/// A read of the disk failed, which the disk has counted; or out of memory. The draft isn't to be used
+/// any more then.
+fn clear_rest<S: Blocks>(
+    draft: &mut Draft,
+    alloc: Global,
+    blocks: &mut S,
+    kind: NodeKind,
+    places: &Runs,
+    size: u64,
+) -> Result<(), FileRefusal>
+    requires going { (S.state blocks.old).books.stopped ≡ false }
+    requires data { All (IsData (S.state blocks.old).books.geom) places.now }
+    requires count { length places.now ≡ blocks_for size }
+    ensures clears { OnOk result (ClearsRest kind size places.now draft.old draft.new) }
+    ensures bytes { IsTrue S.tells → HasContent (S.state blocks.old).map draft.old places.now → OnOk result (IsCleared (S.state blocks.old).map kind size places.now draft.old draft.new) }
+    ensures refused { IfErr result LookRefused }
+    ensures looks { LooksOnly S.tells (fails_reading result) (S.state blocks.old) (S.state blocks.new) }
+{
+    match kind {
+        NodeKind::Free => Ok(()),
+        NodeKind::Dir => zero_rest(draft, alloc, blocks, places, size),
+        NodeKind::File => Ok(()),
+    }
+}
+
+/// The bytes from `size` on of these blocks, which so many bytes need, become zeros.
+///
+/// # Errors
+/// A read of the disk failed, which the disk has counted; or out of memory. The draft isn't to be used
+/// any more then.
+fn zero_rest<S: Blocks>(
+    draft: &mut Draft,
+    alloc: Global,
+    blocks: &mut S,
+    places: &Runs,
+    size: u64,
+) -> Result<(), FileRefusal>
+    requires going { (S.state blocks.old).books.stopped ≡ false }
+    requires data { All (IsData (S.state blocks.old).books.geom) places.now }
+    requires count { length places.now ≡ blocks_for size }
+    ensures writes { OnOk result (WritesContent Meta (drop (size / 1024) places.now) draft.old draft.new) }
+    ensures content { IsTrue S.tells → HasContent (S.state blocks.old).map draft.old places.now → OnOk result (HasContent (S.state blocks.old).map draft.new places.now) }
+    ensures bytes { IsTrue S.tells → HasContent (S.state blocks.old).map draft.old places.now → OnOk result (joined (drafted draft.new (S.state blocks.old).map) places.now ≡ overwrite size (replicate (1024 * length places.now - size) 0) (joined (drafted draft.old (S.state blocks.old).map) places.now)) }
+    ensures refused { IfErr result LookRefused }
+    ensures looks { LooksOnly S.tells (fails_reading result) (S.state blocks.old) (S.state blocks.new) }
+{
+    let room = u64::from(places.count()) * BLOCK_LENGTH as u64;
+    let rest = &ZEROS[..(room - size) as usize];
+    write_content(draft, alloc, blocks, places, Class::Meta, size, rest)
+}

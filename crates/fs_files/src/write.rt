@@ -1,0 +1,241 @@
+//! Writing bytes into a file of a draft: the gap before them, the blocks that they need, and the bytes
+//! themselves. What a draft is then is described by the clauses of `write_at`.
+
+ghost use Rattle.std.specs.Prelude.{◌≡◌, ◌≤◌, ◌<◌, ◌+◌, ◌%◌, ◌^◌, ℕ, IsTrue, false, max, min, [], ◌++◌, length, take, drop, Some, IfErr, OnOk};
+ghost use Rattle.layout_bytes.specs.declared.node.NodeKind.TheVariants.{Dir};
+ghost use Rattle.engine_blocks.specs.Calls.{HasTurns};
+ghost use Rattle.engine_blocks.specs.State.{reusable_blocks};
+ghost use Rattle.fs_files.specs.Bytes.{overwritten};
+ghost use Rattle.fs_files.specs.Calls.{files_in, places_in, IsUsed, IsWithFile, IsWithPlaces, with_bytes, ChangesAmong, Grows, growth, written_blocks, GrowthRefused, LookRefused};
+ghost use Rattle.fs_files.specs.Content.{fails_reading, fails_settling};
+ghost use Rattle.fs_files.specs.Effects.{LooksOnly, LooksAndSettles};
+ghost use Rattle.fs_files.specs.Drafts.{drafted, ChangesSome};
+ghost use Rattle.fs_files.specs.Growing.{more_blocks};
+ghost use Rattle.fs_files.specs.Nodes.{largest_node, node_block, node_of_open, IsOpen};
+ghost use Rattle.fs_files.specs.Sound.{IsDraftOf};
+ghost use Rattle.fs_files.specs.Writing.{FillsGap, HasRoom, WritesOpen, KeepsSize, WritesFile};
+ghost use Rattle.crash_stands.specs.Files.{FileNode, used_node};
+
+use crate::FileRefusal;
+use crate::calls::fill_gap;
+use crate::content::write_content;
+use crate::draft::{Draft, ZEROS};
+use crate::grow::{blocks_for, class_of, grow};
+use crate::nodes::{OpenNode, load, store};
+use base_types::{Block, NoMemory};
+use engine_blocks::{Blocks, calls_compose};
+use layout_extent::a_list_has_its_runs;
+use layout_geometry::Geom;
+use std::alloc::Global;
+
+impl Draft {
+    /// Writes these bytes into node `number` from `offset` on. A gap past its end is zeros. No bytes
+    /// change nothing.
+    ///
+    /// # Errors
+    /// Where it grows: fewer blocks may be taken; they and its own would lie in more than 28 runs; or the
+    /// disk failed as it settled. Else a read of the disk failed; or out of memory. The draft isn't to be
+    /// used any more then.
+    pub fn write_at<S: Blocks>(
+        &mut self,
+        alloc: Global,
+        blocks: &mut S,
+        number: u32,
+        offset: u64,
+        bytes: &[u8],
+    ) -> Result<(), FileRefusal>
+        requires going { (S.state blocks.old).books.stopped ≡ false }
+        requires turns { HasTurns (S.state blocks.old).books }
+        requires above_zero { 1 ≤ number }
+        requires in_table { number ≤ (S.state blocks.old).books.geom.i }
+        requires size { offset + length bytes.now ≤ 2 ^ 30 }
+        requires once { IsTrue S.tells → (x : FileNode) → files_in (S.state blocks.old) self.old number ≡ Some x → 0 < growth (length x.bytes) (offset + length bytes.now) → self.old.taken ≡ [] }
+        requires draft { IsDraftOf S.tells (S.state blocks.old) self.old }
+        requires used { IsTrue S.tells → IsUsed (files_in (S.state blocks.old) self.old) number }
+        requires slots { IsTrue S.tells → (x : FileNode) → files_in (S.state blocks.old) self.old number ≡ Some x → x.kind ≡ Dir → (max (length x.bytes) (offset + length bytes.now)) % 64 ≡ 0 }
+        ensures file { IsTrue S.tells → OnOk result ((x : FileNode) → files_in (S.state blocks.old) self.old number ≡ Some x
+            → IsWithFile (files_in (S.state blocks.old) self.old) (files_in (S.state blocks.new) self.new) number (Some (with_bytes x (overwritten offset bytes.now x.bytes)))) }
+        ensures places { IsTrue S.tells → OnOk result ((x : FileNode) → files_in (S.state blocks.old) self.old number ≡ Some x
+            → IsWithPlaces (places_in (S.state blocks.old) self.old) (places_in (S.state blocks.new) self.new) number (places_in (S.state blocks.old) self.old number ++ take (growth (length x.bytes) (length (overwritten offset bytes.now x.bytes))) (reusable_blocks (S.state blocks.new).books))) }
+        ensures draft { OnOk result (IsDraftOf S.tells (S.state blocks.new) self.new) }
+        ensures grows { IsTrue S.tells → OnOk result ((x : FileNode) → files_in (S.state blocks.old) self.old number ≡ Some x → 0 < length bytes.now
+            → Grows (S.state blocks.new).books x (places_in (S.state blocks.old) self.old number) (places_in (S.state blocks.new) self.new number) (offset + length bytes.now) self.old self.new) }
+        ensures among { IsTrue S.tells → OnOk result ((x : FileNode) → files_in (S.state blocks.old) self.old number ≡ Some x
+            → ChangesAmong (written_blocks (S.state blocks.old).books.geom number x (places_in (S.state blocks.old) self.old number) (drop (length (places_in (S.state blocks.old) self.old number)) (places_in (S.state blocks.new) self.new number)) (min offset (length x.bytes)) (offset + length bytes.now)) self.old self.new) }
+        ensures changes { IsTrue S.tells → OnOk result (0 < length bytes.now → ChangesSome self.new) }
+        ensures refused { IsTrue S.tells → IfErr result (λ why. (x : FileNode) → files_in (S.state blocks.old) self.old number ≡ Some x
+            → GrowthRefused (growth (length x.bytes) (offset + length bytes.now)) (places_in (S.state blocks.old) self.old number) (S.state blocks.old).books (S.state blocks.new).books why) }
+        ensures settles { LooksAndSettles S.tells (fails_reading result) (fails_settling result) (S.state blocks.old) (S.state blocks.new) }
+        ensures looks { IsTrue S.tells → (x : FileNode) → files_in (S.state blocks.old) self.old number ≡ Some x → growth (length x.bytes) (offset + length bytes.now) ≤ length (reusable_blocks (S.state blocks.old).books)
+            → LooksOnly S.tells (fails_reading result) (S.state blocks.old) (S.state blocks.new) }
+    {
+        calls_compose::<S>();
+        a_list_has_its_runs();
+        let geom = blocks.geom();
+        geom.lawful();
+        if bytes.is_empty() {
+            return Ok(());
+        }
+        let mut table = ZEROS;
+        let Some(mut node) = load(self, blocks, number, &mut table)? else {
+            return Ok(());
+        };
+        write_loaded(
+            self, alloc, blocks, number, &mut node, &mut table, offset, bytes,
+        )
+    }
+}
+
+/// Writes bytes into an open node from `offset` on: first zeros into the gap before them, and then blocks
+/// for them. Its size stays.
+///
+/// # Errors
+/// As `Draft::write_at`. The draft isn't to be used any more then.
+pub(crate) fn write_open<S: Blocks>(
+    draft: &mut Draft,
+    alloc: Global,
+    blocks: &mut S,
+    node: &mut OpenNode,
+    offset: u64,
+    bytes: &[u8],
+) -> Result<(), FileRefusal>
+    requires going { (S.state blocks.old).books.stopped ≡ false }
+    requires turns { HasTurns (S.state blocks.old).books }
+    requires open { IsOpen (S.state blocks.old).books.geom node.old }
+    requires size { offset + length bytes.now ≤ 2 ^ 30 }
+    requires once { 0 < more_blocks (max node.old.size (offset + length bytes.now)) node.old → draft.old.taken ≡ [] }
+    ensures writes { OnOk result (WritesOpen S.tells (S.state blocks.new).books (S.state blocks.old).map offset bytes.now node.old node.new draft.old draft.new) }
+    ensures refused { IfErr result (λ why. GrowthRefused (more_blocks (max node.old.size (offset + length bytes.now)) node.old) node.old.places (S.state blocks.old).books (S.state blocks.new).books why) }
+    ensures settles { LooksAndSettles S.tells (fails_reading result) (fails_settling result) (S.state blocks.old) (S.state blocks.new) }
+    ensures looks { more_blocks (max node.old.size (offset + length bytes.now)) node.old ≤ length (reusable_blocks (S.state blocks.old).books) → LooksOnly S.tells (fails_reading result) (S.state blocks.old) (S.state blocks.new) }
+{
+    calls_compose::<S>();
+    let size = node.size.max(offset + bytes.len() as u64);
+    close_gap(draft, alloc, blocks, node, offset)?;
+    make_room(draft, alloc, blocks, node, size)?;
+    let class = class_of(node.kind);
+    write_content(draft, alloc, blocks, &node.places, class, offset, bytes)?;
+    Ok(())
+}
+
+/// Zeros from the node's end to byte `offset`, where that is past it, within the blocks that it has.
+///
+/// # Errors
+/// A read of the disk failed, which the disk has counted; or out of memory. The draft isn't to be used
+/// any more then.
+fn close_gap<S: Blocks>(
+    draft: &mut Draft,
+    alloc: Global,
+    blocks: &mut S,
+    node: &OpenNode,
+    offset: u64,
+) -> Result<(), FileRefusal>
+    requires going { (S.state blocks.old).books.stopped ≡ false }
+    requires open { IsOpen (S.state blocks.old).books.geom node.now }
+    ensures gap { OnOk result (FillsGap S.tells (S.state blocks.old).map offset node.now draft.old draft.new) }
+    ensures refused { IfErr result LookRefused }
+    ensures looks { LooksOnly S.tells (fails_reading result) (S.state blocks.old) (S.state blocks.new) }
+{
+    if offset <= node.size {
+        return Ok(());
+    }
+    fill_gap(draft, alloc, blocks, node, offset)
+}
+
+/// The node gets blocks for so many bytes, where it has too few.
+///
+/// # Errors
+/// As `grow`. The draft isn't to be used any more then.
+pub(crate) fn make_room<S: Blocks>(
+    draft: &mut Draft,
+    alloc: Global,
+    blocks: &mut S,
+    node: &mut OpenNode,
+    size: u64,
+) -> Result<(), FileRefusal>
+    requires going { (S.state blocks.old).books.stopped ≡ false }
+    requires turns { HasTurns (S.state blocks.old).books }
+    requires size { size ≤ largest_node }
+    requires once { 0 < more_blocks size node.old → draft.old.taken ≡ [] }
+    ensures room { OnOk result (HasRoom (S.state blocks.new).books size node.old node.new draft.old draft.new) }
+    ensures refused { IfErr result (λ why. GrowthRefused (more_blocks size node.old) node.old.places (S.state blocks.old).books (S.state blocks.new).books why) }
+    ensures unread { fails_reading result ≡ false }
+    ensures settles { LooksAndSettles S.tells false (fails_settling result) (S.state blocks.old) (S.state blocks.new) }
+    ensures looks { more_blocks size node.old ≤ length (reusable_blocks (S.state blocks.old).books) → LooksOnly S.tells false (S.state blocks.old) (S.state blocks.new) }
+{
+    calls_compose::<S>();
+    if blocks_for(size) <= node.places.count() {
+        return Ok(());
+    }
+    grow(draft, alloc, blocks, node, size)
+}
+
+/// The node has at least so many bytes, in its block of the node table too, of which `table` has the bytes.
+///
+/// # Errors
+/// Out of memory. The draft isn't to be used any more then.
+fn keep_size(
+    draft: &mut Draft,
+    alloc: Global,
+    geom: &Geom,
+    number: u32,
+    node: &mut OpenNode,
+    size: u64,
+    table: &mut Block,
+) -> Result<(), NoMemory>
+    requires above_zero { 1 ≤ number }
+    requires in_table { number ≤ geom.now.i }
+    ensures { OnOk result (KeepsSize geom.now number size node.old table.old draft.old draft.new) }
+{
+    if size <= node.size {
+        return Ok(());
+    }
+    node.size = size;
+    store(draft, alloc, geom, number, &node.to_node(), table)
+}
+
+/// Writes bytes into node `number`, which is `node`, from `offset` on. `table` has the bytes of its block
+/// of the node table. Bytes are given.
+///
+/// # Errors
+/// As `Draft::write_at`. The draft isn't to be used any more then.
+fn write_loaded<S: Blocks>(
+    draft: &mut Draft,
+    alloc: Global,
+    blocks: &mut S,
+    number: u32,
+    node: &mut OpenNode,
+    table: &mut Block,
+    offset: u64,
+    bytes: &[u8],
+) -> Result<(), FileRefusal>
+    requires going { (S.state blocks.old).books.stopped ≡ false }
+    requires turns { HasTurns (S.state blocks.old).books }
+    requires above_zero { 1 ≤ number }
+    requires in_table { number ≤ (S.state blocks.old).books.geom.i }
+    requires size { offset + length bytes.now ≤ 2 ^ 30 }
+    requires some { 0 < length bytes.now }
+    requires open { IsOpen (S.state blocks.old).books.geom node.old }
+    requires draft { IsDraftOf S.tells (S.state blocks.old) draft.old }
+    requires used { IsTrue S.tells → used_node (S.state blocks.old).books.geom (drafted draft.old (S.state blocks.old).map) number ≡ Some (node_of_open node.old) }
+    requires table { IsTrue S.tells → table.old ≡ drafted draft.old (S.state blocks.old).map (node_block (S.state blocks.old).books.geom number) }
+    requires once { IsTrue S.tells → 0 < more_blocks (max node.old.size (offset + length bytes.now)) node.old → draft.old.taken ≡ [] }
+    requires slots { IsTrue S.tells → node.old.kind ≡ Dir → (max node.old.size (offset + length bytes.now)) % 64 ≡ 0 }
+    ensures draft { OnOk result (IsDraftOf S.tells (S.state blocks.new) draft.new) }
+    ensures file { IsTrue S.tells → OnOk result (WritesFile (S.state blocks.new).books (S.state blocks.old).map number offset bytes.now draft.old draft.new) }
+    ensures refused { IfErr result (λ why. GrowthRefused (more_blocks (max node.old.size (offset + length bytes.now)) node.old) node.old.places (S.state blocks.old).books (S.state blocks.new).books why) }
+    ensures settles { LooksAndSettles S.tells (fails_reading result) (fails_settling result) (S.state blocks.old) (S.state blocks.new) }
+    ensures looks { more_blocks (max node.old.size (offset + length bytes.now)) node.old ≤ length (reusable_blocks (S.state blocks.old).books) → LooksOnly S.tells (fails_reading result) (S.state blocks.old) (S.state blocks.new) }
+{
+    calls_compose::<S>();
+    a_list_has_its_runs();
+    let geom = blocks.geom();
+    geom.lawful();
+    let size = node.size.max(offset + bytes.len() as u64);
+    if blocks_for(size) > node.places.count() && !draft.takes_none() {
+        return Ok(());
+    }
+    write_open(draft, alloc, blocks, node, offset, bytes)?;
+    keep_size(draft, alloc, &geom, number, node, size, table)?;
+    Ok(())
+}

@@ -1,0 +1,128 @@
+-- Options, and paths by their last name.
+use Rattle.std.proofs.Common.{◌≡◌, ℕ, suc, Bool, true, false, List, [], ◌∷◌, ◌++◌, ◌-◌, length, take, bytes_eq, Option, Some, None, is_some, if◌then◌else◌, refl, sym, ap, ◌∙◌, ◌⊎◌, inl, inr, length-append, arith, true≢false}
+use Rattle.std.proofs.lemmas.Bool.{cases_Bool, cases_eq}
+use Rattle.std.proofs.lemmas.List.{same_from_push}
+use Rattle.std.proofs.lemmas.Slice.Eq.{bytes_eq-Decides}
+use Rattle.lang_tree.specs.Paths.{strip, is_within, parent}
+
+-- a path as the list of its names
+abbrev pub Path : Type 0
+Path = List (List ℕ)
+
+-- nothing isn't something
+pub none_some : {A : Type 0} {o : Option A} (x : A) → o ≡ None → o ≡ Some x → ⊥
+none_some x none some = cc
+
+-- something is one thing
+pub some_same : {A : Type 0} (x y : A) → Some x ≡ Some y → x ≡ y
+some_same x y e = cc
+
+-- what isn't something is nothing
+pub lacks : {A : Type 0} (o : Option A) → is_some o ≡ false → o ≡ None
+lacks None e = refl
+lacks (Some x) e = absurd cc
+
+-- an option is nothing or something
+pub which : {A : Type 0} (o : Option A) → (o ≡ None) ⊎ ((x : A) × (o ≡ Some x))
+which None = inl refl
+which (Some x) = inr (x, refl)
+
+-- one name is another one, or not
+pub which_name : (a b : List ℕ) → (a ≡ b) ⊎ (a ≡ b → ⊥)
+which_name a b = by (cases_Bool (bytes_eq a b))
+  where
+    by : (bytes_eq a b ≡ true) ⊎ (bytes_eq a b ≡ false) → (a ≡ b) ⊎ (a ≡ b → ⊥)
+    by (inl e) = inl ((bytes_eq-Decides a b).0 e)
+    by (inr e) = inr (λ same. true≢false (sym ((bytes_eq-Decides a b).1 same) ∙ e))
+
+-- a name is itself
+pub same_name : (a : List ℕ) → bytes_eq a a ≡ true
+same_name a = (bytes_eq-Decides a a).1 refl
+
+-- names that differ fail the test
+pub other_name : (a b : List ℕ) → (a ≡ b → ⊥) → bytes_eq a b ≡ false
+other_name a b off = by (cases_Bool (bytes_eq a b))
+  where
+    by : (bytes_eq a b ≡ true) ⊎ (bytes_eq a b ≡ false) → bytes_eq a b ≡ false
+    by (inl e) = absurd (off ((bytes_eq-Decides a b).0 e))
+    by (inr e) = e
+
+-- a number with a name is another one, or not
+pub which_entry : (k d : ℕ) (a b : List ℕ) → ((k ≡ d) × (a ≡ b)) ⊎ ((k ≡ d) × (a ≡ b) → ⊥)
+which_entry k d a b = by (cases_eq k d) (which_name a b)
+  where
+    by : (k ≡ d) ⊎ (k ≡ d → ⊥) → (a ≡ b) ⊎ (a ≡ b → ⊥) → ((k ≡ d) × (a ≡ b)) ⊎ ((k ≡ d) × (a ≡ b) → ⊥)
+    by (inl e) (inl f) = inl (e, f)
+    by (inl e) (inr n) = inr (λ both. n both.1)
+    by (inr n) f = inr (λ both. n both.0)
+
+-- two paths with a last name each are equal in both parts
+pub last_same : (p q : Path) (a b : List ℕ) → p ++ a ∷ [] ≡ q ++ b ∷ [] → (p ≡ q) × (a ≡ b)
+last_same p q a b e = let both = same_from_push p q a b e in (both.0, both.1)
+
+-- a path with a last name isn't the root
+pub no_end : (p : Path) (a : List ℕ) → p ++ a ∷ [] ≡ [] → ⊥
+no_end [] a e = cc
+no_end (x ∷ p) a e = cc
+
+-- nor is it the path before that name
+pub longer : (p : Path) (a : List ℕ) → p ++ a ∷ [] ≡ p → ⊥
+longer p a e = omega (arith, length-append p (a ∷ []), ap length e)
+
+-- a number less two and one
+one_less : (n : ℕ) → suc (suc n) - 1 ≡ suc (suc n - 1)
+one_less n = omega arith
+
+-- one name more in front
+parent_longer : (x : List ℕ) (up : Path) (name : List ℕ) → parent (x ∷ (up ++ name ∷ [])) ≡ x ∷ parent (up ++ name ∷ [])
+parent_longer x [] name = refl
+parent_longer x (y ∷ up) name = ap (λ n. take n (x ∷ (y ∷ (up ++ name ∷ [])))) (one_less (length (up ++ name ∷ [])))
+
+-- the parent of a path with a last name is the path before it
+pub parent_end : (up : Path) (name : List ℕ) → parent (up ++ name ∷ []) ≡ up
+parent_end [] name = refl
+parent_end (x ∷ up) name = parent_longer x up name ∙ ap (λ rest. x ∷ rest) (parent_end up name)
+
+-- a path is the root, or it has a last name
+pub from_end : (p : Path) → (p ≡ []) ⊎ ((up : Path) × (name : List ℕ) × (p ≡ up ++ name ∷ []))
+from_end [] = inl refl
+from_end (a ∷ p) = by (from_end p)
+  where
+    by : (p ≡ []) ⊎ ((up : Path) × (name : List ℕ) × (p ≡ up ++ name ∷ [])) → (a ∷ p ≡ []) ⊎ ((up : Path) × (name : List ℕ) × (a ∷ p ≡ up ++ name ∷ []))
+    by (inl e) = inr ([], a, ap (λ p. a ∷ p) e)
+    by (inr s) = inr (a ∷ s.0, s.1, ap (λ p. a ∷ p) s.2)
+
+-- what is left of a path is behind its front
+pub strip_is : (p q r : Path) → strip p q ≡ Some r → q ≡ p ++ r
+strip_is [] q r e = some_same q r e
+strip_is (a ∷ p) [] r e = absurd (none_some r refl e)
+strip_is (a ∷ p) (b ∷ q) r e = by (bytes_eq a b) refl (strip_is p q r) e
+  where
+    by : (t : Bool) → bytes_eq a b ≡ t → (strip p q ≡ Some r → q ≡ p ++ r) → (if t then strip p q else None) ≡ Some r → b ∷ q ≡ (a ∷ p) ++ r
+    by true is go e = let same : a ≡ b = (bytes_eq-Decides a b).0 is in let rest = go e in cc
+    by false is go e = absurd (none_some r refl e)
+
+-- a path behind its front is what is left
+pub strip_join : (p r : Path) → strip p (p ++ r) ≡ Some r
+strip_join [] r = refl
+strip_join (a ∷ p) r = ap (λ t. if t then strip p (p ++ r) else None) (same_name a) ∙ strip_join p r
+
+-- a path lies within another one that it begins with
+pub within_at : (p q r : Path) → q ≡ p ++ r → is_within p q ≡ true
+within_at p q r e = ap is_some (ap (strip p) e ∙ strip_join p r)
+
+-- a path lies at or below another one, or not
+pub which_side : (p q : Path) → ((r : Path) × (q ≡ p ++ r)) ⊎ ((r : Path) → q ≡ p ++ r → ⊥)
+which_side p q = by (which (strip p q))
+  where
+    by : (strip p q ≡ None) ⊎ ((r : Path) × (strip p q ≡ Some r)) → ((r : Path) × (q ≡ p ++ r)) ⊎ ((r : Path) → q ≡ p ++ r → ⊥)
+    by (inl none) = inr (λ r e. none_some r none (ap (strip p) e ∙ strip_join p r))
+    by (inr some) = inl (some.0, strip_is p q some.0 some.1)
+
+-- a path that doesn't begin with another one doesn't lie there
+pub away : (p q : Path) → ((r : Path) → q ≡ p ++ r → ⊥) → is_within p q ≡ false
+away p q off = by (which (strip p q))
+  where
+    by : (strip p q ≡ None) ⊎ ((r : Path) × (strip p q ≡ Some r)) → is_within p q ≡ false
+    by (inl none) = ap is_some none
+    by (inr some) = absurd (off some.0 (strip_is p q some.0 some.1))

@@ -1,0 +1,109 @@
+-- What is left of a node where one slot less names it, and of the tree's nodes where a path is gone.
+use Rattle.std.proofs.Common.{◌≡◌, ℕ, ◌+◌, ◌-◌, ◌==◌, Bool, true, false, if◌then◌else◌, List, Option, Some, None, option_map, option_and_then, sym, refl, ap, ◌∙◌, ◌⊎◌, inl, inr, arith, eq-eqb, ne_eqb}
+use Rattle.std.proofs.lemmas.Bool.{cases_eq}
+use Rattle.std.specs.FinMap.{get, remove}
+use Rattle.layout_bytes.specs.declared.slot.Slot.{Slot}
+use Rattle.lang_tree.specs.Tree.{Tree, Thing, File}
+use Rattle.lang_tree.specs.Names.{path_count}
+use Rattle.lang_tree.specs.Step.{with_used}
+use Rattle.crash_stands.specs.Inodes.{Inode, Inodes, ADir, AFile, thing_of}
+use Rattle.crash_stands.specs.Walks.{entry_in}
+use Rattle.fs_inodes.specs.Changes.{one_link_less}
+use Rattle.fs_inodes.specs.TreeLaws.{TreeLaws}
+use Rattle.fs_inodes.proofs.basics.Paths.{Path, none_some}
+use Rattle.fs_inodes.proofs.basics.FinMaps.{node_gone, node_stays}
+use Rattle.fs_inodes.proofs.commands.Adding.{one_if, counts_one, dir_file, one_file}
+use Rattle.fs_inodes.proofs.agreement.Agree.{Agrees}
+
+-- nothing is in what is left
+pub left_empty : (o : Option Inode) (b : List ℕ) → entry_in (option_and_then one_link_less o) b ≡ None
+left_empty None b = refl
+left_empty (Some (ADir slots)) b = refl
+left_empty (Some (AFile links bytes)) b = by (links == 1) _
+  where
+    by : (t : Bool) (less : ℕ) → entry_in (if t then None else Some (AFile less bytes)) b ≡ None
+    by true less = refl
+    by false less = refl
+
+-- what is left isn't a directory
+pub left_no_dir : (o : Option Inode) (slots : List Slot) → option_and_then one_link_less o ≡ Some (ADir slots) → ⊥
+left_no_dir None slots e = none_some (ADir slots) refl e
+left_no_dir (Some (ADir others)) slots e = none_some (ADir slots) refl e
+left_no_dir (Some (AFile links bytes)) slots e = by (links == 1) _ e
+  where
+    by : (t : Bool) (less : ℕ) → (if t then None else Some (AFile less bytes)) ≡ Some (ADir slots) → ⊥
+    by true less e = none_some (ADir slots) refl e
+    by false less e = dir_file slots less bytes refl (sym e)
+
+-- a file that is left had one link more
+pub left_links : (o : Option Inode) (links : ℕ) (bytes : List ℕ) → option_and_then one_link_less o ≡ Some (AFile links bytes)
+    → (old : ℕ) × (o ≡ Some (AFile old bytes)) × (links ≡ old - 1)
+left_links None links bytes e = absurd (none_some (AFile links bytes) refl e)
+left_links (Some (ADir slots)) links bytes e = absurd (none_some (AFile links bytes) refl e)
+left_links (Some (AFile old more)) links bytes e = by (old == 1) e
+  where
+    by : (t : Bool) → (if t then None else Some (AFile (old - 1) more)) ≡ Some (AFile links bytes) → (before : ℕ) × (Some (AFile old more) ≡ Some (AFile before bytes)) × (links ≡ before - 1)
+    by true e = absurd (none_some (AFile links bytes) refl e)
+    by false e = (old, ap (λ b. Some (AFile old b)) (bytes_same e), one_file links (old - 1) bytes more refl (sym e))
+      where
+        bytes_same : Some (AFile (old - 1) more) ≡ Some (AFile links bytes) → more ≡ bytes
+        bytes_same e = cc
+
+module _ (laws : TreeLaws) (limit : ℕ) (m : Inodes) (t : Tree) (a : Agrees limit m t) (path : Path) (n : ℕ) (there : get t.names path ≡ Some n) where
+  -- the number that the path leads to has one path less
+  pub one_less_path : (k : ℕ) → path_count t.names k ≡ one_if n k + path_count (remove t.names path) k
+  one_less_path k = laws.count_taken t.names path n k there
+
+  -- of the number itself
+  pub one_less_here : path_count t.names n ≡ 1 + path_count (remove t.names path) n
+  one_less_here = one_less_path n ∙ ap (λ c. c + path_count (remove t.names path) n) (counts_one n n refl)
+
+  -- the nodes of the tree after the path is gone
+  abbrev nodes_left : Option Thing → Bool → Option Thing
+  nodes_left there true = None
+  nodes_left there false = there
+
+  -- the node stays where another path leads to it
+  pub used_here : get (with_used (remove t.names path) t.nodes n).nodes n ≡ nodes_left (get t.nodes n) (path_count (remove t.names path) n == 0)
+  used_here = by (path_count (remove t.names path) n == 0)
+    where
+      by : (b : Bool) → get (if b then remove t.nodes n else t.nodes) n ≡ nodes_left (get t.nodes n) b
+      by true = node_gone t.nodes n n refl
+      by false = refl
+
+  -- all other nodes stay
+  pub used_other : (k : ℕ) → (k ≡ n → ⊥) → get (with_used (remove t.names path) t.nodes n).nodes k ≡ get t.nodes k
+  used_other k off = by (path_count (remove t.names path) n == 0)
+    where
+      by : (b : Bool) → get (if b then remove t.nodes n else t.nodes) k ≡ get t.nodes k
+      by true = node_stays t.nodes n k off
+      by false = refl
+
+  -- the node itself is as one link less leaves it
+  pub lost_here : get (with_used (remove t.names path) t.nodes n).nodes n ≡ option_map thing_of (option_and_then one_link_less (m n))
+  lost_here = used_here ∙ by (m n) refl
+    where
+      zero_left : (c : ℕ) → c ≡ 0 → (c == 0) ≡ true
+      zero_left c e = eq-eqb c 0 e
+
+      file_left : (links : ℕ) (bytes : List ℕ) → path_count t.names n ≡ links → get t.nodes n ≡ Some (File bytes) → (links ≡ 1) ⊎ (links ≡ 1 → ⊥)
+          → nodes_left (get t.nodes n) (path_count (remove t.names path) n == 0) ≡ option_map thing_of (if links == 1 then None else Some (AFile (links - 1) bytes))
+      file_left links bytes count is (inl one) =
+          ap (nodes_left (get t.nodes n)) (zero_left (path_count (remove t.names path) n) (omega (arith, one_less_here, count, one)))
+          ∙ sym (ap (λ b. option_map thing_of (if b then None else Some (AFile (links - 1) bytes))) (eq-eqb links 1 one))
+      file_left links bytes count is (inr more) =
+          ap (nodes_left (get t.nodes n)) (ne_eqb (path_count (remove t.names path) n) 0 (λ none. more (omega (arith, one_less_here, count, none)))) ∙ is
+          ∙ sym (ap (λ b. option_map thing_of (if b then None else Some (AFile (links - 1) bytes))) (ne_eqb links 1 more))
+
+      by : (o : Option Inode) → m n ≡ o → nodes_left (get t.nodes n) (path_count (remove t.names path) n == 0) ≡ option_map thing_of (option_and_then one_link_less o)
+      by None is = let x = a.sound.named path n there in absurd (none_some x.0 (a.nodes n ∙ ap (option_map thing_of) is) x.1)
+      by (Some (ADir slots)) is =
+          let one = laws.count_dir limit t path n a.sound there (a.nodes n ∙ ap (option_map thing_of) is) in
+          ap (nodes_left (get t.nodes n)) (zero_left (path_count (remove t.names path) n) (omega (arith, one_less_here, one)))
+      by (Some (AFile links bytes)) is = file_left links bytes (a.links n links bytes is) (a.nodes n ∙ ap (option_map thing_of) is) (cases_eq links 1)
+
+  -- its links are the paths that are left
+  pub lost_links : (links : ℕ) (bytes : List ℕ) → option_and_then one_link_less (m n) ≡ Some (AFile links bytes) → path_count (remove t.names path) n ≡ links
+  lost_links links bytes e =
+      let old = left_links (m n) links bytes e in
+      omega (arith, one_less_here, a.links n old.0 bytes old.1, old.2)

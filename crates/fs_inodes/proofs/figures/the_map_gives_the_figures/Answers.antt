@@ -1,0 +1,13 @@
+use Rattle.fs_inodes.proofs.agreement.Agree.{agrees}
+use Rattle.fs_inodes.proofs.sums.Costs.{figures_given, blocks_change}
+use Rattle.fs_inodes.proofs.sums.Totals.{blocks_given}
+use Rattle.fs_inodes.proofs.figures.the_map_gives_the_figures.Goals as goal
+
+pub returns-clause-blocks : goal.returns-clause-blocks
+returns-clause-blocks c = λ limit m t is. blocks_given c.the_tree_is_lawful.ensures limit m t (agrees c.the_tree_is_lawful.ensures limit m t is)
+
+pub returns-clause-figures : goal.returns-clause-figures
+returns-clause-figures c = λ bitmap s m cmd is. figures_given c.the_tree_is_lawful.ensures s m (agrees c.the_tree_is_lawful.ensures s.limit m s.tree is) bitmap cmd
+
+pub returns-clause-change : goal.returns-clause-change
+returns-clause-change c = λ bitmap s m new cmd is after. blocks_change c.the_tree_is_lawful.ensures c.the_figures_are_the_blocks.ensures bitmap s m new cmd is after

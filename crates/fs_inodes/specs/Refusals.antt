@@ -1,0 +1,79 @@
+-- Why a command is refused, from inodes alone: the conditions of lang_tree in their order, each looked up in the inode map.
+use Rattle.std.specs.Prelude.{ℕ, ◌+◌, ◌==◌, ◌&&◌, if◌then◌else◌, List, [], ◌∷◌, length, nat_lt, nat_le, is_some, is_none, Option, None, Some, Result, Ok, Err}
+use Rattle.lang_tree.specs.declared.command.Cmd.{Cmd}
+use Rattle.lang_tree.specs.declared.command.Cmd.TheVariants.{Mkdir, Create, Write, Fill, Read, Truncate, Link, Unlink, Rmdir, Rename, Stat, List as ListNames, Osync, Dsync, Durable, Poll, Bad}
+use Rattle.lang_tree.specs.declared.command.Refusal.{Refusal}
+use Rattle.lang_tree.specs.declared.command.Refusal.TheVariants.{Exists, NotDir, IsDir, NotEmpty, BelowItself, TooLarge, TooManyLinks, NoNode}
+use Rattle.lang_tree.specs.Paths.{parent, is_below}
+use Rattle.lang_tree.specs.Walk.{refusal_in, are_same}
+use Rattle.lang_tree.specs.Conditions.{when, first_reason, is_too_large}
+use Rattle.crash_stands.specs.Inodes.{Inodes}
+use Rattle.fs_inodes.specs.Lookups.{least_free, is_dir_inode, is_file_inode, has_slots, links_in, walk_on, number_at, inode_at}
+
+abbrev pub walk_reason : Inodes → List (List ℕ) → Option Refusal
+walk_reason m path = refusal_in (walk_on m 1 path)
+
+abbrev pub dir_reason : Inodes → Result ℕ Refusal → Option Refusal
+dir_reason m (Err why) = Some why
+dir_reason m (Ok n) = if is_dir_inode (m n) then None else Some NotDir
+
+-- why a path can't come to be there
+abbrev pub parent_reason : Inodes → List (List ℕ) → Option Refusal
+parent_reason m [] = None
+parent_reason m (name ∷ names) = dir_reason m (walk_on m 1 (parent (name ∷ names)))
+
+abbrev pub make_reason : ℕ → Inodes → List (List ℕ) → Option Refusal
+make_reason limit m path = first_reason (parent_reason m path ∷ when (is_some (number_at m path)) Exists ∷ when (is_none (least_free limit m)) NoNode ∷ [])
+
+abbrev pub write_reason : Inodes → List (List ℕ) → ℕ → ℕ → Option Refusal
+write_reason m path offset count =
+    first_reason (walk_reason m path ∷ when (is_dir_inode (inode_at m path)) IsDir ∷ when (nat_lt 0 count && is_too_large (offset + count)) TooLarge ∷ [])
+
+abbrev pub file_reason : Inodes → List (List ℕ) → Option Refusal
+file_reason m path = first_reason (walk_reason m path ∷ when (is_dir_inode (inode_at m path)) IsDir ∷ [])
+
+abbrev pub truncate_reason : Inodes → List (List ℕ) → ℕ → Option Refusal
+truncate_reason m path size = first_reason (walk_reason m path ∷ when (is_dir_inode (inode_at m path)) IsDir ∷ when (is_too_large size) TooLarge ∷ [])
+
+abbrev pub link_reason : Inodes → List (List ℕ) → List (List ℕ) → Option Refusal
+link_reason m path other =
+    first_reason (walk_reason m path ∷ parent_reason m other ∷ when (is_some (number_at m other)) Exists ∷ when (is_dir_inode (inode_at m path)) IsDir
+    ∷ when (nat_le 65535 (links_in (inode_at m path))) TooManyLinks ∷ [])
+
+abbrev pub rmdir_reason : Inodes → List (List ℕ) → Option Refusal
+rmdir_reason m path =
+    first_reason (walk_reason m path ∷ when (is_file_inode (inode_at m path)) NotDir ∷ when (has_slots (inode_at m path)) NotEmpty ∷ when (length path == 0) BelowItself ∷ [])
+
+abbrev pub onto_reason : Inodes → List (List ℕ) → List (List ℕ) → Option Refusal
+onto_reason m from to =
+    first_reason (when (is_dir_inode (inode_at m from) && is_file_inode (inode_at m to)) NotDir
+    ∷ when (is_file_inode (inode_at m from) && is_dir_inode (inode_at m to)) IsDir
+    ∷ when (is_dir_inode (inode_at m from) && (is_dir_inode (inode_at m to) && has_slots (inode_at m to))) NotEmpty
+    ∷ when (is_dir_inode (inode_at m from) && is_below from to) BelowItself ∷ [])
+
+abbrev pub rename_reason : Inodes → List (List ℕ) → List (List ℕ) → Option Refusal
+rename_reason m from to =
+    first_reason (walk_reason m from ∷ parent_reason m to ∷ (if are_same (number_at m from) (number_at m to) then None else onto_reason m from to) ∷ [])
+
+abbrev pub list_reason : Inodes → List (List ℕ) → Option Refusal
+list_reason m path = first_reason (walk_reason m path ∷ when (is_file_inode (inode_at m path)) NotDir ∷ [])
+
+-- why a command is refused, with so many numbers at most
+abbrev pub reason : ℕ → Inodes → Cmd → Option Refusal
+reason limit m (Mkdir path) = make_reason limit m path
+reason limit m (Create path) = make_reason limit m path
+reason limit m (Write path offset bytes) = write_reason m path offset (length bytes)
+reason limit m (Fill path offset count byte) = write_reason m path offset count
+reason limit m (Read path offset count) = file_reason m path
+reason limit m (Truncate path size) = truncate_reason m path size
+reason limit m (Link path other) = link_reason m path other
+reason limit m (Unlink path) = file_reason m path
+reason limit m (Rmdir path) = rmdir_reason m path
+reason limit m (Rename from to) = rename_reason m from to
+reason limit m (Stat path) = walk_reason m path
+reason limit m (ListNames path) = list_reason m path
+reason limit m Osync = None
+reason limit m Dsync = None
+reason limit m Durable = None
+reason limit m Poll = None
+reason limit m Bad = None

@@ -1,0 +1,29 @@
+use Rattle.std.proofs.Common.{◌<◌, ◌∙◌, codes, length, rules, subst}
+use Rattle.std.specs.Slice.Iter.{chunks_rest}
+use Rattle.hex.specs.Hex.{encode_lower}
+use Rattle.base_io.specs.Prefix.{TakesPrefix}
+use Rattle.fs_memtree.proofs.outputs.Pieces.{wrote_more, wrote_front, wrote_all, digits_all, digits_next, no_digits, on_err}
+use Rattle.fs_memtree.proofs.listing.write_digits.Goals as goal
+
+pub returns-in_err-push_all-clause-front : goal.returns-in_err-push_all-clause-front
+returns-in_err-push_all-clause-front g c =
+    let some : 0 < length c.args.bytes.now = search rules in
+    on_err _ _ (subst (TakesPrefix _ _) (digits_all c.args.bytes.now some) (c.prefixes_join.ensures.first _ _ (codes " ") (encode_lower c.args.bytes.now) c.in_err-push_all.ensures.front))
+
+pub loop-chunk-preserved : goal.loop-chunk-preserved
+loop-chunk-preserved g c =
+    record {
+      text = wrote_more _ _ _ _ (encode_lower c.in-Some.chunk.now) _ _ c.loop-chunk.invariant.text
+          (digits_next (chunks_rest c.loop-chunk.chunk-iterator) c.in-Some.chunk.now (chunks_rest c.next.new.self) c.in-Some.ensures.steps.1.0) c.in_ok-write_chunk.ensures.all;
+      size = c.next.ensures.steps.0 ∙ c.loop-chunk.invariant.size;
+      faults = c.in_ok-write_chunk.ensures.cause.1 ∙ c.loop-chunk.invariant.faults;
+    }
+
+pub returns-in_err-write_chunk-clause-front : goal.returns-in_err-write_chunk-clause-front
+returns-in_err-write_chunk-clause-front g c =
+    on_err _ _ (wrote_front _ _ _ _ (encode_lower c.in-Some.chunk.now) _ _ c.loop-chunk.invariant.text
+    (digits_next (chunks_rest c.loop-chunk.chunk-iterator) c.in-Some.chunk.now (chunks_rest c.next.new.self) c.in-Some.ensures.steps.1.0)
+    (c.prefixes_join.ensures.second _ _ _ c.loop-chunk.invariant.text.done _ c.loop-chunk.invariant.text.taken (c.prefixes_join.ensures.first _ _ (encode_lower c.in-Some.chunk.now) _ c.in_err-write_chunk.ensures.front)))
+
+pub returns-clause-all : goal.returns-clause-all
+returns-clause-all g c = wrote_all _ _ _ _ c.loop-chunk.invariant.text (no_digits (chunks_rest c.loop-chunk.chunk-iterator) c.in-None.ensures.steps.1.0)

@@ -1,0 +1,13 @@
+use Rattle.std.proofs.Common.{◌≡◌}
+use Rattle.std.specs.Slice.Iter.{chunks_rest, chunks_size}
+use Rattle.hex.specs.Hex.{encode_lower}
+use Rattle.lang_tree.specs.Listing.{digits_behind_blank}
+use Rattle.fs_memtree.proofs.outputs.Pieces.{Wrote}
+use Rattle.fs_memtree.proofs.listing.write_digits.Given as goal
+
+abbrev pub invariant-loop-chunk : goal.invariant-loop-chunk
+invariant-loop-chunk g l = record {
+  text : Wrote (g.K.Sink.taken l.fn.out) (g.K.Sink.taken l.out) (encode_lower (chunks_rest l.chunk-iterator)) (digits_behind_blank l.bytes);
+  size : chunks_size l.chunk-iterator ≡ 512;
+  faults : g.K.Sink.faults l.out ≡ g.K.Sink.faults l.fn.out;
+}

@@ -1,0 +1,152 @@
+-- A command is answered as the session that is kept answers it, and leaves the session after it.
+use Rattle.std.proofs.Common.{◌≡◌, ℕ, zero, suc, ◌<◌, ◌≤◌, ◌==◌, Bool, true, false, true≢false, if◌then◌else◌, List, length, replicate, Option, Some, None, option_map, refl, sym, ap, subst, ◌∙◌, arith, eq-eqb}
+use Rattle.std.proofs.lemmas.List.{length-replicate}
+use Rattle.lang_tree.specs.declared.command.Cmd.{Cmd}
+use Rattle.lang_tree.specs.declared.command.Cmd.TheVariants.{Mkdir, Create, Write, Fill, Read, Truncate, Link, Unlink, Rmdir, Rename, Stat, List as ListNames, Osync, Dsync, Durable, Poll, Bad}
+use Rattle.lang_tree.specs.declared.command.Reply.{Reply}
+use Rattle.lang_tree.specs.declared.command.Reply.TheVariants.{Ok as Done, Synced, Refused}
+use Rattle.lang_tree.specs.declared.command.Refusal.{Refusal}
+use Rattle.lang_tree.specs.Tree.{Tree, File, HasSmallFiles}
+use Rattle.lang_tree.specs.Walk.{is_same_node}
+use Rattle.lang_tree.specs.Conditions.{refusal}
+use Rattle.lang_tree.specs.Points.{answers_point}
+use Rattle.lang_tree.specs.Step.{Session, step, answered, start, osync, dsync, written, resized}
+use Rattle.lang_tree.specs.Step as tree
+use Rattle.crash_stands.specs.Inodes.{Inode, Inodes, ADir, AFile, thing_of}
+use Rattle.crash_stands.specs.Maps.{IsMapOf}
+use Rattle.fs_inodes.specs.Lookups.{bytes_of, inode_at}
+use Rattle.fs_inodes.specs.Refusals.{reason}
+use Rattle.fs_inodes.specs.Replies.{accepted_reply, reply_by}
+use Rattle.fs_memtree.specs.declared.state.State.{State}
+use Rattle.fs_memtree.specs.Kept.{KeptNodes, map_of, tree_of, AreSmall, with_bytes}
+use Rattle.fs_memtree.specs.Changes.{edited, moved}
+use Rattle.fs_memtree.specs.Serving.{session_of, IsKept, changed_to, rename_by, synced, waited, accepted, served, served_by}
+use Rattle.fs_memtree.specs.Laws.{MapLaws}
+use Rattle.fs_memtree.proofs.maps.TreeOf.{the_tree, own_tree}
+use Rattle.fs_memtree.proofs.serving.Mapped.{mkdir_mapped, create_mapped, write_mapped, fill_mapped, truncate_mapped, link_mapped, unlink_mapped, rmdir_mapped, stays, rename_mapped}
+
+-- files of a tree are those of its map
+pub small_map : (limit : ℕ) (m : Inodes) (t : Tree) → IsMapOf limit m t → HasSmallFiles t.nodes → AreSmall m
+small_map limit m t is small k links bytes e = small k bytes (is.shows.nodes k ∙ ap (option_map thing_of) e)
+
+pub small_tree : (limit : ℕ) (m : Inodes) (t : Tree) → IsMapOf limit m t → AreSmall m → HasSmallFiles t.nodes
+small_tree limit m t is small n bytes e = by (m n) refl (sym (is.shows.nodes n) ∙ e)
+  where
+    same_bytes : {b c : List ℕ} → Some (File b) ≡ Some (File c) → b ≡ c
+    same_bytes e = cc
+
+    by : (o : Option Inode) → m n ≡ o → option_map thing_of o ≡ Some (File bytes) → length bytes ≤ 1073741824
+    by None at f = absurd cc
+    by (Some (ADir slots)) at f = absurd cc
+    by (Some (AFile links b)) at f = subst (λ b. length b ≤ 1073741824) (same_bytes f) (small n links b at)
+
+some_length : (n : ℕ) → (n == 0) ≡ false → 0 < n
+some_length zero e = absurd (true≢false e)
+some_length (suc n) e = omega arith
+
+module _ (laws : MapLaws) (old : State) (kept : IsKept old) where
+  abbrev s : Session
+  s = session_of old
+
+  abbrev Serves : Cmd → State × Reply → Type 0
+  Serves cmd r = (step (session_of old) cmd ≡ (session_of r.0, r.1)) × IsKept r.0
+
+  small : HasSmallFiles s.tree.nodes
+  small = small_tree old.limit (map_of old.nodes) (tree_of old.nodes) kept.map kept.small
+
+  -- a command that changes the nodes
+  changed : (cmd : Cmd) (nodes : KeptNodes) (t : Tree) → step s cmd ≡ tree.changed_to s t → IsMapOf s.limit (map_of nodes) (step s cmd).0.tree → Serves cmd (changed_to old nodes)
+  changed cmd nodes t steps is =
+      let t_is : (step s cmd).0.tree ≡ t = ap (λ r. r.0.tree) steps in
+      let is_t : IsMapOf s.limit (map_of nodes) t = subst (IsMapOf s.limit (map_of nodes)) t_is is in (
+        steps ∙ ap (λ u. tree.changed_to s u) (sym (the_tree s.limit nodes t is_t)),
+        record { map = own_tree s.limit nodes t is_t; small = small_map s.limit (map_of nodes) (step s cmd).0.tree is (laws.small_step s cmd small) },
+      )
+
+  -- one that doesn't
+  unchanged : (cmd : Cmd) (reply : Reply) → step s cmd ≡ (s, reply) → Serves cmd (old, reply)
+  unchanged cmd reply steps = (steps, kept)
+
+  -- one that only looks
+  looked : (cmd : Cmd) (reply : Reply) → refusal s.limit s.tree cmd ≡ None → answers_point cmd ≡ false → step s cmd ≡ (s, reply) → Serves cmd (old, accepted_reply (map_of old.nodes) cmd)
+  looked cmd reply accepts no_point steps =
+      let answer : reply ≡ accepted_reply (map_of old.nodes) cmd =
+      sym (ap (λ r. r.1) steps) ∙ laws.reply s (map_of old.nodes) cmd kept.map no_point
+      ∙ ap (reply_by (map_of old.nodes) cmd) (sym (laws.refuses s.limit (map_of old.nodes) s.tree cmd kept.map) ∙ accepts) in
+      (steps ∙ ap (λ r. (s, r)) answer, kept)
+
+  -- bytes that come, or none
+  writes : (cmd : Cmd) (path : List (List ℕ)) (offset : ℕ) (bytes : List ℕ) → step s cmd ≡ tree.write s path offset bytes
+      → (0 < length bytes → IsMapOf s.limit (map_of (edited old.nodes path (with_bytes (written offset bytes)))) (step s cmd).0.tree)
+      → Serves cmd (if length bytes == 0 then (old, Done) else changed_to old (edited old.nodes path (with_bytes (written offset bytes))))
+  writes cmd path offset bytes steps maps = by (length bytes == 0) refl
+    where
+      by : (b : Bool) → (length bytes == 0) ≡ b → Serves cmd (if b then (old, Done) else changed_to old (edited old.nodes path (with_bytes (written offset bytes))))
+      by true e = unchanged cmd Done (steps ∙ ap (λ b. if b then (s, Done) else tree.changed_to s (tree.edited s.tree path (written offset bytes))) e)
+      by false e = changed cmd (edited old.nodes path (with_bytes (written offset bytes))) (tree.edited s.tree path (written offset bytes))
+          (steps ∙ ap (λ b. if b then (s, Done) else tree.changed_to s (tree.edited s.tree path (written offset bytes))) e) (maps (some_length (length bytes) e))
+
+  truncates : (path : List (List ℕ)) (size : ℕ) → refusal s.limit s.tree (Truncate path size) ≡ None → Serves (Truncate path size) (accepted old (Truncate path size))
+  truncates path size accepts = by (size == length (bytes_of (inode_at (map_of old.nodes) path))) refl
+    where
+      cmd : Cmd
+      cmd = Truncate path size
+
+      steps : (b : Bool) → (size == length (bytes_of (inode_at (map_of old.nodes) path))) ≡ b → step s (Truncate path size) ≡ (if b then (s, Done) else tree.changed_to s (tree.edited s.tree path (resized size)))
+      steps b e = ap (answered s (Truncate path size)) accepts
+          ∙ ap (λ b. if b then (s, Done) else tree.changed_to s (tree.edited s.tree path (resized size))) (ap (λ bytes. size == length bytes) (laws.bytes s.limit (map_of old.nodes) s.tree path kept.map) ∙ e)
+
+      by : (b : Bool) → (size == length (bytes_of (inode_at (map_of old.nodes) path))) ≡ b
+          → Serves (Truncate path size) (if b then (old, Done) else changed_to old (edited old.nodes path (with_bytes (resized size))))
+      by true e = unchanged (Truncate path size) Done (steps true e)
+      by false e = changed (Truncate path size) (edited old.nodes path (with_bytes (resized size))) (tree.edited s.tree path (resized size)) (steps false e)
+          (truncate_mapped laws s old.nodes kept.map path size (λ same. true≢false (sym (eq-eqb size _ same) ∙ e)) accepts)
+
+  renames : (from to : List (List ℕ)) → refusal s.limit s.tree (Rename from to) ≡ None → Serves (Rename from to) (accepted old (Rename from to))
+  renames from to accepts = by (is_same_node s.tree from to) refl
+    where
+      steps : (b : Bool) → is_same_node s.tree from to ≡ b → step s (Rename from to) ≡ (if b then (s, Done) else tree.changed_to s (tree.moved (tree.removed s.tree to) from to))
+      steps b e = ap (answered s (Rename from to)) accepts ∙ ap (λ b. if b then (s, Done) else tree.changed_to s (tree.moved (tree.removed s.tree to) from to)) e
+
+      by : (b : Bool) → is_same_node s.tree from to ≡ b → Serves (Rename from to) (rename_by old (moved old.nodes from to))
+      by true e = subst (λ mv. Serves (Rename from to) (rename_by old mv)) (sym (stays laws s old.nodes kept.map from to e)) (unchanged (Rename from to) Done (steps true e))
+      by false e =
+          let r = rename_mapped laws s old.nodes kept.map from to accepts e in
+          subst (λ b. Serves (Rename from to) (if b then changed_to old (moved old.nodes from to).0 else (old, Done))) (sym r.1)
+          (changed (Rename from to) (moved old.nodes from to).0 (tree.moved (tree.removed s.tree to) from to) (steps false e) r.0)
+
+  syncs : (b : Bool) → (osync s b ≡ (session_of (synced old b), Synced (synced old b).points)) × IsKept (synced old b)
+  syncs true = (refl, record { map = kept.map; small = kept.small })
+  syncs false = (refl, kept)
+
+  waits : (b : Bool) → IsKept (synced old b) → IsKept (waited (synced old b))
+  waits b k = record { map = k.map; small = k.small }
+
+  pub serves_accepted : (cmd : Cmd) → refusal s.limit s.tree cmd ≡ None → Serves cmd (accepted old cmd)
+  serves_accepted (Mkdir path) accepts = changed (Mkdir path) _ _ (ap (answered s (Mkdir path)) accepts) (mkdir_mapped laws s old.nodes kept.map path accepts)
+  serves_accepted (Create path) accepts = changed (Create path) _ _ (ap (answered s (Create path)) accepts) (create_mapped laws s old.nodes kept.map path accepts)
+  serves_accepted (Write path offset bytes) accepts = writes (Write path offset bytes) path offset bytes (ap (answered s (Write path offset bytes)) accepts)
+      (λ some. write_mapped laws s old.nodes kept.map path offset bytes some accepts)
+  serves_accepted (Fill path offset count byte) accepts = writes (Fill path offset count byte) path offset (replicate count byte) (ap (answered s (Fill path offset count byte)) accepts)
+      (λ some. fill_mapped laws s old.nodes kept.map path offset count byte (omega (arith, some, length-replicate count byte)) accepts)
+  serves_accepted (Read path offset count) accepts = looked (Read path offset count) _ accepts refl (ap (answered s (Read path offset count)) accepts)
+  serves_accepted (Truncate path size) accepts = truncates path size accepts
+  serves_accepted (Link path other) accepts = changed (Link path other) _ _ (ap (answered s (Link path other)) accepts) (link_mapped laws s old.nodes kept.map path other accepts)
+  serves_accepted (Unlink path) accepts = changed (Unlink path) _ _ (ap (answered s (Unlink path)) accepts) (unlink_mapped laws s old.nodes kept.map path accepts)
+  serves_accepted (Rmdir path) accepts = changed (Rmdir path) _ _ (ap (answered s (Rmdir path)) accepts) (rmdir_mapped laws s old.nodes kept.map path accepts)
+  serves_accepted (Rename from to) accepts = renames from to accepts
+  serves_accepted (Stat path) accepts = looked (Stat path) _ accepts refl (ap (answered s (Stat path)) accepts)
+  serves_accepted (ListNames path) accepts = looked (ListNames path) _ accepts refl (ap (answered s (ListNames path)) accepts)
+  serves_accepted Osync accepts = syncs old.changed
+  serves_accepted Dsync accepts = (ap (λ r. tree.waited r.0) (syncs old.changed).0, waits old.changed (syncs old.changed).1)
+  serves_accepted Durable accepts = (refl, kept)
+  serves_accepted Poll accepts = (refl, kept)
+  serves_accepted Bad accepts = (refl, kept)
+
+  -- each command
+  pub serves : (cmd : Cmd) (new : State) (reply : Reply) → served old cmd ≡ (new, reply) → (step s cmd ≡ (session_of new, reply)) × IsKept new
+  serves cmd new reply is = subst (λ r. Serves cmd r) is (by (reason old.limit (map_of old.nodes) cmd) refl)
+    where
+      by : (o : Option Refusal) → reason old.limit (map_of old.nodes) cmd ≡ o → Serves cmd (served_by old o (accepted old cmd))
+      by None e = serves_accepted cmd (laws.refuses s.limit (map_of old.nodes) s.tree cmd kept.map ∙ e)
+      by (Some why) e = unchanged cmd (Refused why) (ap (answered s cmd) (laws.refuses s.limit (map_of old.nodes) s.tree cmd kept.map ∙ e))

@@ -1,0 +1,32 @@
+-- How a tree and a session are stored, so that they can be values of models. It says nothing of what they mean.
+use Rattle.std.specs.Prelude.{◌≡◌, ℕ, Bool, List, Option, Some, None, refl}
+use Rattle.std.specs.Coded.{Coded, code_by, coded_list, coded_ℕ, coded_option, coded_bool, coded×}
+use Rattle.std.specs.FinMap as map
+use Rattle.lang_tree.specs.Tree.{Tree, Names, Nodes, Thing, Dir, File}
+use Rattle.lang_tree.specs.Step.{Session}
+
+content_of : Thing → Option (List ℕ)
+content_of Dir = None
+content_of (File bytes) = Some bytes
+
+thing_of : Option (List ℕ) → Thing
+thing_of None = Dir
+thing_of (Some bytes) = File bytes
+
+thing_same : (x : Thing) → thing_of (content_of x) ≡ x
+unfolding thing_of content_of
+thing_same Dir = refl
+thing_same (File bytes) = refl
+
+pub coded_thing : Coded Thing
+coded_thing = code_by (Option (List ℕ)) (coded_option (coded_list coded_ℕ)) content_of thing_of thing_same
+
+pub coded_tree : Coded Tree
+coded_tree = code_by (Names × Nodes) (coded× (map.code (coded_list (coded_list coded_ℕ)) coded_ℕ) (map.code coded_ℕ coded_thing))
+    (λ t. (t.names, t.nodes)) (λ p. record { names = p.0; nodes = p.1 }) (λ _. refl)
+
+pub coded_session : Coded Session
+coded_session = code_by (Tree × (ℕ × (ℕ × (Bool × ℕ)))) (coded× coded_tree (coded× coded_ℕ (coded× coded_ℕ (coded× coded_bool coded_ℕ))))
+    (λ s. (s.tree, (s.limit, (s.points, (s.changed, s.durable)))))
+    (λ p. record { tree = p.0; limit = p.1.0; points = p.1.1.0; changed = p.1.1.1.0; durable = p.1.1.1.1 })
+    (λ _. refl)

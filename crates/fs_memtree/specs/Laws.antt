@@ -1,0 +1,57 @@
+-- The laws of trees and of their inode maps that the proofs of this crate rest on, gathered. Each is a clause of a function of lang_tree, crash_stands or fs_inodes.
+use Rattle.std.specs.Prelude.{◌≡◌, ◌≢◌, ℕ, ◌<◌, ◌≤◌, ◌+◌, true, false, List, [], ◌∷◌, ◌++◌, length, replicate, None, Some}
+use Rattle.std.specs.FinMap.{get}
+use Rattle.lang_tree.specs.declared.command.Cmd.{Cmd}
+use Rattle.lang_tree.specs.declared.command.Cmd.TheVariants.{Mkdir, Create, Write, Fill, Truncate, Link, Unlink, Rmdir, Rename}
+use Rattle.lang_tree.specs.Tree.{Tree, Names, Dir, File, IsSound, HasSmallFiles}
+use Rattle.lang_tree.specs.Paths.{is_within}
+use Rattle.lang_tree.specs.Names.{holds_names}
+use Rattle.lang_tree.specs.Walk.{is_same_node, content}
+use Rattle.lang_tree.specs.Conditions.{file_refusal, rmdir_refusal, rename_refusal, refusal}
+use Rattle.lang_tree.specs.Points.{answers_point}
+use Rattle.lang_tree.specs.Step.{Session, step, start, written, resized}
+use Rattle.crash_stands.specs.Inodes.{Inodes, AFile, root_alone}
+use Rattle.crash_stands.specs.Maps.{IsMapOf}
+use Rattle.crash_stands.specs.Walks.{LeadsTo}
+use Rattle.fs_inodes.specs.Changes.{new_inode, Sets, AddsName, TakesName, MovesName}
+use Rattle.fs_inodes.specs.Lookups.{least_free, bytes_of, inode_at}
+use Rattle.fs_inodes.specs.Refusals.{reason}
+use Rattle.fs_inodes.specs.Replies.{reply_of}
+
+-- what the proofs of this crate need to know of trees and their maps
+pub record MapLaws : Type 0 where
+  pub one : (limit : ℕ) (m : Inodes) (t u : Tree) → IsMapOf limit m t → IsMapOf limit m u → t ≡ u
+  pub sound : (limit : ℕ) (m : Inodes) (t : Tree) → IsMapOf limit m t → IsSound limit t
+  pub alike : (limit : ℕ) (m w : Inodes) (t : Tree) → ((k : ℕ) → m k ≡ w k) → IsMapOf limit m t → IsMapOf limit w t
+  pub root : (limit : ℕ) → 1 ≤ limit → IsMapOf limit root_alone (start limit).tree
+  pub small_start : (limit : ℕ) → HasSmallFiles (start limit).tree.nodes
+  pub small_step : (s : Session) (cmd : Cmd) → HasSmallFiles s.tree.nodes → HasSmallFiles (step s cmd).0.tree.nodes
+  -- what the map gives of its tree
+  pub refuses : (limit : ℕ) (m : Inodes) (t : Tree) (cmd : Cmd) → IsMapOf limit m t → refusal limit t cmd ≡ reason limit m cmd
+  pub reply : (s : Session) (m : Inodes) (cmd : Cmd) → IsMapOf s.limit m s.tree → answers_point cmd ≡ false → (step s cmd).1 ≡ reply_of s.limit m cmd
+  pub bytes : (limit : ℕ) (m : Inodes) (t : Tree) (path : List (List ℕ)) → IsMapOf limit m t → content t path ≡ bytes_of (inode_at m path)
+  -- what goes and what moves
+  pub held : (names : Names) (p rest : List (List ℕ)) (name : List ℕ) (n : ℕ) → get names (p ++ name ∷ rest) ≡ Some n → holds_names names p ≡ true
+  pub unlinked : (limit : ℕ) (t : Tree) (path : List (List ℕ)) → IsSound limit t → file_refusal t path ≡ None → (holds_names t.names path ≡ false) × (path ≢ [])
+  pub removed : (limit : ℕ) (t : Tree) (path : List (List ℕ)) → IsSound limit t → rmdir_refusal t path ≡ None → (holds_names t.names path ≡ false) × (path ≢ [])
+  pub moved : (limit : ℕ) (t : Tree) (from to : List (List ℕ)) → IsSound limit t → rename_refusal t from to ≡ None → is_same_node t from to ≡ false
+      → (is_within from to ≡ false) × (holds_names t.names to ≡ false) × (to ≢ [])
+  -- what commands make of the map
+  pub mkdir : (s : Session) (m new : Inodes) (up : List (List ℕ)) (name : List ℕ) (dir node : ℕ) → IsMapOf s.limit m s.tree → refusal s.limit s.tree (Mkdir (up ++ name ∷ [])) ≡ None
+      → LeadsTo m up dir → least_free s.limit m ≡ Some node → AddsName m new dir node name (new_inode Dir) → IsMapOf s.limit new (step s (Mkdir (up ++ name ∷ []))).0.tree
+  pub create : (s : Session) (m new : Inodes) (up : List (List ℕ)) (name : List ℕ) (dir node : ℕ) → IsMapOf s.limit m s.tree → refusal s.limit s.tree (Create (up ++ name ∷ [])) ≡ None
+      → LeadsTo m up dir → least_free s.limit m ≡ Some node → AddsName m new dir node name (new_inode (File [])) → IsMapOf s.limit new (step s (Create (up ++ name ∷ []))).0.tree
+  pub link : (s : Session) (m new : Inodes) (path up : List (List ℕ)) (name : List ℕ) (dir node links : ℕ) (bytes : List ℕ) → IsMapOf s.limit m s.tree → refusal s.limit s.tree (Link path (up ++ name ∷ [])) ≡ None
+      → LeadsTo m path node → m node ≡ Some (AFile links bytes) → LeadsTo m up dir → AddsName m new dir node name (AFile (links + 1) bytes) → IsMapOf s.limit new (step s (Link path (up ++ name ∷ []))).0.tree
+  pub unlink : (s : Session) (m new : Inodes) (up : List (List ℕ)) (name : List ℕ) (dir node : ℕ) → IsMapOf s.limit m s.tree → refusal s.limit s.tree (Unlink (up ++ name ∷ [])) ≡ None
+      → LeadsTo m up dir → TakesName m new dir node name → IsMapOf s.limit new (step s (Unlink (up ++ name ∷ []))).0.tree
+  pub rmdir : (s : Session) (m new : Inodes) (up : List (List ℕ)) (name : List ℕ) (dir node : ℕ) → IsMapOf s.limit m s.tree → refusal s.limit s.tree (Rmdir (up ++ name ∷ [])) ≡ None
+      → LeadsTo m up dir → TakesName m new dir node name → IsMapOf s.limit new (step s (Rmdir (up ++ name ∷ []))).0.tree
+  pub rename : (s : Session) (m new : Inodes) (up to : List (List ℕ)) (name other : List ℕ) (from into node : ℕ) → IsMapOf s.limit m s.tree → refusal s.limit s.tree (Rename (up ++ name ∷ []) (to ++ other ∷ [])) ≡ None
+      → LeadsTo m up from → LeadsTo m to into → MovesName m new from into node name other → IsMapOf s.limit new (step s (Rename (up ++ name ∷ []) (to ++ other ∷ []))).0.tree
+  pub write : (s : Session) (m new : Inodes) (path : List (List ℕ)) (offset : ℕ) (bytes : List ℕ) (node links : ℕ) (old : List ℕ) → IsMapOf s.limit m s.tree → refusal s.limit s.tree (Write path offset bytes) ≡ None
+      → 0 < length bytes → LeadsTo m path node → m node ≡ Some (AFile links old) → Sets m new node (Some (AFile links (written offset bytes old))) → IsMapOf s.limit new (step s (Write path offset bytes)).0.tree
+  pub fill : (s : Session) (m new : Inodes) (path : List (List ℕ)) (offset count byte node links : ℕ) (old : List ℕ) → IsMapOf s.limit m s.tree → refusal s.limit s.tree (Fill path offset count byte) ≡ None
+      → 0 < count → LeadsTo m path node → m node ≡ Some (AFile links old) → Sets m new node (Some (AFile links (written offset (replicate count byte) old))) → IsMapOf s.limit new (step s (Fill path offset count byte)).0.tree
+  pub truncate : (s : Session) (m new : Inodes) (path : List (List ℕ)) (size node links : ℕ) (old : List ℕ) → IsMapOf s.limit m s.tree → refusal s.limit s.tree (Truncate path size) ≡ None
+      → size ≢ length old → LeadsTo m path node → m node ≡ Some (AFile links old) → Sets m new node (Some (AFile links (resized size old))) → IsMapOf s.limit new (step s (Truncate path size)).0.tree

@@ -1,0 +1,78 @@
+-- What a command makes of all that is kept, and what it is answered. That this is what the command means is proved, not defined here.
+use Rattle.std.specs.Prelude.{ℕ, ◌==◌, Bool, true, false, if◌then◌else◌, List, [], length, replicate, Option, None, Some}
+use Rattle.std.specs.FinMap.{insert, empty}
+use Rattle.base_types.specs.Counts.{next_count}
+use Rattle.lang_tree.specs.declared.command.Cmd.{Cmd}
+use Rattle.lang_tree.specs.declared.command.Cmd.TheVariants.{Mkdir, Create, Write, Fill, Truncate, Link, Unlink, Rmdir, Rename, Osync, Dsync, Durable}
+use Rattle.lang_tree.specs.declared.command.Reply.{Reply}
+use Rattle.lang_tree.specs.declared.command.Reply.TheVariants.{Ok as Done, Synced, DurableAt, Known, Refused}
+use Rattle.lang_tree.specs.declared.command.Refusal.{Refusal}
+use Rattle.lang_tree.specs.Step.{Session, written, resized}
+use Rattle.crash_stands.specs.Maps.{IsMapOf}
+use Rattle.fs_inodes.specs.Lookups.{bytes_of, inode_at}
+use Rattle.fs_inodes.specs.Refusals.{reason}
+use Rattle.fs_inodes.specs.Replies.{accepted_reply}
+use Rattle.fs_memtree.specs.declared.state.State.{State}
+use Rattle.fs_memtree.specs.Kept.{KeptDir, KeptFile, KeptNodes, map_of, tree_of, AreSmall, with_bytes}
+use Rattle.fs_memtree.specs.Changes.{made, edited, linked, removed, moved}
+
+-- the root alone, without names
+abbrev pub root_node : KeptNodes
+root_node = insert empty 1 (KeptDir empty)
+
+abbrev pub first_state : ℕ → State
+first_state limit = record { nodes = root_node; limit = limit; points = 0; changed = false; durable = 0 }
+
+-- the session that is kept: its tree is that of the nodes
+abbrev pub session_of : State → Session
+session_of s = record { tree = tree_of s.nodes; limit = s.limit; points = s.points; changed = s.changed; durable = s.durable }
+
+-- The nodes are those of a tree, in which no file has more than 2^30 bytes.
+pub record IsKept (s : State) : Type 0 where
+  pub map : IsMapOf s.limit (map_of s.nodes) (tree_of s.nodes)
+  pub small : AreSmall (map_of s.nodes)
+
+-- done, with these nodes
+abbrev pub changed_to : State → KeptNodes → State × Reply
+changed_to s nodes = (record s { nodes = nodes; changed = true }, Done)
+
+abbrev pub write : State → List (List ℕ) → ℕ → List ℕ → State × Reply
+write s path offset bytes = if length bytes == 0 then (s, Done) else changed_to s (edited s.nodes path (with_bytes (written offset bytes)))
+
+abbrev pub truncate : State → List (List ℕ) → ℕ → State × Reply
+truncate s path size = if size == length (bytes_of (inode_at (map_of s.nodes) path)) then (s, Done) else changed_to s (edited s.nodes path (with_bytes (resized size)))
+
+abbrev pub rename_by : State → KeptNodes × Bool → State × Reply
+rename_by s move = if move.1 then changed_to s move.0 else (s, Done)
+
+-- a sync point, where something changed since the last one
+abbrev pub synced : State → Bool → State
+synced s true = record s { points = next_count s.points; changed = false }
+synced s false = s
+
+abbrev pub waited : State → State
+waited s = record s { durable = s.points }
+
+-- a command that nothing refuses
+abbrev pub accepted : State → Cmd → State × Reply
+accepted s (Mkdir path) = changed_to s (made s.limit s.nodes path (KeptDir empty))
+accepted s (Create path) = changed_to s (made s.limit s.nodes path (KeptFile 1 []))
+accepted s (Write path offset bytes) = write s path offset bytes
+accepted s (Fill path offset count byte) = write s path offset (replicate count byte)
+accepted s (Truncate path size) = truncate s path size
+accepted s (Link path other) = changed_to s (linked s.nodes path other)
+accepted s (Unlink path) = changed_to s (removed s.nodes path)
+accepted s (Rmdir path) = changed_to s (removed s.nodes path)
+accepted s (Rename from to) = rename_by s (moved s.nodes from to)
+accepted s Osync = (synced s s.changed, Synced (synced s s.changed).points)
+accepted s Dsync = (waited (synced s s.changed), DurableAt (synced s s.changed).points)
+accepted s Durable = (s, Known s.durable)
+accepted s cmd = (s, accepted_reply (map_of s.nodes) cmd)
+
+-- refused for a reason, and then all is as it was, or done so
+abbrev pub served_by : State → Option Refusal → State × Reply → State × Reply
+served_by s (Some why) done = (s, Refused why)
+served_by s None done = done
+
+abbrev pub served : State → Cmd → State × Reply
+served s cmd = served_by s (reason s.limit (map_of s.nodes) cmd) (accepted s cmd)

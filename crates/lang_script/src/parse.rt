@@ -1,0 +1,252 @@
+//! From a line to its command: the parts of the line, and which command a word and its arguments are.
+//! What an argument says is in `arguments`. Each helper answers what the definition of the grammar
+//! answers for its parts, or out of memory.
+
+ghost use Rattle.std.specs.Prelude.{◌≡◌, List, [], ◌∷◌, IfOk, ◌⊎◌, map, true, Some};
+ghost use Rattle.lang_tree.specs.declared.command.Cmd.TheVariants.{Bad};
+ghost use Rattle.lang_script.specs.Grammar.{command_of, command_of_parts, is_in_grammar, word_command, path_command, paths_command, truncate_of, write_of, read_of, fill_of, path_of, small_number_of, bytes_of};
+
+use crate::arguments::{bytes, number, parts, path};
+use base_types::NoMemory;
+use base_types::limits::LONGEST_READ;
+use lang_tree::{Cmd, Path};
+use std::alloc::Global;
+
+/// The command that this line is, which is given without its line feed.
+///
+/// # Errors
+/// Out of memory.
+pub fn parse_line(alloc: Global, line: &[u8]) -> Result<Cmd, NoMemory>
+    ensures read { IfOk result (λ cmd. cmd ≡ command_of line.now) }
+    ensures lawful { IfOk result (λ cmd. (cmd ≡ Bad) ⊎ (is_in_grammar cmd ≡ true)) }
+{
+    let parts = parts(alloc, line, b' ')?;
+    let cmd = cmd_of_parts(alloc, parts.as_slice())?;
+    Ok(cmd)
+}
+
+fn cmd_of_parts(alloc: Global, parts: &[&[u8]]) -> Result<Cmd, NoMemory>
+    ensures { IfOk result (λ cmd. cmd ≡ command_of_parts (map (λ part. part.now) parts.now)) }
+{
+    match parts {
+        [word] => Ok(cmd_of_word(word)),
+        [word, path] => {
+            let cmd = with_path(alloc, word, path)?;
+            Ok(cmd)
+        }
+        [word, path, last] => {
+            let cmd = with_two(alloc, word, path, last)?;
+            Ok(cmd)
+        }
+        [word, path, offset, last] => {
+            let cmd = with_three(alloc, word, path, offset, last)?;
+            Ok(cmd)
+        }
+        [word, path, offset, length, byte] => {
+            let cmd = with_four(alloc, word, path, offset, length, byte)?;
+            Ok(cmd)
+        }
+        [] => Ok(Cmd::Bad),
+        [_, _, _, _, _, _, ..] => Ok(Cmd::Bad),
+    }
+}
+
+// A word alone.
+fn cmd_of_word(word: &[u8]) -> Cmd
+    ensures { result ≡ word_command word.now }
+{
+    if word == b"osync".as_slice() {
+        return Cmd::Osync;
+    }
+    if word == b"dsync".as_slice() {
+        return Cmd::Dsync;
+    }
+    if word == b"durable".as_slice() {
+        return Cmd::Durable;
+    }
+    if word == b"poll".as_slice() {
+        return Cmd::Poll;
+    }
+    Cmd::Bad
+}
+
+// A word and a path.
+fn with_path(alloc: Global, word: &[u8], part: &[u8]) -> Result<Cmd, NoMemory>
+    ensures { IfOk result (λ cmd. cmd ≡ path_command word.now (path_of part.now)) }
+{
+    match path(alloc, part)? {
+        Some(path) => Ok(cmd_of_path(word, path)),
+        None => Ok(Cmd::Bad),
+    }
+}
+
+fn cmd_of_path(word: &[u8], path: Path) -> Cmd
+    ensures { result ≡ path_command word.now (Some path) }
+{
+    if word == b"mkdir".as_slice() {
+        return Cmd::Mkdir(path);
+    }
+    if word == b"create".as_slice() {
+        return Cmd::Create(path);
+    }
+    if word == b"unlink".as_slice() {
+        return Cmd::Unlink(path);
+    }
+    if word == b"rmdir".as_slice() {
+        return Cmd::Rmdir(path);
+    }
+    if word == b"stat".as_slice() {
+        return Cmd::Stat(path);
+    }
+    if word == b"list".as_slice() {
+        return Cmd::List(path);
+    }
+    Cmd::Bad
+}
+
+// A word, a path and one argument more.
+fn with_two(alloc: Global, word: &[u8], part: &[u8], last: &[u8]) -> Result<Cmd, NoMemory>
+    ensures { IfOk result (λ cmd. cmd ≡ command_of_parts (word.now ∷ part.now ∷ last.now ∷ [])) }
+{
+    if word == b"truncate".as_slice() {
+        let cmd = truncate(alloc, part, last)?;
+        return Ok(cmd);
+    }
+    let cmd = with_paths(alloc, word, part, last)?;
+    Ok(cmd)
+}
+
+fn truncate(alloc: Global, part: &[u8], size: &[u8]) -> Result<Cmd, NoMemory>
+    ensures { IfOk result (λ cmd. cmd ≡ truncate_of (path_of part.now) (small_number_of size.now)) }
+{
+    let Some(path) = path(alloc, part)? else {
+        return Ok(Cmd::Bad);
+    };
+    match number(size) {
+        Some(size) => Ok(Cmd::Truncate(path, size)),
+        None => Ok(Cmd::Bad),
+    }
+}
+
+fn with_paths(alloc: Global, word: &[u8], part: &[u8], other: &[u8]) -> Result<Cmd, NoMemory>
+    ensures { IfOk result (λ cmd. cmd ≡ paths_command word.now (path_of part.now) (path_of other.now)) }
+{
+    let Some(first) = path(alloc, part)? else {
+        return Ok(Cmd::Bad);
+    };
+    match path(alloc, other)? {
+        Some(second) => Ok(cmd_of_paths(word, first, second)),
+        None => Ok(Cmd::Bad),
+    }
+}
+
+fn cmd_of_paths(word: &[u8], first: Path, second: Path) -> Cmd
+    ensures { result ≡ paths_command word.now (Some first) (Some second) }
+{
+    if word == b"link".as_slice() {
+        return Cmd::Link(first, second);
+    }
+    if word == b"rename".as_slice() {
+        return Cmd::Rename(first, second);
+    }
+    Cmd::Bad
+}
+
+// A word, a path, an offset and one argument more.
+fn with_three(
+    alloc: Global,
+    word: &[u8],
+    part: &[u8],
+    offset: &[u8],
+    last: &[u8],
+) -> Result<Cmd, NoMemory>
+    ensures { IfOk result (λ cmd. cmd ≡ command_of_parts (word.now ∷ part.now ∷ offset.now ∷ last.now ∷ [])) }
+{
+    if word == b"write".as_slice() {
+        let cmd = write(alloc, part, offset, last)?;
+        return Ok(cmd);
+    }
+    if word == b"read".as_slice() {
+        let cmd = read(alloc, part, offset, last)?;
+        return Ok(cmd);
+    }
+    Ok(Cmd::Bad)
+}
+
+fn write(alloc: Global, part: &[u8], offset: &[u8], digits: &[u8]) -> Result<Cmd, NoMemory>
+    ensures { IfOk result (λ cmd. cmd ≡ write_of (path_of part.now) (small_number_of offset.now) (bytes_of digits.now)) }
+{
+    let Some(path) = path(alloc, part)? else {
+        return Ok(Cmd::Bad);
+    };
+    let Some(offset) = number(offset) else {
+        return Ok(Cmd::Bad);
+    };
+    match bytes(alloc, digits)? {
+        Some(bytes) => Ok(Cmd::Write(path, offset, bytes)),
+        None => Ok(Cmd::Bad),
+    }
+}
+
+fn read(alloc: Global, part: &[u8], offset: &[u8], length: &[u8]) -> Result<Cmd, NoMemory>
+    ensures { IfOk result (λ cmd. cmd ≡ read_of (path_of part.now) (small_number_of offset.now) (small_number_of length.now)) }
+{
+    let Some(path) = path(alloc, part)? else {
+        return Ok(Cmd::Bad);
+    };
+    let Some(offset) = number(offset) else {
+        return Ok(Cmd::Bad);
+    };
+    let Some(length) = number(length) else {
+        return Ok(Cmd::Bad);
+    };
+    if length <= LONGEST_READ {
+        return Ok(Cmd::Read(path, offset, length));
+    }
+    Ok(Cmd::Bad)
+}
+
+// A word, a path, an offset, a length and a byte.
+fn with_four(
+    alloc: Global,
+    word: &[u8],
+    part: &[u8],
+    offset: &[u8],
+    length: &[u8],
+    byte: &[u8],
+) -> Result<Cmd, NoMemory>
+    ensures { IfOk result (λ cmd. cmd ≡ command_of_parts (word.now ∷ part.now ∷ offset.now ∷ length.now ∷ byte.now ∷ [])) }
+{
+    if word == b"fill".as_slice() {
+        let cmd = fill(alloc, part, offset, length, byte)?;
+        return Ok(cmd);
+    }
+    Ok(Cmd::Bad)
+}
+
+fn fill(
+    alloc: Global,
+    part: &[u8],
+    offset: &[u8],
+    length: &[u8],
+    byte: &[u8],
+) -> Result<Cmd, NoMemory>
+    ensures { IfOk result (λ cmd. cmd ≡ fill_of (path_of part.now) (small_number_of offset.now) (small_number_of length.now) (small_number_of byte.now)) }
+{
+    let Some(path) = path(alloc, part)? else {
+        return Ok(Cmd::Bad);
+    };
+    let Some(offset) = number(offset) else {
+        return Ok(Cmd::Bad);
+    };
+    let Some(length) = number(length) else {
+        return Ok(Cmd::Bad);
+    };
+    let Some(number) = number(byte) else {
+        return Ok(Cmd::Bad);
+    };
+    match u8::try_from(number) {
+        Ok(byte) => Ok(Cmd::Fill(path, offset, length, byte)),
+        Err(_) => Ok(Cmd::Bad),
+    }
+}

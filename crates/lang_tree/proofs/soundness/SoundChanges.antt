@@ -1,0 +1,203 @@
+-- A sound tree stays sound with a new node at a new path, with another path of a file, and with other bytes in a file.
+use Rattle.std.proofs.Common.{◌≡◌, ℕ, zero, suc, ◌+◌, ◌≤◌, ◌<◌, Bool, true, false, cond, List, [], ◌∷◌, ◌++◌, Option, Some, None, is_none, find as first, sym, refl, ap, ◌∙◌, ◌⊎◌, inl, inr, arith}
+use Rattle.std.specs.List.{range_with_len}
+use Rattle.std.specs.Cmp.{nat_cmp_total}
+use Rattle.std.specs.FinMap.{nat_cmp-IsAntisymmetric, get, insert}
+use Rattle.lang_tree.specs.declared.command.Refusal.TheVariants.{Exists, NoNode}
+use Rattle.lang_tree.specs.Tree.{Tree, Nodes, Thing, Dir, File, IsSound}
+use Rattle.lang_tree.specs.Paths.{parent}
+use Rattle.lang_tree.specs.Walk.{parent_refusal, is_there}
+use Rattle.lang_tree.specs.Conditions.{when, least_unused, make_refusal}
+use Rattle.lang_tree.specs.Step.{with_node, added, with_bytes, edited_at, edited}
+use Rattle.lang_tree.proofs.basics.Order.{path_total, path_same}
+use Rattle.lang_tree.proofs.basics.Strips.{none_some, some_same, lacks, parent_append}
+use Rattle.lang_tree.proofs.basics.Finds.{put_here, look, keeps}
+use Rattle.lang_tree.proofs.walking.Found.{no_reasons, not_so, dir_file, parent_is}
+
+found_in : (test : ℕ → Bool) (a n m : ℕ) → first test (range_with_len a n) ≡ Some m → (test m ≡ true) × (a ≤ m) × (m < a + n)
+found_in test a zero m e = absurd (none_some m refl e)
+found_in test a (suc n) m e = by (test a) refl (found_in test (a + 1) n m) e
+  where
+    by : (b : Bool) → test a ≡ b → (first test (range_with_len (a + 1) n) ≡ Some m → (test m ≡ true) × (a + 1 ≤ m) × (m < a + 1 + n))
+        → cond b (Some a) (first test (range_with_len (a + 1) n)) ≡ Some m → (test m ≡ true) × (a ≤ m) × (m < a + suc n)
+    by true is go e = let same : a ≡ m = some_same a m e in (ap test (sym same) ∙ is, omega (arith, same), omega (arith, same))
+    by false is go e = let r = go e in (r.0, omega (arith, r.1), omega (arith, r.2))
+
+none_of : {A : Type 0} (o : Option A) → is_none o ≡ true → o ≡ None
+none_of None e = refl
+none_of (Some x) e = absurd cc
+
+pub unused_is : (limit m : ℕ) (nodes : Nodes) → least_unused limit nodes ≡ Some m → (get nodes m ≡ None) × (1 ≤ m) × (m ≤ limit)
+unfolding least_unused
+unused_is limit m nodes e = let r = found_in (λ n. is_none (get nodes n)) 1 limit m e in (none_of _ r.0, r.1, omega (arith, r.2))
+
+module _ (limit : ℕ) (t : Tree) (s : IsSound limit t) where
+  -- a new node at a new path, below a directory
+  module _ (path : List (List ℕ)) (m k : ℕ) (x : Thing) (no_path : get t.names path ≡ None) (no_node : get t.nodes m ≡ None) (low : 1 ≤ m) (high : m ≤ limit)
+      (up_at : get t.names (parent path) ≡ Some k) (up_dir : get t.nodes k ≡ Some Dir) where
+    look_name : (p : List (List ℕ)) → (p ≡ path) ⊎ (get (insert t.names path m) p ≡ get t.names p)
+    look_name p = look path_total path_same t.names path m p
+
+    look_node : (n : ℕ) → (n ≡ m) ⊎ (get (insert t.nodes m x) n ≡ get t.nodes n)
+    look_node n = look nat_cmp_total nat_cmp-IsAntisymmetric t.nodes m x n
+
+    keep_name : (p : List (List ℕ)) (n : ℕ) → get t.names p ≡ Some n → get (insert t.names path m) p ≡ Some n
+    keep_name p n e = keeps path_total path_same t.names path m p n no_path e
+
+    keep_node : (n : ℕ) (y : Thing) → get t.nodes n ≡ Some y → get (insert t.nodes m x) n ≡ Some y
+    keep_node n y e = keeps nat_cmp_total nat_cmp-IsAntisymmetric t.nodes m x n y no_node e
+
+    new_name : (p : List (List ℕ)) → p ≡ path → get (insert t.names path m) p ≡ Some m
+    new_name p e = put_here path_total t.names path m p e
+
+    new_node : (n : ℕ) → n ≡ m → get (insert t.nodes m x) n ≡ Some x
+    new_node n e = put_here nat_cmp_total t.nodes m x n e
+
+    -- no old path leads to the new number
+    no_old : (p : List (List ℕ)) → get t.names p ≡ Some m → ⊥
+    no_old p e = let y = s.named p m e in none_some y.0 no_node y.1
+
+    lift : (up : List (List ℕ)) → (j : ℕ) × (get t.names up ≡ Some j) × (get t.nodes j ≡ Some Dir) → (j : ℕ) × (get (insert t.names path m) up ≡ Some j) × (get (insert t.nodes m x) j ≡ Some Dir)
+    lift up r = (r.0, keep_name up r.0 r.1, keep_node r.0 Dir r.2)
+
+    parents_by : (up : List (List ℕ)) (name : List ℕ) (n : ℕ) → get (insert t.names path m) (up ++ name ∷ []) ≡ Some n
+        → (up ++ name ∷ [] ≡ path) ⊎ (get (insert t.names path m) (up ++ name ∷ []) ≡ get t.names (up ++ name ∷ []))
+        → (j : ℕ) × (get (insert t.names path m) up ≡ Some j) × (get (insert t.nodes m x) j ≡ Some Dir)
+    parents_by up name n e (inl is) = lift up (k, ap (get t.names) (sym (parent_append up name) ∙ ap parent is) ∙ up_at, up_dir)
+    parents_by up name n e (inr is) = lift up (s.parents up name n (sym is ∙ e))
+
+    named_by : (p : List (List ℕ)) (n : ℕ) → get (insert t.names path m) p ≡ Some n → (p ≡ path) ⊎ (get (insert t.names path m) p ≡ get t.names p) → (y : Thing) × (get (insert t.nodes m x) n ≡ Some y)
+    named_by p n e (inl is) = (x, new_node n (some_same n m (sym e ∙ new_name p is)))
+    named_by p n e (inr is) = let r = s.named p n (sym is ∙ e) in (r.0, keep_node n r.0 r.1)
+
+    reached_by : (n : ℕ) (y : Thing) → get (insert t.nodes m x) n ≡ Some y → (n ≡ m) ⊎ (get (insert t.nodes m x) n ≡ get t.nodes n) → (p : List (List ℕ)) × (get (insert t.names path m) p ≡ Some n)
+    reached_by n y e (inl is) = (path, new_name path refl ∙ ap Some (sym is))
+    reached_by n y e (inr is) = let r = s.reached n y (sym is ∙ e) in (r.0, keep_name r.0 n r.1)
+
+    -- a path of the new number is the new path
+    own_path : (p : List (List ℕ)) → get (insert t.names path m) p ≡ Some m → (p ≡ path) ⊎ (get (insert t.names path m) p ≡ get t.names p) → p ≡ path
+    own_path p e (inl is) = is
+    own_path p e (inr is) = absurd (no_old p (sym is ∙ e))
+
+    old_path : (n : ℕ) (p : List (List ℕ)) (y : Thing) → get t.nodes n ≡ Some y → get (insert t.names path m) p ≡ Some n → (p ≡ path) ⊎ (get (insert t.names path m) p ≡ get t.names p) → get t.names p ≡ Some n
+    old_path n p y there e (inl is) = absurd (none_some y no_node (ap (get t.nodes) (some_same m n (sym (new_name p is) ∙ e)) ∙ there))
+    old_path n p y there e (inr is) = sym is ∙ e
+
+    one_by : (n : ℕ) (p q : List (List ℕ)) → get (insert t.nodes m x) n ≡ Some Dir → get (insert t.names path m) p ≡ Some n → get (insert t.names path m) q ≡ Some n
+        → (n ≡ m) ⊎ (get (insert t.nodes m x) n ≡ get t.nodes n) → p ≡ q
+    one_by n p q dir at_p at_q (inl is) = own_path p (at_p ∙ ap Some is) (look_name p) ∙ sym (own_path q (at_q ∙ ap Some is) (look_name q))
+    one_by n p q dir at_p at_q (inr is) = let dir_before : get t.nodes n ≡ Some Dir = sym is ∙ dir in
+        s.one_path n p q dir_before (old_path n p Dir dir_before at_p (look_name p)) (old_path n q Dir dir_before at_q (look_name q))
+
+    within_by : (n : ℕ) (y : Thing) → get (insert t.nodes m x) n ≡ Some y → (n ≡ m) ⊎ (get (insert t.nodes m x) n ≡ get t.nodes n) → (1 ≤ n) × (n ≤ limit)
+    within_by n y e (inl is) = (omega (arith, is, low), omega (arith, is, high))
+    within_by n y e (inr is) = s.within n y (sym is ∙ e)
+
+    pub with_new : IsSound limit (record { names = insert t.names path m; nodes = insert t.nodes m x })
+    with_new = record {
+      root = keep_name [] 1 s.root;
+      root_dir = keep_node 1 Dir s.root_dir;
+      parents = λ up name n e. parents_by up name n e (look_name (up ++ name ∷ []));
+      named = λ p n e. named_by p n e (look_name p);
+      reached = λ n y e. reached_by n y e (look_node n);
+      one_path = λ n p q dir at_p at_q. one_by n p q dir at_p at_q (look_node n);
+      within = λ n y e. within_by n y e (look_node n);
+    }
+
+  -- another path of a file
+  module _ (path : List (List ℕ)) (n k : ℕ) (bytes : List ℕ) (no_path : get t.names path ≡ None) (file : get t.nodes n ≡ Some (File bytes))
+      (up_at : get t.names (parent path) ≡ Some k) (up_dir : get t.nodes k ≡ Some Dir) where
+    look_other : (p : List (List ℕ)) → (p ≡ path) ⊎ (get (insert t.names path n) p ≡ get t.names p)
+    look_other p = look path_total path_same t.names path n p
+
+    keep_other : (p : List (List ℕ)) (m : ℕ) → get t.names p ≡ Some m → get (insert t.names path n) p ≡ Some m
+    keep_other p m e = keeps path_total path_same t.names path n p m no_path e
+
+    link_here : (p : List (List ℕ)) (m : ℕ) → get (insert t.names path n) p ≡ Some m → p ≡ path → m ≡ n
+    link_here p m e is = some_same m n (sym e ∙ put_here path_total t.names path n p is)
+
+    link_parents : (up : List (List ℕ)) (name : List ℕ) (m : ℕ) → get (insert t.names path n) (up ++ name ∷ []) ≡ Some m
+        → (up ++ name ∷ [] ≡ path) ⊎ (get (insert t.names path n) (up ++ name ∷ []) ≡ get t.names (up ++ name ∷ []))
+        → (j : ℕ) × (get (insert t.names path n) up ≡ Some j) × (get t.nodes j ≡ Some Dir)
+    link_parents up name m e (inl is) = (k, keep_other up k (ap (get t.names) (sym (parent_append up name) ∙ ap parent is) ∙ up_at), up_dir)
+    link_parents up name m e (inr is) = let r = s.parents up name m (sym is ∙ e) in (r.0, keep_other up r.0 r.1, r.2)
+
+    link_named : (p : List (List ℕ)) (m : ℕ) → get (insert t.names path n) p ≡ Some m → (p ≡ path) ⊎ (get (insert t.names path n) p ≡ get t.names p) → (y : Thing) × (get t.nodes m ≡ Some y)
+    link_named p m e (inl is) = (File bytes, ap (get t.nodes) (link_here p m e is) ∙ file)
+    link_named p m e (inr is) = s.named p m (sym is ∙ e)
+
+    link_old : (p : List (List ℕ)) (m : ℕ) → get t.nodes m ≡ Some Dir → get (insert t.names path n) p ≡ Some m → (p ≡ path) ⊎ (get (insert t.names path n) p ≡ get t.names p) → get t.names p ≡ Some m
+    link_old p m dir e (inl is) = absurd (dir_file dir (ap (get t.nodes) (link_here p m e is) ∙ file))
+    link_old p m dir e (inr is) = sym is ∙ e
+
+    pub with_link : IsSound limit (record { names = insert t.names path n; nodes = t.nodes })
+    with_link = record {
+      root = keep_other [] 1 s.root;
+      root_dir = s.root_dir;
+      parents = λ up name m e. link_parents up name m e (look_other (up ++ name ∷ []));
+      named = λ p m e. link_named p m e (look_other p);
+      reached = λ m y e. let r = s.reached m y e in (r.0, keep_other r.0 m r.1);
+      one_path = λ m p q dir at_p at_q. s.one_path m p q dir (link_old p m dir at_p (look_other p)) (link_old q m dir at_q (look_other q));
+      within = s.within;
+    }
+
+  -- other bytes in a file
+  module _ (n : ℕ) (old bytes : List ℕ) (there : get t.nodes n ≡ Some (File old)) where
+    look_file : (j : ℕ) → (j ≡ n) ⊎ (get (insert t.nodes n (File bytes)) j ≡ get t.nodes j)
+    look_file j = look nat_cmp_total nat_cmp-IsAntisymmetric t.nodes n (File bytes) j
+
+    new_file : (j : ℕ) → j ≡ n → get (insert t.nodes n (File bytes)) j ≡ Some (File bytes)
+    new_file j e = put_here nat_cmp_total t.nodes n (File bytes) j e
+
+    dir_at : (j : ℕ) → get t.nodes j ≡ Some Dir → (j ≡ n) ⊎ (get (insert t.nodes n (File bytes)) j ≡ get t.nodes j) → get (insert t.nodes n (File bytes)) j ≡ Some Dir
+    dir_at j e (inl is) = absurd (dir_file e (ap (get t.nodes) is ∙ there))
+    dir_at j e (inr is) = is ∙ e
+
+    some_by : (j : ℕ) → (x : Thing) × (get t.nodes j ≡ Some x) → (j ≡ n) ⊎ (get (insert t.nodes n (File bytes)) j ≡ get t.nodes j) → (x : Thing) × (get (insert t.nodes n (File bytes)) j ≡ Some x)
+    some_by j r (inl is) = (File bytes, new_file j is)
+    some_by j r (inr is) = (r.0, is ∙ r.1)
+
+    old_by : (j : ℕ) (x : Thing) → get (insert t.nodes n (File bytes)) j ≡ Some x → (j ≡ n) ⊎ (get (insert t.nodes n (File bytes)) j ≡ get t.nodes j) → (y : Thing) × (get t.nodes j ≡ Some y)
+    old_by j x e (inl is) = (File old, ap (get t.nodes) is ∙ there)
+    old_by j x e (inr is) = (x, sym is ∙ e)
+
+    dir_by : (j : ℕ) → get (insert t.nodes n (File bytes)) j ≡ Some Dir → (j ≡ n) ⊎ (get (insert t.nodes n (File bytes)) j ≡ get t.nodes j) → get t.nodes j ≡ Some Dir
+    dir_by j e (inl is) = absurd (dir_file e (new_file j is))
+    dir_by j e (inr is) = sym is ∙ e
+
+    pub with_other : IsSound limit (record { names = t.names; nodes = insert t.nodes n (File bytes) })
+    with_other = record {
+      root = s.root;
+      root_dir = dir_at 1 s.root_dir (look_file 1);
+      parents = λ up name j e. let r = s.parents up name j e in (r.0, r.1, dir_at r.0 r.2 (look_file r.0));
+      named = λ p j e. some_by j (s.named p j e) (look_file j);
+      reached = λ j x e. let r = old_by j x e (look_file j) in s.reached j r.0 r.1;
+      one_path = λ j p q is at_p at_q. s.one_path j p q (dir_by j is (look_file j)) at_p at_q;
+      within = λ j x e. let r = old_by j x e (look_file j) in s.within j r.0 r.1;
+    }
+
+  -- The effects of the commands.
+
+  pub added_sound : (path : List (List ℕ)) (x : Thing) → make_refusal limit t path ≡ None → IsSound limit (added limit t path x)
+  added_sound path x e = by (least_unused limit t.nodes) refl
+    where
+      by : (o : Option ℕ) → least_unused limit t.nodes ≡ o → IsSound limit (with_node t path x o)
+      by None is = s
+      by (Some m) is =
+          let r = no_reasons (parent_refusal t path) (when (is_there t path) Exists) (when (is_none (least_unused limit t.nodes)) NoNode) e in
+          let free : get t.names path ≡ None = lacks (get t.names path) (not_so (is_there t path) Exists r.1) in
+          let up = parent_is t path s.root (λ root. none_some 1 (ap (get t.names) (sym root) ∙ free) s.root) r.0 in
+          let number = unused_is limit m t.nodes is in
+          with_new path m up.0 x free number.0 number.1 number.2 up.1 up.2
+
+  pub edited_sound : (path : List (List ℕ)) (change : List ℕ → List ℕ) → IsSound limit (edited t path change)
+  edited_sound path change = by (get t.names path)
+    where
+      by_thing : (n : ℕ) (x : Option Thing) → get t.nodes n ≡ x → IsSound limit (record { names = t.names; nodes = with_bytes t.nodes n change x })
+      by_thing n None is = s
+      by_thing n (Some Dir) is = s
+      by_thing n (Some (File old)) is = with_other n old (change old) is
+
+      by : (o : Option ℕ) → IsSound limit (edited_at t change o)
+      by None = s
+      by (Some n) = by_thing n (get t.nodes n) refl

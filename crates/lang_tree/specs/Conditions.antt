@@ -1,0 +1,94 @@
+-- Why a command is refused: first the walks, and then the other conditions in the order of their numbers. They are the table in docs/TREE.md.
+use Rattle.std.specs.Prelude.{ℕ, ◌+◌, ◌==◌, Bool, ◌&&◌, if◌then◌else◌, List, [], ◌∷◌, length, nat_lt, nat_le, is_none, Option, None, Some, find}
+use Rattle.std.specs.List.{range_with_len}
+use Rattle.std.specs.FinMap.{get}
+use Rattle.lang_tree.specs.declared.command.Cmd.{Cmd}
+use Rattle.lang_tree.specs.declared.command.Cmd.TheVariants.{Mkdir, Create, Write, Fill, Read, Truncate, Link, Unlink, Rmdir, Rename, Stat, List as ListNames, Osync, Dsync, Durable, Poll, Bad}
+use Rattle.lang_tree.specs.declared.command.Refusal.{Refusal}
+use Rattle.lang_tree.specs.declared.command.Refusal.TheVariants.{Exists, NotDir, IsDir, NotEmpty, BelowItself, TooLarge, TooManyLinks, NoNode}
+use Rattle.lang_tree.specs.Tree.{Tree, Nodes}
+use Rattle.lang_tree.specs.Paths.{is_below}
+use Rattle.lang_tree.specs.Names.{holds_names}
+use Rattle.lang_tree.specs.Walk.{walk_refusal, parent_refusal, thing_at, is_there, is_dir, is_file, is_same_node, links}
+
+-- the reason, where the condition holds
+abbrev pub when : Bool → Refusal → Option Refusal
+when holds why = if holds then Some why else None
+
+-- the first reason that there is
+abbrev pub first_reason : List (Option Refusal) → Option Refusal
+first_reason [] = None
+first_reason (None ∷ later) = first_reason later
+first_reason (Some why ∷ later) = Some why
+
+-- the least number from 1 to the limit that no node has
+unfoldable pub least_unused : ℕ → Nodes → Option ℕ
+least_unused limit nodes = find (λ n. is_none (get nodes n)) (range_with_len 1 limit)
+
+-- a file has at most 2^30 bytes
+abbrev pub is_too_large : ℕ → Bool
+is_too_large size = nat_lt 1073741824 size
+
+-- a new node: the path isn't there, and a number is unused
+abbrev pub make_refusal : ℕ → Tree → List (List ℕ) → Option Refusal
+make_refusal limit t path = first_reason (parent_refusal t path ∷ when (is_there t path) Exists ∷ when (is_none (least_unused limit t.nodes)) NoNode ∷ [])
+
+-- so many bytes from `offset` on come into a file
+abbrev pub write_refusal : Tree → List (List ℕ) → ℕ → ℕ → Option Refusal
+write_refusal t path offset count =
+    first_reason (walk_refusal t path ∷ when (is_dir (thing_at t path)) IsDir ∷ when (nat_lt 0 count && is_too_large (offset + count)) TooLarge ∷ [])
+
+-- a file alone
+abbrev pub file_refusal : Tree → List (List ℕ) → Option Refusal
+file_refusal t path = first_reason (walk_refusal t path ∷ when (is_dir (thing_at t path)) IsDir ∷ [])
+
+abbrev pub truncate_refusal : Tree → List (List ℕ) → ℕ → Option Refusal
+truncate_refusal t path size = first_reason (walk_refusal t path ∷ when (is_dir (thing_at t path)) IsDir ∷ when (is_too_large size) TooLarge ∷ [])
+
+-- another path of a file, which has at most 65,535
+abbrev pub link_refusal : Tree → List (List ℕ) → List (List ℕ) → Option Refusal
+link_refusal t path other =
+    first_reason (walk_refusal t path ∷ parent_refusal t other ∷ when (is_there t other) Exists ∷ when (is_dir (thing_at t path)) IsDir
+    ∷ when (nat_le 65535 (links t path)) TooManyLinks ∷ [])
+
+-- an empty directory that isn't the root
+abbrev pub rmdir_refusal : Tree → List (List ℕ) → Option Refusal
+rmdir_refusal t path =
+    first_reason (walk_refusal t path ∷ when (is_file (thing_at t path)) NotDir ∷ when (holds_names t.names path) NotEmpty ∷ when (length path == 0) BelowItself ∷ [])
+
+-- why what is at one path can't take the other one, which leads to another node or to none
+abbrev pub onto_refusal : Tree → List (List ℕ) → List (List ℕ) → Option Refusal
+onto_refusal t from to =
+    first_reason (when (is_dir (thing_at t from) && is_file (thing_at t to)) NotDir
+    ∷ when (is_file (thing_at t from) && is_dir (thing_at t to)) IsDir
+    ∷ when (is_dir (thing_at t from) && (is_dir (thing_at t to) && holds_names t.names to)) NotEmpty
+    ∷ when (is_dir (thing_at t from) && is_below from to) BelowItself ∷ [])
+
+-- a move; where both paths lead to one node, the walks alone can refuse it
+abbrev pub rename_refusal : Tree → List (List ℕ) → List (List ℕ) → Option Refusal
+rename_refusal t from to =
+    first_reason (walk_refusal t from ∷ parent_refusal t to ∷ (if is_same_node t from to then None else onto_refusal t from to) ∷ [])
+
+-- the names of a directory
+abbrev pub list_refusal : Tree → List (List ℕ) → Option Refusal
+list_refusal t path = first_reason (walk_refusal t path ∷ when (is_file (thing_at t path)) NotDir ∷ [])
+
+-- why the tree, with so many numbers at most, refuses the command
+abbrev pub refusal : ℕ → Tree → Cmd → Option Refusal
+refusal limit t (Mkdir path) = make_refusal limit t path
+refusal limit t (Create path) = make_refusal limit t path
+refusal limit t (Write path offset bytes) = write_refusal t path offset (length bytes)
+refusal limit t (Fill path offset count byte) = write_refusal t path offset count
+refusal limit t (Read path offset count) = file_refusal t path
+refusal limit t (Truncate path size) = truncate_refusal t path size
+refusal limit t (Link path other) = link_refusal t path other
+refusal limit t (Unlink path) = file_refusal t path
+refusal limit t (Rmdir path) = rmdir_refusal t path
+refusal limit t (Rename from to) = rename_refusal t from to
+refusal limit t (Stat path) = walk_refusal t path
+refusal limit t (ListNames path) = list_refusal t path
+refusal limit t Osync = None
+refusal limit t Dsync = None
+refusal limit t Durable = None
+refusal limit t Poll = None
+refusal limit t Bad = None

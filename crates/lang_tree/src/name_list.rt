@@ -1,0 +1,70 @@
+//! A list of names, as a directory's names are answered, and copies of names.
+
+ghost use Rattle.std.specs.Prelude.{◌≡◌, ℕ, List, IfOk};
+
+use base_types::{Name, NoMemory};
+use std::alloc::Global;
+use std::marker::Model;
+
+/// Names in a row. Contracts see them as the list of the names' bytes.
+#[derive(Debug, Drop)]
+pub struct NameList {
+    names: Vec<Name>,
+}
+
+impl Model for NameList {
+    ghost Value = { List (List ℕ) };
+
+    ghost view = { λ l. l.names.items };
+}
+
+impl NameList {
+    /// The list of these names.
+    pub fn from_names(names: Vec<Name>) -> NameList
+        ensures { result ≡ names.items }
+    {
+        NameList { names }
+    }
+
+    /// The names in their order.
+    pub fn names(&self) -> &[Name]
+        ensures { result.now ≡ self.now }
+    {
+        self.names.as_slice()
+    }
+}
+
+/// Equal lists have the same names.
+impl PartialEq for NameList {
+    ghost use Rattle.std.specs.Prelude.{bytes_eq};
+    ghost use Rattle.std.specs.Cmp.{partial_equiv_from_equiv};
+    ghost use Rattle.std.specs.Cmp.Lexicographic.{pointwise, lists_equiv, nat_list_eq_equiv};
+
+    ghost eq = { λ left right. pointwise bytes_eq left right };
+
+    ghost laws = { partial_equiv_from_equiv (lists_equiv nat_list_eq_equiv) };
+
+    fn eq(&self, other: &NameList) -> bool {
+        self.names.as_slice() == other.names.as_slice()
+    }
+}
+
+impl Eq for NameList {
+    ghost use Rattle.std.specs.Cmp.Lexicographic.{lists_equiv, nat_list_eq_equiv};
+
+    ghost laws = { lists_equiv nat_list_eq_equiv };
+}
+
+/// A copy of the names.
+///
+/// # Errors
+/// Out of memory.
+pub fn copy_names(alloc: Global, names: &[Name]) -> Result<Vec<Name>, NoMemory>
+    ensures { IfOk result (λ copy. copy.items ≡ names.now) }
+{
+    let mut copy = Vec::with_capacity(alloc, names.len())?;
+    for name in names {
+        copy.push(name.copy())?;
+    }
+    Ok(copy)
+}

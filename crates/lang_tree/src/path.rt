@@ -1,0 +1,96 @@
+//! An absolute path: the list of the names that lead to it from the root, which is the empty list.
+//! How a path is written is described in the crate of the script.
+
+ghost use Rattle.std.specs.Prelude.{◌≡◌, ℕ, List, [], IfOk};
+ghost use Rattle.lang_tree.specs.Paths.{is_below};
+
+use crate::copy_names;
+use base_types::{Name, NoMemory};
+use std::alloc::Global;
+use std::marker::Model;
+
+/// The names from the root down. Contracts see a path as the list of its names' bytes.
+#[derive(Debug, Drop)]
+pub struct Path {
+    names: Vec<Name>,
+}
+
+impl Model for Path {
+    ghost Value = { List (List ℕ) };
+
+    ghost view = { λ p. p.names.items };
+}
+
+impl Path {
+    /// The path of the root. This takes no memory.
+    pub fn root(alloc: Global) -> Path
+        ensures { result ≡ [] }
+    {
+        Path {
+            names: Vec::new(alloc),
+        }
+    }
+
+    /// The path with these names.
+    pub fn from_names(names: Vec<Name>) -> Path
+        ensures { result ≡ names.items }
+    {
+        Path { names }
+    }
+
+    /// A copy of this path.
+    ///
+    /// # Errors
+    /// Out of memory.
+    pub fn copy(&self, alloc: Global) -> Result<Path, NoMemory>
+        ensures { IfOk result (λ copy. copy ≡ self.now) }
+    {
+        let names = copy_names(alloc, self.names.as_slice())?;
+        Ok(Path { names })
+    }
+
+    /// The names from the root down.
+    pub fn names(&self) -> &[Name]
+        ensures { result.now ≡ self.now }
+    {
+        self.names.as_slice()
+    }
+
+    /// The names from the root down, as the vector in which they are kept.
+    pub fn list(&self) -> &Vec<Name>
+        ensures { result.now.items ≡ self.now }
+    {
+        &self.names
+    }
+
+    /// Whether this path lies below that one: it begins with its names and has more.
+    pub fn is_below(&self, top: &Path) -> bool
+        ensures { result ≡ is_below top.now self.now }
+    {
+        if self.names.len() <= top.names.len() {
+            return false;
+        }
+        self.names.starts_with(top.names())
+    }
+}
+
+/// Equal paths have the same names.
+impl PartialEq for Path {
+    ghost use Rattle.std.specs.Prelude.{bytes_eq};
+    ghost use Rattle.std.specs.Cmp.{partial_equiv_from_equiv};
+    ghost use Rattle.std.specs.Cmp.Lexicographic.{pointwise, lists_equiv, nat_list_eq_equiv};
+
+    ghost eq = { λ left right. pointwise bytes_eq left right };
+
+    ghost laws = { partial_equiv_from_equiv (lists_equiv nat_list_eq_equiv) };
+
+    fn eq(&self, other: &Path) -> bool {
+        self.names.as_slice() == other.names.as_slice()
+    }
+}
+
+impl Eq for Path {
+    ghost use Rattle.std.specs.Cmp.Lexicographic.{lists_equiv, nat_list_eq_equiv};
+
+    ghost laws = { lists_equiv nat_list_eq_equiv };
+}

@@ -1,0 +1,31 @@
+-- What follows from the definitions of fields, as far as the proofs of this crate need it.
+use Rattle.std.proofs.Common.{◌≡◌, ℕ, zero, suc, ◌+◌, ◌==◌, Bool, true, false, List, [], ◌∷◌, ◌++◌, length, replicate, Option, Some, refl, ap₂, eqb-true}
+use Rattle.std.proofs.lemmas.Bool.{and_parts}
+use Rattle.layout_bytes.specs.Bytes.{are_zeros, when}
+
+-- where a test holds, the value is there
+pub when_is : {A : Type 0} (t : Bool) (o : Option A) → t ≡ true → when t o ≡ o
+when_is true o e = refl
+when_is false o e = cc
+
+-- both at once
+pub when_parts : {A : Type 0} (t : Bool) (o : Option A) (y : A) → when t o ≡ Some y → (t ≡ true) × (o ≡ Some y)
+when_parts true o y e = (refl, e)
+when_parts false o y e = cc
+
+-- so many zeros are zeros
+pub zeros_are : (n : ℕ) → are_zeros (replicate n 0) ≡ true
+zeros_are zero = refl
+zeros_are (suc n) = zeros_are n
+
+-- zeros before other bytes don't count
+pub zeros_before : (n : ℕ) (rest : List ℕ) → are_zeros (replicate n 0 ++ rest) ≡ are_zeros rest
+zeros_before zero rest = refl
+zeros_before (suc n) rest = zeros_before n rest
+
+-- bytes that are zeros are so many zeros
+pub are_these_zeros : (xs : List ℕ) → are_zeros xs ≡ true → xs ≡ replicate (length xs) 0
+are_these_zeros [] e = refl
+are_these_zeros (x ∷ xs) e =
+    let both = and_parts (x == 0) (are_zeros xs) e in
+    ap₂ ◌∷◌ (eqb-true x 0 both.0) (are_these_zeros xs both.1)

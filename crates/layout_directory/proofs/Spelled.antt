@@ -1,0 +1,94 @@
+-- A slot's spelling reads as that slot, and what reads as a slot is its spelling.
+use Rattle.std.proofs.Common.{◌+◌, ◌-◌, ◌≡◌, ◌<◌, ◌≤◌, ℕ, zero, suc, true, List, [], ◌∷◌, ◌++◌, length, take, drop, replicate, slice_index, Some, refl, sym, ◌∙◌, ap, ap₂, arith, take_all}
+use Rattle.std.proofs.Math.Seq.{take-append_seam, drop-append_seam}
+use Rattle.std.proofs.lemmas.List.{length-replicate, length-take-le, length-drop, length-append, drop-drop, take-append-drop}
+use Rattle.std.proofs.lemmas.Bool.{and_from, and_parts, le-leb, leb-true}
+use Rattle.std.proofs.lemmas.Nat.{le_bytes_4}
+use Rattle.byteorder.specs.Endian.{little_bytes}
+use Rattle.byteorder.specs.Numbers.{little_number-reads_back, little_from-lt}
+use Rattle.base_types.specs.Name.{is_name}
+use Rattle.layout_bytes.specs.Bytes.{field, are_zeros, has_zeros}
+use Rattle.layout_directory.proofs.Fields.{when_is, when_parts, zeros_are, are_these_zeros}
+use Rattle.layout_bytes.specs.Slot.{name_in, slot_of, slot_spelling}
+use Rattle.layout_directory.specs.Slots.{Slot, IsLawful, IsSlot}
+
+-- a name has 1 to 59 bytes
+pub name_short : (name : List ℕ) → is_name name ≡ true → length name ≤ 59
+name_short name is =
+    leb-true (length name) 59 (and_parts _ _ (and_parts _ _ is).1).0
+
+-- a spelling has 64 bytes
+pub spelling_length : (s : Slot) → length s.name ≤ 59 → length (slot_spelling s) ≡ 64
+spelling_length s short =
+    omega (arith, length-append s.name (replicate (59 - length s.name) 0), length-replicate {A = ℕ} (59 - length s.name) 0)
+
+-- a slot of fields that are each another's is that one
+slot_from : (s : Slot) (node : ℕ) (name : List ℕ) → node ≡ s.node → name ≡ s.name → ◌≡◌ {A = Slot} (record { node = node; name = name }) s
+slot_from s node name n m = rw (n, m) refl
+
+-- a lawful slot reads from its spelling
+pub reads : (s : Slot) → IsLawful s → slot_of (slot_spelling s) ≡ Some s
+unfolding slot_of
+reads s lawful =
+    let b = slot_spelling s in
+    let short = name_short s.name lawful.name in
+    let name : name_in b ≡ s.name = take-append_seam s.name (replicate (59 - length s.name) 0) in
+    let behind : drop (5 + length s.name) b ≡ replicate (59 - length s.name) 0 =
+    sym (drop-drop (length s.name) 5 b) ∙ drop-append_seam s.name (replicate (59 - length s.name) 0) in
+    let zeros : has_zeros b (5 + length s.name) 64 ≡ true =
+    ap (λ xs. are_zeros (take (64 - (5 + length s.name)) xs)) behind
+    ∙ ap are_zeros (take_all (64 - (5 + length s.name)) (replicate (59 - length s.name) 0) (omega (arith, length-replicate {A = ℕ} (59 - length s.name) 0)))
+    ∙ zeros_are (59 - length s.name) in
+    when_is _ _ (and_from _ _ (le-leb (length s.name) 59 short) (and_from _ _ (ap is_name name ∙ lawful.name) zeros))
+    ∙ ap (λ (r : Slot). Some r) (slot_from s _ _ (little_number-reads_back 4 s.node (length s.name ∷ (s.name ++ replicate (59 - length s.name) 0)) (omega (arith, lawful.node))) name)
+
+-- a spelling has one slot
+pub one : (b : List ℕ) (s r : Slot) → IsSlot b s → IsSlot b r → s ≡ r
+one b s r is other =
+    let p : Some s ≡ Some r = sym (reads s is.lawful) ∙ ap slot_of (sym is.spelled ∙ other.spelled) ∙ reads r other.lawful in
+    cc
+
+-- the number in four bytes has these bytes
+four : (a b c d : ℕ) (rest : List ℕ) → a < 256 → b < 256 → c < 256 → d < 256 → little_bytes 4 (field (a ∷ b ∷ c ∷ d ∷ rest) 0 4) ≡ a ∷ b ∷ c ∷ d ∷ []
+four a b c d rest la lb lc ld =
+    le_bytes_4 (a ∷ b ∷ c ∷ d ∷ []) (field (a ∷ b ∷ c ∷ d ∷ rest) 0 4) refl below (omega arith)
+  where
+    below : (i : ℕ) → slice_index (a ∷ b ∷ c ∷ d ∷ []) i < 256
+    below zero = la
+    below (suc zero) = lb
+    below (suc (suc zero)) = lc
+    below (suc (suc (suc zero))) = ld
+    below (suc (suc (suc (suc i)))) = omega arith
+
+-- the name and the zeros behind it are what is behind the length
+named : (n : ℕ) (rest : List ℕ) → n ≤ 59 → length rest ≡ 59 → are_zeros (drop n rest) ≡ true
+    → (n ∷ rest) ≡ length (take n rest) ∷ (take n rest ++ replicate (59 - length (take n rest)) 0)
+named n rest low len zeros =
+    let size : length (take n rest) ≡ n = length-take-le n rest (omega arith) in
+    let left : length (drop n rest) ≡ 59 - length (take n rest) = omega (arith, length-drop n rest, size, len) in
+    ap₂ (λ (m : ℕ) (xs : List ℕ). m ∷ xs) (sym size)
+    (sym (take-append-drop n rest) ∙ ap (λ xs. take n rest ++ xs) (are_these_zeros (drop n rest) zeros ∙ ap (λ m. replicate m 0) left))
+
+-- what reads as a slot from 64 bytes is spelled so
+pub spelled : (b : List ℕ) (s : Slot) → length b ≡ 64 → ((i : ℕ) → slice_index b i < 256) → slot_of b ≡ Some s → IsSlot b s
+unfolding slot_of
+spelled (a ∷ b ∷ c ∷ d ∷ n ∷ rest) s len below e =
+    let all = a ∷ b ∷ c ∷ d ∷ n ∷ rest in
+    let got = when_parts _ _ s e in
+    let is : s ≡ record { node = field all 0 4; name = take n rest } = cc (got.1) in
+    let tests = and_parts _ _ got.0 in
+    let low : n ≤ 59 = leb-true n 59 tests.0 in
+    let more = and_parts _ _ tests.1 in
+    let size : length rest ≡ 59 = omega (arith, len) in
+    let behind : take (64 - (5 + n)) (drop (5 + n) all) ≡ drop n rest =
+    ap (take (64 - (5 + n))) (sym (drop-drop n 5 all)) ∙ take_all (64 - (5 + n)) (drop n rest) (omega (arith, length-drop n rest, size)) in
+    let zeros : are_zeros (drop n rest) ≡ true = sym (ap are_zeros behind) ∙ more.1 in
+    rw is (record {
+      lawful = record { node = omega (arith, little_from-lt 0 4 all below); name = more.0 };
+      spelled = ap₂ ◌++◌ (sym (four a b c d (n ∷ rest) (below 0) (below 1) (below 2) (below 3))) (named n rest low size zeros);
+    })
+spelled [] s len below e = absurd (omega arith)
+spelled (a ∷ []) s len below e = absurd (omega arith)
+spelled (a ∷ b ∷ []) s len below e = absurd (omega arith)
+spelled (a ∷ b ∷ c ∷ []) s len below e = absurd (omega arith)
+spelled (a ∷ b ∷ c ∷ d ∷ []) s len below e = absurd (omega arith)

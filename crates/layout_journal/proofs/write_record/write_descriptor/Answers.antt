@@ -1,0 +1,6 @@
+use Rattle.std.proofs.Common.{◌∙◌, ◌++◌, ap, List, ℕ}
+use Rattle.base_types.specs.Seal.{sha256}
+use Rattle.layout_journal.proofs.write_record.write_descriptor.Goals as goal
+
+pub returns : goal.returns
+returns c = c.seal_into.ensures ∙ ap (λ (t : List ℕ). t ++ sha256 t) c.descriptor_body-text.ensures.body

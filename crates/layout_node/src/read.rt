@@ -1,0 +1,222 @@
+//! Reading a node: 256 bytes are refused unless they are the one spelling of a node that fits a disk of
+//! this geometry. Whether blocks belong to one node alone is described by the check of a whole tree.
+
+ghost use Rattle.std.specs.Prelude.{◌≡◌, ◌≤◌, ◌+◌, ◌*◌, ◌&&◌, ◌==◌, not, nat_lt, nat_le, length, IfOk, OnErr};
+ghost use Rattle.layout_extent.specs.Runs.{AreTidy, LieBelow, most_blocks};
+ghost use Rattle.layout_geometry.specs.Geometry.{data_start};
+ghost use Rattle.layout_bytes.specs.Bytes.{field};
+ghost use Rattle.layout_bytes.specs.declared.node.Node.{Node};
+ghost use Rattle.layout_bytes.specs.Node.{IsNode, free_node, used_kind, node_of, node_fields, node_fits, runs_in, runs_fit, run_blocks, kind_fits, spare_zeros};
+
+use crate::sizes::{RUN_LENGTH, RUNS_AT, SPARE_AT};
+use base_types::limits::{BLOCK_LENGTH, LARGEST_FILE, MOST_LINKS, MOST_RUNS};
+use base_types::{Run, RunList};
+use layout_bytes::{
+    Node, NodeKind, SLOT_LENGTH, are_zeros, has_zeros, number_2, number_4, number_8,
+};
+use layout_geometry::{Geom, NODE_LENGTH};
+use std::error::Error;
+use std::fmt;
+
+/// The bytes are no node's: no node that fits the geometry is spelled so.
+#[derive(Clone, Copy, Debug, PartialEq, Eq)]
+pub struct BadNode;
+
+impl fmt::Display for BadNode {
+    fn fmt<W: fmt::Write>(&self, f: &mut fmt::Formatter<W>) -> fmt::Result {
+        write!(f, "no node has these bytes")
+    }
+}
+
+impl Error for BadNode {}
+
+/// The node that is in these 256 bytes, on a disk of this geometry. A free node is in zeros. This
+/// takes no memory.
+///
+/// # Errors
+/// The bytes are the spelling of no node: there are not 256, a number is out of its limits, the runs don't
+/// fit the size or the disk, or a byte that carries nothing isn't zero.
+pub fn read_node(bytes: &[u8], geom: &Geom) -> Result<Node, BadNode>
+    ensures found { IfOk result (λ node. IsNode geom.now bytes.now node) }
+    ensures refused { OnErr result ((node : Node) → IsNode geom.now bytes.now node → ⊥) }
+
+    // The runs are what `Runs::of` of layout_extent asks for.
+    ensures tidy { IfOk result (λ node. AreTidy node.runs) }
+    ensures below { IfOk result (λ node. LieBelow most_blocks node.runs) }
+{
+    geom.lawful();
+    if bytes.len() != NODE_LENGTH {
+        return Err(BadNode);
+    }
+    if are_zeros(bytes) {
+        return Ok(free_node());
+    }
+    used_node(bytes, geom).ok_or(BadNode)
+}
+
+/// A node that isn't in use.
+fn free_node() -> Node
+    ensures { result ≡ free_node }
+{
+    Node {
+        kind: NodeKind::Free,
+        links: 0,
+        size: 0,
+        runs: RunList::new(),
+    }
+}
+
+/// The node in use in these bytes, if they are one's.
+#[tactic(auto, using(crate::proofs::ReadRuns::too_many), unfolding(layout_bytes::specs::Node::node_of))]
+fn used_node(bytes: &[u8], geom: &Geom) -> Option<Node>
+    requires { length bytes.now ≡ 256 }
+    ensures { result ≡ node_of geom.now bytes.now }
+{
+    let kind = used_kind(bytes[0])?;
+    let count = usize::from(number_2(bytes, 2));
+    if count > MOST_RUNS {
+        return None;
+    }
+    if !has_spare_zeros(bytes, count) {
+        return None;
+    }
+    let node = node_fields(kind, count, bytes);
+    if !node_fits(&node, geom) {
+        return None;
+    }
+    Some(node)
+}
+
+fn used_kind(number: u8) -> Option<NodeKind>
+    ensures { result ≡ used_kind number }
+{
+    match number {
+        1 => Some(NodeKind::Dir),
+        2 => Some(NodeKind::File),
+        _ => None,
+    }
+}
+
+/// Whether the bytes that carry nothing are zeros, where there are `count` runs.
+fn has_spare_zeros(bytes: &[u8], count: usize) -> bool
+    requires size { length bytes.now ≡ 256 }
+    requires few { count ≤ 28 }
+    requires count { count ≡ field bytes.now 2 2 }
+    ensures { result ≡ spare_zeros bytes.now }
+{
+    if bytes[1] != 0 {
+        return false;
+    }
+    if !has_zeros(bytes, SPARE_AT, RUNS_AT) {
+        return false;
+    }
+    has_zeros(bytes, RUNS_AT + RUN_LENGTH * count, NODE_LENGTH)
+}
+
+/// The fields of a node with `count` runs.
+fn node_fields(kind: NodeKind, count: usize, bytes: &[u8]) -> Node
+    requires size { length bytes.now ≡ 256 }
+    requires few { count ≤ 28 }
+    requires count { count ≡ field bytes.now 2 2 }
+    ensures { result ≡ node_fields kind bytes.now }
+{
+    Node {
+        kind,
+        links: number_4(bytes, 4),
+        size: number_8(bytes, 8),
+        runs: runs_in(count, &bytes[RUNS_AT..]),
+    }
+}
+
+/// The first `count` runs in these bytes.
+fn runs_in(count: usize, bytes: &[u8]) -> RunList
+    requires few { count ≤ 28 }
+    requires within { 8 * count ≤ length bytes.now }
+    ensures { result ≡ runs_in count bytes.now }
+{
+    let mut runs = RunList::new();
+    for k in 0..count {
+        let at = RUN_LENGTH * k;
+        runs.push(Run {
+            first: number_4(bytes, at),
+            count: number_4(bytes, at + 4),
+        });
+    }
+    runs
+}
+
+/// Whether a node in use is within the limits of its kind and of the disk.
+fn node_fits(node: &Node, geom: &Geom) -> bool
+    ensures { result ≡ node_fits geom.now node.now }
+{
+    let runs = node.runs.as_slice();
+    if node.links == 0 {
+        return false;
+    }
+    if !runs_fit(runs, geom) {
+        return false;
+    }
+    if run_blocks(runs) != node.size.div_ceil(BLOCK_LENGTH as u64) {
+        return false;
+    }
+    kind_fits(node)
+}
+
+fn kind_fits(node: &Node) -> bool
+    ensures { result ≡ kind_fits node.now node.now.kind }
+{
+    match node.kind {
+        NodeKind::Free => true,
+        NodeKind::Dir => node.size % SLOT_LENGTH as u64 == 0,
+        NodeKind::File => node.links <= MOST_LINKS && node.size <= LARGEST_FILE,
+    }
+}
+
+/// Whether each run has blocks, all of them data blocks, and none begins right behind the one before.
+fn runs_fit(runs: &[Run], geom: &Geom) -> bool
+    ensures { result ≡ runs_fit geom.now 0 runs.now }
+{
+    let mut end = 0;
+    for run in runs {
+        if !run_fits(run, end, geom) {
+            return false;
+        }
+        end = run_end(run);
+    }
+    true
+}
+
+/// Whether a run has blocks, all of them data blocks, and doesn't begin at block `end`.
+fn run_fits(run: &Run, end: u64, geom: &Geom) -> bool
+    ensures { result ≡ (nat_lt 0 run.now.count && (nat_le (data_start geom.now) run.now.first && (nat_le (run.now.first + run.now.count) geom.now.n && not (run.now.first == end)))) }
+{
+    if run.count == 0 {
+        return false;
+    }
+    if run.first < geom.data_start() {
+        return false;
+    }
+    if run_end(run) > u64::from(geom.n()) {
+        return false;
+    }
+    u64::from(run.first) != end
+}
+
+/// The block behind a run.
+fn run_end(run: &Run) -> u64
+    ensures { result ≡ run.now.first + run.now.count }
+{
+    u64::from(run.first) + u64::from(run.count)
+}
+
+/// How many blocks the runs have.
+fn run_blocks(runs: &[Run]) -> u64
+    requires { length runs.now ≤ 28 }
+    ensures { result ≡ run_blocks runs.now }
+{
+    let mut blocks = 0;
+    for run in runs {
+        blocks += u64::from(run.count);
+    }
+    blocks
+}

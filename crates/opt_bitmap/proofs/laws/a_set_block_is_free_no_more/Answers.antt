@@ -1,5 +1,0 @@
-use Rattle.opt_bitmap.proofs.Counts.{one_less}
-use Rattle.opt_bitmap.proofs.laws.a_set_block_is_free_no_more.Goals as goal
-
-pub returns : goal.returns
-returns c = one_less

@@ -1,5 +1,0 @@
-use Rattle.opt_blocks.proofs.Fronts.{reusable_front}
-use Rattle.opt_blocks.proofs.laws.the_lowest_may_be_taken.Goals as goal
-
-pub returns : goal.returns
-returns c = reusable_front

@@ -1,5 +1,0 @@
-use Rattle.opt_books.proofs.Sound.{books_sound}
-use Rattle.opt_books.proofs.laws.books_that_are_kept_are_sound.Goals as goal
-
-pub returns : goal.returns
-returns c = books_sound c.the_accounts_add_up.ensures

@@ -1,5 +1,0 @@
-use Rattle.opt_cache.proofs.Entries.{forgotten}
-use Rattle.opt_cache.proofs.cache.BlockCache.forget.Goals as goal
-
-pub returns : goal.returns
-returns c = forgotten c.self.inside.blocks c.pop.new.self c.args.self.now c.args.b c.a_block_is_kept_once.ensures c.self.view_is c.pop.ensures.entries

@@ -1,5 +1,0 @@
-use Rattle.opt_cache.proofs.Agreeing.{nothing_kept}
-use Rattle.opt_cache.proofs.laws.a_new_cache_agrees.Goals as goal
-
-pub returns : goal.returns
-returns c = nothing_kept

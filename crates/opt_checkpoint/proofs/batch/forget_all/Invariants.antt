@@ -1,7 +1,0 @@
-use Rattle.std.proofs.Common.{take, map}
-use Rattle.opt_tx.specs.States.{Forgets}
-use Rattle.opt_checkpoint.specs.Agree.{home_ticket}
-use Rattle.opt_checkpoint.proofs.batch.forget_all.Given as goal
-
-abbrev pub invariant-loop-write : goal.invariant-loop-write
-invariant-loop-write l = record { so_far : Forgets (map home_ticket (take l.write-index l.home)) l.fn.notes l.notes }

@@ -1,5 +1,0 @@
-use Rattle.opt_crash.proofs.pipe.BetweenSteps.{idle_notice, idle_wrote, idle_lost, idle_known, idle_header, idle_durable}
-use Rattle.opt_crash.proofs.between.nothing_is_written_between_records.Goals as goal
-
-pub returns : goal.returns
-returns c = record { notice = idle_notice; accepted = idle_wrote; lost = idle_lost; known = idle_known; header = idle_header; durable = idle_durable }

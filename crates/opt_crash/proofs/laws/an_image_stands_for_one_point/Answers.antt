@@ -1,5 +1,0 @@
-use Rattle.opt_crash.proofs.theorem.Whole.{stands_for_one}
-use Rattle.opt_crash.proofs.laws.an_image_stands_for_one_point.Goals as goal
-
-pub returns : goal.returns
-returns c = record { stands = stands_for_one c.the_journal_is_lawful.ensures }

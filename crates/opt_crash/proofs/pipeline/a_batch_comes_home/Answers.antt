@@ -1,5 +1,0 @@
-use Rattle.opt_crash.proofs.pipe.PipelineSteps.{knows_placed}
-use Rattle.opt_crash.proofs.pipeline.a_batch_comes_home.Goals as goal
-
-pub returns : goal.returns
-returns c = record { knows = λ base log l p keeps k. knows_placed base log l keeps p k }

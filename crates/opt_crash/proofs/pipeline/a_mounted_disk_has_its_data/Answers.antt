@@ -1,5 +1,0 @@
-use Rattle.opt_crash.proofs.pipe.PipelineWrites.{knows_begins}
-use Rattle.opt_crash.proofs.pipeline.a_mounted_disk_has_its_data.Goals as goal
-
-pub returns : goal.returns
-returns c = record { begins = knows_begins }

@@ -1,5 +1,0 @@
-use Rattle.opt_crash.proofs.pipe.BetweenSteps.{knows_less_sent}
-use Rattle.opt_crash.proofs.pipeline.fewer_may_be_sent.Goals as goal
-
-pub returns : goal.returns
-returns c = knows_less_sent

@@ -1,5 +1,0 @@
-use Rattle.opt_crash.proofs.pipe.NextHeader.{next_header_may_be, knows_next_header}
-use Rattle.opt_crash.proofs.pipeline.the_next_header_may_be_written.Goals as goal
-
-pub returns : goal.returns
-returns c = record { may = next_header_may_be; knows = knows_next_header }

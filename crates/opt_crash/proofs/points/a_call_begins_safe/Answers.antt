@@ -1,6 +1,0 @@
-use Rattle.std.proofs.Common.{arith}
-use Rattle.opt_crash.proofs.steps.WindowSteps.{between_start}
-use Rattle.opt_crash.proofs.points.a_call_begins_safe.Goals as goal
-
-pub returns : goal.returns
-returns c = λ s base log l t floor safe. record { keeps = safe.keeps; points = safe.points; low = omega arith; window = between_start c.the_journal_is_lawful.ensures s base log l safe.keeps safe.points }

@@ -1,5 +1,0 @@
-use Rattle.opt_crash.proofs.steps.WindowSteps.{crash_holds, crash_each}
-use Rattle.opt_crash.proofs.points.a_crash_leaves_a_point.Goals as goal
-
-pub returns : goal.returns
-returns c = record { holds = crash_holds; each = crash_each c.the_journal_is_lawful.ensures }

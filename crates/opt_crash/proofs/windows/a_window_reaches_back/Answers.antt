@@ -1,5 +1,0 @@
-use Rattle.opt_crash.proofs.mount.Windows.{window_reaches_back}
-use Rattle.opt_crash.proofs.windows.a_window_reaches_back.Goals as goal
-
-pub returns : goal.returns
-returns c = window_reaches_back

@@ -1,5 +1,0 @@
-use Rattle.opt_crash.proofs.log.Rows.{none_written, one_more, all_written, front_lost}
-use Rattle.opt_crash.proofs.writes.writes_join_a_log_one_by_one.Goals as goal
-
-pub returns : goal.returns
-returns c = record { none = none_written; more = one_more; all = all_written; failed = front_lost }

@@ -1,5 +1,0 @@
-use Rattle.opt_dirent.proofs.Places.{there, first, missing}
-use Rattle.opt_dirent.proofs.laws.a_name_has_its_first_place.Goals as goal
-
-pub returns : goal.returns
-returns c = record { there = there; first = first; missing = missing }

@@ -1,9 +1,0 @@
-use Rattle.std.proofs.Common.{◌-◌}
-use Rattle.opt_dirs.specs.Reading.{HasListed}
-use Rattle.opt_dirs.proofs.listing.push_names.Given as goal
-
-abbrev pub invariant-loop-first : goal.invariant-loop-first
-invariant-loop-first g l = HasListed g.S.Blocks.tells (g.S.Blocks.state l.fn.blocks) (g.S.Blocks.state l.blocks) l.draft l.node l.count l.first l.fn.into.items l.into.items
-
-abbrev pub decreases-loop-first : goal.decreases-loop-first
-decreases-loop-first g l = l.count - l.first

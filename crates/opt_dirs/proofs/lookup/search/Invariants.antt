@@ -1,9 +1,0 @@
-use Rattle.std.proofs.Common.{◌-◌}
-use Rattle.opt_dirs.specs.Reading.{HasSought}
-use Rattle.opt_dirs.proofs.lookup.search.Given as goal
-
-abbrev pub invariant-loop-first : goal.invariant-loop-first
-invariant-loop-first g l = HasSought g.S.Blocks.tells (g.S.Blocks.state l.fn.blocks) (g.S.Blocks.state l.blocks) l.draft l.node l.count l.name l.first
-
-abbrev pub decreases-loop-first : goal.decreases-loop-first
-decreases-loop-first g l = l.count - l.first

@@ -1,6 +1,0 @@
-use Rattle.std.proofs.Common.{drop}
-use Rattle.opt_dirs.specs.Reading.{HasWalked}
-use Rattle.opt_dirs.proofs.walks.walk_names.Given as goal
-
-abbrev pub invariant-loop-name : goal.invariant-loop-name
-invariant-loop-name g l = HasWalked g.S.Blocks.tells (g.S.Blocks.state l.fn.blocks) (g.S.Blocks.state l.blocks) l.draft l.names (drop l.name-index l.names) l.number

@@ -1,5 +1,0 @@
-use Rattle.opt_disk.proofs.Spending.{spends_together}
-use Rattle.opt_disk.proofs.laws.calls_in_a_row_spend_together.Goals as goal
-
-pub returns : goal.returns
-returns c = spends_together

@@ -1,7 +1,0 @@
-use Rattle.std.proofs.Common.{◌≢◌, ℕ, AllPairs, subst}
-use Rattle.opt_files.specs.declared.changes.Changed.{Changed}
-use Rattle.opt_files.proofs.finishing.Few.{keys_apart}
-use Rattle.opt_files.proofs.changes.Changes.lawful.Goals as goal
-
-pub returns : goal.returns
-returns c = record { once = subst (AllPairs (λ (a b : ℕ × Changed). a.0 ≢ b.0)) c.self.view_is (keys_apart c.self.inside.blocks.entries c.len.ensures.ordered) }

@@ -1,6 +1,0 @@
-use Rattle.std.proofs.Common.{take}
-use Rattle.opt_files.specs.Zeros.{HaveZeros}
-use Rattle.opt_files.proofs.draft.put_zeros.Given as goal
-
-abbrev pub invariant-loop-b : goal.invariant-loop-b
-invariant-loop-b l = HaveZeros l.class (take l.b-index l.list) l.fn.changes l.changes

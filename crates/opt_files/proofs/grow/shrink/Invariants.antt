@@ -1,6 +1,0 @@
-use Rattle.std.proofs.Common.{◌-◌, ◌≤◌, take, drop}
-use Rattle.opt_files.specs.Drafts.{FreesBlocks}
-use Rattle.opt_files.proofs.grow.shrink.Given as goal
-
-abbrev pub invariant-loop-i : goal.invariant-loop-i
-invariant-loop-i l = (l.count ≤ l.i) × FreesBlocks (take (l.i - l.count) (drop l.count l.fn.node.places)) l.fn.draft l.draft

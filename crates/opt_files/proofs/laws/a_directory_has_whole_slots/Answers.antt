@@ -1,7 +1,0 @@
-use Rattle.opt_files.specs.Drafts.{drafted, marks_of}
-use Rattle.opt_files.proofs.calling.Reads.{file_slots}
-use Rattle.opt_files.proofs.laws.a_directory_has_whole_slots.Goals as goal
-
-pub returns : goal.returns
-returns g c = λ s d k x tells draft file dir.
-    file_slots (g.S.Blocks.state s).books.geom (marks_of d (g.S.Blocks.state s).books.marked) (drafted d (g.S.Blocks.state s).map) k x (draft.sound tells).blocks file dir

@@ -1,7 +1,0 @@
-use Rattle.std.proofs.Common.{◌+◌, ◌*◌, IsTrue}
-use Rattle.opt_fsck.proofs.sound.Steps.{Goes}
-use Rattle.opt_fsck.proofs.table.check_table.Given as goal
-
-abbrev pub invariant-loop-t : goal.invariant-loop-t
-invariant-loop-t g l =
-    Goes (IsTrue g.S.Blocks.tells) g.S.Blocks.tells l.geom (g.S.Blocks.state l.fn.blocks) (g.S.Blocks.state l.blocks) l.bits l.fn.met l.met 1 (4 * l.t + 1)

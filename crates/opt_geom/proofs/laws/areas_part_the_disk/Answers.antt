@@ -1,5 +1,0 @@
-use Rattle.opt_geom.proofs.Areas.{lies, alone, within}
-use Rattle.opt_geom.proofs.laws.areas_part_the_disk.Goals as goal
-
-pub returns : goal.returns
-returns c = record { lies = lies; alone = alone; within = within }

@@ -1,6 +1,0 @@
--- What is behind the bytes that were pulled adds commands alone.
-use Rattle.opt_lines.proofs.Giving.{gives_first}
-use Rattle.opt_lines.proofs.laws.all_was_given.Goals as goal
-
-pub returns-clause-front : goal.returns-clause-front
-returns-clause-front c = gives_first

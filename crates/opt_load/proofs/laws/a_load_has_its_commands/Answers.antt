@@ -1,5 +1,0 @@
-use Rattle.opt_load.proofs.Counts.{load_count}
-use Rattle.opt_load.proofs.laws.a_load_has_its_commands.Goals as goal
-
-pub returns : goal.returns
-returns c = load_count

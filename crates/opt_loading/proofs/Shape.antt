@@ -1,8 +1,0 @@
--- The numbers of the disk are a geometry's.
-use Rattle.std.proofs.Common.{◌≡◌, true, refl}
-use Rattle.opt_geom.specs.Geometry.{geometry_fits}
-use Rattle.opt_loading.specs.Summary.{shape}
-
-pub shape_fits : geometry_fits shape ≡ true
-unfolding geometry_fits
-shape_fits = refl

@@ -1,5 +1,0 @@
-use Rattle.opt_loading.proofs.Shape.{shape_fits}
-use Rattle.opt_loading.proofs.disk.geom.Goals as goal
-
-pub unwrap-requires : goal.unwrap-requires
-unwrap-requires c = c.new.ensures.exact.1 shape_fits

@@ -1,6 +1,0 @@
-use Rattle.std.proofs.Common.{take}
-use Rattle.opt_memdisk.specs.Settled.{AreSettledPlaces}
-use Rattle.opt_memdisk.proofs.settled.settled_places.Given as goal
-
-abbrev pub invariant-loop-place : goal.invariant-loop-place
-invariant-loop-place l = AreSettledPlaces l.blocks (take l.place l.log.events) l.places.items

@@ -1,9 +1,0 @@
--- What an image is, as a list of blocks.
-use Rattle.std.specs.Prelude.{ℕ, ◌<◌, ◌^◌, List, length}
-use Rattle.opt_base.specs.Seal.{blocks_of}
-use Rattle.opt_disk.specs.Lawful.{IsBlock}
-
--- fewer than 2^32 blocks, each with the bytes of a block
-pub record AreBlocks (blocks : List (List ℕ)) : Type 0 where
-  pub short : length blocks < 2 ^ 32
-  pub whole : (b : ℕ) → b < length blocks → IsBlock (blocks_of blocks b)

@@ -1,7 +1,0 @@
-use Rattle.std.proofs.Common.{◌∙◌, ap}
-use Rattle.std.specs.FinMap.{get}
-use Rattle.opt_memtree.proofs.keys.Keys.{found}
-use Rattle.opt_memtree.proofs.directory.Directory.get.Goals as goal
-
-pub returns : goal.returns
-returns c = c.copied.ensures ∙ c.get.ensures.value ∙ found c.args.name.now c.self.inside.entries.entries ∙ ap (λ m. get m c.args.name.now) c.self.view_is

@@ -1,6 +1,0 @@
-use Rattle.std.proofs.Common.{◌∙◌, rules}
-use Rattle.opt_memtree.proofs.maps.Slots.{count_in_dir}
-use Rattle.opt_memtree.proofs.nodes.Nodes.held.Goals as goal
-
-pub returns-in-Some-Dir-clause-value : goal.returns-in-Some-Dir-clause-value
-returns-in-Some-Dir-clause-value c = c.len.ensures.value ∙ count_in_dir c.args.self.now c.args.number c.in-Some-Dir.names (search rules)

@@ -1,6 +1,0 @@
-use Rattle.std.proofs.Common.{rules}
-use Rattle.opt_memtree.proofs.maps.Slots.{stat_dir}
-use Rattle.opt_memtree.proofs.nodes.Nodes.stat.Goals as goal
-
-pub returns-in-Some-Dir : goal.returns-in-Some-Dir
-returns-in-Some-Dir c = stat_dir c.args.self.now c.args.number c.len.result c.in-Some-Dir.names (search rules) c.len.ensures.value

@@ -1,6 +1,0 @@
-use Rattle.std.proofs.Common.{◌≡◌, ℕ, ◌+◌, ◌<◌}
-use Rattle.opt_memtree.specs.Stored.{things, thing_in}
-use Rattle.opt_memtree.proofs.nodes.are_same.Given as goal
-
-abbrev pub invariant-loop-index : goal.invariant-loop-index
-invariant-loop-index l = (k : ℕ) → k < l.index → thing_in (things l.left) (k + 1) ≡ thing_in (things l.right) (k + 1)

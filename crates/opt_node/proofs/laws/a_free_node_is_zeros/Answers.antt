@@ -1,5 +1,0 @@
-use Rattle.opt_node.proofs.Spelled.{free_zeros, zeros_free}
-use Rattle.opt_node.proofs.laws.a_free_node_is_zeros.Goals as goal
-
-pub returns : goal.returns
-returns c = record { zeros = free_zeros; free = zeros_free }

@@ -1,5 +1,0 @@
-use Rattle.opt_node.proofs.Bounds.{stands}
-use Rattle.opt_node.proofs.laws.a_node_that_fits_has_a_spelling.Goals as goal
-
-pub returns : goal.returns
-returns c = stands

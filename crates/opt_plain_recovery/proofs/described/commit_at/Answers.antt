@@ -1,5 +1,0 @@
-use Rattle.opt_base.specs.Seal.{blocks_of}
-use Rattle.opt_plain_recovery.proofs.described.commit_at.Goals as goal
-
-pub returns-clause-missing : goal.returns-clause-missing
-returns-clause-missing c = c.commit_in.ensures.missing (blocks_of c.args.image.now) c.args.place c.ring_block.ensures

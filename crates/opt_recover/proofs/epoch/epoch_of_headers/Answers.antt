@@ -1,7 +1,0 @@
-use Rattle.std.proofs.Common.{max, ap₂, ◌∙◌}
-use Rattle.opt_recover.proofs.Readings.{still_gives}
-use Rattle.opt_recover.proofs.epoch.epoch_of_headers.Goals as goal
-
-pub returns-clause-value : goal.returns-clause-value
-returns-clause-value g c = λ img gives.
-    c.greater.ensures ∙ ap₂ max (c.in_ok-first.ensures.value img gives) (c.in_ok-second.ensures.value img (still_gives _ _ _ _ img c.in_ok-first.ensures.reads gives))

@@ -1,5 +1,0 @@
-use Rattle.opt_recover.proofs.InRing.{stored_in_ring}
-use Rattle.opt_recover.proofs.laws.the_last_payload_is_in_the_ring.Goals as goal
-
-pub returns : goal.returns
-returns c = stored_in_ring

@@ -1,6 +1,0 @@
-use Rattle.opt_script.proofs.Lawful.{line_command}
-use Rattle.opt_script.proofs.RoundTrip.{round_trip}
-use Rattle.opt_script.proofs.laws.lines_are_commands.Goals as goal
-
-pub returns : goal.returns
-returns c = record { lawful = line_command; read = round_trip }

@@ -1,5 +1,0 @@
-use Rattle.opt_stands.proofs.SoundTree.{is_sound}
-use Rattle.opt_stands.proofs.laws.a_tree_that_stands_is_sound.Goals as goal
-
-pub returns : goal.returns
-returns c = record { sound = λ g m t is. is_sound g.i is.inodes t is.map }

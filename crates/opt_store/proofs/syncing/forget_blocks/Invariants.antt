@@ -1,7 +1,0 @@
-use Rattle.std.proofs.Common.{◌≡◌, ℕ, take, if◌then◌else◌, None}
-use Rattle.std.specs.FinMap.{get}
-use Rattle.opt_crash.specs.HomeTest.{is_one_of}
-use Rattle.opt_store.proofs.syncing.forget_blocks.Given as goal
-
-abbrev pub invariant-loop-block : goal.invariant-loop-block
-invariant-loop-block l = (b : ℕ) → get l.cache.kept b ≡ (if is_one_of b (take l.block-index l.blocks) then None else get l.fn.cache.kept b)

@@ -1,6 +1,0 @@
-use Rattle.std.proofs.Common.{◌≡◌, map, take}
-use Rattle.opt_tx.specs.Record.{block_of}
-use Rattle.opt_tx.proofs.commit.numbers_of.Given as goal
-
-abbrev pub invariant-loop-put : goal.invariant-loop-put
-invariant-loop-put l = record { items : l.numbers.items ≡ map block_of (take l.put-index l.puts) }

@@ -1,5 +1,0 @@
-use Rattle.opt_tx.proofs.spelling.Sizes.{record_size, all_counted, front_counted}
-use Rattle.opt_tx.proofs.laws.a_record_makes_so_many_writes.Goals as goal
-
-pub returns : goal.returns
-returns c = record { size = record_size; accepted = all_counted; failed = front_counted }

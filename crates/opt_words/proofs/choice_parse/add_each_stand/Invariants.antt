@@ -1,7 +1,0 @@
-use Rattle.std.proofs.Common.{◌≡◌, map, take, Some}
-use Rattle.opt_words.specs.ChoiceTexts.{with_more, all_of, stand_of}
-use Rattle.opt_words.proofs.choice_parse.add_each_stand.Given as goal
-
-abbrev pub invariant-loop-item : goal.invariant-loop-item
-invariant-loop-item l =
-    with_more l.fn.choice (all_of (take l.item-index (map stand_of (map (λ item. item.now) l.items)))) ≡ Some l.choice
