@@ -40,5 +40,6 @@ pub fn an_image_has_one_answer()
 
 /// A store that was mounted, or any other blocks, are so still where they were only read; a read that failed is counted.
 pub fn what_is_read_stays_mounted<S: Blocks>()
-    ensures { (old new : S) (first : State) (failed : Bool) → IsMountedOn S.tells false first (S.state old) → LooksOnly S.tells failed (S.state old) (S.state new) → IsMountedOn S.tells failed first (S.state new) }
+    ensures { (old new : S) (first : State) (failed : Bool) → IsMountedOn S.tells false first (S.state old)
+        → LooksOnly S.tells failed (S.state old) (S.state new) → IsMountedOn S.tells failed first (S.state new) }
 {}

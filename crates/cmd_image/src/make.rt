@@ -56,7 +56,8 @@ pub fn make_image<B: Bay>(
 /// `Fault`, which the bay has counted, or `NoMemory`.
 fn make_disk<B: Bay>(bay: &mut B, name: &str, geom: &Geom) -> Result<B::D, MakeRefusal>
     ensures makes { IfOk result (λ disk. Makes B.tells B.D.state name.now geom.now.n (Ok disk) (B.state bay.old) (B.state bay.new)) }
-    ensures refused { IfErr result (λ why. (fault : Failure) × (why ≡ make_refusal_of_bay fault) × Makes B.tells B.D.state name.now geom.now.n (Err fault) (B.state bay.old) (B.state bay.new)) }
+    ensures refused { IfErr result (λ why. (fault : Failure) × (why ≡ make_refusal_of_bay fault)
+        × Makes B.tells B.D.state name.now geom.now.n (Err fault) (B.state bay.old) (B.state bay.new)) }
 {
     match bay.make(name, geom.n()) {
         Ok(disk) => Ok(disk),
@@ -75,7 +76,8 @@ fn close_made<B: Bay>(
     disk: B::D,
     written: Result<(), MkfsRefusal>,
 ) -> Result<(), MakeRefusal>
-    ensures { (back : Result (Unit {0}) Failure) × Closes B.tells name.now (B.D.state disk) [] back (B.state bay.old) (B.state bay.new) × (result ≡ make_answer_of written back) }
+    ensures { (back : Result (Unit {0}) Failure) × Closes B.tells name.now (B.D.state disk) [] back (B.state bay.old) (B.state bay.new)
+        × (result ≡ make_answer_of written back) }
 {
     let back = bay.close(name, disk, Vec::new(alloc));
     if let Err(why) = written {

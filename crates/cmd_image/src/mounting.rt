@@ -80,7 +80,8 @@ pub fn mount_lent<D: Disk + Drop>(alloc: Global, disk: D) -> Result<Store<D>, (D
     requires fresh { IsFresh D.tells (D.state disk) }
     ensures begun { IfOk result (λ store. IsBegun (state_of D.state store)) }
     ensures mounted { IfOk result (λ store. IsMountedOn D.tells false (D.state disk) (state_of D.state store)) }
-    ensures begins { IsTrue D.tells → (g : Geometry) (m : BlockMap) → HoldsUnder (D.state disk).blocks g (D.state disk).base m → IfOk result (λ store. BeginsWith g m (state_of D.state store)) }
+    ensures begins { IsTrue D.tells → (g : Geometry) (m : BlockMap) → HoldsUnder (D.state disk).blocks g (D.state disk).base m
+        → IfOk result (λ store. BeginsWith g m (state_of D.state store)) }
     ensures numbers { IsTrue D.tells → IfOk result (λ store. GoesOnFrom (D.state disk) (state_of D.state store)) }
     ensures refused { IfErr result (λ e. (taken : Option (List ℕ)) → ShowsDisk {T = Unit {0}} D.tells (D.state disk) (D.state e.0) [] taken taken (Err e.1)) }
     ensures silent { IfErr result (λ e. fails_pushing {T = Unit {0}} (Err e.1) ≡ false) }
@@ -102,7 +103,8 @@ pub fn mount_lent<D: Disk + Drop>(alloc: Global, disk: D) -> Result<Store<D>, (D
 /// since they were mounted, the disk goes back as `ShowsDisk` says.
 pub fn unopened<D: Disk + Drop>(store: Store<D>, why: CheckRefusal) -> (D, ShowRefusal)
     ensures back { (first : State) (taken : Option (List ℕ)) → IsMountedOn D.tells (fails_by why) first (state_of D.state store)
-        → (IsTrue D.tells → OnDamage why (IsDamaged (state_of D.state store).books.geom (state_of D.state store).map)) → (IsTrue D.tells → OnDamage why (λ _. (t : Tree) → ¬ IsTreeOf (state_of D.state store).books.geom (state_of D.state store).map t))
+        → (IsTrue D.tells → OnDamage why (IsDamaged (state_of D.state store).books.geom (state_of D.state store).map))
+        → (IsTrue D.tells → OnDamage why (λ _. (t : Tree) → ¬ IsTreeOf (state_of D.state store).books.geom (state_of D.state store).map t))
         → ShowsDisk {T = Unit {0}} D.tells first (D.state result.0) [] taken taken (Err result.1) }
     ensures silent { fails_pushing {T = Unit {0}} (Err result.1) ≡ false }
 {

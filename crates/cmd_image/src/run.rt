@@ -51,7 +51,8 @@ use std::alloc::Global;
 /// # Errors
 /// `Fault` comes of a call of the bay that failed, or of one of the disk in the mount or the opening of the file system,
 /// which was counted; that nothing is under the name is one. Where the bay tells, it comes only where the bay's calls may
-/// fail, where nothing is under the name, or where that call of the disk failed as the disk's manner lets it. `Damaged` says what is broken in the image, and `Spent` that
+/// fail, where nothing is under the name, or where that call of the disk failed as the disk's manner lets it.
+/// `Damaged` says what is broken in the image, and `Spent` that
 /// the numbers of its journal are at their end: nothing is read or written then. `SinkFault` comes of a push that failed,
 /// which the sink has counted, and `NoMemory` of want of memory: the commands that were answered by then are the first
 /// ones of the input, and the output took a prefix of the lines of their replies.
@@ -62,10 +63,17 @@ pub fn run_script<B: Bay, S: Source, K: Sink>(
     input: &mut S,
     out: &mut K,
 ) -> Result<Ending, RunRefusal>
-    ensures comes { ComesOf B.tells name.now result (B.state bay.old) (B.state bay.new) (record { left = S.remaining input.old; source_faults = S.faults input.old; taken = K.taken out.old; sink_faults = K.faults out.old }) (record { left = S.remaining input.new; source_faults = S.faults input.new; taken = K.taken out.new; sink_faults = K.faults out.new }) }
+    ensures comes { ComesOf B.tells name.now result (B.state bay.old) (B.state bay.new)
+        (record { left = S.remaining input.old; source_faults = S.faults input.old; taken = K.taken out.old; sink_faults = K.faults out.old })
+        (record { left = S.remaining input.new; source_faults = S.faults input.new; taken = K.taken out.new; sink_faults = K.faults out.new }) }
     ensures cause { HasRunCause result (B.state bay.old) (B.state bay.new) }
-    ensures reason { IsTrue B.tells → result ≡ Err Fault → HasRunReason B.tells name.now result (B.state bay.old) (B.state bay.new) (record { left = S.remaining input.old; source_faults = S.faults input.old; taken = K.taken out.old; sink_faults = K.faults out.old }) (record { left = S.remaining input.new; source_faults = S.faults input.new; taken = K.taken out.new; sink_faults = K.faults out.new }) }
-    ensures counts { CountsFaults result (record { left = S.remaining input.old; source_faults = S.faults input.old; taken = K.taken out.old; sink_faults = K.faults out.old }) (record { left = S.remaining input.new; source_faults = S.faults input.new; taken = K.taken out.new; sink_faults = K.faults out.new }) }
+    ensures reason { IsTrue B.tells → result ≡ Err Fault
+        → HasRunReason B.tells name.now result (B.state bay.old) (B.state bay.new)
+        (record { left = S.remaining input.old; source_faults = S.faults input.old; taken = K.taken out.old; sink_faults = K.faults out.old })
+        (record { left = S.remaining input.new; source_faults = S.faults input.new; taken = K.taken out.new; sink_faults = K.faults out.new }) }
+    ensures counts { CountsFaults result (record
+        { left = S.remaining input.old; source_faults = S.faults input.old; taken = K.taken out.old; sink_faults = K.faults out.old })
+        (record { left = S.remaining input.new; source_faults = S.faults input.new; taken = K.taken out.new; sink_faults = K.faults out.new }) }
     ensures unread { opens_nothing result ≡ true → input.new ≡ input.old }
     ensures silent { opens_nothing result ≡ true → out.new ≡ out.old }
 {
@@ -95,8 +103,12 @@ fn run_disk<D: Disk + Drop, S: Source, K: Sink>(
     requires fresh { IsFresh D.tells (D.state disk) }
     requires empty { marks.items ≡ [] }
     requires room { vec_len marks < vec_capacity marks }
-    ensures comes { ComesOfDisk D.tells (D.state disk) (D.state result.disk) result.marks.items result.answer (record { left = S.remaining input.old; source_faults = S.faults input.old; taken = K.taken out.old; sink_faults = K.faults out.old }) (record { left = S.remaining input.new; source_faults = S.faults input.new; taken = K.taken out.new; sink_faults = K.faults out.new }) }
-    ensures counts { CountsFaults result.answer (record { left = S.remaining input.old; source_faults = S.faults input.old; taken = K.taken out.old; sink_faults = K.faults out.old }) (record { left = S.remaining input.new; source_faults = S.faults input.new; taken = K.taken out.new; sink_faults = K.faults out.new }) }
+    ensures comes { ComesOfDisk D.tells (D.state disk) (D.state result.disk) result.marks.items result.answer
+        (record { left = S.remaining input.old; source_faults = S.faults input.old; taken = K.taken out.old; sink_faults = K.faults out.old })
+        (record { left = S.remaining input.new; source_faults = S.faults input.new; taken = K.taken out.new; sink_faults = K.faults out.new }) }
+    ensures counts { CountsFaults result.answer
+        (record { left = S.remaining input.old; source_faults = S.faults input.old; taken = K.taken out.old; sink_faults = K.faults out.old })
+        (record { left = S.remaining input.new; source_faults = S.faults input.new; taken = K.taken out.new; sink_faults = K.faults out.new }) }
     ensures unread { opens_nothing result.answer ≡ true → input.new ≡ input.old }
     ensures silent { opens_nothing result.answer ≡ true → out.new ≡ out.old }
 {
@@ -122,8 +134,12 @@ fn run_store<D: Disk + Drop, S: Source, K: Sink>(
     requires empty { marks.items ≡ [] }
     requires room { vec_len marks < vec_capacity marks }
     ensures comes { (first : State) → IsJustMounted D.tells first (state_of D.state store)
-        → ComesOfDisk D.tells first (D.state result.disk) result.marks.items result.answer (record { left = S.remaining input.old; source_faults = S.faults input.old; taken = K.taken out.old; sink_faults = K.faults out.old }) (record { left = S.remaining input.new; source_faults = S.faults input.new; taken = K.taken out.new; sink_faults = K.faults out.new }) }
-    ensures counts { CountsFaults result.answer (record { left = S.remaining input.old; source_faults = S.faults input.old; taken = K.taken out.old; sink_faults = K.faults out.old }) (record { left = S.remaining input.new; source_faults = S.faults input.new; taken = K.taken out.new; sink_faults = K.faults out.new }) }
+        → ComesOfDisk D.tells first (D.state result.disk) result.marks.items result.answer
+        (record { left = S.remaining input.old; source_faults = S.faults input.old; taken = K.taken out.old; sink_faults = K.faults out.old })
+        (record { left = S.remaining input.new; source_faults = S.faults input.new; taken = K.taken out.new; sink_faults = K.faults out.new }) }
+    ensures counts { CountsFaults result.answer
+        (record { left = S.remaining input.old; source_faults = S.faults input.old; taken = K.taken out.old; sink_faults = K.faults out.old })
+        (record { left = S.remaining input.new; source_faults = S.faults input.new; taken = K.taken out.new; sink_faults = K.faults out.new }) }
     ensures unread { opens_nothing result.answer ≡ true → input.new ≡ input.old }
     ensures silent { opens_nothing result.answer ≡ true → out.new ≡ out.old }
 {
@@ -154,8 +170,12 @@ fn run_served<D: Disk + Drop, S: Source, K: Sink>(
     out: &mut K,
 ) -> Left<D>
     ensures comes { (first : State) → SoFar D.tells first [] [] running.marks.items (state_of D.state (blocks_in running.served))
-        → ComesOfDisk D.tells first (D.state result.disk) result.marks.items result.answer (record { left = S.remaining input.old; source_faults = S.faults input.old; taken = K.taken out.old; sink_faults = K.faults out.old }) (record { left = S.remaining input.new; source_faults = S.faults input.new; taken = K.taken out.new; sink_faults = K.faults out.new }) }
-    ensures counts { CountsFaults result.answer (record { left = S.remaining input.old; source_faults = S.faults input.old; taken = K.taken out.old; sink_faults = K.faults out.old }) (record { left = S.remaining input.new; source_faults = S.faults input.new; taken = K.taken out.new; sink_faults = K.faults out.new }) }
+        → ComesOfDisk D.tells first (D.state result.disk) result.marks.items result.answer
+        (record { left = S.remaining input.old; source_faults = S.faults input.old; taken = K.taken out.old; sink_faults = K.faults out.old })
+        (record { left = S.remaining input.new; source_faults = S.faults input.new; taken = K.taken out.new; sink_faults = K.faults out.new }) }
+    ensures counts { CountsFaults result.answer
+        (record { left = S.remaining input.old; source_faults = S.faults input.old; taken = K.taken out.old; sink_faults = K.faults out.old })
+        (record { left = S.remaining input.new; source_faults = S.faults input.new; taken = K.taken out.new; sink_faults = K.faults out.new }) }
     ensures opened { opens_nothing result.answer ≡ false }
 {
     the_writes_keep_within_the_budget::<Store<D>>();
@@ -191,8 +211,12 @@ fn serve_all<D: Disk + Drop, S: Source, K: Sink>(
     out: &mut K,
 ) -> Result<Ending, Stop>
     ensures runs { (first : State) → SoFar D.tells first [] [] running.old.marks.items (state_of D.state (blocks_in running.old.served))
-        → RunsTo D.tells first running.new.marks.items (state_of D.state (blocks_in running.new.served)) (answer_for result) (record { left = S.remaining input.old; source_faults = S.faults input.old; taken = K.taken out.old; sink_faults = K.faults out.old }) (record { left = S.remaining input.new; source_faults = S.faults input.new; taken = K.taken out.new; sink_faults = K.faults out.new }) }
-    ensures counts { CountsFaults (answer_for result) (record { left = S.remaining input.old; source_faults = S.faults input.old; taken = K.taken out.old; sink_faults = K.faults out.old }) (record { left = S.remaining input.new; source_faults = S.faults input.new; taken = K.taken out.new; sink_faults = K.faults out.new }) }
+        → RunsTo D.tells first running.new.marks.items (state_of D.state (blocks_in running.new.served)) (answer_for result)
+        (record { left = S.remaining input.old; source_faults = S.faults input.old; taken = K.taken out.old; sink_faults = K.faults out.old })
+        (record { left = S.remaining input.new; source_faults = S.faults input.new; taken = K.taken out.new; sink_faults = K.faults out.new }) }
+    ensures counts { CountsFaults (answer_for result)
+        (record { left = S.remaining input.old; source_faults = S.faults input.old; taken = K.taken out.old; sink_faults = K.faults out.old })
+        (record { left = S.remaining input.new; source_faults = S.faults input.new; taken = K.taken out.new; sink_faults = K.faults out.new }) }
 {
     all_was_given();
     let mut reader = CommandReader::new(alloc)?;
@@ -215,8 +239,10 @@ fn serve_next<D: Disk + Drop, S: Source, K: Sink>(
     out: &mut K,
 ) -> Result<Option<Ending>, Stop>
     ensures turns { (first : State) (before : Streams) → before.source_faults ≤ S.faults input.old
-        → AtCommand D.tells first running.old.marks.items (state_of D.state (blocks_in running.old.served)) reader.old before (record { left = S.remaining input.old; source_faults = S.faults input.old; taken = K.taken out.old; sink_faults = K.faults out.old })
-        → Turns D.tells first running.new.marks.items (state_of D.state (blocks_in running.new.served)) reader.new result before (record { left = S.remaining input.new; source_faults = S.faults input.new; taken = K.taken out.new; sink_faults = K.faults out.new }) }
+        → AtCommand D.tells first running.old.marks.items (state_of D.state (blocks_in running.old.served)) reader.old before
+        (record { left = S.remaining input.old; source_faults = S.faults input.old; taken = K.taken out.old; sink_faults = K.faults out.old })
+        → Turns D.tells first running.new.marks.items (state_of D.state (blocks_in running.new.served)) reader.new result before
+        (record { left = S.remaining input.new; source_faults = S.faults input.new; taken = K.taken out.new; sink_faults = K.faults out.new }) }
     ensures gives { OnNext result ((seen : List ℕ) (cmds : List Cmd) → HasGiven seen cmds reader.old → GivesOne seen cmds reader.new) }
     ensures marks { OnNext result (length running.new.marks.items ≡ length running.old.marks.items + 1) }
     ensures source { S.faults input.old ≤ S.faults input.new }
@@ -241,7 +267,9 @@ fn serve_next<D: Disk + Drop, S: Source, K: Sink>(
 /// The answer of the run, where it is a refusal; behind the end of the input `Fault`, which the bay has counted, or
 /// `NoMemory`.
 fn close_run<B: Bay>(bay: &mut B, name: &str, left: Left<LentDisk<B>>) -> Result<Ending, RunRefusal>
-    ensures { (back : Result (Unit {0}) Failure) × Closes B.tells name.now (B.D.state (disk_of left.disk)) left.marks.items back (B.state bay.old) (B.state bay.new) × (result ≡ run_answer_of left.answer back) }
+    ensures { (back : Result (Unit {0}) Failure)
+        × Closes B.tells name.now (B.D.state (disk_of left.disk)) left.marks.items back (B.state bay.old) (B.state bay.new)
+        × (result ≡ run_answer_of left.answer back) }
 {
     let Left {
         disk,

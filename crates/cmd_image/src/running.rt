@@ -107,9 +107,12 @@ impl<D: Disk + Drop> Running<D> {
         out: &mut K,
         cmd: &Cmd,
     ) -> Result<(), Stop>
-        ensures ok { OnOk result (ServesNext D.tells cmd.now self.old.marks.items (state_of D.state (blocks_in self.old.served)) self.new.marks.items (state_of D.state (blocks_in self.new.served)) (K.taken out.old) (K.taken out.new)) }
-        ensures err { OnErr result (RestsNow D.tells self.old.marks.items (state_of D.state (blocks_in self.old.served)) self.new.marks.items (state_of D.state (blocks_in self.new.served)) (K.taken out.old) (K.taken out.new)
-            ⊎ BreaksOff D.tells cmd.now self.old.marks.items (state_of D.state (blocks_in self.old.served)) self.new.marks.items (state_of D.state (blocks_in self.new.served)) (K.taken out.old) (K.taken out.new)) }
+        ensures ok { OnOk result (ServesNext D.tells cmd.now self.old.marks.items (state_of D.state (blocks_in self.old.served)) self.new.marks.items
+            (state_of D.state (blocks_in self.new.served)) (K.taken out.old) (K.taken out.new)) }
+        ensures err { OnErr result (RestsNow D.tells self.old.marks.items (state_of D.state (blocks_in self.old.served)) self.new.marks.items
+            (state_of D.state (blocks_in self.new.served)) (K.taken out.old) (K.taken out.new)
+            ⊎ BreaksOff D.tells cmd.now self.old.marks.items (state_of D.state (blocks_in self.old.served)) self.new.marks.items
+            (state_of D.state (blocks_in self.new.served)) (K.taken out.old) (K.taken out.new)) }
         ensures pushes { K.faults out.new ≡ after_call (stops_pushing result) (K.faults out.old) }
         ensures rises { K.faults out.old ≤ K.faults out.new }
         ensures marks { OnOk result (length self.new.marks.items ≡ length self.old.marks.items + 1) }
@@ -123,7 +126,8 @@ impl<D: Disk + Drop> Running<D> {
     /// Answers one command, and marks the disk.
     fn answer(&mut self, alloc: Global, cmd: &Cmd) -> Reply
         requires room { vec_len self.old.marks < vec_capacity self.old.marks }
-        ensures answers { AnswersNext D.tells cmd.now result self.old.marks.items (state_of D.state (blocks_in self.old.served)) self.new.marks.items (state_of D.state (blocks_in self.new.served)) }
+        ensures answers { AnswersNext D.tells cmd.now result self.old.marks.items (state_of D.state (blocks_in self.old.served)) self.new.marks.items
+            (state_of D.state (blocks_in self.new.served)) }
         ensures marks { length self.new.marks.items ≡ length self.old.marks.items + 1 }
     {
         a_command_begins_with_a_tick::<Store<D>>();

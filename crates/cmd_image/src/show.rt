@@ -39,7 +39,8 @@ use std::alloc::Global;
 /// # Errors
 /// `Fault` comes of a call of the bay or of the disk that failed, which was counted; that nothing is under the name is
 /// one. Where the bay tells, it comes only where the bay's calls may fail, where nothing is under the name, or where a
-/// call of the disk failed as the disk's manner lets it. `Damaged` says what is broken in the image, and `Spent` that the numbers of its journal are at their end:
+/// call of the disk failed as the disk's manner lets it. `Damaged` says what is broken in the image, and `Spent`
+/// that the numbers of its journal are at their end:
 /// nothing is pushed then. `SinkFault` comes of a push that failed, which the sink has counted, and `NoMemory` of want
 /// of memory. With these three the sink took a prefix of the listing, or nothing.
 pub fn show_tree<B: Bay, K: Sink>(
@@ -105,7 +106,8 @@ fn show_store<D: Disk + Drop, K: Sink>(
     requires begun { IsBegun (state_of D.state store) }
     requires empty { marks.items ≡ [] }
     requires room { vec_len marks < vec_capacity marks }
-    ensures shows { (first : State) → IsMountedOn D.tells false first (state_of D.state store) → ShowsDisk D.tells first (D.state result.disk) result.marks.items (K.taken out.old) (K.taken out.new) result.answer }
+    ensures shows { (first : State) → IsMountedOn D.tells false first (state_of D.state store)
+        → ShowsDisk D.tells first (D.state result.disk) result.marks.items (K.taken out.old) (K.taken out.new) result.answer }
     ensures silent { says_nothing result.answer ≡ true → out.new ≡ out.old }
     ensures pushes { CountsPushes (fails_pushing result.answer) (K.faults out.old) (K.faults out.new) }
 {
@@ -135,7 +137,8 @@ fn list_shown<D: Disk + Drop, K: Sink>(
     requires between { IsBetween D.tells (state_of D.state (blocks_in fs)) (used_to fs) }
     requires empty { marks.items ≡ [] }
     requires room { vec_len marks < vec_capacity marks }
-    ensures shows { (first : State) → IsMountedOn D.tells false first (state_of D.state (blocks_in fs)) → (IsTrue D.tells → HasSession (state_of D.state (blocks_in fs))) → IsMarkOf D.tells (state_of D.state (blocks_in fs)) mark
+    ensures shows { (first : State) → IsMountedOn D.tells false first (state_of D.state (blocks_in fs))
+        → (IsTrue D.tells → HasSession (state_of D.state (blocks_in fs))) → IsMarkOf D.tells (state_of D.state (blocks_in fs)) mark
         → ShowsDisk D.tells first (D.state result.disk) result.marks.items (K.taken out.old) (K.taken out.new) result.answer }
     ensures says { says_nothing result.answer ≡ false }
     ensures pushes { CountsPushes (fails_pushing result.answer) (K.faults out.old) (K.faults out.new) }
@@ -163,8 +166,10 @@ fn write_listing<D: Disk + Drop, K: Sink>(
 ) -> Result<(), ShowRefusal>
     requires going { (state_of D.state (blocks_in fs.old)).books.stopped ≡ false }
     requires between { IsBetween D.tells (state_of D.state (blocks_in fs.old)) (used_to fs.old) }
-    ensures all { IsTrue D.tells → OnOk result ((f : Session) → IsSession (state_of D.state (blocks_in fs.old)) f → Appends (K.taken out.old) (K.taken out.new) (listing f.tree)) }
-    ensures front { IsTrue D.tells → OnErr result ((f : Session) → IsSession (state_of D.state (blocks_in fs.old)) f → TakesPrefix (K.taken out.old) (K.taken out.new) (listing f.tree)) }
+    ensures all { IsTrue D.tells → OnOk result ((f : Session) → IsSession (state_of D.state (blocks_in fs.old)) f
+        → Appends (K.taken out.old) (K.taken out.new) (listing f.tree)) }
+    ensures front { IsTrue D.tells → OnErr result ((f : Session) → IsSession (state_of D.state (blocks_in fs.old)) f
+        → TakesPrefix (K.taken out.old) (K.taken out.new) (listing f.tree)) }
     ensures looks { LooksOnly D.tells (is_fault result) (state_of D.state (blocks_in fs.old)) (state_of D.state (blocks_in fs.new)) }
     ensures says { says_nothing result ≡ false }
     ensures pushes { CountsPushes (fails_pushing result) (K.faults out.old) (K.faults out.new) }
@@ -184,7 +189,9 @@ fn write_listing<D: Disk + Drop, K: Sink>(
 /// # Errors
 /// The answer of the showing, where it is a refusal; else `Fault`, which the bay has counted, or `NoMemory`.
 fn close_shown<B: Bay>(bay: &mut B, name: &str, left: Left<LentDisk<B>>) -> Result<(), ShowRefusal>
-    ensures { (back : Result (Unit {0}) Failure) × Closes B.tells name.now (B.D.state left.disk.disk) left.marks.items back (B.state bay.old) (B.state bay.new) × (result ≡ answer_of left.answer back) }
+    ensures { (back : Result (Unit {0}) Failure)
+        × Closes B.tells name.now (B.D.state left.disk.disk) left.marks.items back (B.state bay.old) (B.state bay.new)
+        × (result ≡ answer_of left.answer back) }
 {
     let Left {
         disk,

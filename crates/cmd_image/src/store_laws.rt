@@ -19,8 +19,10 @@ pub(crate) fn books_are_sound<S: Blocks>()
 /// The disk under a file system keeps to its manner: a read has failed only where reads may, and where the store has
 /// stopped, another call failed last, for a reason that the manner has. This does nothing.
 pub(crate) fn the_disk_keeps_to_its_manner<D: Disk + Drop>(served: &Served<Store<D>>)
-    ensures reads { IsTrue D.tells → 0 < (state_of D.state (blocks_in served.now)).counts.read_faults → (state_of D.state (blocks_in served.now)).counts.ticks.manner.reads_fail ≡ true }
-    ensures fails { IsTrue D.tells → (state_of D.state (blocks_in served.now)).books.stopped ≡ true → ∥ HasFailedBy (state_of D.state (blocks_in served.now)).counts.ticks.manner (state_of D.state (blocks_in served.now)).crash.log ∥₁ }
+    ensures reads { IsTrue D.tells → 0 < (state_of D.state (blocks_in served.now)).counts.read_faults
+        → (state_of D.state (blocks_in served.now)).counts.ticks.manner.reads_fail ≡ true }
+    ensures fails { IsTrue D.tells → (state_of D.state (blocks_in served.now)).books.stopped ≡ true
+        → ∥ HasFailedBy (state_of D.state (blocks_in served.now)).counts.ticks.manner (state_of D.state (blocks_in served.now)).crash.log ∥₁ }
 {
     served.blocks().lawful();
     served.blocks().disk().lawful();

@@ -24,7 +24,8 @@ pub(crate) fn serve(alloc: Global, fs: &mut System, seed: u32, count: u32) -> Re
     requires begun { Serves at_first 0 (state_of disk_state (blocks_in fs.old)) }
     requires between { IsBetween true (state_of disk_state (blocks_in fs.old)) (used_to fs.old) }
     requires stands { Stands (state_of disk_state (blocks_in fs.old)) }
-    ensures serves { IfOk result (λ refused. Serves (after_all at_first (load_commands count seed)) count (state_of disk_state (blocks_in fs.new)) × (refused ≡ (after_all at_first (load_commands count seed)).refused)) }
+    ensures serves { IfOk result (λ refused. Serves (after_all at_first (load_commands count seed)) count (state_of disk_state (blocks_in fs.new))
+        × (refused ≡ (after_all at_first (load_commands count seed)).refused)) }
     ensures between { IfOk result (λ _. IsBetween true (state_of disk_state (blocks_in fs.new)) (used_to fs.new)) }
 {
     let mut load = Load::new(seed);

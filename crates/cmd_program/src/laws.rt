@@ -45,9 +45,13 @@ pub fn a_crash_of_a_recording_is_found()
 /// manner, no showing of the image is answered by a fault, and no run over it is; and over such a disk no command of a run is
 /// refused for a call that failed. No making is answered by a fault there, whatever is under the name.
 pub fn no_fault_is_made_where_nothing_fails()
-    ensures shows { (tells : Bool) (image : List ℕ) (status : Status) (m : Met) → IsTrue tells → IsCalm image m.bay → (s : ShowsTo tells image status m) → s.answer ≢ Err show.Fault }
-    ensures runs { (tells : Bool) (image : List ℕ) (status : Status) (m : Met) → IsTrue tells → IsCalm image m.bay → (r : RunsTo tells image status m) → r.answer ≢ Err run.Fault }
-    ensures replies { (first last : State) (marks : List Mark) (cmds : List Cmd) (replies : List Reply) → NothingFails first.manner → RunsDisk first last marks cmds replies
+    ensures shows { (tells : Bool) (image : List ℕ) (status : Status) (m : Met) → IsTrue tells → IsCalm image m.bay
+        → (s : ShowsTo tells image status m) → s.answer ≢ Err show.Fault }
+    ensures runs { (tells : Bool) (image : List ℕ) (status : Status) (m : Met) → IsTrue tells → IsCalm image m.bay → (r : RunsTo tells image status m)
+        → r.answer ≢ Err run.Fault }
+    ensures replies { (first last : State) (marks : List Mark) (cmds : List Cmd) (replies : List Reply) → NothingFails first.manner
+        → RunsDisk first last marks cmds replies
         → (i : ℕ) (why : Refusal) → slice_get replies i ≡ Some (Refused why) → is_for_a_call why ≡ false }
-    ensures makes { (tells : Bool) (image : List ℕ) (g : Geometry) (status : Status) (m : Met) → IsTrue tells → m.bay.may_fail ≡ false → NothingFails (m.bay.manner image) → (x : MakesTo tells image g status m) → x.answer ≢ Err make.Fault }
+    ensures makes { (tells : Bool) (image : List ℕ) (g : Geometry) (status : Status) (m : Met) → IsTrue tells → m.bay.may_fail ≡ false
+        → NothingFails (m.bay.manner image) → (x : MakesTo tells image g status m) → x.answer ≢ Err make.Fault }
 {}

@@ -45,7 +45,8 @@ pub fn replay<S: Source, K: Sink>(
 /// Ends the run where the input wasn't read as a trace.
 fn end_reading<K: Sink>(why: TraceRefusal, out: &mut K) -> Status
     ensures ends { (moment : ℕ) (choice : ChoiceState) → EndsReading moment choice (Err why) result (K.taken out.old) (K.taken out.new) }
-    ensures faults { (source source_now : ℕ) → Blames {T = Contents} (Err why) source source_now → HasFault result source source_now (K.faults out.old) (K.faults out.new) }
+    ensures faults { (source source_now : ℕ) → Blames {T = Contents} (Err why) source source_now
+        → HasFault result source source_now (K.faults out.old) (K.faults out.new) }
     ensures counts { K.faults out.old ≤ K.faults out.new }
 {
     match why {

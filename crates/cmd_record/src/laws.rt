@@ -54,7 +54,8 @@ pub fn a_disk_at_rest_is_crash_consistent()
 /// Before any fault of its disk a recording loses no write. So at each mark before one, the image that has all accepted
 /// writes stands for the last point by then.
 pub fn the_last_point_stands_where_accepted_writes_do()
-    ensures { (set : Setting) (cmds : List Cmd) (text : List ℕ) (s : ServesBy set cmds text) → AcceptsLast set.shape s.served.log s.served.mounted cmds s.served.replies s.served.marks }
+    ensures { (set : Setting) (cmds : List Cmd) (text : List ℕ) (s : ServesBy set cmds text)
+        → AcceptsLast set.shape s.served.log s.served.mounted cmds s.served.replies s.served.marks }
 {
     a_read_gives_what_was_written_last();
     images_alike_below_n_stand_for_the_same();
@@ -64,12 +65,19 @@ pub fn the_last_point_stands_where_accepted_writes_do()
 /// they weigh, with this one's, a sync finds its places by the log, unless the disk failed its tick. Where the
 /// blocks that all commands so far needed leave as many data blocks as a command needs, that many may be taken.
 pub fn what_need_not_come_back_is_there()
-    ensures places { (g : Geometry) (m : Manner) (log : List Event) (mounted : ℕ) (cmds : List Cmd) (replies : List Reply) (marks : List ℕ) (last next : Pace) (cmd : Cmd) (reply : Reply)
-        → PacesBy (session_by g mounted) m log (pace_at_first g mounted) cmds replies marks last → (step : StepsBy (session_by g mounted) m log cmd reply last next)
-        → is_sync cmd ≡ true → last.over ≡ false → reply ≢ Refused Spent → m.waits_alone ≡ true → places_by_weight g (start g.i) 0 cmds replies + sync_places last.taken.weight ≤ g.j
-        → OrdersAtOnce (session_by g mounted) (take step.room.behind log) last.taken (places_wanted reply last.taken.weight (own_records (session_by g mounted) log step.room.behind next.events)) ⊎ ((next.events ≡ step.room.behind) × (reply ≡ Refused DiskFault)) }
-    ensures blocks { (g : Geometry) (m : Manner) (log : List Event) (mounted : ℕ) (cmds : List Cmd) (replies : List Reply) (marks : List ℕ) (last : Pace) (need : ℕ)
-        → PacesBy (session_by g mounted) m log (pace_at_first g mounted) cmds replies marks last → blocks_needed g (start g.i) cmds replies + need ≤ g.n - data_start g → need ≤ length last.room.room.takeable }
+    ensures places { (g : Geometry) (m : Manner) (log : List Event) (mounted : ℕ) (cmds : List Cmd) (replies : List Reply) (marks : List ℕ)
+        (last next : Pace) (cmd : Cmd) (reply : Reply)
+        → PacesBy (session_by g mounted) m log (pace_at_first g mounted) cmds replies marks last
+        → (step : StepsBy (session_by g mounted) m log cmd reply last next)
+        → is_sync cmd ≡ true → last.over ≡ false → reply ≢ Refused Spent → m.waits_alone ≡ true
+        → places_by_weight g (start g.i) 0 cmds replies + sync_places last.taken.weight ≤ g.j
+        → OrdersAtOnce (session_by g mounted) (take step.room.behind log) last.taken
+        (places_wanted reply last.taken.weight (own_records (session_by g mounted) log step.room.behind next.events))
+        ⊎ ((next.events ≡ step.room.behind) × (reply ≡ Refused DiskFault)) }
+    ensures blocks { (g : Geometry) (m : Manner) (log : List Event) (mounted : ℕ) (cmds : List Cmd) (replies : List Reply) (marks : List ℕ)
+        (last : Pace) (need : ℕ)
+        → PacesBy (session_by g mounted) m log (pace_at_first g mounted) cmds replies marks last
+        → blocks_needed g (start g.i) cmds replies + need ≤ g.n - data_start g → need ≤ length last.room.room.takeable }
 {
     a_command_takes_no_more_blocks_than_it_needs();
 }
@@ -79,15 +87,25 @@ pub fn what_need_not_come_back_is_there()
 /// fits a ring without records, a look never does, and a dsync for no write of its own tick. And `durable` is not answered by a
 /// point behind which another one is known.
 pub fn wrong_traces_are_refused()
-    ensures lost { (s : MountedSession) (m : Manner) (log : List Event) (cmd : Cmd) (reply : Reply) (old new : Pace) → StepsBy s m log cmd reply old new → LosesOwn log old new → (n : ℕ) → reply ≢ Synced n }
-    ensures later { (s : MountedSession) (m : Manner) (log : List Event) (cmd : Cmd) (old new : Pace) → StepsBy s m log cmd (Refused DiskFault) old new → m.refuses (take new.events log) ≡ false → m.stalls ≡ false → LosesOwn log old new }
-    ensures writes { (g : Geometry) (m : Manner) (log : List Event) (mounted : ℕ) (cmd : Cmd) (reply : Reply) (new : Pace) → StepsBy (session_by g mounted) m log cmd reply (pace_at_first g mounted) new → is_sync cmd ≡ false
+    ensures lost { (s : MountedSession) (m : Manner) (log : List Event) (cmd : Cmd) (reply : Reply) (old new : Pace)
+        → StepsBy s m log cmd reply old new → LosesOwn log old new → (n : ℕ) → reply ≢ Synced n }
+    ensures later { (s : MountedSession) (m : Manner) (log : List Event) (cmd : Cmd) (old new : Pace)
+        → StepsBy s m log cmd (Refused DiskFault) old new → m.refuses (take new.events log) ≡ false → m.stalls ≡ false → LosesOwn log old new }
+    ensures writes { (g : Geometry) (m : Manner) (log : List Event) (mounted : ℕ) (cmd : Cmd) (reply : Reply) (new : Pace)
+        → StepsBy (session_by g mounted) m log cmd reply (pace_at_first g mounted) new → is_sync cmd ≡ false
         → writes_in (take new.events log) ≤ writes_in (take mounted log) }
-    ensures empty { (s : MountedSession) (m : Manner) (log : List Event) (reply : Reply) (old new : Pace) → (step : StepsBy s m log Osync reply old new) → Goes m reply old → IsUnwritten s (take step.room.behind log)
+    ensures empty { (s : MountedSession) (m : Manner) (log : List Event) (reply : Reply) (old new : Pace)
+        → (step : StepsBy s m log Osync reply old new) → Goes m reply old → IsUnwritten s (take step.room.behind log)
         → places_wanted reply old.taken.weight (own_records s log step.room.behind new.events) ≤ s.geom.j → WaitsForNothing m log old new }
-    ensures looks { (s : MountedSession) (m : Manner) (log : List Event) (path : List (List ℕ)) (reply : Reply) (old new : Pace) → StepsBy s m log (Stat path) reply old new → Goes m reply old → WaitsForNothing m log old new }
-    ensures home { (s : MountedSession) (m : Manner) (log : List Event) (reply : Reply) (old new : Pace) (p : Polled) (t : ℕ) → (step : StepsBy s m log Dsync reply old new) → Goes m reply old
-        → OrdersAtOnce s (take step.room.behind log) old.taken (places_wanted reply old.taken.weight (own_records s log step.room.behind new.events)) → after_polls m 64 old.polls (take old.events log) ≡ Some p
-        → ((k : ℕ) (span : Span) → slice_get old.taken.spans k ≡ Some span → CameIn (take new.events log) span t → ⊥) → is_noticed t p.log ≡ false → IsNoticed t (take new.events log) → is_accepted t (take step.room.behind log) ≡ false }
-    ensures known { (s : MountedSession) (m : Manner) (log : List Event) (n : ℕ) (span : Span) (old new : Pace) → StepsBy s m log Durable (Known n) old new → m.waits_alone ≡ true → slice_get old.taken.spans n ≡ Some span → IsHeard (take new.events log) span → ⊥ }
+    ensures looks { (s : MountedSession) (m : Manner) (log : List Event) (path : List (List ℕ)) (reply : Reply) (old new : Pace)
+        → StepsBy s m log (Stat path) reply old new → Goes m reply old → WaitsForNothing m log old new }
+    ensures home { (s : MountedSession) (m : Manner) (log : List Event) (reply : Reply) (old new : Pace) (p : Polled) (t : ℕ)
+        → (step : StepsBy s m log Dsync reply old new) → Goes m reply old
+        → OrdersAtOnce s (take step.room.behind log) old.taken (places_wanted reply old.taken.weight (own_records s log step.room.behind new.events))
+        → after_polls m 64 old.polls (take old.events log) ≡ Some p
+        → ((k : ℕ) (span : Span) → slice_get old.taken.spans k ≡ Some span → CameIn (take new.events log) span t → ⊥) → is_noticed t p.log ≡ false
+        → IsNoticed t (take new.events log) → is_accepted t (take step.room.behind log) ≡ false }
+    ensures known { (s : MountedSession) (m : Manner) (log : List Event) (n : ℕ) (span : Span) (old new : Pace)
+        → StepsBy s m log Durable (Known n) old new → m.waits_alone ≡ true → slice_get old.taken.spans n ≡ Some span
+        → IsHeard (take new.events log) span → ⊥ }
 {}

@@ -134,18 +134,24 @@ fn failed(geom: &Geom, disk: MemDisk) -> Mounted
 /// The log of the disk under a file system is one of as many blocks as the geometry says, and the number of its
 /// events has 64 bits. The disk keeps to its manner; and where a call of it failed, it was the last one. Where its waits
 /// bring the notice of their own ticket alone, a write was lost only where a failed call was counted. What is known
-/// of maps of blocks holds, no point behind the last one is known to be durable, and where the last point isn't known to be durable, the next one waits for a ticket. This
+/// of maps of blocks holds, no point behind the last one is known to be durable, and where the last point isn't
+/// known to be durable, the next one waits for a ticket. This
 /// does nothing.
 pub fn the_disk_keeps_to_its_manner(system: &System)
     ensures log { IsLogOf (state_of disk_state (blocks_in system.now)).books.geom.n (state_of disk_state (blocks_in system.now)).crash.log }
     ensures events { length (state_of disk_state (blocks_in system.now)).crash.log < 2 ^ 64 }
     ensures writes { GoesBy (state_of disk_state (blocks_in system.now)).counts.ticks.manner (state_of disk_state (blocks_in system.now)).crash.log }
-    ensures reads { 0 < (state_of disk_state (blocks_in system.now)).counts.read_faults → (state_of disk_state (blocks_in system.now)).counts.ticks.manner.reads_fail ≡ true }
-    ensures fails { (state_of disk_state (blocks_in system.now)).books.stopped ≡ true → ∥ HasFailedBy (state_of disk_state (blocks_in system.now)).counts.ticks.manner (state_of disk_state (blocks_in system.now)).crash.log ∥₁ }
-    ensures unlost { (state_of disk_state (blocks_in system.now)).counts.ticks.manner.waits_alone ≡ true → (state_of disk_state (blocks_in system.now)).counts.faults ≡ 0 → has_lost (state_of disk_state (blocks_in system.now)).crash.log ≡ false }
+    ensures reads { 0 < (state_of disk_state (blocks_in system.now)).counts.read_faults
+        → (state_of disk_state (blocks_in system.now)).counts.ticks.manner.reads_fail ≡ true }
+    ensures fails { (state_of disk_state (blocks_in system.now)).books.stopped ≡ true
+        → ∥ HasFailedBy (state_of disk_state (blocks_in system.now)).counts.ticks.manner (state_of disk_state (blocks_in system.now)).crash.log ∥₁ }
+    ensures unlost { (state_of disk_state (blocks_in system.now)).counts.ticks.manner.waits_alone ≡ true
+        → (state_of disk_state (blocks_in system.now)).counts.faults ≡ 0 → has_lost (state_of disk_state (blocks_in system.now)).crash.log ≡ false }
     ensures told { IsTold (state_of disk_state (blocks_in system.now)) }
     ensures floor { (state_of disk_state (blocks_in system.now)).books.floor ≤ (state_of disk_state (blocks_in system.now)).books.point }
-    ensures waits { (state_of disk_state (blocks_in system.now)).books.stopped ≡ false → (state_of disk_state (blocks_in system.now)).books.floor < (state_of disk_state (blocks_in system.now)).books.point → ∥ StillAwaits (state_of disk_state (blocks_in system.now)) ((state_of disk_state (blocks_in system.now)).books.floor + 1) ∥₁ }
+    ensures waits { (state_of disk_state (blocks_in system.now)).books.stopped ≡ false
+        → (state_of disk_state (blocks_in system.now)).books.floor < (state_of disk_state (blocks_in system.now)).books.point
+        → ∥ StillAwaits (state_of disk_state (blocks_in system.now)) ((state_of disk_state (blocks_in system.now)).books.floor + 1) ∥₁ }
 {
     system.lawful();
     system.blocks().lawful();

@@ -80,7 +80,8 @@ impl From<SinkFault> for Stop {
 /// # Errors
 /// Out of memory, or a fault of the sink.
 fn serve<K: Sink>(alloc: Global, system: &mut System, out: &mut K, cmd: &Cmd) -> Result<(), Stop>
-    ensures ok { OnOk result (ServesFrom (cmd.now ∷ []) (state_of disk_state (blocks_in system.old)) (state_of disk_state (blocks_in system.new)) (K.taken out.old) (K.taken out.new)) }
+    ensures ok { OnOk result (ServesFrom (cmd.now ∷ []) (state_of disk_state (blocks_in system.old)) (state_of disk_state (blocks_in system.new))
+        (K.taken out.old) (K.taken out.new)) }
     ensures err { OnErr result (TriesFrom (cmd.now ∷ []) (state_of disk_state (blocks_in system.old)) (K.taken out.old) (K.taken out.new)) }
     ensures cause { StopsByCause (K.faults out.old) (K.faults out.new) result }
 {
@@ -112,8 +113,10 @@ fn serve_line<K: Sink>(
     out: &mut K,
     line: &[u8],
 ) -> Result<(), Stop>
-    ensures ok { OnOk result (ServesFrom (commands_of_line longest line.now) (state_of disk_state (blocks_in system.old)) (state_of disk_state (blocks_in system.new)) (K.taken out.old) (K.taken out.new)) }
-    ensures err { OnErr result (TriesFrom (commands_of_line longest line.now) (state_of disk_state (blocks_in system.old)) (K.taken out.old) (K.taken out.new)) }
+    ensures ok { OnOk result (ServesFrom (commands_of_line longest line.now) (state_of disk_state (blocks_in system.old))
+        (state_of disk_state (blocks_in system.new)) (K.taken out.old) (K.taken out.new)) }
+    ensures err { OnErr result (TriesFrom (commands_of_line longest line.now) (state_of disk_state (blocks_in system.old)) (K.taken out.old)
+        (K.taken out.new)) }
     ensures cause { StopsByCause (K.faults out.old) (K.faults out.new) result }
 {
     match command_of_line(alloc, line)? {
@@ -155,7 +158,8 @@ impl Recording {
     pub fn run_is_known(&self)
         ensures laws { (g : Geometry) → geometry_fits g ≡ true → RunLaws g }
         ensures known { (g : Geometry) (mounted : ℕ) (cmds : List Cmd) (replies : List Reply) (marks : List ℕ)
-            → Ran g mounted cmds replies marks (state_of disk_state (blocks_in self.now.system)) → KnownRun g (state_of disk_state (blocks_in self.now.system)) mounted cmds replies marks }
+            → Ran g mounted cmds replies marks (state_of disk_state (blocks_in self.now.system))
+            → KnownRun g (state_of disk_state (blocks_in self.now.system)) mounted cmds replies marks }
     {
         a_run_is_known(&self.system);
     }

@@ -52,7 +52,8 @@ pub fn answer(alloc: Global, system: &mut System, cmd: &Cmd) -> Reply
 pub fn a_run_is_known(system: &System)
     ensures laws { (g : Geometry) → geometry_fits g ≡ true → RunLaws g }
     ensures known { (g : Geometry) (mounted : ℕ) (cmds : List Cmd) (replies : List Reply) (marks : List ℕ)
-        → Ran g mounted cmds replies marks (state_of disk_state (blocks_in system.now)) → KnownRun g (state_of disk_state (blocks_in system.now)) mounted cmds replies marks }
+        → Ran g mounted cmds replies marks (state_of disk_state (blocks_in system.now))
+        → KnownRun g (state_of disk_state (blocks_in system.now)) mounted cmds replies marks }
 {
     the_formatted_disk_stands_for_the_root();
     an_image_stands_for_one_tree();

@@ -83,7 +83,8 @@ pub fn write_failed_mount<K: Sink>(
     out: &mut K,
 ) -> Result<(), SinkFault>
     ensures all { OnOk result (Appends (K.taken out.old) (K.taken out.new) ((geometry_line geom.now ++ event_lines disk.now.log) ++ end_line)) }
-    ensures front { OnErr result ((n : ℕ) × Appends (K.taken out.old) (K.taken out.new) (take n ((geometry_line geom.now ++ event_lines disk.now.log) ++ end_line))) }
+    ensures front { OnErr result ((n : ℕ) × Appends (K.taken out.old) (K.taken out.new)
+        (take n ((geometry_line geom.now ++ event_lines disk.now.log) ++ end_line))) }
     ensures cause { HasCause result (K.faults out.old) (K.faults out.new) }
 {
     write_head(out, geom, disk)?;

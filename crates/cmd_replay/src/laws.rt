@@ -23,7 +23,8 @@ use layout_journal::journal_blocks_keep_to_their_bounds;
 /// Two trees with one listing are one tree, where both are sound with numbers of 64 bits and their names are lawful,
 /// and the bytes of one of them are below 256.
 pub fn a_listing_says_the_tree()
-    ensures { (limit more : ℕ) (s t : Tree) → limit < 2 ^ 64 → more < 2 ^ 64 → IsSound limit s → IsSound more t → HasLawfulNames s → HasLawfulNames t → HasBytes s → listing s ≡ listing t → s ≡ t }
+    ensures { (limit more : ℕ) (s t : Tree) → limit < 2 ^ 64 → more < 2 ^ 64 → IsSound limit s → IsSound more t → HasLawfulNames s → HasLawfulNames t
+        → HasBytes s → listing s ≡ listing t → s ≡ t }
 {}
 
 /// The tree that an image stands for is sound, with numbers of 64 bits, and its names are lawful. Where each byte of

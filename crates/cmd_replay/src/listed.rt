@@ -78,7 +78,8 @@ fn list_disk(alloc: Global, disk: MemDisk) -> Result<Vec<u8>, ReplayRefusal>
 fn list_store(alloc: Global, store: Store<MemDisk>) -> Result<Vec<u8>, ReplayRefusal>
     requires begun { IsBegun (state_of disk_state store) }
     requires readable { IsReadable (state_of disk_state store) }
-    ensures listed { IfOk result (λ text. (tree : Tree) × IsTreeOf (state_of disk_state store).books.geom (state_of disk_state store).map tree × (text.items ≡ listing tree)) }
+    ensures listed { IfOk result (λ text. (tree : Tree) × IsTreeOf (state_of disk_state store).books.geom (state_of disk_state store).map tree
+        × (text.items ≡ listing tree)) }
     ensures refused { IfErr result (RefusesMap (state_of disk_state store).books.geom (state_of disk_state store).map) }
 {
     match Fs::open(alloc, store) {

@@ -55,9 +55,12 @@ impl<S: Blocks + Drop> Served<S> {
     /// memory. The blocks are handed back.
     pub fn open(alloc: Global, blocks: S) -> Result<Served<S>, (S, CheckRefusal)>
         requires begun { IsBegun (S.state blocks) }
-        ensures serves { IsTrue S.tells → ((s : S) → IsDrawn (S.state s)) → (g : Geometry) (m : BlockMap) (t : Tree) → IsMountedWith g m (S.state blocks) → IsTreeOf g m t
+        ensures serves { IsTrue S.tells → ((s : S) → IsDrawn (S.state s)) → (g : Geometry) (m : BlockMap) (t : Tree)
+            → IsMountedWith g m (S.state blocks) → IsTreeOf g m t
             → IfOk result (λ served. HasServed g t (length (S.state blocks).crash.log) [] [] [] (S.state (blocks_in served))) }
-        ensures budget { IsTrue S.tells → (t : Tree) → IfOk result (λ served. KeepsBudget (S.state blocks).books.geom t (writes_in (S.state blocks).crash.log + (S.state blocks).books.owed) [] [] (S.state (blocks_in served))) }
+        ensures budget { IsTrue S.tells → (t : Tree)
+            → IfOk result (λ served. KeepsBudget (S.state blocks).books.geom t (writes_in (S.state blocks).crash.log + (S.state blocks).books.owed) []
+            [] (S.state (blocks_in served))) }
         ensures stands { IsTrue S.tells → IfOk result (λ _. (t : Tree) × IsTreeOf (S.state blocks).books.geom (S.state blocks).map t) }
         ensures damage { IsTrue S.tells → IfErr result (λ e. OnDamage e.1 (IsDamaged (S.state blocks).books.geom (S.state blocks).map)) }
         ensures none { IsTrue S.tells → IfErr result (λ e. OnDamage e.1 (λ _. (t : Tree) → IsTreeOf (S.state blocks).books.geom (S.state blocks).map t → ⊥)) }
@@ -77,11 +80,17 @@ impl<S: Blocks + Drop> Served<S> {
 
     /// Answers one command. What was known of the run so far is known of the longer one.
     pub fn apply(&mut self, alloc: Global, cmd: &Cmd) -> Reply
-        ensures serves { IsTrue S.tells → ((s : S) → IsDrawn (S.state s)) → (g : Geometry) (t : Tree) (mounted : ℕ) (cmds : List Cmd) (replies : List Reply) (marks : List ℕ) → HasServed g t mounted cmds replies marks (S.state (blocks_in self.old))
-            → HasServed g t mounted (cmds ++ cmd.now ∷ []) (replies ++ result ∷ []) (marks ++ length (S.state (blocks_in self.new)).crash.log ∷ []) (S.state (blocks_in self.new)) }
-        ensures budget { IsTrue S.tells → (g : Geometry) (t : Tree) (mounted begun : ℕ) (cmds : List Cmd) (replies : List Reply) (marks : List ℕ) → HasServed g t mounted cmds replies marks (S.state (blocks_in self.old)) → KeepsBudget g t begun cmds replies (S.state (blocks_in self.old))
+        ensures serves { IsTrue S.tells → ((s : S) → IsDrawn (S.state s))
+            → (g : Geometry) (t : Tree) (mounted : ℕ) (cmds : List Cmd) (replies : List Reply) (marks : List ℕ)
+            → HasServed g t mounted cmds replies marks (S.state (blocks_in self.old))
+            → HasServed g t mounted (cmds ++ cmd.now ∷ []) (replies ++ result ∷ []) (marks ++ length (S.state (blocks_in self.new)).crash.log ∷ [])
+            (S.state (blocks_in self.new)) }
+        ensures budget { IsTrue S.tells → (g : Geometry) (t : Tree) (mounted begun : ℕ) (cmds : List Cmd) (replies : List Reply) (marks : List ℕ)
+            → HasServed g t mounted cmds replies marks (S.state (blocks_in self.old))
+            → KeepsBudget g t begun cmds replies (S.state (blocks_in self.old))
             → KeepsBudget g t begun (cmds ++ cmd.now ∷ []) (replies ++ result ∷ []) (S.state (blocks_in self.new)) }
-        ensures writes { IsTrue S.tells → WritesAtMost (writes_of cmd.now result (S.state (blocks_in self.old)).books) (S.state (blocks_in self.old)) (S.state (blocks_in self.new)) }
+        ensures writes { IsTrue S.tells → WritesAtMost (writes_of cmd.now result (S.state (blocks_in self.old)).books) (S.state (blocks_in self.old))
+            (S.state (blocks_in self.new)) }
         ensures applies { Applies S.tells S.state cmd.now result (blocks_in self.old) (blocks_in self.new) }
         ensures time { IsTrue S.tells → PassesTime (S.state (blocks_in self.old)) (S.state (blocks_in self.new)) }
     {

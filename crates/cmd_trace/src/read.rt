@@ -42,7 +42,8 @@ pub fn read_event(alloc: Global, line: &[u8]) -> Result<Option<Event>, NoMemory>
 
 /// The moment of a reply and the reply's text, of a line that is given without its line feed.
 pub fn read_reply(line: &[u8]) -> Option<(u64, &[u8])>
-    ensures { IsReadAs (λ (reply : ℕ × List ℕ). reply_line reply.0 reply.1) (λ reply. reply.0 < 2 ^ 64) (fed line.now) (option_map (λ reply. (reply.0, reply.1.now)) result) }
+    ensures { IsReadAs (λ (reply : ℕ × List ℕ). reply_line reply.0 reply.1) (λ reply. reply.0 < 2 ^ 64) (fed line.now)
+        (option_map (λ reply. (reply.0, reply.1.now)) result) }
 {
     a_number_has_one_text();
     read_lines::reply_in(line)

@@ -4,7 +4,8 @@
 
 ghost use Rattle.std.specs.Prelude.{◌≡◌, IfOk, option_map};
 ghost use Rattle.cmd_trace.specs.ReadFields.{cut, small_number_of, block_of};
-ghost use Rattle.cmd_trace.specs.ReadLines.{geometry_of, geometry_with, placed_of, wrote_of, lost_of, noticed_of, reply_of, behind, geometry_by_letter, event_by_letter, reply_by_letter};
+ghost use Rattle.cmd_trace.specs.ReadLines.{geometry_of, geometry_with, placed_of, wrote_of, lost_of, noticed_of, reply_of, behind};
+ghost use Rattle.cmd_trace.specs.ReadLines.{geometry_by_letter, event_by_letter, reply_by_letter};
 
 use crate::read_fields::{block_of, cut, small_number_of};
 use base_types::NoMemory;

@@ -114,7 +114,8 @@ fn pull_once<S: Source>(
 ) -> Result<usize, TraceRefusal>
     requires some { 0 < length chunk.old }
     ensures most { IfOk result (λ n. n ≤ length chunk.old) }
-    ensures brings { (first : Option (List ℕ)) (count : ℕ) → count + length chunk.old ≤ 2 ^ 30 → At first (S.remaining input.old) count lines.old → Brings first (S.remaining input.new) count lines.new result }
+    ensures brings { (first : Option (List ℕ)) (count : ℕ) → count + length chunk.old ≤ 2 ^ 30 → At first (S.remaining input.old) count lines.old
+        → Brings first (S.remaining input.new) count lines.new result }
     ensures blames { Blames result (S.faults input.old) (S.faults input.new) }
 {
     let count = match input.pull(chunk) {
@@ -127,7 +128,8 @@ fn pull_once<S: Source>(
 
 // Looks whether one byte more comes than a trace may have.
 fn read_past<S: Source>(input: &mut S) -> Result<(), TraceRefusal>
-    ensures past { (first : Option (List ℕ)) (lines : Lines) → At first (S.remaining input.old) (2 ^ 30) lines → ReadsOut first (S.remaining input.new) lines result }
+    ensures past { (first : Option (List ℕ)) (lines : Lines) → At first (S.remaining input.old) (2 ^ 30) lines
+        → ReadsOut first (S.remaining input.new) lines result }
     ensures blames { Blames result (S.faults input.old) (S.faults input.new) }
 {
     let mut next = [0u8; 1];

@@ -23,7 +23,8 @@ pub fn lines_come_as_traces_go()
     ensures one { (lines : List (List ℕ)) (s t : Option State) → ComeEach None lines s → ComeEach None lines t → s ≡ t }
     ensures ends { (lines : List (List ℕ)) (s : Option State) → AreLines lines → ComeEach None lines s → (has_ended s ≡ true) ↔ AreTrace (text_of_lines lines) }
     ensures whole { (lines : List (List ℕ)) (rest : List ℕ) → AreLines lines → is_line rest ≡ true → AreTrace (text_of_lines lines ++ rest) → rest ≡ [] }
-    ensures says { (lines : List (List ℕ)) (s : State) → ComeEach None lines (Some s) → is_ended s.place ≡ true → IsTrace (contents_of s) × (text_of (contents_of s) ≡ text_of_lines lines) }
+    ensures says { (lines : List (List ℕ)) (s : State) → ComeEach None lines (Some s) → is_ended s.place ≡ true → IsTrace (contents_of s)
+        × (text_of (contents_of s) ≡ text_of_lines lines) }
 {
     geometries_are_within_limits();
     equal_texts_have_equal_values();

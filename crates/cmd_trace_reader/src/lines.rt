@@ -60,7 +60,8 @@ impl Lines {
     fn take_some(&mut self, alloc: Global, bytes: &[u8]) -> Result<usize, NoMemory>
         requires { 0 < length bytes.now }
         ensures some { IfOk result (λ n. (0 < n) × (n ≤ length bytes.now)) }
-        ensures takes { IfOk result (λ n. (seen : List ℕ) → length seen + length bytes.now ≤ 2 ^ 30 → self.old.wrong ≡ false → HasRead seen self.old → HasRead (seen ++ take n bytes.now) self.new) }
+        ensures takes { IfOk result (λ n. (seen : List ℕ) → length seen + length bytes.now ≤ 2 ^ 30 → self.old.wrong ≡ false → HasRead seen self.old
+            → HasRead (seen ++ take n bytes.now) self.new) }
     {
         match feed_in(bytes) {
             None => {

@@ -2,7 +2,8 @@
 //! read so far is kept. Where the lines come from isn't known here.
 
 ghost use Rattle.std.specs.Prelude.{◌≡◌, IfOk, option_map};
-ghost use Rattle.cmd_trace_reader.specs.Reading.{state_of, TakesLine, Follows, HappensBy, AsksBy, AnswersBy, EndsBy, Begins, contents_of, has_events, is_between, is_ended, mounted_by};
+ghost use Rattle.cmd_trace_reader.specs.Reading.{state_of, TakesLine, Follows, HappensBy, AsksBy, AnswersBy, EndsBy, Begins, contents_of, has_events};
+ghost use Rattle.cmd_trace_reader.specs.Reading.{is_between, is_ended, mounted_by};
 
 use crate::event_log::EventLog;
 use crate::replay::Replay;

@@ -62,10 +62,14 @@ pub fn close_journal<D: Disk>(
     requires slot { slot < 2 }
     requires within { 2 ≤ (D.state disk.old).blocks }
     requires turn { newest.now.turn < 2 ^ 64 - 1 }
-    ensures closed { IsTrue D.tells → (run : List Record) → ((b : ℕ) → (cells_of (D.state disk.old) b).pending ≡ []) → IsFound newest.now.geom.n (settled (cells_of (D.state disk.old))) slot newest.now run → last ≡ last_number newest.now run
-        → OnOk result (IsReplayedUpTo newest.now.geom.n (cells_of (D.state disk.new)) (settled (cells_of (D.state disk.old))) (1 - slot) newest.now (closed_header newest.now last) run (bitmap_start newest.now.geom)) }
-    ensures holds { IsTrue D.tells → (run : List Record) → ((b : ℕ) → (cells_of (D.state disk.old) b).pending ≡ []) → IsFound newest.now.geom.n (settled (cells_of (D.state disk.old))) slot newest.now run → last ≡ last_number newest.now run
-        → Window newest.now.geom.n (D.state disk.old).base (D.state disk.new).log (length (D.state disk.old).log) (λ img. HoldsUnder newest.now.geom.n newest.now.geom img (found_map (settled (cells_of (D.state disk.old))) newest.now run)) }
+    ensures closed { IsTrue D.tells → (run : List Record) → ((b : ℕ) → (cells_of (D.state disk.old) b).pending ≡ [])
+        → IsFound newest.now.geom.n (settled (cells_of (D.state disk.old))) slot newest.now run → last ≡ last_number newest.now run
+        → OnOk result (IsReplayedUpTo newest.now.geom.n (cells_of (D.state disk.new)) (settled (cells_of (D.state disk.old))) (1 - slot) newest.now
+        (closed_header newest.now last) run (bitmap_start newest.now.geom)) }
+    ensures holds { IsTrue D.tells → (run : List Record) → ((b : ℕ) → (cells_of (D.state disk.old) b).pending ≡ [])
+        → IsFound newest.now.geom.n (settled (cells_of (D.state disk.old))) slot newest.now run → last ≡ last_number newest.now run
+        → Window newest.now.geom.n (D.state disk.old).base (D.state disk.new).log (length (D.state disk.old).log)
+        (λ img. HoldsUnder newest.now.geom.n newest.now.geom img (found_map (settled (cells_of (D.state disk.old))) newest.now run)) }
     ensures log { IsTrue D.tells → AddsDurable (1 - slot) (header_block (closed_header newest.now last)) result (D.state disk.old).log (D.state disk.new).log }
     ensures spends { SpendsUpTo (is_err result) 1 (D.state disk.old) (D.state disk.new) }
     ensures cause { IsTrue D.tells → OnErr result (HasFailed (D.state disk.new)) }
@@ -88,9 +92,15 @@ pub fn close_journal<D: Disk>(
 /// A call failed, which the disk has counted. The block may be written again.
 pub fn replay_block<D: Disk>(disk: &mut D, block: u32, bytes: &Block) -> Result<(), DiskFault>
     requires { block < (D.state disk.old).blocks }
-    ensures goes_on { IsTrue D.tells → (n : ℕ) (at : Blocks) (slot old_slot : ℕ) (h closed : Header) (run : List Record) (x : List ℕ) → IsFound n at old_slot h run → bitmap_start h.geom ≤ block → covered_by h.geom at None run block ≡ Some x → IsReplaying n (cells_of (D.state disk.old)) at slot h closed run
-        → IsReplaying n (cells_of (D.state disk.new)) at slot h closed run × Window n (D.state disk.old).base (D.state disk.new).log (length (D.state disk.old).log) (λ img. HoldsUnder n h.geom img (found_map at h run)) }
-    ensures next { IsTrue D.tells → (n : ℕ) (at : Blocks) (slot old_slot : ℕ) (h closed : Header) (run : List Record) → IsFound n at old_slot h run → bitmap_start h.geom ≤ block → covered_by h.geom at None run block ≡ Some bytes.now → IsReplayedUpTo n (cells_of (D.state disk.old)) at slot h closed run block
+    ensures goes_on { IsTrue D.tells → (n : ℕ) (at : Blocks) (slot old_slot : ℕ) (h closed : Header) (run : List Record) (x : List ℕ)
+        → IsFound n at old_slot h run → bitmap_start h.geom ≤ block → covered_by h.geom at None run block ≡ Some x
+        → IsReplaying n (cells_of (D.state disk.old)) at slot h closed run
+        → IsReplaying n (cells_of (D.state disk.new)) at slot h closed run
+        × Window n (D.state disk.old).base (D.state disk.new).log (length (D.state disk.old).log)
+        (λ img. HoldsUnder n h.geom img (found_map at h run)) }
+    ensures next { IsTrue D.tells → (n : ℕ) (at : Blocks) (slot old_slot : ℕ) (h closed : Header) (run : List Record) → IsFound n at old_slot h run
+        → bitmap_start h.geom ≤ block → covered_by h.geom at None run block ≡ Some bytes.now
+        → IsReplayedUpTo n (cells_of (D.state disk.old)) at slot h closed run block
         → OnOk result (IsReplayedUpTo n (cells_of (D.state disk.new)) at slot h closed run (block + 1)) }
     ensures placed { IsTrue D.tells → OnOk result (IsSettledIn (cells_of (D.state disk.new) block) bytes.now) }
     ensures log { IsTrue D.tells → AddsDurable block bytes.now result (D.state disk.old).log (D.state disk.new).log }

@@ -5,7 +5,8 @@ ghost use Rattle.std.specs.Prelude.{◌≡◌, ◌⊎◌, ℕ, ◌+◌, ◌<◌,
 ghost use Rattle.disk_contract.specs.declared.event.Event.{Event};
 ghost use Rattle.disk_contract.specs.declared.disk.DiskFault.{DiskFault};
 ghost use Rattle.disk_contract.specs.Disk.{AddsWrite, AddsPoll, AddsNotices, writes_in};
-ghost use Rattle.crash_argument.specs.Counts.{WriteCounts, AreCounted, AreAtMost, AreWithinSum, counts_at_mount, with_point, with_part, with_home_write, without_payloads, with_header_write, MovesOn};
+ghost use Rattle.crash_argument.specs.Counts.{WriteCounts, AreCounted, AreAtMost, AreWithinSum, counts_at_mount, with_point, with_part};
+ghost use Rattle.crash_argument.specs.Counts.{with_home_write, without_payloads, with_header_write, MovesOn};
 
 /// The writes are within what the points account for as a mount ends, and after each write.
 pub fn writes_keep_within_the_sum()
@@ -29,10 +30,16 @@ pub fn calls_add_at_most_one_write()
 /// included.
 pub fn the_counts_are_of_the_log()
     ensures begins { (log : List Event) (last : ℕ) → AreCounted (length log) log (counts_at_mount last) }
-    ensures accepted { (mounted b t : ℕ) (x : List ℕ) (old new : List Event) (c now : WriteCounts) → mounted ≤ length old → AddsWrite {E = DiskFault} b x (Ok t) old new → now.writes ≡ c.writes + 1 → AreCounted mounted old c → AreCounted mounted new now }
-    ensures failed { (mounted b : ℕ) (x : List ℕ) (e : DiskFault) (old new : List Event) (c now : WriteCounts) → mounted ≤ length old → AddsWrite b x (Err e) old new → now.writes ≡ c.writes + 1 → AreCounted mounted old c → AreCounted mounted new c ⊎ AreCounted mounted new now }
-    ensures poll { (mounted : ℕ) (r : Result (Option ℕ) DiskFault) (old new : List Event) (c : WriteCounts) → mounted ≤ length old → AddsPoll r old new → AreCounted mounted old c → AreCounted mounted new c }
-    ensures wait { (mounted : ℕ) (old new : List Event) (c : WriteCounts) → mounted ≤ length old → AddsNotices old new → AreCounted mounted old c → AreCounted mounted new c }
-    ensures more { (mounted : ℕ) (old more : List Event) (c now : WriteCounts) → mounted ≤ length old → now.writes ≡ c.writes + writes_in more → AreCounted mounted old c → AreCounted mounted (old ++ more) now }
+    ensures accepted { (mounted b t : ℕ) (x : List ℕ) (old new : List Event) (c now : WriteCounts) → mounted ≤ length old
+        → AddsWrite {E = DiskFault} b x (Ok t) old new → now.writes ≡ c.writes + 1 → AreCounted mounted old c → AreCounted mounted new now }
+    ensures failed { (mounted b : ℕ) (x : List ℕ) (e : DiskFault) (old new : List Event) (c now : WriteCounts) → mounted ≤ length old
+        → AddsWrite b x (Err e) old new → now.writes ≡ c.writes + 1 → AreCounted mounted old c → AreCounted mounted new c
+        ⊎ AreCounted mounted new now }
+    ensures poll { (mounted : ℕ) (r : Result (Option ℕ) DiskFault) (old new : List Event) (c : WriteCounts) → mounted ≤ length old
+        → AddsPoll r old new → AreCounted mounted old c → AreCounted mounted new c }
+    ensures wait { (mounted : ℕ) (old new : List Event) (c : WriteCounts) → mounted ≤ length old → AddsNotices old new → AreCounted mounted old c
+        → AreCounted mounted new c }
+    ensures more { (mounted : ℕ) (old more : List Event) (c now : WriteCounts) → mounted ≤ length old → now.writes ≡ c.writes + writes_in more
+        → AreCounted mounted old c → AreCounted mounted (old ++ more) now }
     ensures within { (mounted : ℕ) (log : List Event) (c : WriteCounts) → AreCounted mounted log c → AreWithinSum c → AreAtMost mounted log c.sum }
 {}

@@ -1,7 +1,8 @@
 //! Disk calls that are guarded by the laws: each is one call of a disk, and its clause says what becomes of
 //! the ledger. Which block is to be written, and when to wait, is not their matter.
 
-ghost use Rattle.std.specs.Prelude.{◌≡◌, ◌<◌, ◌≤◌, ◌+◌, ◌-◌, ◌^◌, ℕ, List, length, IsTrue, true, OnOk, OnErr, slice_index_or, is_err, vec_len, vec_capacity, []};
+ghost use Rattle.std.specs.Prelude.{◌≡◌, ◌<◌, ◌≤◌, ◌+◌, ◌-◌, ◌^◌, ℕ, List, length, IsTrue, true, OnOk, OnErr, slice_index_or, is_err, vec_len};
+ghost use Rattle.std.specs.Prelude.{vec_capacity, []};
 ghost use Rattle.base_types.specs.Seal.{Blocks};
 ghost use Rattle.disk_contract.specs.Cell.{IsAccepted, IsNoticed};
 ghost use Rattle.disk_contract.specs.Disk.{HasFailed, HearsAlone, AddsWrite, AddsPoll, AddsNotices, OnlyWrites, OnlyPolls, OnlyWaits};
@@ -47,7 +48,8 @@ pub fn write_in_place<D: Disk>(disk: &mut D, block: u32, bytes: &Block) -> Resul
 /// Writes the commit block of a record that is otherwise issued. Where it is accepted or lost, a point is made.
 pub fn write_commit<D: Disk>(disk: &mut D, block: u32, bytes: &Block) -> Result<u64, DiskFault>
     requires { block < (D.state disk.old).blocks }
-    ensures safe { IsTrue D.tells → (s : MountedSession) (l : Ledger) (w : WrittenRecord) (m : Blocks) (t floor : ℕ) → block ≡ ring_block l.geom w.says.place → bytes.now ≡ block_at w.ring 0
+    ensures safe { IsTrue D.tells → (s : MountedSession) (l : Ledger) (w : WrittenRecord) (m : Blocks) (t floor : ℕ)
+        → block ≡ ring_block l.geom w.says.place → bytes.now ≡ block_at w.ring 0
         → IsReadyToCommit (D.state disk.old).base (D.state disk.old).log l w m → IsSafeOn s (D.state disk.old) l t floor
         → CommitWritten s l w m t floor result (D.state disk.old) (D.state disk.new) }
     ensures log { IsTrue D.tells → AddsWrite block bytes.now result (D.state disk.old).log (D.state disk.new).log }
@@ -116,7 +118,8 @@ pub fn write_all_in_ring<D: Disk>(
     ensures safe { IsTrue D.tells → (s : MountedSession) (l : Ledger) (t floor place : ℕ)
         → ((i : ℕ) → i < length blocks.now → (first + i ≡ ring_block l.geom (place + i)) × MayWriteInRing l (place + i) (slice_index_or blocks.now i []))
         → StaysSafe s l t floor (D.state disk.old) (D.state disk.new) }
-    ensures log { IsTrue D.tells → AddsAll (row_writes first blocks.now) result tickets.old.items tickets.new.items (D.state disk.old).log (D.state disk.new).log }
+    ensures log { IsTrue D.tells → AddsAll (row_writes first blocks.now) result tickets.old.items tickets.new.items (D.state disk.old).log
+        (D.state disk.new).log }
     ensures taken { OnOk result (vec_len tickets.new ≡ vec_len tickets.old + length blocks.now) }
     ensures spends { OnlyWrites (is_err result) (D.state disk.old) (D.state disk.new) }
     ensures cause { IsTrue D.tells → OnErr result (HasFailed (D.state disk.new)) }

@@ -45,7 +45,8 @@ pub fn opening_header(newest: &Header, last: u64, greatest_epoch: u64) -> Header
 }
 
 /// Writes that header beside the newest one, which is in this slot, and waits for it. On `Ok` the
-/// disk is mounted, and a session begins with what was settled as its point 0. Whatever comes of the calls, each honest image since holds what was there, where no
+/// disk is mounted, and a session begins with what was settled as its point 0. Whatever comes of the calls, each
+/// honest image since holds what was there, where no
 /// record of the journal counts.
 ///
 /// # Errors
@@ -64,12 +65,19 @@ pub fn open_journal<D: Disk>(
     requires turn { newest.now.turn < 2 ^ 64 - 1 }
     requires last { last < 2 ^ 64 - 1 }
     ensures opened { IsTrue D.tells → IsReadyToOpen (cells_of (D.state disk.old)) slot newest.now greatest_epoch
-        → OnOk result (HasBegun (D.state disk.new) newest.now.geom (1 - slot) (opening_header newest.now last greatest_epoch) (length (D.state disk.new).log) (live_part newest.now.geom (settled (cells_of (D.state disk.old))))) }
-    ensures holds { IsTrue D.tells → IsReadyToOpen (cells_of (D.state disk.old)) slot newest.now greatest_epoch → IsRun (settled (cells_of (D.state disk.old))) newest.now []
-        → Window newest.now.geom.n (D.state disk.old).base (D.state disk.new).log (length (D.state disk.old).log) (λ img. HoldsUnder newest.now.geom.n newest.now.geom img (found_map (settled (cells_of (D.state disk.old))) newest.now [])) }
-    ensures replayed { IsTrue D.tells → (at : Blocks) (old_slot : ℕ) (h : Header) (run : List Record) → IsReadyToOpen (cells_of (D.state disk.old)) slot newest.now greatest_epoch → IsFound newest.now.geom.n at old_slot h run → IsReplayed (cells_of (D.state disk.old)) at h newest.now run
-        → Window newest.now.geom.n (D.state disk.old).base (D.state disk.new).log (length (D.state disk.old).log) (λ img. HoldsUnder newest.now.geom.n h.geom img (found_map at h run)) }
-    ensures log { IsTrue D.tells → AddsDurable (1 - slot) (header_block (opening_header newest.now last greatest_epoch)) result (D.state disk.old).log (D.state disk.new).log }
+        → OnOk result (HasBegun (D.state disk.new) newest.now.geom (1 - slot) (opening_header newest.now last greatest_epoch)
+        (length (D.state disk.new).log) (live_part newest.now.geom (settled (cells_of (D.state disk.old))))) }
+    ensures holds { IsTrue D.tells → IsReadyToOpen (cells_of (D.state disk.old)) slot newest.now greatest_epoch
+        → IsRun (settled (cells_of (D.state disk.old))) newest.now []
+        → Window newest.now.geom.n (D.state disk.old).base (D.state disk.new).log (length (D.state disk.old).log)
+        (λ img. HoldsUnder newest.now.geom.n newest.now.geom img (found_map (settled (cells_of (D.state disk.old))) newest.now [])) }
+    ensures replayed { IsTrue D.tells → (at : Blocks) (old_slot : ℕ) (h : Header) (run : List Record)
+        → IsReadyToOpen (cells_of (D.state disk.old)) slot newest.now greatest_epoch → IsFound newest.now.geom.n at old_slot h run
+        → IsReplayed (cells_of (D.state disk.old)) at h newest.now run
+        → Window newest.now.geom.n (D.state disk.old).base (D.state disk.new).log (length (D.state disk.old).log)
+        (λ img. HoldsUnder newest.now.geom.n h.geom img (found_map at h run)) }
+    ensures log { IsTrue D.tells → AddsDurable (1 - slot) (header_block (opening_header newest.now last greatest_epoch)) result (D.state disk.old).log
+        (D.state disk.new).log }
     ensures spends { SpendsUpTo (is_err result) 1 (D.state disk.old) (D.state disk.new) }
     ensures cause { IsTrue D.tells → OnErr result (HasFailed (D.state disk.new)) }
     ensures alone { IsTrue D.tells → WritesOnce (D.state disk.old).manner result (D.state disk.old).log (D.state disk.new).log }

@@ -20,7 +20,8 @@ use disk_contract::{Disk, DiskFault};
 /// Writes the next fresh block of a record.
 pub fn write_fresh<D: Disk>(disk: &mut D, block: u32, bytes: &Block) -> Result<u64, DiskFault>
     requires { block < (D.state disk.old).blocks }
-    ensures under_way { IsTrue D.tells → (s : MountedSession) (l : Ledger) (p : PipelineData) (w : WrittenRecord) (m : Blocks) (t floor i issued : ℕ) (e : Entry) (tickets : List ℕ) → FreshAreNew l → IsNextRecord l w m
+    ensures under_way { IsTrue D.tells → (s : MountedSession) (l : Ledger) (p : PipelineData) (w : WrittenRecord) (m : Blocks) (t floor i issued : ℕ)
+        (e : Entry) (tickets : List ℕ) → FreshAreNew l → IsNextRecord l w m
         → slice_get w.says.fresh i ≡ Some e → block ≡ e.block → bytes.now ≡ block_at w.fresh i
         → IsSafeOn s (D.state disk.old) l t floor → IsPartlyOn (D.state disk.old) l p w tickets i issued
         → PartWritten s l p w t floor tickets (i + 1) issued result (D.state disk.new) }
@@ -35,7 +36,8 @@ pub fn write_fresh<D: Disk>(disk: &mut D, block: u32, bytes: &Block) -> Result<u
 /// Writes the next descriptor or payload of a record.
 pub fn write_part<D: Disk>(disk: &mut D, block: u32, bytes: &Block) -> Result<u64, DiskFault>
     requires { block < (D.state disk.old).blocks }
-    ensures under_way { IsTrue D.tells → (s : MountedSession) (l : Ledger) (p : PipelineData) (w : WrittenRecord) (m : Blocks) (t floor i laid : ℕ) (tickets : List ℕ) → FreshAreNew l → IsNextRecord l w m
+    ensures under_way { IsTrue D.tells → (s : MountedSession) (l : Ledger) (p : PipelineData) (w : WrittenRecord) (m : Blocks) (t floor i laid : ℕ)
+        (tickets : List ℕ) → FreshAreNew l → IsNextRecord l w m
         → 0 < i → i < places w.says → block ≡ ring_block l.geom (w.says.place + i) → bytes.now ≡ block_at w.ring i
         → IsSafeOn s (D.state disk.old) l t floor → IsPartlyOn (D.state disk.old) l p w tickets laid i
         → PartWritten s l p w t floor tickets laid (i + 1) result (D.state disk.new) }
@@ -50,7 +52,8 @@ pub fn write_part<D: Disk>(disk: &mut D, block: u32, bytes: &Block) -> Result<u6
 /// Writes the commit block of a record of which all else is issued. Where it is accepted or lost, a point is made.
 pub fn write_last<D: Disk>(disk: &mut D, block: u32, bytes: &Block) -> Result<u64, DiskFault>
     requires { block < (D.state disk.old).blocks }
-    ensures recorded { IsTrue D.tells → (s : MountedSession) (l : Ledger) (p : PipelineData) (w : WrittenRecord) (m : Blocks) (t floor : ℕ) (tickets : List ℕ) → FreshAreNew l → IsNextRecord l w m
+    ensures recorded { IsTrue D.tells → (s : MountedSession) (l : Ledger) (p : PipelineData) (w : WrittenRecord) (m : Blocks) (t floor : ℕ)
+        (tickets : List ℕ) → FreshAreNew l → IsNextRecord l w m
         → block ≡ ring_block l.geom w.says.place → bytes.now ≡ block_at w.ring 0
         → IsSafeOn s (D.state disk.old) l t floor → IsPartlyOn (D.state disk.old) l p w tickets (length w.says.fresh) (places w.says)
         → RecordWritten s l p w m t floor tickets result (D.state disk.old) (D.state disk.new) }

@@ -25,11 +25,14 @@ use layout_journal::journal_blocks_read_back;
 /// While a mount closes the run that it found, then writes its blocks home, and then opens the journal
 /// under a new epoch, each honest image holds what was found.
 pub fn a_replay_holds_what_was_found()
-    ensures closing { (n : ℕ) (base : Blocks) (log : List Event) (img at : Blocks) (slot : ℕ) (h closed : Header) (run : List Record) → IsHonest n base log img → IsFound n at slot h run
+    ensures closing { (n : ℕ) (base : Blocks) (log : List Event) (img at : Blocks) (slot : ℕ) (h closed : Header) (run : List Record)
+        → IsHonest n base log img → IsFound n at slot h run
         → IsClosing n (cell_of base log) at slot h closed run → HoldsUnder n h.geom img (found_map at h run) }
-    ensures replaying { (n : ℕ) (base : Blocks) (log : List Event) (img at : Blocks) (slot old_slot : ℕ) (h closed : Header) (run : List Record) → IsHonest n base log img → IsFound n at old_slot h run
+    ensures replaying { (n : ℕ) (base : Blocks) (log : List Event) (img at : Blocks) (slot old_slot : ℕ) (h closed : Header) (run : List Record)
+        → IsHonest n base log img → IsFound n at old_slot h run
         → IsReplaying n (cell_of base log) at slot h closed run → HoldsUnder n h.geom img (found_map at h run) }
-    ensures opening { (n : ℕ) (base : Blocks) (log : List Event) (img at : Blocks) (slot old_slot : ℕ) (h closed fresh : Header) (run : List Record) → IsHonest n base log img → IsFound n at old_slot h run
+    ensures opening { (n : ℕ) (base : Blocks) (log : List Event) (img at : Blocks) (slot old_slot : ℕ) (h closed fresh : Header) (run : List Record)
+        → IsHonest n base log img → IsFound n at old_slot h run
         → IsOpening n (cell_of base log) at slot h closed fresh run → HoldsUnder n h.geom img (found_map at h run) }
 {
     the_journal_is_lawful();
@@ -46,15 +49,21 @@ pub fn a_replay_may_be_made()
     ensures closing { (n : ℕ) (at : Blocks) (slot ticket : ℕ) (h : Header) (run : List Record) → IsFound n at slot h run → IsHeader (closing_header h run)
         → IsClosing n (cell_of at (closing_events ticket slot h run)) at slot h (closing_header h run) run }
     ensures replaying { (n : ℕ) (at : Blocks) (slot ticket k : ℕ) (h : Header) (run : List Record) → IsFound n at slot h run → IsHeader (closing_header h run)
-        → IsReplaying n (cell_of at (closed_events ticket slot h run ++ take k (replay_events at (ticket + 1) h run))) at (1 - slot) h (closing_header h run) run }
-    ensures opening { (n : ℕ) (at : Blocks) (slot ticket later greatest_epoch : ℕ) (h : Header) (run : List Record) → IsFound n at slot h run → IsHeader (closing_header h run)
-        → IsHeader (opening_header (closing_header h run) (last_number h run) greatest_epoch) → ((place : ℕ) (c : Commit) → commit_of h.geom (at (ring_block h.geom place)) ≡ Some c → c.epoch ≤ greatest_epoch)
-        → IsOpening n (cell_of at (opening_events at ticket later slot h run greatest_epoch)) at (1 - slot) h (closing_header h run) (opening_header (closing_header h run) (last_number h run) greatest_epoch) run }
+        → IsReplaying n (cell_of at (closed_events ticket slot h run ++ take k (replay_events at (ticket + 1) h run))) at (1 - slot) h
+        (closing_header h run) run }
+    ensures opening { (n : ℕ) (at : Blocks) (slot ticket later greatest_epoch : ℕ) (h : Header) (run : List Record) → IsFound n at slot h run
+        → IsHeader (closing_header h run)
+        → IsHeader (opening_header (closing_header h run) (last_number h run) greatest_epoch)
+        → ((place : ℕ) (c : Commit) → commit_of h.geom (at (ring_block h.geom place)) ≡ Some c → c.epoch ≤ greatest_epoch)
+        → IsOpening n (cell_of at (opening_events at ticket later slot h run greatest_epoch)) at (1 - slot) h (closing_header h run)
+        (opening_header (closing_header h run) (last_number h run) greatest_epoch) run }
     ensures closed { (n : ℕ) (at : Blocks) (slot ticket k : ℕ) (h : Header) (run : List Record) → IsFound n at slot h run → Closes h h run
         → IsReplaying n (cell_of at (take k (replay_events at ticket h run))) at slot h h run }
     ensures reopening { (n : ℕ) (at : Blocks) (slot ticket later greatest_epoch : ℕ) (h : Header) (run : List Record) → IsFound n at slot h run → Closes h h run
-        → IsHeader (opening_header h (last_number h run) greatest_epoch) → ((place : ℕ) (c : Commit) → commit_of h.geom (at (ring_block h.geom place)) ≡ Some c → c.epoch ≤ greatest_epoch)
-        → IsOpening n (cell_of at (reopening_events at ticket later slot h run greatest_epoch)) at slot h h (opening_header h (last_number h run) greatest_epoch) run }
+        → IsHeader (opening_header h (last_number h run) greatest_epoch)
+        → ((place : ℕ) (c : Commit) → commit_of h.geom (at (ring_block h.geom place)) ≡ Some c → c.epoch ≤ greatest_epoch)
+        → IsOpening n (cell_of at (reopening_events at ticket later slot h run greatest_epoch)) at slot h h
+        (opening_header h (last_number h run) greatest_epoch) run }
 {
     the_journal_is_lawful();
     journal_blocks_read_back();

@@ -40,10 +40,14 @@ impl Statement for HoldsMap {
 /// A window begins with the images of now, goes on with those of one moment more, and with notices by
 /// itself. Two windows one behind the other are one.
 pub fn windows_go_on<S: Statement>()
-    ensures begins { (of : S.Of) (n : ℕ) (base : Blocks) (log : List Event) → ((img : Blocks) → IsHonest n base log img → S.holds of img) → Window n base log (length log) (S.holds of) }
-    ensures more { (of : S.Of) (n : ℕ) (base : Blocks) (log : List Event) (e : Event) (t : ℕ) → Window n base log t (S.holds of) → ((img : Blocks) → IsHonest n base (log ++ e ∷ []) img → S.holds of img) → Window n base (log ++ e ∷ []) t (S.holds of) }
-    ensures notices { (of : S.Of) (n : ℕ) (base : Blocks) (log new : List Event) (t : ℕ) → t ≤ length log → AddsNotices log new → Window n base log t (S.holds of) → Window n base new t (S.holds of) }
-    ensures joins { (of : S.Of) (n : ℕ) (base : Blocks) (log new : List Event) (t : ℕ) → Grows log new → Window n base log t (S.holds of) → Window n base new (length log) (S.holds of) → Window n base new t (S.holds of) }
+    ensures begins { (of : S.Of) (n : ℕ) (base : Blocks) (log : List Event) → ((img : Blocks) → IsHonest n base log img → S.holds of img)
+        → Window n base log (length log) (S.holds of) }
+    ensures more { (of : S.Of) (n : ℕ) (base : Blocks) (log : List Event) (e : Event) (t : ℕ) → Window n base log t (S.holds of)
+        → ((img : Blocks) → IsHonest n base (log ++ e ∷ []) img → S.holds of img) → Window n base (log ++ e ∷ []) t (S.holds of) }
+    ensures notices { (of : S.Of) (n : ℕ) (base : Blocks) (log new : List Event) (t : ℕ) → t ≤ length log → AddsNotices log new
+        → Window n base log t (S.holds of) → Window n base new t (S.holds of) }
+    ensures joins { (of : S.Of) (n : ℕ) (base : Blocks) (log new : List Event) (t : ℕ) → Grows log new → Window n base log t (S.holds of)
+        → Window n base new (length log) (S.holds of) → Window n base new t (S.holds of) }
 {
     a_notice_adds_no_image();
 }
@@ -60,11 +64,14 @@ pub fn calls_only_add()
 /// leaves the disk consistent. One that each point from the floor on has holds in a safe disk's window. And
 /// one that a map has holds where a mount's window is of that map.
 pub fn guarded_calls_carry_a_statement<S: Statement>()
-    ensures write { (of : S.Of) (base : Blocks) (old new : List Event) (l : Ledger) (t b : ℕ) (x : List ℕ) (r : Result ℕ DiskFault) → AddsWrite b x r old new → IsConsistentWith base new l → ((img : Blocks) → StandsForOne l img → S.holds of img)
+    ensures write { (of : S.Of) (base : Blocks) (old new : List Event) (l : Ledger) (t b : ℕ) (x : List ℕ) (r : Result ℕ DiskFault)
+        → AddsWrite b x r old new → IsConsistentWith base new l → ((img : Blocks) → StandsForOne l img → S.holds of img)
         → Window l.geom.n base old t (S.holds of) → Window l.geom.n base new t (S.holds of) }
-    ensures points { (of : S.Of) (s : MountedSession) (base : Blocks) (log : List Event) (l : Ledger) (t floor : ℕ) → IsSafe s base log l t floor → ((img : Blocks) → ∥ HoldsPoint s base log floor (points_in s log) img ∥₁ → S.holds of img)
+    ensures points { (of : S.Of) (s : MountedSession) (base : Blocks) (log : List Event) (l : Ledger) (t floor : ℕ) → IsSafe s base log l t floor
+        → ((img : Blocks) → ∥ HoldsPoint s base log floor (points_in s log) img ∥₁ → S.holds of img)
         → Window s.geom.n base log t (S.holds of) }
-    ensures map { (of : S.Of) (n : ℕ) (g : Geometry) (m : Blocks) (base : Blocks) (log : List Event) (t : ℕ) → ((img : Blocks) → HoldsUnder n g img m → S.holds of img) → Window n base log t (λ img. HoldsUnder n g img m)
+    ensures map { (of : S.Of) (n : ℕ) (g : Geometry) (m : Blocks) (base : Blocks) (log : List Event) (t : ℕ)
+        → ((img : Blocks) → HoldsUnder n g img m → S.holds of img) → Window n base log t (λ img. HoldsUnder n g img m)
         → Window n base log t (S.holds of) }
 {
     the_journal_is_lawful();
@@ -72,6 +79,7 @@ pub fn guarded_calls_carry_a_statement<S: Statement>()
 
 /// A window may reach back to where each image since held the map of a point that the floor allows.
 pub fn a_window_reaches_back()
-    ensures { (s : MountedSession) (base : Blocks) (log : List Event) (l : Ledger) (t floor since point : ℕ) (m : Blocks) → IsSafe s base log l t floor → IsPoint s base log point m → floor ≤ point → point ≤ points_in s log
+    ensures { (s : MountedSession) (base : Blocks) (log : List Event) (l : Ledger) (t floor since point : ℕ) (m : Blocks)
+        → IsSafe s base log l t floor → IsPoint s base log point m → floor ≤ point → point ≤ points_in s log
         → Window s.geom.n base log since (λ img. HoldsUnder s.geom.n s.geom img m) → IsSafe s base log l since floor }
 {}

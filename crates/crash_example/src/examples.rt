@@ -27,7 +27,8 @@ pub fn a_record_follows_on_the_formatted_disk()
     ensures next { (ticket : ℕ) (x : List ℕ) → IsNextRecord (first_ledger ticket) (first_record x) (first_map x) }
     ensures freed { (ticket : ℕ) (x : List ℕ) → AreFreed (first_ledger ticket) (first_record x) (first_map x) [] }
     ensures begun { (ticket : ℕ) → IsMounted (cell_of (formatted least) (mount_events least ticket)) least 1 (empty_header least 2 2) }
-    ensures safe { (ticket : ℕ) → IsSafe (session_at_mount least (empty_header least 2 2) (mount_events least ticket)) (formatted least) (mount_events least ticket) (first_ledger ticket) 2 0 }
+    ensures safe { (ticket : ℕ) → IsSafe (session_at_mount least (empty_header least 2 2) (mount_events least ticket)) (formatted least)
+        (mount_events least ticket) (first_ledger ticket) 2 0 }
     ensures knows { (ticket : ℕ) → DataAgree (formatted least) (mount_events least ticket) (first_ledger ticket) (data_at_mount (empty_header least 2 2)) }
     ensures idle { (ticket : ℕ) → NoneIsBeingWritten (cell_of (formatted least) (mount_events least ticket)) (first_ledger ticket) }
 {

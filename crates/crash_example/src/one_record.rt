@@ -11,7 +11,8 @@ ghost use Rattle.crash_argument.specs.PipelineData.{PipelineData, DataAgreeOn, A
 ghost use Rattle.crash_argument.specs.Points.{MountedSession, IsSafeOn, StaysSafe};
 ghost use Rattle.crash_argument.specs.Recording.{IsNextRecord};
 ghost use Rattle.crash_argument.specs.Steps.{NoneIsBeingWritten};
-ghost use Rattle.crash_example.specs.OneRecord.{HasNoRecord, KeepsCount, IsWrittenAs, IsSettledBy, RecordLeaves, KnownLeaves, ReleasedLeaves, AddsInOrder, AddsAmidNotices, writes_of, writes_of_life};
+ghost use Rattle.crash_example.specs.OneRecord.{HasNoRecord, KeepsCount, IsWrittenAs, IsSettledBy, RecordLeaves, KnownLeaves, ReleasedLeaves};
+ghost use Rattle.crash_example.specs.OneRecord.{AddsInOrder, AddsAmidNotices, writes_of, writes_of_life};
 
 use crate::settling::{checkpoint, make_sure};
 use base_types::Block;
@@ -67,11 +68,13 @@ pub fn serve_one_record<D: Disk>(
     requires home { settling.now.home_block < (D.state disk.old).blocks }
     requires slot { settling.now.slot < 2 }
     requires slots { 2 ≤ (D.state disk.old).blocks }
-    ensures released { IsTrue D.tells → (s : MountedSession) (l : Ledger) (p : PipelineData) (w : WrittenRecord) (m : Blocks) (t floor : ℕ) (freed : List ℕ) → HasNoRecord l p → IsWrittenAs l w «record».now → IsNextRecord l w m → AreFreed l w m freed → IsSettledBy l w m settling.now
+    ensures released { IsTrue D.tells → (s : MountedSession) (l : Ledger) (p : PipelineData) (w : WrittenRecord) (m : Blocks) (t floor : ℕ)
+        (freed : List ℕ) → HasNoRecord l p → IsWrittenAs l w «record».now → IsNextRecord l w m → AreFreed l w m freed → IsSettledBy l w m settling.now
         → IsSafeOn s (D.state disk.old) l t floor → DataAgreeOn (D.state disk.old) l p → NoneIsBeingWritten (cells_of (D.state disk.old)) l
         → ReleasedLeaves s l w m t floor result (D.state disk.new) }
     ensures log { IsTrue D.tells → AddsInOrder (writes_of_life «record».now settling.now) result (D.state disk.old).log (D.state disk.new).log }
-    ensures counts { IsTrue D.tells → (mounted : ℕ) (c : WriteCounts) → mounted ≤ length (D.state disk.old).log → c.coming ≡ 0 → AreWithinSum c → AreCounted mounted (D.state disk.old).log c
+    ensures counts { IsTrue D.tells → (mounted : ℕ) (c : WriteCounts) → mounted ≤ length (D.state disk.old).log → c.coming ≡ 0 → AreWithinSum c
+        → AreCounted mounted (D.state disk.old).log c
         → KeepsCount mounted c result (D.state disk.new).log }
     ensures spends { SpendsUpTo (is_err result) 7 (D.state disk.old) (D.state disk.new) }
 {
@@ -93,7 +96,8 @@ pub(crate) fn settle_one_record<D: Disk>(
     requires home { settling.now.home_block < (D.state disk.old).blocks }
     requires slot { settling.now.slot < 2 }
     requires slots { 2 ≤ (D.state disk.old).blocks }
-    ensures released { IsTrue D.tells → (s : MountedSession) (l : Ledger) (p : PipelineData) (w : WrittenRecord) (m : Blocks) (t floor : ℕ) (freed : List ℕ) → HasNoRecord l p → IsWrittenAs l w «record».now → IsNextRecord l w m → AreFreed l w m freed → IsSettledBy l w m settling.now
+    ensures released { IsTrue D.tells → (s : MountedSession) (l : Ledger) (p : PipelineData) (w : WrittenRecord) (m : Blocks) (t floor : ℕ)
+        (freed : List ℕ) → HasNoRecord l p → IsWrittenAs l w «record».now → IsNextRecord l w m → AreFreed l w m freed → IsSettledBy l w m settling.now
         → IsSafeOn s (D.state disk.old) l t floor → DataAgreeOn (D.state disk.old) l p → NoneIsBeingWritten (cells_of (D.state disk.old)) l
         → ReleasedLeaves s l w m t floor result (D.state disk.new) }
     ensures log { IsTrue D.tells → AddsInOrder (writes_of_life «record».now settling.now) result (D.state disk.old).log (D.state disk.new).log }
@@ -112,7 +116,8 @@ pub(crate) fn write_record<D: Disk>(disk: &mut D, record: &OneRecord) -> Result<
     requires descriptor { «record».now.descriptor_block < (D.state disk.old).blocks }
     requires payload { «record».now.payload_block < (D.state disk.old).blocks }
     requires commit { «record».now.commit_block < (D.state disk.old).blocks }
-    ensures leaves { IsTrue D.tells → (s : MountedSession) (l : Ledger) (p : PipelineData) (w : WrittenRecord) (m : Blocks) (t floor : ℕ) → IsWrittenAs l w «record».now → IsNextRecord l w m
+    ensures leaves { IsTrue D.tells → (s : MountedSession) (l : Ledger) (p : PipelineData) (w : WrittenRecord) (m : Blocks) (t floor : ℕ)
+        → IsWrittenAs l w «record».now → IsNextRecord l w m
         → IsSafeOn s (D.state disk.old) l t floor → DataAgreeOn (D.state disk.old) l p → NoneIsBeingWritten (cells_of (D.state disk.old)) l
         → RecordLeaves s l p w m t floor result (D.state disk.new) }
     ensures log { IsTrue D.tells → AddsInOrder (writes_of «record».now) result (D.state disk.old).log (D.state disk.new).log }
@@ -148,7 +153,8 @@ pub(crate) fn write_and_wait<D: Disk>(
     requires descriptor { «record».now.descriptor_block < (D.state disk.old).blocks }
     requires payload { «record».now.payload_block < (D.state disk.old).blocks }
     requires commit { «record».now.commit_block < (D.state disk.old).blocks }
-    ensures known { IsTrue D.tells → (s : MountedSession) (l : Ledger) (p : PipelineData) (w : WrittenRecord) (m : Blocks) (t floor : ℕ) (freed : List ℕ) → IsWrittenAs l w «record».now → IsNextRecord l w m
+    ensures known { IsTrue D.tells → (s : MountedSession) (l : Ledger) (p : PipelineData) (w : WrittenRecord) (m : Blocks) (t floor : ℕ)
+        (freed : List ℕ) → IsWrittenAs l w «record».now → IsNextRecord l w m
         → IsSafeOn s (D.state disk.old) l t floor → DataAgreeOn (D.state disk.old) l p → NoneIsBeingWritten (cells_of (D.state disk.old)) l
         → AreFreed l w m freed → l.records ≡ [] → KnownLeaves s l p w m freed t floor result (D.state disk.new) }
     ensures log { IsTrue D.tells → AddsInOrder (writes_of «record».now) result (D.state disk.old).log (D.state disk.new).log }

@@ -35,7 +35,8 @@ pub fn make_sure<D: Disk>(disk: &mut D, slot: u32, header: &Block) -> Result<(),
 /// Writes the one block of the next batch to its place, and waits for it.
 pub fn checkpoint<D: Disk>(disk: &mut D, block: u32, bytes: &Block) -> Result<(), DiskFault>
     requires { block < (D.state disk.old).blocks }
-    ensures placed { IsTrue D.tells → (s : MountedSession) (l : Ledger) (p : PipelineData) (t floor count : ℕ) → p.batch ≡ 0 → l.header.start + p.placed + count ≡ l.header.sure + 1
+    ensures placed { IsTrue D.tells → (s : MountedSession) (l : Ledger) (p : PipelineData) (t floor count : ℕ) → p.batch ≡ 0
+        → l.header.start + p.placed + count ≡ l.header.sure + 1
         → NeedsCheckpoint l (take count (drop p.placed l.records)) block bytes.now
         → ((c : ℕ) (y : List ℕ) → c ≢ block → ¬ NeedsCheckpoint l (take count (drop p.placed l.records)) c y)
         → IsSafeOn s (D.state disk.old) l t floor → DataAgreeOn (D.state disk.old) l p

@@ -66,8 +66,11 @@ fn described_entries(
 ) -> Result<Option<Vec<Entry>>, NoMemory>
     requires size { length image.now ≡ header.now.geom.n }
     requires commit { HasCommit (blocks_of image.now) header.now commit.now.number place commit.now }
-    ensures found { IfOk result (λ o. IfSome o (λ list. HasParts (blocks_of image.now) header.now commit.now.number place (commit.now.payloads + commit.now.fresh) commit.now.descriptors list.items)) }
-    ensures missing { IfOk result (λ o. o ≡ None → (r : journal.Record) → r.number ≡ commit.now.number → r.place ≡ place → ¬ IsDescribed (blocks_of image.now) header.now r) }
+    ensures found { IfOk result (λ o. IfSome o
+        (λ list. HasParts (blocks_of image.now) header.now commit.now.number place (commit.now.payloads + commit.now.fresh) commit.now.descriptors
+        list.items)) }
+    ensures missing { IfOk result (λ o. o ≡ None → (r : journal.Record) → r.number ≡ commit.now.number → r.place ≡ place
+        → ¬ IsDescribed (blocks_of image.now) header.now r) }
 {
     records_are_described_by_their_blocks();
     let total = commit.payloads as usize + commit.fresh as usize;

@@ -61,7 +61,8 @@ impl Recovered {
 
     /// The bytes of a recovered block: `None` exactly where the block isn't live.
     pub fn block(&self, number: u32) -> Option<&Block>
-        ensures { option_copied result ≡ (if is_live self.now.header.geom (blocks_of self.now.blocks) number then Some (blocks_of self.now.blocks number) else None) }
+        ensures { option_copied result ≡ (if is_live self.now.header.geom (blocks_of self.now.blocks) number then Some
+            (blocks_of self.now.blocks number) else None) }
     {
         if !is_live(self.header.geom, self.blocks.as_slice(), number) {
             return None;

@@ -49,7 +49,8 @@ fn replay_block(image: &[Block], geom: Geom, run: &[Record], number: u32, block:
 fn replay_record(image: &[Block], geom: Geom, each: &Record, number: u32, block: &mut Block)
     requires size { length image.now ≡ geom.n }
     requires below { number < geom.n }
-    ensures { block.new ≡ otherwise (payload_of geom (blocks_of image.now) each.now number) (if names_block each.now.fresh number then blocks_of image.now number else block.old) }
+    ensures { block.new ≡ otherwise (payload_of geom (blocks_of image.now) each.now number)
+        (if names_block each.now.fresh number then blocks_of image.now number else block.old) }
 {
     if names_block(each.fresh(), number) {
         *block = *block_at(image, number);

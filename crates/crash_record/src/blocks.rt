@@ -21,7 +21,8 @@ use layout_journal::{
 /// one. Slot 0 wins a tie.
 pub fn newer_header(first: Option<Header>, second: Option<Header>) -> Option<(u32, Header)>
     ensures found { (n : ℕ) (img : Blocks) → first ≡ header_of n (img 0) → second ≡ header_of n (img 1) → IfSome result (λ p. Newest n img p.0 p.1) }
-    ensures missing { (n : ℕ) (img : Blocks) → first ≡ header_of n (img 0) → second ≡ header_of n (img 1) → result ≡ None → (slot : ℕ) (h : headers.Header) → ¬ Newest n img slot h }
+    ensures missing { (n : ℕ) (img : Blocks) → first ≡ header_of n (img 0) → second ≡ header_of n (img 1) → result ≡ None
+        → (slot : ℕ) (h : headers.Header) → ¬ Newest n img slot h }
     ensures within { (n : ℕ) → IfSome first (IsWithinDisk n) → IfSome second (IsWithinDisk n) → IfSome result (λ p. IsWithinDisk n p.1) }
     ensures slot { IfSome result (λ p. p.0 < 2) }
 {
@@ -46,8 +47,10 @@ pub fn newer_header(first: Option<Header>, second: Option<Header>) -> Option<(u3
 /// The commit block in this block, if it is of the header's epoch and of the number `before` above its
 /// start.
 pub fn commit_in(block: &Block, header: &Header, before: u64) -> Option<Commit>
-    ensures found { (img : Blocks) (place : ℕ) → block.now ≡ img (ring_block header.now.geom place) → IfSome result (HasCommit img header.now (header.now.start + before) place) }
-    ensures missing { (img : Blocks) (place : ℕ) → block.now ≡ img (ring_block header.now.geom place) → result ≡ None → (c : commits.Commit) → ¬ HasCommit img header.now (header.now.start + before) place c }
+    ensures found { (img : Blocks) (place : ℕ) → block.now ≡ img (ring_block header.now.geom place)
+        → IfSome result (HasCommit img header.now (header.now.start + before) place) }
+    ensures missing { (img : Blocks) (place : ℕ) → block.now ≡ img (ring_block header.now.geom place) → result ≡ None → (c : commits.Commit)
+        → ¬ HasCommit img header.now (header.now.start + before) place c }
     ensures within { IfSome result (IsWithinRing header.now.geom) }
 {
     journal_blocks_keep_to_their_bounds();
@@ -66,8 +69,10 @@ pub fn commit_in(block: &Block, header: &Header, before: u64) -> Option<Commit>
 
 /// The descriptor in this block, if it is of the header's epoch, this number and this index.
 pub fn descriptor_in(block: &Block, header: &Header, number: u64, index: u32) -> Option<Descriptor>
-    ensures found { (img : Blocks) (place : ℕ) → block.now ≡ img (ring_block header.now.geom (place + 1 + index)) → IfSome result (λ d. HasPart img header.now number place index d.entries) }
-    ensures missing { (img : Blocks) (place : ℕ) → block.now ≡ img (ring_block header.now.geom (place + 1 + index)) → result ≡ None → (es : List listed.Entry) → ¬ HasPart img header.now number place index es }
+    ensures found { (img : Blocks) (place : ℕ) → block.now ≡ img (ring_block header.now.geom (place + 1 + index))
+        → IfSome result (λ d. HasPart img header.now number place index d.entries) }
+    ensures missing { (img : Blocks) (place : ℕ) → block.now ≡ img (ring_block header.now.geom (place + 1 + index)) → result ≡ None
+        → (es : List listed.Entry) → ¬ HasPart img header.now number place index es }
 {
     let descriptor = read_descriptor(block, &header.geom).ok()?;
     if descriptor.epoch != header.epoch {

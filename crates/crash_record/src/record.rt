@@ -40,7 +40,8 @@ impl Record {
         payloads: usize,
     ) -> Result<Record, NoMemory>
         requires { payloads ≤ length entries.items }
-        ensures { IfOk result (λ made. made ≡ record { number = number; place = place; payloads = take payloads entries.items; fresh = drop payloads entries.items }) }
+        ensures { IfOk result (λ made. made ≡ record
+            { number = number; place = place; payloads = take payloads entries.items; fresh = drop payloads entries.items }) }
     {
         let mut payload_entries = entries;
         let fresh = payload_entries.split_off(payloads)?;
@@ -113,9 +114,12 @@ impl PartialEq for Record {
     ghost use Rattle.layout_journal.specs.contracts.entry.EntryPartialEq.TheImpl as entry;
     ghost use Rattle.layout_journal.specs.contracts.entry.EntryEq.TheImpl.Laws as entry_laws;
 
-    ghost eq = { eq_of_both (eq_of_both (eq_of_both (on (λ r. r.number) ◌==◌) (on (λ r. r.place) ◌==◌)) (on (λ r. r.payloads) (pointwise entry.ghosts.eq))) (on (λ r. r.fresh) (pointwise entry.ghosts.eq)) };
+    ghost eq = { eq_of_both (eq_of_both (eq_of_both (on (λ r. r.number) ◌==◌) (on (λ r. r.place) ◌==◌))
+        (on (λ r. r.payloads) (pointwise entry.ghosts.eq))) (on (λ r. r.fresh) (pointwise entry.ghosts.eq)) };
 
-    ghost laws = { partial_equiv_from_equiv (and_equiv (and_equiv (and_equiv (on_equiv (λ r. r.number) nat_eq_equiv) (on_equiv (λ r. r.place) nat_eq_equiv)) (on_equiv (λ r. r.payloads) (lists_equiv entry_laws.laws-law))) (on_equiv (λ r. r.fresh) (lists_equiv entry_laws.laws-law))) };
+    ghost laws = { partial_equiv_from_equiv (and_equiv
+        (and_equiv (and_equiv (on_equiv (λ r. r.number) nat_eq_equiv) (on_equiv (λ r. r.place) nat_eq_equiv))
+        (on_equiv (λ r. r.payloads) (lists_equiv entry_laws.laws-law))) (on_equiv (λ r. r.fresh) (lists_equiv entry_laws.laws-law))) };
 
     fn eq(&self, other: &Record) -> bool {
         self.number == other.number
@@ -130,7 +134,8 @@ impl Eq for Record {
     ghost use Rattle.std.specs.Cmp.Lexicographic.{lists_equiv};
     ghost use Rattle.layout_journal.specs.contracts.entry.EntryEq.TheImpl.Laws as entry_laws;
 
-    ghost laws = { and_equiv (and_equiv (and_equiv (on_equiv (λ r. r.number) nat_eq_equiv) (on_equiv (λ r. r.place) nat_eq_equiv)) (on_equiv (λ r. r.payloads) (lists_equiv entry_laws.laws-law))) (on_equiv (λ r. r.fresh) (lists_equiv entry_laws.laws-law)) };
+    ghost laws = { and_equiv (and_equiv (and_equiv (on_equiv (λ r. r.number) nat_eq_equiv) (on_equiv (λ r. r.place) nat_eq_equiv))
+        (on_equiv (λ r. r.payloads) (lists_equiv entry_laws.laws-law))) (on_equiv (λ r. r.fresh) (lists_equiv entry_laws.laws-law)) };
 }
 
 /// Records in the order of their numbers.

@@ -25,9 +25,12 @@ pub fn a_map_is_of_one_tree()
 /// In the map of a tree each slot names a node in use and never the root, and two slots that name one directory
 /// are one slot.
 pub fn slots_name_nodes_in_use()
-    ensures root { (limit : ℕ) (m : Inodes) (t : Tree) → IsMapOf limit m t → (k i : ℕ) (slots : List Slot) (s : Slot) → m k ≡ Some (ADir slots) → slice_get slots i ≡ Some s → s.node ≢ 1 }
-    ensures used { (limit : ℕ) (m : Inodes) (t : Tree) → IsMapOf limit m t → (k i : ℕ) (slots : List Slot) (s : Slot) → m k ≡ Some (ADir slots) → slice_get slots i ≡ Some s → (x : Inode) × (m s.node ≡ Some x) }
-    ensures once { (limit : ℕ) (m : Inodes) (t : Tree) → IsMapOf limit m t → (k l i j n : ℕ) (slots others below : List Slot) (s u : Slot) → m k ≡ Some (ADir slots) → m l ≡ Some (ADir others)
+    ensures root { (limit : ℕ) (m : Inodes) (t : Tree) → IsMapOf limit m t → (k i : ℕ) (slots : List Slot) (s : Slot) → m k ≡ Some (ADir slots)
+        → slice_get slots i ≡ Some s → s.node ≢ 1 }
+    ensures used { (limit : ℕ) (m : Inodes) (t : Tree) → IsMapOf limit m t → (k i : ℕ) (slots : List Slot) (s : Slot) → m k ≡ Some (ADir slots)
+        → slice_get slots i ≡ Some s → (x : Inode) × (m s.node ≡ Some x) }
+    ensures once { (limit : ℕ) (m : Inodes) (t : Tree) → IsMapOf limit m t → (k l i j n : ℕ) (slots others below : List Slot) (s u : Slot)
+        → m k ≡ Some (ADir slots) → m l ≡ Some (ADir others)
         → slice_get slots i ≡ Some s → slice_get others j ≡ Some u → s.node ≡ n → u.node ≡ n → m n ≡ Some (ADir below) → (k ≡ l) × (i ≡ j) }
 {}
 
@@ -40,7 +43,8 @@ pub fn a_walk_goes_on()
 /// a number outside the geometry's.
 pub fn blocks_have_a_map()
     ensures map { (g : Geometry) (b : Blocks) (m : Inodes) (t : Tree) → AreInodesOf (files_of g b) m → IsTreeOf g b t → IsMapOf g.i m t }
-    ensures reads { (g : Geometry) (b : Blocks) (t : Tree) (k : ℕ) (file : FileNode) → IsTreeOf g b t → files_of g b k ≡ Some file → (x : Inode) × (inode_of file ≡ Some x) }
+    ensures reads { (g : Geometry) (b : Blocks) (t : Tree) (k : ℕ) (file : FileNode) → IsTreeOf g b t → files_of g b k ≡ Some file → (x : Inode)
+        × (inode_of file ≡ Some x) }
     ensures within { (g : Geometry) (b : Blocks) (m : Inodes) → AreInodesOf (files_of g b) m → (k : ℕ) (x : Inode) → m k ≡ Some x → (1 ≤ k) × (k ≤ g.i) }
 {}
 
@@ -48,5 +52,6 @@ pub fn blocks_have_a_map()
 /// node in use reads as an inode.
 pub fn files_have_one_map()
     ensures one { (files : Files) (m : Inodes) → AreInodesOf files m → (k : ℕ) → m k ≡ inodes_of files k }
-    ensures read { (files : Files) → ((k : ℕ) (file : FileNode) → files k ≡ Some file → (x : Inode) × (inode_of file ≡ Some x)) → AreInodesOf files (inodes_of files) }
+    ensures read { (files : Files) → ((k : ℕ) (file : FileNode) → files k ≡ Some file → (x : Inode) × (inode_of file ≡ Some x))
+        → AreInodesOf files (inodes_of files) }
 {}

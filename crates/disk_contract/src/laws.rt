@@ -14,8 +14,10 @@ ghost use Rattle.disk_contract.specs.Lawful.{IsLawful, IsNewestNoticed, HasNoneN
 /// Settled is the noticed write with the greatest ticket, else the base. Pending are the writes after it, lost ones too.
 #[tactic(auto, using(crate::proofs::Lawful::settled_newest, crate::proofs::Lawful::settled_base))]
 pub fn settled_is_the_newest_noticed()
-    ensures noticed { (base : Blocks) (log later : List Event) (b t : ℕ) (x : List ℕ) → IsLawful log → IsNewestNoticed log b t x later → cell_of base log b ≡ record { settled = x; pending = writes_to b later } }
-    ensures none { (base : Blocks) (log : List Event) (b : ℕ) → IsLawful log → HasNoneNoticed log b → cell_of base log b ≡ record { settled = base b; pending = writes_to b log } }
+    ensures noticed { (base : Blocks) (log later : List Event) (b t : ℕ) (x : List ℕ) → IsLawful log → IsNewestNoticed log b t x later
+        → cell_of base log b ≡ record { settled = x; pending = writes_to b later } }
+    ensures none { (base : Blocks) (log : List Event) (b : ℕ) → IsLawful log → HasNoneNoticed log b
+        → cell_of base log b ≡ record { settled = base b; pending = writes_to b log } }
 {}
 
 /// A disk's calls keep its log lawful: tickets ascend, and each notice is of an accepted ticket, once.
@@ -28,15 +30,19 @@ pub fn calls_keep_a_log_lawful()
 
 /// Calls in a row spend what each of them does, where only the last one may have failed.
 pub fn calls_in_a_row_spend_together()
-    ensures { (failed : Bool) (waits polls more_waits more_polls : ℕ) (old mid new : State) → Spends false waits polls old mid → Spends failed more_waits more_polls mid new → Spends failed (more_waits + waits) (more_polls + polls) old new }
+    ensures { (failed : Bool) (waits polls more_waits more_polls : ℕ) (old mid new : State) → Spends false waits polls old mid
+        → Spends failed more_waits more_polls mid new → Spends failed (more_waits + waits) (more_polls + polls) old new }
 {}
 
 /// What one event makes of a block: a write to it is pending, also a lost one; a notice settles what it is of; and a write to another block leaves it.
 pub fn an_event_changes_one_block()
-    ensures wrote { (base : Blocks) (log : List Event) (t b : ℕ) (x : List ℕ) → cell_of base (log ++ Wrote t b x ∷ []) b ≡ with_write (cell_of base log b) (Some t) x }
+    ensures wrote { (base : Blocks) (log : List Event) (t b : ℕ) (x : List ℕ)
+        → cell_of base (log ++ Wrote t b x ∷ []) b ≡ with_write (cell_of base log b) (Some t) x }
     ensures lost { (base : Blocks) (log : List Event) (b : ℕ) (x : List ℕ) → cell_of base (log ++ Lost b x ∷ []) b ≡ with_write (cell_of base log b) None x }
-    ensures noticed { (base : Blocks) (log : List Event) (t b : ℕ) → cell_of base (log ++ Noticed t ∷ []) b ≡ settle (cell_of base log b) (from_ticket t (cell_of base log b).pending) }
-    ensures wrote_elsewhere { (base : Blocks) (log : List Event) (t a b : ℕ) (x : List ℕ) → a ≢ b → cell_of base (log ++ Wrote t a x ∷ []) b ≡ cell_of base log b }
+    ensures noticed { (base : Blocks) (log : List Event) (t b : ℕ)
+        → cell_of base (log ++ Noticed t ∷ []) b ≡ settle (cell_of base log b) (from_ticket t (cell_of base log b).pending) }
+    ensures wrote_elsewhere { (base : Blocks) (log : List Event) (t a b : ℕ) (x : List ℕ) → a ≢ b
+        → cell_of base (log ++ Wrote t a x ∷ []) b ≡ cell_of base log b }
     ensures lost_elsewhere { (base : Blocks) (log : List Event) (a b : ℕ) (x : List ℕ) → a ≢ b → cell_of base (log ++ Lost a x ∷ []) b ≡ cell_of base log b }
 {}
 

@@ -42,7 +42,17 @@ impl Model for FileDisk {
 
     ghost Value = { FileDiskState };
 
-    ghost view = { λ d. record { blocks = d.image.blocks; last = d.last; synced = d.synced; notices = d.notices; faults = d.faults; read_faults = d.read_faults; waits = d.waits; polls = d.polls } };
+    ghost view = { λ d. record {
+      blocks = d.image.blocks;
+      last = d.last;
+      synced = d.synced;
+      notices = d.notices;
+      faults = d.faults;
+      read_faults =
+          d.read_faults;
+      waits = d.waits;
+      polls = d.polls;
+    } };
 
     ghost invariant = { λ d. d.synced ≤ d.last };
 }

@@ -1,7 +1,8 @@
 //! The image that a crash leaves of a disk in memory by a choice. It is made in one walk over the log up
 //! to the moment and one over the blocks.
 
-ghost use Rattle.std.specs.Prelude.{ℕ, Bool, false, slice_set, ◌≡◌, ◌≤◌, ◌<◌, ◌∷◌, [], ◌++◌, List, length, take, drop, IsTrue, Result, Ok, Err, Some, IfOk, OnOk, IfErr};
+ghost use Rattle.std.specs.Prelude.{ℕ, Bool, false, slice_set, ◌≡◌, ◌≤◌, ◌<◌, ◌∷◌, [], ◌++◌, List, length, take, drop, IsTrue, Result, Ok, Err, Some};
+ghost use Rattle.std.specs.Prelude.{IfOk, OnOk, IfErr};
 ghost use Rattle.std.specs.List.{list_all, slice_get};
 ghost use Rattle.base_types.specs.Seal.{blocks_of};
 ghost use Rattle.disk_contract.specs.Cell.{cell_of};
@@ -121,7 +122,8 @@ fn name_fate(
     requires there { length fates.old ≤ length log.now.events }
     requires places { AreSettledPlaces (length places.now) (take (length fates.old) log.now.events) places.now }
     ensures answer { result ≡ pending_answer named.write (is_pending (take (length fates.old) log.now.events) named.write) }
-    ensures fates { OnOk result ((all : Bool) (said : List Named) → AreFates (take (length fates.old) log.now.events) all said fates.old → AreFates (take (length fates.old) log.now.events) all (said ++ named ∷ []) fates.new) }
+    ensures fates { OnOk result ((all : Bool) (said : List Named) → AreFates (take (length fates.old) log.now.events) all said fates.old
+        → AreFates (take (length fates.old) log.now.events) all (said ++ named ∷ []) fates.new) }
 {
     let refusal = ImageRefusal::NotPending { write: named.write };
     let Some(place) = log.place_of(named.write) else {
@@ -174,7 +176,8 @@ fn put_pending(
     requires there { length fates.now ≤ length log.now.events }
     requires places { AreSettledPlaces (length base.now) (take (length fates.now) log.now.events) places.now }
     requires settled { AreBlocksOf (length base.now) (λ b. (cell_of (blocks_of base.now) (take (length fates.now) log.now.events) b).settled) image.old }
-    ensures { OnOk result ((c : ChoiceState) → AreFates (take (length fates.now) log.now.events) c.all c.named fates.now → AreBlocksOf (length base.now) (chosen c (blocks_of base.now) (take (length fates.now) log.now.events)) image.new) }
+    ensures { OnOk result ((c : ChoiceState) → AreFates (take (length fates.now) log.now.events) c.all c.named fates.now
+        → AreBlocksOf (length base.now) (chosen c (blocks_of base.now) (take (length fates.now) log.now.events)) image.new) }
 {
     for place in 0..fates.len() {
         if let Some(fate) = fates[place] {
@@ -198,7 +201,9 @@ fn put_event(
     requires within { AreWithin (length base.now) log.now.events }
     requires there { place < length log.now.events }
     requires places { length places.now ≡ length base.now }
-    ensures { OnOk result ((moment : ℕ) (event : Event) → AreSettledPlaces (length base.now) (take moment log.now.events) places.now → slice_get log.now.events place ≡ Some event → image.new ≡ put_event (λ b. (cell_of (blocks_of base.now) (take moment log.now.events) b).settled) places.now place event fate image.old) }
+    ensures { OnOk result ((moment : ℕ) (event : Event) → AreSettledPlaces (length base.now) (take moment log.now.events) places.now
+        → slice_get log.now.events place ≡ Some event
+        → image.new ≡ put_event (λ b. (cell_of (blocks_of base.now) (take moment log.now.events) b).settled) places.now place event fate image.old) }
 {
     match log.event(place) {
         Logged::Wrote { block, bytes, .. } => {

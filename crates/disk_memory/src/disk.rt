@@ -2,7 +2,8 @@
 //! are kept once. Which calls fail, and which notices its polls have, is set by its caller. The rules are described in
 //! docs/DISK.md.
 
-ghost use Rattle.std.specs.Prelude.{◌≡◌, ◌<◌, ◌≤◌, ◌+◌, ◌^◌, ℕ, Bool, true, false, not, List, [], length, Ok, Err, Some, None, is_ok, is_err, option_map, take, IfOk, IfSome, OnOk, OnErr, IsTrue, if◌then◌else◌};
+ghost use Rattle.std.specs.Prelude.{◌≡◌, ◌<◌, ◌≤◌, ◌+◌, ◌^◌, ℕ, Bool, true, false, not, List, [], length, Ok, Err, Some, None, is_ok, is_err};
+ghost use Rattle.std.specs.Prelude.{option_map, take, IfOk, IfSome, OnOk, OnErr, IsTrue, if◌then◌else◌};
 ghost use Rattle.std.specs.List.{slice_get};
 ghost use Rattle.base_types.specs.Seal.{blocks_of};
 ghost use Rattle.disk_contract.specs.Cell.{accepted, greatest_ticket, is_accepted, is_noticed, IsAccepted, IsNoticed};
@@ -17,7 +18,9 @@ ghost use Rattle.disk_contract.specs.declared.event.Event.TheVariants.{Wrote, Lo
 ghost use Rattle.disk_memory.specs.Choice.{GivesImage};
 ghost use Rattle.disk_memory.specs.Log.{AreWithin, has_lost, write_count};
 ghost use Rattle.disk_memory.specs.Logged.{event_of};
-ghost use Rattle.disk_memory.specs.MemDisk.{begun, with_log, state_of, manner_of, is_untouched, turned, has_room, next_ticket, next_call, fails_next, with_event, room_and_counts, counted, faulted, after_read, after_write, after_poll, after_wait, poll_answer, can_wait, by_rule, AreLast};
+ghost use Rattle.disk_memory.specs.MemDisk.{begun, with_log, state_of, manner_of, is_untouched, turned, has_room, next_ticket, next_call, fails_next};
+ghost use Rattle.disk_memory.specs.MemDisk.{with_event, room_and_counts, counted, faulted, after_read, after_write, after_poll, after_wait};
+ghost use Rattle.disk_memory.specs.MemDisk.{poll_answer, can_wait, by_rule, AreLast};
 ghost use Rattle.disk_memory.specs.declared.calls.DiskCall.TheVariants.{Read, Write, Poll, Wait};
 ghost use Rattle.disk_memory.specs.declared.rule.Rule.TheVariants.{Silent};
 
@@ -55,9 +58,22 @@ impl Model for MemDisk {
 
     ghost Value = { MemDiskState };
 
-    ghost view = { λ d. record { base = d.base; log = d.log.events; room = d.log.room; notices = d.notices; fails = d.fails.items; known = d.known; faults = d.faults; read_faults = d.read_faults; reads = d.reads; polls = d.polls; waits = d.waits } };
+    ghost view = { λ d. record {
+      base = d.base;
+      log = d.log.events;
+      room = d.log.room;
+      notices = d.notices;
+      fails = d.fails.items;
+      known = d.known;
+      faults = d.faults;
+      read_faults = d.read_faults;
+      reads = d.reads;
+      polls = d.polls;
+      waits = d.waits;
+    } };
 
-    ghost invariant = { λ d. IsDisk d.base d.log d.last.items × GoesAsKnown d.log.room d.log.events d.notices d.fails.items d.read_faults d.polls d.known × CountsLost d.known d.faults d.log.events };
+    ghost invariant = { λ d. IsDisk d.base d.log d.last.items
+        × GoesAsKnown d.log.room d.log.events d.notices d.fails.items d.read_faults d.polls d.known × CountsLost d.known d.faults d.log.events };
 }
 
 impl MemDisk {
@@ -340,9 +356,13 @@ impl PartialEq for MemDisk {
     ghost use Rattle.disk_memory.specs.contracts.rule.NoticesPartialEq.TheImpl as notices;
     ghost use Rattle.disk_memory.specs.contracts.rule.NoticesEq.TheImpl.Laws as notices_laws;
 
-    ghost eq = { eq_of_both (eq_of_both (eq_of_both (eq_of_both (on (λ d. d.base) image.ghosts.eq) (on (λ d. d.log) (pointwise event.ghosts.eq))) (on (λ d. d.notices) notices.ghosts.eq)) (on (λ d. d.fails) (pointwise fail.ghosts.eq))) (on room_and_counts (pointwise ◌==◌)) };
+    ghost eq = { eq_of_both (eq_of_both (eq_of_both (eq_of_both (on (λ d. d.base) image.ghosts.eq) (on (λ d. d.log) (pointwise event.ghosts.eq)))
+        (on (λ d. d.notices) notices.ghosts.eq)) (on (λ d. d.fails) (pointwise fail.ghosts.eq))) (on room_and_counts (pointwise ◌==◌)) };
 
-    ghost laws = { partial_equiv_from_equiv (and_equiv (and_equiv (and_equiv (and_equiv (on_equiv (λ d. d.base) image_laws.laws-law) (on_equiv (λ d. d.log) (lists_equiv event_laws.laws-law))) (on_equiv (λ d. d.notices) notices_laws.laws-law)) (on_equiv (λ d. d.fails) (lists_equiv fail_laws.laws-law))) (on_equiv room_and_counts (lists_equiv nat_eq_equiv))) };
+    ghost laws = { partial_equiv_from_equiv (and_equiv
+        (and_equiv (and_equiv (and_equiv (on_equiv (λ d. d.base) image_laws.laws-law) (on_equiv (λ d. d.log) (lists_equiv event_laws.laws-law)))
+        (on_equiv (λ d. d.notices) notices_laws.laws-law)) (on_equiv (λ d. d.fails) (lists_equiv fail_laws.laws-law)))
+        (on_equiv room_and_counts (lists_equiv nat_eq_equiv))) };
 
     fn eq(&self, other: &MemDisk) -> bool {
         self.base == other.base
@@ -361,7 +381,10 @@ impl Eq for MemDisk {
     ghost use Rattle.disk_memory.specs.contracts.image.ImageEq.TheImpl.Laws as image_laws;
     ghost use Rattle.disk_memory.specs.contracts.rule.NoticesEq.TheImpl.Laws as notices_laws;
 
-    ghost laws = { and_equiv (and_equiv (and_equiv (and_equiv (on_equiv (λ d. d.base) image_laws.laws-law) (on_equiv (λ d. d.log) (lists_equiv event_laws.laws-law))) (on_equiv (λ d. d.notices) notices_laws.laws-law)) (on_equiv (λ d. d.fails) (lists_equiv fail_laws.laws-law))) (on_equiv room_and_counts (lists_equiv nat_eq_equiv)) };
+    ghost laws = { and_equiv (and_equiv (and_equiv
+        (and_equiv (on_equiv (λ d. d.base) image_laws.laws-law) (on_equiv (λ d. d.log) (lists_equiv event_laws.laws-law)))
+        (on_equiv (λ d. d.notices) notices_laws.laws-law)) (on_equiv (λ d. d.fails) (lists_equiv fail_laws.laws-law)))
+        (on_equiv room_and_counts (lists_equiv nat_eq_equiv)) };
 }
 
 // For each of so many blocks one more than the place of its last accepted write, or 0.

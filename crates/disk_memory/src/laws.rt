@@ -22,7 +22,8 @@ pub fn pending_writes_are_those_of_the_cells()
 /// Each crash image whose torn blocks have the first bytes of a pending write, and then the settled
 /// content, is the one of some choice, which names pending writes alone.
 pub fn a_choice_makes_each_torn_image()
-    ensures { (n : ℕ) (base : Blocks) (log : List Event) (img : Blocks) → IsLawful log → IsTornInFront n base log img → (c : ChoiceState) × IsTrue (list_all (λ m. is_pending log m.write) c.named) × ((b : ℕ) → b < n → chosen c base log b ≡ img b) }
+    ensures { (n : ℕ) (base : Blocks) (log : List Event) (img : Blocks) → IsLawful log → IsTornInFront n base log img → (c : ChoiceState)
+        × IsTrue (list_all (λ m. is_pending log m.write) c.named) × ((b : ℕ) → b < n → chosen c base log b ≡ img b) }
 {
     pending_writes_are_those_of_the_cells();
 }

@@ -48,7 +48,8 @@ impl Model for Log {
 
     ghost view = { λ l. record { events = l.events.events; room = l.room; ready = l.events.ready } };
 
-    ghost invariant = { λ l. IsKeptLog l.events.events l.tickets.items l.places.items l.lost.items l.unnoticed l.room l.events.ready l.events.most (vec_capacity l.tickets) (vec_capacity l.places) (vec_capacity l.lost) };
+    ghost invariant = { λ l. IsKeptLog l.events.events l.tickets.items l.places.items l.lost.items l.unnoticed l.room l.events.ready l.events.most
+        (vec_capacity l.tickets) (vec_capacity l.places) (vec_capacity l.lost) };
 }
 
 /// What is kept of the events, and the room alone.

@@ -42,7 +42,8 @@ pub(crate) fn settled_places(
 fn pass(places: &mut [usize], log: &Log, place: usize)
     requires within { AreWithin (length places.old) log.now.events }
     requires there { place < length log.now.events }
-    ensures { AreSettledPlaces (length places.old) (take place log.now.events) places.old → AreSettledPlaces (length places.old) (take (place + 1) log.now.events) places.new }
+    ensures { AreSettledPlaces (length places.old) (take place log.now.events) places.old
+        → AreSettledPlaces (length places.old) (take (place + 1) log.now.events) places.new }
 {
     // a call for its clause alone: that the log is lawful
     log.lawful();
@@ -56,7 +57,9 @@ fn pass(places: &mut [usize], log: &Log, place: usize)
 // The notice of this ticket settles the write that has it, unless a later one to its block is settled.
 fn note(places: &mut [usize], log: &Log, ticket: u64)
     requires { AreWithin (length places.old) log.now.events }
-    ensures { (moment : ℕ) → slice_get log.now.events moment ≡ Some (Noticed ticket) → AreSettledPlaces (length places.old) (take moment log.now.events) places.old → AreSettledPlaces (length places.old) (take (moment + 1) log.now.events) places.new }
+    ensures { (moment : ℕ) → slice_get log.now.events moment ≡ Some (Noticed ticket)
+        → AreSettledPlaces (length places.old) (take moment log.now.events) places.old
+        → AreSettledPlaces (length places.old) (take (moment + 1) log.now.events) places.new }
 {
     // a call for its clauses alone: that the log is lawful, and has few events
     log.lawful();
@@ -77,7 +80,8 @@ pub(crate) fn settled_bytes<'a>(
     place: usize,
 ) -> &'a Block
     requires { block < length base.now }
-    ensures bytes { (moment : ℕ) → IsSettledPlace (take moment log.now.events) block place → result.now ≡ (cell_of (blocks_of base.now) (take moment log.now.events) block).settled }
+    ensures bytes { (moment : ℕ) → IsSettledPlace (take moment log.now.events) block place
+        → result.now ≡ (cell_of (blocks_of base.now) (take moment log.now.events) block).settled }
     ensures size { length result.now ≡ 1024 }
 {
     // calls for their clauses alone: what is settled where no write was noticed, that the log is lawful, and
@@ -109,7 +113,8 @@ pub(crate) fn settled_image(
     places: &[usize],
 ) -> Result<Image, NoMemory>
     requires { length places.now ≡ length base.now }
-    ensures { (moment : ℕ) → AreSettledPlaces (length base.now) (take moment log.now.events) places.now → IfOk result (λ image. AreBlocksOf (length base.now) (λ b. (cell_of (blocks_of base.now) (take moment log.now.events) b).settled) image) }
+    ensures { (moment : ℕ) → AreSettledPlaces (length base.now) (take moment log.now.events) places.now
+        → IfOk result (λ image. AreBlocksOf (length base.now) (λ b. (cell_of (blocks_of base.now) (take moment log.now.events) b).settled) image) }
 {
     // calls for their clauses alone: what is settled where no write was noticed, and that the log is lawful
     settled_is_the_newest_noticed();

@@ -6,7 +6,8 @@ ghost use Rattle.disk_contract.specs.Bay.{Makes, Opens, Closes, HasBayCause, zer
 ghost use Rattle.disk_contract.specs.declared.bay.BayFault.TheVariants.{Fault};
 ghost use Rattle.base_types.specs.Counts.{next_count};
 ghost use Rattle.disk_memory.specs.MemDisk.{state_of};
-ghost use Rattle.disk_memory_bay.specs.MemBay.{bay_of, counted, calls_of, has_listed, fails_next, is_fault, Counts, handed_out, IsOpened, open_fails, close_answer};
+ghost use Rattle.disk_memory_bay.specs.MemBay.{bay_of, counted, calls_of, has_listed, fails_next, is_fault, Counts, handed_out, IsOpened, open_fails};
+ghost use Rattle.disk_memory_bay.specs.MemBay.{close_answer};
 ghost use Rattle.disk_memory_bay.specs.declared.calls.BayCall.TheVariants.{Make, Open, Close};
 ghost use Rattle.disk_memory_bay.specs.Shelves.{of_image, held_in, last_on, marks_on, Holds, Lists};
 
@@ -41,14 +42,34 @@ impl Model for MemBay {
 
     ghost Value = { MemBayState };
 
-    ghost view = { λ m. record { room = m.room; fails = m.fails.items; shelves = m.shelves; calls = record { makes = m.makes; opens = m.opens; closes = m.closes }; faults = m.faults; disk_faults = m.disk_faults; handed = m.handed; closed = m.closed } };
+    ghost view = { λ m. record {
+      room = m.room;
+      fails = m.fails.items;
+      shelves = m.shelves;
+      calls = record
+          { makes = m.makes; opens = m.opens; closes = m.closes };
+      faults = m.faults;
+      disk_faults = m.disk_faults;
+      handed = m.handed;
+      closed =
+          m.closed;
+    } };
 }
 
 impl MemBay {
     /// A bay with nothing under any name, whose disks are to have room for so many writes each. It takes its
     /// memory from here; this takes none.
     pub fn new(alloc: Global, room: u32) -> MemBay
-        ensures { result ≡ record { room = room; fails = []; shelves = []; calls = record { makes = 0; opens = 0; closes = 0 }; faults = 0; disk_faults = 0; handed = 0; closed = 0 } }
+        ensures { result ≡ record {
+          room = room;
+          fails = [];
+          shelves = [];
+          calls = record { makes = 0; opens = 0; closes = 0 };
+          faults = 0;
+          disk_faults = 0;
+          handed = 0;
+          closed = 0;
+        } }
     {
         MemBay {
             alloc,

@@ -10,7 +10,8 @@ ghost use Rattle.disk_contract.specs.Disk.{AddsWrite, AddsPoll, AddsNotices, Hea
 ghost use Rattle.disk_contract.specs.Lawful.{IsSoundDisk};
 ghost use Rattle.disk_contract.specs.Manner.{HasFailedBy, AnswersBy};
 ghost use Rattle.disk_memory.specs.declared.calls.DiskCall.TheVariants.{Read, Write, Poll, Wait};
-ghost use Rattle.disk_memory.specs.MemDisk.{begun, state_of, manner_of, fails_next, has_room, next_ticket, poll_answer, can_wait, after_read, after_write, after_poll, after_wait};
+ghost use Rattle.disk_memory.specs.MemDisk.{begun, state_of, manner_of, fails_next, has_room, next_ticket, poll_answer, can_wait, after_read};
+ghost use Rattle.disk_memory.specs.MemDisk.{after_write, after_poll, after_wait};
 
 use base_types::{Block, NoMemory};
 use disk_contract::{Disk, DiskFault};

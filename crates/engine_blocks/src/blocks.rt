@@ -7,7 +7,8 @@ ghost use Rattle.disk_contract.specs.Disk.{GrowsByWrites, PollsThenWrites};
 ghost use Rattle.layout_geometry.specs.Geometry.{bitmap_start, table_start, data_start};
 ghost use Rattle.layout_bytes.specs.Bitmap.{is_set};
 ghost use Rattle.engine_blocks.specs.State.{State, reusable_blocks, is_defined, MayBeTaken, after_put, after_take, after_free, after_weigh};
-ghost use Rattle.engine_blocks.specs.Calls.{IsWithBlock, IsWithTaken, IsWithFreed, OnNoMemory, AreLowest, LowestRefused, lowest_fails, CountsReads, MaySync, HasTurns, AreFigures, IsReady, IsSound};
+ghost use Rattle.engine_blocks.specs.Calls.{IsWithBlock, IsWithTaken, IsWithFreed, OnNoMemory, AreLowest, LowestRefused, lowest_fails, CountsReads};
+ghost use Rattle.engine_blocks.specs.Calls.{MaySync, HasTurns, AreFigures, IsReady, IsSound};
 ghost use Rattle.engine_blocks.specs.Crashes.{HearsRecords, IssuesNothing, IsTold};
 ghost use Rattle.engine_blocks.specs.Serving.{EndsFrees, SameFreed, ServesSure, with_all_served};
 ghost use Rattle.engine_blocks.specs.Effects.{LeavesDisk, ChangesNothing, FitsRing, OrdersAtOnce, RingIsTold, RunsPipeline, Syncs, Ticked, WritesItsRecord};
@@ -79,7 +80,8 @@ pub trait Blocks {
         ensures moves { RunsPipeline tells (lowest_fails result) (state self.old) (state self.new) }
         ensures ticks { (state self.new).counts.ticks ≡ (state self.old).counts.ticks }
         ensures looks { n ≤ length (reusable_blocks (state self.old).books) → ChangesNothing tells (state self.old) (state self.new) }
-        ensures serves { length (reusable_blocks (state self.old).books) < n → lowest_fails result ≡ false → SameFreed (with_all_served (state self.old).books) (state self.new).books };
+        ensures serves { length (reusable_blocks (state self.old).books) < n → lowest_fails result ≡ false
+            → SameFreed (with_all_served (state self.old).books) (state self.new).books };
 
     /// Takes these numbers, of those made ready: their bits are set, and each is to be put or freed
     /// before the next sync.
@@ -132,7 +134,8 @@ pub trait Blocks {
         ensures moves { RunsPipeline tells (is_err result) (state self.old) (state self.new) }
         ensures waits { (state self.new).counts.waits ≡ (state self.old).counts.waits }
         ensures ticks { Ticked tells (state self.old) (state self.new) }
-        ensures writes { IsTrue tells → PollsThenWrites (state self.old).counts.ticks.manner 64 (state self.old).counts.ticks.polls (state self.old).crash.log (state self.new).counts.ticks.polls (state self.new).crash.log }
+        ensures writes { IsTrue tells → PollsThenWrites (state self.old).counts.ticks.manner 64 (state self.old).counts.ticks.polls
+            (state self.old).crash.log (state self.new).counts.ticks.polls (state self.new).crash.log }
         ensures serves { IsTrue tells → (state self.old).counts.ticks.manner.waits_alone ≡ true → OnOk result (ServesSure (state self.old) (state self.new)) }
         ensures ring { IsTrue tells → (state self.old).counts.ticks.manner.waits_alone ≡ true → OnOk result (RingIsTold (state self.new)) };
 
@@ -182,9 +185,11 @@ pub trait Blocks {
         ensures frees { IsTrue tells → OnOk result (EndsFrees (state self.old) (state self.new)) }
         ensures durable { OnOk result ((state self.new).books.floor ≡ (state self.new).books.point) }
         ensures written { IsTrue tells → OnOk result (WritesItsRecord (state self.old) (state self.new)) }
-        ensures waits { IsTrue tells → (state self.old).counts.ticks.manner.waits_alone ≡ true → OrdersAtOnce (state self.old).books → HearsRecords (state self.old) (state self.new) }
+        ensures waits { IsTrue tells → (state self.old).counts.ticks.manner.waits_alone ≡ true → OrdersAtOnce (state self.old).books
+            → HearsRecords (state self.old) (state self.new) }
         ensures idle { (state self.old).books.running.weight ≡ 0 → OnNoMemory result ⊥ }
-        ensures idles { (state self.old).books.running.weight ≡ 0 → (state self.old).books.floor ≡ (state self.old).books.point → ChangesNothing tells (state self.old) (state self.new) };
+        ensures idles { (state self.old).books.running.weight ≡ 0 → (state self.old).books.floor ≡ (state self.old).books.point
+            → ChangesNothing tells (state self.old) (state self.new) };
 
     /// The last point that is known to be durable: no crash from now on goes back behind it.
     fn durable(&self) -> u64

@@ -2,7 +2,8 @@
 //! the other, windows of crashes compose over several calls, and a sync may follow a change. They know
 //! nothing of files, and no layer above needs them.
 
-ghost use Rattle.std.specs.Prelude.{◌≡◌, ◌+◌, ◌*◌, ◌<◌, ◌≤◌, ◌^◌, ℕ, min, true, false, IsTrue, ◌||◌, ◌∷◌, length, take, All, IfOk, IfErr, OnOk, OnErr, if◌then◌else◌};
+ghost use Rattle.std.specs.Prelude.{◌≡◌, ◌+◌, ◌*◌, ◌<◌, ◌≤◌, ◌^◌, ℕ, min, true, false, IsTrue, ◌||◌, ◌∷◌, length, take, All, IfOk, IfErr, OnOk};
+ghost use Rattle.std.specs.Prelude.{OnErr, if◌then◌else◌};
 ghost use Rattle.base_types.specs.Seal.{Blocks as BlockMap};
 ghost use Rattle.layout_geometry.specs.Geometry.{bitmap_blocks};
 ghost use Rattle.layout_bytes.specs.Bitmap.{is_set};
@@ -28,7 +29,8 @@ pub fn tick_then_sync<S: Blocks>(alloc: Global, blocks: &mut S) -> Result<u64, S
     requires sound { MaySync (S.state blocks.old).books }
     ensures point { IfOk result (λ p. p ≡ (S.state blocks.new).books.point) }
     ensures synced { OnOk result ((S.state blocks.new).books.point ≡ (S.state blocks.old).books.point + if_changed (S.state blocks.old).books.running 1 0) }
-    ensures ended { OnOk result ((S.state blocks.new).books.running ≡ if_changed (S.state blocks.old).books.running nothing_running (S.state blocks.old).books.running) }
+    ensures ended { OnOk result ((S.state blocks.new).books.running ≡ if_changed (S.state blocks.old).books.running nothing_running
+        (S.state blocks.old).books.running) }
     ensures ticks { (S.state blocks.new).counts.ticks.made ≡ next_count (S.state blocks.old).counts.ticks.made }
     ensures disk { UsesDisk (sync_fails result) (S.state blocks.old) (S.state blocks.new) }
     ensures crash { IsTrue S.tells → Advances (S.state blocks.old) (S.state blocks.new) }
@@ -49,7 +51,8 @@ pub fn put_all<S: Blocks>(blocks: &mut S, list: &[u32], from: &Block, class: Cla
     requires marked { IsTrue S.tells → All (λ b. is_set (S.state blocks.old).books.geom (S.state blocks.old).map b ≡ true) list.now }
     ensures books { (S.state blocks.new).books ≡ after_puts (S.state blocks.old).books list.now class }
     ensures map { IsTrue S.tells → AreFilled (S.state blocks.old).map (S.state blocks.new).map list.now from.now }
-    ensures bits { IsTrue S.tells → (b : ℕ) → b < 8192 * bitmap_blocks (S.state blocks.old).books.geom → is_set (S.state blocks.old).books.geom (S.state blocks.new).map b ≡ is_set (S.state blocks.old).books.geom (S.state blocks.old).map b }
+    ensures bits { IsTrue S.tells → (b : ℕ) → b < 8192 * bitmap_blocks (S.state blocks.old).books.geom
+        → is_set (S.state blocks.old).books.geom (S.state blocks.new).map b ≡ is_set (S.state blocks.old).books.geom (S.state blocks.old).map b }
     ensures disk { LeavesDisk S.tells (S.state blocks.old) (S.state blocks.new) }
 {
     for b in list {
@@ -78,10 +81,14 @@ pub fn fill_lowest<S: Blocks>(
     ensures least { n ≤ length (reusable_blocks (S.state blocks.old).books) → OnOk result (places.new ≡ take n (reusable_blocks (S.state blocks.old).books)) }
     ensures running { OnOk result ((S.state blocks.new).books.running ≡ (after_filling (S.state blocks.old).books places.new class cost).running) }
     ensures geom { (S.state blocks.new).books.geom ≡ (S.state blocks.old).books.geom }
-    ensures bits { IsTrue S.tells → OnOk result ((b : ℕ) → b < 8192 * bitmap_blocks (S.state blocks.old).books.geom → is_set (S.state blocks.old).books.geom (S.state blocks.new).map b ≡ (has places.new b || is_set (S.state blocks.old).books.geom (S.state blocks.old).map b)) }
+    ensures bits { IsTrue S.tells → OnOk result ((b : ℕ) → b < 8192 * bitmap_blocks (S.state blocks.old).books.geom
+        → is_set (S.state blocks.old).books.geom (S.state blocks.new).map
+        b ≡ (has places.new b || is_set (S.state blocks.old).books.geom (S.state blocks.old).map b)) }
     ensures own { IsTrue S.tells → OnOk result ((b : ℕ) → has places.new b ≡ true → (S.state blocks.new).map b ≡ from.now) }
-    ensures others { IsTrue S.tells → OnOk result ((b : ℕ) → has places.new b ≡ false → has_bit (S.state blocks.old).books.geom places.new b ≡ false → (S.state blocks.new).map b ≡ (S.state blocks.old).map b) }
-    ensures sync { MaySync (S.state blocks.old).books → 0 < n → 25 * min n (bitmap_blocks (S.state blocks.old).books.geom) + fill_cost class * n ≤ cost → OnOk result (MaySync (S.state blocks.new).books) }
+    ensures others { IsTrue S.tells → OnOk result ((b : ℕ) → has places.new b ≡ false → has_bit (S.state blocks.old).books.geom places.new b ≡ false
+        → (S.state blocks.new).map b ≡ (S.state blocks.old).map b) }
+    ensures sync { MaySync (S.state blocks.old).books → 0 < n
+        → 25 * min n (bitmap_blocks (S.state blocks.old).books.geom) + fill_cost class * n ≤ cost → OnOk result (MaySync (S.state blocks.new).books) }
     ensures disk { UsesDisk (lowest_fails result) (S.state blocks.old) (S.state blocks.new) }
     ensures ticks { (S.state blocks.new).counts.ticks ≡ (S.state blocks.old).counts.ticks }
     ensures crash { IsTrue S.tells → Advances (S.state blocks.old) (S.state blocks.new) }

@@ -2,7 +2,8 @@
 //! before, so a point takes the memory of what was changed since, and making one copies nothing. The
 //! memory for changes is made ready before they are made.
 
-ghost use Rattle.std.specs.Prelude.{◌≡◌, ◌+◌, ◌-◌, ◌<◌, ◌≤◌, ◌++◌, ◌∷◌, [], ℕ, List, length, vec_len, vec_capacity, slice_set, slice_index_or, IfOk, OnOk, OnErr};
+ghost use Rattle.std.specs.Prelude.{◌≡◌, ◌+◌, ◌-◌, ◌<◌, ◌≤◌, ◌++◌, ◌∷◌, [], ℕ, List, length, vec_len, vec_capacity, slice_set, slice_index_or, IfOk};
+ghost use Rattle.std.specs.Prelude.{OnOk, OnErr};
 ghost use Rattle.base_types.specs.Seal.{blocks_of};
 ghost use Rattle.engine_blocks.specs.History.{AreSaved, AreUpTo, points_of};
 
@@ -36,7 +37,12 @@ impl Model for History {
 
     ghost Value = { HistoryState };
 
-    ghost view = { λ h. record { now = h.blocks.items; points = points_of h.saved.items h.blocks.items h.starts.items; room = vec_capacity h.saved - vec_len h.saved } };
+    ghost view = { λ h. record {
+      now = h.blocks.items;
+      points = points_of h.saved.items h.blocks.items h.starts.items;
+      room = vec_capacity h.saved -
+          vec_len h.saved;
+    } };
 
     ghost invariant = { λ h. IsHistory h.blocks.items h.saved.items h.starts.items h.last h.places.items };
 }
@@ -131,7 +137,8 @@ fn save(saved: &mut Vec<Saved>, places: &mut [usize], last: usize, b: u32, block
     requires saves { AreSaved saved.old.items last places.old }
     requires within { b < length places.old }
     ensures saves { AreSaved saved.new.items last places.new }
-    ensures points { (now : List (List ℕ)) (starts x : List ℕ) → block.now ≡ slice_index_or now b block.now → AreUpTo last starts → points_of saved.new.items (slice_set now b x) starts ≡ points_of saved.old.items now starts }
+    ensures points { (now : List (List ℕ)) (starts x : List ℕ) → block.now ≡ slice_index_or now b block.now → AreUpTo last starts
+        → points_of saved.new.items (slice_set now b x) starts ≡ points_of saved.old.items now starts }
     ensures capacity { vec_capacity saved.new ≡ vec_capacity saved.old }
     ensures room { vec_len saved.new ≤ vec_len saved.old + 1 }
 {

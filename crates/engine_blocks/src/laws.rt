@@ -19,10 +19,14 @@ use crate::Blocks;
 /// A call that issues nothing and keeps the points' numbers is one in which time goes on.
 pub fn calls_compose<S: Blocks>()
     ensures advances { (old mid new : S) → Advances (S.state old) (S.state mid) → Advances (S.state mid) (S.state new) → Advances (S.state old) (S.state new) }
-    ensures issues_nothing { (old mid new : S) → IssuesNothing (S.state old) (S.state mid) → IssuesNothing (S.state mid) (S.state new) → IssuesNothing (S.state old) (S.state new) }
-    ensures disk { (old mid new : S) (failed : Bool) → UsesDisk false (S.state old) (S.state mid) → UsesDisk failed (S.state mid) (S.state new) → UsesDisk failed (S.state old) (S.state new) }
-    ensures writes { (old mid new : S) (a b : ℕ) → WritesAtMost a (S.state old) (S.state mid) → WritesAtMost b (S.state mid) (S.state new) → WritesAtMost (a + b) (S.state old) (S.state new) }
-    ensures rests { IsTrue S.tells → (old new : S) → (S.state new).books.point ≡ (S.state old).books.point → (S.state new).books.floor ≡ (S.state old).books.floor → IssuesNothing (S.state old) (S.state new) → Advances (S.state old) (S.state new) }
+    ensures issues_nothing { (old mid new : S) → IssuesNothing (S.state old) (S.state mid) → IssuesNothing (S.state mid) (S.state new)
+        → IssuesNothing (S.state old) (S.state new) }
+    ensures disk { (old mid new : S) (failed : Bool) → UsesDisk false (S.state old) (S.state mid) → UsesDisk failed (S.state mid) (S.state new)
+        → UsesDisk failed (S.state old) (S.state new) }
+    ensures writes { (old mid new : S) (a b : ℕ) → WritesAtMost a (S.state old) (S.state mid) → WritesAtMost b (S.state mid) (S.state new)
+        → WritesAtMost (a + b) (S.state old) (S.state new) }
+    ensures rests { IsTrue S.tells → (old new : S) → (S.state new).books.point ≡ (S.state old).books.point
+        → (S.state new).books.floor ≡ (S.state old).books.floor → IssuesNothing (S.state old) (S.state new) → Advances (S.state old) (S.state new) }
 {}
 
 /// The least numbers that may be taken may be taken together.
@@ -35,8 +39,16 @@ pub fn the_lowest_may_be_taken()
 /// blocks have their bits in one block of the bitmap.
 pub fn a_commit_grows_by_each_call()
     ensures begins { (g : Geometry) → 25 * payloads g nothing_running + fresh_blocks g nothing_running ≡ 0 }
-    ensures put { (k : Bookkeeping) (b : ℕ) (class : Class) → 25 * payloads k.geom (after_put k b class).running + fresh_blocks k.geom (after_put k b class).running ≤ 25 * payloads k.geom k.running + fresh_blocks k.geom k.running + 25 }
-    ensures fresh { (k : Bookkeeping) (b : ℕ) → is_taken (k.running.roles b) ≡ true → 25 * payloads k.geom (after_put k b Content).running + fresh_blocks k.geom (after_put k b Content).running ≤ 25 * payloads k.geom k.running + fresh_blocks k.geom k.running + 1 }
-    ensures take { (k : Bookkeeping) (bs : List ℕ) → All (λ b. b < k.geom.n) bs → 25 * payloads k.geom (after_take k bs).running + fresh_blocks k.geom (after_take k bs).running ≤ 25 * payloads k.geom k.running + fresh_blocks k.geom k.running + 25 * min (length bs) (bitmap_blocks k.geom) }
-    ensures frees { (k : Bookkeeping) (bs : List ℕ) → All (λ b. b < k.geom.n) bs → 25 * payloads k.geom (after_frees k bs).running + fresh_blocks k.geom (after_frees k bs).running ≤ 25 * payloads k.geom k.running + fresh_blocks k.geom k.running + 25 * min (length bs) (bitmap_blocks k.geom) }
+    ensures put { (k : Bookkeeping) (b : ℕ) (class : Class)
+        → 25 * payloads k.geom (after_put k b class).running + fresh_blocks k.geom (after_put k b class).running ≤ 25 * payloads k.geom
+        k.running + fresh_blocks k.geom k.running + 25 }
+    ensures fresh { (k : Bookkeeping) (b : ℕ) → is_taken (k.running.roles b) ≡ true
+        → 25 * payloads k.geom (after_put k b Content).running + fresh_blocks k.geom (after_put k b Content).running ≤ 25 * payloads k.geom
+        k.running + fresh_blocks k.geom k.running + 1 }
+    ensures take { (k : Bookkeeping) (bs : List ℕ) → All (λ b. b < k.geom.n) bs
+        → 25 * payloads k.geom (after_take k bs).running + fresh_blocks k.geom (after_take k bs).running ≤ 25 * payloads k.geom
+        k.running + fresh_blocks k.geom k.running + 25 * min (length bs) (bitmap_blocks k.geom) }
+    ensures frees { (k : Bookkeeping) (bs : List ℕ) → All (λ b. b < k.geom.n) bs
+        → 25 * payloads k.geom (after_frees k bs).running + fresh_blocks k.geom (after_frees k bs).running ≤ 25 * payloads k.geom
+        k.running + fresh_blocks k.geom k.running + 25 * min (length bs) (bitmap_blocks k.geom) }
 {}

@@ -275,7 +275,8 @@ impl PlainBlocks {
     /// # Errors
     /// Out of memory; nothing changed.
     fn end_transaction(&mut self) -> Result<(), NoMemory>
-        ensures books { OnOk result (books_of self.new ≡ record (books_of self.old) { running = nothing_running; reusable = (books_of self.new).reusable; point = (books_of self.old).point + 1 }) }
+        ensures books { OnOk result (books_of self.new ≡ record (books_of self.old)
+            { running = nothing_running; reusable = (books_of self.new).reusable; point = (books_of self.old).point + 1 }) }
         ensures reusable { (b : ℕ) → IsReusable self.old.geom (books_of self.old).reusable b → (books_of self.new).reusable b ≡ true }
         ensures clears { OnOk result ((b : ℕ) → IsData self.old.geom b → (books_of self.new).reusable b ≡ not ((books_of self.old).marked b)) }
         ensures map { self.new.history.now ≡ self.old.history.now }

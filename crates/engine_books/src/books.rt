@@ -2,7 +2,8 @@
 //! of it. All calls but `new`, `prepare`, `lowest` and `room_for_commit` take no memory. No disk is read or written
 //! here.
 
-ghost use Rattle.std.specs.Prelude.{◌≡◌, ◌≢◌, ◌+◌, ◌-◌, ◌*◌, ◌/◌, ◌<◌, ◌≤◌, ◌||◌, ℕ, if◌then◌else◌, true, false, Some, None, length, take, IfOk, OnOk, OnErr, IfSome, All};
+ghost use Rattle.std.specs.Prelude.{◌≡◌, ◌≢◌, ◌+◌, ◌-◌, ◌*◌, ◌/◌, ◌<◌, ◌≤◌, ◌||◌, ℕ, if◌then◌else◌, true, false, Some, None, length, take, IfOk};
+ghost use Rattle.std.specs.Prelude.{OnOk, OnErr, IfSome, All};
 ghost use Rattle.base_types.specs.Seal.{Blocks, blocks_of};
 ghost use Rattle.base_types.specs.declared.words.Class.TheVariants.{Content};
 ghost use Rattle.layout_geometry.specs.Geometry.Area.{Data};
@@ -56,7 +57,17 @@ impl Model for Books {
 
     ghost Value = { TransactionBooks };
 
-    ghost view = { λ b. record { geom = b.geom; bitmap = b.bitmap.items; changes = b.running; dead = b.reuse; weight = b.weight; took = b.took; live = b.live; spare = record { puts = b.puts; takes = b.takes; frees = b.frees } } };
+    ghost view = { λ b. record {
+      geom = b.geom;
+      bitmap = b.bitmap.items;
+      changes = b.running;
+      dead = b.reuse;
+      weight = b.weight;
+      took = b.took;
+      live =
+          b.live;
+      spare = record { puts = b.puts; takes = b.takes; frees = b.frees };
+    } };
 }
 
 impl Books {
@@ -143,7 +154,8 @@ impl Books {
         ensures kept { AreKept self.new }
         ensures books { (k : Bookkeeping) → with_books k self.new ≡ after_put (with_books k self.old) b class }
         ensures began { (last : Blocks) → (data_start self.old.geom ≤ b → bit_now self.old b ≡ true) → BeganAt self.old last → BeganAt self.new last }
-        ensures map { (last : Blocks) → (data_start self.old.geom ≤ b → bit_now self.old b ≡ true) → IsWithBlock (map_of self.old last) (map_of self.new last) b from.now }
+        ensures map { (last : Blocks) → (data_start self.old.geom ≤ b → bit_now self.old b ≡ true)
+            → IsWithBlock (map_of self.old last) (map_of self.new last) b from.now }
         ensures dead { self.new.dead ≡ self.old.dead }
         ensures taken { self.new.changes.taken ≡ self.old.changes.taken }
     {

@@ -54,9 +54,16 @@ pub fn the_map_has_the_bits()
 /// that lived before and doesn't live then, and none that lives then. Its puts are of blocks of the disk, those in
 /// place of blocks that it took, and they are few enough. Where it writes one in place it has a payload too.
 pub fn a_running_transaction_may_be_the_next_record()
-    ensures is { (v : TransactionBooks) (l : Ledger) (place : ℕ) → AreKept v → BeganAt v (l.map_before (next_number l)) → l.geom ≡ v.geom → HasNoBare (running_of v) → ((h : Header) → IsStanding l h → h.closed ≡ false) → place ≡ place_after l.geom.j l.header.at (all_say l.records) → all_places (all_say l.records) + places (record_of (next_number l) place v.changes.paid v.changes.laid) ≤ l.geom.j → ((b : ℕ) → is_one_of b v.changes.taken ≡ true → IsDead l b) → IsTransaction l l.epoch (next_number l) place v.changes.paid v.changes.laid (map_of v (l.map_before (next_number l))) }
-    ensures killed { (v : TransactionBooks) (l : Ledger) → BeganAt v (l.map_before (next_number l)) → l.geom ≡ v.geom → (b : ℕ) → data_start l.geom ≤ b → IsTrue (is_live l.geom (l.map_before (next_number l)) b) → is_live l.geom (map_of v (l.map_before (next_number l))) b ≡ false → is_one_of b v.changes.freed ≡ true }
-    ensures dead { (v : TransactionBooks) (l : Ledger) → AreKept v → BeganAt v (l.map_before (next_number l)) → l.geom ≡ v.geom → (b : ℕ) → is_one_of b v.changes.freed ≡ true → is_live l.geom (map_of v (l.map_before (next_number l))) b ≡ false }
+    ensures is { (v : TransactionBooks) (l : Ledger) (place : ℕ) → AreKept v → BeganAt v (l.map_before (next_number l)) → l.geom ≡ v.geom
+        → HasNoBare (running_of v) → ((h : Header) → IsStanding l h → h.closed ≡ false) → place ≡ place_after l.geom.j l.header.at (all_say l.records)
+        → all_places (all_say l.records) + places (record_of (next_number l) place v.changes.paid v.changes.laid) ≤ l.geom.j
+        → ((b : ℕ) → is_one_of b v.changes.taken ≡ true → IsDead l b)
+        → IsTransaction l l.epoch (next_number l) place v.changes.paid v.changes.laid (map_of v (l.map_before (next_number l))) }
+    ensures killed { (v : TransactionBooks) (l : Ledger) → BeganAt v (l.map_before (next_number l)) → l.geom ≡ v.geom → (b : ℕ)
+        → data_start l.geom ≤ b → IsTrue (is_live l.geom (l.map_before (next_number l)) b)
+        → is_live l.geom (map_of v (l.map_before (next_number l))) b ≡ false → is_one_of b v.changes.freed ≡ true }
+    ensures dead { (v : TransactionBooks) (l : Ledger) → AreKept v → BeganAt v (l.map_before (next_number l)) → l.geom ≡ v.geom → (b : ℕ)
+        → is_one_of b v.changes.freed ≡ true → is_live l.geom (map_of v (l.map_before (next_number l))) b ≡ false }
     ensures taken { (v : TransactionBooks) → AreKept v → (i : ℕ) (p : Put) → slice_get v.changes.laid i ≡ Some p → is_one_of p.block v.changes.taken ≡ true }
     ensures below { (v : TransactionBooks) → AreKept v → AreBelow v.geom.n v.changes.paid × AreBelow v.geom.n v.changes.laid }
     ensures small { (v : TransactionBooks) → AreKept v → length v.changes.paid + length v.changes.laid ≤ 2097152 }
@@ -76,5 +83,7 @@ pub fn the_map_needs_only_live_blocks()
     ensures live { (v : TransactionBooks) (last next : Blocks) (b : ℕ) → AreKept v → HasSameLive v last next → is_live v.geom next b ≡ is_live v.geom last b }
     ensures map { (v : TransactionBooks) (last next : Blocks) → AreKept v → BeganAt v last → HasSameLive v last next → map_of v next ≡ map_of v last }
     ensures began { (v : TransactionBooks) (last next : Blocks) → AreKept v → BeganAt v last → HasSameLive v last next → BeganAt v next }
-    ensures unput { (v : TransactionBooks) (last : Blocks) (b : ℕ) → AreKept v → BeganAt v last → defined_by v.geom (is_marked v b) (is_bare ((running_of v).roles b)) b ≡ true → bytes_put v.changes b ≡ None → IsTrue (is_live v.geom last b) }
+    ensures unput { (v : TransactionBooks) (last : Blocks) (b : ℕ) → AreKept v → BeganAt v last
+        → defined_by v.geom (is_marked v b) (is_bare ((running_of v).roles b)) b ≡ true → bytes_put v.changes b ≡ None
+        → IsTrue (is_live v.geom last b) }
 {}

@@ -1,7 +1,8 @@
 //! The batch: sure records whose newest payloads are brought to their blocks. How one block is written there, and
 //! where the newest payload of a block is, are matters of other modules.
 
-ghost use Rattle.std.specs.Prelude.{◌≡◌, ◌≤◌, ◌<◌, ◌+◌, ◌++◌, ◌&&◌, ◌||◌, ℕ, List, [], length, map, take, drop, slice_get, Some, None, IsSome, true, IsTrue, OnOk, OnErr, is_err, if◌then◌else◌, vec_capacity};
+ghost use Rattle.std.specs.Prelude.{◌≡◌, ◌≤◌, ◌<◌, ◌+◌, ◌++◌, ◌&&◌, ◌||◌, ℕ, List, [], length, map, take, drop, slice_get, Some, None, IsSome, true};
+ghost use Rattle.std.specs.Prelude.{IsTrue, OnOk, OnErr, is_err, if◌then◌else◌, vec_capacity};
 ghost use Rattle.std.specs.VecDeque.{deque_len, deque_capacity};
 ghost use Rattle.base_types.specs.Seal.{Blocks};
 ghost use Rattle.disk_contract.specs.declared.event.Event.{Event};
@@ -44,7 +45,9 @@ use std::collections::VecDeque;
 pub fn end_batch(pipeline: &mut Pipeline) -> bool
     requires order { IsInOrder pipeline.old }
     requires room { HasRoom pipeline.old }
-    ensures agrees { (s : MountedSession) (base : Blocks) (log : List Event) (l : Ledger) (t floor : ℕ) (ring : RingPlaces) (waiting : List (ℕ × ℕ)) (taken : List ℕ) → IsSafe s base log l t floor → PipelineAgrees base log l pipeline.old ring waiting taken → PipelineAgrees base log l pipeline.new ring waiting taken }
+    ensures agrees { (s : MountedSession) (base : Blocks) (log : List Event) (l : Ledger) (t floor : ℕ) (ring : RingPlaces) (waiting : List (ℕ × ℕ))
+        (taken : List ℕ) → IsSafe s base log l t floor → PipelineAgrees base log l pipeline.old ring waiting taken
+        → PipelineAgrees base log l pipeline.new ring waiting taken }
     ensures exact { result ≡ is_batch_noticed pipeline.old }
     ensures ends { EndsOrStays result pipeline.old pipeline.new }
     ensures index { IndexIsRight pipeline.old → IndexIsRight pipeline.new }
@@ -87,10 +90,14 @@ pub fn begin_batch<D: Disk>(disk: &mut D, pipeline: &mut Pipeline) -> Result<(),
     requires order { IsInOrder pipeline.old }
     requires room { HasRoom pipeline.old }
     requires on_disk { (D.state disk.old).blocks ≡ pipeline.old.geom.n }
-    ensures agrees { IsTrue D.tells → (s : MountedSession) (l : Ledger) (t floor : ℕ) (ring : RingPlaces) (waiting : List (ℕ × ℕ)) (taken : List ℕ) → IsSafe s (D.state disk.old).base (D.state disk.old).log l t floor → PipelineAgrees (D.state disk.old).base (D.state disk.old).log l pipeline.old ring waiting taken
-        → IsSafe s (D.state disk.new).base (D.state disk.new).log l t floor × OnOk result (PipelineAgrees (D.state disk.new).base (D.state disk.new).log l pipeline.new ring waiting taken) }
+    ensures agrees { IsTrue D.tells → (s : MountedSession) (l : Ledger) (t floor : ℕ) (ring : RingPlaces) (waiting : List (ℕ × ℕ)) (taken : List ℕ)
+        → IsSafe s (D.state disk.old).base (D.state disk.old).log l t floor
+        → PipelineAgrees (D.state disk.old).base (D.state disk.old).log l pipeline.old ring waiting taken
+        → IsSafe s (D.state disk.new).base (D.state disk.new).log l t floor
+        × OnOk result (PipelineAgrees (D.state disk.new).base (D.state disk.new).log l pipeline.new ring waiting taken) }
     ensures begins { BatchAdds (is_batch_due pipeline.old) result pipeline.old pipeline.new }
-    ensures open { IsTrue D.tells → is_batch_due pipeline.old ≡ true → NotesAreTrue (D.state disk.old).log pipeline.old.notes.notes → OnOk result (AreOpenHome pipeline.new.home.items pipeline.new.notes.notes) }
+    ensures open { IsTrue D.tells → is_batch_due pipeline.old ≡ true → NotesAreTrue (D.state disk.old).log pipeline.old.notes.notes
+        → OnOk result (AreOpenHome pipeline.new.home.items pipeline.new.notes.notes) }
     ensures log { IsTrue D.tells → AddsBatch (is_batch_due pipeline.old) result pipeline.old pipeline.new (D.state disk.old).log (D.state disk.new).log }
     ensures spends { OnlyWrites (is_err result) (D.state disk.old) (D.state disk.new) }
     ensures cause { IsTrue D.tells → OnErr result (HasFailed (D.state disk.new)) }
@@ -179,9 +186,14 @@ fn write_batch<D: Disk>(
     requires room { length blocks.now ≤ vec_capacity home.old }
     requires tickets { length blocks.now ≤ notes.old.room }
     ensures home { IsTrue D.tells → (row : List Put) → IsHomeRow (map of_sure records.now.items) row → map block_of row ≡ blocks.now
-        → (s : MountedSession) (l : Ledger) (p : PipelineData) (freed : List (List ℕ)) (taken : List ℕ) (t floor : ℕ) → IsSafe s (D.state disk.old).base (D.state disk.old).log l t floor → HomeState (D.state disk.old).base (D.state disk.old).log l p freed taken → p.sent ≡ 0 → p.home ≡ [] → ((b : ℕ) → home_of l p freed b ≡ put_of b row)
-        → IsSafe s (D.state disk.new).base (D.state disk.new).log l t floor × OnOk result (HomeState (D.state disk.new).base (D.state disk.new).log l (with_homes p (map home_pair home.new.items) (D.state disk.old).blocks) freed taken) }
-    ensures log { IsTrue D.tells → (row : List Put) → IsHomeRow (map of_sure records.now.items) row → map block_of row ≡ blocks.now → AddsAll (map fresh_write row) result [] (map home_ticket home.new.items) (D.state disk.old).log (D.state disk.new).log }
+        → (s : MountedSession) (l : Ledger) (p : PipelineData) (freed : List (List ℕ)) (taken : List ℕ) (t floor : ℕ)
+        → IsSafe s (D.state disk.old).base (D.state disk.old).log l t floor → HomeState (D.state disk.old).base (D.state disk.old).log l p freed taken
+        → p.sent ≡ 0 → p.home ≡ [] → ((b : ℕ) → home_of l p freed b ≡ put_of b row)
+        → IsSafe s (D.state disk.new).base (D.state disk.new).log l t floor
+        × OnOk result (HomeState (D.state disk.new).base (D.state disk.new).log l
+        (with_homes p (map home_pair home.new.items) (D.state disk.old).blocks) freed taken) }
+    ensures log { IsTrue D.tells → (row : List Put) → IsHomeRow (map of_sure records.now.items) row → map block_of row ≡ blocks.now
+        → AddsAll (map fresh_write row) result [] (map home_ticket home.new.items) (D.state disk.old).log (D.state disk.new).log }
     ensures spends { OnlyWrites (is_err result) (D.state disk.old) (D.state disk.new) }
     ensures cause { IsTrue D.tells → OnErr result (HasFailed (D.state disk.new)) }
     ensures listed { OnOk result (map home_block home.new.items ≡ blocks.now) }
@@ -249,7 +261,9 @@ fn place_first(
     ensures rest_room { deque_capacity records.old ≤ deque_capacity records.new }
     ensures placed { placed.new.items ≡ placed.old.items ++ map placed_of (take count records.old.items) }
     ensures placed_room { deque_capacity placed.old ≤ deque_capacity placed.new }
-    ensures newest { (b : ℕ) → spot_of newest.new b ≡ (if have_payload b (map of_sure (take count records.old.items)) && is_upto last (spot_of newest.old b) then None else spot_of newest.old b) }
+    ensures newest { (b : ℕ) → spot_of newest.new
+        b ≡ (if have_payload b (map of_sure (take count records.old.items)) && is_upto last (spot_of newest.old b) then None else spot_of newest.old
+        b) }
     ensures spare { spot_room newest.old ≤ spot_room newest.new }
 {
     let mut left = unplaced;

@@ -1,7 +1,8 @@
 //! Headers: the one that was written last becomes the durable one, once its write is noticed, and the next one is
 //! written beside it. How records come so far, and when these steps are made, isn't said here.
 
-ghost use Rattle.std.specs.Prelude.{◌≡◌, ◌≤◌, ◌<◌, ◌+◌, ◌-◌, ◌++◌, ◌^◌, ℕ, List, length, take, drop, map, slice_get, true, false, Some, IsTrue, IsOk, OnOk, OnErr, is_err};
+ghost use Rattle.std.specs.Prelude.{◌≡◌, ◌≤◌, ◌<◌, ◌+◌, ◌-◌, ◌++◌, ◌^◌, ℕ, List, length, take, drop, map, slice_get, true, false, Some, IsTrue, IsOk};
+ghost use Rattle.std.specs.Prelude.{OnOk, OnErr, is_err};
 ghost use Rattle.std.specs.VecDeque.{deque_len, deque_capacity};
 ghost use Rattle.base_types.specs.Seal.{Blocks};
 ghost use Rattle.disk_contract.specs.declared.event.Event.{Event};
@@ -15,7 +16,8 @@ ghost use Rattle.engine_running.specs.declared.states.Placed.{Placed};
 ghost use Rattle.engine_checkpoint.specs.Agree.{PipelineAgrees};
 ghost use Rattle.engine_checkpoint.specs.Kept.{places_taken, placed_count, total};
 ghost use Rattle.engine_checkpoint.specs.Order.{IsInOrder, HasRoom};
-ghost use Rattle.engine_checkpoint.specs.Turns.{TurnsOrStays, AreSured, HeaderMade, HeaderAdds, AddsHeader, is_header_noticed, is_header_due, header_turned, due_header, place_behind_placed};
+ghost use Rattle.engine_checkpoint.specs.Turns.{TurnsOrStays, AreSured, HeaderMade, HeaderAdds, AddsHeader, is_header_noticed, is_header_due};
+ghost use Rattle.engine_checkpoint.specs.Turns.{header_turned, due_header, place_behind_placed};
 ghost use Rattle.engine_checkpoint.specs.Advance.{writes_owed};
 
 use crate::{Pending, Pipeline};
@@ -39,8 +41,10 @@ pub fn turn_header(pipeline: &mut Pipeline, ring: &mut Ring) -> bool
     requires order { IsInOrder pipeline.old }
     requires room { HasRoom pipeline.old }
     requires taken { ring.old.taken ≡ places_taken pipeline.old }
-    ensures agrees { (s : MountedSession) (base : Blocks) (log : List Event) (l : Ledger) (t floor : ℕ) (waiting : List (ℕ × ℕ)) (taken : List ℕ) → IsSafe s base log l t floor → PipelineAgrees base log l pipeline.old ring.old waiting taken
-        → IsSafe s base log (header_turned result pipeline.old l) t floor × PipelineAgrees base log (header_turned result pipeline.old l) pipeline.new ring.new waiting taken }
+    ensures agrees { (s : MountedSession) (base : Blocks) (log : List Event) (l : Ledger) (t floor : ℕ) (waiting : List (ℕ × ℕ)) (taken : List ℕ)
+        → IsSafe s base log l t floor → PipelineAgrees base log l pipeline.old ring.old waiting taken
+        → IsSafe s base log (header_turned result pipeline.old l) t floor
+        × PipelineAgrees base log (header_turned result pipeline.old l) pipeline.new ring.new waiting taken }
     ensures exact { result ≡ is_header_noticed pipeline.old.next pipeline.old.notes.notes }
     ensures turns { TurnsOrStays result pipeline.old pipeline.new ring.old ring.new }
     ensures order { IsInOrder pipeline.new }
@@ -133,10 +137,13 @@ pub fn write_next_header<D: Disk>(
     requires size { (D.state disk.old).blocks ≡ pipeline.old.geom.n }
     requires turn { pipeline.old.header.turn < 2 ^ 64 - 1 }
     requires last { pipeline.old.last < 2 ^ 64 - 1 }
-    ensures agrees { IsTrue D.tells → (s : MountedSession) (l : Ledger) (t floor : ℕ) (waiting : List (ℕ × ℕ)) (taken : List ℕ) → IsSafe s (D.state disk.old).base (D.state disk.old).log l t floor → PipelineAgrees (D.state disk.old).base (D.state disk.old).log l pipeline.old ring.now waiting taken
+    ensures agrees { IsTrue D.tells → (s : MountedSession) (l : Ledger) (t floor : ℕ) (waiting : List (ℕ × ℕ)) (taken : List ℕ)
+        → IsSafe s (D.state disk.old).base (D.state disk.old).log l t floor
+        → PipelineAgrees (D.state disk.old).base (D.state disk.old).log l pipeline.old ring.now waiting taken
         → HeaderMade result s (D.state disk.new) l t floor pipeline.old pipeline.new ring.now waiting taken }
     ensures adds { HeaderAdds (is_header_due pipeline.old) result pipeline.old pipeline.new ring.now }
-    ensures log { IsTrue D.tells → AddsHeader (is_header_due pipeline.old) result pipeline.old pipeline.new ring.now (D.state disk.old).log (D.state disk.new).log }
+    ensures log { IsTrue D.tells → AddsHeader (is_header_due pipeline.old) result pipeline.old pipeline.new ring.now (D.state disk.old).log
+        (D.state disk.new).log }
     ensures stays { is_header_due pipeline.old ≡ false → disk.new ≡ disk.old }
     ensures spends { OnlyWrites (is_err result) (D.state disk.old) (D.state disk.new) }
     ensures cause { IsTrue D.tells → OnErr result (HasFailed (D.state disk.new)) }

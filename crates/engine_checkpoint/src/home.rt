@@ -23,7 +23,8 @@ use disk_contract::{Disk, DiskFault};
 /// The write failed, which the disk has counted. What a crash leaves is still one sync point.
 pub fn write_home<D: Disk>(disk: &mut D, block: u32, bytes: &Block) -> Result<u64, DiskFault>
     requires { block < (D.state disk.old).blocks }
-    ensures home { IsTrue D.tells → (s : MountedSession) (l : Ledger) (p : PipelineData) (freed : List (List ℕ)) (taken : List ℕ) (t floor : ℕ) → IsSafe s (D.state disk.old).base (D.state disk.old).log l t floor → HomeState (D.state disk.old).base (D.state disk.old).log l p freed taken
+    ensures home { IsTrue D.tells → (s : MountedSession) (l : Ledger) (p : PipelineData) (freed : List (List ℕ)) (taken : List ℕ) (t floor : ℕ)
+        → IsSafe s (D.state disk.old).base (D.state disk.old).log l t floor → HomeState (D.state disk.old).base (D.state disk.old).log l p freed taken
         → p.sent ≤ block → home_of l p freed block ≡ Some bytes.now → ((c : ℕ) → p.sent ≤ c → c < block → home_of l p freed c ≡ None)
         → HomeWritten s l p freed taken t floor block result (D.state disk.new).base (D.state disk.new).log }
     ensures log { IsTrue D.tells → AddsWrite block bytes.now result (D.state disk.old).log (D.state disk.new).log }

@@ -51,17 +51,25 @@ pub fn commit_next<D: Disk>(
     requires order { IsInOrder pipeline.old }
     requires room { HasRoom pipeline.old }
     requires index { IndexIsRight pipeline.old }
-    requires ready { (0 < pipeline.old.ready.records) × (length running.laid + places (record_of 0 0 running.paid running.laid) ≤ pipeline.old.ready.writes) × (length running.paid ≤ pipeline.old.ready.payloads) }
+    requires ready { (0 < pipeline.old.ready.records)
+        × (length running.laid + places (record_of 0 0 running.paid running.laid) ≤ pipeline.old.ready.writes)
+        × (length running.paid ≤ pipeline.old.ready.payloads) }
     requires next { number ≡ pipeline.old.last + 1 }
     requires ring { ring.old.geom ≡ pipeline.old.geom }
     requires taken { ring.old.taken ≡ places_taken pipeline.old }
-    ensures agrees { IsTrue D.tells → (s : MountedSession) (l : Ledger) (m : Blocks) (t floor : ℕ) (waiting : List (ℕ × ℕ)) (taken : List ℕ) → IsSafe s (D.state disk.old).base (D.state disk.old).log l t floor → PipelineAgrees (D.state disk.old).base (D.state disk.old).log l pipeline.old ring.old waiting taken
+    ensures agrees { IsTrue D.tells → (s : MountedSession) (l : Ledger) (m : Blocks) (t floor : ℕ) (waiting : List (ℕ × ℕ)) (taken : List ℕ)
+        → IsSafe s (D.state disk.old).base (D.state disk.old).log l t floor
+        → PipelineAgrees (D.state disk.old).base (D.state disk.old).log l pipeline.old ring.old waiting taken
         → IsTransaction l epoch number ring.old.next running.paid running.laid m → AreTaken running.laid taken → HasFreed l m running.freed
-        → CommitNextLeaves s l (written_of epoch number ring.old.next running.paid running.laid) m t floor result (D.state disk.new).base (D.state disk.new).log pipeline.new ring.new (waiting ++ pairs_of number running.freed) }
-    ensures joins { OnOk result ((c : Committed) × IsCommitOf running number ring.old.next c × Accepts c pipeline.old pipeline.new × (IsTrue D.tells → AddsWrites (record_writes ring.old.geom epoch number ring.old.next running.paid running.laid) c.tickets.items (D.state disk.old).log (D.state disk.new).log)) }
+        → CommitNextLeaves s l (written_of epoch number ring.old.next running.paid running.laid) m t floor result (D.state disk.new).base
+        (D.state disk.new).log pipeline.new ring.new (waiting ++ pairs_of number running.freed) }
+    ensures joins { OnOk result ((c : Committed) × IsCommitOf running number ring.old.next c × Accepts c pipeline.old pipeline.new
+        × (IsTrue D.tells → AddsWrites (record_writes ring.old.geom epoch number ring.old.next running.paid running.laid) c.tickets.items
+        (D.state disk.old).log (D.state disk.new).log)) }
     ensures back { IfErr result (λ back. (back ≡ running) × (pipeline.new ≡ pipeline.old)) }
     ensures ring { ring.new ≡ with_places ring.old (places (record_of 0 0 running.paid running.laid)) }
-    ensures front { IsTrue D.tells → OnErr result (AddsFront (record_writes ring.old.geom epoch number ring.old.next running.paid running.laid) (D.state disk.old).log (D.state disk.new).log) }
+    ensures front { IsTrue D.tells → OnErr result
+        (AddsFront (record_writes ring.old.geom epoch number ring.old.next running.paid running.laid) (D.state disk.old).log (D.state disk.new).log) }
     ensures spends { OnlyWrites (is_err result) (D.state disk.old) (D.state disk.new) }
     ensures cause { IsTrue D.tells → OnErr result (HasFailed (D.state disk.new)) }
     ensures order { OnOk result (IsInOrder pipeline.new) }

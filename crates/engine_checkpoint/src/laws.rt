@@ -21,12 +21,20 @@ use engine_reuse::a_freed_block_waits;
 /// as the transaction has fewer of the blocks that it took, and as there is more or less room for frees. It does
 /// nothing.
 pub fn taken_blocks_stay_right()
-    ensures takes { (s : MountedSession) (base : Blocks) (log : List Event) (l : Ledger) (t floor : ℕ) (v : Pipeline) (ring : RingPlaces) (dead : DeadBlocks) (taken list now : List ℕ) → AreSound dead → dead.geom ≡ v.geom → IsRight s base log l t floor v ring dead taken
-        → ((b : ℕ) → is_one_of b list ≡ true → is_among b dead.reusable ≡ true) → ((b : ℕ) → is_one_of b now ≡ true → (is_one_of b list ≡ true) ⊎ (is_one_of b taken ≡ true)) → IsRight s base log l t floor v ring (with_taken dead list) now }
-    ensures frees { (s : MountedSession) (base : Blocks) (log : List Event) (l : Ledger) (t floor : ℕ) (v : Pipeline) (ring : RingPlaces) (dead : DeadBlocks) (taken : List ℕ) (b : ℕ) → IsRight s base log l t floor v ring dead taken → IsRight s base log l t floor v ring (with_freed dead b) taken }
-    ensures fewer { (s : MountedSession) (base : Blocks) (log : List Event) (l : Ledger) (t floor : ℕ) (v : Pipeline) (ring : RingPlaces) (dead : DeadBlocks) (taken now : List ℕ) → IsRight s base log l t floor v ring dead taken
+    ensures takes { (s : MountedSession) (base : Blocks) (log : List Event) (l : Ledger) (t floor : ℕ) (v : Pipeline) (ring : RingPlaces)
+        (dead : DeadBlocks) (taken list now : List ℕ) → AreSound dead → dead.geom ≡ v.geom → IsRight s base log l t floor v ring dead taken
+        → ((b : ℕ) → is_one_of b list ≡ true → is_among b dead.reusable ≡ true)
+        → ((b : ℕ) → is_one_of b now ≡ true → (is_one_of b list ≡ true) ⊎ (is_one_of b taken ≡ true))
+        → IsRight s base log l t floor v ring (with_taken dead list) now }
+    ensures frees { (s : MountedSession) (base : Blocks) (log : List Event) (l : Ledger) (t floor : ℕ) (v : Pipeline) (ring : RingPlaces)
+        (dead : DeadBlocks) (taken : List ℕ) (b : ℕ) → IsRight s base log l t floor v ring dead taken
+        → IsRight s base log l t floor v ring (with_freed dead b) taken }
+    ensures fewer { (s : MountedSession) (base : Blocks) (log : List Event) (l : Ledger) (t floor : ℕ) (v : Pipeline) (ring : RingPlaces)
+        (dead : DeadBlocks) (taken now : List ℕ) → IsRight s base log l t floor v ring dead taken
         → ((b : ℕ) → is_one_of b now ≡ true → is_one_of b taken ≡ true) → IsRight s base log l t floor v ring dead now }
-    ensures room { (s : MountedSession) (base : Blocks) (log : List Event) (l : Ledger) (t floor : ℕ) (v : Pipeline) (ring : RingPlaces) (dead : DeadBlocks) (taken : List ℕ) (n : ℕ) → IsRight s base log l t floor v ring dead taken → IsRight s base log l t floor v ring (record dead { room = n }) taken }
+    ensures room { (s : MountedSession) (base : Blocks) (log : List Event) (l : Ledger) (t floor : ℕ) (v : Pipeline) (ring : RingPlaces)
+        (dead : DeadBlocks) (taken : List ℕ) (n : ℕ) → IsRight s base log l t floor v ring dead taken
+        → IsRight s base log l t floor v ring (record dead { room = n }) taken }
 {
     a_reusable_block_is_dead();
     a_freed_block_waits();

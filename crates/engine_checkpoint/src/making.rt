@@ -36,7 +36,8 @@ impl Pipeline {
         ensures index { IndexIsRight result }
         ensures taken { places_taken result ≡ 0 }
         ensures owed { writes_owed result ≡ 0 }
-        ensures agrees { (base : Blocks) (log : List Event) (ring : RingPlaces) → IsMounted (cell_of base log) geom.now slot header.now → ring ≡ record { geom = geom.now; next = header.now.at; taken = 0 }
+        ensures agrees { (base : Blocks) (log : List Event) (ring : RingPlaces) → IsMounted (cell_of base log) geom.now slot header.now
+            → ring ≡ record { geom = geom.now; next = header.now.at; taken = 0 }
             → PipelineAgrees base log (ledger_at_mount (cell_of base log) geom.now slot header.now) result ring [] [] }
     {
         a_mounted_disk_begins();
@@ -82,7 +83,8 @@ impl Pipeline {
         ensures order { IsInOrder self.new }
         ensures room { HasRoom self.new }
         ensures index { IndexIsRight self.old → IndexIsRight self.new }
-        ensures agrees { (base : Blocks) (log : List Event) (l : Ledger) (ring : RingPlaces) (waiting : List (ℕ × ℕ)) (taken : List ℕ) → PipelineAgrees base log l self.old ring waiting taken → PipelineAgrees base log l self.new ring waiting taken }
+        ensures agrees { (base : Blocks) (log : List Event) (l : Ledger) (ring : RingPlaces) (waiting : List (ℕ × ℕ)) (taken : List ℕ)
+            → PipelineAgrees base log l self.old ring waiting taken → PipelineAgrees base log l self.new ring waiting taken }
     {
         let ready = ready_upto(&self.ready, writes, payloads);
         self.reserve_states(ready.records)?;

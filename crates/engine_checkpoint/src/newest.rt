@@ -1,7 +1,8 @@
 //! Where the newest payload of each block is, by the block's number. Records join with their payloads, their fresh
 //! and their freed blocks, and the last of them that names a block decides. What the payloads are isn't known here.
 
-ghost use Rattle.std.specs.Prelude.{◌≡◌, ◌≤◌, ◌<◌, ◌+◌, ◌++◌, ◌==◌, ◌&&◌, ℕ, nat_le, nat_eq, length, slice_get, Some, None, if◌then◌else◌, is_some, OnOk, vec_capacity};
+ghost use Rattle.std.specs.Prelude.{◌≡◌, ◌≤◌, ◌<◌, ◌+◌, ◌++◌, ◌==◌, ◌&&◌, ℕ, nat_le, nat_eq, length, slice_get, Some, None, if◌then◌else◌, is_some};
+ghost use Rattle.std.specs.Prelude.{OnOk, vec_capacity};
 ghost use Rattle.std.specs.List.{list_any};
 ghost use Rattle.std.specs.HashMap.{keys, IsUnique};
 ghost use Rattle.crash_argument.specs.HomeTest.{is_one_of};

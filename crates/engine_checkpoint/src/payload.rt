@@ -59,11 +59,16 @@ impl Pipeline {
 /// The newest payload of a live block is what the map after all records has there. Where there is none, the map
 /// has what was written to the block last. And no write to a live block is lost. It does nothing.
 pub fn the_newest_payloads_are_the_map()
-    ensures payload { (base : Blocks) (log : List Event) (l : Ledger) (v : Pipeline) (ring : RingPlaces) (waiting : List (ℕ × ℕ)) (taken : List ℕ) (b : ℕ) (x : List ℕ) → IsConsistentWith base log l → PipelineAgrees base log l v ring waiting taken → IsTrue (is_live l.geom (l.map_before (next_number l)) b)
+    ensures payload { (base : Blocks) (log : List Event) (l : Ledger) (v : Pipeline) (ring : RingPlaces) (waiting : List (ℕ × ℕ)) (taken : List ℕ)
+        (b : ℕ) (x : List ℕ) → IsConsistentWith base log l → PipelineAgrees base log l v ring waiting taken
+        → IsTrue (is_live l.geom (l.map_before (next_number l)) b)
         → newest_in None (kept v) b ≡ Some x → l.map_before (next_number l) b ≡ x }
-    ensures written { (base : Blocks) (log : List Event) (l : Ledger) (v : Pipeline) (ring : RingPlaces) (waiting : List (ℕ × ℕ)) (taken : List ℕ) (b : ℕ) → IsConsistentWith base log l → PipelineAgrees base log l v ring waiting taken → IsTrue (is_live l.geom (l.map_before (next_number l)) b)
+    ensures written { (base : Blocks) (log : List Event) (l : Ledger) (v : Pipeline) (ring : RingPlaces) (waiting : List (ℕ × ℕ)) (taken : List ℕ)
+        (b : ℕ) → IsConsistentWith base log l → PipelineAgrees base log l v ring waiting taken
+        → IsTrue (is_live l.geom (l.map_before (next_number l)) b)
         → newest_in None (kept v) b ≡ None → l.map_before (next_number l) b ≡ issued base log b }
-    ensures calm { (base : Blocks) (log : List Event) (l : Ledger) (v : Pipeline) (ring : RingPlaces) (waiting : List (ℕ × ℕ)) (taken : List ℕ) (b : ℕ) → IsConsistentWith base log l → PipelineAgrees base log l v ring waiting taken → IsLiveNow l b → is_lost b log ≡ false }
+    ensures calm { (base : Blocks) (log : List Event) (l : Ledger) (v : Pipeline) (ring : RingPlaces) (waiting : List (ℕ × ℕ)) (taken : List ℕ)
+        (b : ℕ) → IsConsistentWith base log l → PipelineAgrees base log l v ring waiting taken → IsLiveNow l b → is_lost b log ≡ false }
 {
     a_read_gives_what_was_written_last();
     the_newest_bytes_are_the_map();

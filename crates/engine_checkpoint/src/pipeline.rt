@@ -26,7 +26,8 @@ ghost use Rattle.engine_checkpoint.specs.Index.{IndexIsRight};
 ghost use Rattle.engine_checkpoint.specs.Kept.{kept, of_committed, places_taken};
 ghost use Rattle.engine_checkpoint.specs.Order.{IsInOrder, HasRoom, HasPlaces};
 ghost use Rattle.engine_checkpoint.specs.Waits.{HearsMore};
-ghost use Rattle.engine_checkpoint.specs.Steps.{TakesNotices, TakesOne, TakesAnswer, TakesKnown, PollsUpTo, SettlesOrStays, Accepts, is_first_settled, ready_after};
+ghost use Rattle.engine_checkpoint.specs.Steps.{TakesNotices, TakesOne, TakesAnswer, TakesKnown, PollsUpTo, SettlesOrStays, Accepts};
+ghost use Rattle.engine_checkpoint.specs.Steps.{is_first_settled, ready_after};
 
 use crate::newest::Newest;
 use crash_argument::{
@@ -102,8 +103,11 @@ pub struct Pipeline {
 /// # Errors
 /// A poll failed, which the disk has counted. The notices before it are taken.
 pub fn take_notices<D: Disk>(disk: &mut D, pipeline: &mut Pipeline) -> Result<(), DiskFault>
-    ensures agrees { IsTrue D.tells → (s : MountedSession) (l : Ledger) (t floor : ℕ) (ring : RingPlaces) (waiting : List (ℕ × ℕ)) (taken : List ℕ) → IsSafe s (D.state disk.old).base (D.state disk.old).log l t floor → PipelineAgrees (D.state disk.old).base (D.state disk.old).log l pipeline.old ring waiting taken
-        → IsSafe s (D.state disk.new).base (D.state disk.new).log l t floor × PipelineAgrees (D.state disk.new).base (D.state disk.new).log l pipeline.new ring waiting taken }
+    ensures agrees { IsTrue D.tells → (s : MountedSession) (l : Ledger) (t floor : ℕ) (ring : RingPlaces) (waiting : List (ℕ × ℕ)) (taken : List ℕ)
+        → IsSafe s (D.state disk.old).base (D.state disk.old).log l t floor
+        → PipelineAgrees (D.state disk.old).base (D.state disk.old).log l pipeline.old ring waiting taken
+        → IsSafe s (D.state disk.new).base (D.state disk.new).log l t floor
+        × PipelineAgrees (D.state disk.new).base (D.state disk.new).log l pipeline.new ring waiting taken }
     ensures takes { IsTrue D.tells → TakesNotices result pipeline.old pipeline.new (D.state disk.old) (D.state disk.new) }
     ensures rest { pipeline.new ≡ record pipeline.old { notes = pipeline.new.notes } }
     ensures hears { HearsMore pipeline.old.notes pipeline.new.notes }
@@ -121,13 +125,17 @@ pub fn take_notices<D: Disk>(disk: &mut D, pipeline: &mut Pipeline) -> Result<()
 
 /// Takes one notice, and answers whether there was one.
 fn take_notice<D: Disk>(disk: &mut D, pipeline: &mut Pipeline) -> Result<bool, DiskFault>
-    ensures agrees { IsTrue D.tells → (s : MountedSession) (l : Ledger) (t floor : ℕ) (ring : RingPlaces) (waiting : List (ℕ × ℕ)) (taken : List ℕ) → IsSafe s (D.state disk.old).base (D.state disk.old).log l t floor → PipelineAgrees (D.state disk.old).base (D.state disk.old).log l pipeline.old ring waiting taken
-        → IsSafe s (D.state disk.new).base (D.state disk.new).log l t floor × PipelineAgrees (D.state disk.new).base (D.state disk.new).log l pipeline.new ring waiting taken }
+    ensures agrees { IsTrue D.tells → (s : MountedSession) (l : Ledger) (t floor : ℕ) (ring : RingPlaces) (waiting : List (ℕ × ℕ)) (taken : List ℕ)
+        → IsSafe s (D.state disk.old).base (D.state disk.old).log l t floor
+        → PipelineAgrees (D.state disk.old).base (D.state disk.old).log l pipeline.old ring waiting taken
+        → IsSafe s (D.state disk.new).base (D.state disk.new).log l t floor
+        × PipelineAgrees (D.state disk.new).base (D.state disk.new).log l pipeline.new ring waiting taken }
     ensures takes { IsTrue D.tells → TakesOne result pipeline.old pipeline.new (D.state disk.old).log (D.state disk.new).log }
     ensures rest { pipeline.new ≡ record pipeline.old { notes = pipeline.new.notes } }
     ensures hears { HearsMore pipeline.old.notes pipeline.new.notes }
     ensures spends { OnlyPolls (is_err result) (D.state disk.old) (D.state disk.new) }
-    ensures answer { IsTrue D.tells → TakesAnswer ((D.state disk.old).manner.notice (D.state disk.old).polls (D.state disk.old).log) result (D.state disk.old).log (D.state disk.new).log }
+    ensures answer { IsTrue D.tells → TakesAnswer ((D.state disk.old).manner.notice (D.state disk.old).polls (D.state disk.old).log) result
+        (D.state disk.old).log (D.state disk.new).log }
     ensures cause { IsTrue D.tells → OnErr result (HasFailed (D.state disk.new)) }
 {
     nothing_is_written_between_records();
@@ -147,8 +155,10 @@ fn take_notice<D: Disk>(disk: &mut D, pipeline: &mut Pipeline) -> Result<bool, D
 pub fn settle_first(pipeline: &mut Pipeline) -> bool
     requires order { IsInOrder pipeline.old }
     requires room { HasRoom pipeline.old }
-    ensures agrees { (s : MountedSession) (base : Blocks) (log : List Event) (l : Ledger) (t floor : ℕ) (ring : RingPlaces) (waiting : List (ℕ × ℕ)) (taken : List ℕ) → IsSafe s base log l t floor → PipelineAgrees base log l pipeline.old ring waiting taken
-        → IsSafe s base log (if result then with_known l (l.known + 1) else l) t floor × PipelineAgrees base log (if result then with_known l (l.known + 1) else l) pipeline.new ring waiting taken }
+    ensures agrees { (s : MountedSession) (base : Blocks) (log : List Event) (l : Ledger) (t floor : ℕ) (ring : RingPlaces) (waiting : List (ℕ × ℕ))
+        (taken : List ℕ) → IsSafe s base log l t floor → PipelineAgrees base log l pipeline.old ring waiting taken
+        → IsSafe s base log (if result then with_known l (l.known + 1) else l) t floor
+        × PipelineAgrees base log (if result then with_known l (l.known + 1) else l) pipeline.new ring waiting taken }
     ensures exact { result ≡ is_first_settled pipeline.old.committed.items pipeline.old.notes.notes }
     ensures settles { SettlesOrStays result pipeline.old pipeline.new }
     ensures order { IsInOrder pipeline.new }
@@ -184,16 +194,25 @@ pub fn accept(pipeline: &mut Pipeline, committed: Committed)
     requires order { IsInOrder pipeline.old }
     requires room { HasRoom pipeline.old }
     requires index { IndexIsRight pipeline.old }
-    requires ready { (0 < pipeline.old.ready.records) × (length committed.tickets.items ≤ pipeline.old.ready.writes) × (length committed.payloads.items ≤ pipeline.old.ready.payloads) }
+    requires ready { (0 < pipeline.old.ready.records) × (length committed.tickets.items ≤ pipeline.old.ready.writes)
+        × (length committed.payloads.items ≤ pipeline.old.ready.payloads) }
     requires next { committed.number ≡ pipeline.old.last + 1 }
     requires places { places_taken pipeline.old + committed.count ≤ pipeline.old.geom.j }
     requires has { HasPlaces (of_committed committed) }
     requires below { AreBelow pipeline.old.geom.n committed.payloads.items }
-    ensures agrees { (s : MountedSession) (base : Blocks) (old new : List Event) (l : Ledger) (m : Blocks) (t floor epoch : ℕ) (ring : RingPlaces) (waiting : List (ℕ × ℕ)) (taken : List ℕ) (running : Changes) → PipelineAgrees base old l pipeline.old ring waiting taken → IsSafe s base old l t floor
-        → IsCommitOf running (next_number l) ring.next committed → ((u : ℕ) → IsNoticed u old → IsNoticed u new) → AreNewTickets old new committed.tickets.items → HasFreed l m committed.freed.items
-        → IsInLedger s base new l (data_of pipeline.old ring waiting) (written_of epoch (next_number l) ring.next running.paid running.laid) m t floor committed.tickets.items
-        → ((freed : List ℕ) → HasOnePending base new (with_record l (written_of epoch (next_number l) ring.next running.paid running.laid) m) (with_committed (data_of pipeline.old ring waiting) l (written_of epoch (next_number l) ring.next running.paid running.laid) committed.tickets.items freed) []) → HomeIsSent l.geom new (map home_pair pipeline.old.home.items)
-        → PipelineAgrees base new (with_record l (written_of epoch (next_number l) ring.next running.paid running.laid) m) pipeline.new (with_places ring (places (written_of epoch (next_number l) ring.next running.paid running.laid).says)) (waiting ++ pairs_of (next_number l) committed.freed.items) [] }
+    ensures agrees { (s : MountedSession) (base : Blocks) (old new : List Event) (l : Ledger) (m : Blocks) (t floor epoch : ℕ) (ring : RingPlaces)
+        (waiting : List (ℕ × ℕ)) (taken : List ℕ) (running : Changes) → PipelineAgrees base old l pipeline.old ring waiting taken
+        → IsSafe s base old l t floor
+        → IsCommitOf running (next_number l) ring.next committed → ((u : ℕ) → IsNoticed u old → IsNoticed u new)
+        → AreNewTickets old new committed.tickets.items → HasFreed l m committed.freed.items
+        → IsInLedger s base new l (data_of pipeline.old ring waiting) (written_of epoch (next_number l) ring.next running.paid running.laid) m t floor
+        committed.tickets.items
+        → ((freed : List ℕ) → HasOnePending base new (with_record l (written_of epoch (next_number l) ring.next running.paid running.laid) m)
+        (with_committed (data_of pipeline.old ring waiting) l (written_of epoch (next_number l) ring.next running.paid running.laid)
+        committed.tickets.items freed) []) → HomeIsSent l.geom new (map home_pair pipeline.old.home.items)
+        → PipelineAgrees base new (with_record l (written_of epoch (next_number l) ring.next running.paid running.laid) m) pipeline.new
+        (with_places ring (places (written_of epoch (next_number l) ring.next running.paid running.laid).says))
+        (waiting ++ pairs_of (next_number l) committed.freed.items) [] }
     ensures accepts { Accepts committed pipeline.old pipeline.new }
     ensures order { IsInOrder pipeline.new }
     ensures room { HasRoom pipeline.new }

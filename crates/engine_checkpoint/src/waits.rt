@@ -25,15 +25,19 @@ use disk_contract::{Disk, DiskFault};
 /// # Errors
 /// A wait failed, which the disk has counted. The tickets before it are noticed.
 pub fn wait_for_all<D: Disk>(disk: &mut D, pipeline: &mut Pipeline) -> Result<(), DiskFault>
-    ensures agrees { IsTrue D.tells → (s : MountedSession) (l : Ledger) (t floor : ℕ) (ring : RingPlaces) (waiting : List (ℕ × ℕ)) (taken : List ℕ) → IsSafe s (D.state disk.old).base (D.state disk.old).log l t floor → PipelineAgrees (D.state disk.old).base (D.state disk.old).log l pipeline.old ring waiting taken
-        → IsSafe s (D.state disk.new).base (D.state disk.new).log l t floor × PipelineAgrees (D.state disk.new).base (D.state disk.new).log l pipeline.new ring waiting taken }
+    ensures agrees { IsTrue D.tells → (s : MountedSession) (l : Ledger) (t floor : ℕ) (ring : RingPlaces) (waiting : List (ℕ × ℕ)) (taken : List ℕ)
+        → IsSafe s (D.state disk.old).base (D.state disk.old).log l t floor
+        → PipelineAgrees (D.state disk.old).base (D.state disk.old).log l pipeline.old ring waiting taken
+        → IsSafe s (D.state disk.new).base (D.state disk.new).log l t floor
+        × PipelineAgrees (D.state disk.new).base (D.state disk.new).log l pipeline.new ring waiting taken }
     ensures noticed { OnOk result (AreAllNoticed pipeline.new.notes.notes) }
     ensures hears { HearsMore pipeline.old.notes pipeline.new.notes }
     ensures rest { pipeline.new ≡ record pipeline.old { notes = pipeline.new.notes } }
     ensures log { IsTrue D.tells → OnlyNotices (D.state disk.old).log (D.state disk.new).log }
     ensures spends { WaitsSome (is_err result) (D.state disk.old) (D.state disk.new) }
     ensures cause { IsTrue D.tells → NotesAreGiven (D.state disk.old).log pipeline.old.notes.notes → OnErr result (HasFailed (D.state disk.new)) }
-    ensures only { IsTrue D.tells → (D.state disk.old).manner.waits_alone ≡ true → HearsOnly (λ u. is_open u pipeline.old.notes.notes ≡ true) result (D.state disk.old).log (D.state disk.new).log pipeline.new.notes.notes }
+    ensures only { IsTrue D.tells → (D.state disk.old).manner.waits_alone ≡ true
+        → HearsOnly (λ u. is_open u pipeline.old.notes.notes ≡ true) result (D.state disk.old).log (D.state disk.new).log pipeline.new.notes.notes }
 {
     for at in 0..pipeline.notes.len() {
         wait_for_note(disk, pipeline, at)?;
@@ -43,15 +47,19 @@ pub fn wait_for_all<D: Disk>(disk: &mut D, pipeline: &mut Pipeline) -> Result<()
 
 /// Waits for the ticket of the note at this place, where it is open.
 fn wait_for_note<D: Disk>(disk: &mut D, pipeline: &mut Pipeline, at: usize) -> Result<(), DiskFault>
-    ensures agrees { IsTrue D.tells → (s : MountedSession) (l : Ledger) (t floor : ℕ) (ring : RingPlaces) (waiting : List (ℕ × ℕ)) (taken : List ℕ) → IsSafe s (D.state disk.old).base (D.state disk.old).log l t floor → PipelineAgrees (D.state disk.old).base (D.state disk.old).log l pipeline.old ring waiting taken
-        → IsSafe s (D.state disk.new).base (D.state disk.new).log l t floor × PipelineAgrees (D.state disk.new).base (D.state disk.new).log l pipeline.new ring waiting taken }
+    ensures agrees { IsTrue D.tells → (s : MountedSession) (l : Ledger) (t floor : ℕ) (ring : RingPlaces) (waiting : List (ℕ × ℕ)) (taken : List ℕ)
+        → IsSafe s (D.state disk.old).base (D.state disk.old).log l t floor
+        → PipelineAgrees (D.state disk.old).base (D.state disk.old).log l pipeline.old ring waiting taken
+        → IsSafe s (D.state disk.new).base (D.state disk.new).log l t floor
+        × PipelineAgrees (D.state disk.new).base (D.state disk.new).log l pipeline.new ring waiting taken }
     ensures noticed { OnOk result ((n : Note) → slice_get pipeline.old.notes.notes at ≡ Some n → is_noticed n.ticket pipeline.new.notes.notes ≡ true) }
     ensures hears { HearsMore pipeline.old.notes pipeline.new.notes }
     ensures rest { pipeline.new ≡ record pipeline.old { notes = pipeline.new.notes } }
     ensures log { IsTrue D.tells → OnlyNotices (D.state disk.old).log (D.state disk.new).log }
     ensures spends { WaitsSome (is_err result) (D.state disk.old) (D.state disk.new) }
     ensures cause { IsTrue D.tells → NotesAreGiven (D.state disk.old).log pipeline.old.notes.notes → OnErr result (HasFailed (D.state disk.new)) }
-    ensures only { IsTrue D.tells → (D.state disk.old).manner.waits_alone ≡ true → HearsOnly (λ u. is_open u pipeline.old.notes.notes ≡ true) result (D.state disk.old).log (D.state disk.new).log pipeline.new.notes.notes }
+    ensures only { IsTrue D.tells → (D.state disk.old).manner.waits_alone ≡ true
+        → HearsOnly (λ u. is_open u pipeline.old.notes.notes ≡ true) result (D.state disk.old).log (D.state disk.new).log pipeline.new.notes.notes }
 {
     match pipeline.notes.get(at) {
         Some(note) => wait_where_open(disk, pipeline, note.ticket),
@@ -65,15 +73,19 @@ fn wait_for_note<D: Disk>(disk: &mut D, pipeline: &mut Pipeline, at: usize) -> R
 /// A wait failed, which the disk has counted. The tickets before it are noticed.
 pub fn wait_upto<D: Disk>(disk: &mut D, pipeline: &mut Pipeline, upto: u64) -> Result<(), DiskFault>
     requires order { IsInOrder pipeline.old }
-    ensures agrees { IsTrue D.tells → (s : MountedSession) (l : Ledger) (t floor : ℕ) (ring : RingPlaces) (waiting : List (ℕ × ℕ)) (taken : List ℕ) → IsSafe s (D.state disk.old).base (D.state disk.old).log l t floor → PipelineAgrees (D.state disk.old).base (D.state disk.old).log l pipeline.old ring waiting taken
-        → IsSafe s (D.state disk.new).base (D.state disk.new).log l t floor × PipelineAgrees (D.state disk.new).base (D.state disk.new).log l pipeline.new ring waiting taken }
+    ensures agrees { IsTrue D.tells → (s : MountedSession) (l : Ledger) (t floor : ℕ) (ring : RingPlaces) (waiting : List (ℕ × ℕ)) (taken : List ℕ)
+        → IsSafe s (D.state disk.old).base (D.state disk.old).log l t floor
+        → PipelineAgrees (D.state disk.old).base (D.state disk.old).log l pipeline.old ring waiting taken
+        → IsSafe s (D.state disk.new).base (D.state disk.new).log l t floor
+        × PipelineAgrees (D.state disk.new).base (D.state disk.new).log l pipeline.new ring waiting taken }
     ensures noticed { OnOk result (AreWaitedFor upto pipeline.new) }
     ensures hears { HearsMore pipeline.old.notes pipeline.new.notes }
     ensures rest { pipeline.new ≡ record pipeline.old { notes = pipeline.new.notes } }
     ensures log { IsTrue D.tells → OnlyNotices (D.state disk.old).log (D.state disk.new).log }
     ensures spends { WaitsSome (is_err result) (D.state disk.old) (D.state disk.new) }
     ensures cause { IsTrue D.tells → NotesAreGiven (D.state disk.old).log pipeline.old.notes.notes → OnErr result (HasFailed (D.state disk.new)) }
-    ensures only { IsTrue D.tells → (D.state disk.old).manner.waits_alone ≡ true → HearsOnly (IsOfRecord pipeline.old upto) result (D.state disk.old).log (D.state disk.new).log pipeline.new.notes.notes }
+    ensures only { IsTrue D.tells → (D.state disk.old).manner.waits_alone ≡ true
+        → HearsOnly (IsOfRecord pipeline.old upto) result (D.state disk.old).log (D.state disk.new).log pipeline.new.notes.notes }
 {
     for at in 0..pipeline.committed.len() {
         if upto < pipeline.committed[at].number {
@@ -91,15 +103,21 @@ fn wait_for_record<D: Disk>(
     at: usize,
 ) -> Result<(), DiskFault>
     requires { at < length pipeline.old.committed.items }
-    ensures agrees { IsTrue D.tells → (s : MountedSession) (l : Ledger) (t floor : ℕ) (ring : RingPlaces) (waiting : List (ℕ × ℕ)) (taken : List ℕ) → IsSafe s (D.state disk.old).base (D.state disk.old).log l t floor → PipelineAgrees (D.state disk.old).base (D.state disk.old).log l pipeline.old ring waiting taken
-        → IsSafe s (D.state disk.new).base (D.state disk.new).log l t floor × PipelineAgrees (D.state disk.new).base (D.state disk.new).log l pipeline.new ring waiting taken }
-    ensures noticed { OnOk result ((c : Committed) → slice_get pipeline.old.committed.items at ≡ Some c → none_open c.tickets.items pipeline.new.notes.notes ≡ true) }
+    ensures agrees { IsTrue D.tells → (s : MountedSession) (l : Ledger) (t floor : ℕ) (ring : RingPlaces) (waiting : List (ℕ × ℕ)) (taken : List ℕ)
+        → IsSafe s (D.state disk.old).base (D.state disk.old).log l t floor
+        → PipelineAgrees (D.state disk.old).base (D.state disk.old).log l pipeline.old ring waiting taken
+        → IsSafe s (D.state disk.new).base (D.state disk.new).log l t floor
+        × PipelineAgrees (D.state disk.new).base (D.state disk.new).log l pipeline.new ring waiting taken }
+    ensures noticed { OnOk result ((c : Committed) → slice_get pipeline.old.committed.items at ≡ Some c
+        → none_open c.tickets.items pipeline.new.notes.notes ≡ true) }
     ensures hears { HearsMore pipeline.old.notes pipeline.new.notes }
     ensures rest { pipeline.new ≡ record pipeline.old { notes = pipeline.new.notes } }
     ensures log { IsTrue D.tells → OnlyNotices (D.state disk.old).log (D.state disk.new).log }
     ensures spends { WaitsSome (is_err result) (D.state disk.old) (D.state disk.new) }
     ensures cause { IsTrue D.tells → NotesAreGiven (D.state disk.old).log pipeline.old.notes.notes → OnErr result (HasFailed (D.state disk.new)) }
-    ensures only { IsTrue D.tells → (D.state disk.old).manner.waits_alone ≡ true → HearsOnly (λ u. (c : Committed) × (slice_get pipeline.old.committed.items at ≡ Some c) × (is_one_of u c.tickets.items ≡ true)) result (D.state disk.old).log (D.state disk.new).log pipeline.new.notes.notes }
+    ensures only { IsTrue D.tells → (D.state disk.old).manner.waits_alone ≡ true
+        → HearsOnly (λ u. (c : Committed) × (slice_get pipeline.old.committed.items at ≡ Some c)
+        × (is_one_of u c.tickets.items ≡ true)) result (D.state disk.old).log (D.state disk.new).log pipeline.new.notes.notes }
 {
     for k in 0..pipeline.committed[at].tickets.len() {
         let ticket = pipeline.committed[at].tickets[k];
@@ -114,15 +132,20 @@ fn wait_where_open<D: Disk>(
     pipeline: &mut Pipeline,
     ticket: u64,
 ) -> Result<(), DiskFault>
-    ensures agrees { IsTrue D.tells → (s : MountedSession) (l : Ledger) (t floor : ℕ) (ring : RingPlaces) (waiting : List (ℕ × ℕ)) (taken : List ℕ) → IsSafe s (D.state disk.old).base (D.state disk.old).log l t floor → PipelineAgrees (D.state disk.old).base (D.state disk.old).log l pipeline.old ring waiting taken
-        → IsSafe s (D.state disk.new).base (D.state disk.new).log l t floor × PipelineAgrees (D.state disk.new).base (D.state disk.new).log l pipeline.new ring waiting taken }
+    ensures agrees { IsTrue D.tells → (s : MountedSession) (l : Ledger) (t floor : ℕ) (ring : RingPlaces) (waiting : List (ℕ × ℕ)) (taken : List ℕ)
+        → IsSafe s (D.state disk.old).base (D.state disk.old).log l t floor
+        → PipelineAgrees (D.state disk.old).base (D.state disk.old).log l pipeline.old ring waiting taken
+        → IsSafe s (D.state disk.new).base (D.state disk.new).log l t floor
+        × PipelineAgrees (D.state disk.new).base (D.state disk.new).log l pipeline.new ring waiting taken }
     ensures closed { OnOk result (is_open ticket pipeline.new.notes.notes ≡ false) }
     ensures hears { HearsMore pipeline.old.notes pipeline.new.notes }
     ensures rest { pipeline.new ≡ record pipeline.old { notes = pipeline.new.notes } }
     ensures log { IsTrue D.tells → OnlyNotices (D.state disk.old).log (D.state disk.new).log }
     ensures spends { WaitsSome (is_err result) (D.state disk.old) (D.state disk.new) }
     ensures cause { IsTrue D.tells → NotesAreGiven (D.state disk.old).log pipeline.old.notes.notes → OnErr result (HasFailed (D.state disk.new)) }
-    ensures only { IsTrue D.tells → (D.state disk.old).manner.waits_alone ≡ true → HearsOnly (λ u. (u ≡ ticket) × (is_open ticket pipeline.old.notes.notes ≡ true)) result (D.state disk.old).log (D.state disk.new).log pipeline.new.notes.notes }
+    ensures only { IsTrue D.tells → (D.state disk.old).manner.waits_alone ≡ true
+        → HearsOnly (λ u. (u ≡ ticket) × (is_open ticket pipeline.old.notes.notes ≡ true)) result (D.state disk.old).log (D.state disk.new).log
+        pipeline.new.notes.notes }
 {
     nothing_is_written_between_records();
     one_write_is_pending();

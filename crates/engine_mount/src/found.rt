@@ -66,7 +66,8 @@ impl Found {
     pub fn read<D: Disk>(&self, disk: &mut D, b: u32, into: &mut Block) -> Result<(), DiskFault>
         requires size { (D.state disk.old).blocks ≡ self.now.run.header.geom.n }
         requires below { b < self.now.run.header.geom.n }
-        ensures value { IsTrue D.tells → IsIdle (D.state disk.old) → OnOk result (into.new ≡ replayed self.now.run.header.geom (settled_on (D.state disk.old)) self.now.run.records b) }
+        ensures value { IsTrue D.tells → IsIdle (D.state disk.old)
+            → OnOk result (into.new ≡ replayed self.now.run.header.geom (settled_on (D.state disk.old)) self.now.run.records b) }
         ensures reads { Searches D.tells (is_err result) (D.state disk.old) (D.state disk.new) }
     {
         a_read_gives_what_was_written_last();
@@ -122,7 +123,8 @@ fn run_on<D: Disk>(alloc: Global, disk: &mut D) -> Result<Run, MountRefusal>
 fn epoch_on<D: Disk>(disk: &mut D, run: &Run) -> Result<u64, MountRefusal>
     requires { (D.state disk.old).blocks ≡ run.now.header.geom.n }
     ensures value { IsTrue D.tells → IsIdle (D.state disk.old) → IfOk result (IsGreatestEpoch run.now.header.geom (settled_on (D.state disk.old))) }
-    ensures refused { IsTrue D.tells → IsIdle (D.state disk.old) → IsFound (D.state disk.old).blocks (settled_on (D.state disk.old)) run.now → IfErr result (RefusalSays (D.state disk.old) (D.state disk.new)) }
+    ensures refused { IsTrue D.tells → IsIdle (D.state disk.old) → IsFound (D.state disk.old).blocks (settled_on (D.state disk.old)) run.now
+        → IfErr result (RefusalSays (D.state disk.old) (D.state disk.new)) }
     ensures below { IfOk result (λ epoch. epoch < 9223372036854775792) }
     ensures calm { is_faulty result ≡ false }
     ensures reads { Searches D.tells (is_unread result) (D.state disk.old) (D.state disk.new) }

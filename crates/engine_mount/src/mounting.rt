@@ -46,17 +46,22 @@ pub struct Mounted {
 /// `NoHeader` and `Spent` come of what is on the disk, and `NoMemory` of want of memory: nothing is written
 /// then. `ReadFault` and `DiskFault` come of a call that failed, which the disk has counted.
 pub fn mount<D: Disk>(alloc: Global, disk: &mut D) -> Result<Mounted, MountRefusal>
-    ensures begins { IsTrue D.tells → IsIdle (D.state disk.old) → (g : Geometry) (m : Blocks) → HoldsUnder (D.state disk.old).blocks g (settled_on (D.state disk.old)) m
+    ensures begins { IsTrue D.tells → IsIdle (D.state disk.old) → (g : Geometry) (m : Blocks)
+        → HoldsUnder (D.state disk.old).blocks g (settled_on (D.state disk.old)) m
         → IfOk result (λ q. HasBegun (D.state disk.new) g q.slot q.header (length (D.state disk.old).log) m) }
-    ensures goes_on { IsTrue D.tells → IsIdle (D.state disk.old) → IfOk result (λ q. GoesOn (D.state disk.old).blocks (settled_on (D.state disk.old)) q.header) }
-    ensures holds { IsTrue D.tells → IsIdle (D.state disk.old) → (g : Geometry) (m : Blocks) → HoldsUnder (D.state disk.old).blocks g (settled_on (D.state disk.old)) m
-        → Window (D.state disk.old).blocks (D.state disk.old).base (D.state disk.new).log (length (D.state disk.old).log) (λ img. HoldsUnder (D.state disk.old).blocks g img m) }
+    ensures goes_on { IsTrue D.tells → IsIdle (D.state disk.old)
+        → IfOk result (λ q. GoesOn (D.state disk.old).blocks (settled_on (D.state disk.old)) q.header) }
+    ensures holds { IsTrue D.tells → IsIdle (D.state disk.old) → (g : Geometry) (m : Blocks)
+        → HoldsUnder (D.state disk.old).blocks g (settled_on (D.state disk.old)) m
+        → Window (D.state disk.old).blocks (D.state disk.old).base (D.state disk.new).log (length (D.state disk.old).log)
+        (λ img. HoldsUnder (D.state disk.old).blocks g img m) }
     ensures refused { IsTrue D.tells → IsIdle (D.state disk.old) → IfErr result (RefusalSays (D.state disk.old) (D.state disk.new)) }
     ensures spends { MountSpends (is_unread result) (is_faulty result) ((D.state disk.old).blocks + 2) (D.state disk.old) (D.state disk.new) }
     ensures cause { IsTrue D.tells → is_faulty result ≡ true → HasFailed (D.state disk.new) }
     ensures written { IsTrue D.tells → writes_in (D.state disk.new).log ≤ writes_in (D.state disk.old).log + ((D.state disk.old).blocks + 2) }
     ensures anew { IfOk result (λ q. OpensAnew q.header (D.state disk.old) (D.state disk.new)) }
-    ensures alone { IsTrue D.tells → IsIdle (D.state disk.old) → HasNothingToReplay (D.state disk.old) → WritesOnce (D.state disk.old).manner result (D.state disk.old).log (D.state disk.new).log }
+    ensures alone { IsTrue D.tells → IsIdle (D.state disk.old) → HasNothingToReplay (D.state disk.old)
+        → WritesOnce (D.state disk.old).manner result (D.state disk.old).log (D.state disk.new).log }
 {
     an_image_holds_one_map();
     journal_blocks_keep_to_their_bounds();
@@ -76,11 +81,15 @@ pub fn mount<D: Disk>(alloc: Global, disk: &mut D) -> Result<Mounted, MountRefus
 /// `ReadFault` and `DiskFault` come of a call that failed, which the disk has counted.
 pub fn open<D: Disk>(disk: &mut D, found: &Found) -> Result<Mounted, MountRefusal>
     requires { (D.state disk.old).blocks ≡ found.now.run.header.geom.n }
-    ensures begins { IsTrue D.tells → IsIdle (D.state disk.old) → IsFoundOn (D.state disk.old) found.now → (g : Geometry) (m : Blocks) → HoldsUnder (D.state disk.old).blocks g (settled_on (D.state disk.old)) m
+    ensures begins { IsTrue D.tells → IsIdle (D.state disk.old) → IsFoundOn (D.state disk.old) found.now → (g : Geometry) (m : Blocks)
+        → HoldsUnder (D.state disk.old).blocks g (settled_on (D.state disk.old)) m
         → IfOk result (λ q. HasBegun (D.state disk.new) g q.slot q.header (length (D.state disk.old).log) m) }
-    ensures goes_on { IsTrue D.tells → IsIdle (D.state disk.old) → IsFoundOn (D.state disk.old) found.now → IfOk result (λ q. GoesOn (D.state disk.old).blocks (settled_on (D.state disk.old)) q.header) }
-    ensures holds { IsTrue D.tells → IsIdle (D.state disk.old) → IsFoundOn (D.state disk.old) found.now → (g : Geometry) (m : Blocks) → HoldsUnder (D.state disk.old).blocks g (settled_on (D.state disk.old)) m
-        → Window (D.state disk.old).blocks (D.state disk.old).base (D.state disk.new).log (length (D.state disk.old).log) (λ img. HoldsUnder (D.state disk.old).blocks g img m) }
+    ensures goes_on { IsTrue D.tells → IsIdle (D.state disk.old) → IsFoundOn (D.state disk.old) found.now
+        → IfOk result (λ q. GoesOn (D.state disk.old).blocks (settled_on (D.state disk.old)) q.header) }
+    ensures holds { IsTrue D.tells → IsIdle (D.state disk.old) → IsFoundOn (D.state disk.old) found.now → (g : Geometry) (m : Blocks)
+        → HoldsUnder (D.state disk.old).blocks g (settled_on (D.state disk.old)) m
+        → Window (D.state disk.old).blocks (D.state disk.old).base (D.state disk.new).log (length (D.state disk.old).log)
+        (λ img. HoldsUnder (D.state disk.old).blocks g img m) }
     ensures fault { IfErr result IsFault }
     ensures spends { MountSpends (is_unread result) (is_faulty result) ((D.state disk.old).blocks + 2) (D.state disk.old) (D.state disk.new) }
     ensures cause { IsTrue D.tells → is_faulty result ≡ true → HasFailed (D.state disk.new) }
@@ -100,11 +109,19 @@ fn open_found<D: Disk>(disk: &mut D, run: &Run, epoch: u64) -> Result<Mounted, M
     requires turn { run.now.header.turn < 2 ^ 64 - 2 }
     requires epoch { epoch < 2 ^ 64 - 1 }
     requires last { last_number run.now.header (length run.now.records) < 2 ^ 64 - 1 }
-    ensures begins { IsTrue D.tells → IsIdle (D.state disk.old) → IsFound run.now.header.geom.n (settled_on (D.state disk.old)) run.now.slot run.now.header run.now.records → IsGreatestEpoch run.now.header.geom (settled_on (D.state disk.old)) epoch
-        → IfOk result (λ q. HasBegun (D.state disk.new) run.now.header.geom q.slot q.header (length (D.state disk.old).log) (found_map (settled_on (D.state disk.old)) run.now.header run.now.records)) }
-    ensures header { IfOk result (λ q. (q.header.epoch ≡ epoch + 1) × (run.now.header.turn < q.header.turn) × (q.header.turn ≤ run.now.header.turn + 2) × (q.header.start ≡ last_number run.now.header (length run.now.records) + 1) × (q.header.sure ≡ last_number run.now.header (length run.now.records)) × (q.header.at ≡ 0)) }
-    ensures holds { IsTrue D.tells → IsIdle (D.state disk.old) → IsFound run.now.header.geom.n (settled_on (D.state disk.old)) run.now.slot run.now.header run.now.records → IsGreatestEpoch run.now.header.geom (settled_on (D.state disk.old)) epoch
-        → Window run.now.header.geom.n (D.state disk.old).base (D.state disk.new).log (length (D.state disk.old).log) (λ img. HoldsUnder run.now.header.geom.n run.now.header.geom img (found_map (settled_on (D.state disk.old)) run.now.header run.now.records)) }
+    ensures begins { IsTrue D.tells → IsIdle (D.state disk.old)
+        → IsFound run.now.header.geom.n (settled_on (D.state disk.old)) run.now.slot run.now.header run.now.records
+        → IsGreatestEpoch run.now.header.geom (settled_on (D.state disk.old)) epoch
+        → IfOk result (λ q. HasBegun (D.state disk.new) run.now.header.geom q.slot q.header (length (D.state disk.old).log)
+        (found_map (settled_on (D.state disk.old)) run.now.header run.now.records)) }
+    ensures header { IfOk result (λ q. (q.header.epoch ≡ epoch + 1) × (run.now.header.turn < q.header.turn)
+        × (q.header.turn ≤ run.now.header.turn + 2) × (q.header.start ≡ last_number run.now.header (length run.now.records) + 1)
+        × (q.header.sure ≡ last_number run.now.header (length run.now.records)) × (q.header.at ≡ 0)) }
+    ensures holds { IsTrue D.tells → IsIdle (D.state disk.old)
+        → IsFound run.now.header.geom.n (settled_on (D.state disk.old)) run.now.slot run.now.header run.now.records
+        → IsGreatestEpoch run.now.header.geom (settled_on (D.state disk.old)) epoch
+        → Window run.now.header.geom.n (D.state disk.old).base (D.state disk.new).log (length (D.state disk.old).log)
+        (λ img. HoldsUnder run.now.header.geom.n run.now.header.geom img (found_map (settled_on (D.state disk.old)) run.now.header run.now.records)) }
     ensures fault { IfErr result IsFault }
     ensures spends { MountSpends (is_unread result) (is_faulty result) (run.now.header.geom.n + 2) (D.state disk.old) (D.state disk.new) }
     ensures cause { IsTrue D.tells → is_faulty result ≡ true → HasFailed (D.state disk.new) }
@@ -140,11 +157,16 @@ fn open_after<D: Disk>(
     requires turn { newest.now.turn < 2 ^ 64 - 1 }
     requires last { last < 2 ^ 64 - 1 }
     ensures opened { IsTrue D.tells → IsReadyToOpen (cells_of (D.state disk.old)) slot newest.now epoch
-        → IfOk result (λ q. HasBegun (D.state disk.new) newest.now.geom q.slot q.header (length (D.state disk.new).log) (live_part newest.now.geom (settled_on (D.state disk.old)))) }
+        → IfOk result (λ q. HasBegun (D.state disk.new) newest.now.geom q.slot q.header (length (D.state disk.new).log)
+        (live_part newest.now.geom (settled_on (D.state disk.old)))) }
     ensures holds { IsTrue D.tells → IsReadyToOpen (cells_of (D.state disk.old)) slot newest.now epoch → IsRun (settled_on (D.state disk.old)) newest.now []
-        → Window newest.now.geom.n (D.state disk.old).base (D.state disk.new).log (length (D.state disk.old).log) (λ img. HoldsUnder newest.now.geom.n newest.now.geom img (found_map (settled_on (D.state disk.old)) newest.now [])) }
-    ensures replayed { IsTrue D.tells → (at : Blocks) (old_slot : ℕ) (h : headers.Header) (run : List Record) → IsReadyToOpen (cells_of (D.state disk.old)) slot newest.now epoch → IsFound newest.now.geom.n at old_slot h run → IsReplayed (cells_of (D.state disk.old)) at h newest.now run
-        → Window newest.now.geom.n (D.state disk.old).base (D.state disk.new).log (length (D.state disk.old).log) (λ img. HoldsUnder newest.now.geom.n h.geom img (found_map at h run)) }
+        → Window newest.now.geom.n (D.state disk.old).base (D.state disk.new).log (length (D.state disk.old).log)
+        (λ img. HoldsUnder newest.now.geom.n newest.now.geom img (found_map (settled_on (D.state disk.old)) newest.now [])) }
+    ensures replayed { IsTrue D.tells → (at : Blocks) (old_slot : ℕ) (h : headers.Header) (run : List Record)
+        → IsReadyToOpen (cells_of (D.state disk.old)) slot newest.now epoch → IsFound newest.now.geom.n at old_slot h run
+        → IsReplayed (cells_of (D.state disk.old)) at h newest.now run
+        → Window newest.now.geom.n (D.state disk.old).base (D.state disk.new).log (length (D.state disk.old).log)
+        (λ img. HoldsUnder newest.now.geom.n h.geom img (found_map at h run)) }
     ensures header { IfOk result (λ q. q.header ≡ opening_header newest.now last epoch) }
     ensures grows { IsTrue D.tells → Grows (D.state disk.old).log (D.state disk.new).log }
     ensures fault { IfErr result IsFault }

@@ -39,11 +39,16 @@ pub(crate) fn replay_found<D: Disk>(disk: &mut D, run: &Run) -> Result<Closed, M
     requires slot { run.now.slot < 2 }
     requires size { (D.state disk.old).blocks ≡ run.now.header.geom.n }
     requires turn { run.now.header.turn < 2 ^ 64 - 1 }
-    ensures replayed { IsTrue D.tells → IsIdle (D.state disk.old) → IsFound run.now.header.geom.n (settled_on (D.state disk.old)) run.now.slot run.now.header run.now.records
-        → IfOk result (λ q. IsReplayedUpTo run.now.header.geom.n (cells_of (D.state disk.new)) (settled_on (D.state disk.old)) q.slot run.now.header q.header run.now.records run.now.header.geom.n) }
-    ensures holds { IsTrue D.tells → IsIdle (D.state disk.old) → IsFound run.now.header.geom.n (settled_on (D.state disk.old)) run.now.slot run.now.header run.now.records
-        → Window run.now.header.geom.n (D.state disk.old).base (D.state disk.new).log (length (D.state disk.old).log) (λ img. HoldsUnder run.now.header.geom.n run.now.header.geom img (found_map (settled_on (D.state disk.old)) run.now.header run.now.records)) }
-    ensures next { IfOk result (λ q. (q.slot < 2) × (q.header.geom ≡ run.now.header.geom) × (run.now.header.turn ≤ q.header.turn) × (q.header.turn ≤ run.now.header.turn + 1)) }
+    ensures replayed { IsTrue D.tells → IsIdle (D.state disk.old)
+        → IsFound run.now.header.geom.n (settled_on (D.state disk.old)) run.now.slot run.now.header run.now.records
+        → IfOk result (λ q. IsReplayedUpTo run.now.header.geom.n (cells_of (D.state disk.new)) (settled_on (D.state disk.old)) q.slot run.now.header
+        q.header run.now.records run.now.header.geom.n) }
+    ensures holds { IsTrue D.tells → IsIdle (D.state disk.old)
+        → IsFound run.now.header.geom.n (settled_on (D.state disk.old)) run.now.slot run.now.header run.now.records
+        → Window run.now.header.geom.n (D.state disk.old).base (D.state disk.new).log (length (D.state disk.old).log)
+        (λ img. HoldsUnder run.now.header.geom.n run.now.header.geom img (found_map (settled_on (D.state disk.old)) run.now.header run.now.records)) }
+    ensures next { IfOk result (λ q. (q.slot < 2) × (q.header.geom ≡ run.now.header.geom) × (run.now.header.turn ≤ q.header.turn)
+        × (q.header.turn ≤ run.now.header.turn + 1)) }
     ensures grows { IsTrue D.tells → Grows (D.state disk.old).log (D.state disk.new).log }
     ensures fault { IfErr result IsFault }
     ensures spends { MountSpends (is_unread result) (is_faulty result) (run.now.header.geom.n + 1) (D.state disk.old) (D.state disk.new) }
@@ -61,11 +66,16 @@ pub(crate) fn close_run<D: Disk>(disk: &mut D, run: &Run) -> Result<Closed, Moun
     requires slot { run.now.slot < 2 }
     requires size { (D.state disk.old).blocks ≡ run.now.header.geom.n }
     requires turn { run.now.header.turn < 2 ^ 64 - 1 }
-    ensures closed { IsTrue D.tells → IsIdle (D.state disk.old) → IsFound run.now.header.geom.n (settled_on (D.state disk.old)) run.now.slot run.now.header run.now.records
-        → IfOk result (λ q. IsReplayedUpTo run.now.header.geom.n (cells_of (D.state disk.new)) (settled_on (D.state disk.old)) q.slot run.now.header q.header run.now.records (bitmap_start run.now.header.geom)) }
-    ensures holds { IsTrue D.tells → IsIdle (D.state disk.old) → IsFound run.now.header.geom.n (settled_on (D.state disk.old)) run.now.slot run.now.header run.now.records
-        → Window run.now.header.geom.n (D.state disk.old).base (D.state disk.new).log (length (D.state disk.old).log) (λ img. HoldsUnder run.now.header.geom.n run.now.header.geom img (found_map (settled_on (D.state disk.old)) run.now.header run.now.records)) }
-    ensures next { IfOk result (λ q. (q.slot < 2) × (q.header.geom ≡ run.now.header.geom) × (run.now.header.turn ≤ q.header.turn) × (q.header.turn ≤ run.now.header.turn + 1)) }
+    ensures closed { IsTrue D.tells → IsIdle (D.state disk.old)
+        → IsFound run.now.header.geom.n (settled_on (D.state disk.old)) run.now.slot run.now.header run.now.records
+        → IfOk result (λ q. IsReplayedUpTo run.now.header.geom.n (cells_of (D.state disk.new)) (settled_on (D.state disk.old)) q.slot run.now.header
+        q.header run.now.records (bitmap_start run.now.header.geom)) }
+    ensures holds { IsTrue D.tells → IsIdle (D.state disk.old)
+        → IsFound run.now.header.geom.n (settled_on (D.state disk.old)) run.now.slot run.now.header run.now.records
+        → Window run.now.header.geom.n (D.state disk.old).base (D.state disk.new).log (length (D.state disk.old).log)
+        (λ img. HoldsUnder run.now.header.geom.n run.now.header.geom img (found_map (settled_on (D.state disk.old)) run.now.header run.now.records)) }
+    ensures next { IfOk result (λ q. (q.slot < 2) × (q.header.geom ≡ run.now.header.geom) × (run.now.header.turn ≤ q.header.turn)
+        × (q.header.turn ≤ run.now.header.turn + 1)) }
     ensures grows { IsTrue D.tells → Grows (D.state disk.old).log (D.state disk.new).log }
     ensures fault { IfErr result IsFault }
     ensures spends { MountSpends (is_unread result) (is_faulty result) 1 (D.state disk.old) (D.state disk.new) }
@@ -108,10 +118,17 @@ fn closes(header: &Header, last: u64) -> bool
 /// Brings the last payload of each block that the run covers to its place.
 pub(crate) fn replay_run<D: Disk>(disk: &mut D, run: &Run) -> Result<(), MountRefusal>
     requires { (D.state disk.old).blocks ≡ run.now.header.geom.n }
-    ensures replayed { IsTrue D.tells → (at : Blocks) (slot old_slot : ℕ) (closed : headers.Header) → IsFound run.now.header.geom.n at old_slot run.now.header run.now.records → IsReplayedUpTo run.now.header.geom.n (cells_of (D.state disk.old)) at slot run.now.header closed run.now.records (bitmap_start run.now.header.geom)
+    ensures replayed { IsTrue D.tells → (at : Blocks) (slot old_slot : ℕ) (closed : headers.Header)
+        → IsFound run.now.header.geom.n at old_slot run.now.header run.now.records
+        → IsReplayedUpTo run.now.header.geom.n (cells_of (D.state disk.old)) at slot run.now.header closed run.now.records
+        (bitmap_start run.now.header.geom)
         → OnOk result (IsReplayedUpTo run.now.header.geom.n (cells_of (D.state disk.new)) at slot run.now.header closed run.now.records run.now.header.geom.n) }
-    ensures holds { IsTrue D.tells → (at : Blocks) (slot old_slot : ℕ) (closed : headers.Header) → IsFound run.now.header.geom.n at old_slot run.now.header run.now.records → IsReplayedUpTo run.now.header.geom.n (cells_of (D.state disk.old)) at slot run.now.header closed run.now.records (bitmap_start run.now.header.geom)
-        → Window run.now.header.geom.n (D.state disk.old).base (D.state disk.new).log (length (D.state disk.old).log) (λ img. HoldsUnder run.now.header.geom.n run.now.header.geom img (found_map at run.now.header run.now.records)) }
+    ensures holds { IsTrue D.tells → (at : Blocks) (slot old_slot : ℕ) (closed : headers.Header)
+        → IsFound run.now.header.geom.n at old_slot run.now.header run.now.records
+        → IsReplayedUpTo run.now.header.geom.n (cells_of (D.state disk.old)) at slot run.now.header closed run.now.records
+        (bitmap_start run.now.header.geom)
+        → Window run.now.header.geom.n (D.state disk.old).base (D.state disk.new).log (length (D.state disk.old).log)
+        (λ img. HoldsUnder run.now.header.geom.n run.now.header.geom img (found_map at run.now.header run.now.records)) }
     ensures grows { IsTrue D.tells → Grows (D.state disk.old).log (D.state disk.new).log }
     ensures fault { IfErr result IsFault }
     ensures spends { MountSpends (is_unread result) (is_faulty result) run.now.header.geom.n (D.state disk.old) (D.state disk.new) }
@@ -133,10 +150,15 @@ fn replay_payload<D: Disk>(disk: &mut D, run: &Run, b: u32) -> Result<(), MountR
     requires size { (D.state disk.old).blocks ≡ run.now.header.geom.n }
     requires within { b < run.now.header.geom.n }
     requires behind { bitmap_start run.now.header.geom ≤ b }
-    ensures next { IsTrue D.tells → (at : Blocks) (slot old_slot : ℕ) (closed : headers.Header) → IsFound run.now.header.geom.n at old_slot run.now.header run.now.records → IsReplayedUpTo run.now.header.geom.n (cells_of (D.state disk.old)) at slot run.now.header closed run.now.records b
+    ensures next { IsTrue D.tells → (at : Blocks) (slot old_slot : ℕ) (closed : headers.Header)
+        → IsFound run.now.header.geom.n at old_slot run.now.header run.now.records
+        → IsReplayedUpTo run.now.header.geom.n (cells_of (D.state disk.old)) at slot run.now.header closed run.now.records b
         → OnOk result (IsReplayedUpTo run.now.header.geom.n (cells_of (D.state disk.new)) at slot run.now.header closed run.now.records (b + 1)) }
-    ensures holds { IsTrue D.tells → (at : Blocks) (slot old_slot : ℕ) (closed : headers.Header) → IsFound run.now.header.geom.n at old_slot run.now.header run.now.records → IsReplayedUpTo run.now.header.geom.n (cells_of (D.state disk.old)) at slot run.now.header closed run.now.records b
-        → Window run.now.header.geom.n (D.state disk.old).base (D.state disk.new).log (length (D.state disk.old).log) (λ img. HoldsUnder run.now.header.geom.n run.now.header.geom img (found_map at run.now.header run.now.records)) }
+    ensures holds { IsTrue D.tells → (at : Blocks) (slot old_slot : ℕ) (closed : headers.Header)
+        → IsFound run.now.header.geom.n at old_slot run.now.header run.now.records
+        → IsReplayedUpTo run.now.header.geom.n (cells_of (D.state disk.old)) at slot run.now.header closed run.now.records b
+        → Window run.now.header.geom.n (D.state disk.old).base (D.state disk.new).log (length (D.state disk.old).log)
+        (λ img. HoldsUnder run.now.header.geom.n run.now.header.geom img (found_map at run.now.header run.now.records)) }
     ensures grows { IsTrue D.tells → Grows (D.state disk.old).log (D.state disk.new).log }
     ensures fault { IfErr result IsFault }
     ensures spends { MountSpends (is_unread result) (is_faulty result) 1 (D.state disk.old) (D.state disk.new) }
@@ -157,9 +179,13 @@ fn replay_payload<D: Disk>(disk: &mut D, run: &Run, b: u32) -> Result<(), MountR
 /// Writes a payload to its place, and waits for it.
 fn write_payload<D: Disk>(disk: &mut D, b: u32, bytes: &Block) -> Result<(), MountRefusal>
     requires { b < (D.state disk.old).blocks }
-    ensures goes_on { IsTrue D.tells → (n : ℕ) (at : Blocks) (slot old_slot : ℕ) (h closed : headers.Header) (run : List Record) (x : List ℕ) → IsFound n at old_slot h run → bitmap_start h.geom ≤ b → covered_by h.geom at None run b ≡ Some x → IsReplaying n (cells_of (D.state disk.old)) at slot h closed run
+    ensures goes_on { IsTrue D.tells → (n : ℕ) (at : Blocks) (slot old_slot : ℕ) (h closed : headers.Header) (run : List Record) (x : List ℕ)
+        → IsFound n at old_slot h run → bitmap_start h.geom ≤ b → covered_by h.geom at None run b ≡ Some x
+        → IsReplaying n (cells_of (D.state disk.old)) at slot h closed run
         → Window n (D.state disk.old).base (D.state disk.new).log (length (D.state disk.old).log) (λ img. HoldsUnder n h.geom img (found_map at h run)) }
-    ensures next { IsTrue D.tells → (n : ℕ) (at : Blocks) (slot old_slot : ℕ) (h closed : headers.Header) (run : List Record) → IsFound n at old_slot h run → bitmap_start h.geom ≤ b → covered_by h.geom at None run b ≡ Some bytes.now → IsReplayedUpTo n (cells_of (D.state disk.old)) at slot h closed run b
+    ensures next { IsTrue D.tells → (n : ℕ) (at : Blocks) (slot old_slot : ℕ) (h closed : headers.Header) (run : List Record)
+        → IsFound n at old_slot h run → bitmap_start h.geom ≤ b → covered_by h.geom at None run b ≡ Some bytes.now
+        → IsReplayedUpTo n (cells_of (D.state disk.old)) at slot h closed run b
         → OnOk result (IsReplayedUpTo n (cells_of (D.state disk.new)) at slot h closed run (b + 1)) }
     ensures grows { IsTrue D.tells → Grows (D.state disk.old).log (D.state disk.new).log }
     ensures fault { IfErr result IsFault }
@@ -182,7 +208,8 @@ pub(crate) fn payload_of<D: Disk>(
     b: u32,
 ) -> Result<Option<Block>, DiskFault>
     requires { (D.state disk.old).blocks ≡ run.now.header.geom.n }
-    ensures value { IsTrue D.tells → (at : Blocks) → ((place : ℕ) → IsAsFound (cells_of (D.state disk.old)) at (ring_block run.now.header.geom place)) → IfOk result (λ o. o ≡ covered_by run.now.header.geom at None run.now.records b) }
+    ensures value { IsTrue D.tells → (at : Blocks) → ((place : ℕ) → IsAsFound (cells_of (D.state disk.old)) at (ring_block run.now.header.geom place))
+        → IfOk result (λ o. o ≡ covered_by run.now.header.geom at None run.now.records b) }
     ensures log { IsTrue D.tells → (D.state disk.new).log ≡ (D.state disk.old).log }
     ensures spends { OnlyReads (is_err result) (D.state disk.old) (D.state disk.new) }
 {

@@ -2,10 +2,12 @@
 //! found by halving; a ticket that is needed no longer is dropped. A ticket is open while it is expected and its
 //! notice hasn't come. Which write a ticket belongs to isn't the set's matter.
 
-ghost use Rattle.std.specs.Prelude.{◌≡◌, ◌<◌, ◌≤◌, ◌+◌, ◌&&◌, ◌||◌, ◌==◌, [], ℕ, not, true, false, take, map, slice_get, None, Some, IsTrue, IfSome, OnOk, length};
+ghost use Rattle.std.specs.Prelude.{◌≡◌, ◌<◌, ◌≤◌, ◌+◌, ◌&&◌, ◌||◌, ◌==◌, [], ℕ, not, true, false, take, map, slice_get, None, Some, IsTrue, IfSome};
+ghost use Rattle.std.specs.Prelude.{OnOk, length};
 ghost use Rattle.std.specs.VecDeque.{deque_len, deque_capacity};
 ghost use Rattle.engine_notes.specs.declared.notes.Note.{Note};
-ghost use Rattle.engine_notes.specs.Notes.{ticket_of, is_expected, is_noticed, are_noticed, is_open, none_open, is_among, are_rising, with_ticket, without_ticket};
+ghost use Rattle.engine_notes.specs.Notes.{ticket_of, is_expected, is_noticed, are_noticed, is_open, none_open, is_among, are_rising, with_ticket};
+ghost use Rattle.engine_notes.specs.Notes.{without_ticket};
 
 use base_types::NoMemory;
 use std::alloc::Global;
@@ -169,7 +171,8 @@ fn place_of(notes: &VecDeque<Note>, ticket: u64) -> usize
 
 /// Whether the note at this place is of the ticket.
 fn is_at(notes: &VecDeque<Note>, at: usize, ticket: u64) -> bool
-    ensures there { IsTrue result → (at < deque_len notes.now) × (at < length notes.now.items) × ((n : Note) → slice_get notes.now.items at ≡ Some n → n.ticket ≡ ticket) }
+    ensures there { IsTrue result → (at < deque_len notes.now) × (at < length notes.now.items)
+        × ((n : Note) → slice_get notes.now.items at ≡ Some n → n.ticket ≡ ticket) }
     ensures other { (n : Note) → slice_get notes.now.items at ≡ Some n → n.ticket ≡ ticket → IsTrue result }
 {
     match notes.get(at) {
@@ -181,7 +184,8 @@ fn is_at(notes: &VecDeque<Note>, at: usize, ticket: u64) -> bool
 /// The place of the ticket.
 fn found(notes: &VecDeque<Note>, ticket: u64) -> Option<usize>
     requires { are_rising notes.now.items ≡ true }
-    ensures there { IfSome result (λ at. (at < deque_len notes.now) × (at < length notes.now.items) × (is_expected ticket (take at notes.now.items) ≡ false) × ((n : Note) → slice_get notes.now.items at ≡ Some n → n.ticket ≡ ticket)) }
+    ensures there { IfSome result (λ at. (at < deque_len notes.now) × (at < length notes.now.items)
+        × (is_expected ticket (take at notes.now.items) ≡ false) × ((n : Note) → slice_get notes.now.items at ≡ Some n → n.ticket ≡ ticket)) }
     ensures none { result ≡ None → is_expected ticket notes.now.items ≡ false }
 {
     let at = place_of(notes, ticket);

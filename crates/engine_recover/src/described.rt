@@ -35,7 +35,8 @@ pub(crate) fn candidate_at<D: Disk>(
     left: usize,
 ) -> Result<Option<Record>, Stop>
     requires { (D.state disk.old).blocks ≡ header.now.geom.n }
-    ensures found { (img : Blocks) → Gives D.tells (D.state disk.old) img → IfOk result (Finds (IsCandidate img header.now left) (header.now.start + before) place) }
+    ensures found { (img : Blocks) → Gives D.tells (D.state disk.old) img
+        → IfOk result (Finds (IsCandidate img header.now left) (header.now.start + before) place) }
     ensures within { IfOk result (λ o. IfSome o (λ r. journal.places r ≤ left)) }
     ensures reads { Searches D.tells (is_unread result) (D.state disk.old) (D.state disk.new) }
 {
@@ -73,8 +74,10 @@ fn commit_at<D: Disk>(
     place: u32,
 ) -> Result<Option<Commit>, DiskFault>
     requires { (D.state disk.old).blocks ≡ header.now.geom.n }
-    ensures found { (img : Blocks) → Gives D.tells (D.state disk.old) img → IfOk result (λ o. IfSome o (HasCommit img header.now (header.now.start + before) place)) }
-    ensures missing { (img : Blocks) → Gives D.tells (D.state disk.old) img → IfOk result (λ o. o ≡ None → (c : commits.Commit) → ¬ HasCommit img header.now (header.now.start + before) place c) }
+    ensures found { (img : Blocks) → Gives D.tells (D.state disk.old) img
+        → IfOk result (λ o. IfSome o (HasCommit img header.now (header.now.start + before) place)) }
+    ensures missing { (img : Blocks) → Gives D.tells (D.state disk.old) img
+        → IfOk result (λ o. o ≡ None → (c : commits.Commit) → ¬ HasCommit img header.now (header.now.start + before) place c) }
     ensures within { IfOk result (λ o. IfSome o (IsWithinRing header.now.geom)) }
     ensures reads { Searches D.tells (is_err result) (D.state disk.old) (D.state disk.new) }
 {
@@ -94,7 +97,8 @@ fn described_entries<D: Disk>(
     requires size { (D.state disk.old).blocks ≡ header.now.geom.n }
     requires within { IsWithinRing header.now.geom commit.now }
     ensures found { (img : Blocks) → Gives D.tells (D.state disk.old) img → HasCommit img header.now commit.now.number place commit.now
-        → IfOk result (λ o. IfSome o (λ list. HasParts img header.now commit.now.number place (commit.now.payloads + commit.now.fresh) commit.now.descriptors list.items)) }
+        → IfOk result (λ o. IfSome o (λ list. HasParts img header.now commit.now.number place (commit.now.payloads + commit.now.fresh)
+        commit.now.descriptors list.items)) }
     ensures missing { (img : Blocks) → Gives D.tells (D.state disk.old) img → HasCommit img header.now commit.now.number place commit.now
         → IfOk result (λ o. o ≡ None → (r : journal.Record) → r.number ≡ commit.now.number → r.place ≡ place → ¬ IsDescribed img header.now r) }
     ensures count { IfOk result (λ o. IfSome o (λ list. length list.items ≡ commit.now.payloads + commit.now.fresh)) }
@@ -133,8 +137,10 @@ fn descriptor_at<D: Disk>(
     index: u32,
 ) -> Result<Option<Descriptor>, DiskFault>
     requires { (D.state disk.old).blocks ≡ header.now.geom.n }
-    ensures found { (img : Blocks) → Gives D.tells (D.state disk.old) img → IfOk result (λ o. IfSome o (λ d. HasPart img header.now number place index d.entries)) }
-    ensures missing { (img : Blocks) → Gives D.tells (D.state disk.old) img → IfOk result (λ o. o ≡ None → (es : List listed.Entry) → ¬ HasPart img header.now number place index es) }
+    ensures found { (img : Blocks) → Gives D.tells (D.state disk.old) img
+        → IfOk result (λ o. IfSome o (λ d. HasPart img header.now number place index d.entries)) }
+    ensures missing { (img : Blocks) → Gives D.tells (D.state disk.old) img
+        → IfOk result (λ o. o ≡ None → (es : List listed.Entry) → ¬ HasPart img header.now number place index es) }
     ensures reads { Searches D.tells (is_err result) (D.state disk.old) (D.state disk.new) }
 {
     let at = place as usize + 1 + index as usize;

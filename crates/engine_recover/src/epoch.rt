@@ -45,7 +45,8 @@ fn epoch_of_all<D: Disk>(disk: &mut D, geom: Geom) -> Result<u64, DiskFault>
 
 fn epoch_of_headers<D: Disk>(disk: &mut D, geom: Geom) -> Result<u64, DiskFault>
     requires { (D.state disk.old).blocks ≡ geom.n }
-    ensures value { (img : Blocks) → Gives D.tells (D.state disk.old) img → IfOk result (λ e. e ≡ max (header_epoch geom.n (img 0)) (header_epoch geom.n (img 1))) }
+    ensures value { (img : Blocks) → Gives D.tells (D.state disk.old) img
+        → IfOk result (λ e. e ≡ max (header_epoch geom.n (img 0)) (header_epoch geom.n (img 1))) }
     ensures reads { Searches D.tells (is_err result) (D.state disk.old) (D.state disk.new) }
 {
     let first = epoch_in_slot(disk, geom, 0)?;

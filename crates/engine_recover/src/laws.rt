@@ -22,12 +22,16 @@ pub fn the_last_payload_is_what_records_leave()
 
 /// Where the last payload of a block is, there is a ring place.
 pub fn the_last_payload_is_in_the_ring()
-    ensures { (g : Geometry) (rs : List Record) (b at : ℕ) (kind : EntryKind) → stored_after g None rs b ≡ Some (at, kind) → (place : ℕ) × (at ≡ ring_block g place) }
+    ensures { (g : Geometry) (rs : List Record) (b at : ℕ) (kind : EntryKind) → stored_after g None rs b ≡ Some (at, kind) → (place : ℕ)
+        × (at ≡ ring_block g place) }
 {}
 
 /// No header, and no commit block or descriptor in the ring, has an epoch above the greatest one.
 pub fn no_epoch_is_above_the_greatest()
-    ensures headers { (g : Geometry) (img : Blocks) (e slot : ℕ) (h : Header) → IsGreatestEpoch g img e → slot < 2 → header_of g.n (img slot) ≡ Some h → h.epoch ≤ e }
-    ensures commits { (g : Geometry) (img : Blocks) (e place : ℕ) (c : Commit) → IsGreatestEpoch g img e → 0 < g.j → commit_of g (img (ring_block g place)) ≡ Some c → c.epoch ≤ e }
-    ensures descriptors { (g : Geometry) (img : Blocks) (e place : ℕ) (d : Descriptor) → IsGreatestEpoch g img e → 0 < g.j → descriptor_of g (img (ring_block g place)) ≡ Some d → d.epoch ≤ e }
+    ensures headers { (g : Geometry) (img : Blocks) (e slot : ℕ) (h : Header) → IsGreatestEpoch g img e → slot < 2 → header_of g.n (img slot) ≡ Some h
+        → h.epoch ≤ e }
+    ensures commits { (g : Geometry) (img : Blocks) (e place : ℕ) (c : Commit) → IsGreatestEpoch g img e → 0 < g.j
+        → commit_of g (img (ring_block g place)) ≡ Some c → c.epoch ≤ e }
+    ensures descriptors { (g : Geometry) (img : Blocks) (e place : ℕ) (d : Descriptor) → IsGreatestEpoch g img e → 0 < g.j
+        → descriptor_of g (img (ring_block g place)) ≡ Some d → d.epoch ≤ e }
 {}

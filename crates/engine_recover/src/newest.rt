@@ -19,7 +19,8 @@ use layout_journal::{Header, journal_blocks_keep_to_their_bounds, read_header};
 /// A read failed, which the disk has counted.
 pub(crate) fn newest_header<D: Disk>(disk: &mut D) -> Result<Option<(u32, Header)>, DiskFault>
     ensures found { (img : Blocks) → Gives D.tells (D.state disk.old) img → IfOk result (λ o. IfSome o (λ p. Newest (D.state disk.old).blocks img p.0 p.1)) }
-    ensures missing { (img : Blocks) → Gives D.tells (D.state disk.old) img → IfOk result (λ o. o ≡ None → (slot : ℕ) (h : headers.Header) → ¬ Newest (D.state disk.old).blocks img slot h) }
+    ensures missing { (img : Blocks) → Gives D.tells (D.state disk.old) img
+        → IfOk result (λ o. o ≡ None → (slot : ℕ) (h : headers.Header) → ¬ Newest (D.state disk.old).blocks img slot h) }
     ensures within { IfOk result (λ o. IfSome o (λ p. IsWithinDisk (D.state disk.old).blocks p.1)) }
     ensures slot { IfOk result (λ o. IfSome o (λ p. p.0 < 2)) }
     ensures reads { Searches D.tells (is_err result) (D.state disk.old) (D.state disk.new) }

@@ -55,7 +55,8 @@ fn next_record<D: Disk>(
     left: usize,
 ) -> Result<Option<Record>, Stop>
     requires { (D.state disk.old).blocks ≡ header.now.geom.n }
-    ensures found { (img : Blocks) → Gives D.tells (D.state disk.old) img → IfOk result (Finds (MayCome img header.now left) (header.now.start + before) place) }
+    ensures found { (img : Blocks) → Gives D.tells (D.state disk.old) img
+        → IfOk result (Finds (MayCome img header.now left) (header.now.start + before) place) }
     ensures within { IfOk result (λ found. IfSome found (λ r. places r ≤ left)) }
     ensures reads { Searches D.tells (is_unread result) (D.state disk.old) (D.state disk.new) }
 {

@@ -21,7 +21,8 @@ pub(crate) fn is_whole<D: Disk>(
     found: &Record,
 ) -> Result<bool, DiskFault>
     requires { (D.state disk.old).blocks ≡ header.now.geom.n }
-    ensures whole { (img : Blocks) → Gives D.tells (D.state disk.old) img → IsDescribed img header.now found.now → IfOk result (λ b. IsTrue b ↔ IsWhole img header.now found.now) }
+    ensures whole { (img : Blocks) → Gives D.tells (D.state disk.old) img → IsDescribed img header.now found.now
+        → IfOk result (λ b. IsTrue b ↔ IsWhole img header.now found.now) }
     ensures reads { Searches D.tells (is_err result) (D.state disk.old) (D.state disk.new) }
 {
     whole_records_pass_their_tests();
@@ -43,7 +44,8 @@ pub(crate) fn is_whole<D: Disk>(
 /// Whether each payload of the record fits its entry.
 fn have_payloads<D: Disk>(disk: &mut D, geom: Geom, found: &Record) -> Result<bool, DiskFault>
     requires { (D.state disk.old).blocks ≡ geom.n }
-    ensures value { (img : Blocks) → Gives D.tells (D.state disk.old) img → IfOk result (λ b. b ≡ payloads_fit geom img (found.now.place + heads found.now) found.now.payloads) }
+    ensures value { (img : Blocks) → Gives D.tells (D.state disk.old) img
+        → IfOk result (λ b. b ≡ payloads_fit geom img (found.now.place + heads found.now) found.now.payloads) }
     ensures reads { Searches D.tells (is_err result) (D.state disk.old) (D.state disk.new) }
 {
     let first = found.place() as usize + found.heads();

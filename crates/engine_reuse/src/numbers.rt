@@ -2,7 +2,8 @@
 //! that a search passes over 4,096 numbers at once where there are none. What the numbers stand for isn't known
 //! here.
 
-ghost use Rattle.std.specs.Prelude.{◌≡◌, ◌≢◌, ◌+◌, ◌*◌, ◌<◌, ◌≤◌, ◌==◌, ◌&&◌, ◌||◌, ℕ, not, true, false, if◌then◌else◌, length, take, slice_index, IfNone, IfSome, IfOk};
+ghost use Rattle.std.specs.Prelude.{◌≡◌, ◌≢◌, ◌+◌, ◌*◌, ◌<◌, ◌≤◌, ◌==◌, ◌&&◌, ◌||◌, ℕ, not, true, false, if◌then◌else◌, length, take, slice_index};
+ghost use Rattle.std.specs.Prelude.{IfNone, IfSome, IfOk};
 ghost use Rattle.engine_reuse.specs.Numbers.{is_among, set_of};
 ghost use Rattle.engine_reuse.specs.Words.{has_bit, SaysFilled};
 

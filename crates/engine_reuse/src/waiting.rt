@@ -53,7 +53,8 @@ pub(crate) fn give_up(
 )
     requires { reached ≤ length waiting.old.items }
     ensures waiting { waiting.new.items ≡ filter (is_going_home going_home.now.members) (take reached waiting.old.items) ++ drop reached waiting.old.items }
-    ensures reusable { reusable.new ≡ set_of reusable.old.limit (λ b. is_among b (blocks_at_rest going_home.now.members (take reached waiting.old.items)) || is_among b reusable.old.members) }
+    ensures reusable { reusable.new ≡ set_of reusable.old.limit
+        (λ b. is_among b (blocks_at_rest going_home.now.members (take reached waiting.old.items)) || is_among b reusable.old.members) }
     ensures len { deque_len waiting.new ≤ deque_len waiting.old }
     ensures capacity { deque_capacity waiting.new ≡ deque_capacity waiting.old }
 {

@@ -104,12 +104,17 @@ impl Running {
         requires on_disk { (D.state disk.old).blocks ≡ ring.old.geom.n }
         requires free { ring.old.taken + places (record_of 0 0 self.paid self.laid) ≤ ring.old.geom.j }
         requires below { AreBelow (D.state disk.old).blocks self.laid }
-        ensures leaves { IsTrue D.tells → (s : MountedSession) (l : Ledger) (p : PipelineData) (m : Blocks) (t floor : ℕ) → ring.old.geom ≡ l.geom → IsTransaction l epoch number ring.old.next self.paid self.laid m
-            → NoneIsBeingWritten (cell_of (D.state disk.old).base (D.state disk.old).log) l → DataAgree (D.state disk.old).base (D.state disk.old).log l p → IsSafe s (D.state disk.old).base (D.state disk.old).log l t floor
+        ensures leaves { IsTrue D.tells → (s : MountedSession) (l : Ledger) (p : PipelineData) (m : Blocks) (t floor : ℕ) → ring.old.geom ≡ l.geom
+            → IsTransaction l epoch number ring.old.next self.paid self.laid m
+            → NoneIsBeingWritten (cell_of (D.state disk.old).base (D.state disk.old).log) l
+            → DataAgree (D.state disk.old).base (D.state disk.old).log l p → IsSafe s (D.state disk.old).base (D.state disk.old).log l t floor
             → CommitLeaves s l p (written_of epoch number ring.old.next self.paid self.laid) m t floor result (D.state disk.new).base (D.state disk.new).log }
-        ensures log { IsTrue D.tells → CommitAdds (record_writes ring.old.geom epoch number ring.old.next self.paid self.laid) result (D.state disk.old).log (D.state disk.new).log }
-        ensures one { IsTrue D.tells → (s : MountedSession) (l : Ledger) (p : PipelineData) (m : Blocks) (t floor : ℕ) → ring.old.geom ≡ l.geom → IsTransaction l epoch number ring.old.next self.paid self.laid m
-            → DataAgree (D.state disk.old).base (D.state disk.old).log l p → IsSafe s (D.state disk.old).base (D.state disk.old).log l t floor → HasOnePending (D.state disk.old).base (D.state disk.old).log l p [] → AreNotOnTheirWay (D.state disk.old).log p self.laid
+        ensures log { IsTrue D.tells → CommitAdds (record_writes ring.old.geom epoch number ring.old.next self.paid self.laid) result
+            (D.state disk.old).log (D.state disk.new).log }
+        ensures one { IsTrue D.tells → (s : MountedSession) (l : Ledger) (p : PipelineData) (m : Blocks) (t floor : ℕ) → ring.old.geom ≡ l.geom
+            → IsTransaction l epoch number ring.old.next self.paid self.laid m
+            → DataAgree (D.state disk.old).base (D.state disk.old).log l p → IsSafe s (D.state disk.old).base (D.state disk.old).log l t floor
+            → HasOnePending (D.state disk.old).base (D.state disk.old).log l p [] → AreNotOnTheirWay (D.state disk.old).log p self.laid
             → CommitKeepsOne l p (written_of epoch number ring.old.next self.paid self.laid) m result (D.state disk.new).base (D.state disk.new).log }
         ensures made { IfOk result (IsCommitOf self number ring.old.next) }
         ensures back { IfErr result (λ running. running ≡ self) }

@@ -22,8 +22,10 @@ use layout_journal::payloads_read_back;
 /// A transaction is a map from blocks to the bytes that were put. A put block has its bytes, a freed one has
 /// none, and every other block has what it had.
 pub fn a_transaction_is_a_map_of_its_puts()
-    ensures put { (fresh : Bool) (p : Put) (old new : Changes) → IsOrdered old.paid old.laid → Puts fresh p old new → (b : ℕ) → bytes_put new b ≡ (if p.block == b then Some p.bytes else bytes_put old b) }
-    ensures freed { (c : ℕ) (old new : Changes) → IsOrdered old.paid old.laid → Frees c old new → (b : ℕ) → bytes_put new b ≡ (if c == b then None else bytes_put old b) }
+    ensures put { (fresh : Bool) (p : Put) (old new : Changes) → IsOrdered old.paid old.laid → Puts fresh p old new → (b : ℕ)
+        → bytes_put new b ≡ (if p.block == b then Some p.bytes else bytes_put old b) }
+    ensures freed { (c : ℕ) (old new : Changes) → IsOrdered old.paid old.laid → Frees c old new → (b : ℕ)
+        → bytes_put new b ≡ (if c == b then None else bytes_put old b) }
     ensures took { (c : ℕ) (old new : Changes) → Takes c old new → (b : ℕ) → bytes_put new b ≡ bytes_put old b }
 {}
 
@@ -38,7 +40,8 @@ pub fn a_record_keeps_its_puts()
 /// A record makes a write for each of its fresh blocks and for each of its ring places, whether or not one
 /// of them is lost.
 pub fn a_record_makes_so_many_writes()
-    ensures size { (g : Geometry) (epoch number place : ℕ) (paid laid : List Put) → length (record_writes g epoch number place paid laid) ≡ length laid + descriptor_count (length paid + length laid) + length paid + 1 }
+    ensures size { (g : Geometry) (epoch number place : ℕ) (paid laid : List Put)
+        → length (record_writes g epoch number place paid laid) ≡ length laid + descriptor_count (length paid + length laid) + length paid + 1 }
     ensures accepted { (ws : List (ℕ × List ℕ)) (ts : List ℕ) (old new : List Event) → AddsWrites ws ts old new → writes_in new ≡ writes_in old + length ws }
     ensures failed { (ws : List (ℕ × List ℕ)) (old new : List Event) → AddsFront ws old new → writes_in new ≤ writes_in old + length ws }
 {}

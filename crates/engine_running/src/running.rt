@@ -4,7 +4,8 @@
 
 ghost use Rattle.std.specs.Prelude.{◌≡◌, ◌≤◌, ◌<◌, ◌+◌, ℕ, length, slice_get, Some, None, ◌^◌, OnOk, IfSome, vec_len, vec_capacity};
 ghost use Rattle.crash_argument.specs.HomeTest.{is_one_of};
-ghost use Rattle.engine_running.specs.Running.{IsOrdered, IsRisingNumbers, IsEmpty, HasRoomFor, SameChanges, Puts, Takes, Frees, Forgets, bytes_put, is_fresh, with_number};
+ghost use Rattle.engine_running.specs.Running.{IsOrdered, IsRisingNumbers, IsEmpty, HasRoomFor, SameChanges, Puts, Takes, Frees, Forgets, bytes_put};
+ghost use Rattle.engine_running.specs.Running.{is_fresh, with_number};
 
 use crate::rows::{bytes_in, give_back, put_over, take_out};
 use crate::{Class, Put};
@@ -32,9 +33,19 @@ impl Model for Running {
 
     ghost Value = { Changes };
 
-    ghost view = { λ r. record { paid = r.paid.items; laid = r.laid.items; taken = r.taken.items; freed = r.freed.items; puts = vec_len r.spare; takes = vec_capacity r.taken - vec_len r.taken; frees = vec_capacity r.freed - vec_len r.freed } };
+    ghost view = { λ r. record {
+      paid = r.paid.items;
+      laid = r.laid.items;
+      taken = r.taken.items;
+      freed = r.freed.items;
+      puts = vec_len r.spare;
+      takes
+          = vec_capacity r.taken - vec_len r.taken;
+      frees = vec_capacity r.freed - vec_len r.freed;
+    } };
 
-    ghost invariant = { λ r. IsKept r.paid.items r.laid.items r.taken.items (vec_len r.paid + vec_len r.laid + vec_len r.spare) (vec_capacity r.paid) (vec_capacity r.laid) (vec_capacity r.spare) };
+    ghost invariant = { λ r. IsKept r.paid.items r.laid.items r.taken.items (vec_len r.paid + vec_len r.laid + vec_len r.spare) (vec_capacity r.paid)
+        (vec_capacity r.laid) (vec_capacity r.spare) };
 }
 
 impl Running {

@@ -36,9 +36,12 @@ pub fn issue_fresh<D: Disk>(
 ) -> Result<(), DiskFault>
     requires below { AreBelow (D.state disk.old).blocks laid.now }
     requires room { vec_len tickets.old + length laid.now ≤ vec_capacity tickets.old }
-    ensures under_way { IsTrue D.tells → (s : MountedSession) (l : Ledger) (p : PipelineData) (w : WrittenRecord) (m : Blocks) (t floor issued : ℕ) → FreshAreNew l → IsNextRecord l w m → AreLaid laid.now w
-        → IsSafe s (D.state disk.old).base (D.state disk.old).log l t floor → IsPartlyWritten (D.state disk.old).base (D.state disk.old).log l p w tickets.old.items 0 issued
-        → IsSafe s (D.state disk.new).base (D.state disk.new).log l t floor × OnOk result (IsPartlyWritten (D.state disk.new).base (D.state disk.new).log l p w tickets.new.items (length laid.now) issued) }
+    ensures under_way { IsTrue D.tells → (s : MountedSession) (l : Ledger) (p : PipelineData) (w : WrittenRecord) (m : Blocks) (t floor issued : ℕ)
+        → FreshAreNew l → IsNextRecord l w m → AreLaid laid.now w
+        → IsSafe s (D.state disk.old).base (D.state disk.old).log l t floor
+        → IsPartlyWritten (D.state disk.old).base (D.state disk.old).log l p w tickets.old.items 0 issued
+        → IsSafe s (D.state disk.new).base (D.state disk.new).log l t floor
+        × OnOk result (IsPartlyWritten (D.state disk.new).base (D.state disk.new).log l p w tickets.new.items (length laid.now) issued) }
     ensures log { IsTrue D.tells → AddsAll (map fresh_write laid.now) result tickets.old.items tickets.new.items (D.state disk.old).log (D.state disk.new).log }
     ensures spends { OnlyWrites (is_err result) (D.state disk.old) (D.state disk.new) }
     ensures cause { IsTrue D.tells → OnErr result (HasFailed (D.state disk.new)) }
@@ -67,11 +70,17 @@ pub fn issue_descriptors<D: Disk>(
     requires begins { place < geom.now.j }
     requires small { length paid.now + length laid.now ≤ 2097152 }
     requires room { vec_len tickets.old + descriptor_count (length paid.now + length laid.now) ≤ vec_capacity tickets.old }
-    ensures under_way { IsTrue D.tells → (s : MountedSession) (l : Ledger) (p : PipelineData) (w : WrittenRecord) (m : Blocks) (t floor laid_so_far : ℕ) → FreshAreNew l → IsNextRecord l w m
-        → geom.now ≡ l.geom → place ≡ w.says.place → AreParts w 1 (descriptor_blocks epoch (record_of number 0 paid.now laid.now)) → 1 + descriptor_count (length paid.now + length laid.now) ≤ places w.says
-        → IsSafe s (D.state disk.old).base (D.state disk.old).log l t floor → IsPartlyWritten (D.state disk.old).base (D.state disk.old).log l p w tickets.old.items laid_so_far 1
-        → IsSafe s (D.state disk.new).base (D.state disk.new).log l t floor × OnOk result (IsPartlyWritten (D.state disk.new).base (D.state disk.new).log l p w tickets.new.items laid_so_far (1 + descriptor_count (length paid.now + length laid.now))) }
-    ensures log { IsTrue D.tells → AddsAll (ring_writes geom.now (place + 1) (descriptor_blocks epoch (record_of number 0 paid.now laid.now))) result tickets.old.items tickets.new.items (D.state disk.old).log (D.state disk.new).log }
+    ensures under_way { IsTrue D.tells → (s : MountedSession) (l : Ledger) (p : PipelineData) (w : WrittenRecord) (m : Blocks)
+        (t floor laid_so_far : ℕ) → FreshAreNew l → IsNextRecord l w m
+        → geom.now ≡ l.geom → place ≡ w.says.place → AreParts w 1 (descriptor_blocks epoch (record_of number 0 paid.now laid.now))
+        → 1 + descriptor_count (length paid.now + length laid.now) ≤ places w.says
+        → IsSafe s (D.state disk.old).base (D.state disk.old).log l t floor
+        → IsPartlyWritten (D.state disk.old).base (D.state disk.old).log l p w tickets.old.items laid_so_far 1
+        → IsSafe s (D.state disk.new).base (D.state disk.new).log l t floor
+        × OnOk result (IsPartlyWritten (D.state disk.new).base (D.state disk.new).log l p w tickets.new.items laid_so_far
+        (1 + descriptor_count (length paid.now + length laid.now))) }
+    ensures log { IsTrue D.tells → AddsAll (ring_writes geom.now (place + 1) (descriptor_blocks epoch (record_of number 0 paid.now laid.now))) result
+        tickets.old.items tickets.new.items (D.state disk.old).log (D.state disk.new).log }
     ensures spends { OnlyWrites (is_err result) (D.state disk.old) (D.state disk.new) }
     ensures cause { IsTrue D.tells → OnErr result (HasFailed (D.state disk.new)) }
     ensures taken { OnOk result (vec_len tickets.new ≡ vec_len tickets.old + descriptor_count (length paid.now + length laid.now)) }
@@ -100,11 +109,15 @@ pub fn issue_payloads<D: Disk>(
     requires begins { first ≤ 2 ^ 20 }
     requires small { length paid.now ≤ 2097152 }
     requires room { vec_len tickets.old + length paid.now ≤ vec_capacity tickets.old }
-    ensures under_way { IsTrue D.tells → (s : MountedSession) (l : Ledger) (p : PipelineData) (w : WrittenRecord) (m : Blocks) (t floor laid from : ℕ) → FreshAreNew l → IsNextRecord l w m
+    ensures under_way { IsTrue D.tells → (s : MountedSession) (l : Ledger) (p : PipelineData) (w : WrittenRecord) (m : Blocks) (t floor laid from : ℕ)
+        → FreshAreNew l → IsNextRecord l w m
         → geom.now ≡ l.geom → first ≡ w.says.place + from → 0 < from → from + length paid.now ≤ places w.says → AreParts w from (map stored_put paid.now)
-        → IsSafe s (D.state disk.old).base (D.state disk.old).log l t floor → IsPartlyWritten (D.state disk.old).base (D.state disk.old).log l p w tickets.old.items laid from
-        → IsSafe s (D.state disk.new).base (D.state disk.new).log l t floor × OnOk result (IsPartlyWritten (D.state disk.new).base (D.state disk.new).log l p w tickets.new.items laid (from + length paid.now)) }
-    ensures log { IsTrue D.tells → AddsAll (ring_writes geom.now first (map stored_put paid.now)) result tickets.old.items tickets.new.items (D.state disk.old).log (D.state disk.new).log }
+        → IsSafe s (D.state disk.old).base (D.state disk.old).log l t floor
+        → IsPartlyWritten (D.state disk.old).base (D.state disk.old).log l p w tickets.old.items laid from
+        → IsSafe s (D.state disk.new).base (D.state disk.new).log l t floor
+        × OnOk result (IsPartlyWritten (D.state disk.new).base (D.state disk.new).log l p w tickets.new.items laid (from + length paid.now)) }
+    ensures log { IsTrue D.tells → AddsAll (ring_writes geom.now first (map stored_put paid.now)) result tickets.old.items tickets.new.items
+        (D.state disk.old).log (D.state disk.new).log }
     ensures spends { OnlyWrites (is_err result) (D.state disk.old) (D.state disk.new) }
     ensures cause { IsTrue D.tells → OnErr result (HasFailed (D.state disk.new)) }
     ensures taken { OnOk result (vec_len tickets.new ≡ vec_len tickets.old + length paid.now) }
@@ -140,10 +153,14 @@ pub fn issue_record<D: Disk>(
     requires below { AreBelow (D.state disk.old).blocks laid.now }
     requires none { tickets.old.items ≡ [] }
     requires room { length laid.now + places (record_of 0 0 paid.now laid.now) ≤ vec_capacity tickets.old }
-    ensures leaves { IsTrue D.tells → (s : MountedSession) (l : Ledger) (p : PipelineData) (m : Blocks) (t floor : ℕ) → IsNextRecord l (written_of epoch number place paid.now laid.now) m → geom.now ≡ l.geom
-        → NoneIsBeingWritten (cell_of (D.state disk.old).base (D.state disk.old).log) l → DataAgree (D.state disk.old).base (D.state disk.old).log l p → IsSafe s (D.state disk.old).base (D.state disk.old).log l t floor
-        → RecordLeaves s l p (written_of epoch number place paid.now laid.now) m t floor result tickets.new.items (D.state disk.new).base (D.state disk.new).log }
-    ensures log { IsTrue D.tells → AddsAll (record_writes geom.now epoch number place paid.now laid.now) result tickets.old.items tickets.new.items (D.state disk.old).log (D.state disk.new).log }
+    ensures leaves { IsTrue D.tells → (s : MountedSession) (l : Ledger) (p : PipelineData) (m : Blocks) (t floor : ℕ)
+        → IsNextRecord l (written_of epoch number place paid.now laid.now) m → geom.now ≡ l.geom
+        → NoneIsBeingWritten (cell_of (D.state disk.old).base (D.state disk.old).log) l → DataAgree (D.state disk.old).base (D.state disk.old).log l p
+        → IsSafe s (D.state disk.old).base (D.state disk.old).log l t floor
+        → RecordLeaves s l p (written_of epoch number place paid.now laid.now) m t floor result tickets.new.items (D.state disk.new).base
+        (D.state disk.new).log }
+    ensures log { IsTrue D.tells → AddsAll (record_writes geom.now epoch number place paid.now laid.now) result tickets.old.items tickets.new.items
+        (D.state disk.old).log (D.state disk.new).log }
     ensures spends { OnlyWrites (is_err result) (D.state disk.old) (D.state disk.new) }
     ensures cause { IsTrue D.tells → OnErr result (HasFailed (D.state disk.new)) }
     ensures taken { OnOk result (length tickets.new.items ≡ length laid.now + places (record_of 0 0 paid.now laid.now)) }

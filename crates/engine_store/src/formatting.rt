@@ -14,7 +14,8 @@ ghost use Rattle.crash_argument.specs.Writes.{AddsWrites};
 ghost use Rattle.engine_mount.specs.Mount.{IsIdle, settled_on};
 ghost use Rattle.crash_stands.specs.Stands.{StandsFor};
 ghost use Rattle.lang_tree.specs.Step.{start};
-ghost use Rattle.engine_store.specs.Formatting.{AllAccepted, fails_formatting, content_of, row_of, AddsDurably, AddsFormatting, WritesBelow, IsFormattedOver, MkfsSpends};
+ghost use Rattle.engine_store.specs.Formatting.{AllAccepted, fails_formatting, content_of, row_of, AddsDurably, AddsFormatting, WritesBelow};
+ghost use Rattle.engine_store.specs.Formatting.{IsFormattedOver, MkfsSpends};
 ghost use Rattle.engine_store.specs.declared.formatting.MkfsRefusal.TheVariants as refused;
 
 use crate::laws::the_data_of_a_formatted_disk_may_be_anything;
@@ -66,9 +67,11 @@ enum Content {
 pub fn mkfs<D: Disk>(alloc: Global, disk: &mut D, geom: &Geom) -> Result<(), MkfsRefusal>
     requires size { (D.state disk.old).blocks ≡ geom.now.n }
     ensures formatted { IsTrue D.tells → IsIdle (D.state disk.old) → OnOk result (IsFormattedOver geom.now (D.state disk.old) (D.state disk.new)) }
-    ensures holds { IsTrue D.tells → IsIdle (D.state disk.old) → OnOk result (HoldsUnder geom.now.n geom.now (settled_on (D.state disk.new)) (live_part geom.now (formatted geom.now))) }
+    ensures holds { IsTrue D.tells → IsIdle (D.state disk.old)
+        → OnOk result (HoldsUnder geom.now.n geom.now (settled_on (D.state disk.new)) (live_part geom.now (formatted geom.now))) }
     ensures stands { IsTrue D.tells → IsIdle (D.state disk.old) → OnOk result (StandsFor geom.now.n (settled_on (D.state disk.new)) (start geom.now.i).tree) }
-    ensures kept { IsTrue D.tells → IsIdle (D.state disk.old) → (b : ℕ) → data_start geom.now ≤ b → cells_of (D.state disk.new) b ≡ cells_of (D.state disk.old) b }
+    ensures kept { IsTrue D.tells → IsIdle (D.state disk.old) → (b : ℕ) → data_start geom.now ≤ b
+        → cells_of (D.state disk.new) b ≡ cells_of (D.state disk.old) b }
     ensures adds { IsTrue D.tells → OnOk result (AddsFormatting geom.now (D.state disk.old).log (D.state disk.new).log) }
     ensures below { IsTrue D.tells → WritesBelow (data_start geom.now) (D.state disk.old).log (D.state disk.new).log }
     ensures memory { IfErr result (λ why. why ≡ refused.NoMemory → disk.new ≡ disk.old) }
@@ -137,7 +140,8 @@ fn make_durable<D: Disk>(
     requires order { first ≤ end }
     requires within { end ≤ (D.state disk.old).blocks }
     requires room { end - first ≤ vec_capacity tickets.old }
-    ensures adds { IsTrue D.tells → OnOk result (AddsDurably (row_of (content_of geom.now content) first (end - first)) (D.state disk.old).log (D.state disk.new).log) }
+    ensures adds { IsTrue D.tells → OnOk result
+        (AddsDurably (row_of (content_of geom.now content) first (end - first)) (D.state disk.old).log (D.state disk.new).log) }
     ensures below { IsTrue D.tells → WritesBelow end (D.state disk.old).log (D.state disk.new).log }
     ensures room { vec_capacity tickets.new ≡ vec_capacity tickets.old }
     ensures spends { SpendsUpTo (is_err result) (end - first) (D.state disk.old) (D.state disk.new) }
@@ -160,7 +164,8 @@ fn write_row<D: Disk>(
     requires order { first ≤ end }
     requires within { end ≤ (D.state disk.old).blocks }
     requires room { end - first ≤ vec_capacity tickets.old }
-    ensures accepted { IsTrue D.tells → OnOk result (AddsWrites (row_of (content_of geom.now content) first (end - first)) tickets.new.items (D.state disk.old).log (D.state disk.new).log) }
+    ensures accepted { IsTrue D.tells → OnOk result
+        (AddsWrites (row_of (content_of geom.now content) first (end - first)) tickets.new.items (D.state disk.old).log (D.state disk.new).log) }
     ensures taken { OnOk result (length tickets.new.items ≡ end - first) }
     ensures below { IsTrue D.tells → WritesBelow end (D.state disk.old).log (D.state disk.new).log }
     ensures room { vec_capacity tickets.new ≡ vec_capacity tickets.old }

@@ -16,8 +16,10 @@ use layout_journal::{journal_blocks_read_back, the_formatted_disk_is_empty};
 /// What is in the data of a formatted disk may be anything: each image that has the formatted disk's blocks
 /// before the data holds that disk's live blocks, under a header of its geometry, and stands for the root alone.
 pub fn the_data_of_a_formatted_disk_may_be_anything()
-    ensures held { (g : Geometry) (img : Blocks) → geometry_fits g ≡ true → ((b : ℕ) → b < data_start g → img b ≡ formatted g b) → (held : HeldIs g.n img (live_part g (formatted g))) × (held.header.geom ≡ g) }
-    ensures stands { (g : Geometry) (img : Blocks) → geometry_fits g ≡ true → ((b : ℕ) → b < data_start g → img b ≡ formatted g b) → StandsFor g.n img (start g.i).tree }
+    ensures held { (g : Geometry) (img : Blocks) → geometry_fits g ≡ true → ((b : ℕ) → b < data_start g → img b ≡ formatted g b)
+        → (held : HeldIs g.n img (live_part g (formatted g))) × (held.header.geom ≡ g) }
+    ensures stands { (g : Geometry) (img : Blocks) → geometry_fits g ≡ true → ((b : ℕ) → b < data_start g → img b ≡ formatted g b)
+        → StandsFor g.n img (start g.i).tree }
 {
     geometries_are_within_limits();
     journal_blocks_read_back();

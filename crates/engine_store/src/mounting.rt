@@ -48,9 +48,11 @@ pub(crate) fn open_parts<D: Disk>(
     requires idle { IsTrue D.tells → IsIdle (D.state disk.old) }
     ensures kept { IfOk result (λ v. IsKeptOn D.tells v (D.state disk.new)) }
     ensures begun { IfOk result (λ v. (ticks : ℕ) → IsBegun (store_state v ticks (D.state disk.new))) }
-    ensures begins { IsTrue D.tells → (g : Geometry) (m : Blocks) → HoldsUnder (D.state disk.old).blocks g (settled_on (D.state disk.old)) m → IfOk result (λ v. (ticks : ℕ) → BeginsWith g m (store_state v ticks (D.state disk.new))) }
+    ensures begins { IsTrue D.tells → (g : Geometry) (m : Blocks) → HoldsUnder (D.state disk.old).blocks g (settled_on (D.state disk.old)) m
+        → IfOk result (λ v. (ticks : ℕ) → BeginsWith g m (store_state v ticks (D.state disk.new))) }
     ensures holds { IsTrue D.tells → (g : Geometry) (m : Blocks) → HoldsUnder (D.state disk.old).blocks g (settled_on (D.state disk.old)) m
-        → Window (D.state disk.old).blocks (D.state disk.old).base (D.state disk.new).log (length (D.state disk.old).log) (λ img. HoldsUnder (D.state disk.old).blocks g img m) }
+        → Window (D.state disk.old).blocks (D.state disk.old).base (D.state disk.new).log (length (D.state disk.old).log)
+        (λ img. HoldsUnder (D.state disk.old).blocks g img m) }
     ensures mountable { IsTrue D.tells → IfOk result (λ v. MayBeMounted (D.state disk.old)) }
     ensures refused { IsTrue D.tells → IfErr result (RefusalSays (D.state disk.old) (D.state disk.new)) }
     ensures spends { MountSpends (is_unread result) (is_faulty result) ((D.state disk.old).blocks + 2) (D.state disk.old) (D.state disk.new) }
@@ -58,7 +60,8 @@ pub(crate) fn open_parts<D: Disk>(
     ensures written { IsTrue D.tells → writes_in (D.state disk.new).log ≤ writes_in (D.state disk.old).log + ((D.state disk.old).blocks + 2) }
     ensures numbers { IsTrue D.tells → IfOk result (λ v. (ticks : ℕ) → GoesOnFrom (D.state disk.old) (store_state v ticks (D.state disk.new))) }
     ensures opens { IsTrue D.tells → IfOk result (λ v. (ticks : ℕ) → HasOpened (D.state disk.old) (store_state v ticks (D.state disk.new))) }
-    ensures alone { IsTrue D.tells → HasNothingToReplay (D.state disk.old) → WritesOnce (D.state disk.old).manner result (D.state disk.old).log (D.state disk.new).log }
+    ensures alone { IsTrue D.tells → HasNothingToReplay (D.state disk.old)
+        → WritesOnce (D.state disk.old).manner result (D.state disk.old).log (D.state disk.new).log }
 {
     a_session_begins_with_its_map();
     a_new_store_is_right();

@@ -44,12 +44,16 @@ pub(crate) fn advance<D: Disk>(disk: &mut D, parts: &mut StoreParts) -> Result<(
     requires going { parts.old.stopped ≡ false }
     requires turns { HasTurns (bookkeeping_of parts.old) }
     ensures kept { IsKeptOn D.tells parts.new (D.state disk.new) }
-    ensures runs { (before then : ℕ) → RunsPipeline D.tells (is_err result) (store_state parts.old before (D.state disk.old)) (store_state parts.new then (D.state disk.new)) }
+    ensures runs { (before then : ℕ) → RunsPipeline D.tells (is_err result) (store_state parts.old before (D.state disk.old))
+        (store_state parts.new then (D.state disk.new)) }
     ensures waits { (D.state disk.new).waits ≡ (D.state disk.old).waits }
     ensures manner { (D.state disk.new).manner ≡ (D.state disk.old).manner }
-    ensures polled { IsTrue D.tells → PollsThenWrites (D.state disk.old).manner 64 (D.state disk.old).polls (D.state disk.old).log (D.state disk.new).polls (D.state disk.new).log }
-    ensures serves { (before then : ℕ) → IsTrue D.tells → (D.state disk.old).manner.waits_alone ≡ true → OnOk result (ServesSure (store_state parts.old before (D.state disk.old)) (store_state parts.new then (D.state disk.new))) }
-    ensures ring { (ticks : ℕ) → IsTrue D.tells → (D.state disk.old).manner.waits_alone ≡ true → OnOk result (RingIsTold (store_state parts.new ticks (D.state disk.new))) }
+    ensures polled { IsTrue D.tells → PollsThenWrites (D.state disk.old).manner 64 (D.state disk.old).polls (D.state disk.old).log
+        (D.state disk.new).polls (D.state disk.new).log }
+    ensures serves { (before then : ℕ) → IsTrue D.tells → (D.state disk.old).manner.waits_alone ≡ true
+        → OnOk result (ServesSure (store_state parts.old before (D.state disk.old)) (store_state parts.new then (D.state disk.new))) }
+    ensures ring { (ticks : ℕ) → IsTrue D.tells → (D.state disk.old).manner.waits_alone ≡ true
+        → OnOk result (RingIsTold (store_state parts.new ticks (D.state disk.new))) }
 {
     a_freed_block_waits();
     a_log_tells_its_records();
@@ -67,7 +71,8 @@ pub(crate) fn drain<D: Disk>(disk: &mut D, parts: &mut StoreParts) -> Result<(),
     requires going { parts.old.stopped ≡ false }
     requires turns { HasTurns (bookkeeping_of parts.old) }
     ensures kept { IsKeptOn D.tells parts.new (D.state disk.new) }
-    ensures runs { (before then : ℕ) → RunsPipeline D.tells (is_err result) (store_state parts.old before (D.state disk.old)) (store_state parts.new then (D.state disk.new)) }
+    ensures runs { (before then : ℕ) → RunsPipeline D.tells (is_err result) (store_state parts.old before (D.state disk.old))
+        (store_state parts.new then (D.state disk.new)) }
     ensures moves { PartsMove 4 parts.old parts.new }
     ensures settled { OnOk result ((bookkeeping_of parts.new).waiting ≡ 0) }
     ensures serves { OnOk result (SameFreed (with_all_served (bookkeeping_of parts.old)) (bookkeeping_of parts.new)) }
@@ -89,12 +94,14 @@ pub(crate) fn wait_for_last<D: Disk>(disk: &mut D, parts: &mut StoreParts) -> Re
     requires going { parts.old.stopped ≡ false }
     requires turns { pipeline.HasTurns parts.old.pipeline }
     ensures kept { IsKeptOn D.tells parts.new (D.state disk.new) }
-    ensures runs { (before then : ℕ) → RunsPipeline D.tells (is_err result) (store_state parts.old before (D.state disk.old)) (store_state parts.new then (D.state disk.new)) }
+    ensures runs { (before then : ℕ) → RunsPipeline D.tells (is_err result) (store_state parts.old before (D.state disk.old))
+        (store_state parts.new then (D.state disk.new)) }
     ensures moves { PartsMove 4 parts.old parts.new }
     ensures durable { OnOk result (parts.new.floor ≡ parts.new.point) }
     ensures books { parts.new.books ≡ parts.old.books }
     ensures still { IsTrue D.tells → writes_in (D.state disk.new).log ≡ writes_in (D.state disk.old).log }
-    ensures waits { (before then : ℕ) → IsTrue D.tells → (D.state disk.old).manner.waits_alone ≡ true → HearsRecords (store_state parts.old before (D.state disk.old)) (store_state parts.new then (D.state disk.new)) }
+    ensures waits { (before then : ℕ) → IsTrue D.tells → (D.state disk.old).manner.waits_alone ≡ true
+        → HearsRecords (store_state parts.old before (D.state disk.old)) (store_state parts.new then (D.state disk.new)) }
     ensures asks { AsksNothing (D.state disk.old) (D.state disk.new) }
 {
     a_pipeline_call_keeps_the_store();
@@ -127,10 +134,13 @@ fn settle_up(parts: &mut StoreParts, done: Result<(), DiskFault>) -> Result<(), 
 /// pipeline as the contract of maps of blocks says it. A call that adds notices alone and keeps the records leaves
 /// the bytes of live blocks. The function does nothing.
 fn a_pipeline_call_keeps_the_store()
-    ensures keeps { (tells : Bool) (headers : ℕ) (result : Result (Unit {0}) faults.DiskFault) (v w : parts.StoreParts) (d e : State) → headers ≤ 4 → IsKeptOn tells v d → v.stopped ≡ false → CallsPipeline tells headers result v w d e → IsKeptOn tells (settled_up result w) e }
-    ensures runs { (tells : Bool) (headers : ℕ) (result : Result (Unit {0}) faults.DiskFault) (v w : parts.StoreParts) (d e : State) (before then : ℕ) → headers ≤ 4 → IsKeptOn tells v d → v.stopped ≡ false → CallsPipeline tells headers result v w d e
+    ensures keeps { (tells : Bool) (headers : ℕ) (result : Result (Unit {0}) faults.DiskFault) (v w : parts.StoreParts) (d e : State) → headers ≤ 4
+        → IsKeptOn tells v d → v.stopped ≡ false → CallsPipeline tells headers result v w d e → IsKeptOn tells (settled_up result w) e }
+    ensures runs { (tells : Bool) (headers : ℕ) (result : Result (Unit {0}) faults.DiskFault) (v w : parts.StoreParts) (d e : State) (before then : ℕ)
+        → headers ≤ 4 → IsKeptOn tells v d → v.stopped ≡ false → CallsPipeline tells headers result v w d e
         → RunsPipeline tells (is_err result) (store_state v before d) (store_state (settled_up result w) then e) }
-    ensures noticed { (s : MountedSession) (l : Ledger) (t floor : ℕ) (v w : Pipeline) (ring : RingPlaces) (dead : DeadBlocks) (taken : List ℕ) (d e : State) → IsRightOn s d l t floor v ring dead taken → SameDisk d e → OnlyNotices d.log e.log → kept w ≡ kept v → LeavesBytes l v w d e }
+    ensures noticed { (s : MountedSession) (l : Ledger) (t floor : ℕ) (v w : Pipeline) (ring : RingPlaces) (dead : DeadBlocks) (taken : List ℕ)
+        (d e : State) → IsRightOn s d l t floor v ring dead taken → SameDisk d e → OnlyNotices d.log e.log → kept w ≡ kept v → LeavesBytes l v w d e }
 {
     a_pipeline_that_moves_moves_the_books();
     a_going_store_stays_so();

@@ -23,7 +23,8 @@ pub fn a_sound_store_has_sound_books()
 /// A call that moves the pipeline by four headers at most moves it as the contract of maps of blocks says, and keeps
 /// the books, whether the disk failed or not. The floor must not fall.
 pub fn a_pipeline_that_moves_moves_the_books()
-    ensures moves { (v w : StoreParts) (headers : ℕ) → headers ≤ 4 → PartsMove headers v w → v.floor ≤ w.floor → MovesPipeline (bookkeeping_of v) (bookkeeping_of w) }
+    ensures moves { (v w : StoreParts) (headers : ℕ) → headers ≤ 4 → PartsMove headers v w → v.floor ≤ w.floor
+        → MovesPipeline (bookkeeping_of v) (bookkeeping_of w) }
     ensures kept { (v w : StoreParts) (headers : ℕ) → PartsMove headers v w → AreKept v.books → AreKept w.books }
 {
     a_release_keeps_the_books();
@@ -32,8 +33,10 @@ pub fn a_pipeline_that_moves_moves_the_books()
 /// A store that is going stays sound as a call moves its pipeline. Where the call succeeded and the floor was taken
 /// anew, it goes on, and the floor hasn't fallen. Where the disk failed it stops, and the floor stays.
 pub fn a_going_store_stays_so()
-    ensures goes_on { (v w : StoreParts) (headers : ℕ) → StoreIsSound v → v.stopped ≡ false → PartsMove headers v w → pipeline.IsSound w.pipeline w.ring w.books.dead → w.floor ≡ durable_point w → StoreIsSound w }
-    ensures rises { (v w : StoreParts) (headers : ℕ) → StoreIsSound v → v.stopped ≡ false → PartsMove headers v w → w.floor ≡ durable_point w → v.floor ≤ w.floor }
+    ensures goes_on { (v w : StoreParts) (headers : ℕ) → StoreIsSound v → v.stopped ≡ false → PartsMove headers v w
+        → pipeline.IsSound w.pipeline w.ring w.books.dead → w.floor ≡ durable_point w → StoreIsSound w }
+    ensures rises { (v w : StoreParts) (headers : ℕ) → StoreIsSound v → v.stopped ≡ false → PartsMove headers v w → w.floor ≡ durable_point w
+        → v.floor ≤ w.floor }
     ensures stops { (v w : StoreParts) (headers : ℕ) → StoreIsSound v → PartsMove headers v w → w.stopped ≡ true → w.floor ≡ v.floor → StoreIsSound w }
 {
     a_release_keeps_the_books();

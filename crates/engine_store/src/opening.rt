@@ -21,7 +21,8 @@ ghost use Rattle.engine_checkpoint.specs.Advance.{IsRight, IsSound};
 ghost use Rattle.engine_books.specs.Books.{TransactionBooks};
 ghost use Rattle.engine_books.specs.Point.{BeganAt, HasBitmap};
 ghost use Rattle.engine_store.specs.Opening.{AreNewBooks, IsNewPipeline, empty_ring, first_ledger, first_map};
-ghost use Rattle.engine_store.specs.Refusal.{HasBadBit, HasNumbersLeft, IsReplayedBitmap, IsSoundBitmap, MayBeMounted, NamesBadBit, RefusalSays, is_faulty, is_unread};
+ghost use Rattle.engine_store.specs.Refusal.{HasBadBit, HasNumbersLeft, IsReplayedBitmap, IsSoundBitmap, MayBeMounted, NamesBadBit, RefusalSays};
+ghost use Rattle.engine_store.specs.Refusal.{is_faulty, is_unread};
 ghost use Rattle.engine_store.specs.declared.refusal.StoreRefusal.TheVariants as refused;
 
 use crate::refusal::{StoreRefusal, refusal_of};
@@ -38,9 +39,12 @@ use std::alloc::Global;
 /// As a session begins, its map is the ledger's where it is live. No write is lost, and what was accepted last in
 /// each block is the ledger's map.
 pub fn a_session_begins_with_its_map()
-    ensures map { (d : State) (g : Geometry) (slot : ℕ) (h : Header) (since : ℕ) (m : Blocks) → HasBegun d g slot h since m → m ≡ live_part g (first_map d g slot h) }
-    ensures lost { (d : State) (g : Geometry) (slot : ℕ) (h : Header) (since : ℕ) (m : Blocks) → HasBegun d g slot h since m → (b : ℕ) → is_lost b d.log ≡ false }
-    ensures accepted { (d : State) (g : Geometry) (slot : ℕ) (h : Header) (since : ℕ) (m : Blocks) → HasBegun d g slot h since m → (b : ℕ) → accepted d.base d.log b ≡ first_map d g slot h b }
+    ensures map { (d : State) (g : Geometry) (slot : ℕ) (h : Header) (since : ℕ) (m : Blocks) → HasBegun d g slot h since m
+        → m ≡ live_part g (first_map d g slot h) }
+    ensures lost { (d : State) (g : Geometry) (slot : ℕ) (h : Header) (since : ℕ) (m : Blocks) → HasBegun d g slot h since m → (b : ℕ)
+        → is_lost b d.log ≡ false }
+    ensures accepted { (d : State) (g : Geometry) (slot : ℕ) (h : Header) (since : ℕ) (m : Blocks) → HasBegun d g slot h since m → (b : ℕ)
+        → accepted d.base d.log b ≡ first_map d g slot h b }
 {
     a_read_gives_what_was_written_last();
     all_issued_is_the_last_point();
@@ -51,11 +55,16 @@ pub fn a_session_begins_with_its_map()
 /// first place of the ring, and its map has the books' bitmap, all is right by each session by which the disk is safe;
 /// the books' transaction begins at the ledger's map, and the next record is the pipeline's next one.
 pub fn a_new_store_is_right()
-    ensures right { (s : MountedSession) (d : State) (g : Geometry) (slot : ℕ) (h : Header) (since t floor : ℕ) (m : Blocks) (v : Pipeline) (books : TransactionBooks) → HasBegun d g slot h since m → h.at ≡ 0 → IsSafe s d.base d.log (first_ledger d g slot h) t floor → IsNewPipeline g slot h v → AreNewBooks g books → HasBitmap books m
+    ensures right { (s : MountedSession) (d : State) (g : Geometry) (slot : ℕ) (h : Header) (since t floor : ℕ) (m : Blocks) (v : Pipeline)
+        (books : TransactionBooks) → HasBegun d g slot h since m → h.at ≡ 0 → IsSafe s d.base d.log (first_ledger d g slot h) t floor
+        → IsNewPipeline g slot h v → AreNewBooks g books → HasBitmap books m
         → IsRight s d.base d.log (first_ledger d g slot h) t floor v (empty_ring g) books.dead [] }
-    ensures sound { (g : Geometry) (slot : ℕ) (h : Header) (v : Pipeline) (books : TransactionBooks) → IsNewPipeline g slot h v → AreNewBooks g books → IsSound v (empty_ring g) books.dead }
-    ensures began { (d : State) (g : Geometry) (slot : ℕ) (h : Header) (since : ℕ) (m : Blocks) (books : TransactionBooks) → HasBegun d g slot h since m → AreNewBooks g books → HasBitmap books m → BeganAt books (first_map d g slot h) }
-    ensures number { (d : State) (g : Geometry) (slot : ℕ) (h : Header) (since : ℕ) (m : Blocks) (v : Pipeline) → HasBegun d g slot h since m → IsNewPipeline g slot h v → next_number (first_ledger d g slot h) ≡ v.last + 1 }
+    ensures sound { (g : Geometry) (slot : ℕ) (h : Header) (v : Pipeline) (books : TransactionBooks) → IsNewPipeline g slot h v → AreNewBooks g books
+        → IsSound v (empty_ring g) books.dead }
+    ensures began { (d : State) (g : Geometry) (slot : ℕ) (h : Header) (since : ℕ) (m : Blocks) (books : TransactionBooks)
+        → HasBegun d g slot h since m → AreNewBooks g books → HasBitmap books m → BeganAt books (first_map d g slot h) }
+    ensures number { (d : State) (g : Geometry) (slot : ℕ) (h : Header) (since : ℕ) (m : Blocks) (v : Pipeline) → HasBegun d g slot h since m
+        → IsNewPipeline g slot h v → next_number (first_ledger d g slot h) ≡ v.last + 1 }
 {
     all_issued_is_the_last_point();
     an_image_holds_one_map();
@@ -63,8 +72,10 @@ pub fn a_new_store_is_right()
 
 /// The bitmap that was found on a disk is that of the map that the disk holds, and books with this bitmap have it.
 pub fn the_bitmap_that_is_found_is_the_maps()
-    ensures has { (d : State) (g : Geometry) (m : Blocks) (r : FoundRun) (books : TransactionBooks) → HoldsUnder d.blocks g (settled_on d) m → IsFound d.blocks (settled_on d) r → IsReplayedBitmap r (settled_on d) books.bitmap → books.geom ≡ g → HasBitmap books m }
-    ensures geom { (d : State) (g : Geometry) (m : Blocks) (r : FoundRun) → HoldsUnder d.blocks g (settled_on d) m → IsFound d.blocks (settled_on d) r → r.header.geom ≡ g }
+    ensures has { (d : State) (g : Geometry) (m : Blocks) (r : FoundRun) (books : TransactionBooks) → HoldsUnder d.blocks g (settled_on d) m
+        → IsFound d.blocks (settled_on d) r → IsReplayedBitmap r (settled_on d) books.bitmap → books.geom ≡ g → HasBitmap books m }
+    ensures geom { (d : State) (g : Geometry) (m : Blocks) (r : FoundRun) → HoldsUnder d.blocks g (settled_on d) m → IsFound d.blocks (settled_on d) r
+        → r.header.geom ≡ g }
 {
     an_image_holds_one_map();
     geometries_are_within_limits();
@@ -97,7 +108,8 @@ pub struct FoundStore {
 /// `NoHeader`, `Spent` and `BadBit` come of what is on the disk, in this order, `ReadFault` of a read that failed, which the disk has
 /// counted, and `NoMemory` of want of memory.
 pub fn find_store<D: Disk>(alloc: Global, disk: &mut D) -> Result<FoundStore, StoreRefusal>
-    ensures found { IsTrue D.tells → IsIdle (D.state disk.old) → IfOk result (λ q. IsFoundOn (D.state disk.old) q.found × IsReplayedBitmap q.found.run (settled_on (D.state disk.old)) q.bitmap.items) }
+    ensures found { IsTrue D.tells → IsIdle (D.state disk.old)
+        → IfOk result (λ q. IsFoundOn (D.state disk.old) q.found × IsReplayedBitmap q.found.run (settled_on (D.state disk.old)) q.bitmap.items) }
     ensures mountable { IsTrue D.tells → IsIdle (D.state disk.old) → IfOk result (λ q. MayBeMounted (D.state disk.old)) }
     ensures sound { IfOk result (λ q. IsSoundBitmap (D.state disk.old).blocks q.found.run.header.geom q.bitmap.items) }
     ensures refused { IsTrue D.tells → IsIdle (D.state disk.old) → IfErr result (RefusalSays (D.state disk.old) (D.state disk.new)) }
@@ -127,7 +139,8 @@ pub fn read_bitmap<D: Disk>(
 ) -> Result<Vec<Block>, StoreRefusal>
     requires { (D.state disk.old).blocks ≡ found.now.run.header.geom.n }
     ensures size { IfOk result (λ bitmap. length bitmap.items ≡ bitmap_blocks found.now.run.header.geom) }
-    ensures value { IsTrue D.tells → IsIdle (D.state disk.old) → IfOk result (λ bitmap. IsReplayedBitmap found.now.run (settled_on (D.state disk.old)) bitmap.items) }
+    ensures value { IsTrue D.tells → IsIdle (D.state disk.old)
+        → IfOk result (λ bitmap. IsReplayedBitmap found.now.run (settled_on (D.state disk.old)) bitmap.items) }
     ensures refused { IfErr result (λ why. (why ≡ refused.ReadFault) ⊎ (why ≡ refused.NoMemory)) }
     ensures reads { Searches D.tells (is_unread result) (D.state disk.old) (D.state disk.new) }
 {
@@ -165,7 +178,8 @@ fn room_for_blocks(alloc: Global, count: u32) -> Result<Vec<Block>, NoMemory>
 fn read_block<D: Disk>(disk: &mut D, found: &Found, b: u32) -> Result<Block, DiskFault>
     requires size { (D.state disk.old).blocks ≡ found.now.run.header.geom.n }
     requires below { b < found.now.run.header.geom.n }
-    ensures value { IsTrue D.tells → IsIdle (D.state disk.old) → IfOk result (λ block. block ≡ replayed found.now.run.header.geom (settled_on (D.state disk.old)) found.now.run.records b) }
+    ensures value { IsTrue D.tells → IsIdle (D.state disk.old)
+        → IfOk result (λ block. block ≡ replayed found.now.run.header.geom (settled_on (D.state disk.old)) found.now.run.records b) }
     ensures reads { Searches D.tells (is_err result) (D.state disk.old) (D.state disk.new) }
 {
     let mut block: Block = [0; BLOCK_LENGTH];

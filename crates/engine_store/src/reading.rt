@@ -28,7 +28,8 @@ pub(crate) fn read_block<D: Disk>(
     requires from { bitmap_start parts.old.books.geom ≤ b }
     requires below { b < parts.old.books.geom.n }
     ensures kept { IsKeptOn D.tells parts.new (D.state disk.new) }
-    ensures block { IsTrue D.tells → is_defined (bookkeeping_of parts.old) b ≡ true → OnOk result (into.new ≡ map_of parts.old.books (last_map parts.old (D.state disk.old)) b) }
+    ensures block { IsTrue D.tells → is_defined (bookkeeping_of parts.old) b ≡ true
+        → OnOk result (into.new ≡ map_of parts.old.books (last_map parts.old (D.state disk.old)) b) }
     ensures parts { parts.new ≡ record parts.old { cache = parts.new.cache } }
     ensures log { IsTrue D.tells → (D.state disk.new).log ≡ (D.state disk.old).log }
     ensures spends { OnlyReads (is_err result) (D.state disk.old) (D.state disk.new) }

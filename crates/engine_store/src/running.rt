@@ -49,7 +49,8 @@ pub(crate) fn take(parts: &mut StoreParts, list: &Places)
     ensures books { bookkeeping_of parts.new ≡ after_take (bookkeeping_of parts.old) list.now }
     ensures rest { parts.new ≡ record parts.old { books = parts.new.books } }
     ensures keeps { (tells : Bool) (d : State) → IsKeptOn tells parts.old d → IsKeptOn tells parts.new d }
-    ensures map { (tells : Bool) (d : State) → IsKeptOn tells parts.old d → IsTrue tells → IsWithTaken parts.old.books.geom (map_now parts.old d) (map_now parts.new d) list.now }
+    ensures map { (tells : Bool) (d : State) → IsKeptOn tells parts.old d → IsTrue tells
+        → IsWithTaken parts.old.books.geom (map_now parts.old d) (map_now parts.new d) list.now }
 {
     taken_blocks_stay_right();
     taken_blocks_stay_sound();
@@ -64,8 +65,12 @@ pub(crate) fn put(parts: &mut StoreParts, b: u32, from: &Block, class: Class)
     requires below { b < parts.old.books.geom.n }
     ensures books { bookkeeping_of parts.new ≡ after_put (bookkeeping_of parts.old) b class }
     ensures rest { parts.new ≡ record parts.old { books = parts.new.books } }
-    ensures keeps { (tells : Bool) (d : State) → IsKeptOn tells parts.old d → (IsTrue tells → data_start parts.old.books.geom ≤ b → is_set parts.old.books.geom (map_now parts.old d) b ≡ true) → IsKeptOn tells parts.new d }
-    ensures map { (tells : Bool) (d : State) → IsKeptOn tells parts.old d → IsTrue tells → (data_start parts.old.books.geom ≤ b → is_set parts.old.books.geom (map_now parts.old d) b ≡ true) → IsWithBlock (map_now parts.old d) (map_now parts.new d) b from.now }
+    ensures keeps { (tells : Bool) (d : State) → IsKeptOn tells parts.old d
+        → (IsTrue tells → data_start parts.old.books.geom ≤ b → is_set parts.old.books.geom (map_now parts.old d) b ≡ true)
+        → IsKeptOn tells parts.new d }
+    ensures map { (tells : Bool) (d : State) → IsKeptOn tells parts.old d → IsTrue tells
+        → (data_start parts.old.books.geom ≤ b → is_set parts.old.books.geom (map_now parts.old d) b ≡ true)
+        → IsWithBlock (map_now parts.old d) (map_now parts.new d) b from.now }
 {
     the_map_has_the_bits();
     parts.books.put(b, from, class)
@@ -80,7 +85,8 @@ pub(crate) fn free(parts: &mut StoreParts, b: u32)
     ensures books { bookkeeping_of parts.new ≡ after_free (bookkeeping_of parts.old) b }
     ensures rest { parts.new ≡ record parts.old { books = parts.new.books } }
     ensures keeps { (tells : Bool) (d : State) → IsKeptOn tells parts.old d → IsKeptOn tells parts.new d }
-    ensures map { (tells : Bool) (d : State) → IsKeptOn tells parts.old d → IsTrue tells → IsWithFreed parts.old.books.geom (map_now parts.old d) (map_now parts.new d) b }
+    ensures map { (tells : Bool) (d : State) → IsKeptOn tells parts.old d → IsTrue tells
+        → IsWithFreed parts.old.books.geom (map_now parts.old d) (map_now parts.new d) b }
 {
     taken_blocks_stay_right();
     taken_blocks_stay_sound();

@@ -165,7 +165,8 @@ impl<D: Disk> Store<D> {
     pub fn mount(alloc: Global, disk: D) -> Result<Store<D>, (D, StoreRefusal)>
         requires idle { IsTrue D.tells → IsIdle (D.state disk) }
         ensures begun { IfOk result (λ s. IsBegun (state_of D.state s)) }
-        ensures begins { IsTrue D.tells → (g : Geometry) (m : Blocks) → HoldsUnder (D.state disk).blocks g (settled_on (D.state disk)) m → IfOk result (λ s. BeginsWith g m (state_of D.state s)) }
+        ensures begins { IsTrue D.tells → (g : Geometry) (m : Blocks) → HoldsUnder (D.state disk).blocks g (settled_on (D.state disk)) m
+            → IfOk result (λ s. BeginsWith g m (state_of D.state s)) }
         ensures mountable { IsTrue D.tells → IfOk result (λ s. MayBeMounted (D.state disk)) }
         ensures leaves { IfOk result (λ s. LeavesDisk D.tells false false (D.state disk) (D.state (disk_in s))) }
         ensures refused { IsTrue D.tells → IfErr result (λ e. RefusalSays (D.state disk) (D.state e.0) e.1) }
@@ -173,7 +174,8 @@ impl<D: Disk> Store<D> {
         ensures numbers { IsTrue D.tells → IfOk result (λ s. GoesOnFrom (D.state disk) (state_of D.state s)) }
         ensures opens { IsTrue D.tells → IfOk result (λ s. HasOpened (D.state disk) (state_of D.state s)) }
         ensures alone { IsTrue D.tells → HasNothingToReplay (D.state disk) → IfOk result (λ s. WritesOne (D.state disk).log (D.state (disk_in s)).log) }
-        ensures stops { IsTrue D.tells → HasNothingToReplay (D.state disk) → IfErr result (λ e. StopsAtOne (D.state disk).manner (D.state disk).log (D.state e.0).log) }
+        ensures stops { IsTrue D.tells → HasNothingToReplay (D.state disk)
+            → IfErr result (λ e. StopsAtOne (D.state disk).manner (D.state disk).log (D.state e.0).log) }
     {
         Store::mount_with(alloc, disk, CACHED)
     }
@@ -192,7 +194,8 @@ impl<D: Disk> Store<D> {
         requires most { capacity ≤ 65536 }
         requires idle { IsTrue D.tells → IsIdle (D.state disk) }
         ensures begun { IfOk result (λ s. IsBegun (state_of D.state s)) }
-        ensures begins { IsTrue D.tells → (g : Geometry) (m : Blocks) → HoldsUnder (D.state disk).blocks g (settled_on (D.state disk)) m → IfOk result (λ s. BeginsWith g m (state_of D.state s)) }
+        ensures begins { IsTrue D.tells → (g : Geometry) (m : Blocks) → HoldsUnder (D.state disk).blocks g (settled_on (D.state disk)) m
+            → IfOk result (λ s. BeginsWith g m (state_of D.state s)) }
         ensures mountable { IsTrue D.tells → IfOk result (λ s. MayBeMounted (D.state disk)) }
         ensures leaves { IfOk result (λ s. LeavesDisk D.tells false false (D.state disk) (D.state (disk_in s))) }
         ensures refused { IsTrue D.tells → IfErr result (λ e. RefusalSays (D.state disk) (D.state e.0) e.1) }
@@ -200,7 +203,8 @@ impl<D: Disk> Store<D> {
         ensures numbers { IsTrue D.tells → IfOk result (λ s. GoesOnFrom (D.state disk) (state_of D.state s)) }
         ensures opens { IsTrue D.tells → IfOk result (λ s. HasOpened (D.state disk) (state_of D.state s)) }
         ensures alone { IsTrue D.tells → HasNothingToReplay (D.state disk) → IfOk result (λ s. WritesOne (D.state disk).log (D.state (disk_in s)).log) }
-        ensures stops { IsTrue D.tells → HasNothingToReplay (D.state disk) → IfErr result (λ e. StopsAtOne (D.state disk).manner (D.state disk).log (D.state e.0).log) }
+        ensures stops { IsTrue D.tells → HasNothingToReplay (D.state disk)
+            → IfErr result (λ e. StopsAtOne (D.state disk).manner (D.state disk).log (D.state e.0).log) }
     {
         a_store_that_is_kept_is_told();
         let mut disk = disk;
@@ -219,7 +223,9 @@ impl<D: Disk> Store<D> {
     /// point, the next one still waits for a ticket of its record.
     pub fn lawful(&self)
         ensures failed { IsTrue D.tells → (state_of D.state self.now).books.stopped ≡ true → ∥ HasFailed (D.state (disk_in self.now)) ∥₁ }
-        ensures known { IsTrue D.tells → (state_of D.state self.now).books.stopped ≡ false → (state_of D.state self.now).books.floor < (state_of D.state self.now).books.point → ∥ StillAwaits (state_of D.state self.now) ((state_of D.state self.now).books.floor + 1) ∥₁ }
+        ensures known { IsTrue D.tells → (state_of D.state self.now).books.stopped ≡ false
+            → (state_of D.state self.now).books.floor < (state_of D.state self.now).books.point
+            → ∥ StillAwaits (state_of D.state self.now) ((state_of D.state self.now).books.floor + 1) ∥₁ }
     {}
 
     /// The disk, which has as many blocks as the geometry says.
@@ -234,7 +240,8 @@ impl<D: Disk> Store<D> {
     /// what is settled on it holds the map of the last point.
     pub fn into_disk(self) -> D
         ensures disk { result ≡ disk_in self }
-        ensures last { IsTrue D.tells → (state_of D.state self).books.stopped ≡ false → IsIdle (D.state result) → HoldsLast (D.state result) (state_of D.state self) }
+        ensures last { IsTrue D.tells → (state_of D.state self).books.stopped ≡ false → IsIdle (D.state result)
+            → HoldsLast (D.state result) (state_of D.state self) }
     {
         self.disk
     }

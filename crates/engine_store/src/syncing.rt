@@ -1,7 +1,8 @@
 //! Syncs: the running transaction becomes the next record, or all that was committed is waited for. Where the record
 //! doesn't fit the free ring places, the pipeline is drained first.
 
-ghost use Rattle.std.specs.Prelude.{◌≡◌, ◌+◌, ◌^◌, ◌<◌, ◌≤◌, ◌++◌, ◌∷◌, [], ℕ, length, Bool, false, true, IsTrue, List, Ok, IfOk, OnOk, is_some, if◌then◌else◌, None};
+ghost use Rattle.std.specs.Prelude.{◌≡◌, ◌+◌, ◌^◌, ◌<◌, ◌≤◌, ◌++◌, ◌∷◌, [], ℕ, length, Bool, false, true, IsTrue, List, Ok, IfOk, OnOk, is_some};
+ghost use Rattle.std.specs.Prelude.{if◌then◌else◌, None};
 ghost use Rattle.std.specs.FinMap.{get};
 ghost use Rattle.disk_contract.specs.Disk.{GrowsByWrites, State};
 ghost use Rattle.crash_argument.specs.HomeTest.{is_one_of};
@@ -49,9 +50,11 @@ pub(crate) fn sync<D: Disk>(
     ensures syncs { (ticks : ℕ) → Syncs D.tells result (store_state parts.old ticks (D.state disk.old)) (store_state parts.new ticks (D.state disk.new)) }
     ensures order { FitsRing (bookkeeping_of parts.old) → (D.state disk.new).waits ≡ (D.state disk.old).waits }
     ensures writes { IsTrue D.tells → OrdersAtOnce (bookkeeping_of parts.old) → GrowsByWrites (D.state disk.old).log (D.state disk.new).log }
-    ensures written { (ticks : ℕ) → IsTrue D.tells → OnOk result (WritesItsRecord (store_state parts.old ticks (D.state disk.old)) (store_state parts.new ticks (D.state disk.new))) }
+    ensures written { (ticks : ℕ) → IsTrue D.tells
+        → OnOk result (WritesItsRecord (store_state parts.old ticks (D.state disk.old)) (store_state parts.new ticks (D.state disk.new))) }
     ensures idle { parts.old.books.weight ≡ 0 → result ≡ Ok parts.old.point }
-    ensures idles { (ticks : ℕ) → parts.old.books.weight ≡ 0 → ChangesNothing D.tells (store_state parts.old ticks (D.state disk.old)) (store_state parts.new ticks (D.state disk.new)) }
+    ensures idles { (ticks : ℕ) → parts.old.books.weight ≡ 0
+        → ChangesNothing D.tells (store_state parts.old ticks (D.state disk.old)) (store_state parts.new ticks (D.state disk.new)) }
     ensures turns { (bookkeeping_of parts.new).turns ≤ (bookkeeping_of parts.old).turns + 5 }
     ensures frees { OnOk result (SyncFrees (bookkeeping_of parts.old) (bookkeeping_of parts.new)) }
 {
@@ -78,11 +81,14 @@ pub(crate) fn sync_durably<D: Disk>(
     ensures kept { IsKeptOn D.tells parts.new (D.state disk.new) }
     ensures syncs { (ticks : ℕ) → Syncs D.tells result (store_state parts.old ticks (D.state disk.old)) (store_state parts.new ticks (D.state disk.new)) }
     ensures durable { OnOk result (parts.new.floor ≡ parts.new.point) }
-    ensures written { (ticks : ℕ) → IsTrue D.tells → OnOk result (WritesItsRecord (store_state parts.old ticks (D.state disk.old)) (store_state parts.new ticks (D.state disk.new))) }
-    ensures waits { (ticks : ℕ) → IsTrue D.tells → (D.state disk.old).manner.waits_alone ≡ true → OrdersAtOnce (bookkeeping_of parts.old) → HearsRecords (store_state parts.old ticks (D.state disk.old)) (store_state parts.new ticks (D.state disk.new)) }
+    ensures written { (ticks : ℕ) → IsTrue D.tells
+        → OnOk result (WritesItsRecord (store_state parts.old ticks (D.state disk.old)) (store_state parts.new ticks (D.state disk.new))) }
+    ensures waits { (ticks : ℕ) → IsTrue D.tells → (D.state disk.old).manner.waits_alone ≡ true → OrdersAtOnce (bookkeeping_of parts.old)
+        → HearsRecords (store_state parts.old ticks (D.state disk.old)) (store_state parts.new ticks (D.state disk.new)) }
     ensures frees { OnOk result (SyncFrees (bookkeeping_of parts.old) (bookkeeping_of parts.new)) }
     ensures idle { parts.old.books.weight ≡ 0 → OnNoMemory result ⊥ }
-    ensures idles { (ticks : ℕ) → parts.old.books.weight ≡ 0 → parts.old.floor ≡ parts.old.point → ChangesNothing D.tells (store_state parts.old ticks (D.state disk.old)) (store_state parts.new ticks (D.state disk.new)) }
+    ensures idles { (ticks : ℕ) → parts.old.books.weight ≡ 0 → parts.old.floor ≡ parts.old.point
+        → ChangesNothing D.tells (store_state parts.old ticks (D.state disk.old)) (store_state parts.new ticks (D.state disk.new)) }
 {
     let point = sync(alloc, disk, parts)?;
     if parts.floor == parts.point {
@@ -145,7 +151,8 @@ fn commit_in_ring<D: Disk>(
     ensures syncs { (ticks : ℕ) → Syncs D.tells result (store_state parts.old ticks (D.state disk.old)) (store_state parts.new ticks (D.state disk.new)) }
     ensures order { FitsRing (bookkeeping_of parts.old) → (D.state disk.new).waits ≡ (D.state disk.old).waits }
     ensures writes { IsTrue D.tells → FitsRing (bookkeeping_of parts.old) → GrowsByWrites (D.state disk.old).log (D.state disk.new).log }
-    ensures written { (ticks : ℕ) → IsTrue D.tells → OnOk result (WritesItsRecord (store_state parts.old ticks (D.state disk.old)) (store_state parts.new ticks (D.state disk.new))) }
+    ensures written { (ticks : ℕ) → IsTrue D.tells
+        → OnOk result (WritesItsRecord (store_state parts.old ticks (D.state disk.old)) (store_state parts.new ticks (D.state disk.new))) }
     ensures memory { OnNoMemory result ⊥ }
     ensures turns { (bookkeeping_of parts.new).turns ≤ (bookkeeping_of parts.old).turns + 5 }
     ensures frees { OnOk result (FreesInRing (bookkeeping_of parts.old) (bookkeeping_of parts.new)) }
@@ -185,7 +192,8 @@ fn commit<D: Disk>(
     ensures syncs { (ticks : ℕ) → Syncs D.tells result (store_state parts.old ticks (D.state disk.old)) (store_state parts.new ticks (D.state disk.new)) }
     ensures waits { (D.state disk.new).waits ≡ (D.state disk.old).waits }
     ensures writes { IsTrue D.tells → GrowsByWrites (D.state disk.old).log (D.state disk.new).log }
-    ensures written { (ticks : ℕ) → IsTrue D.tells → OnOk result (WritesItsRecord (store_state parts.old ticks (D.state disk.old)) (store_state parts.new ticks (D.state disk.new))) }
+    ensures written { (ticks : ℕ) → IsTrue D.tells
+        → OnOk result (WritesItsRecord (store_state parts.old ticks (D.state disk.old)) (store_state parts.new ticks (D.state disk.new))) }
     ensures memory { OnNoMemory result ⊥ }
     ensures turns { (bookkeeping_of parts.new).turns ≤ (bookkeeping_of parts.old).turns + 1 }
     ensures frees { OnOk result (LetsWait (bookkeeping_of parts.old) (bookkeeping_of parts.new)) }
@@ -225,7 +233,8 @@ fn commit<D: Disk>(
 
 /// The cache forgets the blocks of the record that was committed last.
 fn forget_last(pipeline: &Pipeline, cache: &mut BlockCache)
-    ensures { (before : List commit.Committed) (last : commit.Committed) → pipeline.now.committed.items ≡ before ++ last ∷ [] → Forgets last.payloads.items last.fresh.items cache.old cache.new }
+    ensures { (before : List commit.Committed) (last : commit.Committed) → pipeline.now.committed.items ≡ before ++ last ∷ []
+        → Forgets last.payloads.items last.fresh.items cache.old cache.new }
 {
     if let Some(committed) = pipeline.committed.back() {
         forget_puts(committed.payloads.as_slice(), cache);

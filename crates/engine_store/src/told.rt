@@ -17,7 +17,8 @@ use engine_books::{the_map_has_the_bits, the_map_needs_only_live_blocks};
 pub(crate) fn a_store_that_is_kept_is_told()
     ensures sound { (tells : Bool) (v : StoreParts) (d : disk.State) → IsKeptOn tells v d → IsSound (bookkeeping_of v) }
     ensures told { (tells : Bool) (v : StoreParts) (ticks : ℕ) (d : disk.State) → IsKeptOn tells v d → IsTrue tells → IsTold (store_state v ticks d) }
-    ensures nothing { (v w : StoreParts) (before then : ℕ) (d e : disk.State) → IsSameSession v w → AwaitsTheSame v w → e.base ≡ d.base → e.log ≡ d.log → IssuesNothing (store_state v before d) (store_state w then e) }
+    ensures nothing { (v w : StoreParts) (before then : ℕ) (d e : disk.State) → IsSameSession v w → AwaitsTheSame v w → e.base ≡ d.base
+        → e.log ≡ d.log → IssuesNothing (store_state v before d) (store_state w then e) }
 {
     a_sound_store_has_sound_books();
     a_call_that_stays_safe_advances();

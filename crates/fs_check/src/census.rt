@@ -29,7 +29,8 @@ pub(crate) fn look_at_nodes<S: Blocks>(
     requires may_read { MayRead S.tells (S.state blocks.old) draft.now }
     ensures places { IfOk result (λ nodes. HasPlaces (S.state blocks.old).books.geom.i nodes.items) }
     ensures seen { IsTrue S.tells → IfOk result (λ nodes. AreSeen (files_in (S.state blocks.old) draft.now) nodes.items) }
-    ensures broken { IsTrue S.tells → IfErr result (λ why. IfDamaged why (IsBroken (S.state blocks.old).books.geom.i (files_in (S.state blocks.old) draft.now))) }
+    ensures broken { IsTrue S.tells → IfErr result
+        (λ why. IfDamaged why (IsBroken (S.state blocks.old).books.geom.i (files_in (S.state blocks.old) draft.now))) }
     ensures looks { LooksOnly S.tells (fails_reading result) (S.state blocks.old) (S.state blocks.new) }
 {
     let geom = blocks.geom();

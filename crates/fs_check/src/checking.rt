@@ -99,7 +99,8 @@ pub fn check<S: Blocks>(alloc: Global, blocks: &mut S) -> Result<(), CheckRefusa
     requires none_bare { HasNoBare (S.state blocks.old).books.running }
     ensures tree { IsTrue S.tells → OnOk result ((t : Tree) × IsTreeOf (S.state blocks.old).books.geom (S.state blocks.old).map t) }
     ensures damage { IsTrue S.tells → IfErr result (λ why. OnDamage why (IsDamaged (S.state blocks.old).books.geom (S.state blocks.old).map)) }
-    ensures none { IsTrue S.tells → IfErr result (λ why. OnDamage why (λ _. (t : Tree) → IsTreeOf (S.state blocks.old).books.geom (S.state blocks.old).map t → ⊥)) }
+    ensures none { IsTrue S.tells → IfErr result
+        (λ why. OnDamage why (λ _. (t : Tree) → IsTreeOf (S.state blocks.old).books.geom (S.state blocks.old).map t → ⊥)) }
     ensures looks { LooksOnly S.tells (fails_reading result) (S.state blocks.old) (S.state blocks.new) }
 {
     broken_blocks_are_not_sound();

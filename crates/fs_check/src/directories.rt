@@ -35,8 +35,10 @@ pub(crate) fn check_directories<S: Blocks>(
     requires places { HasPlaces (S.state blocks.old).books.geom.i nodes.now }
     requires seen { IsTrue S.tells → AreSeen (files_in (S.state blocks.old) draft.now) nodes.now }
     ensures count { IfOk result (λ named. length named.items ≡ length nodes.now) }
-    ensures went { IsTrue S.tells → IfOk result (λ named. WentUpTo nodes.now (inodes_of (files_in (S.state blocks.old) draft.now)) (length nodes.now) named.items) }
-    ensures broken { IsTrue S.tells → IfErr result (λ why. IfDamaged why (IsBroken (S.state blocks.old).books.geom.i (files_in (S.state blocks.old) draft.now))) }
+    ensures went { IsTrue S.tells → IfOk result
+        (λ named. WentUpTo nodes.now (inodes_of (files_in (S.state blocks.old) draft.now)) (length nodes.now) named.items) }
+    ensures broken { IsTrue S.tells → IfErr result
+        (λ why. IfDamaged why (IsBroken (S.state blocks.old).books.geom.i (files_in (S.state blocks.old) draft.now))) }
     ensures looks { LooksOnly S.tells (fails_reading result) (S.state blocks.old) (S.state blocks.new) }
 {
     let mut named = vec![in alloc; 0; nodes.len()]?;
@@ -62,8 +64,10 @@ fn check_node<S: Blocks>(
     requires places { HasPlaces (S.state blocks.old).books.geom.i nodes.now }
     requires seen { IsTrue S.tells → AreSeen (files_in (S.state blocks.old) draft.now) nodes.now }
     requires same { length named.old ≡ length nodes.now }
-    ensures went { IsTrue S.tells → OnOk result (WentBy nodes.now (inodes_of (files_in (S.state blocks.old) draft.now)) node (seen nodes.now node) named.old named.new) }
-    ensures broken { IsTrue S.tells → IfErr result (λ why. IfDamaged why (IsBroken (S.state blocks.old).books.geom.i (files_in (S.state blocks.old) draft.now))) }
+    ensures went { IsTrue S.tells → OnOk result
+        (WentBy nodes.now (inodes_of (files_in (S.state blocks.old) draft.now)) node (seen nodes.now node) named.old named.new) }
+    ensures broken { IsTrue S.tells → IfErr result
+        (λ why. IfDamaged why (IsBroken (S.state blocks.old).books.geom.i (files_in (S.state blocks.old) draft.now))) }
     ensures looks { LooksOnly S.tells (fails_reading result) (S.state blocks.old) (S.state blocks.new) }
 {
     match seen(nodes, node) {
@@ -95,7 +99,8 @@ fn check_directory<S: Blocks>(
     requires dir { seen nodes.now dir ≡ Directory size }
     requires same { length named.old ≡ length nodes.now }
     ensures went { IsTrue S.tells → OnOk result (WentThrough nodes.now (inodes_of (files_in (S.state blocks.old) draft.now)) dir named.old named.new) }
-    ensures broken { IsTrue S.tells → IfErr result (λ why. IfDamaged why (IsBroken (S.state blocks.old).books.geom.i (files_in (S.state blocks.old) draft.now))) }
+    ensures broken { IsTrue S.tells → IfErr result
+        (λ why. IfDamaged why (IsBroken (S.state blocks.old).books.geom.i (files_in (S.state blocks.old) draft.now))) }
     ensures looks { LooksOnly S.tells (fails_reading result) (S.state blocks.old) (S.state blocks.new) }
 {
     let Some(slots) = read_slots(draft, alloc, blocks, dir, size)? else {

@@ -79,7 +79,8 @@ fn meet_block(
 pub(crate) fn first_unmet(bits: &[Block], met: &[Block], geom: &Geom) -> Option<u32>
     requires bits { length bits.now ≡ bitmap_blocks geom.now }
     requires room { length met.now ≡ bitmap_blocks geom.now }
-    ensures none { IfNone result ((b : ℕ) → data_start geom.now ≤ b → b < geom.now.n → bit_in (blocks_of bits.now) b ≡ true → bit_in (blocks_of met.now) b ≡ true) }
+    ensures none { IfNone result ((b : ℕ) → data_start geom.now ≤ b → b < geom.now.n → bit_in (blocks_of bits.now) b ≡ true
+        → bit_in (blocks_of met.now) b ≡ true) }
     ensures some { IfSome result (IsUnmet geom.now (blocks_of bits.now) (blocks_of met.now)) }
 {
     geom.lawful();

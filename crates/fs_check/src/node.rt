@@ -1,7 +1,8 @@
 //! One node of the node table: its bytes, its blocks, and what a directory's last block carries past the
 //! last slot. Links and slots aren't looked at.
 
-ghost use Rattle.std.specs.Prelude.{◌≡◌, ◌+◌, ◌/◌, ◌<◌, ◌≤◌, ℕ, true, false, IsTrue, IfNone, IfOk, IfSome, OnErr, OnOk, None, Some, length, replicate, is_err, slice_index, drop};
+ghost use Rattle.std.specs.Prelude.{◌≡◌, ◌+◌, ◌/◌, ◌<◌, ◌≤◌, ℕ, true, false, IsTrue, IfNone, IfOk, IfSome, OnErr, OnOk, None, Some, length};
+ghost use Rattle.std.specs.Prelude.{replicate, is_err, slice_index, drop};
 ghost use Rattle.std.specs.List.{All};
 ghost use Rattle.base_types.specs.Runs.{run_places};
 ghost use Rattle.engine_blocks.specs.Puts.{IsData};
@@ -49,9 +50,11 @@ pub(crate) fn check_node<S: Blocks>(
     requires in_table { number ≤ geom.now.i }
     requires bytes { length bytes.now ≡ node_size }
     ensures size { length met.new ≡ length met.old }
-    ensures sound { IsTrue S.tells → bytes.now ≡ node_bytes geom.now (S.state blocks.old).map number → IsCheckedTo geom.now (S.state blocks.old).map bits.now met.old number
+    ensures sound { IsTrue S.tells → bytes.now ≡ node_bytes geom.now (S.state blocks.old).map number
+        → IsCheckedTo geom.now (S.state blocks.old).map bits.now met.old number
         → OnOk result (IsCheckedTo geom.now (S.state blocks.old).map bits.now met.new (number + 1)) }
-    ensures damage { IsTrue S.tells → bytes.now ≡ node_bytes geom.now (S.state blocks.old).map number → IsCheckedTo geom.now (S.state blocks.old).map bits.now met.old number
+    ensures damage { IsTrue S.tells → bytes.now ≡ node_bytes geom.now (S.state blocks.old).map number
+        → IsCheckedTo geom.now (S.state blocks.old).map bits.now met.old number
         → IfDamaged result (IsBroken geom.now (S.state blocks.old).map) }
     ensures looks { LooksOnly S.tells (fails_reading result) (S.state blocks.old) (S.state blocks.new) }
 {
@@ -114,9 +117,11 @@ fn check_used<S: Blocks>(
     requires below { LieBelow most_blocks node.runs }
     requires fits { node_fits geom.now node ≡ true }
     ensures size { length met.new ≡ length met.old }
-    ensures sound { IsTrue S.tells → used_node geom.now (S.state blocks.old).map number ≡ Some node → IsCheckedTo geom.now (S.state blocks.old).map bits.now met.old number
+    ensures sound { IsTrue S.tells → used_node geom.now (S.state blocks.old).map number ≡ Some node
+        → IsCheckedTo geom.now (S.state blocks.old).map bits.now met.old number
         → OnOk result (IsCheckedTo geom.now (S.state blocks.old).map bits.now met.new (number + 1)) }
-    ensures damage { IsTrue S.tells → used_node geom.now (S.state blocks.old).map number ≡ Some node → IsCheckedTo geom.now (S.state blocks.old).map bits.now met.old number
+    ensures damage { IsTrue S.tells → used_node geom.now (S.state blocks.old).map number ≡ Some node
+        → IsCheckedTo geom.now (S.state blocks.old).map bits.now met.old number
         → IfDamaged result (IsBroken geom.now (S.state blocks.old).map) }
     ensures looks { LooksOnly S.tells (fails_reading result) (S.state blocks.old) (S.state blocks.new) }
 {
@@ -145,8 +150,10 @@ fn check_tail<S: Blocks>(
     requires geom { (S.state blocks.old).books.geom ≡ geom.now }
     requires data { All (IsData geom.now) places.now }
     requires count { length places.now ≡ (size + 1023) / 1024 }
-    ensures zeros { IsTrue S.tells → All (λ b. is_set geom.now (S.state blocks.old).map b ≡ true) places.now → OnOk result (kind ≡ Dir → IsTrue (are_zeros (drop size (joined (S.state blocks.old).map places.now)))) }
-    ensures tail { IsTrue S.tells → All (λ b. is_set geom.now (S.state blocks.old).map b ≡ true) places.now → IfDamaged result (IsTailOf number kind (drop size (joined (S.state blocks.old).map places.now))) }
+    ensures zeros { IsTrue S.tells → All (λ b. is_set geom.now (S.state blocks.old).map b ≡ true) places.now
+        → OnOk result (kind ≡ Dir → IsTrue (are_zeros (drop size (joined (S.state blocks.old).map places.now)))) }
+    ensures tail { IsTrue S.tells → All (λ b. is_set geom.now (S.state blocks.old).map b ≡ true) places.now
+        → IfDamaged result (IsTailOf number kind (drop size (joined (S.state blocks.old).map places.now))) }
     ensures looks { LooksOnly S.tells (fails_reading result) (S.state blocks.old) (S.state blocks.new) }
 {
     match kind {
@@ -176,7 +183,8 @@ fn has_zeros_past<S: Blocks>(
     requires geom { (S.state blocks.old).books.geom ≡ geom.now }
     requires data { All (IsData geom.now) places.now }
     requires count { length places.now ≡ (size + 1023) / 1024 }
-    ensures zeros { IsTrue S.tells → All (λ b. is_set geom.now (S.state blocks.old).map b ≡ true) places.now → IfOk result (λ zeros. zeros ≡ are_zeros (drop size (joined (S.state blocks.old).map places.now))) }
+    ensures zeros { IsTrue S.tells → All (λ b. is_set geom.now (S.state blocks.old).map b ≡ true) places.now
+        → IfOk result (λ zeros. zeros ≡ are_zeros (drop size (joined (S.state blocks.old).map places.now))) }
     ensures looks { LooksOnly S.tells (is_err result) (S.state blocks.old) (S.state blocks.new) }
 {
     geom.lawful();

@@ -40,7 +40,8 @@ pub(crate) fn reach<S: Blocks>(
     requires good { IsTrue S.tells → (d : ℕ) → IsGoodDir nodes.now (inodes_of (files_in (S.state blocks.old) draft.now)) d (seen nodes.now d) }
     ensures count { IfOk result (λ marks. length marks.items ≡ length nodes.now) }
     ensures reached { IsTrue S.tells → IfOk result (λ marks. AreReached (inodes_of (files_in (S.state blocks.old) draft.now)) marks.items) }
-    ensures broken { IsTrue S.tells → IfErr result (λ why. IfDamaged why (IsBroken (S.state blocks.old).books.geom.i (files_in (S.state blocks.old) draft.now))) }
+    ensures broken { IsTrue S.tells → IfErr result
+        (λ why. IfDamaged why (IsBroken (S.state blocks.old).books.geom.i (files_in (S.state blocks.old) draft.now))) }
     ensures looks { LooksOnly S.tells (fails_reading result) (S.state blocks.old) (S.state blocks.new) }
 {
     a_walk_goes_on();
@@ -74,8 +75,10 @@ fn mark_directory<S: Blocks>(
     requires places { HasPlaces (S.state blocks.old).books.geom.i nodes.now }
     requires dir { WasDir nodes.now dir }
     requires seen { IsTrue S.tells → AreSeen (files_in (S.state blocks.old) draft.now) nodes.now }
-    ensures marks { OnOk result (MarksDir S.tells nodes.now (inodes_of (files_in (S.state blocks.old) draft.now)) dir marks.old marks.new queue.old.items queue.new.items) }
-    ensures broken { IsTrue S.tells → IfErr result (λ why. IfDamaged why (IsBroken (S.state blocks.old).books.geom.i (files_in (S.state blocks.old) draft.now))) }
+    ensures marks { OnOk result (MarksDir S.tells nodes.now (inodes_of (files_in (S.state blocks.old) draft.now)) dir marks.old marks.new
+        queue.old.items queue.new.items) }
+    ensures broken { IsTrue S.tells → IfErr result
+        (λ why. IfDamaged why (IsBroken (S.state blocks.old).books.geom.i (files_in (S.state blocks.old) draft.now))) }
     ensures looks { LooksOnly S.tells (fails_reading result) (S.state blocks.old) (S.state blocks.new) }
 {
     let Looked::Directory(size) = seen(nodes, dir) else {

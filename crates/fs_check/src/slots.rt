@@ -33,7 +33,8 @@ pub(crate) fn read_slots<S: Blocks>(
     requires above_zero { 1 ≤ node }
     requires in_table { node ≤ (S.state blocks.old).books.geom.i }
     requires used { IsTrue S.tells → IsUsed (files_in (S.state blocks.old) draft.now) node }
-    ensures slots { IsTrue S.tells → IfOk result (λ found. (x : FileNode) → files_in (S.state blocks.old) draft.now node ≡ Some x → length x.bytes ≡ size → option_map (λ slots. slots.items) found ≡ slots_in (size / 64) x.bytes) }
+    ensures slots { IsTrue S.tells → IfOk result (λ found. (x : FileNode) → files_in (S.state blocks.old) draft.now node ≡ Some x
+        → length x.bytes ≡ size → option_map (λ slots. slots.items) found ≡ slots_in (size / 64) x.bytes) }
     ensures refused { IfErr result IsUndamaged }
     ensures looks { LooksOnly S.tells (fails_reading result) (S.state blocks.old) (S.state blocks.new) }
 {

@@ -29,8 +29,10 @@ pub(crate) fn check_table<S: Blocks>(
 ) -> Result<(), BlocksRefusal>
     requires may { MayCheck geom.now (S.state blocks.old) bits.now met.old }
     ensures size { length met.new ≡ length met.old }
-    ensures sound { IsTrue S.tells → IsCheckedTo geom.now (S.state blocks.old).map bits.now met.old 1 → OnOk result (IsCheckedTo geom.now (S.state blocks.old).map bits.now met.new (geom.now.i + 1)) }
-    ensures damage { IsTrue S.tells → IsCheckedTo geom.now (S.state blocks.old).map bits.now met.old 1 → IfDamaged result (IsBroken geom.now (S.state blocks.old).map) }
+    ensures sound { IsTrue S.tells → IsCheckedTo geom.now (S.state blocks.old).map bits.now met.old 1
+        → OnOk result (IsCheckedTo geom.now (S.state blocks.old).map bits.now met.new (geom.now.i + 1)) }
+    ensures damage { IsTrue S.tells → IsCheckedTo geom.now (S.state blocks.old).map bits.now met.old 1
+        → IfDamaged result (IsBroken geom.now (S.state blocks.old).map) }
     ensures looks { LooksOnly S.tells (fails_reading result) (S.state blocks.old) (S.state blocks.new) }
 {
     geom.lawful();
@@ -54,8 +56,10 @@ fn check_block<S: Blocks>(
     requires may { MayCheck geom.now (S.state blocks.old) bits.now met.old }
     requires in_table { 4 * t < geom.now.i }
     ensures size { length met.new ≡ length met.old }
-    ensures sound { IsTrue S.tells → IsCheckedTo geom.now (S.state blocks.old).map bits.now met.old (4 * t + 1) → OnOk result (IsCheckedTo geom.now (S.state blocks.old).map bits.now met.new (4 * t + 5)) }
-    ensures damage { IsTrue S.tells → IsCheckedTo geom.now (S.state blocks.old).map bits.now met.old (4 * t + 1) → IfDamaged result (IsBroken geom.now (S.state blocks.old).map) }
+    ensures sound { IsTrue S.tells → IsCheckedTo geom.now (S.state blocks.old).map bits.now met.old (4 * t + 1)
+        → OnOk result (IsCheckedTo geom.now (S.state blocks.old).map bits.now met.new (4 * t + 5)) }
+    ensures damage { IsTrue S.tells → IsCheckedTo geom.now (S.state blocks.old).map bits.now met.old (4 * t + 1)
+        → IfDamaged result (IsBroken geom.now (S.state blocks.old).map) }
     ensures looks { LooksOnly S.tells (fails_reading result) (S.state blocks.old) (S.state blocks.new) }
 {
     geom.lawful();
@@ -80,9 +84,11 @@ fn check_nodes<S: Blocks>(
     requires may { MayCheck geom.now (S.state blocks.old) bits.now met.old }
     requires in_table { 4 * t < geom.now.i }
     ensures size { length met.new ≡ length met.old }
-    ensures sound { IsTrue S.tells → table.now ≡ (S.state blocks.old).map (table_start geom.now + t) → IsCheckedTo geom.now (S.state blocks.old).map bits.now met.old (4 * t + 1)
+    ensures sound { IsTrue S.tells → table.now ≡ (S.state blocks.old).map (table_start geom.now + t)
+        → IsCheckedTo geom.now (S.state blocks.old).map bits.now met.old (4 * t + 1)
         → OnOk result (IsCheckedTo geom.now (S.state blocks.old).map bits.now met.new (4 * t + 5)) }
-    ensures damage { IsTrue S.tells → table.now ≡ (S.state blocks.old).map (table_start geom.now + t) → IsCheckedTo geom.now (S.state blocks.old).map bits.now met.old (4 * t + 1)
+    ensures damage { IsTrue S.tells → table.now ≡ (S.state blocks.old).map (table_start geom.now + t)
+        → IsCheckedTo geom.now (S.state blocks.old).map bits.now met.old (4 * t + 1)
         → IfDamaged result (IsBroken geom.now (S.state blocks.old).map) }
     ensures looks { LooksOnly S.tells (fails_reading result) (S.state blocks.old) (S.state blocks.new) }
 {

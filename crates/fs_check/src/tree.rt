@@ -40,8 +40,10 @@ pub fn check_tree<S: Blocks>(alloc: Global, blocks: &mut S) -> Result<(), TreeRe
     requires none_bare { HasNoBare (S.state blocks.old).books.running }
     requires sound { IsTrue S.tells → AreSound (S.state blocks.old).books.geom (S.state blocks.old).map }
     ensures tree { IsTrue S.tells → OnOk result ((t : Tree) × IsTreeOf (S.state blocks.old).books.geom (S.state blocks.old).map t) }
-    ensures broken { IsTrue S.tells → IfErr result (λ why. IfDamaged why (IsBroken (S.state blocks.old).books.geom.i (files_of (S.state blocks.old).books.geom (S.state blocks.old).map))) }
-    ensures none { IsTrue S.tells → IfErr result (λ why. IfDamaged why (λ _. (t : Tree) → IsTreeOf (S.state blocks.old).books.geom (S.state blocks.old).map t → ⊥)) }
+    ensures broken { IsTrue S.tells → IfErr result
+        (λ why. IfDamaged why (IsBroken (S.state blocks.old).books.geom.i (files_of (S.state blocks.old).books.geom (S.state blocks.old).map))) }
+    ensures none { IsTrue S.tells → IfErr result
+        (λ why. IfDamaged why (λ _. (t : Tree) → IsTreeOf (S.state blocks.old).books.geom (S.state blocks.old).map t → ⊥)) }
     ensures looks { LooksOnly S.tells (fails_reading result) (S.state blocks.old) (S.state blocks.new) }
 {
     a_draft_begins(blocks);
@@ -71,7 +73,8 @@ pub fn no_tree_stands_where_it_is_broken()
 fn find_tree<S: Blocks>(draft: &Draft, alloc: Global, blocks: &mut S) -> Result<(), TreeRefusal>
     requires may_read { MayRead S.tells (S.state blocks.old) draft.now }
     ensures rules { IsTrue S.tells → OnOk result (AreTreeFiles (S.state blocks.old).books.geom.i (files_in (S.state blocks.old) draft.now)) }
-    ensures broken { IsTrue S.tells → IfErr result (λ why. IfDamaged why (IsBroken (S.state blocks.old).books.geom.i (files_in (S.state blocks.old) draft.now))) }
+    ensures broken { IsTrue S.tells → IfErr result
+        (λ why. IfDamaged why (IsBroken (S.state blocks.old).books.geom.i (files_in (S.state blocks.old) draft.now))) }
     ensures looks { LooksOnly S.tells (fails_reading result) (S.state blocks.old) (S.state blocks.new) }
 {
     let nodes = look_at_nodes(draft, alloc, blocks)?;
@@ -98,7 +101,8 @@ fn judge_nodes<S: Blocks>(
     requires root { WasDir nodes.now 1 }
     requires seen { IsTrue S.tells → AreSeen (files_in (S.state blocks.old) draft.now) nodes.now }
     ensures rules { IsTrue S.tells → OnOk result (AreTreeFiles (S.state blocks.old).books.geom.i (files_in (S.state blocks.old) draft.now)) }
-    ensures broken { IsTrue S.tells → IfErr result (λ why. IfDamaged why (IsBroken (S.state blocks.old).books.geom.i (files_in (S.state blocks.old) draft.now))) }
+    ensures broken { IsTrue S.tells → IfErr result
+        (λ why. IfDamaged why (IsBroken (S.state blocks.old).books.geom.i (files_in (S.state blocks.old) draft.now))) }
     ensures looks { LooksOnly S.tells (fails_reading result) (S.state blocks.old) (S.state blocks.new) }
 {
     let named = check_directories(draft, alloc, blocks, nodes)?;

@@ -53,7 +53,8 @@ pub(crate) fn find_file<S: Blocks>(
     path: &Path,
 ) -> Result<Result<NodeFound, Refusal>, FileRefusal>
     requires begin { MayBegin S.tells (S.state blocks.old) }
-    ensures file { IsTrue S.tells → IfOk result (λ found. (t : Tree) → IsTreeOf (S.state blocks.old).books.geom (S.state blocks.old).map t → LeadsToFile (files_in (S.state blocks.old) nothing_drafted) path.now found) }
+    ensures file { IsTrue S.tells → IfOk result (λ found. (t : Tree) → IsTreeOf (S.state blocks.old).books.geom (S.state blocks.old).map t
+        → LeadsToFile (files_in (S.state blocks.old) nothing_drafted) path.now found) }
     ensures number { IfOk result (λ found. IfOk found (λ f. IsNumber (S.state blocks.old).books.geom.i f.number)) }
     ensures refused { IfErr result LookRefused }
     ensures looks { LooksOnly S.tells (fails_reading result) (S.state blocks.old) (S.state blocks.new) }
@@ -116,7 +117,9 @@ fn write_found<S: Blocks>(
     requires may { MayPlan S.tells (S.state blocks.old) first_unused }
     requires number { IsNumber (S.state blocks.old).books.geom.i found.now.number }
     requires file { IsTrue S.tells → IsFile (files_in (S.state blocks.old) nothing_drafted) found.now }
-    ensures plans { (path : List (List ℕ)) → (IsTrue S.tells → walk_on (inodes_of (files_in (S.state blocks.old) nothing_drafted)) 1 path ≡ Fine found.now.number) → Plans S.tells (Write path offset bytes.now) result (S.state blocks.old) (S.state blocks.new) }
+    ensures plans { (path : List (List ℕ)) → (IsTrue S.tells
+        → walk_on (inodes_of (files_in (S.state blocks.old) nothing_drafted)) 1 path ≡ Fine found.now.number)
+        → Plans S.tells (Write path offset bytes.now) result (S.state blocks.old) (S.state blocks.new) }
     ensures made { OnChange result (λ draft cost first. MayBeMade S.tells draft cost first (S.state blocks.new)) }
 {
     calls_compose::<S>();
@@ -170,7 +173,8 @@ pub(crate) fn plan_bytes<S: Blocks>(
     requires some { 0 < length bytes.now }
     requires fits { offset + length bytes.now ≤ 1073741824 }
     requires room { (S.state blocks.old).books.running.weight + cost ≤ (S.state blocks.old).books.room }
-    ensures plans { (cmd : Cmd) (path : List (List ℕ)) → MayPut S.tells (S.state blocks.old) number cmd path offset bytes.now cost → Plans S.tells cmd result (S.state blocks.old) (S.state blocks.new) }
+    ensures plans { (cmd : Cmd) (path : List (List ℕ)) → MayPut S.tells (S.state blocks.old) number cmd path offset bytes.now cost
+        → Plans S.tells cmd result (S.state blocks.old) (S.state blocks.new) }
     ensures made { OnChange result (λ draft cost first. MayBeMade S.tells draft cost first (S.state blocks.new)) }
 {
     blocks.geom().lawful();

@@ -27,7 +27,8 @@ use layout_extent::{a_list_has_its_runs, tidy_runs_are_those_of_their_numbers};
 /// came back, or refused by the disk. The blocks are then one of the session that follows.
 pub fn a_command_is_answered_in_a_room_that_came_back<S: Blocks>()
     ensures room { IsTrue S.tells → (s : S) (f : Session) → IsSession (S.state s) f → IsRoomOf (S.state s).books.geom f (room_of (S.state s)) }
-    ensures answers { IsTrue S.tells → (old new : S) (f : Session) (cmd : Cmd) (reply : Reply) → IsSession (S.state old) f → Applies S.tells S.state cmd reply old new
+    ensures answers { IsTrue S.tells → (old new : S) (f : Session) (cmd : Cmd) (reply : Reply) → IsSession (S.state old) f
+        → Applies S.tells S.state cmd reply old new
         → (next : Session) × IsSession (S.state new) next × ((S.state new).books.geom ≡ (S.state old).books.geom)
         × AnswersOn (S.state old).books.geom f (room_of (S.state old)) cmd reply next (room_of (S.state new)) }
 {
@@ -45,7 +46,8 @@ pub fn a_command_is_answered_in_a_room_that_came_back<S: Blocks>()
 /// want of blocks or of ring places, and then all. The moments are those of the blocks behind the tick and at the end.
 pub fn a_command_serves_what_is_sure<S: Blocks>()
     ensures { IsTrue S.tells → (old new : S) (f : Session) (cmd : Cmd) (reply : Reply) → IsSession (S.state old) f → Applies S.tells S.state cmd reply old new
-        → (next : Session) × IsSession (S.state new) next × ((S.state new).books.geom ≡ (S.state old).books.geom) × ServesCommand S.state f cmd reply next old new }
+        → (next : Session) × IsSession (S.state new) next × ((S.state new).books.geom ≡ (S.state old).books.geom)
+        × ServesCommand S.state f cmd reply next old new }
 {
     as_many_blocks_are_marked_as_the_tree_has::<S>();
     blocks_have_the_map_of_their_tree();
@@ -60,6 +62,7 @@ pub fn a_command_serves_what_is_sure<S: Blocks>()
 /// In each room of a session any command may be answered: out of memory, or as the tree answers it where it takes
 /// none; and, but for a bad line, by a disk that failed before. The room stays as it is.
 pub fn any_command_may_be_answered()
-    ensures memory { (g : Geometry) (f : Session) (r : Room) (cmd : Cmd) → IsRoomOf g f r → f.durable ≤ f.points → AnswersOn g f r cmd (without_memory f r cmd).1 (without_memory f r cmd).0 r × IsRoomOf g (without_memory f r cmd).0 r }
+    ensures memory { (g : Geometry) (f : Session) (r : Room) (cmd : Cmd) → IsRoomOf g f r → f.durable ≤ f.points
+        → AnswersOn g f r cmd (without_memory f r cmd).1 (without_memory f r cmd).0 r × IsRoomOf g (without_memory f r cmd).0 r }
     ensures stopped { (g : Geometry) (f : Session) (r : Room) (cmd : Cmd) → cmd ≢ Bad → AnswersOn g f r cmd (Refused Stopped) f r }
 {}

@@ -25,10 +25,12 @@ use fs_inodes::{slots_follow_the_bytes, walks_are_the_same};
 /// What a path comes to gives where a walk along it comes to, the number at it, and the slots of the directory
 /// above it. Where it comes to a spot, something can come to be at it.
 pub(crate) fn what_a_path_comes_to_gives_the_walk()
-    ensures walk { (files : Files) (path : List (List ℕ)) (spot : Result Spot Refusal) → ComesTo files path spot → walk_on (inodes_of files) 1 path ≡ walk_of spot }
+    ensures walk { (files : Files) (path : List (List ℕ)) (spot : Result Spot Refusal) → ComesTo files path spot
+        → walk_on (inodes_of files) 1 path ≡ walk_of spot }
     ensures parent { (files : Files) (path : List (List ℕ)) (spot : Spot) → ComesTo files path (Ok spot) → parent_reason (inodes_of files) path ≡ None }
     ensures number { (files : Files) (path : List (List ℕ)) (spot : Spot) → ComesTo files path (Ok spot) → number_at (inodes_of files) path ≡ number_of spot }
-    ensures slots { (files : Files) (path : List (List ℕ)) (dir count : ℕ) (entry : Option Entry) → ComesTo files path (Ok (Inside dir count entry)) → count ≡ slots_above (inodes_of files) path }
+    ensures slots { (files : Files) (path : List (List ℕ)) (dir count : ℕ) (entry : Option Entry) → ComesTo files path (Ok (Inside dir count entry))
+        → count ≡ slots_above (inodes_of files) path }
 {
     walks_are_the_same();
 }
@@ -36,8 +38,10 @@ pub(crate) fn what_a_path_comes_to_gives_the_walk()
 /// The inode at a path is the one that the node there reads as. So what is known of the node but for its bytes
 /// is what inodes say of the path, where a tree stands.
 pub(crate) fn the_node_at_a_path_gives_the_inode()
-    ensures inode { (files : Files) (path : List (List ℕ)) (k : ℕ) (x : FileNode) → LeadsTo (inodes_of files) path k → files k ≡ Some x → inode_at (inodes_of files) path ≡ inode_of x }
-    ensures facts { (limit : ℕ) (files : Files) (t : Tree) (path : List (List ℕ)) (k : ℕ) (x : FileNode) → IsMapOf limit (inodes_of files) t → LeadsTo (inodes_of files) path k → files k ≡ Some x
+    ensures inode { (files : Files) (path : List (List ℕ)) (k : ℕ) (x : FileNode) → LeadsTo (inodes_of files) path k → files k ≡ Some x
+        → inode_at (inodes_of files) path ≡ inode_of x }
+    ensures facts { (limit : ℕ) (files : Files) (t : Tree) (path : List (List ℕ)) (k : ℕ) (x : FileNode) → IsMapOf limit (inodes_of files) t
+        → LeadsTo (inodes_of files) path k → files k ≡ Some x
         → (x.kind ≡ Dir → length x.bytes % 64 ≡ 0) → ShowsFacts (inodes_of files) path (facts_of x) }
 {
     slots_follow_the_bytes();

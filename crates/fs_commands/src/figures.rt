@@ -22,7 +22,8 @@ pub(crate) fn new_name_figures(slots: u64) -> Figures
     ensures value { value_of result ≡ spec.adding (spec.growth slots) }
     ensures mkdir { (bitmap : ℕ) (m : Inodes) (path : List (List ℕ)) → slots ≡ slots_above m path → AreFiguresOf bitmap m (Mkdir path) (value_of result) }
     ensures create { (bitmap : ℕ) (m : Inodes) (path : List (List ℕ)) → slots ≡ slots_above m path → AreFiguresOf bitmap m (Create path) (value_of result) }
-    ensures link { (bitmap : ℕ) (m : Inodes) (path other : List (List ℕ)) → slots ≡ slots_above m other → AreFiguresOf bitmap m (Link path other) (value_of result) }
+    ensures link { (bitmap : ℕ) (m : Inodes) (path other : List (List ℕ)) → slots ≡ slots_above m other
+        → AreFiguresOf bitmap m (Link path other) (value_of result) }
 {
     figures_come_from_inodes();
     adding(growth(slots))
@@ -31,7 +32,8 @@ pub(crate) fn new_name_figures(slots: u64) -> Figures
 /// The figures of an unlink, in a directory of so many slots, of a file with so many links and bytes.
 pub(crate) fn unlink_figures(bitmap: u32, slots: u64, links: u32, size: u32) -> Figures
     requires { size ≤ 1073741824 }
-    ensures { (m : Inodes) (path : List (List ℕ)) → slots ≡ slots_above m path → HasFacts m path links size → AreFiguresOf bitmap m (Unlink path) (value_of result) }
+    ensures { (m : Inodes) (path : List (List ℕ)) → slots ≡ slots_above m path → HasFacts m path links size
+        → AreFiguresOf bitmap m (Unlink path) (value_of result) }
 {
     figures_come_from_inodes();
     removing(bitmap, release(slots) + blocks_gone(links, size))
@@ -49,8 +51,10 @@ pub(crate) fn rmdir_figures(bitmap: u32, slots: u64) -> Figures
 pub(crate) fn overwrite_figures(bitmap: u32, size: u32, offset: u32, count: u32) -> Figures
     requires size { size ≤ 1073741824 }
     requires end { 0 < count → offset + count ≤ 1073741824 }
-    ensures write { (m : Inodes) (path : List (List ℕ)) (bytes : List ℕ) → size ≡ length (bytes_of (inode_at m path)) → count ≡ length bytes → AreFiguresOf bitmap m (Write path offset bytes) (value_of result) }
-    ensures fill { (m : Inodes) (path : List (List ℕ)) (byte : ℕ) → size ≡ length (bytes_of (inode_at m path)) → AreFiguresOf bitmap m (Fill path offset count byte) (value_of result) }
+    ensures write { (m : Inodes) (path : List (List ℕ)) (bytes : List ℕ) → size ≡ length (bytes_of (inode_at m path)) → count ≡ length bytes
+        → AreFiguresOf bitmap m (Write path offset bytes) (value_of result) }
+    ensures fill { (m : Inodes) (path : List (List ℕ)) (byte : ℕ) → size ≡ length (bytes_of (inode_at m path))
+        → AreFiguresOf bitmap m (Fill path offset count byte) (value_of result) }
 {
     figures_come_from_inodes();
     write_figures(bitmap, size, offset, count)

@@ -69,7 +69,9 @@ fn fill_found<S: Blocks>(
     requires may { MayPlan S.tells (S.state blocks.old) first_unused }
     requires number { IsNumber (S.state blocks.old).books.geom.i found.now.number }
     requires file { IsTrue S.tells → IsFile (files_in (S.state blocks.old) nothing_drafted) found.now }
-    ensures plans { (path : List (List ℕ)) → (IsTrue S.tells → walk_on (inodes_of (files_in (S.state blocks.old) nothing_drafted)) 1 path ≡ Fine found.now.number) → Plans S.tells (Fill path offset count byte) result (S.state blocks.old) (S.state blocks.new) }
+    ensures plans { (path : List (List ℕ)) → (IsTrue S.tells
+        → walk_on (inodes_of (files_in (S.state blocks.old) nothing_drafted)) 1 path ≡ Fine found.now.number)
+        → Plans S.tells (Fill path offset count byte) result (S.state blocks.old) (S.state blocks.new) }
     ensures made { OnChange result (λ draft cost first. MayBeMade S.tells draft cost first (S.state blocks.new)) }
 {
     calls_compose::<S>();

@@ -21,7 +21,8 @@ use fs_inodes::{paths_lead_to_inodes, walks_are_the_same};
 /// session over these blocks. It has at most 2^30 bytes.
 pub(crate) fn a_file_is_at_its_path<S: Blocks>(blocks: &S)
     requires begin { MayBegin S.tells (S.state blocks.now) }
-    ensures { IsTrue S.tells → (f : Session) (path : List (List ℕ)) (found : FoundValue) → IsSession (S.state blocks.now) f → IsFile (files_in (S.state blocks.now) nothing_drafted) found
+    ensures { IsTrue S.tells → (f : Session) (path : List (List ℕ)) (found : FoundValue) → IsSession (S.state blocks.now) f
+        → IsFile (files_in (S.state blocks.now) nothing_drafted) found
         → walk_on (inodes (S.state blocks.now)) 1 path ≡ Fine found.number → IsKnownFile (inodes (S.state blocks.now)) f path found }
 {
     a_draft_begins(blocks);

@@ -68,7 +68,8 @@ impl<S: Blocks> Fs<S> {
         requires between { IsBetween S.tells (S.state (blocks_in self.old)) (used_to self.old) }
         requires stands { IsTrue S.tells → Stands (S.state (blocks_in self.old)) }
         ensures applies { Applies S.tells S.state cmd.now result (blocks_in self.old) (blocks_in self.new) }
-        ensures answers { IsTrue S.tells → (f : Session) → IsSession (S.state (blocks_in self.old)) f → AnswersSession S.tells S.state f cmd.now result (blocks_in self.new) }
+        ensures answers { IsTrue S.tells → (f : Session) → IsSession (S.state (blocks_in self.old)) f
+            → AnswersSession S.tells S.state f cmd.now result (blocks_in self.new) }
         ensures time { IsTrue S.tells → PassesTime (S.state (blocks_in self.old)) (S.state (blocks_in self.new)) }
         ensures between { IsBetween S.tells (S.state (blocks_in self.new)) (used_to self.new) }
         ensures stands { IsTrue S.tells → Stands (S.state (blocks_in self.new)) }
@@ -96,8 +97,10 @@ impl<S: Blocks> Fs<S> {
     /// took a prefix of the listing and nothing else.
     pub fn listing<K: Sink>(&mut self, alloc: Global, out: &mut K) -> Result<(), ListRefusal>
         requires between { IsBetween S.tells (S.state (blocks_in self.old)) (used_to self.old) }
-        ensures all { IsTrue S.tells → OnOk result ((f : Session) → IsSession (S.state (blocks_in self.old)) f → Appends (K.taken out.old) (K.taken out.new) (listing_of f.tree)) }
-        ensures front { IsTrue S.tells → OnErr result ((f : Session) → IsSession (S.state (blocks_in self.old)) f → TakesPrefix (K.taken out.old) (K.taken out.new) (listing_of f.tree)) }
+        ensures all { IsTrue S.tells → OnOk result ((f : Session) → IsSession (S.state (blocks_in self.old)) f
+            → Appends (K.taken out.old) (K.taken out.new) (listing_of f.tree)) }
+        ensures front { IsTrue S.tells → OnErr result ((f : Session) → IsSession (S.state (blocks_in self.old)) f
+            → TakesPrefix (K.taken out.old) (K.taken out.new) (listing_of f.tree)) }
         ensures stopped { ended_by_stop result ≡ (S.state (blocks_in self.old)).books.stopped }
         ensures nothing { (S.state (blocks_in self.old)).books.stopped ≡ true → (blocks_in self.new ≡ blocks_in self.old) × (out.new ≡ out.old) }
         ensures looks { LooksOnly S.tells (ended_by_read result) (S.state (blocks_in self.old)) (S.state (blocks_in self.new)) }

@@ -42,35 +42,45 @@ pub(crate) fn blocks_have_the_map_of_their_tree()
 /// A command that isn't refused at once ticks once, of the same disk. Where it is known what polls answer, its events
 /// begin with the notices of at most 64 polls, up to the first that has none, and it polls no more.
 pub fn a_command_begins_with_a_tick<S: Blocks>()
-    ensures { (cmd : Cmd) (reply : Reply) (old new : S) → cmd ≢ Bad → (S.state old).books.stopped ≡ false → is_spent (S.state old).books ≡ false → Applies S.tells S.state cmd reply old new → Ticked S.tells (S.state old) (S.state new) }
+    ensures { (cmd : Cmd) (reply : Reply) (old new : S) → cmd ≢ Bad → (S.state old).books.stopped ≡ false → is_spent (S.state old).books ≡ false
+        → Applies S.tells S.state cmd reply old new → Ticked S.tells (S.state old) (S.state new) }
 {}
 
 /// A command of a session is refused for a failed read only where the disk has counted one, as stopped only where a
 /// call of the disk had failed before, and as spent only where the journal's numbers were used up.
 pub fn a_refusal_for_the_disk_has_its_cause<S: Blocks>()
-    ensures read { IsTrue S.tells → (old new : S) (f : Session) (cmd : Cmd) (reply : Reply) → IsSession (S.state old) f → Applies S.tells S.state cmd reply old new → reply ≡ Refused ReadFault → 0 < (S.state new).counts.read_faults }
-    ensures stopped { IsTrue S.tells → (old new : S) (f : Session) (cmd : Cmd) (reply : Reply) → IsSession (S.state old) f → Applies S.tells S.state cmd reply old new → reply ≡ Refused Stopped → (S.state old).books.stopped ≡ true }
-    ensures spent { IsTrue S.tells → (old new : S) (f : Session) (cmd : Cmd) (reply : Reply) → IsSession (S.state old) f → Applies S.tells S.state cmd reply old new → reply ≡ Refused Spent → is_spent (S.state old).books ≡ true }
+    ensures read { IsTrue S.tells → (old new : S) (f : Session) (cmd : Cmd) (reply : Reply) → IsSession (S.state old) f
+        → Applies S.tells S.state cmd reply old new → reply ≡ Refused ReadFault → 0 < (S.state new).counts.read_faults }
+    ensures stopped { IsTrue S.tells → (old new : S) (f : Session) (cmd : Cmd) (reply : Reply) → IsSession (S.state old) f
+        → Applies S.tells S.state cmd reply old new → reply ≡ Refused Stopped → (S.state old).books.stopped ≡ true }
+    ensures spent { IsTrue S.tells → (old new : S) (f : Session) (cmd : Cmd) (reply : Reply) → IsSession (S.state old) f
+        → Applies S.tells S.state cmd reply old new → reply ≡ Refused Spent → is_spent (S.state old).books ≡ true }
 {
     a_tree_in_memory_refuses_for_no_disk();
 }
 
 /// One command raises the journal's numbers by less than 2^20.
 pub fn a_command_raises_the_numbers_little<S: Blocks>()
-    ensures { (old new : S) (cmd : Cmd) (reply : Reply) → Applies S.tells S.state cmd reply old new → (S.state new).books.turns ≤ (S.state old).books.turns + 2 ^ 20 }
+    ensures { (old new : S) (cmd : Cmd) (reply : Reply) → Applies S.tells S.state cmd reply old new
+        → (S.state new).books.turns ≤ (S.state old).books.turns + 2 ^ 20 }
 {}
 
 /// A command that needn't wait for the disk has no notice but those of its tick: behind them come writes alone. It is
 /// said where it is known what polls answer.
 pub fn a_command_that_needs_no_wait_makes_none<S: Blocks>()
-    ensures { IsTrue S.tells → (old new : S) (f : Session) (cmd : Cmd) (reply : Reply) → cmd ≢ Bad → (S.state old).books.stopped ≡ false → is_spent (S.state old).books ≡ false → IsSession (S.state old) f → NeedsNoWait (S.state old) f cmd → Applies S.tells S.state cmd reply old new
-        → PollsThenWrites (S.state old).counts.ticks.manner 64 (S.state old).counts.ticks.polls (S.state old).crash.log (S.state new).counts.ticks.polls (S.state new).crash.log }
+    ensures { IsTrue S.tells → (old new : S) (f : Session) (cmd : Cmd) (reply : Reply) → cmd ≢ Bad → (S.state old).books.stopped ≡ false
+        → is_spent (S.state old).books ≡ false → IsSession (S.state old) f → NeedsNoWait (S.state old) f cmd
+        → Applies S.tells S.state cmd reply old new
+        → PollsThenWrites (S.state old).counts.ticks.manner 64 (S.state old).counts.ticks.polls (S.state old).crash.log
+        (S.state new).counts.ticks.polls (S.state new).crash.log }
 {}
 
 /// Of the blocks that may be taken, a command that is done takes no more than it needs, and one that is refused takes
 /// none; others may come back. Where they were data blocks, ascending, so are they behind it.
 pub fn a_command_takes_no_more_blocks_than_it_needs()
-    ensures keeps { (g : Geometry) (f next : Session) (old new : Room) (cmd : Cmd) (reply : Reply) → AnswersOn g f old cmd reply next new → old.takeable ≡ filter (has old.takeable) (data_blocks g) → new.takeable ≡ filter (has new.takeable) (data_blocks g) }
-    ensures few { (g : Geometry) (f next : Session) (old new : Room) (cmd : Cmd) (reply : Reply) → AnswersOn g f old cmd reply next new → old.takeable ≡ filter (has old.takeable) (data_blocks g)
+    ensures keeps { (g : Geometry) (f next : Session) (old new : Room) (cmd : Cmd) (reply : Reply) → AnswersOn g f old cmd reply next new
+        → old.takeable ≡ filter (has old.takeable) (data_blocks g) → new.takeable ≡ filter (has new.takeable) (data_blocks g) }
+    ensures few { (g : Geometry) (f next : Session) (old new : Room) (cmd : Cmd) (reply : Reply) → AnswersOn g f old cmd reply next new
+        → old.takeable ≡ filter (has old.takeable) (data_blocks g)
         → length old.takeable ≤ length new.takeable + (if is_refusal reply then 0 else (figures_in g f cmd).need) }
 {}

@@ -42,8 +42,10 @@ pub(crate) fn write_file_head<K: Sink>(
     number: u32,
     size: u64,
 ) -> Result<(), SinkFault>
-    ensures all { OnOk result (Appends (K.taken out.old) (K.taken out.new) (codes "file " ++ path_text path.now ++ codes " " ++ decimal number ++ codes " " ++ decimal size)) }
-    ensures front { OnErr result (TakesPrefix (K.taken out.old) (K.taken out.new) (codes "file " ++ path_text path.now ++ codes " " ++ decimal number ++ codes " " ++ decimal size)) }
+    ensures all { OnOk result (Appends (K.taken out.old) (K.taken out.new)
+        (codes "file " ++ path_text path.now ++ codes " " ++ decimal number ++ codes " " ++ decimal size)) }
+    ensures front { OnErr result (TakesPrefix (K.taken out.old) (K.taken out.new)
+        (codes "file " ++ path_text path.now ++ codes " " ++ decimal number ++ codes " " ++ decimal size)) }
     ensures cause { HasCause result (K.faults out.old) (K.faults out.new) }
 {
     prefixes_join();

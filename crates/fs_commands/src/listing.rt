@@ -2,7 +2,8 @@
 //! root, directory by directory, and keeps the names of those that it is in, and of no others. A file is
 //! read and written in pieces. How the lines read is described elsewhere.
 
-ghost use Rattle.std.specs.Prelude.{◌≡◌, ◌≢◌, ◌≤◌, ◌<◌, ◌+◌, ◌^◌, ◌++◌, ℕ, IsTrue, true, false, List, [], length, drop, Some, IfErr, IfSome, IfNone, OnOk, OnErr};
+ghost use Rattle.std.specs.Prelude.{◌≡◌, ◌≢◌, ◌≤◌, ◌<◌, ◌+◌, ◌^◌, ◌++◌, ℕ, IsTrue, true, false, List, [], length, drop, Some, IfErr, IfSome, IfNone};
+ghost use Rattle.std.specs.Prelude.{OnOk, OnErr};
 ghost use Rattle.std.specs.Io.KnownBytes.{Appends};
 ghost use Rattle.base_io.specs.Prefix.{TakesPrefix};
 ghost use Rattle.layout_bytes.specs.declared.slot.Slot.{Slot};
@@ -19,7 +20,9 @@ ghost use Rattle.fs_files.specs.Calls.{files_in};
 ghost use Rattle.fs_files.specs.Effects.{LooksOnly};
 ghost use Rattle.fs_dirs.specs.Directories.{IsNumber};
 ghost use Rattle.fs_dirs.specs.Reading.{MayRead};
-ghost use Rattle.fs_commands.specs.Listing.{ended_by_read, ended_by_push, ended_by_stop, CountsPushes, Lists, MayList, MayWalk, IsMapIn, IsFrame, AreFrames, IsWalk, HasWritten, Enters, TakesName, HaveNumbers, lines_of, under_frame, to_come, turns_of, turns_left};
+ghost use Rattle.fs_commands.specs.Listing.{ended_by_read, ended_by_push, ended_by_stop, CountsPushes, Lists, MayList, MayWalk, IsMapIn, IsFrame};
+ghost use Rattle.fs_commands.specs.Listing.{AreFrames, IsWalk, HasWritten, Enters, TakesName, HaveNumbers, lines_of, under_frame, to_come, turns_of};
+ghost use Rattle.fs_commands.specs.Listing.{turns_left};
 ghost use Rattle.fs_commands.specs.Sessions.{IsSession};
 
 use crate::laws::blocks_have_the_map_of_their_tree;
@@ -168,8 +171,10 @@ pub fn listing<S: Blocks, K: Sink>(
     out: &mut K,
 ) -> Result<(), ListRefusal>
     requires may_list { MayList S.tells (S.state blocks.old) }
-    ensures all { IsTrue S.tells → OnOk result ((f : Session) → IsSession (S.state blocks.old) f → Appends (K.taken out.old) (K.taken out.new) (listing_of f.tree)) }
-    ensures front { IsTrue S.tells → OnErr result ((f : Session) → IsSession (S.state blocks.old) f → TakesPrefix (K.taken out.old) (K.taken out.new) (listing_of f.tree)) }
+    ensures all { IsTrue S.tells → OnOk result ((f : Session) → IsSession (S.state blocks.old) f
+        → Appends (K.taken out.old) (K.taken out.new) (listing_of f.tree)) }
+    ensures front { IsTrue S.tells → OnErr result ((f : Session) → IsSession (S.state blocks.old) f
+        → TakesPrefix (K.taken out.old) (K.taken out.new) (listing_of f.tree)) }
     ensures stopped { ended_by_stop result ≡ (S.state blocks.old).books.stopped }
     ensures nothing { (S.state blocks.old).books.stopped ≡ true → (blocks.new ≡ blocks.old) × (out.new ≡ out.old) }
     ensures looks { LooksOnly S.tells (ended_by_read result) (S.state blocks.old) (S.state blocks.new) }
@@ -196,8 +201,10 @@ fn list_from_root<S: Blocks, K: Sink>(
     out: &mut K,
 ) -> Result<(), ListRefusal>
     requires look { MayWalk S.tells (S.state blocks.old) draft.now }
-    ensures all { IsTrue S.tells → OnOk result ((m : Inodes) (t : Tree) → IsMapIn (S.state blocks.old) draft.now m t → Appends (K.taken out.old) (K.taken out.new) (listing_of t)) }
-    ensures front { IsTrue S.tells → OnErr result ((m : Inodes) (t : Tree) → IsMapIn (S.state blocks.old) draft.now m t → TakesPrefix (K.taken out.old) (K.taken out.new) (listing_of t)) }
+    ensures all { IsTrue S.tells → OnOk result ((m : Inodes) (t : Tree) → IsMapIn (S.state blocks.old) draft.now m t
+        → Appends (K.taken out.old) (K.taken out.new) (listing_of t)) }
+    ensures front { IsTrue S.tells → OnErr result ((m : Inodes) (t : Tree) → IsMapIn (S.state blocks.old) draft.now m t
+        → TakesPrefix (K.taken out.old) (K.taken out.new) (listing_of t)) }
     ensures lists { Lists S.tells result (S.state blocks.old) (S.state blocks.new) (K.faults out.old) (K.faults out.new) }
 {
     a_listing_goes_down();
@@ -234,10 +241,12 @@ fn turn<S: Blocks, K: Sink>(
     requires look { MayWalk S.tells (S.state blocks.old) draft.now }
     requires numbers { HaveNumbers (S.state blocks.old).books.geom.i walk.old.frames.items }
     requires number { IsNumber (S.state blocks.old).books.geom.i frame.dir }
-    ensures writes { IsTrue S.tells → OnOk result ((m : Inodes) (t : Tree) → IsMapIn (S.state blocks.old) draft.now m t → IsFrame m walk.old.path.items (length walk.old.frames.items) frame
+    ensures writes { IsTrue S.tells → OnOk result ((m : Inodes) (t : Tree) → IsMapIn (S.state blocks.old) draft.now m t
+        → IsFrame m walk.old.path.items (length walk.old.frames.items) frame
         → IsWalk m t (under_frame t walk.old frame) walk.old
         → HasWritten m t (under_frame t walk.old frame ++ to_come t walk.old) walk.new (K.taken out.old) (K.taken out.new)) }
-    ensures front { IsTrue S.tells → OnErr result ((m : Inodes) (t : Tree) → IsMapIn (S.state blocks.old) draft.now m t → IsFrame m walk.old.path.items (length walk.old.frames.items) frame
+    ensures front { IsTrue S.tells → OnErr result ((m : Inodes) (t : Tree) → IsMapIn (S.state blocks.old) draft.now m t
+        → IsFrame m walk.old.path.items (length walk.old.frames.items) frame
         → IsWalk m t (under_frame t walk.old frame) walk.old
         → TakesPrefix (K.taken out.old) (K.taken out.new) (lines_of t (under_frame t walk.old frame ++ to_come t walk.old))) }
     ensures numbers { OnOk result (HaveNumbers (S.state blocks.old).books.geom.i walk.new.frames.items) }
@@ -337,8 +346,10 @@ fn enter<S: Blocks>(
     requires look { MayWalk S.tells (S.state blocks.old) draft.now }
     requires numbers { HaveNumbers (S.state blocks.old).books.geom.i walk.old.frames.items }
     requires number { IsNumber (S.state blocks.old).books.geom.i number }
-    ensures enters { IsTrue S.tells → OnOk result ((m : Inodes) (t : Tree) (slots : List Slot) → IsMapIn (S.state blocks.old) draft.now m t → LeadsTo m walk.old.path.items number
-        → m number ≡ Some (ADir slots) → 0 < walk.old.left → AreFrames m walk.old.path.items 0 walk.old.frames.items → length walk.old.path.items ≡ length walk.old.frames.items
+    ensures enters { IsTrue S.tells → OnOk result ((m : Inodes) (t : Tree) (slots : List Slot) → IsMapIn (S.state blocks.old) draft.now m t
+        → LeadsTo m walk.old.path.items number
+        → m number ≡ Some (ADir slots) → 0 < walk.old.left → AreFrames m walk.old.path.items 0 walk.old.frames.items
+        → length walk.old.path.items ≡ length walk.old.frames.items
         → Enters m t (names_of slots) walk.old walk.new) }
     ensures numbers { OnOk result (HaveNumbers (S.state blocks.old).books.geom.i walk.new.frames.items) }
     ensures turns { OnOk result (turns_left walk.new ≤ turns_left walk.old) }
@@ -385,8 +396,10 @@ fn write_file<S: Blocks, K: Sink>(
     size: u64,
 ) -> Result<(), ListRefusal>
     requires read { MayRead S.tells (S.state blocks.old) draft.now number }
-    ensures all { IsTrue S.tells → OnOk result ((x : FileNode) → files_in (S.state blocks.old) draft.now number ≡ Some x → size ≡ length x.bytes → Appends (K.taken out.old) (K.taken out.new) (line_of path.now number (Some (File x.bytes)))) }
-    ensures front { IsTrue S.tells → OnErr result ((x : FileNode) → files_in (S.state blocks.old) draft.now number ≡ Some x → size ≡ length x.bytes → TakesPrefix (K.taken out.old) (K.taken out.new) (line_of path.now number (Some (File x.bytes)))) }
+    ensures all { IsTrue S.tells → OnOk result ((x : FileNode) → files_in (S.state blocks.old) draft.now number ≡ Some x → size ≡ length x.bytes
+        → Appends (K.taken out.old) (K.taken out.new) (line_of path.now number (Some (File x.bytes)))) }
+    ensures front { IsTrue S.tells → OnErr result ((x : FileNode) → files_in (S.state blocks.old) draft.now number ≡ Some x → size ≡ length x.bytes
+        → TakesPrefix (K.taken out.old) (K.taken out.new) (line_of path.now number (Some (File x.bytes)))) }
     ensures lists { Lists S.tells result (S.state blocks.old) (S.state blocks.new) (K.faults out.old) (K.faults out.new) }
 {
     prefixes_join();
@@ -410,8 +423,10 @@ fn write_content<S: Blocks, K: Sink>(
     size: u64,
 ) -> Result<(), ListRefusal>
     requires read { MayRead S.tells (S.state blocks.old) draft.now number }
-    ensures all { IsTrue S.tells → OnOk result ((x : FileNode) → files_in (S.state blocks.old) draft.now number ≡ Some x → size ≡ length x.bytes → Appends (K.taken out.old) (K.taken out.new) (digits_behind_blank x.bytes)) }
-    ensures front { IsTrue S.tells → OnErr result ((x : FileNode) → files_in (S.state blocks.old) draft.now number ≡ Some x → size ≡ length x.bytes → TakesPrefix (K.taken out.old) (K.taken out.new) (digits_behind_blank x.bytes)) }
+    ensures all { IsTrue S.tells → OnOk result ((x : FileNode) → files_in (S.state blocks.old) draft.now number ≡ Some x → size ≡ length x.bytes
+        → Appends (K.taken out.old) (K.taken out.new) (digits_behind_blank x.bytes)) }
+    ensures front { IsTrue S.tells → OnErr result ((x : FileNode) → files_in (S.state blocks.old) draft.now number ≡ Some x → size ≡ length x.bytes
+        → TakesPrefix (K.taken out.old) (K.taken out.new) (digits_behind_blank x.bytes)) }
     ensures lists { Lists S.tells result (S.state blocks.old) (S.state blocks.new) (K.faults out.old) (K.faults out.new) }
 {
     if size == 0 {

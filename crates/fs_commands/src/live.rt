@@ -15,7 +15,8 @@ use fs_inodes::{a_file_reads_as_itself, slots_follow_the_bytes, the_map_gives_th
 /// those of the tree and those that the transaction freed. They may be taken, or wait until they may.
 pub fn as_many_blocks_are_marked_as_the_tree_has<S: Blocks>()
     ensures live { (s : S) (f : Session) → IsTrue S.tells → IsSession (S.state s) f → length (live_blocks (S.state s).books) ≡ blocks f.tree }
-    ensures left { (s : S) (f : Session) → IsTrue S.tells → IsSession (S.state s) f → left_of (S.state s).books ≡ (S.state s).books.area - blocks f.tree - (S.state s).books.running.held }
+    ensures left { (s : S) (f : Session) → IsTrue S.tells → IsSession (S.state s) f
+        → left_of (S.state s).books ≡ (S.state s).books.area - blocks f.tree - (S.state s).books.running.held }
     ensures takeable { (s : S) → left_of (S.state s).books ≡ length (reusable_blocks (S.state s).books) + (S.state s).books.waiting }
 {
     the_map_gives_the_figures();

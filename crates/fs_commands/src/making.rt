@@ -1,7 +1,8 @@
 //! The commands by which a name comes to be: mkdir, create and link. Each finds its refusal from reads alone,
 //! weighs what it needs, and plans a draft. Nothing of that is made here.
 
-ghost use Rattle.std.specs.Prelude.{◌≡◌, ◌≢◌, ◌<◌, ◌≤◌, ◌+◌, ◌++◌, ◌∷◌, [], ℕ, IsTrue, true, false, List, length, None, Some, Ok as Fine, Err as Failed, IfOk, IfErr, IfSome};
+ghost use Rattle.std.specs.Prelude.{◌≡◌, ◌≢◌, ◌<◌, ◌≤◌, ◌+◌, ◌++◌, ◌∷◌, [], ℕ, IsTrue, true, false, List, length, None, Some, Ok as Fine};
+ghost use Rattle.std.specs.Prelude.{Err as Failed, IfOk, IfErr, IfSome};
 ghost use Rattle.layout_bytes.specs.declared.node.NodeKind.TheVariants.{Free};
 ghost use Rattle.layout_bytes.specs.declared.slot.Slot.{Slot as SlotValue};
 ghost use Rattle.lang_tree.specs.declared.command.Cmd.{Cmd};
@@ -94,7 +95,8 @@ fn make_in<S: Blocks>(
 ) -> Result<Plan, Refusal>
     requires may { MayPlan S.tells (S.state blocks.old) first_unused }
     requires dir { IsNumber (S.state blocks.old).books.geom.i vacancy.now.dir }
-    ensures plans { (path : List (List ℕ)) → (IsTrue S.tells → MayAppear (files_in (S.state blocks.old) nothing_drafted) path (Fine vacancy.now)) → Plans S.tells (make_cmd kind path) result (S.state blocks.old) (S.state blocks.new) }
+    ensures plans { (path : List (List ℕ)) → (IsTrue S.tells → MayAppear (files_in (S.state blocks.old) nothing_drafted) path (Fine vacancy.now))
+        → Plans S.tells (make_cmd kind path) result (S.state blocks.old) (S.state blocks.new) }
     ensures made { OnChange result (λ draft cost first. MayBeMade S.tells draft cost first (S.state blocks.new)) }
 {
     calls_compose::<S>();
@@ -120,7 +122,8 @@ fn make_node<S: Blocks>(
     requires may { MayPlan S.tells (S.state blocks.old) node }
     requires dir { IsNumber (S.state blocks.old).books.geom.i vacancy.now.dir }
     requires node { IsNumber (S.state blocks.old).books.geom.i node }
-    ensures plans { (path : List (List ℕ)) → (IsTrue S.tells → MayAppear (files_in (S.state blocks.old) nothing_drafted) path (Fine vacancy.now)) → (IsTrue S.tells → least_free (S.state blocks.old).books.geom.i (inodes (S.state blocks.old)) ≡ Some node)
+    ensures plans { (path : List (List ℕ)) → (IsTrue S.tells → MayAppear (files_in (S.state blocks.old) nothing_drafted) path (Fine vacancy.now))
+        → (IsTrue S.tells → least_free (S.state blocks.old).books.geom.i (inodes (S.state blocks.old)) ≡ Some node)
         → Plans S.tells (make_cmd kind path) result (S.state blocks.old) (S.state blocks.new) }
     ensures made { OnChange result (λ draft cost first. MayBeMade S.tells draft cost first (S.state blocks.new)) }
 {
@@ -184,7 +187,8 @@ fn link_to<S: Blocks>(
     requires may { MayPlan S.tells (S.state blocks.old) first_unused }
     requires number { IsNumber (S.state blocks.old).books.geom.i found.now.number }
     requires used { IsTrue S.tells → IsUsed (files_in (S.state blocks.old) nothing_drafted) found.now.number }
-    ensures plans { (path : List (List ℕ)) → (IsTrue S.tells → LeadsToFound (files_in (S.state blocks.old) nothing_drafted) path (Fine found.now)) → Plans S.tells (Link path other.now) result (S.state blocks.old) (S.state blocks.new) }
+    ensures plans { (path : List (List ℕ)) → (IsTrue S.tells → LeadsToFound (files_in (S.state blocks.old) nothing_drafted) path (Fine found.now))
+        → Plans S.tells (Link path other.now) result (S.state blocks.old) (S.state blocks.new) }
     ensures made { OnChange result (λ draft cost first. MayBeMade S.tells draft cost first (S.state blocks.new)) }
 {
     calls_compose::<S>();
@@ -212,7 +216,8 @@ fn link_in<S: Blocks>(
     requires number { IsNumber (S.state blocks.old).books.geom.i found.now.number }
     requires used { IsTrue S.tells → IsUsed (files_in (S.state blocks.old) nothing_drafted) found.now.number }
     ensures plans { (path other : List (List ℕ)) → (IsTrue S.tells → LeadsToFound (files_in (S.state blocks.old) nothing_drafted) path (Fine found.now))
-        → (IsTrue S.tells → MayAppear (files_in (S.state blocks.old) nothing_drafted) other (Fine vacancy.now)) → Plans S.tells (Link path other) result (S.state blocks.old) (S.state blocks.new) }
+        → (IsTrue S.tells → MayAppear (files_in (S.state blocks.old) nothing_drafted) other (Fine vacancy.now))
+        → Plans S.tells (Link path other) result (S.state blocks.old) (S.state blocks.new) }
     ensures made { OnChange result (λ draft cost first. MayBeMade S.tells draft cost first (S.state blocks.new)) }
 {
     calls_compose::<S>();
@@ -249,7 +254,9 @@ fn link_file<S: Blocks>(
     requires used { IsTrue S.tells → IsUsed (files_in (S.state blocks.old) nothing_drafted) slot.now.node }
     requires some { 1 ≤ links }
     requires most { links ≤ 65535 }
-    ensures plans { (cmd : Cmd) → (IsTrue S.tells → (f : Session) → IsSession (S.state blocks.old) f → MayLink (S.state blocks.old) f cmd vacancy.now.dir vacancy.now.count slot.now links) → Plans S.tells cmd result (S.state blocks.old) (S.state blocks.new) }
+    ensures plans { (cmd : Cmd) → (IsTrue S.tells → (f : Session) → IsSession (S.state blocks.old) f
+        → MayLink (S.state blocks.old) f cmd vacancy.now.dir vacancy.now.count slot.now links)
+        → Plans S.tells cmd result (S.state blocks.old) (S.state blocks.new) }
     ensures made { OnChange result (λ draft cost first. MayBeMade S.tells draft cost first (S.state blocks.new)) }
 {
     a_disk_is_small(blocks);
@@ -272,12 +279,17 @@ fn link_file<S: Blocks>(
 /// What the tree makes of a mkdir or create, from what was looked up first. It is refused for this reason, or
 /// for want of a number; or it is accepted, and a slot for the new node makes its tree.
 fn the_tree_makes_nodes<S: Blocks>()
-    ensures refused { (old : S) (f : Session) (kind : KindValue) (path : List (List ℕ)) (why : RefusalValue) → IsSession (S.state old) f → MayAppear (files_in (S.state old) nothing_drafted) path (Failed why) → refusal f.limit f.tree (make_cmd kind path) ≡ Some why }
-    ensures no_node { (old : S) (f : Session) (kind : KindValue) (path : List (List ℕ)) (v : VacancyValue) → IsSession (S.state old) f → MayAppear (files_in (S.state old) nothing_drafted) path (Fine v) → least_free (S.state old).books.geom.i (inodes (S.state old)) ≡ None
+    ensures refused { (old : S) (f : Session) (kind : KindValue) (path : List (List ℕ)) (why : RefusalValue) → IsSession (S.state old) f
+        → MayAppear (files_in (S.state old) nothing_drafted) path (Failed why) → refusal f.limit f.tree (make_cmd kind path) ≡ Some why }
+    ensures no_node { (old : S) (f : Session) (kind : KindValue) (path : List (List ℕ)) (v : VacancyValue) → IsSession (S.state old) f
+        → MayAppear (files_in (S.state old) nothing_drafted) path (Fine v) → least_free (S.state old).books.geom.i (inodes (S.state old)) ≡ None
         → refusal f.limit f.tree (make_cmd kind path) ≡ Some NoNode }
-    ensures accepted { (old : S) (f : Session) (kind : KindValue) (path : List (List ℕ)) (v : VacancyValue) (node : ℕ) → IsSession (S.state old) f → MayAppear (files_in (S.state old) nothing_drafted) path (Fine v) → least_free (S.state old).books.geom.i (inodes (S.state old)) ≡ Some node
+    ensures accepted { (old : S) (f : Session) (kind : KindValue) (path : List (List ℕ)) (v : VacancyValue) (node : ℕ) → IsSession (S.state old) f
+        → MayAppear (files_in (S.state old) nothing_drafted) path (Fine v) → least_free (S.state old).books.geom.i (inodes (S.state old)) ≡ Some node
         → AcceptsName (S.state old) f (make_cmd kind path) v.dir v.count }
-    ensures map { (old : S) (new : Inodes) (f : Session) (kind : KindValue) (path : List (List ℕ)) (v : VacancyValue) (node : ℕ) → IsSession (S.state old) f → MayAppear (files_in (S.state old) nothing_drafted) path (Fine v) → least_free (S.state old).books.geom.i (inodes (S.state old)) ≡ Some node
+    ensures map { (old : S) (new : Inodes) (f : Session) (kind : KindValue) (path : List (List ℕ)) (v : VacancyValue) (node : ℕ)
+        → IsSession (S.state old) f → MayAppear (files_in (S.state old) nothing_drafted) path (Fine v)
+        → least_free (S.state old).books.geom.i (inodes (S.state old)) ≡ Some node
         → AddsSlot (inodes (S.state old)) new v.dir node v.name (new_inode (first_thing kind)) → IsMapOf f.limit new (step f (make_cmd kind path)).0.tree }
 {
     a_new_node_is_mapped();
@@ -291,14 +303,21 @@ fn the_tree_makes_nodes<S: Blocks>()
 /// What the tree makes of a link, from what was looked up first. It is refused for this reason, or since the
 /// node is a directory or has too many links; or it is accepted, and a slot for the file makes its tree.
 fn the_tree_links_files<S: Blocks>()
-    ensures nowhere { (old : S) (f : Session) (path other : List (List ℕ)) (why : RefusalValue) → IsSession (S.state old) f → LeadsToFound (files_in (S.state old) nothing_drafted) path (Failed why) → refusal f.limit f.tree (Link path other) ≡ Some why }
-    ensures refused { (old : S) (f : Session) (path other : List (List ℕ)) (found : FoundValue) (why : RefusalValue) → IsSession (S.state old) f → LeadsToFound (files_in (S.state old) nothing_drafted) path (Fine found)
+    ensures nowhere { (old : S) (f : Session) (path other : List (List ℕ)) (why : RefusalValue) → IsSession (S.state old) f
+        → LeadsToFound (files_in (S.state old) nothing_drafted) path (Failed why) → refusal f.limit f.tree (Link path other) ≡ Some why }
+    ensures refused { (old : S) (f : Session) (path other : List (List ℕ)) (found : FoundValue) (why : RefusalValue) → IsSession (S.state old) f
+        → LeadsToFound (files_in (S.state old) nothing_drafted) path (Fine found)
         → MayAppear (files_in (S.state old) nothing_drafted) other (Failed why) → refusal f.limit f.tree (Link path other) ≡ Some why }
-    ensures directory { (old : S) (f : Session) (path other : List (List ℕ)) (found : FoundValue) (v : VacancyValue) → IsSession (S.state old) f → LeadsToFound (files_in (S.state old) nothing_drafted) path (Fine found)
-        → MayAppear (files_in (S.state old) nothing_drafted) other (Fine v) → is_dir found.facts.kind ≡ true → refusal f.limit f.tree (Link path other) ≡ Some IsDir }
-    ensures many { (old : S) (f : Session) (path other : List (List ℕ)) (found : FoundValue) (v : VacancyValue) → IsSession (S.state old) f → LeadsToFound (files_in (S.state old) nothing_drafted) path (Fine found)
-        → MayAppear (files_in (S.state old) nothing_drafted) other (Fine v) → is_dir found.facts.kind ≡ false → 65535 ≤ found.facts.links → refusal f.limit f.tree (Link path other) ≡ Some TooManyLinks }
-    ensures accepted { (old : S) (f : Session) (path other : List (List ℕ)) (found : FoundValue) (v : VacancyValue) → IsSession (S.state old) f → LeadsToFound (files_in (S.state old) nothing_drafted) path (Fine found)
+    ensures directory { (old : S) (f : Session) (path other : List (List ℕ)) (found : FoundValue) (v : VacancyValue) → IsSession (S.state old) f
+        → LeadsToFound (files_in (S.state old) nothing_drafted) path (Fine found)
+        → MayAppear (files_in (S.state old) nothing_drafted) other (Fine v) → is_dir found.facts.kind ≡ true
+        → refusal f.limit f.tree (Link path other) ≡ Some IsDir }
+    ensures many { (old : S) (f : Session) (path other : List (List ℕ)) (found : FoundValue) (v : VacancyValue) → IsSession (S.state old) f
+        → LeadsToFound (files_in (S.state old) nothing_drafted) path (Fine found)
+        → MayAppear (files_in (S.state old) nothing_drafted) other (Fine v) → is_dir found.facts.kind ≡ false → 65535 ≤ found.facts.links
+        → refusal f.limit f.tree (Link path other) ≡ Some TooManyLinks }
+    ensures accepted { (old : S) (f : Session) (path other : List (List ℕ)) (found : FoundValue) (v : VacancyValue) → IsSession (S.state old) f
+        → LeadsToFound (files_in (S.state old) nothing_drafted) path (Fine found)
         → MayAppear (files_in (S.state old) nothing_drafted) other (Fine v) → is_dir found.facts.kind ≡ false → found.facts.links < 65535
         → MayLink (S.state old) f (Link path other) v.dir v.count (slot_of found.number v.name) (found.facts.links + 1) }
 {
@@ -343,7 +362,8 @@ pub(crate) fn find_vacancy<S: Blocks>(
     path: &Path,
 ) -> Result<Result<Vacancy, Refusal>, FileRefusal>
     requires begin { MayBegin S.tells (S.state blocks.old) }
-    ensures vacancy { IsTrue S.tells → IfOk result (λ vacancy. (t : Tree) → IsTreeOf (S.state blocks.old).books.geom (S.state blocks.old).map t → MayAppear (files_in (S.state blocks.old) nothing_drafted) path.now vacancy) }
+    ensures vacancy { IsTrue S.tells → IfOk result (λ vacancy. (t : Tree) → IsTreeOf (S.state blocks.old).books.geom (S.state blocks.old).map t
+        → MayAppear (files_in (S.state blocks.old) nothing_drafted) path.now vacancy) }
     ensures dir { IfOk result (λ vacancy. IfOk vacancy (λ v. IsNumber (S.state blocks.old).books.geom.i v.dir)) }
     ensures refused { IfErr result LookRefused }
     ensures looks { LooksOnly S.tells (fails_reading result) (S.state blocks.old) (S.state blocks.new) }
@@ -361,7 +381,8 @@ pub(crate) fn find_vacancy<S: Blocks>(
 
 /// The place for this name where a path comes to this, if nothing is there.
 fn vacancy_in(spot: &Spot, name: &Name) -> Result<Vacancy, Refusal>
-    ensures appears { (files : Files) (path up : List (List ℕ)) → ComesTo files path (Fine spot.now) → path ≡ up ++ name.now ∷ [] → MayAppear files path result }
+    ensures appears { (files : Files) (path up : List (List ℕ)) → ComesTo files path (Fine spot.now) → path ≡ up ++ name.now ∷ []
+        → MayAppear files path result }
     ensures dir { (limit : ℕ) → IsWithin limit spot.now → IfOk result (λ v. IsNumber limit v.dir) }
 {
     what_a_path_comes_to_gives_the_walk();
@@ -389,7 +410,8 @@ fn least_unused<S: Blocks>(
     first_unused: u32,
 ) -> Result<Option<u32>, FileRefusal>
     requires may { MayPlan S.tells (S.state blocks.old) first_unused }
-    ensures least { IsTrue S.tells → IfOk result (λ found. (t : Tree) → IsTreeOf (S.state blocks.old).books.geom (S.state blocks.old).map t → found ≡ least_free (S.state blocks.old).books.geom.i (inodes (S.state blocks.old))) }
+    ensures least { IsTrue S.tells → IfOk result (λ found. (t : Tree) → IsTreeOf (S.state blocks.old).books.geom (S.state blocks.old).map t
+        → found ≡ least_free (S.state blocks.old).books.geom.i (inodes (S.state blocks.old))) }
     ensures number { IfOk result (λ found. IfSome found (IsNumber (S.state blocks.old).books.geom.i)) }
     ensures used { IsTrue S.tells → IfOk result (λ found. IfSome found (AreUsedBelow (files_in (S.state blocks.old) nothing_drafted))) }
     ensures refused { IfErr result LookRefused }
@@ -419,11 +441,14 @@ fn draft_node<S: Blocks>(
     requires node { IsNumber (S.state blocks.old).books.geom.i slot.now.node }
     ensures draft { IfOk result (λ draft. IsDraftOf S.tells (S.state blocks.new) draft) }
     ensures used { IsTrue S.tells → IfOk result (λ draft. AreUsedBelow (files_in (S.state blocks.new) draft) (slot.now.node + 1)) }
-    ensures names { IsTrue S.tells → IfOk result (λ draft. (t : Tree) (slots : List SlotValue) → IsTreeOf (S.state blocks.old).books.geom (S.state blocks.old).map t → inodes (S.state blocks.old) slot.now.node ≡ None
-        → inodes (S.state blocks.old) dir ≡ Some (ADir slots) → AddsName (S.state blocks.old) (S.state blocks.new) draft dir slot.now.node slot.now.name (new_inode (first_thing kind)) slots) }
+    ensures names { IsTrue S.tells → IfOk result (λ draft. (t : Tree) (slots : List SlotValue)
+        → IsTreeOf (S.state blocks.old).books.geom (S.state blocks.old).map t → inodes (S.state blocks.old) slot.now.node ≡ None
+        → inodes (S.state blocks.old) dir ≡ Some (ADir slots)
+        → AddsName (S.state blocks.old) (S.state blocks.new) draft dir slot.now.node slot.now.name (new_inode (first_thing kind)) slots) }
     ensures refused { IsTrue S.tells → IfErr result (λ why. (slots : List SlotValue) → inodes (S.state blocks.old) dir ≡ Some (ADir slots)
         → GrowthRefused (growth (length slots)) (places_of (S.state blocks.old) dir) (S.state blocks.old).books (S.state blocks.new).books why) }
-    ensures quiet { IsTrue S.tells → (slots : List SlotValue) → inodes (S.state blocks.old) dir ≡ Some (ADir slots) → IsCalm (growth (length slots)) (S.state blocks.old) (S.state blocks.new) }
+    ensures quiet { IsTrue S.tells → (slots : List SlotValue) → inodes (S.state blocks.old) dir ≡ Some (ADir slots)
+        → IsCalm (growth (length slots)) (S.state blocks.old) (S.state blocks.new) }
     ensures settles { LooksAndSettles S.tells (fails_reading result) (fails_settling result) (S.state blocks.old) (S.state blocks.new) }
 {
     a_draft_begins(blocks);
@@ -473,12 +498,16 @@ fn draft_link<S: Blocks>(
     requires some { 1 ≤ links }
     requires most { links ≤ 65535 }
     ensures draft { IfOk result (λ draft. IsDraftOf S.tells (S.state blocks.new) draft) }
-    ensures used { IsTrue S.tells → IfOk result (λ draft. (l : ℕ) → IsUsed (files_in (S.state blocks.old) nothing_drafted) l → IsUsed (files_in (S.state blocks.new) draft) l) }
-    ensures names { IsTrue S.tells → IfOk result (λ draft. (t : Tree) (slots : List SlotValue) (before : ℕ) (bytes : List ℕ) → IsTreeOf (S.state blocks.old).books.geom (S.state blocks.old).map t → inodes (S.state blocks.old) slot.now.node ≡ Some (AFile before bytes)
-        → inodes (S.state blocks.old) dir ≡ Some (ADir slots) → AddsName (S.state blocks.old) (S.state blocks.new) draft dir slot.now.node slot.now.name (AFile links bytes) slots) }
+    ensures used { IsTrue S.tells → IfOk result (λ draft. (l : ℕ) → IsUsed (files_in (S.state blocks.old) nothing_drafted) l
+        → IsUsed (files_in (S.state blocks.new) draft) l) }
+    ensures names { IsTrue S.tells → IfOk result (λ draft. (t : Tree) (slots : List SlotValue) (before : ℕ) (bytes : List ℕ)
+        → IsTreeOf (S.state blocks.old).books.geom (S.state blocks.old).map t → inodes (S.state blocks.old) slot.now.node ≡ Some (AFile before bytes)
+        → inodes (S.state blocks.old) dir ≡ Some (ADir slots)
+        → AddsName (S.state blocks.old) (S.state blocks.new) draft dir slot.now.node slot.now.name (AFile links bytes) slots) }
     ensures refused { IsTrue S.tells → IfErr result (λ why. (slots : List SlotValue) → inodes (S.state blocks.old) dir ≡ Some (ADir slots)
         → GrowthRefused (growth (length slots)) (places_of (S.state blocks.old) dir) (S.state blocks.old).books (S.state blocks.new).books why) }
-    ensures quiet { IsTrue S.tells → (slots : List SlotValue) → inodes (S.state blocks.old) dir ≡ Some (ADir slots) → IsCalm (growth (length slots)) (S.state blocks.old) (S.state blocks.new) }
+    ensures quiet { IsTrue S.tells → (slots : List SlotValue) → inodes (S.state blocks.old) dir ≡ Some (ADir slots)
+        → IsCalm (growth (length slots)) (S.state blocks.old) (S.state blocks.new) }
     ensures settles { LooksAndSettles S.tells (fails_reading result) (fails_settling result) (S.state blocks.old) (S.state blocks.new) }
 {
     a_draft_begins(blocks);

@@ -33,7 +33,8 @@ use std::alloc::Global;
 /// Over blocks that lie in memory each command is answered in the session's room, and the blocks are then one of
 /// the session that follows.
 pub fn a_command_is_answered_in_its_room<S: Blocks>()
-    ensures { IsTrue S.tells → LieInMemory S.state → (old new : S) (f : Session) (cmd : Cmd) (reply : Reply) → IsSession (S.state old) f → Applies S.tells S.state cmd reply old new
+    ensures { IsTrue S.tells → LieInMemory S.state → (old new : S) (f : Session) (cmd : Cmd) (reply : Reply) → IsSession (S.state old) f
+        → Applies S.tells S.state cmd reply old new
         → (next : Session) × IsSession (S.state new) next × ((S.state new).books.geom ≡ (S.state old).books.geom)
         × AnswersIn (S.state old).books.geom f (room_of (S.state old)) cmd reply next (room_of (S.state new)) }
 {
@@ -48,7 +49,8 @@ pub fn a_command_is_answered_in_its_room<S: Blocks>()
 
 /// Where nothing was done yet, nothing waits, and no data block is set in the bitmap, the room is the first one.
 pub fn nothing_is_taken_at_first<S: Blocks>()
-    ensures { IsTrue S.tells → (s : S) (f : Session) → (S.state s).books.waiting ≡ 0 → IsSession (S.state s) f → HasNoBlocks (S.state s) → IsBegun (S.state s) → IsFirstRoom (S.state s).books.geom (room_of (S.state s)) }
+    ensures { IsTrue S.tells → (s : S) (f : Session) → (S.state s).books.waiting ≡ 0 → IsSession (S.state s) f → HasNoBlocks (S.state s)
+        → IsBegun (S.state s) → IsFirstRoom (S.state s).books.geom (room_of (S.state s)) }
 {}
 
 /// Over blocks in memory each command is answered in the session's room, and the blocks are then one of the

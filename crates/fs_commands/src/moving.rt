@@ -75,7 +75,8 @@ fn draft_onto<S: Blocks>(
     requires moves { IsTrue S.tells → (name : List ℕ) × MayMoveOnto (S.state blocks.old) source.now target.now name other.now }
     ensures draft { IfOk result (λ draft. IsDraftOf S.tells (S.state blocks.new) draft) }
     ensures moves { IsTrue S.tells → IfOk result (λ draft. (name : List ℕ) → MayMoveOnto (S.state blocks.old) source.now target.now name other.now
-        → MovesName (S.state blocks.old) (S.state blocks.new) draft source.now.dir target.now.dir source.now.entry.node.number name other.now 5 [] (release source.now.count + blocks_gone target.now.entry.node.facts) (first_after target.now.entry.node)) }
+        → MovesName (S.state blocks.old) (S.state blocks.new) draft source.now.dir target.now.dir source.now.entry.node.number name other.now 5 []
+        (release source.now.count + blocks_gone target.now.entry.node.facts) (first_after target.now.entry.node)) }
     ensures refused { IfErr result LookRefused }
     ensures looks { LooksOnly S.tells (fails_reading result) (S.state blocks.old) (S.state blocks.new) }
 {
@@ -127,7 +128,8 @@ fn draft_within<S: Blocks>(
     requires moves { IsTrue S.tells → (name : List ℕ) × MayRename (S.state blocks.old) source.now name other.now }
     ensures draft { IfOk result (λ draft. IsDraftOf S.tells (S.state blocks.new) draft) }
     ensures moves { IsTrue S.tells → IfOk result (λ draft. (name : List ℕ) → MayRename (S.state blocks.old) source.now name other.now
-        → MovesName (S.state blocks.old) (S.state blocks.new) draft source.now.dir source.now.dir source.now.entry.node.number name other.now 1 [] 0 (λ first. first)) }
+        → MovesName (S.state blocks.old) (S.state blocks.new) draft source.now.dir source.now.dir source.now.entry.node.number name other.now 1 [] 0
+        (λ first. first)) }
     ensures refused { IfErr result LookRefused }
     ensures looks { LooksOnly S.tells (fails_reading result) (S.state blocks.old) (S.state blocks.new) }
 {
@@ -176,13 +178,17 @@ fn draft_across<S: Blocks>(
     requires moves { IsTrue S.tells → (count : ℕ) × (name : List ℕ) × MayMoveAway (S.state blocks.old) source.now into count name other.now }
     ensures draft { IfOk result (λ draft. IsDraftOf S.tells (S.state blocks.new) draft) }
     ensures moves { IsTrue S.tells → IfOk result (λ draft. (count : ℕ) (name : List ℕ) → MayMoveAway (S.state blocks.old) source.now into count name other.now
-        → MovesName (S.state blocks.old) (S.state blocks.new) draft source.now.dir into source.now.entry.node.number name other.now 5 (take (growth count) (reusable_blocks (S.state blocks.new).books)) (release source.now.count) (λ first. first)) }
+        → MovesName (S.state blocks.old) (S.state blocks.new) draft source.now.dir into source.now.entry.node.number name other.now 5
+        (take (growth count) (reusable_blocks (S.state blocks.new).books)) (release source.now.count) (λ first. first)) }
     ensures rests { IsTrue S.tells → IfOk result (λ draft. (count : ℕ) (name : List ℕ) → MayMoveAway (S.state blocks.old) source.now into count name other.now
         → growth count ≤ length (reusable_blocks (S.state blocks.old).books) → (S.state blocks.new).books ≡ (S.state blocks.old).books) }
-    ensures grows { IsTrue S.tells → IfOk result (λ draft. (count : ℕ) (name : List ℕ) → MayMoveAway (S.state blocks.old) source.now into count name other.now → GrowsInRuns (S.state blocks.old) (S.state blocks.new).books into (growth count)) }
+    ensures grows { IsTrue S.tells → IfOk result (λ draft. (count : ℕ) (name : List ℕ)
+        → MayMoveAway (S.state blocks.old) source.now into count name other.now
+        → GrowsInRuns (S.state blocks.old) (S.state blocks.new).books into (growth count)) }
     ensures refused { IsTrue S.tells → IfErr result (λ why. (count : ℕ) (name : List ℕ) → MayMoveAway (S.state blocks.old) source.now into count name other.now
         → GrowthRefused (growth count) (places_of (S.state blocks.old) into) (S.state blocks.old).books (S.state blocks.new).books why) }
-    ensures quiet { IsTrue S.tells → (count : ℕ) (name : List ℕ) → MayMoveAway (S.state blocks.old) source.now into count name other.now → IsCalm (growth count) (S.state blocks.old) (S.state blocks.new) }
+    ensures quiet { IsTrue S.tells → (count : ℕ) (name : List ℕ) → MayMoveAway (S.state blocks.old) source.now into count name other.now
+        → IsCalm (growth count) (S.state blocks.old) (S.state blocks.new) }
     ensures settles { LooksAndSettles S.tells (fails_reading result) (fails_settling result) (S.state blocks.old) (S.state blocks.new) }
 {
     a_draft_begins(blocks);
@@ -225,8 +231,11 @@ pub(crate) fn plan_move<S: Blocks>(
     requires entry { MayBeEntry (S.state blocks.old).books.geom.i source.now.entry }
     requires into { IsNumber (S.state blocks.old).books.geom.i spot.now.dir }
     requires found { IfSome spot.now.found (MayBeEntry (S.state blocks.old).books.geom.i) }
-    requires known { IsTrue S.tells → (from : List (List ℕ)) × (to : List (List ℕ)) × IsMove (files_in (S.state blocks.old) nothing_drafted) from to source.now spot.now.dir spot.now.count spot.now.found other.now }
-    ensures plans { (from to : List (List ℕ)) → (IsTrue S.tells → IsMove (files_in (S.state blocks.old) nothing_drafted) from to source.now spot.now.dir spot.now.count spot.now.found other.now) → Plans S.tells (Rename from to) result (S.state blocks.old) (S.state blocks.new) }
+    requires known { IsTrue S.tells → (from : List (List ℕ)) × (to : List (List ℕ))
+        × IsMove (files_in (S.state blocks.old) nothing_drafted) from to source.now spot.now.dir spot.now.count spot.now.found other.now }
+    ensures plans { (from to : List (List ℕ))
+        → (IsTrue S.tells → IsMove (files_in (S.state blocks.old) nothing_drafted) from to source.now spot.now.dir spot.now.count spot.now.found
+        other.now) → Plans S.tells (Rename from to) result (S.state blocks.old) (S.state blocks.new) }
     ensures made { OnChange result (λ draft cost first. MayBeMade S.tells draft cost first (S.state blocks.new)) }
 {
     match spot.found {
@@ -272,8 +281,12 @@ fn plan_onto<S: Blocks>(
     requires from_entry { MayBeEntry (S.state blocks.old).books.geom.i source.now.entry }
     requires onto_dir { IsNumber (S.state blocks.old).books.geom.i target.now.dir }
     requires onto_entry { MayBeEntry (S.state blocks.old).books.geom.i target.now.entry }
-    requires known { IsTrue S.tells → (from : List (List ℕ)) × (to : List (List ℕ)) × IsMove (files_in (S.state blocks.old) nothing_drafted) from to source.now target.now.dir target.now.count (Some target.now.entry) other.now }
-    ensures plans { (from to : List (List ℕ)) → (IsTrue S.tells → IsMove (files_in (S.state blocks.old) nothing_drafted) from to source.now target.now.dir target.now.count (Some target.now.entry) other.now) → Plans S.tells (Rename from to) result (S.state blocks.old) (S.state blocks.new) }
+    requires known { IsTrue S.tells → (from : List (List ℕ)) × (to : List (List ℕ))
+        × IsMove (files_in (S.state blocks.old) nothing_drafted) from to source.now target.now.dir target.now.count (Some target.now.entry)
+        other.now }
+    ensures plans { (from to : List (List ℕ))
+        → (IsTrue S.tells → IsMove (files_in (S.state blocks.old) nothing_drafted) from to source.now target.now.dir target.now.count
+        (Some target.now.entry) other.now) → Plans S.tells (Rename from to) result (S.state blocks.old) (S.state blocks.new) }
     ensures made { OnChange result (λ draft cost first. MayBeMade S.tells draft cost first (S.state blocks.new)) }
 {
     calls_compose::<S>();
@@ -327,8 +340,11 @@ fn plan_within<S: Blocks>(
     requires may { MayPlan S.tells (S.state blocks.old) first_unused }
     requires dir { IsNumber (S.state blocks.old).books.geom.i source.now.dir }
     requires entry { MayBeEntry (S.state blocks.old).books.geom.i source.now.entry }
-    requires known { IsTrue S.tells → (from : List (List ℕ)) × (to : List (List ℕ)) × IsMove (files_in (S.state blocks.old) nothing_drafted) from to source.now source.now.dir source.now.count None other.now }
-    ensures plans { (from to : List (List ℕ)) → (IsTrue S.tells → IsMove (files_in (S.state blocks.old) nothing_drafted) from to source.now source.now.dir source.now.count None other.now) → Plans S.tells (Rename from to) result (S.state blocks.old) (S.state blocks.new) }
+    requires known { IsTrue S.tells → (from : List (List ℕ)) × (to : List (List ℕ))
+        × IsMove (files_in (S.state blocks.old) nothing_drafted) from to source.now source.now.dir source.now.count None other.now }
+    ensures plans { (from to : List (List ℕ))
+        → (IsTrue S.tells → IsMove (files_in (S.state blocks.old) nothing_drafted) from to source.now source.now.dir source.now.count None other.now)
+        → Plans S.tells (Rename from to) result (S.state blocks.old) (S.state blocks.new) }
     ensures made { OnChange result (λ draft cost first. MayBeMade S.tells draft cost first (S.state blocks.new)) }
 {
     calls_compose::<S>();
@@ -374,8 +390,11 @@ fn plan_across<S: Blocks>(
     requires entry { MayBeEntry (S.state blocks.old).books.geom.i source.now.entry }
     requires into { IsNumber (S.state blocks.old).books.geom.i into }
     requires apart { source.now.dir ≢ into }
-    requires known { IsTrue S.tells → (from : List (List ℕ)) × (to : List (List ℕ)) × IsMove (files_in (S.state blocks.old) nothing_drafted) from to source.now into count None other.now }
-    ensures plans { (from to : List (List ℕ)) → (IsTrue S.tells → IsMove (files_in (S.state blocks.old) nothing_drafted) from to source.now into count None other.now) → Plans S.tells (Rename from to) result (S.state blocks.old) (S.state blocks.new) }
+    requires known { IsTrue S.tells → (from : List (List ℕ)) × (to : List (List ℕ))
+        × IsMove (files_in (S.state blocks.old) nothing_drafted) from to source.now into count None other.now }
+    ensures plans { (from to : List (List ℕ))
+        → (IsTrue S.tells → IsMove (files_in (S.state blocks.old) nothing_drafted) from to source.now into count None other.now)
+        → Plans S.tells (Rename from to) result (S.state blocks.old) (S.state blocks.new) }
     ensures made { OnChange result (λ draft cost first. MayBeMade S.tells draft cost first (S.state blocks.new)) }
 {
     calls_compose::<S>();
@@ -411,11 +430,15 @@ fn plan_across<S: Blocks>(
 /// What a rename comes upon, where the tree accepts it, is known; and what is at the second path has no slots.
 fn a_move_is_known<S: Blocks>(blocks: &S)
     requires begin { MayBegin S.tells (S.state blocks.now) }
-    ensures knows { IsTrue S.tells → (from to : List (List ℕ)) (source : Named) (into count : ℕ) (found : Option Entry) (other : List ℕ) → IsMove (files_in (S.state blocks.now) nothing_drafted) from to source into count found other
+    ensures knows { IsTrue S.tells → (from to : List (List ℕ)) (source : Named) (into count : ℕ) (found : Option Entry) (other : List ℕ)
+        → IsMove (files_in (S.state blocks.now) nothing_drafted) from to source into count found other
         → KnowsMove (files_in (S.state blocks.now) nothing_drafted) from to source into count found other }
-    ensures onto { IsTrue S.tells → (t : Tree) (from to : List (List ℕ)) (source target : Named) (other : List ℕ) → IsTreeOf (S.state blocks.now).books.geom (S.state blocks.now).map t
-        → IsMove (files_in (S.state blocks.now) nothing_drafted) from to source target.dir target.count (Some target.entry) other → (k : KnowsMove (files_in (S.state blocks.now) nothing_drafted) from to source target.dir target.count (Some target.entry) other)
-        → MayMoveOnto (S.state blocks.now) source target k.name other × (blocks_lost (inodes (S.state blocks.now)) to ≡ blocks_gone target.entry.node.facts) × (target.entry.node.facts.size ≤ 1073741824) }
+    ensures onto { IsTrue S.tells → (t : Tree) (from to : List (List ℕ)) (source target : Named) (other : List ℕ)
+        → IsTreeOf (S.state blocks.now).books.geom (S.state blocks.now).map t
+        → IsMove (files_in (S.state blocks.now) nothing_drafted) from to source target.dir target.count (Some target.entry) other
+        → (k : KnowsMove (files_in (S.state blocks.now) nothing_drafted) from to source target.dir target.count (Some target.entry) other)
+        → MayMoveOnto (S.state blocks.now) source target k.name other
+        × (blocks_lost (inodes (S.state blocks.now)) to ≡ blocks_gone target.entry.node.facts) × (target.entry.node.facts.size ≤ 1073741824) }
 {
     a_draft_begins(blocks);
     a_directory_has_whole_slots::<S>();

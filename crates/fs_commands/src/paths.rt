@@ -68,8 +68,10 @@ pub(crate) fn find_node<S: Blocks>(
     path: &Path,
 ) -> Result<Result<NodeFound, Refusal>, FileRefusal>
     requires begin { MayBegin S.tells (S.state blocks.old) }
-    ensures found { IsTrue S.tells → IfOk result (λ found. (t : Tree) → IsTreeOf (S.state blocks.old).books.geom (S.state blocks.old).map t → LeadsToFound (files_in (S.state blocks.old) nothing_drafted) path.now found) }
-    ensures there { IsTrue S.tells → IfOk result (λ found. IfOk found (λ f. (x : FileNode) × (files_in (S.state blocks.old) nothing_drafted f.number ≡ Some x) × (f.facts ≡ facts_of x))) }
+    ensures found { IsTrue S.tells → IfOk result (λ found. (t : Tree) → IsTreeOf (S.state blocks.old).books.geom (S.state blocks.old).map t
+        → LeadsToFound (files_in (S.state blocks.old) nothing_drafted) path.now found) }
+    ensures there { IsTrue S.tells → IfOk result
+        (λ found. IfOk found (λ f. (x : FileNode) × (files_in (S.state blocks.old) nothing_drafted f.number ≡ Some x) × (f.facts ≡ facts_of x))) }
     ensures number { IfOk result (λ found. IfOk found (λ f. IsNumber (S.state blocks.old).books.geom.i f.number)) }
     ensures used { IfOk result (λ found. IfOk found (λ f. f.facts.kind ≢ Free)) }
     ensures refused { IfErr result LookRefused }
@@ -100,7 +102,8 @@ pub(crate) fn look_up<S: Blocks>(
     path: &Path,
 ) -> Result<Result<Spot, Refusal>, FileRefusal>
     requires begin { MayBegin S.tells (S.state blocks.old) }
-    ensures comes { IsTrue S.tells → IfOk result (λ spot. (t : Tree) → IsTreeOf (S.state blocks.old).books.geom (S.state blocks.old).map t → ComesTo (files_in (S.state blocks.old) nothing_drafted) path.now spot) }
+    ensures comes { IsTrue S.tells → IfOk result (λ spot. (t : Tree) → IsTreeOf (S.state blocks.old).books.geom (S.state blocks.old).map t
+        → ComesTo (files_in (S.state blocks.old) nothing_drafted) path.now spot) }
     ensures within { IfOk result (λ spot. IfOk spot (IsWithin (S.state blocks.old).books.geom.i)) }
     ensures refused { IfErr result LookRefused }
     ensures looks { LooksOnly S.tells (fails_reading result) (S.state blocks.old) (S.state blocks.new) }
@@ -138,8 +141,10 @@ fn find_entry<S: Blocks>(
     requires going { (S.state blocks.old).books.stopped ≡ false }
     requires number { IsNumber (S.state blocks.old).books.geom.i dir }
     requires draft { IsDraftOf S.tells (S.state blocks.old) draft.now }
-    ensures entry { IsTrue S.tells → IfOk result (λ entry. (t : Tree) (slots : List Slot) → IsMapOf (S.state blocks.old).books.geom.i (inodes_in (S.state blocks.old) draft.now) t
-        → inodes_in (S.state blocks.old) draft.now dir ≡ Some (ADir slots) → HasEntry (files_in (S.state blocks.old) draft.now) dir (length slots) name.now entry) }
+    ensures entry { IsTrue S.tells → IfOk result (λ entry. (t : Tree) (slots : List Slot)
+        → IsMapOf (S.state blocks.old).books.geom.i (inodes_in (S.state blocks.old) draft.now) t
+        → inodes_in (S.state blocks.old) draft.now dir ≡ Some (ADir slots)
+        → HasEntry (files_in (S.state blocks.old) draft.now) dir (length slots) name.now entry) }
     ensures within { IfOk result (λ entry. IfSome entry (MayBeEntry (S.state blocks.old).books.geom.i)) }
     ensures refused { IfErr result LookRefused }
     ensures looks { LooksOnly S.tells (fails_reading result) (S.state blocks.old) (S.state blocks.new) }

@@ -41,7 +41,8 @@ pub(crate) fn carry<S: Blocks>(
 ) -> Result<Reply, Refusal>
     requires may { OnChange planned (λ draft cost first. MayBeMade S.tells draft cost first (S.state blocks.old)) }
     requires between { IsBetween S.tells (S.state blocks.old) first_unused.old }
-    ensures carries { (cmd : Cmd) (start : S) → is_sync cmd ≡ false → Plans S.tells cmd planned (S.state start) (S.state blocks.old) → Carries S.tells cmd result (S.state start) (S.state blocks.new) }
+    ensures carries { (cmd : Cmd) (start : S) → is_sync cmd ≡ false → Plans S.tells cmd planned (S.state start) (S.state blocks.old)
+        → Carries S.tells cmd result (S.state start) (S.state blocks.new) }
     ensures between { IsBetween S.tells (S.state blocks.new) first_unused.new }
 {
     a_command_changes_where_it_costs();

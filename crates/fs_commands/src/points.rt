@@ -26,14 +26,18 @@ pub fn live_blocks_are_enough()
 /// Where all accepted writes stand, the blocks stand for the tree of the last point, while no call of the disk
 /// failed.
 pub fn a_crash_leaves_the_tree_of_a_point<S: Blocks>()
-    ensures now { (s : S) (trees : ℕ → Tree) (img : BlockMap) → IsTrue S.tells → KnowsPoints (S.state s) trees → (S.state s).crash.left_since (length (S.state s).crash.log) img
+    ensures now { (s : S) (trees : ℕ → Tree) (img : BlockMap) → IsTrue S.tells → KnowsPoints (S.state s) trees
+        → (S.state s).crash.left_since (length (S.state s).crash.log) img
         → ∥ LeavesTree (S.state s) trees (S.state s).books.floor (S.state s).books.point img ∥₁ }
-    ensures call { (old new : S) (trees : ℕ → Tree) (img : BlockMap) → Advances (S.state old) (S.state new) → KnowsPoints (S.state new) trees → (S.state new).crash.left_since (length (S.state old).crash.log) img
+    ensures call { (old new : S) (trees : ℕ → Tree) (img : BlockMap) → Advances (S.state old) (S.state new) → KnowsPoints (S.state new) trees
+        → (S.state new).crash.left_since (length (S.state old).crash.log) img
         → ∥ LeavesTree (S.state new) trees (S.state old).books.floor (S.state new).books.point img ∥₁ }
-    ensures earlier { (old new : S) (trees : ℕ → Tree) (t : ℕ) (img : BlockMap) → Advances (S.state old) (S.state new) → KnowsPoints (S.state new) trees → t ≤ length (S.state old).crash.log → (S.state new).crash.left_since t img
+    ensures earlier { (old new : S) (trees : ℕ → Tree) (t : ℕ) (img : BlockMap) → Advances (S.state old) (S.state new)
+        → KnowsPoints (S.state new) trees → t ≤ length (S.state old).crash.log → (S.state new).crash.left_since t img
         → (S.state old).crash.left_since t img ⊎ ∥ LeavesTree (S.state new) trees (S.state old).books.floor (S.state new).books.point img ∥₁ }
     ensures issued { (s : S) (trees : ℕ → Tree) → IsTrue S.tells → KnowsPoints (S.state s) trees → (S.state s).books.stopped ≡ false
-        → ∥ ((m : BlockMap) × (S.state s).crash.issued m) ∥₁ × ((m : BlockMap) → (S.state s).crash.issued m → IsTreeOf (S.state s).books.geom m (trees (S.state s).books.point)) }
+        → ∥ ((m : BlockMap) × (S.state s).crash.issued m) ∥₁
+        × ((m : BlockMap) → (S.state s).crash.issued m → IsTreeOf (S.state s).books.geom m (trees (S.state s).books.point)) }
 {}
 
 /// The tree of each point is known at first, where there is point 0 alone: the blocks have its map, and they
@@ -42,17 +46,22 @@ pub fn a_crash_leaves_the_tree_of_a_point<S: Blocks>()
 ///
 /// The last two clauses cover both cases, of any call that makes one point at most, and of a sync.
 pub fn points_stay_known<S: Blocks>(blocks: &S)
-    ensures begins { (trees : ℕ → Tree) → (S.state blocks.now).books.point ≡ 0 → HasMapOfPoint (S.state blocks.now) 0 → IsTreeOf (S.state blocks.now).books.geom (S.state blocks.now).map (trees 0)
+    ensures begins { (trees : ℕ → Tree) → (S.state blocks.now).books.point ≡ 0 → HasMapOfPoint (S.state blocks.now) 0
+        → IsTreeOf (S.state blocks.now).books.geom (S.state blocks.now).map (trees 0)
         → KnowsPoints (S.state blocks.now) trees }
-    ensures stays { (old : S) (trees : ℕ → Tree) → Advances (S.state old) (S.state blocks.now) → (S.state blocks.now).books.geom ≡ (S.state old).books.geom → (S.state blocks.now).books.point ≡ (S.state old).books.point
+    ensures stays { (old : S) (trees : ℕ → Tree) → Advances (S.state old) (S.state blocks.now)
+        → (S.state blocks.now).books.geom ≡ (S.state old).books.geom → (S.state blocks.now).books.point ≡ (S.state old).books.point
         → KnowsPoints (S.state old) trees → KnowsPoints (S.state blocks.now) trees }
-    ensures comes { (old : S) (trees : ℕ → Tree) (t : Tree) → Advances (S.state old) (S.state blocks.now) → MakesPoint (S.state old) (S.state blocks.now) → (S.state blocks.now).books.geom ≡ (S.state old).books.geom
+    ensures comes { (old : S) (trees : ℕ → Tree) (t : Tree) → Advances (S.state old) (S.state blocks.now)
+        → MakesPoint (S.state old) (S.state blocks.now) → (S.state blocks.now).books.geom ≡ (S.state old).books.geom
         → (S.state blocks.now).books.point ≡ (S.state old).books.point + 1 → IsTreeOf (S.state blocks.now).books.geom (S.state blocks.now).map t
         → KnowsPoints (S.state old) trees → KnowsPoints (S.state blocks.now) (with_tree trees (S.state blocks.now).books.point t) }
-    ensures after { (old : S) (trees : ℕ → Tree) (t : Tree) → Advances (S.state old) (S.state blocks.now) → MakesPoint (S.state old) (S.state blocks.now) → (S.state blocks.now).books.geom ≡ (S.state old).books.geom
+    ensures after { (old : S) (trees : ℕ → Tree) (t : Tree) → Advances (S.state old) (S.state blocks.now)
+        → MakesPoint (S.state old) (S.state blocks.now) → (S.state blocks.now).books.geom ≡ (S.state old).books.geom
         → (S.state blocks.now).books.point ≤ (S.state old).books.point + 1 → IsTreeOf (S.state blocks.now).books.geom (S.state blocks.now).map t
         → KnowsPoints (S.state old) trees → KnowsPoints (S.state blocks.now) (trees_after (S.state old) (S.state blocks.now) trees t) }
-    ensures sync { (old : S) (result : Result ℕ SyncRefusal) (trees : ℕ → Tree) (t : Tree) → IsTrue S.tells → Syncs S.tells result (S.state old) (S.state blocks.now) → IsTreeOf (S.state old).books.geom (S.state old).map t
+    ensures sync { (old : S) (result : Result ℕ SyncRefusal) (trees : ℕ → Tree) (t : Tree) → IsTrue S.tells
+        → Syncs S.tells result (S.state old) (S.state blocks.now) → IsTreeOf (S.state old).books.geom (S.state old).map t
         → KnowsPoints (S.state old) trees → KnowsPoints (S.state blocks.now) (trees_after (S.state old) (S.state blocks.now) trees t) }
 {
     blocks.geom().lawful();

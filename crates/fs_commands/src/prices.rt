@@ -10,8 +10,12 @@ ghost use Rattle.fs_commands.specs.Changes.{ChangesAtMost, IsWithinCost};
 /// A draft is within the cost of a name less in a directory, of bytes from `lo` up to `hi` that come into a
 /// file, or of a file that loses blocks, where it changes no more than these.
 pub(crate) fn small_drafts_are_within_the_cost()
-    ensures removing { (g : Geometry) (d : DraftState) (freed : ℕ) → ChangesAtMost d 4 0 0 freed → IsWithinCost g d (spec.removing (bitmap_blocks g) freed).cost }
-    ensures writing { (g : Geometry) (d : DraftState) (size lo hi : ℕ) → ChangesAtMost d (spec.blocks_met size lo hi + 1) (spec.blocks_for (max size hi) - spec.blocks_for size) (spec.blocks_for (max size hi) - spec.blocks_for size) 0
+    ensures removing { (g : Geometry) (d : DraftState) (freed : ℕ) → ChangesAtMost d 4 0 0 freed
+        → IsWithinCost g d (spec.removing (bitmap_blocks g) freed).cost }
+    ensures writing { (g : Geometry) (d : DraftState) (size lo hi : ℕ)
+        → ChangesAtMost d (spec.blocks_met size lo hi + 1) (spec.blocks_for (max size hi) - spec.blocks_for size)
+        (spec.blocks_for (max size hi) - spec.blocks_for size) 0
         → IsWithinCost g d (spec.writing (bitmap_blocks g) size lo hi).cost }
-    ensures shrinking { (g : Geometry) (d : DraftState) (freed : ℕ) → ChangesAtMost d 1 0 0 freed → IsWithinCost g d (spec.shrinking (bitmap_blocks g) freed).cost }
+    ensures shrinking { (g : Geometry) (d : DraftState) (freed : ℕ) → ChangesAtMost d 1 0 0 freed
+        → IsWithinCost g d (spec.shrinking (bitmap_blocks g) freed).cost }
 {}

@@ -22,7 +22,8 @@ ghost use Rattle.fs_commands.specs.declared.paths.Spot.TheVariants.{Inside};
 ghost use Rattle.fs_commands.specs.Figures.{AreFiguresOf, HasFacts};
 ghost use Rattle.fs_commands.specs.Looks.{ComesTo, IsWithin, MayBeEntry, ShowsFacts, entry_number};
 ghost use Rattle.fs_commands.specs.Plans.{IsAnswer, MayBeMade, OnChange, Plans};
-ghost use Rattle.fs_commands.specs.Removing.{IsFound, IsLoss, IsNamed, KnowsLoss, LosesLink, LosesName, MayLose, blocks_gone, first_after, lose_cmd, lose_reason};
+ghost use Rattle.fs_commands.specs.Removing.{IsFound, IsLoss, IsNamed, KnowsLoss, LosesLink, LosesName, MayLose, blocks_gone, first_after, lose_cmd};
+ghost use Rattle.fs_commands.specs.Removing.{lose_reason};
 ghost use Rattle.fs_commands.specs.Sessions.{MayBegin, MayPlan, Stands, inodes};
 ghost use Rattle.fs_commands.specs.Space.{ArePlaced};
 
@@ -196,7 +197,8 @@ pub(crate) fn lose_link<S: Blocks>(
     requires number { IsNumber (S.state blocks.old).books.geom.i node.now.number }
     requires draft { IsDraftOf S.tells (S.state blocks.old) draft.old }
     requires found { IsTrue S.tells → IsFound (files_in (S.state blocks.old) draft.old) node.now }
-    ensures link { IsTrue S.tells → OnOk result ((x : Inode) → inodes_in (S.state blocks.old) draft.old node.now.number ≡ Some x → LosesLink (files_in (S.state blocks.old) draft.old) (files_in (S.state blocks.new) draft.new) node.now.number) }
+    ensures link { IsTrue S.tells → OnOk result ((x : Inode) → inodes_in (S.state blocks.old) draft.old node.now.number ≡ Some x
+        → LosesLink (files_in (S.state blocks.old) draft.old) (files_in (S.state blocks.new) draft.new) node.now.number) }
     ensures placed { IsTrue S.tells → OnOk result (ArePlaced (places_in (S.state blocks.old) draft.old) (places_in (S.state blocks.new) draft.new) []) }
     ensures draft { OnOk result (IsDraftOf S.tells (S.state blocks.new) draft.new) }
     ensures alters { IsTrue S.tells → OnOk result (Alters 1 [] (blocks_gone node.now.facts) draft.old draft.new) }
@@ -223,7 +225,8 @@ fn one_less(links: u32) -> u32
 
 /// Why a node with these facts can't go from its path, which isn't the root.
 fn loss_refusal(kind: Kind, facts: &FileFacts) -> Option<Refusal>
-    ensures { (m : Inodes) (path : List (List ℕ)) (k : ℕ) → walk_on m 1 path ≡ Fine k → path ≢ [] → ShowsFacts m path facts.now → lose_reason kind m path ≡ result }
+    ensures { (m : Inodes) (path : List (List ℕ)) (k : ℕ) → walk_on m 1 path ≡ Fine k → path ≢ [] → ShowsFacts m path facts.now
+        → lose_reason kind m path ≡ result }
 {
     match kind {
         Kind::File => {
@@ -247,7 +250,8 @@ fn loss_refusal(kind: Kind, facts: &FileFacts) -> Option<Refusal>
 /// The entry that is to go from a path that isn't the root, or why it can't.
 fn entry_to_lose(kind: Kind, entry: &Option<Entry>) -> Result<Entry, Refusal>
     ensures same { IfOk result (λ e. entry.now ≡ Some e) }
-    ensures loses { (m : Inodes) (path : List (List ℕ)) → walk_on m 1 path ≡ entry_number entry.now → path ≢ [] → IfSome entry.now (λ e. ShowsFacts m path e.node.facts) → MayLose kind m path entry.now result }
+    ensures loses { (m : Inodes) (path : List (List ℕ)) → walk_on m 1 path ≡ entry_number entry.now → path ≢ []
+        → IfSome entry.now (λ e. ShowsFacts m path e.node.facts) → MayLose kind m path entry.now result }
 {
     let Some(entry) = *entry else {
         return Err(Refusal::NotFound);
@@ -268,7 +272,8 @@ fn root_refusal<S: Blocks>(
     kind: Kind,
 ) -> Result<Refusal, FileRefusal>
     requires begin { MayBegin S.tells (S.state blocks.old) }
-    ensures reason { IsTrue S.tells → IfOk result (λ why. (t : Tree) → IsTreeOf (S.state blocks.old).books.geom (S.state blocks.old).map t → lose_reason kind (inodes (S.state blocks.old)) [] ≡ Some why) }
+    ensures reason { IsTrue S.tells → IfOk result (λ why. (t : Tree) → IsTreeOf (S.state blocks.old).books.geom (S.state blocks.old).map t
+        → lose_reason kind (inodes (S.state blocks.old)) [] ≡ Some why) }
     ensures refused { IfErr result LookRefused }
     ensures looks { LooksOnly S.tells (fails_reading result) (S.state blocks.old) (S.state blocks.new) }
 {
@@ -307,7 +312,8 @@ fn draft_loss<S: Blocks>(alloc: Global, blocks: &mut S, named: &Named) -> Result
     requires entry { MayBeEntry (S.state blocks.old).books.geom.i named.now.entry }
     requires named { IsTrue S.tells → (name : List ℕ) × IsNamed (files_in (S.state blocks.old) nothing_drafted) name named.now }
     ensures draft { IfOk result (λ draft. IsDraftOf S.tells (S.state blocks.new) draft) }
-    ensures loses { IsTrue S.tells → IfOk result (λ draft. (name : List ℕ) → IsNamed (files_in (S.state blocks.old) nothing_drafted) name named.now → LosesName (S.state blocks.old) (S.state blocks.new) draft name named.now) }
+    ensures loses { IsTrue S.tells → IfOk result (λ draft. (name : List ℕ) → IsNamed (files_in (S.state blocks.old) nothing_drafted) name named.now
+        → LosesName (S.state blocks.old) (S.state blocks.new) draft name named.now) }
     ensures refused { IfErr result LookRefused }
     ensures looks { LooksOnly S.tells (fails_reading result) (S.state blocks.old) (S.state blocks.new) }
 {
@@ -330,8 +336,10 @@ fn draft_loss<S: Blocks>(alloc: Global, blocks: &mut S, named: &Named) -> Result
 /// What inodes say of a path is what is known of the node to which it comes.
 pub(crate) fn what_stands_there_is_shown<S: Blocks>(blocks: &S)
     requires begin { MayBegin S.tells (S.state blocks.now) }
-    ensures { IsTrue S.tells → (t : Tree) (path : List (List ℕ)) (dir count : ℕ) (e : Entry) → IsTreeOf (S.state blocks.now).books.geom (S.state blocks.now).map t
-        → ComesTo (files_in (S.state blocks.now) nothing_drafted) path (Fine (Inside dir count (Some e))) → ShowsFacts (inodes (S.state blocks.now)) path e.node.facts }
+    ensures { IsTrue S.tells → (t : Tree) (path : List (List ℕ)) (dir count : ℕ) (e : Entry)
+        → IsTreeOf (S.state blocks.now).books.geom (S.state blocks.now).map t
+        → ComesTo (files_in (S.state blocks.now) nothing_drafted) path (Fine (Inside dir count (Some e)))
+        → ShowsFacts (inodes (S.state blocks.now)) path e.node.facts }
 {
     a_draft_begins(blocks);
     a_directory_has_whole_slots::<S>();
@@ -343,7 +351,8 @@ pub(crate) fn what_stands_there_is_shown<S: Blocks>(blocks: &S)
 /// What goes from a path, and the tree accepts that it goes, is known.
 fn what_goes_is_known<S: Blocks>(blocks: &S)
     requires begin { MayBegin S.tells (S.state blocks.now) }
-    ensures { IsTrue S.tells → (t : Tree) (kind : Kind) (path : List (List ℕ)) (n : Named) → IsTreeOf (S.state blocks.now).books.geom (S.state blocks.now).map t → IsLoss kind (files_in (S.state blocks.now) nothing_drafted) path n
+    ensures { IsTrue S.tells → (t : Tree) (kind : Kind) (path : List (List ℕ)) (n : Named)
+        → IsTreeOf (S.state blocks.now).books.geom (S.state blocks.now).map t → IsLoss kind (files_in (S.state blocks.now) nothing_drafted) path n
         → KnowsLoss kind (files_in (S.state blocks.now) nothing_drafted) path n }
 {
     a_draft_begins(blocks);
@@ -358,7 +367,8 @@ fn what_goes_is_known<S: Blocks>(blocks: &S)
 
 /// The figures of a command by which a name goes: from a directory of so many slots, to a node with these facts.
 fn loss_figures(kind: Kind, bitmap: u32, count: u32, facts: &FileFacts) -> Figures
-    ensures { (m : Inodes) (path : List (List ℕ)) → count ≡ slots_above m path → HasFacts m path facts.now.links facts.now.size → facts.now.size ≤ 1073741824 → AreFiguresOf bitmap m (lose_cmd kind path) (value_of result) }
+    ensures { (m : Inodes) (path : List (List ℕ)) → count ≡ slots_above m path → HasFacts m path facts.now.links facts.now.size
+        → facts.now.size ≤ 1073741824 → AreFiguresOf bitmap m (lose_cmd kind path) (value_of result) }
 {
     match kind {
         Kind::File => {
@@ -394,7 +404,8 @@ fn plan_name_loss<S: Blocks>(
     requires dir { IsNumber (S.state blocks.old).books.geom.i named.now.dir }
     requires entry { MayBeEntry (S.state blocks.old).books.geom.i named.now.entry }
     requires loss { IsTrue S.tells → (path : List (List ℕ)) × IsLoss kind (files_in (S.state blocks.old) nothing_drafted) path named.now }
-    ensures plans { (path : List (List ℕ)) → (IsTrue S.tells → IsLoss kind (files_in (S.state blocks.old) nothing_drafted) path named.now) → Plans S.tells (lose_cmd kind path) result (S.state blocks.old) (S.state blocks.new) }
+    ensures plans { (path : List (List ℕ)) → (IsTrue S.tells → IsLoss kind (files_in (S.state blocks.old) nothing_drafted) path named.now)
+        → Plans S.tells (lose_cmd kind path) result (S.state blocks.old) (S.state blocks.new) }
     ensures made { OnChange result (λ draft cost first. MayBeMade S.tells draft cost first (S.state blocks.new)) }
 {
     calls_compose::<S>();

@@ -166,7 +166,8 @@ fn plan_entry_rename<S: Blocks>(
     requires may { MayPlan S.tells (S.state blocks.old) first_unused }
     requires dir { IsNumber (S.state blocks.old).books.geom.i source.now.dir }
     requires entry { MayBeEntry (S.state blocks.old).books.geom.i source.now.entry }
-    requires comes { IsTrue S.tells → ComesTo (files_in (S.state blocks.old) nothing_drafted) from.now (Fine (Inside source.now.dir source.now.count (Some source.now.entry))) }
+    requires comes { IsTrue S.tells → ComesTo (files_in (S.state blocks.old) nothing_drafted) from.now
+        (Fine (Inside source.now.dir source.now.count (Some source.now.entry))) }
     ensures plans { Plans S.tells (Rename from.now to.now) result (S.state blocks.old) (S.state blocks.new) }
     ensures made { OnChange result (λ draft cost first. MayBeMade S.tells draft cost first (S.state blocks.new)) }
 {
@@ -224,8 +225,10 @@ fn plan_entry_move<S: Blocks>(
     requires into { IsNumber (S.state blocks.old).books.geom.i ends.now.goal.dir }
     requires found { IfSome ends.now.goal.found (MayBeEntry (S.state blocks.old).books.geom.i) }
     requires last { to.now ≡ parent to.now ++ name.now ∷ [] }
-    requires comes { IsTrue S.tells → ComesTo (files_in (S.state blocks.old) nothing_drafted) from.now (Fine (Inside ends.now.source.dir ends.now.source.count (Some ends.now.source.entry))) }
-    requires target { IsTrue S.tells → ComesTo (files_in (S.state blocks.old) nothing_drafted) to.now (Fine (Inside ends.now.goal.dir ends.now.goal.count ends.now.goal.found)) }
+    requires comes { IsTrue S.tells → ComesTo (files_in (S.state blocks.old) nothing_drafted) from.now
+        (Fine (Inside ends.now.source.dir ends.now.source.count (Some ends.now.source.entry))) }
+    requires target { IsTrue S.tells → ComesTo (files_in (S.state blocks.old) nothing_drafted) to.now
+        (Fine (Inside ends.now.goal.dir ends.now.goal.count ends.now.goal.found)) }
     ensures plans { Plans S.tells (Rename from.now to.now) result (S.state blocks.old) (S.state blocks.new) }
     ensures made { OnChange result (λ draft cost first. MayBeMade S.tells draft cost first (S.state blocks.new)) }
 {
@@ -263,7 +266,8 @@ fn is_node(number: u32, found: &Option<Entry>) -> bool
 /// Why a node with these facts can't move to where this was found, which is another node; `below` says whether
 /// that lies below the node's own path.
 fn move_refusal(source: &FileFacts, found: &Option<Entry>, below: bool) -> Option<Refusal>
-    ensures { (m : Inodes) (from to : List (List ℕ)) → ShowsFacts m from source.now → ShowsEntry m to found.now → is_below from to ≡ below → onto_reason m from to ≡ result }
+    ensures { (m : Inodes) (from to : List (List ℕ)) → ShowsFacts m from source.now → ShowsEntry m to found.now → is_below from to ≡ below
+        → onto_reason m from to ≡ result }
 {
     if !is_dir(source.kind) {
         return file_refusal(found);
@@ -281,7 +285,8 @@ fn move_refusal(source: &FileFacts, found: &Option<Entry>, below: bool) -> Optio
 
 /// Why a file can't move to where this was found.
 fn file_refusal(found: &Option<Entry>) -> Option<Refusal>
-    ensures { (m : Inodes) (from to : List (List ℕ)) → is_dir_inode (inode_at m from) ≡ false → is_file_inode (inode_at m from) ≡ true → ShowsEntry m to found.now → onto_reason m from to ≡ result }
+    ensures { (m : Inodes) (from to : List (List ℕ)) → is_dir_inode (inode_at m from) ≡ false → is_file_inode (inode_at m from) ≡ true
+        → ShowsEntry m to found.now → onto_reason m from to ≡ result }
 {
     let Some(entry) = *found else {
         return None;
@@ -294,7 +299,8 @@ fn file_refusal(found: &Option<Entry>) -> Option<Refusal>
 
 /// Why a directory can't move to where this was found, but for one that lies below its own path.
 fn dir_refusal(found: &Option<Entry>) -> Option<Refusal>
-    ensures { (m : Inodes) (from to : List (List ℕ)) → is_dir_inode (inode_at m from) ≡ true → is_file_inode (inode_at m from) ≡ false → ShowsEntry m to found.now
+    ensures { (m : Inodes) (from to : List (List ℕ)) → is_dir_inode (inode_at m from) ≡ true → is_file_inode (inode_at m from) ≡ false
+        → ShowsEntry m to found.now
         → onto_reason m from to ≡ first_reason (result ∷ when (is_below from to) BelowItself ∷ []) }
 {
     let Some(entry) = *found else {
@@ -333,8 +339,10 @@ fn onto_root_refusal(source: &FileFacts) -> Refusal
 fn what_is_found_is_shown<S: Blocks>(blocks: &S)
     requires begin { MayBegin S.tells (S.state blocks.now) }
     ensures root { (t : Tree) → IsTreeOf (S.state blocks.now).books.geom (S.state blocks.now).map t → HasRoot (inodes (S.state blocks.now)) }
-    ensures entry { IsTrue S.tells → (t : Tree) (path : List (List ℕ)) (dir count : ℕ) (found : Option EntryValue) → IsTreeOf (S.state blocks.now).books.geom (S.state blocks.now).map t
-        → ComesTo (files_in (S.state blocks.now) nothing_drafted) path (Fine (Inside dir count found)) → ShowsEntry (inodes (S.state blocks.now)) path found × IsBelowRoot (inodes (S.state blocks.now)) found }
+    ensures entry { IsTrue S.tells → (t : Tree) (path : List (List ℕ)) (dir count : ℕ) (found : Option EntryValue)
+        → IsTreeOf (S.state blocks.now).books.geom (S.state blocks.now).map t
+        → ComesTo (files_in (S.state blocks.now) nothing_drafted) path (Fine (Inside dir count found))
+        → ShowsEntry (inodes (S.state blocks.now)) path found × IsBelowRoot (inodes (S.state blocks.now)) found }
 {
     a_name_stands_at_its_place();
     blocks_have_the_map_of_their_tree();

@@ -75,7 +75,9 @@ fn truncate_found<S: Blocks>(
     requires may { MayPlan S.tells (S.state blocks.old) first_unused }
     requires number { IsNumber (S.state blocks.old).books.geom.i found.now.number }
     requires file { IsTrue S.tells → IsFile (files_in (S.state blocks.old) nothing_drafted) found.now }
-    ensures plans { (path : List (List ℕ)) → (IsTrue S.tells → walk_on (inodes_of (files_in (S.state blocks.old) nothing_drafted)) 1 path ≡ Fine found.now.number) → Plans S.tells (Truncate path size) result (S.state blocks.old) (S.state blocks.new) }
+    ensures plans { (path : List (List ℕ)) → (IsTrue S.tells
+        → walk_on (inodes_of (files_in (S.state blocks.old) nothing_drafted)) 1 path ≡ Fine found.now.number)
+        → Plans S.tells (Truncate path size) result (S.state blocks.old) (S.state blocks.new) }
     ensures made { OnChange result (λ draft cost first. MayBeMade S.tells draft cost first (S.state blocks.new)) }
 {
     calls_compose::<S>();
@@ -119,7 +121,8 @@ fn plan_size<S: Blocks>(
     requires file { IsTrue S.tells → (x : FileNode) × (files_in (S.state blocks.old) nothing_drafted number ≡ Some x) × (x.kind ≡ File) }
     requires fits { size ≤ 1073741824 }
     requires room { (S.state blocks.old).books.running.weight + cost ≤ (S.state blocks.old).books.room }
-    ensures plans { (path : List (List ℕ)) → MayResize S.tells (S.state blocks.old) number path size cost → Plans S.tells (Truncate path size) result (S.state blocks.old) (S.state blocks.new) }
+    ensures plans { (path : List (List ℕ)) → MayResize S.tells (S.state blocks.old) number path size cost
+        → Plans S.tells (Truncate path size) result (S.state blocks.old) (S.state blocks.new) }
     ensures made { OnChange result (λ draft cost first. MayBeMade S.tells draft cost first (S.state blocks.new)) }
 {
     a_draft_begins(blocks);

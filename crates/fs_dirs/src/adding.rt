@@ -44,11 +44,14 @@ pub fn add_slot<S: Blocks>(
     requires once { IsTrue S.tells → draft.old.taken ≡ [] }
     ensures slots { IsTrue S.tells → OnOk result ((slots : List SlotValue) → inodes_in (S.state blocks.old) draft.old dir ≡ Some (ADir slots)
         → IsWithSlots (files_in (S.state blocks.old) draft.old) (files_in (S.state blocks.new) draft.new) dir (slots ++ slot.now ∷ [])) }
-    ensures used { IsTrue S.tells → OnOk result ((l : ℕ) → IsUsed (files_in (S.state blocks.old) draft.old) l → IsUsed (files_in (S.state blocks.new) draft.new) l) }
+    ensures used { IsTrue S.tells → OnOk result ((l : ℕ) → IsUsed (files_in (S.state blocks.old) draft.old) l
+        → IsUsed (files_in (S.state blocks.new) draft.new) l) }
     ensures places { IsTrue S.tells → OnOk result ((slots : List SlotValue) → inodes_in (S.state blocks.old) draft.old dir ≡ Some (ADir slots)
-        → IsWithPlaces (places_in (S.state blocks.old) draft.old) (places_in (S.state blocks.new) draft.new) dir (places_in (S.state blocks.old) draft.old dir ++ take (growth (length slots)) (reusable_blocks (S.state blocks.new).books))) }
+        → IsWithPlaces (places_in (S.state blocks.old) draft.old) (places_in (S.state blocks.new) draft.new) dir
+        (places_in (S.state blocks.old) draft.old dir ++ take (growth (length slots)) (reusable_blocks (S.state blocks.new).books))) }
     ensures draft { OnOk result (IsDraftOf S.tells (S.state blocks.new) draft.new) }
-    ensures room { IsTrue S.tells → OnOk result ((slots : List SlotValue) → inodes_in (S.state blocks.old) draft.old dir ≡ Some (ADir slots) → growth (length slots) ≤ length (reusable_blocks (S.state blocks.new).books)) }
+    ensures room { IsTrue S.tells → OnOk result ((slots : List SlotValue) → inodes_in (S.state blocks.old) draft.old dir ≡ Some (ADir slots)
+        → growth (length slots) ≤ length (reusable_blocks (S.state blocks.new).books)) }
     ensures runs { IsTrue S.tells → OnOk result ((slots : List SlotValue) → inodes_in (S.state blocks.old) draft.old dir ≡ Some (ADir slots)
         → stretches (places_in (S.state blocks.old) draft.old dir ++ take (growth (length slots)) (reusable_blocks (S.state blocks.new).books)) ≤ 28) }
     ensures alters { IsTrue S.tells → OnOk result ((slots : List SlotValue) → inodes_in (S.state blocks.old) draft.old dir ≡ Some (ADir slots)
@@ -56,7 +59,8 @@ pub fn add_slot<S: Blocks>(
     ensures refused { IsTrue S.tells → IfErr result (λ why. (slots : List SlotValue) → inodes_in (S.state blocks.old) draft.old dir ≡ Some (ADir slots)
         → GrowthRefused (growth (length slots)) (places_in (S.state blocks.old) draft.old dir) (S.state blocks.old).books (S.state blocks.new).books why) }
     ensures settles { LooksAndSettles S.tells (fails_reading result) (fails_settling result) (S.state blocks.old) (S.state blocks.new) }
-    ensures looks { IsTrue S.tells → (slots : List SlotValue) → inodes_in (S.state blocks.old) draft.old dir ≡ Some (ADir slots) → growth (length slots) ≤ length (reusable_blocks (S.state blocks.old).books)
+    ensures looks { IsTrue S.tells → (slots : List SlotValue) → inodes_in (S.state blocks.old) draft.old dir ≡ Some (ADir slots)
+        → growth (length slots) ≤ length (reusable_blocks (S.state blocks.old).books)
         → LooksOnly S.tells (fails_reading result) (S.state blocks.old) (S.state blocks.new) }
 {
     calls_compose::<S>();

@@ -38,7 +38,8 @@ pub(crate) fn read_slots<S: Blocks>(
 ) -> Result<(), ReadFault>
     requires read { MayReadBlocks S.tells (S.state blocks.old) draft.now node.now }
     requires begins { first % 16 ≡ 0 }
-    ensures slots { IsTrue S.tells → OnOk result ((slots : List SlotValue) → HasSlots (S.state blocks.old) draft.now node.now slots → slots_in (length (slots_from first slots)) into.new ≡ Some (slots_from first slots)) }
+    ensures slots { IsTrue S.tells → OnOk result ((slots : List SlotValue) → HasSlots (S.state blocks.old) draft.now node.now slots
+        → slots_in (length (slots_from first slots)) into.new ≡ Some (slots_from first slots)) }
     ensures looks { LooksOnly S.tells (is_err result) (S.state blocks.old) (S.state blocks.new) }
 {
     a_directory_has_whole_slots::<S>();

@@ -48,7 +48,9 @@ pub fn set_slot<S: Blocks>(
     requires there { IsTrue S.tells → HasPlace (S.state blocks.old) draft.old dir place }
     ensures slots { IsTrue S.tells → OnOk result ((slots : List SlotValue) → inodes_in (S.state blocks.old) draft.old dir ≡ Some (ADir slots)
         → IsWithSlots (files_in (S.state blocks.old) draft.old) (files_in (S.state blocks.new) draft.new) dir (set slots place slot.now)) }
-    ensures places { IsTrue S.tells → OnOk result (IsWithPlaces (places_in (S.state blocks.old) draft.old) (places_in (S.state blocks.new) draft.new) dir (places_in (S.state blocks.old) draft.old dir)) }
+    ensures places { IsTrue S.tells → OnOk result
+        (IsWithPlaces (places_in (S.state blocks.old) draft.old) (places_in (S.state blocks.new) draft.new) dir
+        (places_in (S.state blocks.old) draft.old dir)) }
     ensures draft { OnOk result (IsDraftOf S.tells (S.state blocks.new) draft.new) }
     ensures alters { IsTrue S.tells → OnOk result (Alters 1 [] 0 draft.old draft.new) }
     ensures refused { IfErr result LookRefused }
@@ -84,9 +86,11 @@ pub fn take_slot<S: Blocks>(
     ensures slots { IsTrue S.tells → OnOk result ((slots : List SlotValue) → inodes_in (S.state blocks.old) draft.old dir ≡ Some (ADir slots)
         → IsWithSlots (files_in (S.state blocks.old) draft.old) (files_in (S.state blocks.new) draft.new) dir (without_at place slots)) }
     ensures places { IsTrue S.tells → OnOk result ((slots : List SlotValue) → inodes_in (S.state blocks.old) draft.old dir ≡ Some (ADir slots)
-        → IsWithPlaces (places_in (S.state blocks.old) draft.old) (places_in (S.state blocks.new) draft.new) dir (take (directory_blocks (length slots - 1)) (places_in (S.state blocks.old) draft.old dir))) }
+        → IsWithPlaces (places_in (S.state blocks.old) draft.old) (places_in (S.state blocks.new) draft.new) dir
+        (take (directory_blocks (length slots - 1)) (places_in (S.state blocks.old) draft.old dir))) }
     ensures draft { OnOk result (IsDraftOf S.tells (S.state blocks.new) draft.new) }
-    ensures alters { IsTrue S.tells → OnOk result ((slots : List SlotValue) → inodes_in (S.state blocks.old) draft.old dir ≡ Some (ADir slots) → Alters 3 [] (release (length slots)) draft.old draft.new) }
+    ensures alters { IsTrue S.tells → OnOk result ((slots : List SlotValue) → inodes_in (S.state blocks.old) draft.old dir ≡ Some (ADir slots)
+        → Alters 3 [] (release (length slots)) draft.old draft.new) }
     ensures refused { IfErr result LookRefused }
     ensures looks { LooksOnly S.tells (fails_reading result) (S.state blocks.old) (S.state blocks.new) }
 {
@@ -115,7 +119,8 @@ fn last_place<S: Blocks>(
     requires above_zero { 1 ≤ dir }
     requires in_table { dir ≤ (S.state blocks.old).books.geom.i }
     requires draft { IsDraftOf S.tells (S.state blocks.old) draft.now }
-    ensures last { IsTrue S.tells → IfOk result (λ last. (slots : List SlotValue) → inodes_in (S.state blocks.old) draft.now dir ≡ Some (ADir slots) → 0 < length slots → last ≡ Some (length slots - 1)) }
+    ensures last { IsTrue S.tells → IfOk result (λ last. (slots : List SlotValue) → inodes_in (S.state blocks.old) draft.now dir ≡ Some (ADir slots)
+        → 0 < length slots → last ≡ Some (length slots - 1)) }
     ensures low { IfOk result (λ last. IfSome last (λ n. n < 2 ^ 24)) }
     ensures read { IfOk result (λ last. IfSome last (λ n. MayRead S.tells (S.state blocks.new) draft.now dir)) }
     ensures refused { IfErr result LookRefused }
@@ -141,7 +146,8 @@ fn slot_at<S: Blocks>(
     place: u32,
 ) -> Result<Option<Slot>, FileRefusal>
     requires { MayRead S.tells (S.state blocks.old) draft.now dir }
-    ensures slot { IsTrue S.tells → IfOk result (λ found. (slots : List SlotValue) → inodes_in (S.state blocks.old) draft.now dir ≡ Some (ADir slots) → place < length slots → found ≡ slice_get slots place) }
+    ensures slot { IsTrue S.tells → IfOk result (λ found. (slots : List SlotValue) → inodes_in (S.state blocks.old) draft.now dir ≡ Some (ADir slots)
+        → place < length slots → found ≡ slice_get slots place) }
     ensures refused { IfErr result LookRefused }
     ensures looks { LooksOnly S.tells (fails_reading result) (S.state blocks.old) (S.state blocks.new) }
 {
@@ -172,9 +178,12 @@ fn cut_slots<S: Blocks>(
     requires there { IsTrue S.tells → HasPlace (S.state blocks.old) draft.old dir count }
     ensures slots { IsTrue S.tells → OnOk result ((slots : List SlotValue) → inodes_in (S.state blocks.old) draft.old dir ≡ Some (ADir slots)
         → IsWithSlots (files_in (S.state blocks.old) draft.old) (files_in (S.state blocks.new) draft.new) dir (take count slots)) }
-    ensures places { IsTrue S.tells → OnOk result (IsWithPlaces (places_in (S.state blocks.old) draft.old) (places_in (S.state blocks.new) draft.new) dir (take (directory_blocks count) (places_in (S.state blocks.old) draft.old dir))) }
+    ensures places { IsTrue S.tells → OnOk result
+        (IsWithPlaces (places_in (S.state blocks.old) draft.old) (places_in (S.state blocks.new) draft.new) dir
+        (take (directory_blocks count) (places_in (S.state blocks.old) draft.old dir))) }
     ensures draft { OnOk result (IsDraftOf S.tells (S.state blocks.new) draft.new) }
-    ensures alters { IsTrue S.tells → OnOk result ((slots : List SlotValue) → inodes_in (S.state blocks.old) draft.old dir ≡ Some (ADir slots) → Alters 2 [] (directory_blocks (length slots) - directory_blocks count) draft.old draft.new) }
+    ensures alters { IsTrue S.tells → OnOk result ((slots : List SlotValue) → inodes_in (S.state blocks.old) draft.old dir ≡ Some (ADir slots)
+        → Alters 2 [] (directory_blocks (length slots) - directory_blocks count) draft.old draft.new) }
     ensures refused { IfErr result LookRefused }
     ensures looks { LooksOnly S.tells (fails_reading result) (S.state blocks.old) (S.state blocks.new) }
 {

@@ -14,7 +14,8 @@ ghost use Rattle.fs_dirs.specs.Changing.{Alters, IsWithSlots};
 /// What calls alter of one draft adds up. A call that changes a node alters one block and frees the node's.
 /// What is altered of an empty draft bounds its price.
 pub fn alterations_add_up()
-    ensures both { (a b frees more : ℕ) (takes others : List ℕ) (c d e : DraftState) → Alters a takes frees c d → Alters b others more d e → Alters (a + b) (takes ++ others) (frees + more) c e }
+    ensures both { (a b frees more : ℕ) (takes others : List ℕ) (c d e : DraftState) → Alters a takes frees c d → Alters b others more d e
+        → Alters (a + b) (takes ++ others) (frees + more) c e }
     ensures node { (g : Geometry) (number : ℕ) (gone : List ℕ) (d e : DraftState) → SetsNode g number gone d e → ChangesSome e → Alters 1 [] (length gone) d e }
     ensures price { (g : Geometry) (most frees : ℕ) (takes : List ℕ) (e : DraftState) → Alters most takes frees nothing_drafted e
         → (bs : List ℕ) × ChangesOnly bs e × (price g bs e ≤ 25 * (most + (min (length takes) (bitmap_blocks g) + min frees (bitmap_blocks g)))) }

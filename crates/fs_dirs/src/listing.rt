@@ -37,7 +37,8 @@ pub fn names<S: Blocks>(
     requires above_zero { 1 ≤ dir }
     requires in_table { dir ≤ (S.state blocks.old).books.geom.i }
     requires draft { IsDraftOf S.tells (S.state blocks.old) draft.now }
-    ensures all { IsTrue S.tells → IfOk result (λ names. (slots : List Slot) → inodes_in (S.state blocks.old) draft.now dir ≡ Some (ADir slots) → IsPermutation (map (λ s. s.name) slots) names) }
+    ensures all { IsTrue S.tells → IfOk result (λ names. (slots : List Slot) → inodes_in (S.state blocks.old) draft.now dir ≡ Some (ADir slots)
+        → IsPermutation (map (λ s. s.name) slots) names) }
     ensures sorted { IfOk result (IsSorted (slice_cmp nat_cmp)) }
     ensures refused { IfErr result LookRefused }
     ensures looks { LooksOnly S.tells (fails_reading result) (S.state blocks.old) (S.state blocks.new) }
@@ -67,7 +68,8 @@ fn push_names<S: Blocks>(
 ) -> Result<(), FileRefusal>
     requires read { MayReadBlocks S.tells (S.state blocks.old) draft.now node.now }
     requires few { count < 2 ^ 24 }
-    ensures names { IsTrue S.tells → OnOk result ((slots : List Slot) → HasSlots (S.state blocks.old) draft.now node.now slots → length slots ≡ count → into.new.items ≡ into.old.items ++ map (λ s. s.name) slots) }
+    ensures names { IsTrue S.tells → OnOk result ((slots : List Slot) → HasSlots (S.state blocks.old) draft.now node.now slots → length slots ≡ count
+        → into.new.items ≡ into.old.items ++ map (λ s. s.name) slots) }
     ensures refused { IfErr result LookRefused }
     ensures looks { LooksOnly S.tells (fails_reading result) (S.state blocks.old) (S.state blocks.new) }
 {
@@ -104,7 +106,8 @@ fn push_block(block: &Block, entries: u32, into: &mut Vec<Name>) -> Result<(), N
 /// Out of memory.
 fn push_name(block: &Block, place: u32, into: &mut Vec<Name>) -> Result<(), NoMemory>
     requires { place < 16 }
-    ensures { OnOk result ((entries : ℕ) (slots : List Slot) (s : Slot) → place < entries → slots_in entries block.now ≡ Some slots → slice_get slots place ≡ Some s → into.new.items ≡ into.old.items ++ s.name ∷ []) }
+    ensures { OnOk result ((entries : ℕ) (slots : List Slot) (s : Slot) → place < entries → slots_in entries block.now ≡ Some slots
+        → slice_get slots place ≡ Some s → into.new.items ≡ into.old.items ++ s.name ∷ []) }
 {
     match slot_in(block, place) {
         Some(slot) => {

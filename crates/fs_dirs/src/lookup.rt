@@ -92,7 +92,8 @@ pub fn find<S: Blocks>(
     requires above_zero { 1 ≤ dir }
     requires in_table { dir ≤ (S.state blocks.old).books.geom.i }
     requires draft { IsDraftOf S.tells (S.state blocks.old) draft.now }
-    ensures found { IsTrue S.tells → IfOk result (λ found. (t : Tree) (slots : List Slot) → IsMapOf (S.state blocks.old).books.geom.i (inodes_in (S.state blocks.old) draft.now) t
+    ensures found { IsTrue S.tells → IfOk result (λ found. (t : Tree) (slots : List Slot)
+        → IsMapOf (S.state blocks.old).books.geom.i (inodes_in (S.state blocks.old) draft.now) t
         → inodes_in (S.state blocks.old) draft.now dir ≡ Some (ADir slots) → Finds slots name.now found) }
     ensures place { IfOk result (λ found. IfSome found (λ f. f.place < 2 ^ 24)) }
     ensures number { IfOk result (λ found. IfSome found (λ f. IsNumber (S.state blocks.old).books.geom.i f.node)) }
@@ -121,7 +122,8 @@ pub(crate) fn find_among<S: Blocks>(
     requires read { MayRead S.tells (S.state blocks.old) draft.now dir }
     requires count { IsTrue S.tells → (x : Inode) → inodes_in (S.state blocks.old) draft.now dir ≡ Some x → Some count ≡ slot_count x }
     requires few { count < 2 ^ 24 }
-    ensures found { IsTrue S.tells → IfOk result (λ found. (t : Tree) (slots : List Slot) → IsMapOf (S.state blocks.old).books.geom.i (inodes_in (S.state blocks.old) draft.now) t
+    ensures found { IsTrue S.tells → IfOk result (λ found. (t : Tree) (slots : List Slot)
+        → IsMapOf (S.state blocks.old).books.geom.i (inodes_in (S.state blocks.old) draft.now) t
         → inodes_in (S.state blocks.old) draft.now dir ≡ Some (ADir slots) → Finds slots name.now found) }
     ensures place { IfOk result (λ found. IfSome found (λ f. f.place < 2 ^ 24)) }
     ensures number { IfOk result (λ found. IfSome found (λ f. IsNumber (S.state blocks.old).books.geom.i f.node)) }
@@ -165,7 +167,8 @@ fn find_slot<S: Blocks>(
     requires read { MayRead S.tells (S.state blocks.old) draft.now dir }
     requires count { IsTrue S.tells → (x : Inode) → inodes_in (S.state blocks.old) draft.now dir ≡ Some x → Some count ≡ slot_count x }
     requires few { count < 2 ^ 24 }
-    ensures found { IsTrue S.tells → IfOk result (λ found. (slots : List Slot) → inodes_in (S.state blocks.old) draft.now dir ≡ Some (ADir slots) → Finds slots name.now found) }
+    ensures found { IsTrue S.tells → IfOk result (λ found. (slots : List Slot) → inodes_in (S.state blocks.old) draft.now dir ≡ Some (ADir slots)
+        → Finds slots name.now found) }
     ensures place { IfOk result (λ found. IfSome found (λ f. f.place < 2 ^ 24)) }
     ensures refused { IfErr result LookRefused }
     ensures looks { LooksOnly S.tells (fails_reading result) (S.state blocks.old) (S.state blocks.new) }
@@ -188,7 +191,8 @@ fn search<S: Blocks>(
 ) -> Result<Option<Found>, ReadFault>
     requires read { MayReadBlocks S.tells (S.state blocks.old) draft.now node.now }
     requires few { count < 2 ^ 24 }
-    ensures found { IsTrue S.tells → IfOk result (λ found. (slots : List Slot) → HasSlots (S.state blocks.old) draft.now node.now slots → length slots ≡ count → Finds slots name.now found) }
+    ensures found { IsTrue S.tells → IfOk result (λ found. (slots : List Slot) → HasSlots (S.state blocks.old) draft.now node.now slots
+        → length slots ≡ count → Finds slots name.now found) }
     ensures place { IfOk result (λ found. IfSome found (λ f. f.place < 2 ^ 24)) }
     ensures looks { LooksOnly S.tells (is_err result) (S.state blocks.old) (S.state blocks.new) }
 {

@@ -35,7 +35,9 @@ pub fn walk<S: Blocks>(
 ) -> Result<Result<u32, Refusal>, FileRefusal>
     requires going { (S.state blocks.old).books.stopped ≡ false }
     requires draft { IsDraftOf S.tells (S.state blocks.old) draft.now }
-    ensures end { IsTrue S.tells → IfOk result (λ end. (t : Tree) → IsMapOf (S.state blocks.old).books.geom.i (inodes_in (S.state blocks.old) draft.now) t → end ≡ walk_on (inodes_in (S.state blocks.old) draft.now) 1 path.now) }
+    ensures end { IsTrue S.tells → IfOk result (λ end. (t : Tree)
+        → IsMapOf (S.state blocks.old).books.geom.i (inodes_in (S.state blocks.old) draft.now) t
+        → end ≡ walk_on (inodes_in (S.state blocks.old) draft.now) 1 path.now) }
     ensures number { IfOk result (λ end. IfOk end (IsNumber (S.state blocks.old).books.geom.i)) }
     ensures refused { IfErr result LookRefused }
     ensures looks { LooksOnly S.tells (fails_reading result) (S.state blocks.old) (S.state blocks.new) }
@@ -55,7 +57,9 @@ pub fn walk_to_parent<S: Blocks>(
 ) -> Result<Result<Option<u32>, Refusal>, FileRefusal>
     requires going { (S.state blocks.old).books.stopped ≡ false }
     requires draft { IsDraftOf S.tells (S.state blocks.old) draft.now }
-    ensures end { IsTrue S.tells → IfOk result (λ end. (t : Tree) → IsMapOf (S.state blocks.old).books.geom.i (inodes_in (S.state blocks.old) draft.now) t → EndsAtParent (inodes_in (S.state blocks.old) draft.now) path.now end) }
+    ensures end { IsTrue S.tells → IfOk result (λ end. (t : Tree)
+        → IsMapOf (S.state blocks.old).books.geom.i (inodes_in (S.state blocks.old) draft.now) t
+        → EndsAtParent (inodes_in (S.state blocks.old) draft.now) path.now end) }
     ensures number { IfOk result (λ end. IfOk end (λ up. IfSome up (IsNumber (S.state blocks.old).books.geom.i))) }
     ensures refused { IfErr result LookRefused }
     ensures looks { LooksOnly S.tells (fails_reading result) (S.state blocks.old) (S.state blocks.new) }
@@ -88,8 +92,12 @@ fn walk_names<S: Blocks>(
 ) -> Result<Result<u32, Refusal>, FileRefusal>
     requires going { (S.state blocks.old).books.stopped ≡ false }
     requires draft { IsDraftOf S.tells (S.state blocks.old) draft.now }
-    ensures end { IsTrue S.tells → IfOk result (λ end. (t : Tree) → IsMapOf (S.state blocks.old).books.geom.i (inodes_in (S.state blocks.old) draft.now) t → end ≡ walk_on (inodes_in (S.state blocks.old) draft.now) 1 names.now) }
-    ensures used { IsTrue S.tells → IfOk result (λ end. (t : Tree) → IsMapOf (S.state blocks.old).books.geom.i (inodes_in (S.state blocks.old) draft.now) t → IfOk end (λ k. (x : Inode) × (inodes_in (S.state blocks.old) draft.now k ≡ Some x))) }
+    ensures end { IsTrue S.tells → IfOk result (λ end. (t : Tree)
+        → IsMapOf (S.state blocks.old).books.geom.i (inodes_in (S.state blocks.old) draft.now) t
+        → end ≡ walk_on (inodes_in (S.state blocks.old) draft.now) 1 names.now) }
+    ensures used { IsTrue S.tells → IfOk result (λ end. (t : Tree)
+        → IsMapOf (S.state blocks.old).books.geom.i (inodes_in (S.state blocks.old) draft.now) t
+        → IfOk end (λ k. (x : Inode) × (inodes_in (S.state blocks.old) draft.now k ≡ Some x))) }
     ensures number { IfOk result (λ end. IfOk end (IsNumber (S.state blocks.old).books.geom.i)) }
     ensures refused { IfErr result LookRefused }
     ensures looks { LooksOnly S.tells (fails_reading result) (S.state blocks.old) (S.state blocks.new) }
@@ -120,7 +128,8 @@ fn enter<S: Blocks>(
     requires above_zero { 1 ≤ number }
     requires in_table { number ≤ (S.state blocks.old).books.geom.i }
     requires draft { IsDraftOf S.tells (S.state blocks.old) draft.now }
-    ensures step { IsTrue S.tells → IfOk result (λ next. (t : Tree) (x : Inode) → IsMapOf (S.state blocks.old).books.geom.i (inodes_in (S.state blocks.old) draft.now) t
+    ensures step { IsTrue S.tells → IfOk result (λ next. (t : Tree) (x : Inode)
+        → IsMapOf (S.state blocks.old).books.geom.i (inodes_in (S.state blocks.old) draft.now) t
         → inodes_in (S.state blocks.old) draft.now number ≡ Some x → EntersOn (inodes_in (S.state blocks.old) draft.now) number name.now next) }
     ensures number { IfOk result (λ next. IfOk next (IsNumber (S.state blocks.old).books.geom.i)) }
     ensures refused { IfErr result LookRefused }

@@ -1,7 +1,8 @@
 //! The six calls on a file of a draft: reading, writing and resizing its bytes, making and dropping a
 //! node, and setting its links.
 
-ghost use Rattle.std.specs.Prelude.{◌≡◌, ◌≤◌, ◌<◌, ◌+◌, ◌*◌, ◌%◌, ◌-◌, ◌^◌, ◌≢◌, ℕ, IsTrue, false, max, min, [], length, take, drop, replicate, None, Some, IfOk, IfErr, IfSome, IfNone, OnOk};
+ghost use Rattle.std.specs.Prelude.{◌≡◌, ◌≤◌, ◌<◌, ◌+◌, ◌*◌, ◌%◌, ◌-◌, ◌^◌, ◌≢◌, ℕ, IsTrue, false, max, min, [], length, take, drop, replicate, None};
+ghost use Rattle.std.specs.Prelude.{Some, IfOk, IfErr, IfSome, IfNone, OnOk};
 ghost use Rattle.layout_bytes.specs.declared.node.NodeKind.TheVariants.{Free, Dir};
 ghost use Rattle.crash_stands.specs.Files.{FileNode, joined};
 ghost use Rattle.layout_bytes.specs.Node.{free_node};
@@ -44,7 +45,8 @@ impl Draft {
         requires in_table { number ≤ (S.state blocks.old).books.geom.i }
         requires draft { IsDraftOf S.tells (S.state blocks.old) self.now }
         requires used { IsTrue S.tells → IsUsed (files_in (S.state blocks.old) self.now) number }
-        ensures bytes { IsTrue S.tells → IfOk result (λ bytes. (x : FileNode) → files_in (S.state blocks.old) self.now number ≡ Some x → bytes ≡ take len (drop offset x.bytes)) }
+        ensures bytes { IsTrue S.tells → IfOk result (λ bytes. (x : FileNode) → files_in (S.state blocks.old) self.now number ≡ Some x
+            → bytes ≡ take len (drop offset x.bytes)) }
         ensures refused { IfErr result LookRefused }
         ensures looks { LooksOnly S.tells (fails_reading result) (S.state blocks.old) (S.state blocks.new) }
     {
@@ -80,10 +82,16 @@ impl Draft {
         requires above_zero { 1 ≤ from }
         requires draft { IsDraftOf S.tells (S.state blocks.old) self.old }
         requires below { IsTrue S.tells → (l : ℕ) → 1 ≤ l → l < from → IsUsed (files_in (S.state blocks.old) self.old) l }
-        ensures node { IsTrue S.tells → IfOk result (λ found. IfSome found (λ number. IsLeastUnused (S.state blocks.old).books.geom.i (files_in (S.state blocks.old) self.old) number
-            × IsWithFile (files_in (S.state blocks.old) self.old) (files_in (S.state blocks.new) self.new) number (Some (record { kind = kind; links = 1; bytes = [] })))) }
-        ensures places { IsTrue S.tells → IfOk result (λ found. IfSome found (λ number. IsWithPlaces (places_in (S.state blocks.old) self.old) (places_in (S.state blocks.new) self.new) number [])) }
-        ensures none { IsTrue S.tells → IfOk result (λ found. IfNone found (((l : ℕ) → 1 ≤ l → l ≤ (S.state blocks.old).books.geom.i → IsUsed (files_in (S.state blocks.old) self.old) l) × (self.new ≡ self.old))) }
+        ensures node { IsTrue S.tells → IfOk result
+            (λ found. IfSome found (λ number. IsLeastUnused (S.state blocks.old).books.geom.i (files_in (S.state blocks.old) self.old) number
+            × IsWithFile (files_in (S.state blocks.old) self.old) (files_in (S.state blocks.new) self.new) number
+            (Some (record { kind = kind; links = 1; bytes = [] })))) }
+        ensures places { IsTrue S.tells → IfOk result
+            (λ found. IfSome found (λ number. IsWithPlaces (places_in (S.state blocks.old) self.old) (places_in (S.state blocks.new) self.new) number
+            [])) }
+        ensures none { IsTrue S.tells → IfOk result
+            (λ found. IfNone found (((l : ℕ) → 1 ≤ l → l ≤ (S.state blocks.old).books.geom.i → IsUsed (files_in (S.state blocks.old) self.old) l)
+            × (self.new ≡ self.old))) }
         ensures number { IfOk result (λ found. IfSome found (λ number. (1 ≤ number) × (number ≤ (S.state blocks.old).books.geom.i))) }
         ensures draft { OnOk result (IsDraftOf S.tells (S.state blocks.new) self.new) }
         ensures among { IfOk result (λ found. IfSome found (λ number. SetsNode (S.state blocks.old).books.geom number [] self.old self.new)) }
@@ -124,9 +132,11 @@ impl Draft {
         requires draft { IsDraftOf S.tells (S.state blocks.old) self.old }
         requires used { IsTrue S.tells → IsUsed (files_in (S.state blocks.old) self.old) number }
         ensures file { IsTrue S.tells → OnOk result (IsWithFile (files_in (S.state blocks.old) self.old) (files_in (S.state blocks.new) self.new) number None) }
-        ensures places { IsTrue S.tells → OnOk result (IsWithPlaces (places_in (S.state blocks.old) self.old) (places_in (S.state blocks.new) self.new) number []) }
+        ensures places { IsTrue S.tells → OnOk result
+            (IsWithPlaces (places_in (S.state blocks.old) self.old) (places_in (S.state blocks.new) self.new) number []) }
         ensures draft { OnOk result (IsDraftOf S.tells (S.state blocks.new) self.new) }
-        ensures among { IsTrue S.tells → OnOk result (SetsNode (S.state blocks.old).books.geom number (places_in (S.state blocks.old) self.old number) self.old self.new) }
+        ensures among { IsTrue S.tells → OnOk result
+            (SetsNode (S.state blocks.old).books.geom number (places_in (S.state blocks.old) self.old number) self.old self.new) }
         ensures changes { IsTrue S.tells → OnOk result (ChangesSome self.new) }
         ensures refused { IfErr result LookRefused }
         ensures looks { LooksOnly S.tells (fails_reading result) (S.state blocks.old) (S.state blocks.new) }
@@ -164,7 +174,9 @@ impl Draft {
         requires used { IsTrue S.tells → IsUsed (files_in (S.state blocks.old) self.old) number }
         ensures file { IsTrue S.tells → OnOk result ((x : FileNode) → files_in (S.state blocks.old) self.old number ≡ Some x
             → IsWithFile (files_in (S.state blocks.old) self.old) (files_in (S.state blocks.new) self.new) number (Some (with_links x links))) }
-        ensures places { IsTrue S.tells → OnOk result (IsWithPlaces (places_in (S.state blocks.old) self.old) (places_in (S.state blocks.new) self.new) number (places_in (S.state blocks.old) self.old number)) }
+        ensures places { IsTrue S.tells → OnOk result
+            (IsWithPlaces (places_in (S.state blocks.old) self.old) (places_in (S.state blocks.new) self.new) number
+            (places_in (S.state blocks.old) self.old number)) }
         ensures draft { OnOk result (IsDraftOf S.tells (S.state blocks.new) self.new) }
         ensures among { IsTrue S.tells → OnOk result (SetsNode (S.state blocks.old).books.geom number [] self.old self.new) }
         ensures changes { IsTrue S.tells → OnOk result (ChangesSome self.new) }
@@ -206,9 +218,14 @@ pub(crate) fn fill_gap<S: Blocks>(
     requires going { (S.state blocks.old).books.stopped ≡ false }
     requires fits { IsOpen (S.state blocks.old).books.geom node.now }
     requires more { node.now.size ≤ end }
-    ensures writes { OnOk result (WritesContent (class_of node.now.kind) (met node.now.size (min end (1024 * length node.now.places)) node.now.places) draft.old draft.new) }
-    ensures content { IsTrue S.tells → HasContent (S.state blocks.old).map draft.old node.now.places → OnOk result (HasContent (S.state blocks.old).map draft.new node.now.places) }
-    ensures bytes { IsTrue S.tells → HasContent (S.state blocks.old).map draft.old node.now.places → OnOk result (joined (drafted draft.new (S.state blocks.old).map) node.now.places ≡ overwrite node.now.size (replicate (min end (1024 * length node.now.places) - node.now.size) 0) (joined (drafted draft.old (S.state blocks.old).map) node.now.places)) }
+    ensures writes { OnOk result (WritesContent (class_of node.now.kind) (met node.now.size (min end (1024 * length node.now.places)) node.now.places)
+        draft.old draft.new) }
+    ensures content { IsTrue S.tells → HasContent (S.state blocks.old).map draft.old node.now.places
+        → OnOk result (HasContent (S.state blocks.old).map draft.new node.now.places) }
+    ensures bytes { IsTrue S.tells → HasContent (S.state blocks.old).map draft.old node.now.places
+        → OnOk result (joined (drafted draft.new (S.state blocks.old).map) node.now.places ≡ overwrite node.now.size
+        (replicate (min end (1024 * length node.now.places) - node.now.size) 0)
+        (joined (drafted draft.old (S.state blocks.old).map) node.now.places)) }
     ensures refused { IfErr result LookRefused }
     ensures looks { LooksOnly S.tells (fails_reading result) (S.state blocks.old) (S.state blocks.new) }
 {

@@ -1,7 +1,8 @@
 //! New bytes of blocks, found by a search tree over the blocks' numbers. Which blocks they may be of is
 //! not said here.
 
-ghost use Rattle.std.specs.Prelude.{◌≡◌, ◌≢◌, ◌≤◌, ◌+◌, ◌==◌, ◌&&◌, ℕ, [], ◌∷◌, false, length, if◌then◌else◌, None, Some, IfSome, IfNone, OnOk, OnErr, is_some, option_map};
+ghost use Rattle.std.specs.Prelude.{◌≡◌, ◌≢◌, ◌≤◌, ◌+◌, ◌==◌, ◌&&◌, ℕ, [], ◌∷◌, false, length, if◌then◌else◌, None, Some, IfSome, IfNone, OnOk};
+ghost use Rattle.std.specs.Prelude.{OnErr, is_some, option_map};
 ghost use Rattle.std.specs.List.{AllPairs};
 ghost use Rattle.fs_files.specs.declared.changes.Changed.{Changed};
 ghost use Rattle.fs_files.specs.Drafts.{change_of};
@@ -76,7 +77,8 @@ impl Changes {
         class: Class,
         bytes: &Block,
     ) -> Result<(), NoMemory>
-        ensures ok { OnOk result ((q : ℕ) → change_of self.new q ≡ (if b == q then Some (record { class = class; bytes = bytes.now }) else change_of self.old q)) }
+        ensures ok { OnOk result ((q : ℕ) → change_of self.new
+            q ≡ (if b == q then Some (record { class = class; bytes = bytes.now }) else change_of self.old q)) }
         ensures len { OnOk result (length self.new ≡ length self.old + (if is_some (change_of self.old b) then 0 else 1)) }
         ensures err { OnErr result (self.new ≡ self.old) }
     {
@@ -89,7 +91,8 @@ impl Changes {
     /// no memory.
     pub(crate) fn replace(&mut self, b: u32, class: Class, bytes: &Block) -> bool
         ensures found { result ≡ is_some (change_of self.old b) }
-        ensures new { (q : ℕ) → change_of self.new q ≡ (if is_some (change_of self.old b) && (b == q) then Some (record { class = class; bytes = bytes.now }) else change_of self.old q) }
+        ensures new { (q : ℕ) → change_of self.new
+            q ≡ (if is_some (change_of self.old b) && (b == q) then Some (record { class = class; bytes = bytes.now }) else change_of self.old q) }
         ensures len { length self.new ≡ length self.old }
         ensures same { result ≡ false → self.new ≡ self.old }
     {

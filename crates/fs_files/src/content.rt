@@ -1,7 +1,8 @@
 //! The content of a node as a draft has it: reading bytes out of its blocks, and writing bytes within
 //! them, a block at a time. No call here grows a node.
 
-ghost use Rattle.std.specs.Prelude.{◌≡◌, ◌↔◌, ◌≤◌, ◌<◌, ◌*◌, ◌+◌, ◌-◌, ◌/◌, ◌%◌, ◌++◌, ◌∷◌, [], min, false, IsTrue, IsSome, IfSome, IfErr, OnOk, Some, length, take, drop, slice_get};
+ghost use Rattle.std.specs.Prelude.{◌≡◌, ◌↔◌, ◌≤◌, ◌<◌, ◌*◌, ◌+◌, ◌-◌, ◌/◌, ◌%◌, ◌++◌, ◌∷◌, [], min, false, IsTrue, IsSome, IfSome, IfErr, OnOk};
+ghost use Rattle.std.specs.Prelude.{Some, length, take, drop, slice_get};
 ghost use Rattle.std.specs.List.{All};
 ghost use Rattle.engine_blocks.specs.Puts.{IsData};
 ghost use Rattle.crash_stands.specs.Files.{joined};
@@ -35,7 +36,9 @@ pub(crate) fn read_content<S: Blocks>(
     requires data { All (IsData (S.state blocks.old).books.geom) places.now }
     requires order { from ≤ end }
     requires within { end ≤ 1024 * length places.now }
-    ensures bytes { IsTrue S.tells → HasContent (S.state blocks.old).map draft.now places.now → OnOk result (into.new.items ≡ into.old.items ++ take (end - from) (drop from (joined (drafted draft.now (S.state blocks.old).map) places.now))) }
+    ensures bytes { IsTrue S.tells → HasContent (S.state blocks.old).map draft.now places.now
+        → OnOk result (into.new.items ≡ into.old.items ++ take (end - from)
+        (drop from (joined (drafted draft.now (S.state blocks.old).map) places.now))) }
     ensures refused { IfErr result LookRefused }
     ensures looks { LooksOnly S.tells (fails_reading result) (S.state blocks.old) (S.state blocks.new) }
 {
@@ -107,8 +110,11 @@ pub(crate) fn write_content<S: Blocks>(
     requires within { from + length bytes.now ≤ 1024 * length places.now }
     ensures writes { OnOk result (WritesContent class (met from (from + length bytes.now) places.now) draft.old draft.new) }
     ensures some { OnOk result (0 < length bytes.now → HasNewBytes draft.new) }
-    ensures content { IsTrue S.tells → HasContent (S.state blocks.old).map draft.old places.now → OnOk result (HasContent (S.state blocks.old).map draft.new places.now) }
-    ensures bytes { IsTrue S.tells → HasContent (S.state blocks.old).map draft.old places.now → OnOk result (joined (drafted draft.new (S.state blocks.old).map) places.now ≡ overwrite from bytes.now (joined (drafted draft.old (S.state blocks.old).map) places.now)) }
+    ensures content { IsTrue S.tells → HasContent (S.state blocks.old).map draft.old places.now
+        → OnOk result (HasContent (S.state blocks.old).map draft.new places.now) }
+    ensures bytes { IsTrue S.tells → HasContent (S.state blocks.old).map draft.old places.now
+        → OnOk result (joined (drafted draft.new (S.state blocks.old).map) places.now ≡ overwrite from bytes.now
+        (joined (drafted draft.old (S.state blocks.old).map) places.now)) }
     ensures refused { IfErr result LookRefused }
     ensures unread { from % 1024 ≡ 0 → length bytes.now % 1024 ≡ 0 → fails_reading result ≡ false }
     ensures looks { LooksOnly S.tells (fails_reading result) (S.state blocks.old) (S.state blocks.new) }
@@ -149,7 +155,8 @@ fn write_piece<S: Blocks>(
     requires within { start + length piece.now ≤ 1024 }
     ensures writes { OnOk result (WritesContent class (b ∷ []) draft.old draft.new) }
     ensures some { OnOk result (HasNewBytes draft.new) }
-    ensures bytes { IsTrue S.tells → HasContent (S.state blocks.old).map draft.old (b ∷ []) → OnOk result (drafted draft.new (S.state blocks.old).map b ≡ overwrite start piece.now (drafted draft.old (S.state blocks.old).map b)) }
+    ensures bytes { IsTrue S.tells → HasContent (S.state blocks.old).map draft.old (b ∷ [])
+        → OnOk result (drafted draft.new (S.state blocks.old).map b ≡ overwrite start piece.now (drafted draft.old (S.state blocks.old).map b)) }
     ensures refused { IfErr result LookRefused }
     ensures unread { length piece.now ≡ 1024 → fails_reading result ≡ false }
     ensures looks { LooksOnly S.tells (fails_reading result) (S.state blocks.old) (S.state blocks.new) }

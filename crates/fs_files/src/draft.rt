@@ -61,7 +61,8 @@ impl Draft {
         requires going { (S.state blocks.old).books.stopped ≡ false }
         requires from { table_start (S.state blocks.old).books.geom ≤ b }
         requires below { b < (S.state blocks.old).books.geom.n }
-        ensures block { IsTrue S.tells → length (drafted self.now (S.state blocks.old).map b) ≡ 1024 → OnOk result (into.new ≡ drafted self.now (S.state blocks.old).map b) }
+        ensures block { IsTrue S.tells → length (drafted self.now (S.state blocks.old).map b) ≡ 1024
+            → OnOk result (into.new ≡ drafted self.now (S.state blocks.old).map b) }
         ensures looks { LooksOnly S.tells (is_err result) (S.state blocks.old) (S.state blocks.new) }
     {
         if let Some(change) = self.changed.find(b) {

@@ -49,7 +49,8 @@ impl Draft {
 /// When a sync may follow a draft that is finished and weighed: at the beginning, after a call that left
 /// the transaction as it was, and after a sync, whatever it answered.
 pub fn a_sync_may_follow()
-    ensures begun { (k : Bookkeeping) → k.running.weight ≡ 0 → payloads k.geom k.running ≡ 0 → fresh_blocks k.geom k.running ≡ 0 → HasNoBare k.running → MayGoOn k }
+    ensures begun { (k : Bookkeeping) → k.running.weight ≡ 0 → payloads k.geom k.running ≡ 0 → fresh_blocks k.geom k.running ≡ 0 → HasNoBare k.running
+        → MayGoOn k }
     ensures rests { (old new : Bookkeeping) → new.geom ≡ old.geom → new.running ≡ old.running → MayGoOn old → MayGoOn new }
     ensures synced { (old new : Bookkeeping) → IsAfterSync old new → MayGoOn old → MayGoOn new }
 {}
@@ -74,7 +75,8 @@ fn make_changes<S: Blocks>(
 )
     requires ready { IsReady (S.state blocks.old).books.spare (length changed + length fresh) (length taken.now) (length freed.now) }
     requires draft { IsDraftOf S.tells (S.state blocks.old) (record { changed = changed; fresh = fresh; taken = taken.now; freed = freed.now }) }
-    ensures made { HasMade S.tells (record { changed = changed; fresh = fresh; taken = taken.now; freed = freed.now }) (S.state blocks.old) (S.state blocks.new) }
+    ensures made { HasMade S.tells (record { changed = changed; fresh = fresh; taken = taken.now; freed = freed.now }) (S.state blocks.old)
+        (S.state blocks.new) }
 {
     blocks.take(taken);
     put_all(blocks, fresh, true);
@@ -87,7 +89,8 @@ fn make_changes<S: Blocks>(
 fn put_all<S: Blocks>(blocks: &mut S, mut changes: Changes, fresh: bool)
     requires room { length changes ≤ (S.state blocks.old).books.spare.puts }
     requires within { All (λ (e : ℕ × Changed). IsTableOrData (S.state blocks.old).books.geom e.0) changes }
-    requires marked { IsTrue S.tells → All (λ (e : ℕ × Changed). data_start (S.state blocks.old).books.geom ≤ e.0 → is_set (S.state blocks.old).books.geom (S.state blocks.old).map e.0 ≡ true) changes }
+    requires marked { IsTrue S.tells → All (λ (e : ℕ × Changed). data_start (S.state blocks.old).books.geom ≤ e.0
+        → is_set (S.state blocks.old).books.geom (S.state blocks.old).map e.0 ≡ true) changes }
     ensures puts { HasPut S.tells fresh changes (S.state blocks.old) (S.state blocks.new) }
 {
     for _ in 0..changes.len() {

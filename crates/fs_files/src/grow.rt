@@ -58,10 +58,12 @@ pub(crate) fn grow<S: Blocks>(
     requires size { size ≤ largest_node }
     requires once { draft.old.taken ≡ [] }
     ensures grows { OnOk result (GrowsPlaces (S.state blocks.new).books (more_blocks size node.old) node.old node.new draft.old draft.new) }
-    ensures refused { IfErr result (λ why. GrowthRefused (more_blocks size node.old) node.old.places (S.state blocks.old).books (S.state blocks.new).books why) }
+    ensures refused { IfErr result (λ why. GrowthRefused (more_blocks size node.old) node.old.places (S.state blocks.old).books
+        (S.state blocks.new).books why) }
     ensures unread { fails_reading result ≡ false }
     ensures settles { LooksAndSettles S.tells false (fails_settling result) (S.state blocks.old) (S.state blocks.new) }
-    ensures looks { more_blocks size node.old ≤ length (reusable_blocks (S.state blocks.old).books) → ChangesNothing S.tells (S.state blocks.old) (S.state blocks.new) }
+    ensures looks { more_blocks size node.old ≤ length (reusable_blocks (S.state blocks.old).books)
+        → ChangesNothing S.tells (S.state blocks.old) (S.state blocks.new) }
 {
     blocks.geom().lawful();
     let held = node.places.count();

@@ -16,7 +16,9 @@ use engine_blocks::Blocks;
 /// An empty draft is one of each map of blocks that are sound where they are known, while each block that
 /// was taken is filled or freed. Its files are those of the map, and so are the blocks of each node.
 pub fn a_draft_begins<S: Blocks>(blocks: &S)
-    ensures draft { HasNoBare (S.state blocks.now).books.running → (IsTrue S.tells → AreSound (S.state blocks.now).books.geom (S.state blocks.now).map) → IsDraftOf S.tells (S.state blocks.now) nothing_drafted }
+    ensures draft { HasNoBare (S.state blocks.now).books.running
+        → (IsTrue S.tells → AreSound (S.state blocks.now).books.geom (S.state blocks.now).map)
+        → IsDraftOf S.tells (S.state blocks.now) nothing_drafted }
     ensures files { (k : ℕ) → files_in (S.state blocks.now) nothing_drafted k ≡ files_of (S.state blocks.now).books.geom (S.state blocks.now).map k }
     ensures places { (k : ℕ) → places_in (S.state blocks.now) nothing_drafted k ≡ places_of (S.state blocks.now).books.geom (S.state blocks.now).map k }
 {
@@ -39,7 +41,8 @@ pub fn a_file_fits_the_disk<S: Blocks>(blocks: &S)
 
 /// A directory's bytes are whole slots.
 pub fn a_directory_has_whole_slots<S: Blocks>()
-    ensures { (s : S) (d : DraftState) (k : ℕ) (x : FileNode) → IsTrue S.tells → IsDraftOf S.tells (S.state s) d → files_in (S.state s) d k ≡ Some x → x.kind ≡ Dir
+    ensures { (s : S) (d : DraftState) (k : ℕ) (x : FileNode) → IsTrue S.tells → IsDraftOf S.tells (S.state s) d → files_in (S.state s) d k ≡ Some x
+        → x.kind ≡ Dir
         → length x.bytes % 64 ≡ 0 }
 {}
 

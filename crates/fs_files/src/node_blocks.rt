@@ -74,7 +74,8 @@ impl Draft {
         requires going { (S.state blocks.old).books.stopped ≡ false }
         requires draft { IsDraftOf S.tells (S.state blocks.old) self.now }
         requires data { All (IsData (S.state blocks.old).books.geom) node.now }
-        ensures bytes { IsTrue S.tells → OnOk result ((k : ℕ) (x : FileNode) → files_in (S.state blocks.old) self.now k ≡ Some x → node.now ≡ places_in (S.state blocks.old) self.now k
+        ensures bytes { IsTrue S.tells → OnOk result ((k : ℕ) (x : FileNode) → files_in (S.state blocks.old) self.now k ≡ Some x
+            → node.now ≡ places_in (S.state blocks.old) self.now k
             → take (length (block_bytes x index)) into.new ≡ block_bytes x index) }
         ensures past { length node.now ≤ index → into.new ≡ into.old }
         ensures looks { LooksOnly S.tells (is_err result) (S.state blocks.old) (S.state blocks.new) }

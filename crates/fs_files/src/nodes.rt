@@ -71,8 +71,11 @@ pub(crate) fn load<S: Blocks>(
     requires going { (S.state blocks.old).books.stopped ≡ false }
     requires above_zero { 1 ≤ number }
     requires in_table { number ≤ (S.state blocks.old).books.geom.i }
-    ensures node { IsTrue S.tells → HasTable (S.state blocks.old) draft.now number → IfOk result (λ found. option_map node_of_open found ≡ used_node (S.state blocks.old).books.geom (drafted draft.now (S.state blocks.old).map) number) }
-    ensures table { IsTrue S.tells → HasTable (S.state blocks.old) draft.now number → OnOk result (table.new ≡ drafted draft.now (S.state blocks.old).map (node_block (S.state blocks.old).books.geom number)) }
+    ensures node { IsTrue S.tells → HasTable (S.state blocks.old) draft.now number
+        → IfOk result (λ found. option_map node_of_open found ≡ used_node (S.state blocks.old).books.geom (drafted draft.now (S.state blocks.old).map)
+        number) }
+    ensures table { IsTrue S.tells → HasTable (S.state blocks.old) draft.now number
+        → OnOk result (table.new ≡ drafted draft.now (S.state blocks.old).map (node_block (S.state blocks.old).books.geom number)) }
     ensures open { IfOk result (λ found. IfSome found (IsOpen (S.state blocks.old).books.geom)) }
     ensures looks { LooksOnly S.tells (is_err result) (S.state blocks.old) (S.state blocks.new) }
 {
@@ -139,7 +142,8 @@ pub(crate) fn store(
 ) -> Result<(), NoMemory>
     requires above_zero { 1 ≤ number }
     requires in_table { number ≤ geom.now.i }
-    ensures ok { OnOk result (PutsBlock (node_block geom.now number) (record { class = Meta; bytes = overwrite (node_byte number) (node_spelling node.now) table.old }) draft.old draft.new) }
+    ensures ok { OnOk result (PutsBlock (node_block geom.now number)
+        (record { class = Meta; bytes = overwrite (node_byte number) (node_spelling node.now) table.old }) draft.old draft.new) }
     ensures back { FitsAs geom.now node.now node.now.kind → ReadsBack geom.now node.now }
     ensures err { OnErr result (draft.new ≡ draft.old) }
 {

@@ -12,7 +12,8 @@ ghost use Rattle.engine_blocks.specs.Calls.{HasTurns};
 ghost use Rattle.engine_blocks.specs.Puts.{IsData};
 ghost use Rattle.engine_blocks.specs.State.{reusable_blocks};
 ghost use Rattle.fs_files.specs.Bytes.{blocks_for, overwrite};
-ghost use Rattle.fs_files.specs.Calls.{files_in, places_in, IsUsed, IsWithFile, IsWithPlaces, with_bytes, ChangesAmong, Grows, Resizes, Shrinks, cut_blocks, growth, written_blocks, GrowthRefused, LookRefused};
+ghost use Rattle.fs_files.specs.Calls.{files_in, places_in, IsUsed, IsWithFile, IsWithPlaces, with_bytes, ChangesAmong, Grows, Resizes, Shrinks};
+ghost use Rattle.fs_files.specs.Calls.{cut_blocks, growth, written_blocks, GrowthRefused, LookRefused};
 ghost use Rattle.fs_files.specs.Content.{HasContent, WritesContent, fails_reading, fails_settling};
 ghost use Rattle.fs_files.specs.Drafts.{drafted};
 ghost use Rattle.fs_files.specs.Effects.{LooksOnly, LooksAndSettles};
@@ -52,21 +53,28 @@ impl Draft {
         requires above_zero { 1 ≤ number }
         requires in_table { number ≤ (S.state blocks.old).books.geom.i }
         requires size { size ≤ 2 ^ 30 }
-        requires once { IsTrue S.tells → (x : FileNode) → files_in (S.state blocks.old) self.old number ≡ Some x → 0 < growth (length x.bytes) size → self.old.taken ≡ [] }
+        requires once { IsTrue S.tells → (x : FileNode) → files_in (S.state blocks.old) self.old number ≡ Some x → 0 < growth (length x.bytes) size
+            → self.old.taken ≡ [] }
         requires draft { IsDraftOf S.tells (S.state blocks.old) self.old }
         requires used { IsTrue S.tells → IsUsed (files_in (S.state blocks.old) self.old) number }
         requires slots { IsTrue S.tells → (x : FileNode) → files_in (S.state blocks.old) self.old number ≡ Some x → x.kind ≡ Dir → size % 64 ≡ 0 }
         ensures file { IsTrue S.tells → OnOk result ((x : FileNode) → files_in (S.state blocks.old) self.old number ≡ Some x
-            → IsWithFile (files_in (S.state blocks.old) self.old) (files_in (S.state blocks.new) self.new) number (Some (with_bytes x (resized size x.bytes)))) }
+            → IsWithFile (files_in (S.state blocks.old) self.old) (files_in (S.state blocks.new) self.new) number
+            (Some (with_bytes x (resized size x.bytes)))) }
         ensures places { IsTrue S.tells → OnOk result ((x : FileNode) → files_in (S.state blocks.old) self.old number ≡ Some x
-            → IsWithPlaces (places_in (S.state blocks.old) self.old) (places_in (S.state blocks.new) self.new) number (take (blocks_for size) (places_in (S.state blocks.old) self.old number) ++ take (growth (length x.bytes) size) (reusable_blocks (S.state blocks.new).books))) }
+            → IsWithPlaces (places_in (S.state blocks.old) self.old) (places_in (S.state blocks.new) self.new) number
+            (take (blocks_for size) (places_in (S.state blocks.old) self.old number) ++ take (growth (length x.bytes) size)
+            (reusable_blocks (S.state blocks.new).books))) }
         ensures draft { OnOk result (IsDraftOf S.tells (S.state blocks.new) self.new) }
         ensures resizes { IsTrue S.tells → OnOk result ((x : FileNode) → files_in (S.state blocks.old) self.old number ≡ Some x
-            → Resizes (S.state blocks.new).books number x (places_in (S.state blocks.old) self.old number) (places_in (S.state blocks.new) self.new number) size self.old self.new) }
+            → Resizes (S.state blocks.new).books number x (places_in (S.state blocks.old) self.old number)
+            (places_in (S.state blocks.new) self.new number) size self.old self.new) }
         ensures refused { IsTrue S.tells → IfErr result (λ why. (x : FileNode) → files_in (S.state blocks.old) self.old number ≡ Some x
-            → GrowthRefused (growth (length x.bytes) size) (places_in (S.state blocks.old) self.old number) (S.state blocks.old).books (S.state blocks.new).books why) }
+            → GrowthRefused (growth (length x.bytes) size) (places_in (S.state blocks.old) self.old number) (S.state blocks.old).books
+            (S.state blocks.new).books why) }
         ensures settles { LooksAndSettles S.tells (fails_reading result) (fails_settling result) (S.state blocks.old) (S.state blocks.new) }
-        ensures looks { IsTrue S.tells → (x : FileNode) → files_in (S.state blocks.old) self.old number ≡ Some x → growth (length x.bytes) size ≤ length (reusable_blocks (S.state blocks.old).books)
+        ensures looks { IsTrue S.tells → (x : FileNode) → files_in (S.state blocks.old) self.old number ≡ Some x
+            → growth (length x.bytes) size ≤ length (reusable_blocks (S.state blocks.old).books)
             → LooksOnly S.tells (fails_reading result) (S.state blocks.old) (S.state blocks.new) }
     {
         calls_compose::<S>();
@@ -120,7 +128,9 @@ pub(crate) fn cut<S: Blocks>(
     requires slots { IsTrue S.tells → node.old.kind ≡ Dir → size % 64 ≡ 0 }
     ensures file { IsTrue S.tells → OnOk result ((x : FileNode) → files_in (S.state blocks.old) draft.old number ≡ Some x
         → IsWithFile (files_in (S.state blocks.old) draft.old) (files_in (S.state blocks.new) draft.new) number (Some (with_bytes x (resized size x.bytes)))) }
-    ensures places { IsTrue S.tells → OnOk result (IsWithPlaces (places_in (S.state blocks.old) draft.old) (places_in (S.state blocks.new) draft.new) number (take (blocks_for size) (places_in (S.state blocks.old) draft.old number))) }
+    ensures places { IsTrue S.tells → OnOk result
+        (IsWithPlaces (places_in (S.state blocks.old) draft.old) (places_in (S.state blocks.new) draft.new) number
+        (take (blocks_for size) (places_in (S.state blocks.old) draft.old number))) }
     ensures draft { OnOk result (IsDraftOf S.tells (S.state blocks.new) draft.new) }
     ensures shrinks { IsTrue S.tells → OnOk result ((x : FileNode) → files_in (S.state blocks.old) draft.old number ≡ Some x
         → Shrinks x (places_in (S.state blocks.old) draft.old number) (places_in (S.state blocks.new) draft.new number) size draft.old draft.new) }
@@ -163,15 +173,22 @@ fn extend<S: Blocks>(
     ensures file { IsTrue S.tells → OnOk result ((x : FileNode) → files_in (S.state blocks.old) draft.old number ≡ Some x
         → IsWithFile (files_in (S.state blocks.old) draft.old) (files_in (S.state blocks.new) draft.new) number (Some (with_bytes x (resized size x.bytes)))) }
     ensures places { IsTrue S.tells → OnOk result ((x : FileNode) → files_in (S.state blocks.old) draft.old number ≡ Some x
-        → IsWithPlaces (places_in (S.state blocks.old) draft.old) (places_in (S.state blocks.new) draft.new) number (take (blocks_for size) (places_in (S.state blocks.old) draft.old number) ++ take (growth (length x.bytes) size) (reusable_blocks (S.state blocks.new).books))) }
+        → IsWithPlaces (places_in (S.state blocks.old) draft.old) (places_in (S.state blocks.new) draft.new) number
+        (take (blocks_for size) (places_in (S.state blocks.old) draft.old number) ++ take (growth (length x.bytes) size)
+        (reusable_blocks (S.state blocks.new).books))) }
     ensures draft { OnOk result (IsDraftOf S.tells (S.state blocks.new) draft.new) }
     ensures grows { IsTrue S.tells → OnOk result ((x : FileNode) → files_in (S.state blocks.old) draft.old number ≡ Some x
-        → Grows (S.state blocks.new).books x (places_in (S.state blocks.old) draft.old number) (places_in (S.state blocks.new) draft.new number) size draft.old draft.new) }
+        → Grows (S.state blocks.new).books x (places_in (S.state blocks.old) draft.old number) (places_in (S.state blocks.new) draft.new number) size
+        draft.old draft.new) }
     ensures among { IsTrue S.tells → OnOk result ((x : FileNode) → files_in (S.state blocks.old) draft.old number ≡ Some x
-        → ChangesAmong (written_blocks (S.state blocks.new).books.geom number x (places_in (S.state blocks.old) draft.old number) (drop (length (places_in (S.state blocks.old) draft.old number)) (places_in (S.state blocks.new) draft.new number)) (length x.bytes) size) draft.old draft.new) }
-    ensures refused { IfErr result (λ why. GrowthRefused (more_blocks size node.old) node.old.places (S.state blocks.old).books (S.state blocks.new).books why) }
+        → ChangesAmong (written_blocks (S.state blocks.new).books.geom number x (places_in (S.state blocks.old) draft.old number)
+        (drop (length (places_in (S.state blocks.old) draft.old number)) (places_in (S.state blocks.new) draft.new number)) (length x.bytes) size)
+        draft.old draft.new) }
+    ensures refused { IfErr result (λ why. GrowthRefused (more_blocks size node.old) node.old.places (S.state blocks.old).books
+        (S.state blocks.new).books why) }
     ensures settles { LooksAndSettles S.tells (fails_reading result) (fails_settling result) (S.state blocks.old) (S.state blocks.new) }
-    ensures looks { more_blocks size node.old ≤ length (reusable_blocks (S.state blocks.old).books) → LooksOnly S.tells (fails_reading result) (S.state blocks.old) (S.state blocks.new) }
+    ensures looks { more_blocks size node.old ≤ length (reusable_blocks (S.state blocks.old).books)
+        → LooksOnly S.tells (fails_reading result) (S.state blocks.old) (S.state blocks.new) }
 {
     calls_compose::<S>();
     a_list_has_its_runs();
@@ -211,7 +228,8 @@ fn clear_rest<S: Blocks>(
     requires data { All (IsData (S.state blocks.old).books.geom) places.now }
     requires count { length places.now ≡ blocks_for size }
     ensures clears { OnOk result (ClearsRest kind size places.now draft.old draft.new) }
-    ensures bytes { IsTrue S.tells → HasContent (S.state blocks.old).map draft.old places.now → OnOk result (IsCleared (S.state blocks.old).map kind size places.now draft.old draft.new) }
+    ensures bytes { IsTrue S.tells → HasContent (S.state blocks.old).map draft.old places.now
+        → OnOk result (IsCleared (S.state blocks.old).map kind size places.now draft.old draft.new) }
     ensures refused { IfErr result LookRefused }
     ensures looks { LooksOnly S.tells (fails_reading result) (S.state blocks.old) (S.state blocks.new) }
 {
@@ -238,8 +256,11 @@ fn zero_rest<S: Blocks>(
     requires data { All (IsData (S.state blocks.old).books.geom) places.now }
     requires count { length places.now ≡ blocks_for size }
     ensures writes { OnOk result (WritesContent Meta (drop (size / 1024) places.now) draft.old draft.new) }
-    ensures content { IsTrue S.tells → HasContent (S.state blocks.old).map draft.old places.now → OnOk result (HasContent (S.state blocks.old).map draft.new places.now) }
-    ensures bytes { IsTrue S.tells → HasContent (S.state blocks.old).map draft.old places.now → OnOk result (joined (drafted draft.new (S.state blocks.old).map) places.now ≡ overwrite size (replicate (1024 * length places.now - size) 0) (joined (drafted draft.old (S.state blocks.old).map) places.now)) }
+    ensures content { IsTrue S.tells → HasContent (S.state blocks.old).map draft.old places.now
+        → OnOk result (HasContent (S.state blocks.old).map draft.new places.now) }
+    ensures bytes { IsTrue S.tells → HasContent (S.state blocks.old).map draft.old places.now
+        → OnOk result (joined (drafted draft.new (S.state blocks.old).map) places.now ≡ overwrite size (replicate (1024 * length places.now - size) 0)
+        (joined (drafted draft.old (S.state blocks.old).map) places.now)) }
     ensures refused { IfErr result LookRefused }
     ensures looks { LooksOnly S.tells (fails_reading result) (S.state blocks.old) (S.state blocks.new) }
 {

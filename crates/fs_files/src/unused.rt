@@ -33,9 +33,12 @@ pub(crate) fn least_unused<S: Blocks>(
     requires going { (S.state blocks.old).books.stopped ≡ false }
     requires above_zero { 1 ≤ from }
     requires draft { IsDraftOf S.tells (S.state blocks.old) draft.now }
-    ensures found { IsTrue S.tells → IfOk result (λ found. IfSome found (λ number. IsFirstUnused (S.state blocks.old).books.geom (drafted draft.now (S.state blocks.old).map) from number
+    ensures found { IsTrue S.tells → IfOk result
+        (λ found. IfSome found (λ number. IsFirstUnused (S.state blocks.old).books.geom (drafted draft.now (S.state blocks.old).map) from number
         × (table.new ≡ drafted draft.now (S.state blocks.old).map (node_block (S.state blocks.old).books.geom number)))) }
-    ensures none { IsTrue S.tells → IfOk result (λ found. IfNone found (AreUsed (S.state blocks.old).books.geom (drafted draft.now (S.state blocks.old).map) from ((S.state blocks.old).books.geom.i + 1))) }
+    ensures none { IsTrue S.tells → IfOk result
+        (λ found. IfNone found (AreUsed (S.state blocks.old).books.geom (drafted draft.now (S.state blocks.old).map) from
+        ((S.state blocks.old).books.geom.i + 1))) }
     ensures number { IfOk result (λ found. IfSome found (λ number. (1 ≤ number) × (number ≤ (S.state blocks.old).books.geom.i))) }
     ensures refused { IfErr result LookRefused }
     ensures looks { LooksOnly S.tells (fails_reading result) (S.state blocks.old) (S.state blocks.new) }
@@ -69,9 +72,11 @@ fn unused_in_block<S: Blocks>(
     requires above_zero { 1 ≤ number }
     requires in_table { number ≤ (S.state blocks.old).books.geom.i }
     requires draft { IsDraftOf S.tells (S.state blocks.old) draft.now }
-    ensures found { IsTrue S.tells → IfOk result (λ found. IfSome found (λ unused. IsFirstUnused (S.state blocks.old).books.geom (drafted draft.now (S.state blocks.old).map) number unused
+    ensures found { IsTrue S.tells → IfOk result
+        (λ found. IfSome found (λ unused. IsFirstUnused (S.state blocks.old).books.geom (drafted draft.now (S.state blocks.old).map) number unused
         × (table.new ≡ drafted draft.now (S.state blocks.old).map (node_block (S.state blocks.old).books.geom unused)))) }
-    ensures none { IsTrue S.tells → IfOk result (λ found. IfNone found (AreUsed (S.state blocks.old).books.geom (drafted draft.now (S.state blocks.old).map) number (block_end number))) }
+    ensures none { IsTrue S.tells → IfOk result
+        (λ found. IfNone found (AreUsed (S.state blocks.old).books.geom (drafted draft.now (S.state blocks.old).map) number (block_end number))) }
     ensures number { IfOk result (λ found. IfSome found (λ unused. (number ≤ unused) × (unused ≤ (S.state blocks.old).books.geom.i))) }
     ensures looks { LooksOnly S.tells (is_err result) (S.state blocks.old) (S.state blocks.new) }
 {

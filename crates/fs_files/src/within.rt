@@ -44,12 +44,17 @@ impl Draft {
         requires size { offset + length bytes.now ≤ 2 ^ 30 }
         requires draft { IsDraftOf S.tells (S.state blocks.old) self.old }
         requires used { IsTrue S.tells → IsUsed (files_in (S.state blocks.old) self.old) number }
-        requires within { IsTrue S.tells → (x : FileNode) → files_in (S.state blocks.old) self.old number ≡ Some x → offset + length bytes.now ≤ length x.bytes }
+        requires within { IsTrue S.tells → (x : FileNode) → files_in (S.state blocks.old) self.old number ≡ Some x
+            → offset + length bytes.now ≤ length x.bytes }
         ensures file { IsTrue S.tells → OnOk result ((x : FileNode) → files_in (S.state blocks.old) self.old number ≡ Some x
-            → IsWithFile (files_in (S.state blocks.old) self.old) (files_in (S.state blocks.new) self.new) number (Some (with_bytes x (overwritten offset bytes.now x.bytes)))) }
-        ensures places { IsTrue S.tells → OnOk result (IsWithPlaces (places_in (S.state blocks.old) self.old) (places_in (S.state blocks.new) self.new) number (places_in (S.state blocks.old) self.old number)) }
+            → IsWithFile (files_in (S.state blocks.old) self.old) (files_in (S.state blocks.new) self.new) number
+            (Some (with_bytes x (overwritten offset bytes.now x.bytes)))) }
+        ensures places { IsTrue S.tells → OnOk result
+            (IsWithPlaces (places_in (S.state blocks.old) self.old) (places_in (S.state blocks.new) self.new) number
+            (places_in (S.state blocks.old) self.old number)) }
         ensures draft { OnOk result (IsDraftOf S.tells (S.state blocks.new) self.new) }
-        ensures overwrites { IsTrue S.tells → OnOk result (Overwrites (met offset (offset + length bytes.now) (places_in (S.state blocks.old) self.old number)) self.old self.new) }
+        ensures overwrites { IsTrue S.tells → OnOk result
+            (Overwrites (met offset (offset + length bytes.now) (places_in (S.state blocks.old) self.old number)) self.old self.new) }
         ensures changes { IsTrue S.tells → OnOk result (0 < length bytes.now → ChangesSome self.new) }
         ensures refused { IfErr result LookRefused }
         ensures looks { LooksOnly S.tells (fails_reading result) (S.state blocks.old) (S.state blocks.new) }
@@ -91,8 +96,11 @@ impl Draft {
         requires slots { IsTrue S.tells → (x : FileNode) → files_in (S.state blocks.old) self.old number ≡ Some x → x.kind ≡ Dir → size % 64 ≡ 0 }
         requires shorter { IsTrue S.tells → (x : FileNode) → files_in (S.state blocks.old) self.old number ≡ Some x → size < length x.bytes }
         ensures file { IsTrue S.tells → OnOk result ((x : FileNode) → files_in (S.state blocks.old) self.old number ≡ Some x
-            → IsWithFile (files_in (S.state blocks.old) self.old) (files_in (S.state blocks.new) self.new) number (Some (with_bytes x (resized size x.bytes)))) }
-        ensures places { IsTrue S.tells → OnOk result (IsWithPlaces (places_in (S.state blocks.old) self.old) (places_in (S.state blocks.new) self.new) number (take (blocks_for size) (places_in (S.state blocks.old) self.old number))) }
+            → IsWithFile (files_in (S.state blocks.old) self.old) (files_in (S.state blocks.new) self.new) number
+            (Some (with_bytes x (resized size x.bytes)))) }
+        ensures places { IsTrue S.tells → OnOk result
+            (IsWithPlaces (places_in (S.state blocks.old) self.old) (places_in (S.state blocks.new) self.new) number
+            (take (blocks_for size) (places_in (S.state blocks.old) self.old number))) }
         ensures draft { OnOk result (IsDraftOf S.tells (S.state blocks.new) self.new) }
         ensures shrinks { IsTrue S.tells → OnOk result ((x : FileNode) → files_in (S.state blocks.old) self.old number ≡ Some x
             → Shrinks x (places_in (S.state blocks.old) self.old number) (places_in (S.state blocks.new) self.new number) size self.old self.new) }

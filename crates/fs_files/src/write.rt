@@ -6,7 +6,8 @@ ghost use Rattle.layout_bytes.specs.declared.node.NodeKind.TheVariants.{Dir};
 ghost use Rattle.engine_blocks.specs.Calls.{HasTurns};
 ghost use Rattle.engine_blocks.specs.State.{reusable_blocks};
 ghost use Rattle.fs_files.specs.Bytes.{overwritten};
-ghost use Rattle.fs_files.specs.Calls.{files_in, places_in, IsUsed, IsWithFile, IsWithPlaces, with_bytes, ChangesAmong, Grows, growth, written_blocks, GrowthRefused, LookRefused};
+ghost use Rattle.fs_files.specs.Calls.{files_in, places_in, IsUsed, IsWithFile, IsWithPlaces, with_bytes, ChangesAmong, Grows, growth};
+ghost use Rattle.fs_files.specs.Calls.{written_blocks, GrowthRefused, LookRefused};
 ghost use Rattle.fs_files.specs.Content.{fails_reading, fails_settling};
 ghost use Rattle.fs_files.specs.Effects.{LooksOnly, LooksAndSettles};
 ghost use Rattle.fs_files.specs.Drafts.{drafted, ChangesSome};
@@ -49,24 +50,34 @@ impl Draft {
         requires above_zero { 1 ≤ number }
         requires in_table { number ≤ (S.state blocks.old).books.geom.i }
         requires size { offset + length bytes.now ≤ 2 ^ 30 }
-        requires once { IsTrue S.tells → (x : FileNode) → files_in (S.state blocks.old) self.old number ≡ Some x → 0 < growth (length x.bytes) (offset + length bytes.now) → self.old.taken ≡ [] }
+        requires once { IsTrue S.tells → (x : FileNode) → files_in (S.state blocks.old) self.old number ≡ Some x
+            → 0 < growth (length x.bytes) (offset + length bytes.now) → self.old.taken ≡ [] }
         requires draft { IsDraftOf S.tells (S.state blocks.old) self.old }
         requires used { IsTrue S.tells → IsUsed (files_in (S.state blocks.old) self.old) number }
-        requires slots { IsTrue S.tells → (x : FileNode) → files_in (S.state blocks.old) self.old number ≡ Some x → x.kind ≡ Dir → (max (length x.bytes) (offset + length bytes.now)) % 64 ≡ 0 }
+        requires slots { IsTrue S.tells → (x : FileNode) → files_in (S.state blocks.old) self.old number ≡ Some x → x.kind ≡ Dir
+            → (max (length x.bytes) (offset + length bytes.now)) % 64 ≡ 0 }
         ensures file { IsTrue S.tells → OnOk result ((x : FileNode) → files_in (S.state blocks.old) self.old number ≡ Some x
-            → IsWithFile (files_in (S.state blocks.old) self.old) (files_in (S.state blocks.new) self.new) number (Some (with_bytes x (overwritten offset bytes.now x.bytes)))) }
+            → IsWithFile (files_in (S.state blocks.old) self.old) (files_in (S.state blocks.new) self.new) number
+            (Some (with_bytes x (overwritten offset bytes.now x.bytes)))) }
         ensures places { IsTrue S.tells → OnOk result ((x : FileNode) → files_in (S.state blocks.old) self.old number ≡ Some x
-            → IsWithPlaces (places_in (S.state blocks.old) self.old) (places_in (S.state blocks.new) self.new) number (places_in (S.state blocks.old) self.old number ++ take (growth (length x.bytes) (length (overwritten offset bytes.now x.bytes))) (reusable_blocks (S.state blocks.new).books))) }
+            → IsWithPlaces (places_in (S.state blocks.old) self.old) (places_in (S.state blocks.new) self.new) number
+            (places_in (S.state blocks.old) self.old number ++ take (growth (length x.bytes) (length (overwritten offset bytes.now x.bytes)))
+            (reusable_blocks (S.state blocks.new).books))) }
         ensures draft { OnOk result (IsDraftOf S.tells (S.state blocks.new) self.new) }
         ensures grows { IsTrue S.tells → OnOk result ((x : FileNode) → files_in (S.state blocks.old) self.old number ≡ Some x → 0 < length bytes.now
-            → Grows (S.state blocks.new).books x (places_in (S.state blocks.old) self.old number) (places_in (S.state blocks.new) self.new number) (offset + length bytes.now) self.old self.new) }
+            → Grows (S.state blocks.new).books x (places_in (S.state blocks.old) self.old number) (places_in (S.state blocks.new) self.new number)
+            (offset + length bytes.now) self.old self.new) }
         ensures among { IsTrue S.tells → OnOk result ((x : FileNode) → files_in (S.state blocks.old) self.old number ≡ Some x
-            → ChangesAmong (written_blocks (S.state blocks.old).books.geom number x (places_in (S.state blocks.old) self.old number) (drop (length (places_in (S.state blocks.old) self.old number)) (places_in (S.state blocks.new) self.new number)) (min offset (length x.bytes)) (offset + length bytes.now)) self.old self.new) }
+            → ChangesAmong (written_blocks (S.state blocks.old).books.geom number x (places_in (S.state blocks.old) self.old number)
+            (drop (length (places_in (S.state blocks.old) self.old number)) (places_in (S.state blocks.new) self.new number))
+            (min offset (length x.bytes)) (offset + length bytes.now)) self.old self.new) }
         ensures changes { IsTrue S.tells → OnOk result (0 < length bytes.now → ChangesSome self.new) }
         ensures refused { IsTrue S.tells → IfErr result (λ why. (x : FileNode) → files_in (S.state blocks.old) self.old number ≡ Some x
-            → GrowthRefused (growth (length x.bytes) (offset + length bytes.now)) (places_in (S.state blocks.old) self.old number) (S.state blocks.old).books (S.state blocks.new).books why) }
+            → GrowthRefused (growth (length x.bytes) (offset + length bytes.now)) (places_in (S.state blocks.old) self.old number)
+            (S.state blocks.old).books (S.state blocks.new).books why) }
         ensures settles { LooksAndSettles S.tells (fails_reading result) (fails_settling result) (S.state blocks.old) (S.state blocks.new) }
-        ensures looks { IsTrue S.tells → (x : FileNode) → files_in (S.state blocks.old) self.old number ≡ Some x → growth (length x.bytes) (offset + length bytes.now) ≤ length (reusable_blocks (S.state blocks.old).books)
+        ensures looks { IsTrue S.tells → (x : FileNode) → files_in (S.state blocks.old) self.old number ≡ Some x
+            → growth (length x.bytes) (offset + length bytes.now) ≤ length (reusable_blocks (S.state blocks.old).books)
             → LooksOnly S.tells (fails_reading result) (S.state blocks.old) (S.state blocks.new) }
     {
         calls_compose::<S>();
@@ -104,10 +115,13 @@ pub(crate) fn write_open<S: Blocks>(
     requires open { IsOpen (S.state blocks.old).books.geom node.old }
     requires size { offset + length bytes.now ≤ 2 ^ 30 }
     requires once { 0 < more_blocks (max node.old.size (offset + length bytes.now)) node.old → draft.old.taken ≡ [] }
-    ensures writes { OnOk result (WritesOpen S.tells (S.state blocks.new).books (S.state blocks.old).map offset bytes.now node.old node.new draft.old draft.new) }
-    ensures refused { IfErr result (λ why. GrowthRefused (more_blocks (max node.old.size (offset + length bytes.now)) node.old) node.old.places (S.state blocks.old).books (S.state blocks.new).books why) }
+    ensures writes { OnOk result (WritesOpen S.tells (S.state blocks.new).books (S.state blocks.old).map offset bytes.now node.old node.new draft.old
+        draft.new) }
+    ensures refused { IfErr result (λ why. GrowthRefused (more_blocks (max node.old.size (offset + length bytes.now)) node.old) node.old.places
+        (S.state blocks.old).books (S.state blocks.new).books why) }
     ensures settles { LooksAndSettles S.tells (fails_reading result) (fails_settling result) (S.state blocks.old) (S.state blocks.new) }
-    ensures looks { more_blocks (max node.old.size (offset + length bytes.now)) node.old ≤ length (reusable_blocks (S.state blocks.old).books) → LooksOnly S.tells (fails_reading result) (S.state blocks.old) (S.state blocks.new) }
+    ensures looks { more_blocks (max node.old.size (offset + length bytes.now)) node.old ≤ length (reusable_blocks (S.state blocks.old).books)
+        → LooksOnly S.tells (fails_reading result) (S.state blocks.old) (S.state blocks.new) }
 {
     calls_compose::<S>();
     let size = node.size.max(offset + bytes.len() as u64);
@@ -158,10 +172,12 @@ pub(crate) fn make_room<S: Blocks>(
     requires size { size ≤ largest_node }
     requires once { 0 < more_blocks size node.old → draft.old.taken ≡ [] }
     ensures room { OnOk result (HasRoom (S.state blocks.new).books size node.old node.new draft.old draft.new) }
-    ensures refused { IfErr result (λ why. GrowthRefused (more_blocks size node.old) node.old.places (S.state blocks.old).books (S.state blocks.new).books why) }
+    ensures refused { IfErr result (λ why. GrowthRefused (more_blocks size node.old) node.old.places (S.state blocks.old).books
+        (S.state blocks.new).books why) }
     ensures unread { fails_reading result ≡ false }
     ensures settles { LooksAndSettles S.tells false (fails_settling result) (S.state blocks.old) (S.state blocks.new) }
-    ensures looks { more_blocks size node.old ≤ length (reusable_blocks (S.state blocks.old).books) → LooksOnly S.tells false (S.state blocks.old) (S.state blocks.new) }
+    ensures looks { more_blocks size node.old ≤ length (reusable_blocks (S.state blocks.old).books)
+        → LooksOnly S.tells false (S.state blocks.old) (S.state blocks.new) }
 {
     calls_compose::<S>();
     if blocks_for(size) <= node.places.count() {
@@ -217,15 +233,18 @@ fn write_loaded<S: Blocks>(
     requires some { 0 < length bytes.now }
     requires open { IsOpen (S.state blocks.old).books.geom node.old }
     requires draft { IsDraftOf S.tells (S.state blocks.old) draft.old }
-    requires used { IsTrue S.tells → used_node (S.state blocks.old).books.geom (drafted draft.old (S.state blocks.old).map) number ≡ Some (node_of_open node.old) }
+    requires used { IsTrue S.tells → used_node (S.state blocks.old).books.geom (drafted draft.old (S.state blocks.old).map) number ≡ Some
+        (node_of_open node.old) }
     requires table { IsTrue S.tells → table.old ≡ drafted draft.old (S.state blocks.old).map (node_block (S.state blocks.old).books.geom number) }
     requires once { IsTrue S.tells → 0 < more_blocks (max node.old.size (offset + length bytes.now)) node.old → draft.old.taken ≡ [] }
     requires slots { IsTrue S.tells → node.old.kind ≡ Dir → (max node.old.size (offset + length bytes.now)) % 64 ≡ 0 }
     ensures draft { OnOk result (IsDraftOf S.tells (S.state blocks.new) draft.new) }
     ensures file { IsTrue S.tells → OnOk result (WritesFile (S.state blocks.new).books (S.state blocks.old).map number offset bytes.now draft.old draft.new) }
-    ensures refused { IfErr result (λ why. GrowthRefused (more_blocks (max node.old.size (offset + length bytes.now)) node.old) node.old.places (S.state blocks.old).books (S.state blocks.new).books why) }
+    ensures refused { IfErr result (λ why. GrowthRefused (more_blocks (max node.old.size (offset + length bytes.now)) node.old) node.old.places
+        (S.state blocks.old).books (S.state blocks.new).books why) }
     ensures settles { LooksAndSettles S.tells (fails_reading result) (fails_settling result) (S.state blocks.old) (S.state blocks.new) }
-    ensures looks { more_blocks (max node.old.size (offset + length bytes.now)) node.old ≤ length (reusable_blocks (S.state blocks.old).books) → LooksOnly S.tells (fails_reading result) (S.state blocks.old) (S.state blocks.new) }
+    ensures looks { more_blocks (max node.old.size (offset + length bytes.now)) node.old ≤ length (reusable_blocks (S.state blocks.old).books)
+        → LooksOnly S.tells (fails_reading result) (S.state blocks.old) (S.state blocks.new) }
 {
     calls_compose::<S>();
     a_list_has_its_runs();

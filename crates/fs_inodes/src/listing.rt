@@ -20,7 +20,8 @@ use crate::tree::the_tree_is_lawful;
 pub fn a_listing_goes_down()
     ensures whole { (t : Tree) → listing t ≡ lines_below t [] }
     ensures lines { (limit : ℕ) (m : Inodes) (t : Tree) (path : List (List ℕ)) (node : ℕ) → IsMapOf limit m t → LeadsTo m path node
-        → lines_below t path ≡ line_of path node (option_map thing_of (m node)) ++ flat_map (λ name. lines_below t (path ++ name ∷ [])) (names_of (slots_of (m node))) }
+        → lines_below t path ≡ line_of path node (option_map thing_of (m node)) ++ flat_map (λ name. lines_below t (path ++ name ∷ []))
+        (names_of (slots_of (m node))) }
     ensures paths { (limit : ℕ) (m : Inodes) (t : Tree) (path : List (List ℕ)) (node : ℕ) → IsMapOf limit m t → LeadsTo m path node
         → at_and_below t path ≡ (path, node) ∷ flat_map (λ name. at_and_below t (path ++ name ∷ [])) (names_of (slots_of (m node))) }
     ensures count { (limit : ℕ) (m : Inodes) (t : Tree) → IsMapOf limit m t → length (at_and_below t []) ≡ links_from m 1 limit }

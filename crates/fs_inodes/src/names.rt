@@ -23,10 +23,13 @@ use crate::tree::the_tree_is_lawful;
 /// The tree has the names of a directory's slots there, in their order: the list that sorting them gives.
 /// There are as many as slots; at a path that leads to no directory there are none.
 pub fn the_map_gives_the_names()
-    ensures names { (limit : ℕ) (m : Inodes) (t : Tree) (path : List (List ℕ)) (dir : ℕ) (slots : List Slot) → IsMapOf limit m t → LeadsTo m path dir → m dir ≡ Some (ADir slots) → names_in t.names path ≡ names_of slots }
-    ensures sorted { (limit : ℕ) (m : Inodes) (t : Tree) (path : List (List ℕ)) (dir : ℕ) (slots : List Slot) (names : List (List ℕ)) → IsMapOf limit m t → LeadsTo m path dir → m dir ≡ Some (ADir slots)
+    ensures names { (limit : ℕ) (m : Inodes) (t : Tree) (path : List (List ℕ)) (dir : ℕ) (slots : List Slot) → IsMapOf limit m t → LeadsTo m path dir
+        → m dir ≡ Some (ADir slots) → names_in t.names path ≡ names_of slots }
+    ensures sorted { (limit : ℕ) (m : Inodes) (t : Tree) (path : List (List ℕ)) (dir : ℕ) (slots : List Slot) (names : List (List ℕ))
+        → IsMapOf limit m t → LeadsTo m path dir → m dir ≡ Some (ADir slots)
         → IsPermutation (map (λ s. s.name) slots) names → IsSorted (slice_cmp nat_cmp) names → names_in t.names path ≡ names }
-    ensures count { (limit : ℕ) (m : Inodes) (t : Tree) (path : List (List ℕ)) → IsMapOf limit m t → length (names_in t.names path) ≡ length (slots_of (inode_at m path)) }
+    ensures count { (limit : ℕ) (m : Inodes) (t : Tree) (path : List (List ℕ)) → IsMapOf limit m t
+        → length (names_in t.names path) ≡ length (slots_of (inode_at m path)) }
 {
     the_tree_is_lawful();
 }

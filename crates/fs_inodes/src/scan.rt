@@ -26,13 +26,17 @@ pub fn a_scan_begins()
 /// comes as a directory without slots or a file with one link; or a file that was seen, which has one link
 /// more. A tree stands for what was seen then, and that is a part of the whole.
 pub fn a_scan_goes_on()
-    ensures node { (limit : ℕ) (m new : Inodes) (t : Tree) (dir node : ℕ) (name : List ℕ) (slots : List Slot) (thing : Thing) → IsMapOf limit m t → m dir ≡ Some (ADir slots) → AddsSlot m new dir node name (new_inode thing)
+    ensures node { (limit : ℕ) (m new : Inodes) (t : Tree) (dir node : ℕ) (name : List ℕ) (slots : List Slot) (thing : Thing) → IsMapOf limit m t
+        → m dir ≡ Some (ADir slots) → AddsSlot m new dir node name (new_inode thing)
         → node_in slots name ≡ None → m node ≡ None → 1 ≤ node → node ≤ limit → (u : Tree) × IsMapOf limit new u }
-    ensures path { (limit : ℕ) (m new : Inodes) (t : Tree) (dir node : ℕ) (name : List ℕ) (slots : List Slot) (links : ℕ) (bytes : List ℕ) → IsMapOf limit m t → m dir ≡ Some (ADir slots) → AddsSlot m new dir node name (AFile (links + 1) bytes)
+    ensures path { (limit : ℕ) (m new : Inodes) (t : Tree) (dir node : ℕ) (name : List ℕ) (slots : List Slot) (links : ℕ) (bytes : List ℕ)
+        → IsMapOf limit m t → m dir ≡ Some (ADir slots) → AddsSlot m new dir node name (AFile (links + 1) bytes)
         → node_in slots name ≡ None → m node ≡ Some (AFile links bytes) → (u : Tree) × IsMapOf limit new u }
-    ensures directory { (m new w : Inodes) (dir node : ℕ) (name : List ℕ) (slots below rest : List Slot) → IsPartOf m w → m dir ≡ Some (ADir slots) → AddsSlot m new dir node name (new_inode Dir)
+    ensures directory { (m new w : Inodes) (dir node : ℕ) (name : List ℕ) (slots below rest : List Slot) → IsPartOf m w → m dir ≡ Some (ADir slots)
+        → AddsSlot m new dir node name (new_inode Dir)
         → w dir ≡ Some (ADir (slots ++ slot_of node name ∷ rest)) → w node ≡ Some (ADir below) → IsPartOf new w }
-    ensures file { (m new w : Inodes) (dir node : ℕ) (name : List ℕ) (links all : ℕ) (bytes : List ℕ) (slots rest : List Slot) → IsPartOf m w → m dir ≡ Some (ADir slots) → AddsSlot m new dir node name (AFile links bytes)
+    ensures file { (m new w : Inodes) (dir node : ℕ) (name : List ℕ) (links all : ℕ) (bytes : List ℕ) (slots rest : List Slot) → IsPartOf m w
+        → m dir ≡ Some (ADir slots) → AddsSlot m new dir node name (AFile links bytes)
         → w dir ≡ Some (ADir (slots ++ slot_of node name ∷ rest)) → w node ≡ Some (AFile all bytes) → IsPartOf new w }
 {
     the_tree_is_lawful();
@@ -49,12 +53,17 @@ pub fn a_scan_ends()
 /// a scan that is through saw each node in use, and counted the links that files have. So wherever one of
 /// these fails, no tree stands for the map.
 pub fn no_tree_stands_for_damage()
-    ensures names_root { (limit : ℕ) (w : Inodes) (u : Tree) (dir i : ℕ) (slots : List Slot) (s : Slot) → IsMapOf limit w u → w dir ≡ Some (ADir slots) → slice_get slots i ≡ Some s → s.node ≢ 1 }
-    ensures names_unused { (limit : ℕ) (w : Inodes) (u : Tree) (dir i : ℕ) (slots : List Slot) (s : Slot) → IsMapOf limit w u → w dir ≡ Some (ADir slots) → slice_get slots i ≡ Some s
+    ensures names_root { (limit : ℕ) (w : Inodes) (u : Tree) (dir i : ℕ) (slots : List Slot) (s : Slot) → IsMapOf limit w u
+        → w dir ≡ Some (ADir slots) → slice_get slots i ≡ Some s → s.node ≢ 1 }
+    ensures names_unused { (limit : ℕ) (w : Inodes) (u : Tree) (dir i : ℕ) (slots : List Slot) (s : Slot) → IsMapOf limit w u
+        → w dir ≡ Some (ADir slots) → slice_get slots i ≡ Some s
         → (x : Inode) × (w s.node ≡ Some x) }
-    ensures equal_names { (limit : ℕ) (w : Inodes) (u : Tree) (dir : ℕ) (slots : List Slot) → IsMapOf limit w u → w dir ≡ Some (ADir slots) → AreDistinct slots }
-    ensures next_name { (limit : ℕ) (w : Inodes) (u : Tree) (dir : ℕ) (slots rest : List Slot) (s : Slot) → IsMapOf limit w u → w dir ≡ Some (ADir (slots ++ s ∷ rest)) → node_in slots s.name ≡ None }
-    ensures named_twice { (limit : ℕ) (m w : Inodes) (t u : Tree) (dir : ℕ) (slots rest below : List Slot) (s : Slot) → IsMapOf limit m t → IsMapOf limit w u → IsPartOf m w
+    ensures equal_names { (limit : ℕ) (w : Inodes) (u : Tree) (dir : ℕ) (slots : List Slot) → IsMapOf limit w u → w dir ≡ Some (ADir slots)
+        → AreDistinct slots }
+    ensures next_name { (limit : ℕ) (w : Inodes) (u : Tree) (dir : ℕ) (slots rest : List Slot) (s : Slot) → IsMapOf limit w u
+        → w dir ≡ Some (ADir (slots ++ s ∷ rest)) → node_in slots s.name ≡ None }
+    ensures named_twice { (limit : ℕ) (m w : Inodes) (t u : Tree) (dir : ℕ) (slots rest below : List Slot) (s : Slot) → IsMapOf limit m t
+        → IsMapOf limit w u → IsPartOf m w
         → m dir ≡ Some (ADir slots) → w dir ≡ Some (ADir (slots ++ s ∷ rest)) → m s.node ≡ Some (ADir below) → ⊥ }
     ensures unreached { (limit : ℕ) (m w : Inodes) (t u : Tree) → IsMapOf limit m t → IsMapOf limit w u → IsPartOf m w → IsThrough m w → SawAll m w }
     ensures wrong_links { (limit : ℕ) (m w : Inodes) (t u : Tree) → IsMapOf limit m t → IsMapOf limit w u → IsPartOf m w → IsThrough m w → LinksFit m w }

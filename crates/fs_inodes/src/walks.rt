@@ -21,11 +21,13 @@ use crate::tree::the_tree_is_lawful;
 /// leads to what is under its last name in the directory above it.
 pub fn walks_are_the_same()
     ensures walk { (limit : ℕ) (m : Inodes) (t : Tree) (path : List (List ℕ)) → IsMapOf limit m t → walk t path ≡ walk_on m 1 path }
-    ensures on { (limit : ℕ) (m : Inodes) (t : Tree) (here rest : List (List ℕ)) (k : ℕ) → IsMapOf limit m t → LeadsTo m here k → walk_from t here k rest ≡ walk_on m k rest }
+    ensures on { (limit : ℕ) (m : Inodes) (t : Tree) (here rest : List (List ℕ)) (k : ℕ) → IsMapOf limit m t → LeadsTo m here k
+        → walk_from t here k rest ≡ walk_on m k rest }
     ensures parent { (limit : ℕ) (m : Inodes) (t : Tree) (path : List (List ℕ)) → IsMapOf limit m t → parent_refusal t path ≡ parent_reason m path }
     ensures ends { (m : Inodes) (path : List (List ℕ)) (k : ℕ) → walk_on m 1 path ≡ Ok k → LeadsTo m path k }
     ensures leads { (m : Inodes) (path : List (List ℕ)) (k : ℕ) → LeadsTo m path k → walk_on m 1 path ≡ Ok k }
-    ensures last { (m : Inodes) (up : List (List ℕ)) (name : List ℕ) (dir : ℕ) (slots : List Slot) → LeadsTo m up dir → m dir ≡ Some (ADir slots) → number_at m (up ++ name ∷ []) ≡ node_in slots name }
+    ensures last { (m : Inodes) (up : List (List ℕ)) (name : List ℕ) (dir : ℕ) (slots : List Slot) → LeadsTo m up dir → m dir ≡ Some (ADir slots)
+        → number_at m (up ++ name ∷ []) ≡ node_in slots name }
 {
     the_tree_is_lawful();
 }
@@ -35,7 +37,8 @@ pub fn walks_are_the_same()
 pub fn paths_lead_to_inodes()
     ensures node { (limit : ℕ) (m : Inodes) (t : Tree) (path : List (List ℕ)) → IsMapOf limit m t → thing_at t path ≡ option_map thing_of (inode_at m path) }
     ensures bytes { (limit : ℕ) (m : Inodes) (t : Tree) (path : List (List ℕ)) → IsMapOf limit m t → content t path ≡ bytes_of (inode_at m path) }
-    ensures in_one { (limit : ℕ) (m : Inodes) (t : Tree) (up to : List (List ℕ)) (name other : List ℕ) (dir into : ℕ) (slots : List Slot) → IsMapOf limit m t → LeadsTo m up dir → LeadsTo m to into → m dir ≡ Some (ADir slots)
+    ensures in_one { (limit : ℕ) (m : Inodes) (t : Tree) (up to : List (List ℕ)) (name other : List ℕ) (dir into : ℕ) (slots : List Slot)
+        → IsMapOf limit m t → LeadsTo m up dir → LeadsTo m to into → m dir ≡ Some (ADir slots)
         → are_in_one (up ++ name ∷ []) (to ++ other ∷ []) ≡ (dir == into) }
 {
     the_tree_is_lawful();
@@ -45,7 +48,8 @@ pub fn paths_lead_to_inodes()
 /// node but the root.
 pub fn links_are_slots()
     ensures paths { (limit : ℕ) (m : Inodes) (t : Tree) (node : ℕ) → IsMapOf limit m t → node ≢ 1 → path_count t.names node ≡ slots_naming limit m node }
-    ensures links { (limit : ℕ) (m : Inodes) (t : Tree) (node links : ℕ) (bytes : List ℕ) → IsMapOf limit m t → m node ≡ Some (AFile links bytes) → links ≡ slots_naming limit m node }
+    ensures links { (limit : ℕ) (m : Inodes) (t : Tree) (node links : ℕ) (bytes : List ℕ) → IsMapOf limit m t → m node ≡ Some (AFile links bytes)
+        → links ≡ slots_naming limit m node }
 {
     the_tree_is_lawful();
 }

@@ -7,7 +7,8 @@ ghost use Rattle.std.specs.Result.{result_err};
 ghost use Rattle.lang_tree.specs.Conditions.{is_too_large};
 ghost use Rattle.lang_tree.specs.Walk.{are_same};
 ghost use Rattle.fs_inodes.specs.Lookups.{least_free, number_at};
-ghost use Rattle.fs_inodes.specs.Refusals.{reason, make_reason, write_reason, file_reason, truncate_reason, link_reason, rmdir_reason, onto_reason, rename_reason, walk_reason, list_reason};
+ghost use Rattle.fs_inodes.specs.Refusals.{reason, make_reason, write_reason, file_reason, truncate_reason, link_reason, rmdir_reason, onto_reason};
+ghost use Rattle.fs_inodes.specs.Refusals.{rename_reason, walk_reason, list_reason};
 ghost use Rattle.fs_memtree.specs.Trails.{IsEnd, IsUnder};
 ghost use Rattle.fs_memtree.specs.Kept.{map_of};
 
@@ -44,7 +45,8 @@ impl Nodes {
     /// A new node: the path isn't there, and a number is unused. Where it is to be, and its number.
     pub(crate) fn to_make<'a>(&self, limit: u32, path: &'a Path) -> Result<(End<'a>, u32), Refusal>
         ensures reason { result_err result ≡ make_reason limit (map_of self.now) path.now }
-        ensures found { IfOk result (λ found. IsEnd (map_of self.now) path.now found.0 × (found.0.number ≡ None) × (least_free limit (map_of self.now) ≡ Some found.1)) }
+        ensures found { IfOk result (λ found. IsEnd (map_of self.now) path.now found.0 × (found.0.number ≡ None)
+            × (least_free limit (map_of self.now) ≡ Some found.1)) }
         ensures under { IfOk result (λ found. IsUnder (map_of self.now) found.0) }
     {
         let end = self.look(path.names())?;

@@ -72,7 +72,8 @@ impl Nodes {
     /// Moves what is at the end of `from` to that of `to`, where what was there loses a path. Returns whether
     /// that changed anything: it doesn't where both paths lead to one node.
     pub(crate) fn rename(&mut self, from: End<'_>, to: End<'_>) -> Result<bool, NoMemory>
-        ensures ok { IfOk result (λ changed. moved_at self.old (spot_of from.entry) (spot_of to.entry) from.entry.number to.entry.number ≡ (self.new, changed)) }
+        ensures ok { IfOk result (λ changed. moved_at self.old (spot_of from.entry) (spot_of to.entry) from.entry.number
+            to.entry.number ≡ (self.new, changed)) }
         ensures err { OnErr result (self.new ≡ self.old) }
     {
         let Some((source, name)) = from.spot else {

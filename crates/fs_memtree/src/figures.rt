@@ -69,7 +69,8 @@ impl Nodes {
     /// The figures of a move.
     fn rename_figures(&self, from: &Path, to: &Path, bitmap: u32) -> Figures
         requires small { AreSmall (map_of self.now) }
-        ensures { (if are_same (number_at (map_of self.now) from.now) (number_at (map_of self.now) to.now) then spec.nothing else from_inodes.move_cost bitmap (map_of self.now) from.now to.now) ≡ value_of result }
+        ensures { (if are_same (number_at (map_of self.now) from.now) (number_at (map_of self.now) to.now) then spec.nothing else
+            from_inodes.move_cost bitmap (map_of self.now) from.now to.now) ≡ value_of result }
     {
         let old = self.find(to.names());
         if old.is_some() && old == self.find(from.names()) {

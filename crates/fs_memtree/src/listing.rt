@@ -87,8 +87,10 @@ fn write_line<K: Sink>(
     number: u32,
     node: Option<&Node>,
 ) -> Result<(), SinkFault>
-    ensures all { OnOk result (Appends (K.taken out.old) (K.taken out.new) (line_of (path_on path.now) number (option_map (λ node. thing_of (inode_of (kept node.now))) node.entry))) }
-    ensures front { OnErr result ((n : ℕ) × Appends (K.taken out.old) (K.taken out.new) (take n (line_of (path_on path.now) number (option_map (λ node. thing_of (inode_of (kept node.now))) node.entry)))) }
+    ensures all { OnOk result (Appends (K.taken out.old) (K.taken out.new)
+        (line_of (path_on path.now) number (option_map (λ node. thing_of (inode_of (kept node.now))) node.entry))) }
+    ensures front { OnErr result ((n : ℕ) × Appends (K.taken out.old) (K.taken out.new)
+        (take n (line_of (path_on path.now) number (option_map (λ node. thing_of (inode_of (kept node.now))) node.entry)))) }
     ensures cause { HasCause result (K.faults out.old) (K.faults out.new) }
 {
     match node {
@@ -137,7 +139,8 @@ fn write_head<K: Sink>(
     number: u32,
 ) -> Result<(), SinkFault>
     ensures all { OnOk result (Appends (K.taken out.old) (K.taken out.new) (kind.now ++ path_text (path_on path.now) ++ codes " " ++ decimal number)) }
-    ensures front { OnErr result ((n : ℕ) × Appends (K.taken out.old) (K.taken out.new) (take n (kind.now ++ path_text (path_on path.now) ++ codes " " ++ decimal number))) }
+    ensures front { OnErr result ((n : ℕ) × Appends (K.taken out.old) (K.taken out.new)
+        (take n (kind.now ++ path_text (path_on path.now) ++ codes " " ++ decimal number))) }
     ensures cause { HasCause result (K.faults out.old) (K.faults out.new) }
 {
     prefixes_join();

@@ -2,7 +2,8 @@
 //! numbers are unused. They lie in a row by their numbers, so that a number is found at once. Contracts see
 //! them as a finite map from numbers to nodes. Which of them make a tree is not said here.
 
-ghost use Rattle.std.specs.Prelude.{◌≡◌, ℕ, ◌+◌, ◌^◌, ◌<◌, ◌≤◌, ◌↔◌, false, true, None, Some, length, replicate, is_some, IsTrue, IfSome, IfNone, IfOk, OnOk, OnErr, option_map, nat_le, if◌then◌else◌};
+ghost use Rattle.std.specs.Prelude.{◌≡◌, ℕ, ◌+◌, ◌^◌, ◌<◌, ◌≤◌, ◌↔◌, false, true, None, Some, length, replicate, is_some, IsTrue, IfSome, IfNone};
+ghost use Rattle.std.specs.Prelude.{IfOk, OnOk, OnErr, option_map, nat_le, if◌then◌else◌};
 ghost use Rattle.std.specs.FinMap.{get, insert, remove, empty};
 ghost use Rattle.fs_inodes.specs.Lookups.{least_free};
 ghost use Rattle.fs_memtree.specs.Kept.{KeptDir, map_of, changed_at, without_link};

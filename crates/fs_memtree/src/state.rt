@@ -104,7 +104,8 @@ impl State {
 
     /// Mkdir and create: a new node at the path.
     fn make(&mut self, path: &Path, node: Node) -> Result<Reply, NoMemory>
-        ensures ok { IfOk result (λ reply. served_by self.old (make_reason self.old.limit (map_of self.old.nodes) path.now) (changed_to self.old (made self.old.limit self.old.nodes path.now (kept node))) ≡ (self.new, reply)) }
+        ensures ok { IfOk result (λ reply. served_by self.old (make_reason self.old.limit (map_of self.old.nodes) path.now)
+            (changed_to self.old (made self.old.limit self.old.nodes path.now (kept node))) ≡ (self.new, reply)) }
         ensures err { OnErr result (self.new ≡ self.old) }
     {
         let (end, number) = match self.nodes.to_make(self.limit, path) {
@@ -125,7 +126,8 @@ impl State {
         bytes: Growth<'_>,
     ) -> Result<Reply, NoMemory>
         requires { end_of bytes ≡ offset + count }
-        ensures ok { IfOk result (λ reply. served_by self.old (write_reason (map_of self.old.nodes) path.now offset count) (if count == 0 then (self.old, Done) else changed_to self.old (edited self.old.nodes path.now (grown bytes.entry))) ≡ (self.new, reply)) }
+        ensures ok { IfOk result (λ reply. served_by self.old (write_reason (map_of self.old.nodes) path.now offset count)
+            (if count == 0 then (self.old, Done) else changed_to self.old (edited self.old.nodes path.now (grown bytes.entry))) ≡ (self.new, reply)) }
         ensures err { OnErr result (self.new ≡ self.old) }
     {
         let number = match self.nodes.to_write(path, offset, count) {

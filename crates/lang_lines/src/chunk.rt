@@ -85,7 +85,8 @@ fn pull_into<S: Source>(input: &mut S, buffer: &mut [u8], most: usize) -> Result
     requires some { 0 < most }
     requires room { 0 < length buffer.old }
     ensures count { IfOk result (λ n. (n ≤ length buffer.new) × (n ≤ most)) }
-    ensures bytes { IfOk result (λ n. Consumes (S.remaining input.old) (S.remaining input.new) (take n buffer.new) × (n ≡ 0 → IsAtEnd (S.remaining input.new))) }
+    ensures bytes { IfOk result (λ n. Consumes (S.remaining input.old) (S.remaining input.new) (take n buffer.new)
+        × (n ≡ 0 → IsAtEnd (S.remaining input.new))) }
     ensures none { OnErr result (Keeps (S.remaining input.old) (S.remaining input.new)) }
     ensures cause { HasCause result (S.faults input.old) (S.faults input.new) }
 {

@@ -11,6 +11,8 @@ ghost use Rattle.lang_lines.specs.Reading.{ReaderState, HasGiven, first_state};
 pub fn all_was_given()
     ensures first { HasGiven [] [] first_state }
     ensures end { (seen : List ℕ) (cmds : List Cmd) (r : ReaderState) → HasGiven seen cmds r → r.over ≡ true → r.ahead ≡ [] → cmds ≡ commands_of longest seen }
-    ensures whole { (seen : List ℕ) (cmds : List Cmd) (r : ReaderState) → HasGiven seen cmds r → r.over ≡ false → r.ahead ≡ [] → cmds ≡ whole_commands longest seen }
-    ensures front { (seen rest : List ℕ) (cmds : List Cmd) (r : ReaderState) → HasGiven seen cmds r → r.over ≡ false → (later : List Cmd) × (commands_of longest (seen ++ rest) ≡ cmds ++ later) }
+    ensures whole { (seen : List ℕ) (cmds : List Cmd) (r : ReaderState) → HasGiven seen cmds r → r.over ≡ false → r.ahead ≡ []
+        → cmds ≡ whole_commands longest seen }
+    ensures front { (seen rest : List ℕ) (cmds : List Cmd) (r : ReaderState) → HasGiven seen cmds r → r.over ≡ false → (later : List Cmd)
+        × (commands_of longest (seen ++ rest) ≡ cmds ++ later) }
 {}

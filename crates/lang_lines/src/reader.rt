@@ -77,7 +77,8 @@ impl CommandReader {
     /// # Errors
     /// Out of memory. No command is lost then, and a later call may go on.
     pub fn next<S: Source>(&mut self, alloc: Global, input: &mut S) -> Result<Next, NoMemory>
-        ensures ok { IfOk result (λ next. ReadsOn next self.old self.new (S.remaining input.old) (S.remaining input.new) (S.faults input.old) (S.faults input.new)) }
+        ensures ok { IfOk result (λ next. ReadsOn next self.old self.new (S.remaining input.old) (S.remaining input.new) (S.faults input.old)
+            (S.faults input.new)) }
         ensures err { OnErr result (HoldsOn self.old self.new (S.remaining input.old) (S.remaining input.new)) }
         ensures faults { S.faults input.old ≤ S.faults input.new }
         ensures rest { self.new.over ≡ true → self.new.ahead ≡ [] }
@@ -239,7 +240,8 @@ impl CommandReader {
 
 // Looks whether one byte more comes than an input may have.
 fn pull_past<S: Source>(input: &mut S) -> Pulled
-    ensures has { (r : ReaderState) → r.count ≡ 2 ^ 30 → HasPulled result r r (S.remaining input.old) (S.remaining input.new) (S.faults input.old) (S.faults input.new) }
+    ensures has { (r : ReaderState) → r.count ≡ 2 ^ 30
+        → HasPulled result r r (S.remaining input.old) (S.remaining input.new) (S.faults input.old) (S.faults input.new) }
     ensures faults { S.faults input.old ≤ S.faults input.new }
 {
     let mut next = [0u8; 1];

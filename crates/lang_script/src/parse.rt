@@ -4,7 +4,8 @@
 
 ghost use Rattle.std.specs.Prelude.{◌≡◌, List, [], ◌∷◌, IfOk, ◌⊎◌, map, true, Some};
 ghost use Rattle.lang_tree.specs.declared.command.Cmd.TheVariants.{Bad};
-ghost use Rattle.lang_script.specs.Grammar.{command_of, command_of_parts, is_in_grammar, word_command, path_command, paths_command, truncate_of, write_of, read_of, fill_of, path_of, small_number_of, bytes_of};
+ghost use Rattle.lang_script.specs.Grammar.{command_of, command_of_parts, is_in_grammar, word_command, path_command, paths_command, truncate_of};
+ghost use Rattle.lang_script.specs.Grammar.{write_of, read_of, fill_of, path_of, small_number_of, bytes_of};
 
 use crate::arguments::{bytes, number, parts, path};
 use base_types::NoMemory;

@@ -1,7 +1,8 @@
 //! Laws of the definitions: what commands leave of a tree, where they change it and what that costs, what a
 //! reply says of the session after it, and short runs worked out. They run nothing.
 
-ghost use Rattle.std.specs.Prelude.{◌≡◌, ◌≢◌, ◌≤◌, ◌||◌, ◌+◌, ◌++◌, ◌⊎◌, ℕ, Bool, true, false, nat_lt, List, [], ◌∷◌, length, map, slice_get, codes, None, Some};
+ghost use Rattle.std.specs.Prelude.{◌≡◌, ◌≢◌, ◌≤◌, ◌||◌, ◌+◌, ◌++◌, ◌⊎◌, ℕ, Bool, true, false, nat_lt, List, [], ◌∷◌, length, map, slice_get, codes};
+ghost use Rattle.std.specs.Prelude.{None, Some};
 ghost use Rattle.std.specs.List.{range_with_len};
 ghost use Rattle.std.specs.FinMap.{get, insert, empty};
 ghost use Rattle.lang_tree.specs.declared.command.Cmd.{Cmd};
@@ -72,18 +73,22 @@ pub fn the_figures_are_the_blocks()
 /// A file moves onto another one, whose number serves again.
 pub fn short_runs_are_answered_so()
     ensures one_node { (end : Session)
-        × Run (λ why. false) (start 16) (Create (codes "a" ∷ []) ∷ Link (codes "a" ∷ []) (codes "b" ∷ []) ∷ Rename (codes "a" ∷ []) (codes "b" ∷ []) ∷ []) (Done ∷ Done ∷ Done ∷ []) end
+        × Run (λ why. false) (start 16) (Create (codes "a" ∷ []) ∷ Link (codes "a" ∷ []) (codes "b" ∷ []) ∷ Rename (codes "a" ∷ [])
+        (codes "b" ∷ []) ∷ []) (Done ∷ Done ∷ Done ∷ []) end
         × (get end.tree.names (codes "a" ∷ []) ≡ Some 2) × (get end.tree.names (codes "b" ∷ []) ≡ Some 2) × (path_count end.tree.names 2 ≡ 2) }
     ensures reasons { (end : Session)
         × Run (λ why. false) (start 16)
-        (Create (codes "a" ∷ []) ∷ Rmdir [] ∷ Rename [] (codes "a" ∷ []) ∷ Write (codes "a" ∷ codes "b" ∷ []) 0 (120 ∷ []) ∷ Link (codes "b" ∷ []) (codes "a" ∷ []) ∷ [])
+        (Create (codes "a" ∷ []) ∷ Rmdir [] ∷ Rename [] (codes "a" ∷ []) ∷ Write (codes "a" ∷ codes "b" ∷ []) 0 (120 ∷ []) ∷ Link (codes "b" ∷ [])
+        (codes "a" ∷ []) ∷ [])
         (Done ∷ Refused NotEmpty ∷ Refused NotDir ∷ Refused NotDir ∷ Refused NotFound ∷ []) end }
     ensures directory { (end : Session)
-        × Run (λ why. false) (start 16) (Mkdir (codes "a" ∷ []) ∷ Create (codes "a" ∷ codes "c" ∷ []) ∷ Rename (codes "a" ∷ []) (codes "b" ∷ []) ∷ []) (Done ∷ Done ∷ Done ∷ []) end
+        × Run (λ why. false) (start 16) (Mkdir (codes "a" ∷ []) ∷ Create (codes "a" ∷ codes "c" ∷ []) ∷ Rename (codes "a" ∷ []) (codes "b" ∷ []) ∷ [])
+        (Done ∷ Done ∷ Done ∷ []) end
         × (get end.tree.names (codes "b" ∷ []) ≡ Some 2) × (get end.tree.names (codes "b" ∷ codes "c" ∷ []) ≡ Some 3)
         × (get end.tree.names (codes "a" ∷ []) ≡ None) × (get end.tree.names (codes "a" ∷ codes "c" ∷ []) ≡ None) }
     ensures onto { (end : Session)
-        × Run (λ why. false) (start 16) (Create (codes "a" ∷ []) ∷ Create (codes "b" ∷ []) ∷ Rename (codes "a" ∷ []) (codes "b" ∷ []) ∷ Mkdir (codes "c" ∷ []) ∷ [])
+        × Run (λ why. false) (start 16) (Create (codes "a" ∷ []) ∷ Create (codes "b" ∷ []) ∷ Rename (codes "a" ∷ []) (codes "b" ∷ []) ∷ Mkdir
+        (codes "c" ∷ []) ∷ [])
         (Done ∷ Done ∷ Done ∷ Done ∷ []) end
         × (get end.tree.names (codes "a" ∷ []) ≡ None) × (get end.tree.names (codes "b" ∷ []) ≡ Some 2) × (get end.tree.names (codes "c" ∷ []) ≡ Some 3) }
 {}
@@ -115,8 +120,10 @@ pub fn a_reply_tells_the_session()
 /// whole runs.
 #[tactic(auto, using(crate::proofs::runs::Outside::run_more))]
 pub fn a_tree_in_memory_refuses_for_no_disk()
-    ensures exact { (old new : Session) (cmd : Cmd) (reply : Reply) → Answers is_of_memory old cmd reply new → (step old cmd ≡ (new, reply)) ⊎ ((reply ≡ Refused NoMemory) × (new ≡ old)) }
-    ensures alone { (old new : Session) (cmd : Cmd) (why : Refusal) → Answers is_of_memory old cmd (Refused why) new → (is_of_disk why ≡ false) ⊎ (why ≡ NoMemory) }
+    ensures exact { (old new : Session) (cmd : Cmd) (reply : Reply) → Answers is_of_memory old cmd reply new → (step old cmd ≡ (new, reply))
+        ⊎ ((reply ≡ Refused NoMemory) × (new ≡ old)) }
+    ensures alone { (old new : Session) (cmd : Cmd) (why : Refusal) → Answers is_of_memory old cmd (Refused why) new → (is_of_disk why ≡ false)
+        ⊎ (why ≡ NoMemory) }
     ensures wider { (s end : Session) (cmds : List Cmd) (replies : List Reply) → Run is_of_memory s cmds replies end → Run is_of_disk s cmds replies end }
 {}
 
@@ -133,7 +140,8 @@ pub fn a_fault_ends_the_session()
 /// No reply promises a point past point 0, but to a command that asks for one on the disk.
 #[tactic(auto, using(crate::proofs::runs::Promises::promises_nothing))]
 pub fn no_other_command_is_promised_a_point()
-    ensures { (outside : Refusal → Bool) (old new : Session) (cmd : Cmd) (reply : Reply) → Answers outside old cmd reply new → asks_for_durability cmd ≡ false → promised_by reply ≡ 0 }
+    ensures { (outside : Refusal → Bool) (old new : Session) (cmd : Cmd) (reply : Reply) → Answers outside old cmd reply new
+        → asks_for_durability cmd ≡ false → promised_by reply ≡ 0 }
 {}
 
 /// The last point that a dsync answered is one that was made: at the beginning, and after each command.
@@ -146,7 +154,8 @@ pub fn no_dsync_answers_a_point_to_come()
 /// From moment to moment neither the top nor the floor of a run falls, whatever its replies promise.
 #[tactic(auto, using(crate::proofs::runs::Bounds::top_rises, crate::proofs::runs::Bounds::floor_rises))]
 pub fn bounds_never_fall()
-    ensures top { (k later mounted : ℕ) (s : Session) (cmds : List Cmd) (replies : List Reply) (marks : List ℕ) → k ≤ later → top k s mounted cmds replies marks ≤ top later s mounted cmds replies marks }
+    ensures top { (k later mounted : ℕ) (s : Session) (cmds : List Cmd) (replies : List Reply) (marks : List ℕ) → k ≤ later
+        → top k s mounted cmds replies marks ≤ top later s mounted cmds replies marks }
     ensures floor { (k later : ℕ) (replies : List Reply) (marks : List ℕ) → k ≤ later → floor k replies marks ≤ floor later replies marks }
 {}
 
@@ -157,18 +166,23 @@ pub fn bounds_never_fall()
 /// makes the point all the same, and the second one, which the end of the session refuses, makes none.
 pub fn two_syncs_make_one_point()
     ensures first { (t : Tree) (limit points : ℕ)
-        → points_after (record { tree = t; limit = limit; points = points; changed = true; durable = 0 }) 2 (Osync ∷ Osync ∷ []) (Synced 1 ∷ Synced 1 ∷ []) (5 ∷ 9 ∷ [])
+        → points_after (record { tree = t; limit = limit; points = points; changed = true; durable = 0 }) 2 (Osync ∷ Osync ∷ [])
+        (Synced 1 ∷ Synced 1 ∷ []) (5 ∷ 9 ∷ [])
         ≡ record { tree = t; begun = 2 } ∷ [] }
     ensures second { (t : Tree) (limit points : ℕ)
-        → points_after (record { tree = t; limit = limit; points = points; changed = true; durable = 0 }) 2 (Osync ∷ Osync ∷ []) (Refused NoMemory ∷ Synced 1 ∷ []) (3 ∷ 9 ∷ [])
+        → points_after (record { tree = t; limit = limit; points = points; changed = true; durable = 0 }) 2 (Osync ∷ Osync ∷ [])
+        (Refused NoMemory ∷ Synced 1 ∷ []) (3 ∷ 9 ∷ [])
         ≡ record { tree = t; begun = 3 } ∷ [] }
     ensures fault { (t : Tree) (limit points : ℕ)
-        → points_after (record { tree = t; limit = limit; points = points; changed = true; durable = 0 }) 2 (Osync ∷ Osync ∷ []) (Refused DiskFault ∷ Refused Stopped ∷ []) (4 ∷ 4 ∷ [])
+        → points_after (record { tree = t; limit = limit; points = points; changed = true; durable = 0 }) 2 (Osync ∷ Osync ∷ [])
+        (Refused DiskFault ∷ Refused Stopped ∷ []) (4 ∷ 4 ∷ [])
         ≡ record { tree = t; begun = 2 } ∷ [] }
     ensures before { (t : Tree) (limit points : ℕ)
-        → top 1 (record { tree = t; limit = limit; points = points; changed = true; durable = 0 }) 2 (Osync ∷ Osync ∷ []) (Synced 1 ∷ Synced 1 ∷ []) (5 ∷ 9 ∷ []) ≡ 0 }
+        → top 1 (record { tree = t; limit = limit; points = points; changed = true; durable = 0 }) 2 (Osync ∷ Osync ∷ []) (Synced 1 ∷ Synced 1 ∷ [])
+        (5 ∷ 9 ∷ []) ≡ 0 }
     ensures since { (t : Tree) (limit points : ℕ)
-        → top 2 (record { tree = t; limit = limit; points = points; changed = true; durable = 0 }) 2 (Osync ∷ Osync ∷ []) (Synced 1 ∷ Synced 1 ∷ []) (5 ∷ 9 ∷ []) ≡ 1 }
+        → top 2 (record { tree = t; limit = limit; points = points; changed = true; durable = 0 }) 2 (Osync ∷ Osync ∷ []) (Synced 1 ∷ Synced 1 ∷ [])
+        (5 ∷ 9 ∷ []) ≡ 1 }
 {}
 
 /// The run that docs/CRASHES.md goes through: `/a` comes to be, a sync, two bytes in it, another sync, and a

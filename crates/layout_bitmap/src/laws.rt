@@ -16,10 +16,12 @@ pub fn free_blocks_are_free()
 
 /// Once the bit of a free block is set, there is one free block less.
 pub fn a_set_block_is_free_no_more()
-    ensures { (g : Geometry) (old new : Blocks) (b : ℕ) → IsFree g old b → BitBecomes old new b true → length (free_blocks g new) + 1 ≡ length (free_blocks g old) }
+    ensures { (g : Geometry) (old new : Blocks) (b : ℕ) → IsFree g old b → BitBecomes old new b true
+        → length (free_blocks g new) + 1 ≡ length (free_blocks g old) }
 {}
 
 /// Once the bit of a data block that was set is cleared, there is one free block more.
 pub fn a_cleared_block_is_free_again()
-    ensures { (g : Geometry) (old new : Blocks) (b : ℕ) → bit_in old b ≡ true → IsFree g new b → BitBecomes old new b false → length (free_blocks g new) ≡ length (free_blocks g old) + 1 }
+    ensures { (g : Geometry) (old new : Blocks) (b : ℕ) → bit_in old b ≡ true → IsFree g new b → BitBecomes old new b false
+        → length (free_blocks g new) ≡ length (free_blocks g old) + 1 }
 {}

@@ -40,7 +40,8 @@ pub fn insert_at(dir: &mut [Block], at: u32, slot: &Slot)
     ensures behind { (entries : ℕ) → at < entries → is_clear_behind entries dir.new ≡ is_clear_behind entries dir.old }
 
     // The entries afterwards, where it was written over one of them, and where it was written behind them.
-    ensures set { (entries : ℕ) (slots : List SlotValue) → at < entries → entries_in entries dir.old ≡ Some slots → entries_in entries dir.new ≡ Some (set slots at slot.now) }
+    ensures set { (entries : ℕ) (slots : List SlotValue) → at < entries → entries_in entries dir.old ≡ Some slots
+        → entries_in entries dir.new ≡ Some (set slots at slot.now) }
     ensures added { (slots : List SlotValue) → entries_in at dir.old ≡ Some slots → entries_in (at + 1) dir.new ≡ Some (slots ++ slot.now ∷ []) }
 {
     let text = slot_text(slot);

@@ -22,7 +22,8 @@ pub fn directory_blocks_read_back()
 /// has no place, no entry has it.
 pub fn a_name_has_its_first_place()
     ensures there { (name : List ℕ) (slots : List Slot) (i : ℕ) (s : Slot) → place_of name slots ≡ Some i → slice_get slots i ≡ Some s → s.name ≡ name }
-    ensures first { (name : List ℕ) (slots : List Slot) (i k : ℕ) (s : Slot) → place_of name slots ≡ Some i → k < i → slice_get slots k ≡ Some s → s.name ≢ name }
+    ensures first { (name : List ℕ) (slots : List Slot) (i k : ℕ) (s : Slot) → place_of name slots ≡ Some i → k < i → slice_get slots k ≡ Some s
+        → s.name ≢ name }
     ensures missing { (name : List ℕ) (slots : List Slot) → place_of name slots ≡ None → All (λ s. s.name ≢ name) slots }
 {}
 
@@ -32,11 +33,14 @@ pub fn a_name_has_its_first_place()
 /// slot has 64 bytes.
 pub fn entries_follow_their_bytes()
     ensures count { (n : ℕ) (b : List ℕ) (slots : List Slot) → slots_in n b ≡ Some slots → length slots ≡ n }
-    ensures each { (n : ℕ) (b : List ℕ) (slots : List Slot) (i : ℕ) (s : Slot) → slots_in n b ≡ Some slots → slice_get slots i ≡ Some s → slot_of (take 64 (drop (64 * i) b)) ≡ Some s }
+    ensures each { (n : ℕ) (b : List ℕ) (slots : List Slot) (i : ℕ) (s : Slot) → slots_in n b ≡ Some slots → slice_get slots i ≡ Some s
+        → slot_of (take 64 (drop (64 * i) b)) ≡ Some s }
     ensures front { (n m : ℕ) (b : List ℕ) (slots : List Slot) → m ≤ n → slots_in n b ≡ Some slots → slots_in m b ≡ Some (take m slots) }
-    ensures over { (n : ℕ) (b new : List ℕ) (at : ℕ) (slots : List Slot) (s : Slot) → length new ≡ 64 → 64 * n ≤ length b → at < n → slot_of new ≡ Some s → slots_in n b ≡ Some slots
+    ensures over { (n : ℕ) (b new : List ℕ) (at : ℕ) (slots : List Slot) (s : Slot) → length new ≡ 64 → 64 * n ≤ length b → at < n
+        → slot_of new ≡ Some s → slots_in n b ≡ Some slots
         → slots_in n (overwrite (64 * at) new b) ≡ Some (set slots at s) }
-    ensures behind { (n : ℕ) (b new : List ℕ) (slots : List Slot) (s : Slot) → length b ≡ 64 * n → length new ≡ 64 → slot_of new ≡ Some s → slots_in n b ≡ Some slots → slots_in (n + 1) (b ++ new) ≡ Some (slots ++ s ∷ []) }
+    ensures behind { (n : ℕ) (b new : List ℕ) (slots : List Slot) (s : Slot) → length b ≡ 64 * n → length new ≡ 64 → slot_of new ≡ Some s
+        → slots_in n b ≡ Some slots → slots_in (n + 1) (b ++ new) ≡ Some (slots ++ s ∷ []) }
     ensures within { (n : ℕ) (b more : List ℕ) → 64 * n ≤ length b → slots_in n (b ++ more) ≡ slots_in n b }
     ensures spelling { (s : Slot) → IsLawful s → length (slot_spelling s) ≡ 64 }
 {}

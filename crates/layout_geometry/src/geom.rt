@@ -2,7 +2,8 @@
 //! Which bytes are in the areas is described by the crates of the layout.
 
 ghost use Rattle.std.specs.Prelude.{◌≡◌, ◌↔◌, ◌≤◌, ◌+◌, ◌-◌, ◌*◌, ◌/◌, ◌%◌, ◌&&◌, true, nat_le, IsOk, IfOk};
-ghost use Rattle.layout_geometry.specs.Geometry.{geometry_fits, IsGeometry, LiesIn, node_size, nodes_in_block, bitmap_blocks, bitmap_start, table_start, data_start};
+ghost use Rattle.layout_geometry.specs.Geometry.{geometry_fits, IsGeometry, LiesIn, node_size, nodes_in_block, bitmap_blocks, bitmap_start};
+ghost use Rattle.layout_geometry.specs.Geometry.{table_start, data_start};
 ghost use Rattle.layout_geometry.specs.Geometry.Area.{Table};
 
 use base_types::limits::{

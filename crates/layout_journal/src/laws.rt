@@ -9,7 +9,8 @@ ghost use Rattle.layout_journal.specs.declared.record.Descriptor.{Descriptor};
 ghost use Rattle.layout_journal.specs.declared.entry.Entry.{Entry};
 ghost use Rattle.layout_journal.specs.declared.entry.EntryKind.{EntryKind};
 ghost use Rattle.layout_journal.specs.Layout.{header_of, IsWithinDisk, commit_of, IsWithinRing, descriptor_of, descriptor_count, is_stored, unescaped};
-ghost use Rattle.layout_journal.specs.Spelling.{IsHeader, IsCommit, IsDescriptor, AreEntries, fits_in, header_block, commit_block, descriptor_block, stored_of, stored_kind};
+ghost use Rattle.layout_journal.specs.Spelling.{IsHeader, IsCommit, IsDescriptor, AreEntries, fits_in, header_block, commit_block, descriptor_block};
+ghost use Rattle.layout_journal.specs.Spelling.{stored_of, stored_kind};
 ghost use Rattle.layout_journal.specs.Run.{Newest, Record, entries, entries_fit, names_block, IsWhole, IsRun, live_part, HeldIs};
 ghost use Rattle.layout_journal.specs.Formatted.{formatted};
 ghost use Rattle.layout_journal.specs.Ring.{RingPlaces, with_places, without_places, place_ahead, IsTaken};
@@ -55,17 +56,22 @@ pub fn an_image_holds_one_map()
 #[tactic(auto, using(crate::proofs::SameEntries::told_entries))]
 pub fn descriptors_tell_the_entries()
     ensures { (r q : Record) → length r.payloads ≡ length q.payloads → length r.fresh ≡ length q.fresh
-        → ((i : ℕ) → i < descriptor_count (length (entries r)) → take 24 (drop (24 * i) (entries r)) ≡ take 24 (drop (24 * i) (entries q))) → (r.payloads ≡ q.payloads) × (r.fresh ≡ q.fresh) }
+        → ((i : ℕ) → i < descriptor_count (length (entries r)) → take 24 (drop (24 * i) (entries r)) ≡ take 24 (drop (24 * i) (entries q)))
+        → (r.payloads ≡ q.payloads) × (r.fresh ≡ q.fresh) }
 {}
 
 /// The entries of a record that fit name blocks of the disk: payloads those behind the journal, fresh
 /// entries data blocks, which ascend and are none of the payloads'.
 #[tactic(auto, using(crate::proofs::FitEntries::payload_in_disk, crate::proofs::FitEntries::fresh_data, crate::proofs::FitEntries::fresh_below, crate::proofs::FitEntries::fresh_ordered, crate::proofs::FitEntries::fresh_apart))]
 pub fn entries_that_fit_keep_to_the_disk()
-    ensures payloads { (g : Geometry) (r : Record) (i : ℕ) (e : Entry) → IsTrue (entries_fit g r) → slice_get r.payloads i ≡ Some e → (bitmap_start g ≤ e.block) × (e.block < g.n) }
-    ensures fresh { (g : Geometry) (r : Record) (i : ℕ) (e : Entry) → IsTrue (entries_fit g r) → slice_get r.fresh i ≡ Some e → (data_start g ≤ e.block) × (e.block < g.n) }
-    ensures ascending { (g : Geometry) (r : Record) (i k : ℕ) (e f : Entry) → IsTrue (entries_fit g r) → i < k → slice_get r.fresh i ≡ Some e → slice_get r.fresh k ≡ Some f → e.block < f.block }
-    ensures apart { (g : Geometry) (r : Record) (i : ℕ) (e : Entry) → IsTrue (entries_fit g r) → slice_get r.fresh i ≡ Some e → names_block r.payloads e.block ≡ false }
+    ensures payloads { (g : Geometry) (r : Record) (i : ℕ) (e : Entry) → IsTrue (entries_fit g r) → slice_get r.payloads i ≡ Some e
+        → (bitmap_start g ≤ e.block) × (e.block < g.n) }
+    ensures fresh { (g : Geometry) (r : Record) (i : ℕ) (e : Entry) → IsTrue (entries_fit g r) → slice_get r.fresh i ≡ Some e
+        → (data_start g ≤ e.block) × (e.block < g.n) }
+    ensures ascending { (g : Geometry) (r : Record) (i k : ℕ) (e f : Entry) → IsTrue (entries_fit g r) → i < k → slice_get r.fresh i ≡ Some e
+        → slice_get r.fresh k ≡ Some f → e.block < f.block }
+    ensures apart { (g : Geometry) (r : Record) (i : ℕ) (e : Entry) → IsTrue (entries_fit g r) → slice_get r.fresh i ≡ Some e
+        → names_block r.payloads e.block ≡ false }
 {}
 
 /// Headers, commit blocks and descriptors that are written as they are spelled read as themselves, where
@@ -73,8 +79,10 @@ pub fn entries_that_fit_keep_to_the_disk()
 pub fn journal_blocks_read_back()
     ensures headers { (h : Header) → IsHeader h → header_of h.geom.n (header_block h) ≡ Some h }
     ensures commits { (g : Geometry) (c : Commit) → fits_in 8 c.epoch → fits_in 8 c.number → fits_in 4 c.descriptors → fits_in 4 c.payloads → fits_in 4 c.fresh
-        → 0 < c.payloads → c.descriptors ≡ descriptor_count (c.payloads + c.fresh) → 1 + c.descriptors + c.payloads ≤ g.j → commit_of g (commit_block c) ≡ Some c }
-    ensures descriptors { (g : Geometry) (d : Descriptor) → g.n ≤ 1048576 → fits_in 8 d.epoch → fits_in 8 d.number → fits_in 4 d.index → 0 < length d.entries → length d.entries ≤ 24
+        → 0 < c.payloads → c.descriptors ≡ descriptor_count (c.payloads + c.fresh) → 1 + c.descriptors + c.payloads ≤ g.j
+        → commit_of g (commit_block c) ≡ Some c }
+    ensures descriptors { (g : Geometry) (d : Descriptor) → g.n ≤ 1048576 → fits_in 8 d.epoch → fits_in 8 d.number → fits_in 4 d.index
+        → 0 < length d.entries → length d.entries ≤ 24
         → AreEntries g d.entries → descriptor_of g (descriptor_block d) ≡ Some d }
 {}
 
@@ -89,13 +97,18 @@ pub fn payloads_read_back()
 /// written. Values that can be written and are spelled alike are one. What is stored as a payload is the
 /// escape of what it stands for.
 pub fn journal_blocks_have_one_spelling()
-    ensures headers { (n : ℕ) (b : List ℕ) (h : Header) → length b ≡ 1024 → ((i : ℕ) → slice_index b i < 256) → (header_of n b ≡ Some h) ↔ (IsHeader h × (h.geom.n ≡ n) × (b ≡ header_block h)) }
-    ensures commits { (g : Geometry) (b : List ℕ) (c : Commit) → length b ≡ 1024 → ((i : ℕ) → slice_index b i < 256) → (commit_of g b ≡ Some c) ↔ (IsCommit g c × (b ≡ commit_block c)) }
-    ensures descriptors { (g : Geometry) (b : List ℕ) (d : Descriptor) → g.n ≤ 1048576 → length b ≡ 1024 → ((i : ℕ) → slice_index b i < 256) → (descriptor_of g b ≡ Some d) ↔ (IsDescriptor g d × (b ≡ descriptor_block d)) }
+    ensures headers { (n : ℕ) (b : List ℕ) (h : Header) → length b ≡ 1024 → ((i : ℕ) → slice_index b i < 256)
+        → (header_of n b ≡ Some h) ↔ (IsHeader h × (h.geom.n ≡ n) × (b ≡ header_block h)) }
+    ensures commits { (g : Geometry) (b : List ℕ) (c : Commit) → length b ≡ 1024 → ((i : ℕ) → slice_index b i < 256)
+        → (commit_of g b ≡ Some c) ↔ (IsCommit g c × (b ≡ commit_block c)) }
+    ensures descriptors { (g : Geometry) (b : List ℕ) (d : Descriptor) → g.n ≤ 1048576 → length b ≡ 1024 → ((i : ℕ) → slice_index b i < 256)
+        → (descriptor_of g b ≡ Some d) ↔ (IsDescriptor g d × (b ≡ descriptor_block d)) }
     ensures one_header { (h k : Header) → IsHeader h → IsHeader k → header_block h ≡ header_block k → h ≡ k }
     ensures one_commit { (g k : Geometry) (c d : Commit) → IsCommit g c → IsCommit k d → commit_block c ≡ commit_block d → c ≡ d }
-    ensures one_descriptor { (g : Geometry) (d f : Descriptor) → g.n ≤ 1048576 → IsDescriptor g d → IsDescriptor g f → descriptor_block d ≡ descriptor_block f → d ≡ f }
-    ensures payloads { (k : EntryKind) (stored : List ℕ) → is_stored k stored ≡ true → (stored ≡ stored_of (unescaped k stored)) × (k ≡ stored_kind (unescaped k stored)) }
+    ensures one_descriptor { (g : Geometry) (d f : Descriptor) → g.n ≤ 1048576 → IsDescriptor g d → IsDescriptor g f
+        → descriptor_block d ≡ descriptor_block f → d ≡ f }
+    ensures payloads { (k : EntryKind) (stored : List ℕ) → is_stored k stored ≡ true → (stored ≡ stored_of (unescaped k stored))
+        × (k ≡ stored_kind (unescaped k stored)) }
 {}
 
 /// The places behind the next one, as many as are free, are none of the taken ones. Once they are taken they

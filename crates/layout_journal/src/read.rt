@@ -7,7 +7,8 @@ ghost use Rattle.std.specs.Result.{result_ok};
 ghost use Rattle.layout_geometry.specs.Geometry.{geometry_fits};
 ghost use Rattle.layout_bytes.specs.Bytes.{field};
 ghost use Rattle.layout_journal.specs.Flaws.{header_flaw, commit_flaw, descriptor_flaw};
-ghost use Rattle.layout_journal.specs.Layout.{has_tag, header_fields, header_fits, header_of, descriptor_count, commit_fields, commit_fits, commit_of, kind_of, first_named, entry_of, entries_in, descriptor_fits, descriptor_with, descriptor_of};
+ghost use Rattle.layout_journal.specs.Layout.{has_tag, header_fields, header_fits, header_of, descriptor_count, commit_fields, commit_fits};
+ghost use Rattle.layout_journal.specs.Layout.{commit_of, kind_of, first_named, entry_of, entries_in, descriptor_fits, descriptor_with, descriptor_of};
 
 use crate::entry::ENTRY_LENGTH;
 use crate::flaw::{commit_flaw, descriptor_flaw, header_flaw};
@@ -164,7 +165,8 @@ fn header_fits(block: &Block, blocks: u32, header: &Header) -> bool
 /// Whether the epoch, the turn and the oldest record are counted from 1, and that record is at most one
 /// past the records that are sure.
 pub(crate) fn numbers_fit(header: &Header) -> bool
-    ensures { result ≡ (nat_lt 0 header.now.epoch && (nat_lt 0 header.now.turn && (nat_lt 0 header.now.start && nat_le header.now.start (header.now.sure + 1)))) }
+    ensures { result ≡ (nat_lt 0 header.now.epoch &&
+        (nat_lt 0 header.now.turn && (nat_lt 0 header.now.start && nat_le header.now.start (header.now.sure + 1)))) }
 {
     if header.epoch == 0 {
         return false;

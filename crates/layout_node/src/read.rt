@@ -188,7 +188,8 @@ fn runs_fit(runs: &[Run], geom: &Geom) -> bool
 
 /// Whether a run has blocks, all of them data blocks, and doesn't begin at block `end`.
 fn run_fits(run: &Run, end: u64, geom: &Geom) -> bool
-    ensures { result ≡ (nat_lt 0 run.now.count && (nat_le (data_start geom.now) run.now.first && (nat_le (run.now.first + run.now.count) geom.now.n && not (run.now.first == end)))) }
+    ensures { result ≡ (nat_lt 0 run.now.count &&
+        (nat_le (data_start geom.now) run.now.first && (nat_le (run.now.first + run.now.count) geom.now.n && not (run.now.first == end)))) }
 {
     if run.count == 0 {
         return false;
