@@ -1,5 +1,5 @@
 -- How a run begins: over a store that was just mounted, whose file system was opened.
-use Rattle.std.proofs.Common.{◌≡◌, ℕ, ◌+◌, ◌-◌, Bool, false, true≢false, IsTrue, List, [], ◌∷◌, length, take, take_all, Option, refl, sym, ap, ap₂, ◌∙◌, subst, arith}
+use Rattle.std.proofs.Common.{◌≡◌, ℕ, ◌+◌, ◌-◌, Bool, false, true≢false, IsTrue, List, [], ◌∷◌, length, take, take_all, Option, None, refl, sym, ap, ap₂, ◌∙◌, subst, arith}
 use mathlib.Core.Path.{fun_ext}
 use Rattle.base_types.specs.Seal.{Blocks}
 use Rattle.disk_contract.specs.declared.bay.Mark.{Mark}
@@ -8,14 +8,16 @@ use Rattle.disk_contract.specs.declared.event.Event.{Event}
 use Rattle.disk_contract.specs.Crash.{Window}
 use Rattle.disk_contract.specs.Disk as disk
 use Rattle.disk_contract.specs.Disk.{writes_in}
-use Rattle.layout_geometry.specs.Geometry.{Geometry, data_start}
+use Rattle.disk_contract.specs.Manner.{Manner}
+use Rattle.layout_geometry.specs.Geometry.{Geometry, IsGeometry, data_start}
 use Rattle.crash_argument.specs.Ledger.{HoldsUnder}
+use Rattle.crash_argument.specs.Points.{MountedSession}
 use Rattle.lang_tree.specs.Figures.{blocks}
 use Rattle.lang_tree.specs.Step.{Session, session_on}
 use Rattle.lang_tree.specs.Tree.{Tree}
 use Rattle.crash_stands.specs.Stands.{IsTreeOf}
 use Rattle.engine_blocks.specs.Calls.{IsSound}
-use Rattle.engine_blocks.specs.Crashes.{IsBegun}
+use Rattle.engine_blocks.specs.Crashes.{HasLiveBlocks, HasMapOfPoint, IsBegun}
 use Rattle.engine_blocks.specs.State.{Bookkeeping, State, Ticking, reusable_blocks}
 use Rattle.engine_store.specs.StoreOf.{state_of}
 use Rattle.engine_store.specs.declared.store.Store.{Store}
@@ -27,10 +29,13 @@ use Rattle.fs_commands.specs.Serving.{room_on}
 use Rattle.fs_commands.specs.Sessions.{IsSession}
 use Rattle.fs_commands.specs.Space.{left_of}
 use Rattle.cmd_session.specs.Budget.{KeepsBudget, SpendsByMarks}
+use Rattle.cmd_session.specs.Going.{BeginsByLog, GoesByLog, pace_of, session_at}
+use Rattle.cmd_session.specs.Pacing.{Pace}
 use Rattle.cmd_session.specs.Serving.{HasServed, IsDrawn, IsMountedWith}
+use Rattle.cmd_session.specs.Taking.{nothing_taken}
 use Rattle.cmd_image.specs.Runs.{IsRoomAtMount}
 use Rattle.cmd_image.specs.Serves.{pace_at_mount}
-use Rattle.cmd_image.specs.Steps.{IsJustMounted, IsOfMount, KnownSoFar, SoFar, mark_in, pace_on}
+use Rattle.cmd_image.specs.Steps.{IsJustMounted, KnownSoFar, SoFar, mark_in}
 use Rattle.cmd_image.proofs.Rooms.{mount_stays}
 
 -- the view of crashes of a store is drawn from its disk
@@ -58,7 +63,7 @@ module _ (tells : Bool) (told : IsTrue tells) (first : disk.State) (s : State) (
   module _ (u : State) (t : Tree) (mark : Mark) (begun : IsBegun s) (looks : LooksOnly tells false s u) (tree : IsTreeOf s.books.geom s.map t)
       (served : HasServed s.books.geom t (length s.crash.log) [] [] [] u) (budget : KeepsBudget s.books.geom t (writes_in s.crash.log + s.books.owed) [] [] u)
       (room : (f : Session) → IsSession u f → IsRoomOf u.books.geom f (room_of u)) (left : (f : Session) → IsSession u f → left_of u.books ≡ u.books.area - blocks f.tree - u.books.running.held) (takeable : left_of u.books ≡ length (reusable_blocks u.books) + u.books.waiting)
-      (sound : IsSound u.books) (is_mark : mark ≡ mark_in s) (spends : SpendsByMarks s.books.geom (session_on s.books.geom.i t) (length u.crash.log) u.crash.log [] [] []) where
+      (sound : IsSound u.books) (limits : IsGeometry s.books.geom) (goes : (m : MountedSession) (base : Blocks) (how : Manner) (tree : Tree) → BeginsByLog false m base how u → GoesByLog false m base how (pace_of (nothing_taken (session_at m tree)) u) tree [] [] [] u) (is_mark : mark ≡ mark_in s) (spends : SpendsByMarks s.books.geom (session_on s.books.geom.i t) (length u.crash.log) u.crash.log [] [] []) where
     abbrev g : Geometry
     g = s.books.geom
 
@@ -87,18 +92,46 @@ module _ (tells : Bool) (told : IsTrue tells) (first : disk.State) (s : State) (
     same_log : u.crash.log ≡ s.crash.log
     same_log = (looks.crash told).log
 
-    -- no block waits
-    pace_first : pace_on u f ≡ pace_at_mount first (length s.crash.log) f (room_of u)
-    pace_first =
-        ap₂ (λ (polls events : ℕ). record { polls = polls; events = events; over = u.books.stopped; session = f; room = room_on u }) (ap (λ (k : Ticking). k.polls) looks.counts.ticks ∙ h.on.polls) (ap (λ (es : List Event). length es) same_log)
-        ∙ ap₂ (λ (over : Bool) (since : ℕ → Option ℕ). record { polls = first.polls; events = length s.crash.log; over = over; session = f; room = record { room = room_of u; since = since } }) (ap (λ (k : Bookkeeping). k.stopped) looks.books ∙ h.on.going) (fun_ext (λ b. ap (λ (k : Bookkeeping). k.since b) looks.books ∙ (h.begins told).since b))
+    abbrev mount : MountedSession
+    mount = (h.numbers told).session
 
-    -- the blocks are of the mount
-    of_mount : IsOfMount (h.numbers told).session u
-    of_mount =
+    same_geom : u.books.geom ≡ g
+    same_geom = ap (λ (k : Bookkeeping). k.geom) looks.books
+
+    -- no point was made
+    point : u.books.point ≡ 0
+    point = ap (λ (k : Bookkeeping). k.point) looks.books ∙ begun.point
+
+    low : u.books.floor ≡ 0
+    low = omega (arith, sound.floor, point)
+
+    -- nothing is taken, and no block waits
+    pace_first : pace_of (nothing_taken (session_at mount t)) u ≡ pace_at_mount first (length s.crash.log) f (room_of u)
+    pace_first =
+        ap₂ (λ (polls events : ℕ). record { polls = polls; events = events; over = u.books.stopped; durable = u.books.floor; taken = nothing_taken (session_at mount t); room = room_on u }) (ap (λ (k : Ticking). k.polls) looks.counts.ticks ∙ h.on.polls) (ap (λ (es : List Event). length es) same_log)
+        ∙ ap₂ (λ (over : Bool) (since : ℕ → Option ℕ). record { polls = first.polls; events = length s.crash.log; over = over; durable = u.books.floor; taken = nothing_taken (session_at mount t); room = record { room = room_of u; since = since } }) (ap (λ (k : Bookkeeping). k.stopped) looks.books ∙ h.on.going) (fun_ext (λ b. ap (λ (k : Bookkeeping). k.since b) looks.books ∙ (h.begins told).since b))
+        ∙ ap₂ (λ (durable : ℕ) (k : Geometry). record { polls = first.polls; events = length s.crash.log; over = false; durable = durable; taken = nothing_taken (session_on k.i t); room = record { room = room_of u; since = λ b. None } }) low (h.numbers told).geom
+
+    -- the map is that of point 0
+    only : HasMapOfPoint u 0
+    only = λ m is. subst (λ (k : Geometry). HasLiveBlocks k u.map m) (sym same_geom)
+        (subst (λ (x : Blocks). HasLiveBlocks g x m) (sym (looks.map told)) ((h.begins told).only m (((looks.crash told).point 0 m).0 is)))
+
+    -- so the run goes by the log of its disk
+    begins_log : BeginsByLog false mount first.base first.manner u
+    begins_log =
         let numbers = h.numbers told in
-        let crash = looks.crash told in
-        mount_stays numbers.session s u (ap (λ (k : Bookkeeping). k.geom) looks.books) crash.base (omega (arith, ap (λ (es : List Event). length es) same_log)) crash.sure crash.records (record { geom = numbers.geom; late = omega (arith, numbers.mounted); sure = numbers.sure; records = numbers.records })
+        record {
+          limits = subst (λ (k : Geometry). IsGeometry k) (sym numbers.geom) limits;
+          of_mount = mount_stays mount first.base s u numbers.geom same_geom (omega (arith, numbers.mounted, ap (λ (es : List Event). length es) same_log)) (h.on.base told) (looks.crash told) numbers.sure numbers.records;
+          manner = ap (λ (k : Ticking). k.manner) looks.counts.ticks ∙ h.on.manner;
+          ended = numbers.mounted ∙ ap (λ (es : List Event). length es) (sym same_log);
+          owed = ap (λ (k : Bookkeeping). k.owed) looks.books ∙ (h.begins told).owed;
+          point = point;
+          only = only;
+          alone = λ known. absurd (true≢false (sym known));
+          unlost = λ known. absurd (true≢false (sym known));
+        }
 
     pub known_first : KnownSoFar first [] [] (mark ∷ []) u
     known_first =
@@ -115,13 +148,9 @@ module _ (tells : Bool) (told : IsTrue tells) (first : disk.State) (s : State) (
           served = served;
           first_room = room_of u;
           begins = begins_room;
-          after = f;
-          session = session;
-          rooms = (refl, refl);
-          mount = numbers.session;
+          mount = mount;
           is_mount = record { found = numbers.found; is_found = numbers.is_found; geom = numbers.geom; epoch = numbers.epoch; mounted = numbers.mounted; first = numbers.first };
-          of_mount = of_mount;
-          serves = pace_first;
+          goes = subst (λ (p : Pace). GoesByLog false mount first.base first.manner p t [] [] [] u) pace_first (goes mount first.base first.manner t begins_log);
           budget = subst (λ (n : ℕ). KeepsBudget g t n [] [] u)
               (omega (arith, (h.begins told).owed, ap (λ (es : List Event). writes_in es) (sym (ap (λ (es : List Event). take (length s.crash.log) es) same_log ∙ take_all (length s.crash.log) s.crash.log (omega arith))))) budget;
           spends = subst (λ (es : List Event). SpendsByMarks g f (length es) u.crash.log [] [] []) same_log spends;

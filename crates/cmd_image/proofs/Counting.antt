@@ -1,5 +1,5 @@
 -- What one command does to the counts of the blocks and to their geometry, by how it was answered.
-use Rattle.std.proofs.Common.{◌≡◌, ◌≢◌, ◌⊎◌, inl, inr, ⊎_elim, ℕ, ◌||◌, ◌<◌, Bool, true, false, IsTrue, Result, Ok, Err, IfErr, nat_lt, refl, sym, ap, ◌∙◌, subst, arith}
+use Rattle.std.proofs.Common.{◌≡◌, ◌≢◌, ◌⊎◌, inl, inr, ℕ, ◌<◌, Bool, true, false, IsTrue, Result, Ok, Err, IfErr, nat_lt, refl, sym, ap, ◌∙◌, subst, arith}
 use Rattle.std.proofs.lemmas.Bool.{cases_Bool, false≢true}
 use Rattle.base_types.specs.Counts.{after_call}
 use Rattle.base_types.specs.Seal.{Blocks}
@@ -10,11 +10,9 @@ use Rattle.lang_tree.specs.declared.command.Refusal.{Refusal}
 use Rattle.lang_tree.specs.declared.command.Refusal.TheVariants as because
 use Rattle.lang_tree.specs.declared.command.Reply.{Reply}
 use Rattle.lang_tree.specs.declared.command.Reply.TheVariants as replies
-use Rattle.lang_tree.specs.Points.{is_refusal}
 use Rattle.lang_tree.specs.Run.{Answers, is_of_disk, is_of_memory}
 use Rattle.lang_tree.specs.Step.{Session, step}
 use Rattle.crash_stands.specs.Stands.{IsTreeOf}
-use Rattle.engine_blocks.specs.Effects.{Ticked}
 use Rattle.engine_blocks.specs.Running.{Running}
 use Rattle.engine_blocks.specs.State.{State}
 use Rattle.cmd_session.specs.Ending.{is_none}
@@ -202,51 +200,6 @@ module _ {S : Type 0} (tells : Bool) (state : S → State) where
         by_stopped meant (inr run) = by_spent meant run (cases_Bool (is_spent (state old).books))
 
         by : (cmd ≡ Bad) ⊎ (cmd ≢ Bad) → Moved (state old) (state new)
-        by (inl none) = rests (applies.bad none).1
-        by (inr meant) = by_stopped meant (cases_Bool (state old).books.stopped)
-
-    -- a command that isn't refused as spent isn't one for which the numbers are used up
-    pub left_over : cmd ≢ Bad → (state old).books.stopped ≡ false → reply ≢ replies.Refused because.Spent → is_spent (state old).books ≡ false
-    left_over meant run unspent = ⊎_elim (λ used. absurd (unspent (applies.spent meant run used).0)) (λ left. left) (cases_Bool (is_spent (state old).books))
-
-    -- a command that is done was answered while no call had failed
-    pub done_goes : cmd ≢ Bad → is_refusal reply ≡ false → (state old).books.stopped ≡ false
-    done_goes meant done = ⊎_elim (λ over. absurd (false≢true (sym done ∙ ap is_refusal (applies.stopped meant over).0))) (λ going. going) (cases_Bool (state old).books.stopped)
-
-    -- behind a failed call the blocks stay as they are
-    stopped_stays : (state old).books.stopped ≡ true → new ≡ old
-    stopped_stays over = ⊎_elim (λ none. (applies.bad none).1) (λ meant. (applies.stopped meant over).1) (none_or_one cmd)
-
-    -- and so they do with a line that is none, and with a command that is refused as spent
-    pub stays : (reply ≡ replies.Refused because.Spent → is_spent (state old).books ≡ true) → (cmd ≡ Bad) ⊎ (((state old).books.stopped ≡ true) ⊎ (reply ≡ replies.Refused because.Spent)) → new ≡ old
-    stays used (inl none) = (applies.bad none).1
-    stays used (inr (inl over)) = stopped_stays over
-    stays used (inr (inr spent)) = ⊎_elim (λ none. (applies.bad none).1) (λ meant. ⊎_elim stopped_stays (λ going. (applies.spent meant going (used spent)).1) (cases_Bool (state old).books.stopped)) (none_or_one cmd)
-
-    -- a call has failed where one had, or where the reply says so
-    pub over_now : (unread : Bool) → Counted unread (is_failed reply) (state old) (state new) → (state new).books.stopped ≡ ((state old).books.stopped || is_failed reply)
-    over_now unread counted = by (cases_Bool (state old).books.stopped)
-      where
-        by : ((state old).books.stopped ≡ true) ⊎ ((state old).books.stopped ≡ false) → (state new).books.stopped ≡ ((state old).books.stopped || is_failed reply)
-        by (inl over) = ap (λ (s : S). (state s).books.stopped) (stopped_stays over) ∙ over ∙ ap (λ (v : Bool). v || is_failed reply) (sym over)
-        by (inr going) = counted.stops going ∙ ap (λ (v : Bool). v || is_failed reply) (sym going)
-
-    -- the disk is the same one, of the same manner
-    pub manner_stays : (cmd ≢ Bad → (state old).books.stopped ≡ false → is_spent (state old).books ≡ false → Ticked tells (state old) (state new)) → (state new).counts.ticks.manner ≡ (state old).counts.ticks.manner
-    manner_stays ticks = by (none_or_one cmd)
-      where
-        rests : new ≡ old → (state new).counts.ticks.manner ≡ (state old).counts.ticks.manner
-        rests same = ap (λ (s : S). (state s).counts.ticks.manner) same
-
-        by_spent : cmd ≢ Bad → (state old).books.stopped ≡ false → (is_spent (state old).books ≡ true) ⊎ (is_spent (state old).books ≡ false) → (state new).counts.ticks.manner ≡ (state old).counts.ticks.manner
-        by_spent meant run (inl used) = rests (applies.spent meant run used).1
-        by_spent meant run (inr left) = (ticks meant run left).manner
-
-        by_stopped : cmd ≢ Bad → ((state old).books.stopped ≡ true) ⊎ ((state old).books.stopped ≡ false) → (state new).counts.ticks.manner ≡ (state old).counts.ticks.manner
-        by_stopped meant (inl over) = rests (applies.stopped meant over).1
-        by_stopped meant (inr run) = by_spent meant run (cases_Bool (is_spent (state old).books))
-
-        by : (cmd ≡ Bad) ⊎ (cmd ≢ Bad) → (state new).counts.ticks.manner ≡ (state old).counts.ticks.manner
         by (inl none) = rests (applies.bad none).1
         by (inr meant) = by_stopped meant (cases_Bool (state old).books.stopped)
 

@@ -11,7 +11,10 @@ use Rattle.lang_tree.specs.declared.command.Cmd.{Cmd}
 use Rattle.lang_tree.specs.declared.command.Reply.{Reply}
 use Rattle.lang_tree.specs.Step.{session_on}
 use Rattle.lang_tree.specs.Tree.{Tree}
+use Rattle.fs_commands.specs.DiskRoom.{RunsOn}
+use Rattle.fs_commands.specs.Memory.{room_of}
 use Rattle.cmd_session.specs.Budget.{KeepsBudget, budget_of}
+use Rattle.cmd_session.specs.Going.{pace_of}
 use Rattle.engine_store.specs.StoreOf.{disk_in, state_of}
 use Rattle.engine_store.specs.declared.store.Store.{Store}
 use Rattle.cmd_image.specs.declared.show_refusal.ShowRefusal.{ShowRefusal}
@@ -25,7 +28,9 @@ use Rattle.cmd_image.specs.declared.running.Stop.{Stop}
 use Rattle.cmd_image.specs.declared.running.Stop.TheVariants as stop
 use Rattle.cmd_image.specs.Refusals.{of_show, opens_nothing, run_fails_pushing}
 use Rattle.cmd_image.specs.Runs.{ComesOfDisk, CountsFaults, IsRun, RunsDisk, Streams}
-use Rattle.cmd_image.specs.Steps.{KnownSoFar, RunsTo, answer_for, pace_on}
+use Rattle.cmd_image.specs.Serves.{pace_at_mount}
+use Rattle.cmd_image.specs.Steps.{KnownSoFar, RunsTo, answer_for}
+use Rattle.cmd_image.proofs.Rooms.{rooms_by}
 
 -- A disk over which commands were run.
 
@@ -45,11 +50,12 @@ module _ {D : Type 0} {k : Ghosts D} (known : D → disk.State) (tells : Bool) (
     run = record { run = h.served.run; stops = h.served.stops; answered = h.served.answered; marked = h.served.marked; ascend = h.served.ascend; crashes = h.served.crashes; issued = h.served.issued };
     first_room = h.first_room;
     begins = h.begins;
-    end = pace_on (state_of known store) h.after;
-    rooms = h.rooms;
+    end = pace_of h.goes.taken (state_of known store);
+    rooms = subst (λ (g : Geometry). RunsOn g (session_on h.geom.i h.tree) h.first_room cmds replies h.goes.taken.session (room_of (state_of known store))) h.is_mount.geom
+        (rooms_by h.mount first.base first.manner false (state_of known store).crash.log cmds replies h.moments (pace_at_mount first h.mounted (session_on h.geom.i h.tree) h.first_room) (pace_of h.goes.taken (state_of known store)) h.goes.paces);
     mount = h.mount;
     is_mount = h.is_mount;
-    serves = h.serves;
+    serves = h.goes.paces;
     writes = subst (λ (n : ℕ). AreAtMost h.mounted (state_of known store).crash.log n) (omega arith) (budget h.geom h.tree (writes_in (take h.mounted (state_of known store).crash.log)) 0 h.mounted cmds replies h.budget (omega arith));
     spends = h.spends;
     marked = h.marked;

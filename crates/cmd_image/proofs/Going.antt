@@ -1,5 +1,5 @@
 -- A run of one command more.
-use Rattle.std.proofs.Common.{◌≡◌, ◌⊎◌, inl, inr, ℕ, ◌+◌, ◌-◌, ◌*◌, ◌^◌, ◌<◌, ◌≤◌, Bool, true, IsTrue, List, [], ◌∷◌, ◌++◌, length, length-append, take, take_all, slice_get, Some, refl, sym, ap, ap₂, ◌∙◌, subst, arith}
+use Rattle.std.proofs.Common.{◌≡◌, ◌⊎◌, inl, inr, ℕ, ◌+◌, ◌-◌, ◌*◌, ◌^◌, ◌<◌, ◌≤◌, Bool, false, true, IsTrue, List, [], ◌∷◌, ◌++◌, length, length-append, take, take_all, slice_get, Some, refl, sym, ap, ap₂, ◌∙◌, subst, arith}
 use Rattle.std.proofs.lemmas.List.{take-append-le}
 use Rattle.std.proofs.lemmas.Bool.{leb-true}
 use Rattle.base_types.specs.Seal.{Blocks}
@@ -8,7 +8,7 @@ use Rattle.disk_contract.specs.declared.event.Event.{Event}
 use Rattle.disk_contract.specs.Disk as disk
 use Rattle.disk_contract.specs.Disk.{writes_in}
 use Rattle.disk_contract.specs.Manner.{Manner, HasFailedBy}
-use Rattle.layout_geometry.specs.Geometry.{Geometry}
+use Rattle.layout_geometry.specs.Geometry.{Geometry, bitmap_blocks}
 use Rattle.crash_argument.specs.Points.{MountedSession}
 use Rattle.lang_tree.specs.declared.command.Cmd.{Cmd}
 use Rattle.lang_tree.specs.declared.command.Refusal.TheVariants as because
@@ -19,29 +19,18 @@ use Rattle.lang_tree.specs.Tree.{Tree}
 use Rattle.engine_blocks.specs.Crashes.{Advances}
 use Rattle.engine_blocks.specs.State.{Bookkeeping, State}
 use Rattle.fs_commands.specs.Applying.{is_spent}
-use Rattle.fs_commands.specs.DiskRoom.{AnswersOn, RunsOn}
-use Rattle.fs_commands.specs.Memory.{room_of}
-use Rattle.fs_commands.specs.Moments.{answer_in_room}
-use Rattle.fs_commands.specs.Room.{Room}
-use Rattle.fs_commands.specs.Serving.{room_on}
 use Rattle.fs_commands.specs.Sessions.{IsSession}
-use Rattle.cmd_session.specs.Budget.{KeepsBudget, SpendsByMarks}
+use Rattle.cmd_session.specs.Budget.{KeepsBudget, SpendsByMarks, weight_after}
+use Rattle.cmd_session.specs.Going.{GoesByLog, session_at}
+use Rattle.cmd_session.specs.Histories.{session_after}
+use Rattle.cmd_session.specs.Pacing.{Pace}
 use Rattle.cmd_session.specs.Serving.{HasServed}
 use Rattle.cmd_image.specs.Refusals.{is_failed, is_unread}
 use Rattle.cmd_image.specs.Runs.{HasReason, HaveReasons, IsSpentByNumbers, Marks, MarksGo}
-use Rattle.cmd_image.specs.Serves.{AnswersByLog, DoneInRing, RunsByLog, moment_at, pace_at_mount}
-use Rattle.cmd_image.specs.Steps.{AreWithin, IsOfMount, KnownSoFar, SoFar, mark_in, pace_on}
+use Rattle.cmd_image.specs.Serves.{pace_at_mount}
+use Rattle.cmd_image.specs.Steps.{AreWithin, KnownSoFar, SoFar, mark_in}
 use Rattle.cmd_image.proofs.Counting.{Counted, over_by}
 use Rattle.cmd_image.proofs.Lists.{get_behind, get_split_at}
-use Rattle.cmd_image.proofs.Rooms.{mount_stays, runs_longer}
-
--- runs joined
-runs_on : (g : Geometry) (f t u : Session) (r q v : Room) (cmds : List Cmd) (replies : List Reply) (more : List Cmd) (later : List Reply)
-    → RunsOn g f r cmds replies t q → RunsOn g t q more later u v → RunsOn g f r (cmds ++ more) (replies ++ later) u v
-runs_on g f t u r q v [] [] more later run next = subst (λ x. RunsOn g x r more later u v) run.0 (subst (λ y. RunsOn g t y more later u v) run.1 next)
-runs_on g f t u r q v [] (x ∷ replies) more later run next = absurd run
-runs_on g f t u r q v (c ∷ cmds) [] more later run next = absurd run
-runs_on g f t u r q v (c ∷ cmds) (x ∷ replies) more later run next = (run.0, run.1, run.2, runs_on g run.0 t u run.1 q v cmds replies more later run.3 next)
 
 -- marks with one more
 marks_on : (before mid now : Mark) (replies : List Reply) (moments : List ℕ) (marks : List Mark) (reply : Reply) (moment : ℕ)
@@ -81,18 +70,35 @@ pub record Stepped (cmd : Cmd) (reply : Reply) (mark : Mark) (s u : State) : Typ
   pub budget : (g : Geometry) (t : Tree) (mounted begun : ℕ) (cmds : List Cmd) (replies : List Reply) (moments : List ℕ) → HasServed g t mounted cmds replies moments s → KeepsBudget g t begun cmds replies s → KeepsBudget g t begun (cmds ++ cmd ∷ []) (replies ++ reply ∷ []) u
   pub spends : (g : Geometry) (t : Tree) (mounted : ℕ) (cmds : List Cmd) (replies : List Reply) (moments : List ℕ) → HasServed g t mounted cmds replies moments s → KeepsBudget g t (writes_in (take mounted u.crash.log)) (cmds ++ cmd ∷ []) (replies ++ reply ∷ []) u
       → SpendsByMarks g (session_on g.i t) mounted s.crash.log cmds replies moments → SpendsByMarks g (session_on g.i t) mounted u.crash.log (cmds ++ cmd ∷ []) (replies ++ reply ∷ []) (moments ++ length u.crash.log ∷ [])
-  pub room : (f : Session) → IsSession s f → (mount : MountedSession) → IsOfMount mount s → (next : Session) × IsSession u next × (u.books.geom ≡ s.books.geom) × AnswersByLog mount s.crash.base s.counts.ticks.manner u.crash.log cmd reply (pace_on s f) (pace_on u next)
+  pub goes : (mount : MountedSession) (base : Blocks) (m : Manner) (first : Pace) (t : Tree) (cmds : List Cmd) (replies : List Reply) (moments : List ℕ) → HasServed mount.geom t mount.mounted cmds replies moments s → (s.books.stopped ≡ false → s.books.running.weight ≡ weight_after (bitmap_blocks mount.geom) (session_at mount t) 0 cmds replies)
+      → GoesByLog false mount base m first t cmds replies moments s → GoesByLog false mount base m first t (cmds ++ cmd ∷ []) (replies ++ reply ∷ []) (moments ++ length u.crash.log ∷ []) u
   pub advances : Advances s u
   pub turns : u.books.turns ≤ s.books.turns + 2 ^ 20
   pub counted : (f : Session) → IsSession s f → Counted (is_unread reply) (is_failed reply) s u
   pub stopped : (f : Session) → IsSession s f → reply ≡ Refused because.Stopped → s.books.stopped ≡ true
   pub spent : (f : Session) → IsSession s f → reply ≡ Refused because.Spent → is_spent s.books ≡ true
   pub is_mark : mark ≡ mark_in u
-  pub manner : u.counts.ticks.manner ≡ s.counts.ticks.manner
   pub reads : 0 < u.counts.read_faults → u.counts.ticks.manner.reads_fail ≡ true
   pub fails : u.books.stopped ≡ true → ∥ HasFailedBy u.counts.ticks.manner u.crash.log ∥₁
 
 module _ (first : disk.State) (cmd : Cmd) (reply : Reply) (mark : Mark) (s u : State) (cmds : List Cmd) (replies : List Reply) (marks : List Mark) (step : Stepped cmd reply mark s u) (h : KnownSoFar first cmds replies marks s) where
+  -- the session so far
+  abbrev f : Session
+  f = session_after (session_on h.geom.i h.tree) cmds replies
+
+  session : IsSession s f
+  session = h.served.goes_on.session
+
+  -- by the log of the disk
+  at_mount : HasServed h.mount.geom h.tree h.mount.mounted cmds replies h.moments s
+  at_mount = subst (λ (g : Geometry). HasServed g h.tree h.mount.mounted cmds replies h.moments s) (sym h.is_mount.geom) (subst (λ (n : ℕ). HasServed h.geom h.tree n cmds replies h.moments s) (sym h.is_mount.mounted) h.served)
+
+  weighs : s.books.stopped ≡ false → s.books.running.weight ≡ weight_after (bitmap_blocks h.mount.geom) (session_at h.mount h.tree) 0 cmds replies
+  weighs = subst (λ (g : Geometry). s.books.stopped ≡ false → s.books.running.weight ≡ weight_after (bitmap_blocks g) (session_on g.i h.tree) 0 cmds replies) (sym h.is_mount.geom) h.budget.weight
+
+  goes_now : GoesByLog false h.mount first.base first.manner (pace_at_mount first h.mounted (session_on h.geom.i h.tree) h.first_room) h.tree (cmds ++ cmd ∷ []) (replies ++ reply ∷ []) (h.moments ++ length u.crash.log ∷ []) u
+  goes_now = step.goes h.mount first.base first.manner (pace_at_mount first h.mounted (session_on h.geom.i h.tree) h.first_room) h.tree cmds replies h.moments at_mount weighs h.goes
+
   -- the first events are the same
   front : take h.mounted u.crash.log ≡ take h.mounted s.crash.log
   front = ap (λ (es : List Event). take h.mounted es) step.advances.grows.log ∙ take-append-le h.mounted s.crash.log step.advances.grows.more h.within
@@ -105,9 +111,9 @@ module _ (first : disk.State) (cmd : Cmd) (reply : Reply) (mark : Mark) (s u : S
   marks_now : Marks (mark_in s) reply (length u.crash.log) (mark_in u)
   marks_now = record {
     moment = refl;
-    read_faults = (step.counted h.after h.session).read_faults;
-    faults = (step.counted h.after h.session).faults;
-    stopped = λ is. h.over (step.stopped h.after h.session is);
+    read_faults = (step.counted f session).read_faults;
+    faults = (step.counted f session).faults;
+    stopped = λ is. h.over (step.stopped f session is);
   }
 
   longer : length s.crash.log ≤ length u.crash.log
@@ -115,11 +121,11 @@ module _ (first : disk.State) (cmd : Cmd) (reply : Reply) (mark : Mark) (s u : S
 
   -- the disk is the one with which the run began
   same_manner : u.counts.ticks.manner ≡ first.manner
-  same_manner = step.manner ∙ h.manner
+  same_manner = goes_now.manner
 
   reason_now : HasReason first.manner (take (length u.crash.log) u.crash.log) reply
   reason_now = record {
-    reads = λ is. ap (λ (m : Manner). m.reads_fail) (sym same_manner) ∙ step.reads (over_by (is_unread reply) (is_unread reply) _ _ refl (step.counted h.after h.session).read_faults (ap is_unread is));
+    reads = λ is. ap (λ (m : Manner). m.reads_fail) (sym same_manner) ∙ step.reads (over_by (is_unread reply) (is_unread reply) _ _ refl (step.counted f session).read_faults (ap is_unread is));
     fails = λ is. subst (λ (m : Manner). ∥ HasFailedBy m (take (length u.crash.log) u.crash.log) ∥₁) same_manner
         (subst (λ (es : List Event). ∥ HasFailedBy u.counts.ticks.manner es ∥₁) (sym (take_all (length u.crash.log) u.crash.log (omega arith)))
         (step.fails ((step.serves h.geom h.tree h.mounted cmds replies h.moments h.served).goes_on.ended (length replies) (get_behind replies reply ∙ ap Some is))));
@@ -138,63 +144,41 @@ module _ (first : disk.State) (cmd : Cmd) (reply : Reply) (mark : Mark) (s u : S
     where
       by : (slice_get replies i ≡ Some (Refused because.Spent)) ⊎ ((reply ≡ Refused because.Spent) × (i ≡ length replies)) → 2 ^ 63 - 8 ≤ h.turns + i * 2 ^ 20
       by (inl earlier) = h.spent i earlier
-      by (inr now) = omega (arith, now.1, h.rises, spent_far s.books (step.spent h.after h.session now.0))
-
-  -- the answer in the room alone
-  in_room : (next : Session) → AnswersByLog h.mount s.crash.base s.counts.ticks.manner u.crash.log cmd reply (pace_on s h.after) (pace_on u next) → AnswersOn h.geom h.after (room_of s) cmd reply next (room_of u)
-  in_room next a = subst (λ (g : Geometry). AnswersOn g h.after (room_of s) cmd reply next (room_of u)) (h.of_mount.geom ∙ h.served.geom)
-      (answer_in_room h.mount.geom (moment_at h.mount s.crash.base s.counts.ticks.manner (take a.behind u.crash.log) (DoneInRing h.mount s.crash.base s.counts.ticks.manner u.crash.log cmd reply (pace_on s h.after) a.behind (length u.crash.log))) (moment_at h.mount s.crash.base s.counts.ticks.manner (take (length u.crash.log) u.crash.log) ⊥)
-      h.after (room_on s) cmd reply next (room_on u) a.answers)
-
-  -- and by the log
-  by_log : (next : Session) → AnswersByLog h.mount s.crash.base s.counts.ticks.manner u.crash.log cmd reply (pace_on s h.after) (pace_on u next)
-      → RunsByLog h.mount first.base first.manner u.crash.log (pace_at_mount first h.mounted (session_on h.geom.i h.tree) h.first_room) (cmds ++ cmd ∷ []) (replies ++ reply ∷ []) (h.moments ++ length u.crash.log ∷ []) (pace_on u next)
-  by_log next a = subst (λ (es : List Event). RunsByLog h.mount first.base first.manner es (pace_at_mount first h.mounted (session_on h.geom.i h.tree) h.first_room) (cmds ++ cmd ∷ []) (replies ++ reply ∷ []) (h.moments ++ length u.crash.log ∷ []) (pace_on u next)) (sym step.advances.grows.log)
-      (runs_longer h.mount first.base first.manner s.crash.log step.advances.grows.more cmd reply (length u.crash.log) (pace_on s h.after) (pace_on u next) (pace_at_mount first h.mounted (session_on h.geom.i h.tree) h.first_room) cmds replies h.moments h.within h.among h.serves refl
-      (subst (λ (es : List Event). AnswersByLog h.mount first.base first.manner es cmd reply (pace_on s h.after) (pace_on u next)) step.advances.grows.log
-      (subst (λ (x : Blocks). AnswersByLog h.mount x first.manner u.crash.log cmd reply (pace_on s h.after) (pace_on u next)) h.base
-      (subst (λ (x : Manner). AnswersByLog h.mount s.crash.base x u.crash.log cmd reply (pace_on s h.after) (pace_on u next)) h.manner a))))
+      by (inr now) = omega (arith, now.1, h.rises, spent_far s.books (step.spent f session now.0))
 
   pub known_more : KnownSoFar first (cmds ++ cmd ∷ []) (replies ++ reply ∷ []) (marks ++ mark ∷ []) u
-  known_more =
-      let next = step.room h.after h.session h.mount h.of_mount in
-      record {
-        geom = h.geom;
-        tree = h.tree;
-        image = h.image;
-        shape = h.shape;
-        base = step.advances.base ∙ h.base;
-        mounted = h.mounted;
-        moments = h.moments ++ length u.crash.log ∷ [];
-        served = step.serves h.geom h.tree h.mounted cmds replies h.moments h.served;
-        first_room = h.first_room;
-        begins = h.begins;
-        after = next.0;
-        session = next.1;
-        rooms = runs_on h.geom (session_on h.geom.i h.tree) h.after next.0 h.first_room (room_of s) (room_of u) cmds replies (cmd ∷ []) (reply ∷ []) h.rooms
-            (next.0, room_of u, in_room next.0 next.3, (refl, refl));
-        mount = h.mount;
-        is_mount = h.is_mount;
-        of_mount = mount_stays h.mount s u next.2 step.advances.base longer step.advances.sure step.advances.records h.of_mount;
-        serves = by_log next.0 next.3;
-        budget = budget_on;
-        spends = step.spends h.geom h.tree h.mounted cmds replies h.moments h.served budget_on h.spends;
-        within = omega (arith, h.within, longer);
-        marked = record {
-          later = h.marked.later ++ mark ∷ [];
-          is = ap (λ (ms : List Mark). ms ++ mark ∷ []) h.marked.is;
-          go = subst (λ (m : Mark). MarksGo (record { moment = h.mounted; read_faults = 0; faults = 0 }) (replies ++ reply ∷ []) (h.moments ++ length u.crash.log ∷ []) (h.marked.later ++ m ∷ []) (mark_in u)) (sym step.is_mark)
-              (marks_on (record { moment = h.mounted; read_faults = 0; faults = 0 }) (mark_in s) (mark_in u) replies h.moments h.marked.later reply (length u.crash.log) h.marked.go marks_now);
-        };
-        manner = same_manner;
-        among = within_on (length u.crash.log) h.moments (length u.crash.log) (within_more (length s.crash.log) (length u.crash.log) h.moments longer h.among) (omega arith);
-        reasons = reasons_now;
-        over = (step.counted h.after h.session).over h.over;
-        turns = h.turns;
-        numbers = h.numbers;
-        rises = omega (arith, step.turns, h.rises, length-append replies (reply ∷ []));
-        spent = spent_on;
-      }
+  known_more = record {
+    geom = h.geom;
+    tree = h.tree;
+    image = h.image;
+    shape = h.shape;
+    base = step.advances.base ∙ h.base;
+    mounted = h.mounted;
+    moments = h.moments ++ length u.crash.log ∷ [];
+    served = step.serves h.geom h.tree h.mounted cmds replies h.moments h.served;
+    first_room = h.first_room;
+    begins = h.begins;
+    mount = h.mount;
+    is_mount = h.is_mount;
+    goes = goes_now;
+    budget = budget_on;
+    spends = step.spends h.geom h.tree h.mounted cmds replies h.moments h.served budget_on h.spends;
+    within = omega (arith, h.within, longer);
+    marked = record {
+      later = h.marked.later ++ mark ∷ [];
+      is = ap (λ (ms : List Mark). ms ++ mark ∷ []) h.marked.is;
+      go = subst (λ (m : Mark). MarksGo (record { moment = h.mounted; read_faults = 0; faults = 0 }) (replies ++ reply ∷ []) (h.moments ++ length u.crash.log ∷ []) (h.marked.later ++ m ∷ []) (mark_in u)) (sym step.is_mark)
+          (marks_on (record { moment = h.mounted; read_faults = 0; faults = 0 }) (mark_in s) (mark_in u) replies h.moments h.marked.later reply (length u.crash.log) h.marked.go marks_now);
+    };
+    manner = same_manner;
+    among = within_on (length u.crash.log) h.moments (length u.crash.log) (within_more (length s.crash.log) (length u.crash.log) h.moments longer h.among) (omega arith);
+    reasons = reasons_now;
+    over = (step.counted f session).over h.over;
+    turns = h.turns;
+    numbers = h.numbers;
+    rises = omega (arith, step.turns, h.rises, length-append replies (reply ∷ []));
+    spent = spent_on;
+  }
 
 -- the same of blocks that may tell or not
 pub more_so_far : (tells : Bool) (first : disk.State) (cmd : Cmd) (reply : Reply) (mark : Mark) (s u : State) (cmds : List Cmd) (replies : List Reply) (marks : List Mark) → (unread failed : Bool) → Counted unread failed s u → (IsTrue tells → Stepped cmd reply mark s u) → SoFar tells first cmds replies marks s

@@ -14,7 +14,7 @@ use Rattle.lang_tree.specs.Step.{start}
 use Rattle.crash_stands.specs.Stands.{StandsFor}
 use Rattle.engine_mount.specs.Mount.{IsIdle, settled_on}
 use Rattle.engine_store.specs.Formatting.{IsFormattedOver}
-use Rattle.cmd_image.specs.Images.{CanBeMounted, StandsMounted}
+use Rattle.cmd_session.specs.Images.{CanBeMounted, StandsMounted}
 use Rattle.cmd_image.specs.Shows.{HasImage}
 use Rattle.cmd_image.specs.Makes.{IsFormattedImage}
 

@@ -1,4 +1,3 @@
-pub mod Damages
 pub mod Standing
 pub mod Steps
 pub mod ShowBays

@@ -14,7 +14,7 @@ use Rattle.layout_journal.specs.Layout.{commit_of, header_of, is_stored}
 use Rattle.layout_journal.specs.Run.{IsRun, Newest}
 use Rattle.layout_journal.specs.Spelling.{IsHeader, fits_in, header_block}
 use Rattle.engine_recover.specs.Epoch.{IsGreatestEpoch, is_of_record}
-use Rattle.cmd_image.specs.Images.{CanBeMounted}
+use Rattle.cmd_session.specs.Images.{CanBeMounted}
 
 -- What layout_journal says of the formatted disk, of the journal's blocks, and of those that may stand as a payload.
 pub record EmptyLaws : Type 0 where

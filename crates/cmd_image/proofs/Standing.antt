@@ -18,7 +18,7 @@ use Rattle.engine_store.specs.Refusal.{HasNumbersLeft, IsLeastBad, MayBeMounted,
 use Rattle.engine_store.specs.Refusal as store
 use Rattle.lang_tree.specs.Tree.{Tree}
 use Rattle.crash_stands.specs.Stands.{IsTreeOf, StandsFor}
-use Rattle.cmd_image.specs.Images.{CanBeMounted, HasBadBit, resting}
+use Rattle.cmd_session.specs.Images.{CanBeMounted, HasBadBit, resting}
 use Rattle.cmd_image.specs.Shows.{StandsThroughout}
 
 -- What layout_journal says of the map of an image, and crash_stands of images that are alike.

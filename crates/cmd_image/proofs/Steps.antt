@@ -35,9 +35,9 @@ use Rattle.fs_check.specs.Whole.{IsDamaged, OnDamage, fails_by}
 use Rattle.fs_commands.specs.Sessions.{IsSession}
 use Rattle.cmd_image.specs.declared.show_refusal.ShowRefusal.{ShowRefusal}
 use Rattle.cmd_image.specs.declared.show_refusal.ShowRefusal.TheVariants.{Fault, Damaged, Spent, SinkFault, NoMemory}
-use Rattle.cmd_image.specs.declared.show_refusal.ImageDamage.{ImageDamage}
-use Rattle.cmd_image.specs.declared.show_refusal.ImageDamage.TheVariants.{NoHeader, BadBit}
-use Rattle.cmd_image.specs.Images.{CanBeMounted, HasDamage, StandsForNone, StandsMounted}
+use Rattle.cmd_session.specs.declared.images.ImageDamage.{ImageDamage}
+use Rattle.cmd_session.specs.declared.images.ImageDamage.TheVariants.{NoHeader, BadBit}
+use Rattle.cmd_session.specs.Images.{CanBeMounted, HasDamage, StandsForNone, StandsMounted}
 use Rattle.cmd_image.specs.Mounted.{HasSession, HoldsThroughout, IsFresh, IsMarkOf, IsMountedOn, MarksFor, SaysOn, ShowsDisk, is_fault, of_check, of_store}
 use Rattle.cmd_image.specs.Shows.{HasMark, ListsFront, RefusesOn, fails_pushing, says_nothing}
 use Rattle.cmd_image.proofs.Standing.{HoldsSome, StandsAsBase, StandingLaws, all_alike, all_held, bad_image, holds_some, mountable_image, settled_is, throughout, tree_in, tree_out}

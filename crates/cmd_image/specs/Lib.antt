@@ -1,5 +1,4 @@
 pub mod Lent
-pub mod Images
 pub mod Shows
 pub mod Mounted
 pub mod Makes

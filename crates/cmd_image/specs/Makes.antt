@@ -11,7 +11,7 @@ use Rattle.lang_tree.specs.Step.{start}
 use Rattle.engine_store.specs.declared.formatting.MkfsRefusal.{MkfsRefusal}
 use Rattle.engine_store.specs.declared.formatting.MkfsRefusal.TheVariants as mkfs
 use Rattle.engine_store.specs.Formatting.{AddsFormatting, MkfsSpends, WritesBelow}
-use Rattle.cmd_image.specs.Images.{StandsMounted}
+use Rattle.cmd_session.specs.Images.{StandsMounted}
 use Rattle.cmd_image.specs.Shows.{CountsFault, FailedByManner}
 use Rattle.cmd_image.specs.declared.make_refusal.MakeRefusal.{MakeRefusal}
 use Rattle.cmd_image.specs.declared.make_refusal.MakeRefusal.TheVariants.{Fault, NoMemory}

@@ -15,7 +15,7 @@ use Rattle.crash_stands.specs.Stands.{StandsFor}
 use Rattle.engine_mount.specs.Mount.{IsUsedUp}
 use Rattle.cmd_image.specs.declared.show_refusal.ShowRefusal.{ShowRefusal}
 use Rattle.cmd_image.specs.declared.show_refusal.ShowRefusal.TheVariants.{Fault, Damaged, Spent, SinkFault, NoMemory}
-use Rattle.cmd_image.specs.Images.{HasDamage, StandsForNone, StandsMounted}
+use Rattle.cmd_session.specs.Images.{HasDamage, StandsForNone, StandsMounted}
 
 -- The image.
 

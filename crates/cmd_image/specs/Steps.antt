@@ -1,31 +1,25 @@
 -- How far a run has come over a mounted store, and what one command adds. Only private contracts speak of it.
-use Rattle.std.specs.Prelude.{◌≡◌, ◌↔◌, ℕ, ◌+◌, ◌*◌, ◌^◌, ◌<◌, ◌≤◌, true, false, Bool, IsTrue, List, [], ◌∷◌, ◌++◌, length, take, Option, Some, None, ⊤, Result, Ok, Err}
+use Rattle.std.specs.Prelude.{◌≡◌, ℕ, ◌+◌, ◌*◌, ◌^◌, ◌<◌, ◌≤◌, true, false, Bool, IsTrue, List, [], ◌∷◌, ◌++◌, length, take, Option, Some, None, ⊤, Result, Ok, Err}
 use Rattle.std.specs.Io.KnownBytes.{Appends, Consumes}
 use Rattle.base_io.specs.Prefix.{TakesPrefix}
 use Rattle.disk_contract.specs.declared.bay.Mark.{Mark}
-use Rattle.disk_contract.specs.declared.event.Event.{Event}
 use Rattle.disk_contract.specs.Disk as disk
 use Rattle.disk_contract.specs.Disk.{writes_in}
 use Rattle.layout_geometry.specs.Geometry.{Geometry}
 use Rattle.lang_tree.specs.declared.command.Cmd.{Cmd}
 use Rattle.lang_tree.specs.declared.command.Reply.{Reply}
-use Rattle.lang_tree.specs.Step.{Session, session_on}
+use Rattle.lang_tree.specs.Step.{session_on}
 use Rattle.lang_tree.specs.Tree.{Tree}
 use Rattle.crash_argument.specs.Points.{MountedSession}
-use Rattle.engine_blocks.specs.Crashes.{SameRecords}
 use Rattle.engine_blocks.specs.State.{State}
-use Rattle.fs_commands.specs.DiskRoom.{RunsOn}
-use Rattle.fs_commands.specs.Memory.{room_of}
 use Rattle.fs_commands.specs.Room.{Room}
-use Rattle.fs_commands.specs.Serving.{room_on}
-use Rattle.fs_commands.specs.Sessions.{IsSession}
 use Rattle.cmd_session.specs.Budget.{KeepsBudget, SpendsByMarks}
+use Rattle.cmd_session.specs.Going.{GoesByLog}
 use Rattle.cmd_session.specs.Serving.{HasServed}
 use Rattle.engine_store.specs.Mounting.{BeginsWith, GoesOnFrom}
-use Rattle.engine_store.specs.SessionView.{IsSure, records_of}
 use Rattle.lang_script.specs.Text.{text_of_reply}
 use Rattle.lang_lines.specs.Reading.{HasGiven, KnowsEnd, ReaderState}
-use Rattle.cmd_image.specs.Images.{StandsMounted}
+use Rattle.cmd_session.specs.Images.{StandsMounted}
 use Rattle.cmd_image.specs.Mounted.{IsMountedOn}
 use Rattle.cmd_image.specs.declared.ending.Ending.{Ending}
 use Rattle.cmd_image.specs.declared.ending.RunRefusal.{RunRefusal}
@@ -33,7 +27,7 @@ use Rattle.cmd_image.specs.declared.ending.RunRefusal.TheVariants.{SinkFault, No
 use Rattle.cmd_image.specs.declared.running.Stop.{Stop}
 use Rattle.cmd_image.specs.declared.running.Stop.TheVariants as stop
 use Rattle.cmd_image.specs.Runs.{AreMarks, HaveReasons, HasNumbers, IsRoomAtMount, IsSpentByNumbers, Reads, Streams, Writes, reply_lines}
-use Rattle.cmd_image.specs.Serves.{IsMountOf, Pace, RunsByLog, pace_at_mount}
+use Rattle.cmd_image.specs.Serves.{IsMountOf, pace_at_mount}
 
 -- the refusal for a stop
 abbrev pub of_stop : Stop → RunRefusal
@@ -54,17 +48,6 @@ stops_pushing (Err stop.SinkFault) = true
 -- the mark of the disk under blocks
 abbrev pub mark_in : State → Mark
 mark_in s = record { moment = length s.crash.log; read_faults = s.counts.read_faults; faults = s.counts.faults }
-
--- how far a run has come over these blocks, with this session
-abbrev pub pace_on : State → Session → Pace
-pace_on s f = record { polls = s.counts.ticks.polls; events = length s.crash.log; over = s.books.stopped; session = f; room = room_on s }
-
--- The blocks are of this mount: by its numbers a point is sure, and its log since tells its records.
-pub record IsOfMount (mount : MountedSession) (s : State) : Type 0 where
-  pub geom : mount.geom ≡ s.books.geom
-  pub late : mount.mounted ≤ length s.crash.log
-  pub sure : (front : List Event) (p : ℕ) → s.crash.sure front p ↔ ∥ IsSure mount s.crash.base front p ∥₁
-  pub records : SameRecords (records_of mount s.crash.base) s.crash.records
 
 -- the line of a reply
 abbrev pub reply_line : Reply → List ℕ
@@ -93,13 +76,9 @@ pub record KnownSoFar (first : disk.State) (cmds : List Cmd) (replies : List Rep
   pub served : HasServed geom tree mounted cmds replies moments s
   pub first_room : Room
   pub begins : IsRoomAtMount geom image.stands.map (session_on geom.i tree) first_room
-  pub after : Session
-  pub session : IsSession s after
-  pub rooms : RunsOn geom (session_on geom.i tree) first_room cmds replies after (room_of s)
   pub mount : MountedSession
   pub is_mount : IsMountOf first geom mounted mount
-  pub of_mount : IsOfMount mount s
-  pub serves : RunsByLog mount first.base first.manner s.crash.log (pace_at_mount first mounted (session_on geom.i tree) first_room) cmds replies moments (pace_on s after)
+  pub goes : GoesByLog false mount first.base first.manner (pace_at_mount first mounted (session_on geom.i tree) first_room) tree cmds replies moments s
   -- no write was owed as the mount ended
   pub budget : KeepsBudget geom tree (writes_in (take mounted s.crash.log)) cmds replies s
   pub spends : SpendsByMarks geom (session_on geom.i tree) mounted s.crash.log cmds replies moments

@@ -4,8 +4,9 @@
 ghost use Rattle.std.specs.Prelude.{◌≡◌};
 ghost use Rattle.cmd_image.specs.Refusals.{of_show, run_refusal_of_bay};
 
-use crate::show_refusal::{ImageDamage, ShowRefusal};
+use crate::show_refusal::ShowRefusal;
 use base_types::NoMemory;
+use cmd_session::ImageDamage;
 use disk_contract::BayFault;
 use std::error::Error;
 use std::fmt;

@@ -5,7 +5,7 @@ ghost use Rattle.std.specs.Prelude.{◌≡◌, ◌<◌, ℕ, true};
 ghost use Rattle.base_types.specs.Seal.{Blocks};
 ghost use Rattle.layout_geometry.specs.Geometry.{Geometry, data_start, geometry_fits};
 ghost use Rattle.layout_journal.specs.Formatted.{formatted};
-ghost use Rattle.cmd_image.specs.Images.{CanBeMounted};
+ghost use Rattle.cmd_session.specs.Images.{CanBeMounted};
 
 use layout_geometry::geometries_are_within_limits;
 use layout_journal::{

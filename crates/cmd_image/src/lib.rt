@@ -2,7 +2,7 @@
 //! `run IMAGE`. The first makes the image of a formatted disk under a name. The second shows the tree for which the
 //! image of a disk stands, and names what is broken where it stands for none. The third runs the commands of a script
 //! over the image of a disk: the commands come from a source, and the lines of their replies go to a sink. Each time the
-//! disk comes from a bay and goes back to it. What an image is to a mount is defined here too (`specs/Images.antt`).
+//! disk comes from a bay and goes back to it. What an image is to a mount is defined by `cmd_session`.
 //!
 //! How a disk is formatted and mounted is described by `engine_store`, what each block of a formatted disk gets by
 //! `layout_journal`, how a command is answered and the listing by `fs_commands`, and what whole runs come to by `cmd_session`. The
@@ -24,9 +24,7 @@ mod store_laws;
 
 pub use ending::{Ending, RunRefusal};
 pub use formatted_laws::a_formatted_image_can_be_mounted;
-pub use image_laws::{
-    a_damaged_image_stands_for_no_tree, an_image_has_one_answer, what_is_read_stays_mounted,
-};
+pub use image_laws::what_is_read_stays_mounted;
 pub use lent::LentDisk;
 pub use make::make_image;
 pub use make_refusal::MakeRefusal;
@@ -35,4 +33,4 @@ pub use mounting::{
 };
 pub use run::run_script;
 pub use show::show_tree;
-pub use show_refusal::{ImageDamage, ShowRefusal};
+pub use show_refusal::ShowRefusal;

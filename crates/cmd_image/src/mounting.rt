@@ -17,10 +17,10 @@ ghost use Rattle.cmd_image.specs.Lent.{disk_of};
 ghost use Rattle.cmd_image.specs.Mounted.{IsFresh, IsMountedOn, ShowsDisk};
 ghost use Rattle.cmd_image.specs.Shows.{fails_pushing};
 
-use crate::image_laws::a_damaged_image_stands_for_no_tree;
 use crate::lent::LentDisk;
 use crate::show_refusal::{ShowRefusal, of_check, of_store};
 use base_types::NoMemory;
+use cmd_session::a_damaged_image_stands_for_no_tree;
 use crash_stands::images_alike_below_n_stand_for_the_same;
 use disk_contract::{Bay, BayFault, Disk, Mark};
 use engine_store::Store;

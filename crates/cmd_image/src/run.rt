@@ -29,9 +29,11 @@ use crate::running::{Running, Stop};
 use crate::store_laws::books_are_sound;
 use base_io::{Sink, Source};
 use cmd_session::{
-    Served, the_writes_keep_within_the_budget, the_writes_keep_within_the_budget_at_each_mark,
+    Served, a_run_begins_by_the_log, the_writes_keep_within_the_budget,
+    the_writes_keep_within_the_budget_at_each_mark,
 };
 use disk_contract::{Bay, Disk, Mark};
+use engine_blocks::Blocks;
 use engine_store::Store;
 use fs_commands::{
     a_command_is_answered_in_a_room_that_came_back, as_many_blocks_are_marked_as_the_tree_has,
@@ -145,9 +147,13 @@ fn run_store<D: Disk + Drop, S: Source, K: Sink>(
 {
     a_command_is_answered_in_a_room_that_came_back::<Store<D>>();
     as_many_blocks_are_marked_as_the_tree_has::<Store<D>>();
+    a_run_begins_by_the_log::<Store<D>>();
     books_are_sound::<Store<D>>();
     the_writes_keep_within_the_budget_at_each_mark::<Store<D>>();
     what_is_read_stays_mounted::<Store<D>>();
+    // a call for its clause alone: the numbers of the geometry are within their limits
+    let geom = store.geom();
+    geom.lawful();
     let mark = mark_of(store.disk());
     match Served::open(alloc, store) {
         Ok(served) => run_served(alloc, Running::begin(served, marks, mark), input, out),

@@ -14,13 +14,12 @@ use crate::mounting::mark_of;
 use crate::store_laws::the_disk_keeps_to_its_manner;
 use base_io::{Sink, SinkFault, push_all};
 use base_types::NoMemory;
-use cmd_session::{Served, the_writes_keep_within_the_budget_at_each_mark};
+use cmd_session::{
+    Served, a_command_goes_by_the_log, the_writes_keep_within_the_budget_at_each_mark,
+};
 use disk_contract::{Disk, Mark};
 use engine_store::Store;
-use fs_commands::{
-    a_command_begins_with_a_tick, a_command_raises_the_numbers_little,
-    a_command_serves_what_is_sure, a_refusal_for_the_disk_has_its_cause,
-};
+use fs_commands::{a_command_raises_the_numbers_little, a_refusal_for_the_disk_has_its_cause};
 use lang_script::reply_text;
 use lang_tree::{Cmd, Reply, a_tree_in_memory_refuses_for_no_disk};
 use std::alloc::{AllocError, AllocFailed, Global};
@@ -130,12 +129,12 @@ impl<D: Disk + Drop> Running<D> {
             (state_of D.state (blocks_in self.new.served)) }
         ensures marks { length self.new.marks.items ≡ length self.old.marks.items + 1 }
     {
-        a_command_begins_with_a_tick::<Store<D>>();
-        a_command_serves_what_is_sure::<Store<D>>();
+        a_command_goes_by_the_log::<Store<D>>();
         a_refusal_for_the_disk_has_its_cause::<Store<D>>();
         a_command_raises_the_numbers_little::<Store<D>>();
         the_writes_keep_within_the_budget_at_each_mark::<Store<D>>();
         a_tree_in_memory_refuses_for_no_disk();
+        self.served.lawful();
         let reply = self.served.apply(alloc, cmd);
         the_disk_keeps_to_its_manner(&self.served);
         let mark = mark_of(self.served.blocks().disk());

@@ -1,45 +1,16 @@
-//! What is broken in the image of a disk, why a tree wasn't shown, and which refusal comes of which of the layers below.
+//! Why a tree wasn't shown, and which refusal comes of which of the layers below.
 //! When each comes is described by the clauses of the calls.
 
 ghost use Rattle.std.specs.Prelude.{◌≡◌};
 ghost use Rattle.cmd_image.specs.Mounted.{of_bay, of_check, of_store};
 
 use base_types::NoMemory;
+use cmd_session::ImageDamage;
 use disk_contract::BayFault;
 use engine_store::StoreRefusal;
-use fs_check::{CheckRefusal, Damage};
+use fs_check::CheckRefusal;
 use std::error::Error;
 use std::fmt;
-
-/// What is broken in the image of a disk, and where. A mount meets them in this order.
-#[derive(Clone, Copy, Debug, PartialEq, Eq)]
-pub enum ImageDamage {
-    /// Neither header slot has a header.
-    NoHeader,
-    /// A bit of the bitmap is wrong, as the bitmap is once the journal is replayed: it is clear before the data, or set
-    /// past the last block.
-    BadBit {
-        /// The least number whose bit is wrong.
-        block: u32,
-    },
-    /// The blocks that the image holds, once its journal is replayed, stand for no tree.
-    Broken {
-        /// What is broken in them, and where.
-        what: Damage,
-    },
-}
-
-impl fmt::Display for ImageDamage {
-    fn fmt<W: fmt::Write>(&self, f: &mut fmt::Formatter<W>) -> fmt::Result {
-        match self {
-            ImageDamage::NoHeader => write!(f, "there is no header"),
-            ImageDamage::BadBit { block } => write!(f, "the bit of block {block} is wrong"),
-            ImageDamage::Broken { what } => write!(f, "{what}"),
-        }
-    }
-}
-
-impl Error for ImageDamage {}
 
 /// Why the tree of an image wasn't shown.
 #[derive(Clone, Copy, Debug, PartialEq, Eq)]

@@ -43,7 +43,7 @@ use std::alloc::Global;
 /// - `replay --at K` reads a trace from `input`. It writes to `out` which sync point a crash after the first K events
 ///   leaves, and its tree. The options `--stand` and `--tear` say what becomes of the writes that were pending then.
 /// - `tree IMAGE` mounts the image of the bay and writes its tree to `out`.
-/// - `mkfs IMAGE N J I` makes the image of a formatted disk of this geometry under the name, in place of what stood there.
+/// - `mkfs IMAGE N J I` has the bay make a disk under the name, and makes it the image of a formatted disk of this geometry.
 /// - `load --seed S --count C` answers the first C commands of the seed's load on a disk in memory, and writes four lines of
 ///   what they came to.
 /// - `run IMAGE` mounts the image of the bay and reads a script from `input`. It answers its commands by a file system on this

@@ -1,5 +1,6 @@
 -- What comes of the mount of a disk that was just formatted, by what a mount, a store and a file system say of any disk.
-use Rattle.std.proofs.Common.{◌≡◌, ◌↔◌, inl, inr, ℕ, ◌+◌, ◌^◌, ◌<◌, ◌≤◌, max, Bool, true, IsTrue, List, [], Option, ◌∷◌, ◌++◌, length, take, refl, sym, ap, ap₂, ◌∙◌, subst, arith, Some}
+use Rattle.std.proofs.Common.{◌≡◌, inl, inr, ℕ, ◌+◌, ◌^◌, ◌<◌, ◌≤◌, max, Bool, true, IsTrue, List, [], Option, ◌∷◌, ◌++◌, length, take, refl, sym, ap, ap₂, ◌∙◌, subst, arith, Some}
+use Rattle.std.proofs.Math.Logic.{∥∥₁_map}
 use Rattle.base_types.specs.Seal.{Blocks, sha256}
 use Rattle.disk_contract.specs.declared.event.Event.{Event}
 use Rattle.disk_contract.specs.declared.event.Event.TheVariants.{Lost}
@@ -26,14 +27,16 @@ use Rattle.engine_blocks.specs.State.{State}
 use Rattle.engine_store.specs.declared.refusal.StoreRefusal.TheVariants.{NoHeader, BadBit, Spent}
 use Rattle.engine_store.specs.Mounting.{GoesOnFrom, HasOpened, LeavesDisk}
 use Rattle.engine_store.specs.Refusal.{RefusalSays}
+use Rattle.engine_store.specs.SessionView.{IsSure, Starts}
 use Rattle.cmd_session.specs.Crashes.{LeavesPoints, IsCrashConsistent}
+use Rattle.cmd_session.specs.Going.{IsOfMount}
 use Rattle.disk_memory.specs.MemDisk.{MemDiskState, state_of as disk_state}
 use Rattle.cmd_record.specs.declared.disk.Behaviour.{Behaviour}
-use Rattle.cmd_record.specs.Behaving.{IsSureBy, MountFails, session_by}
-use Rattle.cmd_record.specs.Disks.{BeganFormatted, IsFormatted, IsFormattedDisk, HasFault, HoldsRoot, FailedToMount, OpensAtMost, StandsOpened, TellsBy, setting_on}
+use Rattle.cmd_record.specs.Behaving.{MountFails, session_by}
+use Rattle.cmd_record.specs.Disks.{BeganFormatted, IsFormatted, IsFormattedDisk, HasFault, HoldsRoot, FailedToMount, OpensAtMost, StandsOpened, setting_on}
 use Rattle.cmd_record.proofs.FormattedFound.{HasLaws, first_epoch, found_header, found_records, has_header, header_epoch, low_epoch, not_used_up, no_bad_bit}
 use Rattle.cmd_record.proofs.Mounts.{at_most_by, stopped_at}
-use Rattle.cmd_record.proofs.Sureness.{starts_by, sure_by}
+use Rattle.cmd_record.proofs.Sureness.{starts_then, sure_then}
 
 -- what laws of other crates say of the formatted disk's live blocks, and of each image that has them
 pub record HasRoot (g : Geometry) : Type 0 where
@@ -181,20 +184,9 @@ module _ (g : Geometry) (root : HasRoot g) where
         let records = found_records g laws (settled_on d) settled_same from.found.run found in
         subst (λ (n : ℕ). s.books.turns ≤ n) (ap₂ (λ (h : Header) (rs : List Record). max (h.turn + 2) (last_number h (length rs) + 1)) header records) from.most
 
-    -- and by its log points are sure
-    pub sure_of : (s : State) → GoesOnFrom d s → s.books.geom ≡ g → ((b : ℕ) → b < g.n → s.crash.base b ≡ formatted g b) → (front : List Event) (p : ℕ) → s.crash.sure front p ↔ ∥ IsSureBy g front p ∥₁
-    sure_of s from geom same front p =
-        let found = subst (λ (n : ℕ). IsFound n (settled_on d) from.found.run) is.began.size from.is_found.is_found in
-        let header = found_header g laws (settled_on d) settled_same from.found.run found in
-        let records = found_records g laws (settled_on d) settled_same from.found.run found in
-        let first : from.session.first ≡ 1 = from.first ∙ ap₂ (λ (h : Header) (rs : List Record). last_number h (length rs) + 1) header records in
-        let by = sure_by g (omega (arith, laws.limits.data_room)) from.session s.crash.base (from.geom ∙ geom) first same front p in
-        let was = from.sure front p in
-        (λ x. by.0 (was.0 x), λ x. was.1 (by.1 x))
-
-    -- the records are those of the first session, which the log tells
-    pub tells_of : (s : State) → GoesOnFrom d s → s.books.geom ≡ g → ((b : ℕ) → b < g.n → s.crash.base b ≡ formatted g b) → TellsBy (session_by g (length s.crash.log)) s.crash.records
-    tells_of s from geom same =
+    -- by its log points are sure, and the records are those of the first session, which the log tells
+    pub of_mount_by : (s : State) → GoesOnFrom d s → s.books.geom ≡ g → ((b : ℕ) → b < g.n → s.crash.base b ≡ formatted g b) → IsOfMount (session_by g (length s.crash.log)) (formatted g) s
+    of_mount_by s from geom same =
         let found = subst (λ (n : ℕ). IsFound n (settled_on d) from.found.run) is.began.size from.is_found.is_found in
         let header = found_header g laws (settled_on d) settled_same from.found.run found in
         let records = found_records g laws (settled_on d) settled_same from.found.run found in
@@ -202,12 +194,23 @@ module _ (g : Geometry) (root : HasRoot g) where
         let greatest : IsGreatestEpoch g (settled_on d) from.found.epoch = subst (λ (h : Header). IsGreatestEpoch h.geom (settled_on d) from.found.epoch) header from.is_found.is_greatest in
         let epoch : from.session.epoch ≡ 2 = omega (arith, from.epoch, low_epoch g laws (settled_on d) settled_same from.found.epoch greatest.is_one, first_epoch g laws (settled_on d) settled_same from.found.epoch greatest) in
         let session : from.session ≡ session_by g (length s.crash.log) = session_is from.session g (length s.crash.log) (from.geom ∙ geom) epoch from.mounted first in
+        let least : 2 ≤ g.n = omega (arith, laws.limits.data_room) in
+        let back : (b : ℕ) → b < g.n → formatted g b ≡ s.crash.base b = λ b low. sym (same b low) in
         record {
-          told = from.records.told ∙ ap {B = List Event → Option (List Commit)} (λ (x : points.MountedSession) (front : List Event). Some (points.records_told x front)) session;
-          starts = λ front number.
-              let by = starts_by g (omega (arith, laws.limits.data_room)) from.session s.crash.base (from.geom ∙ geom) same front number in
-              let was = from.records.starts front number in
-              (λ x. by.0 (was.0 x), λ x. was.1 (by.1 x));
+          geom = sym geom;
+          late = omega arith;
+          alike = same;
+          sure = λ front p. let was = from.sure front p in (
+            λ x. ∥∥₁_map (subst (λ (y : points.MountedSession). ∥ IsSure y s.crash.base front p ∥₁) session (was.0 x)) (sure_then (session_by g (length s.crash.log)) least s.crash.base (formatted g) same front p),
+            λ x. was.1 (subst (λ (y : points.MountedSession). ∥ IsSure y s.crash.base front p ∥₁) (sym session) (∥∥₁_map x (sure_then (session_by g (length s.crash.log)) least (formatted g) s.crash.base back front p))),
+          );
+          records = record {
+            told = from.records.told ∙ ap {B = List Event → Option (List Commit)} (λ (x : points.MountedSession) (front : List Event). Some (points.records_told x front)) session;
+            starts = λ front number. let was = from.records.starts front number in (
+              λ x. ∥∥₁_map (subst (λ (y : points.MountedSession). ∥ Starts y s.crash.base front number ∥₁) session (was.0 x)) (starts_then (session_by g (length s.crash.log)) least s.crash.base (formatted g) same front number),
+              λ x. was.1 (subst (λ (y : points.MountedSession). ∥ Starts y s.crash.base front number ∥₁) (sym session) (∥∥₁_map x (starts_then (session_by g (length s.crash.log)) least (formatted g) s.crash.base back front number))),
+            );
+          };
         }
       where
         session_is : (x : points.MountedSession) (k : Geometry) (n : ℕ) → x.geom ≡ k → x.epoch ≡ 2 → x.mounted ≡ n → x.first ≡ 1 → x ≡ session_by k n

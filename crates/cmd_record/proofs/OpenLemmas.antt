@@ -1,5 +1,5 @@
 -- What comes of opening the file system of a store that was just mounted on a formatted disk: the root alone stands in it, and nothing is taken.
-use Rattle.std.proofs.Common.{◌≡◌, ℕ, ◌+◌, ◌*◌, ◌/◌, ◌%◌, ◌^◌, ◌<◌, ◌≤◌, ◌==◌, ◌||◌, nat_lt, Bool, true, false, IsTrue, List, [], Option, ◌∷◌, length, get_or, Some, refl, sym, ap, ◌∙◌, subst, arith}
+use Rattle.std.proofs.Common.{◌≡◌, ℕ, ◌+◌, ◌*◌, ◌/◌, ◌%◌, ◌^◌, ◌<◌, ◌≤◌, ◌==◌, ◌||◌, nat_lt, Bool, true, false, IsTrue, List, [], ◌∷◌, length, get_or, Some, refl, sym, ap, ◌∙◌, subst, arith}
 use Rattle.std.proofs.lemmas.Bool.{and_from, cond-true, le-leb, lt-ltb, le-ltb}
 use Rattle.std.specs.Int.{bit_at}
 use Rattle.base_types.specs.Seal.{Blocks}
@@ -13,7 +13,6 @@ use Rattle.disk_contract.specs.Crash.{Window}
 use Rattle.disk_contract.specs.Manner.{Manner, GoesBy}
 use Rattle.layout_geometry.specs.Geometry.{Geometry, IsGeometry, bitmap_start, bitmap_blocks, data_start}
 use Rattle.layout_bytes.specs.Bitmap.{is_set}
-use Rattle.layout_journal.specs.declared.record.Commit.{Commit}
 use Rattle.layout_journal.specs.Formatted.{formatted}
 use Rattle.layout_journal.specs.declared.header.Header.{Header}
 use Rattle.layout_journal.specs.Layout.{header_of}
@@ -24,7 +23,7 @@ use Rattle.crash_stands.specs.Stands.{IsTreeOf}
 use Rattle.crash_argument.specs.Ledger.{HoldsUnder}
 use Rattle.crash_argument.specs.Opening.{WritesOne}
 use Rattle.crash_argument.specs.Points as points
-use Rattle.engine_blocks.specs.Crashes.{HasLiveBlocks, HasMapOfPoint, IsBegun, IsTold}
+use Rattle.engine_blocks.specs.Crashes.{HasLiveBlocks, HasMapOfPoint, IsBegun}
 use Rattle.engine_blocks.specs.State.{Bookkeeping, State, Ticking}
 use Rattle.fs_files.specs.Effects.{LooksOnly}
 use Rattle.fs_commands.specs.Memory.{HasNoBlocks, room_of}
@@ -32,6 +31,7 @@ use Rattle.fs_commands.specs.Room.{IsFirstRoom}
 use Rattle.engine_store.specs.declared.store.Store.{Store}
 use Rattle.engine_store.specs.StoreOf.{state_of}
 use Rattle.cmd_session.specs.Budget.{KeepsBudget}
+use Rattle.cmd_session.specs.Going.{IsOfMount}
 use Rattle.cmd_session.specs.Serving.{HasServed, IsDrawn, IsMountedWith}
 use Rattle.cmd_record.specs.Disks.{IsMounted, IsOpened, ShowsRoot}
 use Rattle.cmd_record.specs.Behaving.{session_by}
@@ -114,8 +114,8 @@ module _ (g : Geometry) (s : State) (is : IsMounted g s) where
 
   -- all that is known of the file system
   pub opened_with : (t : State) → LooksOnly true false s t → HasServed g (start g.i).tree (length s.crash.log) [] [] [] t → KeepsBudget s.books.geom (start g.i).tree (writes_in s.crash.log + s.books.owed) [] [] t
-      → IsFirstRoom t.books.geom (room_of t) → IsLogOf t.books.geom.n t.crash.log → length t.crash.log < 2 ^ 64 → GoesBy t.counts.ticks.manner t.crash.log → IsTold t → t.books.floor ≤ t.books.point → IsOpened (record { shape = g; manner = s.counts.ticks.manner }) t
-  opened_with t looks served budget room lawful events goes told low =
+      → IsFirstRoom t.books.geom (room_of t) → IsLogOf t.books.geom.n t.crash.log → length t.crash.log < 2 ^ 64 → GoesBy t.counts.ticks.manner t.crash.log → t.books.floor ≤ t.books.point → IsOpened (record { shape = g; manner = s.counts.ticks.manner }) t
+  opened_with t looks served budget room lawful events goes low =
       let crash = looks.crash refl in
       let geom : t.books.geom ≡ g = ap (λ (k : Bookkeeping). k.geom) looks.books ∙ is.begins.geom in
       let goes_now = subst (λ (m : Manner). GoesBy m t.crash.log) (ap (λ (k : Ticking). k.manner) looks.counts.ticks) goes in
@@ -127,6 +127,7 @@ module _ (g : Geometry) (s : State) (is : IsMounted g s) where
       is.opened.first others in
       let only_now : HasMapOfPoint t 0 = λ m point. subst (λ (k : Geometry). HasLiveBlocks k t.map m) (ap (λ (k : Bookkeeping). k.geom) (sym looks.books))
       (subst (λ (x : Blocks). HasLiveBlocks s.books.geom x m) (sym (looks.map refl)) (is.begins.only m ((crash.point 0 m).0 point))) in
+      let mount_now : IsOfMount (session_by g (length t.crash.log)) (formatted g) s = subst (λ (n : ℕ). IsOfMount (session_by g n) (formatted g) s) (ap (λ (es : List Event). length es) (sym crash.log)) is.of_mount in
       let writes : writes_in s.crash.log + s.books.owed ≡ writes_in t.crash.log = omega (arith, is.begins.owed, ap (λ (es : List Event). writes_in es) crash.log) in
       record {
         served = subst (λ (n : ℕ). HasServed g (start g.i).tree n [] [] [] t) (ap (λ (es : List Event). length es) (sym crash.log)) served;
@@ -148,10 +149,14 @@ module _ (g : Geometry) (s : State) (is : IsMounted g s) where
         owed = ap (λ (k : Bookkeeping). k.owed) looks.books ∙ is.begins.owed;
         floor = omega (arith, low, ap (λ (k : Bookkeeping). k.point) looks.books, is.begun.point);
         since = λ b. ap (λ (k : Bookkeeping). k.since b) looks.books ∙ is.begins.since b;
-        sure = λ front p. let now = crash.sure front p in let was = is.sure front p in (λ x. was.0 (now.0 x), λ x. now.1 (was.1 x));
-        records = record {
-          told = crash.records.told ∙ is.records.told ∙ ap {B = List Event → Option (List Commit)} (λ (n : ℕ) (front : List Event). Some (points.records_told (session_by g n) front)) (ap (λ (es : List Event). length es) (sym crash.log));
-          starts = λ front n. let now = crash.records.starts front n in let was = is.records.starts front n in (λ x. was.0 (now.0 x), λ x. now.1 (was.1 x));
+        of_mount = record {
+          geom = mount_now.geom ∙ ap (λ (k : Bookkeeping). k.geom) (sym looks.books);
+          late = omega arith;
+          alike = λ b low. ap (λ (x : Blocks). x b) crash.base ∙ mount_now.alike b low;
+          sure = λ front p. let now = crash.sure front p in let was = mount_now.sure front p in (λ x. was.0 (now.0 x), λ x. now.1 (was.1 x));
+          records = record {
+            told = crash.records.told ∙ mount_now.records.told;
+            starts = λ front n. let now = crash.records.starts front n in let was = mount_now.records.starts front n in (λ x. was.0 (now.0 x), λ x. now.1 (was.1 x));
+          };
         };
-        may = told.awaits;
       }

@@ -1,15 +1,16 @@
 -- A run so far as a trace: what is served by it, and how it may go on, whatever commands come.
-use Rattle.std.proofs.Common.{◌≡◌, inl, inr, ℕ, zero, suc, ◌^◌, ◌<◌, ◌≤◌, nat_le, Bool, true, false, if◌then◌else◌, List, [], ◌∷◌, ◌++◌, length, take, take_all, drop, Some, refl, sym, ap, ap₂, ◌∙◌, subst, arith, append_assoc, append-nil}
+use Rattle.std.proofs.Common.{◌≡◌, ◌⊎◌, inl, inr, ℕ, zero, suc, ◌-◌, ◌^◌, ◌<◌, ◌≤◌, nat_le, Bool, true, false, if◌then◌else◌, List, [], ◌∷◌, ◌++◌, length, take, take_all, drop, Option, None, Some, unwrap_or, refl, sym, ap, ap₂, ◌∙◌, subst, arith, append_assoc, append-nil}
 use Rattle.std.proofs.Math.Logic.{∥∥₁_map}
-use Rattle.std.proofs.lemmas.List.{take-append-le}
+use Rattle.std.proofs.lemmas.List.{length-append, take-append-le}
 use Rattle.std.specs.List.{slice_get}
-use Rattle.std.proofs.lemmas.Bool.{and_parts, or_parts}
+use Rattle.std.proofs.lemmas.Bool.{and_parts, leb-true}
 use Rattle.std.proofs.lemmas.Bool.Decides.{nat_tests}
+use mathlib.Core.Path.{fun_ext}
 use Rattle.base_types.specs.Seal.{Blocks}
 use Rattle.disk_contract.specs.declared.event.Event.{Event}
 use Rattle.disk_contract.specs.Disk.{Grows, writes_in}
 use Rattle.disk_contract.specs.Lawful.{IsLogOf}
-use Rattle.disk_contract.specs.Manner.{Manner}
+use Rattle.disk_contract.specs.Manner.{Manner, GoesBy}
 use Rattle.layout_geometry.specs.Geometry.{Geometry, geometry_fits, bitmap_blocks}
 use Rattle.layout_journal.specs.Formatted.{formatted}
 use Rattle.crash_argument.specs.Counts.{AreAtMost}
@@ -22,12 +23,13 @@ use Rattle.cmd_trace.specs.Line.{command_line, geometry_line, event_lines}
 use Rattle.cmd_trace.specs.Trace.{Ascend, entry}
 use Rattle.lang_tree.specs.declared.command.Cmd.{Cmd}
 use Rattle.lang_tree.specs.declared.command.Cmd.TheVariants.{Mkdir, Create, Write, Fill, Read, Truncate, Link, Unlink, Rmdir, Rename, Stat, List as ListNames, Osync, Dsync, Durable, Poll, Bad}
-use Rattle.lang_tree.specs.declared.command.Refusal.TheVariants.{DiskFault, Stopped}
+use Rattle.lang_tree.specs.declared.command.Refusal.TheVariants.{DiskFault, Spent, Stopped}
 use Rattle.lang_tree.specs.declared.command.Reply.{Reply}
 use Rattle.lang_tree.specs.declared.command.Reply.TheVariants.{Bad as NotUnderstood, Refused}
 use Rattle.lang_tree.specs.Step.{Session, start, session_on}
 use Rattle.lang_tree.specs.Tree.{Tree}
-use Rattle.engine_blocks.specs.State.{State}
+use Rattle.engine_blocks.specs.State.{Bookkeeping, State}
+use Rattle.fs_commands.specs.Applying.{is_spent}
 use Rattle.fs_commands.specs.Serving.{RoomOn, room_on}
 use Rattle.fs_commands.specs.DiskRoom.{AnswersOn, ComesBack, IsRoomOf, KeepsRoom, RunsOn}
 use Rattle.fs_commands.specs.Memory.{room_of}
@@ -36,20 +38,18 @@ use Rattle.fs_commands.specs.Sessions.{IsSession}
 use Rattle.cmd_session.specs.Budget.{KeepsBudget, SpendsByMarks, budget_of}
 use Rattle.cmd_session.specs.Crashes.{LeavesPoints, IsCrashConsistent}
 use Rattle.cmd_session.specs.Ending.{HasRun, is_none, over_after, ending_reply, ending_replies, ending_marks}
-use Rattle.cmd_session.specs.Histories.{last_mark, session_after}
+use Rattle.cmd_session.specs.Histories.{last_mark}
 use Rattle.cmd_session.specs.Issued.{IssuesLast}
-use Rattle.cmd_session.specs.Records.{own_records}
+use Rattle.cmd_session.specs.Going.{GoesByLog, pace_of}
+use Rattle.cmd_session.specs.Pacing.{Pace}
+use Rattle.cmd_session.specs.Taking.{nothing_taken}
 use Rattle.cmd_record.specs.Disks.{IsOpened}
-use Rattle.cmd_record.specs.Behaving.{Span, is_fault, makes_point, nothing_taken, session_by}
+use Rattle.cmd_record.specs.Behaving.{pace_at_first, room_at_first, session_by}
 use Rattle.cmd_record.specs.Mounts.{MountsOnce}
 use Rattle.cmd_record.specs.Traces.{Serves, ServesBy, Setting, says}
-use Rattle.cmd_record.specs.Running.{AnsweredIn, Ran, PacedRun, Records, GoesOnWith, RunLaws, KnownRun, IsAnswered, pace_of}
+use Rattle.cmd_record.specs.Running.{BeginsSo, Ran, PacedRun, Records, GoesOnWith, RunLaws, KnownRun, IsAnswered}
 use Rattle.cmd_record.proofs.Entries.{front_on, one_entry, first_line}
 use Rattle.cmd_record.proofs.MountLemmas.{honest_alike}
-use Rattle.cmd_record.proofs.Paces.{Waits, over_now, paced_on}
-use Rattle.cmd_record.proofs.Placed.{one_more, placed_first, placed_in}
-use Rattle.cmd_record.proofs.Rooms.{answered_by, room_first}
-use Rattle.cmd_record.proofs.Waiting.{calm_on, done_fits, hears_on, idle_on, keeps_at_first, keeps_on, knows_on, own_begun, ring_on, spends_on, unwritten_on}
 
 -- Runs joined.
 
@@ -257,7 +257,7 @@ module _ (set : Setting) (laws : RunLaws set.shape) (s : State) (mounted : ℕ) 
 
   here_by : Each IsCommand cmds → ServesBy set cmds text
   unfolding here serves
-  here_by commands = record { served = here commands; goes = record { writes = paced.writes; last = pace_of paced.taken s; paces = paced.paces; opens = paced.opens; mounts = paced.mounts; once = paced.once; unspent = paced.unspent } }
+  here_by commands = record { served = here commands; goes = record { writes = paced.writes; last = pace_of paced.goes.taken s; paces = paced.goes.paces; opens = paced.opens; alone = paced.goes.alone refl; mounts = paced.mounts; once = paced.once; unspent = paced.unspent } }
 
   goes_on : (cmd : Cmd) (more : List Cmd) → GoesOnWith g cmds text cmd more
   goes_on cmd more =
@@ -314,6 +314,47 @@ module _ (cmd : Cmd) (reply : Reply) (old new : State) (a : IsAnswered cmd reply
         answers = each_append IsReply replies (reply ∷ []) ran.answers (lawful, tt);
       }
 
+-- Lists with one element more.
+
+get_split_at : {A : Type 0} (xs : List A) (x y : A) (i : ℕ) → slice_get (xs ++ x ∷ []) i ≡ Some y → (slice_get xs i ≡ Some y) ⊎ ((x ≡ y) × (i ≡ length xs))
+get_split_at [] x y zero is = inr (ap (λ o. unwrap_or o x) is, refl)
+get_split_at [] x y (suc i) is = inl is
+get_split_at (z ∷ xs) x y zero is = inl is
+get_split_at (z ∷ xs) x y (suc i) is = by (get_split_at xs x y i is)
+  where
+    by : (slice_get xs i ≡ Some y) ⊎ ((x ≡ y) × (i ≡ length xs)) → (slice_get (z ∷ xs) (suc i) ≡ Some y) ⊎ ((x ≡ y) × (suc i ≡ length (z ∷ xs)))
+    by (inl earlier) = inl earlier
+    by (inr last) = inr (last.0, ap suc last.1)
+
+-- numbers that are used up are far
+spent_far : (k : Bookkeeping) → is_spent k ≡ true → 2 ^ 63 - 8 ≤ k.turns
+spent_far k is = leb-true (2 ^ 63 - 8) k.turns is
+
+module _ (cmd : Cmd) (reply : Reply) (old new : State) (a : IsAnswered cmd reply old new) (g : Geometry) (m : Manner) (f : Session) (mounted : ℕ) (cmds : List Cmd) (replies : List Reply) (marks : List ℕ) (session : IsSession old f) (run : PacedRun g m mounted cmds replies marks old)
+    (goes : GoesByLog true (session_by g mounted) (formatted g) m (pace_at_first g mounted) (start g.i).tree (cmds ++ cmd ∷ []) (replies ++ reply ∷ []) (marks ++ length new.crash.log ∷ []) new) where
+  -- so many commands don't use the numbers up
+  unspent_on : (i : ℕ) → i < 2 ^ 40 → slice_get (replies ++ reply ∷ []) i ≡ Some (Refused Spent) → ⊥
+  unspent_on i few at = by (get_split_at replies reply (Refused Spent) i at)
+    where
+      by : (slice_get replies i ≡ Some (Refused Spent)) ⊎ ((reply ≡ Refused Spent) × (i ≡ length replies)) → ⊥
+      by (inl earlier) = run.unspent i few earlier
+      by (inr now) = absurd (omega (arith, few, now.1, run.turns, spent_far old.books (a.spent f session now.0)))
+
+  -- the first events are the same
+  front : take mounted new.crash.log ≡ take mounted old.crash.log
+  front = ap (λ (es : List Event). take mounted es) a.grows.log ∙ take-append-le mounted old.crash.log a.grows.more run.goes.of_mount.late
+
+  pub paced_on : PacedRun g m mounted (cmds ++ cmd ∷ []) (replies ++ reply ∷ []) (marks ++ length new.crash.log ∷ []) new
+  paced_on = record {
+    writes = subst (λ (x : Manner). GoesBy x new.crash.log) goes.manner a.writes;
+    goes = goes;
+    opens = run.opens;
+    mounts = ap has_lost front ∙ run.mounts;
+    once = subst (MountsOnce g) (sym front) run.once;
+    turns = omega (arith, a.turns, run.turns, length-append replies (reply ∷ []));
+    unspent = unspent_on;
+  }
+
 -- the text of the longer run is that so far, and the command's entry behind it
 pub text_on : (g : Geometry) (old new : List Event) (mounted : ℕ) (cmds : List Cmd) (replies : List Reply) (marks : List ℕ) (cmd : Cmd) (reply : Reply) → Grows old new → length cmds ≡ length replies → length marks ≡ length replies → Ascend mounted marks (length old)
     → front_of (says g new mounted (cmds ++ cmd ∷ []) (replies ++ reply ∷ []) (marks ++ length new ∷ [])) ≡ front_of (says g old mounted cmds replies marks) ++ entry (drop (length old) new) cmd reply (length new)
@@ -328,37 +369,8 @@ pub records_on : (cmd : Cmd) (reply : Reply) (old new : State) → IsAnswered cm
 records_on cmd reply old new a laws known lawful set past text r =
     let g = set.shape in
     let ran = ran_on cmd reply old new a lawful g r.mounted past r.replies r.marks r.ran in
-    let over = over_now cmd reply old new a.steps a.grows r.replies r.ran.served.goes_on.ended ran.served.goes_on.ended ran.served.goes_on.going in
-    let f = session_after (start g.i) past r.replies in
-    let in_room = a.rooms f r.ran.served.goes_on.session in
-    let room : AnsweredIn f cmd reply in_room.0 old new = in_room.1 in
-    let ses = session_by g r.mounted in
-    let alone : old.counts.ticks.manner.waits_alone ≡ true = ap (λ (m : Manner). m.waits_alone) r.paced.manner ∙ r.paced.alone in
-    let mine = own_begun cmd reply old new a.waits a.grows g r.mounted past r.replies r.marks r.ran.served ran.served r.ran.budget.weight over r.paced.taken r.paced.keeps r.paced.records r.paced.within in_room.0 room alone in
-    let rests : old.books.stopped ≡ true → new.crash.log ≡ old.crash.log = λ stopped. (a.steps.rests (inr stopped)).1.0 in
-    let keeps = keeps_on cmd reply old new a.waits a.grows g r.mounted past r.replies r.marks r.ran.served ran.served r.ran.budget.weight over r.paced.taken r.paced.keeps r.paced.records r.paced.within in_room.0 room alone mine.0 mine.1 rests in
-    let late : Span = record { begun = mine.0; mark = length new.crash.log } in
-    let own = own_records ses new.crash.log (length room.behind) (length new.crash.log) in
-    let asked : IsSession old r.paced.taken.session = subst (λ (x : Session). IsSession old x) (sym r.paced.keeps.session) r.ran.served.goes_on.session in
-    let placed = placed_in g (laws g r.ran.fits) r.paced.taken.session (length r.paced.taken.spans) cmd reply old new a.points r.ran.served.geom asked (a.waits.room r.paced.taken.session asked) (a.room r.paced.taken.session asked)
-    (λ going. (or_parts old.books.stopped (is_fault reply) (sym over ∙ going)).0) r.paced.keeps.spans (λ going. sym (one_more r.paced.taken.spans late (makes_point r.paced.taken.session cmd reply)) ∙ keeps.spans going) ran.base r.paced.placed in
-    let waits : Waits cmd reply old new a.steps a.grows r.replies r.ran.served.goes_on.ended ran.served.goes_on.ended ran.served.goes_on.going g r.mounted r.paced.taken room.behind mine.0 = record {
-      from = mine.1.from;
-      ring = ring_on cmd reply old new a.waits a.grows g r.mounted past r.replies r.marks r.ran.served ran.served r.ran.budget.weight over r.paced.taken r.paced.keeps r.paced.records r.paced.within in_room.0 room alone;
-      written = mine.1.written;
-      idle = idle_on cmd reply old new a.waits a.grows g r.mounted past r.replies r.marks r.ran.served ran.served r.ran.budget.weight over r.paced.taken r.paced.keeps r.paced.records r.paced.within in_room.0 room alone;
-      unwritten = unwritten_on cmd reply old new a.waits a.grows g r.mounted past r.replies r.marks r.ran.served ran.served r.ran.budget.weight over r.paced.taken r.paced.keeps r.paced.records r.paced.within in_room.0 room alone;
-      calm = calm_on cmd reply old new a.waits a.grows g r.mounted past r.replies r.marks r.ran.served ran.served r.ran.budget.weight over r.paced.taken r.paced.keeps r.paced.records r.paced.within in_room.0 room alone a.steps.ticks;
-      hears = hears_on cmd reply old new a.waits a.grows g r.mounted past r.replies r.marks r.ran.served ran.served r.ran.budget.weight over r.paced.taken r.paced.keeps r.paced.records r.paced.within in_room.0 room alone mine.0 mine.1 a.lawful.lawful;
-      knows = knows_on cmd reply old new a.waits a.grows g r.mounted past r.replies r.marks r.ran.served ran.served r.ran.budget.weight over r.paced.taken r.paced.keeps r.paced.records r.paced.within in_room.0 room alone;
-      told = λ n asks said. (a.waits.known n asks said).0;
-      rises = a.waits.floor;
-      spends = spends_on cmd reply old new a.waits a.grows g r.mounted past r.replies r.marks r.ran.served ran.served r.ran.budget.weight over r.paced.taken r.paced.keeps r.paced.records r.paced.within in_room.0 room alone mine.0 mine.1 rests;
-      placed = placed;
-    } in
-    let fits = done_fits cmd reply old new a.waits a.grows g r.mounted past r.replies r.marks r.ran.served ran.served r.ran.budget.weight over r.paced.taken r.paced.keeps r.paced.records r.paced.within in_room.0 room alone set.manner in
-    let by = answered_by g (laws g r.ran.fits) set.manner ses refl r.paced.taken old r.paced.manner r.paced.sure cmd reply new f in_room.0 room own late a.grows r.ran.served.geom r.paced.keeps.session fits in
-    let paced = paced_on cmd reply old new a.steps a.grows r.replies r.ran.served.goes_on.ended ran.served.goes_on.ended ran.served.goes_on.going g set.manner r.ran.after r.mounted past r.marks r.ran.session r.ran.served.ascend r.paced room.behind mine.0 room.goes_on waits by.0 by.1 a.sure a.records keeps in
+    let goes = a.goes (session_by g r.mounted) (formatted g) set.manner (pace_at_first g r.mounted) (start g.i).tree past r.replies r.marks r.ran.served r.ran.budget.weight r.paced.goes in
+    let paced = paced_on cmd reply old new a g set.manner r.ran.after r.mounted past r.replies r.marks r.ran.session r.paced goes in
     subst (λ (xs : List ℕ). Records set (past ++ cmd ∷ []) xs new)
     (text_on g old.crash.log new.crash.log r.mounted past r.replies r.marks cmd reply a.grows r.ran.served.answered r.ran.served.marked r.ran.served.ascend
     ∙ ap (λ (xs : List ℕ). xs ++ entry (drop (length old.crash.log) new.crash.log) cmd reply (length new.crash.log)) (sym r.is))
@@ -369,16 +381,26 @@ none_is : {A : Type 0} (i : ℕ) (x : A) → slice_get [] i ≡ Some x → ⊥
 none_is zero x is = cc
 none_is (suc i) x is = cc
 
--- The first moment of a recording: the mount's events, and no command.
+-- The first moment of a recording: the mount's events, and no command. The room is that of a formatted disk.
+
+first_room : (g : Geometry) (r : Room) → IsFirstRoom g r → r ≡ (room_at_first g).room
+first_room g r is =
+    ap₂ (λ (w h : ℕ). record { weight = w; held = h; takeable = r.takeable; places = r.places }) is.weight is.held
+    ∙ ap₂ (λ (xs : List ℕ) (at : ℕ → List ℕ). record { weight = 0; held = 0; takeable = xs; places = at }) is.takeable (fun_ext is.places)
+
+room_first : (g : Geometry) (s : State) → IsFirstRoom g (room_of s) → ((b : ℕ) → s.books.since b ≡ None) → room_on s ≡ room_at_first g
+room_first g s room since = ap₂ (λ (r : Room) (of : ℕ → Option ℕ). record { room = r; since = of }) (first_room g (room_of s) room) (fun_ext since)
 
 pub front_at_first : (g : Geometry) (log : List Event) → front_of (says g log (length log) [] [] []) ≡ geometry_line g ++ event_lines log
 front_at_first g log = append-nil (geometry_line g ++ event_lines (take (length log) log)) ∙ ap (λ (es : List Event). geometry_line g ++ event_lines es) (take_all (length log) log (omega arith))
 
 pub at_first : (set : Setting) (s : State) → geometry_fits set.shape ≡ true → IsOpened set s → ((k : Geometry) → geometry_fits k ≡ true → RunLaws k)
-    → ((k : Geometry) (mounted : ℕ) (cmds : List Cmd) (replies : List Reply) (marks : List ℕ) → Ran k mounted cmds replies marks s → KnownRun k s mounted cmds replies marks)
+    → ((k : Geometry) (mounted : ℕ) (cmds : List Cmd) (replies : List Reply) (marks : List ℕ) → Ran k mounted cmds replies marks s → KnownRun k s mounted cmds replies marks) → BeginsSo s
     → Records set [] (geometry_line set.shape ++ event_lines s.crash.log) s
-at_first set s fits opened laws known =
+at_first set s fits opened laws known begins =
     let g = set.shape in
+    let ses = session_by g (length s.crash.log) in
+    let going : s.books.stopped ≡ false = opened.served.goes_on.going (λ i is. none_is i _ is) in
     let ran : Ran g (length s.crash.log) [] [] [] s = record {
       served = opened.served;
       first = room_of s;
@@ -394,23 +416,25 @@ at_first set s fits opened laws known =
       events = opened.events;
       answers = tt;
     } in
+    let pace : pace_of (nothing_taken (start g.i)) s ≡ pace_at_first g (length s.crash.log) =
+    ap₂ (λ (n : ℕ) (over : Bool). record { polls = n; events = length s.crash.log; over = over; durable = s.books.floor; taken = nothing_taken (start g.i); room = room_on s }) opened.polls going
+    ∙ ap₂ (λ (n : ℕ) (r : RoomOn). record { polls = 0; events = length s.crash.log; over = false; durable = n; taken = nothing_taken (start g.i); room = r }) opened.floor (room_first g s opened.room opened.since) in
     let paced : PacedRun g set.manner (length s.crash.log) [] [] [] s = record {
-      manner = opened.manner;
       writes = opened.writes;
-      taken = nothing_taken g;
-      keeps = keeps_at_first g s opened.owed (omega (arith, opened.served.goes_on.exact (opened.served.goes_on.going (λ i is. none_is i _ is)))) opened.may;
-      paces = ap₂ (λ (n : ℕ) (over : Bool). record { polls = n; events = length s.crash.log; over = over; durable = s.books.floor; taken = nothing_taken g; room = room_on s }) opened.polls (opened.served.goes_on.going (λ i is. none_is i _ is))
-          ∙ ap₂ (λ (n : ℕ) (r : RoomOn). record { polls = 0; events = length s.crash.log; over = false; durable = n; taken = nothing_taken g; room = r }) opened.floor (room_first g s opened.room opened.since);
-      records = opened.records;
-      sure = opened.sure;
+      goes = subst (λ (p : Pace). GoesByLog true ses (formatted g) set.manner p (start g.i).tree [] [] [] s) pace (begins ses (formatted g) set.manner (start g.i).tree (record {
+        limits = (laws g fits).limits;
+        of_mount = opened.of_mount;
+        manner = opened.manner;
+        ended = refl;
+        owed = opened.owed;
+        point = omega (arith, opened.served.goes_on.exact going);
+        only = opened.only;
+        alone = λ known. opened.alone;
+        unlost = λ known. (opened.faults, opened.unlost);
+      }));
       opens = opened.opens;
-      alone = opened.alone;
       mounts = ap has_lost (take_all (length s.crash.log) s.crash.log (omega arith)) ∙ opened.unlost;
       once = subst (MountsOnce g) (sym (take_all (length s.crash.log) s.crash.log (omega arith))) opened.once;
-      placed = placed_first g (laws g fits).places.limits (start g.i) s opened.served.geom (omega (arith, opened.served.goes_on.exact (opened.served.goes_on.going (λ i is. none_is i _ is)))) opened.only;
-      within = omega arith;
-      uncounted = λ going. opened.faults;
-      unlost = λ going. opened.unlost;
       turns = omega (arith, opened.turns);
       unspent = λ i few is. none_is i _ is;
     } in

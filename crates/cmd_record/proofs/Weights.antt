@@ -3,10 +3,11 @@ use Rattle.std.proofs.Common.{◌≡◌, ◌≢◌, ◌⊎◌, inl, inr, ℕ, ze
 use Rattle.std.proofs.Math.Logic.{∥∥₁_map}
 use Rattle.std.proofs.Math.Seq.{take-take}
 use Rattle.std.proofs.lemmas.Bool.Decides.{nat_tests}
-use Rattle.std.proofs.lemmas.Bool.{cases_Bool, cond-true, cond-false, eq-eqb, or_left, or_parts, or_right}
+use Rattle.std.proofs.lemmas.Bool.{cases_Bool, cond-true, cond-false, eq-eqb, false≢true, or_left, or_parts, or_right}
 use Rattle.std.proofs.lemmas.List.{take-append-drop}
 use Rattle.std.proofs.lemmas.List.FromFn.{length-range_with_len}
 use Rattle.std.specs.List.{filter}
+use Rattle.base_types.specs.Seal.{Blocks}
 use Rattle.disk_contract.specs.declared.event.Event.{Event}
 use Rattle.disk_contract.specs.declared.event.Event.TheVariants.{Wrote, Lost, Noticed}
 use Rattle.disk_contract.specs.Cell.{cell_of}
@@ -20,6 +21,7 @@ use Rattle.layout_journal.specs.Run.{places_from, places_told}
 use Rattle.crash_argument.specs.Points.{MountedSession, commits_told}
 use Rattle.engine_checkpoint.specs.Serving.{IsNewestAtRest}
 use Rattle.lang_tree.specs.declared.command.Cmd.{Cmd}
+use Rattle.lang_tree.specs.declared.command.Cmd.TheVariants.{Bad}
 use Rattle.lang_tree.specs.declared.command.Refusal.TheVariants.{DiskFault, Spent}
 use Rattle.lang_tree.specs.declared.command.Reply.{Reply}
 use Rattle.lang_tree.specs.declared.command.Reply.TheVariants.{Refused}
@@ -31,10 +33,11 @@ use Rattle.fs_commands.specs.DiskRoom.{AnswersOn}
 use Rattle.fs_commands.specs.Moments.{answer_in_room}
 use Rattle.fs_commands.specs.Room.{Room, figures_in}
 use Rattle.cmd_session.specs.Budget.{sync_places}
+use Rattle.cmd_session.specs.Pacing.{OrdersAtOnce, Pace, PacesBy, StepsBy, TellsRing, is_fault}
 use Rattle.cmd_session.specs.Records.{own_records}
-use Rattle.cmd_record.specs.Behaving.{OrdersAtOnce, Pace, PacesBy, StepsBy, TellsRing, is_done_sync, is_fault, pace_at_first, places_wanted, session_by}
+use Rattle.cmd_session.specs.Taking.{is_done_sync, places_wanted}
+use Rattle.cmd_record.specs.Behaving.{pace_at_first, session_by}
 use Rattle.cmd_record.specs.Weights.{blocks_needed, places_by_weight}
-use Rattle.cmd_record.proofs.Rooms.{sync_is_meant}
 
 -- Places of records.
 
@@ -78,6 +81,10 @@ keeps_all p (y ∷ ys) each =
     ap (λ (b : Bool). if b then y ∷ filter p ys else filter p ys) (each y (or_left (y == y) (has ys y) (eq-eqb y y refl)))
     ∙ ap (λ (zs : List ℕ). y ∷ zs) (keeps_all p ys (λ b is. each b (or_right (b == y) (has ys b) is)))
 
+-- a sync is no bad line
+sync_is_meant : (cmd : Cmd) → is_sync cmd ≡ true → cmd ≢ Bad
+sync_is_meant cmd of bad = false≢true (sym (ap is_sync bad) ∙ of)
+
 done_parts : (cmd : Cmd) (reply : Reply) → is_done_sync cmd reply ≡ true → (is_sync cmd ≡ true) × (is_refusal reply ≡ false)
 done_parts cmd reply = by (is_sync cmd) (is_refusal reply)
   where
@@ -91,7 +98,7 @@ parts_done true false is other = refl
 parts_done true true is other = cc
 parts_done false b is other = cc
 
-module _ (ses : MountedSession) (m : Manner) (log : List Event) (cmd : Cmd) (reply : Reply) (old new : Pace) (step : StepsBy ses m log cmd reply old new) (going : old.over ≡ false) where
+module _ (ses : MountedSession) (base : Blocks) (m : Manner) (counts : Bool) (log : List Event) (cmd : Cmd) (reply : Reply) (old new : Pace) (step : StepsBy ses base m counts log cmd reply old new) (going : old.over ≡ false) where
   abbrev own : List Commit
   own = own_records ses log step.room.behind new.events
 
@@ -140,13 +147,13 @@ module _ (ses : MountedSession) (m : Manner) (log : List Event) (cmd : Cmd) (rep
 
   -- so it orders at once where that many fit
   orders : is_sync cmd ≡ true → reply ≢ Refused Spent → m.waits_alone ≡ true → places_from 0 old.taken.records + sync_places old.taken.weight ≤ ses.geom.j
-      → OrdersAtOnce ses (take step.room.behind log) old.taken (places_wanted reply old.taken.weight own) ⊎ ((new.events ≡ step.room.behind) × (reply ≡ Refused DiskFault))
+      → OrdersAtOnce ses base (take step.room.behind log) old.taken (places_wanted reply old.taken.weight own) ⊎ ((new.events ≡ step.room.behind) × (reply ≡ Refused DiskFault))
   orders sync unspent alone fits = by (step.does.ring (sync_is_meant cmd sync) going unspent alone)
     where
-      by : TellsRing ses (take step.room.behind log) old.taken.records ⊎ ((new.events ≡ step.room.behind) × (reply ≡ Refused DiskFault))
-          → OrdersAtOnce ses (take step.room.behind log) old.taken (places_wanted reply old.taken.weight own) ⊎ ((new.events ≡ step.room.behind) × (reply ≡ Refused DiskFault))
+      by : TellsRing ses base (take step.room.behind log) old.taken.records ⊎ ((new.events ≡ step.room.behind) × (reply ≡ Refused DiskFault))
+          → OrdersAtOnce ses base (take step.room.behind log) old.taken (places_wanted reply old.taken.weight own) ⊎ ((new.events ≡ step.room.behind) × (reply ≡ Refused DiskFault))
       by (inr all) = inr all
-      by (inl ring) = inl (inr (∥∥₁_map ring.header (λ (h : (header : Header) × IsNewestAtRest ses.geom.n (cell_of (formatted ses.geom) (take step.room.behind log)) header). (
+      by (inl ring) = inl (inr (∥∥₁_map ring.header (λ (h : (header : Header) × IsNewestAtRest ses.geom.n (cell_of base (take step.room.behind log)) header). (
         h.0,
         record {
           newest = h.1;
@@ -167,7 +174,7 @@ module _ (g : Geometry) (m : Manner) (log : List Event) (mounted : ℕ) where
   ses = session_by g mounted
 
   -- where no call of the disk has failed at the end, none had before
-  going_on : (cmds : List Cmd) (replies : List Reply) (marks : List ℕ) (p last : Pace) → PacesBy ses m log p cmds replies marks last → last.over ≡ false → p.over ≡ false
+  going_on : (cmds : List Cmd) (replies : List Reply) (marks : List ℕ) (p last : Pace) → PacesBy ses (formatted g) m true log p cmds replies marks last → last.over ≡ false → p.over ≡ false
   going_on [] [] [] p last paces going = sym (ap (λ (x : Pace). x.over) paces) ∙ going
   going_on [] [] (k ∷ marks) p last paces going = absurd paces
   going_on [] (r ∷ replies) marks p last paces going = absurd paces
@@ -175,7 +182,7 @@ module _ (g : Geometry) (m : Manner) (log : List Event) (mounted : ℕ) where
   going_on (c ∷ cmds) (r ∷ replies) [] p last paces going = absurd paces
   going_on (c ∷ cmds) (r ∷ replies) (k ∷ marks) p last paces going = (or_parts p.over (is_fault r) (sym paces.2.over ∙ going_on cmds replies marks paces.0 last paces.3 going)).0
 
-  places_within : (cmds : List Cmd) (replies : List Reply) (marks : List ℕ) (p last : Pace) → PacesBy ses m log p cmds replies marks last → last.over ≡ false
+  places_within : (cmds : List Cmd) (replies : List Reply) (marks : List ℕ) (p last : Pace) → PacesBy ses (formatted g) m true log p cmds replies marks last → last.over ≡ false
       → places_from 0 last.taken.records ≤ places_from 0 p.taken.records + places_by_weight g p.taken.session p.taken.weight cmds replies
   places_within [] [] [] p last paces going = omega (arith, ap (λ (x : Pace). places_from 0 x.taken.records) paces)
   places_within [] [] (k ∷ marks) p last paces going = absurd paces
@@ -186,14 +193,14 @@ module _ (g : Geometry) (m : Manner) (log : List Event) (mounted : ℕ) where
     arith,
     places_within cmds replies marks paces.0 last paces.3 going,
     ap (λ t. places_by_weight g t.session t.weight cmds replies) paces.2.does.taken,
-    records_places ses m log c r p paces.0 paces.2 (going_on (c ∷ cmds) (r ∷ replies) (k ∷ marks) p last paces going),
+    records_places ses (formatted g) m true log c r p paces.0 paces.2 (going_on (c ∷ cmds) (r ∷ replies) (k ∷ marks) p last paces going),
   )
 
-  pub finds_places : (cmds : List Cmd) (replies : List Reply) (marks : List ℕ) (last next : Pace) (cmd : Cmd) (reply : Reply) → PacesBy ses m log (pace_at_first g mounted) cmds replies marks last → (step : StepsBy ses m log cmd reply last next)
+  pub finds_places : (cmds : List Cmd) (replies : List Reply) (marks : List ℕ) (last next : Pace) (cmd : Cmd) (reply : Reply) → PacesBy ses (formatted g) m true log (pace_at_first g mounted) cmds replies marks last → (step : StepsBy ses (formatted g) m true log cmd reply last next)
       → is_sync cmd ≡ true → last.over ≡ false → reply ≢ Refused Spent → m.waits_alone ≡ true → places_by_weight g (start g.i) 0 cmds replies + sync_places last.taken.weight ≤ g.j
-      → OrdersAtOnce ses (take step.room.behind log) last.taken (places_wanted reply last.taken.weight (own_records ses log step.room.behind next.events)) ⊎ ((next.events ≡ step.room.behind) × (reply ≡ Refused DiskFault))
+      → OrdersAtOnce ses (formatted g) (take step.room.behind log) last.taken (places_wanted reply last.taken.weight (own_records ses log step.room.behind next.events)) ⊎ ((next.events ≡ step.room.behind) × (reply ≡ Refused DiskFault))
   finds_places cmds replies marks last next cmd reply paces step sync going unspent alone fits =
-      orders ses m log cmd reply last next step going sync unspent alone (omega (arith, fits, places_within cmds replies marks (pace_at_first g mounted) last paces going))
+      orders ses (formatted g) m true log cmd reply last next step going sync unspent alone (omega (arith, fits, places_within cmds replies marks (pace_at_first g mounted) last paces going))
 
   -- Blocks.
 
@@ -204,7 +211,7 @@ module _ (g : Geometry) (m : Manner) (log : List Event) (mounted : ℕ) where
   abbrev pub TakesFew : Type 0
   TakesFew = (f next : Session) (old new : Room) (cmd : Cmd) (reply : Reply) → AnswersOn g f old cmd reply next new → IsAscending old → IsAscending new × (length old.takeable ≤ length new.takeable + (if is_refusal reply then 0 else (figures_in g f cmd).need))
 
-  blocks_within : TakesFew → (cmds : List Cmd) (replies : List Reply) (marks : List ℕ) (p last : Pace) → PacesBy ses m log p cmds replies marks last → IsAscending p.room.room
+  blocks_within : TakesFew → (cmds : List Cmd) (replies : List Reply) (marks : List ℕ) (p last : Pace) → PacesBy ses (formatted g) m true log p cmds replies marks last → IsAscending p.room.room
       → length p.room.room.takeable ≤ length last.room.room.takeable + blocks_needed g p.taken.session cmds replies
   blocks_within few [] [] [] p last paces up = omega (arith, ap (λ (x : Pace). length x.room.room.takeable) paces)
   blocks_within few [] [] (k ∷ marks) p last paces up = absurd paces
@@ -216,7 +223,7 @@ module _ (g : Geometry) (m : Manner) (log : List Event) (mounted : ℕ) where
       let one = few p.taken.session next.taken.session p.room.room next.room.room c r (answer_in_room g _ _ p.taken.session p.room c r next.taken.session next.room paces.2.room.answers) up in
       omega (arith, one.1, blocks_within few cmds replies marks next last paces.3 one.0, ap (λ t. blocks_needed g t.session cmds replies) paces.2.does.taken)
 
-  pub finds_enough : TakesFew → (cmds : List Cmd) (replies : List Reply) (marks : List ℕ) (last : Pace) (need : ℕ) → PacesBy ses m log (pace_at_first g mounted) cmds replies marks last
+  pub finds_enough : TakesFew → (cmds : List Cmd) (replies : List Reply) (marks : List ℕ) (last : Pace) (need : ℕ) → PacesBy ses (formatted g) m true log (pace_at_first g mounted) cmds replies marks last
       → blocks_needed g (start g.i) cmds replies + need ≤ g.n - data_start g → need ≤ length last.room.room.takeable
   finds_enough few cmds replies marks last need paces enough =
       omega (arith, enough, blocks_within few cmds replies marks (pace_at_first g mounted) last paces all_data, length-range_with_len (data_start g) (g.n - data_start g))

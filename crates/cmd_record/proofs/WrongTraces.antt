@@ -1,15 +1,16 @@
 -- Traces of wrong programs, each refused by a field of the clause.
-use Rattle.std.proofs.Common.{◌≡◌, ◌≢◌, ◌⊎◌, inl, inr, ⊎_elim, ℕ, zero, suc, ◌+◌, ◌<◌, ◌≤◌, ◌&&◌, ◌||◌, not, if◌then◌else◌, Bool, true, false, List, [], ◌∷◌, ◌++◌, length, take, drop, Option, Some, None, refl, sym, ap, ◌∙◌, subst, arith}
+use Rattle.std.proofs.Common.{◌≡◌, ◌≢◌, ◌⊎◌, inl, inr, ⊎_elim, ℕ, zero, suc, ◌+◌, ◌<◌, ◌≤◌, ◌==◌, ◌&&◌, ◌||◌, not, if◌then◌else◌, Bool, true, false, List, [], ◌∷◌, ◌++◌, length, take, drop, Option, Some, None, unwrap_or, refl, sym, ap, ◌∙◌, subst, arith}
 use Rattle.std.proofs.Props.{props}
 use Rattle.std.proofs.Math.Logic.{∥∥₁_elim, ∥∥₁_map}
 use Rattle.std.proofs.Math.Seq.{take-take}
-use Rattle.std.proofs.lemmas.Bool.{cases_Bool, false≢true, true≢false}
+use Rattle.std.proofs.lemmas.Bool.{cases_Bool, false≢true, or_left, or_right, true≢false}
 use Rattle.std.proofs.lemmas.List.{take-append-drop}
 use Rattle.std.specs.List.{slice_get}
+use Rattle.base_types.specs.Seal.{Blocks}
 use Rattle.disk_contract.specs.declared.event.Event.{Event}
 use Rattle.disk_contract.specs.declared.event.Event.TheVariants.{Wrote, Lost, Noticed}
 use Rattle.disk_contract.specs.Cell.{cell_of, is_accepted, is_noticed, IsNoticed}
-use Rattle.disk_contract.specs.Disk.{PollsThenWrites, writes_in}
+use Rattle.disk_contract.specs.Disk.{writes_in}
 use Rattle.disk_contract.specs.Manner.{Manner, Polled, after_polls}
 use Rattle.layout_geometry.specs.Geometry.{Geometry, bitmap_blocks}
 use Rattle.layout_journal.specs.Formatted.{formatted}
@@ -30,17 +31,34 @@ use Rattle.lang_tree.specs.Figures.{figures_by}
 use Rattle.lang_tree.specs.Points.{is_refusal, is_sync}
 use Rattle.lang_tree.specs.Tree.{Tree}
 use Rattle.cmd_session.specs.Budget.{commits, sync_budget}
+use Rattle.cmd_session.specs.Pacing.{FailsSince, OrdersAtOnce, Pace, StepsBy, TellsRing}
 use Rattle.cmd_session.specs.Records.{own_records}
-use Rattle.cmd_record.specs.Behaving.{CameIn, FailsSince, OrdersAtOnce, Pace, Span, StepsBy, TellsRing, makes_point, pace_at_first, places_wanted, session_by}
+use Rattle.cmd_session.specs.Taking.{CameIn, Span, makes_point, places_wanted}
+use Rattle.cmd_record.specs.Behaving.{pace_at_first, session_by}
 use Rattle.cmd_record.specs.WrongTraces.{Goes, IsHeard, IsUnwritten, LosesOwn, WaitsForNothing}
-use Rattle.cmd_record.proofs.Paces.{get_split}
-use Rattle.cmd_record.proofs.Waiting.{accepted_on}
 use Rattle.cmd_record.proofs.Weights.{none_written}
+
+-- A list with one element more, and a log that goes on.
+
+get_split : {A : Type 0} (xs : List A) (x y : A) (i : ℕ) → slice_get (xs ++ x ∷ []) i ≡ Some y → (slice_get xs i ≡ Some y) ⊎ (x ≡ y)
+get_split [] x y zero is = inr (ap (λ o. unwrap_or o x) is)
+get_split [] x y (suc i) is = inl is
+get_split (z ∷ xs) x y zero is = inl is
+get_split (z ∷ xs) x y (suc i) is = get_split xs x y i is
+
+accepted_on : (t : ℕ) (xs ys : List Event) → is_accepted t xs ≡ true → is_accepted t (xs ++ ys) ≡ true
+accepted_on t [] ys is = absurd (false≢true is)
+accepted_on t (Wrote ticket block bytes ∷ xs) ys is =
+    ⊎_elim (λ here. or_left (ticket == t) (is_accepted t (xs ++ ys)) here)
+    (λ not. or_right (ticket == t) (is_accepted t (xs ++ ys)) (accepted_on t xs ys (sym (ap (λ (b : Bool). b || is_accepted t xs) not) ∙ is)))
+    (cases_Bool (ticket == t))
+accepted_on t (Lost block bytes ∷ xs) ys is = accepted_on t xs ys is
+accepted_on t (Noticed ticket ∷ xs) ys is = accepted_on t xs ys is
 
 -- Lost writes.
 
-pub lost_is_refused : (s : MountedSession) (m : Manner) (log : List Event) (cmd : Cmd) (reply : Reply) (old new : Pace) → StepsBy s m log cmd reply old new → LosesOwn log old new → (n : ℕ) → reply ≢ Synced n
-lost_is_refused s m log cmd reply old new step lost n is = false≢true (ap is_refusal (sym is ∙ step.loses lost))
+pub lost_is_refused : (s : MountedSession) (base : Blocks) (m : Manner) (log : List Event) (cmd : Cmd) (reply : Reply) (old new : Pace) → StepsBy s base m true log cmd reply old new → LosesOwn log old new → (n : ℕ) → reply ≢ Synced n
+lost_is_refused s base m log cmd reply old new step lost n is = false≢true (ap is_refusal (sym is ∙ step.loses refl lost))
 
 lost_behind_front : (n : ℕ) (xs : List Event) (block : ℕ) (bytes : List ℕ) → n ≤ length xs → has_lost (drop n (xs ++ Lost block bytes ∷ [])) ≡ true
 lost_behind_front zero [] block bytes le = refl
@@ -50,8 +68,8 @@ lost_behind_front zero (Noticed t ∷ xs) block bytes le = lost_behind_front zer
 lost_behind_front (suc n) [] block bytes le = absurd (omega (arith, le))
 lost_behind_front (suc n) (x ∷ xs) block bytes le = lost_behind_front n xs block bytes (omega (arith, le))
 
-pub at_last : (s : MountedSession) (m : Manner) (log : List Event) (cmd : Cmd) (old new : Pace) → StepsBy s m log cmd (Refused DiskFault) old new → m.refuses (take new.events log) ≡ false → m.stalls ≡ false → LosesOwn log old new
-at_last s m log cmd old new step room still = ∥∥₁_elim (step.fails refl) (search props) by
+pub at_last : (s : MountedSession) (base : Blocks) (m : Manner) (log : List Event) (cmd : Cmd) (old new : Pace) → StepsBy s base m true log cmd (Refused DiskFault) old new → m.refuses (take new.events log) ≡ false → m.stalls ≡ false → LosesOwn log old new
+at_last s base m log cmd old new step room still = ∥∥₁_elim (step.fails (inl refl) refl) (search props) by
   where
     by : FailsSince m old.events (take new.events log) → LosesOwn log old new
     by (inl lost) = ap (λ (es : List Event). has_lost (drop old.events es)) lost.last.is ∙ lost_behind_front old.events lost.last.before lost.last.block lost.last.bytes lost.since
@@ -60,7 +78,7 @@ at_last s m log cmd old new step room still = ∥∥₁_elim (step.fails refl) (
 
 -- Writes for which nothing stands.
 
-pub writes_none : (g : Geometry) (m : Manner) (log : List Event) (mounted : ℕ) (cmd : Cmd) (reply : Reply) (new : Pace) → StepsBy (session_by g mounted) m log cmd reply (pace_at_first g mounted) new → is_sync cmd ≡ false → writes_in (take new.events log) ≤ writes_in (take mounted log)
+pub writes_none : (g : Geometry) (m : Manner) (log : List Event) (mounted : ℕ) (cmd : Cmd) (reply : Reply) (new : Pace) → StepsBy (session_by g mounted) (formatted g) m true log cmd reply (pace_at_first g mounted) new → is_sync cmd ≡ false → writes_in (take new.events log) ≤ writes_in (take mounted log)
 writes_none g m log mounted cmd reply new step other = omega (
   arith,
   step.spends,
@@ -81,8 +99,8 @@ writes_none g m log mounted cmd reply new step other = omega (
 
 -- Waits.
 
-module _ (s : MountedSession) (m : Manner) (log : List Event) (reply : Reply) (old new : Pace) where
-  pub waits_in_none : (step : StepsBy s m log Osync reply old new) → Goes m reply old → IsUnwritten s (take step.room.behind log) → places_wanted reply old.taken.weight (own_records s log step.room.behind new.events) ≤ s.geom.j → WaitsForNothing m log old new
+module _ (s : MountedSession) (base : Blocks) (m : Manner) (counts : Bool) (log : List Event) (reply : Reply) (old new : Pace) where
+  pub waits_in_none : (step : StepsBy s base m counts log Osync reply old new) → Goes m reply old → IsUnwritten s (take step.room.behind log) → places_wanted reply old.taken.weight (own_records s log step.room.behind new.events) ≤ s.geom.j → WaitsForNothing m log old new
   waits_in_none step goes none fits = by (step.does.ring meant goes.going goes.unspent goes.alone)
     where
       meant : Osync ≢ Rattle.lang_tree.specs.declared.command.Cmd.TheVariants.Bad
@@ -91,14 +109,14 @@ module _ (s : MountedSession) (m : Manner) (log : List Event) (reply : Reply) (o
       wanted : ℕ
       wanted = places_wanted reply old.taken.weight (own_records s log step.room.behind new.events)
 
-      by : TellsRing s (take step.room.behind log) old.taken.records ⊎ ((new.events ≡ step.room.behind) × (reply ≡ Refused DiskFault)) → WaitsForNothing m log old new
-      by (inl ring) = step.does.calm meant goes.going goes.unspent goes.alone (inr (∥∥₁_map ring.header (λ (h : (header : Header) × IsNewestAtRest s.geom.n (cell_of (formatted s.geom) (take step.room.behind log)) header). (
+      by : TellsRing s base (take step.room.behind log) old.taken.records ⊎ ((new.events ≡ step.room.behind) × (reply ≡ Refused DiskFault)) → WaitsForNothing m log old new
+      by (inl ring) = step.does.calm meant goes.going goes.unspent goes.alone (inr (∥∥₁_map ring.header (λ (h : (header : Header) × IsNewestAtRest s.geom.n (cell_of base (take step.room.behind log)) header). (
         h.0,
         record { newest = h.1; fits = omega (arith, ap (λ (cs : List Commit). places_from h.0.start cs) (none_written s.geom s.epoch (drop s.mounted (take step.room.behind log)) none), fits) },
       ))))
       by (inr all) = λ p polled. ((step.ticks meant goes.going goes.unspent p polled).0, subst (λ (n : ℕ). Rattle.disk_contract.specs.Disk.GrowsByWrites p.log (take n log)) (sym all.0) (step.room.ticks meant goes.going goes.unspent p polled).1)
 
-  pub waits_to_look : (path : List (List ℕ)) → StepsBy s m log (Stat path) reply old new → Goes m reply old → WaitsForNothing m log old new
+  pub waits_to_look : (path : List (List ℕ)) → StepsBy s base m counts log (Stat path) reply old new → Goes m reply old → WaitsForNothing m log old new
   waits_to_look path step goes = step.does.calm (λ is. cc) goes.going goes.unspent goes.alone (omega (arith, none old.taken.session.tree (refusal old.taken.session.limit old.taken.session.tree (Stat path))))
     where
       none : (t : Tree) (why : Option Refusal) → (figures_by (bitmap_blocks s.geom) t (Stat path) why).need ≡ 0
@@ -111,7 +129,7 @@ module _ (s : MountedSession) (m : Manner) (log : List Event) (reply : Reply) (o
       ap (is_accepted t) (sym (take-append-drop behind (take begun (take upto log))))
       ∙ accepted_on t (take behind (take begun (take upto log))) (drop behind (take begun (take upto log))) (ap (is_accepted t) (take-take behind begun (take upto log) early ∙ take-take behind upto log late) ∙ is)
 
-  pub heard_behind : (p : Polled) (t : ℕ) → (step : StepsBy s m log Dsync reply old new) → Goes m reply old → OrdersAtOnce s (take step.room.behind log) old.taken (places_wanted reply old.taken.weight (own_records s log step.room.behind new.events)) → after_polls m 64 old.polls (take old.events log) ≡ Some p
+  pub heard_behind : (p : Polled) (t : ℕ) → (step : StepsBy s base m counts log Dsync reply old new) → Goes m reply old → OrdersAtOnce s base (take step.room.behind log) old.taken (places_wanted reply old.taken.weight (own_records s log step.room.behind new.events)) → after_polls m 64 old.polls (take old.events log) ≡ Some p
       → ((k : ℕ) (span : Span) → slice_get old.taken.spans k ≡ Some span → CameIn (take new.events log) span t → ⊥) → is_noticed t p.log ≡ false → IsNoticed t (take new.events log) → is_accepted t (take step.room.behind log) ≡ false
   heard_behind p t step goes finds polled others not_yet noticed = by (step.does.waits refl goes.going goes.unspent goes.alone finds p polled t noticed)
     where
@@ -153,8 +171,8 @@ below_length [] x k is = absurd (none k is)
 below_length (y ∷ xs) x zero is = omega arith
 below_length (y ∷ xs) x (suc k) is = omega (arith, below_length xs x k is)
 
-pub knows_more : (s : MountedSession) (m : Manner) (log : List Event) (n : ℕ) (span : Span) (old new : Pace) → StepsBy s m log Durable (Known n) old new → m.waits_alone ≡ true → slice_get old.taken.spans n ≡ Some span → IsHeard (take new.events log) span → ⊥
-knows_more s m log n span old new step alone is heard = ∥∥₁_elim ((step.known n refl refl alone).next (below_length old.taken.spans span n is)) (λ one other. absurd one) (λ (x : (other : Span) × (t : ℕ) × (slice_get old.taken.spans n ≡ Some other) × CameIn (take new.events log) other t × ¬ IsNoticed t (take new.events log)).
+pub knows_more : (s : MountedSession) (base : Blocks) (m : Manner) (counts : Bool) (log : List Event) (n : ℕ) (span : Span) (old new : Pace) → StepsBy s base m counts log Durable (Known n) old new → m.waits_alone ≡ true → slice_get old.taken.spans n ≡ Some span → IsHeard (take new.events log) span → ⊥
+knows_more s base m counts log n span old new step alone is heard = ∥∥₁_elim ((step.known n refl refl alone).next (below_length old.taken.spans span n is)) (λ one other. absurd one) (λ (x : (other : Span) × (t : ℕ) × (slice_get old.taken.spans n ≡ Some other) × CameIn (take new.events log) other t × ¬ IsNoticed t (take new.events log)).
     x.4 (heard x.1 (subst (λ (y : Span). CameIn (take new.events log) y x.1) (same x.0 (sym x.2 ∙ is)) x.3)))
   where
     same : (other : Span) → Some other ≡ Some span → other ≡ span

@@ -1,5 +1,5 @@
 -- The disk of a recording: how it behaves, and what it is before and after its mount. The contracts of `begin` and `record_lines` speak of it, and private ones.
-use Rattle.std.specs.Prelude.{◌≡◌, ◌↔◌, ◌⊎◌, ℕ, ◌^◌, ◌<◌, ◌≤◌, false, true, IsTrue, [], List, length, Some, None}
+use Rattle.std.specs.Prelude.{◌≡◌, ◌⊎◌, ℕ, ◌^◌, ◌<◌, ◌≤◌, false, true, IsTrue, [], List, length, Some, None}
 use Rattle.disk_contract.specs.declared.event.Event.{Event}
 use Rattle.disk_contract.specs.Cell.{cell_of}
 use Rattle.disk_contract.specs.Crash.{Window}
@@ -19,17 +19,17 @@ use Rattle.crash_stands.specs.Stands.{StandsFor}
 use Rattle.lang_tree.specs.Step.{start}
 use Rattle.crash_argument.specs.Ledger.{HoldsUnder}
 use Rattle.crash_argument.specs.Opening.{LosesOne, StopsAtOne, WritesOne}
-use Rattle.crash_argument.specs.Points.{MountedSession, records_told}
 use Rattle.crash_argument.specs.Points as points
-use Rattle.engine_blocks.specs.Crashes.{HasMapOfPoint, IsBegun, MayAwait}
-use Rattle.engine_blocks.specs.State.{RecordsView, State}
+use Rattle.engine_blocks.specs.Crashes.{HasMapOfPoint, IsBegun}
+use Rattle.engine_blocks.specs.State.{State}
 use Rattle.engine_store.specs.Mounting.{BeginsWith}
 use Rattle.fs_commands.specs.Memory.{room_of}
 use Rattle.fs_commands.specs.Room.{IsFirstRoom}
 use Rattle.cmd_session.specs.Budget.{KeepsBudget}
 use Rattle.cmd_session.specs.Crashes.{IsCrashConsistent}
+use Rattle.cmd_session.specs.Going.{IsOfMount}
 use Rattle.cmd_session.specs.Serving.{HasServed}
-use Rattle.cmd_record.specs.Behaving.{IsSureBy, MountFails, StartsBy, fails_of, rule_of, session_by}
+use Rattle.cmd_record.specs.Behaving.{MountFails, fails_of, rule_of, session_by}
 use Rattle.cmd_record.specs.Mounts.{IsFirstHeader, MountsAtMost, MountsOnce}
 use Rattle.cmd_record.specs.Traces.{Setting}
 use Rattle.cmd_record.specs.declared.disk.Behaviour.{Behaviour}
@@ -81,12 +81,7 @@ pub record StandsOpened (g : Geometry) (s : State) : Type 0 where
   pub first : IsFirstHeader g header
   pub others : (b : ℕ) (h : Header) → b < 2 → header_of g.n (formatted g b) ≡ Some h → h.epoch ≤ 1
 
--- The records of these blocks are those of this session, which the log of a recording tells.
-pub record TellsBy (ses : MountedSession) (r : RecordsView) : Type 0 where
-  pub told : r.told ≡ (λ front. Some (records_told ses front))
-  pub starts : (front : List Event) (number : ℕ) → r.starts front number ↔ ∥ StartsBy ses.geom front number ∥₁
-
--- A map of blocks that was mounted on such a disk: nothing was done yet, the disk wasn't polled, and it begins with those live blocks; a point is sure by the log alone.
+-- A map of blocks that was mounted on such a disk: nothing was done yet, the disk wasn't polled, and it begins with those live blocks; and by the log a point is sure, and records are told.
 pub record IsMounted (g : Geometry) (s : State) : Type 0 where
   pub begun : IsBegun s
   pub begins : BeginsWith g (live_part g (formatted g)) s
@@ -95,8 +90,7 @@ pub record IsMounted (g : Geometry) (s : State) : Type 0 where
   pub faults : s.counts.faults ≡ 0
   pub alone : s.counts.ticks.manner.waits_alone ≡ true
   pub opened : StandsOpened g s
-  pub sure : (front : List Event) (p : ℕ) → s.crash.sure front p ↔ ∥ IsSureBy g front p ∥₁
-  pub records : TellsBy (session_by g (length s.crash.log)) s.crash.records
+  pub of_mount : IsOfMount (session_by g (length s.crash.log)) (formatted g) s
   pub turns : s.books.turns ≤ 3
 
 -- A file system that was opened on such blocks: it has answered no command, its writes so far are those of the mount, and nothing is taken.
@@ -120,9 +114,7 @@ pub record IsOpened (set : Setting) (s : State) : Type 0 where
   pub owed : s.books.owed ≡ 0
   pub floor : s.books.floor ≡ 0
   pub since : (b : ℕ) → s.books.since b ≡ None
-  pub sure : (front : List Event) (p : ℕ) → s.crash.sure front p ↔ ∥ IsSureBy set.shape front p ∥₁
-  pub records : TellsBy (session_by set.shape (length s.crash.log)) s.crash.records
-  pub may : (p t : ℕ) → s.crash.awaits p t → MayAwait s p t
+  pub of_mount : IsOfMount (session_by set.shape (length s.crash.log)) (formatted set.shape) s
 
 -- a call of the disk has failed: some read; or just now another call, at the disk's first write
 abbrev pub HasFault : disk.State → Type 0

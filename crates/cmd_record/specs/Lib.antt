@@ -1,8 +1,6 @@
 pub mod Mounts
-pub mod Places
 pub mod Behaving
 pub mod Traces
-pub mod Placing
 pub mod Disks
 pub mod Mounting
 pub mod Running

@@ -9,7 +9,8 @@ use Rattle.disk_memory.specs.Log.{has_lost}
 use Rattle.lang_tree.specs.declared.command.Refusal.TheVariants.{Spent}
 use Rattle.lang_tree.specs.declared.command.Reply.{Reply}
 use Rattle.lang_tree.specs.declared.command.Reply.TheVariants.{Refused}
-use Rattle.cmd_record.specs.Behaving.{CameIn, Pace, Span}
+use Rattle.cmd_session.specs.Pacing.{Pace}
+use Rattle.cmd_session.specs.Taking.{CameIn, Span}
 
 -- a write was lost among the events of a command between these two
 abbrev pub LosesOwn : List Event → Pace → Pace → Type 0

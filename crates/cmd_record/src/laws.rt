@@ -1,13 +1,15 @@
 //! Laws of what a recording writes, and of disks that nothing is written to. They run nothing.
 
-ghost use Rattle.std.specs.Prelude.{◌≡◌, ◌≢◌, ◌⊎◌, ◌+◌, ◌-◌, ◌≤◌, ℕ, false, true, length, take, slice_get, List, [], Some};
+ghost use Rattle.std.specs.Prelude.{◌≡◌, ◌≢◌, ◌↔◌, ◌⊎◌, ◌+◌, ◌-◌, ◌≤◌, ℕ, Bool, false, true, length, take, slice_get, List, [], Some};
 ghost use Rattle.base_types.specs.Seal.{Blocks};
 ghost use Rattle.disk_contract.specs.declared.event.Event.{Event};
 ghost use Rattle.disk_contract.specs.Cell.{IsNoticed, is_accepted, is_noticed};
 ghost use Rattle.disk_contract.specs.Disk.{writes_in};
 ghost use Rattle.disk_contract.specs.Manner.{Manner, Polled, after_polls};
 ghost use Rattle.layout_geometry.specs.Geometry.{Geometry, data_start};
+ghost use Rattle.layout_journal.specs.Formatted.{formatted};
 ghost use Rattle.crash_argument.specs.Points.{MountedSession};
+ghost use Rattle.engine_store.specs.SessionView.{IsSure, Starts};
 ghost use Rattle.lang_tree.specs.declared.command.Cmd.{Cmd};
 ghost use Rattle.lang_tree.specs.declared.command.Cmd.TheVariants.{Dsync, Durable, Osync, Stat};
 ghost use Rattle.lang_tree.specs.declared.command.Refusal.TheVariants.{DiskFault, Spent};
@@ -18,8 +20,10 @@ ghost use Rattle.lang_tree.specs.Step.{start};
 ghost use Rattle.cmd_session.specs.Budget.{sync_places};
 ghost use Rattle.cmd_session.specs.Crashes.{IsCrashConsistent};
 ghost use Rattle.lang_lines.specs.Lines.{longest, commands_of};
+ghost use Rattle.cmd_session.specs.Pacing.{OrdersAtOnce, Pace, PacesBy, StepsBy};
 ghost use Rattle.cmd_session.specs.Records.{own_records};
-ghost use Rattle.cmd_record.specs.Behaving.{CameIn, OrdersAtOnce, Pace, PacesBy, Span, StepsBy, pace_at_first, places_wanted, session_by};
+ghost use Rattle.cmd_session.specs.Taking.{CameIn, Span, places_wanted};
+ghost use Rattle.cmd_record.specs.Behaving.{IsSureBy, StartsBy, pace_at_first, session_by};
 ghost use Rattle.cmd_record.specs.Traces.{Serves, ServesBy, Setting, IsTrace, contents};
 ghost use Rattle.cmd_record.specs.Accepted.{AcceptsLast};
 ghost use Rattle.cmd_record.specs.Weights.{blocks_needed, places_by_weight};
@@ -67,16 +71,16 @@ pub fn the_last_point_stands_where_accepted_writes_do()
 pub fn what_need_not_come_back_is_there()
     ensures places { (g : Geometry) (m : Manner) (log : List Event) (mounted : ℕ) (cmds : List Cmd) (replies : List Reply) (marks : List ℕ)
         (last next : Pace) (cmd : Cmd) (reply : Reply)
-        → PacesBy (session_by g mounted) m log (pace_at_first g mounted) cmds replies marks last
-        → (step : StepsBy (session_by g mounted) m log cmd reply last next)
+        → PacesBy (session_by g mounted) (formatted g) m true log (pace_at_first g mounted) cmds replies marks last
+        → (step : StepsBy (session_by g mounted) (formatted g) m true log cmd reply last next)
         → is_sync cmd ≡ true → last.over ≡ false → reply ≢ Refused Spent → m.waits_alone ≡ true
         → places_by_weight g (start g.i) 0 cmds replies + sync_places last.taken.weight ≤ g.j
-        → OrdersAtOnce (session_by g mounted) (take step.room.behind log) last.taken
+        → OrdersAtOnce (session_by g mounted) (formatted g) (take step.room.behind log) last.taken
         (places_wanted reply last.taken.weight (own_records (session_by g mounted) log step.room.behind next.events))
         ⊎ ((next.events ≡ step.room.behind) × (reply ≡ Refused DiskFault)) }
     ensures blocks { (g : Geometry) (m : Manner) (log : List Event) (mounted : ℕ) (cmds : List Cmd) (replies : List Reply) (marks : List ℕ)
         (last : Pace) (need : ℕ)
-        → PacesBy (session_by g mounted) m log (pace_at_first g mounted) cmds replies marks last
+        → PacesBy (session_by g mounted) (formatted g) m true log (pace_at_first g mounted) cmds replies marks last
         → blocks_needed g (start g.i) cmds replies + need ≤ g.n - data_start g → need ≤ length last.room.room.takeable }
 {
     a_command_takes_no_more_blocks_than_it_needs();
@@ -87,25 +91,35 @@ pub fn what_need_not_come_back_is_there()
 /// fits a ring without records, a look never does, and a dsync for no write of its own tick. And `durable` is not answered by a
 /// point behind which another one is known.
 pub fn wrong_traces_are_refused()
-    ensures lost { (s : MountedSession) (m : Manner) (log : List Event) (cmd : Cmd) (reply : Reply) (old new : Pace)
-        → StepsBy s m log cmd reply old new → LosesOwn log old new → (n : ℕ) → reply ≢ Synced n }
-    ensures later { (s : MountedSession) (m : Manner) (log : List Event) (cmd : Cmd) (old new : Pace)
-        → StepsBy s m log cmd (Refused DiskFault) old new → m.refuses (take new.events log) ≡ false → m.stalls ≡ false → LosesOwn log old new }
+    ensures lost { (s : MountedSession) (base : Blocks) (m : Manner) (log : List Event) (cmd : Cmd) (reply : Reply) (old new : Pace)
+        → StepsBy s base m true log cmd reply old new → LosesOwn log old new → (n : ℕ) → reply ≢ Synced n }
+    ensures later { (s : MountedSession) (base : Blocks) (m : Manner) (log : List Event) (cmd : Cmd) (old new : Pace)
+        → StepsBy s base m true log cmd (Refused DiskFault) old new → m.refuses (take new.events log) ≡ false → m.stalls ≡ false
+        → LosesOwn log old new }
     ensures writes { (g : Geometry) (m : Manner) (log : List Event) (mounted : ℕ) (cmd : Cmd) (reply : Reply) (new : Pace)
-        → StepsBy (session_by g mounted) m log cmd reply (pace_at_first g mounted) new → is_sync cmd ≡ false
+        → StepsBy (session_by g mounted) (formatted g) m true log cmd reply (pace_at_first g mounted) new → is_sync cmd ≡ false
         → writes_in (take new.events log) ≤ writes_in (take mounted log) }
-    ensures empty { (s : MountedSession) (m : Manner) (log : List Event) (reply : Reply) (old new : Pace)
-        → (step : StepsBy s m log Osync reply old new) → Goes m reply old → IsUnwritten s (take step.room.behind log)
+    ensures empty { (s : MountedSession) (base : Blocks) (m : Manner) (counts : Bool) (log : List Event) (reply : Reply) (old new : Pace)
+        → (step : StepsBy s base m counts log Osync reply old new) → Goes m reply old → IsUnwritten s (take step.room.behind log)
         → places_wanted reply old.taken.weight (own_records s log step.room.behind new.events) ≤ s.geom.j → WaitsForNothing m log old new }
-    ensures looks { (s : MountedSession) (m : Manner) (log : List Event) (path : List (List ℕ)) (reply : Reply) (old new : Pace)
-        → StepsBy s m log (Stat path) reply old new → Goes m reply old → WaitsForNothing m log old new }
-    ensures home { (s : MountedSession) (m : Manner) (log : List Event) (reply : Reply) (old new : Pace) (p : Polled) (t : ℕ)
-        → (step : StepsBy s m log Dsync reply old new) → Goes m reply old
-        → OrdersAtOnce s (take step.room.behind log) old.taken (places_wanted reply old.taken.weight (own_records s log step.room.behind new.events))
+    ensures looks { (s : MountedSession) (base : Blocks) (m : Manner) (counts : Bool) (log : List Event) (path : List (List ℕ)) (reply : Reply)
+        (old new : Pace) → StepsBy s base m counts log (Stat path) reply old new → Goes m reply old → WaitsForNothing m log old new }
+    ensures home { (s : MountedSession) (base : Blocks) (m : Manner) (counts : Bool) (log : List Event) (reply : Reply) (old new : Pace) (p : Polled)
+        (t : ℕ) → (step : StepsBy s base m counts log Dsync reply old new) → Goes m reply old
+        → OrdersAtOnce s base (take step.room.behind log) old.taken
+        (places_wanted reply old.taken.weight (own_records s log step.room.behind new.events))
         → after_polls m 64 old.polls (take old.events log) ≡ Some p
         → ((k : ℕ) (span : Span) → slice_get old.taken.spans k ≡ Some span → CameIn (take new.events log) span t → ⊥) → is_noticed t p.log ≡ false
         → IsNoticed t (take new.events log) → is_accepted t (take step.room.behind log) ≡ false }
-    ensures known { (s : MountedSession) (m : Manner) (log : List Event) (n : ℕ) (span : Span) (old new : Pace)
-        → StepsBy s m log Durable (Known n) old new → m.waits_alone ≡ true → slice_get old.taken.spans n ≡ Some span
+    ensures known { (s : MountedSession) (base : Blocks) (m : Manner) (counts : Bool) (log : List Event) (n : ℕ) (span : Span) (old new : Pace)
+        → StepsBy s base m counts log Durable (Known n) old new → m.waits_alone ≡ true → slice_get old.taken.spans n ≡ Some span
         → IsHeard (take new.events log) span → ⊥ }
+{}
+
+/// In a recording, the session's records have the numbers of its points: a point is sure exactly where the newest header
+/// at rest says so of the record of that number, and that header starts with the record that it names.
+pub fn the_numbers_of_a_recording_are_those_of_its_points()
+    ensures sure { (g : Geometry) (mounted : ℕ) (front : List Event) (p : ℕ) → IsSure (session_by g mounted) (formatted g) front p ↔ IsSureBy g front p }
+    ensures starts { (g : Geometry) (mounted : ℕ) (front : List Event) (number : ℕ)
+        → Starts (session_by g mounted) (formatted g) front number ↔ StartsBy g front number }
 {}

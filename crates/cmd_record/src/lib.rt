@@ -16,7 +16,8 @@ mod writing;
 pub use disk::Behaviour;
 pub use laws::{
     a_disk_at_rest_is_crash_consistent, a_text_is_served_in_one_way,
-    the_last_point_stands_where_accepted_writes_do, what_need_not_come_back_is_there,
+    the_last_point_stands_where_accepted_writes_do,
+    the_numbers_of_a_recording_are_those_of_its_points, what_need_not_come_back_is_there,
     wrong_traces_are_refused,
 };
 pub use mounting::{Mounted, System, begin};

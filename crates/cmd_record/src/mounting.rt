@@ -6,7 +6,7 @@ ghost use Rattle.disk_contract.specs.Lawful.{IsLogOf};
 ghost use Rattle.disk_contract.specs.Manner.{GoesBy, HasFailedBy};
 ghost use Rattle.disk_memory.specs.Log.{has_lost};
 ghost use Rattle.disk_memory.specs.MemDisk.{state_of as disk_state};
-ghost use Rattle.engine_blocks.specs.Crashes.{IsTold, StillAwaits};
+ghost use Rattle.engine_blocks.specs.Crashes.{StillAwaits};
 ghost use Rattle.engine_store.specs.StoreOf.{state_of};
 ghost use Rattle.fs_commands.specs.Opened.{blocks_in};
 ghost use Rattle.cmd_record.specs.Disks.{HasFault, HoldsRoot, IsFormatted, IsMounted, ShowsRoot, setting_on};
@@ -133,10 +133,9 @@ fn failed(geom: &Geom, disk: MemDisk) -> Mounted
 
 /// The log of the disk under a file system is one of as many blocks as the geometry says, and the number of its
 /// events has 64 bits. The disk keeps to its manner; and where a call of it failed, it was the last one. Where its waits
-/// bring the notice of their own ticket alone, a write was lost only where a failed call was counted. What is known
-/// of maps of blocks holds, no point behind the last one is known to be durable, and where the last point isn't
-/// known to be durable, the next one waits for a ticket. This
-/// does nothing.
+/// bring the notice of their own ticket alone, a write was lost only where a failed call was counted. No point behind
+/// the last one is known to be durable, and where the last point isn't known to be durable, the next one waits for a
+/// ticket. This does nothing.
 pub fn the_disk_keeps_to_its_manner(system: &System)
     ensures log { IsLogOf (state_of disk_state (blocks_in system.now)).books.geom.n (state_of disk_state (blocks_in system.now)).crash.log }
     ensures events { length (state_of disk_state (blocks_in system.now)).crash.log < 2 ^ 64 }
@@ -147,7 +146,6 @@ pub fn the_disk_keeps_to_its_manner(system: &System)
         → ∥ HasFailedBy (state_of disk_state (blocks_in system.now)).counts.ticks.manner (state_of disk_state (blocks_in system.now)).crash.log ∥₁ }
     ensures unlost { (state_of disk_state (blocks_in system.now)).counts.ticks.manner.waits_alone ≡ true
         → (state_of disk_state (blocks_in system.now)).counts.faults ≡ 0 → has_lost (state_of disk_state (blocks_in system.now)).crash.log ≡ false }
-    ensures told { IsTold (state_of disk_state (blocks_in system.now)) }
     ensures floor { (state_of disk_state (blocks_in system.now)).books.floor ≤ (state_of disk_state (blocks_in system.now)).books.point }
     ensures waits { (state_of disk_state (blocks_in system.now)).books.stopped ≡ false
         → (state_of disk_state (blocks_in system.now)).books.floor < (state_of disk_state (blocks_in system.now)).books.point

@@ -15,7 +15,7 @@ ghost use Rattle.lang_lines.specs.Lines.{longest, commands_of_line, commands_of}
 ghost use Rattle.cmd_record.specs.Traces.{Setting};
 ghost use Rattle.lang_tree.specs.declared.command.Cmd.{Cmd};
 ghost use Rattle.lang_tree.specs.declared.command.Reply.{Reply};
-ghost use Rattle.cmd_record.specs.Running.{KnownRun, Ran, RunLaws, ServesFrom, TriesFrom};
+ghost use Rattle.cmd_record.specs.Running.{BeginsSo, KnownRun, Ran, RunLaws, ServesFrom, TriesFrom};
 ghost use Rattle.cmd_record.specs.Follows.{Follows, Stopped, ServesTo, StopsByCause};
 
 use crate::events::write_events;
@@ -160,6 +160,7 @@ impl Recording {
         ensures known { (g : Geometry) (mounted : ℕ) (cmds : List Cmd) (replies : List Reply) (marks : List ℕ)
             → Ran g mounted cmds replies marks (state_of disk_state (blocks_in self.now.system))
             → KnownRun g (state_of disk_state (blocks_in self.now.system)) mounted cmds replies marks }
+        ensures begins { BeginsSo (state_of disk_state (blocks_in self.now.system)) }
     {
         a_run_is_known(&self.system);
     }

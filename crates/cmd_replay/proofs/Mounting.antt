@@ -22,9 +22,9 @@ use Rattle.fs_check.specs.declared.checking.Damage.{Damage}
 use Rattle.fs_check.specs.Whole.{IsDamaged}
 use Rattle.lang_tree.specs.Tree.{Tree}
 use Rattle.crash_stands.specs.Stands.{IsTreeOf}
-use Rattle.cmd_image.specs.declared.show_refusal.ImageDamage.{ImageDamage}
-use Rattle.cmd_image.specs.declared.show_refusal.ImageDamage.TheVariants.{NoHeader, BadBit, Broken}
-use Rattle.cmd_image.specs.Images.{CanBeMounted, HasDamage, StandsForNone, StandsMounted, resting}
+use Rattle.cmd_session.specs.declared.images.ImageDamage.{ImageDamage}
+use Rattle.cmd_session.specs.declared.images.ImageDamage.TheVariants.{NoHeader, BadBit, Broken}
+use Rattle.cmd_session.specs.Images.{CanBeMounted, HasDamage, StandsForNone, StandsMounted, resting}
 use Rattle.cmd_replay.specs.declared.refusal.ReplayRefusal.{ReplayRefusal}
 use Rattle.cmd_replay.specs.declared.refusal.ReplayRefusal.TheVariants.{Choice, Damaged, Spent, NoMemory}
 use Rattle.cmd_replay.specs.Images.{RefusesImage}

@@ -2,7 +2,7 @@
 use Rattle.std.specs.Prelude.{ℕ, ⊤}
 use Rattle.base_types.specs.Seal.{Blocks}
 use Rattle.engine_mount.specs.Mount.{IsUsedUp}
-use Rattle.cmd_image.specs.Images.{HasDamage, StandsForNone}
+use Rattle.cmd_session.specs.Images.{HasDamage, StandsForNone}
 use Rattle.cmd_replay.specs.declared.refusal.ReplayRefusal.{ReplayRefusal}
 use Rattle.cmd_replay.specs.declared.refusal.ReplayRefusal.TheVariants.{Choice, Damaged, Spent, NoMemory}
 

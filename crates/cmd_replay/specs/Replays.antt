@@ -8,7 +8,7 @@ use Rattle.disk_memory.specs.Choice.{ChoiceState, AreBlocksOf, can_choose, chose
 use Rattle.lang_tree.specs.Tree.{Tree}
 use Rattle.lang_tree.specs.Listing.{listing}
 use Rattle.cmd_trace.specs.Contents.{Contents}
-use Rattle.cmd_image.specs.Images.{StandsMounted}
+use Rattle.cmd_session.specs.Images.{StandsMounted}
 use Rattle.cmd_replay.specs.declared.refusal.ReplayRefusal.{ReplayRefusal}
 use Rattle.cmd_replay.specs.declared.refusal.ReplayRefusal.TheVariants.{Choice, Damaged, Spent, NoMemory}
 use Rattle.cmd_replay.specs.Images.{RefusesImage}

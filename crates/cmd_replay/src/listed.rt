@@ -12,14 +12,14 @@ ghost use Rattle.lang_tree.specs.Listing.{listing};
 ghost use Rattle.crash_stands.specs.Stands.{IsTreeOf};
 ghost use Rattle.fs_commands.specs.Opened.{blocks_in, used_to};
 ghost use Rattle.fs_commands.specs.Sessions.{IsBetween, IsSession};
-ghost use Rattle.cmd_image.specs.Images.{StandsMounted};
+ghost use Rattle.cmd_session.specs.Images.{StandsMounted};
 ghost use Rattle.cmd_replay.specs.Images.{RefusesImage};
 ghost use Rattle.cmd_replay.specs.Mounted.{IsReadable, RefusesMap, resting_disk};
 
 use crate::refusal::ReplayRefusal;
 use crate::text::TextSink;
 use base_types::NoMemory;
-use cmd_image::{ImageDamage, a_damaged_image_stands_for_no_tree};
+use cmd_session::{ImageDamage, a_damaged_image_stands_for_no_tree};
 use disk_contract::Disk;
 use disk_memory::{Image, MemDisk};
 use engine_store::{Store, StoreRefusal};

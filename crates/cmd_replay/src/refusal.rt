@@ -1,7 +1,7 @@
 //! Why what a crash would have left isn't told. When each refusal comes is described by the clauses of the calls.
 
 use base_types::NoMemory;
-use cmd_image::ImageDamage;
+use cmd_session::ImageDamage;
 use std::error::Error;
 use std::fmt;
 

@@ -1,16 +1,13 @@
 -- A run may end at once: each command more is refused, no event comes, and what was said of the run holds of the longer one.
-use Rattle.std.proofs.Common.{◌≡◌, ◌≢◌, ◌⊎◌, inl, inr, ⊎_elim, ℕ, suc, ◌+◌, ◌<◌, ◌≤◌, Bool, true, false, ◌&&◌, not, if◌then◌else◌, List, [], ◌∷◌, ◌++◌, length, take, take_all, slice_get, Some, refl, sym, ◌∙◌, ap, subst, arith, rules}
+use Rattle.std.proofs.Common.{◌≡◌, ◌≢◌, inl, inr, ⊎_elim, ℕ, ◌≤◌, Bool, true, false, not, if◌then◌else◌, List, [], ◌∷◌, ◌++◌, length, take, take_all, slice_get, Some, refl, sym, ◌∙◌, ap, subst, arith, rules}
 use Rattle.std.proofs.Math.Logic.{∥∥₁_map}
 use Rattle.std.proofs.lemmas.List.{append-nil, append_assoc, length-append}
-use Rattle.std.proofs.lemmas.Bool.{cases_Bool, true≢false, false≢true}
+use Rattle.std.proofs.lemmas.Bool.{true≢false, false≢true}
 use Rattle.base_types.specs.Seal.{Blocks}
 use Rattle.disk_contract.specs.declared.event.Event.{Event}
-use Rattle.disk_contract.specs.Crash.{IsHonest}
-use Rattle.disk_contract.specs.Disk.{Grows}
 use Rattle.layout_geometry.specs.Geometry.{Geometry}
 use Rattle.lang_tree.specs.declared.command.Cmd.{Cmd}
 use Rattle.lang_tree.specs.declared.command.Cmd.TheVariants.{Mkdir, Create, Write, Fill, Read, Truncate, Link, Unlink, Rmdir, Rename, Stat, List as ListNames, Osync, Dsync, Durable, Poll, Bad}
-use Rattle.lang_tree.specs.declared.command.Refusal.{Refusal}
 use Rattle.lang_tree.specs.declared.command.Refusal.TheVariants as because
 use Rattle.lang_tree.specs.declared.command.Reply.{Reply}
 use Rattle.lang_tree.specs.declared.command.Reply.TheVariants.{Bad as NotUnderstood, Refused}
@@ -18,13 +15,12 @@ use Rattle.lang_tree.specs.Points.{Point, after_reply, made_by, points_after, po
 use Rattle.lang_tree.specs.Run.{Answers, Run, StopsAfterFault, is_of_disk}
 use Rattle.lang_tree.specs.Step.{Session, session_on, step}
 use Rattle.lang_tree.specs.Tree.{Tree}
-use Rattle.cmd_trace.specs.Trace.{Ascend}
 use Rattle.engine_blocks.specs.State.{State}
-use Rattle.cmd_session.specs.Budget.{budget_of, commits, sync_budget, weight_by}
+use Rattle.cmd_session.specs.Budget.{budget_of, weight_by}
 use Rattle.cmd_session.specs.Crashes.{StandsForOne, LeavesPoints}
 use Rattle.cmd_session.specs.Ending.{HasRun, is_none, over_after, ending_reply, ending_replies, ending_marks}
 use Rattle.cmd_session.specs.Histories.{session_after, last_mark, HasNoFault}
-use Rattle.cmd_session.specs.Issued.{StandsForLast, IssuesLast}
+use Rattle.cmd_session.specs.Issued.{StandsForLast}
 use Rattle.cmd_session.specs.Serving.{HasServed}
 use Rattle.cmd_session.proofs.Histories.{points_more, session_more, run_more, floor_more, last_is, ascend_more, begun_append, get_before, get_behind, get_split}
 use Rattle.cmd_session.proofs.Issuing.{issues_more}

@@ -1,3 +1,4 @@
+pub mod Damages
 pub mod Histories
 pub mod Crashes
 pub mod Marks
@@ -9,3 +10,10 @@ pub mod Weights
 pub mod Spending
 pub mod Moments
 pub mod Ending
+pub mod Pending
+pub mod Answering
+pub mod Rooms
+pub mod Waiting
+pub mod Placed
+pub mod Paces
+pub mod Stepping

@@ -1,3 +1,4 @@
+pub mod Images
 pub mod Histories
 pub mod Crashes
 pub mod Issued
@@ -5,3 +6,8 @@ pub mod Serving
 pub mod Budget
 pub mod Ending
 pub mod Records
+pub mod Places
+pub mod Taking
+pub mod Pacing
+pub mod Going
+pub mod Answered

@@ -1,23 +1,42 @@
 //! Laws of runs, which program code cites. The functions do nothing; their clauses are the laws.
 
-ghost use Rattle.std.specs.Prelude.{◌≡◌, ◌≤◌, ◌+◌, ◌++◌, ◌∷◌, [], ℕ, List, length, take};
+ghost use Rattle.std.specs.Prelude.{◌≡◌, ◌≢◌, ◌<◌, ◌≤◌, ◌+◌, ◌++◌, ◌∷◌, [], ℕ, Bool, false, true, IsTrue, List, length, take};
+ghost use Rattle.base_types.specs.Seal.{Blocks as BlockMap};
 ghost use Rattle.disk_contract.specs.declared.event.Event.{Event};
-ghost use Rattle.disk_contract.specs.Disk.{Grows, writes_in};
+ghost use Rattle.disk_contract.specs.Disk.{Grows, PollsThenWrites, writes_in};
+ghost use Rattle.disk_contract.specs.Manner.{Manner};
 ghost use Rattle.layout_geometry.specs.Geometry.{Geometry, bitmap_blocks};
 ghost use Rattle.lang_tree.specs.declared.command.Cmd.{Cmd};
+ghost use Rattle.lang_tree.specs.declared.command.Cmd.TheVariants.{Bad};
+ghost use Rattle.lang_tree.specs.declared.command.Refusal.TheVariants.{Spent};
 ghost use Rattle.lang_tree.specs.declared.command.Reply.{Reply};
+ghost use Rattle.lang_tree.specs.declared.command.Reply.TheVariants.{Refused};
+ghost use Rattle.lang_tree.specs.Points.{is_refusal, is_sync};
 ghost use Rattle.lang_tree.specs.Step.{Session, session_on};
 ghost use Rattle.lang_tree.specs.Tree.{Tree};
 ghost use Rattle.crash_stands.specs.Stands.{StandsFor};
+ghost use Rattle.layout_journal.specs.Run.{places_from};
+ghost use Rattle.engine_store.specs.SessionView.{Starts};
 ghost use Rattle.crash_argument.specs.Counts.{AreAtMost};
+ghost use Rattle.crash_argument.specs.Points.{MountedSession, records_told};
 ghost use Rattle.cmd_session.specs.Budget.{KeepsBudget, SpendsByMarks, budget_of};
 ghost use Rattle.cmd_session.specs.Crashes.{IsCrashConsistent};
 ghost use Rattle.cmd_session.specs.Ending.{HasRun, ending_marks, ending_replies};
+ghost use Rattle.cmd_session.specs.Going.{AnswersOnDisk, BeginsByLog, GoesByLog, pace_of, session_at};
+ghost use Rattle.cmd_session.specs.Pacing.{DoneInRing, Pace, StepsBy};
+ghost use Rattle.cmd_session.specs.Records.{own_records};
 ghost use Rattle.cmd_session.specs.Serving.{HasServed};
+ghost use Rattle.cmd_session.specs.Taking.{nothing_taken};
 
-use crash_stands::an_image_stands_for_one_tree;
+use crash_stands::{a_tree_that_stands_is_sound, an_image_stands_for_one_tree};
 use engine_blocks::Blocks;
+use fs_commands::{
+    a_command_begins_with_a_tick, a_command_is_answered_in_a_room_that_came_back,
+    a_command_serves_what_is_sure, a_command_that_needs_no_wait_makes_none,
+    a_refusal_for_the_disk_has_its_cause,
+};
 use lang_tree::{a_fault_ends_the_session, a_reply_tells_the_session};
+use layout_journal::{an_image_holds_one_map, images_alike_below_n_hold_the_same};
 
 /// Where the blocks with which the disk began stand for the tree of a run, what crashes leave of the run is as
 /// `IsCrashConsistent` says, which speaks of any disk.
@@ -68,3 +87,44 @@ pub fn a_run_may_end_at_once<S: Blocks>()
     a_reply_tells_the_session();
     a_fault_ends_the_session();
 }
+
+/// A run goes by the log of its disk as the mount ends: from then on, with nothing taken.
+pub fn a_run_begins_by_the_log<S: Blocks>()
+    ensures { IsTrue S.tells → (counts : Bool) (mount : MountedSession) (base : BlockMap) (m : Manner) (t : Tree) (s : S)
+        → BeginsByLog counts mount base m (S.state s)
+        → GoesByLog counts mount base m (pace_of (nothing_taken (session_at mount t)) (S.state s)) t [] [] [] (S.state s) }
+{}
+
+/// A run that goes by the log of its disk does so with one command more: what the command waited for, which writes and
+/// records came of it, in which room it was answered, and why it was refused for the disk, is as the log says.
+pub fn a_command_goes_by_the_log<S: Blocks>()
+    ensures { IsTrue S.tells → (counts : Bool) (mount : MountedSession) (base : BlockMap) (m : Manner) (first : Pace) (t : Tree) (cmds : List Cmd)
+        (replies : List Reply) (marks : List ℕ) (cmd : Cmd) (reply : Reply) (old new : S)
+        → AnswersOnDisk S.tells S.state counts mount t cmds replies marks cmd reply old new
+        → GoesByLog counts mount base m first t cmds replies marks (S.state old)
+        → GoesByLog counts mount base m first t (cmds ++ cmd ∷ []) (replies ++ reply ∷ []) (marks ++ length (S.state new).crash.log ∷ []) (S.state new) }
+{
+    a_command_begins_with_a_tick::<S>();
+    a_command_is_answered_in_a_room_that_came_back::<S>();
+    a_command_serves_what_is_sure::<S>();
+    a_command_that_needs_no_wait_makes_none::<S>();
+    a_refusal_for_the_disk_has_its_cause::<S>();
+    a_reply_tells_the_session();
+    a_tree_that_stands_is_sound();
+    an_image_holds_one_map();
+    images_alike_below_n_hold_the_same();
+}
+
+/// Behind the notices of its tick come writes alone. And a sync that is done, of something that weighs in the room, finds
+/// its ring places where those of its own record fit beside the records from that one on with which the newest header at
+/// rest starts.
+pub fn a_step_tells_where_its_record_fits()
+    ensures ticks { (s : MountedSession) (base : BlockMap) (m : Manner) (counts : Bool) (log : List Event) (cmd : Cmd) (reply : Reply)
+        (old new : Pace) → (step : StepsBy s base m counts log cmd reply old new) → cmd ≢ Bad → old.over ≡ false → reply ≢ Refused Spent
+        → PollsThenWrites m 64 old.polls (take old.events log) new.polls (take step.room.behind log) }
+    ensures fits { (s : MountedSession) (base : BlockMap) (m : Manner) (counts : Bool) (log : List Event) (cmd : Cmd) (reply : Reply) (old new : Pace)
+        → (step : StepsBy s base m counts log cmd reply old new) → is_sync cmd ≡ true → is_refusal reply ≡ false → 0 < old.room.room.weight
+        → m.waits_alone ≡ true → (number : ℕ) → ∥ Starts s base (take step.room.behind log) number ∥₁
+        → places_from number (records_told s (take step.room.behind log)) + places_from 0 (own_records s log step.room.behind new.events) ≤ s.geom.j
+        → DoneInRing s base m log cmd reply old step.room.behind new.events }
+{}

@@ -13,7 +13,7 @@ use Rattle.lang_tree.specs.Tree.{Tree}
 use Rattle.cmd_trace.specs.Contents.{Contents, AreLawful, text_of}
 use Rattle.cmd_trace.specs.Line.{end_line}
 use Rattle.cmd_session.specs.Crashes.{LeavesPoints, StandsForOne}
-use Rattle.cmd_image.specs.Images.{StandsForNone}
+use Rattle.cmd_session.specs.Images.{StandsForNone}
 use Rattle.cmd_replay.specs.declared.refusal.ReplayRefusal.{ReplayRefusal}
 use Rattle.cmd_replay.specs.declared.refusal.ReplayRefusal.TheVariants.{Choice, Damaged, Spent, NoMemory}
 use Rattle.cmd_replay.specs.Newest.{IsNewest}

@@ -10,7 +10,7 @@ use Rattle.engine_store.specs.Refusal.{RefusalSays, is_disk_fault, is_read_fault
 use Rattle.engine_store.specs.declared.refusal.StoreRefusal.{StoreRefusal}
 use Rattle.cmd_record.specs.Mounting.{Mounts}
 use Rattle.cmd_record.proofs.FormattedFound.{HasLaws, zeros_are_stored}
-use Rattle.cmd_record.proofs.MountLemmas.{HasRoot, held_by, holds, header_found, bits_good, unspent, left_faulty, left_unread, left_with, nothing_to_replay, few_turns, opened_by, opened_once, stopped_once, sure_of, tells_of}
+use Rattle.cmd_record.proofs.MountLemmas.{HasRoot, held_by, holds, header_found, bits_good, unspent, left_faulty, left_unread, left_with, nothing_to_replay, few_turns, of_mount_by, opened_by, opened_once, stopped_once}
 use Rattle.cmd_record.proofs.mounting.mount.Goals as goal
 use Rattle.cmd_record.proofs.mounting.mount.Goals.{After-journal_blocks_are_told_apart}
 
@@ -51,8 +51,7 @@ open-requires c =
       faults = c.in-Ok.ensures.leaves.spends.faults ∙ c.requires.faults;
       alone = ap (λ (m : Manner). m.waits_alone) c.in-Ok.ensures.leaves.spends.same.manner ∙ c.requires.alone;
       opened = opened_by g (root p) (laws p) d c.requires _ (c.in-Ok.ensures.opens refl) begins.geom;
-      sure = sure_of g (root p) (laws p) d c.requires _ (c.in-Ok.ensures.numbers refl) begins.geom left.began.base;
-      records = tells_of g (root p) (laws p) d c.requires _ (c.in-Ok.ensures.numbers refl) begins.geom left.began.base;
+      of_mount = of_mount_by g (root p) (laws p) d c.requires _ (c.in-Ok.ensures.numbers refl) begins.geom left.began.base;
       turns = few_turns g (root p) (laws p) d c.requires _ (c.in-Ok.ensures.numbers refl);
     }
 

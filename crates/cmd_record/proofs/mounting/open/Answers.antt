@@ -47,4 +47,4 @@ returns-in-Ok c =
     let room = c.nothing_is_taken_at_first.ensures refl (blocks_in c.in-Ok.system) (start g.i) (nothing_waits g s c.requires t looks) served.goes_on.session
     (has_none g c.lawful.ensures.limits (λ b. c.the_formatted_disk_is_empty.ensures.bits g b c.lawful.ensures.fits) s t c.requires looks)
     (still_begun s t looks.books c.requires.begun) in
-    opened_with g s c.requires t looks served (c.in-Ok.ensures.budget refl (start g.i).tree) room c.the_disk_keeps_to_its_manner.ensures.log c.the_disk_keeps_to_its_manner.ensures.events c.the_disk_keeps_to_its_manner.ensures.writes c.the_disk_keeps_to_its_manner.ensures.told c.the_disk_keeps_to_its_manner.ensures.floor
+    opened_with g s c.requires t looks served (c.in-Ok.ensures.budget refl (start g.i).tree) room c.the_disk_keeps_to_its_manner.ensures.log c.the_disk_keeps_to_its_manner.ensures.events c.the_disk_keeps_to_its_manner.ensures.writes c.the_disk_keeps_to_its_manner.ensures.floor

@@ -1,5 +1,5 @@
 -- What the laws of other crates say of the formatted disk and of runs.
-use Rattle.std.proofs.Common.{ℕ, take, refl, subst, arith}
+use Rattle.std.proofs.Common.{ℕ, true, take, refl, subst, arith}
 use Rattle.disk_contract.specs.Disk.{writes_in}
 use Rattle.layout_geometry.specs.Geometry.{Geometry}
 use Rattle.lang_tree.specs.Step.{start}
@@ -16,15 +16,9 @@ returns-clause-laws c = λ k fits. record {
   root = c.the_formatted_disk_stands_for_the_root.ensures.image k fits;
   one = c.an_image_stands_for_one_tree.ensures.image;
   alike = c.images_alike_below_n_stand_for_the_same.ensures;
-  replies = c.a_reply_tells_the_session.ensures;
   budget = c.a_run_may_end_at_once.ensures.budget k (start k.i).tree;
   spends = c.the_writes_keep_within_the_budget_at_each_mark.ensures.first k (start k.i);
-  places = record {
-    limits = (c.geometries_are_within_limits.ensures k).0 fits;
-    sound = c.a_tree_that_stands_is_sound.ensures.sound;
-    alike = c.images_alike_below_n_hold_the_same.ensures;
-    newest = c.an_image_holds_one_map.ensures.newest;
-  };
+  limits = (c.geometries_are_within_limits.ensures k).0 fits;
 }
 
 pub returns-clause-known : goal.returns-clause-known
@@ -37,3 +31,6 @@ returns-clause-known c = λ k mounted cmds replies marks ran.
       ends = λ more. c.a_run_may_end_at_once.ensures.run (blocks_in c.args.system.now) k (start k.i).tree mounted cmds replies marks more ran.served;
       spends = λ more. c.a_run_may_end_at_once.ensures.spends (blocks_in c.args.system.now) k (start k.i).tree mounted cmds replies marks more ran.served ran.spends;
     }
+
+pub returns-clause-begins : goal.returns-clause-begins
+returns-clause-begins c = λ mount base m t begins. c.a_run_begins_by_the_log.ensures refl true mount base m t (blocks_in c.args.system.now) begins

@@ -14,20 +14,20 @@ returns-in_err-write_head-clause-err g c =
     let front = c.in_err-write_head.ensures.front in
     let s = state_of disk_state (blocks_in c.args.recording.now.system) in
     head_cuts _ c.args.geom.now s (geometry_line c.args.geom.now ++ event_lines s.crash.log) _ _ _ _ front.0
-    (λ m opened. at_first (record { shape = c.args.geom.now; manner = m }) s c.lawful.ensures.fits opened c.run_is_known.ensures.laws c.run_is_known.ensures.known)
+    (λ m opened. at_first (record { shape = c.args.geom.now; manner = m }) s c.lawful.ensures.fits opened c.run_is_known.ensures.laws c.run_is_known.ensures.known c.run_is_known.ensures.begins)
     (ap (λ (es : List Event). geometry_line c.args.geom.now ++ event_lines es) c.disk.ensures) front.1
 
 pub returns-in_err-ending-clause-err : goal.returns-in_err-ending-clause-err
 returns-in_err-ending-clause-err g c =
     let s = state_of disk_state (blocks_in c.args.recording.now.system) in
     lines_halt _ c.args.geom.now s _ _ _ _ (λ m opened.
-    let first = at_first (record { shape = c.args.geom.now; manner = m }) s c.lawful.ensures.fits opened c.run_is_known.ensures.laws c.run_is_known.ensures.known in
+    let first = at_first (record { shape = c.args.geom.now; manner = m }) s c.lawful.ensures.fits opened c.run_is_known.ensures.laws c.run_is_known.ensures.known c.run_is_known.ensures.begins in
     let begun = begins (record { shape = c.args.geom.now; manner = m }) _ _ _ _ _ _ _ first c.requires.line (ap (λ (es : List Event). geometry_line c.args.geom.now ++ event_lines es) c.disk.ensures) c.in_ok-write_head.ensures.all in
     c.in_err-ending.ensures.err (record { shape = c.args.geom.now; manner = m }) _ _ begun)
 
 pub returns-clause-ok : goal.returns-clause-ok
 returns-clause-ok g c = λ m opened.
     let s = state_of disk_state (blocks_in c.args.recording.now.system) in
-    let first = at_first (record { shape = c.args.geom.now; manner = m }) s c.lawful.ensures.fits opened c.run_is_known.ensures.laws c.run_is_known.ensures.known in
+    let first = at_first (record { shape = c.args.geom.now; manner = m }) s c.lawful.ensures.fits opened c.run_is_known.ensures.laws c.run_is_known.ensures.known c.run_is_known.ensures.begins in
     let begun = begins (record { shape = c.args.geom.now; manner = m }) _ _ _ _ _ _ _ first c.requires.line (ap (λ (es : List Event). geometry_line c.args.geom.now ++ event_lines es) c.disk.ensures) c.in_ok-write_head.ensures.all in
     c.in_ok-ending.ensures.ok (record { shape = c.args.geom.now; manner = m }) _ _ begun

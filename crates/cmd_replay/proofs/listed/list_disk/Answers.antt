@@ -6,7 +6,7 @@ use Rattle.engine_store.specs.declared.refusal.StoreRefusal.{StoreRefusal}
 use Rattle.engine_store.specs.Mounting.{LeavesDisk}
 use Rattle.engine_store.specs.Refusal.{RefusalSays, is_disk_fault, is_read_fault}
 use Rattle.engine_store.specs.StoreOf.{state_of}
-use Rattle.cmd_image.specs.declared.show_refusal.ImageDamage.TheVariants.{BadBit}
+use Rattle.cmd_session.specs.declared.images.ImageDamage.TheVariants.{BadBit}
 use Rattle.cmd_replay.specs.declared.refusal.ReplayRefusal.TheVariants.{Damaged}
 use Rattle.cmd_replay.specs.Images.{RefusesImage}
 use Rattle.cmd_replay.proofs.Mounting.{bad_bit, no_fault, no_header, refuses_by, stands, used_up}

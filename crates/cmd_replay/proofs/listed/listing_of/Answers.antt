@@ -3,7 +3,7 @@ use Rattle.base_types.specs.Seal.{blocks_of}
 use Rattle.disk_memory.specs.MemDisk.{MemDiskState}
 use Rattle.lang_tree.specs.Tree.{Tree}
 use Rattle.lang_tree.specs.Listing.{listing}
-use Rattle.cmd_image.specs.Images.{StandsMounted}
+use Rattle.cmd_session.specs.Images.{StandsMounted}
 use Rattle.cmd_replay.specs.Images.{RefusesImage}
 use Rattle.cmd_replay.proofs.listed.listing_of.Goals as goal
 

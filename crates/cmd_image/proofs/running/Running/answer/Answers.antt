@@ -1,14 +1,12 @@
 -- How a command is answered, by what the file system, the store and the disk say.
-use Rattle.std.proofs.Common.{[], ◌∷◌, ◌++◌, List, length, subst, sym, ap, ◌∙◌}
+use Rattle.std.proofs.Common.{[], ◌∷◌, ◌++◌, List, false, length, subst, sym, ap, ◌∙◌, true≢false}
 use Rattle.disk_contract.specs.declared.bay.Mark.{Mark}
 use Rattle.fs_commands.specs.Opened.{blocks_in}
 use Rattle.engine_store.specs.StoreOf.{disk_in, state_of}
-use Rattle.cmd_image.specs.Refusals.{is_unread}
 use Rattle.cmd_image.specs.Steps.{SoFar}
 use Rattle.cmd_image.proofs.Beginning.{drawn}
-use Rattle.cmd_image.proofs.Counting.{counts_by_reply, done_goes, left_over, manner_stays, moved, over_now, stays}
+use Rattle.cmd_image.proofs.Counting.{counts_by_reply, moved}
 use Rattle.cmd_image.proofs.Going.{is_mark_in, more_so_far}
-use Rattle.cmd_image.proofs.Rooms.{answered_by_log}
 use Rattle.cmd_image.proofs.running.Running.answer.Goals as goal
 
 pub returns-clause-answers : goal.returns-clause-answers
@@ -27,25 +25,29 @@ returns-clause-answers g c = λ first cmds replies h.
       serves = c.apply-reply.ensures.serves t (λ s. drawn known s);
       budget = c.apply-reply.ensures.budget t;
       spends = λ k u mounted asked given moments served budget before. c.the_writes_keep_within_the_budget_at_each_mark.ensures.more old new k u mounted asked given moments cmd reply served (c.apply-reply.ensures.time t).advances.grows budget before;
-      room = λ f is mount of.
-          let next = c.a_command_serves_what_is_sure.ensures t old new f cmd reply is applies in
-          let counted = counts_by_reply tells (λ s. state_of known s) cmd reply old new applies t c.a_tree_in_memory_refuses_for_no_disk.ensures.alone f is in (
-            next.0,
-            next.1,
-            next.2,
-            answered_by_log (λ s. state_of known s) f cmd reply next.0 old new next.3 mount of (left_over tells (λ s. state_of known s) cmd reply old new applies) (done_goes tells (λ s. state_of known s) cmd reply old new applies)
-                (manner_stays tells (λ s. state_of known s) cmd reply old new applies (λ meant run left. c.a_command_begins_with_a_tick.ensures cmd reply old new meant run left applies))
-                (c.apply-reply.ensures.time t).advances.grows
-                (stays tells (λ s. state_of known s) cmd reply old new applies (λ spent. c.a_refusal_for_the_disk_has_its_cause.ensures.spent t old new f cmd reply is applies spent))
-                (over_now tells (λ s. state_of known s) cmd reply old new applies (is_unread reply) counted)
-                (λ meant run left. (c.a_command_begins_with_a_tick.ensures cmd reply old new meant run left applies).polled t),
-          );
+      goes = λ mount base m pace u asked given moments served weighs h. c.a_command_goes_by_the_log.ensures t false mount base m pace u asked given moments cmd reply old new (record {
+        applies = applies;
+        time = c.apply-reply.ensures.time t;
+        drawn = drawn known new;
+        before = served;
+        after = c.apply-reply.ensures.serves t (λ s. drawn known s) mount.geom u mount.mounted asked given moments served;
+        weighs = weighs;
+        places = c.lawful.ensures.places;
+        few = c.lawful.ensures.writes;
+        writes = c.apply-reply.ensures.writes t;
+        disk = record {
+          lawful = c.the_disk_keeps_to_its_manner.ensures.lawful t;
+          reads = c.the_disk_keeps_to_its_manner.ensures.reads t;
+          fails = c.the_disk_keeps_to_its_manner.ensures.fails t;
+          unlost = λ counted. absurd (true≢false (sym counted));
+          still = c.the_disk_keeps_to_its_manner.ensures.still t;
+        };
+      }) h;
       advances = (c.apply-reply.ensures.time t).advances;
       turns = c.a_command_raises_the_numbers_little.ensures old new cmd reply applies;
       counted = λ f session. counts_by_reply tells (λ s. state_of known s) cmd reply old new applies t c.a_tree_in_memory_refuses_for_no_disk.ensures.alone f session;
       stopped = λ f session late. c.a_refusal_for_the_disk_has_its_cause.ensures.stopped t old new f cmd reply session applies late;
       spent = λ f session late. c.a_refusal_for_the_disk_has_its_cause.ensures.spent t old new f cmd reply session applies late;
-      manner = manner_stays tells (λ s. state_of known s) cmd reply old new applies (λ meant run left. c.a_command_begins_with_a_tick.ensures cmd reply old new meant run left applies);
       reads = c.the_disk_keeps_to_its_manner.ensures.reads t;
       fails = c.the_disk_keeps_to_its_manner.ensures.fails t;
       is_mark = is_mark_in c.mark_of-mark.result (state_of known new)

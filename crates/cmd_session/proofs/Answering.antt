@@ -1,9 +1,9 @@
 -- What one command does on its disk, by what the file system says of any blocks.
-use Rattle.std.proofs.Common.{◌≡◌, ◌≢◌, ◌⊎◌, inl, inr, ℕ, ◌+◌, ◌^◌, ◌<◌, ◌≤◌, Bool, true, false, IsTrue, Result, Err, refl, sym, ap, ◌∙◌, subst}
+use Rattle.std.proofs.Common.{◌≡◌, ◌≢◌, ◌⊎◌, inl, inr, ℕ, ◌+◌, ◌<◌, ◌≤◌, Bool, true, false, IsTrue, Result, Err, refl, sym, ap, ◌∙◌, subst}
 use Rattle.std.proofs.lemmas.Bool.{cases_Bool, false≢true}
 use Rattle.base_types.specs.Counts.{after_call}
 use Rattle.disk_contract.specs.Disk.{PollsFirst, PollsThenWrites}
-use Rattle.disk_contract.specs.Manner.{GoesBy, HasFailedBy}
+use Rattle.disk_contract.specs.Manner.{HasFailedBy}
 use Rattle.disk_memory.specs.Log.{has_lost}
 use Rattle.lang_tree.specs.declared.command.Cmd.{Cmd}
 use Rattle.lang_tree.specs.declared.command.Cmd.TheVariants.{Mkdir, Create, Write, Fill, Read, Truncate, Link, Unlink, Rmdir, Rename, Stat, List as ListNames, Osync, Dsync, Durable, Poll, Bad}
@@ -24,8 +24,8 @@ use Rattle.fs_commands.specs.DiskRoom.{IsRoomOf}
 use Rattle.fs_commands.specs.Memory.{room_of}
 use Rattle.fs_commands.specs.Sessions.{IsSession}
 use Rattle.fs_commands.specs.Syncs.{SyncsSession}
-use Rattle.cmd_record.specs.Behaving.{is_fault}
-use Rattle.cmd_record.specs.Running.{StepsOn, WaitsOn}
+use Rattle.cmd_session.specs.Answered.{StepsOn, WaitsOn}
+use Rattle.cmd_session.specs.Pacing.{is_fault}
 
 -- a line that is none is told apart
 none_or_one : (cmd : Cmd) → (cmd ≡ Bad) ⊎ (cmd ≢ Bad)
@@ -151,17 +151,28 @@ module _ {S : Type 0} (tells : Bool) (state : S → State) (told : IsTrue tells)
       by (inl none) = same old new (applies.bad none).1
       by (inr meant) = by_stopped meant (cases_Bool (state old).books.stopped)
 
-  pub steps_on : (state new).books.turns ≤ (state old).books.turns + 2 ^ 20 → ((f : Session) → IsSession (state old) f → reply ≡ Refused Spent → is_spent (state old).books ≡ true) → ((f : Session) → IsSession (state old) f → reply ≡ Refused Stopped → (state old).books.stopped ≡ true) → ((f : Session) → IsSession (state old) f → reply ≡ Refused ReadFault → 0 < (state new).counts.read_faults) → (0 < (state new).counts.read_faults → (state new).counts.ticks.manner.reads_fail ≡ true)
-      → GoesBy (state new).counts.ticks.manner (state new).crash.log → ((state new).books.stopped ≡ true → ∥ HasFailedBy (state new).counts.ticks.manner (state new).crash.log ∥₁)
-      → ((state new).counts.ticks.manner.waits_alone ≡ true → (state new).counts.faults ≡ 0 → has_lost (state new).crash.log ≡ false) → StepsOn cmd reply (state old) (state new)
-  steps_on turns spent stopped counted reads writes fails unlost = record {
+  -- one that is refused as spent leaves the blocks as they are
+  idles : (reply ≡ Refused Spent → is_spent (state old).books ≡ true) → reply ≡ Refused Spent → new ≡ old
+  idles used spent = by (none_or_one cmd)
+    where
+      by_stopped : cmd ≢ Bad → ((state old).books.stopped ≡ true) ⊎ ((state old).books.stopped ≡ false) → new ≡ old
+      by_stopped meant (inl over) = (applies.stopped meant over).1
+      by_stopped meant (inr run) = (applies.spent meant run (used spent)).1
+
+      by : (cmd ≡ Bad) ⊎ (cmd ≢ Bad) → new ≡ old
+      by (inl none) = (applies.bad none).1
+      by (inr meant) = by_stopped meant (cases_Bool (state old).books.stopped)
+
+  pub steps_on : (counts : Bool) → ((f : Session) → IsSession (state old) f → reply ≡ Refused Spent → is_spent (state old).books ≡ true) → ((f : Session) → IsSession (state old) f → reply ≡ Refused Stopped → (state old).books.stopped ≡ true) → ((f : Session) → IsSession (state old) f → reply ≡ Refused ReadFault → 0 < (state new).counts.read_faults) → (0 < (state new).counts.read_faults → (state new).counts.ticks.manner.reads_fail ≡ true)
+      → ((state new).books.stopped ≡ true → ∥ HasFailedBy (state new).counts.ticks.manner (state new).crash.log ∥₁)
+      → (IsTrue counts → (state new).counts.ticks.manner.waits_alone ≡ true → (state new).counts.faults ≡ 0 → has_lost (state new).crash.log ≡ false) → StepsOn counts cmd reply (state old) (state new)
+  steps_on counts spent stopped counted reads fails unlost = record {
     manner = manner_stays;
-    writes = writes;
     rests = λ quiet. let same = still quiet in (ap (λ (s : S). (state s).counts.ticks.polls) same, (ap (λ (s : S). (state s).crash.log) same, ap (λ (s : S). (state s).books.stopped) same));
     ticks = λ meant run unspent. by meant run unspent (cases_Bool (is_spent (state old).books));
-    turns = turns;
-    spent = spent;
+    idles = λ f session used. let same = idles (spent f session) used in (ap (λ (s : S). (state s).counts.ticks.polls) same, ap (λ (s : S). (state s).crash.log) same);
     stops = stopped;
+    halts = λ meant over. (applies.stopped meant over).0;
     reads = λ f session unread. reads (counted f session unread);
     fails = fails;
     first = first;

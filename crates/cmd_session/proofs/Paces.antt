@@ -1,16 +1,15 @@
--- A run on a disk of some manner, with one command more: it went by the manner still.
-use Rattle.std.proofs.Common.{◌≡◌, ◌≢◌, ◌↔◌, ◌⊎◌, inl, inr, ⊎_elim, ℕ, zero, suc, ◌+◌, ◌*◌, ◌-◌, ◌^◌, ◌<◌, ◌≤◌, ◌||◌, if◌then◌else◌, Bool, true, false, List, [], ◌∷◌, ◌++◌, length, take, drop, append-nil, Some, unwrap_or, refl, sym, ap, ◌∙◌, subst, arith}
+-- A run that goes by the log of its disk, with one command more.
+use Rattle.std.proofs.Common.{◌≡◌, ◌≢◌, ◌⊎◌, inl, inr, ⊎_elim, ℕ, zero, suc, ◌+◌, ◌<◌, ◌≤◌, ◌||◌, if◌then◌else◌, Bool, true, false, IsTrue, List, [], ◌∷◌, ◌++◌, length, take, drop, append-nil, Some, unwrap_or, refl, sym, ap, ◌∙◌, subst, arith}
 use Rattle.std.proofs.Math.Logic.{∥∥₁_map}
 use Rattle.std.proofs.Math.Seq.{take-append_seam, take-length}
-use Rattle.std.proofs.lemmas.Bool.{cases_Bool, cases_lt, false≢true, leb-true, or_parts}
+use Rattle.std.proofs.lemmas.Bool.{cases_Bool, cases_lt, false≢true}
 use Rattle.std.proofs.lemmas.List.{take-append-le, length-append}
 use Rattle.std.specs.List.{slice_get}
+use Rattle.base_types.specs.Seal.{Blocks}
 use Rattle.disk_contract.specs.declared.event.Event.{Event}
 use Rattle.disk_contract.specs.declared.event.Event.TheVariants.{Wrote, Lost, Noticed}
 use Rattle.disk_contract.specs.Disk.{Grows, PollsFirst, PollsThenWrites, writes_in}
-use Rattle.disk_contract.specs.Manner.{Manner, GoesBy, HasFailedBy, LosesLast, Polled, after_polls}
-use Rattle.layout_geometry.specs.Geometry.{Geometry}
-use Rattle.layout_journal.specs.Formatted.{formatted}
+use Rattle.disk_contract.specs.Manner.{Manner, HasFailedBy, LosesLast, Polled, after_polls}
 use Rattle.layout_journal.specs.declared.record.Commit.{Commit}
 use Rattle.layout_journal.specs.Run.{places_told}
 use Rattle.crash_argument.specs.Points.{MountedSession}
@@ -25,20 +24,17 @@ use Rattle.lang_tree.specs.declared.command.Reply.TheVariants as replied
 use Rattle.lang_tree.specs.declared.command.Reply.TheVariants.{Refused}
 use Rattle.lang_tree.specs.Points.{after_reply, is_refusal, is_sync}
 use Rattle.lang_tree.specs.Step.{Session}
-use Rattle.engine_blocks.specs.Crashes.{SameRecords}
-use Rattle.engine_blocks.specs.State.{Bookkeeping, State}
+use Rattle.engine_blocks.specs.State.{State}
 use Rattle.cmd_session.specs.Histories.{HasNoFault}
-use Rattle.fs_commands.specs.Applying.{is_spent}
 use Rattle.fs_commands.specs.Memory.{room_of}
 use Rattle.fs_commands.specs.Sessions.{IsSession}
 use Rattle.cmd_session.specs.Records.{own_records}
-use Rattle.cmd_record.specs.Behaving.{AnswersBy, DoesBehind, FailsSince, FindsPlaces, FindsRoom, HearsIn, KnowsUpTo, LosesSince, OrdersAtOnce, Pace, PacesBy, Span, StepsBy, Taken, TellsRing, WritesRecordBy, is_done_sync, is_fault, pace_at_first, places_wanted, session_by, taken_by}
-use Rattle.cmd_record.specs.Mounts.{MountsOnce}
-use Rattle.cmd_record.specs.Places.{LiesAt}
-use Rattle.cmd_record.specs.Placing.{StaysPlaced}
-use Rattle.cmd_record.specs.Disks.{TellsBy}
-use Rattle.cmd_record.specs.Running.{KeepsTaken, PacedRun, StepsOn, pace_of}
-use Rattle.cmd_record.proofs.Rooms.{answered_longer, own_longer}
+use Rattle.cmd_session.specs.Answered.{StaysPlaced, StepsOn}
+use Rattle.cmd_session.specs.Going.{pace_of}
+use Rattle.cmd_session.specs.Pacing.{AnswersBy, DoesBehind, FailsSince, FindsPlaces, FindsRoom, HearsIn, KnowsUpTo, LosesSince, OrdersAtOnce, Pace, PacesBy, StepsBy, TellsRing, WritesRecordBy, is_fault}
+use Rattle.cmd_session.specs.Places.{LiesAt}
+use Rattle.cmd_session.specs.Taking.{Span, Taken, is_done_sync, places_wanted, taken_by}
+use Rattle.cmd_session.proofs.Rooms.{answered_longer, own_longer}
 
 -- Lost writes.
 
@@ -98,10 +94,6 @@ get_split_at (z ∷ xs) x y (suc i) is = by (get_split_at xs x y i is)
 pub get_split : {A : Type 0} (xs : List A) (x y : A) (i : ℕ) → slice_get (xs ++ x ∷ []) i ≡ Some y → (slice_get xs i ≡ Some y) ⊎ (x ≡ y)
 get_split xs x y i is = ⊎_elim (λ earlier. inl earlier) (λ last. inr last.0) (get_split_at xs x y i is)
 
--- numbers that are used up are far
-spent_far : (k : Bookkeeping) → is_spent k ≡ true → 2 ^ 63 - 8 ≤ k.turns
-spent_far k is = leb-true (2 ^ 63 - 8) k.turns is
-
 -- marks that ascend are none past the last event
 within : (from : ℕ) (marks : List ℕ) (events : ℕ) → Ascend from marks events → from ≤ events
 within from [] events is = omega (arith, is)
@@ -145,30 +137,30 @@ fault_is (Refused why) is = ap Refused (fault_why why is)
 
 -- What was said of a shorter log holds of a longer one.
 
-module _ (ses : MountedSession) (m : Manner) (log more : List Event) (mounted : ses.mounted ≤ length log) where
+module _ (ses : MountedSession) (base : Blocks) (m : Manner) (counts : Bool) (log more : List Event) (mounted : ses.mounted ≤ length log) where
   front : (k : ℕ) → k ≤ length log → take k (log ++ more) ≡ take k log
   front k low = take-append-le k log more low
 
   same_own : (behind mark : ℕ) → mark ≤ length log → own_records ses (log ++ more) behind mark ≡ own_records ses log behind mark
   same_own behind mark low = own_longer ses log more behind mark low
 
-  finds_shorter : (behind wanted : ℕ) → behind ≤ length log → FindsPlaces ses (take behind (log ++ more)) wanted → FindsPlaces ses (take behind log) wanted
-  finds_shorter behind wanted low = subst (λ (es : List Event). FindsPlaces ses es wanted) (front behind low)
+  finds_shorter : (behind wanted : ℕ) → behind ≤ length log → FindsPlaces ses base (take behind (log ++ more)) wanted → FindsPlaces ses base (take behind log) wanted
+  finds_shorter behind wanted low = subst (λ (es : List Event). FindsPlaces ses base es wanted) (front behind low)
 
-  orders_shorter : (behind wanted : ℕ) (t : Taken) → behind ≤ length log → OrdersAtOnce ses (take behind (log ++ more)) t wanted → OrdersAtOnce ses (take behind log) t wanted
-  orders_shorter behind wanted t low = subst (λ (es : List Event). OrdersAtOnce ses es t wanted) (front behind low)
+  orders_shorter : (behind wanted : ℕ) (t : Taken) → behind ≤ length log → OrdersAtOnce ses base (take behind (log ++ more)) t wanted → OrdersAtOnce ses base (take behind log) t wanted
+  orders_shorter behind wanted t low = subst (λ (es : List Event). OrdersAtOnce ses base es t wanted) (front behind low)
 
-  writes_longer : (weight behind begun mark : ℕ) → behind ≤ begun → mark ≤ length log → WritesRecordBy ses log weight behind begun mark → WritesRecordBy ses (log ++ more) weight behind begun mark
+  writes_longer : (weight behind begun mark : ℕ) → behind ≤ begun → mark ≤ length log → WritesRecordBy ses base m log weight behind begun mark → WritesRecordBy ses base m (log ++ more) weight behind begun mark
   writes_longer weight behind begun mark from low w = record {
     commit = w.commit;
     own = same_own behind mark low ∙ w.own;
     size = w.size;
     upto = w.upto;
     writes = omega (arith, w.writes, ap writes_in (front mark low), ap writes_in (front begun (omega (arith, w.upto, low))));
-    fits = λ finds. w.fits (finds_shorter behind (places_told w.commit) (omega (arith, from, w.upto, low)) finds);
+    fits = λ alone finds. w.fits alone (finds_shorter behind (places_told w.commit) (omega (arith, from, w.upto, low)) finds);
   }
 
-  does_longer : (cmd : Cmd) (reply : Reply) (p q : Pace) (behind : ℕ) → p.events ≤ length log → q.events ≤ length log → behind ≤ q.events → DoesBehind ses m log cmd reply p q behind → DoesBehind ses m (log ++ more) cmd reply p q behind
+  does_longer : (cmd : Cmd) (reply : Reply) (p q : Pace) (behind : ℕ) → p.events ≤ length log → q.events ≤ length log → behind ≤ q.events → DoesBehind ses base m log cmd reply p q behind → DoesBehind ses base m (log ++ more) cmd reply p q behind
   does_longer cmd reply p q behind low low_next upto does =
       let same = same_own behind q.events low_next in
       let within : behind ≤ length log = omega (arith, upto, low_next) in
@@ -176,26 +168,27 @@ module _ (ses : MountedSession) (m : Manner) (log more : List Event) (mounted : 
         begun = does.begun;
         from = does.from;
         taken = does.taken ∙ ap (λ (own : List Commit). taken_by ses.geom p.taken cmd reply own (record { begun = does.begun; mark = q.events })) (sym same);
-        ring = λ meant going unspent alone. subst (λ (es : List Event). TellsRing ses es p.taken.records ⊎ ((q.events ≡ behind) × (reply ≡ Refused because.DiskFault))) (sym (front behind within)) (does.ring meant going unspent alone);
+        ring = λ meant going unspent alone. subst (λ (es : List Event). TellsRing ses base es p.taken.records ⊎ ((q.events ≡ behind) × (reply ≡ Refused because.DiskFault))) (sym (front behind within)) (does.ring meant going unspent alone);
         written = λ done going some. writes_longer p.taken.weight behind does.begun q.events does.from low_next (does.written done going some);
         idle = λ done going none. ap writes_in (front q.events low_next) ∙ does.idle done going none ∙ ap writes_in (sym (front behind within));
         unwritten = does.unwritten;
         calm = λ meant going unspent alone finds.
             subst (λ (es : List Event). PollsThenWrites m 64 p.polls es q.polls (take q.events (log ++ more))) (sym (front p.events low))
             (subst (λ (es : List Event). PollsThenWrites m 64 p.polls (take p.events log) q.polls es) (sym (front q.events low_next))
-            (does.calm meant going unspent alone (subst (λ (own : List Commit). FindsRoom ses (take behind log) p.taken p.room.room (places_wanted reply p.taken.weight own) cmd) same
-            (subst (λ (es : List Event). FindsRoom ses es p.taken p.room.room (places_wanted reply p.taken.weight (own_records ses (log ++ more) behind q.events)) cmd) (front behind within) finds))));
+            (does.calm meant going unspent alone (subst (λ (own : List Commit). FindsRoom ses base (take behind log) p.taken p.room.room (places_wanted reply p.taken.weight own) cmd) same
+            (subst (λ (es : List Event). FindsRoom ses base es p.taken p.room.room (places_wanted reply p.taken.weight (own_records ses (log ++ more) behind q.events)) cmd) (front behind within) finds))));
         waits = λ is going unspent alone finds x polled.
             subst (λ (es : List Event). HearsIn (q.taken.spans ++ (if is_refusal reply then record { begun = behind; mark = q.events } ∷ [] else [])) x.log es) (sym (front q.events low_next))
-            (does.waits is going unspent alone (subst (λ (own : List Commit). OrdersAtOnce ses (take behind log) p.taken (places_wanted reply p.taken.weight own)) same
+            (does.waits is going unspent alone (subst (λ (own : List Commit). OrdersAtOnce ses base (take behind log) p.taken (places_wanted reply p.taken.weight own)) same
             (orders_shorter behind (places_wanted reply p.taken.weight (own_records ses (log ++ more) behind q.events)) p.taken within finds)) x (ap (λ (es : List Event). after_polls m 64 p.polls es) (sym (front p.events low)) ∙ polled));
       }
 
-  steps_longer : (cmd : Cmd) (reply : Reply) (p q : Pace) → p.events ≤ length log → q.events ≤ length log → StepsBy ses m log cmd reply p q → StepsBy ses m (log ++ more) cmd reply p q
-  steps_longer cmd reply p q low low_next step = let longer = answered_longer ses m log more cmd reply p q low low_next step.room in record {
+  steps_longer : (cmd : Cmd) (reply : Reply) (p q : Pace) → p.events ≤ length log → q.events ≤ length log → StepsBy ses base m counts log cmd reply p q → StepsBy ses base m counts (log ++ more) cmd reply p q
+  steps_longer cmd reply p q low low_next step = let longer = answered_longer ses base m log more cmd reply p q low low_next step.room in record {
     over = step.over;
     room = longer.0;
-    does = subst (DoesBehind ses m (log ++ more) cmd reply p q) longer.1 (does_longer cmd reply p q step.room.behind low low_next step.room.upto step.does);
+    weighs = step.weighs;
+    does = subst (DoesBehind ses base m (log ++ more) cmd reply p q) longer.1 (does_longer cmd reply p q step.room.behind low low_next step.room.upto step.does);
     spends = omega (arith, step.spends, ap writes_in (front q.events low_next), ap writes_in (front ses.mounted mounted));
     rests = step.rests;
     ticks = λ meant going unspent.
@@ -205,15 +198,20 @@ module _ (ses : MountedSession) (m : Manner) (log more : List Event) (mounted : 
     told = step.told;
     rises = step.rises;
     stops = step.stops;
+    halts = step.halts;
     reads = step.reads;
-    fails = λ is. subst (λ (es : List Event). ∥ FailsSince m p.events es ∥₁) (sym (front q.events low_next)) (step.fails is);
-    loses = λ lost. step.loses (ap (λ (es : List Event). has_lost (drop p.events es)) (sym (front q.events low_next)) ∙ lost);
-    lies = λ going clean. subst (λ (es : List Event). ∥ LiesAt ses.geom (formatted ses.geom) es q.room.room.places ∥₁) (sym (front q.events low_next)) (step.lies going clean);
+    fails = λ unlost is. subst (λ (es : List Event). ∥ FailsSince m p.events es ∥₁) (sym (front q.events low_next)) (step.fails (unlost_shorter unlost) is);
+    loses = λ known lost. step.loses known (ap (λ (es : List Event). has_lost (drop p.events es)) (sym (front q.events low_next)) ∙ lost);
+    lies = λ going clean. subst (λ (es : List Event). ∥ LiesAt ses.geom base es q.room.room.places ∥₁) (sym (front q.events low_next)) (step.lies going clean);
   }
+    where
+      unlost_shorter : IsTrue counts ⊎ (has_lost (take p.events (log ++ more)) ≡ false) → IsTrue counts ⊎ (has_lost (take p.events log) ≡ false)
+      unlost_shorter (inl known) = inl known
+      unlost_shorter (inr none) = inr (ap has_lost (sym (front p.events low)) ∙ none)
 
-  paces_longer : (cmd : Cmd) (reply : Reply) (mark : ℕ) (mid end : Pace) (p : Pace) (cmds : List Cmd) (replies : List Reply) (marks : List ℕ) → Ascend p.events marks (length log)
-      → PacesBy ses m log p cmds replies marks mid → end.events ≡ mark → StepsBy ses m (log ++ more) cmd reply mid end → PacesBy ses m (log ++ more) p (cmds ++ cmd ∷ []) (replies ++ reply ∷ []) (marks ++ mark ∷ []) end
-  paces_longer cmd reply mark mid end p [] [] [] up paces is step = (end, is, subst (λ (x : Pace). StepsBy ses m (log ++ more) cmd reply x end) paces step, refl)
+  pub paces_longer : (cmd : Cmd) (reply : Reply) (mark : ℕ) (mid end : Pace) (p : Pace) (cmds : List Cmd) (replies : List Reply) (marks : List ℕ) → Ascend p.events marks (length log)
+      → PacesBy ses base m counts log p cmds replies marks mid → end.events ≡ mark → StepsBy ses base m counts (log ++ more) cmd reply mid end → PacesBy ses base m counts (log ++ more) p (cmds ++ cmd ∷ []) (replies ++ reply ∷ []) (marks ++ mark ∷ []) end
+  paces_longer cmd reply mark mid end p [] [] [] up paces is step = (end, is, subst (λ (x : Pace). StepsBy ses base m counts (log ++ more) cmd reply x end) paces step, refl)
   paces_longer cmd reply mark mid end p (c ∷ cmds) (r ∷ replies) (k ∷ marks) up paces is step =
       let at : paces.0.events ≡ k = paces.1 in
       let up_next : Ascend paces.0.events marks (length log) = subst (λ (n : ℕ). Ascend n marks (length log)) (sym at) up.1 in
@@ -225,7 +223,7 @@ module _ (ses : MountedSession) (m : Manner) (log more : List Event) (mounted : 
   paces_longer cmd reply mark mid end p (c ∷ cmds) (r ∷ replies) [] up paces is step = absurd paces
 
 -- One command more, over blocks of which it is known exactly where a call of the disk has failed.
-module _ (cmd : Cmd) (reply : Reply) (old new : State) (s : StepsOn cmd reply old new) (grows : Grows old.crash.log new.crash.log) (replies : List Reply)
+module _ (counts : Bool) (cmd : Cmd) (reply : Reply) (old new : State) (s : StepsOn counts cmd reply old new) (grows : Grows old.crash.log new.crash.log) (replies : List Reply)
     (before : (i : ℕ) → slice_get replies i ≡ Some (Refused because.DiskFault) → old.books.stopped ≡ true)
     (ended : (i : ℕ) → slice_get (replies ++ reply ∷ []) i ≡ Some (Refused because.DiskFault) → new.books.stopped ≡ true)
     (going : HasNoFault (replies ++ reply ∷ []) → new.books.stopped ≡ false) where
@@ -248,42 +246,39 @@ module _ (cmd : Cmd) (reply : Reply) (old new : State) (s : StepsOn cmd reply ol
       by (inr run) = by_reply run (cases_Bool (is_fault reply))
 
   -- What the command did behind its tick, by the log: with no reason it waited for nothing, and a dsync for the writes of records; and `durable` is answered by no earlier point than is known.
-  pub record Waits (g : Geometry) (mounted : ℕ) (t : Taken) (behind : List Event) (begun : ℕ) : Type 0 where
+  pub record Waits (ses : MountedSession) (base : Blocks) (m : Manner) (t : Taken) (behind : List Event) (begun : ℕ) : Type 0 where
     pub from : length behind ≤ begun
-    pub ring : cmd ≢ Bad → old.books.stopped ≡ false → reply ≢ Refused because.Spent → TellsRing (session_by g mounted) behind t.records ⊎ ((length new.crash.log ≡ length behind) × (reply ≡ Refused because.DiskFault))
-    pub written : is_done_sync cmd reply ≡ true → old.books.stopped ≡ false → 0 < t.weight → WritesRecordBy (session_by g mounted) new.crash.log t.weight (length behind) begun (length new.crash.log)
+    pub ring : cmd ≢ Bad → old.books.stopped ≡ false → reply ≢ Refused because.Spent → m.waits_alone ≡ true → TellsRing ses base behind t.records ⊎ ((length new.crash.log ≡ length behind) × (reply ≡ Refused because.DiskFault))
+    pub written : is_done_sync cmd reply ≡ true → old.books.stopped ≡ false → 0 < t.weight → WritesRecordBy ses base m new.crash.log t.weight (length behind) begun (length new.crash.log)
     pub idle : is_done_sync cmd reply ≡ true → old.books.stopped ≡ false → t.weight ≡ 0 → writes_in new.crash.log ≡ writes_in behind
     pub unwritten : is_sync cmd ≡ true → old.books.stopped ≡ false → reply ≡ Refused because.NoMemory → length new.crash.log ≡ length behind
-    pub calm : cmd ≢ Bad → old.books.stopped ≡ false → reply ≢ Refused because.Spent → FindsRoom (session_by g mounted) behind t (room_of old) (places_wanted reply t.weight (own_records (session_by g mounted) new.crash.log (length behind) (length new.crash.log))) cmd
+    pub calm : m.waits_alone ≡ true → cmd ≢ Bad → old.books.stopped ≡ false → reply ≢ Refused because.Spent → FindsRoom ses base behind t (room_of old) (places_wanted reply t.weight (own_records ses new.crash.log (length behind) (length new.crash.log))) cmd
         → PollsThenWrites old.counts.ticks.manner 64 old.counts.ticks.polls old.crash.log new.counts.ticks.polls new.crash.log
-    pub hears : cmd ≡ Dsync → old.books.stopped ≡ false → reply ≢ Refused because.Spent → OrdersAtOnce (session_by g mounted) behind t (places_wanted reply t.weight (own_records (session_by g mounted) new.crash.log (length behind) (length new.crash.log))) → (p : Polled) → after_polls old.counts.ticks.manner 64 old.counts.ticks.polls old.crash.log ≡ Some p
-        → HearsIn ((taken_by g t cmd reply (own_records (session_by g mounted) new.crash.log (length behind) (length new.crash.log)) (record { begun = begun; mark = length new.crash.log })).spans ++ (if is_refusal reply then record { begun = length behind; mark = length new.crash.log } ∷ [] else [])) p.log new.crash.log
+    pub hears : m.waits_alone ≡ true → cmd ≡ Dsync → old.books.stopped ≡ false → reply ≢ Refused because.Spent → OrdersAtOnce ses base behind t (places_wanted reply t.weight (own_records ses new.crash.log (length behind) (length new.crash.log))) → (p : Polled) → after_polls old.counts.ticks.manner 64 old.counts.ticks.polls old.crash.log ≡ Some p
+        → HearsIn ((taken_by ses.geom t cmd reply (own_records ses new.crash.log (length behind) (length new.crash.log)) (record { begun = begun; mark = length new.crash.log })).spans ++ (if is_refusal reply then record { begun = length behind; mark = length new.crash.log } ∷ [] else [])) p.log new.crash.log
     pub knows : (n : ℕ) → cmd ≡ Durable → reply ≡ replied.Known n → new.counts.ticks.manner.waits_alone ≡ true → KnowsUpTo t.spans new.crash.log n
     pub told : (n : ℕ) → cmd ≡ Durable → reply ≡ replied.Known n → n ≡ new.books.floor
     pub rises : old.books.floor ≤ new.books.floor
-    pub spends : writes_in (take (length new.crash.log) new.crash.log) ≤ writes_in (take mounted new.crash.log) + (taken_by g t cmd reply (own_records (session_by g mounted) new.crash.log (length behind) (length new.crash.log)) (record { begun = begun; mark = length new.crash.log })).budget
-    pub placed : StaysPlaced g (after_reply t.session cmd reply) new
+    pub spends : writes_in (take (length new.crash.log) new.crash.log) ≤ writes_in (take ses.mounted new.crash.log) + (taken_by ses.geom t cmd reply (own_records ses new.crash.log (length behind) (length new.crash.log)) (record { begun = begun; mark = length new.crash.log })).budget
+    pub placed : StaysPlaced ses.geom base (after_reply t.session cmd reply) new
+    pub weighs : old.books.stopped ≡ false → t.weight ≡ old.books.running.weight
 
   -- a write that was lost among its events
-  module _ (unlost_before : old.books.stopped ≡ false → has_lost old.crash.log ≡ false) (unlost_now : new.books.stopped ≡ false → has_lost new.crash.log ≡ false) where
-    since_now : (m : Manner) → reply ≡ Refused because.DiskFault → HasFailedBy m new.crash.log → FailsSince m (length old.crash.log) new.crash.log
-    since_now m fault failed = fails_since m old.crash.log new.crash.log grows (unlost_before (s.first fault)) failed
+  fails_now : (m : Manner) → reply ≡ Refused because.DiskFault → has_lost old.crash.log ≡ false → HasFailedBy m new.crash.log → FailsSince m (length old.crash.log) new.crash.log
+  fails_now m fault none failed = fails_since m old.crash.log new.crash.log grows none failed
 
-    loses_now : has_lost (drop (length old.crash.log) new.crash.log) ≡ true → reply ≡ Refused because.DiskFault
-    loses_now lost = by (cases_Bool new.books.stopped)
-      where
-        by_old : (old.books.stopped ≡ true) ⊎ (is_fault reply ≡ true) → reply ≡ Refused because.DiskFault
-        by_old (inl over) = absurd (false≢true (sym (ap (λ (es : List Event). has_lost (drop (length old.crash.log) es)) (s.rests (inr over)).1.0 ∙ none_behind old.crash.log) ∙ lost))
-        by_old (inr fault) = fault_is reply fault
+  loses_now : (new.books.stopped ≡ false → has_lost new.crash.log ≡ false) → has_lost (drop (length old.crash.log) new.crash.log) ≡ true → reply ≡ Refused because.DiskFault
+  loses_now unlost_now lost = by (cases_Bool new.books.stopped)
+    where
+      by_old : (old.books.stopped ≡ true) ⊎ (is_fault reply ≡ true) → reply ≡ Refused because.DiskFault
+      by_old (inl over) = absurd (false≢true (sym (ap (λ (es : List Event). has_lost (drop (length old.crash.log) es)) (s.rests (inr over)).1.0 ∙ none_behind old.crash.log) ∙ lost))
+      by_old (inr fault) = fault_is reply fault
 
-        by : (new.books.stopped ≡ true) ⊎ (new.books.stopped ≡ false) → reply ≡ Refused because.DiskFault
-        by (inl over) = by_old (or_cases old.books.stopped (is_fault reply) (sym over_now ∙ over))
-        by (inr going) = absurd (false≢true (sym (unlost_now going) ∙ lost_behind (length old.crash.log) new.crash.log lost))
+      by : (new.books.stopped ≡ true) ⊎ (new.books.stopped ≡ false) → reply ≡ Refused because.DiskFault
+      by (inl over) = by_old (or_cases old.books.stopped (is_fault reply) (sym over_now ∙ over))
+      by (inr going) = absurd (false≢true (sym (unlost_now going) ∙ lost_behind (length old.crash.log) new.crash.log lost))
 
-  module _ (g : Geometry) (mounted : ℕ) (t : Taken) (behind : List Event) (begun : ℕ) (goes_on : Grows behind new.crash.log) (waits : Waits g mounted t behind begun) (m : Manner) (is : old.counts.ticks.manner ≡ m) where
-    abbrev ses : MountedSession
-    ses = session_by g mounted
-
+  module _ (ses : MountedSession) (base : Blocks) (m : Manner) (t : Taken) (behind : List Event) (begun : ℕ) (goes_on : Grows behind new.crash.log) (waits : Waits ses base m t behind begun) (is : old.counts.ticks.manner ≡ m) where
     abbrev own : List Commit
     own = own_records ses new.crash.log (length behind) (length new.crash.log)
 
@@ -291,7 +286,7 @@ module _ (cmd : Cmd) (reply : Reply) (old new : State) (s : StepsOn cmd reply ol
     late = record { begun = begun; mark = length new.crash.log }
 
     abbrev then_pace : Pace
-    then_pace = pace_of (taken_by g t cmd reply own late) new
+    then_pace = pace_of (taken_by ses.geom t cmd reply own late) new
 
     all : take (length new.crash.log) new.crash.log ≡ new.crash.log
     all = take-length new.crash.log
@@ -302,12 +297,12 @@ module _ (cmd : Cmd) (reply : Reply) (old new : State) (s : StepsOn cmd reply ol
     cut : take (length behind) new.crash.log ≡ behind
     cut = ap (λ (es : List Event). take (length behind) es) goes_on.log ∙ take-append_seam behind goes_on.more
 
-    does_now : DoesBehind ses m new.crash.log cmd reply (pace_of t old) then_pace (length behind)
+    does_now : DoesBehind ses base m new.crash.log cmd reply (pace_of t old) then_pace (length behind)
     does_now = record {
       begun = begun;
       from = waits.from;
       taken = refl;
-      ring = λ meant run unspent alone. subst (λ (es : List Event). TellsRing ses es t.records ⊎ ((length new.crash.log ≡ length behind) × (reply ≡ Refused because.DiskFault))) (sym cut) (waits.ring meant run unspent);
+      ring = λ meant run unspent alone. subst (λ (es : List Event). TellsRing ses base es t.records ⊎ ((length new.crash.log ≡ length behind) × (reply ≡ Refused because.DiskFault))) (sym cut) (waits.ring meant run unspent alone);
       written = waits.written;
       idle = λ done run none. ap writes_in all ∙ waits.idle done run none ∙ ap writes_in (sym cut);
       unwritten = waits.unwritten;
@@ -315,21 +310,23 @@ module _ (cmd : Cmd) (reply : Reply) (old new : State) (s : StepsOn cmd reply ol
           subst (λ (es : List Event). PollsThenWrites m 64 old.counts.ticks.polls es new.counts.ticks.polls (take (length new.crash.log) new.crash.log)) (sym earlier)
           (subst (λ (es : List Event). PollsThenWrites m 64 old.counts.ticks.polls old.crash.log new.counts.ticks.polls es) (sym all)
           (subst (λ (x : Manner). PollsThenWrites x 64 old.counts.ticks.polls old.crash.log new.counts.ticks.polls new.crash.log) is
-          (waits.calm meant run unspent (subst (λ (es : List Event). FindsRoom ses es t (room_of old) (places_wanted reply t.weight own) cmd) cut finds))));
+          (waits.calm alone meant run unspent (subst (λ (es : List Event). FindsRoom ses base es t (room_of old) (places_wanted reply t.weight own) cmd) cut finds))));
       waits = λ sync run unspent alone finds p polled.
           subst (λ (es : List Event). HearsIn (then_pace.taken.spans ++ (if is_refusal reply then record { begun = length behind; mark = length new.crash.log } ∷ [] else [])) p.log es) (sym all)
-          (waits.hears sync run unspent (subst (λ (es : List Event). OrdersAtOnce ses es t (places_wanted reply t.weight own)) cut finds) p (ap (λ (x : Manner). after_polls x 64 old.counts.ticks.polls old.crash.log) is ∙ ap (λ (es : List Event). after_polls m 64 old.counts.ticks.polls es) (sym earlier) ∙ polled));
+          (waits.hears alone sync run unspent (subst (λ (es : List Event). OrdersAtOnce ses base es t (places_wanted reply t.weight own)) cut finds) p (ap (λ (x : Manner). after_polls x 64 old.counts.ticks.polls old.crash.log) is ∙ ap (λ (es : List Event). after_polls m 64 old.counts.ticks.polls es) (sym earlier) ∙ polled));
     }
 
-    step_now : (old.books.stopped ≡ false → has_lost old.crash.log ≡ false) → (new.books.stopped ≡ false → has_lost new.crash.log ≡ false) → (f : Session) → IsSession old f → (room : AnswersBy ses m new.crash.log cmd reply (pace_of t old) then_pace) → room.behind ≡ length behind → StepsBy ses m new.crash.log cmd reply (pace_of t old) then_pace
+    pub step_now : (IsTrue counts → old.books.stopped ≡ false → has_lost old.crash.log ≡ false) → (IsTrue counts → new.books.stopped ≡ false → has_lost new.crash.log ≡ false) → (f : Session) → IsSession old f → (room : AnswersBy ses base m new.crash.log cmd reply (pace_of t old) then_pace) → room.behind ≡ length behind
+        → StepsBy ses base m counts new.crash.log cmd reply (pace_of t old) then_pace
     step_now before now f session room behind_is =
         let same : new.counts.ticks.manner ≡ m = s.manner ∙ is in
         record {
           over = over_now;
           room = room;
-          does = subst (DoesBehind ses m new.crash.log cmd reply (pace_of t old) then_pace) (sym behind_is) does_now;
+          does = subst (DoesBehind ses base m new.crash.log cmd reply (pace_of t old) then_pace) (sym behind_is) does_now;
+          weighs = waits.weighs;
           spends = waits.spends;
-          rests = λ still. let r = s.rests still in (r.0, ap (λ (es : List Event). length es) r.1.0);
+          rests = rests_now f session;
           ticks = λ meant run unspent.
               subst (λ (es : List Event). PollsFirst m 64 old.counts.ticks.polls es new.counts.ticks.polls (take (length new.crash.log) new.crash.log)) (sym earlier)
               (subst (λ (es : List Event). PollsFirst m 64 old.counts.ticks.polls old.crash.log new.counts.ticks.polls es) (sym all)
@@ -338,63 +335,19 @@ module _ (cmd : Cmd) (reply : Reply) (old new : State) (s : StepsOn cmd reply ol
           told = waits.told;
           rises = waits.rises;
           stops = λ late. s.stops f session late;
+          halts = s.halts;
           reads = λ unread. ap (λ (x : Manner). x.reads_fail) (sym same) ∙ s.reads f session unread;
-          fails = λ fault. subst (λ (es : List Event). ∥ FailsSince m (length old.crash.log) es ∥₁) (sym all)
-              (∥∥₁_map (subst (λ (x : Manner). ∥ HasFailedBy x new.crash.log ∥₁) same (s.fails (ended (length replies) (get_behind replies reply ∙ ap Some fault)))) (λ failed. since_now before now m fault failed));
-          loses = λ lost. loses_now before now (ap (λ (es : List Event). has_lost (drop (length old.crash.log) es)) (sym all) ∙ lost);
-          lies = λ going clean. subst (λ (es : List Event). ∥ LiesAt g (formatted g) es (room_of new).places ∥₁) (sym all) (waits.placed.lies going clean);
+          fails = λ unlost fault. subst (λ (es : List Event). ∥ FailsSince m (length old.crash.log) es ∥₁) (sym all)
+              (∥∥₁_map (subst (λ (x : Manner). ∥ HasFailedBy x new.crash.log ∥₁) same (s.fails (ended (length replies) (get_behind replies reply ∙ ap Some fault)))) (λ failed. fails_now m fault (unlost_before fault unlost) failed));
+          loses = λ known lost. loses_now (now known) (ap (λ (es : List Event). has_lost (drop (length old.crash.log) es)) (sym all) ∙ lost);
+          lies = λ going clean. subst (λ (es : List Event). ∥ LiesAt ses.geom base es (room_of new).places ∥₁) (sym all) (waits.placed.lies going clean);
         }
+      where
+        rests_now : (f : Session) → IsSession old f → (cmd ≡ Bad) ⊎ ((old.books.stopped ≡ true) ⊎ (reply ≡ Refused because.Spent)) → (new.counts.ticks.polls ≡ old.counts.ticks.polls) × (length new.crash.log ≡ length old.crash.log)
+        rests_now f session (inl none) = let r = s.rests (inl none) in (r.0, ap (λ (es : List Event). length es) r.1.0)
+        rests_now f session (inr (inl over)) = let r = s.rests (inr over) in (r.0, ap (λ (es : List Event). length es) r.1.0)
+        rests_now f session (inr (inr spent)) = let r = s.idles f session spent in (r.0, ap (λ (es : List Event). length es) r.1)
 
-  -- so many commands don't use the numbers up
-  unspent_on : (f : Session) → IsSession old f → old.books.turns ≤ 3 + length replies * 2 ^ 20 → ((i : ℕ) → i < 2 ^ 40 → slice_get replies i ≡ Some (Refused because.Spent) → ⊥)
-      → (i : ℕ) → i < 2 ^ 40 → slice_get (replies ++ reply ∷ []) i ≡ Some (Refused because.Spent) → ⊥
-  unspent_on f session turns none i few at = by (get_split_at replies reply (Refused because.Spent) i at)
-    where
-      by : (slice_get replies i ≡ Some (Refused because.Spent)) ⊎ ((reply ≡ Refused because.Spent) × (i ≡ length replies)) → ⊥
-      by (inl earlier) = none i few earlier
-      by (inr now) = absurd (omega (arith, few, now.1, turns, spent_far old.books (s.spent f session now.0)))
-
-  -- while no call failed, none was counted, and no write was lost
-  going_before : new.books.stopped ≡ false → old.books.stopped ≡ false
-  going_before going = (or_parts old.books.stopped (is_fault reply) (sym over_now ∙ going)).0
-
-  module _ {g : Geometry} {m : Manner} {mounted : ℕ} {cmds : List Cmd} {marks : List ℕ} (run : PacedRun g m mounted cmds replies marks old) where
-    uncounted_on : new.books.stopped ≡ false → new.counts.faults ≡ 0
-    uncounted_on going = s.uncounted going ∙ run.uncounted (going_before going)
-
-    unlost_on : new.books.stopped ≡ false → has_lost new.crash.log ≡ false
-    unlost_on going = s.unlost (ap (λ (x : Manner). x.waits_alone) (s.manner ∙ run.manner) ∙ run.alone) (uncounted_on going)
-
-  -- the records are those of the session still
-  tells_on : (ses : MountedSession) → SameRecords old.crash.records new.crash.records → TellsBy ses old.crash.records → TellsBy ses new.crash.records
-  tells_on ses same tells = record { told = same.told ∙ tells.told; starts = λ front n. let now = same.starts front n in let was = tells.starts front n in (λ is. was.0 (now.0 is), λ is. now.1 (was.1 is)) }
-
-  pub paced_on : (g : Geometry) (m : Manner) (f : Session) (mounted : ℕ) (cmds : List Cmd) (marks : List ℕ) → IsSession old f → Ascend mounted marks (length old.crash.log) → (run : PacedRun g m mounted cmds replies marks old) → (behind : List Event) (begun : ℕ) → Grows behind new.crash.log
-      → Waits g mounted run.taken behind begun
-      → (room : AnswersBy (session_by g mounted) m new.crash.log cmd reply (pace_of run.taken old) (pace_of (taken_by g run.taken cmd reply (own_records (session_by g mounted) new.crash.log (length behind) (length new.crash.log)) (record { begun = begun; mark = length new.crash.log })) new)) → room.behind ≡ length behind
-      → ((front : List Event) (p : ℕ) → new.crash.sure front p ↔ old.crash.sure front p) → SameRecords old.crash.records new.crash.records
-      → KeepsTaken g mounted (cmds ++ cmd ∷ []) (replies ++ reply ∷ []) new (taken_by g run.taken cmd reply (own_records (session_by g mounted) new.crash.log (length behind) (length new.crash.log)) (record { begun = begun; mark = length new.crash.log })) → PacedRun g m mounted (cmds ++ cmd ∷ []) (replies ++ reply ∷ []) (marks ++ length new.crash.log ∷ []) new
-  paced_on g m f mounted cmds marks session up run behind begun goes_on waits room behind_is sure records keeps =
-      let ses = session_by g mounted in
-      let end = pace_of (taken_by g run.taken cmd reply (own_records ses new.crash.log (length behind) (length new.crash.log)) (record { begun = begun; mark = length new.crash.log })) new in
-      record {
-        manner = s.manner ∙ run.manner;
-        writes = subst (λ (x : Manner). GoesBy x new.crash.log) (s.manner ∙ run.manner) s.writes;
-        alone = run.alone;
-        mounts = ap has_lost (ap (λ (es : List Event). take mounted es) grows.log ∙ take-append-le mounted old.crash.log grows.more run.within) ∙ run.mounts;
-        once = subst (MountsOnce g) (sym (ap (λ (es : List Event). take mounted es) grows.log ∙ take-append-le mounted old.crash.log grows.more run.within)) run.once;
-        placed = waits.placed.keeps;
-        within = omega (arith, run.within, ap (λ (es : List Event). length es) grows.log, length-append old.crash.log grows.more);
-        uncounted = uncounted_on run;
-        unlost = unlost_on run;
-        records = tells_on ses records run.records;
-        taken = end.taken;
-        keeps = keeps;
-        opens = run.opens;
-        sure = λ front p. let now = sure front p in let was = run.sure front p in (λ is. was.0 (now.0 is), λ is. now.1 (was.1 is));
-        turns = omega (arith, s.turns, run.turns, length-append replies (reply ∷ []));
-        unspent = unspent_on f session run.turns run.unspent;
-        paces = subst (λ (es : List Event). PacesBy ses m es (pace_at_first g mounted) (cmds ++ cmd ∷ []) (replies ++ reply ∷ []) (marks ++ length new.crash.log ∷ []) end) (sym grows.log)
-            (paces_longer ses m old.crash.log grows.more run.within cmd reply (length new.crash.log) (pace_of run.taken old) end (pace_at_first g mounted) cmds replies marks up run.paces refl
-            (subst (λ (es : List Event). StepsBy ses m es cmd reply (pace_of run.taken old) end) grows.log (step_now g mounted run.taken behind begun goes_on waits m run.manner run.unlost (unlost_on run) f session room behind_is)));
-      }
+        unlost_before : reply ≡ Refused because.DiskFault → IsTrue counts ⊎ (has_lost (take (length old.crash.log) new.crash.log) ≡ false) → has_lost old.crash.log ≡ false
+        unlost_before fault (inl known) = before known (s.first fault)
+        unlost_before fault (inr none) = ap has_lost (sym earlier) ∙ none

@@ -10,7 +10,6 @@ use Rattle.layout_geometry.specs.Geometry.{Geometry, IsGeometry, bitmap_start, d
 use Rattle.layout_bytes.specs.Bitmap.{is_set}
 use Rattle.layout_bytes.specs.Bytes.{when}
 use Rattle.layout_bytes.specs.Node.{node_at, node_of, node_size}
-use Rattle.layout_journal.specs.Formatted.{formatted}
 use Rattle.layout_journal.specs.declared.header.Header.{Header}
 use Rattle.layout_journal.specs.Layout.{header_of}
 use Rattle.layout_journal.specs.Run.{Newest}
@@ -30,11 +29,11 @@ use Rattle.fs_commands.specs.DiskRoom.{AnswersOn, AnswersOver, BeginsOver, IsRoo
 use Rattle.fs_commands.specs.Memory.{room_of}
 use Rattle.fs_commands.specs.Room.{HoldsTree, IsDoneIn, RefusesIn, Room, figures_in}
 use Rattle.fs_commands.specs.Sessions.{IsSession}
-use Rattle.cmd_record.specs.Behaving.{makes_point}
-use Rattle.cmd_record.specs.Places.{LiesAt}
-use Rattle.cmd_record.specs.Placing.{KeepsPlaces, PassesPoints, PlaceLaws, StaysPlaced}
-use Rattle.cmd_record.specs.Running.{RunLaws}
-use Rattle.cmd_record.proofs.Rooms.{said}
+use Rattle.cmd_session.specs.Answered.{PassesPoints, PlaceLaws, StaysPlaced}
+use Rattle.cmd_session.specs.Going.{KeepsPlaces}
+use Rattle.cmd_session.specs.Places.{LiesAt}
+use Rattle.cmd_session.specs.Taking.{makes_point}
+use Rattle.cmd_session.proofs.Rooms.{said}
 
 -- A map that has the live blocks of another one: each node has the same blocks in both.
 
@@ -210,7 +209,7 @@ module _ (g : Geometry) (f : Session) (reply : Reply) (next : Session) (clean : 
 
 -- One command more, over blocks.
 
-module _ (g : Geometry) (laws : PlaceLaws g) (f : Session) (cmd : Cmd) (reply : Reply) (old new : State) (p : PassesPoints old new) (geom : new.books.geom ≡ g) where
+module _ (g : Geometry) (laws : PlaceLaws g) (base : Blocks) (f : Session) (cmd : Cmd) (reply : Reply) (old new : State) (p : PassesPoints old new) (geom : new.books.geom ≡ g) where
   -- a point that came has the map now
   came : old.books.point < new.books.point → (m : Blocks) → new.crash.is_point new.books.point m → (k : ℕ) → places_of g m k ≡ (room_of new).places k
   came up m is k = places_same g laws.limits new.map m (subst (λ (x : Geometry). HasLiveBlocks x new.map m) geom (p.time.made up m is)) k ∙ ap (λ (x : Geometry). places_of x new.map k) (sym geom)
@@ -235,36 +234,36 @@ module _ (g : Geometry) (laws : PlaceLaws g) (f : Session) (cmd : Cmd) (reply : 
           point = (p.time.advances.point old.books.point m (omega arith)).0 (subst (λ (n : ℕ). new.crash.is_point n m) number is)
 
   -- where it is so, the image that has all that was issued holds such a map
-  lies_now : (h : Session) → ((b : ℕ) → b < g.n → new.crash.base b ≡ formatted g b) → KeepsPlaces g h new → new.books.stopped ≡ false → h.changed ≡ false → ∥ LiesAt g (formatted g) new.crash.log (room_of new).places ∥₁
-  lies_now h base keeps going clean = ∥∥₁_map last.some lies
+  lies_now : (h : Session) → ((b : ℕ) → b < g.n → new.crash.base b ≡ base b) → KeepsPlaces g h new → new.books.stopped ≡ false → h.changed ≡ false → ∥ LiesAt g base new.crash.log (room_of new).places ∥₁
+  lies_now h same keeps going clean = ∥∥₁_map last.some lies
     where
       last : StandsForLast new
       last = p.last going
 
-      alike : (b : ℕ) → b < g.n → issued new.crash.base new.crash.log b ≡ issued (formatted g) new.crash.log b
-      alike b low = ap (λ (x : List ℕ). issued (λ _. x) new.crash.log b) (base b low)
+      alike : (b : ℕ) → b < g.n → issued new.crash.base new.crash.log b ≡ issued base new.crash.log b
+      alike b low = ap (λ (x : List ℕ). issued (λ _. x) new.crash.log b) (same b low)
 
-      lies : (m : Blocks) × new.crash.issued m → LiesAt g (formatted g) new.crash.log (room_of new).places
+      lies : (m : Blocks) × new.crash.issued m → LiesAt g base new.crash.log (room_of new).places
       lies one = record {
         map = one.0;
-        held = held_alike g laws (issued new.crash.base new.crash.log) (issued (formatted g) new.crash.log) one.0 alike
+        held = held_alike g laws (issued new.crash.base new.crash.log) (issued base new.crash.log) one.0 alike
             (subst (λ (x : Geometry). HoldsUnder x.n x (issued new.crash.base new.crash.log) one.0) geom (p.drawn.holds (issued new.crash.base new.crash.log) one.0 (p.drawn.issued one.0 one.1)));
         nodes = keeps going clean one.0 (last.each one.0 one.1);
       }
 
   pub placed_on : IsSound g.i f.tree → HoldsTree f.tree (room_of old) → (new.books.stopped ≡ false → old.books.stopped ≡ false) → (new.books.stopped ≡ false → makes_point f cmd reply ≡ true → old.books.point < new.books.point)
-      → AnswersOn g f (room_of old) cmd reply (after_reply f cmd reply) (room_of new) → ((b : ℕ) → b < g.n → new.crash.base b ≡ formatted g b) → KeepsPlaces g f old → StaysPlaced g (after_reply f cmd reply) new
-  placed_on sound holds before makes answers base was =
+      → AnswersOn g f (room_of old) cmd reply (after_reply f cmd reply) (room_of new) → ((b : ℕ) → b < g.n → new.crash.base b ≡ base b) → KeepsPlaces g f old → StaysPlaced g base (after_reply f cmd reply) new
+  placed_on sound holds before makes answers same was =
       let now = keeps_on sound holds before makes answers was in
-      record { keeps = now; lies = lies_now (after_reply f cmd reply) base now }
+      record { keeps = now; lies = lies_now (after_reply f cmd reply) same now }
 
--- The same over the disk of a recording, by what is known of its run so far: this is its session, and so many of its commands made a point.
-pub placed_in : (g : Geometry) (laws : RunLaws g) (f : Session) (made : ℕ) (cmd : Cmd) (reply : Reply) (old new : State) → PassesPoints old new → old.books.geom ≡ g → IsSession old f → IsRoomOf old.books.geom f (room_of old)
+-- The same by what is known of a run so far: this is its session, and so many of its commands made a point.
+pub placed_in : (g : Geometry) (laws : PlaceLaws g) (base : Blocks) (f : Session) (made : ℕ) (cmd : Cmd) (reply : Reply) (old new : State) → PassesPoints old new → old.books.geom ≡ g → IsSession old f → IsRoomOf old.books.geom f (room_of old)
     → (next : Session) × IsSession new next × (new.books.geom ≡ old.books.geom) × AnswersOn old.books.geom f (room_of old) cmd reply next (room_of new)
     → (new.books.stopped ≡ false → old.books.stopped ≡ false) → (old.books.stopped ≡ false → made ≡ old.books.point) → (new.books.stopped ≡ false → made + (if makes_point f cmd reply then 1 else 0) ≡ new.books.point)
-    → ((b : ℕ) → b < g.n → new.crash.base b ≡ formatted g b) → KeepsPlaces g f old → StaysPlaced g (after_reply f cmd reply) new
-placed_in g laws f made cmd reply old new p geom session room given before had has base was =
-    placed_on g laws.places f cmd reply old new p (p.time.geom ∙ geom) (subst (λ (k : Geometry). IsSound k.i f.tree) geom (laws.places.sound old.books.geom old.map f.tree session.tree)) room.holds before makes answers base was
+    → ((b : ℕ) → b < g.n → new.crash.base b ≡ base b) → KeepsPlaces g f old → StaysPlaced g base (after_reply f cmd reply) new
+placed_in g laws base f made cmd reply old new p geom session room given before had has same was =
+    placed_on g laws base f cmd reply old new p (p.time.geom ∙ geom) (subst (λ (k : Geometry). IsSound k.i f.tree) geom (laws.sound old.books.geom old.map f.tree session.tree)) room.holds before makes answers same was
   where
     makes : new.books.stopped ≡ false → makes_point f cmd reply ≡ true → old.books.point < new.books.point
     makes going is = omega (arith, had (before going), has going, ap {B = ℕ} (λ (c : Bool). if c then 1 else 0) is)
@@ -283,7 +282,7 @@ pub one_more : {A : Type 0} (xs : List A) (x : A) (c : Bool) → length (xs ++ (
 one_more xs x true = length-append xs (x ∷ [])
 one_more xs x false = length-append xs []
 
--- As the mount ends no node has a block, and point 0 has the map.
+-- As the mount ends, point 0 has the map.
 pub placed_first : (g : Geometry) → IsGeometry g → (f : Session) (s : State) → s.books.geom ≡ g → s.books.point ≡ 0 → HasMapOfPoint s 0 → KeepsPlaces g f s
 placed_first g limits f s geom first only going clean m is k =
     places_same g limits s.map m (subst (λ (x : Geometry). HasLiveBlocks x s.map m) geom (only m (subst (λ (n : ℕ). s.crash.is_point n m) first is))) k

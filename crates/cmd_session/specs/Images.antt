@@ -11,8 +11,8 @@ use Rattle.engine_mount.specs.Mount.{FoundDisk}
 use Rattle.engine_store.specs.Refusal as store
 use Rattle.fs_check.specs.declared.checking.Damage.{Damage}
 use Rattle.fs_check.specs.Whole as fsck
-use Rattle.cmd_image.specs.declared.show_refusal.ImageDamage.{ImageDamage}
-use Rattle.cmd_image.specs.declared.show_refusal.ImageDamage.TheVariants.{NoHeader, BadBit, Broken}
+use Rattle.cmd_session.specs.declared.images.ImageDamage.{ImageDamage}
+use Rattle.cmd_session.specs.declared.images.ImageDamage.TheVariants.{NoHeader, BadBit, Broken}
 
 -- a disk that begins with this image: all is settled, no call of it was made, and nothing is known of how it behaves
 abbrev pub resting : ℕ → Blocks → State

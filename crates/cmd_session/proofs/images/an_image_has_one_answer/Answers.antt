@@ -1,6 +1,6 @@
-use Rattle.cmd_image.specs.Images.{resting}
-use Rattle.cmd_image.proofs.Damages.{not_damaged, not_mounted}
-use Rattle.cmd_image.proofs.image_laws.an_image_has_one_answer.Goals as goal
+use Rattle.cmd_session.specs.Images.{resting}
+use Rattle.cmd_session.proofs.Damages.{not_damaged, not_mounted}
+use Rattle.cmd_session.proofs.images.an_image_has_one_answer.Goals as goal
 
 pub returns-clause-stands : goal.returns-clause-stands
 returns-clause-stands c = λ n at t s is. c.a_damaged_image_stands_for_no_tree.ensures n at is.0 is.1 t s.stands

@@ -1,4 +1,4 @@
--- Where the blocks of each node lie on the disk of a recording. It is described in docs/CRASHES.md.
+-- Where the blocks of each node lie on the disk of a run. It is described in docs/CRASHES.md.
 use Rattle.std.specs.Prelude.{◌≡◌, ℕ, List}
 use Rattle.base_types.specs.Seal.{Blocks}
 use Rattle.disk_contract.specs.declared.event.Event.{Event}

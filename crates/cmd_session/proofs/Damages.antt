@@ -23,9 +23,9 @@ use Rattle.fs_check.specs.declared.checking.Damage.TheVariants as damage
 use Rattle.fs_check.specs.Broken.{IsBroken as IsBrokenBlock, bitmap_of}
 use Rattle.fs_check.specs.Damage.{IsBroken as IsBrokenTree}
 use Rattle.fs_check.specs.Whole as fsck
-use Rattle.cmd_image.specs.declared.show_refusal.ImageDamage.{ImageDamage}
-use Rattle.cmd_image.specs.declared.show_refusal.ImageDamage.TheVariants.{NoHeader, BadBit, Broken}
-use Rattle.cmd_image.specs.Images.{CanBeMounted, HasBadBit, HasDamage, IsDamaged, StandsForNone, resting}
+use Rattle.cmd_session.specs.declared.images.ImageDamage.{ImageDamage}
+use Rattle.cmd_session.specs.declared.images.ImageDamage.TheVariants.{NoHeader, BadBit, Broken}
+use Rattle.cmd_session.specs.Images.{CanBeMounted, HasBadBit, HasDamage, IsDamaged, StandsForNone, resting}
 
 -- What layout_journal says of images, layout_geometry of geometries, and fs_check of what is broken.
 pub record ImageLaws : Type 0 where

@@ -1,17 +1,16 @@
 -- How a command is answered in the room that the disk's log gives, by what the file system says of any blocks.
-use Rattle.std.proofs.Common.{◌≡◌, ◌≢◌, ◌↔◌, ◌⊎◌, inl, inr, ⊎_elim, ℕ, ◌<◌, ◌≤◌, true, false, List, ◌++◌, length, take, drop, None, Some, Option, refl, sym, ap, ap₂, ◌∙◌, subst, arith}
+use Rattle.std.proofs.Common.{◌≡◌, ◌≢◌, ◌↔◌, ◌⊎◌, inl, inr, ⊎_elim, ℕ, ◌<◌, ◌≤◌, Bool, true, false, List, ◌++◌, length, take, drop, Some, Option, refl, sym, ap, ap₂, ◌∙◌, subst, arith}
 use Rattle.std.proofs.Math.Logic.{∥∥₁_map}
 use Rattle.std.proofs.Math.Seq.{take-append_seam, take-length}
 use Rattle.std.proofs.lemmas.Bool.{false≢true}
 use Rattle.std.proofs.lemmas.List.{take-append-le, length-append}
-use mathlib.Core.Path.{fun_ext}
+use Rattle.base_types.specs.Seal.{Blocks}
 use Rattle.disk_contract.specs.declared.event.Event.{Event}
 use Rattle.disk_contract.specs.Cell.{is_accepted, IsNoticed}
 use Rattle.disk_contract.specs.Disk.{Grows, PollsThenWrites}
 use Rattle.disk_contract.specs.Manner.{Manner}
 use Rattle.layout_geometry.specs.Geometry.{Geometry}
 use Rattle.layout_journal.specs.declared.record.Commit.{Commit}
-use Rattle.layout_journal.specs.Formatted.{formatted}
 use Rattle.crash_argument.specs.Points.{MountedSession, commits_told}
 use Rattle.lang_tree.specs.declared.command.Cmd.{Cmd}
 use Rattle.lang_tree.specs.declared.command.Cmd.TheVariants as cmds
@@ -26,16 +25,19 @@ use Rattle.engine_blocks.specs.Calls.{commit_places}
 use Rattle.engine_blocks.specs.Effects.{OrdersAtOnce, RingIsTold}
 use Rattle.engine_blocks.specs.Running.{Running, fresh_blocks, payloads, record_places}
 use Rattle.engine_blocks.specs.State.{State}
+use Rattle.engine_store.specs.SessionView.{IsSure}
 use Rattle.fs_commands.specs.Applying.{is_spent}
 use Rattle.fs_commands.specs.DiskRoom.{AnswersOn, AnswersOver, BeginsOver, SyncsOver}
 use Rattle.fs_commands.specs.Memory.{room_of}
-use Rattle.fs_commands.specs.Room.{IsDoneIn, IsFirstRoom, RefusesIn, Room}
+use Rattle.fs_commands.specs.Room.{IsDoneIn, RefusesIn, Room}
 use Rattle.fs_commands.specs.Serving.{AnswersAt, SaysNoMore, ServesCommand, SyncsBehind, moment_of, room_on}
 use Rattle.fs_commands.specs.Moments.{answer_at_others, answer_in_room}
 use Rattle.cmd_session.specs.Records.{own_records}
-use Rattle.cmd_record.specs.Behaving.{AnswersBy, DoneInRing, FindsPlaces, IsSureBy, Pace, Span, Taken, moment_by, places_wanted, room_at_first, taken_by}
-use Rattle.cmd_record.specs.Running.{AnsweredIn, FitsAmong, FreesBy, RunLaws, SyncsIn, moment_over, pace_of}
-use Rattle.cmd_record.proofs.Sureness.{rests_alike}
+use Rattle.cmd_session.specs.Going.{pace_of}
+use Rattle.cmd_session.specs.Pacing.{AnswersBy, DoneInRing, FindsPlaces, Pace, moment_by}
+use Rattle.cmd_session.specs.Taking.{Span, Taken, places_wanted, taken_by}
+use Rattle.cmd_session.specs.Answered.{AnsweredIn, FitsAmong, FreesBy, SyncsIn, moment_over}
+use Rattle.cmd_session.proofs.Pending.{rests_alike}
 
 -- The session that follows is the one that the reply tells.
 
@@ -196,19 +198,20 @@ module _ {S : Type 0} (state : S → State) (f : Session) (cmd : Cmd) (reply : R
         says_behind says_end f (room_on (state old)) cmd reply next (room_on (state new)) served.answers;
   }
 
--- As what the log of a recording's disk says.
+-- As what the log of the session's disk says.
 
-module _ (g : Geometry) (laws : RunLaws g) (m : Manner) (ses : MountedSession) (of : ses.geom ≡ g) (t : Taken) (old : State) (is : old.counts.ticks.manner ≡ m) (sure : (front : List Event) (p : ℕ) → old.crash.sure front p ↔ ∥ IsSureBy g front p ∥₁) where
-  says_by : (front : List Event) (fits found : Type 0) → (found → fits) → SaysNoMore (moment_over old front fits) (moment_by g m front found)
+module _ (g : Geometry) (follow : (outside : Refusal → Bool) (was now : Session) (cmd : Cmd) (reply : Reply) → Answers outside was cmd reply now → now ≡ after_reply was cmd reply) (m : Manner) (ses : MountedSession) (of : ses.geom ≡ g) (base : Blocks) (t : Taken) (old : State) (is : old.counts.ticks.manner ≡ m)
+    (sure : (front : List Event) (p : ℕ) → old.crash.sure front p ↔ ∥ IsSure ses base front p ∥₁) where
+  says_by : (front : List Event) (fits found : Type 0) → (found → fits) → SaysNoMore (moment_over old front fits) (moment_by ses base m front found)
   says_by front fits found more = record {
     alone = ap (λ (x : Manner). x.waits_alone) (sym is);
     sure = λ p. let same = sure front p in (same.1, same.0);
-    rests = λ b. let same = rests_alike old.crash.base (formatted g) front b in (λ none. same ∙ none, λ none. sym same ∙ none);
+    rests = λ b. let same = rests_alike old.crash.base base front b in (λ none. same ∙ none, λ none. sym same ∙ none);
     fits = more;
   }
 
-  pub answered_by : (cmd : Cmd) (reply : Reply) (new : State) (f next : Session) (a : AnsweredIn f cmd reply next old new) (own : List Commit) (late : Span) → Grows old.crash.log new.crash.log → old.books.geom ≡ g → t.session ≡ f → (DoneInRing ses m new.crash.log cmd reply (pace_of t old) (length a.behind) (length new.crash.log) → commit_places old.books ≤ a.free)
-      → (room : AnswersBy ses m new.crash.log cmd reply (pace_of t old) (pace_of (taken_by g t cmd reply own late) new)) × (room.behind ≡ length a.behind)
+  pub answered_by : (cmd : Cmd) (reply : Reply) (new : State) (f next : Session) (a : AnsweredIn f cmd reply next old new) (own : List Commit) (late : Span) → Grows old.crash.log new.crash.log → old.books.geom ≡ g → t.session ≡ f → (DoneInRing ses base m new.crash.log cmd reply (pace_of t old) (length a.behind) (length new.crash.log) → commit_places old.books ≤ a.free)
+      → (room : AnswersBy ses base m new.crash.log cmd reply (pace_of t old) (pace_of (taken_by g t cmd reply own late) new)) × (room.behind ≡ length a.behind)
   answered_by cmd reply new f next a own late grows geom session fits = (room, refl)
     where
       earlier : take (length old.crash.log) new.crash.log ≡ old.crash.log
@@ -221,21 +224,21 @@ module _ (g : Geometry) (laws : RunLaws g) (m : Manner) (ses : MountedSession) (
       here = subst (λ (k : Geometry). AnswersAt k (moment_over old a.behind (commit_places old.books ≤ a.free)) (moment_over old new.crash.log ⊥) f (room_on old) cmd reply next (room_on new)) geom a.answers
 
       follows : next ≡ after_reply f cmd reply
-      follows = laws.replies (λ _. true) f next cmd reply (said g f reply next (room_of old) cmd (room_of new) (answer_in_room g (moment_over old a.behind (commit_places old.books ≤ a.free)) (moment_over old new.crash.log ⊥) f (room_on old) cmd reply next (room_on new) here))
+      follows = follow (λ _. true) f next cmd reply (said g f reply next (room_of old) cmd (room_of new) (answer_in_room g (moment_over old a.behind (commit_places old.books ≤ a.free)) (moment_over old new.crash.log ⊥) f (room_on old) cmd reply next (room_on new) here))
 
-      logged : AnswersAt g (moment_by g m a.behind (DoneInRing ses m new.crash.log cmd reply (pace_of t old) (length a.behind) (length new.crash.log))) (moment_by g m new.crash.log ⊥) f (room_on old) cmd reply next (room_on new)
-      logged = answer_at_others g (moment_over old a.behind (commit_places old.books ≤ a.free)) (moment_over old new.crash.log ⊥) (moment_by g m a.behind (DoneInRing ses m new.crash.log cmd reply (pace_of t old) (length a.behind) (length new.crash.log))) (moment_by g m new.crash.log ⊥)
-          (says_by a.behind (commit_places old.books ≤ a.free) (DoneInRing ses m new.crash.log cmd reply (pace_of t old) (length a.behind) (length new.crash.log)) fits) (says_by new.crash.log ⊥ ⊥ (λ none. none)) f (room_on old) cmd reply next (room_on new) here
+      logged : AnswersAt g (moment_by ses base m a.behind (DoneInRing ses base m new.crash.log cmd reply (pace_of t old) (length a.behind) (length new.crash.log))) (moment_by ses base m new.crash.log ⊥) f (room_on old) cmd reply next (room_on new)
+      logged = answer_at_others g (moment_over old a.behind (commit_places old.books ≤ a.free)) (moment_over old new.crash.log ⊥) (moment_by ses base m a.behind (DoneInRing ses base m new.crash.log cmd reply (pace_of t old) (length a.behind) (length new.crash.log))) (moment_by ses base m new.crash.log ⊥)
+          (says_by a.behind (commit_places old.books ≤ a.free) (DoneInRing ses base m new.crash.log cmd reply (pace_of t old) (length a.behind) (length new.crash.log)) fits) (says_by new.crash.log ⊥ ⊥ (λ none. none)) f (room_on old) cmd reply next (room_on new) here
 
-      cut : AnswersAt g (moment_by g m (take (length a.behind) new.crash.log) (DoneInRing ses m new.crash.log cmd reply (pace_of t old) (length a.behind) (length new.crash.log))) (moment_by g m (take (length new.crash.log) new.crash.log) ⊥) f (room_on old) cmd reply next (room_on new)
-      cut = subst (λ (es : List Event). AnswersAt g (moment_by g m es (DoneInRing ses m new.crash.log cmd reply (pace_of t old) (length a.behind) (length new.crash.log))) (moment_by g m (take (length new.crash.log) new.crash.log) ⊥) f (room_on old) cmd reply next (room_on new)) (sym behind)
-          (subst (λ (es : List Event). AnswersAt g (moment_by g m a.behind (DoneInRing ses m new.crash.log cmd reply (pace_of t old) (length a.behind) (length new.crash.log))) (moment_by g m es ⊥) f (room_on old) cmd reply next (room_on new)) (sym (take-length new.crash.log)) logged)
+      cut : AnswersAt g (moment_by ses base m (take (length a.behind) new.crash.log) (DoneInRing ses base m new.crash.log cmd reply (pace_of t old) (length a.behind) (length new.crash.log))) (moment_by ses base m (take (length new.crash.log) new.crash.log) ⊥) f (room_on old) cmd reply next (room_on new)
+      cut = subst (λ (es : List Event). AnswersAt g (moment_by ses base m es (DoneInRing ses base m new.crash.log cmd reply (pace_of t old) (length a.behind) (length new.crash.log))) (moment_by ses base m (take (length new.crash.log) new.crash.log) ⊥) f (room_on old) cmd reply next (room_on new)) (sym behind)
+          (subst (λ (es : List Event). AnswersAt g (moment_by ses base m a.behind (DoneInRing ses base m new.crash.log cmd reply (pace_of t old) (length a.behind) (length new.crash.log))) (moment_by ses base m es ⊥) f (room_on old) cmd reply next (room_on new)) (sym (take-length new.crash.log)) logged)
 
-      told : AnswersAt g (moment_by g m (take (length a.behind) new.crash.log) (DoneInRing ses m new.crash.log cmd reply (pace_of t old) (length a.behind) (length new.crash.log))) (moment_by g m (take (length new.crash.log) new.crash.log) ⊥) t.session (room_on old) cmd reply (after_reply t.session cmd reply) (room_on new)
-      told = subst (λ (s : Session). AnswersAt g (moment_by g m (take (length a.behind) new.crash.log) (DoneInRing ses m new.crash.log cmd reply (pace_of t old) (length a.behind) (length new.crash.log))) (moment_by g m (take (length new.crash.log) new.crash.log) ⊥) s (room_on old) cmd reply (after_reply s cmd reply) (room_on new)) (sym session)
-          (subst (λ (s : Session). AnswersAt g (moment_by g m (take (length a.behind) new.crash.log) (DoneInRing ses m new.crash.log cmd reply (pace_of t old) (length a.behind) (length new.crash.log))) (moment_by g m (take (length new.crash.log) new.crash.log) ⊥) f (room_on old) cmd reply s (room_on new)) follows cut)
+      told : AnswersAt g (moment_by ses base m (take (length a.behind) new.crash.log) (DoneInRing ses base m new.crash.log cmd reply (pace_of t old) (length a.behind) (length new.crash.log))) (moment_by ses base m (take (length new.crash.log) new.crash.log) ⊥) t.session (room_on old) cmd reply (after_reply t.session cmd reply) (room_on new)
+      told = subst (λ (s : Session). AnswersAt g (moment_by ses base m (take (length a.behind) new.crash.log) (DoneInRing ses base m new.crash.log cmd reply (pace_of t old) (length a.behind) (length new.crash.log))) (moment_by ses base m (take (length new.crash.log) new.crash.log) ⊥) s (room_on old) cmd reply (after_reply s cmd reply) (room_on new)) (sym session)
+          (subst (λ (s : Session). AnswersAt g (moment_by ses base m (take (length a.behind) new.crash.log) (DoneInRing ses base m new.crash.log cmd reply (pace_of t old) (length a.behind) (length new.crash.log))) (moment_by ses base m (take (length new.crash.log) new.crash.log) ⊥) f (room_on old) cmd reply s (room_on new)) follows cut)
 
-      room : AnswersBy ses m new.crash.log cmd reply (pace_of t old) (pace_of (taken_by g t cmd reply own late) new)
+      room : AnswersBy ses base m new.crash.log cmd reply (pace_of t old) (pace_of (taken_by g t cmd reply own late) new)
       room = record {
         behind = length a.behind;
         from = omega (arith, ap (λ (es : List Event). length es) a.begins.log, length-append old.crash.log a.begins.more);
@@ -245,7 +248,7 @@ module _ (g : Geometry) (laws : RunLaws g) (m : Manner) (ses : MountedSession) (
             subst (λ (es : List Event). PollsThenWrites m 64 old.counts.ticks.polls es a.polls (take (length a.behind) new.crash.log)) (sym earlier)
             (subst (λ (es : List Event). PollsThenWrites m 64 old.counts.ticks.polls old.crash.log a.polls es) (sym behind)
             (subst (λ (x : Manner). PollsThenWrites x 64 old.counts.ticks.polls old.crash.log a.polls a.behind) is (a.ticks meant going unspent)));
-        answers = subst (λ (k : Geometry). AnswersAt k (moment_by k m (take (length a.behind) new.crash.log) (DoneInRing ses m new.crash.log cmd reply (pace_of t old) (length a.behind) (length new.crash.log))) (moment_by k m (take (length new.crash.log) new.crash.log) ⊥) t.session (room_on old) cmd reply (after_reply t.session cmd reply) (room_on new)) (sym of) told;
+        answers = subst (λ (k : Geometry). AnswersAt k (moment_by ses base m (take (length a.behind) new.crash.log) (DoneInRing ses base m new.crash.log cmd reply (pace_of t old) (length a.behind) (length new.crash.log))) (moment_by ses base m (take (length new.crash.log) new.crash.log) ⊥) t.session (room_on old) cmd reply (after_reply t.session cmd reply) (room_on new)) (sym of) told;
       }
 
 -- What was said of a shorter log holds of a longer one.
@@ -257,8 +260,8 @@ front_longer log more k le = take-append-le k log more le
 pub own_longer : (ses : MountedSession) (log more : List Event) (behind mark : ℕ) → mark ≤ length log → own_records ses (log ++ more) behind mark ≡ own_records ses log behind mark
 own_longer ses log more behind mark le = ap (λ (es : List Event). commits_told ses.geom ses.epoch (drop behind es)) (take-append-le mark log more le)
 
-pub answered_longer : (ses : MountedSession) (m : Manner) (log more : List Event) (cmd : Cmd) (reply : Reply) (p q : Pace) → p.events ≤ length log → q.events ≤ length log → (a : AnswersBy ses m log cmd reply p q) → (room : AnswersBy ses m (log ++ more) cmd reply p q) × (a.behind ≡ room.behind)
-answered_longer ses m log more cmd reply p q low low_next a = (room, refl)
+pub answered_longer : (ses : MountedSession) (base : Blocks) (m : Manner) (log more : List Event) (cmd : Cmd) (reply : Reply) (p q : Pace) → p.events ≤ length log → q.events ≤ length log → (a : AnswersBy ses base m log cmd reply p q) → (room : AnswersBy ses base m (log ++ more) cmd reply p q) × (a.behind ≡ room.behind)
+answered_longer ses base m log more cmd reply p q low low_next a = (room, refl)
   where
     front : (k : ℕ) → k ≤ length log → take k (log ++ more) ≡ take k log
     front k le = take-append-le k log more le
@@ -266,17 +269,17 @@ answered_longer ses m log more cmd reply p q low low_next a = (room, refl)
     within : a.behind ≤ length log
     within = omega (arith, a.upto, low_next)
 
-    found_then : DoneInRing ses m (log ++ more) cmd reply p a.behind q.events → DoneInRing ses m log cmd reply p a.behind q.events
+    found_then : DoneInRing ses base m (log ++ more) cmd reply p a.behind q.events → DoneInRing ses base m log cmd reply p a.behind q.events
     found_then d = record {
       done = d.done;
       some = d.some;
       going = d.going;
       alone = d.alone;
-      finds = subst (λ (es : List Event). FindsPlaces ses es (places_wanted reply p.taken.weight (own_records ses log a.behind q.events))) (front a.behind within)
-          (subst (λ (own : List Commit). FindsPlaces ses (take a.behind (log ++ more)) (places_wanted reply p.taken.weight own)) (own_longer ses log more a.behind q.events low_next) d.finds);
+      finds = subst (λ (es : List Event). FindsPlaces ses base es (places_wanted reply p.taken.weight (own_records ses log a.behind q.events))) (front a.behind within)
+          (subst (λ (own : List Commit). FindsPlaces ses base (take a.behind (log ++ more)) (places_wanted reply p.taken.weight own)) (own_longer ses log more a.behind q.events low_next) d.finds);
     }
 
-    room : AnswersBy ses m (log ++ more) cmd reply p q
+    room : AnswersBy ses base m (log ++ more) cmd reply p q
     room = record {
       behind = a.behind;
       from = a.from;
@@ -285,21 +288,11 @@ answered_longer ses m log more cmd reply p q low low_next a = (room, refl)
       ticks = λ meant going unspent.
           subst (λ (es : List Event). PollsThenWrites m 64 p.polls es a.polls (take a.behind (log ++ more))) (sym (front p.events low))
           (subst (λ (es : List Event). PollsThenWrites m 64 p.polls (take p.events log) a.polls es) (sym (front a.behind within)) (a.ticks meant going unspent));
-      answers = subst (λ (es : List Event). AnswersAt ses.geom (moment_by ses.geom m es (DoneInRing ses m (log ++ more) cmd reply p a.behind q.events)) (moment_by ses.geom m (take q.events (log ++ more)) ⊥) p.taken.session p.room cmd reply q.taken.session q.room) (sym (front a.behind within))
-          (subst (λ (es : List Event). AnswersAt ses.geom (moment_by ses.geom m (take a.behind log) (DoneInRing ses m (log ++ more) cmd reply p a.behind q.events)) (moment_by ses.geom m es ⊥) p.taken.session p.room cmd reply q.taken.session q.room) (sym (front q.events low_next))
-          (answer_at_others ses.geom (moment_by ses.geom m (take a.behind log) (DoneInRing ses m log cmd reply p a.behind q.events)) (moment_by ses.geom m (take q.events log) ⊥) (moment_by ses.geom m (take a.behind log) (DoneInRing ses m (log ++ more) cmd reply p a.behind q.events)) (moment_by ses.geom m (take q.events log) ⊥)
-          (no_more (take a.behind log) (DoneInRing ses m log cmd reply p a.behind q.events) (DoneInRing ses m (log ++ more) cmd reply p a.behind q.events) found_then) (no_more (take q.events log) ⊥ ⊥ (λ none. none)) p.taken.session p.room cmd reply q.taken.session q.room a.answers));
+      answers = subst (λ (es : List Event). AnswersAt ses.geom (moment_by ses base m es (DoneInRing ses base m (log ++ more) cmd reply p a.behind q.events)) (moment_by ses base m (take q.events (log ++ more)) ⊥) p.taken.session p.room cmd reply q.taken.session q.room) (sym (front a.behind within))
+          (subst (λ (es : List Event). AnswersAt ses.geom (moment_by ses base m (take a.behind log) (DoneInRing ses base m (log ++ more) cmd reply p a.behind q.events)) (moment_by ses base m es ⊥) p.taken.session p.room cmd reply q.taken.session q.room) (sym (front q.events low_next))
+          (answer_at_others ses.geom (moment_by ses base m (take a.behind log) (DoneInRing ses base m log cmd reply p a.behind q.events)) (moment_by ses base m (take q.events log) ⊥) (moment_by ses base m (take a.behind log) (DoneInRing ses base m (log ++ more) cmd reply p a.behind q.events)) (moment_by ses base m (take q.events log) ⊥)
+          (no_more (take a.behind log) (DoneInRing ses base m log cmd reply p a.behind q.events) (DoneInRing ses base m (log ++ more) cmd reply p a.behind q.events) found_then) (no_more (take q.events log) ⊥ ⊥ (λ none. none)) p.taken.session p.room cmd reply q.taken.session q.room a.answers));
     }
       where
-        no_more : (es : List Event) (fits other : Type 0) → (other → fits) → SaysNoMore (moment_by ses.geom m es fits) (moment_by ses.geom m es other)
+        no_more : (es : List Event) (fits other : Type 0) → (other → fits) → SaysNoMore (moment_by ses base m es fits) (moment_by ses base m es other)
         no_more es fits other then = record { alone = refl; sure = λ p. (λ is. is, λ is. is); rests = λ b. (λ is. is, λ is. is); fits = then }
-
--- The room at first is that of a formatted disk.
-
-first_room : (g : Geometry) (r : Room) → IsFirstRoom g r → r ≡ (room_at_first g).room
-first_room g r is =
-    ap₂ (λ (w h : ℕ). record { weight = w; held = h; takeable = r.takeable; places = r.places }) is.weight is.held
-    ∙ ap₂ (λ (xs : List ℕ) (at : ℕ → List ℕ). record { weight = 0; held = 0; takeable = xs; places = at }) is.takeable (fun_ext is.places)
-
-pub room_first : (g : Geometry) (s : State) → IsFirstRoom g (room_of s) → ((b : ℕ) → s.books.since b ≡ None) → room_on s ≡ room_at_first g
-room_first g s room since = ap₂ (λ (r : Room) (of : ℕ → Option ℕ). record { room = r; since = of }) (first_room g (room_of s) room) (fun_ext since)

@@ -7,9 +7,10 @@ use Rattle.std.proofs.lemmas.Bool.Decides.{nat_tests}
 use Rattle.std.proofs.lemmas.Bool.{cases_Bool, cond-true, cond-false, eqb-true, eq-eqb, ne_eqb, false≢true, true≢false, or_left, or_parts, or_right}
 use Rattle.std.proofs.lemmas.List.{append_cancel_left, drop-append-le, take-append-le, length-append}
 use Rattle.std.specs.List.{slice_get}
+use Rattle.base_types.specs.Seal.{Blocks}
 use Rattle.disk_contract.specs.declared.event.Event.{Event}
 use Rattle.disk_contract.specs.declared.event.Event.TheVariants.{Wrote, Lost, Noticed}
-use Rattle.disk_contract.specs.Cell.{is_accepted, is_noticed, IsNoticed}
+use Rattle.disk_contract.specs.Cell.{cell_of, is_accepted, is_noticed, IsNoticed}
 use Rattle.disk_contract.specs.Disk.{AreWrites, Grows, GrowsByWrites, PollsFirst, PollsThenWrites, writes_in}
 use Rattle.disk_contract.specs.Lawful.{AreLawfulAfter, IsLawful}
 use Rattle.disk_contract.specs.Manner.{Manner, Polled, after_polls}
@@ -19,6 +20,7 @@ use Rattle.layout_journal.specs.declared.record.Commit.{Commit}
 use Rattle.layout_journal.specs.Layout.{commit_of, descriptor_count}
 use Rattle.layout_journal.specs.Run.{places_from, places_told, writes_stood_for}
 use Rattle.crash_argument.specs.Points.{MountedSession, commits_told, is_commit, records_told, where_told}
+use Rattle.engine_checkpoint.specs.Serving.{IsNewestAtRest}
 use Rattle.lang_tree.specs.declared.command.Cmd.{Cmd}
 use Rattle.lang_tree.specs.declared.command.Cmd.TheVariants as cmds
 use Rattle.lang_tree.specs.declared.command.Refusal.{Refusal}
@@ -28,11 +30,13 @@ use Rattle.lang_tree.specs.declared.command.Reply.TheVariants as replied
 use Rattle.lang_tree.specs.declared.command.Reply.TheVariants.{Known, Refused}
 use Rattle.lang_tree.specs.Figures.{figures}
 use Rattle.lang_tree.specs.Points.{after_reply, is_refusal, is_sync, made_by, may_have_written, points_after}
-use Rattle.lang_tree.specs.Step.{Session, start}
+use Rattle.lang_tree.specs.Step.{Session}
+use Rattle.lang_tree.specs.Tree.{Tree}
 use Rattle.engine_blocks.specs.Calls.{commit_places, commit_writes}
-use Rattle.engine_blocks.specs.Crashes.{AwaitsSince, MayAwait, StillAwaits}
+use Rattle.engine_blocks.specs.Crashes.{AwaitsSince, MayAwait, SameRecords, StillAwaits}
 use Rattle.engine_blocks.specs.Running.{fresh_blocks, payloads, record_writes}
 use Rattle.engine_blocks.specs.State.{State, reusable_blocks}
+use Rattle.engine_store.specs.SessionView.{Starts, records_of}
 use Rattle.fs_commands.specs.Applying.{NeedsNoWait}
 use Rattle.fs_commands.specs.Commands.{figures_on}
 use Rattle.fs_commands.specs.Memory.{room_of}
@@ -42,10 +46,11 @@ use Rattle.cmd_session.specs.Budget.{commits, sync_budget, sync_places, weight_a
 use Rattle.cmd_session.specs.Histories.{session_after}
 use Rattle.cmd_session.specs.Serving.{HasServed}
 use Rattle.cmd_session.specs.Records.{own_records}
-use Rattle.cmd_record.specs.Behaving.{CameIn, DoneInRing, FindsPlaces, FindsRoom, FitsUnder, HearsIn, KnowsUpTo, OrdersAtOnce, Span, StartsBy, Taken, TellsRing, WritesRecordBy, is_done_sync, is_fault, makes_point, nothing_taken, places_wanted, session_by, stands_for, taken_by}
-use Rattle.cmd_record.specs.Disks.{TellsBy}
-use Rattle.cmd_record.specs.Running.{AnsweredIn, FitsAmong, FreesBy, KeepsTaken, WaitsOn, WritesIn, pace_of}
-use Rattle.cmd_record.proofs.Rooms.{sync_is_meant}
+use Rattle.cmd_session.specs.Answered.{AnsweredIn, FitsAmong, FreesBy, WaitsOn, WritesIn}
+use Rattle.cmd_session.specs.Going.{KeepsTaken, pace_of, session_at}
+use Rattle.cmd_session.specs.Pacing.{DoneInRing, FindsPlaces, FindsRoom, FitsUnder, HearsIn, KnowsUpTo, OrdersAtOnce, TellsRing, WritesRecordBy, is_fault}
+use Rattle.cmd_session.specs.Taking.{CameIn, Span, Taken, is_done_sync, makes_point, nothing_taken, places_wanted, stands_for, taken_by}
+use Rattle.cmd_session.proofs.Rooms.{sync_is_meant}
 
 -- Accepted and noticed tickets of a log, and of its fronts.
 
@@ -287,16 +292,20 @@ some_is cs ds e = search
 
 -- One command more.
 
-module _ (cmd : Cmd) (reply : Reply) (old new : State) (w : WaitsOn cmd reply old new) (grows : Grows old.crash.log new.crash.log) (g : Geometry) (mounted : ℕ) (asked : List Cmd) (replies : List Reply) (marks : List ℕ)
-    (before : HasServed g (start g.i).tree mounted asked replies marks old) (after : HasServed g (start g.i).tree mounted (asked ++ cmd ∷ []) (replies ++ reply ∷ []) (marks ++ length new.crash.log ∷ []) new)
-    (weighs : old.books.stopped ≡ false → old.books.running.weight ≡ weight_after (bitmap_blocks g) (start g.i) 0 asked replies) (over : new.books.stopped ≡ (old.books.stopped || is_fault reply))
-    (t : Taken) (keeps : KeepsTaken g mounted asked replies old t) (tells : TellsBy (session_by g mounted) old.crash.records) (within : mounted ≤ length old.crash.log)
-    (next : Session) (a : AnsweredIn (session_after (start g.i) asked replies) cmd reply next old new) (alone : old.counts.ticks.manner.waits_alone ≡ true) where
+module _ (cmd : Cmd) (reply : Reply) (old new : State) (w : WaitsOn cmd reply old new) (grows : Grows old.crash.log new.crash.log) (ses : MountedSession) (base : Blocks) (m : Manner) (tree : Tree) (asked : List Cmd) (replies : List Reply) (marks : List ℕ)
+    (before : HasServed ses.geom tree ses.mounted asked replies marks old) (after : HasServed ses.geom tree ses.mounted (asked ++ cmd ∷ []) (replies ++ reply ∷ []) (marks ++ length new.crash.log ∷ []) new)
+    (weighs : old.books.stopped ≡ false → old.books.running.weight ≡ weight_after (bitmap_blocks ses.geom) (session_at ses tree) 0 asked replies) (over : new.books.stopped ≡ (old.books.stopped || is_fault reply))
+    (t : Taken) (keeps : KeepsTaken ses m tree asked replies old t) (tells : SameRecords (records_of ses base) old.crash.records) (within : ses.mounted ≤ length old.crash.log)
+    (next : Session) (a : AnsweredIn (session_after (session_at ses tree) asked replies) cmd reply next old new) (is_manner : old.counts.ticks.manner ≡ m) where
   abbrev f : Session
-  f = session_after (start g.i) asked replies
+  f = session_after (session_at ses tree) asked replies
 
-  abbrev ses : MountedSession
-  ses = session_by g mounted
+  abbrev g : Geometry
+  g = ses.geom
+
+  -- behind the tick the ring is told, where a wait brings no other notice
+  ring_told : cmd ≢ cmds.Bad → old.books.stopped ≡ false → reply ≢ Refused because.Spent → m.waits_alone ≡ true → FreesBy old a.behind a.free ⊎ ((new.crash.log ≡ a.behind) × (reply ≡ Refused because.DiskFault))
+  ring_told meant going unspent alone = a.ring meant going unspent (ap (λ (x : Manner). x.waits_alone) is_manner ∙ alone)
 
   is_session : IsSession old f
   is_session = before.goes_on.session
@@ -330,10 +339,10 @@ module _ (cmd : Cmd) (reply : Reply) (old new : State) (w : WaitsOn cmd reply ol
   abbrev own : List Commit
   own = own_records ses new.crash.log (length a.behind) (length new.crash.log)
 
-  own_is : own ≡ commits_told g 2 a.goes_on.more
+  own_is : own ≡ commits_told g ses.epoch a.goes_on.more
   own_is =
-      ap (λ (es : List Event). commits_told g 2 (drop (length behind) es)) (take-length new.crash.log ∙ a.goes_on.log)
-      ∙ ap (commits_told g 2) (drop-append_seam behind a.goes_on.more)
+      ap (λ (es : List Event). commits_told g ses.epoch (drop (length behind) es)) (take-length new.crash.log ∙ a.goes_on.log)
+      ∙ ap (commits_told g ses.epoch) (drop-append_seam behind a.goes_on.more)
 
   told_now : records_told ses new.crash.log ≡ records_told ses behind ++ own
   told_now = ap (records_told ses) a.goes_on.log ∙ records_on ses behind a.goes_on.more (omega (arith, within, behind_low)) ∙ ap (λ (cs : List Commit). records_told ses behind ++ cs) (sym own_is)
@@ -371,15 +380,18 @@ module _ (cmd : Cmd) (reply : Reply) (old new : State) (w : WaitsOn cmd reply ol
           omega (arith, places_are x, cond-false {A = ℕ} (is_refusal reply) (sync_places t.weight) (places_from 0 own) well, ap (places_from 0) (own_one x), one_place x.commit)
 
   -- so many fit the ring by the log
-  finds_free : (n : ℕ) → FreesBy old a.behind a.free → FindsPlaces ses behind n → n ≤ a.free
-  finds_free n frees finds = ∥∥₁_elim finds (search props) (λ (x : (header : Header) × FitsUnder ses behind n header). omega (
+  starts_so : (header : Header) → IsNewestAtRest ses.geom.n (cell_of base behind) header → old.crash.records.starts behind header.start
+  starts_so header newest = let is : Starts ses base behind header.start = record { header = header; newest = newest; is = refl } in (tells.starts behind header.start).1 ∣ is ∣₁
+
+  finds_free : (n : ℕ) → FreesBy old a.behind a.free → FindsPlaces ses base behind n → n ≤ a.free
+  finds_free n frees finds = ∥∥₁_elim finds (search props) (λ (x : (header : Header) × FitsUnder ses base behind n header). omega (
     arith,
     x.1.fits,
-    (frees (records_told ses behind) (told_is behind)).places x.0.start ((tells.starts behind x.0.start).1 ∣ record { header = x.0; newest = x.1.newest; is = refl } ∣₁),
+    (frees (records_told ses behind) (told_is behind)).places x.0.start (starts_so x.0 x.1.newest),
     ap (λ (k : Geometry). k.j) before.geom,
   ))
 
-  fits_among : is_sync cmd ≡ true → old.books.stopped ≡ false → FreesBy old a.behind a.free → OrdersAtOnce ses behind t wanted → FitsAmong old a.free
+  fits_among : is_sync cmd ≡ true → old.books.stopped ≡ false → FreesBy old a.behind a.free → OrdersAtOnce ses base behind t wanted → FitsAmong old a.free
   fits_among sync going frees (inl none) = inr (weight_is going ∙ none)
   fits_among sync going frees (inr finds) = by (zero_or_some old.books.running.weight)
     where
@@ -389,25 +401,25 @@ module _ (cmd : Cmd) (reply : Reply) (old new : State) (w : WaitsOn cmd reply ol
 
   -- Behind the tick the log tells the records of the syncs that are done, and no others, since there are as many as points.
 
-  earlier_records : old.books.stopped ≡ false → (length t.records ≡ old.books.point) × ((more : List Commit) × (records_told ses old.crash.log ≡ t.records ++ more))
+  earlier_records : m.waits_alone ≡ true → old.books.stopped ≡ false → (length t.records ≡ old.books.point) × ((more : List Commit) × (records_told ses old.crash.log ≡ t.records ++ more))
   earlier_records = keeps.records
 
-  records_behind : old.books.stopped ≡ false → FreesBy old a.behind a.free → records_told ses behind ≡ t.records
-  records_behind going frees =
-      let was = earlier_records going in
-      let later = commits_told g 2 a.begins.more in
+  records_behind : m.waits_alone ≡ true → old.books.stopped ≡ false → FreesBy old a.behind a.free → records_told ses behind ≡ t.records
+  records_behind alone going frees =
+      let was = earlier_records alone going in
+      let later = commits_told g ses.epoch a.begins.more in
       let told : records_told ses behind ≡ t.records ++ (was.1.0 ++ later) = ap (records_told ses) a.begins.log ∙ records_on ses old.crash.log a.begins.more within ∙ ap (λ (cs : List Commit). cs ++ later) was.1.1 ∙ append_assoc t.records was.1.0 later in
       no_more t.records (was.1.0 ++ later) (records_told ses behind) told (omega (arith, (frees (records_told ses behind) (told_is behind)).one, was.0))
 
-  tells_ring : old.books.stopped ≡ false → FreesBy old a.behind a.free → TellsRing ses behind t.records
-  tells_ring going frees = record {
-    told = records_behind going frees;
+  tells_ring : m.waits_alone ≡ true → old.books.stopped ≡ false → FreesBy old a.behind a.free → TellsRing ses base behind t.records
+  tells_ring alone going frees = record {
+    told = records_behind alone going frees;
     header = ∥∥₁_elim (frees (records_told ses behind) (told_is behind)).starts ∥∥₁_prop (λ (x : (number : ℕ) × old.crash.records.starts behind number).
-        ∥∥₁_map ((tells.starts behind x.0).0 x.1) (λ (s : StartsBy g behind x.0). (s.header, s.newest)));
+        let some : ∥ Starts ses base behind x.0 ∥₁ = (tells.starts behind x.0).0 x.1 in ∥∥₁_map some (λ (s : Starts ses base behind x.0). (s.header, s.newest)));
   }
 
-  pub ring_on : cmd ≢ cmds.Bad → old.books.stopped ≡ false → reply ≢ Refused because.Spent → TellsRing ses behind t.records ⊎ ((length new.crash.log ≡ length behind) × (reply ≡ Refused because.DiskFault))
-  ring_on meant going unspent = ⊎_elim (λ frees. inl (tells_ring going frees)) (λ all. inr (ap (λ (es : List Event). length es) all.0, all.1)) (a.ring meant going unspent alone)
+  pub ring_on : cmd ≢ cmds.Bad → old.books.stopped ≡ false → reply ≢ Refused because.Spent → m.waits_alone ≡ true → TellsRing ses base behind t.records ⊎ ((length new.crash.log ≡ length behind) × (reply ≡ Refused because.DiskFault))
+  ring_on meant going unspent alone = ⊎_elim (λ frees. inl (tells_ring alone going frees)) (λ all. inr (ap (λ (es : List Event). length es) all.0, all.1)) (ring_told meant going unspent alone)
 
   -- a sync of nothing that is done writes nothing
   pub idle_on : is_done_sync cmd reply ≡ true → old.books.stopped ≡ false → t.weight ≡ 0 → writes_in new.crash.log ≡ writes_in behind
@@ -421,7 +433,7 @@ module _ (cmd : Cmd) (reply : Reply) (old new : State) (w : WaitsOn cmd reply ol
   pub record Own (begun : ℕ) : Type 0 where
     pub from : length behind ≤ begun
     pub upto : begun ≤ length new.crash.log
-    pub written : is_done_sync cmd reply ≡ true → old.books.stopped ≡ false → 0 < t.weight → WritesRecordBy ses new.crash.log t.weight (length behind) begun (length new.crash.log)
+    pub written : is_done_sync cmd reply ≡ true → old.books.stopped ≡ false → 0 < t.weight → WritesRecordBy ses base m new.crash.log t.weight (length behind) begun (length new.crash.log)
     pub awaits : is_done_sync cmd reply ≡ true → old.books.stopped ≡ false → 0 < t.weight → (u : ℕ) → new.crash.awaits new.books.point u → is_accepted u (take begun new.crash.log) ≡ false
 
   pub own_begun : (begun : ℕ) × Own begun
@@ -443,13 +455,13 @@ module _ (cmd : Cmd) (reply : Reply) (old new : State) (w : WaitsOn cmd reply ol
                 size = omega (arith, places_are x, w.fits, ap sync_places (weight_is going));
                 upto = x.upto;
                 writes = omega (arith, x.writes, ap writes_in (take-length new.crash.log));
-                fits = λ finds. x.fits (fits_by x (subst (λ (es : List Event). FindsPlaces ses es (places_told x.commit)) before_behind finds) (a.ring (sync_is_meant cmd sync) going (unspent_by well) alone));
+                fits = λ alone finds. x.fits (fits_by x (subst (λ (es : List Event). FindsPlaces ses base es (places_told x.commit)) before_behind finds) (ring_told (sync_is_meant cmd sync) going (unspent_by well) alone));
               };
               awaits = λ done still more u waits. x.awaits u waits;
             },
           )
         where
-          fits_by : (x : WritesIn old a.behind a.free new) → FindsPlaces ses behind (places_told x.commit) → FreesBy old a.behind a.free ⊎ ((new.crash.log ≡ a.behind) × (reply ≡ Refused because.DiskFault)) → commit_places old.books ≤ a.free
+          fits_by : (x : WritesIn old a.behind a.free new) → FindsPlaces ses base behind (places_told x.commit) → FreesBy old a.behind a.free ⊎ ((new.crash.log ≡ a.behind) × (reply ≡ Refused because.DiskFault)) → commit_places old.books ≤ a.free
           fits_by x finds (inl frees) = omega (arith, places_are x, finds_free (places_told x.commit) frees finds)
           fits_by x finds (inr all) = absurd (true≢false (sym (ap is_refusal all.1) ∙ well))
 
@@ -471,7 +483,7 @@ module _ (cmd : Cmd) (reply : Reply) (old new : State) (w : WaitsOn cmd reply ol
     arith,
     before.goes_on.exact (going_before going).0,
     after.goes_on.exact going,
-    points_more (start g.i) mounted asked replies marks cmd reply (length new.crash.log) before.answered before.marked,
+    points_more (session_at ses tree) ses.mounted asked replies marks cmd reply (length new.crash.log) before.answered before.marked,
     ap (λ (s : Session). one_if (makes_point s cmd reply)) keeps.session,
   )
 
@@ -574,19 +586,19 @@ module _ (cmd : Cmd) (reply : Reply) (old new : State) (w : WaitsOn cmd reply ol
           cond-false {A = ℕ} (is_done_sync cmd reply) (writes_stood_for own) (if commits cmd reply then sync_budget t.weight else 0) not_done,
         )
 
-    mount_same : take mounted new.crash.log ≡ take mounted old.crash.log
-    mount_same = ap (take mounted) grows.log ∙ take-append-le mounted old.crash.log grows.more within
+    mount_same : take ses.mounted new.crash.log ≡ take ses.mounted old.crash.log
+    mount_same = ap (take ses.mounted) grows.log ∙ take-append-le ses.mounted old.crash.log grows.more within
 
-    writes_now : (old.books.stopped ≡ true → new.crash.log ≡ old.crash.log) → writes_in new.crash.log + new.books.owed ≤ writes_in (take mounted new.crash.log) + now_taken.budget
+    writes_now : (old.books.stopped ≡ true → new.crash.log ≡ old.crash.log) → writes_in new.crash.log + new.books.owed ≤ writes_in (take ses.mounted new.crash.log) + now_taken.budget
     writes_now rests = by (cases_Bool old.books.stopped)
       where
-        by : (old.books.stopped ≡ true) ⊎ (old.books.stopped ≡ false) → writes_in new.crash.log + new.books.owed ≤ writes_in (take mounted new.crash.log) + now_taken.budget
+        by : (old.books.stopped ≡ true) ⊎ (old.books.stopped ≡ false) → writes_in new.crash.log + new.books.owed ≤ writes_in (take ses.mounted new.crash.log) + now_taken.budget
         by (inl stopped) = omega (arith, keeps.writes, ap writes_in (rests stopped), w.rests stopped, ap writes_in mount_same)
         by (inr going) = omega (arith, keeps.writes, w.writes, stands going, ap writes_in mount_same)
 
     -- The records of the syncs that are done, with its own where it is one.
-    records_now : new.books.stopped ≡ false → (length now_taken.records ≡ new.books.point) × ((more : List Commit) × (records_told ses new.crash.log ≡ now_taken.records ++ more))
-    records_now still = by (cases_Bool (is_done_sync cmd reply))
+    records_now : m.waits_alone ≡ true → new.books.stopped ≡ false → (length now_taken.records ≡ new.books.point) × ((more : List Commit) × (records_told ses new.crash.log ≡ now_taken.records ++ more))
+    records_now alone still = by (cases_Bool (is_done_sync cmd reply))
       where
         going : old.books.stopped ≡ false
         going = (going_before still).0
@@ -608,20 +620,20 @@ module _ (cmd : Cmd) (reply : Reply) (old new : State) (w : WaitsOn cmd reply ol
         done_one sync well (inr all) done = absurd (true≢false (sym (ap is_refusal all.1) ∙ well))
         done_one sync well (inl frees) done =
             let mine_too : (if is_done_sync cmd reply then own else []) ≡ own = cond-true {A = List Commit} (is_done_sync cmd reply) own [] done in (
-              omega (arith, many, ap (λ (cs : List Commit). length cs) mine_too, own_many sync well (zero_or_some t.weight), (earlier_records going).0, points_on still),
-              ([], told_now ∙ ap (λ (cs : List Commit). cs ++ own) (records_behind going frees) ∙ ap (λ (cs : List Commit). t.records ++ cs) (sym mine_too) ∙ sym (append-nil now_taken.records)),
+              omega (arith, many, ap (λ (cs : List Commit). length cs) mine_too, own_many sync well (zero_or_some t.weight), (earlier_records alone going).0, points_on still),
+              ([], told_now ∙ ap (λ (cs : List Commit). cs ++ own) (records_behind alone going frees) ∙ ap (λ (cs : List Commit). t.records ++ cs) (sym mine_too) ∙ sym (append-nil now_taken.records)),
             )
 
         by : (is_done_sync cmd reply ≡ true) ⊎ (is_done_sync cmd reply ≡ false) → (length now_taken.records ≡ new.books.point) × ((more : List Commit) × (records_told ses new.crash.log ≡ now_taken.records ++ more))
         by (inl done) =
             let parts = parts_of (is_sync cmd) (not (is_refusal reply)) done in
             let well = not_is (is_refusal reply) parts.1 in
-            done_one parts.0 well (a.ring (sync_is_meant cmd parts.0) going (unspent_by well) alone) done
+            done_one parts.0 well (ring_told (sync_is_meant cmd parts.0) going (unspent_by well) alone) done
         by (inr not_done) =
-            let was = earlier_records going in
+            let was = earlier_records alone going in
             let none : (if is_done_sync cmd reply then own else []) ≡ [] = cond-false {A = List Commit} (is_done_sync cmd reply) own [] not_done in
             let same : now_taken.records ≡ t.records = ap (λ (cs : List Commit). t.records ++ cs) none ∙ append-nil t.records in
-            let later = commits_told g 2 grows.more in (
+            let later = commits_told g ses.epoch grows.more in (
               omega (arith, many, ap (λ (cs : List Commit). length cs) none, was.0, points_on still, ap one_if (no_point not_done)),
               (was.1.0 ++ later, ap (records_told ses) grows.log ∙ records_on ses old.crash.log grows.more within ∙ ap (λ (cs : List Commit). cs ++ later) was.1.1 ∙ append_assoc t.records was.1.0 later ∙ ap (λ (cs : List Commit). cs ++ (was.1.0 ++ later)) (sym same)),
             )
@@ -629,17 +641,17 @@ module _ (cmd : Cmd) (reply : Reply) (old new : State) (w : WaitsOn cmd reply ol
             no_point : is_done_sync cmd reply ≡ false → makes_point t.session cmd reply ≡ false
             no_point not_done = ⊎_elim (λ made. absurd (true≢false (sym (done_if made (going_before still).1) ∙ not_done))) (λ none. none) (cases_Bool (makes_point t.session cmd reply))
 
-    pub keeps_on : (old.books.stopped ≡ true → new.crash.log ≡ old.crash.log) → KeepsTaken g mounted (asked ++ cmd ∷ []) (replies ++ reply ∷ []) new now_taken
+    pub keeps_on : (old.books.stopped ≡ true → new.crash.log ≡ old.crash.log) → KeepsTaken ses m tree (asked ++ cmd ∷ []) (replies ++ reply ∷ []) new now_taken
     keeps_on rests = record {
-      session = ap (λ (s : Session). after_reply s cmd reply) keeps.session ∙ sym (session_more g (start g.i) asked replies cmd reply before.answered);
-      weight = ap (λ (s : Session). weight_by (bitmap_blocks g) s t.weight cmd reply) keeps.session ∙ ap (λ (n : ℕ). weight_by (bitmap_blocks g) f n cmd reply) keeps.weight ∙ sym (weight_more g (start g.i) 0 asked replies cmd reply before.answered);
+      session = ap (λ (s : Session). after_reply s cmd reply) keeps.session ∙ sym (session_more g (session_at ses tree) asked replies cmd reply before.answered);
+      weight = ap (λ (s : Session). weight_by (bitmap_blocks g) s t.weight cmd reply) keeps.session ∙ ap (λ (n : ℕ). weight_by (bitmap_blocks g) f n cmd reply) keeps.weight ∙ sym (weight_more g (session_at ses tree) 0 asked replies cmd reply before.answered);
       writes = writes_now rests;
       records = records_now;
       spans = spans_on;
       awaits = awaits_on;
     }
 
-    pub spends_on : (old.books.stopped ≡ true → new.crash.log ≡ old.crash.log) → writes_in (take (length new.crash.log) new.crash.log) ≤ writes_in (take mounted new.crash.log) + now_taken.budget
+    pub spends_on : (old.books.stopped ≡ true → new.crash.log ≡ old.crash.log) → writes_in (take (length new.crash.log) new.crash.log) ≤ writes_in (take ses.mounted new.crash.log) + now_taken.budget
     spends_on rests = omega (arith, writes_now rests, ap writes_in (take-length new.crash.log))
 
     -- A dsync hears of records' writes, and where it failed of its own behind the tick.
@@ -652,8 +664,8 @@ module _ (cmd : Cmd) (reply : Reply) (old new : State) (w : WaitsOn cmd reply ol
     abbrev Came : ℕ → Type 0
     Came ticket = ∥ ((k : ℕ) × (s : Span) × (slice_get heard_spans k ≡ Some s) × CameIn new.crash.log s ticket) ∥₁
 
-    pub hears_on : IsLawful new.crash.log → cmd ≡ cmds.Dsync → old.books.stopped ≡ false → reply ≢ Refused because.Spent → OrdersAtOnce ses behind t wanted → (p : Polled) → after_polls old.counts.ticks.manner 64 old.counts.ticks.polls old.crash.log ≡ Some p → HearsIn heard_spans p.log new.crash.log
-    hears_on lawful is going unspent finds p polled ticket noticed = by_ring (a.ring meant going unspent alone)
+    pub hears_on : m.waits_alone ≡ true → IsLawful new.crash.log → cmd ≡ cmds.Dsync → old.books.stopped ≡ false → reply ≢ Refused because.Spent → OrdersAtOnce ses base behind t wanted → (p : Polled) → after_polls old.counts.ticks.manner 64 old.counts.ticks.polls old.crash.log ≡ Some p → HearsIn heard_spans p.log new.crash.log
+    hears_on alone lawful is going unspent finds p polled ticket noticed = by_ring (ring_told meant going unspent alone)
       where
         sync : is_sync cmd ≡ true
         sync = ap is_sync is
@@ -677,7 +689,7 @@ module _ (cmd : Cmd) (reply : Reply) (old new : State) (w : WaitsOn cmd reply ol
             let done = both (is_sync cmd) (not (is_refusal reply)) sync (is_not (is_refusal reply) well) in
             let made : makes_point t.session cmd reply ≡ true = both (is_sync cmd) (t.session.changed && may_have_written reply) sync (both t.session.changed (may_have_written reply) (changed_is going ∙ some_weighs t.weight more) (done_writes reply well)) in
             let x = mine.written done going more in
-            let begun_is : begun ≡ length behind = x.fits (subst (λ (es : List Event). FindsPlaces ses es (places_told x.commit)) (sym before_behind) (finds_own x.commit x.own well finds more)) in
+            let begun_is : begun ≡ length behind = x.fits alone (subst (λ (es : List Event). FindsPlaces ses base es (places_told x.commit)) (sym before_behind) (finds_own x.commit x.own well finds more)) in
             ∣ (
               length t.spans,
               late,
@@ -688,9 +700,9 @@ module _ (cmd : Cmd) (reply : Reply) (old new : State) (w : WaitsOn cmd reply ol
               },
             ) ∣₁
           where
-            finds_own : (commit : Commit) → own ≡ commit ∷ [] → is_refusal reply ≡ false → OrdersAtOnce ses behind t wanted → 0 < t.weight → FindsPlaces ses behind (places_told commit)
+            finds_own : (commit : Commit) → own ≡ commit ∷ [] → is_refusal reply ≡ false → OrdersAtOnce ses base behind t wanted → 0 < t.weight → FindsPlaces ses base behind (places_told commit)
             finds_own commit one well (inl none) more = absurd (omega (arith, none, more))
-            finds_own commit one well (inr finds) more = subst (FindsPlaces ses behind) (cond-false {A = ℕ} (is_refusal reply) (sync_places t.weight) (places_from 0 own) well ∙ ap (places_from 0) one ∙ one_place commit) finds
+            finds_own commit one well (inr finds) more = subst (FindsPlaces ses base behind) (cond-false {A = ℕ} (is_refusal reply) (sync_places t.weight) (places_from 0 own) well ∙ ap (places_from 0) one ∙ one_place commit) finds
 
         by_refusal : is_accepted ticket behind ≡ false → FreesBy old a.behind a.free → (is_refusal reply ≡ true) ⊎ (is_refusal reply ≡ false) → Came ticket
         by_refusal late_one frees (inr well) = by_weight late_one well frees (zero_or_some t.weight)
@@ -709,7 +721,7 @@ module _ (cmd : Cmd) (reply : Reply) (old new : State) (w : WaitsOn cmd reply ol
         by_heard frees (inr (inr late_one)) = inr (by_refusal late_one frees (cases_Bool (is_refusal reply)))
 
         by_ring : FreesBy old a.behind a.free ⊎ ((new.crash.log ≡ a.behind) × (reply ≡ Refused because.DiskFault)) → IsNoticed ticket p.log ⊎ Came ticket
-        by_ring (inl frees) = by_heard frees ((a.sync sync going unspent).hears alone (fits_among sync going frees finds) ticket noticed)
+        by_ring (inl frees) = by_heard frees ((a.sync sync going unspent).hears (ap (λ (x : Manner). x.waits_alone) is_manner ∙ alone) (fits_among sync going frees finds) ticket noticed)
         by_ring (inr all) = inl (noticed_before ticket p.log behind ticked (subst (IsNoticed ticket) all.0 noticed))
 
   pub unwritten_on : is_sync cmd ≡ true → old.books.stopped ≡ false → reply ≡ Refused because.NoMemory → length new.crash.log ≡ length behind
@@ -723,14 +735,14 @@ module _ (cmd : Cmd) (reply : Reply) (old new : State) (w : WaitsOn cmd reply ol
       unspent spent = false≢true (ap is_spent_reply (sym memory ∙ spent))
 
   -- a sync that is done finds free places where the log says so
-  pub done_fits : (m : Manner) → DoneInRing ses m new.crash.log cmd reply (pace_of t old) (length behind) (length new.crash.log) → commit_places old.books ≤ a.free
-  done_fits m d =
+  pub done_fits : DoneInRing ses base m new.crash.log cmd reply (pace_of t old) (length behind) (length new.crash.log) → commit_places old.books ≤ a.free
+  done_fits d =
       let parts = parts_of (is_sync cmd) (not (is_refusal reply)) d.done in
       let well = not_is (is_refusal reply) parts.1 in
-      by parts.0 well (a.ring (sync_is_meant cmd parts.0) d.going (unspent_by well) alone)
+      by parts.0 well (ring_told (sync_is_meant cmd parts.0) d.going (unspent_by well) d.alone)
     where
-      finds : FindsPlaces ses behind wanted
-      finds = subst (λ (es : List Event). FindsPlaces ses es wanted) before_behind d.finds
+      finds : FindsPlaces ses base behind wanted
+      finds = subst (λ (es : List Event). FindsPlaces ses base es wanted) before_behind d.finds
 
       by : is_sync cmd ≡ true → is_refusal reply ≡ false → FreesBy old a.behind a.free ⊎ ((new.crash.log ≡ a.behind) × (reply ≡ Refused because.DiskFault)) → commit_places old.books ≤ a.free
       by sync well (inr all) = absurd (true≢false (sym (ap is_refusal all.1) ∙ well))
@@ -744,7 +756,7 @@ module _ (cmd : Cmd) (reply : Reply) (old new : State) (w : WaitsOn cmd reply ol
   finds_blocks : (c : Cmd) → (figures_in g t.session c).need ≤ length (room_of old).takeable → (figures_on old f c).need ≤ length (reusable_blocks old.books)
   finds_blocks c finds = omega (arith, finds, need_same c)
 
-  needs_none : (c : Cmd) → FindsRoom ses behind t (room_of old) wanted c → (c ≡ cmds.Osync) ⊎ NeedsNoWait old f c
+  needs_none : (c : Cmd) → FindsRoom ses base behind t (room_of old) wanted c → (c ≡ cmds.Osync) ⊎ NeedsNoWait old f c
   needs_none cmds.Osync finds = inl refl
   needs_none cmds.Dsync finds = absurd finds
   needs_none cmds.Durable finds = inr finds
@@ -763,18 +775,18 @@ module _ (cmd : Cmd) (reply : Reply) (old new : State) (w : WaitsOn cmd reply ol
   needs_none (cmds.Stat path) finds = inr (finds_blocks (cmds.Stat path) finds)
   needs_none (cmds.List path) finds = inr (finds_blocks (cmds.List path) finds)
 
-  pub calm_on : (cmd ≢ cmds.Bad → old.books.stopped ≡ false → reply ≢ Refused because.Spent → PollsFirst old.counts.ticks.manner 64 old.counts.ticks.polls old.crash.log new.counts.ticks.polls new.crash.log) → cmd ≢ cmds.Bad → old.books.stopped ≡ false → reply ≢ Refused because.Spent → FindsRoom ses behind t (room_of old) wanted cmd
+  pub calm_on : m.waits_alone ≡ true → (cmd ≢ cmds.Bad → old.books.stopped ≡ false → reply ≢ Refused because.Spent → PollsFirst old.counts.ticks.manner 64 old.counts.ticks.polls old.crash.log new.counts.ticks.polls new.crash.log) → cmd ≢ cmds.Bad → old.books.stopped ≡ false → reply ≢ Refused because.Spent → FindsRoom ses base behind t (room_of old) wanted cmd
       → PollsThenWrites old.counts.ticks.manner 64 old.counts.ticks.polls old.crash.log new.counts.ticks.polls new.crash.log
-  calm_on polls meant going unspent finds = by (needs_none cmd finds)
+  calm_on alone polls meant going unspent finds = by (needs_none cmd finds)
     where
-      by_ring : cmd ≡ cmds.Osync → OrdersAtOnce ses behind t wanted → FreesBy old a.behind a.free ⊎ ((new.crash.log ≡ a.behind) × (reply ≡ Refused because.DiskFault)) → PollsThenWrites old.counts.ticks.manner 64 old.counts.ticks.polls old.crash.log new.counts.ticks.polls new.crash.log
+      by_ring : cmd ≡ cmds.Osync → OrdersAtOnce ses base behind t wanted → FreesBy old a.behind a.free ⊎ ((new.crash.log ≡ a.behind) × (reply ≡ Refused because.DiskFault)) → PollsThenWrites old.counts.ticks.manner 64 old.counts.ticks.polls old.crash.log new.counts.ticks.polls new.crash.log
       by_ring is at_once (inl frees) =
           let sync = ap is_sync is in
           λ p polled. ((polls meant going unspent p polled).0, writes_then p.log behind new.crash.log (a.ticks meant going unspent p polled).1 ((a.sync sync going unspent).orders is (fits_among sync going frees at_once)))
       by_ring is at_once (inr all) = λ p polled. ((polls meant going unspent p polled).0, subst (GrowsByWrites p.log) (sym all.0) (a.ticks meant going unspent p polled).1)
 
       by : (cmd ≡ cmds.Osync) ⊎ NeedsNoWait old f cmd → PollsThenWrites old.counts.ticks.manner 64 old.counts.ticks.polls old.crash.log new.counts.ticks.polls new.crash.log
-      by (inl is) = by_ring is (subst (FindsRoom ses behind t (room_of old) wanted) is finds) (a.ring meant going unspent alone)
+      by (inl is) = by_ring is (subst (FindsRoom ses base behind t (room_of old) wanted) is finds) (ring_told meant going unspent alone)
       by (inr needs) = w.calm meant going unspent f is_session needs
 
   -- a write of the point behind n has no notice
@@ -800,12 +812,12 @@ module _ (cmd : Cmd) (reply : Reply) (old new : State) (w : WaitsOn cmd reply ol
           by (inr since) = absurd (omega (arith, since.point, k.0, less, keeps.spans going))
 
 -- Of a run of no commands nothing is taken.
-pub keeps_at_first : (g : Geometry) (s : State) → s.books.owed ≡ 0 → s.books.point ≡ 0 → ((p ticket : ℕ) → s.crash.awaits p ticket → MayAwait s p ticket) → KeepsTaken g (length s.crash.log) [] [] s (nothing_taken g)
-keeps_at_first g s owed none may = record {
+pub keeps_at_first : (ses : MountedSession) (m : Manner) (tree : Tree) (s : State) → ses.mounted ≡ length s.crash.log → s.books.owed ≡ 0 → s.books.point ≡ 0 → ((p ticket : ℕ) → s.crash.awaits p ticket → MayAwait s p ticket) → KeepsTaken ses m tree [] [] s (nothing_taken (session_at ses tree))
+keeps_at_first ses m tree s ended owed none may = record {
   session = refl;
   weight = refl;
-  writes = omega (arith, owed, ap writes_in (take-length s.crash.log));
-  records = λ going. (sym none, ([], ap (commits_told g 2) (drop-length s.crash.log)));
+  writes = omega (arith, owed, ap (λ (n : ℕ). writes_in (take n s.crash.log)) ended, ap writes_in (take-length s.crash.log));
+  records = λ alone going. (sym none, ([], ap (λ (n : ℕ). commits_told ses.geom ses.epoch (drop n s.crash.log)) ended ∙ ap (commits_told ses.geom ses.epoch) (drop-length s.crash.log)));
   spans = λ going. sym none;
   awaits = λ going p ticket waits. absurd (omega (arith, (may p ticket waits).behind, (may p ticket waits).upto, none));
 }

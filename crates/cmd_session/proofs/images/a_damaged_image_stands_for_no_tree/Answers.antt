@@ -1,5 +1,5 @@
-use Rattle.cmd_image.proofs.Damages.{stands_for_none}
-use Rattle.cmd_image.proofs.image_laws.a_damaged_image_stands_for_no_tree.Goals as goal
+use Rattle.cmd_session.proofs.Damages.{stands_for_none}
+use Rattle.cmd_session.proofs.images.a_damaged_image_stands_for_no_tree.Goals as goal
 
 pub returns : goal.returns
 returns c = stands_for_none (record {
