@@ -1,5 +1,5 @@
 -- From the contracts of `clap`'s calls to the request: the program's command, and what a parse gives.
-use Rattle.std.proofs.Common.{◌≡◌, inl, inr, ◌||◌, Bool, true, false, List, [], ◌∷◌, Option, Some, None, refl, sym, ap, ap₂, subst, ◌∙◌, codes}
+use Rattle.std.proofs.Common.{◌≡◌, inl, inr, ◌||◌, Bool, true, false, List, [], ◌∷◌, Option, Some, None, refl, sym, ap, subst, ◌∙◌, codes}
 use Rattle.std.specs.Prelude.{option_and_then, option_map}
 use Rattle.std.proofs.lemmas.Bool.{false≢true}
 use Rattle.clap.specs.Kinds.{HasKind, Kinds}
@@ -34,9 +34,10 @@ bare_of a b c d e start first second third fourth =
     (ap app_of_fields second ∙ ap (on_top (λ (s : Shape). record s { disable_help_flag = true }))
     (ap app_of_fields first ∙ ap (on_top (λ (s : Shape). record s { no_binary_name = true })) start)))
 
--- a command with one argument more has no global one
-pub no_globals : (old more new : Bool) → new ≡ (old || more) → old ≡ false → more ≡ false → new ≡ false
-no_globals old more new is first second = is ∙ ap₂ (λ (a b : Bool). a || b) first second
+-- a command with one argument more that isn't global has a global one if it had one
+pub same_globals : (old more new : Bool) → new ≡ (old || more) → more ≡ false → new ≡ old
+same_globals true more new is none = is
+same_globals false more new is none = is ∙ none
 
 -- `clap` tells exactly what it makes of the words for this command
 is_free : is_simple_and_free program ≡ true

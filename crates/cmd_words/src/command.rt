@@ -2,7 +2,8 @@
 //! the module of the request.
 
 ghost use Rattle.std.specs.Prelude.{◌≡◌, IfOk, false};
-ghost use Rattle.clap.specs.Words.{app_of, rule_of, with_subcommand};
+ghost use Rattle.clap.specs.Words.{app_of, rule_of, with_rule, with_subcommand};
+ghost use Rattle.clap.specs.declared.builder.command.Command.TheViews.{out-Command as fields_of};
 ghost use Rattle.cmd_words.specs.Program.{loading, making, needed, option, program, recording, replaying, running, showing, word};
 
 use base_types::NoMemory;
@@ -88,19 +89,7 @@ pub fn program<'a>(alloc: Global) -> Result<Command<'a>, NoMemory>
 fn with_record<'a>(alloc: Global, line: Command<'a>) -> Result<Command<'a>, NoMemory>
     ensures { IfOk result (λ command. app_of command ≡ with_subcommand (app_of line.entry) recording.top) }
 {
-    let blocks = word_arg(alloc, BLOCKS);
-    let journal = word_arg(alloc, JOURNAL);
-    let nodes = word_arg(alloc, NODES);
-    let notices = option_arg(alloc, NOTICES);
-    let room = option_arg(alloc, ROOM);
-    let fail = option_arg(alloc, FAIL);
-    let recording = Command::new(alloc, RECORD)
-        .arg(blocks)?
-        .arg(journal)?
-        .arg(nodes)?
-        .arg(notices)?
-        .arg(room)?
-        .arg(fail)?;
+    let recording = record_command(alloc)?;
     let command = line.subcommand(recording)?;
     Ok(command)
 }
@@ -109,13 +98,7 @@ fn with_record<'a>(alloc: Global, line: Command<'a>) -> Result<Command<'a>, NoMe
 fn with_replay<'a>(alloc: Global, line: Command<'a>) -> Result<Command<'a>, NoMemory>
     ensures { IfOk result (λ command. app_of command ≡ with_subcommand (app_of line.entry) replaying.top) }
 {
-    let moment = needed_arg(alloc, AT);
-    let stand = option_arg(alloc, STAND);
-    let tear = option_arg(alloc, TEAR);
-    let replaying = Command::new(alloc, REPLAY)
-        .arg(moment)?
-        .arg(stand)?
-        .arg(tear)?;
+    let replaying = replay_command(alloc)?;
     let command = line.subcommand(replaying)?;
     Ok(command)
 }
@@ -124,8 +107,7 @@ fn with_replay<'a>(alloc: Global, line: Command<'a>) -> Result<Command<'a>, NoMe
 fn with_tree<'a>(alloc: Global, line: Command<'a>) -> Result<Command<'a>, NoMemory>
     ensures { IfOk result (λ command. app_of command ≡ with_subcommand (app_of line.entry) showing.top) }
 {
-    let image = word_arg(alloc, IMAGE);
-    let showing = Command::new(alloc, TREE).arg(image)?;
+    let showing = tree_command(alloc)?;
     let command = line.subcommand(showing)?;
     Ok(command)
 }
@@ -134,15 +116,7 @@ fn with_tree<'a>(alloc: Global, line: Command<'a>) -> Result<Command<'a>, NoMemo
 fn with_mkfs<'a>(alloc: Global, line: Command<'a>) -> Result<Command<'a>, NoMemory>
     ensures { IfOk result (λ command. app_of command ≡ with_subcommand (app_of line.entry) making.top) }
 {
-    let image = word_arg(alloc, IMAGE);
-    let blocks = word_arg(alloc, BLOCKS);
-    let journal = word_arg(alloc, JOURNAL);
-    let nodes = word_arg(alloc, NODES);
-    let making = Command::new(alloc, MKFS)
-        .arg(image)?
-        .arg(blocks)?
-        .arg(journal)?
-        .arg(nodes)?;
+    let making = mkfs_command(alloc)?;
     let command = line.subcommand(making)?;
     Ok(command)
 }
@@ -151,8 +125,7 @@ fn with_mkfs<'a>(alloc: Global, line: Command<'a>) -> Result<Command<'a>, NoMemo
 fn with_run<'a>(alloc: Global, line: Command<'a>) -> Result<Command<'a>, NoMemory>
     ensures { IfOk result (λ command. app_of command ≡ with_subcommand (app_of line.entry) running.top) }
 {
-    let image = word_arg(alloc, IMAGE);
-    let running = Command::new(alloc, RUN).arg(image)?;
+    let running = run_command(alloc)?;
     let command = line.subcommand(running)?;
     Ok(command)
 }
@@ -161,11 +134,118 @@ fn with_run<'a>(alloc: Global, line: Command<'a>) -> Result<Command<'a>, NoMemor
 fn with_load<'a>(alloc: Global, line: Command<'a>) -> Result<Command<'a>, NoMemory>
     ensures { IfOk result (λ command. app_of command ≡ with_subcommand (app_of line.entry) loading.top) }
 {
-    let seed = needed_arg(alloc, SEED);
-    let count = needed_arg(alloc, COUNT);
-    let loading = Command::new(alloc, LOAD).arg(seed)?.arg(count)?;
+    let loading = load_command(alloc)?;
     let command = line.subcommand(loading)?;
     Ok(command)
+}
+
+/// The command `record`.
+fn record_command<'a>(alloc: Global) -> Result<Command<'a>, NoMemory>
+    ensures app { IfOk result (λ command. app_of command ≡ recording) }
+    ensures local { IfOk result (λ command. (fields_of command).has_globals ≡ false) }
+{
+    let command = Command::new(alloc, RECORD);
+    let command = with_word(alloc, command, BLOCKS)?;
+    let command = with_word(alloc, command, JOURNAL)?;
+    let command = with_word(alloc, command, NODES)?;
+    let command = with_option(alloc, command, NOTICES)?;
+    let command = with_option(alloc, command, ROOM)?;
+    let command = with_option(alloc, command, FAIL)?;
+    Ok(command)
+}
+
+/// The command `replay`.
+fn replay_command<'a>(alloc: Global) -> Result<Command<'a>, NoMemory>
+    ensures app { IfOk result (λ command. app_of command ≡ replaying) }
+    ensures local { IfOk result (λ command. (fields_of command).has_globals ≡ false) }
+{
+    let command = Command::new(alloc, REPLAY);
+    let command = with_needed(alloc, command, AT)?;
+    let command = with_option(alloc, command, STAND)?;
+    let command = with_option(alloc, command, TEAR)?;
+    Ok(command)
+}
+
+/// The command `tree`.
+fn tree_command<'a>(alloc: Global) -> Result<Command<'a>, NoMemory>
+    ensures app { IfOk result (λ command. app_of command ≡ showing) }
+    ensures local { IfOk result (λ command. (fields_of command).has_globals ≡ false) }
+{
+    let command = Command::new(alloc, TREE);
+    let command = with_word(alloc, command, IMAGE)?;
+    Ok(command)
+}
+
+/// The command `mkfs`.
+fn mkfs_command<'a>(alloc: Global) -> Result<Command<'a>, NoMemory>
+    ensures app { IfOk result (λ command. app_of command ≡ making) }
+    ensures local { IfOk result (λ command. (fields_of command).has_globals ≡ false) }
+{
+    let command = Command::new(alloc, MKFS);
+    let command = with_word(alloc, command, IMAGE)?;
+    let command = with_word(alloc, command, BLOCKS)?;
+    let command = with_word(alloc, command, JOURNAL)?;
+    let command = with_word(alloc, command, NODES)?;
+    Ok(command)
+}
+
+/// The command `run`.
+fn run_command<'a>(alloc: Global) -> Result<Command<'a>, NoMemory>
+    ensures app { IfOk result (λ command. app_of command ≡ running) }
+    ensures local { IfOk result (λ command. (fields_of command).has_globals ≡ false) }
+{
+    let command = Command::new(alloc, RUN);
+    let command = with_word(alloc, command, IMAGE)?;
+    Ok(command)
+}
+
+/// The command `load`.
+fn load_command<'a>(alloc: Global) -> Result<Command<'a>, NoMemory>
+    ensures app { IfOk result (λ command. app_of command ≡ loading) }
+    ensures local { IfOk result (λ command. (fields_of command).has_globals ≡ false) }
+{
+    let command = Command::new(alloc, LOAD);
+    let command = with_needed(alloc, command, SEED)?;
+    let command = with_needed(alloc, command, COUNT)?;
+    Ok(command)
+}
+
+/// This command with one argument more: a word that must stand.
+fn with_word<'a>(alloc: Global, command: Command<'a>, id: &'a str) -> Result<Command<'a>, NoMemory>
+    ensures app { IfOk result (λ more. app_of more ≡ with_rule (app_of command.entry) (word id.entry.now)) }
+    ensures local { IfOk result (λ more. (fields_of more).has_globals ≡ (fields_of command.entry).has_globals) }
+{
+    let arg = word_arg(alloc, id);
+    let more = command.arg(arg)?;
+    Ok(more)
+}
+
+/// This command with one argument more: an option with one value, which may be missing.
+fn with_option<'a>(
+    alloc: Global,
+    command: Command<'a>,
+    id: &'a str,
+) -> Result<Command<'a>, NoMemory>
+    ensures app { IfOk result (λ more. app_of more ≡ with_rule (app_of command.entry) (option id.entry.now)) }
+    ensures local { IfOk result (λ more. (fields_of more).has_globals ≡ (fields_of command.entry).has_globals) }
+{
+    let arg = option_arg(alloc, id);
+    let more = command.arg(arg)?;
+    Ok(more)
+}
+
+/// This command with one argument more: an option with one value, which must stand.
+fn with_needed<'a>(
+    alloc: Global,
+    command: Command<'a>,
+    id: &'a str,
+) -> Result<Command<'a>, NoMemory>
+    ensures app { IfOk result (λ more. app_of more ≡ with_rule (app_of command.entry) (needed id.entry.now)) }
+    ensures local { IfOk result (λ more. (fields_of more).has_globals ≡ (fields_of command.entry).has_globals) }
+{
+    let arg = needed_arg(alloc, id);
+    let more = command.arg(arg)?;
+    Ok(more)
 }
 
 /// A word that must stand.
