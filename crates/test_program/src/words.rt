@@ -9,7 +9,11 @@ use std::alloc::{AllocError, Global};
 /// # Errors
 /// Out of memory.
 pub(crate) fn words_of(alloc: Global, line: &str) -> Result<Vec<&str>, AllocError> {
-    line.split(' ').collect(alloc)
+    let mut words = Vec::new(alloc);
+    for word in line.split(' ') {
+        words.push(word)?;
+    }
+    Ok(words)
 }
 
 /// These words, each as a text of its own.
