@@ -1,13 +1,13 @@
 -- From the contracts of `clap`'s calls to the request: the program's command, and what a parse gives.
 use Rattle.std.proofs.Common.{◌≡◌, inl, inr, ◌||◌, Bool, true, false, List, [], ◌∷◌, Option, Some, None, refl, sym, ap, subst, ◌∙◌, codes}
 use Rattle.std.specs.Prelude.{option_and_then, option_map}
-use Rattle.std.proofs.lemmas.Bool.{false≢true}
+use Rattle.std.proofs.lemmas.Bool.{and_parts, false≢true}
 use Rattle.clap.specs.Kinds.{HasKind, Kinds}
 use Rattle.clap.specs.Values.{kind_of}
-use Rattle.clap.specs.Faults.{fault_of, is_simple_and_free}
+use Rattle.clap.specs.Faults.{fault_of, is_free_app, is_simple_and_free}
 use Rattle.clap.specs.Matches.{first_value}
 use Rattle.clap.specs.Walk.{Row, Text, first_of, rows_of}
-use Rattle.clap.specs.Simple.{App, Shape, app_of_fields, is_simple, matches_of, new_app, on_top, subcommand_of}
+use Rattle.clap.specs.Simple.{App, Shape, app_of_fields, built, is_simple, matches_of, new_app, on_top, subcommand_of}
 use Rattle.clap.specs.declared.builder.command.Command.{Command}
 use Rattle.clap.specs.declared.builder.command.Command.TheOpen.{Command-F}
 use Rattle.clap.specs.declared.error.Error.{Error}
@@ -45,8 +45,7 @@ unfolding clap_on_literals
 is_free = refl
 
 is_plain : is_simple program ≡ true
-unfolding clap_on_literals
-is_plain = refl
+is_plain = (and_parts (is_simple program) (is_free_app (built program)) is_free).0
 
 -- the request of words by the command and the texts that they say
 abbrev asked_of : Option (Wanted × List Named) → Option Request
