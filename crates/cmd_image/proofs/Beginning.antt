@@ -1,10 +1,11 @@
 -- How a run begins: over a store that was just mounted, whose file system was opened.
-use Rattle.std.proofs.Common.{◌≡◌, ℕ, ◌+◌, ◌-◌, Bool, false, true≢false, IsTrue, List, [], ◌∷◌, length, take, take_all, Option, None, refl, sym, ap, ap₂, ◌∙◌, subst, arith}
+use Rattle.std.proofs.Common.{◌≡◌, ℕ, ◌+◌, ◌-◌, Bool, false, true, true≢false, IsTrue, List, [], ◌∷◌, length, take, take_all, Option, None, refl, sym, ap, ap₂, ◌∙◌, subst, arith}
 use mathlib.Core.Path.{fun_ext}
 use Rattle.base_types.specs.Seal.{Blocks}
 use Rattle.disk_contract.specs.declared.bay.Mark.{Mark}
 use Rattle.disk_contract.specs.declared.disk.Disk.{Ghosts}
 use Rattle.disk_contract.specs.declared.event.Event.{Event}
+use Rattle.disk_contract.specs.Cell.{has_lost}
 use Rattle.disk_contract.specs.Crash.{Window}
 use Rattle.disk_contract.specs.Disk as disk
 use Rattle.disk_contract.specs.Disk.{writes_in}
@@ -63,7 +64,7 @@ module _ (tells : Bool) (told : IsTrue tells) (first : disk.State) (s : State) (
   module _ (u : State) (t : Tree) (mark : Mark) (begun : IsBegun s) (looks : LooksOnly tells false s u) (tree : IsTreeOf s.books.geom s.map t)
       (served : HasServed s.books.geom t (length s.crash.log) [] [] [] u) (budget : KeepsBudget s.books.geom t (writes_in s.crash.log + s.books.owed) [] [] u)
       (room : (f : Session) → IsSession u f → IsRoomOf u.books.geom f (room_of u)) (left : (f : Session) → IsSession u f → left_of u.books ≡ u.books.area - blocks f.tree - u.books.running.held) (takeable : left_of u.books ≡ length (reusable_blocks u.books) + u.books.waiting)
-      (sound : IsSound u.books) (limits : IsGeometry s.books.geom) (goes : (m : MountedSession) (base : Blocks) (how : Manner) (tree : Tree) → BeginsByLog false m base how u → GoesByLog false m base how (pace_of (nothing_taken (session_at m tree)) u) tree [] [] [] u) (is_mark : mark ≡ mark_in s) (spends : SpendsByMarks s.books.geom (session_on s.books.geom.i t) (length u.crash.log) u.crash.log [] [] []) where
+      (sound : IsSound u.books) (limits : IsGeometry s.books.geom) (goes : (m : MountedSession) (base : Blocks) (how : Manner) (tree : Tree) → BeginsByLog m base how u → GoesByLog m base how (pace_of (nothing_taken (session_at m tree)) u) tree [] [] [] u) (counted : s.counts.ticks.manner.waits_alone ≡ true → s.counts.faults ≡ 0 → has_lost s.crash.log ≡ false) (is_mark : mark ≡ mark_in s) (spends : SpendsByMarks s.books.geom (session_on s.books.geom.i t) (length u.crash.log) u.crash.log [] [] []) where
     abbrev g : Geometry
     g = s.books.geom
 
@@ -118,7 +119,7 @@ module _ (tells : Bool) (told : IsTrue tells) (first : disk.State) (s : State) (
         (subst (λ (x : Blocks). HasLiveBlocks g x m) (sym (looks.map told)) ((h.begins told).only m (((looks.crash told).point 0 m).0 is)))
 
     -- so the run goes by the log of its disk
-    begins_log : BeginsByLog false mount first.base first.manner u
+    begins_log : BeginsByLog mount first.base first.manner u
     begins_log =
         let numbers = h.numbers told in
         record {
@@ -129,8 +130,7 @@ module _ (tells : Bool) (told : IsTrue tells) (first : disk.State) (s : State) (
           owed = ap (λ (k : Bookkeeping). k.owed) looks.books ∙ (h.begins told).owed;
           point = point;
           only = only;
-          alone = λ known. absurd (true≢false (sym known));
-          unlost = λ known. absurd (true≢false (sym known));
+          unlost = λ alone. (looks.counts.faults ∙ h.on.faults, ap has_lost same_log ∙ counted (ap (λ (x : Manner). x.waits_alone) h.on.manner ∙ alone) h.on.faults);
         }
 
     pub known_first : KnownSoFar first [] [] (mark ∷ []) u
@@ -150,7 +150,7 @@ module _ (tells : Bool) (told : IsTrue tells) (first : disk.State) (s : State) (
           begins = begins_room;
           mount = mount;
           is_mount = record { found = numbers.found; is_found = numbers.is_found; geom = numbers.geom; epoch = numbers.epoch; mounted = numbers.mounted; first = numbers.first };
-          goes = subst (λ (p : Pace). GoesByLog false mount first.base first.manner p t [] [] [] u) pace_first (goes mount first.base first.manner t begins_log);
+          goes = subst (λ (p : Pace). GoesByLog mount first.base first.manner p t [] [] [] u) pace_first (goes mount first.base first.manner t begins_log);
           budget = subst (λ (n : ℕ). KeepsBudget g t n [] [] u)
               (omega (arith, (h.begins told).owed, ap (λ (es : List Event). writes_in es) (sym (ap (λ (es : List Event). take (length s.crash.log) es) same_log ∙ take_all (length s.crash.log) s.crash.log (omega arith))))) budget;
           spends = subst (λ (es : List Event). SpendsByMarks g f (length es) u.crash.log [] [] []) same_log spends;

@@ -52,7 +52,7 @@ module _ {D : Type 0} {k : Ghosts D} (known : D → disk.State) (tells : Bool) (
     begins = h.begins;
     end = pace_of h.goes.taken (state_of known store);
     rooms = subst (λ (g : Geometry). RunsOn g (session_on h.geom.i h.tree) h.first_room cmds replies h.goes.taken.session (room_of (state_of known store))) h.is_mount.geom
-        (rooms_by h.mount first.base first.manner false (state_of known store).crash.log cmds replies h.moments (pace_at_mount first h.mounted (session_on h.geom.i h.tree) h.first_room) (pace_of h.goes.taken (state_of known store)) h.goes.paces);
+        (rooms_by h.mount first.base first.manner (state_of known store).crash.log cmds replies h.moments (pace_at_mount first h.mounted (session_on h.geom.i h.tree) h.first_room) (pace_of h.goes.taken (state_of known store)) h.goes.paces);
     mount = h.mount;
     is_mount = h.is_mount;
     serves = h.goes.paces;

@@ -71,7 +71,7 @@ pub record Stepped (cmd : Cmd) (reply : Reply) (mark : Mark) (s u : State) : Typ
   pub spends : (g : Geometry) (t : Tree) (mounted : ℕ) (cmds : List Cmd) (replies : List Reply) (moments : List ℕ) → HasServed g t mounted cmds replies moments s → KeepsBudget g t (writes_in (take mounted u.crash.log)) (cmds ++ cmd ∷ []) (replies ++ reply ∷ []) u
       → SpendsByMarks g (session_on g.i t) mounted s.crash.log cmds replies moments → SpendsByMarks g (session_on g.i t) mounted u.crash.log (cmds ++ cmd ∷ []) (replies ++ reply ∷ []) (moments ++ length u.crash.log ∷ [])
   pub goes : (mount : MountedSession) (base : Blocks) (m : Manner) (first : Pace) (t : Tree) (cmds : List Cmd) (replies : List Reply) (moments : List ℕ) → HasServed mount.geom t mount.mounted cmds replies moments s → (s.books.stopped ≡ false → s.books.running.weight ≡ weight_after (bitmap_blocks mount.geom) (session_at mount t) 0 cmds replies)
-      → GoesByLog false mount base m first t cmds replies moments s → GoesByLog false mount base m first t (cmds ++ cmd ∷ []) (replies ++ reply ∷ []) (moments ++ length u.crash.log ∷ []) u
+      → GoesByLog mount base m first t cmds replies moments s → GoesByLog mount base m first t (cmds ++ cmd ∷ []) (replies ++ reply ∷ []) (moments ++ length u.crash.log ∷ []) u
   pub advances : Advances s u
   pub turns : u.books.turns ≤ s.books.turns + 2 ^ 20
   pub counted : (f : Session) → IsSession s f → Counted (is_unread reply) (is_failed reply) s u
@@ -96,7 +96,7 @@ module _ (first : disk.State) (cmd : Cmd) (reply : Reply) (mark : Mark) (s u : S
   weighs : s.books.stopped ≡ false → s.books.running.weight ≡ weight_after (bitmap_blocks h.mount.geom) (session_at h.mount h.tree) 0 cmds replies
   weighs = subst (λ (g : Geometry). s.books.stopped ≡ false → s.books.running.weight ≡ weight_after (bitmap_blocks g) (session_on g.i h.tree) 0 cmds replies) (sym h.is_mount.geom) h.budget.weight
 
-  goes_now : GoesByLog false h.mount first.base first.manner (pace_at_mount first h.mounted (session_on h.geom.i h.tree) h.first_room) h.tree (cmds ++ cmd ∷ []) (replies ++ reply ∷ []) (h.moments ++ length u.crash.log ∷ []) u
+  goes_now : GoesByLog h.mount first.base first.manner (pace_at_mount first h.mounted (session_on h.geom.i h.tree) h.first_room) h.tree (cmds ++ cmd ∷ []) (replies ++ reply ∷ []) (h.moments ++ length u.crash.log ∷ []) u
   goes_now = step.goes h.mount first.base first.manner (pace_at_mount first h.mounted (session_on h.geom.i h.tree) h.first_room) h.tree cmds replies h.moments at_mount weighs h.goes
 
   -- the first events are the same

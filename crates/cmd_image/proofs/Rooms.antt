@@ -1,5 +1,5 @@
 -- Commands that go by the log of their disk are answered one after the other in the room that it gives; and blocks that were only looked at are of the same mount.
-use Rattle.std.proofs.Common.{◌≡◌, ◌↔◌, ℕ, ◌≤◌, Bool, List, [], ◌∷◌, length, sym, ap, ◌∙◌, subst}
+use Rattle.std.proofs.Common.{◌≡◌, ◌↔◌, ℕ, ◌≤◌, List, [], ◌∷◌, length, sym, ap, ◌∙◌, subst}
 use Rattle.base_types.specs.Seal.{Blocks}
 use Rattle.disk_contract.specs.declared.event.Event.{Event}
 use Rattle.disk_contract.specs.Manner.{Manner}
@@ -14,8 +14,8 @@ use Rattle.fs_commands.specs.Moments.{answer_in_room}
 use Rattle.cmd_session.specs.Going.{IsOfMount}
 use Rattle.cmd_session.specs.Pacing.{Pace, PacesBy}
 
-module _ (mount : MountedSession) (base : Blocks) (m : Manner) (counts : Bool) (log : List Event) where
-  pub rooms_by : (cmds : List Cmd) (replies : List Reply) (marks : List ℕ) (p end : Pace) → PacesBy mount base m counts log p cmds replies marks end → RunsOn mount.geom p.taken.session p.room.room cmds replies end.taken.session end.room.room
+module _ (mount : MountedSession) (base : Blocks) (m : Manner) (log : List Event) where
+  pub rooms_by : (cmds : List Cmd) (replies : List Reply) (marks : List ℕ) (p end : Pace) → PacesBy mount base m log p cmds replies marks end → RunsOn mount.geom p.taken.session p.room.room cmds replies end.taken.session end.room.room
   rooms_by [] [] [] p end paces = (ap (λ (x : Pace). x.taken.session) paces, ap (λ (x : Pace). x.room.room) paces)
   rooms_by [] [] (k ∷ marks) p end paces = absurd paces
   rooms_by [] (r ∷ replies) marks p end paces = absurd paces

@@ -1,5 +1,5 @@
 -- What comes of a run over the image under a name: its commands and their replies, what is read and written, the marks, and what becomes of the bay and of the disk that it handed out. It is described in docs/RUNNING.md.
-use Rattle.std.specs.Prelude.{◌≡◌, ◌⊎◌, ℕ, ◌+◌, ◌-◌, ◌*◌, ◌^◌, ◌<◌, ◌≤◌, max, ⊤, Bool, false, true, IsTrue, List, [], ◌∷◌, ◌++◌, length, take, slice_get, Option, Some, Result, Ok, Err}
+use Rattle.std.specs.Prelude.{◌≡◌, ◌⊎◌, ℕ, ◌+◌, ◌-◌, ◌*◌, ◌^◌, ◌<◌, ◌≤◌, max, ⊤, Bool, true, IsTrue, List, [], ◌∷◌, ◌++◌, length, take, slice_get, Option, Some, Result, Ok, Err}
 use Rattle.std.specs.Io.KnownBytes.{Appends, Consumes, IsAtEnd}
 use Rattle.base_types.specs.Counts.{after_call, Rose}
 use Rattle.base_types.specs.Seal.{Blocks}
@@ -131,7 +131,7 @@ pub record HasNumbers (d : State) (turns : ℕ) : Type 0 where
 abbrev pub IsSpentByNumbers : ℕ → List Reply → Type 0
 IsSpentByNumbers turns replies = (i : ℕ) → slice_get replies i ≡ Some (Refused because.Spent) → 2 ^ 63 - 8 ≤ turns + i * 2 ^ 20
 
--- Commands were run over a disk that can be mounted and stands for a tree: each was answered in turn as the tree answers it in the session's room, or refused for a reason of the disk or for want of memory, and none was done after a fault of the disk; each did on the disk what the log tells (`PacesBy`), of which it isn't known whether it counts its lost writes; crashes leave points, and all that was issued is the last one (`HasRun`); the writes are within the budget, up to each mark within that of the commands by then; each reply has its mark; and a refusal for a call of the disk that failed has its reason in the disk's manner.
+-- Commands were run over a disk that can be mounted and stands for a tree: each was answered in turn as the tree answers it in the session's room, or refused for a reason of the disk or for want of memory, and none was done after a fault of the disk; each did on the disk what the log tells (`PacesBy`); crashes leave points, and all that was issued is the last one (`HasRun`); the writes are within the budget, up to each mark within that of the commands by then; each reply has its mark; and a refusal for a call of the disk that failed has its reason in the disk's manner.
 pub record RunsDisk (first last : State) (marks : List Mark) (cmds : List Cmd) (replies : List Reply) : Type 0 where
   pub geom : Geometry
   pub tree : Tree
@@ -147,7 +147,7 @@ pub record RunsDisk (first last : State) (marks : List Mark) (cmds : List Cmd) (
   pub rooms : RunsOn geom (session_on geom.i tree) first_room cmds replies end.taken.session end.room.room
   pub mount : MountedSession
   pub is_mount : IsMountOf first geom mounted mount
-  pub serves : PacesBy mount first.base first.manner false last.log (pace_at_mount first mounted (session_on geom.i tree) first_room) cmds replies moments end
+  pub serves : PacesBy mount first.base first.manner last.log (pace_at_mount first mounted (session_on geom.i tree) first_room) cmds replies moments end
   pub writes : AreAtMost mounted last.log (budget_of (bitmap_blocks geom) (session_on geom.i tree) 0 cmds replies)
   pub spends : SpendsByMarks geom (session_on geom.i tree) mounted last.log cmds replies moments
   pub marked : AreMarks mounted replies moments marks (mark_on last)

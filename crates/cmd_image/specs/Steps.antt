@@ -78,7 +78,7 @@ pub record KnownSoFar (first : disk.State) (cmds : List Cmd) (replies : List Rep
   pub begins : IsRoomAtMount geom image.stands.map (session_on geom.i tree) first_room
   pub mount : MountedSession
   pub is_mount : IsMountOf first geom mounted mount
-  pub goes : GoesByLog false mount first.base first.manner (pace_at_mount first mounted (session_on geom.i tree) first_room) tree cmds replies moments s
+  pub goes : GoesByLog mount first.base first.manner (pace_at_mount first mounted (session_on geom.i tree) first_room) tree cmds replies moments s
   -- no write was owed as the mount ended
   pub budget : KeepsBudget geom tree (writes_in (take mounted s.crash.log)) cmds replies s
   pub spends : SpendsByMarks geom (session_on geom.i tree) mounted s.crash.log cmds replies moments

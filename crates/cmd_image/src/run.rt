@@ -155,6 +155,8 @@ fn run_store<D: Disk + Drop, S: Source, K: Sink>(
     let geom = store.geom();
     geom.lawful();
     let mark = mark_of(store.disk());
+    // and one for what the disk says of itself
+    store.disk().lawful();
     match Served::open(alloc, store) {
         Ok(served) => run_served(alloc, Running::begin(served, marks, mark), input, out),
         Err((store, why)) => {

@@ -4,10 +4,9 @@ use Rattle.std.proofs.lemmas.Bool.{cases_Bool, false≢true}
 use Rattle.base_types.specs.Seal.{Blocks}
 use Rattle.disk_contract.specs.declared.event.Event.{Event}
 use Rattle.disk_contract.specs.declared.event.Event.TheVariants.{Wrote, Lost, Noticed}
-use Rattle.disk_contract.specs.Cell.{is_lost, is_lost_from}
+use Rattle.disk_contract.specs.Cell.{has_lost, is_lost, is_lost_from}
 use Rattle.disk_contract.specs.Manner.{Manner}
 use Rattle.crash_argument.specs.Points.{MountedSession}
-use Rattle.disk_memory.specs.Log.{has_lost}
 use Rattle.lang_tree.specs.declared.command.Cmd.{Cmd}
 use Rattle.lang_tree.specs.declared.command.Reply.{Reply}
 use Rattle.cmd_session.specs.Histories.{HasNoFault, last_mark}
@@ -41,8 +40,8 @@ front_of_front (suc n) zero xs le = absurd (omega (arith, le))
 front_of_front (suc n) (suc m) [] le = refl
 front_of_front (suc n) (suc m) (x ∷ xs) le = ap (λ (ys : List Event). x ∷ ys) (front_of_front n m xs (omega (arith, le)))
 
-module _ (ses : MountedSession) (base : Blocks) (m : Manner) (log : List Event) where
-  pub unlost_at : (cmds : List Cmd) (replies : List Reply) (marks : List ℕ) (p end : Pace) → PacesBy ses base m true log p cmds replies marks end → has_lost (take p.events log) ≡ false → (i : ℕ) → HasNoFault (take i replies) → has_lost (take (last_mark p.events (take i marks)) log) ≡ false
+module _ (ses : MountedSession) (base : Blocks) (m : Manner) (alone : m.waits_alone ≡ true) (log : List Event) where
+  pub unlost_at : (cmds : List Cmd) (replies : List Reply) (marks : List ℕ) (p end : Pace) → PacesBy ses base m log p cmds replies marks end → has_lost (take p.events log) ≡ false → (i : ℕ) → HasNoFault (take i replies) → has_lost (take (last_mark p.events (take i marks)) log) ≡ false
   unlost_at cmds replies marks p end paces none zero calm = none
   unlost_at [] [] [] p end paces none (suc i) calm = none
   unlost_at [] [] (k ∷ marks) p end paces none (suc i) calm = absurd paces
@@ -59,5 +58,5 @@ module _ (ses : MountedSession) (base : Blocks) (m : Manner) (log : List Event) 
       front = front_of_front p.events paces.0.events log (omega (arith, paces.2.room.from, paces.2.room.upto))
 
       here : (has_lost (drop p.events (take paces.0.events log)) ≡ true) ⊎ (has_lost (drop p.events (take paces.0.events log)) ≡ false) → has_lost (take paces.0.events log) ≡ false
-      here (inl lost) = absurd (calm 0 (ap Some (paces.2.loses refl lost)))
+      here (inl lost) = absurd (calm 0 (ap Some (paces.2.loses alone lost)))
       here (inr behind) = unlost_parts p.events (take paces.0.events log) (ap has_lost front ∙ none) behind

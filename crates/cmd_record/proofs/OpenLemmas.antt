@@ -5,7 +5,7 @@ use Rattle.std.specs.Int.{bit_at}
 use Rattle.base_types.specs.Seal.{Blocks}
 use Rattle.disk_contract.specs.declared.disk.Disk.{Ghosts}
 use Rattle.disk_contract.specs.declared.event.Event.{Event}
-use Rattle.disk_contract.specs.Cell.{cell_of, notices}
+use Rattle.disk_contract.specs.Cell.{cell_of, notices, has_lost}
 use Rattle.disk_contract.specs.Disk as disk
 use Rattle.disk_contract.specs.Disk.{writes_in}
 use Rattle.disk_contract.specs.Lawful.{IsLogOf}
@@ -17,7 +17,6 @@ use Rattle.layout_journal.specs.Formatted.{formatted}
 use Rattle.layout_journal.specs.declared.header.Header.{Header}
 use Rattle.layout_journal.specs.Layout.{header_of}
 use Rattle.layout_journal.specs.Run.{is_live, live_part}
-use Rattle.disk_memory.specs.Log.{has_lost}
 use Rattle.lang_tree.specs.Step.{start}
 use Rattle.crash_stands.specs.Stands.{IsTreeOf}
 use Rattle.crash_argument.specs.Ledger.{HoldsUnder}

@@ -8,6 +8,7 @@ use Rattle.std.proofs.lemmas.Bool.Decides.{nat_tests}
 use mathlib.Core.Path.{fun_ext}
 use Rattle.base_types.specs.Seal.{Blocks}
 use Rattle.disk_contract.specs.declared.event.Event.{Event}
+use Rattle.disk_contract.specs.Cell.{has_lost}
 use Rattle.disk_contract.specs.Disk.{Grows, writes_in}
 use Rattle.disk_contract.specs.Lawful.{IsLogOf}
 use Rattle.disk_contract.specs.Manner.{Manner, GoesBy}
@@ -15,7 +16,6 @@ use Rattle.layout_geometry.specs.Geometry.{Geometry, geometry_fits, bitmap_block
 use Rattle.layout_journal.specs.Formatted.{formatted}
 use Rattle.crash_argument.specs.Counts.{AreAtMost}
 use Rattle.crash_argument.specs.Ledger.{issued}
-use Rattle.disk_memory.specs.Log.{has_lost}
 use Rattle.lang_script.specs.Text.{command_text}
 use Rattle.lang_script.specs.Values.{IsCommand, IsReply}
 use Rattle.cmd_trace.specs.Contents.{Each, front_of}
@@ -257,7 +257,7 @@ module _ (set : Setting) (laws : RunLaws set.shape) (s : State) (mounted : ℕ) 
 
   here_by : Each IsCommand cmds → ServesBy set cmds text
   unfolding here serves
-  here_by commands = record { served = here commands; goes = record { writes = paced.writes; last = pace_of paced.goes.taken s; paces = paced.goes.paces; opens = paced.opens; alone = paced.goes.alone refl; mounts = paced.mounts; once = paced.once; unspent = paced.unspent } }
+  here_by commands = record { served = here commands; goes = record { writes = paced.writes; last = pace_of paced.goes.taken s; paces = paced.goes.paces; opens = paced.opens; alone = paced.alone; mounts = paced.mounts; once = paced.once; unspent = paced.unspent } }
 
   goes_on : (cmd : Cmd) (more : List Cmd) → GoesOnWith g cmds text cmd more
   goes_on cmd more =
@@ -331,7 +331,7 @@ spent_far : (k : Bookkeeping) → is_spent k ≡ true → 2 ^ 63 - 8 ≤ k.turns
 spent_far k is = leb-true (2 ^ 63 - 8) k.turns is
 
 module _ (cmd : Cmd) (reply : Reply) (old new : State) (a : IsAnswered cmd reply old new) (g : Geometry) (m : Manner) (f : Session) (mounted : ℕ) (cmds : List Cmd) (replies : List Reply) (marks : List ℕ) (session : IsSession old f) (run : PacedRun g m mounted cmds replies marks old)
-    (goes : GoesByLog true (session_by g mounted) (formatted g) m (pace_at_first g mounted) (start g.i).tree (cmds ++ cmd ∷ []) (replies ++ reply ∷ []) (marks ++ length new.crash.log ∷ []) new) where
+    (goes : GoesByLog (session_by g mounted) (formatted g) m (pace_at_first g mounted) (start g.i).tree (cmds ++ cmd ∷ []) (replies ++ reply ∷ []) (marks ++ length new.crash.log ∷ []) new) where
   -- so many commands don't use the numbers up
   unspent_on : (i : ℕ) → i < 2 ^ 40 → slice_get (replies ++ reply ∷ []) i ≡ Some (Refused Spent) → ⊥
   unspent_on i few at = by (get_split_at replies reply (Refused Spent) i at)
@@ -349,6 +349,7 @@ module _ (cmd : Cmd) (reply : Reply) (old new : State) (a : IsAnswered cmd reply
     writes = subst (λ (x : Manner). GoesBy x new.crash.log) goes.manner a.writes;
     goes = goes;
     opens = run.opens;
+    alone = run.alone;
     mounts = ap has_lost front ∙ run.mounts;
     once = subst (MountsOnce g) (sym front) run.once;
     turns = omega (arith, a.turns, run.turns, length-append replies (reply ∷ []));
@@ -421,7 +422,7 @@ at_first set s fits opened laws known begins =
     ∙ ap₂ (λ (n : ℕ) (r : RoomOn). record { polls = 0; events = length s.crash.log; over = false; durable = n; taken = nothing_taken (start g.i); room = r }) opened.floor (room_first g s opened.room opened.since) in
     let paced : PacedRun g set.manner (length s.crash.log) [] [] [] s = record {
       writes = opened.writes;
-      goes = subst (λ (p : Pace). GoesByLog true ses (formatted g) set.manner p (start g.i).tree [] [] [] s) pace (begins ses (formatted g) set.manner (start g.i).tree (record {
+      goes = subst (λ (p : Pace). GoesByLog ses (formatted g) set.manner p (start g.i).tree [] [] [] s) pace (begins ses (formatted g) set.manner (start g.i).tree (record {
         limits = (laws g fits).limits;
         of_mount = opened.of_mount;
         manner = opened.manner;
@@ -429,10 +430,10 @@ at_first set s fits opened laws known begins =
         owed = opened.owed;
         point = omega (arith, opened.served.goes_on.exact going);
         only = opened.only;
-        alone = λ known. opened.alone;
         unlost = λ known. (opened.faults, opened.unlost);
       }));
       opens = opened.opens;
+      alone = opened.alone;
       mounts = ap has_lost (take_all (length s.crash.log) s.crash.log (omega arith)) ∙ opened.unlost;
       once = subst (MountsOnce g) (sym (take_all (length s.crash.log) s.crash.log (omega arith))) opened.once;
       turns = omega (arith, opened.turns);

@@ -98,7 +98,7 @@ parts_done true false is other = refl
 parts_done true true is other = cc
 parts_done false b is other = cc
 
-module _ (ses : MountedSession) (base : Blocks) (m : Manner) (counts : Bool) (log : List Event) (cmd : Cmd) (reply : Reply) (old new : Pace) (step : StepsBy ses base m counts log cmd reply old new) (going : old.over ≡ false) where
+module _ (ses : MountedSession) (base : Blocks) (m : Manner) (log : List Event) (cmd : Cmd) (reply : Reply) (old new : Pace) (step : StepsBy ses base m log cmd reply old new) (going : old.over ≡ false) where
   abbrev own : List Commit
   own = own_records ses log step.room.behind new.events
 
@@ -174,7 +174,7 @@ module _ (g : Geometry) (m : Manner) (log : List Event) (mounted : ℕ) where
   ses = session_by g mounted
 
   -- where no call of the disk has failed at the end, none had before
-  going_on : (cmds : List Cmd) (replies : List Reply) (marks : List ℕ) (p last : Pace) → PacesBy ses (formatted g) m true log p cmds replies marks last → last.over ≡ false → p.over ≡ false
+  going_on : (cmds : List Cmd) (replies : List Reply) (marks : List ℕ) (p last : Pace) → PacesBy ses (formatted g) m log p cmds replies marks last → last.over ≡ false → p.over ≡ false
   going_on [] [] [] p last paces going = sym (ap (λ (x : Pace). x.over) paces) ∙ going
   going_on [] [] (k ∷ marks) p last paces going = absurd paces
   going_on [] (r ∷ replies) marks p last paces going = absurd paces
@@ -182,7 +182,7 @@ module _ (g : Geometry) (m : Manner) (log : List Event) (mounted : ℕ) where
   going_on (c ∷ cmds) (r ∷ replies) [] p last paces going = absurd paces
   going_on (c ∷ cmds) (r ∷ replies) (k ∷ marks) p last paces going = (or_parts p.over (is_fault r) (sym paces.2.over ∙ going_on cmds replies marks paces.0 last paces.3 going)).0
 
-  places_within : (cmds : List Cmd) (replies : List Reply) (marks : List ℕ) (p last : Pace) → PacesBy ses (formatted g) m true log p cmds replies marks last → last.over ≡ false
+  places_within : (cmds : List Cmd) (replies : List Reply) (marks : List ℕ) (p last : Pace) → PacesBy ses (formatted g) m log p cmds replies marks last → last.over ≡ false
       → places_from 0 last.taken.records ≤ places_from 0 p.taken.records + places_by_weight g p.taken.session p.taken.weight cmds replies
   places_within [] [] [] p last paces going = omega (arith, ap (λ (x : Pace). places_from 0 x.taken.records) paces)
   places_within [] [] (k ∷ marks) p last paces going = absurd paces
@@ -193,14 +193,14 @@ module _ (g : Geometry) (m : Manner) (log : List Event) (mounted : ℕ) where
     arith,
     places_within cmds replies marks paces.0 last paces.3 going,
     ap (λ t. places_by_weight g t.session t.weight cmds replies) paces.2.does.taken,
-    records_places ses (formatted g) m true log c r p paces.0 paces.2 (going_on (c ∷ cmds) (r ∷ replies) (k ∷ marks) p last paces going),
+    records_places ses (formatted g) m log c r p paces.0 paces.2 (going_on (c ∷ cmds) (r ∷ replies) (k ∷ marks) p last paces going),
   )
 
-  pub finds_places : (cmds : List Cmd) (replies : List Reply) (marks : List ℕ) (last next : Pace) (cmd : Cmd) (reply : Reply) → PacesBy ses (formatted g) m true log (pace_at_first g mounted) cmds replies marks last → (step : StepsBy ses (formatted g) m true log cmd reply last next)
+  pub finds_places : (cmds : List Cmd) (replies : List Reply) (marks : List ℕ) (last next : Pace) (cmd : Cmd) (reply : Reply) → PacesBy ses (formatted g) m log (pace_at_first g mounted) cmds replies marks last → (step : StepsBy ses (formatted g) m log cmd reply last next)
       → is_sync cmd ≡ true → last.over ≡ false → reply ≢ Refused Spent → m.waits_alone ≡ true → places_by_weight g (start g.i) 0 cmds replies + sync_places last.taken.weight ≤ g.j
       → OrdersAtOnce ses (formatted g) (take step.room.behind log) last.taken (places_wanted reply last.taken.weight (own_records ses log step.room.behind next.events)) ⊎ ((next.events ≡ step.room.behind) × (reply ≡ Refused DiskFault))
   finds_places cmds replies marks last next cmd reply paces step sync going unspent alone fits =
-      orders ses (formatted g) m true log cmd reply last next step going sync unspent alone (omega (arith, fits, places_within cmds replies marks (pace_at_first g mounted) last paces going))
+      orders ses (formatted g) m log cmd reply last next step going sync unspent alone (omega (arith, fits, places_within cmds replies marks (pace_at_first g mounted) last paces going))
 
   -- Blocks.
 
@@ -211,7 +211,7 @@ module _ (g : Geometry) (m : Manner) (log : List Event) (mounted : ℕ) where
   abbrev pub TakesFew : Type 0
   TakesFew = (f next : Session) (old new : Room) (cmd : Cmd) (reply : Reply) → AnswersOn g f old cmd reply next new → IsAscending old → IsAscending new × (length old.takeable ≤ length new.takeable + (if is_refusal reply then 0 else (figures_in g f cmd).need))
 
-  blocks_within : TakesFew → (cmds : List Cmd) (replies : List Reply) (marks : List ℕ) (p last : Pace) → PacesBy ses (formatted g) m true log p cmds replies marks last → IsAscending p.room.room
+  blocks_within : TakesFew → (cmds : List Cmd) (replies : List Reply) (marks : List ℕ) (p last : Pace) → PacesBy ses (formatted g) m log p cmds replies marks last → IsAscending p.room.room
       → length p.room.room.takeable ≤ length last.room.room.takeable + blocks_needed g p.taken.session cmds replies
   blocks_within few [] [] [] p last paces up = omega (arith, ap (λ (x : Pace). length x.room.room.takeable) paces)
   blocks_within few [] [] (k ∷ marks) p last paces up = absurd paces
@@ -223,7 +223,7 @@ module _ (g : Geometry) (m : Manner) (log : List Event) (mounted : ℕ) where
       let one = few p.taken.session next.taken.session p.room.room next.room.room c r (answer_in_room g _ _ p.taken.session p.room c r next.taken.session next.room paces.2.room.answers) up in
       omega (arith, one.1, blocks_within few cmds replies marks next last paces.3 one.0, ap (λ t. blocks_needed g t.session cmds replies) paces.2.does.taken)
 
-  pub finds_enough : TakesFew → (cmds : List Cmd) (replies : List Reply) (marks : List ℕ) (last : Pace) (need : ℕ) → PacesBy ses (formatted g) m true log (pace_at_first g mounted) cmds replies marks last
+  pub finds_enough : TakesFew → (cmds : List Cmd) (replies : List Reply) (marks : List ℕ) (last : Pace) (need : ℕ) → PacesBy ses (formatted g) m log (pace_at_first g mounted) cmds replies marks last
       → blocks_needed g (start g.i) cmds replies + need ≤ g.n - data_start g → need ≤ length last.room.room.takeable
   finds_enough few cmds replies marks last need paces enough =
       omega (arith, enough, blocks_within few cmds replies marks (pace_at_first g mounted) last paces all_data, length-range_with_len (data_start g) (g.n - data_start g))

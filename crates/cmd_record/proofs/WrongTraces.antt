@@ -9,7 +9,7 @@ use Rattle.std.specs.List.{slice_get}
 use Rattle.base_types.specs.Seal.{Blocks}
 use Rattle.disk_contract.specs.declared.event.Event.{Event}
 use Rattle.disk_contract.specs.declared.event.Event.TheVariants.{Wrote, Lost, Noticed}
-use Rattle.disk_contract.specs.Cell.{cell_of, is_accepted, is_noticed, IsNoticed}
+use Rattle.disk_contract.specs.Cell.{cell_of, has_lost, is_accepted, is_noticed, IsNoticed}
 use Rattle.disk_contract.specs.Disk.{writes_in}
 use Rattle.disk_contract.specs.Manner.{Manner, Polled, after_polls}
 use Rattle.layout_geometry.specs.Geometry.{Geometry, bitmap_blocks}
@@ -19,7 +19,6 @@ use Rattle.layout_journal.specs.declared.record.Commit.{Commit}
 use Rattle.layout_journal.specs.Run.{places_from, writes_stood_for}
 use Rattle.crash_argument.specs.Points.{MountedSession}
 use Rattle.engine_checkpoint.specs.Serving.{IsNewestAtRest}
-use Rattle.disk_memory.specs.Log.{has_lost}
 use Rattle.lang_tree.specs.declared.command.Cmd.{Cmd}
 use Rattle.lang_tree.specs.declared.command.Cmd.TheVariants.{Dsync, Durable, Osync, Stat}
 use Rattle.lang_tree.specs.declared.command.Refusal.{Refusal}
@@ -57,8 +56,8 @@ accepted_on t (Noticed ticket ∷ xs) ys is = accepted_on t xs ys is
 
 -- Lost writes.
 
-pub lost_is_refused : (s : MountedSession) (base : Blocks) (m : Manner) (log : List Event) (cmd : Cmd) (reply : Reply) (old new : Pace) → StepsBy s base m true log cmd reply old new → LosesOwn log old new → (n : ℕ) → reply ≢ Synced n
-lost_is_refused s base m log cmd reply old new step lost n is = false≢true (ap is_refusal (sym is ∙ step.loses refl lost))
+pub lost_is_refused : (s : MountedSession) (base : Blocks) (m : Manner) → m.waits_alone ≡ true → (log : List Event) (cmd : Cmd) (reply : Reply) (old new : Pace) → StepsBy s base m log cmd reply old new → LosesOwn log old new → (n : ℕ) → reply ≢ Synced n
+lost_is_refused s base m alone log cmd reply old new step lost n is = false≢true (ap is_refusal (sym is ∙ step.loses alone lost))
 
 lost_behind_front : (n : ℕ) (xs : List Event) (block : ℕ) (bytes : List ℕ) → n ≤ length xs → has_lost (drop n (xs ++ Lost block bytes ∷ [])) ≡ true
 lost_behind_front zero [] block bytes le = refl
@@ -68,8 +67,8 @@ lost_behind_front zero (Noticed t ∷ xs) block bytes le = lost_behind_front zer
 lost_behind_front (suc n) [] block bytes le = absurd (omega (arith, le))
 lost_behind_front (suc n) (x ∷ xs) block bytes le = lost_behind_front n xs block bytes (omega (arith, le))
 
-pub at_last : (s : MountedSession) (base : Blocks) (m : Manner) (log : List Event) (cmd : Cmd) (old new : Pace) → StepsBy s base m true log cmd (Refused DiskFault) old new → m.refuses (take new.events log) ≡ false → m.stalls ≡ false → LosesOwn log old new
-at_last s base m log cmd old new step room still = ∥∥₁_elim (step.fails (inl refl) refl) (search props) by
+pub at_last : (s : MountedSession) (base : Blocks) (m : Manner) → m.waits_alone ≡ true → (log : List Event) (cmd : Cmd) (old new : Pace) → StepsBy s base m log cmd (Refused DiskFault) old new → m.refuses (take new.events log) ≡ false → m.stalls ≡ false → LosesOwn log old new
+at_last s base m alone log cmd old new step room still = ∥∥₁_elim (step.fails (inl alone) refl) (search props) by
   where
     by : FailsSince m old.events (take new.events log) → LosesOwn log old new
     by (inl lost) = ap (λ (es : List Event). has_lost (drop old.events es)) lost.last.is ∙ lost_behind_front old.events lost.last.before lost.last.block lost.last.bytes lost.since
@@ -78,7 +77,7 @@ at_last s base m log cmd old new step room still = ∥∥₁_elim (step.fails (i
 
 -- Writes for which nothing stands.
 
-pub writes_none : (g : Geometry) (m : Manner) (log : List Event) (mounted : ℕ) (cmd : Cmd) (reply : Reply) (new : Pace) → StepsBy (session_by g mounted) (formatted g) m true log cmd reply (pace_at_first g mounted) new → is_sync cmd ≡ false → writes_in (take new.events log) ≤ writes_in (take mounted log)
+pub writes_none : (g : Geometry) (m : Manner) (log : List Event) (mounted : ℕ) (cmd : Cmd) (reply : Reply) (new : Pace) → StepsBy (session_by g mounted) (formatted g) m log cmd reply (pace_at_first g mounted) new → is_sync cmd ≡ false → writes_in (take new.events log) ≤ writes_in (take mounted log)
 writes_none g m log mounted cmd reply new step other = omega (
   arith,
   step.spends,
@@ -99,8 +98,8 @@ writes_none g m log mounted cmd reply new step other = omega (
 
 -- Waits.
 
-module _ (s : MountedSession) (base : Blocks) (m : Manner) (counts : Bool) (log : List Event) (reply : Reply) (old new : Pace) where
-  pub waits_in_none : (step : StepsBy s base m counts log Osync reply old new) → Goes m reply old → IsUnwritten s (take step.room.behind log) → places_wanted reply old.taken.weight (own_records s log step.room.behind new.events) ≤ s.geom.j → WaitsForNothing m log old new
+module _ (s : MountedSession) (base : Blocks) (m : Manner) (log : List Event) (reply : Reply) (old new : Pace) where
+  pub waits_in_none : (step : StepsBy s base m log Osync reply old new) → Goes m reply old → IsUnwritten s (take step.room.behind log) → places_wanted reply old.taken.weight (own_records s log step.room.behind new.events) ≤ s.geom.j → WaitsForNothing m log old new
   waits_in_none step goes none fits = by (step.does.ring meant goes.going goes.unspent goes.alone)
     where
       meant : Osync ≢ Rattle.lang_tree.specs.declared.command.Cmd.TheVariants.Bad
@@ -116,7 +115,7 @@ module _ (s : MountedSession) (base : Blocks) (m : Manner) (counts : Bool) (log 
       ))))
       by (inr all) = λ p polled. ((step.ticks meant goes.going goes.unspent p polled).0, subst (λ (n : ℕ). Rattle.disk_contract.specs.Disk.GrowsByWrites p.log (take n log)) (sym all.0) (step.room.ticks meant goes.going goes.unspent p polled).1)
 
-  pub waits_to_look : (path : List (List ℕ)) → StepsBy s base m counts log (Stat path) reply old new → Goes m reply old → WaitsForNothing m log old new
+  pub waits_to_look : (path : List (List ℕ)) → StepsBy s base m log (Stat path) reply old new → Goes m reply old → WaitsForNothing m log old new
   waits_to_look path step goes = step.does.calm (λ is. cc) goes.going goes.unspent goes.alone (omega (arith, none old.taken.session.tree (refusal old.taken.session.limit old.taken.session.tree (Stat path))))
     where
       none : (t : Tree) (why : Option Refusal) → (figures_by (bitmap_blocks s.geom) t (Stat path) why).need ≡ 0
@@ -129,7 +128,7 @@ module _ (s : MountedSession) (base : Blocks) (m : Manner) (counts : Bool) (log 
       ap (is_accepted t) (sym (take-append-drop behind (take begun (take upto log))))
       ∙ accepted_on t (take behind (take begun (take upto log))) (drop behind (take begun (take upto log))) (ap (is_accepted t) (take-take behind begun (take upto log) early ∙ take-take behind upto log late) ∙ is)
 
-  pub heard_behind : (p : Polled) (t : ℕ) → (step : StepsBy s base m counts log Dsync reply old new) → Goes m reply old → OrdersAtOnce s base (take step.room.behind log) old.taken (places_wanted reply old.taken.weight (own_records s log step.room.behind new.events)) → after_polls m 64 old.polls (take old.events log) ≡ Some p
+  pub heard_behind : (p : Polled) (t : ℕ) → (step : StepsBy s base m log Dsync reply old new) → Goes m reply old → OrdersAtOnce s base (take step.room.behind log) old.taken (places_wanted reply old.taken.weight (own_records s log step.room.behind new.events)) → after_polls m 64 old.polls (take old.events log) ≡ Some p
       → ((k : ℕ) (span : Span) → slice_get old.taken.spans k ≡ Some span → CameIn (take new.events log) span t → ⊥) → is_noticed t p.log ≡ false → IsNoticed t (take new.events log) → is_accepted t (take step.room.behind log) ≡ false
   heard_behind p t step goes finds polled others not_yet noticed = by (step.does.waits refl goes.going goes.unspent goes.alone finds p polled t noticed)
     where
@@ -171,8 +170,8 @@ below_length [] x k is = absurd (none k is)
 below_length (y ∷ xs) x zero is = omega arith
 below_length (y ∷ xs) x (suc k) is = omega (arith, below_length xs x k is)
 
-pub knows_more : (s : MountedSession) (base : Blocks) (m : Manner) (counts : Bool) (log : List Event) (n : ℕ) (span : Span) (old new : Pace) → StepsBy s base m counts log Durable (Known n) old new → m.waits_alone ≡ true → slice_get old.taken.spans n ≡ Some span → IsHeard (take new.events log) span → ⊥
-knows_more s base m counts log n span old new step alone is heard = ∥∥₁_elim ((step.known n refl refl alone).next (below_length old.taken.spans span n is)) (λ one other. absurd one) (λ (x : (other : Span) × (t : ℕ) × (slice_get old.taken.spans n ≡ Some other) × CameIn (take new.events log) other t × ¬ IsNoticed t (take new.events log)).
+pub knows_more : (s : MountedSession) (base : Blocks) (m : Manner) (log : List Event) (n : ℕ) (span : Span) (old new : Pace) → StepsBy s base m log Durable (Known n) old new → m.waits_alone ≡ true → slice_get old.taken.spans n ≡ Some span → IsHeard (take new.events log) span → ⊥
+knows_more s base m log n span old new step alone is heard = ∥∥₁_elim ((step.known n refl refl alone).next (below_length old.taken.spans span n is)) (λ one other. absurd one) (λ (x : (other : Span) × (t : ℕ) × (slice_get old.taken.spans n ≡ Some other) × CameIn (take new.events log) other t × ¬ IsNoticed t (take new.events log)).
     x.4 (heard x.1 (subst (λ (y : Span). CameIn (take new.events log) y x.1) (same x.0 (sym x.2 ∙ is)) x.3)))
   where
     same : (other : Span) → Some other ≡ Some span → other ≡ span

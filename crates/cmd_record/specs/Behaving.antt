@@ -1,7 +1,7 @@
 -- What the disk of a recording does by its manner: its rule of notices, the write that is lost, and how a run over it goes by its log. It is described in docs/TRACE.md.
 use Rattle.std.specs.Prelude.{◌≡◌, ◌⊎◌, ℕ, ◌^◌, ◌<◌, ◌≤◌, true, false, IsTrue, slice_get, List, [], ◌∷◌, take, Option, Some, None}
 use Rattle.disk_contract.specs.declared.event.Event.{Event}
-use Rattle.disk_contract.specs.Cell.{cell_of}
+use Rattle.disk_contract.specs.Cell.{cell_of, has_lost}
 use Rattle.disk_contract.specs.Manner.{Manner, GoesBy}
 use Rattle.layout_geometry.specs.Geometry.{Geometry}
 use Rattle.layout_journal.specs.declared.header.Header.{Header}
@@ -12,7 +12,6 @@ use Rattle.engine_checkpoint.specs.Serving.{IsNewestAtRest}
 use Rattle.engine_blocks.specs.State.{data_blocks}
 use Rattle.disk_memory.specs.declared.calls.DiskCall.TheVariants.{Write}
 use Rattle.disk_memory.specs.declared.calls.Fail.{Fail}
-use Rattle.disk_memory.specs.Log.{has_lost}
 use Rattle.disk_memory.specs.declared.rule.Rule.{Rule}
 use Rattle.disk_memory.specs.declared.rule.Rule.TheVariants as rules
 use Rattle.cmd_words.specs.declared.request.Notices.{Notices}
@@ -66,7 +65,7 @@ pace_at_first g mounted = record { polls = 0; events = mounted; over = false; du
 pub record RunsBy (g : Geometry) (m : Manner) (log : List Event) (mounted : ℕ) (cmds : List Cmd) (replies : List Reply) (marks : List ℕ) : Type 0 where
   pub writes : GoesBy m log
   pub last : Pace
-  pub paces : PacesBy (session_by g mounted) (formatted g) m true log (pace_at_first g mounted) cmds replies marks last
+  pub paces : PacesBy (session_by g mounted) (formatted g) m log (pace_at_first g mounted) cmds replies marks last
   pub opens : IsTrue (m.accepts [])
   -- a wait brings the notice of its own ticket alone
   pub alone : m.waits_alone ≡ true

@@ -1,7 +1,7 @@
 -- The disk of a recording: how it behaves, and what it is before and after its mount. The contracts of `begin` and `record_lines` speak of it, and private ones.
 use Rattle.std.specs.Prelude.{◌≡◌, ◌⊎◌, ℕ, ◌^◌, ◌<◌, ◌≤◌, false, true, IsTrue, [], List, length, Some, None}
 use Rattle.disk_contract.specs.declared.event.Event.{Event}
-use Rattle.disk_contract.specs.Cell.{cell_of}
+use Rattle.disk_contract.specs.Cell.{cell_of, has_lost}
 use Rattle.disk_contract.specs.Crash.{Window}
 use Rattle.disk_contract.specs.Disk as disk
 use Rattle.disk_contract.specs.Disk.{writes_in}
@@ -12,7 +12,6 @@ use Rattle.layout_journal.specs.declared.header.Header.{Header}
 use Rattle.layout_journal.specs.Layout.{header_of}
 use Rattle.layout_journal.specs.Run.{live_part}
 use Rattle.disk_memory.specs.Choice.{AreBlocksOf}
-use Rattle.disk_memory.specs.Log.{has_lost}
 use Rattle.disk_memory.specs.MemDisk.{MemDiskState, begun, by_rule, manner_by}
 use Rattle.disk_contract.specs.Manner.{GoesBy}
 use Rattle.crash_stands.specs.Stands.{StandsFor}

@@ -3,10 +3,10 @@ use Rattle.std.specs.Prelude.{◌≡◌, ℕ, ◌+◌, ◌*◌, ◌^◌, ◌<◌
 use Rattle.std.specs.Io.KnownBytes.{Appends}
 use Rattle.base_types.specs.Seal.{Blocks}
 use Rattle.disk_contract.specs.declared.event.Event.{Event}
+use Rattle.disk_contract.specs.Cell.{has_lost}
 use Rattle.disk_contract.specs.Disk.{Grows, writes_in}
 use Rattle.disk_contract.specs.Manner.{Manner, GoesBy}
 use Rattle.disk_contract.specs.Lawful.{IsLogOf}
-use Rattle.disk_memory.specs.Log.{has_lost}
 use Rattle.layout_geometry.specs.Geometry.{Geometry, IsGeometry, geometry_fits, bitmap_blocks}
 use Rattle.layout_journal.specs.Formatted.{formatted}
 use Rattle.lang_script.specs.Text.{command_text}
@@ -75,8 +75,9 @@ pub record KnownRun (g : Geometry) (s : State) (mounted : ℕ) (cmds : List Cmd)
 -- These commands were answered so on a disk of this geometry and manner, and so far have they come.
 pub record PacedRun (g : Geometry) (m : Manner) (mounted : ℕ) (cmds : List Cmd) (replies : List Reply) (marks : List ℕ) (s : State) : Type 0 where
   pub writes : GoesBy m s.crash.log
-  pub goes : GoesByLog true (session_by g mounted) (formatted g) m (pace_at_first g mounted) (start g.i).tree cmds replies marks s
+  pub goes : GoesByLog (session_by g mounted) (formatted g) m (pace_at_first g mounted) (start g.i).tree cmds replies marks s
   pub opens : IsTrue (m.accepts [])
+  pub alone : m.waits_alone ≡ true
   -- the mount lost no write
   pub mounts : has_lost (take mounted s.crash.log) ≡ false
   pub once : MountsOnce g (take mounted s.crash.log)
@@ -86,7 +87,7 @@ pub record PacedRun (g : Geometry) (m : Manner) (mounted : ℕ) (cmds : List Cmd
 
 -- As the mount ends, a run goes by the log of its disk.
 abbrev pub BeginsSo : State → Type 0
-BeginsSo s = (mount : MountedSession) (base : Blocks) (m : Manner) (t : Tree) → BeginsByLog true mount base m s → GoesByLog true mount base m (pace_of (nothing_taken (session_at mount t)) s) t [] [] [] s
+BeginsSo s = (mount : MountedSession) (base : Blocks) (m : Manner) (t : Tree) → BeginsByLog mount base m s → GoesByLog mount base m (pace_of (nothing_taken (session_at mount t)) s) t [] [] [] s
 
 -- how a command was answered, and what came with it
 pub record IsAnswered (cmd : Cmd) (reply : Reply) (old new : State) : Type 0 where
@@ -104,7 +105,7 @@ pub record IsAnswered (cmd : Cmd) (reply : Reply) (old new : State) : Type 0 whe
   pub spent : (f : Session) → IsSession old f → reply ≡ Refused Spent → is_spent old.books ≡ true
   -- a run that goes by the log of its disk does so with this command more
   pub goes : (mount : MountedSession) (base : Blocks) (m : Manner) (first : Pace) (t : Tree) (cmds : List Cmd) (replies : List Reply) (marks : List ℕ) → HasServed mount.geom t mount.mounted cmds replies marks old → (old.books.stopped ≡ false → old.books.running.weight ≡ weight_after (bitmap_blocks mount.geom) (session_at mount t) 0 cmds replies)
-      → GoesByLog true mount base m first t cmds replies marks old → GoesByLog true mount base m first t (cmds ++ cmd ∷ []) (replies ++ reply ∷ []) (marks ++ length new.crash.log ∷ []) new
+      → GoesByLog mount base m first t cmds replies marks old → GoesByLog mount base m first t (cmds ++ cmd ∷ []) (replies ++ reply ∷ []) (marks ++ length new.crash.log ∷ []) new
 
 -- However the commands go on behind these, with such a command first, the text and that command's line begin the trace of some run.
 pub record GoesOnWith (g : Geometry) (cmds : List Cmd) (text : List ℕ) (cmd : Cmd) (more : List Cmd) : Type 0 where

@@ -1,11 +1,10 @@
 -- What traces of wrong programs have in common, each in one command. By the clause of a recording no run has them. It is described in docs/PROMISES.md.
 use Rattle.std.specs.Prelude.{◌≡◌, ◌≢◌, ℕ, true, false, List, drop, take}
 use Rattle.disk_contract.specs.declared.event.Event.{Event}
-use Rattle.disk_contract.specs.Cell.{IsNoticed}
+use Rattle.disk_contract.specs.Cell.{has_lost, IsNoticed}
 use Rattle.disk_contract.specs.Disk.{PollsThenWrites, writes_in}
 use Rattle.disk_contract.specs.Manner.{Manner}
 use Rattle.crash_argument.specs.Points.{MountedSession}
-use Rattle.disk_memory.specs.Log.{has_lost}
 use Rattle.lang_tree.specs.declared.command.Refusal.TheVariants.{Spent}
 use Rattle.lang_tree.specs.declared.command.Reply.{Reply}
 use Rattle.lang_tree.specs.declared.command.Reply.TheVariants.{Refused}

@@ -1,6 +1,6 @@
 //! Laws of what a recording writes, and of disks that nothing is written to. They run nothing.
 
-ghost use Rattle.std.specs.Prelude.{◌≡◌, ◌≢◌, ◌↔◌, ◌⊎◌, ◌+◌, ◌-◌, ◌≤◌, ℕ, Bool, false, true, length, take, slice_get, List, [], Some};
+ghost use Rattle.std.specs.Prelude.{◌≡◌, ◌≢◌, ◌↔◌, ◌⊎◌, ◌+◌, ◌-◌, ◌≤◌, ℕ, false, true, length, take, slice_get, List, [], Some};
 ghost use Rattle.base_types.specs.Seal.{Blocks};
 ghost use Rattle.disk_contract.specs.declared.event.Event.{Event};
 ghost use Rattle.disk_contract.specs.Cell.{IsNoticed, is_accepted, is_noticed};
@@ -71,8 +71,8 @@ pub fn the_last_point_stands_where_accepted_writes_do()
 pub fn what_need_not_come_back_is_there()
     ensures places { (g : Geometry) (m : Manner) (log : List Event) (mounted : ℕ) (cmds : List Cmd) (replies : List Reply) (marks : List ℕ)
         (last next : Pace) (cmd : Cmd) (reply : Reply)
-        → PacesBy (session_by g mounted) (formatted g) m true log (pace_at_first g mounted) cmds replies marks last
-        → (step : StepsBy (session_by g mounted) (formatted g) m true log cmd reply last next)
+        → PacesBy (session_by g mounted) (formatted g) m log (pace_at_first g mounted) cmds replies marks last
+        → (step : StepsBy (session_by g mounted) (formatted g) m log cmd reply last next)
         → is_sync cmd ≡ true → last.over ≡ false → reply ≢ Refused Spent → m.waits_alone ≡ true
         → places_by_weight g (start g.i) 0 cmds replies + sync_places last.taken.weight ≤ g.j
         → OrdersAtOnce (session_by g mounted) (formatted g) (take step.room.behind log) last.taken
@@ -80,7 +80,7 @@ pub fn what_need_not_come_back_is_there()
         ⊎ ((next.events ≡ step.room.behind) × (reply ≡ Refused DiskFault)) }
     ensures blocks { (g : Geometry) (m : Manner) (log : List Event) (mounted : ℕ) (cmds : List Cmd) (replies : List Reply) (marks : List ℕ)
         (last : Pace) (need : ℕ)
-        → PacesBy (session_by g mounted) (formatted g) m true log (pace_at_first g mounted) cmds replies marks last
+        → PacesBy (session_by g mounted) (formatted g) m log (pace_at_first g mounted) cmds replies marks last
         → blocks_needed g (start g.i) cmds replies + need ≤ g.n - data_start g → need ≤ length last.room.room.takeable }
 {
     a_command_takes_no_more_blocks_than_it_needs();
@@ -91,28 +91,28 @@ pub fn what_need_not_come_back_is_there()
 /// fits a ring without records, a look never does, and a dsync for no write of its own tick. And `durable` is not answered by a
 /// point behind which another one is known.
 pub fn wrong_traces_are_refused()
-    ensures lost { (s : MountedSession) (base : Blocks) (m : Manner) (log : List Event) (cmd : Cmd) (reply : Reply) (old new : Pace)
-        → StepsBy s base m true log cmd reply old new → LosesOwn log old new → (n : ℕ) → reply ≢ Synced n }
-    ensures later { (s : MountedSession) (base : Blocks) (m : Manner) (log : List Event) (cmd : Cmd) (old new : Pace)
-        → StepsBy s base m true log cmd (Refused DiskFault) old new → m.refuses (take new.events log) ≡ false → m.stalls ≡ false
+    ensures lost { (s : MountedSession) (base : Blocks) (m : Manner) → m.waits_alone ≡ true → (log : List Event) (cmd : Cmd) (reply : Reply) (old new : Pace)
+        → StepsBy s base m log cmd reply old new → LosesOwn log old new → (n : ℕ) → reply ≢ Synced n }
+    ensures later { (s : MountedSession) (base : Blocks) (m : Manner) → m.waits_alone ≡ true → (log : List Event) (cmd : Cmd) (old new : Pace)
+        → StepsBy s base m log cmd (Refused DiskFault) old new → m.refuses (take new.events log) ≡ false → m.stalls ≡ false
         → LosesOwn log old new }
     ensures writes { (g : Geometry) (m : Manner) (log : List Event) (mounted : ℕ) (cmd : Cmd) (reply : Reply) (new : Pace)
-        → StepsBy (session_by g mounted) (formatted g) m true log cmd reply (pace_at_first g mounted) new → is_sync cmd ≡ false
+        → StepsBy (session_by g mounted) (formatted g) m log cmd reply (pace_at_first g mounted) new → is_sync cmd ≡ false
         → writes_in (take new.events log) ≤ writes_in (take mounted log) }
-    ensures empty { (s : MountedSession) (base : Blocks) (m : Manner) (counts : Bool) (log : List Event) (reply : Reply) (old new : Pace)
-        → (step : StepsBy s base m counts log Osync reply old new) → Goes m reply old → IsUnwritten s (take step.room.behind log)
+    ensures empty { (s : MountedSession) (base : Blocks) (m : Manner) (log : List Event) (reply : Reply) (old new : Pace)
+        → (step : StepsBy s base m log Osync reply old new) → Goes m reply old → IsUnwritten s (take step.room.behind log)
         → places_wanted reply old.taken.weight (own_records s log step.room.behind new.events) ≤ s.geom.j → WaitsForNothing m log old new }
-    ensures looks { (s : MountedSession) (base : Blocks) (m : Manner) (counts : Bool) (log : List Event) (path : List (List ℕ)) (reply : Reply)
-        (old new : Pace) → StepsBy s base m counts log (Stat path) reply old new → Goes m reply old → WaitsForNothing m log old new }
-    ensures home { (s : MountedSession) (base : Blocks) (m : Manner) (counts : Bool) (log : List Event) (reply : Reply) (old new : Pace) (p : Polled)
-        (t : ℕ) → (step : StepsBy s base m counts log Dsync reply old new) → Goes m reply old
+    ensures looks { (s : MountedSession) (base : Blocks) (m : Manner) (log : List Event) (path : List (List ℕ)) (reply : Reply)
+        (old new : Pace) → StepsBy s base m log (Stat path) reply old new → Goes m reply old → WaitsForNothing m log old new }
+    ensures home { (s : MountedSession) (base : Blocks) (m : Manner) (log : List Event) (reply : Reply) (old new : Pace) (p : Polled)
+        (t : ℕ) → (step : StepsBy s base m log Dsync reply old new) → Goes m reply old
         → OrdersAtOnce s base (take step.room.behind log) old.taken
         (places_wanted reply old.taken.weight (own_records s log step.room.behind new.events))
         → after_polls m 64 old.polls (take old.events log) ≡ Some p
         → ((k : ℕ) (span : Span) → slice_get old.taken.spans k ≡ Some span → CameIn (take new.events log) span t → ⊥) → is_noticed t p.log ≡ false
         → IsNoticed t (take new.events log) → is_accepted t (take step.room.behind log) ≡ false }
-    ensures known { (s : MountedSession) (base : Blocks) (m : Manner) (counts : Bool) (log : List Event) (n : ℕ) (span : Span) (old new : Pace)
-        → StepsBy s base m counts log Durable (Known n) old new → m.waits_alone ≡ true → slice_get old.taken.spans n ≡ Some span
+    ensures known { (s : MountedSession) (base : Blocks) (m : Manner) (log : List Event) (n : ℕ) (span : Span) (old new : Pace)
+        → StepsBy s base m log Durable (Known n) old new → m.waits_alone ≡ true → slice_get old.taken.spans n ≡ Some span
         → IsHeard (take new.events log) span → ⊥ }
 {}
 

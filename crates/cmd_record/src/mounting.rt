@@ -2,9 +2,9 @@
 //! neither, but for a call of the disk that fails and for want of memory.
 
 ghost use Rattle.std.specs.Prelude.{◌≡◌, ◌<◌, ◌≤◌, ◌+◌, ◌^◌, false, true, length, IfOk};
+ghost use Rattle.disk_contract.specs.Cell.{has_lost};
 ghost use Rattle.disk_contract.specs.Lawful.{IsLogOf};
 ghost use Rattle.disk_contract.specs.Manner.{GoesBy, HasFailedBy};
-ghost use Rattle.disk_memory.specs.Log.{has_lost};
 ghost use Rattle.disk_memory.specs.MemDisk.{state_of as disk_state};
 ghost use Rattle.engine_blocks.specs.Crashes.{StillAwaits};
 ghost use Rattle.engine_store.specs.StoreOf.{state_of};
@@ -167,6 +167,5 @@ fn a_disk_keeps_to_its_manner(disk: &MemDisk)
     ensures unlost { (disk_state disk.now).manner.waits_alone ≡ true → (disk_state disk.now).faults ≡ 0 → has_lost (disk_state disk.now).log ≡ false }
 {
     disk.lawful();
-    disk.lost_writes_are_counted();
     let _ = disk.moment();
 }

@@ -2,9 +2,9 @@
 use Rattle.std.proofs.Common.{◌≡◌, ◌≢◌, ◌⊎◌, inl, inr, ℕ, ◌+◌, ◌<◌, ◌≤◌, Bool, true, false, IsTrue, Result, Err, refl, sym, ap, ◌∙◌, subst}
 use Rattle.std.proofs.lemmas.Bool.{cases_Bool, false≢true}
 use Rattle.base_types.specs.Counts.{after_call}
+use Rattle.disk_contract.specs.Cell.{has_lost}
 use Rattle.disk_contract.specs.Disk.{PollsFirst, PollsThenWrites}
 use Rattle.disk_contract.specs.Manner.{HasFailedBy}
-use Rattle.disk_memory.specs.Log.{has_lost}
 use Rattle.lang_tree.specs.declared.command.Cmd.{Cmd}
 use Rattle.lang_tree.specs.declared.command.Cmd.TheVariants.{Mkdir, Create, Write, Fill, Read, Truncate, Link, Unlink, Rmdir, Rename, Stat, List as ListNames, Osync, Dsync, Durable, Poll, Bad}
 use Rattle.lang_tree.specs.declared.command.Refusal.{Refusal}
@@ -163,10 +163,10 @@ module _ {S : Type 0} (tells : Bool) (state : S → State) (told : IsTrue tells)
       by (inl none) = (applies.bad none).1
       by (inr meant) = by_stopped meant (cases_Bool (state old).books.stopped)
 
-  pub steps_on : (counts : Bool) → ((f : Session) → IsSession (state old) f → reply ≡ Refused Spent → is_spent (state old).books ≡ true) → ((f : Session) → IsSession (state old) f → reply ≡ Refused Stopped → (state old).books.stopped ≡ true) → ((f : Session) → IsSession (state old) f → reply ≡ Refused ReadFault → 0 < (state new).counts.read_faults) → (0 < (state new).counts.read_faults → (state new).counts.ticks.manner.reads_fail ≡ true)
+  pub steps_on : ((f : Session) → IsSession (state old) f → reply ≡ Refused Spent → is_spent (state old).books ≡ true) → ((f : Session) → IsSession (state old) f → reply ≡ Refused Stopped → (state old).books.stopped ≡ true) → ((f : Session) → IsSession (state old) f → reply ≡ Refused ReadFault → 0 < (state new).counts.read_faults) → (0 < (state new).counts.read_faults → (state new).counts.ticks.manner.reads_fail ≡ true)
       → ((state new).books.stopped ≡ true → ∥ HasFailedBy (state new).counts.ticks.manner (state new).crash.log ∥₁)
-      → (IsTrue counts → (state new).counts.ticks.manner.waits_alone ≡ true → (state new).counts.faults ≡ 0 → has_lost (state new).crash.log ≡ false) → StepsOn counts cmd reply (state old) (state new)
-  steps_on counts spent stopped counted reads fails unlost = record {
+      → ((state new).counts.ticks.manner.waits_alone ≡ true → (state new).counts.faults ≡ 0 → has_lost (state new).crash.log ≡ false) → StepsOn cmd reply (state old) (state new)
+  steps_on spent stopped counted reads fails unlost = record {
     manner = manner_stays;
     rests = λ quiet. let same = still quiet in (ap (λ (s : S). (state s).counts.ticks.polls) same, (ap (λ (s : S). (state s).crash.log) same, ap (λ (s : S). (state s).books.stopped) same));
     ticks = λ meant run unspent. by meant run unspent (cases_Bool (is_spent (state old).books));

@@ -1,5 +1,5 @@
 -- A run that goes by the log of its disk, with one command more.
-use Rattle.std.proofs.Common.{◌≡◌, ◌≢◌, ◌⊎◌, inl, inr, ⊎_elim, ℕ, zero, suc, ◌+◌, ◌<◌, ◌≤◌, ◌||◌, if◌then◌else◌, Bool, true, false, IsTrue, List, [], ◌∷◌, ◌++◌, length, take, drop, append-nil, Some, unwrap_or, refl, sym, ap, ◌∙◌, subst, arith}
+use Rattle.std.proofs.Common.{◌≡◌, ◌≢◌, ◌⊎◌, inl, inr, ⊎_elim, ℕ, zero, suc, ◌+◌, ◌<◌, ◌≤◌, ◌||◌, if◌then◌else◌, Bool, true, false, List, [], ◌∷◌, ◌++◌, length, take, drop, append-nil, Some, unwrap_or, refl, sym, ap, ◌∙◌, subst, arith}
 use Rattle.std.proofs.Math.Logic.{∥∥₁_map}
 use Rattle.std.proofs.Math.Seq.{take-append_seam, take-length}
 use Rattle.std.proofs.lemmas.Bool.{cases_Bool, cases_lt, false≢true}
@@ -8,12 +8,12 @@ use Rattle.std.specs.List.{slice_get}
 use Rattle.base_types.specs.Seal.{Blocks}
 use Rattle.disk_contract.specs.declared.event.Event.{Event}
 use Rattle.disk_contract.specs.declared.event.Event.TheVariants.{Wrote, Lost, Noticed}
+use Rattle.disk_contract.specs.Cell.{has_lost}
 use Rattle.disk_contract.specs.Disk.{Grows, PollsFirst, PollsThenWrites, writes_in}
 use Rattle.disk_contract.specs.Manner.{Manner, HasFailedBy, LosesLast, Polled, after_polls}
 use Rattle.layout_journal.specs.declared.record.Commit.{Commit}
 use Rattle.layout_journal.specs.Run.{places_told}
 use Rattle.crash_argument.specs.Points.{MountedSession}
-use Rattle.disk_memory.specs.Log.{has_lost}
 use Rattle.cmd_trace.specs.Trace.{Ascend}
 use Rattle.lang_tree.specs.declared.command.Cmd.{Cmd}
 use Rattle.lang_tree.specs.declared.command.Cmd.TheVariants.{Bad, Dsync, Durable}
@@ -137,7 +137,7 @@ fault_is (Refused why) is = ap Refused (fault_why why is)
 
 -- What was said of a shorter log holds of a longer one.
 
-module _ (ses : MountedSession) (base : Blocks) (m : Manner) (counts : Bool) (log more : List Event) (mounted : ses.mounted ≤ length log) where
+module _ (ses : MountedSession) (base : Blocks) (m : Manner) (log more : List Event) (mounted : ses.mounted ≤ length log) where
   front : (k : ℕ) → k ≤ length log → take k (log ++ more) ≡ take k log
   front k low = take-append-le k log more low
 
@@ -183,7 +183,7 @@ module _ (ses : MountedSession) (base : Blocks) (m : Manner) (counts : Bool) (lo
             (orders_shorter behind (places_wanted reply p.taken.weight (own_records ses (log ++ more) behind q.events)) p.taken within finds)) x (ap (λ (es : List Event). after_polls m 64 p.polls es) (sym (front p.events low)) ∙ polled));
       }
 
-  steps_longer : (cmd : Cmd) (reply : Reply) (p q : Pace) → p.events ≤ length log → q.events ≤ length log → StepsBy ses base m counts log cmd reply p q → StepsBy ses base m counts (log ++ more) cmd reply p q
+  steps_longer : (cmd : Cmd) (reply : Reply) (p q : Pace) → p.events ≤ length log → q.events ≤ length log → StepsBy ses base m log cmd reply p q → StepsBy ses base m (log ++ more) cmd reply p q
   steps_longer cmd reply p q low low_next step = let longer = answered_longer ses base m log more cmd reply p q low low_next step.room in record {
     over = step.over;
     room = longer.0;
@@ -205,13 +205,13 @@ module _ (ses : MountedSession) (base : Blocks) (m : Manner) (counts : Bool) (lo
     lies = λ going clean. subst (λ (es : List Event). ∥ LiesAt ses.geom base es q.room.room.places ∥₁) (sym (front q.events low_next)) (step.lies going clean);
   }
     where
-      unlost_shorter : IsTrue counts ⊎ (has_lost (take p.events (log ++ more)) ≡ false) → IsTrue counts ⊎ (has_lost (take p.events log) ≡ false)
+      unlost_shorter : (m.waits_alone ≡ true) ⊎ (has_lost (take p.events (log ++ more)) ≡ false) → (m.waits_alone ≡ true) ⊎ (has_lost (take p.events log) ≡ false)
       unlost_shorter (inl known) = inl known
       unlost_shorter (inr none) = inr (ap has_lost (sym (front p.events low)) ∙ none)
 
   pub paces_longer : (cmd : Cmd) (reply : Reply) (mark : ℕ) (mid end : Pace) (p : Pace) (cmds : List Cmd) (replies : List Reply) (marks : List ℕ) → Ascend p.events marks (length log)
-      → PacesBy ses base m counts log p cmds replies marks mid → end.events ≡ mark → StepsBy ses base m counts (log ++ more) cmd reply mid end → PacesBy ses base m counts (log ++ more) p (cmds ++ cmd ∷ []) (replies ++ reply ∷ []) (marks ++ mark ∷ []) end
-  paces_longer cmd reply mark mid end p [] [] [] up paces is step = (end, is, subst (λ (x : Pace). StepsBy ses base m counts (log ++ more) cmd reply x end) paces step, refl)
+      → PacesBy ses base m log p cmds replies marks mid → end.events ≡ mark → StepsBy ses base m (log ++ more) cmd reply mid end → PacesBy ses base m (log ++ more) p (cmds ++ cmd ∷ []) (replies ++ reply ∷ []) (marks ++ mark ∷ []) end
+  paces_longer cmd reply mark mid end p [] [] [] up paces is step = (end, is, subst (λ (x : Pace). StepsBy ses base m (log ++ more) cmd reply x end) paces step, refl)
   paces_longer cmd reply mark mid end p (c ∷ cmds) (r ∷ replies) (k ∷ marks) up paces is step =
       let at : paces.0.events ≡ k = paces.1 in
       let up_next : Ascend paces.0.events marks (length log) = subst (λ (n : ℕ). Ascend n marks (length log)) (sym at) up.1 in
@@ -223,7 +223,7 @@ module _ (ses : MountedSession) (base : Blocks) (m : Manner) (counts : Bool) (lo
   paces_longer cmd reply mark mid end p (c ∷ cmds) (r ∷ replies) [] up paces is step = absurd paces
 
 -- One command more, over blocks of which it is known exactly where a call of the disk has failed.
-module _ (counts : Bool) (cmd : Cmd) (reply : Reply) (old new : State) (s : StepsOn counts cmd reply old new) (grows : Grows old.crash.log new.crash.log) (replies : List Reply)
+module _ (cmd : Cmd) (reply : Reply) (old new : State) (s : StepsOn cmd reply old new) (grows : Grows old.crash.log new.crash.log) (replies : List Reply)
     (before : (i : ℕ) → slice_get replies i ≡ Some (Refused because.DiskFault) → old.books.stopped ≡ true)
     (ended : (i : ℕ) → slice_get (replies ++ reply ∷ []) i ≡ Some (Refused because.DiskFault) → new.books.stopped ≡ true)
     (going : HasNoFault (replies ++ reply ∷ []) → new.books.stopped ≡ false) where
@@ -316,8 +316,8 @@ module _ (counts : Bool) (cmd : Cmd) (reply : Reply) (old new : State) (s : Step
           (waits.hears alone sync run unspent (subst (λ (es : List Event). OrdersAtOnce ses base es t (places_wanted reply t.weight own)) cut finds) p (ap (λ (x : Manner). after_polls x 64 old.counts.ticks.polls old.crash.log) is ∙ ap (λ (es : List Event). after_polls m 64 old.counts.ticks.polls es) (sym earlier) ∙ polled));
     }
 
-    pub step_now : (IsTrue counts → old.books.stopped ≡ false → has_lost old.crash.log ≡ false) → (IsTrue counts → new.books.stopped ≡ false → has_lost new.crash.log ≡ false) → (f : Session) → IsSession old f → (room : AnswersBy ses base m new.crash.log cmd reply (pace_of t old) then_pace) → room.behind ≡ length behind
-        → StepsBy ses base m counts new.crash.log cmd reply (pace_of t old) then_pace
+    pub step_now : (m.waits_alone ≡ true → old.books.stopped ≡ false → has_lost old.crash.log ≡ false) → (m.waits_alone ≡ true → new.books.stopped ≡ false → has_lost new.crash.log ≡ false) → (f : Session) → IsSession old f → (room : AnswersBy ses base m new.crash.log cmd reply (pace_of t old) then_pace) → room.behind ≡ length behind
+        → StepsBy ses base m new.crash.log cmd reply (pace_of t old) then_pace
     step_now before now f session room behind_is =
         let same : new.counts.ticks.manner ≡ m = s.manner ∙ is in
         record {
@@ -348,6 +348,6 @@ module _ (counts : Bool) (cmd : Cmd) (reply : Reply) (old new : State) (s : Step
         rests_now f session (inr (inl over)) = let r = s.rests (inr over) in (r.0, ap (λ (es : List Event). length es) r.1.0)
         rests_now f session (inr (inr spent)) = let r = s.idles f session spent in (r.0, ap (λ (es : List Event). length es) r.1)
 
-        unlost_before : reply ≡ Refused because.DiskFault → IsTrue counts ⊎ (has_lost (take (length old.crash.log) new.crash.log) ≡ false) → has_lost old.crash.log ≡ false
+        unlost_before : reply ≡ Refused because.DiskFault → (m.waits_alone ≡ true) ⊎ (has_lost (take (length old.crash.log) new.crash.log) ≡ false) → has_lost old.crash.log ≡ false
         unlost_before fault (inl known) = before known (s.first fault)
         unlost_before fault (inr none) = ap has_lost (sym earlier) ∙ none

@@ -4,9 +4,9 @@ use Rattle.std.proofs.lemmas.Bool.{or_parts}
 use Rattle.std.proofs.lemmas.List.{length-append}
 use Rattle.base_types.specs.Seal.{Blocks}
 use Rattle.disk_contract.specs.declared.event.Event.{Event}
+use Rattle.disk_contract.specs.Cell.{has_lost}
 use Rattle.disk_contract.specs.Disk.{Grows, PollsThenWrites}
 use Rattle.disk_contract.specs.Manner.{Manner}
-use Rattle.disk_memory.specs.Log.{has_lost}
 use Rattle.layout_journal.specs.declared.record.Commit.{Commit}
 use Rattle.crash_argument.specs.Points.{MountedSession}
 use Rattle.cmd_trace.specs.Trace.{Ascend}
@@ -52,8 +52,8 @@ pub record CallLaws {S : Type 0} (tells : Bool) (state : S → State) (cmd : Cmd
 
 -- One command more.
 
-module _ {S : Type 0} (tells : Bool) (state : S → State) (told : IsTrue tells) (counts : Bool) (mount : MountedSession) (base : Blocks) (m : Manner) (first : Pace) (tree : Tree) (cmds : List Cmd) (replies : List Reply) (marks : List ℕ) (cmd : Cmd) (reply : Reply) (old new : S)
-    (laws : PlaceLaws mount.geom) (k : CallLaws tells state cmd reply old new) (x : AnswersOnDisk tells state counts mount tree cmds replies marks cmd reply old new) (h : GoesByLog counts mount base m first tree cmds replies marks (state old)) where
+module _ {S : Type 0} (tells : Bool) (state : S → State) (told : IsTrue tells) (mount : MountedSession) (base : Blocks) (m : Manner) (first : Pace) (tree : Tree) (cmds : List Cmd) (replies : List Reply) (marks : List ℕ) (cmd : Cmd) (reply : Reply) (old new : S)
+    (laws : PlaceLaws mount.geom) (k : CallLaws tells state cmd reply old new) (x : AnswersOnDisk tells state mount tree cmds replies marks cmd reply old new) (h : GoesByLog mount base m first tree cmds replies marks (state old)) where
   abbrev s : State
   s = state old
 
@@ -69,14 +69,14 @@ module _ {S : Type 0} (tells : Bool) (state : S → State) (told : IsTrue tells)
   session : IsSession s f
   session = x.before.goes_on.session
 
-  steps : StepsOn counts cmd reply s u
-  steps = steps_on tells state told cmd reply old new x.applies k.ticked counts k.spent k.stopped k.read x.disk.reads x.disk.fails x.disk.unlost
+  steps : StepsOn cmd reply s u
+  steps = steps_on tells state told cmd reply old new x.applies k.ticked k.spent k.stopped k.read x.disk.reads x.disk.fails x.disk.unlost
 
   waits : WaitsOn cmd reply s u
   waits = waits_on tells state told cmd reply old new x.applies k.ticked k.calm x.places x.few x.writes k.room x.time.advances k.told x.disk.still
 
   over : u.books.stopped ≡ (s.books.stopped || is_fault reply)
-  over = over_now counts cmd reply s u steps grows replies x.before.goes_on.ended x.after.goes_on.ended x.after.goes_on.going
+  over = over_now cmd reply s u steps grows replies x.before.goes_on.ended x.after.goes_on.ended x.after.goes_on.going
 
   answer : (next : Session) × IsSession u next × (u.books.geom ≡ s.books.geom) × ServesCommand state f cmd reply next old new
   answer = k.serves f session
@@ -121,7 +121,7 @@ module _ {S : Type 0} (tells : Bool) (state : S → State) (told : IsTrue tells)
   placed = placed_in mount.geom laws base h.taken.session (length h.taken.spans) cmd reply s u points geom asked (waits.room h.taken.session asked) (k.answers h.taken.session asked) going_before h.keeps.spans
       (λ going. sym (one_more h.taken.spans late (makes_point h.taken.session cmd reply)) ∙ keeps.spans going) alike h.placed
 
-  behaves : Waits counts cmd reply s u steps grows replies x.before.goes_on.ended x.after.goes_on.ended x.after.goes_on.going mount base m h.taken room.behind mine.0
+  behaves : Waits cmd reply s u steps grows replies x.before.goes_on.ended x.after.goes_on.ended x.after.goes_on.going mount base m h.taken room.behind mine.0
   behaves = record {
     from = mine.1.from;
     ring = ring_on cmd reply s u waits grows mount base m tree cmds replies marks x.before x.after x.weighs over h.taken h.keeps h.of_mount.records h.of_mount.late answer.0 room h.manner;
@@ -145,11 +145,11 @@ module _ {S : Type 0} (tells : Bool) (state : S → State) (told : IsTrue tells)
   in_room = answered_by mount.geom laws.replies m mount refl base h.taken s h.manner h.of_mount.sure cmd reply u f answer.0 room own late grows geom h.keeps.session (done_fits cmd reply s u waits grows mount base m tree cmds replies marks x.before x.after x.weighs over h.taken h.keeps h.of_mount.records h.of_mount.late answer.0 room h.manner)
 
   -- while no call failed, none was counted, and no write was lost
-  unlost : IsTrue counts → u.books.stopped ≡ false → (u.counts.faults ≡ 0) × (has_lost u.crash.log ≡ false)
-  unlost known going = let none = steps.uncounted going ∙ (h.unlost known (going_before going)).0 in (none, steps.unlost known (ap (λ (y : Manner). y.waits_alone) (steps.manner ∙ h.manner) ∙ h.alone known) none)
+  unlost : m.waits_alone ≡ true → u.books.stopped ≡ false → (u.counts.faults ≡ 0) × (has_lost u.crash.log ≡ false)
+  unlost known going = let none = steps.uncounted going ∙ (h.unlost known (going_before going)).0 in (none, steps.unlost (ap (λ (y : Manner). y.waits_alone) (steps.manner ∙ h.manner) ∙ known) none)
 
-  step : StepsBy mount base m counts u.crash.log cmd reply (pace_of h.taken s) end
-  step = step_now counts cmd reply s u steps grows replies x.before.goes_on.ended x.after.goes_on.ended x.after.goes_on.going mount base m h.taken room.behind mine.0 room.goes_on behaves h.manner
+  step : StepsBy mount base m u.crash.log cmd reply (pace_of h.taken s) end
+  step = step_now cmd reply s u steps grows replies x.before.goes_on.ended x.after.goes_on.ended x.after.goes_on.going mount base m h.taken room.behind mine.0 room.goes_on behaves h.manner
       (λ known going. (h.unlost known going).1) (λ known going. (unlost known going).1) f session in_room.0 in_room.1
 
   of_mount : IsOfMount mount base u
@@ -167,12 +167,12 @@ module _ {S : Type 0} (tells : Bool) (state : S → State) (told : IsTrue tells)
   up : Ascend first.events marks (length s.crash.log)
   up = subst (λ (n : ℕ). Ascend n marks (length s.crash.log)) (sym h.begins) x.before.ascend
 
-  paces : PacesBy mount base m counts u.crash.log first (cmds ++ cmd ∷ []) (replies ++ reply ∷ []) (marks ++ length u.crash.log ∷ []) end
-  paces = subst (λ (es : List Event). PacesBy mount base m counts es first (cmds ++ cmd ∷ []) (replies ++ reply ∷ []) (marks ++ length u.crash.log ∷ []) end) (sym grows.log)
-      (paces_longer mount base m counts s.crash.log grows.more h.of_mount.late cmd reply (length u.crash.log) (pace_of h.taken s) end first cmds replies marks up h.paces refl
-      (subst (λ (es : List Event). StepsBy mount base m counts es cmd reply (pace_of h.taken s) end) grows.log step))
+  paces : PacesBy mount base m u.crash.log first (cmds ++ cmd ∷ []) (replies ++ reply ∷ []) (marks ++ length u.crash.log ∷ []) end
+  paces = subst (λ (es : List Event). PacesBy mount base m es first (cmds ++ cmd ∷ []) (replies ++ reply ∷ []) (marks ++ length u.crash.log ∷ []) end) (sym grows.log)
+      (paces_longer mount base m s.crash.log grows.more h.of_mount.late cmd reply (length u.crash.log) (pace_of h.taken s) end first cmds replies marks up h.paces refl
+      (subst (λ (es : List Event). StepsBy mount base m es cmd reply (pace_of h.taken s) end) grows.log step))
 
-  pub goes_more : GoesByLog counts mount base m first tree (cmds ++ cmd ∷ []) (replies ++ reply ∷ []) (marks ++ length u.crash.log ∷ []) u
+  pub goes_more : GoesByLog mount base m first tree (cmds ++ cmd ∷ []) (replies ++ reply ∷ []) (marks ++ length u.crash.log ∷ []) u
   goes_more = record {
     limits = h.limits;
     of_mount = of_mount;
@@ -181,15 +181,14 @@ module _ {S : Type 0} (tells : Bool) (state : S → State) (told : IsTrue tells)
     taken = now_taken;
     keeps = keeps;
     paces = paces;
-    alone = h.alone;
     unlost = unlost;
     placed = placed.keeps;
   }
 
 -- No command yet.
-pub goes_at_first : (counts : Bool) (mount : MountedSession) (base : Blocks) (m : Manner) (tree : Tree) (s : State) → ((p ticket : ℕ) → s.crash.awaits p ticket → MayAwait s p ticket) → BeginsByLog counts mount base m s
-    → GoesByLog counts mount base m (pace_of (nothing_taken (session_at mount tree)) s) tree [] [] [] s
-goes_at_first counts mount base m tree s may h = record {
+pub goes_at_first : (mount : MountedSession) (base : Blocks) (m : Manner) (tree : Tree) (s : State) → ((p ticket : ℕ) → s.crash.awaits p ticket → MayAwait s p ticket) → BeginsByLog mount base m s
+    → GoesByLog mount base m (pace_of (nothing_taken (session_at mount tree)) s) tree [] [] [] s
+goes_at_first mount base m tree s may h = record {
   limits = h.limits;
   of_mount = h.of_mount;
   manner = h.manner;
@@ -197,7 +196,6 @@ goes_at_first counts mount base m tree s may h = record {
   taken = nothing_taken (session_at mount tree);
   keeps = keeps_at_first mount m tree s h.ended h.owed h.point may;
   paces = refl;
-  alone = h.alone;
   unlost = λ known going. h.unlost known;
   placed = placed_first mount.geom h.limits (session_at mount tree) s (sym h.of_mount.geom) h.point h.only;
 }

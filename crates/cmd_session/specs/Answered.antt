@@ -1,11 +1,10 @@
 -- What one command did over blocks on a disk, as the file system and the disk say it of any blocks; and laws of other crates, gathered. Only proofs speak of it.
-use Rattle.std.specs.Prelude.{◌≡◌, ◌≢◌, ◌⊎◌, ℕ, ◌+◌, ◌≤◌, ◌<◌, Bool, false, true, IsTrue, List, [], ◌∷◌, ◌++◌, length, take, Some}
+use Rattle.std.specs.Prelude.{◌≡◌, ◌≢◌, ◌⊎◌, ℕ, ◌+◌, ◌≤◌, ◌<◌, Bool, false, true, List, [], ◌∷◌, ◌++◌, length, take, Some}
 use Rattle.base_types.specs.Seal.{Blocks}
 use Rattle.disk_contract.specs.declared.event.Event.{Event}
-use Rattle.disk_contract.specs.Cell.{cell_of, is_accepted, IsNoticed}
+use Rattle.disk_contract.specs.Cell.{cell_of, has_lost, is_accepted, IsNoticed}
 use Rattle.disk_contract.specs.Disk.{Grows, GrowsByWrites, PollsFirst, PollsThenWrites, writes_in}
 use Rattle.disk_contract.specs.Manner.{HasFailedBy}
-use Rattle.disk_memory.specs.Log.{has_lost}
 use Rattle.layout_geometry.specs.Geometry.{Geometry, IsGeometry}
 use Rattle.layout_journal.specs.declared.header.Header.{Header}
 use Rattle.layout_journal.specs.declared.record.Commit.{Commit}
@@ -45,7 +44,7 @@ pub record PlaceLaws (g : Geometry) : Type 0 where
   pub replies : (outside : Refusal → Bool) (old new : Session) (cmd : Cmd) (reply : Reply) → Answers outside old cmd reply new → new ≡ after_reply old cmd reply
 
 -- what the disk did for one command
-pub record StepsOn (counts : Bool) (cmd : Cmd) (reply : Reply) (old new : State) : Type 0 where
+pub record StepsOn (cmd : Cmd) (reply : Reply) (old new : State) : Type 0 where
   pub manner : new.counts.ticks.manner ≡ old.counts.ticks.manner
   pub rests : (cmd ≡ Bad) ⊎ (old.books.stopped ≡ true) → (new.counts.ticks.polls ≡ old.counts.ticks.polls) × ((new.crash.log ≡ old.crash.log) × (new.books.stopped ≡ old.books.stopped))
   pub idles : (f : Session) → IsSession old f → reply ≡ Refused Spent → (new.counts.ticks.polls ≡ old.counts.ticks.polls) × (new.crash.log ≡ old.crash.log)
@@ -56,7 +55,7 @@ pub record StepsOn (counts : Bool) (cmd : Cmd) (reply : Reply) (old new : State)
   pub fails : new.books.stopped ≡ true → ∥ HasFailedBy new.counts.ticks.manner new.crash.log ∥₁
   pub first : reply ≡ Refused DiskFault → old.books.stopped ≡ false
   pub uncounted : new.books.stopped ≡ false → new.counts.faults ≡ old.counts.faults
-  pub unlost : IsTrue counts → new.counts.ticks.manner.waits_alone ≡ true → new.counts.faults ≡ 0 → has_lost new.crash.log ≡ false
+  pub unlost : new.counts.ticks.manner.waits_alone ≡ true → new.counts.faults ≡ 0 → has_lost new.crash.log ≡ false
 
 -- what one command waited for, and what the points wait for after it
 pub record WaitsOn (cmd : Cmd) (reply : Reply) (old new : State) : Type 0 where

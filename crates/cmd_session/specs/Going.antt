@@ -1,11 +1,11 @@
 -- How far a run has come over blocks on a disk, by the disk's log; and what is known of one command more. The laws of runs that go by their log speak of it.
-use Rattle.std.specs.Prelude.{◌≡◌, ◌↔◌, ℕ, ◌+◌, ◌-◌, ◌<◌, ◌≤◌, Bool, false, true, IsTrue, slice_get, Some, List, [], ◌∷◌, ◌++◌, length, take}
+use Rattle.std.specs.Prelude.{◌≡◌, ◌↔◌, ℕ, ◌+◌, ◌-◌, ◌<◌, ◌≤◌, Bool, false, true, slice_get, Some, List, [], ◌∷◌, ◌++◌, length, take}
 use Rattle.base_types.specs.Seal.{Blocks}
 use Rattle.disk_contract.specs.declared.event.Event.{Event}
+use Rattle.disk_contract.specs.Cell.{has_lost}
 use Rattle.disk_contract.specs.Disk.{writes_in}
 use Rattle.disk_contract.specs.Lawful.{IsLawful}
 use Rattle.disk_contract.specs.Manner.{Manner, HasFailedBy}
-use Rattle.disk_memory.specs.Log.{has_lost}
 use Rattle.layout_geometry.specs.Geometry.{Geometry, IsGeometry, bitmap_blocks}
 use Rattle.layout_journal.specs.declared.record.Commit.{Commit}
 use Rattle.crash_argument.specs.Points.{MountedSession, records_told}
@@ -57,29 +57,28 @@ abbrev pub KeepsPlaces : Geometry → Session → State → Type 0
 KeepsPlaces g f s = s.books.stopped ≡ false → f.changed ≡ false → (m : Blocks) → s.crash.is_point s.books.point m → (k : ℕ) → places_of g m k ≡ (room_of s).places k
 
 -- These commands were answered so since a mount of a disk that began with such blocks, in which this tree stood: each did on its disk, from this pace on, what the log says, and so far have they come.
-pub record GoesByLog (counts : Bool) (mount : MountedSession) (base : Blocks) (m : Manner) (first : Pace) (tree : Tree) (cmds : List Cmd) (replies : List Reply) (marks : List ℕ) (s : State) : Type 0 where
+pub record GoesByLog (mount : MountedSession) (base : Blocks) (m : Manner) (first : Pace) (tree : Tree) (cmds : List Cmd) (replies : List Reply) (marks : List ℕ) (s : State) : Type 0 where
   pub limits : IsGeometry mount.geom
   pub of_mount : IsOfMount mount base s
   pub manner : s.counts.ticks.manner ≡ m
   pub begins : first.events ≡ mount.mounted
   pub taken : Taken
   pub keeps : KeepsTaken mount m tree cmds replies s taken
-  pub paces : PacesBy mount base m counts s.crash.log first cmds replies marks (pace_of taken s)
-  -- where the disk counts its lost writes, its waits bring no other notice; and while no call of it failed, none was counted, and no write was lost
-  pub alone : IsTrue counts → m.waits_alone ≡ true
-  pub unlost : IsTrue counts → s.books.stopped ≡ false → (s.counts.faults ≡ 0) × (has_lost s.crash.log ≡ false)
+  pub paces : PacesBy mount base m s.crash.log first cmds replies marks (pace_of taken s)
+  -- where a wait brings the notice of its own ticket alone, and while no call failed, none was counted, and no write was lost
+  pub unlost : m.waits_alone ≡ true → s.books.stopped ≡ false → (s.counts.faults ≡ 0) × (has_lost s.crash.log ≡ false)
   pub placed : KeepsPlaces mount.geom taken.session s
 
--- What the disk says of itself: its log is a lawful one; a read has failed only where reads may, and another call for a reason that the disk's manner has; and of a disk that counts its lost writes (`counts`), each was counted as a failed call, where waits bring no other notice. And while no call failed, `durable` isn't too low.
-pub record KeepsToManner (counts : Bool) (s : State) : Type 0 where
+-- What the disk says of itself: its log is a lawful one; a read has failed only where reads may, and another call for a reason that the disk's manner has; and where a wait brings the notice of its own ticket alone, each lost write was counted as a failed call. And while no call failed, `durable` isn't too low.
+pub record KeepsToManner (s : State) : Type 0 where
   pub lawful : IsLawful s.crash.log
   pub reads : 0 < s.counts.read_faults → s.counts.ticks.manner.reads_fail ≡ true
   pub fails : s.books.stopped ≡ true → ∥ HasFailedBy s.counts.ticks.manner s.crash.log ∥₁
-  pub unlost : IsTrue counts → s.counts.ticks.manner.waits_alone ≡ true → s.counts.faults ≡ 0 → has_lost s.crash.log ≡ false
+  pub unlost : s.counts.ticks.manner.waits_alone ≡ true → s.counts.faults ≡ 0 → has_lost s.crash.log ≡ false
   pub still : s.books.stopped ≡ false → s.books.floor < s.books.point → ∥ StillAwaits s (s.books.floor + 1) ∥₁
 
 -- Blocks over which no command was answered since this mount of a disk that began so, which ended just now: no point was made and no write is owed, and the map is that of point 0.
-pub record BeginsByLog (counts : Bool) (mount : MountedSession) (base : Blocks) (m : Manner) (s : State) : Type 0 where
+pub record BeginsByLog (mount : MountedSession) (base : Blocks) (m : Manner) (s : State) : Type 0 where
   pub limits : IsGeometry mount.geom
   pub of_mount : IsOfMount mount base s
   pub manner : s.counts.ticks.manner ≡ m
@@ -87,13 +86,12 @@ pub record BeginsByLog (counts : Bool) (mount : MountedSession) (base : Blocks) 
   pub owed : s.books.owed ≡ 0
   pub point : s.books.point ≡ 0
   pub only : HasMapOfPoint s 0
-  pub alone : IsTrue counts → m.waits_alone ≡ true
-  pub unlost : IsTrue counts → (s.counts.faults ≡ 0) × (has_lost s.crash.log ≡ false)
+  pub unlost : m.waits_alone ≡ true → (s.counts.faults ≡ 0) × (has_lost s.crash.log ≡ false)
 
 -- the states of blocks that a command may change
 module _ {S : Type 0} (tells : Bool) (state : S → State) where
   -- One command more was answered, of a run of these commands since the mount: how, and what is known of the run before and after it, of its writes, and of the disk as it is then.
-  pub record AnswersOnDisk (counts : Bool) (mount : MountedSession) (tree : Tree) (cmds : List Cmd) (replies : List Reply) (marks : List ℕ) (cmd : Cmd) (reply : Reply) (old new : S) : Type 0 where
+  pub record AnswersOnDisk (mount : MountedSession) (tree : Tree) (cmds : List Cmd) (replies : List Reply) (marks : List ℕ) (cmd : Cmd) (reply : Reply) (old new : S) : Type 0 where
     pub applies : Applies tells state cmd reply old new
     pub time : PassesTime (state old) (state new)
     pub drawn : IsDrawn (state new)
@@ -103,4 +101,4 @@ module _ {S : Type 0} (tells : Bool) (state : S → State) where
     pub places : commit_places (state old).books ≤ sync_places (state old).books.running.weight
     pub few : commit_writes (state old).books ≤ sync_budget (state old).books.running.weight
     pub writes : WritesAtMost (writes_of cmd reply (state old).books) (state old) (state new)
-    pub disk : KeepsToManner counts (state new)
+    pub disk : KeepsToManner (state new)

@@ -2,10 +2,9 @@
 use Rattle.std.specs.Prelude.{◌≡◌, ◌≢◌, ◌⊎◌, ⊤, ℕ, ◌+◌, ◌||◌, ◌<◌, ◌≤◌, if◌then◌else◌, Bool, true, false, IsTrue, slice_get, List, [], ◌∷◌, ◌++◌, length, take, drop, Some}
 use Rattle.base_types.specs.Seal.{Blocks}
 use Rattle.disk_contract.specs.declared.event.Event.{Event}
-use Rattle.disk_contract.specs.Cell.{cell_of, IsNoticed}
+use Rattle.disk_contract.specs.Cell.{cell_of, has_lost, IsNoticed}
 use Rattle.disk_contract.specs.Disk.{PollsFirst, PollsThenWrites, writes_in}
 use Rattle.disk_contract.specs.Manner.{Manner, LosesLast, Polled, after_polls}
-use Rattle.disk_memory.specs.Log.{has_lost}
 use Rattle.layout_journal.specs.declared.header.Header.{Header}
 use Rattle.layout_journal.specs.declared.record.Commit.{Commit}
 use Rattle.layout_journal.specs.Run.{places_from, places_told, writes_told}
@@ -137,8 +136,8 @@ pub record DoesBehind (s : MountedSession) (base : Blocks) (m : Manner) (log : L
   pub waits : cmd ≡ Dsync → old.over ≡ false → reply ≢ Refused Spent → m.waits_alone ≡ true → OrdersAtOnce s base (take behind log) old.taken (places_wanted reply old.taken.weight (own_records s log behind new.events)) → (p : Polled) → after_polls m 64 old.polls (take old.events log) ≡ Some p
       → HearsIn (new.taken.spans ++ (if is_refusal reply then record { begun = behind; mark = new.events } ∷ [] else [])) p.log (take new.events log)
 
--- One command of a run on a disk of this manner. A line that is none brings no event, nothing does once a call of the disk has failed, and no command that is refused as spent does. Any other command begins with the notices of its tick: those of 64 polls, or of the polls up to the first that has none; and there is no other poll. A command is refused as stopped just then. It is refused for a failed read only where reads may fail. Where no write was lost before it, it is refused for another failed call only where its own last event is a lost write, or the disk's manner lets a call fail here. Of a disk that counts each lost write as a failed call (`counts`) that needn't be known, and where a write was lost among the command's events it is refused so.
-pub record StepsBy (s : MountedSession) (base : Blocks) (m : Manner) (counts : Bool) (log : List Event) (cmd : Cmd) (reply : Reply) (old new : Pace) : Type 0 where
+-- One command of a run on a disk of this manner. A line that is none brings no event, nothing does once a call of the disk has failed, and no command that is refused as spent does. Any other command begins with the notices of its tick: those of 64 polls, or of the polls up to the first that has none; and there is no other poll. A command is refused as stopped just then. It is refused for a failed read only where reads may fail. Where no write was lost before it, it is refused for another failed call only where its own last event is a lost write, or the disk's manner lets a call fail here. Where a wait brings the notice of its own ticket alone that needn't be known, and where a write was lost among the command's events it is refused so.
+pub record StepsBy (s : MountedSession) (base : Blocks) (m : Manner) (log : List Event) (cmd : Cmd) (reply : Reply) (old new : Pace) : Type 0 where
   pub over : new.over ≡ (old.over || is_fault reply)
   pub room : AnswersBy s base m log cmd reply old new
   pub does : DoesBehind s base m log cmd reply old new room.behind
@@ -155,13 +154,13 @@ pub record StepsBy (s : MountedSession) (base : Blocks) (m : Manner) (counts : B
   pub stops : reply ≡ Refused Stopped → old.over ≡ true
   pub halts : cmd ≢ Bad → old.over ≡ true → reply ≡ Refused Stopped
   pub reads : reply ≡ Refused ReadFault → m.reads_fail ≡ true
-  pub fails : IsTrue counts ⊎ (has_lost (take old.events log) ≡ false) → reply ≡ Refused DiskFault → ∥ FailsSince m old.events (take new.events log) ∥₁
-  pub loses : IsTrue counts → has_lost (drop old.events (take new.events log)) ≡ true → reply ≡ Refused DiskFault
+  pub fails : (m.waits_alone ≡ true) ⊎ (has_lost (take old.events log) ≡ false) → reply ≡ Refused DiskFault → ∥ FailsSince m old.events (take new.events log) ∥₁
+  pub loses : m.waits_alone ≡ true → has_lost (drop old.events (take new.events log)) ≡ true → reply ≡ Refused DiskFault
   -- where nothing changed since the last point, as behind a sync that is done, each node's blocks lie where the room says, in the image that has all that was issued
   pub lies : new.over ≡ false → new.taken.session.changed ≡ false → ∥ LiesAt s.geom base (take new.events log) new.room.room.places ∥₁
 
 -- these commands, one after the other, each with its reply and its mark
-abbrev pub PacesBy : MountedSession → Blocks → Manner → Bool → List Event → Pace → List Cmd → List Reply → List ℕ → Pace → Type 0
-PacesBy s base m counts log p [] [] [] end = end ≡ p
-PacesBy s base m counts log p (cmd ∷ cmds) (reply ∷ replies) (mark ∷ marks) end = (next : Pace) × (next.events ≡ mark) × StepsBy s base m counts log cmd reply p next × PacesBy s base m counts log next cmds replies marks end
-PacesBy s base m counts log p _ _ _ end = ⊥
+abbrev pub PacesBy : MountedSession → Blocks → Manner → List Event → Pace → List Cmd → List Reply → List ℕ → Pace → Type 0
+PacesBy s base m log p [] [] [] end = end ≡ p
+PacesBy s base m log p (cmd ∷ cmds) (reply ∷ replies) (mark ∷ marks) end = (next : Pace) × (next.events ≡ mark) × StepsBy s base m log cmd reply p next × PacesBy s base m log next cmds replies marks end
+PacesBy s base m log p _ _ _ end = ⊥

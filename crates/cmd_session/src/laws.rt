@@ -1,6 +1,6 @@
 //! Laws of runs, which program code cites. The functions do nothing; their clauses are the laws.
 
-ghost use Rattle.std.specs.Prelude.{◌≡◌, ◌≢◌, ◌<◌, ◌≤◌, ◌+◌, ◌++◌, ◌∷◌, [], ℕ, Bool, false, true, IsTrue, List, length, take};
+ghost use Rattle.std.specs.Prelude.{◌≡◌, ◌≢◌, ◌<◌, ◌≤◌, ◌+◌, ◌++◌, ◌∷◌, [], ℕ, false, true, IsTrue, List, length, take};
 ghost use Rattle.base_types.specs.Seal.{Blocks as BlockMap};
 ghost use Rattle.disk_contract.specs.declared.event.Event.{Event};
 ghost use Rattle.disk_contract.specs.Disk.{Grows, PollsThenWrites, writes_in};
@@ -90,19 +90,19 @@ pub fn a_run_may_end_at_once<S: Blocks>()
 
 /// A run goes by the log of its disk as the mount ends: from then on, with nothing taken.
 pub fn a_run_begins_by_the_log<S: Blocks>()
-    ensures { IsTrue S.tells → (counts : Bool) (mount : MountedSession) (base : BlockMap) (m : Manner) (t : Tree) (s : S)
-        → BeginsByLog counts mount base m (S.state s)
-        → GoesByLog counts mount base m (pace_of (nothing_taken (session_at mount t)) (S.state s)) t [] [] [] (S.state s) }
+    ensures { IsTrue S.tells → (mount : MountedSession) (base : BlockMap) (m : Manner) (t : Tree) (s : S)
+        → BeginsByLog mount base m (S.state s)
+        → GoesByLog mount base m (pace_of (nothing_taken (session_at mount t)) (S.state s)) t [] [] [] (S.state s) }
 {}
 
 /// A run that goes by the log of its disk does so with one command more: what the command waited for, which writes and
 /// records came of it, in which room it was answered, and why it was refused for the disk, is as the log says.
 pub fn a_command_goes_by_the_log<S: Blocks>()
-    ensures { IsTrue S.tells → (counts : Bool) (mount : MountedSession) (base : BlockMap) (m : Manner) (first : Pace) (t : Tree) (cmds : List Cmd)
+    ensures { IsTrue S.tells → (mount : MountedSession) (base : BlockMap) (m : Manner) (first : Pace) (t : Tree) (cmds : List Cmd)
         (replies : List Reply) (marks : List ℕ) (cmd : Cmd) (reply : Reply) (old new : S)
-        → AnswersOnDisk S.tells S.state counts mount t cmds replies marks cmd reply old new
-        → GoesByLog counts mount base m first t cmds replies marks (S.state old)
-        → GoesByLog counts mount base m first t (cmds ++ cmd ∷ []) (replies ++ reply ∷ []) (marks ++ length (S.state new).crash.log ∷ []) (S.state new) }
+        → AnswersOnDisk S.tells S.state mount t cmds replies marks cmd reply old new
+        → GoesByLog mount base m first t cmds replies marks (S.state old)
+        → GoesByLog mount base m first t (cmds ++ cmd ∷ []) (replies ++ reply ∷ []) (marks ++ length (S.state new).crash.log ∷ []) (S.state new) }
 {
     a_command_begins_with_a_tick::<S>();
     a_command_is_answered_in_a_room_that_came_back::<S>();
@@ -119,11 +119,11 @@ pub fn a_command_goes_by_the_log<S: Blocks>()
 /// its ring places where those of its own record fit beside the records from that one on with which the newest header at
 /// rest starts.
 pub fn a_step_tells_where_its_record_fits()
-    ensures ticks { (s : MountedSession) (base : BlockMap) (m : Manner) (counts : Bool) (log : List Event) (cmd : Cmd) (reply : Reply)
-        (old new : Pace) → (step : StepsBy s base m counts log cmd reply old new) → cmd ≢ Bad → old.over ≡ false → reply ≢ Refused Spent
+    ensures ticks { (s : MountedSession) (base : BlockMap) (m : Manner) (log : List Event) (cmd : Cmd) (reply : Reply)
+        (old new : Pace) → (step : StepsBy s base m log cmd reply old new) → cmd ≢ Bad → old.over ≡ false → reply ≢ Refused Spent
         → PollsThenWrites m 64 old.polls (take old.events log) new.polls (take step.room.behind log) }
-    ensures fits { (s : MountedSession) (base : BlockMap) (m : Manner) (counts : Bool) (log : List Event) (cmd : Cmd) (reply : Reply) (old new : Pace)
-        → (step : StepsBy s base m counts log cmd reply old new) → is_sync cmd ≡ true → is_refusal reply ≡ false → 0 < old.room.room.weight
+    ensures fits { (s : MountedSession) (base : BlockMap) (m : Manner) (log : List Event) (cmd : Cmd) (reply : Reply) (old new : Pace)
+        → (step : StepsBy s base m log cmd reply old new) → is_sync cmd ≡ true → is_refusal reply ≡ false → 0 < old.room.room.weight
         → m.waits_alone ≡ true → (number : ℕ) → ∥ Starts s base (take step.room.behind log) number ∥₁
         → places_from number (records_told s (take step.room.behind log)) + places_from 0 (own_records s log step.room.behind new.events) ≤ s.geom.j
         → DoneInRing s base m log cmd reply old step.room.behind new.events }

@@ -71,6 +71,13 @@ is_lost_from b lost (Noticed ticket ∷ es) = is_lost_from b lost es
 abbrev pub is_lost : ℕ → List Event → Bool
 is_lost b log = is_lost_from b false log
 
+-- whether a write was lost
+abbrev pub has_lost : List Event → Bool
+has_lost [] = false
+has_lost (Wrote ticket block bytes ∷ es) = has_lost es
+has_lost (Lost block bytes ∷ es) = true
+has_lost (Noticed ticket ∷ es) = has_lost es
+
 -- the bytes of the writes to the block that were lost since its last accepted one, behind those of the events before
 abbrev pub lost_from : ℕ → List (List ℕ) → List Event → List (List ℕ)
 lost_from b xs [] = xs

@@ -1,9 +1,9 @@
 -- Lawful logs, and settled and pending in the field's own words: the newest write whose durability was
 -- noticed, and the writes after it. The rules are described in docs/DISK.md.
-use Rattle.std.specs.Prelude.{◌≡◌, ◌⊎◌, ℕ, ◌<◌, ◌≤◌, ◌^◌, ◌==◌, true, if◌then◌else◌, List, [], ◌∷◌, ◌++◌, length, slice_index_or, Some, None}
+use Rattle.std.specs.Prelude.{◌≡◌, ◌⊎◌, ℕ, ◌<◌, ◌≤◌, ◌^◌, ◌==◌, true, false, if◌then◌else◌, List, [], ◌∷◌, ◌++◌, length, slice_index_or, Some, None}
 use Rattle.disk_contract.specs.declared.event.Event.{Event}
 use Rattle.disk_contract.specs.declared.event.Event.TheVariants.{Wrote, Lost, Noticed}
-use Rattle.disk_contract.specs.Cell.{Write, greatest_ticket, IsNoticed}
+use Rattle.disk_contract.specs.Cell.{Write, greatest_ticket, has_lost, IsNoticed}
 use Rattle.disk_contract.specs.Disk.{State, IsOpen}
 use Rattle.disk_contract.specs.Manner.{GoesBy}
 
@@ -43,12 +43,13 @@ pub record IsLogOf (n : ℕ) (log : List Event) : Type 0 where
   pub lawful : IsLawful log
   pub events : AreEventsOf n log
 
--- a sound disk: each block had the bytes of a block when the disk began, the log is one of a disk of so many blocks, and by the disk's manner its writes may be accepted and lost as they are, and a read may have failed if one did
+-- a sound disk: each block had the bytes of a block when the disk began, the log is one of a disk of so many blocks, and by the disk's manner its writes may be accepted and lost as they are, and a read may have failed if one did; and where a wait brings the notice of its own ticket alone, a write was lost only where a failed call was counted
 pub record IsSoundDisk (s : State) : Type 0 where
   pub blocks : (b : ℕ) → b < s.blocks → IsBlock (s.base b)
   pub log : IsLogOf s.blocks s.log
   pub manner : GoesBy s.manner s.log
   pub reads : 0 < s.read_faults → s.manner.reads_fail ≡ true
+  pub counted : s.manner.waits_alone ≡ true → s.faults ≡ 0 → has_lost s.log ≡ false
 
 -- the writes to a block, accepted and lost, the oldest first
 abbrev pub writes_to : ℕ → List Event → List Write

@@ -1,5 +1,5 @@
 -- What the log of a disk in memory is as a list of events, and what its rows keep of that list.
-use Rattle.std.specs.Prelude.{◌≡◌, ℕ, ◌+◌, ◌*◌, ◌^◌, ◌≤◌, ◌<◌, Bool, false, not, true, if◌then◌else◌, List, [], ◌∷◌, length}
+use Rattle.std.specs.Prelude.{◌≡◌, ℕ, ◌+◌, ◌*◌, ◌^◌, ◌≤◌, ◌<◌, Bool, not, if◌then◌else◌, List, [], ◌∷◌, length}
 use Rattle.std.specs.List.{filter}
 use Rattle.disk_contract.specs.declared.event.Event.{Event}
 use Rattle.disk_contract.specs.declared.event.Event.TheVariants.{Wrote, Lost, Noticed}
@@ -30,13 +30,6 @@ write_count [] = 0
 write_count (Wrote ticket block bytes ∷ es) = write_count es + 1
 write_count (Lost block bytes ∷ es) = write_count es + 1
 write_count (Noticed ticket ∷ es) = write_count es
-
--- whether a write was lost
-abbrev pub has_lost : List Event → Bool
-has_lost [] = false
-has_lost (Wrote ticket block bytes ∷ es) = has_lost es
-has_lost (Lost block bytes ∷ es) = true
-has_lost (Noticed ticket ∷ es) = has_lost es
 
 -- how many more writes an event is: one, or none where it is a notice
 abbrev pub writes_in : Event → ℕ

@@ -5,7 +5,7 @@ use Rattle.base_types.specs.Seal.{Blocks, blocks_of}
 use Rattle.base_draw.specs.Draws.{next_state, drawn}
 use Rattle.disk_contract.specs.declared.event.Event.{Event}
 use Rattle.disk_contract.specs.declared.event.Event.TheVariants.{Wrote, Lost, Noticed}
-use Rattle.disk_contract.specs.Cell.{accepted, is_accepted, is_noticed}
+use Rattle.disk_contract.specs.Cell.{accepted, has_lost, is_accepted, is_noticed}
 use Rattle.base_types.specs.Counts.{next_count}
 use Rattle.disk_contract.specs.Disk.{State}
 use Rattle.disk_contract.specs.Manner.{Manner, any_manner, GoesBy}
@@ -16,7 +16,7 @@ use Rattle.disk_memory.specs.declared.rule.Rule.{Rule}
 use Rattle.disk_memory.specs.declared.rule.Rule.TheVariants as rules
 use Rattle.disk_memory.specs.declared.rule.Notices.{Notices}
 use Rattle.disk_memory.specs.declared.rule.Notices.TheVariants as notices
-use Rattle.disk_memory.specs.Log.{LogState, tickets, open_tickets, write_count, has_lost, AreWithin}
+use Rattle.disk_memory.specs.Log.{LogState, tickets, open_tickets, write_count, AreWithin}
 
 -- a disk in memory: the blocks that it began with, the events since, how many writes it has room for, how its polls find notices, which calls fail, the rule of its notices where rule and failing calls were set before the first call, and its counts of failed calls and of all calls but writes
 pub record MemDiskState : Type 0 where

@@ -16,7 +16,7 @@ ghost use Rattle.disk_contract.specs.Lawful.{IsLawful};
 ghost use Rattle.disk_contract.specs.declared.event.Event.{Event};
 ghost use Rattle.disk_contract.specs.declared.event.Event.TheVariants.{Wrote, Lost, Noticed};
 ghost use Rattle.disk_memory.specs.Choice.{GivesImage};
-ghost use Rattle.disk_memory.specs.Log.{AreWithin, has_lost, write_count};
+ghost use Rattle.disk_memory.specs.Log.{AreWithin, write_count};
 ghost use Rattle.disk_memory.specs.Logged.{event_of};
 ghost use Rattle.disk_memory.specs.MemDisk.{begun, with_log, state_of, manner_of, is_untouched, turned, has_room, next_ticket, next_call, fails_next};
 ghost use Rattle.disk_memory.specs.MemDisk.{with_event, room_and_counts, counted, faulted, after_read, after_write, after_poll, after_wait};
@@ -191,15 +191,6 @@ impl MemDisk {
         ensures { result ≡ is_untouched self.now }
     {
         self.log.len() == 0 && (self.polls == 0 && self.read_faults == 0)
-    }
-
-    /// Does nothing. A proof learns from the call that a write was lost only where a failed call was counted, as long as
-    /// rule and failing calls were set before the first call: then waits bring the notice of their own ticket alone.
-    pub fn lost_writes_are_counted(&self)
-        ensures { (manner_of self.now).waits_alone ≡ true → self.now.faults ≡ 0 → has_lost self.now.log ≡ false }
-    {
-        // a use of a field, by which a proof knows what is kept of it
-        let _ = self.log.len();
     }
 
     /// The event at this place of the log, the first of which is 0, where there is one.

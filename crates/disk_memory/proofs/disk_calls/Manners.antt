@@ -10,8 +10,8 @@ use Rattle.disk_memory.specs.declared.calls.DiskCall.TheVariants as calls
 use Rattle.disk_memory.specs.declared.calls.Fail.{Fail}
 use Rattle.disk_memory.specs.declared.rule.Rule.{Rule}
 use Rattle.disk_memory.specs.declared.rule.Notices.{Notices}
-use Rattle.disk_memory.specs.Log.{has_lost, write_count, open_tickets}
-use Rattle.disk_contract.specs.Cell.{IsAccepted}
+use Rattle.disk_memory.specs.Log.{write_count, open_tickets}
+use Rattle.disk_contract.specs.Cell.{has_lost, IsAccepted}
 use Rattle.disk_memory.specs.MemDisk.{MemDiskState, next_call, fails_next, has_room, can_wait, manner_of, after_write, after_poll, after_wait, same_call, is_listed, has_listed, polled, turned, turns, by_rule, manner_by, manner_known, CountsLost, GoesAsKnown}
 
 -- any log goes by the manner of a disk of which nothing is known

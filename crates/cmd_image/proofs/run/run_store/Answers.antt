@@ -1,5 +1,6 @@
-use Rattle.std.proofs.Common.{[], false, None, ◌∙◌, ap, length, sym, subst, List}
+use Rattle.std.proofs.Common.{[], None, ◌∙◌, ap, length, sym, subst, List}
 use Rattle.disk_contract.specs.declared.bay.Mark.{Mark}
+use Rattle.disk_contract.specs.Lawful.{IsSoundDisk}
 use Rattle.layout_geometry.specs.Geometry.{Geometry, IsGeometry}
 use Rattle.engine_blocks.specs.State.{Bookkeeping}
 use Rattle.fs_check.specs.Whole.{fails_by}
@@ -33,7 +34,8 @@ returns-in-Ok-clause-comes g c = λ first is.
     (c.as_many_blocks_are_marked_as_the_tree_has.ensures.takeable opened)
     (c.books_are_sound.ensures opened)
     (subst (λ (k : Geometry). IsGeometry k) c.geom-geom.ensures c.lawful.ensures.limits)
-    (λ mount base m begun_tree begins. c.a_run_begins_by_the_log.ensures t false mount base m begun_tree opened begins)
+    (λ mount base m begun_tree begins. c.a_run_begins_by_the_log.ensures t mount base m begun_tree opened begins)
+    (subst (λ d. IsSoundDisk (known d)) c.disk-2.ensures.value (c.lawful-2.ensures t)).counted
     (is_mark_in c.mark_of-mark.result s
     (c.mark_of-mark.ensures.moment t ∙ ap (λ d. length (known d).log) c.disk.ensures.value)
     (c.mark_of-mark.ensures.read_faults ∙ ap (λ d. (known d).read_faults) c.disk.ensures.value)

@@ -16,7 +16,7 @@ returns c = λ set cmds text s.
     record {
       each = λ i upto calm.
           let front : List Event = take (last_mark s.served.mounted (take i s.served.marks)) log in
-          let none = unlost_at (session_by g s.served.mounted) (formatted g) set.manner log cmds s.served.replies s.served.marks (pace_at_first g s.served.mounted) s.goes.last s.goes.paces s.goes.mounts i calm in
+          let none = unlost_at (session_by g s.served.mounted) (formatted g) set.manner s.goes.alone log cmds s.served.replies s.served.marks (pace_at_first g s.served.mounted) s.goes.last s.goes.paces s.goes.mounts i calm in
           ∥∥₁_map (s.served.issued.each i upto calm) (λ one. record {
             point = one.point;
             is = one.is;

@@ -3,11 +3,11 @@ use Rattle.cmd_record.proofs.laws.wrong_traces_are_refused.Goals as goal
 
 pub returns : goal.returns
 returns c = record {
-  lost = λ s base m log cmd reply old new step. lost_is_refused s base m log cmd reply old new step;
-  later = λ s base m log cmd old new step. at_last s base m log cmd old new step;
+  lost = λ s base m alone log cmd reply old new step. lost_is_refused s base m alone log cmd reply old new step;
+  later = λ s base m alone log cmd old new step. at_last s base m alone log cmd old new step;
   writes = λ g m log mounted cmd reply new step. writes_none g m log mounted cmd reply new step;
-  empty = λ s base m counts log reply old new step. waits_in_none s base m counts log reply old new step;
-  looks = λ s base m counts log path reply old new step. waits_to_look s base m counts log reply old new path step;
-  home = λ s base m counts log reply old new p t step. heard_behind s base m counts log reply old new p t step;
-  known = λ s base m counts log n span old new step. knows_more s base m counts log n span old new step;
+  empty = λ s base m log reply old new step. waits_in_none s base m log reply old new step;
+  looks = λ s base m log path reply old new step. waits_to_look s base m log reply old new path step;
+  home = λ s base m log reply old new p t step. heard_behind s base m log reply old new p t step;
+  known = λ s base m log n span old new step. knows_more s base m log n span old new step;
 }

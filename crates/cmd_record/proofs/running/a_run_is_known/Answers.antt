@@ -1,5 +1,5 @@
 -- What the laws of other crates say of the formatted disk and of runs.
-use Rattle.std.proofs.Common.{ℕ, true, take, refl, subst, arith}
+use Rattle.std.proofs.Common.{ℕ, take, refl, subst, arith}
 use Rattle.disk_contract.specs.Disk.{writes_in}
 use Rattle.layout_geometry.specs.Geometry.{Geometry}
 use Rattle.lang_tree.specs.Step.{start}
@@ -33,4 +33,4 @@ returns-clause-known c = λ k mounted cmds replies marks ran.
     }
 
 pub returns-clause-begins : goal.returns-clause-begins
-returns-clause-begins c = λ mount base m t begins. c.a_run_begins_by_the_log.ensures refl true mount base m t (blocks_in c.args.system.now) begins
+returns-clause-begins c = λ mount base m t begins. c.a_run_begins_by_the_log.ensures refl mount base m t (blocks_in c.args.system.now) begins

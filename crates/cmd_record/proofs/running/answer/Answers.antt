@@ -1,5 +1,5 @@
 -- How a command is answered, by what the file system, the store and the disk say.
-use Rattle.std.proofs.Common.{refl, true}
+use Rattle.std.proofs.Common.{refl}
 use Rattle.disk_memory.specs.MemDisk.{state_of as disk_state}
 use Rattle.fs_commands.specs.Opened.{blocks_in}
 use Rattle.cmd_record.proofs.OpenLemmas.{drawn}
@@ -26,7 +26,7 @@ returns c =
       writes = disk.writes;
       turns = c.a_command_raises_the_numbers_little.ensures old new cmd reply applies;
       spent = λ f session late. c.a_refusal_for_the_disk_has_its_cause.ensures.spent refl old new f cmd reply session applies late;
-      goes = λ mount base m first t cmds replies marks served weighs h. c.a_command_goes_by_the_log.ensures refl true mount base m first t cmds replies marks cmd reply old new (record {
+      goes = λ mount base m first t cmds replies marks served weighs h. c.a_command_goes_by_the_log.ensures refl mount base m first t cmds replies marks cmd reply old new (record {
         applies = applies;
         time = time;
         drawn = drawn disk_state new;
@@ -36,6 +36,6 @@ returns c =
         places = c.lawful.ensures.places;
         few = c.lawful.ensures.writes;
         writes = c.apply-reply.ensures.writes refl;
-        disk = record { lawful = disk.log.lawful; reads = disk.reads; fails = disk.fails; unlost = λ known. disk.unlost; still = disk.waits };
+        disk = record { lawful = disk.log.lawful; reads = disk.reads; fails = disk.fails; unlost = disk.unlost; still = disk.waits };
       }) h;
     }

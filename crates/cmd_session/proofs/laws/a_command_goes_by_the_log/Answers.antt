@@ -3,8 +3,8 @@ use Rattle.cmd_session.proofs.Stepping.{goes_more}
 use Rattle.cmd_session.proofs.laws.a_command_goes_by_the_log.Goals as goal
 
 pub returns : goal.returns
-returns g c = λ told counts mount base m first t cmds replies marks cmd reply old new x h.
-    goes_more g.S.Blocks.tells g.S.Blocks.state told counts mount base m first t cmds replies marks cmd reply old new
+returns g c = λ told mount base m first t cmds replies marks cmd reply old new x h.
+    goes_more g.S.Blocks.tells g.S.Blocks.state told mount base m first t cmds replies marks cmd reply old new
     (record {
       limits = h.limits;
       sound = c.a_tree_that_stands_is_sound.ensures.sound;

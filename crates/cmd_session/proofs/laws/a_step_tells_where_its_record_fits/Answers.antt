@@ -17,10 +17,10 @@ done_sync true true sync done = absurd (true≢false done)
 done_sync false b sync done = sync
 
 pub returns-clause-ticks : goal.returns-clause-ticks
-returns-clause-ticks c = λ s base m counts log cmd reply old new step meant going unspent p polled. ((step.ticks meant going unspent p polled).0, (step.room.ticks meant going unspent p polled).1)
+returns-clause-ticks c = λ s base m log cmd reply old new step meant going unspent p polled. ((step.ticks meant going unspent p polled).0, (step.room.ticks meant going unspent p polled).1)
 
 pub returns-clause-fits : goal.returns-clause-fits
-returns-clause-fits c = λ s base m counts log cmd reply old new step sync done some alone number starts fits.
+returns-clause-fits c = λ s base m log cmd reply old new step sync done some alone number starts fits.
     let going : old.over ≡ false = ⊎_elim (λ over. absurd (true≢false (sym (ap is_refusal (step.halts (sync_is_meant cmd sync) over)) ∙ done))) (λ going. going) (cases_Bool old.over) in
     let behind = take step.room.behind log in
     let own = own_records s log step.room.behind new.events in

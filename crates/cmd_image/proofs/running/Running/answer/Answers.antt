@@ -1,5 +1,5 @@
 -- How a command is answered, by what the file system, the store and the disk say.
-use Rattle.std.proofs.Common.{[], ◌∷◌, ◌++◌, List, false, length, subst, sym, ap, ◌∙◌, true≢false}
+use Rattle.std.proofs.Common.{[], ◌∷◌, ◌++◌, List, length, subst, sym, ap, ◌∙◌}
 use Rattle.disk_contract.specs.declared.bay.Mark.{Mark}
 use Rattle.fs_commands.specs.Opened.{blocks_in}
 use Rattle.engine_store.specs.StoreOf.{disk_in, state_of}
@@ -25,7 +25,7 @@ returns-clause-answers g c = λ first cmds replies h.
       serves = c.apply-reply.ensures.serves t (λ s. drawn known s);
       budget = c.apply-reply.ensures.budget t;
       spends = λ k u mounted asked given moments served budget before. c.the_writes_keep_within_the_budget_at_each_mark.ensures.more old new k u mounted asked given moments cmd reply served (c.apply-reply.ensures.time t).advances.grows budget before;
-      goes = λ mount base m pace u asked given moments served weighs h. c.a_command_goes_by_the_log.ensures t false mount base m pace u asked given moments cmd reply old new (record {
+      goes = λ mount base m pace u asked given moments served weighs h. c.a_command_goes_by_the_log.ensures t mount base m pace u asked given moments cmd reply old new (record {
         applies = applies;
         time = c.apply-reply.ensures.time t;
         drawn = drawn known new;
@@ -39,7 +39,7 @@ returns-clause-answers g c = λ first cmds replies h.
           lawful = c.the_disk_keeps_to_its_manner.ensures.lawful t;
           reads = c.the_disk_keeps_to_its_manner.ensures.reads t;
           fails = c.the_disk_keeps_to_its_manner.ensures.fails t;
-          unlost = λ counted. absurd (true≢false (sym counted));
+          unlost = c.the_disk_keeps_to_its_manner.ensures.unlost t;
           still = c.the_disk_keeps_to_its_manner.ensures.still t;
         };
       }) h;
