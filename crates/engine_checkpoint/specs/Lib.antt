@@ -14,3 +14,4 @@ pub mod Stages
 pub mod Advance
 pub mod Adds
 pub mod Bytes
+pub mod Joining

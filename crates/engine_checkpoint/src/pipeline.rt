@@ -2,31 +2,21 @@
 //! write: notices are taken, the oldest record becomes durable, a commit joins. Headers and batches are steps
 //! of other modules.
 
-ghost use Rattle.std.specs.Prelude.{◌≡◌, ◌≤◌, ◌<◌, ◌+◌, ◌||◌, ℕ, List, [], ◌∷◌, ◌++◌, length, map, IsTrue, OnErr, if◌then◌else◌, is_err};
+ghost use Rattle.std.specs.Prelude.{◌≡◌, ◌≤◌, ◌<◌, ◌+◌, ◌||◌, ℕ, List, length, IsTrue, OnErr, if◌then◌else◌, is_err};
 ghost use Rattle.base_types.specs.Seal.{Blocks};
 ghost use Rattle.disk_contract.specs.declared.event.Event.{Event};
-ghost use Rattle.disk_contract.specs.Cell.{IsNoticed};
 ghost use Rattle.disk_contract.specs.Disk.{HasFailed, OnlyPolls};
-ghost use Rattle.layout_journal.specs.Ring.{RingPlaces, with_places};
-ghost use Rattle.layout_journal.specs.Run.{places};
+ghost use Rattle.layout_journal.specs.Ring.{RingPlaces};
 ghost use Rattle.crash_argument.specs.HomeTest.{is_one_of};
-ghost use Rattle.crash_argument.specs.Ledger.{Ledger, next_number};
-ghost use Rattle.crash_argument.specs.OnePending.{HasOnePending};
-ghost use Rattle.crash_argument.specs.PipelineData.{with_committed, pairs_of};
+ghost use Rattle.crash_argument.specs.Ledger.{Ledger};
 ghost use Rattle.crash_argument.specs.Points.{MountedSession, IsSafe};
-ghost use Rattle.crash_argument.specs.Recording.{IsInLedger};
-ghost use Rattle.crash_argument.specs.Steps.{with_known, with_record};
+ghost use Rattle.crash_argument.specs.Steps.{with_known};
 ghost use Rattle.engine_notes.specs.Notes.{is_expected, is_noticed};
-ghost use Rattle.engine_running.specs.Record.{written_of, AreBelow};
-ghost use Rattle.engine_running.specs.Commits.{IsCommitOf};
-ghost use Rattle.engine_running.specs.Running.{Changes};
-ghost use Rattle.engine_checkpoint.specs.Agree.{PipelineAgrees, AreNewTickets, HasFreed, HomeIsSent, data_of, home_pair};
-ghost use Rattle.engine_checkpoint.specs.Advance.{writes_owed};
-ghost use Rattle.engine_checkpoint.specs.Index.{IndexIsRight};
-ghost use Rattle.engine_checkpoint.specs.Kept.{kept, of_committed, places_taken};
-ghost use Rattle.engine_checkpoint.specs.Order.{IsInOrder, HasRoom, HasPlaces};
+ghost use Rattle.engine_checkpoint.specs.Agree.{PipelineAgrees};
+ghost use Rattle.engine_checkpoint.specs.Joining.{Joins, MayJoin};
+ghost use Rattle.engine_checkpoint.specs.Order.{IsInOrder, HasRoom};
 ghost use Rattle.engine_checkpoint.specs.Waits.{HearsMore};
-ghost use Rattle.engine_checkpoint.specs.Steps.{TakesNotices, TakesOne, TakesAnswer, TakesKnown, PollsUpTo, SettlesOrStays, Accepts};
+ghost use Rattle.engine_checkpoint.specs.Steps.{TakesNotices, TakesOne, TakesAnswer, TakesKnown, PollsUpTo, SettlesOrStays};
 ghost use Rattle.engine_checkpoint.specs.Steps.{is_first_settled, ready_after};
 
 use crate::newest::Newest;
@@ -191,35 +181,8 @@ pub fn settle_first(pipeline: &mut Pipeline) -> bool
 
 /// Takes a transaction that was committed as the next record. What was made ready must be enough for it.
 pub fn accept(pipeline: &mut Pipeline, committed: Committed)
-    requires order { IsInOrder pipeline.old }
-    requires room { HasRoom pipeline.old }
-    requires index { IndexIsRight pipeline.old }
-    requires ready { (0 < pipeline.old.ready.records) × (length committed.tickets.items ≤ pipeline.old.ready.writes)
-        × (length committed.payloads.items ≤ pipeline.old.ready.payloads) }
-    requires next { committed.number ≡ pipeline.old.last + 1 }
-    requires places { places_taken pipeline.old + committed.count ≤ pipeline.old.geom.j }
-    requires has { HasPlaces (of_committed committed) }
-    requires below { AreBelow pipeline.old.geom.n committed.payloads.items }
-    ensures agrees { (s : MountedSession) (base : Blocks) (old new : List Event) (l : Ledger) (m : Blocks) (t floor epoch : ℕ) (ring : RingPlaces)
-        (waiting : List (ℕ × ℕ)) (taken : List ℕ) (running : Changes) → PipelineAgrees base old l pipeline.old ring waiting taken
-        → IsSafe s base old l t floor
-        → IsCommitOf running (next_number l) ring.next committed → ((u : ℕ) → IsNoticed u old → IsNoticed u new)
-        → AreNewTickets old new committed.tickets.items → HasFreed l m committed.freed.items
-        → IsInLedger s base new l (data_of pipeline.old ring waiting) (written_of epoch (next_number l) ring.next running.paid running.laid) m t floor
-        committed.tickets.items
-        → ((freed : List ℕ) → HasOnePending base new (with_record l (written_of epoch (next_number l) ring.next running.paid running.laid) m)
-        (with_committed (data_of pipeline.old ring waiting) l (written_of epoch (next_number l) ring.next running.paid running.laid)
-        committed.tickets.items freed) []) → HomeIsSent l.geom new (map home_pair pipeline.old.home.items)
-        → PipelineAgrees base new (with_record l (written_of epoch (next_number l) ring.next running.paid running.laid) m) pipeline.new
-        (with_places ring (places (written_of epoch (next_number l) ring.next running.paid running.laid).says))
-        (waiting ++ pairs_of (next_number l) committed.freed.items) [] }
-    ensures accepts { Accepts committed pipeline.old pipeline.new }
-    ensures order { IsInOrder pipeline.new }
-    ensures room { HasRoom pipeline.new }
-    ensures index { IndexIsRight pipeline.new }
-    ensures kept { kept pipeline.new ≡ kept pipeline.old ++ of_committed committed ∷ [] }
-    ensures taken { places_taken pipeline.new ≡ places_taken pipeline.old + committed.count }
-    ensures owed { writes_owed pipeline.new ≡ writes_owed pipeline.old + length committed.payloads.items + 2 }
+    requires { MayJoin committed pipeline.old }
+    ensures { Joins committed pipeline.old pipeline.new }
 {
     records_stand_in_order();
     a_record_keeps_its_puts();
