@@ -15,3 +15,4 @@ pub mod Advance
 pub mod Adds
 pub mod Bytes
 pub mod Joining
+pub mod Calls

@@ -1,8 +1,8 @@
 -- What a commit asks, and what it does and leaves.
-use Rattle.std.specs.Prelude.{◌≡◌, ◌⊎◌, ℕ, Bool, ◌+◌, ◌<◌, ◌≤◌, IsTrue, List, [], length, map, slice_get, Some, Result, Ok, Err, IfOk, IfErr, OnErr, is_err, vec_capacity}
+use Rattle.std.specs.Prelude.{◌≡◌, ◌⊎◌, ℕ, Bool, ◌+◌, ◌<◌, ◌≤◌, IsTrue, List, [], length, map, slice_get, Some, Result, Ok, Err, IfOk, IfErr, vec_capacity}
 use Rattle.base_types.specs.Seal.{Blocks}
 use Rattle.disk_contract.specs.declared.event.Event.{Event}
-use Rattle.disk_contract.specs.Disk.{HasFailed, OnlyWrites, State}
+use Rattle.disk_contract.specs.Disk.{State}
 use Rattle.layout_journal.specs.Ring.{RingPlaces, with_places}
 use Rattle.layout_journal.specs.Run.{places}
 use Rattle.crash_argument.specs.Ledger.{Ledger, WrittenRecord}
@@ -17,7 +17,7 @@ use Rattle.engine_running.specs.declared.commit.Committed.{Committed}
 use Rattle.engine_running.specs.declared.commit.CommitRoom.{CommitRoom}
 use Rattle.engine_running.specs.Record.{record_of, written_of, block_of, AreBelow, IsTransaction}
 use Rattle.engine_running.specs.Running.{Changes}
-use Rattle.engine_running.specs.Writes.{record_writes}
+use Rattle.engine_running.specs.Writes.{AsksWrites, record_writes}
 use Rattle.crash_argument.specs.Writes.{AddsWrites, AddsFront}
 
 -- the ring places that the record of these changes takes
@@ -92,10 +92,8 @@ pub record MayBeCommitted (blocks : ℕ) (q : Changes) (memory : CommitRoom) (ri
 pub record Issues {A E : Type 0} (tells : Bool) (result : Result A E) (q : Changes) (before after : RingPlaces) (old new : State) : Type 0 where
   -- its ring places are taken in either case
   pub ring : after ≡ with_places before (places_for q)
-  -- the disk was asked for writes alone
-  pub spends : OnlyWrites (is_err result) old new
-  -- and where it tells, it has failed if the call was refused
-  pub cause : IsTrue tells → OnErr result (HasFailed new)
+  -- and the disk was asked for writes alone
+  pub asks : AsksWrites tells result old new
 
 -- What the commit of these changes as the record of this number does, where the ring was `before`.
 pub record Commits (tells : Bool) (q : Changes) (epoch number : ℕ) (result : Result Committed Changes) (before after : RingPlaces) (old new : State) : Type 0 where

@@ -54,15 +54,15 @@ returns g c =
     let joins = c.accept.ensures in
     let count : tx.count ≡ places_for q = made.count in
     record {
-      issues = record { ring = c.in-Ok.ensures.issues.ring; spends = c.in-Ok.ensures.issues.spends; cause = λ tells. tt };
+      issues = record { ring = c.in-Ok.ensures.issues.ring; asks = record { spends = c.in-Ok.ensures.issues.asks.spends; cause = λ tells. tt } };
       agrees = λ tells s l m t floor waiting taken safe a may in_taken freed.
           let p = data_of v ring waiting in
           let is_next : c.args.number ≡ next_number l = may.is_next in
           let left = c.in-Ok.ensures.leaves tells s l p m t floor a.ring_geom may a.idle a.agree safe in
           let off : AreNotOnTheirWay old p q.laid = λ i put is. (a.free put.block (in_taken i put is)).1 in
           let one = c.in-Ok.ensures.one tells s l p m t floor a.ring_geom may a.agree safe a.one off in
-          let there = subst (λ (bs : Blocks). PipelineAgrees bs old l v ring waiting taken) (sym c.in-Ok.ensures.issues.spends.same.base) a in
-          let safe_there = subst (λ (bs : Blocks). IsSafe s bs old l t floor) (sym c.in-Ok.ensures.issues.spends.same.base) safe in
+          let there = subst (λ (bs : Blocks). PipelineAgrees bs old l v ring waiting taken) (sym c.in-Ok.ensures.issues.asks.spends.same.base) a in
+          let safe_there = subst (λ (bs : Blocks). IsSafe s bs old l t floor) (sym c.in-Ok.ensures.issues.asks.spends.same.base) safe in
           let joined = joins.agrees s base old new l m t floor c.args.epoch ring waiting taken q there safe_there
           (record {
             made = subst (λ n. IsCommitOf q n ring.next tx) is_next made;
@@ -96,7 +96,7 @@ returns g c =
 
 pub returns-in-Err : goal.returns-in-Err
 returns-in-Err g c = record {
-  issues = record { ring = c.in-Err.ensures.issues.ring; spends = c.in-Err.ensures.issues.spends; cause = c.in-Err.ensures.issues.cause };
+  issues = record { ring = c.in-Err.ensures.issues.ring; asks = record { spends = c.in-Err.ensures.issues.asks.spends; cause = c.in-Err.ensures.issues.asks.cause } };
   agrees = λ tells s l m t floor waiting taken safe a may in_taken freed. c.in-Err.ensures.leaves tells s l (data_of c.args.pipeline.now c.args.ring.now waiting) m t floor a.ring_geom may a.idle a.agree safe;
   becomes = tt;
   back = (c.in-Err.ensures.back, refl);

@@ -62,7 +62,7 @@ returns-in-Ok g c =
         (c.a_commit_stays_sound.ensures.sound p then_p ring v.dead became.committed (places_for q) number c.requires.sound became.accepts c.requires.next became.last became.order became.room became.index
         (ap (λ (r : RingPlaces). r.taken) (sym did.issues.ring) ∙ became.taken)) in
     record {
-      issues = record { ring = did.issues.ring ∙ ap (λ (x : Changes). with_places ring (places_for x)) is; spends = did.issues.spends; cause = λ tells. tt };
+      issues = record { ring = did.issues.ring ∙ ap (λ (x : Changes). with_places ring (places_for x)) is; asks = record { spends = did.issues.asks.spends; cause = λ tells. tt } };
       kept = c.sealed.ensures.kept v.changes (kept_again v e c.take_running-running.ensures.rest c.requires.kept);
       right = λ tells.
           books_right c.a_running_transaction_may_be_committed.ensures.is c.a_running_transaction_may_be_committed.ensures.taken c.a_running_transaction_may_be_committed.ensures.freed
@@ -75,7 +75,7 @@ returns-in-Ok g c =
       back = tt;
       writes = λ tells.
           record_written writes.size writes.accepted writes.failed v p then_p ring c.args.epoch number d then_d
-          c.requires.kept (c.requires.sound.goes_with.ring_geom ∙ c.requires.geom) did.issues.spends.same.base _ tt became.committed.tickets.items (adds tells) becomes.kept becomes.owed;
+          c.requires.kept (c.requires.sound.goes_with.ring_geom ∙ c.requires.geom) did.issues.asks.spends.same.base _ tt became.committed.tickets.items (adds tells) becomes.kept becomes.owed;
       joins = λ tells. (
         became.committed.tickets.items,
         record { committed = became.committed; joined = became.accepts.committed; number_is = became.made.number; tickets_are = refl; expected = became.accepts.expected; noticed = became.accepts.noticed },
@@ -98,7 +98,7 @@ returns-in-Err g c =
     let writes = c.a_record_makes_so_many_writes.ensures in
     let back = given_back v e c.give_back.new.self q c.in-Err.running c.take_running-running.ensures.rest is did.back.0 c.give_back.ensures in
     record {
-      issues = record { ring = did.issues.ring ∙ ap (λ (x : Changes). with_places ring (places_for x)) is; spends = did.issues.spends; cause = did.issues.cause };
+      issues = record { ring = did.issues.ring ∙ ap (λ (x : Changes). with_places ring (places_for x)) is; asks = record { spends = did.issues.asks.spends; cause = did.issues.asks.cause } };
       kept = subst AreKept (sym back) c.requires.kept;
       right = λ tells.
           books_safe c.a_running_transaction_may_be_committed.ensures.is c.a_running_transaction_may_be_committed.ensures.taken c.a_running_transaction_may_be_committed.ensures.freed
@@ -108,7 +108,7 @@ returns-in-Err g c =
       back = (back, did.back.1);
       writes = λ tells.
           front_written writes.size writes.accepted writes.failed v p c.commit_next.new.pipeline ring c.args.epoch c.args.number d then_d
-          c.requires.kept (c.requires.sound.goes_with.ring_geom ∙ c.requires.geom) did.issues.spends.same.base _ _ did.back.1
+          c.requires.kept (c.requires.sound.goes_with.ring_geom ∙ c.requires.geom) did.issues.asks.spends.same.base _ _ did.back.1
           (subst (λ (x : Changes). AddsFront (writes_of ring c.args.epoch c.args.number x) d.log then_d.log) is (did.front tells));
       joins = λ tells. tt;
       due = λ tells. tt;

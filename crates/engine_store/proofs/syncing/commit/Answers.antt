@@ -52,7 +52,7 @@ returns-in-Ok g c =
       becomes = c.in-Ok.ensures.becomes;
       ring_is = c.in-Ok.ensures.issues.ring;
       writes = c.in-Ok.ensures.writes;
-      spends = c.in-Ok.ensures.issues.spends;
+      spends = c.in-Ok.ensures.issues.asks.spends;
       forgets = forgets_record (v.first + v.point) v.books call.new.books v.pipeline call.new.pipeline call.new.ring c.in-Ok.ensures.becomes going.sound.order going.number v.cache c.forget_last.new.cache c.forget_last.ensures;
       due = c.in-Ok.ensures.due;
       joins = c.in-Ok.ensures.joins;
@@ -60,7 +60,7 @@ returns-in-Ok g c =
     record {
       kept = kept_success laws g.D.Disk.tells v d e c.args.room c.requires.kept c.requires.going c.requires.may call.new.ring call.new.pipeline call.new.books c.forget_last.new.cache succeeded;
       syncs = syncs_success laws g.D.Disk.tells v d e c.args.room c.requires.kept c.requires.going c.requires.may call.new.ring call.new.pipeline call.new.books c.forget_last.new.cache succeeded;
-      waits = c.in-Ok.ensures.issues.spends.waits;
+      waits = c.in-Ok.ensures.issues.asks.spends.waits;
       writes = λ tells. (c.in-Ok.ensures.writes tells).grows;
       written = commit_told laws c.a_log_tells_its_records.ensures.more g.D.Disk.tells v d e c.requires.kept c.requires.going c.args.room c.requires.may call.new.ring call.new.pipeline call.new.books c.forget_last.new.cache succeeded;
       memory = tt;
@@ -86,14 +86,14 @@ returns-in-Err g c =
       right = c.in-Err.ensures.right;
       ring_is = c.in-Err.ensures.issues.ring;
       writes = λ t. subst (λ (q : Pipeline). WritesRecord {A = Unit {0}} {E = DiskFault} (Err c.in-Err.field-0) (writes_of v.ring v.pipeline.header.epoch (v.first + v.point) v.books.changes) v.books v.pipeline q d e) c.in-Err.ensures.back.1 (c.in-Err.ensures.writes t);
-      spends = c.in-Err.ensures.issues.spends;
-      cause = c.in-Err.ensures.issues.cause;
+      spends = c.in-Err.ensures.issues.asks.spends;
+      cause = c.in-Err.ensures.issues.asks.cause;
     } in
     let after = failure laws g.D.Disk.tells v d e c.args.room c.requires.kept c.requires.going c.requires.may call.new.ring c.in-Err.field-0 failed call.new.pipeline call.new.books c.in-Err.ensures.back.1 c.in-Err.ensures.back.0 in
     record {
       kept = after.0;
       syncs = after.1;
-      waits = c.in-Err.ensures.issues.spends.waits;
+      waits = c.in-Err.ensures.issues.asks.spends.waits;
       writes = λ tells. (c.in-Err.ensures.writes tells).grows;
       written = λ ticks tells. tt;
       memory = tt;

@@ -34,7 +34,7 @@ returns-then-is_err g c =
     let same = same_writes c.geom-geom.result c.args.ring.now.geom c.args.epoch c.args.number c.take-place.result c.args.ring.now.next c.payloads-paid.result.now c.args.self.paid c.fresh-laid.result.now c.args.self.laid c.geom-geom.ensures c.take-place.ensures.first c.payloads-paid.ensures c.fresh-laid.ensures in
     subst (λ (ws : List (ℕ × List ℕ)). AddsFront ws (g.D.Disk.state c.args.disk.now).log (g.D.Disk.state c.issue_record.new.disk).log) same (err_adds _ c.issue_record.result _ _ _ _ (sym c.is_err.ensures.value ∙ c.if-is_err.true) (c.issue_record.ensures.log tells)) in
     record {
-  issues = record { ring = c.take-place.ensures.places ∙ ap (with_places c.args.ring.now) (c.places_of-count.ensures 0 0 c.args.self.paid c.args.self.laid (ap (λ (l : List Put). length l) (sym c.payloads-paid.ensures)) (ap (λ (l : List Put). length l) (sym c.fresh-laid.ensures))); spends = subst (λ (failed : Bool). OnlyWrites failed (g.D.Disk.state c.args.disk.now) (g.D.Disk.state c.issue_record.new.disk)) (sym c.is_err.ensures.value ∙ c.if-is_err.true) c.issue_record.ensures.spends; cause = λ tells. err_cause c.issue_record.result (sym c.is_err.ensures.value ∙ c.if-is_err.true) (c.issue_record.ensures.cause tells) };
+  issues = record { ring = c.take-place.ensures.places ∙ ap (with_places c.args.ring.now) (c.places_of-count.ensures 0 0 c.args.self.paid c.args.self.laid (ap (λ (l : List Put). length l) (sym c.payloads-paid.ensures)) (ap (λ (l : List Put). length l) (sym c.fresh-laid.ensures))); asks = record { spends = subst (λ (failed : Bool). OnlyWrites failed (g.D.Disk.state c.args.disk.now) (g.D.Disk.state c.issue_record.new.disk)) (sym c.is_err.ensures.value ∙ c.if-is_err.true) c.issue_record.ensures.spends; cause = λ tells. err_cause c.issue_record.result (sym c.is_err.ensures.value ∙ c.if-is_err.true) (c.issue_record.ensures.cause tells) } };
   leaves = λ tells s l p m t floor geom may idle known safe.
     let paid = c.payloads-paid.result.now in
     let laid = c.fresh-laid.result.now in
@@ -71,7 +71,7 @@ returns g c =
     subst (λ (ts : List ℕ). AddsWrites (record_writes c.args.ring.now.geom c.args.epoch c.args.number c.args.ring.now.next c.args.self.paid c.args.self.laid) ts (g.D.Disk.state c.args.disk.now).log (g.D.Disk.state c.issue_record.new.disk).log) (sym tickets)
     (subst (λ (ws : List (ℕ × List ℕ)). AddsWrites ws all.0 (g.D.Disk.state c.args.disk.now).log (g.D.Disk.state c.issue_record.new.disk).log) same all.2) in
     record {
-  issues = record { ring = c.take-place.ensures.places ∙ ap (with_places c.args.ring.now) (c.places_of-count.ensures 0 0 c.args.self.paid c.args.self.laid (ap (λ (l : List Put). length l) (sym c.payloads-paid.ensures)) (ap (λ (l : List Put). length l) (sym c.fresh-laid.ensures))); spends = subst (λ (failed : Bool). OnlyWrites failed (g.D.Disk.state c.args.disk.now) (g.D.Disk.state c.issue_record.new.disk)) (sym c.is_err.ensures.value ∙ c.if-is_err.false) c.issue_record.ensures.spends; cause = λ tells. tt };
+  issues = record { ring = c.take-place.ensures.places ∙ ap (with_places c.args.ring.now) (c.places_of-count.ensures 0 0 c.args.self.paid c.args.self.laid (ap (λ (l : List Put). length l) (sym c.payloads-paid.ensures)) (ap (λ (l : List Put). length l) (sym c.fresh-laid.ensures))); asks = record { spends = subst (λ (failed : Bool). OnlyWrites failed (g.D.Disk.state c.args.disk.now) (g.D.Disk.state c.issue_record.new.disk)) (sym c.is_err.ensures.value ∙ c.if-is_err.false) c.issue_record.ensures.spends; cause = λ tells. tt } };
   leaves = λ tells s l p m t floor geom may idle known safe.
     let paid = c.payloads-paid.result.now in
     let laid = c.fresh-laid.result.now in
