@@ -26,8 +26,9 @@ ghost use Rattle.engine_checkpoint.specs.Turns.{with_served, going_home};
 
 use crate::batch::{begin_batch, end_batch};
 use crate::header::{turn_header, write_next_header};
+use crate::pipeline::{settle_first, take_notices};
 use crate::waits::{wait_for_all, wait_upto};
-use crate::{HomeWrite, Pipeline, settle_first, take_notices, the_newest_payloads_are_the_map};
+use crate::{HomeWrite, Pipeline, the_newest_payloads_are_the_map};
 use crash_argument::{
     a_batch_goes_home, a_read_gives_what_was_written_last, calls_add_at_most_one_write,
     counts_tell_the_batch, fewer_may_wait, records_stand_in_order, the_home_test_is_exact,

@@ -29,7 +29,8 @@ ghost use Rattle.engine_checkpoint.specs.Newest.{spot_of, spot_count, spot_room,
 ghost use Rattle.engine_checkpoint.specs.Order.{IsFit, MayWriteOn};
 ghost use Rattle.engine_checkpoint.specs.Turns.{EndsOrStays, BatchAdds, AddsBatch, AreOpenHome, is_batch_noticed, is_batch_due};
 
-use crate::{HomeWrite, Newest, Pipeline, write_home};
+use crate::home::write_home;
+use crate::{HomeWrite, Newest, Pipeline};
 use base_types::Block;
 use crash_argument::{
     a_batch_comes_home, a_batch_goes_home, counts_tell_the_batch, fewer_may_be_sent,
@@ -42,7 +43,7 @@ use std::collections::VecDeque;
 
 /// Lets the batch be placed, where there is one and none of its checkpoint writes is open, and answers whether it
 /// did. Then the notes drop their tickets.
-pub fn end_batch(pipeline: &mut Pipeline) -> bool
+pub(crate) fn end_batch(pipeline: &mut Pipeline) -> bool
     requires { IsFit pipeline.old }
     ensures agrees { (s : MountedSession) (base : Blocks) (log : List Event) (l : Ledger) (t floor : ℕ) (ring : RingPlaces) (waiting : List (ℕ × ℕ))
         (taken : List ℕ) → IsSafe s base log l t floor → PipelineAgrees base log l pipeline.old ring waiting taken
@@ -84,7 +85,7 @@ pub fn end_batch(pipeline: &mut Pipeline) -> bool
 ///
 /// # Errors
 /// A write failed, which the disk has counted. What a crash leaves is still one sync point.
-pub fn begin_batch<D: Disk>(disk: &mut D, pipeline: &mut Pipeline) -> Result<(), DiskFault>
+pub(crate) fn begin_batch<D: Disk>(disk: &mut D, pipeline: &mut Pipeline) -> Result<(), DiskFault>
     requires { MayWriteOn (D.state disk.old).blocks pipeline.old }
     ensures agrees { IsTrue D.tells → (s : MountedSession) (l : Ledger) (t floor : ℕ) (ring : RingPlaces) (waiting : List (ℕ × ℕ)) (taken : List ℕ)
         → IsSafe s (D.state disk.old).base (D.state disk.old).log l t floor

@@ -37,7 +37,7 @@ use std::collections::VecDeque;
 /// Lets the pending header become the durable one, where its write is noticed, and answers whether it did. Then
 /// the placed records before its start are released, with their ring places, and the durable ones up to its
 /// `sure` are sure.
-pub fn turn_header(pipeline: &mut Pipeline, ring: &mut Ring) -> bool
+pub(crate) fn turn_header(pipeline: &mut Pipeline, ring: &mut Ring) -> bool
     requires fit { IsFit pipeline.old }
     requires taken { ring.old.taken ≡ places_taken pipeline.old }
     ensures agrees { (s : MountedSession) (base : Blocks) (log : List Event) (l : Ledger) (t floor : ℕ) (waiting : List (ℕ × ℕ)) (taken : List ℕ)
@@ -125,7 +125,7 @@ fn other_slot(slot: u32) -> u32
 ///
 /// # Errors
 /// The write failed, which the disk has counted. What a crash leaves is still one sync point.
-pub fn write_next_header<D: Disk>(
+pub(crate) fn write_next_header<D: Disk>(
     disk: &mut D,
     pipeline: &mut Pipeline,
     ring: &Ring,

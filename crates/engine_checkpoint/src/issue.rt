@@ -3,7 +3,8 @@
 
 ghost use Rattle.engine_checkpoint.specs.Joining.{CommitsNext, MayCommitNext};
 
-use crate::{Pipeline, accept};
+use crate::Pipeline;
+use crate::pipeline::accept;
 use disk_contract::Disk;
 use engine_running::{CommitRoom, Running, noticed_tickets_stay_so};
 use layout_journal::Ring;

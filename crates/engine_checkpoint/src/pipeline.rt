@@ -92,7 +92,7 @@ pub struct Pipeline {
 ///
 /// # Errors
 /// A poll failed, which the disk has counted. The notices before it are taken.
-pub fn take_notices<D: Disk>(disk: &mut D, pipeline: &mut Pipeline) -> Result<(), DiskFault>
+pub(crate) fn take_notices<D: Disk>(disk: &mut D, pipeline: &mut Pipeline) -> Result<(), DiskFault>
     ensures agrees { IsTrue D.tells → (s : MountedSession) (l : Ledger) (t floor : ℕ) (ring : RingPlaces) (waiting : List (ℕ × ℕ)) (taken : List ℕ)
         → IsSafe s (D.state disk.old).base (D.state disk.old).log l t floor
         → PipelineAgrees (D.state disk.old).base (D.state disk.old).log l pipeline.old ring waiting taken
@@ -142,7 +142,7 @@ fn take_notice<D: Disk>(disk: &mut D, pipeline: &mut Pipeline) -> Result<bool, D
 
 /// Lets the oldest committed transaction become durable, where none of its tickets is open, and answers
 /// whether it did. Then the notes drop these tickets.
-pub fn settle_first(pipeline: &mut Pipeline) -> bool
+pub(crate) fn settle_first(pipeline: &mut Pipeline) -> bool
     requires order { IsInOrder pipeline.old }
     requires room { HasRoom pipeline.old }
     ensures agrees { (s : MountedSession) (base : Blocks) (log : List Event) (l : Ledger) (t floor : ℕ) (ring : RingPlaces) (waiting : List (ℕ × ℕ))
@@ -180,7 +180,7 @@ pub fn settle_first(pipeline: &mut Pipeline) -> bool
 }
 
 /// Takes a transaction that was committed as the next record. What was made ready must be enough for it.
-pub fn accept(pipeline: &mut Pipeline, committed: Committed)
+pub(crate) fn accept(pipeline: &mut Pipeline, committed: Committed)
     requires { MayJoin committed pipeline.old }
     ensures { Joins committed pipeline.old pipeline.new }
 {

@@ -24,7 +24,7 @@ use disk_contract::{Disk, DiskFault};
 ///
 /// # Errors
 /// A wait failed, which the disk has counted. The tickets before it are noticed.
-pub fn wait_for_all<D: Disk>(disk: &mut D, pipeline: &mut Pipeline) -> Result<(), DiskFault>
+pub(crate) fn wait_for_all<D: Disk>(disk: &mut D, pipeline: &mut Pipeline) -> Result<(), DiskFault>
     ensures agrees { IsTrue D.tells → (s : MountedSession) (l : Ledger) (t floor : ℕ) (ring : RingPlaces) (waiting : List (ℕ × ℕ)) (taken : List ℕ)
         → IsSafe s (D.state disk.old).base (D.state disk.old).log l t floor
         → PipelineAgrees (D.state disk.old).base (D.state disk.old).log l pipeline.old ring waiting taken
@@ -71,7 +71,7 @@ fn wait_for_note<D: Disk>(disk: &mut D, pipeline: &mut Pipeline, at: usize) -> R
 ///
 /// # Errors
 /// A wait failed, which the disk has counted. The tickets before it are noticed.
-pub fn wait_upto<D: Disk>(disk: &mut D, pipeline: &mut Pipeline, upto: u64) -> Result<(), DiskFault>
+pub(crate) fn wait_upto<D: Disk>(disk: &mut D, pipeline: &mut Pipeline, upto: u64) -> Result<(), DiskFault>
     requires order { IsInOrder pipeline.old }
     ensures agrees { IsTrue D.tells → (s : MountedSession) (l : Ledger) (t floor : ℕ) (ring : RingPlaces) (waiting : List (ℕ × ℕ)) (taken : List ℕ)
         → IsSafe s (D.state disk.old).base (D.state disk.old).log l t floor

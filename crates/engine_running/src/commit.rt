@@ -6,7 +6,8 @@ ghost use Rattle.engine_running.specs.declared.put.Put.{Put};
 ghost use Rattle.engine_running.specs.Record.{record_of, block_of};
 ghost use Rattle.engine_running.specs.Commits.{Commits, HasRoomForCommit, MayBeCommitted};
 
-use crate::{Put, Running, issue_record};
+use crate::writes::issue_record;
+use crate::{Put, Running};
 use base_types::NoMemory;
 use crash_argument::{
     a_write_to_an_idle_block_is_the_one, blocks_to_be_written_are_idle, one_write_is_pending,
