@@ -3,14 +3,20 @@ use Rattle.std.specs.Prelude.{◌≡◌, ℕ, ◌+◌, ◌≤◌, Bool, IsTrue, 
 use Rattle.disk_contract.specs.Disk.{State, writes_in}
 use Rattle.layout_journal.specs.Ring.{RingPlaces}
 use Rattle.crash_argument.specs.Ledger.{Ledger}
-use Rattle.crash_argument.specs.Points.{MountedSession}
+use Rattle.crash_argument.specs.Points.{MountedSession, IsSafe}
 use Rattle.engine_reuse.specs.Dead.{DeadBlocks}
 use Rattle.engine_checkpoint.specs.declared.pipeline.Pipeline.{Pipeline}
 use Rattle.engine_checkpoint.specs.Adds.{AddsHome, LosesFront}
-use Rattle.engine_checkpoint.specs.Advance.{HasTurns, IsRightOn, IsSound, Leaves, Moves, writes_owed}
+use Rattle.engine_checkpoint.specs.Advance.{HasTurns, IsRightOn, IsSound, Leaves, Moves, WhereRight, writes_owed}
+use Rattle.engine_checkpoint.specs.Agree.{PipelineAgrees}
 use Rattle.engine_checkpoint.specs.Bytes.{LeavesBytes}
 use Rattle.engine_checkpoint.specs.Kept.{kept}
 use Rattle.engine_checkpoint.specs.Waits.{LosesCommitted, OnlyNotices, StaysHeard}
+
+-- Where the disk tells and was safe by a ledger with which the pipeline agreed, both are so still by the same ledger.
+abbrev pub StaysAgreed : Bool → State → State → Pipeline → Pipeline → Type 0
+StaysAgreed tells old new v w = IsTrue tells → (s : MountedSession) (l : Ledger) (t floor : ℕ) (ring : RingPlaces) (waiting : List (ℕ × ℕ)) (taken : List ℕ)
+    → IsSafe s old.base old.log l t floor → PipelineAgrees old.base old.log l v ring waiting taken → IsSafe s new.base new.log l t floor × PipelineAgrees new.base new.log l w ring waiting taken
 
 -- The pipeline may be moved on a disk of so many blocks.
 pub record MayMove (blocks : ℕ) (v : Pipeline) (ring : RingPlaces) (dead : DeadBlocks) : Type 0 where
@@ -38,7 +44,7 @@ pub record GoesOn {A E : Type 0} (tells : Bool) (headers : ℕ) (result : Result
   -- and so have some of the committed ones
   pub lost : OnOk result (LosesCommitted v w)
   -- the notes know each notice, as they did
-  pub heard : IsTrue tells → (s : MountedSession) (l : Ledger) (t floor : ℕ) (taken : List ℕ) → IsRightOn s old l t floor v before dead taken → OnOk result (StaysHeard old new v w)
+  pub heard : WhereRight tells old v before dead (OnOk result (StaysHeard old new v w))
   -- live blocks have the bytes that they had
   pub bytes : IsTrue tells → (s : MountedSession) (l : Ledger) (t floor : ℕ) (taken : List ℕ) → IsRightOn s old l t floor v before dead taken → LeavesBytes l v w old new
 

@@ -20,7 +20,7 @@ ghost use Rattle.engine_checkpoint.specs.Serving.{ServesKnown};
 ghost use Rattle.engine_checkpoint.specs.Steps.{is_first_settled, SettlesSome};
 ghost use Rattle.engine_checkpoint.specs.Stages.{IsAtStage};
 ghost use Rattle.engine_checkpoint.specs.Waits.{AreAllNoticed, IsOfRecord, WaitsSome};
-ghost use Rattle.engine_checkpoint.specs.Advance.{AgreesOn, IsRight, IsRightOn, StaysRight, IsSound, LeavesTurns};
+ghost use Rattle.engine_checkpoint.specs.Advance.{AgreesOn, IsRight, IsRightOn, StaysRight, IsSound, LeavesTurns, WhereRight};
 ghost use Rattle.engine_checkpoint.specs.Advance.{NothingIsDue, IsDrained, AdvanceSpends, GoesForward, writes_owed};
 ghost use Rattle.engine_checkpoint.specs.Turns.{with_served, going_home};
 
@@ -57,11 +57,9 @@ impl Pipeline {
     ) -> Result<(), DiskFault>
         requires { MayMove (D.state disk.old).blocks self.old ring.old reuse.old }
         ensures goes { GoesOn D.tells 1 result (D.state disk.old) (D.state disk.new) self.old self.new ring.old ring.new reuse.old reuse.new }
-        ensures due { IsTrue D.tells → (s : MountedSession) (l : Ledger) (t floor : ℕ) (taken : List ℕ)
-            → IsRightOn s (D.state disk.old) l t floor self.old ring.old reuse.old taken → OnOk result (NothingIsDue self.old self.new) }
-        ensures serves { IsTrue D.tells → (s : MountedSession) (l : Ledger) (t floor : ℕ) (taken : List ℕ)
-            → IsRightOn s (D.state disk.old) l t floor self.old ring.old reuse.old taken
-            → OnOk result (ServesKnown (D.state disk.old) (D.state disk.new) self.old self.new reuse.old reuse.new) }
+        ensures due { WhereRight D.tells (D.state disk.old) self.old ring.old reuse.old (OnOk result (NothingIsDue self.old self.new)) }
+        ensures serves { WhereRight D.tells (D.state disk.old) self.old ring.old reuse.old
+            (OnOk result (ServesKnown (D.state disk.old) (D.state disk.new) self.old self.new reuse.old reuse.new)) }
         ensures spends { AdvanceSpends result (D.state disk.old) (D.state disk.new) }
         ensures polled { IsTrue D.tells → PollsThenWrites (D.state disk.old).manner 64 (D.state disk.old).polls (D.state disk.old).log
             (D.state disk.new).polls (D.state disk.new).log }
@@ -88,8 +86,7 @@ impl Pipeline {
         ensures goes { GoesOn D.tells 4 result (D.state disk.old) (D.state disk.new) self.old self.new ring.old ring.new reuse.old reuse.new }
         ensures drained { OnOk result (IsDrained self.new reuse.new) }
         ensures spends { WaitsSome (is_err result) (D.state disk.old) (D.state disk.new) }
-        ensures cause { IsTrue D.tells → (s : MountedSession) (l : Ledger) (t floor : ℕ) (taken : List ℕ)
-            → IsRightOn s (D.state disk.old) l t floor self.old ring.old reuse.old taken → OnErr result (HasFailed (D.state disk.new)) }
+        ensures cause { WhereRight D.tells (D.state disk.old) self.old ring.old reuse.old (OnErr result (HasFailed (D.state disk.new))) }
     {
         calls_change_what_is_dead();
         a_freed_block_waits();
@@ -158,12 +155,10 @@ fn go_on<D: Disk>(
     requires size { (D.state disk.old).blocks ≡ pipeline.old.geom.n }
     requires turns { LeavesTurns 1 pipeline.old }
     ensures goes { GoesOn D.tells 1 result (D.state disk.old) (D.state disk.new) pipeline.old pipeline.new ring.old ring.new reuse.old reuse.new }
-    ensures due { IsTrue D.tells → (s : MountedSession) (l : Ledger) (t floor : ℕ) (taken : List ℕ)
-        → IsRightOn s (D.state disk.old) l t floor pipeline.old ring.old reuse.old taken → OnOk result (NothingIsDue pipeline.old pipeline.new) }
+    ensures due { WhereRight D.tells (D.state disk.old) pipeline.old ring.old reuse.old (OnOk result (NothingIsDue pipeline.old pipeline.new)) }
     ensures stage { AreAllNoticed pipeline.old.notes.notes → OnOk result ((k : ℕ) → IsAtStage k pipeline.old → IsAtStage (k + 1) pipeline.new) }
-    ensures serves { IsTrue D.tells → (s : MountedSession) (l : Ledger) (t floor : ℕ) (taken : List ℕ)
-        → IsRightOn s (D.state disk.old) l t floor pipeline.old ring.old reuse.old taken
-        → OnOk result (ServesKnown (D.state disk.old) (D.state disk.new) pipeline.old pipeline.new reuse.old reuse.new) }
+    ensures serves { WhereRight D.tells (D.state disk.old) pipeline.old ring.old reuse.old
+        (OnOk result (ServesKnown (D.state disk.old) (D.state disk.new) pipeline.old pipeline.new reuse.old reuse.new)) }
     ensures writes { IsTrue D.tells → GrowsByWrites (D.state disk.old).log (D.state disk.new).log }
     ensures spends { OnlyWrites (is_err result) (D.state disk.old) (D.state disk.new) }
     ensures cause { IsTrue D.tells → OnErr result (HasFailed (D.state disk.new)) }

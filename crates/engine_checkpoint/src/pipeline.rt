@@ -12,6 +12,7 @@ ghost use Rattle.crash_argument.specs.Ledger.{Ledger};
 ghost use Rattle.crash_argument.specs.Points.{MountedSession, IsSafe};
 ghost use Rattle.crash_argument.specs.Steps.{with_known};
 ghost use Rattle.engine_notes.specs.Notes.{is_expected, is_noticed};
+ghost use Rattle.engine_checkpoint.specs.Calls.{StaysAgreed};
 ghost use Rattle.engine_checkpoint.specs.Agree.{PipelineAgrees};
 ghost use Rattle.engine_checkpoint.specs.Joining.{Joins, MayJoin};
 ghost use Rattle.engine_checkpoint.specs.Order.{IsInOrder, HasRoom};
@@ -93,11 +94,7 @@ pub struct Pipeline {
 /// # Errors
 /// A poll failed, which the disk has counted. The notices before it are taken.
 pub(crate) fn take_notices<D: Disk>(disk: &mut D, pipeline: &mut Pipeline) -> Result<(), DiskFault>
-    ensures agrees { IsTrue D.tells → (s : MountedSession) (l : Ledger) (t floor : ℕ) (ring : RingPlaces) (waiting : List (ℕ × ℕ)) (taken : List ℕ)
-        → IsSafe s (D.state disk.old).base (D.state disk.old).log l t floor
-        → PipelineAgrees (D.state disk.old).base (D.state disk.old).log l pipeline.old ring waiting taken
-        → IsSafe s (D.state disk.new).base (D.state disk.new).log l t floor
-        × PipelineAgrees (D.state disk.new).base (D.state disk.new).log l pipeline.new ring waiting taken }
+    ensures agrees { StaysAgreed D.tells (D.state disk.old) (D.state disk.new) pipeline.old pipeline.new }
     ensures takes { IsTrue D.tells → TakesNotices result pipeline.old pipeline.new (D.state disk.old) (D.state disk.new) }
     ensures rest { pipeline.new ≡ record pipeline.old { notes = pipeline.new.notes } }
     ensures hears { HearsMore pipeline.old.notes pipeline.new.notes }
@@ -115,11 +112,7 @@ pub(crate) fn take_notices<D: Disk>(disk: &mut D, pipeline: &mut Pipeline) -> Re
 
 /// Takes one notice, and answers whether there was one.
 fn take_notice<D: Disk>(disk: &mut D, pipeline: &mut Pipeline) -> Result<bool, DiskFault>
-    ensures agrees { IsTrue D.tells → (s : MountedSession) (l : Ledger) (t floor : ℕ) (ring : RingPlaces) (waiting : List (ℕ × ℕ)) (taken : List ℕ)
-        → IsSafe s (D.state disk.old).base (D.state disk.old).log l t floor
-        → PipelineAgrees (D.state disk.old).base (D.state disk.old).log l pipeline.old ring waiting taken
-        → IsSafe s (D.state disk.new).base (D.state disk.new).log l t floor
-        × PipelineAgrees (D.state disk.new).base (D.state disk.new).log l pipeline.new ring waiting taken }
+    ensures agrees { StaysAgreed D.tells (D.state disk.old) (D.state disk.new) pipeline.old pipeline.new }
     ensures takes { IsTrue D.tells → TakesOne result pipeline.old pipeline.new (D.state disk.old).log (D.state disk.new).log }
     ensures rest { pipeline.new ≡ record pipeline.old { notes = pipeline.new.notes } }
     ensures hears { HearsMore pipeline.old.notes pipeline.new.notes }
