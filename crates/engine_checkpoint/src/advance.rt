@@ -15,7 +15,7 @@ ghost use Rattle.engine_checkpoint.specs.Agree.{NotesAreGiven, PipelineAgrees, d
 ghost use Rattle.engine_checkpoint.specs.Calls.{GoesOn, MayMove, OnlyHears};
 ghost use Rattle.engine_checkpoint.specs.Bytes.{LeavesBytes};
 ghost use Rattle.engine_checkpoint.specs.Kept.{kept};
-ghost use Rattle.engine_checkpoint.specs.Order.{IsInOrder, HasRoom, IsFit};
+ghost use Rattle.engine_checkpoint.specs.Order.{IsFit};
 ghost use Rattle.engine_checkpoint.specs.Serving.{ServesKnown};
 ghost use Rattle.engine_checkpoint.specs.Steps.{is_first_settled, SettlesSome};
 ghost use Rattle.engine_checkpoint.specs.Stages.{IsAtStage};
@@ -204,15 +204,13 @@ fn go_forward(pipeline: &mut Pipeline, ring: &mut Ring, reuse: &mut Reuse)
 
 /// Lets the committed records become durable, oldest first, up to the first of which a ticket is open.
 fn settle_all(pipeline: &mut Pipeline)
-    requires order { IsInOrder pipeline.old }
-    requires room { HasRoom pipeline.old }
+    requires { IsFit pipeline.old }
     ensures agrees { (s : MountedSession) (base : Blocks) (log : List Event) (l : Ledger) (t floor : ℕ) (ring : RingPlaces) (waiting : List (ℕ × ℕ))
         (taken : List ℕ) → IsSafe s base log l t floor → PipelineAgrees base log l pipeline.old ring waiting taken
         → AgreesOn s base log l t floor pipeline.new ring waiting taken }
     ensures due { is_first_settled pipeline.new.committed.items pipeline.new.notes.notes ≡ false }
     ensures settles { (count : ℕ) × SettlesSome count pipeline.old pipeline.new }
-    ensures order { IsInOrder pipeline.new }
-    ensures room { HasRoom pipeline.new }
+    ensures fit { IsFit pipeline.new }
 {
     for turn in 0..pipeline.committed.len() {
         if !settle_first(pipeline) {
@@ -223,12 +221,10 @@ fn settle_all(pipeline: &mut Pipeline)
 
 /// Gives back the blocks that records freed which are sure now, and to which no checkpoint write is open.
 fn serve_blocks(pipeline: &mut Pipeline, reuse: &mut Reuse)
-    requires order { IsInOrder pipeline.old }
-    requires room { HasRoom pipeline.old }
+    requires { IsFit pipeline.old }
     ensures serves { reuse.new ≡ with_served pipeline.old reuse.old }
     ensures rest { pipeline.new ≡ record pipeline.old { blocks = pipeline.new.blocks } }
-    ensures order { IsInOrder pipeline.new }
-    ensures room { HasRoom pipeline.new }
+    ensures fit { IsFit pipeline.new }
 {
     if !reuse.may_release(pipeline.header.sure) {
         return;

@@ -15,7 +15,7 @@ ghost use Rattle.engine_notes.specs.Notes.{is_expected, is_noticed};
 ghost use Rattle.engine_checkpoint.specs.Calls.{StaysAgreed};
 ghost use Rattle.engine_checkpoint.specs.Agree.{PipelineAgrees};
 ghost use Rattle.engine_checkpoint.specs.Joining.{Joins, MayJoin};
-ghost use Rattle.engine_checkpoint.specs.Order.{IsInOrder, HasRoom};
+ghost use Rattle.engine_checkpoint.specs.Order.{IsFit};
 ghost use Rattle.engine_checkpoint.specs.Waits.{HearsMore};
 ghost use Rattle.engine_checkpoint.specs.Steps.{TakesNotices, TakesOne, TakesAnswer, TakesKnown, PollsUpTo, SettlesOrStays};
 ghost use Rattle.engine_checkpoint.specs.Steps.{is_first_settled, ready_after};
@@ -136,16 +136,14 @@ fn take_notice<D: Disk>(disk: &mut D, pipeline: &mut Pipeline) -> Result<bool, D
 /// Lets the oldest committed transaction become durable, where none of its tickets is open, and answers
 /// whether it did. Then the notes drop these tickets.
 pub(crate) fn settle_first(pipeline: &mut Pipeline) -> bool
-    requires order { IsInOrder pipeline.old }
-    requires room { HasRoom pipeline.old }
+    requires { IsFit pipeline.old }
     ensures agrees { (s : MountedSession) (base : Blocks) (log : List Event) (l : Ledger) (t floor : ℕ) (ring : RingPlaces) (waiting : List (ℕ × ℕ))
         (taken : List ℕ) → IsSafe s base log l t floor → PipelineAgrees base log l pipeline.old ring waiting taken
         → IsSafe s base log (if result then with_known l (l.known + 1) else l) t floor
         × PipelineAgrees base log (if result then with_known l (l.known + 1) else l) pipeline.new ring waiting taken }
     ensures exact { result ≡ is_first_settled pipeline.old.committed.items pipeline.old.notes.notes }
     ensures settles { SettlesOrStays result pipeline.old pipeline.new }
-    ensures order { IsInOrder pipeline.new }
-    ensures room { HasRoom pipeline.new }
+    ensures fit { IsFit pipeline.new }
 {
     records_become_durable();
     noticed_records_are_known();

@@ -67,9 +67,9 @@ returns-clause-exact c =
 pub unwrap-requires : goal.unwrap-requires
 unwrap-requires c = c.push_back.ensures.succeeds (omega (arith, c.requires.room.durable, c.pop_front.ensures.len, ap (λ o. length (option_to_list o)) c.unwrap-first.ensures))
 
-pub returns-clause-order : goal.returns-clause-order
-returns-clause-order c =
-    let v = c.args.pipeline.now in
+pub returns-clause-fit : goal.returns-clause-fit
+returns-clause-fit c = record {
+  order =     let v = c.args.pipeline.now in
     let tx = c.unwrap-first.result in
     let d = c.unwrap-durable.result in
     let cs = c.pop_front.new.self in
@@ -77,11 +77,8 @@ returns-clause-order c =
     let first : v.committed.items ≡ tx ∷ cs.items = c.pop_front.ensures.items ∙ ap (λ o. option_to_list o ++ cs.items) c.unwrap-first.ensures in
     let is_of : IsDurableOf tx d = subst (λ r. IfOk r (IsDurableOf tx)) c.unwrap-durable.ensures c.settled_for_good.ensures.ok in
     let more : c.push_back.new.self.items ≡ v.durable.items ++ d ∷ [] = c.push_back.ensures.items ∙ choose_true _ _ _ (c.push_back.ensures.succeeds (omega (arith, c.requires.room.durable, c.pop_front.ensures.len, ap (λ o. length (option_to_list o)) c.unwrap-first.ensures))) in
-    order_settled v w refl (kept_settled v w tx d refl first more is_of) (omega (arith, length-append v.durable.items (d ∷ []), ap (λ (ds : List Durable). length ds) more)) c.requires.order
-
-pub returns-clause-room : goal.returns-clause-room
-returns-clause-room c =
-    let v = c.args.pipeline.now in
+    order_settled v w refl (kept_settled v w tx d refl first more is_of) (omega (arith, length-append v.durable.items (d ∷ []), ap (λ (ds : List Durable). length ds) more)) c.requires.order;
+  room =     let v = c.args.pipeline.now in
     let tx = c.unwrap-first.result in
     let d = c.unwrap-durable.result in
     let cs = c.pop_front.new.self in
@@ -94,4 +91,5 @@ returns-clause-room c =
     let more : c.push_back.new.self.items ≡ v.durable.items ++ d ∷ [] = c.push_back.ensures.items ∙ choose_true _ _ _ (c.push_back.ensures.succeeds room) in
     let one : deque_len c.push_back.new.self ≡ deque_len v.durable + 1 = c.push_back.ensures.len ∙ choose_true _ _ _ (c.push_back.ensures.succeeds room) in
     room_settled v w refl (kept_settled v w tx d refl first more is_of) (omega (arith, less, one)) (omega (arith, less)) c.push_back.ensures.capacity (omega (arith, c.pop_front.ensures.capacity))
-    (room_of_header c.notes_of_few_tickets_are_few.ensures v.next v.notes c.settled_for_good.new.notes c.lawful-2.ensures (λ u e. (and_parts _ _ (sym (forgets.expected u) ∙ e)).1) forgets.room) c.requires.room
+    (room_of_header c.notes_of_few_tickets_are_few.ensures v.next v.notes c.settled_for_good.new.notes c.lawful-2.ensures (λ u e. (and_parts _ _ (sym (forgets.expected u) ∙ e)).1) forgets.room) c.requires.room;
+}

@@ -91,7 +91,7 @@ returns-clause-goes g c = record {
   right = λ tells s l t floor taken right.
     served_stays c.loop-round.self c.serve_blocks.new.pipeline c.loop-round.ring c.loop-round.reuse c.serve_blocks.new.reuse c.serve_blocks.ensures.serves c.serve_blocks.ensures.rest s (g.D.Disk.state c.loop-round.disk).base (g.D.Disk.state c.loop-round.disk).log l t floor taken
     c.a_freed_block_waits.ensures.stays c.fewer_may_wait.ensures (c.loop-round.invariant.right tells s l t floor taken right);
-  sound = served_sound c.loop-round.self c.serve_blocks.new.pipeline c.loop-round.ring c.loop-round.reuse c.serve_blocks.new.reuse c.serve_blocks.ensures.serves c.serve_blocks.ensures.rest c.loop-round.invariant.sound c.serve_blocks.ensures.order c.serve_blocks.ensures.room;
+  sound = served_sound c.loop-round.self c.serve_blocks.new.pipeline c.loop-round.ring c.loop-round.reuse c.serve_blocks.new.reuse c.serve_blocks.ensures.serves c.serve_blocks.ensures.rest c.loop-round.invariant.sound c.serve_blocks.ensures.fit.order c.serve_blocks.ensures.fit.room;
   moves = served_moves c.loop-round.self c.serve_blocks.new.pipeline c.loop-round.ring c.loop-round.reuse c.serve_blocks.new.reuse c.serve_blocks.ensures.serves c.serve_blocks.ensures.rest c.loop-round.round c.args.self.now c.args.ring.now c.args.reuse.now (omega (arith, c.loop-round.auto.round-end)) c.calls_change_what_is_dead.ensures.released c.lawful.ensures c.loop-round.invariant.moves;
   owed = let same : writes_owed c.serve_blocks.new.pipeline ≡ writes_owed c.loop-round.self = ap writes_owed c.serve_blocks.ensures.rest in λ tells. omega (arith, c.loop-round.invariant.owed tells, same);
   adds = λ tells. home_went tt _ (kept c.args.self.now) (g.D.Disk.state c.args.disk.now).log (g.D.Disk.state c.loop-round.disk).log (c.loop-round.invariant.adds tells);

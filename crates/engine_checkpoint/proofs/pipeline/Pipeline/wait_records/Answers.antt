@@ -1,12 +1,12 @@
 -- The tickets are waited for, and then records become durable.
 use Rattle.std.proofs.Common.{◌∙◌, inl, refl, sym, ap, subst, arith}
 use Rattle.engine_checkpoint.specs.Kept.{kept}
-use Rattle.engine_checkpoint.specs.Order.{HasRoom}
+use Rattle.engine_checkpoint.specs.Order.{IsFit}
 use Rattle.engine_checkpoint.specs.declared.pipeline.Pipeline.{Pipeline}
 use Rattle.engine_checkpoint.proofs.Forgotten.{committed_heard, committed_on, committed_settled}
 use Rattle.engine_checkpoint.proofs.HeardRecords.{heard_left, heard_waited}
 use Rattle.engine_checkpoint.proofs.ForwardSound.{owed_settled}
-use Rattle.engine_checkpoint.proofs.Heard.{room_heard, sound_heard, serves_heard, owed_heard}
+use Rattle.engine_checkpoint.proofs.Heard.{order_heard, room_heard, sound_heard, serves_heard, owed_heard}
 use Rattle.engine_checkpoint.proofs.MovesRows.{moves_on, moves_heard, moves_settled}
 use Rattle.engine_checkpoint.proofs.Settled.{turned_same}
 use Rattle.engine_checkpoint.proofs.StepsRight.{leaves_failed}
@@ -28,8 +28,8 @@ returns-in_err-wait_upto-clause-hears g c = record {
   log = c.wait_upto.ensures.log;
 }
 
-pub settle_all-requires-clause-room : goal.settle_all-requires-clause-room
-settle_all-requires-clause-room g c = subst (λ (p : Pipeline). HasRoom p) (sym c.wait_upto.ensures.rest) (room_heard c.args.self.now c.wait_upto.new.pipeline.notes c.wait_upto.ensures.hears c.requires.room)
+pub settle_all-requires : goal.settle_all-requires
+settle_all-requires g c = subst (λ (p : Pipeline). IsFit p) (sym c.wait_upto.ensures.rest) (record { order = order_heard c.args.self.now c.wait_upto.new.pipeline.notes c.requires.order; room = room_heard c.args.self.now c.wait_upto.new.pipeline.notes c.wait_upto.ensures.hears c.requires.room })
 
 pub returns-clause-hears : goal.returns-clause-hears
 returns-clause-hears g c = record {
@@ -38,7 +38,7 @@ returns-clause-hears g c = record {
     let d = g.D.Disk.state c.wait_upto.new.disk in
     right_settled c.settle_all.ensures.settles.0 c.wait_upto.new.pipeline c.settle_all.new.pipeline c.settle_all.ensures.settles.1 s d.base d.log l t floor ring dead taken (c.settle_all.ensures.agrees s d.base d.log l t floor ring dead.waiting taken waited.0 waited.1)
     (serves_heard l c.args.self.now c.wait_upto.new.pipeline dead c.wait_upto.ensures.rest c.wait_upto.ensures.hears right.serves);
-  sound = λ ring dead sound. sound_settled c.settle_all.ensures.settles.0 c.wait_upto.new.pipeline c.settle_all.new.pipeline c.settle_all.ensures.settles.1 ring dead c.settle_all.ensures.order c.settle_all.ensures.room
+  sound = λ ring dead sound. sound_settled c.settle_all.ensures.settles.0 c.wait_upto.new.pipeline c.settle_all.new.pipeline c.settle_all.ensures.settles.1 ring dead c.settle_all.ensures.fit.order c.settle_all.ensures.fit.room
     (sound_heard c.args.self.now c.wait_upto.new.pipeline ring dead c.wait_upto.ensures.rest c.wait_upto.ensures.hears sound);
   moves = λ ring dead. moves_on 0 0 c.args.self.now c.wait_upto.new.pipeline c.settle_all.new.pipeline ring ring ring dead dead dead (moves_heard c.args.self.now c.wait_upto.new.pipeline ring dead c.wait_upto.ensures.rest)
     (moves_settled c.settle_all.ensures.settles.0 c.wait_upto.new.pipeline c.settle_all.new.pipeline ring dead c.settle_all.ensures.settles.1);
@@ -57,7 +57,7 @@ returns-clause-hears g c = record {
 }
 
 pub returns-clause-durable : goal.returns-clause-durable
-returns-clause-durable g c = λ le. durable_upto c.settle_all.ensures.settles.0 c.wait_upto.new.pipeline c.settle_all.new.pipeline c.settle_all.ensures.settles.1 c.args.upto c.settle_all.ensures.order c.in_ok-wait_upto.ensures.noticed c.settle_all.ensures.due
+returns-clause-durable g c = λ le. durable_upto c.settle_all.ensures.settles.0 c.wait_upto.new.pipeline c.settle_all.new.pipeline c.settle_all.ensures.settles.1 c.args.upto c.settle_all.ensures.fit.order c.in_ok-wait_upto.ensures.noticed c.settle_all.ensures.due
     (omega (arith, le, ap (λ (p : Pipeline). p.last) c.settle_all.ensures.settles.1.rest, ap (λ (p : Pipeline). p.last) c.wait_upto.ensures.rest))
 
 pub returns-in_err-wait_upto-clause-cause : goal.returns-in_err-wait_upto-clause-cause
