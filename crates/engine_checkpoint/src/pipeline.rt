@@ -64,8 +64,8 @@ pub struct Pipeline {
     pub geom: Geom,
     /// The durable header, and its slot.
     pub header: Header,
-    pub slot: u32,
-    pub next: Option<Pending>,
+    pub(crate) slot: u32,
+    pub(crate) next: Option<Pending>,
     /// The header that was written last, also where that write was lost.
     pub written: Header,
     pub notes: Notes,
@@ -79,13 +79,13 @@ pub struct Pipeline {
     pub batch: usize,
     pub home: Vec<HomeWrite>,
     /// How many payloads the records have that aren't placed.
-    pub unplaced: u32,
+    pub(crate) unplaced: u32,
     /// Where the newest payload of each block is that one of these records has.
-    pub newest: Newest,
+    pub(crate) newest: Newest,
     /// The same of the batch alone, while it begins. Between calls nothing is looked up here.
-    pub batch_newest: Newest,
+    pub(crate) batch_newest: Newest,
     /// Block numbers, while a batch begins or blocks are given back. Between calls nothing is looked up here.
-    pub blocks: Vec<u32>,
+    pub(crate) blocks: Vec<u32>,
     pub ready: Ready,
 }
 
