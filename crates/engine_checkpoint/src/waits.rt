@@ -61,7 +61,11 @@ fn wait_for_note<D: Disk>(disk: &mut D, pipeline: &mut Pipeline, at: usize) -> R
 ///
 /// # Errors
 /// A wait failed, which the disk has counted. The tickets before it are noticed.
-pub(crate) fn wait_upto<D: Disk>(disk: &mut D, pipeline: &mut Pipeline, upto: u64) -> Result<(), DiskFault>
+pub(crate) fn wait_upto<D: Disk>(
+    disk: &mut D,
+    pipeline: &mut Pipeline,
+    upto: u64,
+) -> Result<(), DiskFault>
     requires order { IsInOrder pipeline.old }
     ensures agrees { StaysAgreed D.tells (D.state disk.old) (D.state disk.new) pipeline.old pipeline.new }
     ensures noticed { OnOk result (AreWaitedFor upto pipeline.new) }

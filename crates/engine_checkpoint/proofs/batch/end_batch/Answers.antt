@@ -69,7 +69,7 @@ pub returns-clause-fit : goal.returns-clause-fit
 returns-clause-fit c = record {
   order = order_ended c.args.pipeline.now (then_is c) c.requires.order (ends c);
   room = room_ended c.args.pipeline.now (then_is c) c.requires.order (ends c) c.requires.room c.place_first-pipeline.ensures.placed_room c.place_first-pipeline.ensures.rest_room
-    (omega (arith, c.clear.ensures.capacity)) c.place_first-pipeline.ensures.spare c.lawful.ensures c.notes_of_few_tickets_are_few.ensures;
+      (omega (arith, c.clear.ensures.capacity)) c.place_first-pipeline.ensures.spare c.lawful.ensures c.notes_of_few_tickets_are_few.ensures;
 }
 
 pub returns-clause-owed : goal.returns-clause-owed

@@ -25,13 +25,13 @@ make_sure-requires-clause-upto c = durable_upto c.args.pipeline.now c.requires.f
 
 pub returns-clause-fit : goal.returns-clause-fit
 returns-clause-fit c = record {
-  order =     let out = turned_to c.args.pipeline.now c.in-Some.pending 0 (record c.args.pipeline.now { placed = c.release_placed.new.placed; sure = c.make_sure.new.sure; durable = c.make_sure.new.durable }) c.forget.new.self in
-    order_turned c.args.pipeline.now c.requires.fit.order c.in-Some.pending c.in-Some.is c.other_slot-pipeline.result out c.forget.new.self c.make_sure.ensures.sure.0 c.release_placed.ensures.items c.make_sure.ensures.sure.1 c.make_sure.ensures.durable c.make_sure.ensures.sure.2 c.make_sure.ensures.sure.3;
-  room =     let v = c.args.pipeline.now in
-    let out = turned_to v c.in-Some.pending 0 (record v { placed = c.release_placed.new.placed; sure = c.make_sure.new.sure; durable = c.make_sure.new.durable }) c.forget.new.self in
-    let gone : Forgets (c.in-Some.pending.ticket ∷ []) v.notes c.forget.new.self = record { expected = c.forget.ensures.expected; noticed = c.forget.ensures.noticed; room = c.forget.ensures.room } in
-    room_turned v c.requires.fit.order c.in-Some.pending c.in-Some.is c.other_slot-pipeline.result out c.forget.new.self c.make_sure.ensures.sure.0 c.release_placed.ensures.items c.make_sure.ensures.sure.1 c.make_sure.ensures.durable c.make_sure.ensures.sure.2 c.make_sure.ensures.sure.3
-    c.requires.fit.room c.release_placed.ensures.capacity c.make_sure.ensures.capacity.1 c.make_sure.ensures.capacity.0 (room_back c.notes_of_few_tickets_are_few.ensures c.in-Some.pending.ticket v.notes c.forget.new.self c.lawful.ensures gone);
+  order = let out = turned_to c.args.pipeline.now c.in-Some.pending 0 (record c.args.pipeline.now { placed = c.release_placed.new.placed; sure = c.make_sure.new.sure; durable = c.make_sure.new.durable }) c.forget.new.self in
+      order_turned c.args.pipeline.now c.requires.fit.order c.in-Some.pending c.in-Some.is c.other_slot-pipeline.result out c.forget.new.self c.make_sure.ensures.sure.0 c.release_placed.ensures.items c.make_sure.ensures.sure.1 c.make_sure.ensures.durable c.make_sure.ensures.sure.2 c.make_sure.ensures.sure.3;
+  room = let v = c.args.pipeline.now in
+      let out = turned_to v c.in-Some.pending 0 (record v { placed = c.release_placed.new.placed; sure = c.make_sure.new.sure; durable = c.make_sure.new.durable }) c.forget.new.self in
+      let gone : Forgets (c.in-Some.pending.ticket ∷ []) v.notes c.forget.new.self = record { expected = c.forget.ensures.expected; noticed = c.forget.ensures.noticed; room = c.forget.ensures.room } in
+      room_turned v c.requires.fit.order c.in-Some.pending c.in-Some.is c.other_slot-pipeline.result out c.forget.new.self c.make_sure.ensures.sure.0 c.release_placed.ensures.items c.make_sure.ensures.sure.1 c.make_sure.ensures.durable c.make_sure.ensures.sure.2 c.make_sure.ensures.sure.3
+      c.requires.fit.room c.release_placed.ensures.capacity c.make_sure.ensures.capacity.1 c.make_sure.ensures.capacity.0 (room_back c.notes_of_few_tickets_are_few.ensures c.in-Some.pending.ticket v.notes c.forget.new.self c.lawful.ensures gone);
 }
 
 pub returns-clause-taken : goal.returns-clause-taken

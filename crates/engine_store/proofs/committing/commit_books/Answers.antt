@@ -57,10 +57,10 @@ returns-in-Ok g c =
     let writes = c.a_record_makes_so_many_writes.ensures in
     let adds = λ (tells : IsTrue g.D.Disk.tells). subst (λ (x : Changes). AddsWrites (writes_of ring c.args.epoch number x) became.committed.tickets.items d.log then_d.log) is (became.adds tells) in
     let becomes : BecomesRecord number v w p then_p then_ring =
-        becomes_record v e w q number p then_p ring then_ring became.committed
-        c.take_running-running.ensures.rest is c.take_running-running.ensures.empty c.sealed.ensures.value became.made became.accepts did.issues.ring became.last became.owed
-        (c.a_commit_stays_sound.ensures.sound p then_p ring v.dead became.committed (places_for q) number c.requires.sound became.accepts c.requires.next became.last became.order became.room became.index
-        (ap (λ (r : RingPlaces). r.taken) (sym did.issues.ring) ∙ became.taken)) in
+    becomes_record v e w q number p then_p ring then_ring became.committed
+    c.take_running-running.ensures.rest is c.take_running-running.ensures.empty c.sealed.ensures.value became.made became.accepts did.issues.ring became.last became.owed
+    (c.a_commit_stays_sound.ensures.sound p then_p ring v.dead became.committed (places_for q) number c.requires.sound became.accepts c.requires.next became.last became.order became.room became.index
+    (ap (λ (r : RingPlaces). r.taken) (sym did.issues.ring) ∙ became.taken)) in
     record {
       issues = record { ring = did.issues.ring ∙ ap (λ (x : Changes). with_places ring (places_for x)) is; asks = record { spends = did.issues.asks.spends; cause = λ tells. tt } };
       kept = c.sealed.ensures.kept v.changes (kept_again v e c.take_running-running.ensures.rest c.requires.kept);

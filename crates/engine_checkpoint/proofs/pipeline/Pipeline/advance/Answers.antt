@@ -20,24 +20,24 @@ use Rattle.engine_checkpoint.proofs.pipeline.Pipeline.advance.Goals as goal
 pub returns-in_err-take_notices-clause-goes : goal.returns-in_err-take_notices-clause-goes
 returns-in_err-take_notices-clause-goes g c = record {
   right = λ tells s l t floor taken right.
-    let heard = c.take_notices.ensures.agrees tells s l t floor c.args.ring.now c.args.reuse.now.waiting taken right.safe right.agrees in
-    leaves_failed c.from_residual.result s (g.D.Disk.state c.take_notices.new.disk) l t floor c.take_notices.new.pipeline c.args.ring.now c.args.reuse.now taken c.from_residual.ensures.0 (record { now = l; turned = turned_same l; safe = heard.0 });
+      let heard = c.take_notices.ensures.agrees tells s l t floor c.args.ring.now c.args.reuse.now.waiting taken right.safe right.agrees in
+      leaves_failed c.from_residual.result s (g.D.Disk.state c.take_notices.new.disk) l t floor c.take_notices.new.pipeline c.args.ring.now c.args.reuse.now taken c.from_residual.ensures.0 (record { now = l; turned = turned_same l; safe = heard.0 });
   sound = none_ok c.from_residual.result c.from_residual.ensures.0;
   moves = moves_more 0 1 c.args.self.now c.take_notices.new.pipeline c.args.ring.now c.args.ring.now c.args.reuse.now c.args.reuse.now (omega arith) (moves_heard c.args.self.now c.take_notices.new.pipeline c.args.ring.now c.args.reuse.now c.take_notices.ensures.rest);
   owed = λ tells.
-    let heard = c.take_notices.ensures.takes tells in
-    omega (arith, ap writes_in heard.log, writes_noticed (g.D.Disk.state c.args.disk.now).log heard.tickets, owed_heard c.args.self.now c.take_notices.new.pipeline c.take_notices.ensures.rest);
+      let heard = c.take_notices.ensures.takes tells in
+      omega (arith, ap writes_in heard.log, writes_noticed (g.D.Disk.state c.args.disk.now).log heard.tickets, owed_heard c.args.self.now c.take_notices.new.pipeline c.take_notices.ensures.rest);
   adds = λ tells.
-    let heard = c.take_notices.ensures.takes tells in
-    home_noticed _ (kept c.args.self.now) heard.tickets (g.D.Disk.state c.args.disk.now).log (g.D.Disk.state c.take_notices.new.disk).log heard.log;
+      let heard = c.take_notices.ensures.takes tells in
+      home_noticed _ (kept c.args.self.now) heard.tickets (g.D.Disk.state c.args.disk.now).log (g.D.Disk.state c.take_notices.new.disk).log heard.log;
   front = loses_heard c.args.self.now c.take_notices.new.pipeline c.take_notices.ensures.rest;
   lost = none_ok c.from_residual.result c.from_residual.ensures.0;
   heard = λ tells s l t floor taken right. none_ok c.from_residual.result c.from_residual.ensures.0;
   bytes = λ tells s l t floor taken right.
-    let heard = c.take_notices.ensures.takes tells in
-    leaves_noticed l c.args.self.now c.take_notices.new.pipeline (g.D.Disk.state c.args.disk.now) (g.D.Disk.state c.take_notices.new.disk) heard.tickets
-    (λ b lives. c.the_newest_payloads_are_the_map.ensures.calm (g.D.Disk.state c.args.disk.now).base (g.D.Disk.state c.args.disk.now).log l c.args.self.now c.args.ring.now c.args.reuse.now.waiting taken b right.safe.keeps right.agrees lives)
-    c.take_notices.ensures.rest c.take_notices.ensures.spends.spends.same.base heard.log;
+      let heard = c.take_notices.ensures.takes tells in
+      leaves_noticed l c.args.self.now c.take_notices.new.pipeline (g.D.Disk.state c.args.disk.now) (g.D.Disk.state c.take_notices.new.disk) heard.tickets
+      (λ b lives. c.the_newest_payloads_are_the_map.ensures.calm (g.D.Disk.state c.args.disk.now).base (g.D.Disk.state c.args.disk.now).log l c.args.self.now c.args.ring.now c.args.reuse.now.waiting taken b right.safe.keeps right.agrees lives)
+      c.take_notices.ensures.rest c.take_notices.ensures.spends.spends.same.base heard.log;
 }
 
 pub go_on-requires-clause-sound : goal.go_on-requires-clause-sound
@@ -49,41 +49,41 @@ go_on-requires-clause-turns g c = turns_heard 1 c.args.self.now c.take_notices.n
 pub returns-clause-goes : goal.returns-clause-goes
 returns-clause-goes g c = record {
   right = λ tells s l t floor taken right.
-    let heard = c.take_notices.ensures.agrees tells s l t floor c.args.ring.now c.args.reuse.now.waiting taken right.safe right.agrees in
-    c.go_on.ensures.goes.right tells s l t floor taken (record { safe = heard.0; agrees = heard.1; serves = serves_heard l c.args.self.now c.take_notices.new.pipeline c.args.reuse.now c.take_notices.ensures.rest c.take_notices.ensures.hears right.serves });
+      let heard = c.take_notices.ensures.agrees tells s l t floor c.args.ring.now c.args.reuse.now.waiting taken right.safe right.agrees in
+      c.go_on.ensures.goes.right tells s l t floor taken (record { safe = heard.0; agrees = heard.1; serves = serves_heard l c.args.self.now c.take_notices.new.pipeline c.args.reuse.now c.take_notices.ensures.rest c.take_notices.ensures.hears right.serves });
   sound = c.go_on.ensures.goes.sound;
   moves = moves_on 0 1 c.args.self.now c.take_notices.new.pipeline c.go_on.new.pipeline c.args.ring.now c.args.ring.now c.go_on.new.ring c.args.reuse.now c.args.reuse.now c.go_on.new.reuse (moves_heard c.args.self.now c.take_notices.new.pipeline c.args.ring.now c.args.reuse.now c.take_notices.ensures.rest) c.go_on.ensures.goes.moves;
   owed = λ tells.
-    let heard = c.take_notices.ensures.takes tells in
-    omega (arith, c.go_on.ensures.goes.owed tells, ap writes_in heard.log, writes_noticed (g.D.Disk.state c.args.disk.now).log heard.tickets, owed_heard c.args.self.now c.take_notices.new.pipeline c.take_notices.ensures.rest);
+      let heard = c.take_notices.ensures.takes tells in
+      omega (arith, c.go_on.ensures.goes.owed tells, ap writes_in heard.log, writes_noticed (g.D.Disk.state c.args.disk.now).log heard.tickets, owed_heard c.args.self.now c.take_notices.new.pipeline c.take_notices.ensures.rest);
   adds = λ tells.
-    let heard = c.take_notices.ensures.takes tells in
-    let ks = kept c.args.self.now in
-    let old = (g.D.Disk.state c.args.disk.now).log in
-    let middle = (g.D.Disk.state c.take_notices.new.disk).log in
-    home_heard c.go_on.result ks (kept c.take_notices.new.pipeline) heard.tickets old middle (g.D.Disk.state c.go_on.new.disk).log (loses_heard c.args.self.now c.take_notices.new.pipeline c.take_notices.ensures.rest) heard.log (c.go_on.ensures.goes.adds tells);
+      let heard = c.take_notices.ensures.takes tells in
+      let ks = kept c.args.self.now in
+      let old = (g.D.Disk.state c.args.disk.now).log in
+      let middle = (g.D.Disk.state c.take_notices.new.disk).log in
+      home_heard c.go_on.result ks (kept c.take_notices.new.pipeline) heard.tickets old middle (g.D.Disk.state c.go_on.new.disk).log (loses_heard c.args.self.now c.take_notices.new.pipeline c.take_notices.ensures.rest) heard.log (c.go_on.ensures.goes.adds tells);
   front = loses_on (kept c.args.self.now) (kept c.take_notices.new.pipeline) (kept c.go_on.new.pipeline) (loses_heard c.args.self.now c.take_notices.new.pipeline c.take_notices.ensures.rest) c.go_on.ensures.goes.front;
   lost = on_ok c.go_on.result c.go_on.ensures.goes.lost (committed_on c.args.self.now c.take_notices.new.pipeline c.go_on.new.pipeline (committed_heard c.args.self.now c.take_notices.new.pipeline c.take_notices.ensures.rest));
   heard = λ tells s l t floor taken right.
-    let v = c.args.self.now in
-    let w = c.take_notices.new.pipeline in
-    let old = g.D.Disk.state c.args.disk.now in
-    let middle = g.D.Disk.state c.take_notices.new.disk in
-    let taken_in = c.take_notices.ensures.takes tells in
-    let heard = c.take_notices.ensures.agrees tells s l t floor c.args.ring.now c.args.reuse.now.waiting taken right.safe right.agrees in
-    let known = λ (alone : old.manner.waits_alone ≡ true). heard_taken taken_in.tickets old.log middle.log v w c.take_notices.ensures.hears taken_in.log taken_in.notes in
-    on_ok c.go_on.result (c.go_on.ensures.goes.heard tells s l t floor taken (record { safe = heard.0; agrees = heard.1; serves = serves_heard l v w c.args.reuse.now c.take_notices.ensures.rest c.take_notices.ensures.hears right.serves }))
-    (stays_heard_on old middle (g.D.Disk.state c.go_on.new.disk) v w c.go_on.new.pipeline c.take_notices.ensures.spends.spends.same.manner known);
+      let v = c.args.self.now in
+      let w = c.take_notices.new.pipeline in
+      let old = g.D.Disk.state c.args.disk.now in
+      let middle = g.D.Disk.state c.take_notices.new.disk in
+      let taken_in = c.take_notices.ensures.takes tells in
+      let heard = c.take_notices.ensures.agrees tells s l t floor c.args.ring.now c.args.reuse.now.waiting taken right.safe right.agrees in
+      let known = λ (alone : old.manner.waits_alone ≡ true). heard_taken taken_in.tickets old.log middle.log v w c.take_notices.ensures.hears taken_in.log taken_in.notes in
+      on_ok c.go_on.result (c.go_on.ensures.goes.heard tells s l t floor taken (record { safe = heard.0; agrees = heard.1; serves = serves_heard l v w c.args.reuse.now c.take_notices.ensures.rest c.take_notices.ensures.hears right.serves }))
+      (stays_heard_on old middle (g.D.Disk.state c.go_on.new.disk) v w c.go_on.new.pipeline c.take_notices.ensures.spends.spends.same.manner known);
   bytes = λ tells s l t floor taken right.
-    let v = c.args.self.now in
-    let w = c.take_notices.new.pipeline in
-    let old = g.D.Disk.state c.args.disk.now in
-    let middle = g.D.Disk.state c.take_notices.new.disk in
-    let taken_in = c.take_notices.ensures.takes tells in
-    let heard = c.take_notices.ensures.agrees tells s l t floor c.args.ring.now c.args.reuse.now.waiting taken right.safe right.agrees in
-    leaves_then l l (turned_same l) v w c.go_on.new.pipeline old middle (g.D.Disk.state c.go_on.new.disk) (loses_heard v w c.take_notices.ensures.rest)
-    (leaves_noticed l v w old middle taken_in.tickets (λ b lives. c.the_newest_payloads_are_the_map.ensures.calm old.base old.log l v c.args.ring.now c.args.reuse.now.waiting taken b right.safe.keeps right.agrees lives) c.take_notices.ensures.rest c.take_notices.ensures.spends.spends.same.base taken_in.log)
-    (c.go_on.ensures.goes.bytes tells s l t floor taken (record { safe = heard.0; agrees = heard.1; serves = serves_heard l v w c.args.reuse.now c.take_notices.ensures.rest c.take_notices.ensures.hears right.serves }));
+      let v = c.args.self.now in
+      let w = c.take_notices.new.pipeline in
+      let old = g.D.Disk.state c.args.disk.now in
+      let middle = g.D.Disk.state c.take_notices.new.disk in
+      let taken_in = c.take_notices.ensures.takes tells in
+      let heard = c.take_notices.ensures.agrees tells s l t floor c.args.ring.now c.args.reuse.now.waiting taken right.safe right.agrees in
+      leaves_then l l (turned_same l) v w c.go_on.new.pipeline old middle (g.D.Disk.state c.go_on.new.disk) (loses_heard v w c.take_notices.ensures.rest)
+      (leaves_noticed l v w old middle taken_in.tickets (λ b lives. c.the_newest_payloads_are_the_map.ensures.calm old.base old.log l v c.args.ring.now c.args.reuse.now.waiting taken b right.safe.keeps right.agrees lives) c.take_notices.ensures.rest c.take_notices.ensures.spends.spends.same.base taken_in.log)
+      (c.go_on.ensures.goes.bytes tells s l t floor taken (record { safe = heard.0; agrees = heard.1; serves = serves_heard l v w c.args.reuse.now c.take_notices.ensures.rest c.take_notices.ensures.hears right.serves }));
 }
 
 pub returns-clause-due : goal.returns-clause-due

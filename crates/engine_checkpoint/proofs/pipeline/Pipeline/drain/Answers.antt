@@ -19,26 +19,26 @@ use Rattle.engine_checkpoint.proofs.pipeline.Pipeline.drain.Goals as goal
 pub returns-in_err-drain_once-clause-goes : goal.returns-in_err-drain_once-clause-goes
 returns-in_err-drain_once-clause-goes g c = record {
   right = λ tells s l t floor taken right.
-    let was = c.loop-round.invariant.right tells s l t floor taken right in
-    leaves_on c.from_residual.result s (g.D.Disk.state c.drain_once.new.disk) l t floor c.drain_once.new.pipeline c.drain_once.new.ring c.drain_once.new.reuse taken was.now was.turned
-    (leaves_failed c.from_residual.result s (g.D.Disk.state c.drain_once.new.disk) was.now t floor c.drain_once.new.pipeline c.drain_once.new.ring c.drain_once.new.reuse taken c.from_residual.ensures.0 (c.in_err-drain_once.ensures.goes.right tells s was.now t floor taken was.right));
+      let was = c.loop-round.invariant.right tells s l t floor taken right in
+      leaves_on c.from_residual.result s (g.D.Disk.state c.drain_once.new.disk) l t floor c.drain_once.new.pipeline c.drain_once.new.ring c.drain_once.new.reuse taken was.now was.turned
+      (leaves_failed c.from_residual.result s (g.D.Disk.state c.drain_once.new.disk) was.now t floor c.drain_once.new.pipeline c.drain_once.new.ring c.drain_once.new.reuse taken c.from_residual.ensures.0 (c.in_err-drain_once.ensures.goes.right tells s was.now t floor taken was.right));
   sound = none_ok c.from_residual.result c.from_residual.ensures.0;
   moves = moves_more (c.loop-round.round + 1) 4 c.args.self.now c.drain_once.new.pipeline c.args.ring.now c.drain_once.new.ring c.args.reuse.now c.drain_once.new.reuse (omega (arith, c.loop-round-test.true))
-    (moves_on c.loop-round.round 1 c.args.self.now c.loop-round.self c.drain_once.new.pipeline c.args.ring.now c.loop-round.ring c.drain_once.new.ring c.args.reuse.now c.loop-round.reuse c.drain_once.new.reuse c.loop-round.invariant.moves c.drain_once.ensures.goes.moves);
+      (moves_on c.loop-round.round 1 c.args.self.now c.loop-round.self c.drain_once.new.pipeline c.args.ring.now c.loop-round.ring c.drain_once.new.ring c.args.reuse.now c.loop-round.reuse c.drain_once.new.reuse c.loop-round.invariant.moves c.drain_once.ensures.goes.moves);
   owed = λ tells. omega (arith, c.loop-round.invariant.owed tells, c.drain_once.ensures.goes.owed tells);
   adds = λ tells.
-    let old = (g.D.Disk.state c.args.disk.now).log in
-    let new = (g.D.Disk.state c.drain_once.new.disk).log in
-    home_failed c.drain_once.result c.from_residual.result (kept c.args.self.now) old new c.from_residual.ensures.0
-    (home_then tt c.drain_once.result (kept c.args.self.now) (kept c.loop-round.self) old (g.D.Disk.state c.loop-round.disk).log new c.loop-round.invariant.front (c.loop-round.invariant.adds tells) (c.drain_once.ensures.goes.adds tells));
+      let old = (g.D.Disk.state c.args.disk.now).log in
+      let new = (g.D.Disk.state c.drain_once.new.disk).log in
+      home_failed c.drain_once.result c.from_residual.result (kept c.args.self.now) old new c.from_residual.ensures.0
+      (home_then tt c.drain_once.result (kept c.args.self.now) (kept c.loop-round.self) old (g.D.Disk.state c.loop-round.disk).log new c.loop-round.invariant.front (c.loop-round.invariant.adds tells) (c.drain_once.ensures.goes.adds tells));
   front = loses_on (kept c.args.self.now) (kept c.loop-round.self) (kept c.drain_once.new.pipeline) c.loop-round.invariant.front c.drain_once.ensures.goes.front;
   lost = none_ok c.from_residual.result c.from_residual.ensures.0;
   heard = λ tells s l t floor taken right. none_ok c.from_residual.result c.from_residual.ensures.0;
   bytes = λ tells s l t floor taken right.
-    let was = c.loop-round.invariant in
-    let one = was.right tells s l t floor taken right in
-    leaves_then l one.now one.turned c.args.self.now c.loop-round.self c.drain_once.new.pipeline (g.D.Disk.state c.args.disk.now) (g.D.Disk.state c.loop-round.disk) (g.D.Disk.state c.drain_once.new.disk) was.front (was.bytes tells s l t floor taken right)
-    (c.drain_once.ensures.goes.bytes tells s one.now t floor taken one.right);
+      let was = c.loop-round.invariant in
+      let one = was.right tells s l t floor taken right in
+      leaves_then l one.now one.turned c.args.self.now c.loop-round.self c.drain_once.new.pipeline (g.D.Disk.state c.args.disk.now) (g.D.Disk.state c.loop-round.disk) (g.D.Disk.state c.drain_once.new.disk) was.front (was.bytes tells s l t floor taken right)
+      (c.drain_once.ensures.goes.bytes tells s one.now t floor taken one.right);
 }
 
 pub returns-in_err-drain_once-clause-spends : goal.returns-in_err-drain_once-clause-spends
@@ -89,8 +89,8 @@ loop-round-preserved g c =
 pub returns-clause-goes : goal.returns-clause-goes
 returns-clause-goes g c = record {
   right = λ tells s l t floor taken right.
-    served_stays c.loop-round.self c.serve_blocks.new.pipeline c.loop-round.ring c.loop-round.reuse c.serve_blocks.new.reuse c.serve_blocks.ensures.serves c.serve_blocks.ensures.rest s (g.D.Disk.state c.loop-round.disk).base (g.D.Disk.state c.loop-round.disk).log l t floor taken
-    c.a_freed_block_waits.ensures.stays c.fewer_may_wait.ensures (c.loop-round.invariant.right tells s l t floor taken right);
+      served_stays c.loop-round.self c.serve_blocks.new.pipeline c.loop-round.ring c.loop-round.reuse c.serve_blocks.new.reuse c.serve_blocks.ensures.serves c.serve_blocks.ensures.rest s (g.D.Disk.state c.loop-round.disk).base (g.D.Disk.state c.loop-round.disk).log l t floor taken
+      c.a_freed_block_waits.ensures.stays c.fewer_may_wait.ensures (c.loop-round.invariant.right tells s l t floor taken right);
   sound = served_sound c.loop-round.self c.serve_blocks.new.pipeline c.loop-round.ring c.loop-round.reuse c.serve_blocks.new.reuse c.serve_blocks.ensures.serves c.serve_blocks.ensures.rest c.loop-round.invariant.sound c.serve_blocks.ensures.fit.order c.serve_blocks.ensures.fit.room;
   moves = served_moves c.loop-round.self c.serve_blocks.new.pipeline c.loop-round.ring c.loop-round.reuse c.serve_blocks.new.reuse c.serve_blocks.ensures.serves c.serve_blocks.ensures.rest c.loop-round.round c.args.self.now c.args.ring.now c.args.reuse.now (omega (arith, c.loop-round.auto.round-end)) c.calls_change_what_is_dead.ensures.released c.lawful.ensures c.loop-round.invariant.moves;
   owed = let same : writes_owed c.serve_blocks.new.pipeline ≡ writes_owed c.loop-round.self = ap writes_owed c.serve_blocks.ensures.rest in λ tells. omega (arith, c.loop-round.invariant.owed tells, same);
@@ -99,9 +99,9 @@ returns-clause-goes g c = record {
   lost = committed_on c.args.self.now c.loop-round.self c.serve_blocks.new.pipeline c.loop-round.invariant.lost (committed_same c.loop-round.self c.serve_blocks.new.pipeline (ap (λ (p : Pipeline). p.committed.items) c.serve_blocks.ensures.rest));
   heard = λ tells s l t floor taken right alone heard. subst (λ (p : Pipeline). HearsAll (g.D.Disk.state c.loop-round.disk).log p) (sym c.serve_blocks.ensures.rest) (c.loop-round.invariant.heard tells s l t floor taken right alone heard);
   bytes = λ tells s l t floor taken right.
-    let was = c.loop-round.invariant in
-    let d = g.D.Disk.state c.loop-round.disk in
-    leaves_same l c.args.self.now c.loop-round.self c.serve_blocks.new.pipeline (g.D.Disk.state c.args.disk.now) d was.front (ap kept c.serve_blocks.ensures.rest) (was.bytes tells s l t floor taken right);
+      let was = c.loop-round.invariant in
+      let d = g.D.Disk.state c.loop-round.disk in
+      leaves_same l c.args.self.now c.loop-round.self c.serve_blocks.new.pipeline (g.D.Disk.state c.args.disk.now) d was.front (ap kept c.serve_blocks.ensures.rest) (was.bytes tells s l t floor taken right);
 }
 
 pub returns-clause-drained : goal.returns-clause-drained

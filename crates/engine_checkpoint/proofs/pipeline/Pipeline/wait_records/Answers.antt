@@ -17,8 +17,8 @@ use Rattle.engine_checkpoint.proofs.pipeline.Pipeline.wait_records.Goals as goal
 pub returns-in_err-wait_upto-clause-hears : goal.returns-in_err-wait_upto-clause-hears
 returns-in_err-wait_upto-clause-hears g c = record {
   right = λ tells s l t floor ring dead taken right.
-    let waited = c.wait_upto.ensures.agrees tells s l t floor ring dead.waiting taken right.safe right.agrees in
-    leaves_failed c.from_residual.result s (g.D.Disk.state c.wait_upto.new.disk) l t floor c.wait_upto.new.pipeline ring dead taken c.from_residual.ensures.0 (record { now = l; turned = turned_same l; safe = waited.0 });
+      let waited = c.wait_upto.ensures.agrees tells s l t floor ring dead.waiting taken right.safe right.agrees in
+      leaves_failed c.from_residual.result s (g.D.Disk.state c.wait_upto.new.disk) l t floor c.wait_upto.new.pipeline ring dead taken c.from_residual.ensures.0 (record { now = l; turned = turned_same l; safe = waited.0 });
   sound = λ ring dead sound. sound_heard c.args.self.now c.wait_upto.new.pipeline ring dead c.wait_upto.ensures.rest c.wait_upto.ensures.hears sound;
   moves = λ ring dead. moves_heard c.args.self.now c.wait_upto.new.pipeline ring dead c.wait_upto.ensures.rest;
   kept = ap kept c.wait_upto.ensures.rest;
@@ -34,25 +34,25 @@ settle_all-requires g c = subst (λ (p : Pipeline). IsFit p) (sym c.wait_upto.en
 pub returns-clause-hears : goal.returns-clause-hears
 returns-clause-hears g c = record {
   right = λ tells s l t floor ring dead taken right.
-    let waited = c.wait_upto.ensures.agrees tells s l t floor ring dead.waiting taken right.safe right.agrees in
-    let d = g.D.Disk.state c.wait_upto.new.disk in
-    right_settled c.settle_all.ensures.settles.0 c.wait_upto.new.pipeline c.settle_all.new.pipeline c.settle_all.ensures.settles.1 s d.base d.log l t floor ring dead taken (c.settle_all.ensures.agrees s d.base d.log l t floor ring dead.waiting taken waited.0 waited.1)
-    (serves_heard l c.args.self.now c.wait_upto.new.pipeline dead c.wait_upto.ensures.rest c.wait_upto.ensures.hears right.serves);
+      let waited = c.wait_upto.ensures.agrees tells s l t floor ring dead.waiting taken right.safe right.agrees in
+      let d = g.D.Disk.state c.wait_upto.new.disk in
+      right_settled c.settle_all.ensures.settles.0 c.wait_upto.new.pipeline c.settle_all.new.pipeline c.settle_all.ensures.settles.1 s d.base d.log l t floor ring dead taken (c.settle_all.ensures.agrees s d.base d.log l t floor ring dead.waiting taken waited.0 waited.1)
+      (serves_heard l c.args.self.now c.wait_upto.new.pipeline dead c.wait_upto.ensures.rest c.wait_upto.ensures.hears right.serves);
   sound = λ ring dead sound. sound_settled c.settle_all.ensures.settles.0 c.wait_upto.new.pipeline c.settle_all.new.pipeline c.settle_all.ensures.settles.1 ring dead c.settle_all.ensures.fit.order c.settle_all.ensures.fit.room
-    (sound_heard c.args.self.now c.wait_upto.new.pipeline ring dead c.wait_upto.ensures.rest c.wait_upto.ensures.hears sound);
+      (sound_heard c.args.self.now c.wait_upto.new.pipeline ring dead c.wait_upto.ensures.rest c.wait_upto.ensures.hears sound);
   moves = λ ring dead. moves_on 0 0 c.args.self.now c.wait_upto.new.pipeline c.settle_all.new.pipeline ring ring ring dead dead dead (moves_heard c.args.self.now c.wait_upto.new.pipeline ring dead c.wait_upto.ensures.rest)
-    (moves_settled c.settle_all.ensures.settles.0 c.wait_upto.new.pipeline c.settle_all.new.pipeline ring dead c.settle_all.ensures.settles.1);
+      (moves_settled c.settle_all.ensures.settles.0 c.wait_upto.new.pipeline c.settle_all.new.pipeline ring dead c.settle_all.ensures.settles.1);
   kept = c.settle_all.ensures.settles.1.kept ∙ ap kept c.wait_upto.ensures.rest;
   owed = owed_settled c.settle_all.ensures.settles.0 c.wait_upto.new.pipeline c.settle_all.new.pipeline c.settle_all.ensures.settles.1 ∙ owed_heard c.args.self.now c.wait_upto.new.pipeline c.wait_upto.ensures.rest;
   lost = committed_on c.args.self.now c.wait_upto.new.pipeline c.settle_all.new.pipeline (committed_heard c.args.self.now c.wait_upto.new.pipeline c.wait_upto.ensures.rest) (committed_settled c.settle_all.ensures.settles.0 c.wait_upto.new.pipeline c.settle_all.new.pipeline c.settle_all.ensures.settles.1);
   heard = λ tells s l t floor ring dead taken right alone heard.
-    let v = c.args.self.now in
-    let w = c.wait_upto.new.pipeline in
-    let x = c.settle_all.new.pipeline in
-    let old = g.D.Disk.state c.args.disk.now in
-    let new = g.D.Disk.state c.wait_upto.new.disk in
-    let known = heard_waited c.in_ok-wait_upto.field-0 old.log new.log v w c.wait_upto.ensures.hears (c.in_ok-wait_upto.ensures.only tells alone) heard in
-    heard_left new.log new.log w x x c.settle_all.ensures.settles.1.forgets (λ u. refl) (λ u expected. inl expected) (λ u came. came) known;
+      let v = c.args.self.now in
+      let w = c.wait_upto.new.pipeline in
+      let x = c.settle_all.new.pipeline in
+      let old = g.D.Disk.state c.args.disk.now in
+      let new = g.D.Disk.state c.wait_upto.new.disk in
+      let known = heard_waited c.in_ok-wait_upto.field-0 old.log new.log v w c.wait_upto.ensures.hears (c.in_ok-wait_upto.ensures.only tells alone) heard in
+      heard_left new.log new.log w x x c.settle_all.ensures.settles.1.forgets (λ u. refl) (λ u expected. inl expected) (λ u came. came) known;
   log = c.wait_upto.ensures.log;
 }
 
