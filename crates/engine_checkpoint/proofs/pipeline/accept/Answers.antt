@@ -7,7 +7,7 @@ use Rattle.engine_running.specs.Rows.{put_of}
 use Rattle.engine_running.specs.Record.{written_of}
 use Rattle.engine_running.specs.declared.put.Put.{Put}
 use Rattle.engine_checkpoint.specs.Kept.{of_committed}
-use Rattle.engine_checkpoint.specs.Newest.{spot_of}
+use Rattle.engine_checkpoint.specs.Newest.{spot_after, spot_of}
 use Rattle.engine_checkpoint.proofs.Lists.{choose_true}
 use Rattle.engine_checkpoint.proofs.Accepted.{same_after, order_joined, room_joined, owed_joined, taken_joined, kept_joined}
 use Rattle.engine_checkpoint.proofs.Index.{index_joins}
@@ -24,9 +24,9 @@ returns c =
     let out = record v { committed = c.push_back.new.self; last = tx.number; unplaced = v.unplaced + c.payload_count.result; newest = c.add.new.self; ready = c.ready_after-pipeline.result } in
     let joined : c.push_back.new.self.items ≡ v.committed.items ++ tx ∷ [] = c.push_back.ensures.items ∙ choose_true _ _ _ (c.push_back.ensures.succeeds free) in
     let unplaced = ap (λ (n : ℕ). v.unplaced + n) c.payload_count.ensures in
-    let expected = λ (u : ℕ). c.expect_all.ensures.expected u ∙ ap (λ (ts : List ℕ). is_one_of u ts || is_expected u v.notes.notes) c.as_slice.ensures.value in
-    let still = λ (u : ℕ) (e : is_expected u v.notes.notes ≡ true). c.expect_all.ensures.expected u ∙ with_old (is_one_of u c.as_slice.result.now) (is_expected u v.notes.notes) e in
-    let newest = λ (b : ℕ). c.add.ensures.at b ∙ same_after (spot_of v.newest b) tx.number b _ _ _ _ _ _ c.as_slice-2.ensures.value c.as_slice-3.ensures.value c.as_slice-4.ensures.value in
+    let expected : (u : ℕ) → is_expected u c.expect_all.new.notes.notes ≡ (is_one_of u tx.tickets.items || is_expected u v.notes.notes) = λ u. c.expect_all.ensures.expected u ∙ ap (λ (ts : List ℕ). is_one_of u ts || is_expected u v.notes.notes) c.as_slice.ensures.value in
+    let still : (u : ℕ) → is_expected u v.notes.notes ≡ true → is_expected u c.expect_all.new.notes.notes ≡ true = λ u e. c.expect_all.ensures.expected u ∙ with_old (is_one_of u c.as_slice.result.now) (is_expected u v.notes.notes) e in
+    let newest : (b : ℕ) → spot_of c.add.new.self b ≡ spot_after (spot_of v.newest b) tx.number tx.payloads.items tx.fresh.items tx.freed.items b = λ b. c.add.ensures.at b ∙ same_after (spot_of v.newest b) tx.number b _ _ _ _ _ _ c.as_slice-2.ensures.value c.as_slice-3.ensures.value c.as_slice-4.ensures.value in
     record {
       agrees = λ s base old new l m t floor epoch ring waiting taken running a safe was.
           let n = next_number l in
