@@ -2,6 +2,8 @@
 use Rattle.std.proofs.Common.{rules, ◌≡◌, true, refl, ap, arith}
 use Rattle.disk_contract.specs.Disk.{writes_in}
 use Rattle.engine_checkpoint.specs.Kept.{kept}
+use Rattle.engine_checkpoint.specs.Waits.{LosesCommitted, StaysHeard}
+use Rattle.engine_checkpoint.specs.Advance.{IsSound}
 use Rattle.engine_checkpoint.proofs.Added.{home_none, home_noticed, home_heard, loses_none, loses_on, loses_heard}
 use Rattle.engine_checkpoint.proofs.Heard.{sound_heard, serves_heard, owed_heard, writes_noticed}
 use Rattle.engine_checkpoint.proofs.Forgotten.{committed_heard, committed_on, committed_same}
@@ -22,7 +24,7 @@ returns-in_err-wait_for_all-clause-goes g c = record {
   right = λ tells s l t floor taken right.
       let waited = c.wait_for_all.ensures.agrees tells s l t floor c.args.ring.now c.args.reuse.now.waiting taken right.safe right.agrees in
       leaves_failed c.from_residual.result s (g.D.Disk.state c.wait_for_all.new.disk) l t floor c.wait_for_all.new.pipeline c.args.ring.now c.args.reuse.now taken c.from_residual.ensures.0 (record { now = l; turned = turned_same l; safe = waited.0 });
-  sound = none_ok c.from_residual.result c.from_residual.ensures.0;
+  sound = none_ok (IsSound c.wait_for_all.new.pipeline c.args.ring.now c.args.reuse.now) c.from_residual.result c.from_residual.ensures.0;
   moves = moves_more 0 1 c.args.pipeline.now c.wait_for_all.new.pipeline c.args.ring.now c.args.ring.now c.args.reuse.now c.args.reuse.now (omega arith) (moves_heard c.args.pipeline.now c.wait_for_all.new.pipeline c.args.ring.now c.args.reuse.now c.wait_for_all.ensures.rest);
   owed = λ tells.
       let heard = c.wait_for_all.ensures.log tells in
@@ -31,8 +33,8 @@ returns-in_err-wait_for_all-clause-goes g c = record {
       let heard = c.wait_for_all.ensures.log tells in
       home_noticed _ (kept c.args.pipeline.now) heard.tickets (g.D.Disk.state c.args.disk.now).log (g.D.Disk.state c.wait_for_all.new.disk).log heard.log;
   front = loses_heard c.args.pipeline.now c.wait_for_all.new.pipeline c.wait_for_all.ensures.rest;
-  lost = none_ok c.from_residual.result c.from_residual.ensures.0;
-  heard = λ tells s l t floor taken right. none_ok c.from_residual.result c.from_residual.ensures.0;
+  lost = none_ok (LosesCommitted c.args.pipeline.now c.wait_for_all.new.pipeline) c.from_residual.result c.from_residual.ensures.0;
+  heard = λ tells s l t floor taken right. none_ok (StaysHeard (g.D.Disk.state c.args.disk.now) (g.D.Disk.state c.wait_for_all.new.disk) c.args.pipeline.now c.wait_for_all.new.pipeline) c.from_residual.result c.from_residual.ensures.0;
   bytes = λ tells s l t floor taken right.
       let heard = c.wait_for_all.ensures.log tells in
       leaves_noticed l c.args.pipeline.now c.wait_for_all.new.pipeline (g.D.Disk.state c.args.disk.now) (g.D.Disk.state c.wait_for_all.new.disk) heard.tickets

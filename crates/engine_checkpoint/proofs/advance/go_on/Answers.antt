@@ -5,9 +5,10 @@ use Rattle.layout_journal.specs.declared.header.Header.{Header}
 use Rattle.engine_reuse.specs.Calls.{with_released}
 use Rattle.engine_reuse.specs.Dead.{DeadBlocks}
 use Rattle.engine_checkpoint.specs.declared.pipeline.Pipeline.{Pipeline}
-use Rattle.engine_checkpoint.specs.Advance.{MayServe}
+use Rattle.engine_checkpoint.specs.Advance.{MayServe, IsSound}
 use Rattle.engine_checkpoint.specs.Kept.{kept}
 use Rattle.engine_checkpoint.specs.Turns.{is_batch_due, is_header_due, due_header, going_home, header_made}
+use Rattle.engine_checkpoint.specs.Waits.{LosesCommitted, StaysHeard}
 use Rattle.engine_checkpoint.proofs.Added.{home_before, home_failed, home_went, home_batch, home_stepped, loses_on, loses_batch, loses_header, kept_begun, kept_made}
 use Rattle.engine_checkpoint.proofs.EventRows.{adds_on}
 use Rattle.engine_checkpoint.proofs.Forgotten.{committed_on, committed_same, forward_forgets, forward_loses, written_committed, written_noticed}
@@ -29,7 +30,7 @@ returns-in_err-begin_batch-clause-goes g c = record {
       let a = c.go_forward.ensures.right s (g.D.Disk.state c.args.disk.now).base (g.D.Disk.state c.args.disk.now).log l t floor taken right in
       let safe = (c.begin_batch.ensures.agrees tells s a.now t floor c.go_forward.new.ring c.go_forward.new.reuse.waiting taken a.right.safe a.right.agrees).0 in
       leaves_failed c.from_residual.result s (g.D.Disk.state c.begin_batch.new.disk) l t floor c.begin_batch.new.pipeline c.go_forward.new.ring c.go_forward.new.reuse taken c.from_residual.ensures.0 (record { now = a.now; turned = a.turned; safe = safe });
-  sound = none_ok c.from_residual.result c.from_residual.ensures.0;
+  sound = none_ok (IsSound c.begin_batch.new.pipeline c.go_forward.new.ring c.go_forward.new.reuse) c.from_residual.result c.from_residual.ensures.0;
   moves = let f = c.go_forward.ensures.forward in
       moves_more 0 1 c.args.pipeline.now c.begin_batch.new.pipeline c.args.ring.now c.go_forward.new.ring c.args.reuse.now c.go_forward.new.reuse (omega arith)
       (moves_upto_batch (is_batch_due c.go_forward.new.pipeline) c.begin_batch.result c.args.pipeline.now f.0 f.1 f.2 c.go_forward.new.pipeline c.begin_batch.new.pipeline c.args.ring.now c.go_forward.new.ring c.args.reuse.now c.go_forward.new.reuse
@@ -43,8 +44,8 @@ returns-in_err-begin_batch-clause-goes g c = record {
       home_failed c.begin_batch.result c.from_residual.result (kept v) log new c.from_residual.ensures.0
       (home_before c.begin_batch.result (kept v) (kept w) log new c.go_forward.ensures.front (home_batch (is_batch_due w) c.begin_batch.result w c.begin_batch.new.pipeline log new (c.begin_batch.ensures.log tells)));
   front = loses_on (kept c.args.pipeline.now) (kept c.go_forward.new.pipeline) (kept c.begin_batch.new.pipeline) c.go_forward.ensures.front (loses_batch (is_batch_due c.go_forward.new.pipeline) c.begin_batch.result c.go_forward.new.pipeline c.begin_batch.new.pipeline c.begin_batch.ensures.begins);
-  lost = none_ok c.from_residual.result c.from_residual.ensures.0;
-  heard = λ tells s l t floor taken right. none_ok c.from_residual.result c.from_residual.ensures.0;
+  lost = none_ok (LosesCommitted c.args.pipeline.now c.begin_batch.new.pipeline) c.from_residual.result c.from_residual.ensures.0;
+  heard = λ tells s l t floor taken right. none_ok (StaysHeard (g.D.Disk.state c.args.disk.now) (g.D.Disk.state c.begin_batch.new.disk) c.args.pipeline.now c.begin_batch.new.pipeline) c.from_residual.result c.from_residual.ensures.0;
   bytes = λ tells s l t floor taken right.
       let v = c.args.pipeline.now in
       let w = c.go_forward.new.pipeline in
@@ -87,7 +88,7 @@ returns-in_err-write_next_header-clause-goes g c = record {
       let safe = c.in_err-write_next_header.ensures.agrees tells s a.now t floor c.go_forward.new.reuse.waiting taken b.0 b.1 in
       leaves_failed c.from_residual-in_err-write_next_header.result s (g.D.Disk.state c.write_next_header.new.disk) l t floor c.write_next_header.new.pipeline c.go_forward.new.ring c.go_forward.new.reuse taken c.from_residual-in_err-write_next_header.ensures.0
       (header_failed s (g.D.Disk.state c.write_next_header.new.disk) l a.now t floor (due_header c.begin_batch.new.pipeline c.go_forward.new.ring) a.turned safe);
-  sound = none_ok c.from_residual-in_err-write_next_header.result c.from_residual-in_err-write_next_header.ensures.0;
+  sound = none_ok (IsSound c.write_next_header.new.pipeline c.go_forward.new.ring c.go_forward.new.reuse) c.from_residual-in_err-write_next_header.result c.from_residual-in_err-write_next_header.ensures.0;
   moves = let f = c.go_forward.ensures.forward in
       moves_whole (is_batch_due c.go_forward.new.pipeline) (is_header_due c.begin_batch.new.pipeline) c.begin_batch.result c.write_next_header.result c.args.pipeline.now f.0 f.1 f.2 c.go_forward.new.pipeline c.begin_batch.new.pipeline c.write_next_header.new.pipeline
       c.args.ring.now c.go_forward.new.ring c.args.reuse.now c.go_forward.new.reuse c.calls_change_what_is_dead.ensures.released c.lawful.ensures c.requires.sound.order c.begin_batch.ensures.fit.order f.3 c.begin_batch.ensures.begins c.write_next_header.ensures.adds;
@@ -107,8 +108,8 @@ returns-in_err-write_next_header-clause-goes g c = record {
       (loses_on (kept c.go_forward.new.pipeline) (kept c.begin_batch.new.pipeline) (kept c.write_next_header.new.pipeline)
       (loses_batch (is_batch_due c.go_forward.new.pipeline) c.begin_batch.result c.go_forward.new.pipeline c.begin_batch.new.pipeline c.begin_batch.ensures.begins)
       (loses_header (is_header_due c.begin_batch.new.pipeline) c.write_next_header.result c.begin_batch.new.pipeline c.write_next_header.new.pipeline c.go_forward.new.ring c.write_next_header.ensures.adds));
-  lost = none_ok c.from_residual-in_err-write_next_header.result c.from_residual-in_err-write_next_header.ensures.0;
-  heard = λ tells s l t floor taken right. none_ok c.from_residual-in_err-write_next_header.result c.from_residual-in_err-write_next_header.ensures.0;
+  lost = none_ok (LosesCommitted c.args.pipeline.now c.write_next_header.new.pipeline) c.from_residual-in_err-write_next_header.result c.from_residual-in_err-write_next_header.ensures.0;
+  heard = λ tells s l t floor taken right. none_ok (StaysHeard (g.D.Disk.state c.args.disk.now) (g.D.Disk.state c.write_next_header.new.disk) c.args.pipeline.now c.write_next_header.new.pipeline) c.from_residual-in_err-write_next_header.result c.from_residual-in_err-write_next_header.ensures.0;
   bytes = λ tells s l t floor taken right.
       let v = c.args.pipeline.now in
       let w = c.go_forward.new.pipeline in

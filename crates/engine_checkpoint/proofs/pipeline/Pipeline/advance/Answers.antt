@@ -5,6 +5,8 @@ use Rattle.disk_contract.specs.Manner.{Manner}
 use Rattle.engine_checkpoint.specs.declared.pipeline.Pipeline.{Pipeline}
 use Rattle.engine_checkpoint.specs.Kept.{kept}
 use Rattle.engine_checkpoint.specs.Serving.{ServesByLog}
+use Rattle.engine_checkpoint.specs.Waits.{LosesCommitted, StaysHeard}
+use Rattle.engine_checkpoint.specs.Advance.{IsSound}
 use Rattle.engine_checkpoint.proofs.Added.{home_noticed, home_heard, loses_on, loses_heard}
 use Rattle.engine_checkpoint.proofs.Heard.{sound_heard, turns_heard, has_turns, serves_heard, owed_heard, due_heard, writes_noticed}
 use Rattle.engine_checkpoint.proofs.Forgotten.{committed_heard, committed_on}
@@ -22,7 +24,7 @@ returns-in_err-take_notices-clause-goes g c = record {
   right = λ tells s l t floor taken right.
       let heard = c.take_notices.ensures.agrees tells s l t floor c.args.ring.now c.args.reuse.now.waiting taken right.safe right.agrees in
       leaves_failed c.from_residual.result s (g.D.Disk.state c.take_notices.new.disk) l t floor c.take_notices.new.pipeline c.args.ring.now c.args.reuse.now taken c.from_residual.ensures.0 (record { now = l; turned = turned_same l; safe = heard.0 });
-  sound = none_ok c.from_residual.result c.from_residual.ensures.0;
+  sound = none_ok (IsSound c.take_notices.new.pipeline c.args.ring.now c.args.reuse.now) c.from_residual.result c.from_residual.ensures.0;
   moves = moves_more 0 1 c.args.self.now c.take_notices.new.pipeline c.args.ring.now c.args.ring.now c.args.reuse.now c.args.reuse.now (omega arith) (moves_heard c.args.self.now c.take_notices.new.pipeline c.args.ring.now c.args.reuse.now c.take_notices.ensures.rest);
   owed = λ tells.
       let heard = c.take_notices.ensures.takes tells in
@@ -31,8 +33,8 @@ returns-in_err-take_notices-clause-goes g c = record {
       let heard = c.take_notices.ensures.takes tells in
       home_noticed _ (kept c.args.self.now) heard.tickets (g.D.Disk.state c.args.disk.now).log (g.D.Disk.state c.take_notices.new.disk).log heard.log;
   front = loses_heard c.args.self.now c.take_notices.new.pipeline c.take_notices.ensures.rest;
-  lost = none_ok c.from_residual.result c.from_residual.ensures.0;
-  heard = λ tells s l t floor taken right. none_ok c.from_residual.result c.from_residual.ensures.0;
+  lost = none_ok (LosesCommitted c.args.self.now c.take_notices.new.pipeline) c.from_residual.result c.from_residual.ensures.0;
+  heard = λ tells s l t floor taken right. none_ok (StaysHeard (g.D.Disk.state c.args.disk.now) (g.D.Disk.state c.take_notices.new.disk) c.args.self.now c.take_notices.new.pipeline) c.from_residual.result c.from_residual.ensures.0;
   bytes = λ tells s l t floor taken right.
       let heard = c.take_notices.ensures.takes tells in
       leaves_noticed l c.args.self.now c.take_notices.new.pipeline (g.D.Disk.state c.args.disk.now) (g.D.Disk.state c.take_notices.new.disk) heard.tickets

@@ -1,8 +1,8 @@
 -- Round after round, and then blocks serve again.
 use Rattle.std.proofs.Common.{rules, ◌≡◌, ◌+◌, true, false, Ok, is_err, refl, sym, subst, ap, arith}
-use Rattle.engine_checkpoint.specs.Advance.{writes_owed}
+use Rattle.engine_checkpoint.specs.Advance.{writes_owed, IsSound}
 use Rattle.engine_checkpoint.specs.Kept.{kept}
-use Rattle.engine_checkpoint.specs.Waits.{HearsAll, WaitsSome}
+use Rattle.engine_checkpoint.specs.Waits.{HearsAll, WaitsSome, LosesCommitted, StaysHeard}
 use Rattle.engine_checkpoint.proofs.Added.{home_then, home_failed, home_went, loses_on, loses_served}
 use Rattle.engine_checkpoint.specs.declared.pipeline.Pipeline.{Pipeline}
 use Rattle.engine_checkpoint.proofs.Forgotten.{committed_on, committed_same}
@@ -22,7 +22,7 @@ returns-in_err-drain_once-clause-goes g c = record {
       let was = c.loop-round.invariant.right tells s l t floor taken right in
       leaves_on c.from_residual.result s (g.D.Disk.state c.drain_once.new.disk) l t floor c.drain_once.new.pipeline c.drain_once.new.ring c.drain_once.new.reuse taken was.now was.turned
       (leaves_failed c.from_residual.result s (g.D.Disk.state c.drain_once.new.disk) was.now t floor c.drain_once.new.pipeline c.drain_once.new.ring c.drain_once.new.reuse taken c.from_residual.ensures.0 (c.in_err-drain_once.ensures.goes.right tells s was.now t floor taken was.right));
-  sound = none_ok c.from_residual.result c.from_residual.ensures.0;
+  sound = none_ok (IsSound c.drain_once.new.pipeline c.drain_once.new.ring c.drain_once.new.reuse) c.from_residual.result c.from_residual.ensures.0;
   moves = moves_more (c.loop-round.round + 1) 4 c.args.self.now c.drain_once.new.pipeline c.args.ring.now c.drain_once.new.ring c.args.reuse.now c.drain_once.new.reuse (omega (arith, c.loop-round-test.true))
       (moves_on c.loop-round.round 1 c.args.self.now c.loop-round.self c.drain_once.new.pipeline c.args.ring.now c.loop-round.ring c.drain_once.new.ring c.args.reuse.now c.loop-round.reuse c.drain_once.new.reuse c.loop-round.invariant.moves c.drain_once.ensures.goes.moves);
   owed = λ tells. omega (arith, c.loop-round.invariant.owed tells, c.drain_once.ensures.goes.owed tells);
@@ -32,8 +32,8 @@ returns-in_err-drain_once-clause-goes g c = record {
       home_failed c.drain_once.result c.from_residual.result (kept c.args.self.now) old new c.from_residual.ensures.0
       (home_then tt c.drain_once.result (kept c.args.self.now) (kept c.loop-round.self) old (g.D.Disk.state c.loop-round.disk).log new c.loop-round.invariant.front (c.loop-round.invariant.adds tells) (c.drain_once.ensures.goes.adds tells));
   front = loses_on (kept c.args.self.now) (kept c.loop-round.self) (kept c.drain_once.new.pipeline) c.loop-round.invariant.front c.drain_once.ensures.goes.front;
-  lost = none_ok c.from_residual.result c.from_residual.ensures.0;
-  heard = λ tells s l t floor taken right. none_ok c.from_residual.result c.from_residual.ensures.0;
+  lost = none_ok (LosesCommitted c.args.self.now c.drain_once.new.pipeline) c.from_residual.result c.from_residual.ensures.0;
+  heard = λ tells s l t floor taken right. none_ok (StaysHeard (g.D.Disk.state c.args.disk.now) (g.D.Disk.state c.drain_once.new.disk) c.args.self.now c.drain_once.new.pipeline) c.from_residual.result c.from_residual.ensures.0;
   bytes = λ tells s l t floor taken right.
       let was = c.loop-round.invariant in
       let one = was.right tells s l t floor taken right in

@@ -3,6 +3,7 @@ use Rattle.std.proofs.Common.{◌∙◌, inl, refl, sym, ap, subst, arith}
 use Rattle.engine_checkpoint.specs.Kept.{kept}
 use Rattle.engine_checkpoint.specs.Order.{IsFit}
 use Rattle.engine_checkpoint.specs.declared.pipeline.Pipeline.{Pipeline}
+use Rattle.engine_checkpoint.specs.Waits.{LosesCommitted, StaysHeard}
 use Rattle.engine_checkpoint.proofs.Forgotten.{committed_heard, committed_on, committed_settled}
 use Rattle.engine_checkpoint.proofs.HeardRecords.{heard_left, heard_waited}
 use Rattle.engine_checkpoint.proofs.ForwardSound.{owed_settled}
@@ -23,8 +24,8 @@ returns-in_err-wait_upto-clause-hears g c = record {
   moves = λ ring dead. moves_heard c.args.self.now c.wait_upto.new.pipeline ring dead c.wait_upto.ensures.rest;
   kept = ap kept c.wait_upto.ensures.rest;
   owed = owed_heard c.args.self.now c.wait_upto.new.pipeline c.wait_upto.ensures.rest;
-  lost = none_ok c.from_residual.result c.from_residual.ensures.0;
-  heard = λ tells s l t floor ring dead taken right. none_ok c.from_residual.result c.from_residual.ensures.0;
+  lost = none_ok (LosesCommitted c.args.self.now c.wait_upto.new.pipeline) c.from_residual.result c.from_residual.ensures.0;
+  heard = λ tells s l t floor ring dead taken right. none_ok (StaysHeard (g.D.Disk.state c.args.disk.now) (g.D.Disk.state c.wait_upto.new.disk) c.args.self.now c.wait_upto.new.pipeline) c.from_residual.result c.from_residual.ensures.0;
   log = c.wait_upto.ensures.log;
 }
 
