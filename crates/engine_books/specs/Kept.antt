@@ -1,7 +1,7 @@
 -- What holds of the books at all times. It is described in docs/BOOKS.md.
-use Rattle.std.specs.Prelude.{◌≡◌, ℕ, ◌+◌, ◌-◌, ◌*◌, ◌<◌, ◌≤◌, min, true, false, not, length}
+use Rattle.std.specs.Prelude.{◌≡◌, ℕ, ◌+◌, ◌-◌, ◌*◌, ◌<◌, ◌≤◌, min, true, false, not, List, length}
 use Rattle.base_types.specs.Seal.{blocks_of}
-use Rattle.layout_geometry.specs.Geometry.{LiesIn, IsGeometry, bitmap_blocks, bitmap_start, data_start}
+use Rattle.layout_geometry.specs.Geometry.{Geometry, LiesIn, IsGeometry, bitmap_blocks, bitmap_start, data_start, table_start}
 use Rattle.layout_geometry.specs.Geometry.Area.{Data}
 use Rattle.layout_bitmap.specs.Bits.{is_bad_bit, free_blocks}
 use Rattle.crash_argument.specs.HomeTest.{is_one_of}
@@ -9,7 +9,8 @@ use Rattle.engine_running.specs.Running.{IsOrdered, IsRisingNumbers}
 use Rattle.engine_reuse.specs.Numbers.{is_among}
 use Rattle.engine_reuse.specs.Dead.{AreSound, dead_blocks}
 use Rattle.engine_blocks.specs.Ranges.{counted}
-use Rattle.engine_books.specs.Books.{TransactionBooks, bit_now, has_put, is_taken_now}
+use Rattle.engine_blocks.specs.State.{MayBeTaken}
+use Rattle.engine_books.specs.Books.{TransactionBooks, bit_now, has_put, is_free_now, is_taken_now}
 
 -- how many blocks of the bitmap weren't put
 abbrev pub clean_bitmap_blocks : TransactionBooks → ℕ
@@ -25,6 +26,11 @@ pub record BitsAgree (v : TransactionBooks) : Type 0 where
   pub others : (b : ℕ) → is_bad_bit v.geom (blocks_of v.bitmap) b ≡ false
   pub same : (b : ℕ) → LiesIn v.geom Data b → bit_now v b ≡ not (is_among b (dead_blocks v.dead))
   pub counted : v.live + length (free_blocks v.geom (blocks_of v.bitmap)) ≡ v.geom.n - data_start v.geom
+
+-- These blocks may be the bitmap: there are as many as it has, and they mark no block that they mustn't.
+pub record HasBits (g : Geometry) (blocks : List (List ℕ)) : Type 0 where
+  pub size : length blocks ≡ bitmap_blocks g
+  pub others : (b : ℕ) → is_bad_bit g (blocks_of blocks) b ≡ false
 
 -- the puts and the blocks taken are where they may be
 pub record ChangesLie (v : TransactionBooks) : Type 0 where
@@ -56,3 +62,25 @@ pub record AreKept (v : TransactionBooks) : Type 0 where
   pub taken_few : length v.changes.taken ≤ v.took
   pub took_few : v.took ≤ v.live + length v.dead.held
   pub fits : v.weight ≤ 24 * (v.geom.j - 2)
+
+-- These numbers may be taken.
+pub record MayTake (list : List ℕ) (v : TransactionBooks) : Type 0 where
+  pub kept : AreKept v
+  -- room for them was made
+  pub room : length list ≤ v.spare.takes
+  -- each of them may be taken, and none stands in the list twice
+  pub takeable : MayBeTaken v.geom (is_free_now v) list
+
+-- Block b may be put: it is one of the node table or a data block, and room for a put was made.
+pub record MayPut (b : ℕ) (v : TransactionBooks) : Type 0 where
+  pub kept : AreKept v
+  pub room : 0 < v.spare.puts
+  pub from : table_start v.geom ≤ b
+  pub below : b < v.geom.n
+
+-- Block b may be freed: it is a data block, and room for a free was made.
+pub record MayFree (b : ℕ) (v : TransactionBooks) : Type 0 where
+  pub kept : AreKept v
+  pub room : 0 < v.spare.frees
+  pub from : data_start v.geom ≤ b
+  pub below : b < v.geom.n

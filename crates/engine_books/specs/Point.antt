@@ -5,8 +5,9 @@ use Rattle.layout_geometry.specs.Geometry.{bitmap_blocks, bitmap_start, data_sta
 use Rattle.layout_bytes.specs.Bitmap.{is_set}
 use Rattle.layout_journal.specs.Run.{is_live}
 use Rattle.crash_argument.specs.HomeTest.{is_one_of}
-use Rattle.engine_running.specs.Running.{bytes_put}
-use Rattle.engine_books.specs.Books.{TransactionBooks, bit_now, bytes_over}
+use Rattle.engine_running.specs.Running.{SameChanges, bytes_put}
+use Rattle.engine_blocks.specs.State.{Bookkeeping}
+use Rattle.engine_books.specs.Books.{TransactionBooks, bit_now, bytes_over, map_of, with_books}
 
 -- The transaction began at this map: the bitmap now is the map's with the puts; a block is in the list of those taken, or freed, where its bit changed; each put of a data block is of a marked one; and each put is a whole block.
 pub record BeganAt (v : TransactionBooks) (last : Blocks) : Type 0 where
@@ -24,3 +25,14 @@ HasBitmap v m = (k : ℕ) → k < bitmap_blocks v.geom → m (bitmap_start v.geo
 -- another map has the bytes of this one on its live blocks
 abbrev pub HasSameLive : TransactionBooks → Blocks → Blocks → Type 0
 HasSameLive v last next = (b : ℕ) → IsTrue (is_live v.geom last b) → next b ≡ last b
+
+-- Nothing has changed but what is ready.
+pub record SameButReady (v w : TransactionBooks) : Type 0 where
+  -- the transaction is the same
+  pub same : SameChanges v.changes w.changes
+  -- and so are the dead blocks, but for the room for frees
+  pub dead : w.dead ≡ record v.dead { room = w.dead.room }
+  -- the bookkeeping by them is the same, but for what is ready
+  pub books : (k : Bookkeeping) → with_books k w ≡ record (with_books k v) { spare = w.spare }
+  -- and so is the map
+  pub map : (last : Blocks) → map_of w last ≡ map_of v last

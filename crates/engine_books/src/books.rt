@@ -7,19 +7,19 @@ ghost use Rattle.std.specs.Prelude.{OnOk, OnErr, IfSome, All};
 ghost use Rattle.base_types.specs.Seal.{Blocks, blocks_of};
 ghost use Rattle.base_types.specs.declared.words.Class.TheVariants.{Content};
 ghost use Rattle.layout_geometry.specs.Geometry.Area.{Data};
-ghost use Rattle.layout_geometry.specs.Geometry.{LiesIn, bitmap_blocks, table_start, data_start};
-ghost use Rattle.layout_bitmap.specs.Bits.{is_bad_bit, BitBecomes};
+ghost use Rattle.layout_geometry.specs.Geometry.{LiesIn, bitmap_blocks, data_start};
+ghost use Rattle.layout_bitmap.specs.Bits.{BitBecomes};
 ghost use Rattle.crash_argument.specs.HomeTest.{is_one_of};
 ghost use Rattle.engine_running.specs.Commits.{HasRoomForCommit};
-ghost use Rattle.engine_running.specs.Running.{Changes, IsEmpty, Puts, SameChanges, bytes_put};
+ghost use Rattle.engine_running.specs.Running.{Changes, IsEmpty, Puts, bytes_put};
 ghost use Rattle.engine_reuse.specs.Dead.{freed_by};
 ghost use Rattle.engine_reuse.specs.Calls.{with_bitmap, with_freed, with_released, with_taken};
 ghost use Rattle.engine_blocks.specs.Running.{has, payloads, fresh_blocks, nothing_running};
-ghost use Rattle.engine_blocks.specs.State.{Bookkeeping, MayBeTaken, after_put, after_take, after_free, after_weigh, live_blocks, reusable_blocks};
+ghost use Rattle.engine_blocks.specs.State.{Bookkeeping, after_put, after_take, after_free, after_weigh, live_blocks, reusable_blocks};
 ghost use Rattle.engine_blocks.specs.Calls.{IsReady, IsWithBlock, IsWithTaken, IsWithFreed};
 ghost use Rattle.engine_books.specs.Books.{TransactionBooks, bit_now, class_for, is_marked, is_free_now, running_of, with_books, map_of};
-ghost use Rattle.engine_books.specs.Kept.{AreKept};
-ghost use Rattle.engine_books.specs.Point.{BeganAt, HasBitmap};
+ghost use Rattle.engine_books.specs.Kept.{AreKept, HasBits, MayFree, MayPut, MayTake};
+ghost use Rattle.engine_books.specs.Point.{BeganAt, HasBitmap, SameButReady};
 ghost use Rattle.engine_books.specs.Taking.{TakesOne, GivesUp, bits_put};
 ghost use Rattle.engine_books.specs.Sealing.{with_record};
 
@@ -80,8 +80,7 @@ impl Books {
     /// # Errors
     /// Out of memory.
     pub fn new(alloc: Global, geom: &Geom, bitmap: Vec<Block>) -> Result<Books, NoMemory>
-        requires size { length bitmap.items ≡ bitmap_blocks geom.now }
-        requires others { (b : ℕ) → is_bad_bit geom.now (blocks_of bitmap.items) b ≡ false }
+        requires { HasBits geom.now bitmap.items }
         ensures kept { IfOk result (λ books. AreKept books) }
         ensures geom { IfOk result (λ books. books.geom ≡ geom.now) }
         ensures bitmap { IfOk result (λ books. books.bitmap ≡ bitmap.items) }
@@ -120,9 +119,7 @@ impl Books {
 
     /// Takes these numbers: their bits are set, and what was put for one of them is given up.
     pub fn take(&mut self, list: &Places)
-        requires kept { AreKept self.old }
-        requires room { length list.now ≤ self.old.spare.takes }
-        requires takeable { MayBeTaken self.old.geom (is_free_now self.old) list.now }
+        requires { MayTake list.now self.old }
         ensures kept { AreKept self.new }
         ensures books { (k : Bookkeeping) → with_books k self.new ≡ after_take (with_books k self.old) list.now }
         ensures began { (last : Blocks) → BeganAt self.old last → BeganAt self.new last }
@@ -147,10 +144,7 @@ impl Books {
 
     /// Puts these bytes into a block of the node table or a data block.
     pub fn put(&mut self, b: u32, from: &Block, class: Class)
-        requires kept { AreKept self.old }
-        requires room { 0 < self.old.spare.puts }
-        requires from { table_start self.old.geom ≤ b }
-        requires below { b < self.old.geom.n }
+        requires { MayPut b self.old }
         ensures kept { AreKept self.new }
         ensures books { (k : Bookkeeping) → with_books k self.new ≡ after_put (with_books k self.old) b class }
         ensures began { (last : Blocks) → (data_start self.old.geom ≤ b → bit_now self.old b ≡ true) → BeganAt self.old last → BeganAt self.new last }
@@ -168,10 +162,7 @@ impl Books {
     /// Frees a data block: its bit is cleared, and what was put for it is given up. It is held where its bit was
     /// set.
     pub fn free(&mut self, b: u32)
-        requires kept { AreKept self.old }
-        requires room { 0 < self.old.spare.frees }
-        requires from { data_start self.old.geom ≤ b }
-        requires below { b < self.old.geom.n }
+        requires { MayFree b self.old }
         ensures kept { AreKept self.new }
         ensures books { (k : Bookkeeping) → with_books k self.new ≡ after_free (with_books k self.old) b }
         ensures began { (last : Blocks) → BeganAt self.old last → BeganAt self.new last }
@@ -216,13 +207,10 @@ impl Books {
     ) -> Result<(), NoMemory>
         requires kept { AreKept self.old }
         ensures kept { AreKept self.new }
+        ensures stays { SameButReady self.old self.new }
+        ensures began { (last : Blocks) → BeganAt self.old last → BeganAt self.new last }
         ensures ready { OnOk result (IsReady self.new.spare puts takes frees) }
         ensures failed { OnErr result (self.new.spare ≡ self.old.spare) }
-        ensures same { SameChanges self.old.changes self.new.changes }
-        ensures dead { self.new.dead ≡ record self.old.dead { room = self.new.dead.room } }
-        ensures books { (k : Bookkeeping) → with_books k self.new ≡ record (with_books k self.old) { spare = self.new.spare } }
-        ensures began { (last : Blocks) → BeganAt self.old last → BeganAt self.new last }
-        ensures map { (last : Blocks) → map_of self.new last ≡ map_of self.old last }
     {
         self.geom.lawful();
         let puts = self.puts.max(puts);
@@ -411,10 +399,7 @@ impl Books {
     /// Gives up a data block: its bit is clear from now on, and nothing is put for it. It is held where its bit
     /// was set.
     fn give_up(&mut self, b: u32)
-        requires kept { AreKept self.old }
-        requires room { 0 < self.old.spare.frees }
-        requires from { data_start self.old.geom ≤ b }
-        requires below { b < self.old.geom.n }
+        requires { MayFree b self.old }
         ensures { GivesUp b self.old self.new }
     {
         self.geom.lawful();

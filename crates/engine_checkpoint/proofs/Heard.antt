@@ -25,7 +25,7 @@ pending_same : (o : Option Pending) (old new : List Note) → ((u : ℕ) → is_
 pending_same None old new same = refl
 pending_same (Some q) old new same = ap (λ b. if b then 1 else 0) (same q.ticket)
 
-order_heard : (v : Pipeline) (notes : Expected) → IsInOrder v → IsInOrder (heard v notes)
+pub order_heard : (v : Pipeline) (notes : Expected) → IsInOrder v → IsInOrder (heard v notes)
 order_heard v notes o = record { numbers_are = o.numbers_are; last = o.last; sure = o.sure; next = λ q is. let m = o.next q is in record { start = m.start; start_upto = m.start_upto; sure = m.sure; sure_upto = m.sure_upto; turn = m.turn; epoch = m.epoch }; written = o.written; batch = o.batch; none = o.none; home = o.home; unplaced = o.unplaced; few = o.few; have_places = o.have_places; within = o.within; below = o.below }
 
 pub room_heard : (v : Pipeline) (notes : Expected) → HearsMore v.notes notes → HasRoom v → HasRoom (heard v notes)

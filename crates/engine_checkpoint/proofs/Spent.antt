@@ -49,6 +49,11 @@ pub on_ok : {A E : Type 0} {P Q : Type 0} (r : Result A E) → Rattle.std.proofs
 on_ok (Ok a) p f = f p
 on_ok (Err e) p f = tt
 
+-- where a call failed nothing has to follow from its success
+pub none_ok : {A E : Type 0} (P : Type 0) (r : Result A E) → IsErr r → Rattle.std.proofs.Common.OnOk r P
+none_ok P (Ok a) e = absurd (false≢true e)
+none_ok P (Err x) e = tt
+
 -- what holds whether or not a call succeeded
 pub holds_ok : {A E : Type 0} {P : Type 0} (r : Result A E) → P → Rattle.std.proofs.Common.OnOk r P
 holds_ok (Ok a) p = p

@@ -1,5 +1,5 @@
 -- What the pipeline's calls promise: the disk stays safe, which ledger it has then, that nothing is due, and how many writes may come. It is described in docs/PIPELINE.md.
-use Rattle.std.specs.Prelude.{◌≡◌, ◌⊎◌, ℕ, ◌+◌, ◌-◌, ◌^◌, ◌<◌, ◌≤◌, true, false, List, [], ◌++◌, length, is_err, map, slice_get, Some, None, Result, Ok, Err}
+use Rattle.std.specs.Prelude.{◌≡◌, ◌⊎◌, ℕ, ◌+◌, ◌-◌, ◌^◌, ◌<◌, ◌≤◌, Bool, true, false, IsTrue, List, [], ◌++◌, length, is_err, map, slice_get, Some, None, Result, Ok, Err}
 use Rattle.base_types.specs.Seal.{Blocks}
 use Rattle.disk_contract.specs.declared.event.Event.{Event}
 use Rattle.disk_contract.specs.Disk.{State, Spends}
@@ -49,6 +49,10 @@ pub record IsRight (s : MountedSession) (base : Blocks) (log : List Event) (l : 
 -- the same of what is known of a disk
 abbrev pub IsRightOn : MountedSession → State → Ledger → ℕ → ℕ → Pipeline → RingPlaces → DeadBlocks → List ℕ → Type 0
 IsRightOn s d l t floor v ring dead taken = IsRight s d.base d.log l t floor v ring dead taken
+
+-- so it is where the disk tells, and all is right by some ledger
+abbrev pub WhereRight : Bool → State → Pipeline → RingPlaces → DeadBlocks → Type 0 → Type 0
+WhereRight tells d v ring dead so = IsTrue tells → (s : MountedSession) (l : Ledger) (t floor : ℕ) (taken : List ℕ) → IsRightOn s d l t floor v ring dead taken → so
 
 -- The ledger has turned, and all is right by the ledger that there is then.
 pub record StaysRight (s : MountedSession) (base : Blocks) (log : List Event) (l : Ledger) (t floor : ℕ) (v : Pipeline) (ring : RingPlaces) (dead : DeadBlocks) (taken : List ℕ) : Type 0 where

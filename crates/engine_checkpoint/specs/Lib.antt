@@ -14,3 +14,5 @@ pub mod Stages
 pub mod Advance
 pub mod Adds
 pub mod Bytes
+pub mod Joining
+pub mod Calls

@@ -1,5 +1,5 @@
 -- What the pipeline keeps over any disk: its records are numbered in a row, its headers fit them, and there is room for all that is to come. It is described in docs/PIPELINE.md.
-use Rattle.std.specs.Prelude.{◌≡◌, ℕ, ◌+◌, ◌<◌, ◌≤◌, min, if◌then◌else◌, List, [], length, take, All, Option, Some, None, vec_capacity}
+use Rattle.std.specs.Prelude.{◌≡◌, ℕ, ◌+◌, ◌-◌, ◌^◌, ◌<◌, ◌≤◌, min, if◌then◌else◌, List, [], length, take, All, Option, Some, None, vec_capacity}
 use Rattle.std.specs.List.{range_with_len}
 use Rattle.std.specs.VecDeque.{deque_len, deque_capacity}
 use Rattle.layout_journal.specs.declared.header.Header.{Header}
@@ -75,6 +75,26 @@ pub record HasRoom (v : Pipeline) : Type 0 where
   pub last : payloads_in (behind_batch v) + v.ready.payloads ≤ spot_room v.batch_newest
   pub newest : v.ready.payloads ≤ spot_room v.newest
   pub notes : payloads_in (behind_batch v) + v.ready.payloads + v.ready.writes + header_room v ≤ v.notes.room + header_notes v
+
+-- What each step keeps of a pipeline: its records are in order, and there is room for what is to come.
+pub record IsFit (v : Pipeline) : Type 0 where
+  pub order : IsInOrder v
+  pub room : HasRoom v
+
+-- The pipeline may write on a disk of so many blocks.
+pub record MayWriteOn (blocks : ℕ) (v : Pipeline) : Type 0 where
+  -- it is fit
+  pub order : IsInOrder v
+  pub room : HasRoom v
+  -- the disk has the blocks of its geometry
+  pub size : blocks ≡ v.geom.n
+
+-- A header may be the next one that it writes on such a disk.
+pub record MayWriteNext (blocks : ℕ) (v : Pipeline) : Type 0 where
+  pub on : MayWriteOn blocks v
+  -- the numbers of headers and of records aren't at their ends
+  pub turn : v.header.turn < 2 ^ 64 - 1
+  pub last : v.last < 2 ^ 64 - 1
 
 -- the ring and the dead blocks go with the pipeline: the ring's places are those of its records, and each block that waits was freed by one of its records or an earlier one
 pub record GoesWith (v : Pipeline) (ring : RingPlaces) (dead : DeadBlocks) : Type 0 where

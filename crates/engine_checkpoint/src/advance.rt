@@ -1,33 +1,34 @@
 //! The pipeline's whole step, in its order, and the calls made of it: the step after the notices that have come, and
 //! the rounds of waits that bring every record to its end. What a single step does is the other modules' matter.
 
-ghost use Rattle.std.specs.Prelude.{◌≡◌, ◌⊎◌, ◌≤◌, ◌<◌, ◌+◌, ◌++◌, ◌∷◌, ◌^◌, [], true, ℕ, List, length, false, vec_len, vec_capacity, IsTrue, OnOk};
+ghost use Rattle.std.specs.Prelude.{◌≡◌, ◌⊎◌, ◌≤◌, ◌<◌, ◌+◌, ◌++◌, ◌∷◌, [], true, ℕ, List, length, false, vec_len, vec_capacity, IsTrue, OnOk};
 ghost use Rattle.std.specs.Prelude.{OnErr, is_err};
 ghost use Rattle.base_types.specs.Seal.{Blocks};
 ghost use Rattle.disk_contract.specs.declared.event.Event.{Event};
 ghost use Rattle.disk_contract.specs.Cell.{IsNoticed};
-ghost use Rattle.disk_contract.specs.Disk.{State, HasFailed, GrowsByWrites, OnlyWrites, PollsThenWrites, writes_in};
+ghost use Rattle.disk_contract.specs.Disk.{State, HasFailed, GrowsByWrites, OnlyWrites, PollsThenWrites};
 ghost use Rattle.layout_journal.specs.Ring.{RingPlaces};
 ghost use Rattle.crash_argument.specs.Ledger.{Ledger};
 ghost use Rattle.crash_argument.specs.Points.{MountedSession, IsSafe};
-ghost use Rattle.engine_checkpoint.specs.Adds.{AddsHome, LosesFront};
+ghost use Rattle.engine_checkpoint.specs.Adds.{LosesFront};
 ghost use Rattle.engine_checkpoint.specs.Agree.{NotesAreGiven, PipelineAgrees, durable_count};
+ghost use Rattle.engine_checkpoint.specs.Calls.{GoesOn, MayMove, OnlyHears};
 ghost use Rattle.engine_checkpoint.specs.Bytes.{LeavesBytes};
-ghost use Rattle.engine_reuse.specs.Dead.{DeadBlocks};
 ghost use Rattle.engine_checkpoint.specs.Kept.{kept};
-ghost use Rattle.engine_checkpoint.specs.Order.{IsInOrder, HasRoom};
+ghost use Rattle.engine_checkpoint.specs.Order.{IsFit};
 ghost use Rattle.engine_checkpoint.specs.Serving.{ServesKnown};
 ghost use Rattle.engine_checkpoint.specs.Steps.{is_first_settled, SettlesSome};
 ghost use Rattle.engine_checkpoint.specs.Stages.{IsAtStage};
-ghost use Rattle.engine_checkpoint.specs.Waits.{AreAllNoticed, IsOfRecord, LosesCommitted, OnlyNotices, StaysHeard, WaitsSome};
-ghost use Rattle.engine_checkpoint.specs.Advance.{AgreesOn, IsRight, IsRightOn, StaysRight, Leaves, IsSound, HasTurns, LeavesTurns, Moves};
+ghost use Rattle.engine_checkpoint.specs.Waits.{AreAllNoticed, IsOfRecord, WaitsSome};
+ghost use Rattle.engine_checkpoint.specs.Advance.{AgreesOn, IsRight, IsRightOn, StaysRight, IsSound, LeavesTurns, WhereRight};
 ghost use Rattle.engine_checkpoint.specs.Advance.{NothingIsDue, IsDrained, AdvanceSpends, GoesForward, writes_owed};
 ghost use Rattle.engine_checkpoint.specs.Turns.{with_served, going_home};
 
 use crate::batch::{begin_batch, end_batch};
 use crate::header::{turn_header, write_next_header};
+use crate::pipeline::{settle_first, take_notices};
 use crate::waits::{wait_for_all, wait_upto};
-use crate::{HomeWrite, Pipeline, settle_first, take_notices, the_newest_payloads_are_the_map};
+use crate::{HomeWrite, Pipeline, the_newest_payloads_are_the_map};
 use crash_argument::{
     a_batch_goes_home, a_read_gives_what_was_written_last, calls_add_at_most_one_write,
     counts_tell_the_batch, fewer_may_wait, records_stand_in_order, the_home_test_is_exact,
@@ -54,29 +55,11 @@ impl Pipeline {
         ring: &mut Ring,
         reuse: &mut Reuse,
     ) -> Result<(), DiskFault>
-        requires sound { IsSound self.old ring.old reuse.old }
-        requires size { (D.state disk.old).blocks ≡ self.old.geom.n }
-        requires turns { HasTurns self.old }
-        ensures right { IsTrue D.tells → (s : MountedSession) (l : Ledger) (t floor : ℕ) (taken : List ℕ)
-            → IsRightOn s (D.state disk.old) l t floor self.old ring.old reuse.old taken
-            → Leaves result s (D.state disk.new) l t floor self.new ring.new reuse.new taken }
-        ensures sound { OnOk result (IsSound self.new ring.new reuse.new) }
-        ensures moves { Moves 1 self.old self.new ring.old ring.new reuse.old reuse.new }
-        ensures due { IsTrue D.tells → (s : MountedSession) (l : Ledger) (t floor : ℕ) (taken : List ℕ)
-            → IsRightOn s (D.state disk.old) l t floor self.old ring.old reuse.old taken → OnOk result (NothingIsDue self.old self.new) }
-        ensures owed { IsTrue D.tells → writes_in (D.state disk.new).log + writes_owed self.new ≤ writes_in (D.state disk.old).log + writes_owed self.old }
-        ensures adds { IsTrue D.tells → AddsHome result (kept self.old) (D.state disk.old).log (D.state disk.new).log }
-        ensures front { LosesFront (kept self.old) (kept self.new) }
-        ensures lost { OnOk result (LosesCommitted self.old self.new) }
-        ensures heard { IsTrue D.tells → (s : MountedSession) (l : Ledger) (t floor : ℕ) (taken : List ℕ)
-            → IsRightOn s (D.state disk.old) l t floor self.old ring.old reuse.old taken
-            → OnOk result (StaysHeard (D.state disk.old) (D.state disk.new) self.old self.new) }
-        ensures serves { IsTrue D.tells → (s : MountedSession) (l : Ledger) (t floor : ℕ) (taken : List ℕ)
-            → IsRightOn s (D.state disk.old) l t floor self.old ring.old reuse.old taken
-            → OnOk result (ServesKnown (D.state disk.old) (D.state disk.new) self.old self.new reuse.old reuse.new) }
-        ensures bytes { IsTrue D.tells → (s : MountedSession) (l : Ledger) (t floor : ℕ) (taken : List ℕ)
-            → IsRightOn s (D.state disk.old) l t floor self.old ring.old reuse.old taken
-            → LeavesBytes l self.old self.new (D.state disk.old) (D.state disk.new) }
+        requires { MayMove (D.state disk.old).blocks self.old ring.old reuse.old }
+        ensures goes { GoesOn D.tells 1 result (D.state disk.old) (D.state disk.new) self.old self.new ring.old ring.new reuse.old reuse.new }
+        ensures due { WhereRight D.tells (D.state disk.old) self.old ring.old reuse.old (OnOk result (NothingIsDue self.old self.new)) }
+        ensures serves { WhereRight D.tells (D.state disk.old) self.old ring.old reuse.old
+            (OnOk result (ServesKnown (D.state disk.old) (D.state disk.new) self.old self.new reuse.old reuse.new)) }
         ensures spends { AdvanceSpends result (D.state disk.old) (D.state disk.new) }
         ensures polled { IsTrue D.tells → PollsThenWrites (D.state disk.old).manner 64 (D.state disk.old).polls (D.state disk.old).log
             (D.state disk.new).polls (D.state disk.new).log }
@@ -99,28 +82,11 @@ impl Pipeline {
         ring: &mut Ring,
         reuse: &mut Reuse,
     ) -> Result<(), DiskFault>
-        requires sound { IsSound self.old ring.old reuse.old }
-        requires size { (D.state disk.old).blocks ≡ self.old.geom.n }
-        requires turns { HasTurns self.old }
-        ensures right { IsTrue D.tells → (s : MountedSession) (l : Ledger) (t floor : ℕ) (taken : List ℕ)
-            → IsRightOn s (D.state disk.old) l t floor self.old ring.old reuse.old taken
-            → Leaves result s (D.state disk.new) l t floor self.new ring.new reuse.new taken }
-        ensures sound { OnOk result (IsSound self.new ring.new reuse.new) }
-        ensures moves { Moves 4 self.old self.new ring.old ring.new reuse.old reuse.new }
+        requires { MayMove (D.state disk.old).blocks self.old ring.old reuse.old }
+        ensures goes { GoesOn D.tells 4 result (D.state disk.old) (D.state disk.new) self.old self.new ring.old ring.new reuse.old reuse.new }
         ensures drained { OnOk result (IsDrained self.new reuse.new) }
-        ensures owed { IsTrue D.tells → writes_in (D.state disk.new).log + writes_owed self.new ≤ writes_in (D.state disk.old).log + writes_owed self.old }
-        ensures adds { IsTrue D.tells → AddsHome result (kept self.old) (D.state disk.old).log (D.state disk.new).log }
-        ensures front { LosesFront (kept self.old) (kept self.new) }
-        ensures lost { OnOk result (LosesCommitted self.old self.new) }
-        ensures heard { IsTrue D.tells → (s : MountedSession) (l : Ledger) (t floor : ℕ) (taken : List ℕ)
-            → IsRightOn s (D.state disk.old) l t floor self.old ring.old reuse.old taken
-            → OnOk result (StaysHeard (D.state disk.old) (D.state disk.new) self.old self.new) }
-        ensures bytes { IsTrue D.tells → (s : MountedSession) (l : Ledger) (t floor : ℕ) (taken : List ℕ)
-            → IsRightOn s (D.state disk.old) l t floor self.old ring.old reuse.old taken
-            → LeavesBytes l self.old self.new (D.state disk.old) (D.state disk.new) }
         ensures spends { WaitsSome (is_err result) (D.state disk.old) (D.state disk.new) }
-        ensures cause { IsTrue D.tells → (s : MountedSession) (l : Ledger) (t floor : ℕ) (taken : List ℕ)
-            → IsRightOn s (D.state disk.old) l t floor self.old ring.old reuse.old taken → OnErr result (HasFailed (D.state disk.new)) }
+        ensures cause { WhereRight D.tells (D.state disk.old) self.old ring.old reuse.old (OnErr result (HasFailed (D.state disk.new))) }
     {
         calls_change_what_is_dead();
         a_freed_block_waits();
@@ -141,23 +107,11 @@ impl Pipeline {
     /// # Errors
     /// A wait failed, which the disk has counted. What a crash leaves is still one sync point.
     pub fn wait_records<D: Disk>(&mut self, disk: &mut D, upto: u64) -> Result<(), DiskFault>
-        requires order { IsInOrder self.old }
-        requires room { HasRoom self.old }
-        ensures right { IsTrue D.tells → (s : MountedSession) (l : Ledger) (t floor : ℕ) (ring : RingPlaces) (dead : DeadBlocks) (taken : List ℕ)
-            → IsRightOn s (D.state disk.old) l t floor self.old ring dead taken
-            → Leaves result s (D.state disk.new) l t floor self.new ring dead taken }
-        ensures sound { (ring : RingPlaces) (dead : DeadBlocks) → IsSound self.old ring dead → IsSound self.new ring dead }
-        ensures moves { (ring : RingPlaces) (dead : DeadBlocks) → Moves 0 self.old self.new ring ring dead dead }
+        requires { IsFit self.old }
+        ensures hears { OnlyHears D.tells result (D.state disk.old) (D.state disk.new) self.old self.new }
         ensures durable { OnOk result (upto ≤ self.old.last → upto < self.new.header.start + durable_count self.new) }
-        ensures kept { kept self.new ≡ kept self.old }
-        ensures lost { OnOk result (LosesCommitted self.old self.new) }
-        ensures heard { IsTrue D.tells → (s : MountedSession) (l : Ledger) (t floor : ℕ) (ring : RingPlaces) (dead : DeadBlocks) (taken : List ℕ)
-            → IsRightOn s (D.state disk.old) l t floor self.old ring dead taken
-            → OnOk result (StaysHeard (D.state disk.old) (D.state disk.new) self.old self.new) }
         ensures only { IsTrue D.tells → (D.state disk.old).manner.waits_alone ≡ true → (u : ℕ) → IsNoticed u (D.state disk.new).log
             → IsNoticed u (D.state disk.old).log ⊎ IsOfRecord self.old upto u }
-        ensures owed { writes_owed self.new ≡ writes_owed self.old }
-        ensures log { IsTrue D.tells → OnlyNotices (D.state disk.old).log (D.state disk.new).log }
         ensures spends { WaitsSome (is_err result) (D.state disk.old) (D.state disk.new) }
         ensures cause { IsTrue D.tells → NotesAreGiven (D.state disk.old).log self.old.notes.notes → OnErr result (HasFailed (D.state disk.new)) }
     {
@@ -177,22 +131,8 @@ fn drain_once<D: Disk>(
     requires sound { IsSound pipeline.old ring.old reuse.old }
     requires size { (D.state disk.old).blocks ≡ pipeline.old.geom.n }
     requires turns { LeavesTurns 1 pipeline.old }
-    ensures right { IsTrue D.tells → (s : MountedSession) (l : Ledger) (t floor : ℕ) (taken : List ℕ)
-        → IsRightOn s (D.state disk.old) l t floor pipeline.old ring.old reuse.old taken
-        → Leaves result s (D.state disk.new) l t floor pipeline.new ring.new reuse.new taken }
-    ensures sound { OnOk result (IsSound pipeline.new ring.new reuse.new) }
-    ensures moves { Moves 1 pipeline.old pipeline.new ring.old ring.new reuse.old reuse.new }
+    ensures goes { GoesOn D.tells 1 result (D.state disk.old) (D.state disk.new) pipeline.old pipeline.new ring.old ring.new reuse.old reuse.new }
     ensures stage { OnOk result ((k : ℕ) → IsAtStage k pipeline.old → IsAtStage (k + 1) pipeline.new) }
-    ensures owed { IsTrue D.tells → writes_in (D.state disk.new).log + writes_owed pipeline.new ≤ writes_in (D.state disk.old).log + writes_owed pipeline.old }
-    ensures adds { IsTrue D.tells → AddsHome result (kept pipeline.old) (D.state disk.old).log (D.state disk.new).log }
-    ensures front { LosesFront (kept pipeline.old) (kept pipeline.new) }
-    ensures lost { OnOk result (LosesCommitted pipeline.old pipeline.new) }
-    ensures heard { IsTrue D.tells → (s : MountedSession) (l : Ledger) (t floor : ℕ) (taken : List ℕ)
-        → IsRightOn s (D.state disk.old) l t floor pipeline.old ring.old reuse.old taken
-        → OnOk result (StaysHeard (D.state disk.old) (D.state disk.new) pipeline.old pipeline.new) }
-    ensures bytes { IsTrue D.tells → (s : MountedSession) (l : Ledger) (t floor : ℕ) (taken : List ℕ)
-        → IsRightOn s (D.state disk.old) l t floor pipeline.old ring.old reuse.old taken
-        → LeavesBytes l pipeline.old pipeline.new (D.state disk.old) (D.state disk.new) }
     ensures spends { WaitsSome (is_err result) (D.state disk.old) (D.state disk.new) }
     ensures cause { IsTrue D.tells → NotesAreGiven (D.state disk.old).log pipeline.old.notes.notes → OnErr result (HasFailed (D.state disk.new)) }
 {
@@ -214,28 +154,12 @@ fn go_on<D: Disk>(
     requires sound { IsSound pipeline.old ring.old reuse.old }
     requires size { (D.state disk.old).blocks ≡ pipeline.old.geom.n }
     requires turns { LeavesTurns 1 pipeline.old }
-    ensures right { IsTrue D.tells → (s : MountedSession) (l : Ledger) (t floor : ℕ) (taken : List ℕ)
-        → IsRightOn s (D.state disk.old) l t floor pipeline.old ring.old reuse.old taken
-        → Leaves result s (D.state disk.new) l t floor pipeline.new ring.new reuse.new taken }
-    ensures sound { OnOk result (IsSound pipeline.new ring.new reuse.new) }
-    ensures moves { Moves 1 pipeline.old pipeline.new ring.old ring.new reuse.old reuse.new }
-    ensures due { IsTrue D.tells → (s : MountedSession) (l : Ledger) (t floor : ℕ) (taken : List ℕ)
-        → IsRightOn s (D.state disk.old) l t floor pipeline.old ring.old reuse.old taken → OnOk result (NothingIsDue pipeline.old pipeline.new) }
+    ensures goes { GoesOn D.tells 1 result (D.state disk.old) (D.state disk.new) pipeline.old pipeline.new ring.old ring.new reuse.old reuse.new }
+    ensures due { WhereRight D.tells (D.state disk.old) pipeline.old ring.old reuse.old (OnOk result (NothingIsDue pipeline.old pipeline.new)) }
     ensures stage { AreAllNoticed pipeline.old.notes.notes → OnOk result ((k : ℕ) → IsAtStage k pipeline.old → IsAtStage (k + 1) pipeline.new) }
-    ensures owed { IsTrue D.tells → writes_in (D.state disk.new).log + writes_owed pipeline.new ≤ writes_in (D.state disk.old).log + writes_owed pipeline.old }
-    ensures adds { IsTrue D.tells → AddsHome result (kept pipeline.old) (D.state disk.old).log (D.state disk.new).log }
-    ensures front { LosesFront (kept pipeline.old) (kept pipeline.new) }
-    ensures lost { OnOk result (LosesCommitted pipeline.old pipeline.new) }
-    ensures heard { IsTrue D.tells → (s : MountedSession) (l : Ledger) (t floor : ℕ) (taken : List ℕ)
-        → IsRightOn s (D.state disk.old) l t floor pipeline.old ring.old reuse.old taken
-        → OnOk result (StaysHeard (D.state disk.old) (D.state disk.new) pipeline.old pipeline.new) }
-    ensures serves { IsTrue D.tells → (s : MountedSession) (l : Ledger) (t floor : ℕ) (taken : List ℕ)
-        → IsRightOn s (D.state disk.old) l t floor pipeline.old ring.old reuse.old taken
-        → OnOk result (ServesKnown (D.state disk.old) (D.state disk.new) pipeline.old pipeline.new reuse.old reuse.new) }
+    ensures serves { WhereRight D.tells (D.state disk.old) pipeline.old ring.old reuse.old
+        (OnOk result (ServesKnown (D.state disk.old) (D.state disk.new) pipeline.old pipeline.new reuse.old reuse.new)) }
     ensures writes { IsTrue D.tells → GrowsByWrites (D.state disk.old).log (D.state disk.new).log }
-    ensures bytes { IsTrue D.tells → (s : MountedSession) (l : Ledger) (t floor : ℕ) (taken : List ℕ)
-        → IsRightOn s (D.state disk.old) l t floor pipeline.old ring.old reuse.old taken
-        → LeavesBytes l pipeline.old pipeline.new (D.state disk.old) (D.state disk.new) }
     ensures spends { OnlyWrites (is_err result) (D.state disk.old) (D.state disk.new) }
     ensures cause { IsTrue D.tells → OnErr result (HasFailed (D.state disk.new)) }
 {
@@ -280,15 +204,13 @@ fn go_forward(pipeline: &mut Pipeline, ring: &mut Ring, reuse: &mut Reuse)
 
 /// Lets the committed records become durable, oldest first, up to the first of which a ticket is open.
 fn settle_all(pipeline: &mut Pipeline)
-    requires order { IsInOrder pipeline.old }
-    requires room { HasRoom pipeline.old }
+    requires { IsFit pipeline.old }
     ensures agrees { (s : MountedSession) (base : Blocks) (log : List Event) (l : Ledger) (t floor : ℕ) (ring : RingPlaces) (waiting : List (ℕ × ℕ))
         (taken : List ℕ) → IsSafe s base log l t floor → PipelineAgrees base log l pipeline.old ring waiting taken
         → AgreesOn s base log l t floor pipeline.new ring waiting taken }
     ensures due { is_first_settled pipeline.new.committed.items pipeline.new.notes.notes ≡ false }
     ensures settles { (count : ℕ) × SettlesSome count pipeline.old pipeline.new }
-    ensures order { IsInOrder pipeline.new }
-    ensures room { HasRoom pipeline.new }
+    ensures fit { IsFit pipeline.new }
 {
     for turn in 0..pipeline.committed.len() {
         if !settle_first(pipeline) {
@@ -299,12 +221,10 @@ fn settle_all(pipeline: &mut Pipeline)
 
 /// Gives back the blocks that records freed which are sure now, and to which no checkpoint write is open.
 fn serve_blocks(pipeline: &mut Pipeline, reuse: &mut Reuse)
-    requires order { IsInOrder pipeline.old }
-    requires room { HasRoom pipeline.old }
+    requires { IsFit pipeline.old }
     ensures serves { reuse.new ≡ with_served pipeline.old reuse.old }
     ensures rest { pipeline.new ≡ record pipeline.old { blocks = pipeline.new.blocks } }
-    ensures order { IsInOrder pipeline.new }
-    ensures room { HasRoom pipeline.new }
+    ensures fit { IsFit pipeline.new }
 {
     if !reuse.may_release(pipeline.header.sure) {
         return;

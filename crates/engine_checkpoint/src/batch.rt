@@ -18,7 +18,7 @@ ghost use Rattle.engine_running.specs.declared.put.Put.{Put};
 ghost use Rattle.engine_running.specs.Record.{block_of};
 ghost use Rattle.engine_running.specs.Rows.{put_of};
 ghost use Rattle.engine_running.specs.States.{Forgets};
-ghost use Rattle.engine_running.specs.Writes.{fresh_write};
+ghost use Rattle.engine_running.specs.Writes.{fresh_write, AsksWrites};
 ghost use Rattle.engine_checkpoint.specs.Advance.{writes_owed};
 ghost use Rattle.engine_checkpoint.specs.Agree.{PipelineAgrees, NotesAreTrue, home_pair, home_ticket};
 ghost use Rattle.engine_checkpoint.specs.Batch.{placed_of, have_payload, home_block, IsHomeRow, AreInRow, AreAt};
@@ -26,10 +26,11 @@ ghost use Rattle.engine_checkpoint.specs.HomeState.{HomeState, home_of, with_hom
 ghost use Rattle.engine_checkpoint.specs.Index.{IndexIsRight};
 ghost use Rattle.engine_checkpoint.specs.Kept.{of_sure, payloads_in, newest_in};
 ghost use Rattle.engine_checkpoint.specs.Newest.{spot_of, spot_count, spot_room, is_upto, IsSpotList};
-ghost use Rattle.engine_checkpoint.specs.Order.{IsInOrder, HasRoom};
+ghost use Rattle.engine_checkpoint.specs.Order.{IsFit, MayWriteOn};
 ghost use Rattle.engine_checkpoint.specs.Turns.{EndsOrStays, BatchAdds, AddsBatch, AreOpenHome, is_batch_noticed, is_batch_due};
 
-use crate::{HomeWrite, Newest, Pipeline, write_home};
+use crate::home::write_home;
+use crate::{HomeWrite, Newest, Pipeline};
 use base_types::Block;
 use crash_argument::{
     a_batch_comes_home, a_batch_goes_home, counts_tell_the_batch, fewer_may_be_sent,
@@ -42,17 +43,15 @@ use std::collections::VecDeque;
 
 /// Lets the batch be placed, where there is one and none of its checkpoint writes is open, and answers whether it
 /// did. Then the notes drop their tickets.
-pub fn end_batch(pipeline: &mut Pipeline) -> bool
-    requires order { IsInOrder pipeline.old }
-    requires room { HasRoom pipeline.old }
+pub(crate) fn end_batch(pipeline: &mut Pipeline) -> bool
+    requires { IsFit pipeline.old }
     ensures agrees { (s : MountedSession) (base : Blocks) (log : List Event) (l : Ledger) (t floor : ℕ) (ring : RingPlaces) (waiting : List (ℕ × ℕ))
         (taken : List ℕ) → IsSafe s base log l t floor → PipelineAgrees base log l pipeline.old ring waiting taken
         → PipelineAgrees base log l pipeline.new ring waiting taken }
     ensures exact { result ≡ is_batch_noticed pipeline.old }
     ensures ends { EndsOrStays result pipeline.old pipeline.new }
     ensures index { IndexIsRight pipeline.old → IndexIsRight pipeline.new }
-    ensures order { IsInOrder pipeline.new }
-    ensures room { HasRoom pipeline.new }
+    ensures fit { IsFit pipeline.new }
     ensures owed { writes_owed pipeline.new ≡ writes_owed pipeline.old }
 {
     a_batch_comes_home();
@@ -86,10 +85,8 @@ pub fn end_batch(pipeline: &mut Pipeline) -> bool
 ///
 /// # Errors
 /// A write failed, which the disk has counted. What a crash leaves is still one sync point.
-pub fn begin_batch<D: Disk>(disk: &mut D, pipeline: &mut Pipeline) -> Result<(), DiskFault>
-    requires order { IsInOrder pipeline.old }
-    requires room { HasRoom pipeline.old }
-    requires on_disk { (D.state disk.old).blocks ≡ pipeline.old.geom.n }
+pub(crate) fn begin_batch<D: Disk>(disk: &mut D, pipeline: &mut Pipeline) -> Result<(), DiskFault>
+    requires { MayWriteOn (D.state disk.old).blocks pipeline.old }
     ensures agrees { IsTrue D.tells → (s : MountedSession) (l : Ledger) (t floor : ℕ) (ring : RingPlaces) (waiting : List (ℕ × ℕ)) (taken : List ℕ)
         → IsSafe s (D.state disk.old).base (D.state disk.old).log l t floor
         → PipelineAgrees (D.state disk.old).base (D.state disk.old).log l pipeline.old ring waiting taken
@@ -99,10 +96,8 @@ pub fn begin_batch<D: Disk>(disk: &mut D, pipeline: &mut Pipeline) -> Result<(),
     ensures open { IsTrue D.tells → is_batch_due pipeline.old ≡ true → NotesAreTrue (D.state disk.old).log pipeline.old.notes.notes
         → OnOk result (AreOpenHome pipeline.new.home.items pipeline.new.notes.notes) }
     ensures log { IsTrue D.tells → AddsBatch (is_batch_due pipeline.old) result pipeline.old pipeline.new (D.state disk.old).log (D.state disk.new).log }
-    ensures spends { OnlyWrites (is_err result) (D.state disk.old) (D.state disk.new) }
-    ensures cause { IsTrue D.tells → OnErr result (HasFailed (D.state disk.new)) }
-    ensures order { IsInOrder pipeline.new }
-    ensures room { HasRoom pipeline.new }
+    ensures asks { AsksWrites D.tells result (D.state disk.old) (D.state disk.new) }
+    ensures fit { IsFit pipeline.new }
     ensures owed { IsTrue D.tells → writes_in (D.state disk.new).log + writes_owed pipeline.new ≤ writes_in (D.state disk.old).log + writes_owed pipeline.old }
 {
     a_batch_goes_home();

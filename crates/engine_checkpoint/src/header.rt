@@ -1,21 +1,21 @@
 //! Headers: the one that was written last becomes the durable one, once its write is noticed, and the next one is
 //! written beside it. How records come so far, and when these steps are made, isn't said here.
 
-ghost use Rattle.std.specs.Prelude.{◌≡◌, ◌≤◌, ◌<◌, ◌+◌, ◌-◌, ◌++◌, ◌^◌, ℕ, List, length, take, drop, map, slice_get, true, false, Some, IsTrue, IsOk};
-ghost use Rattle.std.specs.Prelude.{OnOk, OnErr, is_err};
+ghost use Rattle.std.specs.Prelude.{◌≡◌, ◌≤◌, ◌<◌, ◌+◌, ◌-◌, ◌++◌, ◌^◌, ℕ, List, length, take, drop, map, slice_get, true, false, Some, IsTrue};
+ghost use Rattle.std.specs.Prelude.{OnOk};
 ghost use Rattle.std.specs.VecDeque.{deque_len, deque_capacity};
 ghost use Rattle.base_types.specs.Seal.{Blocks};
 ghost use Rattle.disk_contract.specs.declared.event.Event.{Event};
-ghost use Rattle.disk_contract.specs.Disk.{HasFailed, OnlyWrites};
-ghost use Rattle.layout_journal.specs.Ring.{RingPlaces, without_places};
+ghost use Rattle.layout_journal.specs.Ring.{without_places};
 ghost use Rattle.crash_argument.specs.Ledger.{Ledger};
 ghost use Rattle.crash_argument.specs.Points.{MountedSession, IsSafe};
 ghost use Rattle.engine_running.specs.declared.states.Durable.{Durable};
 ghost use Rattle.engine_running.specs.declared.states.Sure.{Sure};
 ghost use Rattle.engine_running.specs.declared.states.Placed.{Placed};
+ghost use Rattle.engine_running.specs.Writes.{AsksWrites};
 ghost use Rattle.engine_checkpoint.specs.Agree.{PipelineAgrees};
 ghost use Rattle.engine_checkpoint.specs.Kept.{places_taken, placed_count, total};
-ghost use Rattle.engine_checkpoint.specs.Order.{IsInOrder, HasRoom};
+ghost use Rattle.engine_checkpoint.specs.Order.{IsInOrder, IsFit, MayWriteNext};
 ghost use Rattle.engine_checkpoint.specs.Turns.{TurnsOrStays, AreSured, HeaderMade, HeaderAdds, AddsHeader, is_header_noticed, is_header_due};
 ghost use Rattle.engine_checkpoint.specs.Turns.{header_turned, due_header, place_behind_placed};
 ghost use Rattle.engine_checkpoint.specs.Advance.{writes_owed};
@@ -37,9 +37,8 @@ use std::collections::VecDeque;
 /// Lets the pending header become the durable one, where its write is noticed, and answers whether it did. Then
 /// the placed records before its start are released, with their ring places, and the durable ones up to its
 /// `sure` are sure.
-pub fn turn_header(pipeline: &mut Pipeline, ring: &mut Ring) -> bool
-    requires order { IsInOrder pipeline.old }
-    requires room { HasRoom pipeline.old }
+pub(crate) fn turn_header(pipeline: &mut Pipeline, ring: &mut Ring) -> bool
+    requires fit { IsFit pipeline.old }
     requires taken { ring.old.taken ≡ places_taken pipeline.old }
     ensures agrees { (s : MountedSession) (base : Blocks) (log : List Event) (l : Ledger) (t floor : ℕ) (waiting : List (ℕ × ℕ)) (taken : List ℕ)
         → IsSafe s base log l t floor → PipelineAgrees base log l pipeline.old ring.old waiting taken
@@ -47,8 +46,7 @@ pub fn turn_header(pipeline: &mut Pipeline, ring: &mut Ring) -> bool
         × PipelineAgrees base log (header_turned result pipeline.old l) pipeline.new ring.new waiting taken }
     ensures exact { result ≡ is_header_noticed pipeline.old.next pipeline.old.notes.notes }
     ensures turns { TurnsOrStays result pipeline.old pipeline.new ring.old ring.new }
-    ensures order { IsInOrder pipeline.new }
-    ensures room { HasRoom pipeline.new }
+    ensures fit { IsFit pipeline.new }
     ensures taken { ring.new.taken ≡ places_taken pipeline.new }
     ensures owed { writes_owed pipeline.new ≡ writes_owed pipeline.old }
 {
@@ -127,16 +125,12 @@ fn other_slot(slot: u32) -> u32
 ///
 /// # Errors
 /// The write failed, which the disk has counted. What a crash leaves is still one sync point.
-pub fn write_next_header<D: Disk>(
+pub(crate) fn write_next_header<D: Disk>(
     disk: &mut D,
     pipeline: &mut Pipeline,
     ring: &Ring,
 ) -> Result<(), DiskFault>
-    requires order { IsInOrder pipeline.old }
-    requires room { HasRoom pipeline.old }
-    requires size { (D.state disk.old).blocks ≡ pipeline.old.geom.n }
-    requires turn { pipeline.old.header.turn < 2 ^ 64 - 1 }
-    requires last { pipeline.old.last < 2 ^ 64 - 1 }
+    requires { MayWriteNext (D.state disk.old).blocks pipeline.old }
     ensures agrees { IsTrue D.tells → (s : MountedSession) (l : Ledger) (t floor : ℕ) (waiting : List (ℕ × ℕ)) (taken : List ℕ)
         → IsSafe s (D.state disk.old).base (D.state disk.old).log l t floor
         → PipelineAgrees (D.state disk.old).base (D.state disk.old).log l pipeline.old ring.now waiting taken
@@ -145,10 +139,8 @@ pub fn write_next_header<D: Disk>(
     ensures log { IsTrue D.tells → AddsHeader (is_header_due pipeline.old) result pipeline.old pipeline.new ring.now (D.state disk.old).log
         (D.state disk.new).log }
     ensures stays { is_header_due pipeline.old ≡ false → disk.new ≡ disk.old }
-    ensures spends { OnlyWrites (is_err result) (D.state disk.old) (D.state disk.new) }
-    ensures cause { IsTrue D.tells → OnErr result (HasFailed (D.state disk.new)) }
-    ensures order { OnOk result (IsInOrder pipeline.new) }
-    ensures room { OnOk result (HasRoom pipeline.new) }
+    ensures asks { AsksWrites D.tells result (D.state disk.old) (D.state disk.new) }
+    ensures fit { OnOk result (IsFit pipeline.new) }
     ensures owed { is_header_due pipeline.old ≡ true → writes_owed pipeline.new + 1 ≤ writes_owed pipeline.old }
 {
     if !is_header_due(pipeline) {

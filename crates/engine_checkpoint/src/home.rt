@@ -21,7 +21,7 @@ use disk_contract::{Disk, DiskFault};
 ///
 /// # Errors
 /// The write failed, which the disk has counted. What a crash leaves is still one sync point.
-pub fn write_home<D: Disk>(disk: &mut D, block: u32, bytes: &Block) -> Result<u64, DiskFault>
+pub(crate) fn write_home<D: Disk>(disk: &mut D, block: u32, bytes: &Block) -> Result<u64, DiskFault>
     requires { block < (D.state disk.old).blocks }
     ensures home { IsTrue D.tells → (s : MountedSession) (l : Ledger) (p : PipelineData) (freed : List (List ℕ)) (taken : List ℕ) (t floor : ℕ)
         → IsSafe s (D.state disk.old).base (D.state disk.old).log l t floor → HomeState (D.state disk.old).base (D.state disk.old).log l p freed taken

@@ -14,11 +14,8 @@ mod payload;
 mod pipeline;
 mod waits;
 
-pub use batch::{begin_batch, end_batch};
-pub use header::{turn_header, write_next_header};
-pub use home::write_home;
 pub use issue::commit_next;
 pub use laws::{taken_blocks_stay_right, taken_blocks_stay_sound};
 pub use newest::{Newest, Spot};
 pub use payload::the_newest_payloads_are_the_map;
-pub use pipeline::{HomeWrite, Pending, Pipeline, Ready, accept, settle_first, take_notices};
+pub use pipeline::{HomeWrite, Pending, Pipeline, Ready};

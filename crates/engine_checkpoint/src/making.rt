@@ -12,7 +12,7 @@ ghost use Rattle.engine_checkpoint.specs.Advance.{writes_owed};
 ghost use Rattle.engine_checkpoint.specs.Agree.{PipelineAgrees, durable_count};
 ghost use Rattle.engine_checkpoint.specs.Index.{IndexIsRight};
 ghost use Rattle.engine_checkpoint.specs.Kept.{numbers, places_taken};
-ghost use Rattle.engine_checkpoint.specs.Order.{IsInOrder, HasRoom};
+ghost use Rattle.engine_checkpoint.specs.Order.{IsInOrder, HasRoom, IsFit};
 ghost use Rattle.engine_checkpoint.specs.Room.{NoLessRoom, RoomForRecords, RoomForPayloads, RoomForNotes};
 ghost use Rattle.engine_checkpoint.specs.Steps.{HasNoRecord, SamePipeline, ready_upto};
 
@@ -75,13 +75,11 @@ impl Pipeline {
     /// # Errors
     /// No memory was found. What was ready is so still.
     pub fn reserve(&mut self, writes: u32, payloads: u32) -> Result<(), NoMemory>
-        requires order { IsInOrder self.old }
-        requires room { HasRoom self.old }
+        requires { IsFit self.old }
         ensures same { SamePipeline self.old self.new }
         ensures ok { OnOk result (self.new.ready ≡ ready_upto writes payloads self.old.ready) }
         ensures err { OnErr result (self.new.ready ≡ self.old.ready) }
-        ensures order { IsInOrder self.new }
-        ensures room { HasRoom self.new }
+        ensures fit { IsFit self.new }
         ensures index { IndexIsRight self.old → IndexIsRight self.new }
         ensures agrees { (base : Blocks) (log : List Event) (l : Ledger) (ring : RingPlaces) (waiting : List (ℕ × ℕ)) (taken : List ℕ)
             → PipelineAgrees base log l self.old ring waiting taken → PipelineAgrees base log l self.new ring waiting taken }

@@ -2,31 +2,22 @@
 //! write: notices are taken, the oldest record becomes durable, a commit joins. Headers and batches are steps
 //! of other modules.
 
-ghost use Rattle.std.specs.Prelude.{◌≡◌, ◌≤◌, ◌<◌, ◌+◌, ◌||◌, ℕ, List, [], ◌∷◌, ◌++◌, length, map, IsTrue, OnErr, if◌then◌else◌, is_err};
+ghost use Rattle.std.specs.Prelude.{◌≡◌, ◌≤◌, ◌<◌, ◌+◌, ◌||◌, ℕ, List, length, IsTrue, OnErr, if◌then◌else◌, is_err};
 ghost use Rattle.base_types.specs.Seal.{Blocks};
 ghost use Rattle.disk_contract.specs.declared.event.Event.{Event};
-ghost use Rattle.disk_contract.specs.Cell.{IsNoticed};
 ghost use Rattle.disk_contract.specs.Disk.{HasFailed, OnlyPolls};
-ghost use Rattle.layout_journal.specs.Ring.{RingPlaces, with_places};
-ghost use Rattle.layout_journal.specs.Run.{places};
+ghost use Rattle.layout_journal.specs.Ring.{RingPlaces};
 ghost use Rattle.crash_argument.specs.HomeTest.{is_one_of};
-ghost use Rattle.crash_argument.specs.Ledger.{Ledger, next_number};
-ghost use Rattle.crash_argument.specs.OnePending.{HasOnePending};
-ghost use Rattle.crash_argument.specs.PipelineData.{with_committed, pairs_of};
+ghost use Rattle.crash_argument.specs.Ledger.{Ledger};
 ghost use Rattle.crash_argument.specs.Points.{MountedSession, IsSafe};
-ghost use Rattle.crash_argument.specs.Recording.{IsInLedger};
-ghost use Rattle.crash_argument.specs.Steps.{with_known, with_record};
+ghost use Rattle.crash_argument.specs.Steps.{with_known};
 ghost use Rattle.engine_notes.specs.Notes.{is_expected, is_noticed};
-ghost use Rattle.engine_running.specs.Record.{written_of, AreBelow};
-ghost use Rattle.engine_running.specs.Commits.{IsCommitOf};
-ghost use Rattle.engine_running.specs.Running.{Changes};
-ghost use Rattle.engine_checkpoint.specs.Agree.{PipelineAgrees, AreNewTickets, HasFreed, HomeIsSent, data_of, home_pair};
-ghost use Rattle.engine_checkpoint.specs.Advance.{writes_owed};
-ghost use Rattle.engine_checkpoint.specs.Index.{IndexIsRight};
-ghost use Rattle.engine_checkpoint.specs.Kept.{kept, of_committed, places_taken};
-ghost use Rattle.engine_checkpoint.specs.Order.{IsInOrder, HasRoom, HasPlaces};
+ghost use Rattle.engine_checkpoint.specs.Calls.{StaysAgreed};
+ghost use Rattle.engine_checkpoint.specs.Agree.{PipelineAgrees};
+ghost use Rattle.engine_checkpoint.specs.Joining.{Joins, MayJoin};
+ghost use Rattle.engine_checkpoint.specs.Order.{IsFit};
 ghost use Rattle.engine_checkpoint.specs.Waits.{HearsMore};
-ghost use Rattle.engine_checkpoint.specs.Steps.{TakesNotices, TakesOne, TakesAnswer, TakesKnown, PollsUpTo, SettlesOrStays, Accepts};
+ghost use Rattle.engine_checkpoint.specs.Steps.{TakesNotices, TakesOne, TakesAnswer, TakesKnown, PollsUpTo, SettlesOrStays};
 ghost use Rattle.engine_checkpoint.specs.Steps.{is_first_settled, ready_after};
 
 use crate::newest::Newest;
@@ -73,8 +64,8 @@ pub struct Pipeline {
     pub geom: Geom,
     /// The durable header, and its slot.
     pub header: Header,
-    pub slot: u32,
-    pub next: Option<Pending>,
+    pub(crate) slot: u32,
+    pub(crate) next: Option<Pending>,
     /// The header that was written last, also where that write was lost.
     pub written: Header,
     pub notes: Notes,
@@ -88,13 +79,13 @@ pub struct Pipeline {
     pub batch: usize,
     pub home: Vec<HomeWrite>,
     /// How many payloads the records have that aren't placed.
-    pub unplaced: u32,
+    pub(crate) unplaced: u32,
     /// Where the newest payload of each block is that one of these records has.
-    pub newest: Newest,
+    pub(crate) newest: Newest,
     /// The same of the batch alone, while it begins. Between calls nothing is looked up here.
-    pub batch_newest: Newest,
+    pub(crate) batch_newest: Newest,
     /// Block numbers, while a batch begins or blocks are given back. Between calls nothing is looked up here.
-    pub blocks: Vec<u32>,
+    pub(crate) blocks: Vec<u32>,
     pub ready: Ready,
 }
 
@@ -102,12 +93,8 @@ pub struct Pipeline {
 ///
 /// # Errors
 /// A poll failed, which the disk has counted. The notices before it are taken.
-pub fn take_notices<D: Disk>(disk: &mut D, pipeline: &mut Pipeline) -> Result<(), DiskFault>
-    ensures agrees { IsTrue D.tells → (s : MountedSession) (l : Ledger) (t floor : ℕ) (ring : RingPlaces) (waiting : List (ℕ × ℕ)) (taken : List ℕ)
-        → IsSafe s (D.state disk.old).base (D.state disk.old).log l t floor
-        → PipelineAgrees (D.state disk.old).base (D.state disk.old).log l pipeline.old ring waiting taken
-        → IsSafe s (D.state disk.new).base (D.state disk.new).log l t floor
-        × PipelineAgrees (D.state disk.new).base (D.state disk.new).log l pipeline.new ring waiting taken }
+pub(crate) fn take_notices<D: Disk>(disk: &mut D, pipeline: &mut Pipeline) -> Result<(), DiskFault>
+    ensures agrees { StaysAgreed D.tells (D.state disk.old) (D.state disk.new) pipeline.old pipeline.new }
     ensures takes { IsTrue D.tells → TakesNotices result pipeline.old pipeline.new (D.state disk.old) (D.state disk.new) }
     ensures rest { pipeline.new ≡ record pipeline.old { notes = pipeline.new.notes } }
     ensures hears { HearsMore pipeline.old.notes pipeline.new.notes }
@@ -125,11 +112,7 @@ pub fn take_notices<D: Disk>(disk: &mut D, pipeline: &mut Pipeline) -> Result<()
 
 /// Takes one notice, and answers whether there was one.
 fn take_notice<D: Disk>(disk: &mut D, pipeline: &mut Pipeline) -> Result<bool, DiskFault>
-    ensures agrees { IsTrue D.tells → (s : MountedSession) (l : Ledger) (t floor : ℕ) (ring : RingPlaces) (waiting : List (ℕ × ℕ)) (taken : List ℕ)
-        → IsSafe s (D.state disk.old).base (D.state disk.old).log l t floor
-        → PipelineAgrees (D.state disk.old).base (D.state disk.old).log l pipeline.old ring waiting taken
-        → IsSafe s (D.state disk.new).base (D.state disk.new).log l t floor
-        × PipelineAgrees (D.state disk.new).base (D.state disk.new).log l pipeline.new ring waiting taken }
+    ensures agrees { StaysAgreed D.tells (D.state disk.old) (D.state disk.new) pipeline.old pipeline.new }
     ensures takes { IsTrue D.tells → TakesOne result pipeline.old pipeline.new (D.state disk.old).log (D.state disk.new).log }
     ensures rest { pipeline.new ≡ record pipeline.old { notes = pipeline.new.notes } }
     ensures hears { HearsMore pipeline.old.notes pipeline.new.notes }
@@ -152,17 +135,15 @@ fn take_notice<D: Disk>(disk: &mut D, pipeline: &mut Pipeline) -> Result<bool, D
 
 /// Lets the oldest committed transaction become durable, where none of its tickets is open, and answers
 /// whether it did. Then the notes drop these tickets.
-pub fn settle_first(pipeline: &mut Pipeline) -> bool
-    requires order { IsInOrder pipeline.old }
-    requires room { HasRoom pipeline.old }
+pub(crate) fn settle_first(pipeline: &mut Pipeline) -> bool
+    requires { IsFit pipeline.old }
     ensures agrees { (s : MountedSession) (base : Blocks) (log : List Event) (l : Ledger) (t floor : ℕ) (ring : RingPlaces) (waiting : List (ℕ × ℕ))
         (taken : List ℕ) → IsSafe s base log l t floor → PipelineAgrees base log l pipeline.old ring waiting taken
         → IsSafe s base log (if result then with_known l (l.known + 1) else l) t floor
         × PipelineAgrees base log (if result then with_known l (l.known + 1) else l) pipeline.new ring waiting taken }
     ensures exact { result ≡ is_first_settled pipeline.old.committed.items pipeline.old.notes.notes }
     ensures settles { SettlesOrStays result pipeline.old pipeline.new }
-    ensures order { IsInOrder pipeline.new }
-    ensures room { HasRoom pipeline.new }
+    ensures fit { IsFit pipeline.new }
 {
     records_become_durable();
     noticed_records_are_known();
@@ -190,36 +171,9 @@ pub fn settle_first(pipeline: &mut Pipeline) -> bool
 }
 
 /// Takes a transaction that was committed as the next record. What was made ready must be enough for it.
-pub fn accept(pipeline: &mut Pipeline, committed: Committed)
-    requires order { IsInOrder pipeline.old }
-    requires room { HasRoom pipeline.old }
-    requires index { IndexIsRight pipeline.old }
-    requires ready { (0 < pipeline.old.ready.records) × (length committed.tickets.items ≤ pipeline.old.ready.writes)
-        × (length committed.payloads.items ≤ pipeline.old.ready.payloads) }
-    requires next { committed.number ≡ pipeline.old.last + 1 }
-    requires places { places_taken pipeline.old + committed.count ≤ pipeline.old.geom.j }
-    requires has { HasPlaces (of_committed committed) }
-    requires below { AreBelow pipeline.old.geom.n committed.payloads.items }
-    ensures agrees { (s : MountedSession) (base : Blocks) (old new : List Event) (l : Ledger) (m : Blocks) (t floor epoch : ℕ) (ring : RingPlaces)
-        (waiting : List (ℕ × ℕ)) (taken : List ℕ) (running : Changes) → PipelineAgrees base old l pipeline.old ring waiting taken
-        → IsSafe s base old l t floor
-        → IsCommitOf running (next_number l) ring.next committed → ((u : ℕ) → IsNoticed u old → IsNoticed u new)
-        → AreNewTickets old new committed.tickets.items → HasFreed l m committed.freed.items
-        → IsInLedger s base new l (data_of pipeline.old ring waiting) (written_of epoch (next_number l) ring.next running.paid running.laid) m t floor
-        committed.tickets.items
-        → ((freed : List ℕ) → HasOnePending base new (with_record l (written_of epoch (next_number l) ring.next running.paid running.laid) m)
-        (with_committed (data_of pipeline.old ring waiting) l (written_of epoch (next_number l) ring.next running.paid running.laid)
-        committed.tickets.items freed) []) → HomeIsSent l.geom new (map home_pair pipeline.old.home.items)
-        → PipelineAgrees base new (with_record l (written_of epoch (next_number l) ring.next running.paid running.laid) m) pipeline.new
-        (with_places ring (places (written_of epoch (next_number l) ring.next running.paid running.laid).says))
-        (waiting ++ pairs_of (next_number l) committed.freed.items) [] }
-    ensures accepts { Accepts committed pipeline.old pipeline.new }
-    ensures order { IsInOrder pipeline.new }
-    ensures room { HasRoom pipeline.new }
-    ensures index { IndexIsRight pipeline.new }
-    ensures kept { kept pipeline.new ≡ kept pipeline.old ++ of_committed committed ∷ [] }
-    ensures taken { places_taken pipeline.new ≡ places_taken pipeline.old + committed.count }
-    ensures owed { writes_owed pipeline.new ≡ writes_owed pipeline.old + length committed.payloads.items + 2 }
+pub(crate) fn accept(pipeline: &mut Pipeline, committed: Committed)
+    requires { MayJoin committed pipeline.old }
+    ensures { Joins committed pipeline.old pipeline.new }
 {
     records_stand_in_order();
     a_record_keeps_its_puts();

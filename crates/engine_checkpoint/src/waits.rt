@@ -1,16 +1,14 @@
 //! Waits for tickets: for all that are open, and for those of the records up to one. Which step comes then isn't
 //! said here.
 
-ghost use Rattle.std.specs.Prelude.{◌≡◌, ◌<◌, ℕ, List, length, slice_get, Some, true, false, IsTrue, OnOk, OnErr, is_err};
+ghost use Rattle.std.specs.Prelude.{◌≡◌, ◌<◌, length, slice_get, Some, true, false, IsTrue, OnOk, OnErr, is_err};
 ghost use Rattle.disk_contract.specs.Disk.{HasFailed};
-ghost use Rattle.layout_journal.specs.Ring.{RingPlaces};
 ghost use Rattle.crash_argument.specs.HomeTest.{is_one_of};
-ghost use Rattle.crash_argument.specs.Ledger.{Ledger};
-ghost use Rattle.crash_argument.specs.Points.{MountedSession, IsSafe};
 ghost use Rattle.engine_notes.specs.Notes.{is_noticed, is_open, none_open};
 ghost use Rattle.engine_notes.specs.declared.notes.Note.{Note};
 ghost use Rattle.engine_running.specs.declared.commit.Committed.{Committed};
-ghost use Rattle.engine_checkpoint.specs.Agree.{PipelineAgrees, NotesAreGiven};
+ghost use Rattle.engine_checkpoint.specs.Calls.{StaysAgreed};
+ghost use Rattle.engine_checkpoint.specs.Agree.{NotesAreGiven};
 ghost use Rattle.engine_checkpoint.specs.Order.{IsInOrder};
 ghost use Rattle.engine_checkpoint.specs.Waits.{AreAllNoticed, HearsMore, HearsOnly, IsOfRecord, AreWaitedFor, OnlyNotices, WaitsSome};
 
@@ -24,12 +22,8 @@ use disk_contract::{Disk, DiskFault};
 ///
 /// # Errors
 /// A wait failed, which the disk has counted. The tickets before it are noticed.
-pub fn wait_for_all<D: Disk>(disk: &mut D, pipeline: &mut Pipeline) -> Result<(), DiskFault>
-    ensures agrees { IsTrue D.tells → (s : MountedSession) (l : Ledger) (t floor : ℕ) (ring : RingPlaces) (waiting : List (ℕ × ℕ)) (taken : List ℕ)
-        → IsSafe s (D.state disk.old).base (D.state disk.old).log l t floor
-        → PipelineAgrees (D.state disk.old).base (D.state disk.old).log l pipeline.old ring waiting taken
-        → IsSafe s (D.state disk.new).base (D.state disk.new).log l t floor
-        × PipelineAgrees (D.state disk.new).base (D.state disk.new).log l pipeline.new ring waiting taken }
+pub(crate) fn wait_for_all<D: Disk>(disk: &mut D, pipeline: &mut Pipeline) -> Result<(), DiskFault>
+    ensures agrees { StaysAgreed D.tells (D.state disk.old) (D.state disk.new) pipeline.old pipeline.new }
     ensures noticed { OnOk result (AreAllNoticed pipeline.new.notes.notes) }
     ensures hears { HearsMore pipeline.old.notes pipeline.new.notes }
     ensures rest { pipeline.new ≡ record pipeline.old { notes = pipeline.new.notes } }
@@ -47,11 +41,7 @@ pub fn wait_for_all<D: Disk>(disk: &mut D, pipeline: &mut Pipeline) -> Result<()
 
 /// Waits for the ticket of the note at this place, where it is open.
 fn wait_for_note<D: Disk>(disk: &mut D, pipeline: &mut Pipeline, at: usize) -> Result<(), DiskFault>
-    ensures agrees { IsTrue D.tells → (s : MountedSession) (l : Ledger) (t floor : ℕ) (ring : RingPlaces) (waiting : List (ℕ × ℕ)) (taken : List ℕ)
-        → IsSafe s (D.state disk.old).base (D.state disk.old).log l t floor
-        → PipelineAgrees (D.state disk.old).base (D.state disk.old).log l pipeline.old ring waiting taken
-        → IsSafe s (D.state disk.new).base (D.state disk.new).log l t floor
-        × PipelineAgrees (D.state disk.new).base (D.state disk.new).log l pipeline.new ring waiting taken }
+    ensures agrees { StaysAgreed D.tells (D.state disk.old) (D.state disk.new) pipeline.old pipeline.new }
     ensures noticed { OnOk result ((n : Note) → slice_get pipeline.old.notes.notes at ≡ Some n → is_noticed n.ticket pipeline.new.notes.notes ≡ true) }
     ensures hears { HearsMore pipeline.old.notes pipeline.new.notes }
     ensures rest { pipeline.new ≡ record pipeline.old { notes = pipeline.new.notes } }
@@ -71,13 +61,13 @@ fn wait_for_note<D: Disk>(disk: &mut D, pipeline: &mut Pipeline, at: usize) -> R
 ///
 /// # Errors
 /// A wait failed, which the disk has counted. The tickets before it are noticed.
-pub fn wait_upto<D: Disk>(disk: &mut D, pipeline: &mut Pipeline, upto: u64) -> Result<(), DiskFault>
+pub(crate) fn wait_upto<D: Disk>(
+    disk: &mut D,
+    pipeline: &mut Pipeline,
+    upto: u64,
+) -> Result<(), DiskFault>
     requires order { IsInOrder pipeline.old }
-    ensures agrees { IsTrue D.tells → (s : MountedSession) (l : Ledger) (t floor : ℕ) (ring : RingPlaces) (waiting : List (ℕ × ℕ)) (taken : List ℕ)
-        → IsSafe s (D.state disk.old).base (D.state disk.old).log l t floor
-        → PipelineAgrees (D.state disk.old).base (D.state disk.old).log l pipeline.old ring waiting taken
-        → IsSafe s (D.state disk.new).base (D.state disk.new).log l t floor
-        × PipelineAgrees (D.state disk.new).base (D.state disk.new).log l pipeline.new ring waiting taken }
+    ensures agrees { StaysAgreed D.tells (D.state disk.old) (D.state disk.new) pipeline.old pipeline.new }
     ensures noticed { OnOk result (AreWaitedFor upto pipeline.new) }
     ensures hears { HearsMore pipeline.old.notes pipeline.new.notes }
     ensures rest { pipeline.new ≡ record pipeline.old { notes = pipeline.new.notes } }
@@ -103,11 +93,7 @@ fn wait_for_record<D: Disk>(
     at: usize,
 ) -> Result<(), DiskFault>
     requires { at < length pipeline.old.committed.items }
-    ensures agrees { IsTrue D.tells → (s : MountedSession) (l : Ledger) (t floor : ℕ) (ring : RingPlaces) (waiting : List (ℕ × ℕ)) (taken : List ℕ)
-        → IsSafe s (D.state disk.old).base (D.state disk.old).log l t floor
-        → PipelineAgrees (D.state disk.old).base (D.state disk.old).log l pipeline.old ring waiting taken
-        → IsSafe s (D.state disk.new).base (D.state disk.new).log l t floor
-        × PipelineAgrees (D.state disk.new).base (D.state disk.new).log l pipeline.new ring waiting taken }
+    ensures agrees { StaysAgreed D.tells (D.state disk.old) (D.state disk.new) pipeline.old pipeline.new }
     ensures noticed { OnOk result ((c : Committed) → slice_get pipeline.old.committed.items at ≡ Some c
         → none_open c.tickets.items pipeline.new.notes.notes ≡ true) }
     ensures hears { HearsMore pipeline.old.notes pipeline.new.notes }
@@ -132,11 +118,7 @@ fn wait_where_open<D: Disk>(
     pipeline: &mut Pipeline,
     ticket: u64,
 ) -> Result<(), DiskFault>
-    ensures agrees { IsTrue D.tells → (s : MountedSession) (l : Ledger) (t floor : ℕ) (ring : RingPlaces) (waiting : List (ℕ × ℕ)) (taken : List ℕ)
-        → IsSafe s (D.state disk.old).base (D.state disk.old).log l t floor
-        → PipelineAgrees (D.state disk.old).base (D.state disk.old).log l pipeline.old ring waiting taken
-        → IsSafe s (D.state disk.new).base (D.state disk.new).log l t floor
-        × PipelineAgrees (D.state disk.new).base (D.state disk.new).log l pipeline.new ring waiting taken }
+    ensures agrees { StaysAgreed D.tells (D.state disk.old) (D.state disk.new) pipeline.old pipeline.new }
     ensures closed { OnOk result (is_open ticket pipeline.new.notes.notes ≡ false) }
     ensures hears { HearsMore pipeline.old.notes pipeline.new.notes }
     ensures rest { pipeline.new ≡ record pipeline.old { notes = pipeline.new.notes } }

@@ -1,22 +1,13 @@
 //! The commit of the running transaction, as one record of the journal. Nothing is waited for.
 
-ghost use Rattle.std.specs.Prelude.{◌≡◌, ◌≤◌, ◌<◌, ◌+◌, ◌-◌, ◌^◌, ◌⊎◌, ℕ, List, [], length, map, IsTrue, IfErr, IfOk, OnErr, is_err};
-ghost use Rattle.base_types.specs.Seal.{Blocks};
-ghost use Rattle.disk_contract.specs.Cell.{cell_of};
-ghost use Rattle.disk_contract.specs.Disk.{HasFailed, OnlyWrites};
+ghost use Rattle.std.specs.Prelude.{◌≡◌, ◌≤◌, ◌+◌, ℕ, List, length, map, IfOk};
 ghost use Rattle.layout_journal.specs.Run.{places};
-ghost use Rattle.layout_journal.specs.Ring.{with_places};
-ghost use Rattle.crash_argument.specs.Ledger.{Ledger};
-ghost use Rattle.crash_argument.specs.OnePending.{HasOnePending};
-ghost use Rattle.crash_argument.specs.Steps.{NoneIsBeingWritten};
-ghost use Rattle.crash_argument.specs.Points.{MountedSession, IsSafe};
-ghost use Rattle.crash_argument.specs.PipelineData.{PipelineData, DataAgree};
 ghost use Rattle.engine_running.specs.declared.put.Put.{Put};
-ghost use Rattle.engine_running.specs.Record.{record_of, written_of, block_of, AreBelow, IsTransaction};
-ghost use Rattle.engine_running.specs.Writes.{record_writes};
-ghost use Rattle.engine_running.specs.Commits.{HasRoomForCommit, CommitLeaves, CommitAdds, IsCommitOf, CommitKeepsOne, AreNotOnTheirWay};
+ghost use Rattle.engine_running.specs.Record.{record_of, block_of};
+ghost use Rattle.engine_running.specs.Commits.{Commits, HasRoomForCommit, MayBeCommitted};
 
-use crate::{Put, Running, issue_record};
+use crate::writes::issue_record;
+use crate::{Put, Running};
 use base_types::NoMemory;
 use crash_argument::{
     a_write_to_an_idle_block_is_the_one, blocks_to_be_written_are_idle, one_write_is_pending,
@@ -98,29 +89,8 @@ impl Running {
         epoch: u64,
         number: u64,
     ) -> Result<Committed, Running>
-        requires some { 0 < length self.paid }
-        requires small { length self.paid + length self.laid ≤ 2097152 }
-        requires room { HasRoomForCommit self room }
-        requires on_disk { (D.state disk.old).blocks ≡ ring.old.geom.n }
-        requires free { ring.old.taken + places (record_of 0 0 self.paid self.laid) ≤ ring.old.geom.j }
-        requires below { AreBelow (D.state disk.old).blocks self.laid }
-        ensures leaves { IsTrue D.tells → (s : MountedSession) (l : Ledger) (p : PipelineData) (m : Blocks) (t floor : ℕ) → ring.old.geom ≡ l.geom
-            → IsTransaction l epoch number ring.old.next self.paid self.laid m
-            → NoneIsBeingWritten (cell_of (D.state disk.old).base (D.state disk.old).log) l
-            → DataAgree (D.state disk.old).base (D.state disk.old).log l p → IsSafe s (D.state disk.old).base (D.state disk.old).log l t floor
-            → CommitLeaves s l p (written_of epoch number ring.old.next self.paid self.laid) m t floor result (D.state disk.new).base (D.state disk.new).log }
-        ensures log { IsTrue D.tells → CommitAdds (record_writes ring.old.geom epoch number ring.old.next self.paid self.laid) result
-            (D.state disk.old).log (D.state disk.new).log }
-        ensures one { IsTrue D.tells → (s : MountedSession) (l : Ledger) (p : PipelineData) (m : Blocks) (t floor : ℕ) → ring.old.geom ≡ l.geom
-            → IsTransaction l epoch number ring.old.next self.paid self.laid m
-            → DataAgree (D.state disk.old).base (D.state disk.old).log l p → IsSafe s (D.state disk.old).base (D.state disk.old).log l t floor
-            → HasOnePending (D.state disk.old).base (D.state disk.old).log l p [] → AreNotOnTheirWay (D.state disk.old).log p self.laid
-            → CommitKeepsOne l p (written_of epoch number ring.old.next self.paid self.laid) m result (D.state disk.new).base (D.state disk.new).log }
-        ensures made { IfOk result (IsCommitOf self number ring.old.next) }
-        ensures back { IfErr result (λ running. running ≡ self) }
-        ensures ring { ring.new ≡ with_places ring.old (places (record_of 0 0 self.paid self.laid)) }
-        ensures spends { OnlyWrites (is_err result) (D.state disk.old) (D.state disk.new) }
-        ensures cause { IsTrue D.tells → OnErr result (HasFailed (D.state disk.new)) }
+        requires { MayBeCommitted (D.state disk.old).blocks self room ring.old }
+        ensures { Commits D.tells self epoch number result ring.old ring.new (D.state disk.old) (D.state disk.new) }
     {
         payloads_read_back();
         journal_blocks_read_back();

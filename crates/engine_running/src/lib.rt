@@ -22,4 +22,3 @@ pub use laws::{
 pub use put::{Class, Put};
 pub use running::Running;
 pub use states::{Durable, Placed, Released, Sure};
-pub use writes::{issue_descriptors, issue_fresh, issue_payloads, issue_record};

@@ -29,7 +29,7 @@ use layout_journal::{
 };
 
 /// Writes the fresh blocks of a record, in their order.
-pub fn issue_fresh<D: Disk>(
+pub(crate) fn issue_fresh<D: Disk>(
     disk: &mut D,
     laid: &[Put],
     tickets: &mut Vec<u64>,
@@ -56,7 +56,7 @@ pub fn issue_fresh<D: Disk>(
 }
 
 /// Writes the descriptors of a record behind the place of its commit block.
-pub fn issue_descriptors<D: Disk>(
+pub(crate) fn issue_descriptors<D: Disk>(
     disk: &mut D,
     geom: &Geom,
     epoch: u64,
@@ -98,7 +98,7 @@ pub fn issue_descriptors<D: Disk>(
 }
 
 /// Writes the payloads of a record into the ring, from this place on, as the journal stores them.
-pub fn issue_payloads<D: Disk>(
+pub(crate) fn issue_payloads<D: Disk>(
     disk: &mut D,
     geom: &Geom,
     first: u32,
@@ -136,7 +136,7 @@ pub fn issue_payloads<D: Disk>(
 
 /// Writes a record: its fresh blocks, its descriptors, its payloads, and last its commit block. None of
 /// them is waited for.
-pub fn issue_record<D: Disk>(
+pub(crate) fn issue_record<D: Disk>(
     disk: &mut D,
     geom: &Geom,
     epoch: u64,

@@ -11,7 +11,7 @@ use Rattle.crash_argument.specs.Points.{MountedSession, IsSafe}
 use Rattle.crash_argument.specs.Steps.{with_record}
 use Rattle.engine_running.specs.declared.commit.Committed.{Committed}
 use Rattle.engine_running.specs.declared.put.Put.{Put}
-use Rattle.engine_running.specs.Commits.{IsCommitOf}
+use Rattle.engine_running.specs.Commits.{IsCommitOf, places_for}
 use Rattle.engine_running.specs.Record.{record_of, written_of, AreBelow, IsTransaction}
 use Rattle.engine_running.specs.Running.{Changes, IsEmpty}
 use Rattle.engine_reuse.specs.Calls.{with_sealed}
@@ -26,7 +26,7 @@ use Rattle.engine_books.specs.Books.{TransactionBooks, map_of, running_of}
 use Rattle.engine_books.specs.Kept.{AreKept}
 use Rattle.engine_books.specs.Point.{BeganAt}
 use Rattle.engine_books.specs.Sealing.{with_record as sealed_books}
-use Rattle.engine_store.specs.Committing.{BecomesRecord, kept_of, ledger_with, places_for}
+use Rattle.engine_store.specs.Committing.{BecomesRecord, kept_of, ledger_with}
 use Rattle.engine_store.proofs.Joining.{joined, still_durable}
 
 -- The books.

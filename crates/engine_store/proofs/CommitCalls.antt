@@ -25,7 +25,8 @@ use Rattle.engine_books.specs.Books.{TransactionBooks, map_of, running_of}
 use Rattle.engine_books.specs.Kept.{AreKept}
 use Rattle.engine_books.specs.Point.{BeganAt, HasSameLive}
 use Rattle.engine_store.specs.declared.parts.StoreParts.{StoreParts}
-use Rattle.engine_store.specs.Committing.{BecomesRecord, JoinsCommitted, StaysDue, WritesRecord, ledger_with, places_for, writes_of}
+use Rattle.engine_running.specs.Commits.{places_for, writes_of}
+use Rattle.engine_store.specs.Committing.{BecomesRecord, JoinsCommitted, StaysDue, WritesRecord, ledger_with}
 use Rattle.engine_store.specs.SessionView.{state_of}
 use Rattle.engine_store.specs.Syncing.{Forgets}
 use Rattle.engine_store.specs.Told.{CacheAgrees, IsToldBy, awaited_in, last_map, map_now, session_of}

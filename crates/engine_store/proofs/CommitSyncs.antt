@@ -24,7 +24,8 @@ use Rattle.engine_blocks.specs.Crashes.{Advances, AwaitsSince, MakesPoint}
 use Rattle.engine_blocks.specs.Effects.{Syncs}
 use Rattle.engine_books.specs.Books.{TransactionBooks, bit_now, has_put, is_marked, role_by, running_of}
 use Rattle.engine_store.specs.declared.parts.StoreParts.{StoreParts}
-use Rattle.engine_store.specs.Committing.{BecomesRecord, places_for, writes_of}
+use Rattle.engine_running.specs.Commits.{places_for, writes_of}
+use Rattle.engine_store.specs.Committing.{BecomesRecord}
 use Rattle.engine_store.specs.SessionView.{state_of}
 use Rattle.engine_store.specs.Store.{StoreIsSound, bookkeeping_of}
 use Rattle.engine_store.specs.Syncing.{MayCommit}

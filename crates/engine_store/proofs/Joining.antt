@@ -14,7 +14,7 @@ use Rattle.crash_argument.specs.HomeTest.{is_one_of}
 use Rattle.crash_argument.specs.Writes.{AddsWrites, AddsFront}
 use Rattle.engine_running.specs.declared.commit.Committed.{Committed}
 use Rattle.engine_running.specs.declared.put.Put.{Put}
-use Rattle.engine_running.specs.Commits.{IsCommitOf}
+use Rattle.engine_running.specs.Commits.{IsCommitOf, places_for, writes_of}
 use Rattle.engine_running.specs.Record.{block_of}
 use Rattle.engine_running.specs.Rows.{put_of}
 use Rattle.engine_running.specs.Running.{Changes, IsOrdered, bytes_put}
@@ -27,7 +27,7 @@ use Rattle.engine_checkpoint.specs.Steps.{Accepts}
 use Rattle.engine_blocks.specs.Running.{record_writes as writes_for}
 use Rattle.engine_books.specs.Books.{TransactionBooks}
 use Rattle.engine_books.specs.Kept.{AreKept}
-use Rattle.engine_store.specs.Committing.{IsLeftAlone, WritesRecord, kept_of, places_for, writes_of}
+use Rattle.engine_store.specs.Committing.{IsLeftAlone, WritesRecord, kept_of}
 use Rattle.engine_store.proofs.RecordLogs.{Avoid, StaysAt, all_avoid, all_grow, front_avoids, front_grows, none_are_lost, none_put, record_accepted, record_avoids}
 
 -- The bytes of a block.

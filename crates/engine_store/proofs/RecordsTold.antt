@@ -24,7 +24,7 @@ use Rattle.engine_blocks.specs.State as blocks
 use Rattle.engine_blocks.specs.Effects.{FitsRing, RunsPipeline, TellsNone, WritesItsRecord, WritesRecord}
 use Rattle.engine_books.specs.Books.{TransactionBooks, map_of, running_of}
 use Rattle.engine_store.specs.declared.parts.StoreParts.{StoreParts}
-use Rattle.engine_store.specs.Committing.{writes_of}
+use Rattle.engine_running.specs.Commits.{writes_of}
 use Rattle.engine_store.specs.Syncing.{MayCommit}
 use Rattle.engine_store.specs.Told.{IsKeptOn, IsToldBy, awaited_in, session_of, store_state}
 use Rattle.engine_store.proofs.Awaiting.{awaited_point, joined_awaits}

@@ -17,7 +17,7 @@ use Rattle.engine_notes.specs.declared.notes.Note.{Note}
 use Rattle.engine_notes.specs.Notes.{is_expected, is_noticed, is_open}
 use Rattle.engine_running.specs.declared.commit.CommitRoom.{CommitRoom}
 use Rattle.engine_running.specs.declared.commit.Committed.{Committed}
-use Rattle.engine_running.specs.Commits.{HasRoomForCommit}
+use Rattle.engine_running.specs.Commits.{HasRoomForCommit, places_for}
 use Rattle.engine_running.specs.Record.{payload_entry, fresh_entry}
 use Rattle.engine_running.specs.Running.{Changes}
 use Rattle.engine_reuse.specs.Dead.{freed_by}
@@ -35,7 +35,6 @@ use Rattle.engine_blocks.specs.Calls.{MaySync}
 use Rattle.engine_books.specs.Books.{map_of}
 use Rattle.engine_books.specs.Point.{BeganAt}
 use Rattle.engine_store.specs.declared.parts.StoreParts.{StoreParts}
-use Rattle.engine_store.specs.Committing.{places_for}
 use Rattle.engine_store.specs.Store.{StoreIsSound, IsGoing, bookkeeping_of}
 use Rattle.engine_store.specs.Syncing.{IsSameStore, MayCommit}
 use Rattle.engine_store.specs.Told.{IsKeptOn, IsToldBy, last_map, session_of}
@@ -111,9 +110,11 @@ module _ (v : StoreParts) (q : Pipeline) (same : SamePipeline v.pipeline q) wher
   may_commit r writes payloads ready enough_writes enough_payloads room weight may = record {
     sync = subst MaySync (sym books_same) may;
     weight = weight;
-    records = omega (arith, ap (λ (x : Ready). x.records) ready);
-    writes = omega (arith, ap (λ (x : Ready). x.writes) ready, enough_writes);
-    payloads = omega (arith, ap (λ (x : Ready). x.payloads) ready, enough_payloads);
+    ready = record {
+      records = omega (arith, ap (λ (x : Ready). x.records) ready);
+      writes = omega (arith, ap (λ (x : Ready). x.writes) ready, enough_writes);
+      payloads = omega (arith, ap (λ (x : Ready). x.payloads) ready, enough_payloads);
+    };
     room = room;
   }
 

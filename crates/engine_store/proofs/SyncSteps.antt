@@ -17,9 +17,10 @@ use Rattle.crash_argument.specs.Ledger.{Ledger, next_number}
 use Rattle.crash_argument.specs.Points.{MountedSession, IsSafe}
 use Rattle.disk_contract.specs.declared.event.Event.{Event}
 use Rattle.engine_running.specs.declared.commit.CommitRoom.{CommitRoom}
-use Rattle.engine_running.specs.Commits.{HasRoomForCommit}
+use Rattle.engine_running.specs.Commits.{HasRoomForCommit, places_for}
 use Rattle.engine_running.specs.Running.{Changes}
 use Rattle.engine_checkpoint.specs.declared.pipeline.Ready.{Ready}
+use Rattle.engine_checkpoint.specs.Joining.{IsReadyFor}
 use Rattle.engine_blocks.specs.declared.refusals.SyncRefusal.{SyncRefusal}
 use Rattle.engine_blocks.specs.declared.refusals.SyncRefusal.TheVariants as sync
 use Rattle.engine_blocks.specs.Running.{Running, HasNoBare, fresh_blocks, nothing_running, payloads}
@@ -29,7 +30,6 @@ use Rattle.engine_blocks.specs.Crashes.{Advances, HasLiveBlocks, HasMapOfPoint, 
 use Rattle.engine_blocks.specs.Effects.{RunsPipeline, Syncs, WritesItsRecord}
 use Rattle.engine_books.specs.Books.{TransactionBooks, running_of}
 use Rattle.engine_store.specs.declared.parts.StoreParts.{StoreParts}
-use Rattle.engine_store.specs.Committing.{places_for}
 use Rattle.engine_store.specs.SessionView.{state_of}
 use Rattle.engine_store.specs.Store.{PartsMove, StoreIsSound, bookkeeping_of}
 use Rattle.engine_store.specs.Syncing.{IsSameStore, MayCommit}
@@ -305,9 +305,7 @@ module _ (v w : StoreParts) (r : CommitRoom) (m : PartsMove 4 v w) (may : MayCom
   may_then geom running = record {
     sync = may_along (bookkeeping_of v) (bookkeeping_of w) geom running may.sync;
     weight = subst (λ n. 0 < n) (sym (ap (λ (x : TransactionBooks). x.weight) m.books)) may.weight;
-    records = subst (λ (x : Ready). 0 < x.records) (sym ready) may.records;
-    writes = subst₂ (λ (q : Changes) (x : Ready). length q.laid + places_for q ≤ x.writes) (sym changes) (sym ready) may.writes;
-    payloads = subst₂ (λ (q : Changes) (x : Ready). length q.paid ≤ x.payloads) (sym changes) (sym ready) may.payloads;
+    ready = subst₂ (λ (q : Changes) (x : Ready). IsReadyFor (length q.laid + places_for q) (length q.paid) x) (sym changes) (sym ready) may.ready;
     room = subst (λ (q : Changes). HasRoomForCommit q r) (sym changes) may.room;
   }
 

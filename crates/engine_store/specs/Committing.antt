@@ -1,43 +1,38 @@
--- A commit of the books' transaction into the pipeline: what it leaves where it succeeded and where the disk failed, and what it writes. It is described in docs/STORE.md.
-use Rattle.std.specs.Prelude.{◌≡◌, ◌⊎◌, ℕ, ◌+◌, ◌≤◌, false, List, [], ◌∷◌, ◌++◌, length, map, None, Result, Ok, Err, OnOk, ◌||◌}
+-- A commit of the books' transaction into the pipeline: what it asks, what it leaves where it succeeded and where the disk failed, and what it writes. It is described in docs/STORE.md.
+use Rattle.std.specs.Prelude.{◌≡◌, ◌⊎◌, ℕ, ◌+◌, ◌≤◌, Bool, false, IsTrue, List, [], ◌∷◌, ◌++◌, length, map, None, Result, Ok, Err, OnOk, OnErr, ◌||◌}
 use Rattle.disk_contract.specs.declared.event.Event.{Event}
 use Rattle.disk_contract.specs.Cell.{accepted, is_lost}
 use Rattle.disk_contract.specs.Disk.{State, GrowsByWrites, writes_in}
 use Rattle.layout_geometry.specs.Geometry.{bitmap_start}
 use Rattle.layout_journal.specs.Ring.{RingPlaces}
-use Rattle.layout_journal.specs.Run.{places}
 use Rattle.crash_argument.specs.HomeTest.{is_one_of}
 use Rattle.crash_argument.specs.Ledger.{Ledger, next_number}
 use Rattle.crash_argument.specs.Points.{MountedSession, IsSafe}
 use Rattle.crash_argument.specs.Steps.{with_record}
 use Rattle.crash_argument.specs.Writes.{AddsWrites, AddsFront}
 use Rattle.engine_notes.specs.Notes.{is_expected, is_noticed}
+use Rattle.engine_running.specs.declared.commit.CommitRoom.{CommitRoom}
 use Rattle.engine_running.specs.declared.commit.Committed.{Committed}
-use Rattle.engine_running.specs.Record.{record_of, written_of, block_of}
+use Rattle.engine_running.specs.Commits.{HasAllFor, Issues, places_for, writes_of}
+use Rattle.engine_running.specs.Record.{written_of, block_of}
 use Rattle.engine_running.specs.Rows.{put_of}
 use Rattle.engine_running.specs.Running.{Changes, IsEmpty}
-use Rattle.engine_running.specs.Writes.{record_writes}
 use Rattle.engine_checkpoint.specs.declared.pipeline.Pipeline.{Pipeline}
 use Rattle.engine_checkpoint.specs.Advance.{IsRightOn, IsSound, writes_owed}
 use Rattle.engine_checkpoint.specs.Agree.{NotesAreTrue, durable_count}
 use Rattle.engine_checkpoint.specs.Bytes.{bytes_now}
+use Rattle.engine_checkpoint.specs.Joining.{IsReadyFor}
 use Rattle.engine_checkpoint.specs.Kept.{Kept, kept}
 use Rattle.engine_checkpoint.specs.Steps.{is_first_settled}
-use Rattle.engine_blocks.specs.Running.{record_writes as writes_for}
-use Rattle.engine_books.specs.Books.{TransactionBooks, bytes_over, map_of}
+use Rattle.engine_blocks.specs.Running.{HasNoBare, record_writes as writes_for}
+use Rattle.engine_books.specs.Books.{TransactionBooks, bytes_over, map_of, running_of}
+use Rattle.engine_books.specs.Kept.{AreKept}
+use Rattle.engine_books.specs.Point.{BeganAt}
 use Rattle.engine_books.specs.Sealing.{with_record as sealed_books}
-
--- the ring places that the record of these changes takes
-abbrev pub places_for : Changes → ℕ
-places_for q = places (record_of 0 0 q.paid q.laid)
 
 -- what the pipeline keeps of the record of these changes
 abbrev pub kept_of : ℕ → Changes → Kept
 kept_of number q = record { number = number; count = places_for q; payloads = q.paid; fresh = map block_of q.laid; freed = q.freed }
-
--- the writes of the record of these changes, in their order
-abbrev pub writes_of : RingPlaces → ℕ → ℕ → Changes → List (ℕ × List ℕ)
-writes_of ring epoch number q = record_writes ring.geom epoch number ring.next q.paid q.laid
 
 -- the ledger with the transaction's record, where the map after it is the map now
 abbrev pub ledger_with : Ledger → RingPlaces → ℕ → ℕ → TransactionBooks → Ledger
@@ -97,3 +92,39 @@ pub record WritesRecord {A E : Type 0} (result : Result A E) (ws : List (ℕ × 
   pub none_lost : OnOk result (((b : ℕ) → is_lost b old.log ≡ false) → (b : ℕ) → is_lost b new.log ≡ false)
   pub bytes : OnOk result ((b : ℕ) → bitmap_start v.geom ≤ b → is_one_of b v.changes.freed ≡ false → bytes_now q new.base new.log b ≡ bytes_over v.changes (bytes_now p old.base old.log) b)
   pub writes : writes_in new.log + writes_owed q ≤ writes_in old.log + writes_owed p + writes_for (length v.changes.paid) (length v.changes.laid)
+
+-- The books' transaction may be committed as the record of this number and this epoch, on a disk of so many blocks.
+pub record MayCommitBooks (blocks : ℕ) (v : TransactionBooks) (memory : CommitRoom) (ring : RingPlaces) (p : Pipeline) (epoch number : ℕ) : Type 0 where
+  -- the books are kept, and pipeline, ring and dead blocks are sound
+  pub kept : AreKept v
+  pub sound : IsSound p ring v.dead
+  -- they have one geometry
+  pub geom : p.geom ≡ v.geom
+  -- there is all that the commit needs
+  pub has : HasAllFor blocks v.changes memory ring
+  -- what was made ready is enough for the record
+  pub ready : IsReadyFor (length v.changes.laid + places_for v.changes) (length v.changes.paid) p.ready
+  -- the epoch is that of the durable header
+  pub epoch_is : epoch ≡ p.header.epoch
+  -- and the number is the next one
+  pub next : number ≡ p.last + 1
+
+-- What the commit of the books' transaction as the record of this number does, where the ring was `before`.
+pub record CommitsBooks {A E : Type 0} (tells : Bool) (v w : TransactionBooks) (epoch number : ℕ) (result : Result A E) (before after : RingPlaces) (p q : Pipeline) (old new : State) : Type 0 where
+  -- its record is issued, whole or in part
+  pub issues : Issues tells result v.changes before after old new
+  -- the books are kept
+  pub kept : AreKept w
+  -- where all was right by a ledger whose newest map the transaction began at, it is right by the ledger that has the record; refused, the disk is safe by one of the two
+  pub right : IsTrue tells → (s : MountedSession) (l : Ledger) (t floor : ℕ) → BeganAt v (l.map_before (next_number l)) → HasNoBare (running_of v) → IsRightOn s old l t floor p before v.dead v.changes.taken
+      → CommitLeaves result s new l (ledger_with l before epoch number v) t floor q after w
+  -- the transaction becomes the record
+  pub becomes : OnOk result (BecomesRecord number v w p q after)
+  -- refused, books and pipeline are as they were
+  pub back : OnErr result ((w ≡ v) × (q ≡ p))
+  -- what comes to the log, and what stands for each block then
+  pub writes : IsTrue tells → WritesRecord result (writes_of before epoch number v.changes) v p q old new
+  -- the record joins the committed ones with the tickets of its writes
+  pub joins : IsTrue tells → JoinsWith result number (writes_of before epoch number v.changes) p q old.log new.log
+  -- where the oldest committed record had an open ticket, it has one still
+  pub due : IsTrue tells → OnOk result (StaysDue old.log p q)

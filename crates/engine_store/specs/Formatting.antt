@@ -1,12 +1,16 @@
 -- What a formatting writes, what it adds to a log, what it leaves on a disk, and what it spends.
-use Rattle.std.specs.Prelude.{◌≡◌, ℕ, ◌-◌, ◌<◌, ◌≤◌, Bool, false, true, List, [], ◌∷◌, ◌++◌, map, replicate, Result, Ok, Err}
+use Rattle.std.specs.Prelude.{◌≡◌, ℕ, ◌-◌, ◌<◌, ◌≤◌, Bool, false, true, List, [], ◌∷◌, ◌++◌, map, replicate, Result, Ok, Err, OnOk}
 use Rattle.std.specs.List.{range_with_len}
 use Rattle.base_types.specs.Seal.{Blocks}
 use Rattle.disk_contract.specs.declared.event.Event.{Event}
 use Rattle.disk_contract.specs.Cell.{IsAccepted}
 use Rattle.disk_contract.specs.Disk.{State, AddsNotices, SpendsUpTo}
 use Rattle.layout_geometry.specs.Geometry.{Geometry, bitmap_start, data_start}
+use Rattle.lang_tree.specs.Step.{start}
 use Rattle.layout_journal.specs.Formatted.{formatted}
+use Rattle.layout_journal.specs.Run.{live_part}
+use Rattle.crash_stands.specs.Stands.{StandsFor}
+use Rattle.crash_argument.specs.Ledger.{HoldsUnder, cells_of}
 use Rattle.crash_argument.specs.LastWrites.{AvoidsBlock}
 use Rattle.crash_argument.specs.PipelineData.{AllNoticed}
 use Rattle.crash_argument.specs.Writes.{AddsWrites}
@@ -61,6 +65,15 @@ pub record IsFormattedOver (g : Geometry) (old new : State) : Type 0 where
   pub idle : IsIdle new
   pub before : (b : ℕ) → b < data_start g → settled_on new b ≡ formatted g b
   pub kept : (b : ℕ) → data_start g ≤ b → settled_on new b ≡ settled_on old b
+
+-- What a formatting leaves of a disk on which nothing was pending.
+pub record LeavesFormatted {A E : Type 0} (g : Geometry) (result : Result A E) (old new : State) : Type 0 where
+  -- what is settled holds the formatted disk's map
+  pub holds : OnOk result (HoldsUnder g.n g (settled_on new) (live_part g (formatted g)))
+  -- and stands for the tree of the root alone
+  pub stands : OnOk result (StandsFor g.n (settled_on new) (start g.i).tree)
+  -- the data are as they were
+  pub kept : (b : ℕ) → data_start g ≤ b → cells_of new b ≡ cells_of old b
 
 -- What a formatting of so many writes spends: it waits once for each, a failed call was counted once, and it reads and polls nothing. Where there was no memory it did nothing.
 abbrev pub MkfsSpends : {T : Type 0} → Result T MkfsRefusal → ℕ → State → State → Type 0

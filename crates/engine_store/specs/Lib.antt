@@ -9,4 +9,5 @@ pub mod Opening
 pub mod Refusal
 pub mod Mounting
 pub mod StoreOf
+pub mod Mounts
 pub mod Syncing

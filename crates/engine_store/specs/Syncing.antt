@@ -1,20 +1,20 @@
 -- When a commit may be made of the running transaction by a store, and what a cache forgets of it. It is described in docs/STORE.md.
-use Rattle.std.specs.Prelude.{◌≡◌, ℕ, ◌+◌, ◌<◌, ◌≤◌, ◌||◌, true, false, is_some, if◌then◌else◌, List, length, Some, None}
+use Rattle.std.specs.Prelude.{◌≡◌, ℕ, ◌+◌, ◌<◌, ◌||◌, true, false, is_some, if◌then◌else◌, List, length, Some, None}
 use Rattle.std.specs.FinMap.{get}
 use Rattle.disk_contract.specs.Disk.{State}
 use Rattle.engine_cache.specs.Cache.{Cache}
 use Rattle.crash_argument.specs.HomeTest.{is_one_of}
 use Rattle.engine_running.specs.declared.commit.CommitRoom.{CommitRoom}
 use Rattle.engine_running.specs.declared.put.Put.{Put}
-use Rattle.engine_running.specs.Commits.{HasRoomForCommit}
+use Rattle.engine_running.specs.Commits.{HasRoomForCommit, places_for}
 use Rattle.engine_running.specs.Rows.{put_of}
+use Rattle.engine_checkpoint.specs.Joining.{IsReadyFor}
 use Rattle.engine_blocks.specs.Calls.{MaySync}
 use Rattle.engine_blocks.specs.Effects.{FitsRing}
 use Rattle.engine_blocks.specs.Puts.{IsData}
 use Rattle.engine_blocks.specs.Serving.{SameFreed, is_held, with_all_served}
 use Rattle.engine_blocks.specs.State.{Bookkeeping}
 use Rattle.engine_store.specs.declared.parts.StoreParts.{StoreParts}
-use Rattle.engine_store.specs.Committing.{places_for}
 use Rattle.engine_store.specs.Store.{bookkeeping_of}
 use Rattle.engine_store.specs.Told.{AwaitsTheSame, map_now, session_of}
 
@@ -22,9 +22,7 @@ use Rattle.engine_store.specs.Told.{AwaitsTheSame, map_now, session_of}
 pub record MayCommit (v : StoreParts) (r : CommitRoom) : Type 0 where
   pub sync : MaySync (bookkeeping_of v)
   pub weight : 0 < v.books.weight
-  pub records : 0 < v.pipeline.ready.records
-  pub writes : length v.books.changes.laid + places_for v.books.changes ≤ v.pipeline.ready.writes
-  pub payloads : length v.books.changes.paid ≤ v.pipeline.ready.payloads
+  pub ready : IsReadyFor (length v.books.changes.laid + places_for v.books.changes) (length v.books.changes.paid) v.pipeline.ready
   pub room : HasRoomForCommit v.books.changes r
 
 -- of a record's payloads and fresh blocks nothing is kept, and of the others what was kept

@@ -3,19 +3,15 @@
 //! the disk has a header only once all that it stands on is durable. The bytes of the blocks are described
 //! by `layout_journal`, and a crash in the middle is promised nothing.
 
-ghost use Rattle.std.specs.Prelude.{◌≡◌, ◌≤◌, ◌<◌, ◌+◌, ◌-◌, ℕ, IsTrue, IfOk, IfErr, OnErr, OnOk, is_err, true, length, max, vec_capacity};
+ghost use Rattle.std.specs.Prelude.{◌≡◌, ◌≤◌, ◌<◌, ◌+◌, ◌-◌, IsTrue, IfOk, IfErr, OnErr, OnOk, is_err, true, length, max, vec_capacity};
 ghost use Rattle.disk_contract.specs.Disk.{AddsNotices, HasFailed, OnlyWrites, SpendsUpTo};
 ghost use Rattle.layout_geometry.specs.Geometry.{bitmap_start, data_start};
 ghost use Rattle.layout_journal.specs.Formatted.{formatted};
-ghost use Rattle.layout_journal.specs.Run.{live_part};
-ghost use Rattle.crash_argument.specs.Ledger.{HoldsUnder, cells_of};
 ghost use Rattle.crash_argument.specs.PipelineData.{AllNoticed};
 ghost use Rattle.crash_argument.specs.Writes.{AddsWrites};
-ghost use Rattle.engine_mount.specs.Mount.{IsIdle, settled_on};
-ghost use Rattle.crash_stands.specs.Stands.{StandsFor};
-ghost use Rattle.lang_tree.specs.Step.{start};
+ghost use Rattle.engine_mount.specs.Mount.{IsIdle};
 ghost use Rattle.engine_store.specs.Formatting.{AllAccepted, fails_formatting, content_of, row_of, AddsDurably, AddsFormatting, WritesBelow};
-ghost use Rattle.engine_store.specs.Formatting.{IsFormattedOver, MkfsSpends};
+ghost use Rattle.engine_store.specs.Formatting.{IsFormattedOver, LeavesFormatted, MkfsSpends};
 ghost use Rattle.engine_store.specs.declared.formatting.MkfsRefusal.TheVariants as refused;
 
 use crate::laws::the_data_of_a_formatted_disk_may_be_anything;
@@ -67,11 +63,7 @@ enum Content {
 pub fn mkfs<D: Disk>(alloc: Global, disk: &mut D, geom: &Geom) -> Result<(), MkfsRefusal>
     requires size { (D.state disk.old).blocks ≡ geom.now.n }
     ensures formatted { IsTrue D.tells → IsIdle (D.state disk.old) → OnOk result (IsFormattedOver geom.now (D.state disk.old) (D.state disk.new)) }
-    ensures holds { IsTrue D.tells → IsIdle (D.state disk.old)
-        → OnOk result (HoldsUnder geom.now.n geom.now (settled_on (D.state disk.new)) (live_part geom.now (formatted geom.now))) }
-    ensures stands { IsTrue D.tells → IsIdle (D.state disk.old) → OnOk result (StandsFor geom.now.n (settled_on (D.state disk.new)) (start geom.now.i).tree) }
-    ensures kept { IsTrue D.tells → IsIdle (D.state disk.old) → (b : ℕ) → data_start geom.now ≤ b
-        → cells_of (D.state disk.new) b ≡ cells_of (D.state disk.old) b }
+    ensures idle { IsTrue D.tells → IsIdle (D.state disk.old) → LeavesFormatted geom.now result (D.state disk.old) (D.state disk.new) }
     ensures adds { IsTrue D.tells → OnOk result (AddsFormatting geom.now (D.state disk.old).log (D.state disk.new).log) }
     ensures below { IsTrue D.tells → WritesBelow (data_start geom.now) (D.state disk.old).log (D.state disk.new).log }
     ensures memory { IfErr result (λ why. why ≡ refused.NoMemory → disk.new ≡ disk.old) }

@@ -145,16 +145,12 @@ impl<D: Disk> Blocks for Store<D> {
 }
 
 impl<D: Disk> Store<D> {
-    ghost use Rattle.std.specs.Prelude.{◌≡◌, ◌+◌, ◌^◌, ◌-◌, ◌<◌, ◌≤◌, nat_le, false, true, IsTrue, IfOk, IfErr};
-    ghost use Rattle.base_types.specs.Seal.{Blocks};
+    ghost use Rattle.std.specs.Prelude.{◌≡◌, ◌+◌, ◌^◌, ◌-◌, ◌<◌, ◌≤◌, nat_le, false, true, IsTrue};
     ghost use Rattle.disk_contract.specs.Disk.{HasFailed};
-    ghost use Rattle.layout_geometry.specs.Geometry.{Geometry};
-    ghost use Rattle.crash_argument.specs.Ledger.{HoldsUnder};
-    ghost use Rattle.crash_argument.specs.Opening.{StopsAtOne, WritesOne};
-    ghost use Rattle.engine_mount.specs.Mount.{HasNothingToReplay, IsIdle, settled_on};
-    ghost use Rattle.engine_blocks.specs.Crashes.{IsBegun, StillAwaits};
-    ghost use Rattle.engine_store.specs.Mounting.{BeginsWith, GoesOnFrom, HasOpened, HoldsLast, LeavesDisk};
-    ghost use Rattle.engine_store.specs.Refusal.{MayBeMounted, RefusalSays, is_disk_fault, is_read_fault};
+    ghost use Rattle.engine_mount.specs.Mount.{IsIdle};
+    ghost use Rattle.engine_blocks.specs.Crashes.{StillAwaits};
+    ghost use Rattle.engine_store.specs.Mounting.{HoldsLast};
+    ghost use Rattle.engine_store.specs.Mounts.{Mounts};
     ghost use Rattle.engine_store.specs.Store.{bookkeeping_of};
     ghost use Rattle.engine_store.specs.StoreOf.{disk_in, state_of};
 
@@ -164,18 +160,7 @@ impl<D: Disk> Store<D> {
     /// As of `mount_with`.
     pub fn mount(alloc: Global, disk: D) -> Result<Store<D>, (D, StoreRefusal)>
         requires idle { IsTrue D.tells → IsIdle (D.state disk) }
-        ensures begun { IfOk result (λ s. IsBegun (state_of D.state s)) }
-        ensures begins { IsTrue D.tells → (g : Geometry) (m : Blocks) → HoldsUnder (D.state disk).blocks g (settled_on (D.state disk)) m
-            → IfOk result (λ s. BeginsWith g m (state_of D.state s)) }
-        ensures mountable { IsTrue D.tells → IfOk result (λ s. MayBeMounted (D.state disk)) }
-        ensures leaves { IfOk result (λ s. LeavesDisk D.tells false false (D.state disk) (D.state (disk_in s))) }
-        ensures refused { IsTrue D.tells → IfErr result (λ e. RefusalSays (D.state disk) (D.state e.0) e.1) }
-        ensures back { IfErr result (λ e. LeavesDisk D.tells (is_read_fault e.1) (is_disk_fault e.1) (D.state disk) (D.state e.0)) }
-        ensures numbers { IsTrue D.tells → IfOk result (λ s. GoesOnFrom (D.state disk) (state_of D.state s)) }
-        ensures opens { IsTrue D.tells → IfOk result (λ s. HasOpened (D.state disk) (state_of D.state s)) }
-        ensures alone { IsTrue D.tells → HasNothingToReplay (D.state disk) → IfOk result (λ s. WritesOne (D.state disk).log (D.state (disk_in s)).log) }
-        ensures stops { IsTrue D.tells → HasNothingToReplay (D.state disk)
-            → IfErr result (λ e. StopsAtOne (D.state disk).manner (D.state disk).log (D.state e.0).log) }
+        ensures { Mounts D.tells D.state disk result }
     {
         Store::mount_with(alloc, disk, CACHED)
     }
@@ -193,18 +178,7 @@ impl<D: Disk> Store<D> {
         requires some { 0 < capacity }
         requires most { capacity ≤ 65536 }
         requires idle { IsTrue D.tells → IsIdle (D.state disk) }
-        ensures begun { IfOk result (λ s. IsBegun (state_of D.state s)) }
-        ensures begins { IsTrue D.tells → (g : Geometry) (m : Blocks) → HoldsUnder (D.state disk).blocks g (settled_on (D.state disk)) m
-            → IfOk result (λ s. BeginsWith g m (state_of D.state s)) }
-        ensures mountable { IsTrue D.tells → IfOk result (λ s. MayBeMounted (D.state disk)) }
-        ensures leaves { IfOk result (λ s. LeavesDisk D.tells false false (D.state disk) (D.state (disk_in s))) }
-        ensures refused { IsTrue D.tells → IfErr result (λ e. RefusalSays (D.state disk) (D.state e.0) e.1) }
-        ensures back { IfErr result (λ e. LeavesDisk D.tells (is_read_fault e.1) (is_disk_fault e.1) (D.state disk) (D.state e.0)) }
-        ensures numbers { IsTrue D.tells → IfOk result (λ s. GoesOnFrom (D.state disk) (state_of D.state s)) }
-        ensures opens { IsTrue D.tells → IfOk result (λ s. HasOpened (D.state disk) (state_of D.state s)) }
-        ensures alone { IsTrue D.tells → HasNothingToReplay (D.state disk) → IfOk result (λ s. WritesOne (D.state disk).log (D.state (disk_in s)).log) }
-        ensures stops { IsTrue D.tells → HasNothingToReplay (D.state disk)
-            → IfErr result (λ e. StopsAtOne (D.state disk).manner (D.state disk).log (D.state e.0).log) }
+        ensures { Mounts D.tells D.state disk result }
     {
         a_store_that_is_kept_is_told();
         let mut disk = disk;

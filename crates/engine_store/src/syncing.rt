@@ -13,7 +13,7 @@ ghost use Rattle.engine_blocks.specs.Calls.{HasTurns, MaySync, OnNoMemory};
 ghost use Rattle.engine_blocks.specs.Crashes.{HearsRecords};
 ghost use Rattle.engine_blocks.specs.Effects.{ChangesNothing, FitsRing, OrdersAtOnce, Syncs, WritesItsRecord};
 ghost use Rattle.engine_books.specs.Kept.{AreKept};
-ghost use Rattle.engine_store.specs.Committing.{places_for};
+ghost use Rattle.engine_running.specs.Commits.{places_for};
 ghost use Rattle.engine_store.specs.Store.{StoreIsSound, bookkeeping_of};
 ghost use Rattle.engine_store.specs.Syncing.{Forgets, FreesInRing, IsSameStore, LetsWait, MayCommit, SyncFrees};
 ghost use Rattle.engine_store.specs.Told.{IsKeptOn, store_state};

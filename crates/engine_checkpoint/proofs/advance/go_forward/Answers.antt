@@ -23,7 +23,7 @@ pub returns-clause-sound : goal.returns-clause-sound
 returns-clause-sound c =
     forward_sound c.args.pipeline.now c.settle_all.new.pipeline c.turn_header.new.pipeline c.end_batch.new.pipeline c.serve_blocks.new.pipeline c.args.ring.now c.turn_header.new.ring c.args.reuse.now c.serve_blocks.new.reuse
     c.settle_all.ensures.settles.0 c.turn_header.result c.end_batch.result c.settle_all.ensures.settles.1 c.turn_header.ensures.turns c.end_batch.ensures.ends c.serve_blocks.ensures.serves c.serve_blocks.ensures.rest
-    c.requires.sound c.turn_header.ensures.taken c.turn_header.ensures.order c.end_batch.ensures.index c.serve_blocks.ensures.order c.serve_blocks.ensures.room
+    c.requires.sound c.turn_header.ensures.taken c.turn_header.ensures.fit.order c.end_batch.ensures.index c.serve_blocks.ensures.fit.order c.serve_blocks.ensures.fit.room
 
 pub returns-clause-forward : goal.returns-clause-forward
 returns-clause-forward c = (
@@ -43,7 +43,7 @@ returns-clause-owed c =
 
 pub returns-clause-front : goal.returns-clause-front
 returns-clause-front c = loses_forward c.args.pipeline.now c.settle_all.new.pipeline c.turn_header.new.pipeline c.end_batch.new.pipeline c.serve_blocks.new.pipeline c.turn_header.result c.end_batch.result c.args.ring.now c.turn_header.new.ring
-    c.settle_all.ensures.settles.1.kept c.turn_header.ensures.turns c.turn_header.ensures.order.batch c.end_batch.ensures.ends c.serve_blocks.ensures.rest
+    c.settle_all.ensures.settles.1.kept c.turn_header.ensures.turns c.turn_header.ensures.fit.order.batch c.end_batch.ensures.ends c.serve_blocks.ensures.rest
 
 pub returns-clause-bytes : goal.returns-clause-bytes
 returns-clause-bytes c = λ s d l t floor taken right.

@@ -5,95 +5,201 @@ use Rattle.layout_journal.specs.declared.header.Header.{Header}
 use Rattle.engine_reuse.specs.Calls.{with_released}
 use Rattle.engine_reuse.specs.Dead.{DeadBlocks}
 use Rattle.engine_checkpoint.specs.declared.pipeline.Pipeline.{Pipeline}
-use Rattle.engine_checkpoint.specs.Advance.{MayServe}
+use Rattle.engine_checkpoint.specs.Advance.{MayServe, IsSound}
 use Rattle.engine_checkpoint.specs.Kept.{kept}
 use Rattle.engine_checkpoint.specs.Turns.{is_batch_due, is_header_due, due_header, going_home, header_made}
+use Rattle.engine_checkpoint.specs.Waits.{LosesCommitted, StaysHeard}
 use Rattle.engine_checkpoint.proofs.Added.{home_before, home_failed, home_went, home_batch, home_stepped, loses_on, loses_batch, loses_header, kept_begun, kept_made}
 use Rattle.engine_checkpoint.proofs.EventRows.{adds_on}
 use Rattle.engine_checkpoint.proofs.Forgotten.{committed_on, committed_same, forward_forgets, forward_loses, written_committed, written_noticed}
 use Rattle.engine_checkpoint.proofs.HeardRecords.{grows_batch, grows_header, grows_on, heard_left, none_came, written_expected}
 use Rattle.engine_checkpoint.proofs.HomeLives.{home_lives}
 use Rattle.engine_checkpoint.proofs.LiveBytes.{Covered, leaves_on, batch_covered, header_covered}
-use Rattle.engine_checkpoint.proofs.MovesRows.{turns_left, moves_more, moves_upto_batch, moves_whole, sound_batch, sound_header}
+use Rattle.engine_checkpoint.proofs.MovesRows.{turns_left, moves_forward, moves_more, moves_upto_batch, moves_whole, sound_batch, sound_header}
 use Rattle.engine_checkpoint.proofs.StageRows.{stage_on}
 use Rattle.engine_checkpoint.proofs.DueRows.{nothing_due}
 use Rattle.engine_checkpoint.proofs.Serves.{serves_batch}
 use Rattle.engine_checkpoint.proofs.Serving.{goes_on, header_stays, serves_by_log}
+use Rattle.engine_checkpoint.proofs.Spent.{none_ok}
 use Rattle.engine_checkpoint.proofs.StepsRight.{leaves_failed, header_failed, serves_header, right_header, owed_header}
 use Rattle.engine_checkpoint.proofs.advance.go_on.Goals as goal
 
-pub returns-in_err-begin_batch-clause-right : goal.returns-in_err-begin_batch-clause-right
-returns-in_err-begin_batch-clause-right g c = λ tells s l t floor taken right.
-    let a = c.go_forward.ensures.right s (g.D.Disk.state c.args.disk.now).base (g.D.Disk.state c.args.disk.now).log l t floor taken right in
-    let safe = (c.begin_batch.ensures.agrees tells s a.now t floor c.go_forward.new.ring c.go_forward.new.reuse.waiting taken a.right.safe a.right.agrees).0 in
-    leaves_failed c.from_residual.result s (g.D.Disk.state c.begin_batch.new.disk) l t floor c.begin_batch.new.pipeline c.go_forward.new.ring c.go_forward.new.reuse taken c.from_residual.ensures.0 (record { now = a.now; turned = a.turned; safe = safe })
+pub returns-in_err-begin_batch-clause-goes : goal.returns-in_err-begin_batch-clause-goes
+returns-in_err-begin_batch-clause-goes g c = record {
+  right = λ tells s l t floor taken right.
+      let a = c.go_forward.ensures.right s (g.D.Disk.state c.args.disk.now).base (g.D.Disk.state c.args.disk.now).log l t floor taken right in
+      let safe = (c.begin_batch.ensures.agrees tells s a.now t floor c.go_forward.new.ring c.go_forward.new.reuse.waiting taken a.right.safe a.right.agrees).0 in
+      leaves_failed c.from_residual.result s (g.D.Disk.state c.begin_batch.new.disk) l t floor c.begin_batch.new.pipeline c.go_forward.new.ring c.go_forward.new.reuse taken c.from_residual.ensures.0 (record { now = a.now; turned = a.turned; safe = safe });
+  sound = none_ok (IsSound c.begin_batch.new.pipeline c.go_forward.new.ring c.go_forward.new.reuse) c.from_residual.result c.from_residual.ensures.0;
+  moves = let f = c.go_forward.ensures.forward in
+      moves_more 0 1 c.args.pipeline.now c.begin_batch.new.pipeline c.args.ring.now c.go_forward.new.ring c.args.reuse.now c.go_forward.new.reuse (omega arith)
+      (moves_upto_batch (is_batch_due c.go_forward.new.pipeline) c.begin_batch.result c.args.pipeline.now f.0 f.1 f.2 c.go_forward.new.pipeline c.begin_batch.new.pipeline c.args.ring.now c.go_forward.new.ring c.args.reuse.now c.go_forward.new.reuse
+      c.calls_change_what_is_dead.ensures.released c.lawful.ensures c.requires.sound.order f.3 c.begin_batch.ensures.begins);
+  owed = λ tells. omega (arith, c.begin_batch.ensures.owed tells, c.go_forward.ensures.owed);
+  adds = λ tells.
+      let v = c.args.pipeline.now in
+      let w = c.go_forward.new.pipeline in
+      let log = (g.D.Disk.state c.args.disk.now).log in
+      let new = (g.D.Disk.state c.begin_batch.new.disk).log in
+      home_failed c.begin_batch.result c.from_residual.result (kept v) log new c.from_residual.ensures.0
+      (home_before c.begin_batch.result (kept v) (kept w) log new c.go_forward.ensures.front (home_batch (is_batch_due w) c.begin_batch.result w c.begin_batch.new.pipeline log new (c.begin_batch.ensures.log tells)));
+  front = loses_on (kept c.args.pipeline.now) (kept c.go_forward.new.pipeline) (kept c.begin_batch.new.pipeline) c.go_forward.ensures.front (loses_batch (is_batch_due c.go_forward.new.pipeline) c.begin_batch.result c.go_forward.new.pipeline c.begin_batch.new.pipeline c.begin_batch.ensures.begins);
+  lost = none_ok (LosesCommitted c.args.pipeline.now c.begin_batch.new.pipeline) c.from_residual.result c.from_residual.ensures.0;
+  heard = λ tells s l t floor taken right. none_ok (StaysHeard (g.D.Disk.state c.args.disk.now) (g.D.Disk.state c.begin_batch.new.disk) c.args.pipeline.now c.begin_batch.new.pipeline) c.from_residual.result c.from_residual.ensures.0;
+  bytes = λ tells s l t floor taken right.
+      let v = c.args.pipeline.now in
+      let w = c.go_forward.new.pipeline in
+      let x = c.begin_batch.new.pipeline in
+      let old = g.D.Disk.state c.args.disk.now in
+      let middle = g.D.Disk.state c.begin_batch.new.disk in
+      let on = c.go_forward.ensures.right s old.base old.log l t floor taken right in
+      let batch = batch_covered (is_batch_due w) c.begin_batch.result on.now w x old.log middle.log (c.begin_batch.ensures.log tells)
+      (home_lives old.base old.log on.now w c.go_forward.new.ring c.go_forward.new.reuse.waiting taken on.right.agrees on.right.safe.keeps c.a_batch_goes_home.ensures.taken c.counts_tell_the_batch.ensures.batch c.the_home_test_is_exact.ensures.needs (λ n u is. c.records_stand_in_order.ensures.numbers old.base old.log on.now n u on.right.safe.keeps is)) in
+      leaves_on l on.now on.turned v w x old old middle c.go_forward.ensures.front c.begin_batch.ensures.asks.spends.same.base (kept_begun (is_batch_due w) c.begin_batch.result w x c.begin_batch.ensures.begins) batch (c.go_forward.ensures.bytes s old l t floor taken right);
+}
 
-pub write_next_header-requires-clause-turn : goal.write_next_header-requires-clause-turn
-write_next_header-requires-clause-turn g c =
+pub begin_batch-requires : goal.begin_batch-requires
+begin_batch-requires g c =
+    let f = c.go_forward.ensures.forward in
+    let moved = moves_forward c.args.pipeline.now f.0 f.1 f.2 c.go_forward.new.pipeline c.args.ring.now c.go_forward.new.ring c.args.reuse.now c.go_forward.new.reuse c.calls_change_what_is_dead.ensures.released c.lawful.ensures c.requires.sound.order f.3 in
+    record { order = c.go_forward.ensures.sound.order; room = c.go_forward.ensures.sound.room; size = c.requires.size ∙ sym (ap (λ (k : Geometry). k.n) moved.geom) }
+
+pub write_next_header-requires : goal.write_next_header-requires
+write_next_header-requires g c =
     let f = c.go_forward.ensures.forward in
     let moved = moves_upto_batch (is_batch_due c.go_forward.new.pipeline) c.begin_batch.result c.args.pipeline.now f.0 f.1 f.2 c.go_forward.new.pipeline c.begin_batch.new.pipeline c.args.ring.now c.go_forward.new.ring c.args.reuse.now c.go_forward.new.reuse
     c.calls_change_what_is_dead.ensures.released c.lawful.ensures c.requires.sound.order f.3 c.begin_batch.ensures.begins in
-    let low = turns_left c.args.pipeline.now c.begin_batch.new.pipeline c.args.ring.now c.go_forward.new.ring c.args.reuse.now c.go_forward.new.reuse 18446744073709551614 (omega (arith, c.requires.turns.turn)) c.begin_batch.ensures.order moved in
-    omega (arith, low)
+    let low = turns_left c.args.pipeline.now c.begin_batch.new.pipeline c.args.ring.now c.go_forward.new.ring c.args.reuse.now c.go_forward.new.reuse 18446744073709551614 (omega (arith, c.requires.turns.turn)) c.begin_batch.ensures.fit.order moved in
+    record {
+      on = record {
+        order = c.begin_batch.ensures.fit.order;
+        room = c.begin_batch.ensures.fit.room;
+        size = c.begin_batch.ensures.asks.spends.same.blocks ∙ c.requires.size ∙ sym (ap (λ (k : Geometry). k.n) moved.geom);
+      };
+      turn = omega (arith, low);
+      last = omega (arith, c.requires.turns.last, moved.last);
+    }
 
-pub write_next_header-requires-clause-last : goal.write_next_header-requires-clause-last
-write_next_header-requires-clause-last g c =
-    let f = c.go_forward.ensures.forward in
-    let moved = moves_upto_batch (is_batch_due c.go_forward.new.pipeline) c.begin_batch.result c.args.pipeline.now f.0 f.1 f.2 c.go_forward.new.pipeline c.begin_batch.new.pipeline c.args.ring.now c.go_forward.new.ring c.args.reuse.now c.go_forward.new.reuse
-    c.calls_change_what_is_dead.ensures.released c.lawful.ensures c.requires.sound.order f.3 c.begin_batch.ensures.begins in
-    omega (arith, c.requires.turns.last, moved.last)
+pub returns-in_err-write_next_header-clause-goes : goal.returns-in_err-write_next_header-clause-goes
+returns-in_err-write_next_header-clause-goes g c = record {
+  right = λ tells s l t floor taken right.
+      let a = c.go_forward.ensures.right s (g.D.Disk.state c.args.disk.now).base (g.D.Disk.state c.args.disk.now).log l t floor taken right in
+      let b = c.in_ok-begin_batch.ensures.agrees tells s a.now t floor c.go_forward.new.ring c.go_forward.new.reuse.waiting taken a.right.safe a.right.agrees in
+      let safe = c.in_err-write_next_header.ensures.agrees tells s a.now t floor c.go_forward.new.reuse.waiting taken b.0 b.1 in
+      leaves_failed c.from_residual-in_err-write_next_header.result s (g.D.Disk.state c.write_next_header.new.disk) l t floor c.write_next_header.new.pipeline c.go_forward.new.ring c.go_forward.new.reuse taken c.from_residual-in_err-write_next_header.ensures.0
+      (header_failed s (g.D.Disk.state c.write_next_header.new.disk) l a.now t floor (due_header c.begin_batch.new.pipeline c.go_forward.new.ring) a.turned safe);
+  sound = none_ok (IsSound c.write_next_header.new.pipeline c.go_forward.new.ring c.go_forward.new.reuse) c.from_residual-in_err-write_next_header.result c.from_residual-in_err-write_next_header.ensures.0;
+  moves = let f = c.go_forward.ensures.forward in
+      moves_whole (is_batch_due c.go_forward.new.pipeline) (is_header_due c.begin_batch.new.pipeline) c.begin_batch.result c.write_next_header.result c.args.pipeline.now f.0 f.1 f.2 c.go_forward.new.pipeline c.begin_batch.new.pipeline c.write_next_header.new.pipeline
+      c.args.ring.now c.go_forward.new.ring c.args.reuse.now c.go_forward.new.reuse c.calls_change_what_is_dead.ensures.released c.lawful.ensures c.requires.sound.order c.begin_batch.ensures.fit.order f.3 c.begin_batch.ensures.begins c.write_next_header.ensures.adds;
+  owed = λ tells.
+      let one = owed_header c.begin_batch.new.pipeline c.write_next_header.new.pipeline c.go_forward.new.ring (is_header_due c.begin_batch.new.pipeline) c.write_next_header.result _ _ c.calls_add_at_most_one_write.ensures.write c.write_next_header.ensures.adds (c.write_next_header.ensures.log tells) c.write_next_header.ensures.owed in
+      omega (arith, one, c.begin_batch.ensures.owed tells, c.go_forward.ensures.owed);
+  adds = λ tells.
+      let v = c.args.pipeline.now in
+      let w = c.go_forward.new.pipeline in
+      let x = c.begin_batch.new.pipeline in
+      let old = (g.D.Disk.state c.args.disk.now).log in
+      let middle = (g.D.Disk.state c.begin_batch.new.disk).log in
+      let new = (g.D.Disk.state c.write_next_header.new.disk).log in
+      home_failed c.write_next_header.result c.from_residual-in_err-write_next_header.result (kept v) old new c.from_residual-in_err-write_next_header.ensures.0
+      (home_stepped _ c.in_ok-begin_batch.field-0 c.write_next_header.result (is_batch_due w) (is_header_due x) v w x c.write_next_header.new.pipeline c.go_forward.new.ring old middle new c.go_forward.ensures.front (c.in_ok-begin_batch.ensures.log tells) (c.write_next_header.ensures.log tells));
+  front = loses_on (kept c.args.pipeline.now) (kept c.go_forward.new.pipeline) (kept c.write_next_header.new.pipeline) c.go_forward.ensures.front
+      (loses_on (kept c.go_forward.new.pipeline) (kept c.begin_batch.new.pipeline) (kept c.write_next_header.new.pipeline)
+      (loses_batch (is_batch_due c.go_forward.new.pipeline) c.begin_batch.result c.go_forward.new.pipeline c.begin_batch.new.pipeline c.begin_batch.ensures.begins)
+      (loses_header (is_header_due c.begin_batch.new.pipeline) c.write_next_header.result c.begin_batch.new.pipeline c.write_next_header.new.pipeline c.go_forward.new.ring c.write_next_header.ensures.adds));
+  lost = none_ok (LosesCommitted c.args.pipeline.now c.write_next_header.new.pipeline) c.from_residual-in_err-write_next_header.result c.from_residual-in_err-write_next_header.ensures.0;
+  heard = λ tells s l t floor taken right. none_ok (StaysHeard (g.D.Disk.state c.args.disk.now) (g.D.Disk.state c.write_next_header.new.disk) c.args.pipeline.now c.write_next_header.new.pipeline) c.from_residual-in_err-write_next_header.result c.from_residual-in_err-write_next_header.ensures.0;
+  bytes = λ tells s l t floor taken right.
+      let v = c.args.pipeline.now in
+      let w = c.go_forward.new.pipeline in
+      let x = c.begin_batch.new.pipeline in
+      let old = g.D.Disk.state c.args.disk.now in
+      let middle = g.D.Disk.state c.begin_batch.new.disk in
+      let on = c.go_forward.ensures.right s old.base old.log l t floor taken right in
+      let batch = batch_covered (is_batch_due w) c.begin_batch.result on.now w x old.log middle.log (c.begin_batch.ensures.log tells)
+      (home_lives old.base old.log on.now w c.go_forward.new.ring c.go_forward.new.reuse.waiting taken on.right.agrees on.right.safe.keeps c.a_batch_goes_home.ensures.taken c.counts_tell_the_batch.ensures.batch c.the_home_test_is_exact.ensures.needs (λ n u is. c.records_stand_in_order.ensures.numbers old.base old.log on.now n u on.right.safe.keeps is)) in
+      let y = c.write_next_header.new.pipeline in
+      let new = g.D.Disk.state c.write_next_header.new.disk in
+      let header = header_covered (is_header_due x) c.write_next_header.result on.now w x y c.go_forward.new.ring middle.log new.log (c.write_next_header.ensures.log tells) in
+      leaves_on l on.now on.turned v w y old old new c.go_forward.ensures.front (c.write_next_header.ensures.asks.spends.same.base ∙ c.begin_batch.ensures.asks.spends.same.base)
+      (kept_made (is_header_due x) c.write_next_header.result x y c.go_forward.new.ring c.write_next_header.ensures.adds ∙ kept_begun (is_batch_due w) c.begin_batch.result w x c.begin_batch.ensures.begins)
+      (adds_on (Covered on.now w) old.log middle.log new.log batch header) (c.go_forward.ensures.bytes s old l t floor taken right);
+}
 
-pub returns-in_err-write_next_header-clause-right : goal.returns-in_err-write_next_header-clause-right
-returns-in_err-write_next_header-clause-right g c = λ tells s l t floor taken right.
-    let a = c.go_forward.ensures.right s (g.D.Disk.state c.args.disk.now).base (g.D.Disk.state c.args.disk.now).log l t floor taken right in
-    let b = c.in_ok-begin_batch.ensures.agrees tells s a.now t floor c.go_forward.new.ring c.go_forward.new.reuse.waiting taken a.right.safe a.right.agrees in
-    let safe = c.in_err-write_next_header.ensures.agrees tells s a.now t floor c.go_forward.new.reuse.waiting taken b.0 b.1 in
-    leaves_failed c.from_residual-in_err-write_next_header.result s (g.D.Disk.state c.write_next_header.new.disk) l t floor c.write_next_header.new.pipeline c.go_forward.new.ring c.go_forward.new.reuse taken c.from_residual-in_err-write_next_header.ensures.0
-    (header_failed s (g.D.Disk.state c.write_next_header.new.disk) l a.now t floor (due_header c.begin_batch.new.pipeline c.go_forward.new.ring) a.turned safe)
-
-pub returns-in_err-write_next_header-clause-owed : goal.returns-in_err-write_next_header-clause-owed
-returns-in_err-write_next_header-clause-owed g c = λ tells.
-    let one = owed_header c.begin_batch.new.pipeline c.write_next_header.new.pipeline c.go_forward.new.ring (is_header_due c.begin_batch.new.pipeline) c.write_next_header.result _ _ c.calls_add_at_most_one_write.ensures.write c.write_next_header.ensures.adds (c.write_next_header.ensures.log tells) c.write_next_header.ensures.owed in
-    omega (arith, one, c.begin_batch.ensures.owed tells, c.go_forward.ensures.owed)
-
-pub returns-clause-right : goal.returns-clause-right
-returns-clause-right g c = λ tells s l t floor taken right.
-    let ring = c.go_forward.new.ring in
-    let dead = c.go_forward.new.reuse in
-    let w = c.go_forward.new.pipeline in
-    let x = c.begin_batch.new.pipeline in
-    let y = c.write_next_header.new.pipeline in
-    let a = c.go_forward.ensures.right s (g.D.Disk.state c.args.disk.now).base (g.D.Disk.state c.args.disk.now).log l t floor taken right in
-    let b = c.in_ok-begin_batch.ensures.agrees tells s a.now t floor ring dead.waiting taken a.right.safe a.right.agrees in
-    let h = c.in_ok-write_next_header.ensures.agrees tells s a.now t floor dead.waiting taken b.0 b.1 in
-    let begun : MayServe a.now x dead = serves_batch (g.D.Disk.state c.args.disk.now).base (g.D.Disk.state c.args.disk.now).log a.now w x ring dead taken a.right.agrees a.right.safe.keeps c.lawful-2.ensures c.go_forward.ensures.sound.goes_with.dead_geom a.right.serves
-    c.a_batch_goes_home.ensures.taken c.counts_tell_the_batch.ensures.batch c.the_home_test_is_exact.ensures.needs c.a_freed_block_waits.ensures.waits (is_batch_due w) refl c.in_ok-begin_batch.ensures.begins in
-    let made : MayServe (header_made x ring a.now) y dead = serves_header (g.D.Disk.state c.begin_batch.new.disk).base (g.D.Disk.state c.begin_batch.new.disk).log (g.D.Disk.state c.write_next_header.new.disk).log a.now x y ring dead.waiting taken dead (is_header_due x) refl b.1 c.in_ok-write_next_header.ensures.adds (c.in_ok-write_next_header.ensures.log tells) begun in
-    right_header s (g.D.Disk.state c.write_next_header.new.disk) l a.now t floor x y ring dead taken a.turned h.0 h.1 made
-
-pub returns-clause-sound : goal.returns-clause-sound
-returns-clause-sound g c =
-    sound_header _ _ (is_header_due c.begin_batch.new.pipeline) c.in_ok-write_next_header.field-0 c.begin_batch.new.pipeline c.write_next_header.new.pipeline c.go_forward.new.ring c.go_forward.new.reuse c.in_ok-write_next_header.ensures.adds c.in_ok-write_next_header.ensures.order c.in_ok-write_next_header.ensures.room
-    (sound_batch (is_batch_due c.go_forward.new.pipeline) c.begin_batch.result c.go_forward.new.pipeline c.begin_batch.new.pipeline c.go_forward.new.ring c.go_forward.new.reuse c.begin_batch.ensures.begins c.begin_batch.ensures.order c.begin_batch.ensures.room c.go_forward.ensures.sound)
-
-pub returns-in_err-begin_batch-clause-moves : goal.returns-in_err-begin_batch-clause-moves
-returns-in_err-begin_batch-clause-moves g c =
-    let f = c.go_forward.ensures.forward in
-    moves_more 0 1 c.args.pipeline.now c.begin_batch.new.pipeline c.args.ring.now c.go_forward.new.ring c.args.reuse.now c.go_forward.new.reuse (omega arith)
-    (moves_upto_batch (is_batch_due c.go_forward.new.pipeline) c.begin_batch.result c.args.pipeline.now f.0 f.1 f.2 c.go_forward.new.pipeline c.begin_batch.new.pipeline c.args.ring.now c.go_forward.new.ring c.args.reuse.now c.go_forward.new.reuse
-    c.calls_change_what_is_dead.ensures.released c.lawful.ensures c.requires.sound.order f.3 c.begin_batch.ensures.begins)
-
-pub returns-in_err-write_next_header-clause-moves : goal.returns-in_err-write_next_header-clause-moves
-returns-in_err-write_next_header-clause-moves g c =
-    let f = c.go_forward.ensures.forward in
-    moves_whole (is_batch_due c.go_forward.new.pipeline) (is_header_due c.begin_batch.new.pipeline) c.begin_batch.result c.write_next_header.result c.args.pipeline.now f.0 f.1 f.2 c.go_forward.new.pipeline c.begin_batch.new.pipeline c.write_next_header.new.pipeline
-    c.args.ring.now c.go_forward.new.ring c.args.reuse.now c.go_forward.new.reuse c.calls_change_what_is_dead.ensures.released c.lawful.ensures c.requires.sound.order c.begin_batch.ensures.order f.3 c.begin_batch.ensures.begins c.write_next_header.ensures.adds
-
-pub returns-clause-moves : goal.returns-clause-moves
-returns-clause-moves g c =
-    let f = c.go_forward.ensures.forward in
-    moves_whole (is_batch_due c.go_forward.new.pipeline) (is_header_due c.begin_batch.new.pipeline) c.begin_batch.result c.write_next_header.result c.args.pipeline.now f.0 f.1 f.2 c.go_forward.new.pipeline c.begin_batch.new.pipeline c.write_next_header.new.pipeline
-    c.args.ring.now c.go_forward.new.ring c.args.reuse.now c.go_forward.new.reuse c.calls_change_what_is_dead.ensures.released c.lawful.ensures c.requires.sound.order c.begin_batch.ensures.order f.3 c.begin_batch.ensures.begins c.write_next_header.ensures.adds
+pub returns-clause-goes : goal.returns-clause-goes
+returns-clause-goes g c = record {
+  right = λ tells s l t floor taken right.
+      let ring = c.go_forward.new.ring in
+      let dead = c.go_forward.new.reuse in
+      let w = c.go_forward.new.pipeline in
+      let x = c.begin_batch.new.pipeline in
+      let y = c.write_next_header.new.pipeline in
+      let a = c.go_forward.ensures.right s (g.D.Disk.state c.args.disk.now).base (g.D.Disk.state c.args.disk.now).log l t floor taken right in
+      let b = c.in_ok-begin_batch.ensures.agrees tells s a.now t floor ring dead.waiting taken a.right.safe a.right.agrees in
+      let h = c.in_ok-write_next_header.ensures.agrees tells s a.now t floor dead.waiting taken b.0 b.1 in
+      let begun : MayServe a.now x dead = serves_batch (g.D.Disk.state c.args.disk.now).base (g.D.Disk.state c.args.disk.now).log a.now w x ring dead taken a.right.agrees a.right.safe.keeps c.lawful-2.ensures c.go_forward.ensures.sound.goes_with.dead_geom a.right.serves
+      c.a_batch_goes_home.ensures.taken c.counts_tell_the_batch.ensures.batch c.the_home_test_is_exact.ensures.needs c.a_freed_block_waits.ensures.waits (is_batch_due w) refl c.in_ok-begin_batch.ensures.begins in
+      let made : MayServe (header_made x ring a.now) y dead = serves_header (g.D.Disk.state c.begin_batch.new.disk).base (g.D.Disk.state c.begin_batch.new.disk).log (g.D.Disk.state c.write_next_header.new.disk).log a.now x y ring dead.waiting taken dead (is_header_due x) refl b.1 c.in_ok-write_next_header.ensures.adds (c.in_ok-write_next_header.ensures.log tells) begun in
+      right_header s (g.D.Disk.state c.write_next_header.new.disk) l a.now t floor x y ring dead taken a.turned h.0 h.1 made;
+  sound = sound_header _ _ (is_header_due c.begin_batch.new.pipeline) c.in_ok-write_next_header.field-0 c.begin_batch.new.pipeline c.write_next_header.new.pipeline c.go_forward.new.ring c.go_forward.new.reuse c.in_ok-write_next_header.ensures.adds c.in_ok-write_next_header.ensures.fit.order c.in_ok-write_next_header.ensures.fit.room
+      (sound_batch (is_batch_due c.go_forward.new.pipeline) c.begin_batch.result c.go_forward.new.pipeline c.begin_batch.new.pipeline c.go_forward.new.ring c.go_forward.new.reuse c.begin_batch.ensures.begins c.begin_batch.ensures.fit.order c.begin_batch.ensures.fit.room c.go_forward.ensures.sound);
+  moves = let f = c.go_forward.ensures.forward in
+      moves_whole (is_batch_due c.go_forward.new.pipeline) (is_header_due c.begin_batch.new.pipeline) c.begin_batch.result c.write_next_header.result c.args.pipeline.now f.0 f.1 f.2 c.go_forward.new.pipeline c.begin_batch.new.pipeline c.write_next_header.new.pipeline
+      c.args.ring.now c.go_forward.new.ring c.args.reuse.now c.go_forward.new.reuse c.calls_change_what_is_dead.ensures.released c.lawful.ensures c.requires.sound.order c.begin_batch.ensures.fit.order f.3 c.begin_batch.ensures.begins c.write_next_header.ensures.adds;
+  owed = λ tells.
+      let one = owed_header c.begin_batch.new.pipeline c.write_next_header.new.pipeline c.go_forward.new.ring (is_header_due c.begin_batch.new.pipeline) c.write_next_header.result _ _ c.calls_add_at_most_one_write.ensures.write c.write_next_header.ensures.adds (c.write_next_header.ensures.log tells) c.write_next_header.ensures.owed in
+      omega (arith, one, c.begin_batch.ensures.owed tells, c.go_forward.ensures.owed);
+  adds = λ tells.
+      let v = c.args.pipeline.now in
+      let w = c.go_forward.new.pipeline in
+      let x = c.begin_batch.new.pipeline in
+      let old = (g.D.Disk.state c.args.disk.now).log in
+      let middle = (g.D.Disk.state c.begin_batch.new.disk).log in
+      let new = (g.D.Disk.state c.write_next_header.new.disk).log in
+      home_went c.in_ok-write_next_header.field-0 _ (kept v) old new
+      (home_stepped _ c.in_ok-begin_batch.field-0 (Ok c.in_ok-write_next_header.field-0) (is_batch_due w) (is_header_due x) v w x c.write_next_header.new.pipeline c.go_forward.new.ring old middle new c.go_forward.ensures.front (c.in_ok-begin_batch.ensures.log tells) (c.in_ok-write_next_header.ensures.log tells));
+  front = loses_on (kept c.args.pipeline.now) (kept c.go_forward.new.pipeline) (kept c.write_next_header.new.pipeline) c.go_forward.ensures.front
+      (loses_on (kept c.go_forward.new.pipeline) (kept c.begin_batch.new.pipeline) (kept c.write_next_header.new.pipeline)
+      (loses_batch (is_batch_due c.go_forward.new.pipeline) c.begin_batch.result c.go_forward.new.pipeline c.begin_batch.new.pipeline c.begin_batch.ensures.begins)
+      (loses_header (is_header_due c.begin_batch.new.pipeline) c.write_next_header.result c.begin_batch.new.pipeline c.write_next_header.new.pipeline c.go_forward.new.ring c.write_next_header.ensures.adds));
+  lost = let f = c.go_forward.ensures.forward in
+      let v = c.args.pipeline.now in
+      let w = c.go_forward.new.pipeline in
+      let y = c.write_next_header.new.pipeline in
+      committed_on v w y (forward_loses v f.0 f.1 f.2 w c.args.ring.now c.go_forward.new.ring c.args.reuse.now c.go_forward.new.reuse f.3)
+      (committed_same w y (written_committed (is_batch_due w) (is_header_due c.begin_batch.new.pipeline) c.begin_batch.result c.write_next_header.result w c.begin_batch.new.pipeline y c.go_forward.new.ring c.begin_batch.ensures.begins c.write_next_header.ensures.adds));
+  heard = λ tells s l t floor taken right alone.
+      let f = c.go_forward.ensures.forward in
+      let v = c.args.pipeline.now in
+      let w = c.go_forward.new.pipeline in
+      let x = c.begin_batch.new.pipeline in
+      let y = c.write_next_header.new.pipeline in
+      let old = g.D.Disk.state c.args.disk.now in
+      let middle = g.D.Disk.state c.begin_batch.new.disk in
+      let new = g.D.Disk.state c.write_next_header.new.disk in
+      let grows = grows_on old.log middle.log new.log (grows_batch (is_batch_due w) c.begin_batch.result w x old.log middle.log (c.begin_batch.ensures.log tells)) (grows_header (is_header_due x) c.write_next_header.result x y c.go_forward.new.ring middle.log new.log (c.write_next_header.ensures.log tells)) in
+      heard_left old.log new.log v w y
+      (forward_forgets v f.0 f.1 f.2 w c.args.ring.now c.go_forward.new.ring c.args.reuse.now c.go_forward.new.reuse f.3)
+      (written_noticed (is_batch_due w) (is_header_due x) c.begin_batch.result c.write_next_header.result w x y c.go_forward.new.ring c.begin_batch.ensures.begins c.write_next_header.ensures.adds)
+      (written_expected (is_batch_due w) (is_header_due x) c.in_ok-begin_batch.field-0 c.in_ok-write_next_header.field-0 w x y c.go_forward.new.ring old.log middle.log new.log c.in_ok-begin_batch.ensures.begins c.in_ok-write_next_header.ensures.adds (c.in_ok-begin_batch.ensures.log tells) (c.in_ok-write_next_header.ensures.log tells))
+      (none_came old.log new.log grows);
+  bytes = λ tells s l t floor taken right.
+      let v = c.args.pipeline.now in
+      let w = c.go_forward.new.pipeline in
+      let x = c.begin_batch.new.pipeline in
+      let old = g.D.Disk.state c.args.disk.now in
+      let middle = g.D.Disk.state c.begin_batch.new.disk in
+      let on = c.go_forward.ensures.right s old.base old.log l t floor taken right in
+      let batch = batch_covered (is_batch_due w) c.begin_batch.result on.now w x old.log middle.log (c.begin_batch.ensures.log tells)
+      (home_lives old.base old.log on.now w c.go_forward.new.ring c.go_forward.new.reuse.waiting taken on.right.agrees on.right.safe.keeps c.a_batch_goes_home.ensures.taken c.counts_tell_the_batch.ensures.batch c.the_home_test_is_exact.ensures.needs (λ n u is. c.records_stand_in_order.ensures.numbers old.base old.log on.now n u on.right.safe.keeps is)) in
+      let y = c.write_next_header.new.pipeline in
+      let new = g.D.Disk.state c.write_next_header.new.disk in
+      let header = header_covered (is_header_due x) c.write_next_header.result on.now w x y c.go_forward.new.ring middle.log new.log (c.write_next_header.ensures.log tells) in
+      leaves_on l on.now on.turned v w y old old new c.go_forward.ensures.front (c.write_next_header.ensures.asks.spends.same.base ∙ c.begin_batch.ensures.asks.spends.same.base)
+      (kept_made (is_header_due x) c.write_next_header.result x y c.go_forward.new.ring c.write_next_header.ensures.adds ∙ kept_begun (is_batch_due w) c.begin_batch.result w x c.begin_batch.ensures.begins)
+      (adds_on (Covered on.now w) old.log middle.log new.log batch header) (c.go_forward.ensures.bytes s old l t floor taken right);
+}
 
 pub returns-clause-due : goal.returns-clause-due
 returns-clause-due g c = λ tells s l t floor taken right.
@@ -110,129 +216,6 @@ pub returns-clause-stage : goal.returns-clause-stage
 returns-clause-stage g c =
     let f = c.go_forward.ensures.forward in
     stage_on _ _ c.args.pipeline.now f.0 f.1 f.2 c.go_forward.new.pipeline c.begin_batch.new.pipeline c.write_next_header.new.pipeline c.args.ring.now c.go_forward.new.ring c.args.reuse.now c.go_forward.new.reuse c.requires.sound.order f.3 c.in_ok-begin_batch.ensures.begins c.in_ok-write_next_header.ensures.adds
-
-pub returns-clause-owed : goal.returns-clause-owed
-returns-clause-owed g c = λ tells.
-    let one = owed_header c.begin_batch.new.pipeline c.write_next_header.new.pipeline c.go_forward.new.ring (is_header_due c.begin_batch.new.pipeline) c.write_next_header.result _ _ c.calls_add_at_most_one_write.ensures.write c.write_next_header.ensures.adds (c.write_next_header.ensures.log tells) c.write_next_header.ensures.owed in
-    omega (arith, one, c.begin_batch.ensures.owed tells, c.go_forward.ensures.owed)
-
-pub returns-in_err-begin_batch-clause-front : goal.returns-in_err-begin_batch-clause-front
-returns-in_err-begin_batch-clause-front g c = loses_on (kept c.args.pipeline.now) (kept c.go_forward.new.pipeline) (kept c.begin_batch.new.pipeline) c.go_forward.ensures.front (loses_batch (is_batch_due c.go_forward.new.pipeline) c.begin_batch.result c.go_forward.new.pipeline c.begin_batch.new.pipeline c.begin_batch.ensures.begins)
-
-pub returns-in_err-write_next_header-clause-front : goal.returns-in_err-write_next_header-clause-front
-returns-in_err-write_next_header-clause-front g c = loses_on (kept c.args.pipeline.now) (kept c.go_forward.new.pipeline) (kept c.write_next_header.new.pipeline) c.go_forward.ensures.front
-    (loses_on (kept c.go_forward.new.pipeline) (kept c.begin_batch.new.pipeline) (kept c.write_next_header.new.pipeline)
-    (loses_batch (is_batch_due c.go_forward.new.pipeline) c.begin_batch.result c.go_forward.new.pipeline c.begin_batch.new.pipeline c.begin_batch.ensures.begins)
-    (loses_header (is_header_due c.begin_batch.new.pipeline) c.write_next_header.result c.begin_batch.new.pipeline c.write_next_header.new.pipeline c.go_forward.new.ring c.write_next_header.ensures.adds))
-
-pub returns-clause-front : goal.returns-clause-front
-returns-clause-front g c = loses_on (kept c.args.pipeline.now) (kept c.go_forward.new.pipeline) (kept c.write_next_header.new.pipeline) c.go_forward.ensures.front
-    (loses_on (kept c.go_forward.new.pipeline) (kept c.begin_batch.new.pipeline) (kept c.write_next_header.new.pipeline)
-    (loses_batch (is_batch_due c.go_forward.new.pipeline) c.begin_batch.result c.go_forward.new.pipeline c.begin_batch.new.pipeline c.begin_batch.ensures.begins)
-    (loses_header (is_header_due c.begin_batch.new.pipeline) c.write_next_header.result c.begin_batch.new.pipeline c.write_next_header.new.pipeline c.go_forward.new.ring c.write_next_header.ensures.adds))
-
-pub returns-in_err-begin_batch-clause-adds : goal.returns-in_err-begin_batch-clause-adds
-returns-in_err-begin_batch-clause-adds g c = λ tells.
-    let v = c.args.pipeline.now in
-    let w = c.go_forward.new.pipeline in
-    let log = (g.D.Disk.state c.args.disk.now).log in
-    let new = (g.D.Disk.state c.begin_batch.new.disk).log in
-    home_failed c.begin_batch.result c.from_residual.result (kept v) log new c.from_residual.ensures.0
-    (home_before c.begin_batch.result (kept v) (kept w) log new c.go_forward.ensures.front (home_batch (is_batch_due w) c.begin_batch.result w c.begin_batch.new.pipeline log new (c.begin_batch.ensures.log tells)))
-
-pub returns-in_err-write_next_header-clause-adds : goal.returns-in_err-write_next_header-clause-adds
-returns-in_err-write_next_header-clause-adds g c = λ tells.
-    let v = c.args.pipeline.now in
-    let w = c.go_forward.new.pipeline in
-    let x = c.begin_batch.new.pipeline in
-    let old = (g.D.Disk.state c.args.disk.now).log in
-    let middle = (g.D.Disk.state c.begin_batch.new.disk).log in
-    let new = (g.D.Disk.state c.write_next_header.new.disk).log in
-    home_failed c.write_next_header.result c.from_residual-in_err-write_next_header.result (kept v) old new c.from_residual-in_err-write_next_header.ensures.0
-    (home_stepped _ c.in_ok-begin_batch.field-0 c.write_next_header.result (is_batch_due w) (is_header_due x) v w x c.write_next_header.new.pipeline c.go_forward.new.ring old middle new c.go_forward.ensures.front (c.in_ok-begin_batch.ensures.log tells) (c.write_next_header.ensures.log tells))
-
-pub returns-clause-adds : goal.returns-clause-adds
-returns-clause-adds g c = λ tells.
-    let v = c.args.pipeline.now in
-    let w = c.go_forward.new.pipeline in
-    let x = c.begin_batch.new.pipeline in
-    let old = (g.D.Disk.state c.args.disk.now).log in
-    let middle = (g.D.Disk.state c.begin_batch.new.disk).log in
-    let new = (g.D.Disk.state c.write_next_header.new.disk).log in
-    home_went c.in_ok-write_next_header.field-0 _ (kept v) old new
-    (home_stepped _ c.in_ok-begin_batch.field-0 (Ok c.in_ok-write_next_header.field-0) (is_batch_due w) (is_header_due x) v w x c.write_next_header.new.pipeline c.go_forward.new.ring old middle new c.go_forward.ensures.front (c.in_ok-begin_batch.ensures.log tells) (c.in_ok-write_next_header.ensures.log tells))
-
-pub returns-in_err-begin_batch-clause-bytes : goal.returns-in_err-begin_batch-clause-bytes
-returns-in_err-begin_batch-clause-bytes g c = λ tells s l t floor taken right.
-    let v = c.args.pipeline.now in
-    let w = c.go_forward.new.pipeline in
-    let x = c.begin_batch.new.pipeline in
-    let old = g.D.Disk.state c.args.disk.now in
-    let middle = g.D.Disk.state c.begin_batch.new.disk in
-    let on = c.go_forward.ensures.right s old.base old.log l t floor taken right in
-    let batch = batch_covered (is_batch_due w) c.begin_batch.result on.now w x old.log middle.log (c.begin_batch.ensures.log tells)
-    (home_lives old.base old.log on.now w c.go_forward.new.ring c.go_forward.new.reuse.waiting taken on.right.agrees on.right.safe.keeps c.a_batch_goes_home.ensures.taken c.counts_tell_the_batch.ensures.batch c.the_home_test_is_exact.ensures.needs (λ n u is. c.records_stand_in_order.ensures.numbers old.base old.log on.now n u on.right.safe.keeps is)) in
-    leaves_on l on.now on.turned v w x old old middle c.go_forward.ensures.front c.begin_batch.ensures.spends.same.base (kept_begun (is_batch_due w) c.begin_batch.result w x c.begin_batch.ensures.begins) batch (c.go_forward.ensures.bytes s old l t floor taken right)
-
-pub returns-in_err-write_next_header-clause-bytes : goal.returns-in_err-write_next_header-clause-bytes
-returns-in_err-write_next_header-clause-bytes g c = λ tells s l t floor taken right.
-    let v = c.args.pipeline.now in
-    let w = c.go_forward.new.pipeline in
-    let x = c.begin_batch.new.pipeline in
-    let old = g.D.Disk.state c.args.disk.now in
-    let middle = g.D.Disk.state c.begin_batch.new.disk in
-    let on = c.go_forward.ensures.right s old.base old.log l t floor taken right in
-    let batch = batch_covered (is_batch_due w) c.begin_batch.result on.now w x old.log middle.log (c.begin_batch.ensures.log tells)
-    (home_lives old.base old.log on.now w c.go_forward.new.ring c.go_forward.new.reuse.waiting taken on.right.agrees on.right.safe.keeps c.a_batch_goes_home.ensures.taken c.counts_tell_the_batch.ensures.batch c.the_home_test_is_exact.ensures.needs (λ n u is. c.records_stand_in_order.ensures.numbers old.base old.log on.now n u on.right.safe.keeps is)) in
-    let y = c.write_next_header.new.pipeline in
-    let new = g.D.Disk.state c.write_next_header.new.disk in
-    let header = header_covered (is_header_due x) c.write_next_header.result on.now w x y c.go_forward.new.ring middle.log new.log (c.write_next_header.ensures.log tells) in
-    leaves_on l on.now on.turned v w y old old new c.go_forward.ensures.front (c.write_next_header.ensures.spends.same.base ∙ c.begin_batch.ensures.spends.same.base)
-    (kept_made (is_header_due x) c.write_next_header.result x y c.go_forward.new.ring c.write_next_header.ensures.adds ∙ kept_begun (is_batch_due w) c.begin_batch.result w x c.begin_batch.ensures.begins)
-    (adds_on (Covered on.now w) old.log middle.log new.log batch header) (c.go_forward.ensures.bytes s old l t floor taken right)
-
-pub returns-clause-bytes : goal.returns-clause-bytes
-returns-clause-bytes g c = λ tells s l t floor taken right.
-    let v = c.args.pipeline.now in
-    let w = c.go_forward.new.pipeline in
-    let x = c.begin_batch.new.pipeline in
-    let old = g.D.Disk.state c.args.disk.now in
-    let middle = g.D.Disk.state c.begin_batch.new.disk in
-    let on = c.go_forward.ensures.right s old.base old.log l t floor taken right in
-    let batch = batch_covered (is_batch_due w) c.begin_batch.result on.now w x old.log middle.log (c.begin_batch.ensures.log tells)
-    (home_lives old.base old.log on.now w c.go_forward.new.ring c.go_forward.new.reuse.waiting taken on.right.agrees on.right.safe.keeps c.a_batch_goes_home.ensures.taken c.counts_tell_the_batch.ensures.batch c.the_home_test_is_exact.ensures.needs (λ n u is. c.records_stand_in_order.ensures.numbers old.base old.log on.now n u on.right.safe.keeps is)) in
-    let y = c.write_next_header.new.pipeline in
-    let new = g.D.Disk.state c.write_next_header.new.disk in
-    let header = header_covered (is_header_due x) c.write_next_header.result on.now w x y c.go_forward.new.ring middle.log new.log (c.write_next_header.ensures.log tells) in
-    leaves_on l on.now on.turned v w y old old new c.go_forward.ensures.front (c.write_next_header.ensures.spends.same.base ∙ c.begin_batch.ensures.spends.same.base)
-    (kept_made (is_header_due x) c.write_next_header.result x y c.go_forward.new.ring c.write_next_header.ensures.adds ∙ kept_begun (is_batch_due w) c.begin_batch.result w x c.begin_batch.ensures.begins)
-    (adds_on (Covered on.now w) old.log middle.log new.log batch header) (c.go_forward.ensures.bytes s old l t floor taken right)
-
-pub returns-clause-lost : goal.returns-clause-lost
-returns-clause-lost g c =
-    let f = c.go_forward.ensures.forward in
-    let v = c.args.pipeline.now in
-    let w = c.go_forward.new.pipeline in
-    let y = c.write_next_header.new.pipeline in
-    committed_on v w y (forward_loses v f.0 f.1 f.2 w c.args.ring.now c.go_forward.new.ring c.args.reuse.now c.go_forward.new.reuse f.3)
-    (committed_same w y (written_committed (is_batch_due w) (is_header_due c.begin_batch.new.pipeline) c.begin_batch.result c.write_next_header.result w c.begin_batch.new.pipeline y c.go_forward.new.ring c.begin_batch.ensures.begins c.write_next_header.ensures.adds))
-
-pub returns-clause-heard : goal.returns-clause-heard
-returns-clause-heard g c = λ tells s l t floor taken right alone.
-    let f = c.go_forward.ensures.forward in
-    let v = c.args.pipeline.now in
-    let w = c.go_forward.new.pipeline in
-    let x = c.begin_batch.new.pipeline in
-    let y = c.write_next_header.new.pipeline in
-    let old = g.D.Disk.state c.args.disk.now in
-    let middle = g.D.Disk.state c.begin_batch.new.disk in
-    let new = g.D.Disk.state c.write_next_header.new.disk in
-    let grows = grows_on old.log middle.log new.log (grows_batch (is_batch_due w) c.begin_batch.result w x old.log middle.log (c.begin_batch.ensures.log tells)) (grows_header (is_header_due x) c.write_next_header.result x y c.go_forward.new.ring middle.log new.log (c.write_next_header.ensures.log tells)) in
-    heard_left old.log new.log v w y
-    (forward_forgets v f.0 f.1 f.2 w c.args.ring.now c.go_forward.new.ring c.args.reuse.now c.go_forward.new.reuse f.3)
-    (written_noticed (is_batch_due w) (is_header_due x) c.begin_batch.result c.write_next_header.result w x y c.go_forward.new.ring c.begin_batch.ensures.begins c.write_next_header.ensures.adds)
-    (written_expected (is_batch_due w) (is_header_due x) c.in_ok-begin_batch.field-0 c.in_ok-write_next_header.field-0 w x y c.go_forward.new.ring old.log middle.log new.log c.in_ok-begin_batch.ensures.begins c.in_ok-write_next_header.ensures.adds (c.in_ok-begin_batch.ensures.log tells) (c.in_ok-write_next_header.ensures.log tells))
-    (none_came old.log new.log grows)
 
 pub returns-in_err-begin_batch-clause-writes : goal.returns-in_err-begin_batch-clause-writes
 returns-in_err-begin_batch-clause-writes g c = λ tells. grows_batch (is_batch_due c.go_forward.new.pipeline) c.begin_batch.result c.go_forward.new.pipeline c.begin_batch.new.pipeline (g.D.Disk.state c.args.disk.now).log (g.D.Disk.state c.begin_batch.new.disk).log (c.begin_batch.ensures.log tells)
@@ -265,12 +248,12 @@ returns-clause-serves g c = λ tells s l t floor taken right alone heard.
     let served : DeadBlocks = c.go_forward.new.reuse in
     let dead : DeadBlocks = c.args.reuse.now in
     let new = g.D.Disk.state c.write_next_header.new.disk in
-    let on = returns-clause-right g c tells s l t floor taken right in
+    let on = (returns-clause-goes g c).right tells s l t floor taken right in
     let a = on.right.agrees in
     let due = returns-clause-due g c tells s l t floor taken right in
-    let knows = returns-clause-heard g c tells s l t floor taken right alone heard in
-    let moved = returns-clause-moves g c in
-    let sound = returns-clause-sound g c in
+    let knows = (returns-clause-goes g c).heard tells s l t floor taken right alone heard in
+    let moved = (returns-clause-goes g c).moves in
+    let sound = (returns-clause-goes g c).sound in
     serves_by_log new.base new.log on.now y ring served taken on.right.safe.keeps a on.right.serves c.lawful-2.ensures (sound.goes_with.dead_geom ∙ a.geom)
     (λ k u is. c.records_stand_in_order.ensures.numbers new.base new.log on.now k u on.right.safe.keeps is) c.a_freed_block_waits.ensures.waits knows due.pending dead c.lawful.ensures w.header.sure (going_home w.home.items w.notes.notes)
     (f.3.serves ∙ sym (ap (λ (p : Pipeline). with_released dead p.header.sure (going_home p.home.items p.notes.notes)) f.3.rest))

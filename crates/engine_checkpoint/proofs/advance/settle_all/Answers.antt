@@ -16,8 +16,8 @@ loop-turn-init c = record {
 pub loop-turn-preserved : goal.loop-turn-preserved
 loop-turn-preserved c = record {
   settles = settles_more c.loop-turn.turn c.args.pipeline.now c.loop-turn.pipeline c.settle_first.new.pipeline c.loop-turn.invariant.settles (settled_first c.settle_first.result c.loop-turn.pipeline c.settle_first.new.pipeline c.if-not-settle_first.false c.settle_first.ensures.settles);
-  order = c.settle_first.ensures.order;
-  room = c.settle_first.ensures.room;
+  order = c.settle_first.ensures.fit.order;
+  room = c.settle_first.ensures.fit.room;
   agrees = λ s base log l t floor ring waiting taken safe a. agrees_more s base log l t floor ring waiting taken c.settle_first.result c.loop-turn.pipeline c.settle_first.new.pipeline c.if-not-settle_first.false (c.loop-turn.invariant.agrees s base log l t floor ring waiting taken safe a) (λ k safe2 a2. c.settle_first.ensures.agrees s base log k t floor ring waiting taken safe2 a2);
 }
 

@@ -48,7 +48,7 @@ write_batch-requires-clause-below g c = λ k b is.
     let at : slice_get c.blocks-2.new.into.items k ≡ Some b = ap (λ (bs : List ℕ). slice_get bs k) (sym c.as_slice.ensures.value) ∙ is in
     let has : IsSome (spot_of c.find_newest.new.newest b) = c.blocks-2.ensures.blocks.only k b at in
     let small = some_below v.geom.n v.sure.items (map of_durable v.durable.items ++ map of_committed v.committed.items) b c.requires.order.below (newest_spot None (map of_sure v.sure.items) b) refl (ap is_some (sym (c.find_newest.ensures.at b)) ∙ has) in
-    omega (arith, small, c.requires.on_disk)
+    omega (arith, small, c.requires.size)
 
 pub write_batch-requires-clause-room : goal.write_batch-requires-clause-room
 write_batch-requires-clause-room g c = omega (arith, ap (λ (bs : List ℕ). length bs) c.as_slice.ensures.value, c.blocks-2.ensures.count, c.find_newest.ensures.count, c.requires.room.home, c.requires.order.unplaced, sure_and_others c.args.pipeline.now)
@@ -120,11 +120,11 @@ pub returns-clause-open : goal.returns-clause-open
 returns-clause-open g c = λ tells due told. all_open c.noticed_tickets_stay_so.ensures (map fresh_write (row g c)) c.write_batch.result _ _ (v g c) (w g c) (begins g c) told
     (c.write_batch.ensures.log tells (row g c) (row_is g c) (row_blocks (map of_sure (v g c).sure.items) (bs g c)))
 
-pub returns-clause-order : goal.returns-clause-order
-returns-clause-order g c = order_begun (v g c) (w g c) c.requires.order (begins g c) (none g c) (some g c) (few_home g c)
-
-pub returns-clause-room : goal.returns-clause-room
-returns-clause-room g c = room_begun (v g c) (w g c) c.requires.order (begins g c) (none g c) (some g c) (few_home g c) c.requires.room (length (bs g c)) (few g c) c.write_batch.ensures.home_room c.blocks-2.ensures.capacity c.find_newest.ensures.spare c.write_batch.ensures.notes_room
+pub returns-clause-fit : goal.returns-clause-fit
+returns-clause-fit g c = record {
+  order = order_begun (v g c) (w g c) c.requires.order (begins g c) (none g c) (some g c) (few_home g c);
+  room = room_begun (v g c) (w g c) c.requires.order (begins g c) (none g c) (some g c) (few_home g c) c.requires.room (length (bs g c)) (few g c) c.write_batch.ensures.home_room c.blocks-2.ensures.capacity c.find_newest.ensures.spare c.write_batch.ensures.notes_room;
+}
 
 pub returns-clause-owed : goal.returns-clause-owed
 returns-clause-owed g c = λ tells. omega (
@@ -148,6 +148,6 @@ returns-clause-agrees g c = λ tells s l t floor ring waiting taken safe a.
     let st = batch_begins base log l (v g c) ring waiting taken a count refl (c.a_batch_goes_home.ensures.taken base log l p count safe.keeps a.agree (none g c) a.sure) (c.one_write_stays_pending.ensures.batch base log l p [] count a.one (none g c)) in
     let done = c.write_batch.ensures.home tells (row g c) (row_is g c) (row_blocks ks (bs g c)) s l (with_batch p count) a.freed taken t floor safe st refl refl test in (
       done.0,
-      agrees_or_failed base _ log _ l (v g c) ring waiting taken a (some g c) (w g c) (begins g c) (map fresh_write (row g c)) c.write_batch.result _ c.write_batch.ensures.spends.same.base c.requires.on_disk c.noticed_tickets_stay_so.ensures
+      agrees_or_failed base _ log _ l (v g c) ring waiting taken a (some g c) (w g c) (begins g c) (map fresh_write (row g c)) c.write_batch.result _ c.write_batch.ensures.spends.same.base c.requires.size c.noticed_tickets_stay_so.ensures
           (c.write_batch.ensures.log tells (row g c) (row_is g c) (row_blocks ks (bs g c))) done.1,
     )

@@ -65,15 +65,15 @@ returns-clause-index c =
     index_placed_by v (then_is c) (last_of_batch v) (λ b. have_payload b first) c.requires.order (kept_ended v (then_is c) (ends c) c.requires.order.batch) (omega (arith, c.if-pipeline-eq0.false))
     (λ b at k is has. have_at first at b k (ap (λ (ks : List Kept). slice_get ks at) (sym batch_is) ∙ is) has) (ends c).newest
 
-pub returns-clause-order : goal.returns-clause-order
-returns-clause-order c = order_ended c.args.pipeline.now (then_is c) c.requires.order (ends c)
+pub returns-clause-fit : goal.returns-clause-fit
+returns-clause-fit c = record {
+  order = order_ended c.args.pipeline.now (then_is c) c.requires.order (ends c);
+  room = room_ended c.args.pipeline.now (then_is c) c.requires.order (ends c) c.requires.room c.place_first-pipeline.ensures.placed_room c.place_first-pipeline.ensures.rest_room
+      (omega (arith, c.clear.ensures.capacity)) c.place_first-pipeline.ensures.spare c.lawful.ensures c.notes_of_few_tickets_are_few.ensures;
+}
 
 pub returns-clause-owed : goal.returns-clause-owed
 returns-clause-owed c = owed_ended c.args.pipeline.now (then_is c) c.requires.order (ends c)
-
-pub returns-clause-room : goal.returns-clause-room
-returns-clause-room c = room_ended c.args.pipeline.now (then_is c) c.requires.order (ends c) c.requires.room c.place_first-pipeline.ensures.placed_room c.place_first-pipeline.ensures.rest_room
-    (omega (arith, c.clear.ensures.capacity)) c.place_first-pipeline.ensures.spare c.lawful.ensures c.notes_of_few_tickets_are_few.ensures
 
 pub returns-clause-agrees : goal.returns-clause-agrees
 returns-clause-agrees c = λ s base log l t floor ring waiting taken safe a.

@@ -15,39 +15,37 @@ use Rattle.engine_checkpoint.proofs.Turned.{closed_noticed, agrees_released}
 use Rattle.engine_checkpoint.proofs.header.turn_header.Goals as goal
 
 pub release_placed-requires-clause-before : goal.release_placed-requires-clause-before
-release_placed-requires-clause-before c = placed_before c.args.pipeline.now c.requires.order c.in-Some.pending c.in-Some.is
+release_placed-requires-clause-before c = placed_before c.args.pipeline.now c.requires.fit.order c.in-Some.pending c.in-Some.is
 
 pub release_placed-requires-clause-taken : goal.release_placed-requires-clause-taken
-release_placed-requires-clause-taken c = omega (arith, released_taken c.args.pipeline.now c.requires.order c.in-Some.pending c.in-Some.is, c.requires.taken)
+release_placed-requires-clause-taken c = omega (arith, released_taken c.args.pipeline.now c.requires.fit.order c.in-Some.pending c.in-Some.is, c.requires.taken)
 
 pub make_sure-requires-clause-upto : goal.make_sure-requires-clause-upto
-make_sure-requires-clause-upto c = durable_upto c.args.pipeline.now c.requires.order c.in-Some.pending c.in-Some.is
+make_sure-requires-clause-upto c = durable_upto c.args.pipeline.now c.requires.fit.order c.in-Some.pending c.in-Some.is
 
-pub returns-clause-order : goal.returns-clause-order
-returns-clause-order c =
-    let out = turned_to c.args.pipeline.now c.in-Some.pending 0 (record c.args.pipeline.now { placed = c.release_placed.new.placed; sure = c.make_sure.new.sure; durable = c.make_sure.new.durable }) c.forget.new.self in
-    order_turned c.args.pipeline.now c.requires.order c.in-Some.pending c.in-Some.is c.other_slot-pipeline.result out c.forget.new.self c.make_sure.ensures.sure.0 c.release_placed.ensures.items c.make_sure.ensures.sure.1 c.make_sure.ensures.durable c.make_sure.ensures.sure.2 c.make_sure.ensures.sure.3
+pub returns-clause-fit : goal.returns-clause-fit
+returns-clause-fit c = record {
+  order = let out = turned_to c.args.pipeline.now c.in-Some.pending 0 (record c.args.pipeline.now { placed = c.release_placed.new.placed; sure = c.make_sure.new.sure; durable = c.make_sure.new.durable }) c.forget.new.self in
+      order_turned c.args.pipeline.now c.requires.fit.order c.in-Some.pending c.in-Some.is c.other_slot-pipeline.result out c.forget.new.self c.make_sure.ensures.sure.0 c.release_placed.ensures.items c.make_sure.ensures.sure.1 c.make_sure.ensures.durable c.make_sure.ensures.sure.2 c.make_sure.ensures.sure.3;
+  room = let v = c.args.pipeline.now in
+      let out = turned_to v c.in-Some.pending 0 (record v { placed = c.release_placed.new.placed; sure = c.make_sure.new.sure; durable = c.make_sure.new.durable }) c.forget.new.self in
+      let gone : Forgets (c.in-Some.pending.ticket ∷ []) v.notes c.forget.new.self = record { expected = c.forget.ensures.expected; noticed = c.forget.ensures.noticed; room = c.forget.ensures.room } in
+      room_turned v c.requires.fit.order c.in-Some.pending c.in-Some.is c.other_slot-pipeline.result out c.forget.new.self c.make_sure.ensures.sure.0 c.release_placed.ensures.items c.make_sure.ensures.sure.1 c.make_sure.ensures.durable c.make_sure.ensures.sure.2 c.make_sure.ensures.sure.3
+      c.requires.fit.room c.release_placed.ensures.capacity c.make_sure.ensures.capacity.1 c.make_sure.ensures.capacity.0 (room_back c.notes_of_few_tickets_are_few.ensures c.in-Some.pending.ticket v.notes c.forget.new.self c.lawful.ensures gone);
+}
 
 pub returns-clause-taken : goal.returns-clause-taken
 returns-clause-taken c =
     let v = c.args.pipeline.now in
     let out = turned_to v c.in-Some.pending 0 (record v { placed = c.release_placed.new.placed; sure = c.make_sure.new.sure; durable = c.make_sure.new.durable }) c.forget.new.self in
     ap (λ (r : RingPlaces). r.taken) c.release_placed.ensures.ring ∙ ap (λ n. n - total (map placed_count (take (c.in-Some.pending.header.start - v.header.start) v.placed.items))) c.requires.taken
-    ∙ sym (taken_turned v c.requires.order c.in-Some.pending c.in-Some.is c.other_slot-pipeline.result out c.forget.new.self c.make_sure.ensures.sure.0 c.release_placed.ensures.items c.make_sure.ensures.sure.1 c.make_sure.ensures.durable c.make_sure.ensures.sure.2 c.make_sure.ensures.sure.3)
+    ∙ sym (taken_turned v c.requires.fit.order c.in-Some.pending c.in-Some.is c.other_slot-pipeline.result out c.forget.new.self c.make_sure.ensures.sure.0 c.release_placed.ensures.items c.make_sure.ensures.sure.1 c.make_sure.ensures.durable c.make_sure.ensures.sure.2 c.make_sure.ensures.sure.3)
 
 pub returns-clause-owed : goal.returns-clause-owed
 returns-clause-owed c =
     let v = c.args.pipeline.now in
     let out = turned_to v c.in-Some.pending 0 (record v { placed = c.release_placed.new.placed; sure = c.make_sure.new.sure; durable = c.make_sure.new.durable }) c.forget.new.self in
-    owed_turned v c.requires.order c.in-Some.pending c.in-Some.is c.other_slot-pipeline.result out c.forget.new.self c.make_sure.ensures.sure.0 c.release_placed.ensures.items c.make_sure.ensures.sure.1 c.make_sure.ensures.durable c.make_sure.ensures.sure.2 c.make_sure.ensures.sure.3
-
-pub returns-clause-room : goal.returns-clause-room
-returns-clause-room c =
-    let v = c.args.pipeline.now in
-    let out = turned_to v c.in-Some.pending 0 (record v { placed = c.release_placed.new.placed; sure = c.make_sure.new.sure; durable = c.make_sure.new.durable }) c.forget.new.self in
-    let gone : Forgets (c.in-Some.pending.ticket ∷ []) v.notes c.forget.new.self = record { expected = c.forget.ensures.expected; noticed = c.forget.ensures.noticed; room = c.forget.ensures.room } in
-    room_turned v c.requires.order c.in-Some.pending c.in-Some.is c.other_slot-pipeline.result out c.forget.new.self c.make_sure.ensures.sure.0 c.release_placed.ensures.items c.make_sure.ensures.sure.1 c.make_sure.ensures.durable c.make_sure.ensures.sure.2 c.make_sure.ensures.sure.3
-    c.requires.room c.release_placed.ensures.capacity c.make_sure.ensures.capacity.1 c.make_sure.ensures.capacity.0 (room_back c.notes_of_few_tickets_are_few.ensures c.in-Some.pending.ticket v.notes c.forget.new.self c.lawful.ensures gone)
+    owed_turned v c.requires.fit.order c.in-Some.pending c.in-Some.is c.other_slot-pipeline.result out c.forget.new.self c.make_sure.ensures.sure.0 c.release_placed.ensures.items c.make_sure.ensures.sure.1 c.make_sure.ensures.durable c.make_sure.ensures.sure.2 c.make_sure.ensures.sure.3
 
 pub returns-clause-agrees : goal.returns-clause-agrees
 returns-clause-agrees c = λ s base log l t floor waiting taken safe a.

@@ -37,7 +37,7 @@ returns-in_err-ticket-clause-agrees g c = λ tells s l t floor waiting taken saf
     let stand : (k : ℕ) (w : WrittenRecord) → slice_get l.records k ≡ Some w → w.says.place ≡ place_after l.geom.j l.header.at (all_say (take k l.records)) = λ k w. c.records_stand_in_order.ensures.places base log l k w safe.keeps in
     let is = due_is base log l v c.args.ring.now waiting taken a safe.keeps stand in
     let within = c.journal_blocks_keep_to_their_bounds.ensures.headers l.geom.n _ l.header safe.keeps.headers.durable in
-    let reads : header_of l.geom.n x ≡ Some next = ap (header_of l.geom.n) (c.write_header.ensures ∙ ap header_block c.due_header-header.ensures.is) ∙ due_reads base log l v c.args.ring.now waiting taken a safe.keeps stand within c.requires.order c.due_header-header.ensures.epoch c.requires.turn c.requires.last c.journal_blocks_read_back.ensures.headers in
+    let reads : header_of l.geom.n x ≡ Some next = ap (header_of l.geom.n) (c.write_header.ensures ∙ ap header_block c.due_header-header.ensures.is) ∙ due_reads base log l v c.args.ring.now waiting taken a safe.keeps stand within c.requires.on.order c.due_header-header.ensures.epoch c.requires.turn c.requires.last c.journal_blocks_read_back.ensures.headers in
     let may = c.the_next_header_may_be_written.ensures.may base log l (data_of v c.args.ring.now waiting) x safe.keeps a.agree none reads in
     header_failed c.from_residual.result c.in_err-ticket.field-0.0 s (g.D.Disk.state c.args.disk.now) (g.D.Disk.state c.write_header-2.new.disk) l next t floor v _ c.args.ring.now waiting taken c.from_residual.ensures.0 is
     (c.in_err-ticket.ensures.safe tells s l next t floor (c.other_slot.ensures ∙ ap (λ n. 1 - n) a.slot) may safe)
@@ -57,7 +57,7 @@ returns-clause-agrees g c = λ tells s l t floor waiting taken safe a.
     let due_next : due_header v ring ≡ next = due_is base log l v ring waiting taken a safe.keeps stand in
     let is : c.due_header-header.result ≡ next = c.due_header-header.ensures.is ∙ due_next in
     let within = c.journal_blocks_keep_to_their_bounds.ensures.headers l.geom.n _ l.header safe.keeps.headers.durable in
-    let reads : header_of l.geom.n x ≡ Some next = ap (header_of l.geom.n) (c.write_header.ensures ∙ ap header_block c.due_header-header.ensures.is) ∙ due_reads base log l v ring waiting taken a safe.keeps stand within c.requires.order c.due_header-header.ensures.epoch c.requires.turn c.requires.last c.journal_blocks_read_back.ensures.headers in
+    let reads : header_of l.geom.n x ≡ Some next = ap (header_of l.geom.n) (c.write_header.ensures ∙ ap header_block c.due_header-header.ensures.is) ∙ due_reads base log l v ring waiting taken a safe.keeps stand within c.requires.on.order c.due_header-header.ensures.epoch c.requires.turn c.requires.last c.journal_blocks_read_back.ensures.headers in
     let may = c.the_next_header_may_be_written.ensures.may base log l (data_of v ring waiting) x safe.keeps a.agree none reads in
     let slot_is = c.other_slot.ensures ∙ ap (λ n. 1 - n) a.slot in
     let adds = c.in_ok-ticket.ensures.log tells in

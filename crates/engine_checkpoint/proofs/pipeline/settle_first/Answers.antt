@@ -67,31 +67,29 @@ returns-clause-exact c =
 pub unwrap-requires : goal.unwrap-requires
 unwrap-requires c = c.push_back.ensures.succeeds (omega (arith, c.requires.room.durable, c.pop_front.ensures.len, ap (λ o. length (option_to_list o)) c.unwrap-first.ensures))
 
-pub returns-clause-order : goal.returns-clause-order
-returns-clause-order c =
-    let v = c.args.pipeline.now in
-    let tx = c.unwrap-first.result in
-    let d = c.unwrap-durable.result in
-    let cs = c.pop_front.new.self in
-    let w : Pipeline = record v { committed = cs; durable = c.push_back.new.self; notes = c.settled_for_good.new.notes } in
-    let first : v.committed.items ≡ tx ∷ cs.items = c.pop_front.ensures.items ∙ ap (λ o. option_to_list o ++ cs.items) c.unwrap-first.ensures in
-    let is_of : IsDurableOf tx d = subst (λ r. IfOk r (IsDurableOf tx)) c.unwrap-durable.ensures c.settled_for_good.ensures.ok in
-    let more : c.push_back.new.self.items ≡ v.durable.items ++ d ∷ [] = c.push_back.ensures.items ∙ choose_true _ _ _ (c.push_back.ensures.succeeds (omega (arith, c.requires.room.durable, c.pop_front.ensures.len, ap (λ o. length (option_to_list o)) c.unwrap-first.ensures))) in
-    order_settled v w refl (kept_settled v w tx d refl first more is_of) (omega (arith, length-append v.durable.items (d ∷ []), ap (λ (ds : List Durable). length ds) more)) c.requires.order
-
-pub returns-clause-room : goal.returns-clause-room
-returns-clause-room c =
-    let v = c.args.pipeline.now in
-    let tx = c.unwrap-first.result in
-    let d = c.unwrap-durable.result in
-    let cs = c.pop_front.new.self in
-    let w : Pipeline = record v { committed = cs; durable = c.push_back.new.self; notes = c.settled_for_good.new.notes } in
-    let first : v.committed.items ≡ tx ∷ cs.items = c.pop_front.ensures.items ∙ ap (λ o. option_to_list o ++ cs.items) c.unwrap-first.ensures in
-    let is_of : IsDurableOf tx d = subst (λ r. IfOk r (IsDurableOf tx)) c.unwrap-durable.ensures c.settled_for_good.ensures.ok in
-    let forgets : Forgets tx.tickets.items v.notes c.settled_for_good.new.notes = subst (λ r. OnOk r (Forgets tx.tickets.items v.notes c.settled_for_good.new.notes)) c.unwrap-durable.ensures c.settled_for_good.ensures.forgets in
-    let less : deque_len cs + 1 ≡ deque_len v.committed = ap (λ o. deque_len cs + length (option_to_list o)) (sym c.unwrap-first.ensures) ∙ c.pop_front.ensures.len in
-    let room : deque_len v.durable < deque_capacity v.durable = omega (arith, c.requires.room.durable, less) in
-    let more : c.push_back.new.self.items ≡ v.durable.items ++ d ∷ [] = c.push_back.ensures.items ∙ choose_true _ _ _ (c.push_back.ensures.succeeds room) in
-    let one : deque_len c.push_back.new.self ≡ deque_len v.durable + 1 = c.push_back.ensures.len ∙ choose_true _ _ _ (c.push_back.ensures.succeeds room) in
-    room_settled v w refl (kept_settled v w tx d refl first more is_of) (omega (arith, less, one)) (omega (arith, less)) c.push_back.ensures.capacity (omega (arith, c.pop_front.ensures.capacity))
-    (room_of_header c.notes_of_few_tickets_are_few.ensures v.next v.notes c.settled_for_good.new.notes c.lawful-2.ensures (λ u e. (and_parts _ _ (sym (forgets.expected u) ∙ e)).1) forgets.room) c.requires.room
+pub returns-clause-fit : goal.returns-clause-fit
+returns-clause-fit c = record {
+  order = let v = c.args.pipeline.now in
+      let tx = c.unwrap-first.result in
+      let d = c.unwrap-durable.result in
+      let cs = c.pop_front.new.self in
+      let w : Pipeline = record v { committed = cs; durable = c.push_back.new.self; notes = c.settled_for_good.new.notes } in
+      let first : v.committed.items ≡ tx ∷ cs.items = c.pop_front.ensures.items ∙ ap (λ o. option_to_list o ++ cs.items) c.unwrap-first.ensures in
+      let is_of : IsDurableOf tx d = subst (λ r. IfOk r (IsDurableOf tx)) c.unwrap-durable.ensures c.settled_for_good.ensures.ok in
+      let more : c.push_back.new.self.items ≡ v.durable.items ++ d ∷ [] = c.push_back.ensures.items ∙ choose_true _ _ _ (c.push_back.ensures.succeeds (omega (arith, c.requires.room.durable, c.pop_front.ensures.len, ap (λ o. length (option_to_list o)) c.unwrap-first.ensures))) in
+      order_settled v w refl (kept_settled v w tx d refl first more is_of) (omega (arith, length-append v.durable.items (d ∷ []), ap (λ (ds : List Durable). length ds) more)) c.requires.order;
+  room = let v = c.args.pipeline.now in
+      let tx = c.unwrap-first.result in
+      let d = c.unwrap-durable.result in
+      let cs = c.pop_front.new.self in
+      let w : Pipeline = record v { committed = cs; durable = c.push_back.new.self; notes = c.settled_for_good.new.notes } in
+      let first : v.committed.items ≡ tx ∷ cs.items = c.pop_front.ensures.items ∙ ap (λ o. option_to_list o ++ cs.items) c.unwrap-first.ensures in
+      let is_of : IsDurableOf tx d = subst (λ r. IfOk r (IsDurableOf tx)) c.unwrap-durable.ensures c.settled_for_good.ensures.ok in
+      let forgets : Forgets tx.tickets.items v.notes c.settled_for_good.new.notes = subst (λ r. OnOk r (Forgets tx.tickets.items v.notes c.settled_for_good.new.notes)) c.unwrap-durable.ensures c.settled_for_good.ensures.forgets in
+      let less : deque_len cs + 1 ≡ deque_len v.committed = ap (λ o. deque_len cs + length (option_to_list o)) (sym c.unwrap-first.ensures) ∙ c.pop_front.ensures.len in
+      let room : deque_len v.durable < deque_capacity v.durable = omega (arith, c.requires.room.durable, less) in
+      let more : c.push_back.new.self.items ≡ v.durable.items ++ d ∷ [] = c.push_back.ensures.items ∙ choose_true _ _ _ (c.push_back.ensures.succeeds room) in
+      let one : deque_len c.push_back.new.self ≡ deque_len v.durable + 1 = c.push_back.ensures.len ∙ choose_true _ _ _ (c.push_back.ensures.succeeds room) in
+      room_settled v w refl (kept_settled v w tx d refl first more is_of) (omega (arith, less, one)) (omega (arith, less)) c.push_back.ensures.capacity (omega (arith, c.pop_front.ensures.capacity))
+      (room_of_header c.notes_of_few_tickets_are_few.ensures v.next v.notes c.settled_for_good.new.notes c.lawful-2.ensures (λ u e. (and_parts _ _ (sym (forgets.expected u) ∙ e)).1) forgets.room) c.requires.room;
+}

@@ -1,84 +1,115 @@
-use Rattle.std.proofs.Common.{refl, sym, ap, subst, ◌∙◌, arith}
-use Rattle.layout_journal.specs.Ring.{RingPlaces}
+use Rattle.std.proofs.Common.{◌+◌, ◌≤◌, IsTrue, length, refl, sym, ap, subst, ◌∙◌, arith}
+use Rattle.layout_journal.specs.Ring.{RingPlaces, with_places}
 use Rattle.crash_argument.specs.Writes.{AddsFront, AddsWrites}
 use Rattle.engine_books.specs.Books.{TransactionBooks}
 use Rattle.engine_books.specs.Kept.{AreKept}
 use Rattle.engine_running.specs.Running.{Changes}
-use Rattle.engine_store.specs.Committing.{BecomesRecord, places_for, writes_of}
+use Rattle.engine_running.specs.Commits.{HasAllFor, places_for, writes_of}
+use Rattle.engine_checkpoint.specs.Joining.{IsReadyFor}
+use Rattle.engine_store.specs.Committing.{BecomesRecord}
 use Rattle.engine_store.proofs.BooksCommit.{are_below, becomes_record, books_right, books_safe, given_back, kept_again, sealed_dead}
 use Rattle.engine_store.proofs.FirstOpen.{due_then}
 use Rattle.engine_store.proofs.Joining.{front_written, record_written}
 use Rattle.engine_store.proofs.committing.commit_books.Goals as goal
 
-pub commit_next-requires-clause-paid_below : goal.commit_next-requires-clause-paid_below
-commit_next-requires-clause-paid_below g c =
-    are_below c.args.books.now c.take_running-running.result (g.D.Disk.state c.args.disk.now).blocks c.args.pipeline.now c.args.ring.now (λ q. q.paid) c.take_running-running.ensures.running c.requires.on_disk c.requires.sound.goes_with.ring_geom c.requires.geom
-    (c.a_running_transaction_may_be_the_next_record.ensures.below c.args.books.now c.requires.kept).0
+pub commit_next-requires : goal.commit_next-requires
+commit_next-requires g c =
+    let v = c.args.books.now in
+    let p = c.args.pipeline.now in
+    let ring : RingPlaces = c.args.ring.now in
+    let blocks = (g.D.Disk.state c.args.disk.now).blocks in
+    let q = c.take_running-running.result in
+    let is = c.take_running-running.ensures.running in
+    let sound = c.requires.sound in
+    let may = c.a_running_transaction_may_be_the_next_record.ensures in
+    record {
+      commit = record {
+        has = subst (λ (x : Changes). HasAllFor blocks x c.args.room ring) (sym is) c.requires.has;
+        small = subst (λ (x : Changes). length x.paid + length x.laid ≤ 2097152) (sym is) (may.small v c.requires.kept);
+        below = are_below v q blocks p ring (λ x. x.laid) is c.requires.has.on_disk sound.goes_with.ring_geom c.requires.geom (may.below v c.requires.kept).1;
+      };
+      paid_below = are_below v q blocks p ring (λ x. x.paid) is c.requires.has.on_disk sound.goes_with.ring_geom c.requires.geom (may.below v c.requires.kept).0;
+      order = sound.order;
+      room = sound.room;
+      index = sound.index;
+      ready = subst (λ (x : Changes). IsReadyFor (length x.laid + places_for x) (length x.paid) p.ready) (sym is) c.requires.ready;
+      next = c.requires.next;
+      ring_geom = sound.goes_with.ring_geom;
+      taken = sound.goes_with.taken;
+    }
 
-pub commit_next-requires-clause-below : goal.commit_next-requires-clause-below
-commit_next-requires-clause-below g c =
-    are_below c.args.books.now c.take_running-running.result (g.D.Disk.state c.args.disk.now).blocks c.args.pipeline.now c.args.ring.now (λ q. q.laid) c.take_running-running.ensures.running c.requires.on_disk c.requires.sound.goes_with.ring_geom c.requires.geom
-    (c.a_running_transaction_may_be_the_next_record.ensures.below c.args.books.now c.requires.kept).1
+pub returns-in-Ok : goal.returns-in-Ok
+returns-in-Ok g c =
+    let v = c.args.books.now in
+    let e = c.take_running-running.new.self in
+    let w = c.sealed.new.self in
+    let q = c.take_running-running.result in
+    let p = c.args.pipeline.now in
+    let then_p = c.commit_next.new.pipeline in
+    let ring : RingPlaces = c.args.ring.now in
+    let then_ring : RingPlaces = c.commit_next.new.ring in
+    let d = g.D.Disk.state c.args.disk.now in
+    let then_d = g.D.Disk.state c.commit_next.new.disk in
+    let number = c.args.number in
+    let is = c.take_running-running.ensures.running in
+    let did = c.in-Ok.ensures in
+    let became = c.in-Ok.ensures.becomes in
+    let writes = c.a_record_makes_so_many_writes.ensures in
+    let adds = λ (tells : IsTrue g.D.Disk.tells). subst (λ (x : Changes). AddsWrites (writes_of ring c.args.epoch number x) became.committed.tickets.items d.log then_d.log) is (became.adds tells) in
+    let becomes : BecomesRecord number v w p then_p then_ring =
+    becomes_record v e w q number p then_p ring then_ring became.committed
+    c.take_running-running.ensures.rest is c.take_running-running.ensures.empty c.sealed.ensures.value became.made became.accepts did.issues.ring became.last became.owed
+    (c.a_commit_stays_sound.ensures.sound p then_p ring v.dead became.committed (places_for q) number c.requires.sound became.accepts c.requires.next became.last became.order became.room became.index
+    (ap (λ (r : RingPlaces). r.taken) (sym did.issues.ring) ∙ became.taken)) in
+    record {
+      issues = record { ring = did.issues.ring ∙ ap (λ (x : Changes). with_places ring (places_for x)) is; asks = record { spends = did.issues.asks.spends; cause = λ tells. tt } };
+      kept = c.sealed.ensures.kept v.changes (kept_again v e c.take_running-running.ensures.rest c.requires.kept);
+      right = λ tells.
+          books_right c.a_running_transaction_may_be_committed.ensures.is c.a_running_transaction_may_be_committed.ensures.taken c.a_running_transaction_may_be_committed.ensures.freed
+          d.base d.log c.args.epoch number p ring v c.requires.kept c.requires.sound c.requires.geom c.requires.has.free c.requires.epoch_is c.requires.next
+          c.a_commit_stays_right.ensures.right then_d.base then_d.log then_p then_ring became.committed became.accepts q is (did.agrees tells)
+          w.dead w.changes.taken
+          (sealed_dead v e w number c.take_running-running.ensures.rest c.sealed.ensures.value)
+          (ap (λ (u : TransactionBooks). u.changes.taken) c.sealed.ensures.value ∙ c.take_running-running.ensures.empty.taken);
+      becomes = becomes;
+      back = tt;
+      writes = λ tells.
+          record_written writes.size writes.accepted writes.failed v p then_p ring c.args.epoch number d then_d
+          c.requires.kept (c.requires.sound.goes_with.ring_geom ∙ c.requires.geom) did.issues.asks.spends.same.base _ tt became.committed.tickets.items (adds tells) becomes.kept becomes.owed;
+      joins = λ tells. (
+        became.committed.tickets.items,
+        record { committed = became.committed; joined = became.accepts.committed; number_is = became.made.number; tickets_are = refl; expected = became.accepts.expected; noticed = became.accepts.noticed },
+        adds tells,
+      );
+      due = λ tells. due_then became.committed p then_p became.accepts _ d.log then_d.log (omega (arith, writes.size ring.geom c.args.epoch number ring.next q.paid q.laid)) (became.adds tells);
+    }
 
-pub returns-in-Ok-clause-kept : goal.returns-in-Ok-clause-kept
-returns-in-Ok-clause-kept g c = c.sealed.ensures.kept c.args.books.now.changes (kept_again c.args.books.now c.take_running-running.new.self c.take_running-running.ensures.rest c.requires.kept)
-
-pub returns-in-Err-clause-kept : goal.returns-in-Err-clause-kept
-returns-in-Err-clause-kept g c = subst AreKept (sym (given_back c.args.books.now c.take_running-running.new.self c.give_back.new.self c.take_running-running.result c.in-Err.running c.take_running-running.ensures.rest c.take_running-running.ensures.running c.in-Err.ensures.back.0 c.give_back.ensures)) c.requires.kept
-
-pub returns-in-Ok-clause-right : goal.returns-in-Ok-clause-right
-returns-in-Ok-clause-right g c = λ tells.
-    books_right c.a_running_transaction_may_be_committed.ensures.is c.a_running_transaction_may_be_committed.ensures.taken c.a_running_transaction_may_be_committed.ensures.freed
-    (g.D.Disk.state c.args.disk.now).base (g.D.Disk.state c.args.disk.now).log c.args.epoch c.args.number c.args.pipeline.now c.args.ring.now c.args.books.now c.requires.kept c.requires.sound c.requires.geom c.requires.free c.requires.epoch c.requires.next
-    c.a_commit_stays_right.ensures.right (g.D.Disk.state c.commit_next.new.disk).base (g.D.Disk.state c.commit_next.new.disk).log c.commit_next.new.pipeline c.commit_next.new.ring c.in-Ok.ensures.joins.0 c.in-Ok.ensures.joins.2
-    c.take_running-running.result c.take_running-running.ensures.running (c.in-Ok.ensures.agrees tells)
-    c.sealed.new.self.dead c.sealed.new.self.changes.taken
-    (sealed_dead c.args.books.now c.take_running-running.new.self c.sealed.new.self c.args.number c.take_running-running.ensures.rest c.sealed.ensures.value)
-    (ap (λ (u : TransactionBooks). u.changes.taken) c.sealed.ensures.value ∙ c.take_running-running.ensures.empty.taken)
-
-pub returns-in-Err-clause-right : goal.returns-in-Err-clause-right
-returns-in-Err-clause-right g c = λ tells.
-    books_safe c.a_running_transaction_may_be_committed.ensures.is c.a_running_transaction_may_be_committed.ensures.taken c.a_running_transaction_may_be_committed.ensures.freed
-    (g.D.Disk.state c.args.disk.now).base (g.D.Disk.state c.args.disk.now).log c.args.epoch c.args.number c.args.pipeline.now c.args.ring.now c.args.books.now c.requires.kept c.requires.sound c.requires.geom c.requires.free c.requires.epoch c.requires.next
-    (g.D.Disk.state c.commit_next.new.disk).base (g.D.Disk.state c.commit_next.new.disk).log c.take_running-running.result c.take_running-running.ensures.running (c.in-Err.ensures.agrees tells)
-
-pub returns-in-Ok-clause-ok : goal.returns-in-Ok-clause-ok
-returns-in-Ok-clause-ok g c =
-    becomes_record c.args.books.now c.take_running-running.new.self c.sealed.new.self c.take_running-running.result c.args.number c.args.pipeline.now c.commit_next.new.pipeline c.args.ring.now c.commit_next.new.ring c.in-Ok.ensures.joins.0
-    c.take_running-running.ensures.rest c.take_running-running.ensures.running c.take_running-running.ensures.empty c.sealed.ensures.value c.in-Ok.ensures.joins.1 c.in-Ok.ensures.joins.2 c.in-Ok.ensures.ring c.in-Ok.ensures.last c.in-Ok.ensures.owed
-    (c.a_commit_stays_sound.ensures.sound c.args.pipeline.now c.commit_next.new.pipeline c.args.ring.now c.args.books.now.dead c.in-Ok.ensures.joins.0 (places_for c.take_running-running.result) c.args.number c.requires.sound c.in-Ok.ensures.joins.2 c.requires.next c.in-Ok.ensures.last c.in-Ok.ensures.order c.in-Ok.ensures.room c.in-Ok.ensures.index
-    (ap (λ (r : RingPlaces). r.taken) (sym c.in-Ok.ensures.ring) ∙ c.in-Ok.ensures.taken))
-
-pub returns-in-Err-clause-back : goal.returns-in-Err-clause-back
-returns-in-Err-clause-back g c = (
-  given_back c.args.books.now c.take_running-running.new.self c.give_back.new.self c.take_running-running.result c.in-Err.running c.take_running-running.ensures.rest c.take_running-running.ensures.running c.in-Err.ensures.back.0 c.give_back.ensures,
-  c.in-Err.ensures.back.1,
-)
-
-pub returns-in-Ok-clause-writes : goal.returns-in-Ok-clause-writes
-returns-in-Ok-clause-writes g c = λ tells.
-    let adds = c.in-Ok.ensures.joins.3 tells in
-    let becomes : BecomesRecord c.args.number c.args.books.now c.sealed.new.self c.args.pipeline.now c.commit_next.new.pipeline c.commit_next.new.ring = returns-in-Ok-clause-ok g c in
-    record_written c.a_record_makes_so_many_writes.ensures.size c.a_record_makes_so_many_writes.ensures.accepted c.a_record_makes_so_many_writes.ensures.failed
-    c.args.books.now c.args.pipeline.now c.commit_next.new.pipeline c.args.ring.now c.args.epoch c.args.number (g.D.Disk.state c.args.disk.now) (g.D.Disk.state c.commit_next.new.disk)
-    c.requires.kept (c.requires.sound.goes_with.ring_geom ∙ c.requires.geom) c.in-Ok.ensures.spends.same.base _ tt c.in-Ok.ensures.joins.0.tickets.items
-    (subst (λ (q : Changes). AddsWrites (writes_of c.args.ring.now c.args.epoch c.args.number q) c.in-Ok.ensures.joins.0.tickets.items (g.D.Disk.state c.args.disk.now).log (g.D.Disk.state c.commit_next.new.disk).log) c.take_running-running.ensures.running adds)
-    becomes.kept becomes.owed
-
-pub returns-in-Err-clause-writes : goal.returns-in-Err-clause-writes
-returns-in-Err-clause-writes g c = λ tells.
-    front_written c.a_record_makes_so_many_writes.ensures.size c.a_record_makes_so_many_writes.ensures.accepted c.a_record_makes_so_many_writes.ensures.failed
-    c.args.books.now c.args.pipeline.now c.commit_next.new.pipeline c.args.ring.now c.args.epoch c.args.number (g.D.Disk.state c.args.disk.now) (g.D.Disk.state c.commit_next.new.disk)
-    c.requires.kept (c.requires.sound.goes_with.ring_geom ∙ c.requires.geom) c.in-Err.ensures.spends.same.base _ _ c.in-Err.ensures.back.1
-    (subst (λ (q : Changes). AddsFront (writes_of c.args.ring.now c.args.epoch c.args.number q) (g.D.Disk.state c.args.disk.now).log (g.D.Disk.state c.commit_next.new.disk).log) c.take_running-running.ensures.running (c.in-Err.ensures.front tells))
-
-pub returns-in-Ok-clause-due : goal.returns-in-Ok-clause-due
-returns-in-Ok-clause-due g c = λ tells.
-    due_then c.in-Ok.ensures.joins.0 c.args.pipeline.now c.commit_next.new.pipeline c.in-Ok.ensures.joins.2 _ (g.D.Disk.state c.args.disk.now).log (g.D.Disk.state c.commit_next.new.disk).log (omega (arith, c.a_record_makes_so_many_writes.ensures.size c.args.ring.now.geom c.args.epoch c.args.number c.args.ring.now.next c.take_running-running.result.paid c.take_running-running.result.laid)) (c.in-Ok.ensures.joins.3 tells)
-
-pub returns-in-Ok-clause-joins : goal.returns-in-Ok-clause-joins
-returns-in-Ok-clause-joins g c = λ tells. (
-  c.in-Ok.ensures.joins.0.tickets.items,
-  record { committed = c.in-Ok.ensures.joins.0; joined = c.in-Ok.ensures.joins.2.committed; number_is = c.in-Ok.ensures.joins.1.number; tickets_are = refl; expected = c.in-Ok.ensures.joins.2.expected; noticed = c.in-Ok.ensures.joins.2.noticed },
-  subst (λ (q : Changes). AddsWrites (writes_of c.args.ring.now c.args.epoch c.args.number q) c.in-Ok.ensures.joins.0.tickets.items (g.D.Disk.state c.args.disk.now).log (g.D.Disk.state c.commit_next.new.disk).log) c.take_running-running.ensures.running (c.in-Ok.ensures.joins.3 tells),
-)
+pub returns-in-Err : goal.returns-in-Err
+returns-in-Err g c =
+    let v = c.args.books.now in
+    let e = c.take_running-running.new.self in
+    let q = c.take_running-running.result in
+    let p = c.args.pipeline.now in
+    let ring : RingPlaces = c.args.ring.now in
+    let d = g.D.Disk.state c.args.disk.now in
+    let then_d = g.D.Disk.state c.commit_next.new.disk in
+    let is = c.take_running-running.ensures.running in
+    let did = c.in-Err.ensures in
+    let writes = c.a_record_makes_so_many_writes.ensures in
+    let back = given_back v e c.give_back.new.self q c.in-Err.running c.take_running-running.ensures.rest is did.back.0 c.give_back.ensures in
+    record {
+      issues = record { ring = did.issues.ring ∙ ap (λ (x : Changes). with_places ring (places_for x)) is; asks = record { spends = did.issues.asks.spends; cause = did.issues.asks.cause } };
+      kept = subst AreKept (sym back) c.requires.kept;
+      right = λ tells.
+          books_safe c.a_running_transaction_may_be_committed.ensures.is c.a_running_transaction_may_be_committed.ensures.taken c.a_running_transaction_may_be_committed.ensures.freed
+          d.base d.log c.args.epoch c.args.number p ring v c.requires.kept c.requires.sound c.requires.geom c.requires.has.free c.requires.epoch_is c.requires.next
+          then_d.base then_d.log q is (did.agrees tells);
+      becomes = tt;
+      back = (back, did.back.1);
+      writes = λ tells.
+          front_written writes.size writes.accepted writes.failed v p c.commit_next.new.pipeline ring c.args.epoch c.args.number d then_d
+          c.requires.kept (c.requires.sound.goes_with.ring_geom ∙ c.requires.geom) did.issues.asks.spends.same.base _ _ did.back.1
+          (subst (λ (x : Changes). AddsFront (writes_of ring c.args.epoch c.args.number x) d.log then_d.log) is (did.front tells));
+      joins = λ tells. tt;
+      due = λ tells. tt;
+    }

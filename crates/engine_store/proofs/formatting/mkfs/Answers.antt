@@ -21,19 +21,20 @@ done g c tells idle =
 pub returns-in-Ok-write_groups-clause-formatted : goal.returns-in-Ok-write_groups-clause-formatted
 returns-in-Ok-write_groups-clause-formatted g c = done g c
 
-pub returns-in-Ok-write_groups-clause-holds : goal.returns-in-Ok-write_groups-clause-holds
-returns-in-Ok-write_groups-clause-holds g c = λ tells idle.
+pub returns-in-Ok-write_groups-clause-idle : goal.returns-in-Ok-write_groups-clause-idle
+returns-in-Ok-write_groups-clause-idle g c = λ tells idle.
     let img = settled_on (g.D.Disk.state c.write_groups.new.disk) in
     let k = c.args.geom.now in
-    holds_under k img (live_part k (formatted k)) (c.the_data_of_a_formatted_disk_may_be_anything.ensures.held k img c.lawful.ensures.fits (done g c tells idle).before)
+    let over = done g c tells idle in
+    record {
+      holds = holds_under k img (live_part k (formatted k)) (c.the_data_of_a_formatted_disk_may_be_anything.ensures.held k img c.lawful.ensures.fits over.before);
+      stands = c.the_data_of_a_formatted_disk_may_be_anything.ensures.stands k img c.lawful.ensures.fits over.before;
+      kept = cells_stay (data_start k) (g.D.Disk.state c.args.disk.now) (g.D.Disk.state c.write_groups.new.disk) c.write_groups.ensures.spends.same.base idle (c.write_groups.ensures.below tells);
+    }
 
-pub returns-in-Ok-write_groups-clause-stands : goal.returns-in-Ok-write_groups-clause-stands
-returns-in-Ok-write_groups-clause-stands g c = λ tells idle. c.the_data_of_a_formatted_disk_may_be_anything.ensures.stands c.args.geom.now (settled_on (g.D.Disk.state c.write_groups.new.disk)) c.lawful.ensures.fits (done g c tells idle).before
-
-pub returns-in-Ok-write_groups-clause-kept : goal.returns-in-Ok-write_groups-clause-kept
-returns-in-Ok-write_groups-clause-kept g c = λ tells idle.
-    cells_stay (data_start c.args.geom.now) (g.D.Disk.state c.args.disk.now) (g.D.Disk.state c.write_groups.new.disk) c.write_groups.ensures.spends.same.base idle (c.write_groups.ensures.below tells)
-
-pub returns-clause-kept : goal.returns-clause-kept
-returns-clause-kept g c = λ tells idle.
-    cells_stay (data_start c.args.geom.now) (g.D.Disk.state c.args.disk.now) (g.D.Disk.state c.write_groups.new.disk) c.write_groups.ensures.spends.same.base idle (c.write_groups.ensures.below tells)
+pub returns-clause-idle : goal.returns-clause-idle
+returns-clause-idle g c = λ tells idle. record {
+  holds = tt;
+  stands = tt;
+  kept = cells_stay (data_start c.args.geom.now) (g.D.Disk.state c.args.disk.now) (g.D.Disk.state c.write_groups.new.disk) c.write_groups.ensures.spends.same.base idle (c.write_groups.ensures.below tells);
+}

@@ -6,7 +6,7 @@ pub overflow_add-laid : goal.overflow_add-laid
 overflow_add-laid c = omega (arith, c.counts-paid.ensures.fresh, c.a_commit_has_what_the_roles_say.ensures.fresh c.args.parts.now.books c.requires.sound.kept, c.places_needed-places.ensures.small)
 
 pub returns-in_err-reserve-clause-keeps : goal.returns-in_err-reserve-clause-keeps
-returns-in_err-reserve-clause-keeps c = still_kept c.args.parts.now c.reserve.new.self c.in_err-reserve.ensures.same c.in_err-reserve.ensures.order c.in_err-reserve.ensures.room c.in_err-reserve.ensures.index c.in_err-reserve.ensures.agrees
+returns-in_err-reserve-clause-keeps c = still_kept c.args.parts.now c.reserve.new.self c.in_err-reserve.ensures.same c.in_err-reserve.ensures.fit.order c.in_err-reserve.ensures.fit.room c.in_err-reserve.ensures.index c.in_err-reserve.ensures.agrees
 
 pub returns-in_err-reserve-clause-same : goal.returns-in_err-reserve-clause-same
 returns-in_err-reserve-clause-same c = same_store c.args.parts.now c.reserve.new.self c.in_err-reserve.ensures.same
@@ -19,7 +19,7 @@ returns-clause-may c =
     (omega (arith, laid, c.places_needed-places.ensures.places)) (omega (arith, paid)) c.in_ok-room.ensures
 
 pub returns-clause-keeps : goal.returns-clause-keeps
-returns-clause-keeps c = still_kept c.args.parts.now c.reserve.new.self c.in_ok-reserve.ensures.same c.in_ok-reserve.ensures.order c.in_ok-reserve.ensures.room c.in_ok-reserve.ensures.index c.in_ok-reserve.ensures.agrees
+returns-clause-keeps c = still_kept c.args.parts.now c.reserve.new.self c.in_ok-reserve.ensures.same c.in_ok-reserve.ensures.fit.order c.in_ok-reserve.ensures.fit.room c.in_ok-reserve.ensures.index c.in_ok-reserve.ensures.agrees
 
 pub returns-clause-same : goal.returns-clause-same
 returns-clause-same c = same_store c.args.parts.now c.reserve.new.self c.in_ok-reserve.ensures.same

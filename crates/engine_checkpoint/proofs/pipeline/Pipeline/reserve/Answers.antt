@@ -21,8 +21,8 @@ returns-clause-agrees c =
     let all = same_twice v c.reserve_payloads.new.self w both c.reserve_notes.ensures.same in
     agrees_stays v (record w { ready = c.ready_upto-ready.result }) (same_ready v w c.ready_upto-ready.result all)
 
-pub returns-clause-room : goal.returns-clause-room
-returns-clause-room c =
+pub returns-clause-fit : goal.returns-clause-fit
+returns-clause-fit c =
     let v = c.args.self.now in
     let u = c.reserve_states.new.self in
     let x = c.reserve_payloads.new.self in
@@ -31,5 +31,8 @@ returns-clause-room c =
     let both = same_twice v u x c.reserve_states.ensures.same c.reserve_payloads.ensures.same in
     let all = same_twice v x w both c.reserve_notes.ensures.same in
     let last = same_twice u x w c.reserve_payloads.ensures.same c.reserve_notes.ensures.same in
-    ready_now w r (order_stays v w all c.requires.order) (records_stay u w last r.records (no_less_twice u x w c.reserve_payloads.ensures.no_less c.reserve_notes.ensures.no_less) c.in_ok-reserve_states.ensures.room)
-    (payloads_stay x w c.reserve_notes.ensures.same r.payloads c.reserve_notes.ensures.no_less c.in_ok-reserve_payloads.ensures.room) c.in_ok-reserve_notes.ensures.room
+    record {
+      order = order_stays v (record w { ready = r }) (same_ready v w r all) c.requires.order;
+      room = ready_now w r (order_stays v w all c.requires.order) (records_stay u w last r.records (no_less_twice u x w c.reserve_payloads.ensures.no_less c.reserve_notes.ensures.no_less) c.in_ok-reserve_states.ensures.room)
+          (payloads_stay x w c.reserve_notes.ensures.same r.payloads c.reserve_notes.ensures.no_less c.in_ok-reserve_payloads.ensures.room) c.in_ok-reserve_notes.ensures.room;
+    }
