@@ -26,11 +26,7 @@ use Rattle.cmd_load.proofs.Trees.{IsLoadCommand}
 
 -- What a command that the tree accepts answers is no refusal.
 
--- done, whether or not it changes something
-abbrev done_in : Bool → Session → Session → Session × Reply
-done_in c s t = if c then (s, Done) else (t, Done)
-
-done_calm : (c : Bool) (s t : Session) → is_refusal (done_in c s t).1 ≡ false
+done_calm : (c : Bool) (s t : Session) → is_refusal (if◌then◌else◌ {A = Session × Reply} c (s, Done) (t, Done)).1 ≡ false
 done_calm true s t = refl
 done_calm false s t = refl
 
@@ -58,9 +54,6 @@ accepted_calm f Poll is = absurd is
 accepted_calm f Bad is = absurd is
 
 -- A command that costs nothing frees nothing.
-
-FreesByCost : Figures → Type 0
-FreesByCost f = f.cost ≡ 0 → f.freed ≡ 0
 
 write_frees : (bitmap size offset count : ℕ) → (write_figures bitmap size offset count).freed ≡ 0
 write_frees bitmap size offset count = by (count == 0)

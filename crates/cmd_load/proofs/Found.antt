@@ -33,10 +33,6 @@ pub zeros_are_stored : is_stored Payload (replicate 1024 0) ≡ true
 unfolding is_stored
 zeros_are_stored = refl
 
--- nor do they begin as a block of a record does
-zeros_no_record : is_of_record (replicate 1024 0) ≡ true → ⊥
-zeros_no_record e = true≢false (sym e)
-
 -- in what follows, the blocks of a disk are the formatted ones
 module _ (g : Geometry) (laws : HasLaws g) (at : Blocks) (same : (b : ℕ) → b < g.n → at b ≡ formatted g b) where
   slot_beside : at 1 ≡ replicate 1024 0
@@ -83,7 +79,7 @@ module _ (g : Geometry) (laws : HasLaws g) (at : Blocks) (same : (b : ℕ) → b
   low_epoch : (e : ℕ) → (e ≡ 0) ⊎ (IsHeaderEpoch g at e ⊎ IsRecordEpoch g at e) → e ≤ 1
   low_epoch e (inl none) = omega (arith, none)
   low_epoch e (inr (inl (slot, h, low, stands, is))) = omega (arith, is, header_epoch slot h low stands)
-  low_epoch e (inr (inr (place, low, begins, is))) = absurd (zeros_no_record (sym (ap is_of_record (ring_zeros place)) ∙ begins))
+  low_epoch e (inr (inr (place, low, begins, is))) = let zeros : is_of_record (replicate 1024 0) ≡ true = sym (ap is_of_record (ring_zeros place)) ∙ begins in absurd (true≢false (sym zeros))
 
   epoch_not_spent : (r : FoundRun) (e : ℕ) → IsFound g.n at r → IsGreatestEpoch r.header.geom at e → 9223372036854775792 ≤ e → ⊥
   epoch_not_spent r e is greatest end =

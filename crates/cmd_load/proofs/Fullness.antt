@@ -1,5 +1,5 @@
 -- A directory of a load has few names: they are different, and there are 8.
-use Rattle.std.proofs.Common.{◌≡◌, sym, refl, ap, ◌∙◌, subst, arith, ℕ, ◌<◌, ◌≤◌, Bool, true, false, true≢false, List, [], ◌∷◌, ◌++◌, length, map, Option, Some, None, bytes_eq, nat_lt, unwrap_or}
+use Rattle.std.proofs.Common.{◌≡◌, sym, refl, ap, ◌∙◌, subst, arith, ℕ, ◌<◌, ◌≤◌, Bool, true, false, true≢false, List, [], ◌∷◌, ◌++◌, length, map, Option, Some, None, bytes_eq, nat_lt}
 use Rattle.std.specs.Prelude.{T, ◌||◌, if◌then◌else◌}
 use Rattle.std.specs.List.{IsDistinct, AllByRecursion, cons_option, filter_map, list_all, list_any}
 use Rattle.std.specs.Cmp.{tied_itself}
@@ -10,6 +10,7 @@ use Rattle.std.proofs.lemmas.Bool.{and_parts, eqb-true, ltb-true}
 use Rattle.std.proofs.lemmas.List.{length-map}
 use Rattle.std.proofs.lemmas.Map.Steps.{length-le_from_distinct_below}
 use Rattle.std.proofs.lemmas.Slice.Eq.{bytes_eq-Decides}
+use Rattle.std.proofs.lemmas.Option.{same_Some}
 use Rattle.lang_load.specs.Load.{name}
 use Rattle.lang_tree.specs.Names.{names_in}
 use Rattle.lang_tree.specs.Paths.{lone_name, name_in, strip}
@@ -18,27 +19,20 @@ use Rattle.cmd_load.specs.Trees.{IsLoadTree, digit_of, is_load_name}
 use Rattle.cmd_load.proofs.Entries.{Each, apart_each, each_of, entry_each, first_of, second_of}
 use Rattle.cmd_load.proofs.Trees.{path_total}
 
-some_is : {A : Type 0} (x y : A) → Some x ≡ Some y → x ≡ y
-some_is x y e = ap (λ o. unwrap_or o x) e
-
--- equal bytes are the same
-same_bytes : (xs ys : List ℕ) → bytes_eq xs ys ≡ true → xs ≡ ys
-same_bytes xs ys e = (bytes_eq-Decides xs ys).0 e
-
 -- a path in a directory is that of the directory, and its name
 path_of : (up path rest : List (List ℕ)) → strip up path ≡ Some rest → path ≡ up ++ rest
-path_of [] path rest e = some_is path rest e
+path_of [] path rest e = same_Some path rest e
 path_of (a ∷ up) [] rest e = cc e
 path_of (a ∷ up) (b ∷ path) rest e = by (bytes_eq a b) refl (path_of up path rest) e
   where
     by : (t : Bool) → bytes_eq a b ≡ t → (strip up path ≡ Some rest → path ≡ up ++ rest) → (if t then strip up path else None) ≡ Some rest → b ∷ path ≡ a ∷ (up ++ rest)
-    by true same later is = ap (λ x. x ∷ path) (sym (same_bytes a b same)) ∙ ap (λ p. a ∷ p) (later is)
+    by true same later is = ap (λ x. x ∷ path) (sym ((bytes_eq-Decides a b).0 same)) ∙ ap (λ p. a ∷ p) (later is)
     by false same later is = cc is
 
 lone_is : (o : Option (List (List ℕ))) (x : List ℕ) → lone_name o ≡ Some x → o ≡ Some (x ∷ [])
 lone_is None x e = cc e
 lone_is (Some []) x e = cc e
-lone_is (Some (y ∷ [])) x e = ap (λ z. Some (z ∷ [])) (some_is y x e)
+lone_is (Some (y ∷ [])) x e = ap (λ z. Some (z ∷ [])) (same_Some y x e)
 lone_is (Some (y ∷ z ∷ zs)) x e = cc e
 
 path_in : (up path : List (List ℕ)) (x : List ℕ) → name_in up path ≡ Some x → path ≡ up ++ x ∷ []
@@ -52,8 +46,8 @@ last_named (u ∷ up) x h = last_named up x (and_parts (is_load_name u) (list_al
 -- names of a load with one digit are the same
 same_digit : (x y : List ℕ) → is_load_name x ≡ true → is_load_name y ≡ true → digit_of x ≡ digit_of y → x ≡ y
 same_digit x y one two e =
-    same_bytes x (name (digit_of x)) (and_parts (nat_lt (digit_of x) 8) (bytes_eq x (name (digit_of x))) one).1
-    ∙ ap name e ∙ sym (same_bytes y (name (digit_of y)) (and_parts (nat_lt (digit_of y) 8) (bytes_eq y (name (digit_of y))) two).1)
+    (bytes_eq-Decides x (name (digit_of x))).0 (and_parts (nat_lt (digit_of x) 8) (bytes_eq x (name (digit_of x))) one).1
+    ∙ ap name e ∙ sym ((bytes_eq-Decides y (name (digit_of y))).0 (and_parts (nat_lt (digit_of y) 8) (bytes_eq y (name (digit_of y))) two).1)
 
 -- an entry whose path is a load's
 abbrev IsNamed : (List (List ℕ) × ℕ) → Type 0

@@ -1,6 +1,6 @@
 -- What comes of the mount of a load's disk: it isn't refused, no call fails, and the root alone stands in the blocks.
-use Rattle.std.proofs.Common.{◌≡◌, inl, inr, ℕ, ◌+◌, ◌<◌, ◌≤◌, ◌&&◌, max, nat_lt, not, Bool, true, false, true≢false, IsTrue, if◌then◌else◌, List, [], ◌∷◌, length, Some, None, refl, sym, ap, ap₂, ◌∙◌, subst, arith}
-use Rattle.std.proofs.lemmas.Bool.{lt-ltb}
+use Rattle.std.proofs.Common.{◌≡◌, inl, inr, ℕ, ◌+◌, ◌<◌, ◌≤◌, max, nat_lt, not, true, false, true≢false, IsTrue, if◌then◌else◌, List, [], ◌∷◌, length, Some, None, refl, sym, ap, ap₂, ◌∙◌, subst, arith}
+use Rattle.std.proofs.lemmas.Bool.{lt-ltb, both_ways, and_right}
 use Rattle.base_types.specs.Seal.{Blocks, blocks_of}
 use Rattle.disk_contract.specs.declared.event.Event.{Event}
 use Rattle.disk_contract.specs.declared.event.Event.TheVariants.{Wrote, Lost, Noticed}
@@ -14,7 +14,7 @@ use Rattle.layout_journal.specs.declared.header.Header.{Header}
 use Rattle.layout_journal.specs.Run.{HeldIs, Newest, Record, live_part}
 use Rattle.crash_argument.specs.Ledger.{HoldsUnder}
 use Rattle.engine_recover.specs.Search.{IsFound, last_number}
-use Rattle.engine_mount.specs.Mount.{IsIdle, IsUsedUp, settled_on}
+use Rattle.engine_mount.specs.Mount.{IsUsedUp, settled_on}
 use Rattle.disk_memory.specs.Log.{write_count}
 use Rattle.disk_memory.specs.Choice.{AreBlocksOf}
 use Rattle.disk_memory.specs.MemDisk.{MemDiskState, begun, by_rule, is_untouched, manner_by, state_of as disk_state}
@@ -48,15 +48,11 @@ writes_same (Wrote ticket block bytes ∷ es) = let e = writes_same es in omega 
 writes_same (Lost block bytes ∷ es) = let e = writes_same es in omega (arith, e)
 writes_same (Noticed ticket ∷ es) = writes_same es
 
-none_listed : (x : Bool) → IsTrue (x && false) → ⊥
-none_listed true is = true≢false (sym is)
-none_listed false is = true≢false (sym is)
-
 has_room : (n most : ℕ) → n < most → IsTrue (not (nat_lt n most)) → ⊥
 has_room n most low full = true≢false (sym full ∙ ap not (lt-ltb n most low))
 
 fails_never : (rule : Rule) (log : List Event) → write_count log < room → HasFailedBy (manner_by room [] rule) log → ⊥
-fails_never rule log low (inl lost) = none_listed (nat_lt (write_count lost.before) room) lost.may
+fails_never rule log low (inl lost) = both_ways _ (and_right (nat_lt (write_count lost.before) room) false refl) lost.may
 fails_never rule log low (inr (inl full)) = has_room (write_count log) room low full
 fails_never rule log low (inr (inr stalls)) = true≢false (sym stalls)
 
@@ -89,9 +85,6 @@ module _ (rule : Rule) (m : MemDiskState) (is : IsFormattedDisk rule m) where
 
   settled_same : (b : ℕ) → b < shape.n → settled_on d b ≡ formatted shape b
   settled_same b low = ap (λ (log : List Event). (cell_of d.base log b).settled) nothing ∙ is.blocks.each b low
-
-  pub idle : IsIdle d
-  idle b = ap (λ (log : List Event). (cell_of d.base log b).pending) nothing
 
   module _ (laws : HasLaws shape) where
     pub holds : HoldsRoot → HoldsUnder d.blocks shape (settled_on d) (live_part shape (formatted shape))

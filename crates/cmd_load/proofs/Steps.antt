@@ -7,8 +7,7 @@ use Rattle.lang_tree.specs.declared.command.Reply.{Reply}
 use Rattle.lang_tree.specs.Conditions.{refusal}
 use Rattle.lang_tree.specs.Points.{is_refusal, is_sync}
 use Rattle.lang_tree.specs.Step.{Session}
-use Rattle.engine_blocks.specs.State.{Bookkeeping, State}
-use Rattle.fs_commands.specs.Applying.{is_spent}
+use Rattle.engine_blocks.specs.State.{State}
 use Rattle.fs_commands.specs.DiskRoom.{AnswersOn}
 use Rattle.fs_commands.specs.Memory.{room_of}
 use Rattle.fs_commands.specs.Room.{most_weight}
@@ -18,10 +17,6 @@ use Rattle.cmd_load.specs.Serving.{IsAnswered, Serves, has_run_out}
 use Rattle.cmd_load.specs.Trees.{IsLoadTree}
 use Rattle.cmd_load.proofs.Folds.{Comes, IsCalm, comes, frees_by}
 use Rattle.cmd_load.proofs.Trees.{IsLoadCommand, answered_tree}
-
--- numbers that are used up are far
-spent_far : (k : Bookkeeping) → is_spent k ≡ true → 2 ^ 63 - 8 ≤ k.turns
-spent_far k is = leb-true (2 ^ 63 - 8) k.turns is
 
 -- where nothing is weighed behind a command, nothing is held
 none_behind : (p : Progress) (cmd : Cmd) → IsLoadCommand cmd → (p.weight ≡ 0 → p.held ≡ 0) → (after p cmd).weight ≡ 0 → (after p cmd).held ≡ 0
@@ -41,7 +36,7 @@ module _ (p : Progress) (made : ℕ) (cmd : Cmd) (reply : Reply) (old new : Stat
     memory = run_on;
     read = λ is. true≢false (sym (a.reads p.session s.session is) ∙ ap (λ m. m.reads_fail) a.manner ∙ s.readable);
     going = λ is. true≢false (sym (a.stops p.session s.session is) ∙ s.going);
-    unspent = λ is. absurd (omega (arith, few, s.turns, spent_far old.books (a.spent p.session s.session is)));
+    unspent = λ is. absurd (omega (arith, few, s.turns, leb-true (2 ^ 63 - 8) old.books.turns (a.spent p.session s.session is)));
   }
 
   low : p.weight ≤ most_weight shape

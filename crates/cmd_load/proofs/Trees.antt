@@ -1,5 +1,5 @@
 -- What the commands of a load keep of a tree: no file grows past 12 blocks, and each name is one of a load.
-use Rattle.std.proofs.Common.{◌≡◌, sym, refl, ap, ◌∙◌, subst, arith, ℕ, zero, suc, ◌+◌, ◌/◌, ◌%◌, ◌<◌, ◌≤◌, ◌==◌, Bool, true, false, cond, if◌then◌else◌, List, [], ◌∷◌, ◌++◌, length, take, drop, map, replicate, Option, Some, None, bytes_eq, nat_lt, unwrap_or}
+use Rattle.std.proofs.Common.{◌≡◌, sym, refl, ap, ◌∙◌, subst, arith, ℕ, zero, suc, ◌+◌, ◌/◌, ◌%◌, ◌<◌, ◌≤◌, ◌==◌, Bool, true, false, cond, if◌then◌else◌, List, [], ◌∷◌, ◌++◌, length, take, drop, map, replicate, Option, Some, None, bytes_eq, nat_lt}
 use Rattle.std.specs.Prelude.{◌-◌, ◌&&◌, ⊤, slice_index_or}
 use Rattle.std.specs.List.{list_all}
 use Rattle.std.specs.Cmp.{nat_cmp_total, IsTotalOrder}
@@ -12,23 +12,21 @@ use Rattle.std.proofs.lemmas.Bool.{and_parts, lt-ltb}
 use Rattle.std.proofs.lemmas.List.{length-append, length-take, length-drop, length-replicate}
 use Rattle.std.proofs.lemmas.Nat.{mod_below}
 use Rattle.std.proofs.lemmas.Slice.Eq.{bytes_eq-Decides}
+use Rattle.std.proofs.lemmas.Option.{same_Some, none-some}
 use Rattle.base_draw.specs.Draws.{drawn, draws, next_state}
 use Rattle.lang_load.specs.Load.{command, kind_of, kinds, name, next_command, next_kind, part, parts, path}
 use Rattle.lang_tree.specs.declared.command.Cmd.{Cmd}
 use Rattle.lang_tree.specs.declared.command.Cmd.TheVariants.{Mkdir, Create, Write, Fill, Read, Truncate, Link, Unlink, Rmdir, Rename, Stat, List as ListNames, Osync, Dsync, Durable, Poll, Bad}
 use Rattle.lang_tree.specs.declared.command.Refusal.{Refusal}
 use Rattle.lang_tree.specs.declared.command.Reply.TheVariants.{Ok as Done}
-use Rattle.lang_tree.specs.Conditions.{least_unused, refusal}
+use Rattle.lang_tree.specs.Conditions.{least_unused}
 use Rattle.lang_tree.specs.Names.{path_count, renamed}
 use Rattle.lang_tree.specs.Paths.{strip, moved_by, moved_path}
-use Rattle.lang_tree.specs.Step.{Session, start, step, answered, accepted, osync, write, truncate, rename, written, resized, with_node, added, with_bytes, edited_at, edited, linked_by, linked, removed_by, removed, moved, changed_to}
+use Rattle.lang_tree.specs.Step.{Session, start, answered, accepted, osync, write, truncate, rename, written, resized, with_node, added, with_bytes, edited_at, edited, linked_by, linked, removed_by, removed, moved, changed_to}
 use Rattle.lang_tree.specs.Tree.{Tree, Names, Nodes, Thing, Dir, File, path_cmp}
 use Rattle.lang_tree.specs.Walk.{content, is_same_node}
 use Rattle.cmd_load.specs.Trees.{IsLoadTree, digit_of, is_load_name, largest}
 use Rattle.cmd_load.proofs.Entries.{each_of, entry_each, Each}
-
-some_is : {A : Type 0} (x y : A) → Some x ≡ Some y → x ≡ y
-some_is x y e = ap (λ o. unwrap_or o x) e
 
 -- What a command of a load keeps to.
 
@@ -106,14 +104,11 @@ equal_of Less e = absurd cc
 equal_of Equal e = refl
 equal_of Greater e = absurd cc
 
-same_path : (p q : List (List ℕ)) → eq_by_cmp path_cmp p q ≡ true → p ≡ q
-same_path p q e = path_same p q (equal_of (path_cmp p q) e)
-
 names_put : (names : Names) (k : List (List ℕ)) (v : ℕ) → Named k → AreNamed names → AreNamed (insert names k v)
 names_put names k v law h p n e = by (eq_by_cmp path_cmp p k) refl (sym (get-insert path_total names k v p) ∙ e)
   where
     by : (b : Bool) → eq_by_cmp path_cmp p k ≡ b → cond b (Some v) (get names p) ≡ Some n → Named p
-    by true same is = subst Named (sym (same_path p k same)) law
+    by true same is = subst Named (sym (path_same p k (equal_of (path_cmp p k) same))) law
     by false same is = h p n is
 
 names_out : (names : Names) (k : List (List ℕ)) → AreNamed names → AreNamed (remove names k)
@@ -124,7 +119,7 @@ names_out names k h p n e = by (eq_by_cmp path_cmp p k) (sym (get-remove path_to
     by false is = h p n is
 
 behind_is_named : (front path rest : List (List ℕ)) → Named path → strip front path ≡ Some rest → Named rest
-behind_is_named [] path rest h e = subst Named (some_is path rest e) h
+behind_is_named [] path rest h e = subst Named (same_Some path rest e) h
 behind_is_named (a ∷ front) [] rest h e = cc e
 behind_is_named (a ∷ front) (b ∷ path) rest h e = by (bytes_eq a b) (behind_is_named front path rest (and_parts (is_load_name b) (list_all is_load_name path) h).1) e
   where
@@ -154,7 +149,7 @@ found_is_named [] q n h e = cc e
 found_is_named (f ∷ es) q n h e = by (eq_by_cmp path_cmp q f.0) refl (found_is_named es q n h.1) e
   where
     by : (b : Bool) → eq_by_cmp path_cmp q f.0 ≡ b → (find path_cmp q es ≡ Some n → Named q) → cond b (Some f.1) (find path_cmp q es) ≡ Some n → Named q
-    by true same later is = subst Named (sym (same_path q f.0 same)) h.0
+    by true same later is = subst Named (sym (path_same q f.0 (equal_of (path_cmp q f.0) same))) h.0
     by false same later is = later is
 
 names_moved : (names : Names) (from to : List (List ℕ)) → Named to → AreNamed names → AreNamed (renamed names from to)
@@ -176,7 +171,7 @@ nodes_put : (nodes : Nodes) (k : ℕ) (x : Thing) → IsSmall x → Small nodes 
 nodes_put nodes k x law h n bytes e = by (eq_by_cmp nat_cmp n k) (sym (get-insert nat_cmp_total nodes k x n) ∙ e)
   where
     by : (b : Bool) → cond b (Some x) (get nodes n) ≡ Some (File bytes) → length bytes ≤ largest
-    by true is = subst IsSmall (some_is x (File bytes) is) law
+    by true is = subst IsSmall (same_Some x (File bytes) is) law
     by false is = h n bytes is
 
 nodes_out : (nodes : Nodes) (k : ℕ) → Small nodes → Small (remove nodes k)
@@ -332,14 +327,8 @@ answered_tree s cmd o law h = record {
   names = answered_keeps (λ t. AreNamed t.names) names_kept s cmd o law h.names;
 }
 
-pub step_tree : (s : Session) (cmd : Cmd) → IsLoadCommand cmd → IsLoadTree s.tree → IsLoadTree (step s cmd).0.tree
-step_tree s cmd law h = answered_tree s cmd (refusal s.limit s.tree cmd) law h
-
-none_in_none : {X : Type 0} (x : X) → None ≡ Some x → ⊥
-none_in_none x e = cc e
-
 pub start_tree : (limit : ℕ) → IsLoadTree (start limit).tree
 start_tree limit = record {
-  files = nodes_put empty 1 Dir tt (λ n bytes e. absurd (none_in_none (File bytes) (sym (get-empty nat_cmp n) ∙ e)));
-  names = names_put empty [] 1 refl (λ p n e. absurd (none_in_none n (sym (get-empty path_cmp p) ∙ e)));
+  files = nodes_put empty 1 Dir tt (λ n bytes e. absurd (none-some (File bytes) (sym (get-empty nat_cmp n) ∙ e)));
+  names = names_put empty [] 1 refl (λ p n e. absurd (none-some n (sym (get-empty path_cmp p) ∙ e)));
 }

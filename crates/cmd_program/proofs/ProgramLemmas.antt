@@ -10,12 +10,12 @@ use Rattle.lang_script.specs.Values.{IsCommand}
 use Rattle.crash_stands.specs.Stands.{StandsFor}
 use Rattle.layout_journal.specs.Formatted.{formatted}
 use Rattle.disk_memory.specs.MemDisk.{MemDiskState, state_of as disk_state}
-use Rattle.cmd_trace.specs.Contents.{Each, front_of}
+use Rattle.cmd_trace.specs.Contents.{Each}
 use Rattle.cmd_trace.specs.Line.{geometry_line, event_lines, end_line}
 use Rattle.lang_tree.specs.declared.command.Cmd.TheVariants.{Bad}
 use Rattle.lang_tree.specs.Step.{start}
 use Rattle.cmd_record.specs.Disks.{FailedToMount}
-use Rattle.cmd_record.specs.Traces.{ServesBy, Setting, says}
+use Rattle.cmd_record.specs.Traces.{ServesBy, Setting}
 use Rattle.cmd_record.specs.Reading.{AtEnding, Halted, ReadsAll, ReadsSome, ReadsTooMuch}
 use Rattle.lang_lines.specs.Lines.{longest, commands_of_line, commands_of, whole_commands, whole_lines, parts_of}
 use Rattle.cmd_program.specs.Output.{IsWhole, FailsToMount}
@@ -210,10 +210,6 @@ never_begun set left told source source_now = record {
 abbrev pub head_of : Geometry → MemDiskState → List ℕ
 head_of g d = (geometry_line g ++ event_lines d.log) ++ end_line
 
--- the same of a mount and no command
-front_at_first : (g : Geometry) (log : List Event) → front_of (says g log (length log) [] [] []) ≡ geometry_line g ++ event_lines log
-front_at_first g log = append-nil (geometry_line g ++ event_lines (take (length log) log)) ∙ ap (λ (es : List Event). geometry_line g ++ event_lines es) (take_all (length log) log (omega arith))
-
 fails_so : (set : Setting) (d : MemDiskState) → IsGeometry set.shape → StandsFor set.shape.n (formatted set.shape) (start set.shape.i).tree → FailedToMount set (disk_state d) → FailsToMount set (head_of set.shape d ++ disk_line)
 fails_so set d low root failed =
     record {
@@ -235,7 +231,7 @@ fails_so set d low root failed =
       writes = failed.writes;
       cause = failed.cause;
       most = failed.most;
-      is = ap (λ (xs : List ℕ). (xs ++ end_line) ++ disk_line) (sym (front_at_first set.shape d.log));
+      is = ap (λ (xs : List ℕ). (xs ++ end_line) ++ disk_line) (sym (append-nil (geometry_line set.shape ++ event_lines (take (length d.log) d.log)) ∙ ap (λ (es : List Event). geometry_line set.shape ++ event_lines es) (take_all (length d.log) d.log (omega arith))));
     }
 
 pub tells_disk : (set : Setting) (d : MemDiskState) (result : Status) (left told mid out : Option (List ℕ)) (source sink sink_now : ℕ) (line : List ℕ) → IsGeometry set.shape → StandsFor set.shape.n (formatted set.shape) (start set.shape.i).tree → FailedToMount set (disk_state d)

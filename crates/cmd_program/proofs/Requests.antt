@@ -1,5 +1,5 @@
 -- What the program does for each request that words may be.
-use Rattle.std.proofs.Common.{◌≡◌, ◌↔◌, ℕ, ◌≤◌, ◌==◌, nat_lt, Bool, true, false, not, ◌&&◌, ◌||◌, List, [], Option, None, Some, Result, Ok, Err, IsOk, refl, sym, ap, ◌∙◌, subst, inl, inr, arith}
+use Rattle.std.proofs.Common.{◌≡◌, ℕ, ◌≤◌, ◌==◌, nat_lt, Bool, true, false, not, ◌&&◌, ◌||◌, List, [], Option, None, Some, Result, Ok, Err, refl, sym, ap, ◌∙◌, subst, inl, inr, arith}
 use Rattle.std.specs.Io.KnownBytes.{Keeps}
 use Rattle.std.proofs.KnownBytes.{Consumes-nil}
 use Rattle.std.proofs.lemmas.Bool.{and_right, eqb-true, false≢true, lt-ltb, not_from_true, or_from}
@@ -36,10 +36,9 @@ use Rattle.cmd_words.specs.declared.request.Request.TheVariants.{Record, Replay,
 use Rattle.cmd_record.specs.declared.disk.Behaviour.{Behaviour}
 use Rattle.cmd_record.specs.Behaving.{MountFails, fails_of, rule_of}
 use Rattle.cmd_record.specs.Disks.{setting_on}
-use Rattle.cmd_program.specs.Endings.{EndsBehind, HasFault, Met, Tells, met, usage_line, disk_line, damaged_line, spent_line, no_prefix_line, shape_line, long_line, choice_line}
+use Rattle.cmd_program.specs.Endings.{EndsBehind, HasFault, Met, Tells, met, usage_line, disk_line, damaged_line, spent_line, no_prefix_line, long_line, choice_line}
 use Rattle.cmd_program.specs.Loading.{LoadsTo}
 use Rattle.cmd_program.specs.Making.{EndsMaking, MakesTo}
-use Rattle.cmd_record.specs.Traces.{Setting}
 use Rattle.cmd_program.specs.Program.{Completes, Does, EndsLoad, EndsMake, EndsReplay, EndsRun, EndsShow, EndsSo, MakesWhere, RecordsWhere, RecordsTo, Refuses, setting_of, shape_of}
 use Rattle.cmd_program.specs.Replaying.{EndsAt, EndsCrash, EndsFound, EndsReading, ReplaysTo, trace_line}
 use Rattle.cmd_program.specs.Scripting.{EndsScript, RunsTo}
@@ -57,36 +56,6 @@ behind status result line told out sink sink_now (inr t) = inr (t.0, t.1)
 pub refused : (refusal result : Status) (line : List ℕ) (told out : Option (List ℕ)) (sink sink_now : ℕ)
     → Tells refusal result line told out sink sink_now → Refuses refusal line result told out
 refused refusal result line told out sink sink_now t = inl (behind refusal result line told out sink sink_now t)
-
--- where the sink failed as a line was told, its count rose
-pub told_fault : (status result : Status) (line : List ℕ) (told out : Option (List ℕ)) (source source_now sink sink_now : ℕ) → HasFault status source source_now sink sink_now
-    → Tells status result line told out sink sink_now → HasFault result source source_now sink sink_now
-told_fault status result line told out source source_now sink sink_now fault (inl t) = subst (λ (s : Status). HasFault s source source_now sink sink_now) (sym t.0) fault
-told_fault status result line told out source source_now sink sink_now fault (inr t) = subst (λ (s : Status). HasFault s source source_now sink sink_now) (sym t.0) t.2
-
--- a geometry that `new` refused doesn't fit
-pub not_fitting : {E : Type 0} (r : Result Geometry E) (e : E) (fits : Bool) → r ≡ Err e → (IsOk r ↔ (fits ≡ true)) → fits ≡ false
-not_fitting r e true failed exact =
-    let P : Result Geometry _ → Type 0 = λ x. IsOk x in
-    absurd (false≢true (subst P failed (exact.1 refl)))
-not_fitting r e false failed exact = refl
-
-pub where_shape : (fits : Bool) (set : Setting) (result : Status) (left left_now told out : Option (List ℕ)) (source source_now sink sink_now : ℕ)
-    → fits ≡ false → Tells BadShape result shape_line told out sink sink_now → RecordsWhere fits set result left left_now told out source source_now
-where_shape fits set result left left_now told out source source_now sink sink_now not_so t =
-    subst (λ (b : Bool). RecordsWhere b set result left left_now told out source source_now) (sym not_so) (refused BadShape result shape_line told out sink sink_now t)
-
-pub where_fits : (fits : Bool) (set : Setting) (result : Status) (left left_now told out : Option (List ℕ)) (source source_now : ℕ)
-    → fits ≡ true → RecordsTo set result left left_now told out source source_now → RecordsWhere fits set result left left_now told out source source_now
-where_fits fits set result left left_now told out source source_now does t =
-    subst (λ (b : Bool). RecordsWhere b set result left left_now told out source source_now) (sym does) t
-
-pub made_shape : (fits tells : Bool) (image : List ℕ) (g : Geometry) (result : Status) (m : Met) → fits ≡ false → Tells BadShape result shape_line m.taken m.taken_now m.sink m.sink_now → MakesWhere fits tells image g result m
-made_shape fits tells image g result m not_so t =
-    subst (λ (b : Bool). MakesWhere b tells image g result m) (sym not_so) (refused BadShape result shape_line m.taken m.taken_now m.sink m.sink_now t)
-
-pub made_fits : (fits tells : Bool) (image : List ℕ) (g : Geometry) (result : Status) (m : Met) → fits ≡ true → MakesTo tells image g result m → MakesWhere fits tells image g result m
-made_fits fits tells image g result m does t = subst (λ (b : Bool). MakesWhere b tells image g result m) (sym does) t
 
 -- The first write.
 

@@ -5,18 +5,13 @@ use Rattle.std.proofs.Math.Seq.{take-add}
 use Rattle.std.proofs.lemmas.Bool.{both_ways, false_from_ne_true, eqb-true, eq-eqb}
 use Rattle.std.proofs.lemmas.List.{append-nil, length-take-le}
 use Rattle.std.proofs.lemmas.Slice.Eq.{bytes_eq-Decides}
+use Rattle.std.proofs.lemmas.Option.{same_Some}
 use Rattle.cmd_replay.specs.Comparing.{ComparingState, IsComparing, Differs, FailsBehind, byte_of, came, taken_by}
-use Rattle.cmd_replay.proofs.Lists.{get_behind, get_of_take, same_behind, some_is}
-
-pub same_bytes : (xs ys : List ℕ) → bytes_eq xs ys ≡ true → xs ≡ ys
-same_bytes xs ys h = (bytes_eq-Decides xs ys).0 h
-
-pub bytes_same : (xs ys : List ℕ) → xs ≡ ys → bytes_eq xs ys ≡ true
-bytes_same xs ys e = (bytes_eq-Decides xs ys).1 e
+use Rattle.cmd_replay.proofs.Lists.{get_behind, get_of_take, same_behind}
 
 -- bytes that come next are the next ones of the text
 pub next_came : (text piece : List ℕ) (done : ℕ) → bytes_eq (take (length piece) (drop done text)) piece ≡ true → take (done + length piece) text ≡ take done text ++ piece
-next_came text piece done h = take-add done (length piece) text ∙ ap (λ (l : List ℕ). take done text ++ l) (same_bytes (take (length piece) (drop done text)) piece h)
+next_came text piece done h = take-add done (length piece) text ∙ ap (λ (l : List ℕ). take done text ++ l) ((bytes_eq-Decides (take (length piece) (drop done text)) piece).0 h)
 
 -- a sink that took no byte but those of the text takes these too
 pub takes_more : (text piece : List ℕ) (done now faults : ℕ) (other : Option ℕ) → is_some other ≡ false → take now text ≡ take done text ++ piece
@@ -25,14 +20,6 @@ takes_more text piece done now faults None none is =
     ap (λ (l : List ℕ). length text ∷ (text ++ l)) (append-nil (take now text) ∙ is ∙ ap (λ (l : List ℕ). l ++ piece) (sym (append-nil (take done text))))
     ∙ ap (λ (l : List ℕ). length text ∷ l) (sym (append_assoc text (take done text ++ []) piece))
 takes_more text piece done now faults (Some b) none is = cc none
-
--- or a byte that stands elsewhere
-pub takes_other : (text piece : List ℕ) (done faults b : ℕ) (other : Option ℕ) → is_some other ≡ false → piece ≡ b ∷ []
-    → taken_by (record { text = text; done = done; other = Some b; faults = faults }) ≡ taken_by (record { text = text; done = done; other = other; faults = faults }) ++ piece
-takes_other text piece done faults b None none is =
-    ap (λ (l : List ℕ). length text ∷ (text ++ l)) (ap (λ (l : List ℕ). take done text ++ l) (sym is) ∙ ap (λ (l : List ℕ). l ++ piece) (sym (append-nil (take done text))))
-    ∙ ap (λ (l : List ℕ). length text ∷ l) (sym (append_assoc text (take done text ++ []) piece))
-takes_other text piece done faults b (Some c) none is = cc none
 
 -- the first of some bytes
 pub first_one : (bytes : List ℕ) → 0 < length bytes → take 1 bytes ≡ slice_index_or bytes 0 0 ∷ []
@@ -47,19 +34,19 @@ some_differ text (b ∷ bytes) done h = omega arith
 -- where the byte stood there, it came next
 stands_next : (text : List ℕ) (done b : ℕ) → slice_get text done ≡ Some b → take 1 (drop done text) ≡ b ∷ []
 stands_next [] done b is = cc is
-stands_next (x ∷ text) zero b is = ap (λ (y : ℕ). y ∷ []) (some_is x b is)
+stands_next (x ∷ text) zero b is = ap (λ (y : ℕ). y ∷ []) (same_Some x b is)
 stands_next (x ∷ text) (suc done) b is = stands_next text done b is
 
 pub first_differs : (text bytes : List ℕ) (done : ℕ) → 0 < length bytes → bytes_eq (take (length (take 1 bytes)) (drop done text)) (take 1 bytes) ≡ false
     → slice_get text done ≡ Some (slice_index_or bytes 0 0) → ⊥
 first_differs text bytes done some h is =
     let one = first_one bytes some in
-    both_ways _ h (bytes_same _ _ (ap (λ (l : List ℕ). take (length l) (drop done text)) one ∙ stands_next text done (slice_index_or bytes 0 0) is ∙ sym one))
+    both_ways _ h ((bytes_eq-Decides _ _).1 (ap (λ (l : List ℕ). take (length l) (drop done text)) one ∙ stands_next text done (slice_index_or bytes 0 0) is ∙ sym one))
 
 -- Behind a whole listing: what came is the listing, and the text is the one that was given.
 pub whole_came : (text listed : List ℕ) (s : ComparingState) → taken_by s ≡ taken_by (record { text = text; done = 0; other = None; faults = 0 }) ++ listed → (s.text ≡ text) × (came s ≡ listed)
 whole_came text listed s is =
-    let parts = same_behind s.text (text ++ []) (came s) listed (some_is _ _ (ap (λ (l : List ℕ). slice_get l 0) is) ∙ ap length (sym (append-nil text))) (ap (drop 1) is) in
+    let parts = same_behind s.text (text ++ []) (came s) listed (same_Some _ _ (ap (λ (l : List ℕ). slice_get l 0) is) ∙ ap length (sym (append-nil text))) (ap (drop 1) is) in
     (parts.0 ∙ append-nil text, parts.1)
 
 pub whole_tells : (text listed : List ℕ) (s : ComparingState) → taken_by s ≡ taken_by (record { text = text; done = 0; other = None; faults = 0 }) ++ listed → bytes_eq (came s) s.text ≡ bytes_eq listed text
@@ -86,7 +73,7 @@ broken_tells text listed n s is faults took = go s.other refl
       where
         no_faults : s.faults ≡ 0 → ⊥
         no_faults none = omega (arith, none, faults)
-    go (Some b) e = sym (false_from_ne_true (bytes_eq listed text) (λ h. front_differs s.text listed n s.done b is.within (subst (λ (other : Option ℕ). Differs s.text s.done other) e is.differs) (ap (λ (other : Option ℕ). take s.done s.text ++ byte_of other) (sym e) ∙ parts.1) (same_bytes listed text h ∙ sym parts.0)))
+    go (Some b) e = sym (false_from_ne_true (bytes_eq listed text) (λ h. front_differs s.text listed n s.done b is.within (subst (λ (other : Option ℕ). Differs s.text s.done other) e is.differs) (ap (λ (other : Option ℕ). take s.done s.text ++ byte_of other) (sym e) ∙ parts.1) ((bytes_eq-Decides listed text).0 h ∙ sym parts.0)))
 
 -- two tests that imply each other
 pub same_tests : (a b : Bool) → (a ≡ true → b ≡ true) → (b ≡ true → a ≡ true) → a ≡ b
@@ -97,8 +84,8 @@ same_tests false false to back = refl
 -- all of the text came where as many bytes did, and none that differs
 pub whole_where_none : (s : ComparingState) → s.other ≡ None → s.done ≤ length s.text → (s.done == length s.text) ≡ bytes_eq (came s) s.text
 whole_where_none s none within = same_tests (s.done == length s.text) (bytes_eq (came s) s.text)
-    (λ h. bytes_same (came s) s.text (is ∙ take_all s.done s.text (omega (arith, eqb-true s.done (length s.text) h))))
-    (λ h. eq-eqb s.done (length s.text) (sym (length-take-le s.done s.text within) ∙ ap length (sym is ∙ same_bytes (came s) s.text h)))
+    (λ h. (bytes_eq-Decides (came s) s.text).1 (is ∙ take_all s.done s.text (omega (arith, eqb-true s.done (length s.text) h))))
+    (λ h. eq-eqb s.done (length s.text) (sym (length-take-le s.done s.text within) ∙ ap length (sym is ∙ (bytes_eq-Decides (came s) s.text).0 h)))
   where
     is : came s ≡ take s.done s.text
     is = ap (λ (other : Option ℕ). take s.done s.text ++ byte_of other) none ∙ append-nil (take s.done s.text)
@@ -106,7 +93,7 @@ whole_where_none s none within = same_tests (s.done == length s.text) (bytes_eq 
 pub not_where_some : (s : ComparingState) (b : ℕ) → s.other ≡ Some b → IsComparing s.text s.done s.other s.faults → false ≡ bytes_eq (came s) s.text
 not_where_some s b some is = sym (false_from_ne_true (bytes_eq (came s) s.text) (λ h.
     subst (λ (other : Option ℕ). Differs s.text s.done other) some is.differs
-    (ap (λ (l : List ℕ). slice_get l s.done) (sym (same_bytes (came s) s.text h) ∙ ap (λ (other : Option ℕ). take s.done s.text ++ byte_of other) some)
+    (ap (λ (l : List ℕ). slice_get l s.done) (sym ((bytes_eq-Decides (came s) s.text).0 h) ∙ ap (λ (other : Option ℕ). take s.done s.text ++ byte_of other) some)
     ∙ subst (λ (i : ℕ). slice_get (take s.done s.text ++ b ∷ []) i ≡ Some b) (length-take-le s.done s.text is.within) (get_behind (take s.done s.text) b []))))
 
 -- one byte of some

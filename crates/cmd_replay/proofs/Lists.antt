@@ -1,8 +1,6 @@
 -- What stands where in lists.
-use Rattle.std.proofs.Common.{◌≡◌, ℕ, zero, suc, ◌+◌, ◌<◌, List, [], ◌∷◌, ◌++◌, length, take, drop, slice_get, get_or, drop-cons, Some, unwrap_or, refl, sym, ◌∙◌, ap, arith}
-
-pub some_is : {A : Type 0} (x y : A) → Some x ≡ Some y → x ≡ y
-some_is x y e = ap (λ o. unwrap_or o x) e
+use Rattle.std.proofs.Common.{◌≡◌, ℕ, zero, suc, ◌+◌, ◌<◌, List, [], ◌∷◌, ◌++◌, length, take, drop, slice_get, get_or, drop-cons, Some, refl, sym, ◌∙◌, ap, arith}
+use Rattle.std.proofs.lemmas.Option.{same_Some}
 
 -- what stands in a list stands in a longer one
 pub get_before : {A : Type 0} (xs ys : List A) (i : ℕ) (x : A) → slice_get xs i ≡ Some x → slice_get (xs ++ ys) i ≡ Some x
@@ -35,7 +33,7 @@ same_behind [] (y ∷ ys) zs ws e is = absurd (omega (arith, e))
 same_behind (x ∷ xs) [] zs ws e is = absurd (omega (arith, e))
 same_behind (x ∷ xs) (y ∷ ys) zs ws e is =
     let rest = same_behind xs ys zs ws (omega (arith, e)) (ap (drop 1) is) in
-    let first : x ≡ y = some_is x y (ap (λ (l : List ℕ). slice_get l 0) is) in
+    let first : x ≡ y = same_Some x y (ap (λ (l : List ℕ). slice_get l 0) is) in
     (rw first (ap (λ (l : List ℕ). y ∷ l) rest.0), rest.1)
 
 -- what is left from a place on begins with what stands there

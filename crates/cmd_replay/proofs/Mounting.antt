@@ -1,6 +1,6 @@
 -- What comes of the mount of an image on a disk in memory on which no call fails, and what the store and the file system on it say of the image.
-use Rattle.std.proofs.Common.{◌≡◌, inl, inr, ℕ, ◌+◌, ◌<◌, nat_lt, not, ◌&&◌, Bool, true, false, true≢false, IsTrue, List, [], ◌∷◌, length, refl, sym, ap, ◌∙◌, subst, arith}
-use Rattle.std.proofs.lemmas.Bool.{lt-ltb}
+use Rattle.std.proofs.Common.{◌≡◌, inl, inr, ℕ, ◌+◌, ◌<◌, nat_lt, not, Bool, true, false, true≢false, IsTrue, List, [], ◌∷◌, length, refl, sym, ap, ◌∙◌, subst, arith}
+use Rattle.std.proofs.lemmas.Bool.{lt-ltb, both_ways, and_right}
 use Rattle.base_types.specs.Seal.{Blocks, blocks_of}
 use Rattle.disk_contract.specs.declared.event.Event.{Event}
 use Rattle.disk_contract.specs.declared.event.Event.TheVariants.{Wrote, Lost, Noticed}
@@ -36,9 +36,6 @@ use Rattle.cmd_replay.specs.Mounted.{IsReadable, RefusesMap, resting_disk}
 pub never_unread : (s u : State) → IsReadable s → LooksOnly true true s u → (0 < u.counts.read_faults → u.counts.ticks.manner.reads_fail ≡ true) → ⊥
 never_unread s u readable looks reads = absurd (true≢false (sym (reads (omega (arith, looks.counts.read_faults))) ∙ ap (λ (k : Ticking). k.manner.reads_fail) looks.counts.ticks ∙ readable))
 
-pub still_readable : (s u : State) (failed : Bool) → IsReadable s → LooksOnly true failed s u → IsReadable u
-still_readable s u failed readable looks = ap (λ (k : Ticking). k.manner.reads_fail) looks.counts.ticks ∙ readable
-
 -- the tree in blocks that were only read since
 pub tree_before : (s u : State) (failed : Bool) (t : Tree) → LooksOnly true failed s u → IsTreeOf u.books.geom u.map t → IsTreeOf s.books.geom s.map t
 tree_before s u failed t looks tree =
@@ -55,17 +52,13 @@ writes_same (Wrote ticket block bytes ∷ es) = let e = writes_same es in omega 
 writes_same (Lost block bytes ∷ es) = let e = writes_same es in omega (arith, e)
 writes_same (Noticed ticket ∷ es) = writes_same es
 
-none_listed : (x : Bool) → IsTrue (x && false) → ⊥
-none_listed true is = true≢false (sym is)
-none_listed false is = true≢false (sym is)
-
 has_room : (n room : ℕ) → n < room → IsTrue (not (nat_lt n room)) → ⊥
 has_room n room low full = true≢false (sym full ∙ ap not (lt-ltb n room low))
 
 module _ (image : List (List ℕ)) where
   -- no write, poll or wait of it fails before its room is full
   fails_never : (log : List Event) → write_count log < length image + 3 → HasFailedBy (first_of image).manner log → ⊥
-  fails_never log low (inl lost) = none_listed (nat_lt (write_count lost.before) (length image + 3)) lost.may
+  fails_never log low (inl lost) = both_ways _ (and_right (nat_lt (write_count lost.before) (length image + 3)) false refl) lost.may
   fails_never log low (inr (inl full)) = has_room (write_count log) (length image + 3) low full
   fails_never log low (inr (inr stalls)) = true≢false (sym stalls)
 
@@ -73,11 +66,6 @@ module _ (image : List (List ℕ)) where
   no_fault d new is left =
       let now = subst (λ (x : disk.State). LeavesDisk true false true x new) is left in
       fails_never new.log (omega (arith, writes_same new.log, now.written refl)) (subst (λ (m : Manner). HasFailedBy m new.log) now.spends.same.manner (now.cause refl refl))
-
-  pub no_unread : (d new : disk.State) → d ≡ first_of image → LeavesDisk true true false d new → (0 < new.read_faults → new.manner.reads_fail ≡ true) → ⊥
-  no_unread d new is left reads =
-      let now = subst (λ (x : disk.State). LeavesDisk true true false x new) is left in
-      true≢false (sym (reads (omega (arith, now.spends.read_faults))) ∙ ap (λ (m : Manner). m.reads_fail) now.spends.same.manner)
 
   -- What a mount says of the image.
 

@@ -1,14 +1,15 @@
 -- The newest of some points, and of one more.
 use Rattle.std.proofs.Common.{◌≡◌, ◌⊎◌, inl, inr, ⊎_elim, ℕ, ◌+◌, ◌<◌, ◌≤◌, Bool, true, false, nat_le, bytes_eq, if◌then◌else◌, List, [], ◌∷◌, ◌++◌, length, slice_get, Option, Some, None, refl, sym, ◌∙◌, ap, subst, arith}
 use Rattle.std.proofs.lemmas.Bool.{and_from, and_parts, both_ways, cases_Bool, cases_lt, le-leb, leb-true}
+use Rattle.std.proofs.lemmas.Option.{same_Some}
+use Rattle.std.proofs.lemmas.Slice.Eq.{bytes_eq-Decides}
 use Rattle.lang_tree.specs.Listing.{listing}
 use Rattle.lang_tree.specs.Points.{Point}
 use Rattle.lang_tree.specs.Tree.{Tree}
 use Rattle.cmd_replay.specs.Newest.{IsNewest, IsSuch}
 use Rattle.cmd_replay.specs.Walking.{AreCounted, IsListedAs, is_sought, with_point}
 use Rattle.cmd_replay.specs.declared.walk.Tally.{Tally}
-use Rattle.cmd_replay.proofs.Comparisons.{bytes_same, same_bytes}
-use Rattle.cmd_replay.proofs.Lists.{get_before, get_behind, get_front, some_is}
+use Rattle.cmd_replay.proofs.Lists.{get_before, get_behind, get_front}
 
 -- ---- more points behind
 
@@ -34,11 +35,11 @@ such_split P before one last p count upto such = ⊎_elim early late (cases_lt l
     early : last < p → ((p ≤ last) × IsSuch P before p) ⊎ ((p ≡ last + 1) × P one.tree)
     early high =
         let there : p ≡ length before = omega (arith, count, high, upto) in
-        let point : such.point ≡ one = some_is such.point one (sym such.is ∙ ap (λ (i : ℕ). slice_get (before ++ one ∷ []) i) there ∙ get_behind before one []) in
+        let point : such.point ≡ one = same_Some such.point one (sym such.is ∙ ap (λ (i : ℕ). slice_get (before ++ one ∷ []) i) there ∙ get_behind before one []) in
         inr (omega (arith, high, upto), subst (λ (x : Point). P x.tree) point such.such)
 
 not_sought : (text : List ℕ) (low number : ℕ) (t : Tree) → is_sought text low number t ≡ false → low ≤ number → listing t ≡ text → ⊥
-not_sought text low number t not from listed = both_ways _ not (and_from (nat_le low number) (bytes_eq (listing t) text) (le-leb low number from) (bytes_same (listing t) text listed))
+not_sought text low number t not from listed = both_ways _ not (and_from (nat_le low number) (bytes_eq (listing t) text) (le-leb low number from) ((bytes_eq-Decides (listing t) text).1 listed))
 
 pub newest_more : (text : List ℕ) (before : List Point) (one : Point) (low last : ℕ) (found : Option ℕ) → length before ≡ last + 1 → IsNewest (IsListedAs text) before low last found
     → IsNewest (IsListedAs text) (before ++ one ∷ []) low (last + 1) (if is_sought text low (last + 1) one.tree then Some (last + 1) else found)
@@ -53,7 +54,7 @@ newest_more text before one low last found count is = ⊎_elim sought other (cas
         rw yes_it_is (
           leb-true low (last + 1) parts.0,
           omega arith,
-          record { point = one; is = subst (λ (i : ℕ). slice_get (before ++ one ∷ []) i ≡ Some one) count (get_behind before one []); such = same_bytes (listing one.tree) text parts.1 },
+          record { point = one; is = subst (λ (i : ℕ). slice_get (before ++ one ∷ []) i ≡ Some one) count (get_behind before one []); such = (bytes_eq-Decides (listing one.tree) text).0 parts.1 },
           λ q above upto such. omega (arith, above, upto),
         )
 
@@ -80,12 +81,12 @@ newest_first text low one = ⊎_elim sought other (cases_Bool (is_sought text lo
     sought : is_sought text low 0 one.tree ≡ true → IsNewest (IsListedAs text) (one ∷ []) low 0 (if is_sought text low 0 one.tree then Some 0 else None)
     sought yes_it_is =
         let parts = and_parts (nat_le low 0) (bytes_eq (listing one.tree) text) yes_it_is in
-        rw yes_it_is (leb-true low 0 parts.0, omega arith, record { point = one; is = refl; such = same_bytes (listing one.tree) text parts.1 }, λ q above upto such. omega (arith, above, upto))
+        rw yes_it_is (leb-true low 0 parts.0, omega arith, record { point = one; is = refl; such = (bytes_eq-Decides (listing one.tree) text).0 parts.1 }, λ q above upto such. omega (arith, above, upto))
 
     none : is_sought text low 0 one.tree ≡ false → (p : ℕ) → low ≤ p → p ≤ 0 → IsSuch (IsListedAs text) (one ∷ []) p → ⊥
     none not p from upto such =
         let there : p ≡ 0 = omega (arith, upto) in
-        let point : such.point ≡ one = some_is such.point one (sym such.is ∙ ap (λ (i : ℕ). slice_get (one ∷ []) i) there) in
+        let point : such.point ≡ one = same_Some such.point one (sym such.is ∙ ap (λ (i : ℕ). slice_get (one ∷ []) i) there) in
         not_sought text low 0 one.tree not (omega (arith, from, upto)) (subst (λ (x : Point). listing x.tree ≡ text) point such.such)
 
     other : is_sought text low 0 one.tree ≡ false → IsNewest (IsListedAs text) (one ∷ []) low 0 (if is_sought text low 0 one.tree then Some 0 else None)

@@ -67,10 +67,6 @@ begun_walk text low k c w marked is = subst (λ (x : Walk). HasCome text low k c
 
 -- ---- one command more
 
--- what is left behind the first of some
-pub record Splits {A : Type 0} (xs : List A) (i : ℕ) (x : A) : Type 0 where
-  pub is : drop i xs ≡ x ∷ drop (i + 1) xs
-
 pub walked_on : (text : List ℕ) (low k : ℕ) (c : Contents) (i begun : ℕ) (w v : Walk) (cmd : Cmd) (reply : Reply) (mark : ℕ) → begun ≤ k → drop i c.cmds ≡ cmd ∷ drop (i + 1) c.cmds → drop i c.replies ≡ reply ∷ drop (i + 1) c.replies → drop i c.marks ≡ mark ∷ drop (i + 1) c.marks
     → HasCome text low k c i begun w → WalksOn text low cmd reply w v → HasCome text low k c (i + 1) mark v
 walked_on text low k c i begun w v cmd reply mark early cmd_is reply_is mark_is h on = record {
@@ -127,9 +123,6 @@ walk_ends text low k c i begun w over h = (count, subst (λ (points : List Point
     count = omega (arith, all, h.counted.count, began k (record { tree = (start c.geometry.i).tree; begun = 0 }) (omega arith))
 
 -- ---- the floor
-
-pub floor_begins : (k : ℕ) (replies : List Reply) (marks : List ℕ) → max 0 (floor k replies marks) ≡ floor k replies marks
-floor_begins k replies marks = omega arith
 
 floor_late : (g a b k : ℕ) (m : ℕ) (whole : ℕ) → k < m → max g (max (if nat_le m k then a else 0) b) ≡ whole → max g b ≡ whole
 floor_late g a b k m whole past h = omega (arith, cond-false {A = ℕ} (nat_le m k) a 0 (lt-leb m k past), h)

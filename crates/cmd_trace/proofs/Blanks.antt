@@ -8,6 +8,7 @@ use Rattle.std.proofs.lemmas.Bool.Decides.{Decides-ltb}
 use Rattle.std.proofs.lemmas.Fmt.{digits_decimal}
 use Rattle.std.proofs.lemmas.List.{take_all, length-drop}
 use Rattle.std.proofs.lemmas.List.Quantifiers.{position-Some}
+use Rattle.std.proofs.Math.Seq.{take-append_seam}
 use Rattle.cmd_trace.specs.ReadFields.{is_blank, parts_at, cut}
 use Rattle.cmd_trace.proofs.Bytes.{own, weaker}
 
@@ -20,10 +21,6 @@ blank_behind [] ys h = refl
 blank_behind (x ∷ xs) ys h =
     let parts = and_parts (is_dark x) (list_all is_dark xs) h in
     rw parts.0 (omega (arith, blank_behind xs ys parts.1))
-
-pub take_front : (xs ys : List ℕ) → take (length xs) (xs ++ ys) ≡ xs
-take_front [] ys = refl
-take_front (x ∷ xs) ys = ap (λ l. x ∷ l) (take_front xs ys)
 
 drop_more : (xs ys : List ℕ) (y : ℕ) → drop (length xs + 1) (xs ++ y ∷ ys) ≡ ys
 drop_more [] ys y = refl
@@ -40,7 +37,7 @@ pub cut_at : (xs ys : List ℕ) → list_all is_dark xs ≡ true → cut (xs ++ 
 cut_at xs ys h =
     let at = blank_behind xs ys h in
     let low = (Decides-ltb (length xs) (length (xs ++ 32 ∷ ys))).1 (length_more xs ys 32) in
-    rw at (rw low (rw (take_front xs (32 ∷ ys)) (rw (drop_more xs ys 32) refl)))
+    rw at (rw low (rw (take-append_seam xs (32 ∷ ys)) (rw (drop_more xs ys 32) refl)))
 
 -- a list around one of its places
 split_place : (xs : List ℕ) (i : ℕ) → i < length xs → xs ≡ take i xs ++ (get_or xs i 0 ∷ drop (i + 1) xs)

@@ -1,5 +1,5 @@
 -- Lists of bytes that all pass a test, the digits of numbers, and the bytes of a block.
-use Rattle.std.proofs.Common.{◌≡◌, refl, arith, rules, ℕ, zero, suc, ◌<◌, Bool, true, List, [], ◌∷◌, length, slice_index}
+use Rattle.std.proofs.Common.{◌≡◌, refl, arith, rules, ℕ, zero, suc, ◌<◌, Bool, true, List, [], ◌∷◌, length}
 use Rattle.std.specs.Prelude.{slice_index_or}
 use Rattle.std.specs.Char.{is_ascii_digit}
 use Rattle.std.specs.List.{list_all}
@@ -18,11 +18,6 @@ weaker p q more [] h = refl
 weaker p q more (x ∷ xs) h =
     let parts = and_parts (p x) (list_all p xs) h in
     rw (more x parts.0) (weaker p q more xs parts.1)
-
-pub within : (p : ℕ → Bool) (xs : List ℕ) (i : ℕ) → i < length xs → list_all p xs ≡ true → p (slice_index xs i) ≡ true
-within p [] i low h = absurd (omega (arith, low))
-within p (x ∷ xs) zero low h = (and_parts (p x) (list_all p xs) h).0
-within p (x ∷ xs) (suc i) low h = within p xs i (omega (arith, low)) (and_parts (p x) (list_all p xs) h).1
 
 all_small : (xs : List ℕ) → ((i : ℕ) → i < length xs → slice_index_or xs i 0 < 256) → IsBytes xs
 all_small [] h i = omega arith

@@ -5,13 +5,14 @@ use Rattle.std.proofs.lemmas.Bool.Decides.{Decides-ltb}
 use Rattle.std.proofs.lemmas.Fmt.{digits_decimal, decimal_injective}
 use Rattle.std.specs.Char.{is_ascii_digit}
 use Rattle.std.specs.List.{list_all}
+use Rattle.std.proofs.lemmas.List.Sums.{AllPass-from_list_all}
 use Rattle.hex.specs.Hex.{encode_lower, encode_with, lower_digits, decode_of, IsBytes}
 use Rattle.hex.proofs.HexLemmas.{decode_of-encode_lower}
 use Rattle.disk_contract.specs.declared.event.Event.{Event}
 use Rattle.disk_contract.specs.declared.event.Event.TheVariants.{Wrote, Lost, Noticed}
 use Rattle.disk_contract.specs.Lawful.{IsEventOf, AreEventsOf}
 use Rattle.cmd_trace.specs.Line.{event_line, event_lines}
-use Rattle.cmd_trace.proofs.Bytes.{own, weaker, within, block_is_bytes}
+use Rattle.cmd_trace.proofs.Bytes.{own, weaker, block_is_bytes}
 
 -- Two texts that begin with parts of bytes above m, and go on with nothing or a byte that isn't above it.
 
@@ -40,11 +41,8 @@ part_cut m (x ∷ xs) (y ∷ ys) r s p q low down e =
 
 -- Numbers and bytes.
 
-digit_past : (b : ℕ) → is_ascii_digit b ≡ true → past 32 b ≡ true
-digit_past b h = grind (arith, tests)
-
 number_past : (n : ℕ) → n < 2 ^ 64 → list_all (past 32) (decimal n) ≡ true
-number_past n small = weaker is_ascii_digit (past 32) digit_past (decimal n) (digits_decimal own n small)
+number_past n small = weaker is_ascii_digit (past 32) (λ b h. grind (arith, tests)) (decimal n) (digits_decimal own n small)
 
 -- a number that ends at a blank or a line feed
 pub number_cut : (n k : ℕ) (r s : List ℕ) → n < 2 ^ 64 → k < 2 ^ 64 → Low 32 r → Low 32 s → decimal n ++ r ≡ decimal k ++ s → (n ≡ k) × (r ≡ s)
@@ -57,8 +55,8 @@ unfolding encode_with
 digits_past [] h = refl
 digits_past (b ∷ bytes) h =
     let low : b < 256 = h 0 in
-    let high_digit = within (past 32) lower_digits (b / 16) (omega (arith, low)) refl in
-    let low_digit = within (past 32) lower_digits (b % 16) (omega (arith, low)) refl in
+    let high_digit = AllPass-from_list_all (past 32) lower_digits refl (b / 16) 0 (omega (arith, low)) in
+    let low_digit = AllPass-from_list_all (past 32) lower_digits refl (b % 16) 0 (omega (arith, low)) in
     rw (high_digit, low_digit) (digits_past bytes (λ i. h (suc i)))
 
 abbrev bytes_or_none : {E : Type 0} → Result (List ℕ) E → List ℕ

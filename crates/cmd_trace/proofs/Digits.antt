@@ -3,12 +3,13 @@ use Rattle.std.proofs.Common.{nat_lt, ◌≡◌, sym, ap, refl, ◌∙◌, arith
 use Rattle.std.specs.Prelude.{if◌then◌else◌, slice_index_or}
 use Rattle.std.specs.List.{list_all}
 use Rattle.std.proofs.lemmas.Bool.{and_parts}
+use Rattle.std.proofs.lemmas.List.Sums.{AllPass-from_list_all}
 use Rattle.hex.specs.Hex.{encode_lower, encode_with, lower_digits, decode_sized, decode_pairs, pair_value, value_at, digit_or_error, hex_digit_value, IsBytes, ◌>>=◌}
 use Rattle.hex.specs.declared.error.FromHexError.{FromHexError}
 use Rattle.hex.proofs.HexLemmas.{decode_sized-encode_lower, decode_sized-ok, decode_sized-twice, decode_of-ok, decode_of-even}
 use Rattle.disk_contract.specs.Lawful.{IsBlock}
 use Rattle.cmd_trace.specs.ReadFields.{is_upper, decoded, block_of}
-use Rattle.cmd_trace.proofs.Bytes.{within, block_is_bytes}
+use Rattle.cmd_trace.proofs.Bytes.{block_is_bytes}
 
 -- ---- lower-case digits
 
@@ -96,8 +97,8 @@ unfolding encode_with
 spelled_low [] h = refl
 spelled_low (b ∷ bytes) h =
     let low : b < 256 = h 0 in
-    rw (within is_lower_case lower_digits (b / 16) (omega (arith, low)) refl)
-    (rw (within is_lower_case lower_digits (b % 16) (omega (arith, low)) refl) (spelled_low bytes (λ i. h (suc i))))
+    rw (AllPass-from_list_all is_lower_case lower_digits refl (b / 16) 0 (omega (arith, low)))
+    (rw (AllPass-from_list_all is_lower_case lower_digits refl (b % 16) 0 (omega (arith, low))) (spelled_low bytes (λ i. h (suc i))))
 
 -- the digits of a block are read as its bytes
 pub block_read : (bytes : List ℕ) → IsBlock bytes → block_of (encode_lower bytes) ≡ Some bytes

@@ -1,7 +1,8 @@
 -- The lines of the geometry, of events and of replies are read as what they say, and as nothing else.
-use Rattle.std.proofs.Common.{◌≡◌, sym, ap, refl, ◌∙◌, subst, arith, tests, ℕ, ◌<◌, ◌^◌, ◌==◌, Bool, true, false, List, [], ◌∷◌, ◌++◌, decimal, nat_lt, Option, Some, None}
+use Rattle.std.proofs.Common.{◌≡◌, sym, ap, refl, ◌∙◌, subst, arith, ℕ, ◌<◌, ◌^◌, ◌==◌, Bool, true, false, List, [], ◌∷◌, ◌++◌, decimal, nat_lt, Option, Some, None}
 use Rattle.std.specs.Prelude.{if◌then◌else◌, option_map, option_and_then}
 use Rattle.std.proofs.lemmas.Bool.Decides.{Decides-ltb}
+use Rattle.std.proofs.lemmas.Bool.{eqb-true}
 use Rattle.hex.specs.Hex.{encode_lower}
 use Rattle.layout_geometry.specs.Geometry.{Geometry, geometry_fits}
 use Rattle.disk_contract.specs.declared.event.Event.{Event}
@@ -127,23 +128,20 @@ noticed_is_read law rest e h =
     let found = map_gave (λ ticket. Noticed ticket) (number_of rest) e h in
     subst (IsText (100 ∷ 32 ∷ rest)) found.2 (ap (λ l. 100 ∷ 32 ∷ l) (law.text rest found.0 found.1), law.small rest found.0 found.1)
 
-pub is_equal : (a b : ℕ) → (a == b) ≡ true → a ≡ b
-is_equal a b h = grind (arith, tests, h)
-
 letter_gave : Numbers → (first : ℕ) (rest : List ℕ) (e : Event) → event_by_letter first rest ≡ Some e → IsText (first ∷ 32 ∷ rest) e
 letter_gave law first rest e h = w (first == 119) refl h
   where
     d : (b : Bool) → (first == 100) ≡ b → (if b then noticed_of rest else None) ≡ Some e → IsText (first ∷ 32 ∷ rest) e
-    d true is f = subst (λ c. IsText (c ∷ 32 ∷ rest) e) (sym (is_equal first 100 is)) (noticed_is_read law rest e f)
+    d true is f = subst (λ c. IsText (c ∷ 32 ∷ rest) e) (sym (eqb-true first 100 is)) (noticed_is_read law rest e f)
     d false is f = cc f
 
     l : (b : Bool) → (first == 102) ≡ b → (if b then lost_of rest else if first == 100 then noticed_of rest else None) ≡ Some e → IsText (first ∷ 32 ∷ rest) e
-    l true is f = subst (λ c. IsText (c ∷ 32 ∷ rest) e) (sym (is_equal first 102 is)) (lost_is_read law rest e f)
+    l true is f = subst (λ c. IsText (c ∷ 32 ∷ rest) e) (sym (eqb-true first 102 is)) (lost_is_read law rest e f)
     l false is f = d (first == 100) refl f
 
     w : (b : Bool) → (first == 119) ≡ b → (if b then wrote_of rest else if first == 102 then lost_of rest else if first == 100 then noticed_of rest else None) ≡ Some e
         → IsText (first ∷ 32 ∷ rest) e
-    w true is f = subst (λ c. IsText (c ∷ 32 ∷ rest) e) (sym (is_equal first 119 is)) (wrote_is_read law rest e f)
+    w true is f = subst (λ c. IsText (c ∷ 32 ∷ rest) e) (sym (eqb-true first 119 is)) (wrote_is_read law rest e f)
     w false is f = l (first == 102) refl f
 
 -- what stands behind a letter and a blank
@@ -155,7 +153,7 @@ behind_gave says (first ∷ second ∷ rest) x h = go (second == 32) refl h
   where
     go : (b : Bool) → (second == 32) ≡ b → (if b then says first rest else None) ≡ Some x
         → (letter : ℕ) × (more : List ℕ) × (first ∷ second ∷ rest ≡ letter ∷ 32 ∷ more) × (says letter more ≡ Some x)
-    go true is f = (first, rest, ap (λ c. first ∷ c ∷ rest) (is_equal second 32 is), f)
+    go true is f = (first, rest, ap (λ c. first ∷ c ∷ rest) (eqb-true second 32 is), f)
     go false is f = cc f
 
 pub event_is_read : Numbers → (line : List ℕ) (e : Event) → behind event_by_letter line ≡ Some e → (event_text e ≡ line) × IsEventOf (2 ^ 32) e
@@ -207,7 +205,7 @@ geometry_line_is_read law line g h =
         → (103 ∷ 32 ∷ geometry_text g ≡ line) × (geometry_fits g ≡ true)
     go first rest split true is f =
         let read = geometry_is_read law rest g f in
-        (ap (λ l. 103 ∷ 32 ∷ l) read.0 ∙ ap (λ c. c ∷ 32 ∷ rest) (sym (is_equal first 103 is)) ∙ sym split, read.4)
+        (ap (λ l. 103 ∷ 32 ∷ l) read.0 ∙ ap (λ c. c ∷ 32 ∷ rest) (sym (eqb-true first 103 is)) ∙ sym split, read.4)
     go first rest split false is f = cc f
 
 -- ---- replies
@@ -239,5 +237,5 @@ reply_line_is_read law line x h =
         → (114 ∷ 32 ∷ reply_text x ≡ line) × (x.0 < 2 ^ 64)
     go first rest split true is f =
         let read = reply_is_read law rest x f in
-        (ap (λ l. 114 ∷ 32 ∷ l) read.0 ∙ ap (λ c. c ∷ 32 ∷ rest) (sym (is_equal first 114 is)) ∙ sym split, read.1)
+        (ap (λ l. 114 ∷ 32 ∷ l) read.0 ∙ ap (λ c. c ∷ 32 ∷ rest) (sym (eqb-true first 114 is)) ∙ sym split, read.1)
     go first rest split false is f = cc f

@@ -1,6 +1,6 @@
 -- The text of a trace has one contents.
-use Rattle.std.proofs.Common.{◌≡◌, sym, ap, ap₂, refl, ◌∙◌, arith, subst, ℕ, zero, suc, ◌+◌, ◌-◌, ◌<◌, ◌≤◌, ◌^◌, ◌==◌, ◌||◌, Bool, true, false, List, [], ◌∷◌, ◌++◌, take, drop, length, decimal, codes, append_assoc, append-nil, take-append-drop}
-use Rattle.std.proofs.lemmas.Bool.{false≢true}
+use Rattle.std.proofs.Common.{◌≡◌, sym, ap, ap₂, refl, ◌∙◌, arith, subst, ℕ, zero, suc, ◌+◌, ◌-◌, ◌<◌, ◌≤◌, ◌^◌, ◌==◌, ◌||◌, Bool, true, List, [], ◌∷◌, ◌++◌, take, drop, length, decimal, codes, append_assoc, append-nil, take-append-drop}
+use Rattle.std.proofs.lemmas.Bool.{or_parts, false≢true}
 use Rattle.std.proofs.lemmas.List.{length-take-le, length-drop, drop_all}
 use Rattle.layout_geometry.specs.Geometry.{Geometry}
 use Rattle.disk_contract.specs.declared.event.Event.{Event}
@@ -63,13 +63,9 @@ ascend_below from (mark ∷ marks) events a = omega (arith, a.0, ascend_below ma
 abbrev is_entry_byte : ℕ → Bool
 is_entry_byte b = (b == 99) || is_event_byte b
 
-or_right : (x y : Bool) → (x || y) ≡ false → y ≡ false
-or_right true y h = absurd (false≢true (sym h))
-or_right false y h = h
-
 no_event_byte : (r : List ℕ) → BeginsNot is_entry_byte r → BeginsNot is_event_byte r
 no_event_byte [] h = tt
-no_event_byte (b ∷ r) h = or_right (b == 99) (is_event_byte b) h
+no_event_byte (b ∷ r) h = (or_parts (b == 99) (is_event_byte b) h).1
 
 -- what two texts of entries have in common
 record Same (log more : List Event) (before earlier : ℕ) (cmds asked : List Cmd) (replies answered : List Reply) (marks moments : List ℕ) (r s : List ℕ) : Type 0 where

@@ -2,6 +2,8 @@
 use Rattle.std.proofs.Common.{◌≡◌, sym, ap, refl, ◌∙◌, subst, arith, ℕ, ◌+◌, ◌<◌, ◌^◌, true, List, [], ◌∷◌, ◌++◌, length, take, decimal, codes, append_assoc, Option, Some, None, bytes_eq}
 use Rattle.std.specs.Prelude.{◌↔◌}
 use Rattle.std.proofs.lemmas.Slice.Eq.{bytes_eq-Decides}
+use Rattle.std.proofs.lemmas.Option.{same_Some, none-some}
+use Rattle.std.proofs.Math.Seq.{take-append_seam}
 use Rattle.hex.specs.Hex.{encode_lower}
 use Rattle.layout_geometry.specs.Geometry.{Geometry, IsGeometry, geometry_fits}
 use Rattle.disk_contract.specs.declared.event.Event.{Event}
@@ -12,18 +14,14 @@ use Rattle.lang_script.specs.Text.{refusal_text, text_of_reply}
 use Rattle.cmd_trace.specs.Line.{geometry_line, event_line, reply_line, end_line}
 use Rattle.cmd_trace.specs.ReadsAs.{IsReadAs, IsOutside, fed}
 use Rattle.cmd_trace.specs.ReadLines.{behind, geometry_by_letter, event_by_letter, reply_by_letter, refusal_of, known_of}
-use Rattle.cmd_trace.proofs.Blanks.{take_front}
 use Rattle.cmd_trace.proofs.LinesRead.{Numbers, event_text, event_read, event_is_read, geometry_text, geometry_read, geometry_line_is_read, reply_text, reply_read, reply_line_is_read}
 use Rattle.cmd_trace.proofs.RefusalsRead.{refusal_read, refusal_is_read, known_read, known_is_read}
-
-none_is_some : {A : Type 0} (x : A) → None ≡ Some x → ⊥
-none_is_some x h = cc h
 
 -- an answer that comes of each value's text, and of no other text
 reads_as : {A : Type 0} (written : A → List ℕ) (IsOne : A → Type 0) (text : List ℕ) (o : Option A) → ((x : A) → o ≡ Some x → IsOne x × (written x ≡ text))
     → ((x : A) → IsOne x → written x ≡ text → o ≡ Some x) → IsReadAs written IsOne text o
 reads_as written IsOne text (Some x) is read = is x refl
-reads_as written IsOne text None is read = λ x one same. none_is_some x (read x one same)
+reads_as written IsOne text None is read = λ x one same. none-some x (read x one same)
 
 -- ---- lines and their line feeds
 
@@ -34,7 +32,7 @@ length_fed (x ∷ xs) = omega (arith, length_fed xs)
 fed_same : (xs ys : List ℕ) → fed xs ≡ fed ys → xs ≡ ys
 fed_same xs ys h =
     let same : length xs ≡ length ys = omega (arith, length_fed xs, length_fed ys, ap length h) in
-    sym (take_front xs (codes "\n")) ∙ ap (λ l. take (length xs) l) h ∙ ap (λ n. take n (fed ys)) same ∙ take_front ys (codes "\n")
+    sym (take-append_seam xs (codes "\n")) ∙ ap (λ l. take (length xs) l) h ∙ ap (λ n. take n (fed ys)) same ∙ take-append_seam ys (codes "\n")
 
 two_fields : (w a b : List ℕ) → w ++ a ++ codes " " ++ b ≡ w ++ (a ++ 32 ∷ b)
 two_fields w a b = append_assoc (w ++ a) (codes " ") b ∙ append_assoc w a (32 ∷ b)
@@ -112,16 +110,13 @@ ends line = (λ h. ap fed ((bytes_eq-Decides line (codes "end")).0 h), λ same. 
 
 -- ---- one line says one thing
 
-one_of : {A : Type 0} (x y : A) → Some x ≡ Some y → x ≡ y
-one_of x y h = cc h
-
 pub one_event : Numbers → (e d : Event) → IsEventOf (2 ^ 32) e → IsEventOf (2 ^ 32) d → event_line e ≡ event_line d → e ≡ d
 one_event law e d one other same =
     let text : event_text e ≡ event_text d = fed_same (event_text e) (event_text d) (sym (event_fed e) ∙ same ∙ event_fed d) in
-    one_of e d (sym (event_read law e one) ∙ ap (behind event_by_letter) text ∙ event_read law d other)
+    same_Some e d (sym (event_read law e one) ∙ ap (behind event_by_letter) text ∙ event_read law d other)
 
 pub one_reply : Numbers → (m k : ℕ) (s t : List ℕ) → m < 2 ^ 64 → k < 2 ^ 64 → reply_line m s ≡ reply_line k t → (m ≡ k) × (s ≡ t)
 one_reply law m k s t low small same =
     let text : 114 ∷ 32 ∷ reply_text (m, s) ≡ 114 ∷ 32 ∷ reply_text (k, t) = fed_same (114 ∷ 32 ∷ reply_text (m, s)) (114 ∷ 32 ∷ reply_text (k, t)) (sym (reply_fed (m, s)) ∙ same ∙ reply_fed (k, t)) in
-    let pair : (m, s) ≡ (k, t) = one_of (m, s) (k, t) (sym (reply_read law (m, s) low) ∙ ap (behind reply_by_letter) text ∙ reply_read law (k, t) small) in
+    let pair : (m, s) ≡ (k, t) = same_Some (m, s) (k, t) (sym (reply_read law (m, s) low) ∙ ap (behind reply_by_letter) text ∙ reply_read law (k, t) small) in
     (ap (λ (p : ℕ × List ℕ). p.0) pair, ap (λ (p : ℕ × List ℕ). p.1) pair)

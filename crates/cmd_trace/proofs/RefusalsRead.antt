@@ -142,14 +142,11 @@ scattered_is_read law text why h =
     let runs = small_is_read law text found.0 found.1 in
     subst (Spells (codes "scattered" ++ 32 ∷ text)) found.2 (record { number = refl; figures = runs.1 }, ap (λ l. codes "scattered" ++ 32 ∷ l) runs.0)
 
-same_text : (xs ys : List ℕ) → bytes_eq xs ys ≡ true → xs ≡ ys
-same_text xs ys h = (bytes_eq-Decides xs ys).0 h
-
 reason_is_read : (text : List ℕ) (why : Refusal) → reason_of text ≡ Some why → Spells (codes "refused" ++ 32 ∷ text) why
 reason_is_read text why h = a (bytes_eq text (codes "13 ReadFault")) refl h
   where
     one : (name : List ℕ) (x : Refusal) → bytes_eq text name ≡ true → Some x ≡ Some why → IsOutside x → refusal_text x ≡ codes "refused" ++ 32 ∷ name → Spells (codes "refused" ++ 32 ∷ text) why
-    one name x same is out spelled = subst (Spells (codes "refused" ++ 32 ∷ text)) (cc is) (out, spelled ∙ ap (λ l. codes "refused" ++ 32 ∷ l) (sym (same_text text name same)))
+    one name x same is out spelled = subst (Spells (codes "refused" ++ 32 ∷ text)) (cc is) (out, spelled ∙ ap (λ l. codes "refused" ++ 32 ∷ l) (sym ((bytes_eq-Decides text name).0 same)))
 
     e : (b : Bool) → bytes_eq text (codes "17 NoMemory") ≡ b → (if b then Some NoMemory else None) ≡ Some why → Spells (codes "refused" ++ 32 ∷ text) why
     e true is f = one (codes "17 NoMemory") NoMemory is f record { number = refl; figures = tt } (reason_text 17 (codes "NoMemory") (omega arith) (omega arith))
@@ -180,7 +177,7 @@ word_gave : Numbers → (word text : List ℕ) (why : Refusal) → refusal_by wo
 word_gave law word text why h = f (bytes_eq word (codes "full")) refl h
   where
     at : (name : List ℕ) → bytes_eq word name ≡ true → Spells (name ++ 32 ∷ text) why → Spells (word ++ 32 ∷ text) why
-    at name same found = subst (λ w. Spells (w ++ 32 ∷ text) why) (sym (same_text word name same)) found
+    at name same found = subst (λ w. Spells (w ++ 32 ∷ text) why) (sym ((bytes_eq-Decides word name).0 same)) found
 
     r : (b : Bool) → bytes_eq word (codes "refused") ≡ b → (if b then reason_of text else None) ≡ Some why → Spells (word ++ 32 ∷ text) why
     r true is g = at (codes "refused") is (reason_is_read text why g)
@@ -223,7 +220,7 @@ known_gave law word text point h = go (bytes_eq word (codes "known")) refl h
   where
     go : (b : Bool) → bytes_eq word (codes "known") ≡ b → (if b then number_of text else None) ≡ Some point
         → (point < 2 ^ 64) × (codes "known" ++ 32 ∷ decimal point ≡ word ++ 32 ∷ text)
-    go true is g = (law.small text point g, ap (λ l. codes "known" ++ 32 ∷ l) (law.text text point g) ∙ ap (λ w. w ++ 32 ∷ text) (sym (same_text word (codes "known") is)))
+    go true is g = (law.small text point g, ap (λ l. codes "known" ++ 32 ∷ l) (law.text text point g) ∙ ap (λ w. w ++ 32 ∷ text) (sym ((bytes_eq-Decides word (codes "known")).0 is)))
     go false is g = cc g
 
 pub known_is_read : Numbers → (text : List ℕ) (point : ℕ) → known_of text ≡ Some point → (point < 2 ^ 64) × (codes "known " ++ decimal point ≡ text)

@@ -1,5 +1,5 @@
 -- Which lines may follow, by their first bytes, and why a line that isn't read doesn't.
-use Rattle.std.proofs.Common.{◌≡◌, ◌≢◌, sym, ap, refl, ◌∙◌, subst, arith, tests, ℕ, ◌<◌, ◌≤◌, ◌^◌, ◌==◌, Bool, true, false, inl, inr, List, [], ◌∷◌, length, get_or, Option, Some, None}
+use Rattle.std.proofs.Common.{◌≡◌, sym, ap, refl, ◌∙◌, subst, arith, tests, ℕ, ◌<◌, ◌≤◌, ◌^◌, ◌==◌, Bool, true, false, inl, inr, List, [], ◌∷◌, length, get_or, Option, Some, None}
 use Rattle.std.specs.Prelude.{◌⊎◌}
 use Rattle.layout_geometry.specs.Geometry.{IsGeometry}
 use Rattle.disk_contract.specs.declared.event.Event.{Event}
@@ -7,20 +7,12 @@ use Rattle.disk_contract.specs.declared.event.Event.TheVariants.{Wrote, Lost, No
 use Rattle.disk_contract.specs.Lawful.{IsEventOf}
 use Rattle.lang_tree.specs.declared.command.Cmd.{Cmd}
 use Rattle.lang_script.specs.Text.{command_text, text_of_reply}
-use Rattle.lang_script.specs.Values.{IsCommand}
 use Rattle.cmd_trace.specs.Line.{event_line, command_line, reply_line, end_line}
 use Rattle.cmd_trace.specs.ReadsAs.{IsReadAs, fed}
 use Rattle.cmd_trace_reader.specs.Events.{IsNext, TakesEvent}
-use Rattle.cmd_trace_reader.specs.Replies.{MayReply}
 use Rattle.cmd_trace_reader.specs.declared.reader.Place.{Place}
 use Rattle.cmd_trace_reader.specs.declared.reader.Place.TheVariants.{Mounting, Asked, Answered, Ended}
-use Rattle.cmd_trace_reader.specs.Reading.{State, HappensBy, AsksBy, AnswersBy, EndsBy, Follows, TakesLine, has_events, is_between}
-
-not_both : (b : Bool) → b ≡ true → b ≡ false → ⊥
-not_both b h k = apart (sym h ∙ k)
-  where
-    apart : true ≡ false → ⊥
-    apart e = cc e
+use Rattle.cmd_trace_reader.specs.Reading.{State, HappensBy, AsksBy, AnswersBy, Follows, TakesLine}
 
 -- ---- first bytes
 
@@ -93,16 +85,6 @@ by_reply s t rest false h = go
     go u (inr (inr (inl e))) = h u e
     go u (inr (inr (inr e))) = apart (head (fed (114 ∷ rest))) 114 101 refl (end_is (114 ∷ rest) e.written) refl
 
-pub by_end : (s t : State) (rest : List ℕ) (taken : Bool) → TakesLine EndsBy s (101 ∷ rest) taken t → TakesLine Follows s (101 ∷ rest) taken t
-by_end s t rest true h = inr (inr (inr h))
-by_end s t rest false h = go
-  where
-    go : (u : State) → Follows s (101 ∷ rest) u → ⊥
-    go u (inl e) = no_event e.event (101 ∷ rest) 101 refl (inr (inr (inl refl))) e.written
-    go u (inr (inl e)) = apart (head (fed (101 ∷ rest))) 101 99 refl (command_is e.cmd (101 ∷ rest) e.written) refl
-    go u (inr (inr (inl e))) = apart (head (fed (101 ∷ rest))) 101 114 refl (reply_is (length s.log) (text_of_reply e.reply) (101 ∷ rest) e.written) refl
-    go u (inr (inr (inr e))) = h u e
-
 pub by_event : (s t : State) (first : ℕ) (rest : List ℕ) (taken : Bool) → (first == 99) ≡ false → (first == 114) ≡ false → (first == 101) ≡ false
     → TakesLine HappensBy s (first ∷ rest) taken t → TakesLine Follows s (first ∷ rest) taken t
 by_event s t first rest true c r e h = inl h
@@ -114,24 +96,12 @@ by_event s t first rest false c r e h = go
     go u (inr (inr (inl k))) = apart (head (fed (first ∷ rest))) first 114 refl (reply_is (length s.log) (text_of_reply k.reply) (first ∷ rest) k.written) r
     go u (inr (inr (inr k))) = apart (head (fed (first ∷ rest))) first 101 refl (end_is (first ∷ rest) k.written) e
 
-pub by_nothing : (s : State) (u : State) → Follows s [] u → ⊥
-by_nothing s u (inl e) = no_event e.event [] 10 refl (inr (inr (inr refl))) e.written
-by_nothing s u (inr (inl e)) = apart (head (fed [])) 10 99 refl (command_is e.cmd [] e.written) refl
-by_nothing s u (inr (inr (inl e))) = apart (head (fed [])) 10 114 refl (reply_is (length s.log) (text_of_reply e.reply) [] e.written) refl
-by_nothing s u (inr (inr (inr e))) = apart (head (fed [])) 10 101 refl (end_is [] e.written) refl
-
 -- ---- events
 
 pub wide : (n : ℕ) (e : Event) → n ≤ 1048576 → IsEventOf n e → IsEventOf (2 ^ 32) e
 wide n (Wrote ticket block bytes) small h = (h.0, omega (arith, h.1, small), h.2)
 wide n (Lost block bytes) small h = (omega (arith, h.0, small), h.1)
 wide n (Noticed ticket) small h = h
-
-pub no_place_for_events : (s : State) (line : List ℕ) → has_events s.place ≡ false → (t : State) → HappensBy s line t → ⊥
-no_place_for_events s line off t h = not_both (has_events s.place) h.place off
-
-pub no_event_read : (s : State) (line : List ℕ) → IsGeometry s.geometry → IsReadAs event_line (IsEventOf (2 ^ 32)) (fed line) None → (t : State) → HappensBy s line t → ⊥
-no_event_read s line small none t h = none h.event (wide s.geometry.n h.event small.most_blocks h.next.of) h.written
 
 -- that one line says one event, as the law says it
 pub record OneEvent : Type 0 where
@@ -141,14 +111,6 @@ pub event_not_taken : OneEvent → (s : State) (line : List ℕ) (event : Event)
     → (IsNext s.geometry.n s.log event → ⊥) → (t : State) → HappensBy s line t → ⊥
 event_not_taken law s line event small of written off t h =
     off (subst (IsNext s.geometry.n s.log) (law.one h.event event (wide s.geometry.n h.event small.most_blocks h.next.of) of (h.written ∙ sym written)) h.next)
-
--- ---- commands
-
-pub no_place_for_commands : (s : State) (line : List ℕ) → is_between s.place ≡ false → (t : State) → AsksBy s line t → ⊥
-no_place_for_commands s line off t h = not_both (is_between s.place) h.place off
-
-pub no_command_read : (s : State) (line : List ℕ) → IsReadAs (λ cmd. command_line (command_text cmd)) IsCommand (fed line) None → (t : State) → AsksBy s line t → ⊥
-no_command_read s line none t h = none h.cmd h.lawful h.written
 
 -- ---- replies
 
@@ -160,35 +122,12 @@ no_reply_read s line low none t h = none (length s.log, text_of_reply h.reply) l
 pub record OneMoment : Type 0 where
   pub one : (m k : ℕ) (s t : List ℕ) → m < 2 ^ 64 → k < 2 ^ 64 → reply_line m s ≡ reply_line k t → (m ≡ k) × (s ≡ t)
 
-pub other_moment : OneMoment → (s : State) (line : List ℕ) (moment : ℕ) (text : List ℕ) → length s.log < 2 ^ 64 → moment < 2 ^ 64 → reply_line moment text ≡ fed line
-    → moment ≢ length s.log → (t : State) → AnswersBy s line t → ⊥
-other_moment law s line moment text low small written off t h =
-    off (sym (law.one (length s.log) moment (text_of_reply h.reply) text low small (h.written ∙ sym written)).0)
-
 -- the command that waits, where one does
 abbrev pub asked_or : Cmd → Place → Cmd
 asked_or d Mounting = d
 asked_or d (Asked cmd) = cmd
 asked_or d Answered = d
 asked_or d Ended = d
-
-pub no_reply_taken : OneMoment → (s : State) (line : List ℕ) (cmd : Cmd) (moment : ℕ) (text : List ℕ) → length s.log < 2 ^ 64 → moment < 2 ^ 64 → reply_line moment text ≡ fed line
-    → s.place ≡ Asked cmd → IsReadAs text_of_reply (MayReply s.kept.session s.kept.stopped cmd) text None → (t : State) → AnswersBy s line t → ⊥
-no_reply_taken law s line cmd moment text low small written place none t h =
-    let same : h.cmd ≡ cmd = ap (asked_or cmd) (sym h.place ∙ place) in
-    none h.reply (subst (λ c. MayReply s.kept.session s.kept.stopped c h.reply) same h.may)
-    (law.one (length s.log) moment (text_of_reply h.reply) text low small (h.written ∙ sym written)).1
-
-pub nothing_asked : (s : State) (line : List ℕ) → ((cmd : Cmd) → s.place ≡ Asked cmd → ⊥) → (t : State) → AnswersBy s line t → ⊥
-nothing_asked s line off t h = off h.cmd h.place
-
--- ---- the end
-
-pub no_place_for_an_end : (s : State) (line : List ℕ) → is_between s.place ≡ false → (t : State) → EndsBy s line t → ⊥
-no_place_for_an_end s line off t h = not_both (is_between s.place) h.place off
-
-pub no_end_read : (s : State) (line : List ℕ) → (fed line ≡ end_line → ⊥) → (t : State) → EndsBy s line t → ⊥
-no_end_read s line off t h = off h.written
 
 -- ---- what the functions of `reader` cite
 

@@ -1,13 +1,14 @@
 -- Lists of lines: where a line ends, and which fronts their text has.
 use Rattle.std.proofs.Common.{◌≡◌, sym, ap, ap₂, refl, ◌∙◌, arith, rules, tests, ℕ, zero, suc, ◌<◌, ◌^◌, ◌/◌, ◌%◌, ◌==◌, Bool, true, false, not, List, [], ◌∷◌, ◌++◌, length, get_or, drop, decimal, slice_index, nat_lt, append_assoc}
-use Rattle.std.specs.Prelude.{◌&&◌, slice_index_or}
+use Rattle.std.specs.Prelude.{slice_index_or}
 use Rattle.std.specs.List.{list_all}
 use Rattle.std.specs.Char.{is_ascii_digit}
 use Rattle.std.specs.Str.Parse.{digits_value}
-use Rattle.std.proofs.lemmas.Bool.{and_parts, false≢true}
+use Rattle.std.proofs.lemmas.Bool.{and_parts, false≢true, and_right}
 use Rattle.std.proofs.lemmas.Fmt.{digits_decimal}
 use Rattle.std.proofs.lemmas.List.{append-nil}
 use Rattle.std.proofs.lemmas.Str.Parse.{IsNumeralModel, numerals_by_value}
+use Rattle.std.proofs.lemmas.List.Sums.{AllPass-from_list_all}
 use Rattle.hex.specs.Hex.{encode_lower, encode_with, lower_digits}
 use Rattle.disk_contract.specs.Lawful.{IsBlock}
 use Rattle.lang_script.specs.Values.{has_no_feed}
@@ -47,13 +48,9 @@ cut_at (x ∷ a) (y ∷ b) r s h k e =
 pub line_cut : (a b r s : List ℕ) → is_line a ≡ true → is_line b ≡ true → fed a ++ r ≡ fed b ++ s → (a ≡ b) × (r ≡ s)
 line_cut a b r s h k e = cut_at a b r s h k (sym (fed_before a r) ∙ e ∙ fed_before b s)
 
-and_false : (b : Bool) → (b && false) ≡ false
-and_false true = refl
-and_false false = refl
-
 pub has_feed : (a r : List ℕ) → is_line (a ++ 10 ∷ r) ≡ false
 has_feed [] r = refl
-has_feed (b ∷ a) r = rw (has_feed a r) (and_false (not (b == 10)))
+has_feed (b ∷ a) r = rw (has_feed a r) (and_right (not (b == 10)) false refl)
 
 not_nothing : (a r : List ℕ) → a ++ 10 ∷ r ≡ [] → ⊥
 not_nothing [] r e = cc e
@@ -118,11 +115,6 @@ above_is_none b h = grind (arith, tests)
 pub text_line : (text : List ℕ) → has_no_feed text ≡ true → is_line text ≡ true
 text_line text h = weaker (λ b. nat_lt 10 b) (λ b. not (b == 10)) above_is_none text h
 
-within : (p : ℕ → Bool) (xs : List ℕ) (i : ℕ) → i < length xs → list_all p xs ≡ true → p (slice_index xs i) ≡ true
-within p [] i low h = absurd (omega (arith, low))
-within p (x ∷ xs) zero low h = (and_parts (p x) (list_all p xs) h).0
-within p (x ∷ xs) (suc i) low h = within p xs i (omega (arith, low)) (and_parts (p x) (list_all p xs) h).1
-
 abbrev AreBytes : List ℕ → Type 0
 AreBytes bytes = (i : ℕ) → slice_index bytes i < 256
 
@@ -136,8 +128,8 @@ unfolding encode_with
 digits_line [] h = refl
 digits_line (b ∷ bytes) h =
     let low : b < 256 = h 0 in
-    let high_digit = within (λ b. not (b == 10)) lower_digits (b / 16) (omega (arith, low)) refl in
-    let low_digit = within (λ b. not (b == 10)) lower_digits (b % 16) (omega (arith, low)) refl in
+    let high_digit = AllPass-from_list_all (λ b. not (b == 10)) lower_digits refl (b / 16) 0 (omega (arith, low)) in
+    let low_digit = AllPass-from_list_all (λ b. not (b == 10)) lower_digits refl (b % 16) 0 (omega (arith, low)) in
     rw (high_digit, low_digit) (digits_line bytes (λ i. h (suc i)))
 
 pub block_line : (bytes : List ℕ) → IsBlock bytes → is_line (encode_lower bytes) ≡ true

@@ -1,8 +1,8 @@
 -- What each pull does to how far the reading is.
-use Rattle.std.proofs.Common.{◌≡◌, sym, refl, ◌∙◌, subst, arith, ℕ, ◌+◌, ◌<◌, ◌≤◌, ◌^◌, List, [], ◌++◌, length, take, append-nil, Option, Result, Ok, Err, IsErrAnd}
+use Rattle.std.proofs.Common.{◌≡◌, sym, refl, ◌∙◌, subst, arith, ℕ, ◌+◌, ◌<◌, ◌≤◌, ◌^◌, List, [], ◌++◌, length, take, Option, Result, Ok, Err, IsErrAnd}
 use Rattle.std.proofs.lemmas.List.{length-append, length-take-le}
-use Rattle.std.specs.Io.KnownBytes.{Consumes, IsAtEnd, Keeps}
-use Rattle.std.proofs.KnownBytes.{Consumes-trans, Consumes-kept, Consumes-nil}
+use Rattle.std.specs.Io.KnownBytes.{Consumes, IsAtEnd}
+use Rattle.std.proofs.KnownBytes.{Consumes-trans, Consumes-nil}
 use Rattle.cmd_trace_reader.specs.declared.lines.Lines.{Lines}
 use Rattle.cmd_trace.specs.Contents.{Contents}
 use Rattle.cmd_trace_reader.specs.declared.input.TraceRefusal.{TraceRefusal}
@@ -29,31 +29,12 @@ lost first mid now count n bytes old fits short taken a = record {
   short = omega (arith, length-append a.seen (take n bytes), a.long, short, fits, length-take-le n bytes fits);
 }
 
--- the source failed and lost nothing
-pub failed : (first mid now : Option (List ℕ)) (count : ℕ) (l : Lines) → count ≤ 2 ^ 30 → Keeps mid now → At first mid count l → ReadsSome first now
-failed first mid now count l short kept a = record { bytes = a.seen; read = Consumes-kept first mid now a.seen a.read kept; short = omega (arith, a.long, short) }
-
--- nothing was read
-pub nothing : (left : Option (List ℕ)) → ReadsSome left left
-nothing left = record { bytes = []; read = Consumes-nil left; short = omega arith }
-
 pub at_first : (left : Option (List ℕ)) (l : Lines) → HasRead [] l → At left left 0 l
 at_first left l h = record { seen = []; read = Consumes-nil left; long = refl; has = h }
 
 -- the input is over
 pub all_read : (first left : Option (List ℕ)) (count : ℕ) (l : Lines) → count ≤ 2 ^ 30 → IsAtEnd left → At first left count l → ReadsAll first left l
 all_read first left count l short over a = record { seen = a.seen; read = a.read; over = over; short = omega (arith, a.long, short); has = a.has }
-
--- no byte came
-pub none_came : (first mid now : Option (List ℕ)) (count n : ℕ) (bytes : List ℕ) (l : Lines) → n ≡ 0 → Consumes mid now (take n bytes) → At first mid count l → At first now count l
-none_came first mid now count n bytes l none taken a =
-    let gone : Consumes mid now [] = subst (λ k. Consumes mid now (take k bytes)) none taken in
-    record {
-      seen = a.seen;
-      read = subst (λ (xs : List ℕ). Consumes first now xs) (append-nil a.seen) (Consumes-trans first mid now a.seen [] a.read gone);
-      long = a.long;
-      has = a.has;
-    }
 
 -- one byte more came
 pub past : (first mid now : Option (List ℕ)) (n : ℕ) (bytes : List ℕ) (l : Lines) → length bytes ≡ 1 → 0 < n → n ≤ length bytes → Consumes mid now (take n bytes) → At first mid (2 ^ 30) l

@@ -1,6 +1,8 @@
 -- What comes of the text of a reply, by the kind of the command and of the text.
 use Rattle.std.proofs.Common.{◌≡◌, ◌≢◌, sym, ap, refl, ◌∙◌, subst, arith, ℕ, ◌<◌, ◌≤◌, ◌^◌, Bool, true, false, ◌||◌, inl, inr, List, Option, Some, None}
 use Rattle.std.specs.Prelude.{IfSome}
+use Rattle.std.proofs.lemmas.Option.{same_Some}
+use Rattle.std.proofs.lemmas.Bool.{both_ways}
 use Rattle.lang_tree.specs.declared.command.Cmd.{Cmd}
 use Rattle.lang_tree.specs.declared.command.Cmd.TheVariants.{Mkdir, Create, Write, Fill, Read, Truncate, Link, Unlink, Rmdir, Rename, Stat, List as ListNames, Osync, Dsync, Durable, Poll, Bad}
 use Rattle.lang_tree.specs.declared.command.Reply.{Reply}
@@ -69,14 +71,8 @@ not_bad cmd h e = true_is_not_false (ap is_bad (sym e) ∙ h)
 not_durable : (cmd : Cmd) → is_durable cmd ≡ false → cmd ≢ Durable
 not_durable cmd h e = true_is_not_false (ap is_durable (sym e) ∙ h)
 
-not_both : (b : Bool) → b ≡ true → b ≡ false → ⊥
-not_both b h k = true_is_not_false (sym h ∙ k)
-
 nothing_found : {A : Type 0} (P : A → Type 0) (x : A) → None ≡ Some x → P x
 nothing_found P x h = cc h
-
-found_is : {A : Type 0} (x y : A) → Some x ≡ Some y → x ≡ y
-found_is x y h = cc h
 
 stopped_is : (why : Refusal) → is_stopped why ≡ true → why ≡ Stopped
 stopped_is NotFound h = cc h
@@ -124,9 +120,6 @@ why_of reply = false
 pub record OneReply : Type 0 where
   pub same : (reply other : Reply) → IsReply reply → IsReply other → text_of_reply reply ≡ text_of_reply other → reply ≡ other
 
-stopped_outside : IsOutside Stopped
-stopped_outside = record { number = refl; figures = tt }
-
 -- ---- a bad line
 
 pub bad_reply : (s : Session) (stopped : Bool) (cmd : Cmd) (reply : Reply) → cmd ≡ Bad → reply ≡ NotUnderstood → MayReply s stopped cmd reply
@@ -148,7 +141,7 @@ takes_bad k cmd text (Some reply) is h =
     let bad = bad_is cmd is in
     record {
       reads = (bad_reply k.session k.stopped cmd reply bad h.0, h.1);
-      after = λ r e. bad_after k cmd r bad (sym (found_is reply r e) ∙ h.0);
+      after = λ r e. bad_after k cmd r bad (sym (same_Some reply r e) ∙ h.0);
       lawful = subst IsReply (sym h.0) tt;
     }
 takes_bad k cmd text None is h = record {
@@ -178,22 +171,13 @@ pub takes_refused : OneReply → (k new : Kept) (cmd : Cmd) (text : List ℕ) (w
     → RefusedSo k why found new → Takes k cmd text found new
 takes_refused law k new cmd text why (Some reply) other out spelled so = record {
   reads = (refused_reply k.session k.stopped cmd why reply other out so.1 so.0, ap text_of_reply so.0 ∙ spelled);
-  after = λ r e. so.2 ∙ ap (after k cmd) (sym so.0 ∙ found_is reply r e);
+  after = λ r e. so.2 ∙ ap (after k cmd) (sym so.0 ∙ same_Some reply r e);
   lawful = subst IsReply (sym so.0) (wide_figures why out.figures);
 }
 takes_refused law k new cmd text why None other out spelled so = record {
   reads = λ reply may e.
       other_refusal law why text out spelled so.1 (ap text_of_reply (sym (may.ended so.0 (not_bad cmd other))) ∙ e);
   after = λ r e. nothing_found (λ r. new ≡ after k cmd r) r e;
-  lawful = tt;
-}
-
--- ---- behind a fault of the disk
-
-pub takes_nothing : (k : Kept) (cmd : Cmd) (text : List ℕ) → is_bad cmd ≡ false → k.stopped ≡ true → IsReadAs refusal_text IsOutside text None → Takes k cmd text None k
-takes_nothing k cmd text other stopped none = record {
-  reads = λ reply may e. none Stopped stopped_outside (ap text_of_reply (sym (may.ended stopped (not_bad cmd other))) ∙ e);
-  after = λ r e. nothing_found (λ r. k ≡ after k cmd r) r e;
   lawful = tt;
 }
 
@@ -221,7 +205,7 @@ known_reply k cmd reply points durable going is known = record {
     },
   ));
   bad = λ bad. absurd (true_is_not_false (ap is_durable (sym is ∙ bad)));
-  ended = λ stopped _. absurd (not_both k.stopped stopped going);
+  ended = λ stopped _. absurd (both_ways k.stopped going stopped);
   figures = subst TellsSmallFigures (sym known.is) tt;
 }
 
@@ -233,7 +217,7 @@ pub takes_known : (k : Kept) (cmd : Cmd) (text : List ℕ) (found : Option Reply
     → k.stopped ≡ false → is_durable cmd ≡ true → IsReadAs refusal_text IsOutside text None → IsReadAs text_of_reply (IsKnown k) text found → Takes k cmd text found k
 takes_known k cmd text (Some reply) points durable counts going is none h = record {
   reads = (known_reply k cmd reply points durable going (durable_is cmd is) h.0, h.1);
-  after = λ r e. known_after k cmd r h.0.point (durable_is cmd is) (sym (found_is reply r e) ∙ h.0.is);
+  after = λ r e. known_after k cmd r h.0.point (durable_is cmd is) (sym (same_Some reply r e) ∙ h.0.is);
   lawful = subst IsReply (sym h.0.is) (omega (arith, h.0.upto, points, counts.low));
 }
 takes_known k cmd text None points durable counts going is none h = record {
@@ -270,7 +254,7 @@ stepped_reply law k cmd reply other going e = record {
   next = (step k.session cmd).0;
   answers = inl (ap (λ r. ((step k.session cmd).0, r)) (sym e));
   bad = λ bad. absurd (not_bad cmd other bad);
-  ended = λ stopped _. absurd (not_both k.stopped stopped going);
+  ended = λ stopped _. absurd (both_ways k.stopped going stopped);
   figures = subst TellsSmallFigures (sym e) (step_is_small law k.session cmd).0;
 }
 
@@ -278,7 +262,7 @@ pub takes_applied : Tells → Alone → (k new : Kept) (cmd : Cmd) (text : List 
     → IsReadAs refusal_text IsOutside text None → IsReadAs text_of_reply (λ reply. reply ≡ (step k.session cmd).1) text found → IfSome found (λ reply. IsReply reply) → Applies k cmd new → Takes k cmd text found new
 takes_applied tells law k new cmd text (Some reply) other going asks none h lawful applies = record {
   reads = (stepped_reply law k cmd reply other going h.0, h.1);
-  after = λ r e. stepped_after tells law k new cmd going applies ∙ ap (after k cmd) (sym h.0 ∙ found_is reply r e);
+  after = λ r e. stepped_after tells law k new cmd going applies ∙ ap (after k cmd) (sym h.0 ∙ same_Some reply r e);
   lawful = lawful;
 }
 takes_applied tells law k new cmd text None other going asks none h lawful applies = record {

@@ -1,6 +1,7 @@
 -- What one more event does to the greatest ticket, and to which tickets are accepted and noticed.
-use Rattle.std.proofs.Common.{◌≡◌, sym, ap, refl, ◌∙◌, subst, arith, tests, ℕ, ◌<◌, ◌==◌, Bool, true, false, ◌||◌, List, [], ◌∷◌, ◌++◌}
+use Rattle.std.proofs.Common.{◌≡◌, sym, ap, refl, ◌∙◌, subst, arith, ℕ, ◌<◌, ◌==◌, Bool, true, false, ◌||◌, List, [], ◌∷◌, ◌++◌}
 use Rattle.std.specs.Prelude.{◌&&◌, max}
+use Rattle.std.proofs.lemmas.Bool.{eqb-true}
 use Rattle.disk_contract.specs.declared.event.Event.{Event}
 use Rattle.disk_contract.specs.declared.event.Event.TheVariants.{Wrote, Lost, Noticed}
 use Rattle.disk_contract.specs.Cell.{greatest_ticket, is_accepted, is_noticed}
@@ -102,14 +103,11 @@ greatest_notice ticket (Wrote t b x ∷ log) = ap (max t) (greatest_notice ticke
 greatest_notice ticket (Lost b x ∷ log) = greatest_notice ticket log
 greatest_notice ticket (Noticed t ∷ log) = greatest_notice ticket log
 
-is_same : (a b : ℕ) → (a == b) ≡ true → a ≡ b
-is_same a b h = grind (arith, tests, h)
-
 marks_one : (ticket u : ℕ) (notes : List Note) → is_expected ticket notes ≡ true → ((ticket == u) && is_expected u notes) ≡ (ticket == u)
 marks_one ticket u notes there = go (ticket == u) refl
   where
     go : (b : Bool) → (ticket == u) ≡ b → (b && is_expected u notes) ≡ b
-    go true same = subst (λ k. is_expected k notes ≡ true) (is_same ticket u same) there
+    go true same = subst (λ k. is_expected k notes ≡ true) (eqb-true ticket u same) there
     go false same = refl
 
 pub tracked_notice : (log : List Event) (last ticket : ℕ) (old new : List Note) → IsTracked log last old → IsOpen ticket log

@@ -1,7 +1,7 @@
 -- Texts with their names: which lists have a name twice, and which rows `clap` keeps of one that has none.
 use Rattle.std.proofs.Common.{◌≡◌, ◌||◌, ◌&&◌, Bool, true, false, List, [], ◌∷◌, ◌++◌, map, refl, sym, ap, ◌∙◌, bytes_eq}
 use Rattle.std.specs.Prelude.{not}
-use Rattle.std.proofs.lemmas.Bool.{and_parts, false≢true}
+use Rattle.std.proofs.lemmas.Bool.{and_parts, or_parts, false≢true, not-true, or_right, and_right}
 use Rattle.std.proofs.lemmas.Slice.Eq.{bytes_eq-Decides}
 use Rattle.clap.specs.Walk.{Row, Text, has_row, with_values, without}
 use Rattle.clap.specs.declared.builder.value_parser.Reading.TheVariants.{AsWritten}
@@ -10,22 +10,6 @@ use Rattle.cmd_words.specs.Program.{kept}
 use Rattle.cmd_words.specs.Words.{Named, has_name, are_apart}
 
 -- ---- tests
-
-pub or_true : (b : Bool) → (b || true) ≡ true
-or_true true = refl
-or_true false = refl
-
-pub and_false : (b : Bool) → (b && false) ≡ false
-and_false true = refl
-and_false false = refl
-
-pub or_parts : (a b : Bool) → (a || b) ≡ false → (a ≡ false) × (b ≡ false)
-or_parts true b h = absurd (false≢true (sym h))
-or_parts false b h = (refl, h)
-
-pub not_parts : (a : Bool) → not a ≡ true → a ≡ false
-not_parts true h = absurd (false≢true h)
-not_parts false h = refl
 
 eq_sym : (a b : Text) → bytes_eq a b ≡ true → bytes_eq b a ≡ true
 eq_sym a b h = (bytes_eq-Decides b a).1 (sym ((bytes_eq-Decides a b).0 h))
@@ -41,7 +25,7 @@ ne_sym a b h = go (bytes_eq b a) refl
 
 pub has_there : (u t : Named) (us rest : List Named) → bytes_eq t.0 u.0 ≡ true → has_name u.0 (us ++ t ∷ rest) ≡ true
 has_there u t [] rest e = rw e refl
-has_there u t (v ∷ us) rest e = rw (has_there u t us rest e) (or_true (bytes_eq v.0 u.0))
+has_there u t (v ∷ us) rest e = rw (has_there u t us rest e) (or_right (bytes_eq v.0 u.0) true refl)
 
 has_fresh : (name : Text) (t : Named) (us : List Named) → has_name name us ≡ false → bytes_eq t.0 name ≡ false → has_name name (us ++ t ∷ []) ≡ false
 has_fresh name t [] h e = rw e refl
@@ -57,7 +41,7 @@ apart_repeat t (u ∷ us) rest has = go (λ h. apart_repeat t us rest h) (bytes_
     go : (has_name t.0 us ≡ true → are_apart (us ++ t ∷ rest) ≡ false) → (b : Bool) → bytes_eq u.0 t.0 ≡ b → (b || has_name t.0 us) ≡ true
         → (not (has_name u.0 (us ++ t ∷ rest)) && are_apart (us ++ t ∷ rest)) ≡ false
     go later true e h = rw (has_there u t us rest (eq_sym u.0 t.0 e)) refl
-    go later false e h = rw (later h) (and_false (not (has_name u.0 (us ++ t ∷ rest))))
+    go later false e h = rw (later h) (and_right (not (has_name u.0 (us ++ t ∷ rest))) false refl)
 
 -- and one whose name doesn't
 pub apart_more : (t : Named) (us : List Named) → are_apart us ≡ true → has_name t.0 us ≡ false → are_apart (us ++ t ∷ []) ≡ true
@@ -65,7 +49,7 @@ apart_more t [] apart fresh = refl
 apart_more t (u ∷ us) apart fresh =
     let here = or_parts (bytes_eq u.0 t.0) (has_name t.0 us) fresh in
     let parts = and_parts (not (has_name u.0 us)) (are_apart us) apart in
-    rw (has_fresh u.0 t us (not_parts _ parts.0) (ne_sym u.0 t.0 here.0), apart_more t us parts.1 here.1) refl
+    rw (has_fresh u.0 t us (not-true _ parts.0) (ne_sym u.0 t.0 here.0), apart_more t us parts.1 here.1) refl
 
 -- ---- what `clap` keeps
 

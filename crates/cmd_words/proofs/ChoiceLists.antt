@@ -1,17 +1,10 @@
 -- What one more item adds to a choice, and when an item says nothing.
-use Rattle.std.proofs.Common.{◌≡◌, sym, ap, refl, ◌∙◌, subst, arith, ℕ, zero, suc, ◌+◌, ◌<◌, ◌≤◌, List, [], ◌∷◌, ◌++◌, length, take, get_or, map, append_assoc, Option, Some, None, Bor}
+use Rattle.std.proofs.Common.{◌≡◌, sym, ap, refl, ◌∙◌, subst, arith, ℕ, zero, suc, ◌+◌, ◌<◌, List, [], ◌∷◌, ◌++◌, length, take, get_or, map, append_assoc, Option, Some, None, Bor}
 use Rattle.std.specs.Prelude.{option_map}
-use Rattle.std.proofs.lemmas.List.{take_more, get_or-map, length-map, append-nil}
+use Rattle.std.proofs.lemmas.List.{take_more, get_or-map, length-map}
 use Rattle.disk_memory.specs.Choice.{ChoiceState, with_fate}
 use Rattle.disk_memory.specs.declared.choice.Named.{Named}
-use Rattle.cmd_words.specs.ChoiceTexts.{all_of, with_more, tear_of_parts}
-
--- three parts or more are no tear
-pub many_parts : (parts : List (List ℕ)) → 3 ≤ length parts → None ≡ tear_of_parts parts
-many_parts [] h = absurd (omega (arith, h))
-many_parts (a ∷ []) h = absurd (omega (arith, h))
-many_parts (a ∷ b ∷ []) h = absurd (omega (arith, h))
-many_parts (a ∷ b ∷ c ∷ more) h = refl
+use Rattle.cmd_words.specs.ChoiceTexts.{all_of, with_more}
 
 -- what the items are called, in order
 abbrev pub texts : List (Bor (List ℕ)) → List (List ℕ)
@@ -61,11 +54,6 @@ says_nothing [] i low h = absurd (omega (arith, low))
 says_nothing (None ∷ xs) i low h = refl
 says_nothing (Some x ∷ xs) zero low h = cc h
 says_nothing (Some x ∷ xs) (suc i) low h = ap (option_map (λ others. x ∷ others)) (says_nothing xs i (omega (arith, low)) h)
-
--- ---- nothing yet, and all of it
-
-pub nothing_more : (c : ChoiceState) → with_more c (all_of []) ≡ Some c
-nothing_more c = ap (λ l. Some record c { named = l }) (append-nil c.named)
 
 -- ---- the same by the items
 

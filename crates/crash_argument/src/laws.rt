@@ -18,7 +18,7 @@ ghost use Rattle.layout_journal.specs.Formatted.{empty_header, formatted};
 ghost use Rattle.crash_argument.specs.Formatted.{mount_events};
 
 use crate::journal::the_journal_is_lawful;
-use layout_journal::journal_blocks_read_back;
+use layout_journal::{journal_blocks_read_back, the_formatted_disk_is_empty};
 
 /// Where the disk is as a ledger says, each honest image stands for one point.
 pub fn an_image_stands_for_one_point()
@@ -43,6 +43,7 @@ pub fn a_formatted_disk_is_mounted()
 {
     journal_blocks_read_back();
     the_journal_is_lawful();
+    the_formatted_disk_is_empty();
 }
 
 /// A notice is safe.

@@ -21,7 +21,8 @@ use crate::journal::the_journal_is_lawful;
 use base_types::Block;
 use disk_contract::{Disk, DiskFault};
 use layout_journal::{
-    Header, journal_blocks_are_told_apart, journal_blocks_read_back, write_header,
+    Header, journal_blocks_are_told_apart, journal_blocks_read_back, the_formatted_disk_is_empty,
+    write_header,
 };
 
 /// The header that opens a journal after this one, whose last record has the number `last`: an epoch above
@@ -101,4 +102,5 @@ pub fn the_formatted_disk_may_be_opened()
     the_journal_is_lawful();
     journal_blocks_are_told_apart();
     journal_blocks_read_back();
+    the_formatted_disk_is_empty();
 }

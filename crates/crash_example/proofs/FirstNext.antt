@@ -1,6 +1,6 @@
 -- The first record may follow on the formatted disk, and it frees no block.
 use Rattle.std.proofs.Common.{◌≡◌, ◌≢◌, inl, inr, ℕ, zero, suc, ◌<◌, ◌≤◌, ◌==◌, if◌then◌else◌, Bool, true, false, IsTrue, List, [], ◌∷◌, Some, None, slice_get, refl, sym, ◌∙◌, ap, subst, arith}
-use Rattle.std.proofs.lemmas.Bool.{ne_eqb, eq-eqb, eqb-true, eqb-false}
+use Rattle.std.proofs.lemmas.Bool.{ne_eqb, eq-eqb, eqb-true, eqb-false, cond-true, cond-false}
 use Rattle.std.proofs.lemmas.Option.{same_Some}
 use Rattle.base_types.specs.Seal.{Blocks, sha256}
 use Rattle.disk_contract.specs.Cell.{Cell}
@@ -16,7 +16,6 @@ use Rattle.crash_argument.specs.LastWrites.{IsDead}
 use Rattle.crash_argument.specs.Points.{ledger_at_mount}
 use Rattle.crash_argument.specs.PipelineData.{AreFreed}
 use Rattle.crash_argument.specs.Recording.{IsNextRecord}
-use Rattle.crash_example.proofs.Tests.{if_true, if_false}
 use Rattle.crash_example.proofs.FirstBitmap.{live_before, dead_before, live_between, live_after, lived_before}
 
 -- the formatted bitmap has the bits of the blocks before the data
@@ -25,13 +24,13 @@ bitmap_stands = refl
 
 -- after the record the bitmap block is its payload
 paid_block : (x : List ℕ) (b : ℕ) → 18 ≡ b → first_map x b ≡ first_bitmap
-paid_block x b at = if_true (b == 18) first_bitmap (if b == 23 then x else formatted least b) (eq-eqb b 18 (sym at))
+paid_block x b at = cond-true (b == 18) first_bitmap (if b == 23 then x else formatted least b) (eq-eqb b 18 (sym at))
 
 -- and a block for which it has no entry is as it was
 other_block : (x : List ℕ) (b : ℕ) → 18 ≢ b → 23 ≢ b → first_map x b ≡ formatted least b
 other_block x b apart other =
-    if_false (b == 18) first_bitmap (if b == 23 then x else formatted least b) (ne_eqb b 18 (λ e. apart (sym e)))
-    ∙ if_false (b == 23) x (formatted least b) (ne_eqb b 23 (λ e. other (sym e)))
+    cond-false (b == 18) first_bitmap (if b == 23 then x else formatted least b) (ne_eqb b 18 (λ e. apart (sym e)))
+    ∙ cond-false (b == 23) x (formatted least b) (ne_eqb b 23 (λ e. other (sym e)))
 
 -- what a choice that came out so was
 chosen : (t : Bool) (x y : List ℕ) → (if t then Some x else None) ≡ Some y → (t ≡ true) × (x ≡ y)

@@ -1,6 +1,6 @@
 -- One record over a disk: what its writer has after each block, and what is known once its tickets are waited for.
-use Rattle.std.proofs.Common.{◌≡◌, ◌⊎◌, ⊎_elim, ℕ, zero, suc, ◌+◌, ◌<◌, ◌≤◌, Bool, true, false, ◌||◌, List, [], ◌∷◌, ◌++◌, length, take, slice_get, slice_index_or, Some, Result, Ok, Err, IsErr, refl, sym, ◌∙◌, ap, subst, arith, length-append, take_all}
-use Rattle.std.proofs.lemmas.Bool.{or_cases, false≢true}
+use Rattle.std.proofs.Common.{◌≡◌, ◌⊎◌, ⊎_elim, ℕ, zero, suc, ◌+◌, ◌<◌, ◌≤◌, List, [], ◌∷◌, ◌++◌, length, take, slice_get, slice_index_or, Some, Result, Ok, Err, IsErr, sym, ◌∙◌, ap, subst, arith, length-append, take_all}
+use Rattle.std.proofs.lemmas.Bool.{or_cases, false≢true, or_left, or_right}
 use Rattle.base_types.specs.Seal.{Blocks}
 use Rattle.disk_contract.specs.declared.event.Event.{Event}
 use Rattle.disk_contract.specs.declared.event.Event.TheVariants.{Wrote, Lost, Noticed}
@@ -22,15 +22,7 @@ pub noticed_stays : (t : ℕ) (log more : List Event) → IsNoticed t log → Is
 noticed_stays t [] more h = absurd (false≢true h)
 noticed_stays t (Wrote u b x ∷ log) more h = noticed_stays t log more h
 noticed_stays t (Lost b x ∷ log) more h = noticed_stays t log more h
-noticed_stays t (Noticed u ∷ log) more h = ⊎_elim (λ e. left _ _ e) (λ r. right _ _ (noticed_stays t log more r)) (or_cases _ _ h)
-  where
-    left : (p q : Bool) → p ≡ true → (p || q) ≡ true
-    left true q e = refl
-    left false q e = cc
-
-    right : (p q : Bool) → q ≡ true → (p || q) ≡ true
-    right true q e = refl
-    right false q e = e
+noticed_stays t (Noticed u ∷ log) more h = ⊎_elim (λ e. or_left _ _ e) (λ r. or_right _ _ (noticed_stays t log more r)) (or_cases _ _ h)
 
 -- and so do several
 pub all_stay : (ts : List ℕ) (log more : List Event) → AllNoticed log ts → AllNoticed (log ++ more) ts
@@ -108,7 +100,3 @@ pub only_noticed : (base : Blocks) (log : List Event) (l : Ledger) (p : Pipeline
     → AreAllNoticed log (with_record l w m) (with_committed p l w tickets freed) number
 only_noticed base log l p w m tickets freed number knows none noticed = λ i v ts is at low.
     subst (λ (us : List ℕ). AllNoticed log us) (only_one p.tickets tickets ts i (knows.count ∙ ap (λ (vs : List WrittenRecord). length (vs ++ w ∷ [])) none) at) noticed
-
--- the next number is one more with the record
-pub one_longer : (l : Ledger) (w : WrittenRecord) (m : Blocks) → next_number (with_record l w m) ≡ next_number l + 1
-one_longer l w m = omega (arith, length-append l.records (w ∷ []))

@@ -4,12 +4,8 @@ use Rattle.base_types.specs.Counts.{after_call, after_calls, next_count}
 use Rattle.disk_contract.specs.declared.event.Event.{Event}
 use Rattle.disk_contract.specs.declared.disk.DiskFault.{DiskFault}
 use Rattle.disk_contract.specs.Cell.{IsNoticed}
-use Rattle.disk_contract.specs.Disk.{State, SameDisk, AddsWrite, AddsNotices, OnlyWaits, SpendsUpTo, MadeUpTo}
+use Rattle.disk_contract.specs.Disk.{State, AddsWrite, AddsNotices, OnlyWaits, SpendsUpTo, MadeUpTo}
 use Rattle.crash_argument.specs.Opening.{AddsWaited}
-
--- a disk that is the same twice over
-same_twice : (a b c : State) → SameDisk a b → SameDisk b c → SameDisk a c
-same_twice a b c one two = record { blocks = two.blocks ∙ one.blocks; base = two.base ∙ one.base; manner = two.manner ∙ one.manner }
 
 -- calls behind calls
 after_sum : (n m x : ℕ) → after_calls n (after_calls m x) ≡ after_calls (n + m) x
@@ -30,7 +26,7 @@ waits_on true m n a b c one two = (two.0 + m, omega (arith, two.1), two.2 ∙ ap
 -- what calls spend behind others of which none failed
 pub spends_on : (failed : Bool) (m n : ℕ) (a b c : State) → SpendsUpTo false m a b → SpendsUpTo failed n b c → SpendsUpTo failed (n + m) a c
 spends_on failed m n a b c one two = record {
-  same = same_twice a b c one.same two.same;
+  same = record { blocks = two.same.blocks ∙ one.same.blocks; base = two.same.base ∙ one.same.base; manner = two.same.manner ∙ one.same.manner };
   faults = two.faults ∙ ap (after_call failed) one.faults;
   read_faults = two.read_faults ∙ one.read_faults;
   waits = waits_on failed m n a.waits b.waits c.waits one.waits two.waits;

@@ -1,5 +1,5 @@
 -- What records leave in a block, as the replay goes on.
-use Rattle.std.proofs.Common.{◌≡◌, ◌⊎◌, ⊎_elim, ℕ, suc, ◌+◌, ◌<◌, ◌≤◌, Bool, true, false, List, [], ◌∷◌, length, drop, get_or, Option, Some, None, refl, sym, ◌∙◌, ap, arith, drop-cons, add-one, if◌then◌else◌, slice_set, get_or-set_same, get_or-set_other, length-set}
+use Rattle.std.proofs.Common.{◌≡◌, ℕ, suc, ◌+◌, ◌<◌, ◌≤◌, Bool, true, false, List, [], ◌∷◌, length, drop, get_or, Option, Some, None, refl, sym, ◌∙◌, ap, drop-cons, add-one, if◌then◌else◌}
 use Rattle.base_types.specs.Seal.{Blocks, blocks_of}
 use Rattle.layout_geometry.specs.Geometry.{Geometry}
 use Rattle.layout_journal.specs.Run.{Record, payload_of, names_block, or_else, otherwise, covered_by, replayed}
@@ -51,24 +51,3 @@ pub record AreReplayed (g : Geometry) (image : List (List ℕ)) (rs : List Recor
   pub count : length blocks ≡ g.n
   pub done : (b : ℕ) → b < k → blocks_of blocks b ≡ replayed g (blocks_of image) rs b
   pub ahead : (b : ℕ) → k ≤ b → blocks_of blocks b ≡ blocks_of image b
-
--- none of them is, before the first
-pub replayed_none : (g : Geometry) (image : List (List ℕ)) (rs : List Record) (blocks : List (List ℕ)) → length image ≡ g.n → blocks ≡ image → AreReplayed g image rs 0 blocks
-replayed_none g image rs blocks size same = record {
-  count = ap length same ∙ size;
-  done = λ b lt. absurd (omega arith);
-  ahead = λ b le. ap (λ (l : List (List ℕ)). blocks_of l b) same;
-}
-
--- one block more
-pub replayed_more : (g : Geometry) (image : List (List ℕ)) (rs : List Record) (k : ℕ) (blocks new : List (List ℕ)) (x : List ℕ)
-    → AreReplayed g image rs k blocks → k < g.n → new ≡ slice_set blocks k x → x ≡ replayed g (blocks_of image) rs k → AreReplayed g image rs (k + 1) new
-replayed_more g image rs k blocks new x a lt set is = record {
-  count = ap length set ∙ length-set blocks k x ∙ a.count;
-  done = λ b below. ⊎_elim (λ eq. ap (λ (l : List (List ℕ)). blocks_of l b) set ∙ ap (blocks_of (slice_set blocks k x)) eq ∙ get_or-set_same blocks k x [] (omega (arith, a.count)) ∙ is ∙ ap (replayed g (blocks_of image) rs) (sym eq))
-      (λ under. ap (λ (l : List (List ℕ)). blocks_of l b) set ∙ get_or-set_other blocks k b x [] (omega (arith, under)) ∙ a.done b under) (split b below);
-  ahead = λ b le. ap (λ (l : List (List ℕ)). blocks_of l b) set ∙ get_or-set_other blocks k b x [] (omega (arith, le)) ∙ a.ahead b (omega (arith, le));
-}
-  where
-    split : (b : ℕ) → b < k + 1 → (b ≡ k) ⊎ (b < k)
-    split b lt = grind arith

@@ -1,5 +1,5 @@
 -- Of which disks a header may be.
-use Rattle.std.proofs.Common.{◌≡◌, ◌⊎◌, ⊎_elim, ℕ, ◌<◌, true, List, Option, Some, None, refl, sym, ◌∙◌, arith, ◌↔◌, IfSome}
+use Rattle.std.proofs.Common.{◌≡◌, ◌⊎◌, ⊎_elim, ℕ, ◌<◌, true, List, Option, Some, None, refl, arith, ◌↔◌}
 use Rattle.layout_geometry.specs.Geometry.{Geometry, geometry_fits, IsGeometry}
 use Rattle.layout_journal.specs.declared.header.Header.{Header}
 use Rattle.layout_journal.specs.Layout.{header_of, IsWithinDisk}
@@ -18,8 +18,3 @@ no_header law keep n b far = none_or (header_of n b) (λ h e.
     none_or : {A : Type 0} (o : Option A) → ((y : A) → o ≡ Some y → ⊥) → o ≡ None
     none_or None f = refl
     none_or (Some y) f = absurd (f y refl)
-
--- what is read as a header is of a disk of this size
-pub sized : HeadersKeep → (n k : ℕ) (b : List ℕ) (o : Option Header) → o ≡ header_of k b → k ≡ n → IfSome o (λ h. h.geom.n ≡ n)
-sized keep n k b None e same = tt
-sized keep n k b (Some h) e same = (keep k b h (sym e)).blocks ∙ same

@@ -1,6 +1,7 @@
 -- What the commit block and the descriptors of a record say of its entries.
 use Rattle.std.proofs.Common.{◌≡◌, ◌⊎◌, ⊎_elim, ℕ, ◌+◌, ◌-◌, ◌*◌, ◌/◌, ◌<◌, ◌≤◌, min, List, ◌++◌, length, take, drop, Some, refl, sym, ◌∙◌, ap, ap₂, subst, arith, length-append, length-take, length-drop, take_all, take-append-drop}
 use Rattle.std.proofs.Math.Seq.{take-add, take-append_seam, drop-append_seam, take-append-le, drop-append-le}
+use Rattle.std.proofs.lemmas.Option.{same_Some}
 use Rattle.base_types.specs.Seal.{Blocks}
 use Rattle.layout_geometry.specs.Geometry.{Geometry, ring_block}
 use Rattle.layout_journal.specs.declared.header.Header.{Header}
@@ -10,10 +11,6 @@ use Rattle.layout_journal.specs.declared.entry.Entry.{Entry}
 use Rattle.layout_journal.specs.Layout.{commit_of, IsWithinRing, descriptor_of, descriptor_count}
 use Rattle.layout_journal.specs.Run.{Record, entries, commit_says}
 use Rattle.crash_record.specs.Found.{IsOnly, IsDescribed, HasCommit, HasPart, HasParts}
-
--- what is there twice is the same
-some_same : {A : Type 0} {x y : A} → Some x ≡ Some y → x ≡ y
-some_same e = cc
 
 -- commit blocks are the same where their fields are
 commit_same : (c d : Commit) → c.epoch ≡ d.epoch → c.number ≡ d.number → c.descriptors ≡ d.descriptors → c.payloads ≡ d.payloads → c.fresh ≡ d.fresh → c ≡ d
@@ -39,7 +36,7 @@ CommitsKeep = (g : Geometry) (b : List ℕ) (c : Commit) → commit_of g b ≡ S
 module _ (img : Blocks) (h : Header) (number place : ℕ) where
   -- the commit block at the place of a described record is what it says
   pub described_commit : (c : Commit) (r : Record) → HasCommit img h number place c → r.place ≡ place → IsDescribed img h r → commit_says h.epoch r ≡ c
-  described_commit c r has at described = some_same (sym described.commit ∙ ap (λ p. commit_of h.geom (img (ring_block h.geom p))) at ∙ has.stands)
+  described_commit c r has at described = same_Some _ _ (sym described.commit ∙ ap (λ p. commit_of h.geom (img (ring_block h.geom p))) at ∙ has.stands)
 
   -- where no commit block fits, no record is described
   pub no_commit : ((c : Commit) → ¬ HasCommit img h number place c) → (r : Record) → r.number ≡ number → r.place ≡ place → ¬ IsDescribed img h r
@@ -53,7 +50,7 @@ module _ (img : Blocks) (h : Header) (number place : ℕ) where
 
   -- a descriptor has one list of entries
   part_same : (k : ℕ) (es fs : List Entry) → HasPart img h number place k es → HasPart img h number place k fs → es ≡ fs
-  part_same k es fs a b = ap (λ (d : Descriptor). d.entries) (some_same (sym a ∙ b))
+  part_same k es fs a b = ap (λ (d : Descriptor). d.entries) (same_Some _ _ (sym a ∙ b))
 
   -- how many entries a described record has
   total_is : (c : Commit) (r : Record) → HasCommit img h number place c → r.place ≡ place → IsDescribed img h r → length (entries r) ≡ c.payloads + c.fresh

@@ -1,6 +1,6 @@
 -- Whole records: what the tests on their blocks say.
-use Rattle.std.proofs.Common.{◌≡◌, ℕ, zero, suc, ◌+◌, ◌<◌, Bool, true, ◌&&◌, bytes_eq, List, [], ◌∷◌, refl, ap₂, subst, arith}
-use Rattle.std.proofs.lemmas.Bool.{and_parts}
+use Rattle.std.proofs.Common.{◌≡◌, ℕ, zero, suc, ◌+◌, ◌<◌, true, bytes_eq, List, [], ◌∷◌, refl, subst, arith}
+use Rattle.std.proofs.lemmas.Bool.{and_parts, and_from}
 use Rattle.std.proofs.lemmas.Slice.Eq.{bytes_eq-Decides}
 use Rattle.base_types.specs.Seal.{Blocks, sha256}
 use Rattle.layout_geometry.specs.Geometry.{Geometry, ring_block}
@@ -8,10 +8,6 @@ use Rattle.layout_journal.specs.declared.header.Header.{Header}
 use Rattle.layout_journal.specs.declared.entry.Entry.{Entry}
 use Rattle.layout_journal.specs.Run.{Record, heads, entries_fit, Fits, IsWhole}
 use Rattle.crash_record.specs.Found.{IsDescribed, AllFit, AllMatch, fits, payloads_fit, fresh_fit}
-
--- both tests hold
-both : {a b : Bool} → a ≡ true → b ≡ true → (a && b) ≡ true
-both {a} {b} p q = ap₂ (λ x y. x && y) p q
 
 -- a payload that passes fits its entry
 fits_true : (e : Entry) (stored : List ℕ) → fits e stored ≡ true → Fits e stored
@@ -21,7 +17,7 @@ fits_true e stored t =
 
 -- so a payload that fits its entry passes
 fits_back : (e : Entry) (stored : List ℕ) → Fits e stored → fits e stored ≡ true
-fits_back e stored f = both ((bytes_eq-Decides (sha256 stored) e.digest).1 f.digest) f.kind
+fits_back e stored f = and_from _ _ ((bytes_eq-Decides (sha256 stored) e.digest).1 f.digest) f.kind
 
 -- payloads that pass each fit
 all_fit : (g : Geometry) (img : Blocks) (place : ℕ) (es : List Entry) → payloads_fit g img place es ≡ true → AllFit g img place es
@@ -44,7 +40,7 @@ all_fit g img place (x ∷ es) t (suc i) e at =
 all_fit_back : (g : Geometry) (img : Blocks) (place : ℕ) (es : List Entry) → AllFit g img place es → payloads_fit g img place es ≡ true
 all_fit_back g img place [] f = refl
 all_fit_back g img place (x ∷ es) f =
-    both (fits_back x (img (ring_block g place)) (subst (λ n. Fits x (img (ring_block g n))) (start place) (f 0 x refl)))
+    and_from _ _ (fits_back x (img (ring_block g place)) (subst (λ n. Fits x (img (ring_block g n))) (start place) (f 0 x refl)))
     (all_fit_back g img (place + 1) es (λ i e at. subst (λ n. Fits e (img (ring_block g n))) (later place i) (f (suc i) e at)))
   where
     start : (n : ℕ) → n + 0 ≡ n
@@ -65,7 +61,7 @@ all_match img (x ∷ es) t (suc i) e at = all_match img es (and_parts (bytes_eq 
 -- so fresh blocks that each match pass
 all_match_back : (img : Blocks) (es : List Entry) → AllMatch img es → fresh_fit img es ≡ true
 all_match_back img [] f = refl
-all_match_back img (x ∷ es) f = both ((bytes_eq-Decides (sha256 (img x.block)) x.digest).1 (f 0 x refl)) (all_match_back img es (λ i e at. f (suc i) e at))
+all_match_back img (x ∷ es) f = and_from _ _ ((bytes_eq-Decides (sha256 (img x.block)) x.digest).1 (f 0 x refl)) (all_match_back img es (λ i e at. f (suc i) e at))
 
 -- a described record is whole where its entries are in order, its payloads fit, and its fresh blocks past `sure` do
 pub whole_if : (img : Blocks) (h : Header) (r : Record) → IsDescribed img h r → entries_fit h.geom r ≡ true → payloads_fit h.geom img (r.place + heads r) r.payloads ≡ true

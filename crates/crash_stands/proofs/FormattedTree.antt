@@ -1,6 +1,7 @@
 -- The blocks of a formatted disk stand for the tree of the root alone.
 use Rattle.std.proofs.Common.{◌≡◌, ◌≢◌, ℕ, zero, suc, ◌*◌, ◌<◌, ◌≤◌, ◌&&◌, ◌||◌, true, false, true≢false, IsTrue, nat_lt, nat_le, if◌then◌else◌, [], length, replicate, slice_get, Some, None, unwrap_or, option_map, sym, refl, subst, ap, ◌∙◌, ◌⊎◌, inl, inr, arith}
 use Rattle.std.proofs.lemmas.Bool.{cases_Bool, cases_eq, and_parts, and_from, ltb-true, ltb-false, leb-true, lt-ltb, le-ltb, le-leb}
+use Rattle.std.proofs.lemmas.Option.{none-some}
 use Rattle.base_types.specs.Seal.{Blocks}
 use Rattle.base_types.specs.Runs.{run_places}
 use Rattle.layout_geometry.specs.Geometry.{Geometry, IsGeometry, bitmap_start, bitmap_blocks, data_start}
@@ -14,7 +15,7 @@ use Rattle.lang_tree.specs.Step.{start}
 use Rattle.crash_stands.specs.Files.{used_node, files_of, file_of, past_content}
 use Rattle.crash_stands.specs.Inodes.{ADir, AreInodesOf, IsInodeOf, root_alone}
 use Rattle.crash_stands.specs.Stands.{HasBlock, AreSound, IsTreeOf}
-use Rattle.crash_stands.proofs.Root.{root_is_map, none_some}
+use Rattle.crash_stands.proofs.Root.{root_is_map}
 use Rattle.crash_stands.proofs.FormattedBlocks.{IsFormatted, bits, root_node, other_bytes, other_nodes}
 
 module _ (g : Geometry) (m : Blocks) (same : (b : ℕ) → bitmap_start g ≤ b → b < data_start g → m b ≡ formatted g b) (is : IsGeometry g) (law : IsFormatted g) where
@@ -31,13 +32,13 @@ module _ (g : Geometry) (m : Blocks) (same : (b : ℕ) → bitmap_start g ≤ b 
 
   -- a node in use is the root
   used_is : (k : ℕ) (node : Node) → used_node g m k ≡ Some node → node ≡ empty_root
-  used_is zero node e = absurd (none_some node e)
+  used_is zero node e = absurd (none-some node e)
   used_is (suc zero) node e = ap (λ o. unwrap_or o node) (sym e ∙ used_root)
-  used_is (suc (suc k)) node e = absurd (none_some node (sym (used_other (suc (suc k)) (omega arith)) ∙ e))
+  used_is (suc (suc k)) node e = absurd (none-some node (sym (used_other (suc (suc k)) (omega arith)) ∙ e))
 
   -- no node has a block
   no_block : (k i b : ℕ) → HasBlock g m k i b → ⊥
-  no_block k i b h = none_some b (subst (λ node. slice_get (run_places node.runs) i ≡ Some b) (used_is k h.node h.is_node) h.place)
+  no_block k i b h = none-some b (subst (λ node. slice_get (run_places node.runs) i ≡ Some b) (used_is k h.node h.is_node) h.place)
 
   are_inodes : AreInodesOf (files_of g m) root_alone
   are_inodes zero = refl
@@ -64,7 +65,7 @@ module _ (g : Geometry) (m : Blocks) (same : (b : ℕ) → bitmap_start g ≤ b 
   zeros_where_none k low high none = by (cases_eq k 1)
     where
       by : (k ≡ 1) ⊎ (k ≢ 1) → node_bytes g m k ≡ replicate 256 0
-      by (inl e) = absurd (none_some empty_root (sym none ∙ ap (node_at g m) e ∙ root_node g m same is law))
+      by (inl e) = absurd (none-some empty_root (sym none ∙ ap (node_at g m) e ∙ root_node g m same is law))
       by (inr d) = other_bytes g m same is law k (omega (arith, low, d)) high
 
   sound : AreSound g m

@@ -3,23 +3,20 @@ use Rattle.std.proofs.Common.{◌≡◌, ◌≢◌, ℕ, zero, suc, true, false,
 use Rattle.std.proofs.lemmas.Bool.{cases_Bool}
 use Rattle.std.proofs.lemmas.List.{same_from_push}
 use Rattle.std.proofs.lemmas.Slice.Eq.{bytes_eq-Decides}
+use Rattle.std.proofs.lemmas.Option.{none-some}
 use Rattle.layout_bytes.specs.declared.slot.Slot.{Slot}
 use Rattle.lang_tree.specs.Tree.{Tree}
 use Rattle.crash_stands.specs.Inodes.{Inode, Inodes, ADir, AreDistinct}
 use Rattle.crash_stands.specs.Walks.{entries_of, entry_in, node_in, walk, LeadsTo}
 use Rattle.crash_stands.specs.Maps.{IsMapOf}
-use Rattle.crash_stands.proofs.Root.{none_some}
 use Rattle.crash_stands.proofs.SoundTree.{walk_end}
-
-one_less : (j k : ℕ) → suc j ≡ suc k → j ≡ k
-one_less j k e = omega (arith, e)
 
 -- the name of each slot leads to its node
 finds : (slots : List Slot) (i : ℕ) (s : Slot) → AreDistinct slots → slice_get slots i ≡ Some s → node_in slots s.name ≡ Some s.node
-finds [] i s distinct at = absurd (none_some s at)
+finds [] i s distinct at = absurd (none-some s at)
 finds (x ∷ slots) zero s distinct at =
     ap (λ b. cond b (Some x.node) (node_in slots s.name)) ((bytes_eq-Decides x.name s.name).1 (ap (λ o. (unwrap_or o s).name) at)) ∙ ap (λ o. Some ((unwrap_or o s).node)) at
-finds (x ∷ slots) (suc i) s distinct at = by (finds slots i s (λ j k u v at_j at_k same. one_less j k (distinct (suc j) (suc k) u v at_j at_k same)) at) (cases_Bool (bytes_eq x.name s.name))
+finds (x ∷ slots) (suc i) s distinct at = by (finds slots i s (λ j k u v at_j at_k same. omega (arith, distinct (suc j) (suc k) u v at_j at_k same)) at) (cases_Bool (bytes_eq x.name s.name))
   where
     by : node_in slots s.name ≡ Some s.node → (bytes_eq x.name s.name ≡ true) ⊎ (bytes_eq x.name s.name ≡ false) → node_in (x ∷ slots) s.name ≡ Some s.node
     by rest (inl e) = absurd (omega (arith, distinct 0 (suc i) x s refl at ((bytes_eq-Decides x.name s.name).0 e)))

@@ -4,6 +4,7 @@ use Rattle.std.proofs.lemmas.Bool.{and_parts, leb-true}
 use Rattle.std.specs.Cmp.{nat_cmp_total}
 use Rattle.std.specs.Cmp.Lexicographic.{lists_total}
 use Rattle.std.specs.FinMap.{nat_cmp-IsAntisymmetric, slice_cmp-IsAntisymmetric, same_map}
+use Rattle.std.proofs.lemmas.Option.{none-some}
 use Rattle.base_types.specs.Seal.{Blocks}
 use Rattle.layout_geometry.specs.Geometry.{Geometry}
 use Rattle.layout_bytes.specs.Bytes.{when}
@@ -13,7 +14,6 @@ use Rattle.crash_stands.specs.Files.{FileNode, Files, files_of, file_of}
 use Rattle.crash_stands.specs.Inodes.{Inode, Inodes, IsInodeOf, AreInodesOf, inode_of, inodes_of}
 use Rattle.crash_stands.specs.Maps.{IsMapOf}
 use Rattle.crash_stands.specs.Stands.{IsTreeOf}
-use Rattle.crash_stands.proofs.Root.{none_some}
 
 -- functions that agree everywhere are the same
 pub everywhere : {A : Type 0} (f h : ℕ → A) → ((k : ℕ) → f k ≡ h k) → f ≡ h
@@ -50,7 +50,7 @@ pub all_read : (files : Files) → ((k : ℕ) (file : FileNode) → files k ≡ 
 all_read files reads k = by (files k) (reads k)
   where
     in_use : (file : FileNode) (o : Option Inode) → inode_of file ≡ o → (x : Inode) × (inode_of file ≡ Some x) → IsInodeOf (Some file) o
-    in_use file None is x = none_some x.0 (sym is ∙ x.1)
+    in_use file None is x = none-some x.0 (sym is ∙ x.1)
     in_use file (Some y) is x = is
 
     by : (o : Option FileNode) → ((file : FileNode) → o ≡ Some file → (x : Inode) × (inode_of file ≡ Some x)) → IsInodeOf o (option_and_then inode_of o)
@@ -61,13 +61,13 @@ all_read files reads k = by (files k) (reads k)
 
 -- an inode has a node in use
 file_with : (file : Option FileNode) (x : Inode) → IsInodeOf file (Some x) → (f : FileNode) × (file ≡ Some f)
-file_with None x e = absurd (none_some x (sym e))
+file_with None x e = absurd (none-some x (sym e))
 file_with (Some f) x e = (f, refl)
 
 -- a node in use has a number of one
 number_with : {A B : Type 0} (t : Bool) (f : A → B) (o : Option A) (y : B) → option_map f (when t o) ≡ Some y → t ≡ true
 number_with true f o y e = refl
-number_with false f o y e = absurd (none_some y e)
+number_with false f o y e = absurd (none-some y e)
 
 -- each inode has a number of a node
 pub numbers_within : (g : Geometry) (b : Blocks) (m : Inodes) → AreInodesOf (files_of g b) m → (k : ℕ) (x : Inode) → m k ≡ Some x → (1 ≤ k) × (k ≤ g.i)

@@ -5,6 +5,7 @@ use Rattle.std.specs.Ordering.{eq_by_cmp}
 use Rattle.std.specs.Cmp.{nat_cmp_total}
 use Rattle.std.specs.Cmp.Lexicographic.{lists_total}
 use Rattle.std.specs.FinMap.{get, insert, empty, get-insert, get-empty}
+use Rattle.std.proofs.lemmas.Option.{same_Some, none-some}
 use Rattle.layout_bytes.specs.declared.slot.Slot.{Slot}
 use Rattle.lang_tree.specs.Tree.{path_cmp, Dir}
 use Rattle.lang_tree.specs.Step.{start}
@@ -12,21 +13,15 @@ use Rattle.crash_stands.specs.Inodes.{Inode, ADir, AFile, root_alone, thing_of, 
 use Rattle.crash_stands.specs.Walks.{entries_of, walk, LeadsTo}
 use Rattle.crash_stands.specs.Maps.{IsMapOf}
 
-pub none_some : {A : Type 0} (x : A) → None ≡ Some x → ⊥
-none_some x e = cc
-
-some_same : {A : Type 0} (x y : A) → Some x ≡ Some y → x ≡ y
-some_same x y e = cc
-
 -- each walk that ends somewhere has no name in it, and ends at the root
 ends : (p : List (List ℕ)) (k : ℕ) → LeadsTo root_alone p k → (p ≡ []) × (k ≡ 1)
-ends [] k e = (refl, sym (some_same 1 k e))
-ends (name ∷ p) k e = absurd (none_some k e)
+ends [] k e = (refl, sym (same_Some 1 k e))
+ends (name ∷ p) k e = absurd (none-some k e)
 
 at_root : (k : ℕ) (x : Inode) → root_alone k ≡ Some x → (k ≡ 1) × (x ≡ ADir [])
-at_root zero x e = absurd (none_some x e)
-at_root (suc zero) x e = (refl, sym (some_same (ADir []) x e))
-at_root (suc (suc k)) x e = absurd (none_some x e)
+at_root zero x e = absurd (none-some x e)
+at_root (suc zero) x e = (refl, sym (same_Some (ADir []) x e))
+at_root (suc (suc k)) x e = absurd (none-some x e)
 
 file_dir : (links : ℕ) (bytes : List ℕ) → AFile links bytes ≡ ADir [] → ⊥
 file_dir links bytes e = cc
@@ -35,17 +30,11 @@ no_slots : (slots : List Slot) → ADir slots ≡ ADir [] → slots ≡ []
 no_slots slots e = cc
 
 root_is_distinct : (k : ℕ) (slots : List Slot) → root_alone k ≡ Some (ADir slots) → AreDistinct slots
-root_is_distinct k slots e i j s t at_i at_j same = absurd (none_some s (subst (λ l. slice_get l i ≡ Some s) (no_slots slots (at_root k (ADir slots) e).1) at_i))
+root_is_distinct k slots e i j s t at_i at_j same = absurd (none-some s (subst (λ l. slice_get l i ≡ Some s) (no_slots slots (at_root k (ADir slots) e).1) at_i))
 
 same_names : (p : List (List ℕ)) → get {R = path_cmp} (insert empty [] 1) p ≡ walk (entries_of root_alone) 1 p
 same_names [] = get-insert (lists_total (lists_total nat_cmp_total)) empty [] 1 []
 same_names (name ∷ p) = get-insert (lists_total (lists_total nat_cmp_total)) empty [] 1 (name ∷ p) ∙ get-empty path_cmp (name ∷ p)
-
-tied : (a b : ℕ) → a ≡ b → eq_by_cmp nat_cmp a b ≡ true
-tied a b e = grind arith
-
-apart : (a b : ℕ) → (a ≡ b → ⊥) → eq_by_cmp nat_cmp a b ≡ false
-apart a b n = grind arith
 
 nothing_else : (k : ℕ) → (k ≡ 1 → ⊥) → root_alone k ≡ None
 nothing_else zero n = refl
@@ -56,8 +45,12 @@ same_nodes : (k : ℕ) → get {R = nat_cmp} (insert empty 1 Dir) k ≡ option_m
 same_nodes k = get-insert nat_cmp_total empty 1 Dir k ∙ by (cases_eq k 1)
   where
     by : (k ≡ 1) ⊎ (k ≡ 1 → ⊥) → cond (eq_by_cmp nat_cmp k 1) (Some Dir) (get {R = nat_cmp} empty k) ≡ option_map thing_of (root_alone k)
-    by (inl e) = ap (λ b. cond b (Some Dir) (get {R = nat_cmp} empty k)) (tied k 1 e) ∙ ap (λ n. option_map thing_of (root_alone n)) (sym e)
-    by (inr n) = ap (λ b. cond b (Some Dir) (get {R = nat_cmp} empty k)) (apart k 1 n) ∙ get-empty nat_cmp k ∙ sym (ap (option_map thing_of) (nothing_else k n))
+    by (inl e) =
+        let tied : eq_by_cmp nat_cmp k 1 ≡ true = grind arith in
+        ap (λ b. cond b (Some Dir) (get {R = nat_cmp} empty k)) tied ∙ ap (λ n. option_map thing_of (root_alone n)) (sym e)
+    by (inr n) =
+        let apart : eq_by_cmp nat_cmp k 1 ≡ false = grind arith in
+        ap (λ b. cond b (Some Dir) (get {R = nat_cmp} empty k)) apart ∙ get-empty nat_cmp k ∙ sym (ap (option_map thing_of) (nothing_else k n))
 
 number_of : (k : ℕ) (x : Inode) → root_alone k ≡ Some x → k ≡ 1
 number_of k x e = (at_root k x e).0

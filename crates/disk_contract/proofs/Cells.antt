@@ -1,27 +1,17 @@
 -- Laws of cells.
 use Rattle.std.proofs.Common.{◌≡◌, ◌≢◌, ◌⊎◌, inl, inr, ⊎_elim, ℕ, ◌<◌, max, Bool, true, false, ◌==◌, ◌||◌, if◌then◌else◌, List, [], ◌∷◌, ◌++◌, length, Some, None, refl, sym, ◌∙◌, ap, subst, arith}
-use Rattle.std.proofs.lemmas.Bool.{eqb-true, eqb-false, eq-eqb, or_cases, false≢true}
+use Rattle.std.proofs.lemmas.Bool.{eqb-true, eqb-false, eq-eqb, or_cases, false≢true, cond-true, cond-false, or_left, or_right}
 use Rattle.std.proofs.Math.Bool.{or_assoc}
 use Rattle.base_types.specs.Seal.{Blocks}
 use Rattle.disk_contract.specs.declared.event.Event.{Event}
 use Rattle.disk_contract.specs.declared.event.Event.TheVariants.{Wrote, Lost, Noticed}
-use Rattle.disk_contract.specs.Cell.{Write, Cell, is_ticket, from_ticket, settle, with_write, after, after_all, cell_of, accepted_from, greatest_ticket, is_accepted, is_noticed, IsNoticed, IsWritten, notices}
+use Rattle.disk_contract.specs.Cell.{Write, Cell, is_ticket, from_ticket, settle, with_write, after, after_all, cell_of, accepted_from, greatest_ticket, is_noticed, IsNoticed, IsWritten, notices}
 use Rattle.disk_contract.specs.Crash.{AreBytesOf, MayHold, IsTorn}
 
 -- both ways of a test
 pub by_test : {A R : Type 0} (P : A → Type 0) (b : Bool) (x y : A) → P (if b then x else y) → (b ≡ true → P x → R) → (b ≡ false → P y → R) → R
 by_test P true x y h f g = f refl h
 by_test P false x y h f g = g refl h
-
--- a choice whose test holds is the first value
-pub if_true : {A : Type 0} (b : Bool) (x y : A) → b ≡ true → (if b then x else y) ≡ x
-if_true true x y e = refl
-if_true false x y e = cc
-
--- a choice whose test fails is the second value
-pub if_false : {A : Type 0} (b : Bool) (x y : A) → b ≡ false → (if b then x else y) ≡ y
-if_false true x y e = cc
-if_false false x y e = refl
 
 -- a cell goes through two lists of events one after the other
 pub after_all-append : (b : ℕ) (c : Cell) (xs ys : List Event) → after_all b c (xs ++ ys) ≡ after_all b (after_all b c xs) ys
@@ -105,37 +95,29 @@ IsNoticed-append t [] ys h = inr h
 IsNoticed-append t (Wrote u b y ∷ xs) ys h = IsNoticed-append t xs ys h
 IsNoticed-append t (Lost b y ∷ xs) ys h = IsNoticed-append t xs ys h
 IsNoticed-append t (Noticed u ∷ xs) ys h =
-    ⊎_elim (λ e. inl (or_true_left _ _ e)) (λ r. ⊎_elim (λ p. inl (or_true_right _ _ p)) inr (IsNoticed-append t xs ys r)) (or_cases _ _ h)
-  where
-    or_true_left : (p q : Bool) → p ≡ true → (p || q) ≡ true
-    or_true_left true q e = refl
-    or_true_left false q e = absurd (false≢true e)
-
-    or_true_right : (p q : Bool) → q ≡ true → (p || q) ≡ true
-    or_true_right true q e = refl
-    or_true_right false q e = e
+    ⊎_elim (λ e. inl (or_left _ _ e)) (λ r. ⊎_elim (λ p. inl (or_right _ _ p)) inr (IsNoticed-append t xs ys r)) (or_cases _ _ h)
 
 -- an event on another block
 pub other_wrote : (base : Blocks) (log : List Event) (t a b : ℕ) (x : List ℕ) → a ≢ b → cell_of base (log ++ Wrote t a x ∷ []) b ≡ cell_of base log b
-other_wrote base log t a b x apart = cell_of-append base log _ b ∙ if_false (a == b) _ _ (neq a b apart)
+other_wrote base log t a b x apart = cell_of-append base log _ b ∙ cond-false (a == b) _ _ (neq a b apart)
   where
     neq : (m n : ℕ) → m ≢ n → (m == n) ≡ false
     neq m n d = grind arith
 
 -- and a lost write to another block changes nothing either
 pub other_lost : (base : Blocks) (log : List Event) (a b : ℕ) (x : List ℕ) → a ≢ b → cell_of base (log ++ Lost a x ∷ []) b ≡ cell_of base log b
-other_lost base log a b x apart = cell_of-append base log _ b ∙ if_false (a == b) _ _ (neq a b apart)
+other_lost base log a b x apart = cell_of-append base log _ b ∙ cond-false (a == b) _ _ (neq a b apart)
   where
     neq : (m n : ℕ) → m ≢ n → (m == n) ≡ false
     neq m n d = grind arith
 
 -- a write to the block is pending on it
 pub own_wrote : (base : Blocks) (log : List Event) (t a : ℕ) (x : List ℕ) → cell_of base (log ++ Wrote t a x ∷ []) a ≡ with_write (cell_of base log a) (Some t) x
-own_wrote base log t a x = cell_of-append base log _ a ∙ if_true (a == a) _ _ (eq-eqb a a refl)
+own_wrote base log t a x = cell_of-append base log _ a ∙ cond-true (a == a) _ _ (eq-eqb a a refl)
 
 -- so is a lost one
 pub own_lost : (base : Blocks) (log : List Event) (a : ℕ) (x : List ℕ) → cell_of base (log ++ Lost a x ∷ []) a ≡ with_write (cell_of base log a) None x
-own_lost base log a x = cell_of-append base log _ a ∙ if_true (a == a) _ _ (eq-eqb a a refl)
+own_lost base log a x = cell_of-append base log _ a ∙ cond-true (a == a) _ _ (eq-eqb a a refl)
 
 -- a notice settles the write that it is of
 pub one_noticed : (base : Blocks) (log : List Event) (t b : ℕ) → cell_of base (log ++ Noticed t ∷ []) b ≡ settle (cell_of base log b) (from_ticket t (cell_of base log b).pending)
@@ -158,13 +140,6 @@ is_noticed-append t [] ys = refl
 is_noticed-append t (Wrote u b y ∷ xs) ys = is_noticed-append t xs ys
 is_noticed-append t (Lost b y ∷ xs) ys = is_noticed-append t xs ys
 is_noticed-append t (Noticed u ∷ xs) ys = ap (λ r. (u == t) || r) (is_noticed-append t xs ys) ∙ sym (or_assoc (u == t) (is_noticed t xs) (is_noticed t ys))
-
--- a ticket is given in two lists where it is in one of them
-pub is_accepted-append : (t : ℕ) (xs ys : List Event) → is_accepted t (xs ++ ys) ≡ (is_accepted t xs || is_accepted t ys)
-is_accepted-append t [] ys = refl
-is_accepted-append t (Wrote u b y ∷ xs) ys = ap (λ r. (u == t) || r) (is_accepted-append t xs ys) ∙ sym (or_assoc (u == t) (is_accepted t xs) (is_accepted t ys))
-is_accepted-append t (Lost b y ∷ xs) ys = is_accepted-append t xs ys
-is_accepted-append t (Noticed u ∷ xs) ys = is_accepted-append t xs ys
 
 -- the greatest ticket of two lists is the greater of theirs
 pub greatest-append : (xs ys : List Event) → greatest_ticket (xs ++ ys) ≡ max (greatest_ticket xs) (greatest_ticket ys)

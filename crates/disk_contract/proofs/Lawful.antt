@@ -1,23 +1,13 @@
 -- After a lawful log, what is settled is the noticed write with the greatest ticket.
-use Rattle.std.proofs.Common.{◌≡◌, ◌⊎◌, inl, inr, ⊎_elim, ℕ, ◌<◌, ◌≤◌, Bool, true, false, ◌==◌, ◌||◌, if◌then◌else◌, List, [], ◌∷◌, ◌++◌, Option, Some, None, Result, Ok, Err, refl, sym, ◌∙◌, ap, subst, arith, append-nil, append_assoc}
-use Rattle.std.proofs.lemmas.Bool.{eqb-true, eqb-false, eq-eqb, or_cases, false≢true}
+use Rattle.std.proofs.Common.{◌≡◌, ◌⊎◌, inl, inr, ⊎_elim, ℕ, ◌<◌, ◌≤◌, Bool, true, false, ◌==◌, if◌then◌else◌, List, [], ◌∷◌, ◌++◌, Option, Some, None, Result, Ok, Err, refl, sym, ◌∙◌, ap, subst, arith, append-nil, append_assoc}
+use Rattle.std.proofs.lemmas.Bool.{eqb-true, eqb-false, eq-eqb, or_cases, or_left, or_right, false≢true, cond-true, cond-false}
 use Rattle.base_types.specs.Seal.{Blocks}
 use Rattle.disk_contract.specs.declared.event.Event.{Event}
 use Rattle.disk_contract.specs.declared.event.Event.TheVariants.{Wrote, Lost, Noticed}
 use Rattle.disk_contract.specs.Cell.{Write, Cell, from_ticket, settle, with_write, after, cell_of, greatest_ticket, IsAccepted, IsNoticed, notices}
 use Rattle.disk_contract.specs.Disk.{AddsWrite, AddsPoll, AddsNotices, AreOpen}
 use Rattle.disk_contract.specs.Lawful.{MayCome, AreLawfulAfter, IsLawful, writes_to, IsWriteOf, IsNewestNoticed, HasNoneNoticed}
-use Rattle.disk_contract.proofs.Cells.{if_true, if_false, cell_of-append, greatest-append, IsNoticed-append, is_noticed-append}
-
--- a test beside one that holds
-or_left : (p q : Bool) → p ≡ true → (p || q) ≡ true
-or_left true q e = refl
-or_left false q e = absurd (false≢true e)
-
--- and on its other side
-or_right : (p q : Bool) → q ≡ true → (p || q) ≡ true
-or_right true q e = refl
-or_right false q e = e
+use Rattle.disk_contract.proofs.Cells.{cell_of-append, greatest-append, IsNoticed-append, is_noticed-append}
 
 -- lawful events behind lawful ones are lawful together
 lawful_more : (before xs ys : List Event) → AreLawfulAfter before xs → AreLawfulAfter (before ++ xs) ys → AreLawfulAfter before (xs ++ ys)
@@ -97,13 +87,6 @@ write_right u b (Wrote t d x ∷ xs) ys w = inr (write_right u b xs ys w)
 write_right u b (Lost d x ∷ xs) ys w = write_right u b xs ys w
 write_right u b (Noticed t ∷ xs) ys w = write_right u b xs ys w
 
--- as does one of the first
-write_left : (u b : ℕ) (xs ys : List Event) → IsWriteOf u b xs → IsWriteOf u b (xs ++ ys)
-write_left u b [] ys w = absurd w
-write_left u b (Wrote t d x ∷ xs) ys w = ⊎_elim inl (λ r. inr (write_left u b xs ys r)) w
-write_left u b (Lost d x ∷ xs) ys w = write_left u b xs ys w
-write_left u b (Noticed t ∷ xs) ys w = write_left u b xs ys w
-
 -- the writes to a block in two lists are those of the first and those of the second
 writes_append : (b : ℕ) (xs ys : List Event) → writes_to b (xs ++ ys) ≡ writes_to b xs ++ writes_to b ys
 writes_append b [] ys = refl
@@ -144,14 +127,14 @@ found_or n b (Wrote t d x ∷ es) = by (d == b) (t == n) refl refl (found_or n b
           bytes = x;
           later = es;
           split = ap (λ u. Wrote u d x ∷ es) (eqb-true t n is) ∙ ap (λ c. Wrote n c x ∷ es) (eqb-true d b at);
-          from = ap (from_ticket n) (if_true (d == b) _ _ at) ∙ if_true (t == n) _ _ is ∙ ap (λ u. record { ticket = Some u; bytes = x } ∷ writes_to b es) (eqb-true t n is);
+          from = ap (from_ticket n) (cond-true (d == b) _ _ at) ∙ cond-true (t == n) _ _ is ∙ ap (λ u. record { ticket = Some u; bytes = x } ∷ writes_to b es) (eqb-true t n is);
         })
     by true false at is rest =
-        let skip : from_ticket n (writes_to b (Wrote t d x ∷ es)) ≡ from_ticket n (writes_to b es) = ap (from_ticket n) (if_true (d == b) _ _ at) ∙ if_false (t == n) _ _ is in
+        let skip : from_ticket n (writes_to b (Wrote t d x ∷ es)) ≡ from_ticket n (writes_to b es) = ap (from_ticket n) (cond-true (d == b) _ _ at) ∙ cond-false (t == n) _ _ is in
         ⊎_elim (λ f. inl (record { before = Wrote t d x ∷ f.before; bytes = f.bytes; later = f.later; split = ap (λ (l : List Event). Wrote t d x ∷ l) f.split; from = skip ∙ f.from }))
         (λ m. inr (record { from = skip ∙ m.from; none = λ w. ⊎_elim (λ p. eqb-false t n is p.0) m.none w })) rest
     by false w at is rest =
-        let skip : from_ticket n (writes_to b (Wrote t d x ∷ es)) ≡ from_ticket n (writes_to b es) = ap (from_ticket n) (if_false (d == b) _ _ at) in
+        let skip : from_ticket n (writes_to b (Wrote t d x ∷ es)) ≡ from_ticket n (writes_to b es) = ap (from_ticket n) (cond-false (d == b) _ _ at) in
         ⊎_elim (λ f. inl (record { before = Wrote t d x ∷ f.before; bytes = f.bytes; later = f.later; split = ap (λ (l : List Event). Wrote t d x ∷ l) f.split; from = skip ∙ f.from }))
         (λ m. inr (record { from = skip ∙ m.from; none = λ w. ⊎_elim (λ p. eqb-false d b at p.1) m.none w })) rest
 

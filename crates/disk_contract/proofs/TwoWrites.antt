@@ -1,12 +1,12 @@
 -- What `write_in_order` leaves at each moment.
 use Rattle.std.proofs.Common.{◌≡◌, ◌≢◌, ⊎_elim, ℕ, ◌<◌, ◌≤◌, List, [], ◌∷◌, ◌++◌, length, ◌==◌, Some, refl, sym, ◌∙◌, ap, subst, arith, length-append}
-use Rattle.std.proofs.lemmas.Bool.{false≢true, eq-eqb}
+use Rattle.std.proofs.lemmas.Bool.{false≢true, eq-eqb, cond-true}
 use Rattle.base_types.specs.Seal.{Blocks}
 use Rattle.disk_contract.specs.declared.event.Event.{Event}
 use Rattle.disk_contract.specs.declared.event.Event.TheVariants.{Wrote, Lost}
 use Rattle.disk_contract.specs.Cell.{accepted, Cell, Write, after_all, cell_of, IsNoticed, notices}
 use Rattle.disk_contract.specs.Crash.{IsHonest, Window}
-use Rattle.disk_contract.proofs.Cells.{accepted_from-append, if_true, cell_of-append, other_wrote, other_lost, own_wrote, same_noticed, idle-holds, waited, IsNoticed-append}
+use Rattle.disk_contract.proofs.Cells.{accepted_from-append, cell_of-append, other_wrote, other_lost, own_wrote, same_noticed, idle-holds, waited, IsNoticed-append}
 use Rattle.disk_contract.proofs.Windows.{window_start, window_more, window_notices}
 
 abbrev pub InOrder : ℕ → ℕ → List ℕ → List ℕ → Blocks → Type 0
@@ -94,4 +94,4 @@ module _ (size : ℕ) (base : Blocks) (a b : ℕ) (a_in : a < size) (b_in : b < 
 
   -- and the second block's last accepted bytes are the new ones
   pub second_there : (log : List Event) (n : ℕ) → accepted base (log ++ Wrote n b second ∷ []) b ≡ second
-  second_there log n = accepted_from-append b (base b) log (Wrote n b second ∷ []) ∙ if_true (b == b) _ _ (eq-eqb b b refl)
+  second_there log n = accepted_from-append b (base b) log (Wrote n b second ∷ []) ∙ cond-true (b == b) _ _ (eq-eqb b b refl)

@@ -1,7 +1,7 @@
 -- Tickets that are over: what a wait and a poll make of them.
-use Rattle.std.proofs.Common.{◌≡◌, ⊎_elim, ℕ, ◌+◌, ◌≤◌, ◌==◌, ◌||◌, true, false, not, List, [], ◌∷◌, ◌++◌, nat_le, filter, All, refl, sym, subst, ◌∙◌, ap, arith}
+use Rattle.std.proofs.Common.{◌≡◌, ⊎_elim, ℕ, ◌+◌, ◌≤◌, ◌==◌, true, not, List, [], ◌∷◌, nat_le, filter, All, sym, subst, ◌∙◌, ap, arith}
 use Rattle.std.specs.List.{list_any}
-use Rattle.std.proofs.lemmas.Bool.{cases_Bool, cases_eq, false≢true, cond-true, cond-false, eq-eqb, eqb-true, or_cases, or_left, or_right, leb-true, le-leb, not_from_true, not_from_false}
+use Rattle.std.proofs.lemmas.Bool.{cases_Bool, cases_eq, false≢true, cond-true, cond-false, eqb-true, or_cases, or_left, or_right, leb-true, le-leb, not_from_true, not_from_false}
 use Rattle.std.proofs.lemmas.List.Elements.{All-head, All-tail}
 use Rattle.disk_file.specs.Notices.{NoticesState, is_over, StaysOver}
 
@@ -23,22 +23,6 @@ still t out (u ∷ ts) d e = ⊎_elim
     ∙ ⊎_elim (λ here. or_left (u == t) _ here) (λ later. or_right (u == t) _ (still t out ts d later)) (or_cases (u == t) _ e))
     (cases_Bool (u == out))
 
--- a ticket that was waited for, among all that were
-pub noted : (t upto most : ℕ) (ts : List ℕ) → is_over t (record { upto = upto; waited = ts ++ t ∷ []; most = most }) ≡ true
-noted t upto most ts = or_right (nat_le t upto) _ (last ts)
-  where
-    last : (us : List ℕ) → list_any (λ u. u == t) (us ++ t ∷ []) ≡ true
-    last [] = or_left (t == t) _ (eq-eqb t t refl)
-    last (u ∷ us) = or_right (u == t) _ (last us)
-
--- others stay over beside it
-pub noted_stays : (t upto most more : ℕ) (ts : List ℕ) → StaysOver (record { upto = upto; waited = ts; most = most }) (record { upto = upto; waited = ts ++ t ∷ []; most = more })
-noted_stays t upto most more ts u over = ⊎_elim (λ low. or_left (nat_le u upto) _ low) (λ there. or_right (nat_le u upto) _ (first ts there)) (or_cases (nat_le u upto) _ over)
-  where
-    first : (us : List ℕ) → list_any (λ v. v == u) us ≡ true → list_any (λ v. v == u) (us ++ t ∷ []) ≡ true
-    first [] e = absurd (false≢true e)
-    first (v ∷ us) e = ⊎_elim (λ here. or_left (v == u) _ here) (λ later. or_right (v == u) _ (first us later)) (or_cases (v == u) _ e)
-
 -- all up to a number
 pub up_to : (t upto most : ℕ) (ts : List ℕ) → t ≤ upto → is_over t (record { upto = upto; waited = ts; most = most }) ≡ true
 up_to t upto most ts low = or_left (nat_le t upto) _ (le-leb t upto low)
@@ -49,16 +33,6 @@ jump_stays upto most new more ts us high higher all t over = ⊎_elim
     (λ low. let le = leb-true t upto low in up_to t new more us (omega (arith, le, high)))
     (λ there. let le = below most t ts all there in up_to t new more us (omega (arith, le, higher)))
     (or_cases (nat_le t upto) _ over)
-
--- the next ticket is over where it was waited for
-pub next_was : (upto most : ℕ) (ts : List ℕ) → list_any (λ u. u == upto + 1) ts ≡ is_over (upto + 1) (record { upto = upto; waited = ts; most = most })
-next_was upto most ts = sym (ap (λ b. b || list_any (λ u. u == upto + 1) ts) above)
-  where
-    above : nat_le (upto + 1) upto ≡ false
-    above = ⊎_elim (λ e. let le = leb-true (upto + 1) upto e in absurd (past le)) (λ e. e) (cases_Bool (nat_le (upto + 1) upto))
-      where
-        past : upto + 1 ≤ upto → ⊥
-        past le = omega (arith, le)
 
 -- and others stay over when it is passed
 pub pass_stays : (upto most more : ℕ) (ts : List ℕ) → StaysOver (record { upto = upto; waited = ts; most = most }) (record { upto = upto + 1; waited = filter (λ u. not (u == upto + 1)) ts; most = more })

@@ -11,9 +11,7 @@ use Rattle.disk_contract.specs.Disk.{State, AddsWrite, AddsPoll, AddsNotices}
 use Rattle.disk_contract.specs.Lawful.{IsSoundDisk, IsBlock, AreEventsOf, IsLogOf}
 use Rattle.disk_contract.specs.declared.bay.Mark.{Mark}
 use Rattle.disk_memory_bay.specs.Shelves.{IsSoundHeld}
-use Rattle.base_types.specs.Counts.{next_count}
-use Rattle.disk_memory.specs.declared.calls.DiskCall.TheVariants.{Read}
-use Rattle.disk_memory.specs.MemDisk.{MemDiskState, state_of, after_read, fails_next, counted}
+use Rattle.disk_memory.specs.MemDisk.{MemDiskState, state_of}
 
 -- the last accepted bytes go through two lists one after the other
 accepted_from-append : (b : ℕ) (x : List ℕ) (xs ys : List Event) → accepted_from b x (xs ++ ys) ≡ accepted_from b (accepted_from b x xs) ys
@@ -89,23 +87,12 @@ left_blocks s image sound left b low =
     let there : b < s.blocks = subst (λ n. b < n) left.length low in
     subst IsBlock (sym (left.each b there)) (accepted_blocks s.blocks b (s.base b) s.log (sound.blocks b there) sound.log.events)
 
--- a read leaves the log
-read_log : (d : MemDiskState) → (after_read d).log ≡ d.log
-read_log d = one (fails_next Read d)
-  where
-    one : (t : Bool) → (if t then record (counted Read d) { read_faults = next_count d.read_faults } else counted Read d).log ≡ d.log
-    one true = refl
-    one false = refl
-
 module _ (d e : MemDiskState) (image : List (List ℕ)) (base : e.base ≡ d.base) where
   blocks_same : length e.base ≡ length d.base
   blocks_same = ap (λ (bs : List (List ℕ)). length bs) base
 
   base_same : blocks_of e.base ≡ blocks_of d.base
   base_same = ap (λ (bs : List (List ℕ)). blocks_of bs) base
-
-  pub disk_read : e ≡ after_read d → IsLeftBy (state_of d) image → IsLeftBy (state_of e) image
-  disk_read is = left_still (state_of d) (state_of e) image blocks_same base_same (ap (λ (f : MemDiskState). f.log) is ∙ read_log d)
 
   pub disk_lost : {E : Type 0} (b : ℕ) (x : List ℕ) (why : E) → AddsWrite {E = E} b x (Err why) d.log e.log → IsLeftBy (state_of d) image → IsLeftBy (state_of e) image
   disk_lost b x why = left_lost (state_of d) (state_of e) image blocks_same base_same b x why

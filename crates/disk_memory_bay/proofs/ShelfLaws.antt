@@ -8,9 +8,6 @@ use Rattle.std.proofs.lemmas.Slice.Eq.{bytes_eq-Decides}
 use Rattle.disk_memory.specs.declared.calls.Fail.{Fail}
 use Rattle.disk_memory_bay.specs.Shelves.{ShelfState, HeldState, shelf_of, place_of, has_blocks, held_on, fails_on, held_in, fails_in, IsSoundHeld, AreSound, Holds, Lists}
 
-same_bytes : (xs ys : List ℕ) → xs ≡ ys → bytes_eq xs ys ≡ true
-same_bytes xs ys e = (bytes_eq-Decides xs ys).1 e
-
 other_bytes : (xs ys : List ℕ) → xs ≢ ys → bytes_eq xs ys ≡ false
 other_bytes xs ys d = ⊎_elim (λ e. absurd (d ((bytes_eq-Decides xs ys).0 e))) (λ e. e) (cases_Bool (bytes_eq xs ys))
 
@@ -107,7 +104,7 @@ module _ (name : List ℕ) (x : ShelfState) (is : x.name ≡ name) where
   set_there : (ss : List ShelfState) (i : ℕ) → first_place ss name ≡ Some i → shelf_of (slice_set ss i x) name ≡ Some x
   set_there [] i e = absurd (some_is i e)
   set_there (s ∷ ss) i e = ⊎_elim
-      (λ hit. subst (λ n. shelf_of (slice_set (s ∷ ss) n x) name ≡ Some x) (inside 0 i (sym (cond-true _ _ _ hit) ∙ e)) (cond-true _ _ _ (same_bytes x.name name is)))
+      (λ hit. subst (λ n. shelf_of (slice_set (s ∷ ss) n x) name ≡ Some x) (inside 0 i (sym (cond-true _ _ _ hit) ∙ e)) (cond-true _ _ _ ((bytes_eq-Decides x.name name).1 is)))
       (λ miss. let k = suc_place (first_place ss name) i (sym (cond-false _ _ _ miss) ∙ e) in
       subst (λ n. shelf_of (slice_set (s ∷ ss) n x) name ≡ Some x) k.2 (cond-false _ _ _ miss ∙ set_there ss k.0 k.1))
       (cases_Bool (bytes_eq s.name name))
@@ -128,7 +125,7 @@ module _ (name : List ℕ) (x : ShelfState) (is : x.name ≡ name) where
   changes_set ss i e = record { there = set_there ss i e; others = λ other d. set_else ss i other e d }
 
   push_there : (ss : List ShelfState) → first_place ss name ≡ None → shelf_of (ss ++ x ∷ []) name ≡ Some x
-  push_there [] e = cond-true _ _ _ (same_bytes x.name name is)
+  push_there [] e = cond-true _ _ _ ((bytes_eq-Decides x.name name).1 is)
   push_there (s ∷ ss) e = ⊎_elim
       (λ hit. absurd (some_is 0 (sym e ∙ cond-true _ _ _ hit)))
       (λ miss. cond-false _ _ _ miss ∙ push_there ss (suc_nowhere (first_place ss name) (sym (cond-false _ _ _ miss) ∙ e)))
@@ -171,10 +168,6 @@ sound_holds name held old new holds sound all other = ⊎_elim
     (λ e. subst (λ n. IfSome (held_in new n) IsSoundHeld) (sym e) (subst (λ h. IfSome h IsSoundHeld) (sym holds.held) sound))
     (λ d. subst (λ h. IfSome h IsSoundHeld) (sym (holds.others other d)) (all other))
     (bytes_same other name)
-
--- and where only failing calls change
-pub sound_lists : (name : List ℕ) (fails : List Fail) (old new : List ShelfState) → Lists name fails old new → AreSound old → AreSound new
-sound_lists name fails old new lists all other = subst (λ h. IfSome h IsSoundHeld) (sym (lists.held other)) (all other)
 
 -- where a search finds a name, step by step it is found there too
 at_first : (ss : List ShelfState) (name : List ℕ) {o : Option ℕ} → place_of ss name ≡ o → first_place ss name ≡ o

@@ -1,6 +1,6 @@
 -- Puts into the blocks of a list, one by one.
 use Rattle.std.proofs.Common.{◌≡◌, ◌≢◌, ℕ, ◌+◌, ◌-◌, ◌*◌, ◌/◌, ◌%◌, ◌<◌, ◌≤◌, ◌==◌, Bool, true, false, cond, ◌||◌, IsTrue, List, [], ◌∷◌, ◌++◌, length, take, drop, get_or, slice_index, refl, sym, ap, subst, ◌∙◌, arith, ◌⊎◌, inl, inr}
-use Rattle.std.proofs.lemmas.Bool.{cases_Bool, cases_eq, eq-eqb, ne_eqb, false≢true}
+use Rattle.std.proofs.lemmas.Bool.{cases_Bool, cases_eq, eq-eqb, ne_eqb, false≢true, or_right}
 use Rattle.std.proofs.lemmas.List.{drop_more, take_more}
 use Rattle.std.specs.Int.{bit_at}
 use Rattle.base_types.specs.Seal.{Blocks}
@@ -16,7 +16,7 @@ use Rattle.engine_blocks.specs.Calls.{IsWithBlock}
 use Rattle.engine_blocks.specs.Effects.{LeavesDisk}
 use Rattle.engine_blocks.specs.Puts.{after_puts, AreFilled, IsData}
 use Rattle.engine_blocks.proofs.Members.{has_push}
-use Rattle.engine_blocks.proofs.Times.{leaves_on, leaves_not}
+use Rattle.engine_blocks.proofs.Times.{leaves_on}
 
 -- after the first i of a list: what is still to come makes the whole
 pub record HavePut (tells : Bool) (start now : State) (list : List ℕ) (bytes : List ℕ) (class : Class) (i : ℕ) : Type 0 where
@@ -27,16 +27,6 @@ pub record HavePut (tells : Bool) (start now : State) (list : List ℕ) (bytes :
   pub marks : IsTrue tells → (b : ℕ) → b < 8192 * bitmap_blocks start.books.geom → is_set start.books.geom now.map b ≡ is_set start.books.geom start.map b
   pub disk : LeavesDisk tells start now
 
-pub none_put : (tells : Bool) (s : State) (list bytes : List ℕ) (class : Class) → HavePut tells s s list bytes class 0
-none_put tells s list bytes class = record {
-  books = refl;
-  geom = refl;
-  room = omega arith;
-  map = λ t. record { own = λ c is. absurd (false≢true is); others = λ c out. refl };
-  marks = λ t b low. refl;
-  disk = leaves_not tells s;
-}
-
 -- a data block has no bits
 bit_stays : (g : Geometry) (old new : Blocks) (b : ℕ) (x : List ℕ) → IsWithBlock old new b x → data_start g ≤ b → (k : ℕ) → k < 8192 * bitmap_blocks g → is_set g new k ≡ is_set g old k
 bit_stays g old new b x w from k low = ap (λ y. bit_at (slice_index y (k % 8192 / 8)) (k % 8) == 1) (w.others (bitmap_start g + k / 8192) (λ e. omega (arith, e, from, low)))
@@ -44,13 +34,9 @@ bit_stays g old new b x w from k low = ap (λ y. bit_at (slice_index y (k % 8192
 filled_more : (start mid new : Blocks) (xs : List ℕ) (b : ℕ) (bytes : List ℕ) → AreFilled start mid xs bytes → IsWithBlock mid new b bytes → AreFilled start new (xs ++ b ∷ []) bytes
 filled_more start mid new xs b bytes h w = record {
   own = λ c is. own_by c (cases_eq c b) is;
-  others = λ c out. w.others c (λ e. absurd (false≢true (sym out ∙ has_push xs b c ∙ or_last (has xs c) (c == b) (eq-eqb c b e)))) ∙ h.others c (or_first (has xs c) (c == b) (sym (has_push xs b c) ∙ out));
+  others = λ c out. w.others c (λ e. absurd (false≢true (sym out ∙ has_push xs b c ∙ or_right (has xs c) (c == b) (eq-eqb c b e)))) ∙ h.others c (or_first (has xs c) (c == b) (sym (has_push xs b c) ∙ out));
 }
   where
-    or_last : (x y : Bool) → y ≡ true → (x || y) ≡ true
-    or_last true y e = refl
-    or_last false y e = e
-
     or_first : (x y : Bool) → (x || y) ≡ false → x ≡ false
     or_first true y e = e
     or_first false y e = refl

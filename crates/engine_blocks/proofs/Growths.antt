@@ -1,6 +1,6 @@
 -- How what a commit would have grows.
 use Rattle.std.proofs.Common.{◌≡◌, ◌≢◌, ℕ, zero, suc, ◌+◌, ◌*◌, ◌<◌, ◌≤◌, ◌==◌, min, Bool, true, false, cond, not, ◌&&◌, ◌||◌, List, [], ◌∷◌, length, All, refl, sym, ap, ◌∙◌, arith, ◌⊎◌, inl, inr}
-use Rattle.std.proofs.lemmas.Bool.{cases_Bool, cases_eq, cond-true, cond-false, eq-eqb, ne_eqb, eqb-true, eqb-false, and_parts, not-true, false≢true}
+use Rattle.std.proofs.lemmas.Bool.{cases_Bool, cases_eq, cond-true, cond-false, eq-eqb, ne_eqb, eqb-true, eqb-false, and_parts, not-true, false≢true, or_right}
 use Rattle.base_types.specs.declared.words.Class.{Class}
 use Rattle.base_types.specs.declared.words.Class.TheVariants.{Meta, Content}
 use Rattle.layout_geometry.specs.Geometry.{Geometry, bitmap_start, bitmap_blocks}
@@ -11,7 +11,6 @@ use Rattle.engine_blocks.specs.State.{Bookkeeping, after_put, after_take, after_
 use Rattle.engine_blocks.specs.Puts.{after_frees}
 use Rattle.engine_blocks.specs.Ranges.{counted, fewer_from}
 use Rattle.engine_blocks.proofs.Ranges.{none_from, one_from}
-use Rattle.engine_blocks.proofs.Members.{or_true}
 
 -- Roles but at one block.
 
@@ -191,7 +190,7 @@ frees_payload k (b ∷ bs) c is = by (frees_payload (after_free k b) bs c is)
 
     by : (is_payload (with_free k.geom k.running.roles b c) ≡ true) ⊎ (has_bit k.geom bs c ≡ true) → (is_payload (k.running.roles c) ≡ true) ⊎ (has_bit k.geom (b ∷ bs) c ≡ true)
     by (inl e) = one (freed_payload (c == b) (c == bit_block k.geom b) (k.running.roles c) e)
-    by (inr e) = inr (or_true (c == bit_block k.geom b) (has_bit k.geom bs c) e)
+    by (inr e) = inr (or_right (c == bit_block k.geom b) (has_bit k.geom bs c) e)
 
 pub frees_grow : (k : Bookkeeping) (bs : List ℕ) → All (λ b. b < k.geom.n) bs
     → 25 * payloads k.geom (after_frees k bs).running + fresh_blocks k.geom (after_frees k bs).running ≤ 25 * payloads k.geom k.running + fresh_blocks k.geom k.running + 25 * min (length bs) (bitmap_blocks k.geom)

@@ -74,10 +74,3 @@ saves_one saved last b bytes places low h = record {
     by c past (inr d) =
         let same : slice_index (slice_set places b (length saved + 1)) c ≡ slice_index places c = get_or-set_other places b c (length saved + 1) 0 d in
         subst (λ i. IsSavedAt (saved ++ record { block = b; bytes = bytes } ∷ []) i c) (sym same) (saved_more saved (record { block = b; bytes = bytes }) (slice_index places c) c (omega (arith, past, same)) (h.since c (omega (arith, past, same))))
-
--- a new point: no place lies behind the last entry
-pub saves_all : (saved : List Saved) (last : ℕ) (places : List ℕ) → AreSaved saved last places → AreSaved saved (length saved) places
-saves_all saved last places h = record {
-  last_in = omega arith;
-  since = λ b past. absurd (omega (arith, past, h.last_in, (h.since b (omega (arith, past, h.last_in))).within));
-}

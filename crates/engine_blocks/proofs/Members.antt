@@ -1,30 +1,15 @@
 -- Which numbers a list has, and which blocks of the bitmap have their bits.
 use Rattle.std.proofs.Common.{◌≡◌, ℕ, zero, suc, ◌<◌, ◌==◌, Bool, true, false, ◌||◌, List, [], ◌∷◌, ◌++◌, length, get_or, All, refl, sym, ap, subst, ◌∙◌, arith, ◌⊎◌, inl, inr}
-use Rattle.std.proofs.lemmas.Bool.{cases_Bool, eq-eqb, eqb-true, false≢true}
+use Rattle.std.proofs.lemmas.Bool.{cases_Bool, eq-eqb, eqb-true, false≢true, or_right}
+use Rattle.std.proofs.Math.Bool.{or_assoc}
 use Rattle.layout_geometry.specs.Geometry.{Geometry}
 use Rattle.engine_blocks.specs.Running.{has, has_bit, bit_block}
 
 -- One test or another.
 
-pub or_first : (a b : Bool) → (a || b) ≡ false → a ≡ false
-or_first true b e = e
-or_first false b e = refl
-
-pub or_last : (a b : Bool) → (a || b) ≡ false → b ≡ false
-or_last true b e = absurd (false≢true (sym e))
-or_last false b e = e
-
 or_none : (a : Bool) → (a || false) ≡ a
 or_none true = refl
 or_none false = refl
-
-pub or_true : (a b : Bool) → b ≡ true → (a || b) ≡ true
-or_true true b e = refl
-or_true false b e = e
-
-or_assoc : (a b c : Bool) → (a || (b || c)) ≡ ((a || b) || c)
-or_assoc true b c = refl
-or_assoc false b c = refl
 
 -- A list of one, and one more.
 
@@ -36,11 +21,11 @@ has_bit_one g b c = or_none (c == bit_block g b)
 
 pub has_push : (xs : List ℕ) (b c : ℕ) → has (xs ++ b ∷ []) c ≡ (has xs c || (c == b))
 has_push [] b c = or_none (c == b)
-has_push (x ∷ xs) b c = ap (λ t. (c == x) || t) (has_push xs b c) ∙ or_assoc (c == x) (has xs c) (c == b)
+has_push (x ∷ xs) b c = ap (λ t. (c == x) || t) (has_push xs b c) ∙ sym (or_assoc (c == x) (has xs c) (c == b))
 
 pub has_bit_push : (g : Geometry) (xs : List ℕ) (b c : ℕ) → has_bit g (xs ++ b ∷ []) c ≡ (has_bit g xs c || (c == bit_block g b))
 has_bit_push g [] b c = or_none (c == bit_block g b)
-has_bit_push g (x ∷ xs) b c = ap (λ t. (c == bit_block g x) || t) (has_bit_push g xs b c) ∙ or_assoc (c == bit_block g x) (has_bit g xs c) (c == bit_block g b)
+has_bit_push g (x ∷ xs) b c = ap (λ t. (c == bit_block g x) || t) (has_bit_push g xs b c) ∙ sym (or_assoc (c == bit_block g x) (has_bit g xs c) (c == bit_block g b))
 
 -- Places.
 
@@ -48,7 +33,7 @@ has_bit_push g (x ∷ xs) b c = ap (λ t. (c == bit_block g x) || t) (has_bit_pu
 pub has_at : (xs : List ℕ) (i d : ℕ) → i < length xs → has xs (get_or xs i d) ≡ true
 has_at [] i d low = absurd (omega (arith, low))
 has_at (x ∷ xs) zero d low = ap (λ t. t || has xs x) (eq-eqb x x refl)
-has_at (x ∷ xs) (suc i) d low = or_true (get_or xs i d == x) (has xs (get_or xs i d)) (has_at xs i d (omega (arith, low)))
+has_at (x ∷ xs) (suc i) d low = or_right (get_or xs i d == x) (has xs (get_or xs i d)) (has_at xs i d (omega (arith, low)))
 
 -- what holds of all numbers of a list holds of each that it has
 pub among : (P : ℕ → Type 0) (bs : List ℕ) → All P bs → (c : ℕ) → has bs c ≡ true → P c

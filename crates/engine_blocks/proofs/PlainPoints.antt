@@ -1,12 +1,12 @@
 -- The points of a map of blocks in memory, before and after a call.
-use Rattle.std.proofs.Common.{◌≡◌, ℕ, ◌-◌, ◌<◌, ◌≤◌, List, [], ◌∷◌, ◌++◌, length, get_or, None, refl, sym, ap, ◌∙◌, subst, arith, inr}
+use Rattle.std.proofs.Common.{◌≡◌, ℕ, ◌-◌, ◌<◌, ◌≤◌, List, [], ◌∷◌, ◌++◌, length, get_or, None, refl, sym, ap, ◌∙◌, arith, inr}
 use Rattle.std.proofs.lemmas.List.{get_or_append_left, get_or_push, length-append, length_push, append-nil}
 use Rattle.base_types.specs.Seal.{blocks_of}
 use Rattle.engine_blocks.specs.declared.plain.PlainBlocks.{PlainBlocks}
 use Rattle.engine_blocks.specs.Running.{HasNoBare}
 use Rattle.engine_blocks.specs.State.{RecordsView, State}
-use Rattle.engine_blocks.specs.Crashes.{IssuesNothing, Advances, MakesPoint}
-use Rattle.engine_blocks.specs.Plain.{IsKeptPoint, IsKeptFrom, crash_of}
+use Rattle.engine_blocks.specs.Crashes.{Advances, MakesPoint}
+use Rattle.engine_blocks.specs.Plain.{crash_of}
 use Rattle.engine_blocks.specs.PlainOf.{books_of, state_of}
 use Rattle.engine_blocks.specs.PlainLaws.{marked_is}
 use Rattle.engine_blocks.proofs.DefinedSteps.{kept_live}
@@ -15,20 +15,6 @@ use Rattle.engine_blocks.proofs.Times.{records_not}
 -- memory tells of no records
 abbrev no_records : RecordsView
 no_records = record { told = λ log. None; starts = λ log number. ⊥ }
-
--- the points stay
-pub nothing_issued : (old new : PlainBlocks) → new.history.points ≡ old.history.points → new.floor ≡ old.floor → IssuesNothing (state_of old) (state_of new)
-nothing_issued old new e f = record {
-  base = refl;
-  log = refl;
-  point = λ p m. (λ is. subst (λ ps. IsKeptPoint ps p m) e is, λ is. subst (λ ps. IsKeptPoint ps p m) (sym e) is);
-  left = λ t m. (λ is. subst (λ ps. IsKeptFrom ps old.floor m) e (subst (λ k. IsKeptFrom new.history.points k m) f is), λ is. subst (λ k. IsKeptFrom new.history.points k m) (sym f) (subst (λ ps. IsKeptFrom ps old.floor m) (sym e) is));
-  holds = λ img m. (λ is. is, λ is. is);
-  sure = λ log p. (λ is. is, λ is. is);
-  records = records_not no_records;
-  issued = λ m. (λ is. subst (λ ps. IsKeptPoint ps (length ps - 1) m) e is, λ is. subst (λ ps. IsKeptPoint ps (length ps - 1) m) (sym e) is);
-  awaits = λ p t. (λ is. is, λ is. is);
-}
 
 -- a point of the first ones is one of them all
 among : (ps more : List (List (List ℕ))) (p : ℕ) → p < length ps → blocks_of (get_or (ps ++ more) p []) ≡ blocks_of (get_or ps p [])

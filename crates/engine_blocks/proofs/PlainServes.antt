@@ -1,5 +1,5 @@
 -- In memory nothing waits: what a transaction freed may be taken once it has ended.
-use Rattle.std.proofs.Common.{◌≡◌, ◌⊎◌, inl, inr, ℕ, nat_le, nat_lt, ◌&&◌, ◌||◌, not, Bool, true, false, refl, sym, ◌∙◌, ap, arith}
+use Rattle.std.proofs.Common.{◌≡◌, ◌⊎◌, inl, inr, ℕ, nat_le, nat_lt, ◌&&◌, ◌||◌, not, Bool, true, false, refl, sym, ◌∙◌, ap}
 use Rattle.std.proofs.lemmas.Bool.{and_parts, cases_Bool, false≢true, le-leb, leb-true, lt-ltb, ltb-true}
 use Rattle.layout_geometry.specs.Geometry.{data_start}
 use Rattle.engine_blocks.specs.declared.plain.PlainBlocks.{PlainBlocks}
@@ -62,14 +62,6 @@ module _ (old new : PlainBlocks) (unmarked : (b : ℕ) → IsReusable old.geom (
 
   pub ends_frees : ((books_of old).running.weight ≡ 0 → ⊥) → EndsFrees (state_of old) (state_of new)
   ends_frees some = record { idle = λ none. absurd (some none); fits = λ more fits. lets; drains = λ more not_fits. lets_all }
-
--- with nothing to commit all is as it was
-pub ends_idle : (p : PlainBlocks) → (books_of p).running.weight ≡ 0 → EndsFrees (state_of p) (state_of p)
-ends_idle p none = record {
-  idle = λ e. record { reusable = λ b at. refl; since = λ b at. refl };
-  fits = λ more fits. absurd (omega (arith, more, none));
-  drains = λ more not_fits. absurd (omega (arith, more, none));
-}
 
 -- Another floor changes nothing of that.
 

@@ -15,8 +15,8 @@ use Rattle.engine_blocks.specs.Running.{put_role, is_taken, has, has_bit, bit_bl
 use Rattle.engine_blocks.specs.State.{Bookkeeping, after_put, after_take, after_free}
 use Rattle.engine_blocks.specs.Plain.{role_in, bits_of, marks_of, clear_in, IsWithBits}
 use Rattle.engine_blocks.proofs.Members.{has_one, has_bit_one}
-use Rattle.engine_blocks.specs.Ranges.{same_from, fewer_from}
-use Rattle.engine_blocks.proofs.Ranges.{few_from, one_from}
+use Rattle.engine_blocks.specs.Ranges.{same_from, parts_from, fewer_from}
+use Rattle.engine_blocks.proofs.Ranges.{one_from}
 
 -- Roles.
 
@@ -166,7 +166,7 @@ free_unmarked g bits bits' busy b v unmarked k free = by (cases_eq k b)
 
 -- a block that is marked is one of the live ones
 pub some_live : (g : Geometry) (bits bits' : Blocks) (live : ℕ) → live + length (free_blocks g bits) ≡ g.n - data_start g → length (free_blocks g bits') ≡ length (free_blocks g bits) + 1 → 1 ≤ live
-some_live g bits bits' live h one = omega (arith, h, one, few_from (λ k. not (bit_in bits' k)) (data_start g) (g.n - data_start g))
+some_live g bits bits' live h one = omega (arith, h, one, parts_from (λ k. not (bit_in bits' k)) (data_start g) (g.n - data_start g))
 
 -- The bookkeeping.
 

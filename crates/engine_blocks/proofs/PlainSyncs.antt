@@ -1,6 +1,6 @@
 -- A sync of a map of blocks in memory: nothing to commit, out of memory, a point made, and the floor raised.
-use Rattle.std.proofs.Common.{◌≡◌, ◌≢◌, ℕ, ◌+◌, ◌≤◌, ◌==◌, true, false, [], ◌∷◌, ◌++◌, refl, sym, ap, subst, ◌∙◌, arith, inl, inr, Ok, Err}
-use Rattle.std.proofs.lemmas.Bool.{cond-true, cond-false, eq-eqb, ne_eqb}
+use Rattle.std.proofs.Common.{◌≡◌, ◌≢◌, ℕ, ◌+◌, ◌≤◌, ◌==◌, true, false, [], ◌∷◌, ◌++◌, refl, sym, ap, subst, ◌∙◌, arith, inr, Ok, Err}
+use Rattle.std.proofs.lemmas.Bool.{cond-false, ne_eqb}
 use Rattle.std.proofs.lemmas.Option.{none-some}
 use Rattle.disk_contract.specs.Manner.{any_manner}
 use Rattle.layout_journal.specs.Layout.{descriptor_count}
@@ -15,9 +15,6 @@ use Rattle.engine_blocks.specs.PlainOf.{books_of, state_of}
 use Rattle.engine_blocks.proofs.Times.{advances_on, leaves_not}
 use Rattle.engine_blocks.proofs.DefinedSteps.{same_part}
 use Rattle.engine_blocks.proofs.PlainPoints.{advances_not, advances_by, makes_point, floor_rises}
-
-unchanged : {T : Type 0} (r : Running) (x y : T) → r.weight ≡ 0 → if_changed r x y ≡ y
-unchanged r x y e = cond-true (r.weight == 0) y x (eq-eqb r.weight 0 e)
 
 changed : {T : Type 0} (r : Running) (x y : T) → r.weight ≢ 0 → if_changed r x y ≡ x
 changed r x y d = cond-false (r.weight == 0) y x (ne_eqb r.weight 0 d)
@@ -55,28 +52,6 @@ writes_record old new = record {
 
     n : ℕ
     n = fresh_blocks (books_of old).geom (books_of old).running
-
-pub syncs_nothing : (p : PlainBlocks) (point : ℕ) → p.weight ≡ 0 → point ≡ (books_of p).point → Syncs true (Ok point) (state_of p) (state_of p)
-syncs_nothing p point none is = record {
-  point = is;
-  after = record {
-    geom = refl;
-    running = inl refl;
-    marked = refl;
-    reusable = λ b may. may.free;
-    turns = omega arith;
-    point = omega (arith, unchanged {T = ℕ} (books_of p).running 1 0 none);
-    floor = omega arith;
-  };
-  ends = record { running = sym (unchanged (books_of p).running nothing_running (books_of p).running none); free_places = omega arith };
-  disk = quiet p p;
-  ticks = refl;
-  map = λ t. refl;
-  crash = λ t. advances_not p;
-  made = λ t more. absurd (omega (arith, more));
-  writes = λ t. omega arith;
-  none = tt;
-}
 
 pub syncs_refused : (old new : PlainBlocks) → new ≡ old → Syncs true (Err NoMemory) (state_of old) (state_of new)
 syncs_refused old new same = subst (λ p. Syncs true (Err NoMemory) (state_of old) (state_of p)) (sym same) (record {

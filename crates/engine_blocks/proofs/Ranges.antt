@@ -2,7 +2,7 @@
 use Rattle.std.proofs.Common.{◌≡◌, ◌≢◌, ℕ, zero, suc, ◌+◌, ◌<◌, ◌≤◌, Bool, true, false, [], ◌∷◌, filter, refl, sym, ap, ◌∙◌, arith, ◌⊎◌, inl, inr}
 use Rattle.std.proofs.lemmas.Bool.{cases_Bool, cases_eq, cond-false, false≢true}
 use Rattle.std.specs.List.{range_with_len}
-use Rattle.engine_blocks.specs.Ranges.{counted, first_passes, first_fails, parts_from, fewer_from}
+use Rattle.engine_blocks.specs.Ranges.{counted, first_passes, first_fails, fewer_from}
 
 -- none is kept where none passes
 pub none_from : (p : ℕ → Bool) (a n : ℕ) → ((b : ℕ) → a ≤ b → b < a + n → p b ≡ false) → filter p (range_with_len a n) ≡ []
@@ -10,10 +10,6 @@ none_from p a zero fails = refl
 none_from p a (suc n) fails =
     cond-false (p a) (a ∷ filter p (range_with_len (a + 1) n)) (filter p (range_with_len (a + 1) n)) (fails a (omega arith) (omega arith))
     ∙ none_from p (a + 1) n (λ b from below. fails b (omega (arith, from)) (omega (arith, below)))
-
--- of n numbers no more than n pass
-pub few_from : (p : ℕ → Bool) (a n : ℕ) → counted p a n ≤ n
-few_from p a n = omega (arith, parts_from p a n)
 
 -- a test that passes one number more at most
 pub one_from : (p q : ℕ → Bool) (b a n : ℕ) → ((k : ℕ) → k ≢ b → q k ≡ true → p k ≡ true) → counted q a n ≤ counted p a n + 1

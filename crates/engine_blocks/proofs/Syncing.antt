@@ -1,6 +1,6 @@
 -- After blocks were taken and filled, and the cost was added, a sync may be called again.
 use Rattle.std.proofs.Common.{◌≡◌, ℕ, suc, ◌+◌, ◌*◌, ◌<◌, ◌≤◌, ◌==◌, min, Bool, true, false, cond, ◌||◌, List, [], ◌∷◌, length, All, refl, ap, ap₂, ◌∙◌, arith}
-use Rattle.std.proofs.lemmas.Bool.{eq-eqb, ne_eqb}
+use Rattle.std.proofs.lemmas.Bool.{eq-eqb, ne_eqb, or_parts, or_right}
 use Rattle.base_types.specs.declared.words.Class.{Class}
 use Rattle.base_types.specs.declared.words.Class.TheVariants.{Meta, Content}
 use Rattle.layout_geometry.specs.Geometry.{Geometry, bitmap_blocks, data_start}
@@ -10,7 +10,7 @@ use Rattle.engine_blocks.specs.Running.{is_payload, is_fresh, is_bare, is_taken,
 use Rattle.engine_blocks.specs.State.{Bookkeeping, after_put, after_take, after_weigh}
 use Rattle.engine_blocks.specs.Calls.{MaySync}
 use Rattle.engine_blocks.specs.Puts.{after_puts, fill_cost, IsData}
-use Rattle.engine_blocks.proofs.Members.{or_first, or_last, or_true, has_at}
+use Rattle.engine_blocks.proofs.Members.{has_at}
 use Rattle.engine_blocks.proofs.Ranges.{some_from}
 use Rattle.engine_blocks.proofs.Fills.{take_and_fill, puts_keep}
 use Rattle.engine_blocks.proofs.Growths.{put_grows, fresh_grows, take_grows}
@@ -34,7 +34,7 @@ fresh_puts_grow : (k : Bookkeeping) (bs : List ℕ) → ((c : ℕ) → has bs c 
 fresh_puts_grow k [] taken = omega arith
 fresh_puts_grow k (b ∷ bs) taken =
     let first = taken b (has_at (b ∷ bs) 0 0 (omega arith)) in
-    omega (arith, fresh_grows k b first, fresh_puts_grow (after_put k b Content) bs (λ c is. stays_taken k b c first (taken c (or_true (c == b) (has bs c) is))))
+    omega (arith, fresh_grows k b first, fresh_puts_grow (after_put k b Content) bs (λ c is. stays_taken k b c first (taken c (or_right (c == b) (has bs c) is))))
 
 -- so filling the blocks that were taken grows the commit by the class
 fills_grow : (k : Bookkeeping) (bs : List ℕ) (class : Class)
@@ -47,8 +47,8 @@ fills_grow k bs Content = omega (arith, fresh_puts_grow (after_take k bs) bs (λ
 puts_elsewhere : (k : Bookkeeping) (bs : List ℕ) (class : Class) (c : ℕ) → has bs c ≡ false → (after_puts k bs class).running.roles c ≡ k.running.roles c
 puts_elsewhere k [] class c out = refl
 puts_elsewhere k (b ∷ bs) class c out =
-    puts_elsewhere (after_put k b class) bs class c (or_last (c == b) (has bs c) out)
-    ∙ ap (λ t. cond t (put_role class (k.running.roles b)) (k.running.roles c)) (or_first (c == b) (has bs c) out)
+    puts_elsewhere (after_put k b class) bs class c ((or_parts (c == b) (has bs c) out).1)
+    ∙ ap (λ t. cond t (put_role class (k.running.roles b)) (k.running.roles c)) ((or_parts (c == b) (has bs c) out).0)
 
 -- a block before the data isn't among them
 not_among : (g : Geometry) (bs : List ℕ) (c : ℕ) → All (IsData g) bs → c < data_start g → has bs c ≡ false

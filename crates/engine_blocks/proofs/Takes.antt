@@ -1,7 +1,8 @@
 -- Blocks of a list are taken one by one.
-use Rattle.std.proofs.Common.{◌≡◌, ◌≢◌, ℕ, zero, suc, ◌+◌, ◌-◌, ◌<◌, ◌==◌, Bool, true, false, not, ◌&&◌, ◌||◌, cond, List, [], ◌∷◌, ◌++◌, length, take, get_or, All, AllPairs, refl, sym, ap, ap₂, subst, ◌∙◌, arith}
-use Rattle.std.proofs.lemmas.Bool.{ne_eqb, false≢true}
-use Rattle.std.proofs.lemmas.List.{length_push, get_or-take, length-take}
+use Rattle.std.proofs.Common.{◌≡◌, ◌≢◌, ℕ, zero, suc, ◌+◌, ◌-◌, ◌<◌, ◌==◌, Bool, true, false, not, ◌&&◌, ◌||◌, cond, List, [], ◌∷◌, ◌++◌, length, take, get_or, AllPairs, refl, sym, ap, ap₂, ◌∙◌, arith}
+use Rattle.std.proofs.lemmas.Bool.{ne_eqb, false≢true, or_parts}
+use Rattle.std.proofs.lemmas.List.{length_push}
+use Rattle.std.proofs.lemmas.List.Elements.{All-take}
 use mathlib.Core.Path.{fun_ext}
 use Rattle.base_types.specs.Seal.{Blocks}
 use Rattle.layout_geometry.specs.Geometry.{Geometry}
@@ -11,7 +12,7 @@ use Rattle.engine_blocks.specs.declared.role.Role.TheVariants.{Changed, Bare}
 use Rattle.engine_blocks.specs.Running.{has, has_bit, bit_block, with_takes}
 use Rattle.engine_blocks.specs.State.{Bookkeeping, IsReusable, MayBeTaken, after_take}
 use Rattle.engine_blocks.specs.Plain.{IsWithBits}
-use Rattle.engine_blocks.proofs.Members.{or_first, or_last, has_one, has_bit_one, has_push, has_bit_push, among}
+use Rattle.engine_blocks.proofs.Members.{has_one, has_bit_one, has_push, has_bit_push, among}
 
 -- Tests.
 
@@ -78,7 +79,7 @@ take_more_bits g old mid new xs b v w = record {
   bits = λ c. w.bits c ∙ ap₂ (λ t o. cond t true o) (has_one b c) (v.bits c) ∙ bit_by (c == b) (has xs c) (is_set g old c) ∙ ap (λ t. cond t true (is_set g old c)) (sym (has_push xs b c));
   others = λ c out.
       let none = sym (has_bit_push g xs b c) ∙ out in
-      w.others c (has_bit_one g b c ∙ or_last (has_bit g xs c) (c == bit_block g b) none) ∙ v.others c (or_first (has_bit g xs c) (c == bit_block g b) none);
+      w.others c (has_bit_one g b c ∙ (or_parts (has_bit g xs c) (c == bit_block g b) none).1) ∙ v.others c ((or_parts (has_bit g xs c) (c == bit_block g b) none).0);
 }
 
 -- The list.
@@ -91,10 +92,6 @@ not_before (x ∷ xs) (suc i) d low pairs =
     ap (λ t. t || has (take i xs) (get_or xs i d)) (ne_eqb (get_or xs i d) x (λ e. pairs 0 (suc i) d (omega arith) low (sym e)))
     ∙ not_before xs i d (omega (arith, low)) (λ j k e a b. pairs (suc j) (suc k) e (omega (arith, a)) (omega (arith, b)))
 
--- what holds of a list holds of its front
-front_all : (P : ℕ → Type 0) (i : ℕ) (xs : List ℕ) → All P xs → All P (take i xs)
-front_all P i xs all k d low = subst P (sym (get_or-take i xs k d (omega (arith, low, length-take i xs)))) (all k d (omega (arith, low, length-take i xs)))
-
 -- the next one may be taken after those before it
 pub may_next : (k : Bookkeeping) (xs : List ℕ) (i d : ℕ) → i < length xs → MayBeTaken k.geom k.reusable xs → IsReusable k.geom (after_take k (take i xs)).reusable (get_or xs i d)
 may_next k xs i d low may =
@@ -103,4 +100,4 @@ may_next k xs i d low may =
 
 -- and its bit is in none of them
 pub bits_apart : (k : Bookkeeping) (xs : List ℕ) (i b : ℕ) → MayBeTaken k.geom k.reusable xs → b < k.geom.n → (c : ℕ) → has (take i xs) c ≡ true → c ≢ bit_block k.geom b
-bits_apart k xs i b may low c is e = omega (arith, e, (among (IsReusable k.geom k.reusable) (take i xs) (front_all (IsReusable k.geom k.reusable) i xs may.each) c is).from, low)
+bits_apart k xs i b may low c is e = omega (arith, e, (among (IsReusable k.geom k.reusable) (take i xs) (All-take (IsReusable k.geom k.reusable) i xs may.each) c is).from, low)

@@ -2,6 +2,7 @@
 use Rattle.std.proofs.Common.{◌≡◌, ℕ, ◌≤◌, ◌==◌, Bool, false, ◌||◌, List, [], ◌∷◌, ◌++◌, arith, ⊎_elim, inl, inr, ◌∙◌, refl, sym, ap, append_assoc, length, length-append}
 use Rattle.std.proofs.Math.Logic.{∥∥₁_map}
 use Rattle.std.proofs.lemmas.List.{append-nil}
+use Rattle.std.proofs.lemmas.Bool.{or_parts}
 use Rattle.base_types.specs.Counts.{after_call}
 use Rattle.base_types.specs.Seal.{Blocks}
 use Rattle.disk_contract.specs.declared.event.Event.{Event}
@@ -12,7 +13,6 @@ use Rattle.engine_blocks.specs.State.{RecordsView, State}
 use Rattle.engine_blocks.specs.Calls.{UsesDisk}
 use Rattle.engine_blocks.specs.Crashes.{HoldsPointBetween, AwaitsSince, Advances, IssuesNothing, IsTold, SameRecords}
 use Rattle.engine_blocks.specs.Effects.{LeavesDisk}
-use Rattle.engine_blocks.proofs.Members.{or_first, or_last}
 
 -- a map of a point in the middle is one in the end
 kept : (old mid new : State) → Advances old mid → Advances mid new → (m : Blocks) → HoldsPointBetween mid old.books.floor mid.books.point m → HoldsPointBetween new old.books.floor new.books.point m
@@ -33,7 +33,7 @@ grows_on old mid new a b = record { more = a.more ++ b.more; log = b.log ∙ ap 
 -- a write that is accepted in none of the events of a log was in none of its first ones
 not_before : (t : ℕ) (old more : List Event) → is_accepted t (old ++ more) ≡ false → is_accepted t old ≡ false
 not_before t [] more none = refl
-not_before t (Wrote u b x ∷ old) more none = ap (λ own. own || is_accepted t old) (or_first (u == t) (is_accepted t (old ++ more)) none) ∙ not_before t old more (or_last (u == t) (is_accepted t (old ++ more)) none)
+not_before t (Wrote u b x ∷ old) more none = ap (λ own. own || is_accepted t old) ((or_parts (u == t) (is_accepted t (old ++ more)) none).0) ∙ not_before t old more ((or_parts (u == t) (is_accepted t (old ++ more)) none).1)
 not_before t (Lost b x ∷ old) more none = not_before t old more none
 not_before t (Noticed u ∷ old) more none = not_before t old more none
 

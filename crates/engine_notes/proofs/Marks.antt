@@ -77,18 +77,6 @@ noticed_set t u (n ∷ ns) (suc at) lt none own = by (n.ticket == u) refl (notic
         here false w e = sym (ap (λ b. b && true) e)
     by false other rest = rest
 
--- one that isn't expected leaves no mark
-pub noticed_none : (t u : ℕ) (ns : List Note) → is_expected t ns ≡ false → is_noticed u ns ≡ (is_noticed u ns || (t == u && is_expected u ns))
-noticed_none t u ns none = by (t == u) refl
-  where
-    left : (m b : Bool) → b ≡ false → m ≡ (m || b)
-    left true b e = refl
-    left false b e = sym e
-
-    by : (v : Bool) → (t == u) ≡ v → is_noticed u ns ≡ (is_noticed u ns || (v && is_expected u ns))
-    by true same = left (is_noticed u ns) (is_expected u ns) (ap (λ k. is_expected k ns) (sym (eqb-true t u same)) ∙ none)
-    by false other = left (is_noticed u ns) false refl
-
 -- a ticket that a place of the list has is expected, and the place of its first note tells its mark
 pub expected_at : (t : ℕ) (ns : List Note) (at : ℕ) → at < length ns → ((n : Note) → slice_get ns at ≡ Some n → n.ticket ≡ t) → is_expected t ns ≡ true
 expected_at t [] at lt own = absurd (below at lt)

@@ -1,6 +1,6 @@
 -- What is open: a ticket that is expected and isn't noticed.
 use Rattle.std.proofs.Common.{◌≡◌, ℕ, suc, ◌==◌, ◌&&◌, ◌<◌, not, Bool, true, false, if◌then◌else◌, List, [], ◌∷◌, length, take, slice_get, slice_index_or, Some, refl, sym, ◌∙◌, ap}
-use Rattle.std.proofs.lemmas.Bool.{and_parts}
+use Rattle.std.proofs.lemmas.Bool.{and_parts, and_from}
 use Rattle.engine_notes.specs.declared.notes.Note.{Note}
 use Rattle.engine_notes.specs.Notes.{is_expected, is_noticed, is_open, none_open, are_expected, are_noticed}
 use Rattle.engine_notes.proofs.Marks.{expected_at, mark_at}
@@ -30,12 +30,9 @@ never_both b true e = one b
     one false = refl
 never_both b false e = ap (λ d. not (d && true)) e
 
-both : (b c : Bool) → b ≡ true → c ≡ true → (b && c) ≡ true
-both b c e f = ap (λ d. d && c) e ∙ f
-
 pub none_open_where_all : (ns : List Note) → ((k : ℕ) (n : Note) → slice_get ns k ≡ Some n → n.noticed ≡ true) → (ts : List ℕ) → none_open ts ns ≡ true
 none_open_where_all ns all [] = refl
-none_open_where_all ns all (t ∷ ts) = both (not (is_open t ns)) (none_open ts ns) (never_both (is_expected t ns) (is_noticed t ns) (marked_where_all t ns all)) (none_open_where_all ns all ts)
+none_open_where_all ns all (t ∷ ts) = and_from (not (is_open t ns)) (none_open ts ns) (never_both (is_expected t ns) (is_noticed t ns) (marked_where_all t ns all)) (none_open_where_all ns all ts)
 
 -- one that is expected is open or noticed
 not_twice : (b c : Bool) → b ≡ true → not (b && not c) ≡ c

@@ -1,6 +1,6 @@
 -- Notes whose tickets ascend: what a search finds among them, and how they are with a ticket more or less.
 use Rattle.std.proofs.Common.{◌≡◌, ◌≢◌, ⊎_elim, ℕ, zero, suc, ◌+◌, ◌<◌, ◌≤◌, ◌==◌, ◌&&◌, ◌||◌, nat_lt, not, Bool, true, false, if◌then◌else◌, List, [], ◌∷◌, length, take, slice_get, slice_set, slice_index_or, insert, remove, Some, refl, sym, ◌∙◌, ap, subst, arith}
-use Rattle.std.proofs.lemmas.Bool.{cases_Bool, cases_eq, eqb-true, eq-eqb, false≢true, ltb-true, ltb-false, lt-ltb, le-ltb, and_parts}
+use Rattle.std.proofs.lemmas.Bool.{cases_Bool, cases_eq, eqb-true, eq-eqb, false≢true, ltb-true, ltb-false, lt-ltb, le-ltb, and_parts, and_from}
 use Rattle.std.proofs.lemmas.Option.{same_Some, none-some, slice_get-get_or}
 use Rattle.std.specs.List.Sorted.{IsPartitionedBy}
 use Rattle.engine_notes.specs.declared.notes.Note.{Note}
@@ -14,13 +14,8 @@ head_above s n ns up = ltb-true s n.ticket (and_parts (nat_lt s n.ticket) (are_a
 rest_above : (s : ℕ) (n : Note) (ns : List Note) → are_above s (n ∷ ns) ≡ true → are_above n.ticket ns ≡ true
 rest_above s n ns up = (and_parts (nat_lt s n.ticket) (are_above n.ticket ns) up).1
 
-both : (b c : Bool) → b ≡ true → c ≡ true → (b && c) ≡ true
-both true true e f = refl
-both true false e f = f
-both false c e f = absurd (false≢true e)
-
 above_cons : (s : ℕ) (n : Note) (ns : List Note) → s < n.ticket → are_above n.ticket ns ≡ true → are_above s (n ∷ ns) ≡ true
-above_cons s n ns lt up = both (nat_lt s n.ticket) (are_above n.ticket ns) (lt-ltb s n.ticket lt) up
+above_cons s n ns lt up = and_from (nat_lt s n.ticket) (are_above n.ticket ns) (lt-ltb s n.ticket lt) up
 
 lower : (r s : ℕ) (ns : List Note) → r ≤ s → are_above s ns ≡ true → are_above r ns ≡ true
 lower r s [] le up = refl

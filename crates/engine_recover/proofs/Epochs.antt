@@ -1,8 +1,9 @@
 -- No epoch on the disk is above the greatest.
 use Rattle.std.proofs.Common.{◌≡◌, ◌⊎◌, ⊎_elim, inl, inr, ℕ, zero, suc, ◌+◌, ◌<◌, ◌≤◌, ◌%◌, max, Bool, true, false, ◌&&◌, ◌||◌, if◌then◌else◌, List, Option, Some, None, refl, sym, ◌∙◌, ap, ap₂, subst, arith}
-use Rattle.std.proofs.lemmas.Bool.{and_parts}
+use Rattle.std.proofs.lemmas.Bool.{and_parts, or_right}
 use Rattle.std.proofs.lemmas.Nat.{mod_below}
 use Rattle.std.proofs.Math.Nat.{mod-mod}
+use Rattle.std.proofs.lemmas.Option.{same_Some}
 use Rattle.base_types.specs.Seal.{Blocks, is_sealed}
 use Rattle.layout_geometry.specs.Geometry.{Geometry, ring_block}
 use Rattle.layout_bytes.specs.Bytes.{field, when}
@@ -79,9 +80,6 @@ under_test : {A : Type 0} (t : Bool) (o : Option A) (y : A) → when t o ≡ Som
 under_test true o y e = (refl, e)
 under_test false o y e = cc
 
-same_some : {A : Type 0} {x y : A} → Some x ≡ Some y → x ≡ y
-same_some e = cc
-
 -- a sealed block with one of the tags begins as one of a record does
 tagged : (b : List ℕ) → is_sealed b ≡ true → (has_tag commit_tag b || has_tag descriptor_tag b) ≡ true → is_of_record b ≡ true
 tagged b sealed tag = ap₂ (λ x y. x && y) tag sealed
@@ -92,11 +90,11 @@ commit_epoch g b c e =
     let sealed = under_test (is_sealed b) _ c e in
     let fit = under_test _ _ c sealed.1 in
     let tag = and_parts (has_tag commit_tag b) _ fit.0 in
-    (tagged b sealed.0 (ap (λ t. t || has_tag descriptor_tag b) tag.0), ap (λ (x : Commit). x.epoch) (same_some fit.1))
+    (tagged b sealed.0 (ap (λ t. t || has_tag descriptor_tag b) tag.0), ap (λ (x : Commit). x.epoch) (same_Some _ _ fit.1))
 
 described_epoch : (b : List ℕ) (o : Option (List Entry)) (d : Descriptor) → descriptor_with b o ≡ Some d → field b 8 8 ≡ d.epoch
 described_epoch b None d e = cc
-described_epoch b (Some es) d e = ap (λ (x : Descriptor). x.epoch) (same_some e)
+described_epoch b (Some es) d e = ap (λ (x : Descriptor). x.epoch) (same_Some _ _ e)
 
 pub descriptor_epoch : (g : Geometry) (b : List ℕ) (d : Descriptor) → descriptor_of g b ≡ Some d → (is_of_record b ≡ true) × (field b 8 8 ≡ d.epoch)
 unfolding descriptor_of
@@ -104,11 +102,7 @@ descriptor_epoch g b d e =
     let sealed = under_test (is_sealed b) _ d e in
     let fit = under_test _ _ d sealed.1 in
     let tag = and_parts (has_tag descriptor_tag b) _ fit.0 in
-    (tagged b sealed.0 (either (has_tag commit_tag b) (has_tag descriptor_tag b) tag.0), described_epoch b _ d fit.1)
-  where
-    either : (x y : Bool) → y ≡ true → (x || y) ≡ true
-    either true y e = refl
-    either false y e = e
+    (tagged b sealed.0 (or_right (has_tag commit_tag b) (has_tag descriptor_tag b) tag.0), described_epoch b _ d fit.1)
 
 -- each ring place is one of the first j
 at_place : (g : Geometry) (img : Blocks) (e p a : ℕ) → IsGreatestEpoch g img e → 0 < g.j → (is_of_record (img (ring_block g p)) ≡ true) × (field (img (ring_block g p)) 8 8 ≡ a) → a ≤ e

@@ -1,15 +1,11 @@
 -- Reading goes on: what it changes adds up, and what the disk gives stays.
-use Rattle.std.proofs.Common.{◌<◌, Bool, false, List, refl, sym, ◌∙◌, ap, ap₂, subst}
+use Rattle.std.proofs.Common.{◌<◌, Bool, false, List, sym, ◌∙◌, ap, ap₂, subst}
 use Rattle.base_types.specs.Counts.{after_call}
 use Rattle.base_types.specs.Seal.{Blocks}
 use Rattle.disk_contract.specs.Cell.{accepted, is_lost}
 use Rattle.disk_contract.specs.declared.event.Event.{Event}
 use Rattle.disk_contract.specs.Disk.{State}
 use Rattle.engine_recover.specs.Reading.{Gives, Searches}
-
--- before the first read nothing is another
-pub none_read : (tells : Bool) (s : State) → Searches tells false s s
-none_read tells s = record { log = λ _. refl; only = record { same = record { blocks = refl; base = refl; manner = refl }; faults = refl; read_faults = refl; waits = refl; polls = refl } }
 
 -- reads after reads
 pub read_on : (tells failed : Bool) (a b c : State) → Searches tells false a b → Searches tells failed b c → Searches tells failed a c

@@ -1,6 +1,7 @@
 -- How many slots name a node, one slot and one directory more.
 use Rattle.std.proofs.Common.{◌≡◌, ℕ, zero, suc, ◌+◌, ◌-◌, ◌^◌, ◌<◌, ◌≤◌, ◌==◌, min, true, false, Bool, cond, List, [], ◌∷◌, ◌++◌, length, set, get_or, Some, slice_get, refl, sym, ap, ◌∙◌, arith, ◌⊎◌, inl, inr, subst, get_or-set_same, get_or-set_other}
 use Rattle.std.proofs.lemmas.Bool.{cases_eq, cases_lt, ne_eqb, eq-eqb}
+use Rattle.std.proofs.lemmas.Option.{same_Some}
 use Rattle.layout_bytes.specs.declared.slot.Slot.{Slot}
 use Rattle.crash_stands.specs.Inodes.{Inodes}
 use Rattle.fs_inodes.specs.Links.{naming, naming_from}
@@ -42,9 +43,6 @@ naming_same n slots s e = omega (arith, naming-append n slots (s ∷ []), one_tr
 naming_other : (n : ℕ) (slots : List Slot) (s : Slot) → (n ≡ s.node → ⊥) → naming n (slots ++ s ∷ []) ≡ naming n slots
 naming_other n slots s e = omega (arith, naming-append n slots (s ∷ []), one_false (s.node == n) (ne_eqb s.node n (λ h. e (sym h))))
 
-same_slot : (s t : Slot) → Some s ≡ Some t → s ≡ t
-same_slot s t e = cc
-
 -- one slot more
 pub count_more : (slots : List Slot) (named now : List ℕ) (s : Slot) (v : ℕ) → length now ≡ length named → AreCounted slots named now → s.node < length named → v ≡ min (get_or now s.node 0 + 1) (2 ^ 64 - 1)
     → AreCounted (slots ++ s ∷ []) named (set now s.node v)
@@ -70,7 +68,7 @@ names_more nodes slots at s here before may i t low is = by (cases_lt i at)
     by (inl less) = before i t less is
     by (inr more) =
         let e : at ≡ i = omega (arith, low, more) in
-        let same : s ≡ t = same_slot s t (sym here ∙ ap (slice_get slots) e ∙ is) in
+        let same : s ≡ t = same_Some s t (sym here ∙ ap (slice_get slots) e ∙ is) in
         subst (λ (u : Slot). MayName nodes u.node) same may
 
 pub capped_sum : (a b : ℕ) → capped (capped a + b) ≡ capped (a + b)

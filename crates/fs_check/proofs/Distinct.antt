@@ -5,12 +5,10 @@ use Rattle.std.specs.declared.cmp.Ordering.TheVariants.{Less, Equal, Greater}
 use Rattle.std.specs.Ordering.{nat_cmp, is_eq}
 use Rattle.std.specs.Cmp.Lexicographic.{slice_cmp}
 use Rattle.std.proofs.lemmas.Map.Lookups.{exact_bytes}
-use Rattle.std.proofs.lemmas.Option.{slice_get_within}
+use Rattle.std.proofs.lemmas.Option.{slice_get_within, same_Some}
+use Rattle.std.proofs.lemmas.Bool.{both_ways}
 use Rattle.layout_bytes.specs.declared.slot.Slot.{Slot}
 use Rattle.fs_check.specs.Slots.{HasName, HasNames, Repeats}
-
-same_slot : (s t : Slot) → Some s ≡ Some t → s ≡ t
-same_slot s t e = cc
 
 -- what stands in a front of slots stands there in all
 pub get_taken : (n : ℕ) (xs : List Slot) (i : ℕ) (s : Slot) → slice_get (take n xs) i ≡ Some s → slice_get xs i ≡ Some s
@@ -23,7 +21,7 @@ abbrev AtEnd : List Slot → Slot → Slot → ℕ → Type 0
 AtEnd xs s t i = (i ≡ length xs) × (t ≡ s)
 
 get_split : (xs : List Slot) (s t : Slot) (i : ℕ) → slice_get (xs ++ s ∷ []) i ≡ Some t → (slice_get xs i ≡ Some t) ⊎ AtEnd xs s t i
-get_split [] s t zero h = inr (refl, sym (same_slot s t h))
+get_split [] s t zero h = inr (refl, sym (same_Some s t h))
 get_split [] s t (suc i) h = absurd cc
 get_split (x ∷ xs) s t zero h = inl h
 get_split (x ∷ xs) s t (suc i) h = on (get_split xs s t i h)
@@ -41,9 +39,6 @@ get_end : (xs : List Slot) (s : Slot) → slice_get (xs ++ s ∷ []) (length xs)
 get_end [] s = refl
 get_end (x ∷ xs) s = get_end xs s
 
-no_both : (b : Bool) → b ≡ false → b ≡ true → ⊥
-no_both b e h = cc
-
 -- a slot with a new name comes behind the others
 pub names_more : (xs : List Slot) (s : Slot) (kept new : List ℕ → Bool) → HasNames xs kept → kept s.name ≡ false → new s.name ≡ true → ((q : List ℕ) → kept q ≡ true → new q ≡ true) → ((q : List ℕ) → new q ≡ true → (kept q ≡ true) ⊎ (s.name ≡ q))
     → HasNames (xs ++ s ∷ []) new
@@ -56,7 +51,7 @@ names_more xs s kept new h fresh here keeps from = record {
     clash : (i : ℕ) (a b : Slot) → slice_get xs i ≡ Some a → b ≡ s → a.name ≡ b.name → ⊥
     clash i a b at is e =
         let same : a.name ≡ s.name = e ∙ ap (λ (t : Slot). t.name) is in
-        no_both (kept s.name) fresh (ap kept (sym same) ∙ h.has a.name (record { place = i; slot = a; at = at; named = refl }))
+        both_ways (kept s.name) fresh (ap kept (sym same) ∙ h.has a.name (record { place = i; slot = a; at = at; named = refl }))
 
     distinct : (i j : ℕ) (a b : Slot) → a.name ≡ b.name → (slice_get xs i ≡ Some a) ⊎ AtEnd xs s a i → (slice_get xs j ≡ Some b) ⊎ AtEnd xs s b j → i ≡ j
     distinct i j a b e (inl p) (inl q) = h.distinct i j a b p q e

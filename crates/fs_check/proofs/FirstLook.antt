@@ -1,5 +1,5 @@
 -- The first look at the nodes, one node more, and all of them.
-use Rattle.std.proofs.Common.{◌≡◌, ◌≢◌, ℕ, zero, suc, ◌+◌, ◌/◌, ◌<◌, ◌≤◌, Bool, true, false, ◌&&◌, nat_le, List, [], ◌∷◌, ◌++◌, length, Option, None, Some, option_map, refl, sym, ap, ◌∙◌, arith, subst, ◌⊎◌, inl, inr}
+use Rattle.std.proofs.Common.{◌≡◌, ◌≢◌, ℕ, ◌+◌, ◌/◌, ◌<◌, ◌≤◌, Bool, true, false, ◌&&◌, nat_le, List, [], ◌∷◌, ◌++◌, length, Option, None, Some, option_map, refl, sym, ap, ◌∙◌, arith, subst, ◌⊎◌, inl, inr}
 use Rattle.std.proofs.lemmas.Bool.{cases_lt, ne_eqb, lt-leb}
 use Rattle.std.proofs.lemmas.List.{get_or_append_left, get_or_push, get_or_past}
 use Rattle.std.proofs.lemmas.Option.{none-some, same_Some}
@@ -81,8 +81,3 @@ link_broken limit node files found why e h =
       used = x.1;
       unread = wrong_inode x.0 (ap (λ (f : FileFacts). f.kind) (sym x.2) ∙ h.is_dir) (λ l. h.link (ap (λ (f : FileFacts). f.links) x.2 ∙ l));
     })
-
--- number 0 is that of no node
-pub first_seen : (g : Geometry) (m : Blocks) (k : ℕ) → k < 1 → IsSeen (files_of g m k) (seen (Unused ∷ []) k)
-first_seen g m zero low = refl
-first_seen g m (suc k) low = absurd (omega (arith, low))

@@ -1,7 +1,7 @@
 -- The directories that the check went through, one number more.
-use Rattle.std.proofs.Common.{◌≡◌, ℕ, zero, suc, ◌+◌, ◌-◌, ◌<◌, ◌≤◌, List, [], length, get_or, replicate, refl, sym, ap, ◌∙◌, arith, subst, ◌⊎◌, inl, inr}
+use Rattle.std.proofs.Common.{◌≡◌, ℕ, ◌+◌, ◌-◌, ◌<◌, ◌≤◌, List, [], length, get_or, refl, sym, ap, ◌∙◌, arith, subst, ◌⊎◌, inl, inr}
 use Rattle.std.proofs.lemmas.Bool.{cases_lt}
-use Rattle.std.proofs.lemmas.List.{get_or-replicate, length-replicate, get_or_past}
+use Rattle.std.proofs.lemmas.List.{get_or_past}
 use Rattle.layout_bytes.specs.declared.slot.Slot.{Slot}
 use Rattle.crash_stands.specs.Files.{Files}
 use Rattle.crash_stands.specs.Inodes.{Inodes, inodes_of}
@@ -18,18 +18,6 @@ unused_good : (nodes : List Looked) (m : Inodes) (d : ℕ) (look : Looked) → l
 unused_good nodes m d Unused e = tt
 unused_good nodes m d (Directory size) e = absurd cc
 unused_good nodes m d (Links n) e = tt
-
--- nothing was gone through
-pub went_none : (nodes : List Looked) (m : Inodes) (count : ℕ) → seen nodes 0 ≡ Unused → count ≡ length nodes → WentUpTo nodes m 1 (replicate count 0)
-went_none nodes m count none is = record {
-  count = length-replicate count 0 ∙ is;
-  dirs = λ d low. first d low;
-  counted = λ n low. get_or-replicate count n 0 0 (omega (arith, low, is));
-}
-  where
-    first : (d : ℕ) → d < 1 → IsGoodDir nodes m d (seen nodes d)
-    first zero low = unused_good nodes m 0 (seen nodes 0) none
-    first (suc d) low = absurd (omega (arith, low))
 
 good_by : (nodes : List Looked) (m : Inodes) (k : ℕ) (look : Looked) (named new : List ℕ) → WentBy nodes m k look named new → IsGoodDir nodes m k look
 good_by nodes m k Unused named new h = tt

@@ -1,7 +1,6 @@
 -- Marks of nodes: one node more, and one list of nodes behind another.
 use Rattle.std.proofs.Common.{◌≡◌, ℕ, zero, suc, ◌+◌, ◌<◌, ◌≤◌, true, false, Bool, List, [], ◌∷◌, ◌++◌, length, set, get_or, slice_get, None, Some, refl, sym, ap, ◌∙◌, arith, subst, ◌⊎◌, inl, inr, append_assoc, length-append, length-set, get_or-set_same, get_or-set_other}
 use Rattle.std.proofs.lemmas.Bool.{cases_eq}
-use Rattle.std.proofs.lemmas.List.{append-nil}
 use Rattle.fs_check.specs.declared.looked.Looked.{Looked}
 use Rattle.fs_check.specs.Marks.{has_mark, marked, Stands, WasDir, Marks}
 
@@ -66,19 +65,6 @@ marked_set (false ∷ bs) (suc i) low h = omega (arith, marked_set bs i (omega a
 
 -- Marks.
 
--- nothing was marked
-pub marks_none : (nodes : List Looked) (marks : List Bool) (queue : List ℕ) → Marks nodes [] marks marks queue queue
-marks_none nodes marks queue = record {
-  count = refl;
-  keeps = λ k h. h;
-  each = λ k s low. absurd (stands_none k s);
-  only = λ k h. inl h;
-  front = ([], sym (append-nil queue));
-  queued = λ k h dir. inl h;
-  dirs = λ k s. inl s;
-  room = omega arith;
-}
-
 -- these nodes, and then those
 pub marks_more : (nodes : List Looked) (ns os : List ℕ) (a b c : List Bool) (p q r : List ℕ) → Marks nodes ns a b p q → Marks nodes os b c q r → Marks nodes (ns ++ os) a c p r
 marks_more nodes ns os a b c p q r h g = record {
@@ -119,22 +105,6 @@ marks_more nodes ns os a b c p q r h g = record {
     dirs : (k : ℕ) → Stands q k ⊎ ((has_mark c k ≡ true) × WasDir nodes k) → Stands p k ⊎ ((has_mark c k ≡ true) × WasDir nodes k)
     dirs k (inl s) = still k (h.dirs k s)
     dirs k (inr m) = inr m
-
--- a node that has a mark, or no place for one
-pub marks_same : (nodes : List Looked) (n : ℕ) (marks : List Bool) (queue : List ℕ) → (n < length marks → has_mark marks n ≡ true) → Marks nodes (n ∷ []) marks marks queue queue
-marks_same nodes n marks queue has = record {
-  count = refl;
-  keeps = λ k h. h;
-  each = λ k s low. there k (stands_alone n k s) low;
-  only = λ k h. inl h;
-  front = ([], sym (append-nil queue));
-  queued = λ k h dir. inl h;
-  dirs = λ k s. inl s;
-  room = omega arith;
-}
-  where
-    there : (k : ℕ) → k ≡ n → k < length marks → has_mark marks k ≡ true
-    there k e low = ap (has_mark marks) e ∙ has (omega (arith, e, low))
 
 -- a mark that is set, and the others
 mark_here : (marks : List Bool) (n : ℕ) → n < length marks → has_mark (set marks n true) n ≡ true

@@ -1,6 +1,7 @@
 -- The rules of a tree from what was found of each node, and the damage from what was found wrong.
-use Rattle.std.proofs.Common.{◌≡◌, ◌≢◌, ℕ, zero, suc, ◌-◌, ◌^◌, ◌<◌, ◌≤◌, true, false, Bool, List, length, get_or, Some, option_and_then, slice_get, refl, sym, ap, ◌∙◌, arith, subst}
+use Rattle.std.proofs.Common.{◌≡◌, ◌≢◌, ℕ, zero, suc, ◌-◌, ◌^◌, ◌<◌, ◌≤◌, true, Bool, List, length, get_or, Some, option_and_then, slice_get, refl, sym, ap, ◌∙◌, arith, subst}
 use Rattle.std.proofs.lemmas.Option.{none-some}
+use Rattle.std.proofs.lemmas.Bool.{both_ways}
 use Rattle.layout_bytes.specs.declared.slot.Slot.{Slot}
 use Rattle.crash_stands.specs.Files.{FileNode, Files}
 use Rattle.crash_stands.specs.Inodes.{Inode, ADir, AFile, AreDistinct, inode_of, inodes_of}
@@ -29,9 +30,6 @@ capped_not_one n h e = h (omega arith)
 
 capped_not : (n links : ℕ) → capped n ≢ links → links < 2 ^ 32 → n ≢ links
 capped_not n links h low e = h (omega arith)
-
-true_false : (b : Bool) → b ≡ true → b ≡ false → ⊥
-true_false b e f = cc
 
 -- what the check has found of all nodes, before it judged
 pub record HasFound (limit : ℕ) (files : Files) (nodes : List Looked) (named : List ℕ) (marks : List Bool) : Type 0 where
@@ -151,7 +149,7 @@ wrong_broken limit files nodes named marks (damage.Unreached node) h w =
     let u = w.2.1 in
     let x = used_inode limit files nodes named marks h w.0 u.0 in
     subst (IsUnreached (inodes_of files)) (sym e)
-    (record { inode = x.0; used = x.1; unreached = λ path leads. true_false (has_mark marks w.0) (h.reached.others path w.0 leads) u.1 })
+    (record { inode = x.0; used = x.1; unreached = λ path leads. both_ways (has_mark marks w.0) u.1 (h.reached.others path w.0 leads) })
 
 -- A root that wasn't seen as a directory is none.
 pub no_root : (files : Files) (nodes : List Looked) → AreSeen files nodes → (WasDir nodes 1 → ⊥) → (slots : List Slot) → inodes_of files 1 ≢ Some (ADir slots)

@@ -1,6 +1,6 @@
 -- The search from the root: it begins, goes on by a directory, and ends.
 use Rattle.std.proofs.Common.{◌≡◌, ◌≢◌, ℕ, zero, suc, ◌+◌, ◌-◌, ◌<◌, ◌≤◌, true, false, Bool, List, [], ◌∷◌, ◌++◌, length, get_or, replicate, bytes_eq, cond, Option, None, Some, option_and_then, slice_get, refl, sym, ap, ◌∙◌, arith, subst, ◌⊎◌, inl, inr}
-use Rattle.std.proofs.lemmas.Bool.{cases_lt}
+use Rattle.std.proofs.lemmas.Bool.{cases_lt, both_ways}
 use Rattle.std.proofs.lemmas.List.{get_or-replicate, length-replicate, get_or_past}
 use Rattle.std.proofs.lemmas.Option.{none-some, same_Some, slice_get_within}
 use Rattle.layout_bytes.specs.declared.slot.Slot.{Slot}
@@ -11,7 +11,7 @@ use Rattle.fs_check.specs.declared.looked.Looked.{Looked}
 use Rattle.fs_check.specs.declared.looked.Looked.TheVariants.{Unused, Directory, Links}
 use Rattle.fs_check.specs.Looked.{seen, AreSeen}
 use Rattle.fs_check.specs.Slots.{NameUsed, IsGoodDir}
-use Rattle.fs_check.specs.Marks.{has_mark, marked, Stands, WasDir, Marks, Searches, IsQueue, AreReached, targets}
+use Rattle.fs_check.specs.Marks.{has_mark, Stands, WasDir, Marks, Searches, IsQueue, AreReached, targets}
 use Rattle.fs_check.proofs.Marking.{stands_here, stands_alone, stands_none, stands_left, marked_most}
 use Rattle.fs_check.proofs.Seeing.{same_slots, seen_inside, dir_inside, was_dir}
 
@@ -21,15 +21,8 @@ blank_by : (n k : ℕ) → (k < n) ⊎ (n ≤ k) → get_or (replicate n false) 
 blank_by n k (inl low) = get_or-replicate n k false false low
 blank_by n k (inr high) = get_or_past (replicate n false) k false (omega (arith, length-replicate n false, high))
 
-false_true : (b : Bool) → b ≡ false → b ≡ true → ⊥
-false_true b e f = cc
-
 blank : (n k : ℕ) → has_mark (replicate n false) k ≡ true → ⊥
-blank n k e = false_true (has_mark (replicate n false) k) (blank_by n k (cases_lt k n)) e
-
-none_marked : (n : ℕ) → marked (replicate n false) ≡ 0
-none_marked zero = refl
-none_marked (suc n) = omega (arith, none_marked n)
+blank n k e = both_ways (has_mark (replicate n false) k) (blank_by n k (cases_lt k n)) e
 
 -- the root alone has a mark, and stands in the queue
 pub queue_first : (nodes : List Looked) (n : ℕ) (marks : List Bool) (queue : List ℕ) → n ≡ length nodes → Marks nodes (1 ∷ []) (replicate n false) marks [] queue → IsQueue nodes marks queue

@@ -4,7 +4,6 @@ pub mod Meets
 pub mod Looks
 pub mod Tails
 pub mod Told
-pub mod NoNodes
 pub mod Bitmap
 pub mod Steps
 pub mod Whole

@@ -28,8 +28,7 @@ use layout_bytes::are_zeros;
 use layout_extent::Runs;
 use layout_geometry::Geom;
 use layout_node::{
-    BadNode, Node, NodeKind, a_free_node_is_zeros, a_spelling_has_one_node, nodes_in_use_are_read,
-    read_node,
+    BadNode, Node, NodeKind, a_free_node_is_zeros, nodes_in_use_are_read, read_node,
 };
 
 /// Checks a node, whose bytes these are: nothing is broken in the nodes below it.
@@ -85,7 +84,6 @@ fn node_in(bytes: &[u8], geom: &Geom) -> Result<Option<Node>, BadNode>
     geom.lawful();
     byte_ranges(bytes);
     nodes_in_use_are_read();
-    a_spelling_has_one_node();
     a_free_node_is_zeros();
     let node = read_node(bytes, geom)?;
     match node.kind {

@@ -96,7 +96,6 @@ fn open_node(bytes: &[u8], geom: &Geom) -> Option<OpenNode>
     geom.lawful();
     byte_ranges(bytes);
     nodes_in_use_are_read();
-    a_spelling_has_one_node();
     a_list_has_its_runs();
     let Ok(node) = read_node(bytes, geom) else {
         return None;

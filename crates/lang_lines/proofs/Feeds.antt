@@ -5,6 +5,7 @@ use Rattle.std.specs.List.{position, prefix_len}
 use Rattle.std.proofs.lemmas.List.{length-take-le, get_or-take}
 use Rattle.std.proofs.lemmas.List.Quantifiers.{position-Some}
 use Rattle.std.proofs.lemmas.List.Sums.{prefix_len_passes}
+use Rattle.std.proofs.lemmas.Bool.{eqb-true}
 use Rattle.lang_lines.proofs.Parts.{feedless}
 
 abbrev is_feed : ℕ → Bool
@@ -19,12 +20,6 @@ before xs i e =
     let found = position-Some is_feed xs i 0 e in
     let long = length-take-le i xs (omega (arith, found.0)) in
     feedless_by (take i xs) (λ k low. ap (λ b. not (is_feed b)) (get_or-take i xs k 0 (omega (arith, low, long))) ∙ ap not (found.2 k (omega (arith, low, long))))
-
-feed_at : (xs : List ℕ) (i : ℕ) → position is_feed xs ≡ Some i → get_or xs i 0 ≡ 10
-feed_at xs i e = same (get_or xs i 0) (position-Some is_feed xs i 0 e).1
-  where
-    same : (b : ℕ) → is_feed b ≡ true → b ≡ 10
-    same b h = grind (arith, tests, h)
 
 whole : (xs : List ℕ) → position is_feed xs ≡ None → feedless xs ≡ true
 whole xs e = feedless_by xs (λ k low. prefix_len_passes (λ b. not (is_feed b)) xs k 0 (omega (arith, low, all (nat_lt n (length xs)) refl e)))
@@ -50,7 +45,7 @@ none_before result bytes ahead at some first is = before ahead at (ap (position 
 pub feed_there : (result : Option ℕ) (bytes ahead : List ℕ) (at : ℕ) → result ≡ Some at → result ≡ position (λ b. b == 10) bytes → bytes ≡ ahead → drop at ahead ≡ 10 ∷ drop (at + 1) ahead
 feed_there result bytes ahead at some first is =
     let found : position is_feed ahead ≡ Some at = ap (position (λ b. b == 10)) (sym is) ∙ sym first ∙ some in
-    drop-cons ahead at 0 (omega (arith, (position-Some is_feed ahead at 0 found).0)) ∙ ap₂ (λ b k. b ∷ drop k ahead) (feed_at ahead at found) (sym (add-one at))
+    drop-cons ahead at 0 (omega (arith, (position-Some is_feed ahead at 0 found).0)) ∙ ap₂ (λ b k. b ∷ drop k ahead) (eqb-true (get_or ahead at 0) 10 (position-Some is_feed ahead at 0 found).1) (sym (add-one at))
 
 -- behind the bytes before it, it comes next
 pub feed_next : (next ahead : List ℕ) (at : ℕ) → next ≡ drop at ahead → drop at ahead ≡ 10 ∷ drop (at + 1) ahead → next ≡ 10 ∷ drop 1 next

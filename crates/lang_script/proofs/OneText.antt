@@ -1,5 +1,5 @@
 -- A text is that of one command and of one reply, and has no line feed.
-use Rattle.std.proofs.Common.{◌≡◌, sym, ap, refl, ◌∙◌, arith, rules, tests, subst, ℕ, zero, suc, ◌<◌, ◌≤◌, ◌^◌, ◌/◌, ◌%◌, ◌==◌, Bool, true, if◌then◌else◌, List, [], ◌∷◌, ◌++◌, drop, get_or, length, Option, Some, None, decimal, nat_lt, nat_le, bytes_eq, codes, slice_index, append_assoc}
+use Rattle.std.proofs.Common.{◌≡◌, sym, ap, refl, ◌∙◌, arith, rules, tests, subst, ℕ, ◌<◌, ◌≤◌, ◌^◌, ◌/◌, ◌%◌, ◌==◌, Bool, true, if◌then◌else◌, List, [], ◌∷◌, ◌++◌, drop, get_or, length, Option, Some, None, decimal, nat_lt, nat_le, bytes_eq, codes, append_assoc}
 use Rattle.std.specs.Prelude.{slice_index_or}
 use Rattle.std.proofs.lemmas.Bool.{and_parts}
 use Rattle.std.proofs.lemmas.Bool.Decides.{Decides-ltb}
@@ -8,6 +8,7 @@ use Rattle.std.proofs.lemmas.Fmt.{digits_decimal, digits_value-decimal}
 use Rattle.std.specs.Char.{is_ascii_digit}
 use Rattle.std.specs.List.{list_all}
 use Rattle.std.specs.Str.Parse.{digits_value}
+use Rattle.std.proofs.lemmas.List.Sums.{AllPass-from_list_all}
 use Rattle.hex.specs.Hex.{encode_lower, encode_with, lower_digits}
 use Rattle.base_types.specs.Name.{is_name, is_name_byte}
 use Rattle.lang_tree.specs.declared.command.Cmd.{Cmd}
@@ -24,7 +25,7 @@ use Rattle.lang_script.specs.Text.{command_text, text_of_reply, kind_text, names
 use Rattle.lang_script.specs.Grammar.{command_of, bytes_of}
 use Rattle.lang_script.specs.Values.{IsCommand, IsReply, HasFigures, has_no_feed}
 use Rattle.lang_script.proofs.Numbers.{own}
-use Rattle.lang_script.proofs.RoundTrip.{weaker, both, name_bytes, bytes_of-encode_lower, round_trip}
+use Rattle.lang_script.proofs.RoundTrip.{weaker, both, name_bytes, bytes_of-encode_lower, round_trip, regroup_three}
 
 -- Parts of a line, and what ends them.
 
@@ -96,11 +97,6 @@ past_feed b h = grind (arith, tests)
 number_part : (n : ℕ) → n < 2 ^ 64 → Part (decimal n)
 number_part n small = weaker is_ascii_digit (past 32) digit_past (decimal n) (digits_decimal own n small)
 
-within : (p : ℕ → Bool) (xs : List ℕ) (i : ℕ) → i < length xs → list_all p xs ≡ true → p (slice_index xs i) ≡ true
-within p [] i low h = absurd (omega (arith, low))
-within p (x ∷ xs) zero low h = (and_parts (p x) (list_all p xs) h).0
-within p (x ∷ xs) (suc i) low h = within p xs i (omega (arith, low)) (and_parts (p x) (list_all p xs) h).1
-
 abbrev AreBytes : List ℕ → Type 0
 AreBytes bytes = list_all (λ b. nat_lt b 256) bytes ≡ true
 
@@ -110,8 +106,8 @@ bytes_part [] h = refl
 bytes_part (b ∷ bytes) h =
     let parts = and_parts (nat_lt b 256) (list_all (λ b. nat_lt b 256) bytes) h in
     let low : b < 256 = (Decides-ltb b 256).0 parts.0 in
-    let high_digit = within (past 32) lower_digits (b / 16) (omega (arith, low)) refl in
-    let low_digit = within (past 32) lower_digits (b % 16) (omega (arith, low)) refl in
+    let high_digit = AllPass-from_list_all (past 32) lower_digits refl (b / 16) 0 (omega (arith, low)) in
+    let low_digit = AllPass-from_list_all (past 32) lower_digits refl (b % 16) 0 (omega (arith, low)) in
     rw (high_digit, low_digit) (bytes_part bytes parts.1)
 
 name_part : (name : List ℕ) → is_name name ≡ true → Part name
@@ -159,14 +155,6 @@ reply_parts (Known point) = codes "known" ∷ decimal point ∷ []
 reply_parts NotUnderstood = codes "bad" ∷ []
 reply_parts (Refused why) = refusal_parts why
 
--- grouped as the parts are
-text_parts : (a p d e : List ℕ) → a ++ p ++ codes " " ++ d ++ codes " " ++ e ≡ a ++ (p ++ 32 ∷ (d ++ 32 ∷ e))
-text_parts a p d e =
-    append_assoc (a ++ p ++ codes " " ++ d) (codes " ") e
-    ∙ append_assoc (a ++ p ++ codes " ") d (32 ∷ e)
-    ∙ append_assoc (a ++ p) (codes " ") (d ++ 32 ∷ e)
-    ∙ append_assoc a p (32 ∷ (d ++ 32 ∷ e))
-
 last : (xs : List ℕ) → xs ≡ xs ++ []
 last xs = sym (append-nil xs)
 
@@ -174,13 +162,13 @@ two_text : (a d e : List ℕ) → a ++ d ++ codes " " ++ e ≡ a ++ (d ++ 32 ∷
 two_text a d e = append_assoc (a ++ d) (codes " ") e ∙ append_assoc a d (32 ∷ e) ∙ ap (λ l. a ++ (d ++ 32 ∷ l)) (last e)
 
 three_text : (a d e f : List ℕ) → a ++ d ++ codes " " ++ e ++ codes " " ++ f ≡ a ++ (d ++ 32 ∷ (e ++ 32 ∷ (f ++ [])))
-three_text a d e f = text_parts a d e f ∙ ap (λ l. a ++ (d ++ 32 ∷ (e ++ 32 ∷ l))) (last f)
+three_text a d e f = regroup_three a d e f ∙ ap (λ l. a ++ (d ++ 32 ∷ (e ++ 32 ∷ l))) (last f)
 
 four_text : (a d e f g : List ℕ) → a ++ d ++ codes " " ++ e ++ codes " " ++ f ++ codes " " ++ g ≡ a ++ (d ++ 32 ∷ (e ++ 32 ∷ (f ++ 32 ∷ (g ++ []))))
 four_text a d e f g =
     append_assoc (a ++ d ++ codes " " ++ e ++ codes " " ++ f) (codes " ") g
     ∙ append_assoc (a ++ d ++ codes " " ++ e ++ codes " ") f (32 ∷ g)
-    ∙ text_parts a d e (f ++ 32 ∷ g)
+    ∙ regroup_three a d e (f ++ 32 ∷ g)
     ∙ ap (λ l. a ++ (d ++ 32 ∷ (e ++ 32 ∷ (f ++ 32 ∷ l)))) (last g)
 
 one_text : (a d : List ℕ) → a ++ d ≡ a ++ (d ++ [])

@@ -141,7 +141,7 @@ split_four xs ys zs vs h k m n = split_at 32 xs (ys ++ 32 ∷ (zs ++ 32 ∷ vs))
 regroup_two : (a p d : List ℕ) → a ++ p ++ codes " " ++ d ≡ a ++ (p ++ 32 ∷ d)
 regroup_two a p d = append_assoc (a ++ p) (codes " ") d ∙ append_assoc a p (32 ∷ d)
 
-regroup_three : (a p d e : List ℕ) → a ++ p ++ codes " " ++ d ++ codes " " ++ e ≡ a ++ (p ++ 32 ∷ (d ++ 32 ∷ e))
+pub regroup_three : (a p d e : List ℕ) → a ++ p ++ codes " " ++ d ++ codes " " ++ e ≡ a ++ (p ++ 32 ∷ (d ++ 32 ∷ e))
 regroup_three a p d e =
     append_assoc (a ++ p ++ codes " " ++ d) (codes " ") e
     ∙ append_assoc (a ++ p ++ codes " ") d (32 ∷ e)

@@ -1,5 +1,5 @@
 -- How many blocks are free after a bit was written, and which of them were found so far.
-use Rattle.std.proofs.Common.{◌≡◌, ◌≢◌, ℕ, ◌+◌, ◌<◌, ◌≤◌, ◌==◌, Bool, true, false, not, List, [], ◌∷◌, ◌++◌, length, take, drop, slice_set, min, refl, sym, ap, ap₂, ◌∙◌, arith, take_all, append-nil}
+use Rattle.std.proofs.Common.{◌≡◌, ℕ, ◌+◌, ◌<◌, ◌≤◌, ◌==◌, Bool, true, false, not, List, [], ◌∷◌, ◌++◌, length, take, drop, slice_set, min, refl, sym, ap, ap₂, ◌∙◌, arith, take_all, append-nil}
 use Rattle.std.proofs.lemmas.Bool.{cond-true, cond-false, eq-eqb, ne_eqb, not_from_true, not_from_false}
 use Rattle.std.proofs.Math.Seq.{take-append_seam}
 use Rattle.std.proofs.lemmas.List.{length-set, length-append, length-take-le, take_more_set, drop-set-lt, drop-drop}
@@ -8,21 +8,17 @@ use Rattle.layout_geometry.specs.Geometry.{Geometry, data_start}
 use Rattle.layout_bitmap.specs.Bits.{bit_in, IsFree, BitBecomes, free_blocks}
 use Rattle.layout_bitmap.proofs.Frees.{kept, kept_joined, kept_next, none_kept, one_more}
 
--- every other bit is as before
-unwritten : (old new : Blocks) (b : ℕ) (bit : Bool) → BitBecomes old new b bit → (k : ℕ) → k ≢ b → bit_in new k ≡ bit_in old k
-unwritten old new b bit becomes k apart = becomes k ∙ cond-false (k == b) bit (bit_in old k) (ne_eqb k b apart)
-
 pub one_less : (g : Geometry) (old new : Blocks) (b : ℕ) → IsFree g old b → BitBecomes old new b true → length (free_blocks g new) + 1 ≡ length (free_blocks g old)
 one_less g old new b free becomes =
     one_more (λ k. not (bit_in old k)) (λ k. not (bit_in new k)) (data_start g) b g.n free.from free.below (not_from_false _ free.clear)
     (not_from_true _ (becomes b ∙ cond-true (b == b) true (bit_in old b) (eq-eqb b b refl)))
-    (λ k apart. ap not (unwritten old new b true becomes k apart))
+    (λ k apart. ap not (becomes k ∙ cond-false (k == b) true (bit_in old k) (ne_eqb k b apart)))
 
 pub one_again : (g : Geometry) (old new : Blocks) (b : ℕ) → bit_in old b ≡ true → IsFree g new b → BitBecomes old new b false → length (free_blocks g new) ≡ length (free_blocks g old) + 1
 one_again g old new b was free becomes =
     sym (one_more (λ k. not (bit_in new k)) (λ k. not (bit_in old k)) (data_start g) b g.n free.from free.below (not_from_false _ free.clear)
     (not_from_true _ was)
-    (λ k apart. ap not (sym (unwritten old new b false becomes k apart))))
+    (λ k apart. ap not (sym (becomes k ∙ cond-false (k == b) false (bit_in old k) (ne_eqb k b apart)))))
 
 -- the test of a free block
 abbrev is_clear : Blocks → ℕ → Bool

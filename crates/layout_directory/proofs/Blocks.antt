@@ -3,11 +3,11 @@ use Rattle.std.proofs.Common.{◌+◌, ◌-◌, ◌*◌, ◌≡◌, ◌<◌, ◌
 use Rattle.std.proofs.lemmas.Bool.{cases_eq, cases_lt}
 use Rattle.std.proofs.lemmas.List.{length-take-le, length-take, length-drop, length-append, take-append-drop, drop-drop, drop-replicate, take_at, drop_at, get_or-take, get_or-drop, get_or_past, take_more}
 use Rattle.std.specs.List.{All, slice_get}
-use Rattle.layout_bytes.specs.Bytes.{are_zeros}
-use Rattle.layout_bytes.specs.Slot.{slot_of, slots_in, then_slot, slot_spelling, slot_bytes, directory_block}
+use Rattle.layout_bytes.specs.Bytes.{are_zeros, ZerosAreTold}
+use Rattle.layout_bytes.specs.Slot.{slot_of, slots_in, then_slot, slot_spelling, slot_bytes}
 use Rattle.layout_directory.specs.Slots.{Slot, IsLawful, IsSlot, IsDirBlock}
 use Rattle.layout_directory.specs.Directory.{overwrite}
-use Rattle.layout_directory.proofs.Fields.{zeros_are, are_these_zeros}
+use Rattle.layout_directory.proofs.Fields.{zeros_are}
 use Rattle.layout_directory.proofs.Spelled.{name_short, spelling_length, reads, spelled}
 use Rattle.layout_directory.proofs.Written.{part}
 use Rattle.layout_directory.proofs.Entries.{taken, count_read, each_read}
@@ -21,24 +21,24 @@ part_below b m below i = by (cases_lt i 64)
     by (inr high) = omega (arith, get_or_past (take 64 (drop m b)) i 0 (omega (arith, length-take 64 (drop m b), high)))
 
 -- each entry is spelled in its place
-entry_spelled : (n : ℕ) (b : List ℕ) (slots : List Slot) (i : ℕ) (d : Slot) → 64 * n ≤ length b → ((k : ℕ) → slice_index b k < 256) → slots_in n b ≡ Some slots → i < n
+entry_spelled : ZerosAreTold → (n : ℕ) (b : List ℕ) (slots : List Slot) (i : ℕ) (d : Slot) → 64 * n ≤ length b → ((k : ℕ) → slice_index b k < 256) → slots_in n b ≡ Some slots → i < n
     → IsSlot (part i b) (slice_index_or slots i d)
-entry_spelled n b slots i d fits below e low =
-    spelled (part i b) (slice_index_or slots i d) (length-take-le 64 (drop (64 * i) b) (omega (arith, length-drop (64 * i) b))) (part_below b (64 * i) below) (each_read n b slots i d e low)
+entry_spelled told n b slots i d fits below e low =
+    spelled told (part i b) (slice_index_or slots i d) (length-take-le 64 (drop (64 * i) b) (omega (arith, length-drop (64 * i) b))) (part_below b (64 * i) below) (each_read n b slots i d e low)
 
 -- the entries' spellings are the bytes before the rest
-bytes_read : (n : ℕ) (b : List ℕ) (slots : List Slot) → 64 * n ≤ length b → ((k : ℕ) → slice_index b k < 256) → slots_in n b ≡ Some slots
+bytes_read : ZerosAreTold → (n : ℕ) (b : List ℕ) (slots : List Slot) → 64 * n ≤ length b → ((k : ℕ) → slice_index b k < 256) → slots_in n b ≡ Some slots
     → slot_bytes slots ++ drop (64 * n) b ≡ b
-bytes_read zero b slots fits below e = let nil : slots ≡ [] = cc in ap (λ (xs : List Slot). slot_bytes xs ++ b) nil
-bytes_read (suc n) b slots fits below e =
+bytes_read told zero b slots fits below e = let nil : slots ≡ [] = cc in ap (λ (xs : List Slot). slot_bytes xs ++ b) nil
+bytes_read told (suc n) b slots fits below e =
     let t = taken _ _ slots e in
     let one : IsSlot (take 64 b) t.first =
-    spelled (take 64 b) t.first (length-take-le 64 b (omega arith)) (part_below b 0 below) t.one_is in
+    spelled told (take 64 b) t.first (length-take-le 64 b (omega arith)) (part_below b 0 below) t.one_is in
     ap (λ (xs : List Slot). slot_bytes xs ++ drop (64 * suc n) b) t.slots_are
     ∙ append_assoc (slot_spelling t.first) (slot_bytes t.more) (drop (64 * suc n) b)
     ∙ ap₂ (λ (x y : List ℕ). x ++ (slot_bytes t.more ++ y)) (sym one.spelled)
     (ap (λ k. drop k b) {x = 64 * suc n} {y = 64 + 64 * n} (omega arith) ∙ sym (drop-drop (64 * n) 64 b))
-    ∙ ap (λ x. take 64 b ++ x) (bytes_read n (drop 64 b) t.more (omega (arith, length-drop 64 b)) (λ k. omega (arith, get_or-drop 64 b k 0, below (64 + k))) t.rest_is)
+    ∙ ap (λ x. take 64 b ++ x) (bytes_read told n (drop 64 b) t.more (omega (arith, length-drop 64 b)) (λ k. omega (arith, get_or-drop 64 b k 0, below (64 + k))) t.rest_is)
     ∙ take-append-drop 64 b
 
 -- the bytes behind the entries, to the end of the block
@@ -46,17 +46,17 @@ pub rest_is : (n : ℕ) (b : List ℕ) → length b ≡ 1024 → take (1024 - 64
 rest_is n b size = take_all (1024 - 64 * n) (drop (64 * n) b) (omega (arith, length-drop (64 * n) b, size))
 
 -- what was read is a directory's block
-pub block_read : (n : ℕ) (b : List ℕ) (slots : List Slot) → n ≤ 16 → length b ≡ 1024 → ((k : ℕ) → slice_index b k < 256) → are_zeros (drop (64 * n) b) ≡ true
+pub block_read : ZerosAreTold → (n : ℕ) (b : List ℕ) (slots : List Slot) → n ≤ 16 → length b ≡ 1024 → ((k : ℕ) → slice_index b k < 256) → are_zeros (drop (64 * n) b) ≡ true
     → slots_in n b ≡ Some slots → IsDirBlock b n slots
-block_read n b slots few size below zeros e =
+block_read told n b slots few size below zeros e =
     let fits : 64 * n ≤ length b = omega (arith, size) in
     let count = count_read n b slots e in
     let left : length (drop (64 * n) b) ≡ 1024 - 64 * length slots = omega (arith, length-drop (64 * n) b, size, count) in
     record {
       count = count;
-      lawful = λ k d low. (entry_spelled n b slots k d fits below e (omega (arith, count, low))).lawful;
-      spelled = sym (bytes_read n b slots fits below e)
-          ∙ ap (λ x. slot_bytes slots ++ x) (are_these_zeros (drop (64 * n) b) zeros ∙ ap (λ m. replicate m 0) left);
+      lawful = λ k d low. (entry_spelled told n b slots k d fits below e (omega (arith, count, low))).lawful;
+      spelled = sym (bytes_read told n b slots fits below e)
+          ∙ ap (λ x. slot_bytes slots ++ x) (told (drop (64 * n) b) zeros ∙ ap (λ m. replicate m 0) left);
     }
 
 -- the slots behind the first are lawful too
@@ -167,10 +167,3 @@ front_more old new text place slots s few front there low lawful is write =
           ∙ sym (append_assoc before (slot_spelling s) (replicate (1024 - 64 * (place + 1)) 0))
           ∙ ap (λ x. x ++ replicate (1024 - 64 * (place + 1)) 0) (sym more);
     }
-
--- when all are written, the block is the directory's
-pub front_all : (into : List ℕ) (place : ℕ) (slots : List Slot) → length slots ≤ place → place ≤ length slots → IsFront into place slots → into ≡ directory_block slots
-front_all into place slots low high front =
-    front.bytes
-    ∙ ap (λ (xs : List Slot). slot_bytes xs ++ replicate (1024 - 64 * place) 0) (take_all place slots low)
-    ∙ ap (λ n. slot_bytes slots ++ replicate (1024 - 64 * n) 0) {x = place} {y = length slots} (omega arith)

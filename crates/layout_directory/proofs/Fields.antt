@@ -1,6 +1,5 @@
 -- What follows from the definitions of fields, as far as the proofs of this crate need it.
-use Rattle.std.proofs.Common.{◌≡◌, ℕ, zero, suc, ◌+◌, ◌==◌, Bool, true, false, List, [], ◌∷◌, ◌++◌, length, replicate, Option, Some, refl, ap₂, eqb-true}
-use Rattle.std.proofs.lemmas.Bool.{and_parts}
+use Rattle.std.proofs.Common.{◌≡◌, ℕ, zero, suc, Bool, true, false, List, ◌++◌, replicate, Option, Some, refl}
 use Rattle.layout_bytes.specs.Bytes.{are_zeros, when}
 
 -- where a test holds, the value is there
@@ -22,10 +21,3 @@ zeros_are (suc n) = zeros_are n
 pub zeros_before : (n : ℕ) (rest : List ℕ) → are_zeros (replicate n 0 ++ rest) ≡ are_zeros rest
 zeros_before zero rest = refl
 zeros_before (suc n) rest = zeros_before n rest
-
--- bytes that are zeros are so many zeros
-pub are_these_zeros : (xs : List ℕ) → are_zeros xs ≡ true → xs ≡ replicate (length xs) 0
-are_these_zeros [] e = refl
-are_these_zeros (x ∷ xs) e =
-    let both = and_parts (x == 0) (are_zeros xs) e in
-    ap₂ ◌∷◌ (eqb-true x 0 both.0) (are_these_zeros xs both.1)

@@ -7,8 +7,8 @@ use Rattle.std.proofs.lemmas.Nat.{le_bytes_4}
 use Rattle.byteorder.specs.Endian.{little_bytes}
 use Rattle.byteorder.specs.Numbers.{little_number-reads_back, little_from-lt}
 use Rattle.base_types.specs.Name.{is_name}
-use Rattle.layout_bytes.specs.Bytes.{field, are_zeros, has_zeros}
-use Rattle.layout_directory.proofs.Fields.{when_is, when_parts, zeros_are, are_these_zeros}
+use Rattle.layout_bytes.specs.Bytes.{field, are_zeros, has_zeros, ZerosAreTold}
+use Rattle.layout_directory.proofs.Fields.{when_is, when_parts, zeros_are}
 use Rattle.layout_bytes.specs.Slot.{name_in, slot_of, slot_spelling}
 use Rattle.layout_directory.specs.Slots.{Slot, IsLawful, IsSlot}
 
@@ -61,18 +61,18 @@ four a b c d rest la lb lc ld =
     below (suc (suc (suc (suc i)))) = omega arith
 
 -- the name and the zeros behind it are what is behind the length
-named : (n : ℕ) (rest : List ℕ) → n ≤ 59 → length rest ≡ 59 → are_zeros (drop n rest) ≡ true
+named : ZerosAreTold → (n : ℕ) (rest : List ℕ) → n ≤ 59 → length rest ≡ 59 → are_zeros (drop n rest) ≡ true
     → (n ∷ rest) ≡ length (take n rest) ∷ (take n rest ++ replicate (59 - length (take n rest)) 0)
-named n rest low len zeros =
+named told n rest low len zeros =
     let size : length (take n rest) ≡ n = length-take-le n rest (omega arith) in
     let left : length (drop n rest) ≡ 59 - length (take n rest) = omega (arith, length-drop n rest, size, len) in
     ap₂ (λ (m : ℕ) (xs : List ℕ). m ∷ xs) (sym size)
-    (sym (take-append-drop n rest) ∙ ap (λ xs. take n rest ++ xs) (are_these_zeros (drop n rest) zeros ∙ ap (λ m. replicate m 0) left))
+    (sym (take-append-drop n rest) ∙ ap (λ xs. take n rest ++ xs) (told (drop n rest) zeros ∙ ap (λ m. replicate m 0) left))
 
 -- what reads as a slot from 64 bytes is spelled so
-pub spelled : (b : List ℕ) (s : Slot) → length b ≡ 64 → ((i : ℕ) → slice_index b i < 256) → slot_of b ≡ Some s → IsSlot b s
+pub spelled : ZerosAreTold → (b : List ℕ) (s : Slot) → length b ≡ 64 → ((i : ℕ) → slice_index b i < 256) → slot_of b ≡ Some s → IsSlot b s
 unfolding slot_of
-spelled (a ∷ b ∷ c ∷ d ∷ n ∷ rest) s len below e =
+spelled told (a ∷ b ∷ c ∷ d ∷ n ∷ rest) s len below e =
     let all = a ∷ b ∷ c ∷ d ∷ n ∷ rest in
     let got = when_parts _ _ s e in
     let is : s ≡ record { node = field all 0 4; name = take n rest } = cc (got.1) in
@@ -85,10 +85,10 @@ spelled (a ∷ b ∷ c ∷ d ∷ n ∷ rest) s len below e =
     let zeros : are_zeros (drop n rest) ≡ true = sym (ap are_zeros behind) ∙ more.1 in
     rw is (record {
       lawful = record { node = omega (arith, little_from-lt 0 4 all below); name = more.0 };
-      spelled = ap₂ ◌++◌ (sym (four a b c d (n ∷ rest) (below 0) (below 1) (below 2) (below 3))) (named n rest low size zeros);
+      spelled = ap₂ ◌++◌ (sym (four a b c d (n ∷ rest) (below 0) (below 1) (below 2) (below 3))) (named told n rest low size zeros);
     })
-spelled [] s len below e = absurd (omega arith)
-spelled (a ∷ []) s len below e = absurd (omega arith)
-spelled (a ∷ b ∷ []) s len below e = absurd (omega arith)
-spelled (a ∷ b ∷ c ∷ []) s len below e = absurd (omega arith)
-spelled (a ∷ b ∷ c ∷ d ∷ []) s len below e = absurd (omega arith)
+spelled told [] s len below e = absurd (omega arith)
+spelled told (a ∷ []) s len below e = absurd (omega arith)
+spelled told (a ∷ b ∷ []) s len below e = absurd (omega arith)
+spelled told (a ∷ b ∷ c ∷ []) s len below e = absurd (omega arith)
+spelled told (a ∷ b ∷ c ∷ d ∷ []) s len below e = absurd (omega arith)

@@ -10,7 +10,7 @@ use crate::Slots;
 use crate::slot::{BadSlot, slot_of, slot_text};
 use base_types::Block;
 use base_types::limits::BLOCK_LENGTH;
-use layout_bytes::{SLOT_LENGTH, are_zeros};
+use layout_bytes::{SLOT_LENGTH, are_zeros, fields_tell_their_bytes};
 
 /// The slots of a directory's block that has so many entries.
 ///
@@ -22,6 +22,7 @@ pub fn read_dir_block(block: &Block, entries: u32) -> Result<Slots, BadSlot>
     ensures found { IfOk result (λ slots. IsDirBlock block.now entries slots) }
     ensures refused { OnErr result ((slots : List SlotValue) → IsDirBlock block.now entries slots → ⊥) }
 {
+    fields_tell_their_bytes();
     if !are_zeros(&block[SLOT_LENGTH * entries as usize..]) {
         return Err(BadSlot);
     }

@@ -5,12 +5,16 @@ ghost use Rattle.std.specs.List.{All};
 ghost use Rattle.layout_directory.specs.Slots.{Slot, IsLawful, IsSlot, IsDirBlock, slot_of, slots_in, slot_spelling};
 ghost use Rattle.layout_directory.specs.Directory.{place_of, overwrite};
 
+use layout_bytes::fields_tell_their_bytes;
+
 /// A spelling has one slot, and what reads as a slot is exactly the spelling of a lawful one.
 pub fn slots_read_back()
     ensures one { (b : List ℕ) (s r : Slot) → IsSlot b s → IsSlot b r → s ≡ r }
     ensures reads { (s : Slot) → IsLawful s → slot_of (slot_spelling s) ≡ Some s }
     ensures spelled { (b : List ℕ) (s : Slot) → length b ≡ 64 → ((i : ℕ) → slice_index b i < 256) → slot_of b ≡ Some s → IsSlot b s }
-{}
+{
+    fields_tell_their_bytes();
+}
 
 /// A block is a directory's by one list of so many slots at most, and it reads as that list.
 pub fn directory_blocks_read_back()

@@ -7,7 +7,9 @@ ghost use Rattle.layout_directory.specs.Slots.{Slot as SlotValue, IsLawful, IsSl
 use arrayvec::ArrayVec;
 use base_types::Name;
 use base_types::limits::LONGEST_NAME;
-use layout_bytes::{SLOT_LENGTH, Slot, are_zeros, number_4, put, put_4, put_zeros};
+use layout_bytes::{
+    SLOT_LENGTH, Slot, are_zeros, fields_tell_their_bytes, number_4, put, put_4, put_zeros,
+};
 use std::error::Error;
 use std::fmt;
 
@@ -41,6 +43,7 @@ pub fn read_slot(bytes: &[u8]) -> Result<Slot, BadSlot>
     ensures found { IfOk result (λ slot. IsSlot bytes.now slot) }
     ensures refused { OnErr result ((s : SlotValue) → IsSlot bytes.now s → ⊥) }
 {
+    fields_tell_their_bytes();
     if bytes.len() != SLOT_LENGTH {
         return Err(BadSlot);
     }

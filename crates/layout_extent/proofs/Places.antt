@@ -1,6 +1,6 @@
 -- The numbers of runs: joined lists, their length, and the number at a place.
-use Rattle.std.proofs.Common.{◌≡◌, ℕ, zero, suc, ◌+◌, ◌-◌, ◌<◌, ◌≤◌, List, [], ◌∷◌, ◌++◌, length, get_or, take, drop, slice_get, Some, None, refl, sym, ap, ◌∙◌, arith, append_assoc}
-use Rattle.std.proofs.lemmas.List.{take_more, drop_more, drop_all, length-append}
+use Rattle.std.proofs.Common.{◌≡◌, ℕ, zero, suc, ◌+◌, ◌-◌, ◌<◌, ◌≤◌, List, [], ◌∷◌, ◌++◌, length, get_or, take, drop, slice_get, Some, refl, sym, ap, ◌∙◌, arith, append_assoc}
+use Rattle.std.proofs.lemmas.List.{take_more, drop_more, length-append}
 use Rattle.base_types.specs.declared.places.Run.{Run}
 use Rattle.base_types.specs.Runs.{blocks_from, run_places}
 
@@ -48,6 +48,3 @@ pub place_behind : (rs : List Run) (k i : ℕ) (d : Run) → k < length rs → (
     → slice_get (run_places (drop k rs)) i ≡ slice_get (run_places (drop (k + 1) rs)) (i - (get_or rs k d).count)
 place_behind rs k i d h p =
     ap (λ ss. slice_get (run_places ss) i) (drop_more rs k d h) ∙ get_behind (get_or rs k d).first (get_or rs k d).count i (run_places (drop (k + 1) rs)) p
-
-pub place_nowhere : (rs : List Run) (k i : ℕ) → length rs ≤ k → slice_get (run_places (drop k rs)) i ≡ None
-place_nowhere rs k i h = ap (λ ss. slice_get (run_places ss) i) (drop_all k rs h)

@@ -1,15 +1,17 @@
 -- What an image holds rests on the disk's own blocks alone: those below its number of blocks.
-use Rattle.std.proofs.Common.{◌≡◌, ℕ, zero, suc, ◌+◌, ◌-◌, ◌/◌, ◌%◌, ◌<◌, ◌≤◌, ◌==◌, Bool, true, false, ◌&&◌, ◌||◌, nat_lt, nat_le, if◌then◌else◌, IsTrue, List, [], ◌∷◌, slice_get, slice_index, Option, Some, None, refl, sym, ◌∙◌, ap, ap₂, subst, arith}
+use Rattle.std.proofs.Common.{◌≡◌, ℕ, ◌+◌, ◌-◌, ◌/◌, ◌%◌, ◌<◌, ◌≤◌, ◌==◌, Bool, true, false, ◌&&◌, ◌||◌, nat_lt, nat_le, if◌then◌else◌, List, [], ◌∷◌, slice_index, Option, Some, None, refl, sym, ◌∙◌, ap, ap₂, subst, arith}
 use Rattle.std.specs.Int.{bit_at}
-use Rattle.std.proofs.lemmas.Bool.{and_parts, ltb-true}
+use Rattle.std.proofs.lemmas.Bool.{ltb-true}
+use Rattle.std.proofs.lemmas.Nat.{mod_below}
+use Rattle.layout_journal.proofs.FitEntries.{fresh_below}
 use Rattle.base_types.specs.Seal.{Blocks, sha256}
 use Rattle.layout_geometry.specs.Geometry.{Geometry, ring_block, bitmap_start, data_start}
 use Rattle.layout_journal.specs.declared.header.Header.{Header}
 use Rattle.layout_journal.specs.declared.entry.Entry.{Entry}
 use Rattle.layout_journal.specs.Layout.{header_of, commit_of, descriptor_of, unescaped}
-use Rattle.layout_journal.specs.Run.{Newest, Record, heads, entries_fit, are_ascending, are_fresh, is_fresh, names_block, Fits, IsWhole, AreWhole, IsRun, payload_from, payload_of, or_else, covered_by, otherwise, replayed, live_part, HeldIs}
+use Rattle.layout_journal.specs.Run.{Newest, Record, heads, names_block, Fits, IsWhole, AreWhole, IsRun, payload_from, payload_of, or_else, covered_by, otherwise, replayed, live_part, HeldIs}
 use Rattle.layout_journal.proofs.Bounds.{header_bounds}
-use Rattle.layout_journal.proofs.Geometries.{IsSized, sizes, ring_before_bitmap}
+use Rattle.layout_journal.proofs.Geometries.{IsSized, sizes}
 
 -- the same bytes in each of the first n blocks
 abbrev AreAlike : ℕ → Blocks → Blocks → Type 0
@@ -19,27 +21,9 @@ AreAlike n img other = (b : ℕ) → b < n → img b ≡ other b
 turned : (n : ℕ) (img other : Blocks) → AreAlike n img other → AreAlike n other img
 turned n img other alike b low = sym (alike b low)
 
--- fresh entries name blocks of the disk
-fresh_in : (g : Geometry) (ps es : List Entry) (i : ℕ) (e : Entry) → are_fresh g ps es ≡ true → slice_get es i ≡ Some e → e.block < g.n
-fresh_in g ps [] i e fit is = cc
-fresh_in g ps (a ∷ es) zero e fit is =
-    let same : a ≡ e = cc in
-    let from_low = and_parts (nat_le (data_start g) a.block) _ (and_parts (is_fresh a.kind) _ fit).1 in
-    subst (λ (c : Entry). c.block < g.n) same (ltb-true _ _ (and_parts (nat_lt a.block g.n) _ from_low.1).0)
-fresh_in g ps (a ∷ es) (suc i) e fit is =
-    let from_low = and_parts (nat_le (data_start g) a.block) _ (and_parts (is_fresh a.kind) _ fit).1 in
-    let from_high = and_parts (nat_lt a.block g.n) _ from_low.1 in
-    fresh_in g ps es i e (and_parts _ (are_fresh g ps es) from_high.1).1 is
-
--- those of a record whose entries fit do
-fresh_below : (g : Geometry) (r : Record) (i : ℕ) (e : Entry) → IsTrue (entries_fit g r) → slice_get r.fresh i ≡ Some e → e.block < g.n
-unfolding entries_fit
-fresh_below g r i e fit is =
-    fresh_in g r.payloads r.fresh i e (and_parts (are_ascending (data_start g) g.n r.fresh) _ (and_parts (are_ascending (bitmap_start g) g.n r.payloads) _ fit).1).1 is
-
 -- each ring place is a block of the disk
 ring_below : (g : Geometry) (p : ℕ) → IsSized g → ring_block g p < g.n
-ring_below g p size = omega (arith, ring_before_bitmap g p (some g size), size.room)
+ring_below g p size = omega (arith, mod_below p g.j (some g size), size.room)
   where
     some : (g : Geometry) → IsSized g → 0 < g.j
     some g size = omega (arith, size.ring_from)

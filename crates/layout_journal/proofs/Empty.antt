@@ -1,21 +1,15 @@
 -- The formatted disk has one header and no record, so it holds what rests on it.
-use Rattle.std.proofs.Common.{◌≡◌, ℕ, ◌≤◌, ◌<◌, ◌==◌, Bool, true, false, ◌&&◌, nat_le, nat_lt, if◌then◌else◌, List, [], take, replicate, slice_index, Some, refl, sym, ◌∙◌, ap, arith}
-use Rattle.std.proofs.lemmas.Bool.{ne_eqb, lt-leb}
+use Rattle.std.proofs.Common.{◌≡◌, ℕ, ◌≤◌, ◌<◌, ◌==◌, true, false, ◌&&◌, nat_le, nat_lt, List, [], take, replicate, slice_index, refl, sym, ◌∙◌, ap, arith}
+use Rattle.std.proofs.lemmas.Bool.{ne_eqb, lt-leb, cond-false}
+use Rattle.std.proofs.lemmas.Nat.{mod_below}
 use Rattle.layout_geometry.specs.Geometry.{Geometry, geometry_fits, bitmap_start, table_start, ring_block}
-use Rattle.layout_journal.specs.declared.header.Header.{Header}
-use Rattle.layout_journal.specs.declared.record.Commit.{Commit}
 use Rattle.layout_journal.specs.Layout.{header_of, commit_of}
 use Rattle.layout_journal.specs.Spelling.{IsHeader, fits_in}
 use Rattle.layout_journal.specs.Run.{Newest, Record, IsRun, CanFollow, live_part, HeldIs}
 use Rattle.layout_journal.specs.Formatted.{empty_header, formatted}
 use Rattle.layout_journal.proofs.Tags.{header_tag, commit_tag}
 use Rattle.layout_journal.proofs.Spelled.{header_reads}
-use Rattle.layout_journal.proofs.Geometries.{sizes, ring_behind_slots, ring_before_bitmap}
-
--- a test that fails leaves the second branch
-if_false : {A : Type 0} (t : Bool) (x y : A) → t ≡ false → (if t then x else y) ≡ y
-if_false true x y e = cc
-if_false false x y e = refl
+use Rattle.layout_journal.proofs.Geometries.{sizes, ring_behind_slots}
 
 -- a tag is no zeros: its first byte isn't one
 zeros_no_tag : (tag : List ℕ) → take 8 (replicate 1024 0) ≡ tag → slice_index tag 0 ≡ 0
@@ -25,20 +19,12 @@ zeros_no_tag tag e = ap (λ (l : List ℕ). slice_index l 0) (sym e)
 letter_o : ◌≡◌ {A = ℕ} 79 0 → ⊥
 letter_o e = omega arith
 
--- zeros read as no header
-zeros_no_header : (n : ℕ) (h : Header) → header_of n (replicate 1024 0) ≡ Some h → ⊥
-zeros_no_header n h e = letter_o (zeros_no_tag _ (header_tag n _ h e))
-
--- nor as a commit block
-zeros_no_commit : (g : Geometry) (c : Commit) → commit_of g (replicate 1024 0) ≡ Some c → ⊥
-zeros_no_commit g c e = letter_o (zeros_no_tag _ (commit_tag g _ c e))
-
 -- behind the first header and before the bitmap the formatted disk has zeros
 zeros_stand : (g : Geometry) (b : ℕ) → 0 < b → b < bitmap_start g → formatted g b ≡ replicate 1024 0
 zeros_stand g b some low =
-    if_false (b == 0) _ _ (ne_eqb b 0 behind)
-    ∙ if_false (nat_le (bitmap_start g) b && nat_lt b (table_start g)) _ _ (ap (λ t. t && nat_lt b (table_start g)) (not_from (bitmap_start g) b low))
-    ∙ if_false (b == table_start g) _ _ (ne_eqb b (table_start g) before)
+    cond-false (b == 0) _ _ (ne_eqb b 0 behind)
+    ∙ cond-false (nat_le (bitmap_start g) b && nat_lt b (table_start g)) _ _ (ap (λ t. t && nat_lt b (table_start g)) (not_from (bitmap_start g) b low))
+    ∙ cond-false (b == table_start g) _ _ (ne_eqb b (table_start g) before)
   where
     behind : b ≡ 0 → ⊥
     behind e = omega arith
@@ -73,13 +59,13 @@ first_newest : (g : Geometry) → geometry_fits g ≡ true → 0 < g.j → Newes
 first_newest g fits ring = record {
   is_slot = omega arith;
   stands = header_reads (empty_header g 1 1) (empty_is g fits ring);
-  other = λ k is. absurd (zeros_no_header g.n k (sym (ap (header_of g.n) (zeros_stand g 1 (omega arith) (omega arith))) ∙ is));
+  other = λ k is. absurd (letter_o (zeros_no_tag _ (header_tag g.n _ k (sym (ap (header_of g.n) (zeros_stand g 1 (omega arith) (omega arith))) ∙ is))));
 }
 
 -- no record begins in the ring, which has zeros
 none_follows : (g : Geometry) → 0 < g.j → (r : Record) → CanFollow (formatted g) (empty_header g 1 1) [] r → ⊥
 none_follows g ring r f =
-    zeros_no_commit g _ (sym (ap (commit_of g) (zeros_stand g (ring_block g r.place) (behind (ring_block g r.place) (ring_behind_slots g r.place)) (ring_before_bitmap g r.place ring))) ∙ f.whole.commit)
+    letter_o (zeros_no_tag _ (commit_tag g _ _ (sym (ap (commit_of g) (zeros_stand g (ring_block g r.place) (behind (ring_block g r.place) (ring_behind_slots g r.place)) (omega (arith, mod_below r.place g.j ring)))) ∙ f.whole.commit)))
   where
     behind : (b : ℕ) → 2 ≤ b → 0 < b
     behind b low = omega arith

@@ -1,6 +1,6 @@
 -- The formatted disk by its areas: the header, the bitmap, the root's block, and zeros.
 use Rattle.std.proofs.Common.{◌≡◌, ◌≢◌, ℕ, ◌+◌, ◌-◌, ◌*◌, ◌/◌, ◌%◌, ◌<◌, ◌≤◌, ◌==◌, ◌&&◌, nat_lt, nat_le, Bool, true, false, refl, if◌then◌else◌, List, ◌++◌, length, get_or, replicate, ap, ◌∙◌, arith}
-use Rattle.std.proofs.lemmas.Bool.{le-leb, lt-ltb, le-ltb, lt-leb, eq-eqb, ne_eqb}
+use Rattle.std.proofs.lemmas.Bool.{le-leb, lt-ltb, le-ltb, lt-leb, eq-eqb, ne_eqb, and_from}
 use Rattle.std.proofs.lemmas.List.{length-append, length-replicate}
 use Rattle.std.proofs.lemmas.List.FromFn.{length-map-range_with_len}
 use Rattle.std.specs.Int.{bit_at}
@@ -29,21 +29,15 @@ by_tests g b header bitmap root h m r =
     ∙ ap (λ x. block_by g b header x (b == table_start g)) m
     ∙ ap (block_by g b header bitmap) r
 
-both : (p q : Bool) → p ≡ true → q ≡ true → (p && q) ≡ true
-both p q e f = ap (λ x. x && q) e ∙ f
-
 second_fails : (p q : Bool) → p ≡ true → q ≡ false → (p && q) ≡ false
 second_fails p q e f = ap (λ x. x && q) e ∙ f
-
-pub header_first : (g : Geometry) (b : ℕ) → b ≡ 0 → formatted g b ≡ header_block (empty_header g 1 1)
-header_first g b e = by_tests g b true (nat_le (bitmap_start g) b && nat_lt b (table_start g)) (b == table_start g) (eq-eqb b 0 e) refl refl
 
 -- between the header and the bitmap stand zeros
 pub zeros_before : (g : Geometry) (b : ℕ) → b ≢ 0 → b < bitmap_start g → formatted g b ≡ replicate 1024 0
 zeros_before g b d high = by_tests g b false false false (ne_eqb b 0 d) (ap (λ x. x && nat_lt b (table_start g)) (lt-leb (bitmap_start g) b high)) (ne_eqb b (table_start g) (omega (arith, high)))
 
 pub bitmap_block : (g : Geometry) (b : ℕ) → bitmap_start g ≤ b → b < table_start g → formatted g b ≡ first_bits_block (data_start g) (b - bitmap_start g)
-bitmap_block g b low high = by_tests g b false true (b == table_start g) (ne_eqb b 0 (omega (arith, low))) (both _ _ (le-leb _ _ low) (lt-ltb _ _ high)) refl
+bitmap_block g b low high = by_tests g b false true (b == table_start g) (ne_eqb b 0 (omega (arith, low))) (and_from _ _ (le-leb _ _ low) (lt-ltb _ _ high)) refl
 
 pub root_there : (g : Geometry) (b : ℕ) → b ≡ table_start g → formatted g b ≡ node_spelling empty_root ++ replicate 768 0
 root_there g b e = by_tests g b false false true (ne_eqb b 0 (omega (arith, e))) (second_fails _ _ (le-leb (bitmap_start g) b (omega (arith, e))) (le-ltb b (table_start g) (omega (arith, e)))) (eq-eqb _ _ e)

@@ -1,8 +1,7 @@
 -- What a geometry within its limits says of its areas.
-use Rattle.std.proofs.Common.{◌≡◌, ℕ, ◌+◌, ◌<◌, ◌≤◌, true, arith}
+use Rattle.std.proofs.Common.{◌≡◌, ℕ, ◌+◌, ◌≤◌, true, arith}
 use Rattle.std.proofs.lemmas.Bool.{and_parts, leb-true}
-use Rattle.std.proofs.lemmas.Nat.{mod_below}
-use Rattle.layout_geometry.specs.Geometry.{Geometry, geometry_fits, bitmap_start, data_start, ring_block}
+use Rattle.layout_geometry.specs.Geometry.{Geometry, geometry_fits, data_start, ring_block}
 
 -- the bounds of a geometry's numbers, and the room that its areas leave
 pub record IsSized (g : Geometry) : Type 0 where
@@ -32,7 +31,3 @@ sizes g e =
 -- each ring place lies behind the header slots
 pub ring_behind_slots : (g : Geometry) (p : ℕ) → 2 ≤ ring_block g p
 ring_behind_slots g p = omega arith
-
--- and before the bitmap
-pub ring_before_bitmap : (g : Geometry) (p : ℕ) → 0 < g.j → ring_block g p < bitmap_start g
-ring_before_bitmap g p some = omega (arith, mod_below p g.j some)

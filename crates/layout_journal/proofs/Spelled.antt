@@ -1,5 +1,5 @@
 -- Headers, commit blocks and descriptors that are written as they are spelled read as themselves.
-use Rattle.std.proofs.Common.{◌+◌, ◌≡◌, ℕ, ◌≤◌, ◌==◌, Bool, true, false, List, ◌∷◌, ◌++◌, length, take, drop, replicate, Option, Some, refl, sym, ◌∙◌, ap, ap₂, arith, bytes_eq, nat_lt, nat_le, length-append, ◌&&◌, ◌<◌, ◌*◌, ◌-◌, [], append_assoc, take_all}
+use Rattle.std.proofs.Common.{◌+◌, ◌≡◌, ℕ, ◌≤◌, ◌==◌, Bool, true, false, List, ◌∷◌, ◌++◌, length, take, drop, replicate, Option, Some, refl, sym, ◌∙◌, ap, ap₂, arith, nat_lt, nat_le, length-append, ◌&&◌, ◌<◌, ◌*◌, ◌-◌, [], append_assoc, take_all}
 use Rattle.std.specs.Prelude.{codes}
 use Rattle.std.proofs.Math.Seq.{take-append_seam, drop-append_seam}
 use Rattle.std.proofs.lemmas.List.{length-replicate, drop-drop}
@@ -29,13 +29,9 @@ reads_back n v rest f = little_number-reads_back n v rest f
 small4 : (v : ℕ) → v ≤ 1048576 → fits_in 4 v
 small4 v low = omega arith
 
--- the test of bytes finds equal ones
-same_bytes : (xs ys : List ℕ) → xs ≡ ys → bytes_eq xs ys ≡ true
-same_bytes xs ys e = (bytes_eq-Decides xs ys).1 e
-
 -- a body of 992 bytes behind which its digest stands is sealed
 pub sealed_is : (body : List ℕ) → length body ≡ 992 → is_sealed (body ++ sha256 body) ≡ true
-sealed_is body len = same_bytes _ _ (ap (λ n. drop n (body ++ sha256 body)) (sym len) ∙ drop-append_seam body (sha256 body) ∙ ap sha256 (sym (ap (λ n. take n (body ++ sha256 body)) (sym len) ∙ take-append_seam body (sha256 body))))
+sealed_is body len = (bytes_eq-Decides _ _).1 (ap (λ n. drop n (body ++ sha256 body)) (sym len) ∙ drop-append_seam body (sha256 body) ∙ ap sha256 (sym (ap (λ n. take n (body ++ sha256 body)) (sym len) ∙ take-append_seam body (sha256 body))))
 
 -- the bytes before a header's seal are 992
 pub header_length : (h : Header) → length (header_body h) ≡ 992
@@ -66,7 +62,7 @@ fields_read h is =
 -- and a written header fits
 header_may : (h : Header) → IsHeader h → header_fits h.geom.n (header_block h) h ≡ true
 header_may h is =
-    and_from _ _ (same_bytes (take 8 (header_block h)) (codes "OPTH0001") refl)
+    and_from _ _ ((bytes_eq-Decides (take 8 (header_block h)) (codes "OPTH0001")).1 refl)
     (and_from _ _ (lt-ltb _ _ is.epoch_from) (and_from _ _ (lt-ltb _ _ is.turn_from) (and_from _ _ (lt-ltb _ _ is.start_from) (and_from _ _ (le-leb _ _ is.start_upto)
     (and_from _ _ (lt-ltb _ _ is.at) (and_from _ _ (le-leb _ _ (closed_upto h.closed)) (and_from _ _ is.geom (and_from _ _ (eq-eqb h.geom.n h.geom.n refl) (zeros_first 932 (sha256 (header_body h)))))))))))
 
@@ -91,7 +87,7 @@ commit_from c epoch number descriptors payloads fresh e n d p f = rw (e, n, d, p
 -- a written commit block fits
 commit_may : (g : Geometry) (c : Commit) → 0 < c.payloads → c.descriptors ≡ descriptor_count (c.payloads + c.fresh) → 1 + c.descriptors + c.payloads ≤ g.j → commit_fits g (commit_block c) c ≡ true
 commit_may g c some count room =
-    and_from _ _ (same_bytes (take 8 (commit_block c)) (codes "OPTC0001") refl)
+    and_from _ _ ((bytes_eq-Decides (take 8 (commit_block c)) (codes "OPTC0001")).1 refl)
     (and_from _ _ (lt-ltb _ _ some) (and_from _ _ (eq-eqb c.descriptors (descriptor_count (c.payloads + c.fresh)) count) (and_from _ _ (le-leb _ _ room) (zeros_first 956 (sha256 (commit_body c))))))
 
 -- the fields of a written commit block are its own
@@ -187,7 +183,7 @@ behind_entries g d are =
 -- a written descriptor fits
 descriptor_may : (g : Geometry) (d : Descriptor) → field (descriptor_block d) 28 4 ≡ length d.entries → 0 < length d.entries → length d.entries ≤ 24 → AreEntries g d.entries → descriptor_fits (descriptor_block d) ≡ true
 descriptor_may g d count some few are =
-    and_from _ _ (same_bytes (take 8 (descriptor_block d)) (codes "OPTD0001") refl)
+    and_from _ _ ((bytes_eq-Decides (take 8 (descriptor_block d)) (codes "OPTD0001")).1 refl)
     (and_from _ _ (le-leb (field (descriptor_block d) 28 4) 24 (omega (arith, count, few))) (and_from _ _ (lt-ltb 0 (field (descriptor_block d) 28 4) (omega (arith, count, some)))
     (ap (λ n. has_zeros (descriptor_block d) (32 + 40 * n) 992) count ∙ behind_entries g d are)))
 

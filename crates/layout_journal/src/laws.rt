@@ -15,6 +15,8 @@ ghost use Rattle.layout_journal.specs.Run.{Newest, Record, entries, entries_fit,
 ghost use Rattle.layout_journal.specs.Formatted.{formatted};
 ghost use Rattle.layout_journal.specs.Ring.{RingPlaces, with_places, without_places, place_ahead, IsTaken};
 
+use layout_bytes::fields_tell_their_bytes;
+
 /// What reads as a header, a commit block or a descriptor is sealed.
 #[tactic(auto, using(crate::proofs::Sealed::header_sealed, crate::proofs::Sealed::commit_sealed, crate::proofs::Sealed::descriptor_sealed))]
 pub fn journal_blocks_are_sealed()
@@ -109,7 +111,9 @@ pub fn journal_blocks_have_one_spelling()
         → descriptor_block d ≡ descriptor_block f → d ≡ f }
     ensures payloads { (k : EntryKind) (stored : List ℕ) → is_stored k stored ≡ true → (stored ≡ stored_of (unescaped k stored))
         × (k ≡ stored_kind (unescaped k stored)) }
-{}
+{
+    fields_tell_their_bytes();
+}
 
 /// The places behind the next one, as many as are free, are none of the taken ones. Once they are taken they
 /// are among these, with all that were taken before; and none is taken because others are given back.

@@ -4,9 +4,9 @@ use Rattle.std.specs.List.{All}
 use Rattle.byteorder.specs.Endian.{little_bytes}
 use Rattle.byteorder.specs.Numbers.{little_number-reads_back, little_from-lt}
 use Rattle.base_types.specs.declared.places.Run.{Run}
-use Rattle.layout_bytes.specs.Bytes.{field}
+use Rattle.layout_bytes.specs.Bytes.{field, NumbersAreTold}
 use Rattle.layout_bytes.specs.Node.{runs_in, run_bytes}
-use Rattle.layout_node.proofs.Fields.{AreBytes, bytes_drop, bytes_again}
+use Rattle.layout_node.proofs.Fields.{AreBytes, bytes_drop}
 
 -- the numbers of each run have room in four bytes
 abbrev pub RunsHaveRoom : List Run → Type 0
@@ -40,12 +40,12 @@ runs_read (r ∷ rs) rest room =
     (runs_read rs rest (λ k d more. room (suc k) d (omega arith)))
 
 -- the bytes of the runs in some bytes are those bytes
-pub runs_again : (n : ℕ) (b : List ℕ) → 8 * n ≤ length b → AreBytes b → b ≡ run_bytes (runs_in n b) ++ drop (8 * n) b
-runs_again zero b few low = refl
-runs_again (suc n) b few low =
-    let first = bytes_again 4 b (omega (arith, few)) low in
-    let count = bytes_again 4 (drop 4 b) (omega (arith, few, length-drop 4 b)) (bytes_drop 4 b low) in
-    let rest = runs_again n (drop 8 b) (omega (arith, few, length-drop 8 b)) (bytes_drop 8 b low) in
+pub runs_again : NumbersAreTold → (n : ℕ) (b : List ℕ) → 8 * n ≤ length b → AreBytes b → b ≡ run_bytes (runs_in n b) ++ drop (8 * n) b
+runs_again numbers_are zero b few low = refl
+runs_again numbers_are (suc n) b few low =
+    let first = numbers_are 4 b (omega (arith, few)) low in
+    let count = numbers_are 4 (drop 4 b) (omega (arith, few, length-drop 4 b)) (bytes_drop 4 b low) in
+    let rest = runs_again numbers_are n (drop 8 b) (omega (arith, few, length-drop 8 b)) (bytes_drop 8 b low) in
     joined b (drop 4 b) (drop 8 b) (drop (8 * suc n) b) (little_bytes 4 (field b 0 4)) (little_bytes 4 (field b 4 4)) (run_bytes (runs_in n (drop 8 b)))
     first (count ∙ ap (λ xs. little_bytes 4 (field b 4 4) ++ xs) (drop-drop 4 4 b))
     (rest ∙ ap (λ xs. run_bytes (runs_in n (drop 8 b)) ++ xs) (drop-drop (8 * n) 8 b ∙ ap (λ k. drop k b) {x = 8 + 8 * n} {y = 8 * suc n} (omega arith)))

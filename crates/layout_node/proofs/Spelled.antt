@@ -11,7 +11,7 @@ use Rattle.layout_bytes.specs.declared.node.NodeKind.{NodeKind}
 use Rattle.layout_bytes.specs.declared.node.NodeKind.TheVariants.{Free, Dir, File}
 use Rattle.layout_bytes.specs.Bytes.{field, are_zeros, has_zeros, when}
 use Rattle.layout_bytes.specs.Node.{used_kind, runs_in, node_fits, spare_zeros, node_fields, node_with, node_of, kind_byte, run_bytes, node_spelling, free_node, FitsAs, HasRoom, IsNode}
-use Rattle.layout_node.proofs.Fields.{when_is, zeros_are}
+use Rattle.layout_node.proofs.Fields.{when_is, so_many_zeros}
 use Rattle.layout_node.proofs.Runs.{runs_read, bytes_length}
 
 -- a node that fits has at most 28 runs
@@ -73,7 +73,7 @@ runs_end n =
     ∙ drop-append_seam (run_bytes n.runs) (replicate (224 - 8 * length n.runs) 0)
 
 all_zeros : (a z : ℕ) (xs : List ℕ) → a ≡ z → xs ≡ replicate z 0 → are_zeros (take a xs) ≡ true
-all_zeros a z xs e f = ap are_zeros (ap (take a) f ∙ ap (λ k. take k (replicate z 0)) e ∙ take-replicate z z 0 (omega arith)) ∙ zeros_are z
+all_zeros a z xs e f = ap are_zeros (ap (take a) f ∙ ap (λ k. take k (replicate z 0)) e ∙ take-replicate z z 0 (omega arith)) ∙ so_many_zeros z
 
 pub spare_read : (n : Node) → length n.runs ≤ 28 → spare_zeros (node_spelling n) ≡ true
 spare_read n few =

@@ -12,7 +12,8 @@ use crate::sizes::{RUN_LENGTH, RUNS_AT, SPARE_AT};
 use base_types::limits::{BLOCK_LENGTH, LARGEST_FILE, MOST_LINKS, MOST_RUNS};
 use base_types::{Run, RunList};
 use layout_bytes::{
-    Node, NodeKind, SLOT_LENGTH, are_zeros, has_zeros, number_2, number_4, number_8,
+    Node, NodeKind, SLOT_LENGTH, are_zeros, fields_tell_their_bytes, has_zeros, number_2, number_4,
+    number_8,
 };
 use layout_geometry::{Geom, NODE_LENGTH};
 use std::error::Error;
@@ -45,6 +46,7 @@ pub fn read_node(bytes: &[u8], geom: &Geom) -> Result<Node, BadNode>
     ensures below { IfOk result (λ node. LieBelow most_blocks node.runs) }
 {
     geom.lawful();
+    fields_tell_their_bytes();
     if bytes.len() != NODE_LENGTH {
         return Err(BadNode);
     }

@@ -9,6 +9,7 @@ use Rattle.std.specs.Ordering.{is_eq, eq_by_cmp, nat_cmp}
 use Rattle.std.specs.declared.cmp.Ordering.{Ordering}
 use Rattle.std.specs.declared.cmp.Ordering.TheVariants.{Less, Equal, Greater}
 use Rattle.std.proofs.lemmas.Bool.{and_parts}
+use Rattle.std.proofs.lemmas.Option.{same_Some, none-some}
 use Rattle.base_types.specs.Name.{is_name}
 use Rattle.lang_script.specs.Grammar.{fits}
 use Rattle.lang_script.specs.Values.{IsCommand}
@@ -24,7 +25,6 @@ use Rattle.lang_tree.specs.Step.{Session, start, step, answered, accepted, osync
 use Rattle.lang_tree.specs.Tree.{Tree, Names, Nodes, Thing, Dir, File, path_cmp}
 use Rattle.lang_tree.specs.Walk.{content, is_same_node}
 use Rattle.cmd_replay.specs.Named.{HasLawfulNames, HasBytes}
-use Rattle.cmd_replay.proofs.Lists.{some_is}
 use Rattle.cmd_replay.proofs.telling.Lines.{ThingBytes}
 use Rattle.cmd_replay.proofs.telling.Maps.{each_of, entry_each}
 use Rattle.cmd_replay.proofs.telling.Texts.{AreBytes}
@@ -48,14 +48,11 @@ equal_of Less e = absurd cc
 equal_of Equal e = refl
 equal_of Greater e = absurd cc
 
-same_path : (p q : List (List ℕ)) → eq_by_cmp path_cmp p q ≡ true → p ≡ q
-same_path p q e = path_same p q (equal_of (path_cmp p q) e)
-
 names_put : (names : Names) (k : List (List ℕ)) (v : ℕ) → Lawful k → AreLawful names → AreLawful (insert names k v)
 names_put names k v law h p n e = by (eq_by_cmp path_cmp p k) refl (sym (get-insert path_total names k v p) ∙ e)
   where
     by : (b : Bool) → eq_by_cmp path_cmp p k ≡ b → cond b (Some v) (get names p) ≡ Some n → Lawful p
-    by true same is = subst Lawful (sym (same_path p k same)) law
+    by true same is = subst Lawful (sym (path_same p k (equal_of (path_cmp p k) same))) law
     by false same is = h p n is
 
 names_out : (names : Names) (k : List (List ℕ)) → AreLawful names → AreLawful (remove names k)
@@ -66,7 +63,7 @@ names_out names k h p n e = by (eq_by_cmp path_cmp p k) (sym (get-remove path_to
     by false is = h p n is
 
 behind_is_lawful : (front path rest : List (List ℕ)) → Lawful path → strip front path ≡ Some rest → Lawful rest
-behind_is_lawful [] path rest h e = subst Lawful (some_is path rest e) h
+behind_is_lawful [] path rest h e = subst Lawful (same_Some path rest e) h
 behind_is_lawful (a ∷ front) [] rest h e = cc e
 behind_is_lawful (a ∷ front) (b ∷ path) rest h e = by (bytes_eq a b) (behind_is_lawful front path rest (and_parts (is_name b) (list_all is_name path) h).1) e
   where
@@ -96,7 +93,7 @@ found_is_lawful [] q n h e = cc e
 found_is_lawful (f ∷ es) q n h e = by (eq_by_cmp path_cmp q f.0) refl (found_is_lawful es q n h.1) e
   where
     by : (b : Bool) → eq_by_cmp path_cmp q f.0 ≡ b → (find path_cmp q es ≡ Some n → Lawful q) → cond b (Some f.1) (find path_cmp q es) ≡ Some n → Lawful q
-    by true same later is = subst Lawful (sym (same_path q f.0 same)) h.0
+    by true same later is = subst Lawful (sym (path_same q f.0 (equal_of (path_cmp q f.0) same))) h.0
     by false same later is = later is
 
 names_moved : (names : Names) (from to : List (List ℕ)) → Lawful to → AreLawful names → AreLawful (renamed names from to)
@@ -113,7 +110,7 @@ nodes_put : (nodes : Nodes) (k : ℕ) (x : Thing) → ThingBytes x → HaveBytes
 nodes_put nodes k x law h n bytes e = by (eq_by_cmp nat_cmp n k) (sym (get-insert nat_cmp_total nodes k x n) ∙ e)
   where
     by : (b : Bool) → cond b (Some x) (get nodes n) ≡ Some (File bytes) → AreBytes bytes
-    by true is = subst ThingBytes (some_is x (File bytes) is) law
+    by true is = subst ThingBytes (same_Some x (File bytes) is) law
     by false is = h n bytes is
 
 nodes_out : (nodes : Nodes) (k : ℕ) → HaveBytes nodes → HaveBytes (remove nodes k)
@@ -294,11 +291,8 @@ step_names = step_keeps HasLawfulNames names_kept
 pub step_bytes : (s : Session) (cmd : Cmd) → IsCommand cmd → HasBytes s.tree → HasBytes (step s cmd).0.tree
 step_bytes = step_keeps HasBytes bytes_kept
 
-none_in_none : {X : Type 0} (x : X) → None ≡ Some x → ⊥
-none_in_none x e = cc e
-
 pub start_names : (limit : ℕ) → HasLawfulNames (start limit).tree
-start_names limit = names_put empty [] 1 refl (λ p n e. absurd (none_in_none n (sym (get-empty path_cmp p) ∙ e)))
+start_names limit = names_put empty [] 1 refl (λ p n e. absurd (none-some n (sym (get-empty path_cmp p) ∙ e)))
 
 pub start_bytes : (limit : ℕ) → HasBytes (start limit).tree
-start_bytes limit = nodes_put empty 1 Dir tt (λ n bytes e. absurd (none_in_none (File bytes) (sym (get-empty nat_cmp n) ∙ e)))
+start_bytes limit = nodes_put empty 1 Dir tt (λ n bytes e. absurd (none-some (File bytes) (sym (get-empty nat_cmp n) ∙ e)))

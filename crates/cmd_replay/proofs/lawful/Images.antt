@@ -2,6 +2,7 @@
 use Rattle.std.proofs.Common.{◌≡◌, sym, ◌∙◌, refl, subst, ℕ, suc, ◌+◌, ◌/◌, ◌<◌, ◌==◌, Bool, true, false, if◌then◌else◌, List, [], ◌∷◌, length, Option, Some, None}
 use Rattle.std.specs.Prelude.{slice_index, option_map}
 use Rattle.std.proofs.lemmas.Bool.Decides.{Decides-ltb}
+use Rattle.std.proofs.lemmas.Option.{same_Some}
 use Rattle.base_types.specs.Runs.{run_places}
 use Rattle.base_types.specs.Seal.{Blocks}
 use Rattle.layout_geometry.specs.Geometry.{Geometry}
@@ -22,7 +23,6 @@ use Rattle.crash_stands.specs.Inodes.{Inode, ADir, AFile, IsInodeOf, inode_by, t
 use Rattle.crash_stands.specs.Stands.{StandsFor}
 use Rattle.lang_tree.specs.Tree.{Tree, File}
 use Rattle.cmd_replay.specs.Named.{HasBytes}
-use Rattle.cmd_replay.proofs.Lists.{some_is}
 use Rattle.cmd_replay.proofs.lawful.Changes.{all_join, all_take, all_drop}
 use Rattle.cmd_replay.proofs.telling.Lines.{ThingBytes}
 use Rattle.cmd_replay.proofs.telling.Texts.{AreBytes}
@@ -124,4 +124,4 @@ stands_bytes n img t small is k bytes e = by (is.tree.inodes k) (is.tree.read k)
 
     by : (o : Option Inode) → IsInodeOf (files_of is.held.header.geom is.map k) o → option_map thing_of o ≡ Some (File bytes) → AreBytes bytes
     by None read same = cc same
-    by (Some x) read same = subst ThingBytes (some_is (thing_of x) (File bytes) same) (inode_bytes (files_of is.held.header.geom is.map k) x file read)
+    by (Some x) read same = subst ThingBytes (same_Some (thing_of x) (File bytes) same) (inode_bytes (files_of is.held.header.geom is.map k) x file read)

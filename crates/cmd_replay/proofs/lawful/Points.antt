@@ -1,6 +1,7 @@
 -- The trees of a trace's sync points are sound, have lawful names, and have bytes.
 use Rattle.std.proofs.Common.{◌≡◌, sym, refl, ◌∙◌, subst, arith, ℕ, zero, suc, ◌≤◌, Bool, true, false, if◌then◌else◌, List, [], ◌∷◌, ◌++◌, slice_get, Some}
 use Rattle.std.specs.Prelude.{◌&&◌}
+use Rattle.std.proofs.lemmas.Option.{same_Some}
 use Rattle.layout_geometry.specs.Geometry.{Geometry, IsGeometry, geometry_fits}
 use Rattle.lang_script.specs.Values.{IsCommand}
 use Rattle.cmd_trace.specs.Contents.{Contents, Each}
@@ -12,7 +13,6 @@ use Rattle.lang_tree.specs.Step.{Session, start, step}
 use Rattle.lang_tree.specs.Tree.{Tree, IsSound}
 use Rattle.cmd_replay.specs.Named.{HasLawfulNames, HasBytes}
 use Rattle.cmd_replay.specs.Points.{points_in}
-use Rattle.cmd_replay.proofs.Lists.{some_is}
 use Rattle.cmd_replay.proofs.lawful.Changes.{start_names, start_bytes, step_names, step_bytes}
 
 -- a tree that is all this
@@ -23,7 +23,7 @@ pub record IsListable (limit : ℕ) (t : Tree) : Type 0 where
 
 each_at : {A : Type 0} (P : A → Type 0) (xs : List A) (i : ℕ) (x : A) → Each P xs → slice_get xs i ≡ Some x → P x
 each_at P [] i x h e = cc e
-each_at P (y ∷ xs) zero x h e = subst P (some_is y x e) h.0
+each_at P (y ∷ xs) zero x h e = subst P (same_Some y x e) h.0
 each_at P (y ∷ xs) (suc i) x h e = each_at P xs i x h.1 e
 
 each_join : {A : Type 0} (P : A → Type 0) (xs ys : List A) → Each P xs → Each P ys → Each P (xs ++ ys)

@@ -4,6 +4,7 @@ use Rattle.std.specs.Prelude.{◌-◌, ◌&&◌, slice_index, option_map, option
 use Rattle.std.specs.List.{list_all}
 use Rattle.std.proofs.lemmas.Bool.{and_parts}
 use Rattle.std.proofs.lemmas.Slice.Eq.{bytes_eq-Decides}
+use Rattle.std.proofs.lemmas.Option.{same_Some}
 use Rattle.base_types.specs.Name.{is_name}
 use Rattle.base_types.specs.Seal.{Blocks}
 use Rattle.layout_geometry.specs.Geometry.{Geometry, IsGeometry, geometry_fits}
@@ -21,7 +22,6 @@ use Rattle.crash_stands.specs.Walks.{entries_of, entry_in, node_in, walk}
 use Rattle.cmd_trace.specs.Contents.{Each}
 use Rattle.lang_tree.specs.Tree.{Tree, IsSound}
 use Rattle.cmd_replay.specs.Named.{HasLawfulNames}
-use Rattle.cmd_replay.proofs.Lists.{some_is}
 
 -- the name of a slot is lawful
 abbrev IsNamed : Slot → Type 0
@@ -37,17 +37,17 @@ slot_is_named b s e = by _ refl e
     by : (t : Bool) → (nat_le (slice_index b 4) (slot_size - 5) && (is_name (name_in b) && has_zeros b (5 + slice_index b 4) slot_size)) ≡ t → when t (Some slot) ≡ Some s → IsNamed s
     by true h is =
         let names = (and_parts (nat_le (slice_index b 4) (slot_size - 5)) _ h).1 in
-        subst IsNamed (some_is slot s is) (and_parts (is_name (name_in b)) (has_zeros b (5 + slice_index b 4) slot_size) names).0
+        subst IsNamed (same_Some slot s is) (and_parts (is_name (name_in b)) (has_zeros b (5 + slice_index b 4) slot_size) names).0
     by false h is = cc is
 
 slots_are_named : (n : ℕ) (b : List ℕ) (slots : List Slot) → slots_in n b ≡ Some slots → Each IsNamed slots
-slots_are_named zero b slots e = subst (Each IsNamed) (some_is [] slots e) tt
+slots_are_named zero b slots e = subst (Each IsNamed) (same_Some [] slots e) tt
 slots_are_named (suc n) b slots e = by (slot_of (take slot_size b)) (slots_in n (drop slot_size b)) refl (slots_are_named n (drop slot_size b)) e
   where
     by : (o : Option Slot) (r : Option (List Slot)) → slot_of (take slot_size b) ≡ o → ((more : List Slot) → r ≡ Some more → Each IsNamed more) → then_slot o r ≡ Some slots → Each IsNamed slots
     by None r first rest is = cc is
     by (Some s) None first rest is = cc is
-    by (Some s) (Some more) first rest is = subst (Each IsNamed) (some_is (s ∷ more) slots is) (slot_is_named (take slot_size b) s first, rest more refl)
+    by (Some s) (Some more) first rest is = subst (Each IsNamed) (same_Some (s ∷ more) slots is) (slot_is_named (take slot_size b) s first, rest more refl)
 
 -- what stands under a name among slots is under a lawful one
 under_a_name : (slots : List Slot) (name : List ℕ) (n : ℕ) → Each IsNamed slots → node_in slots name ≡ Some n → is_name name ≡ true

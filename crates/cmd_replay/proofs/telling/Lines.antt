@@ -53,9 +53,6 @@ abbrev pub ThingBytes : Thing → Type 0
 ThingBytes Dir = Unit {0}
 ThingBytes (File bytes) = AreBytes bytes
 
-abbrev Tells : Thing → Thing → List ℕ → List ℕ → Type 0
-Tells x y r s = (x ≡ y) × (r ≡ s)
-
 -- what stands before a number's end
 front : (p q : List (List ℕ)) (n m : ℕ) (r s : List ℕ) (b c : ℕ) → b ≤ 32 → c ≤ 32 → list_all is_name p ≡ true → list_all is_name q ≡ true → n < 2 ^ 64 → m < 2 ^ 64
     → path_text p ++ 32 ∷ (decimal n ++ b ∷ r) ≡ path_text q ++ 32 ∷ (decimal m ++ c ∷ s) → (p ≡ q) × (n ≡ m) × (b ∷ r ≡ c ∷ s)

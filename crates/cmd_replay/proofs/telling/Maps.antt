@@ -7,8 +7,8 @@ use Rattle.std.specs.declared.cmp.Ordering.TheVariants.{Less, Equal, Greater}
 use Rattle.std.specs.Cmp.{IsTotalOrder, tied_itself}
 use Rattle.std.specs.FinMap.{FinMap, get, entries, entries_sorted, get-entries, find, is_sorted}
 use Rattle.std.specs.FinMap.Entries.{below_all}
+use Rattle.std.proofs.lemmas.Option.{same_Some}
 use Rattle.cmd_trace.specs.Contents.{Each}
-use Rattle.cmd_replay.proofs.Lists.{some_is}
 
 pub each_of : {A : Type 0} {P Q : A → Type 0} → ((x : A) → P x → Q x) → (xs : List A) → Each P xs → Each Q xs
 each_of more [] h = tt
@@ -58,5 +58,5 @@ found_such R P q [] v h is = cc is
 found_such R P q (e ∷ es) v h is = by (eq_by_cmp R q e.0) (found_such R P q es v h.1) is
   where
     by : (b : Bool) → (find R q es ≡ Some v → P v) → cond b (Some e.1) (find R q es) ≡ Some v → P v
-    by true later is = subst P (some_is e.1 v is) h.0
+    by true later is = subst P (same_Some e.1 v is) h.0
     by false later is = later is

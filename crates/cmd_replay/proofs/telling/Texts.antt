@@ -1,9 +1,10 @@
 -- Parts of a listing's line: where each of them ends, and that it tells what it was written from.
 use Rattle.std.proofs.Common.{◌≡◌, sym, ap, refl, ◌∙◌, ◌⊎◌, inl, inr, arith, tests, ℕ, zero, suc, ◌+◌, ◌<◌, ◌≤◌, ◌/◌, ◌%◌, ◌==◌, Bool, true, false, not, if◌then◌else◌, List, [], ◌∷◌, ◌++◌, drop, get_or, length, unwrap_or, decimal, nat_lt, nat_le, codes, slice_index}
-use Rattle.std.proofs.lemmas.Bool.{and_parts, false≢true}
+use Rattle.std.proofs.lemmas.Bool.{and_parts, false≢true, and_from}
 use Rattle.std.proofs.lemmas.Bool.Decides.{Decides-ltb}
 use Rattle.std.specs.Fmt.{digits, digits_onto, digit_glyph}
 use Rattle.std.specs.List.{list_all}
+use Rattle.std.proofs.lemmas.List.Folds.{list_all-append}
 use Rattle.hex.specs.Hex.{encode_lower, encode_with, lower_digits, hex_digit_value}
 use Rattle.base_types.specs.Name.{is_name, is_name_byte, is_dots}
 use Rattle.lang_tree.specs.Listing.{slashed, path_text, digits_behind_blank}
@@ -34,12 +35,6 @@ cut (x ∷ xs) (y ∷ ys) r s p q low down e =
     let rest = cut xs ys r s (and_parts (nat_lt 32 x) (list_all (nat_lt 32) xs) p).1 (and_parts (nat_lt 32 y) (list_all (nat_lt 32) ys) q).1 low down (ap (drop 1) e) in
     let head : x ≡ y = ap (λ l. get_or l 0 0) e in
     (rw head (ap (λ l. y ∷ l) rest.0), rest.1)
-
-both : (p : ℕ → Bool) (xs ys : List ℕ) → list_all p xs ≡ true → list_all p ys ≡ true → list_all p (xs ++ ys) ≡ true
-both p [] ys h k = k
-both p (x ∷ xs) ys h k =
-    let parts = and_parts (p x) (list_all p xs) h in
-    rw parts.0 (both p xs ys parts.1 k)
 
 weaker : (p q : ℕ → Bool) → ((b : ℕ) → p b ≡ true → q b ≡ true) → (xs : List ℕ) → list_all p xs ≡ true → list_all q xs ≡ true
 weaker p q more [] h = refl
@@ -94,7 +89,7 @@ slashed_part : (p : List (List ℕ)) → list_all is_name p ≡ true → Part (s
 slashed_part [] h = refl
 slashed_part (name ∷ p) h =
     let parts = and_parts (is_name name) (list_all is_name p) h in
-    both (nat_lt 32) name (slashed p) (weaker is_name_byte (nat_lt 32) byte_past name (name_bytes name parts.0)) (slashed_part p parts.1)
+    list_all-append (nat_lt 32) name (slashed p) ∙ and_from (list_all (nat_lt 32) name) (list_all (nat_lt 32) (slashed p)) (weaker is_name_byte (nat_lt 32) byte_past name (name_bytes name parts.0)) (slashed_part p parts.1)
 
 pub path_part : (p : List (List ℕ)) → list_all is_name p ≡ true → Part (path_text p)
 path_part [] h = refl

@@ -1,12 +1,12 @@
 -- One write more, accepted or lost.
-use Rattle.std.proofs.Common.{◌≡◌, ◌≢◌, ◌⊎◌, inl, inr, ⊎_elim, ℕ, true, false, ◌==◌, List, [], ◌∷◌, ◌++◌, Option, Some, None, refl, sym, ◌∙◌, ap, subst}
-use Rattle.std.proofs.lemmas.Bool.{cases_eq, eq-eqb, ne_eqb}
+use Rattle.std.proofs.Common.{◌≡◌, ◌≢◌, ◌⊎◌, inl, inr, ⊎_elim, ℕ, true, false, ◌==◌, List, [], ◌∷◌, ◌++◌, Option, Some, None, refl, sym, ◌∙◌, ap, subst, Bool, if◌then◌else◌}
+use Rattle.std.proofs.lemmas.Bool.{cases_eq, eq-eqb, ne_eqb, cond-true, cond-false}
 use Rattle.base_types.specs.Seal.{Blocks}
 use Rattle.disk_contract.specs.declared.event.Event.{Event}
 use Rattle.disk_contract.specs.declared.event.Event.TheVariants.{Wrote, Lost, Noticed}
 use Rattle.disk_contract.specs.Cell.{Cell, Write, with_write, settle, from_ticket, is_ticket, after, cell_of, IsWritten}
 use Rattle.disk_contract.specs.Crash.{AreBytesOf}
-use Rattle.crash_argument.proofs.log.Events.{cell_of-append, if_true, if_false, IsWritten-append, by_test}
+use Rattle.crash_argument.proofs.log.Events.{cell_of-append, IsWritten-append}
 use Rattle.crash_argument.specs.Ledger.{StandsIn, IsOnDisk, latest, last_of}
 
 -- the second log is the first with a write of x to the block, accepted or lost
@@ -76,15 +76,15 @@ adds_to base log e block t x other own is = record {
 -- an accepted write does
 pub adds_wrote : (base : Blocks) (log : List Event) (t block : ℕ) (x : List ℕ) → Adds base log (log ++ Wrote t block x ∷ []) block x
 adds_wrote base log t block x = adds_to base log _ block (Some t) x
-    (λ b apart. cell_of-append base log _ b ∙ if_false (block == b) _ _ (ne_eqb block b (λ e. apart (sym e))))
-    (cell_of-append base log _ block ∙ if_true (block == block) _ _ (eq-eqb block block refl))
+    (λ b apart. cell_of-append base log _ b ∙ cond-false (block == b) _ _ (ne_eqb block b (λ e. apart (sym e))))
+    (cell_of-append base log _ block ∙ cond-true (block == block) _ _ (eq-eqb block block refl))
     (last_written log t block x)
 
 -- and a lost one too
 pub adds_lost : (base : Blocks) (log : List Event) (block : ℕ) (x : List ℕ) → Adds base log (log ++ Lost block x ∷ []) block x
 adds_lost base log block x = adds_to base log _ block None x
-    (λ b apart. cell_of-append base log _ b ∙ if_false (block == b) _ _ (ne_eqb block b (λ e. apart (sym e))))
-    (cell_of-append base log _ block ∙ if_true (block == block) _ _ (eq-eqb block block refl))
+    (λ b apart. cell_of-append base log _ b ∙ cond-false (block == b) _ _ (ne_eqb block b (λ e. apart (sym e))))
+    (cell_of-append base log _ block ∙ cond-true (block == block) _ _ (eq-eqb block block refl))
     (last_lost log block x)
 
 -- what a notice does to a block: what stood may go, nothing comes, and what was written last stays
@@ -96,7 +96,11 @@ pub record Settles (old new : Cell) : Type 0 where
 -- bytes of the writes from a ticket on are bytes of all
 part : (t : ℕ) (ws : List Write) (y : List ℕ) → AreBytesOf (from_ticket t ws) y → AreBytesOf ws y
 part t [] y h = h
-part t (w ∷ ws) y h = by_test (λ l. AreBytesOf l y) (is_ticket t w.ticket) (w ∷ ws) (from_ticket t ws) h (λ _ all. all) (λ _ less. inr (part t ws y less))
+part t (w ∷ ws) y h = by (is_ticket t w.ticket) (part t ws y) h
+  where
+    by : (b : Bool) → (AreBytesOf (from_ticket t ws) y → AreBytesOf ws y) → AreBytesOf (if b then w ∷ ws else from_ticket t ws) y → AreBytesOf (w ∷ ws) y
+    by true rest all = all
+    by false rest less = inr (rest less)
 
 -- what stands once some of the writes are settled stood before
 settle-stands : (c : Cell) (ws : List Write) (y : List ℕ) → ((z : List ℕ) → AreBytesOf ws z → AreBytesOf c.pending z) → StandsIn (settle c ws) y → StandsIn c y

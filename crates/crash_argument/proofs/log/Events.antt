@@ -1,25 +1,10 @@
 -- What one more event does to a log and to the cells of its blocks.
-use Rattle.std.proofs.Common.{◌≡◌, ◌≢◌, ◌⊎◌, inl, inr, ⊎_elim, ℕ, Bool, true, false, ◌==◌, ◌||◌, if◌then◌else◌, List, [], ◌∷◌, ◌++◌, refl, ◌∙◌, arith}
-use Rattle.std.proofs.lemmas.Bool.{or_cases, false≢true}
+use Rattle.std.proofs.Common.{◌≡◌, ◌≢◌, ◌⊎◌, inl, inr, ⊎_elim, ℕ, false, ◌==◌, List, [], ◌∷◌, ◌++◌, refl, ◌∙◌, arith}
+use Rattle.std.proofs.lemmas.Bool.{or_cases, cond-false, or_left, or_right}
 use Rattle.base_types.specs.Seal.{Blocks}
 use Rattle.disk_contract.specs.declared.event.Event.{Event}
 use Rattle.disk_contract.specs.declared.event.Event.TheVariants.{Wrote, Lost, Noticed}
 use Rattle.disk_contract.specs.Cell.{Cell, after, after_all, cell_of, IsNoticed, IsWritten}
-
--- both ways of a test
-pub by_test : {A R : Type 0} (P : A → Type 0) (b : Bool) (x y : A) → P (if b then x else y) → (b ≡ true → P x → R) → (b ≡ false → P y → R) → R
-by_test P true x y h f g = f refl h
-by_test P false x y h f g = g refl h
-
--- a test that holds leaves the first branch
-pub if_true : {A : Type 0} (b : Bool) (x y : A) → b ≡ true → (if b then x else y) ≡ x
-if_true true x y e = refl
-if_true false x y e = cc
-
--- one that fails, the second
-pub if_false : {A : Type 0} (b : Bool) (x y : A) → b ≡ false → (if b then x else y) ≡ y
-if_false true x y e = cc
-if_false false x y e = refl
 
 -- events after others
 pub after_all-append : (b : ℕ) (c : Cell) (xs ys : List Event) → after_all b c (xs ++ ys) ≡ after_all b (after_all b c xs) ys
@@ -43,26 +28,18 @@ IsNoticed-append t [] ys h = inr h
 IsNoticed-append t (Wrote u b y ∷ xs) ys h = IsNoticed-append t xs ys h
 IsNoticed-append t (Lost b y ∷ xs) ys h = IsNoticed-append t xs ys h
 IsNoticed-append t (Noticed u ∷ xs) ys h =
-    ⊎_elim (λ e. inl (or_true_left _ _ e)) (λ r. ⊎_elim (λ p. inl (or_true_right _ _ p)) inr (IsNoticed-append t xs ys r)) (or_cases _ _ h)
-  where
-    or_true_left : (p q : Bool) → p ≡ true → (p || q) ≡ true
-    or_true_left true q e = refl
-    or_true_left false q e = absurd (false≢true e)
-
-    or_true_right : (p q : Bool) → q ≡ true → (p || q) ≡ true
-    or_true_right true q e = refl
-    or_true_right false q e = e
+    ⊎_elim (λ e. inl (or_left _ _ e)) (λ r. ⊎_elim (λ p. inl (or_right _ _ p)) inr (IsNoticed-append t xs ys r)) (or_cases _ _ h)
 
 -- a write to another block leaves a cell
 pub other_wrote : (base : Blocks) (log : List Event) (t a b : ℕ) (x : List ℕ) → a ≢ b → cell_of base (log ++ Wrote t a x ∷ []) b ≡ cell_of base log b
-other_wrote base log t a b x apart = cell_of-append base log _ b ∙ if_false (a == b) _ _ (neq a b apart)
+other_wrote base log t a b x apart = cell_of-append base log _ b ∙ cond-false (a == b) _ _ (neq a b apart)
   where
     neq : (m n : ℕ) → m ≢ n → (m == n) ≡ false
     neq m n d = grind arith
 
 -- and so does a lost one
 pub other_lost : (base : Blocks) (log : List Event) (a b : ℕ) (x : List ℕ) → a ≢ b → cell_of base (log ++ Lost a x ∷ []) b ≡ cell_of base log b
-other_lost base log a b x apart = cell_of-append base log _ b ∙ if_false (a == b) _ _ (neq a b apart)
+other_lost base log a b x apart = cell_of-append base log _ b ∙ cond-false (a == b) _ _ (neq a b apart)
   where
     neq : (m n : ℕ) → m ≢ n → (m == n) ≡ false
     neq m n d = grind arith

@@ -1,11 +1,11 @@
 -- Last writes: what they say of the block, and how they stay.
 use Rattle.std.proofs.Common.{◌≡◌, ℕ, ◌<◌, true, false, ◌==◌, if◌then◌else◌, IsTrue, List, [], ◌∷◌, ◌++◌, refl, sym, ◌∙◌, ap, subst, append_assoc, append-nil}
-use Rattle.std.proofs.lemmas.Bool.{eq-eqb, false≢true}
+use Rattle.std.proofs.lemmas.Bool.{eq-eqb, false≢true, cond-true}
 use Rattle.base_types.specs.Seal.{Blocks}
 use Rattle.disk_contract.specs.declared.event.Event.{Event}
 use Rattle.disk_contract.specs.declared.event.Event.TheVariants.{Wrote, Lost, Noticed}
 use Rattle.disk_contract.specs.Cell.{cell_of, greatest_ticket, IsNoticed, IsWritten}
-use Rattle.crash_argument.proofs.log.Events.{other_wrote, other_lost, if_true, IsWritten-append}
+use Rattle.crash_argument.proofs.log.Events.{other_wrote, other_lost, IsWritten-append}
 use Rattle.crash_argument.specs.Ledger.{latest}
 use Rattle.crash_argument.specs.LastWrites.{AvoidsBlock, IsLastWrite, is_among}
 use Rattle.crash_argument.specs.Recording.{IsAmongLast}
@@ -57,7 +57,7 @@ among_left (u ∷ ts) us t h = elim (u == t) as (λ v. IsTrue (if v then true el
 
 -- and so is the one that makes it longer
 pub among_own : (ts : List ℕ) (t : ℕ) → IsTrue (is_among (ts ++ t ∷ []) t)
-among_own [] t = if_true (t == t) true false (eq-eqb t t refl)
+among_own [] t = cond-true (t == t) true false (eq-eqb t t refl)
 among_own (u ∷ ts) t = elim (u == t) as (λ v. IsTrue (if v then true else is_among (ts ++ t ∷ []) t)) [ true ↦ refl | false ↦ among_own ts t ]
 
 -- of several tickets

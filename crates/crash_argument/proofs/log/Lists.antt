@@ -1,12 +1,11 @@
 -- Lists of records, and tests on them.
 use Rattle.std.proofs.Common.{◌≡◌, ◌≢◌, ◌⊎◌, inl, inr, ⊎_elim, ℕ, zero, suc, ◌+◌, ◌%◌, ◌<◌, ◌≤◌, true, ◌==◌, List, [], ◌∷◌, ◌++◌, length, drop, Option, Some, None, slice_get, refl, sym, ◌∙◌, ap, subst, arith, bytes_eq}
 use Rattle.std.proofs.lemmas.Slice.Eq.{bytes_eq-Decides}
-use Rattle.std.proofs.lemmas.Bool.{cases_Bool, both_ways, eqb-true}
+use Rattle.std.proofs.lemmas.Bool.{cases_Bool, both_ways, eqb-true, cond-false}
 use Rattle.std.proofs.lemmas.Option.{same_Some}
 use Rattle.layout_journal.specs.declared.entry.Entry.{Entry}
 use Rattle.layout_journal.specs.Run.{Record, AreConsecutive, place_after, all_places, places, names_block}
 use Rattle.crash_argument.specs.Ledger.{WrittenRecord, all_say}
-use Rattle.crash_argument.proofs.log.Events.{if_false}
 
 -- an answer is nothing, or it is a value
 pub inspect : {A : Type 0} (o : Option A) → (o ≡ None) ⊎ ((x : A) × (o ≡ Some x))
@@ -97,7 +96,7 @@ get_within (y ∷ xs) (suc k) x e = omega (arith, get_within xs k x e)
 -- a block that entries name is named by one of them
 pub named_at : (es : List Entry) (b : ℕ) → names_block es b ≡ true → (i : ℕ) × (e : Entry) × (slice_get es i ≡ Some e) × (e.block ≡ b)
 named_at [] b h = cc
-named_at (e ∷ es) b h = ⊎_elim (λ same. (0, e, refl, eqb-true e.block b same)) (λ other. let rest = named_at es b (sym (if_false (e.block == b) true (names_block es b) other) ∙ h) in (suc rest.0, rest.1, rest.2, rest.3)) (cases_Bool (e.block == b))
+named_at (e ∷ es) b h = ⊎_elim (λ same. (0, e, refl, eqb-true e.block b same)) (λ other. let rest = named_at es b (sym (cond-false (e.block == b) true (names_block es b) other) ∙ h) in (suc rest.0, rest.1, rest.2, rest.3)) (cases_Bool (e.block == b))
 
 -- what two lists of records say, one behind the other
 pub say_append : (xs ys : List WrittenRecord) → all_say (xs ++ ys) ≡ all_say xs ++ all_say ys

@@ -1,30 +1,12 @@
 -- Writes join a log one by one.
 use Rattle.std.proofs.Common.{◌≡◌, ◌⊎◌, ⊎_elim, inl, inr, ℕ, zero, suc, ◌+◌, ◌<◌, ◌≤◌, List, [], ◌∷◌, ◌++◌, length, take, drop, slice_get, slice_index_or, Some, Result, Ok, Err, IsErr, refl, sym, ◌∙◌, ap, subst, arith, append_assoc, append-nil, take_all}
 use Rattle.std.proofs.lemmas.Bool.{false≢true}
-use Rattle.std.proofs.lemmas.List.{take-append-drop}
-use Rattle.std.proofs.lemmas.Option.{same_Some}
+use Rattle.std.proofs.lemmas.List.{take-append-drop, take_more, drop_more}
+use Rattle.std.proofs.lemmas.Option.{slice_get_within, get_or_from_slice_get}
 use Rattle.disk_contract.specs.declared.event.Event.{Event}
 use Rattle.disk_contract.specs.declared.event.Event.TheVariants.{Wrote, Lost}
 use Rattle.disk_contract.specs.Cell.{greatest_ticket, IsNoticed}
 use Rattle.crash_argument.specs.Writes.{AddsWrites, AddsFront, AddsAll, HasWritten, row_writes}
-
--- one element more
-push : {A : Type 0} (ys : List A) (n : ℕ) (x : A) → slice_get ys n ≡ Some x → take n ys ++ x ∷ [] ≡ take (n + 1) ys
-push [] n x e = cc
-push (y ∷ ys) zero x e = ap (λ z. z ∷ []) (sym (same_Some _ _ e))
-push {A} (y ∷ ys) (suc n) x e = ap (λ (l : List A). y ∷ l) (push ys n x e) ∙ ap (λ m. take m (y ∷ ys)) (s n)
-  where
-    s : (n : ℕ) → suc (n + 1) ≡ suc n + 1
-    s n = omega arith
-
--- what is left of a list from an element on
-drop_get : {A : Type 0} (xs : List A) (k : ℕ) (x : A) → slice_get xs k ≡ Some x → drop k xs ≡ x ∷ drop (k + 1) xs
-drop_get [] k x e = cc
-drop_get {A} (y ∷ xs) zero x e = ap (λ z. z ∷ xs) (same_Some _ _ e)
-drop_get {A} (y ∷ xs) (suc k) x e = drop_get xs k x e ∙ ap (λ n. x ∷ drop n (y ∷ xs)) (s k)
-  where
-    s : (k : ℕ) → suc (k + 1) ≡ suc k + 1
-    s k = omega arith
 
 -- writes behind others
 adds_then : (vs ws : List (ℕ × List ℕ)) (ts us : List ℕ) (old mid new : List Event) → AddsWrites vs ts old mid → AddsWrites ws us mid new → AddsWrites (vs ++ ws) (ts ++ us) old new
@@ -43,7 +25,7 @@ pub one_more : (ws : List (ℕ × List ℕ)) (k b : ℕ) (x : List ℕ) (t : ℕ
 one_more ws k b x t start now next old mid new is joined so_far a = (
   so_far.0 ++ t ∷ [],
   joined ∙ ap (λ (l : List ℕ). l ++ t ∷ []) so_far.1 ∙ append_assoc start so_far.0 (t ∷ []),
-  subst (λ (l : List (ℕ × List ℕ)). AddsWrites l (so_far.0 ++ t ∷ []) old new) (push ws k (b, x) is) (adds_then (take k ws) ((b, x) ∷ []) so_far.0 (t ∷ []) old mid new so_far.2 a),
+  subst (λ (l : List (ℕ × List ℕ)). AddsWrites l (so_far.0 ++ t ∷ []) old new) (sym (take_more ws k (b, x) (slice_get_within ws k (b, x) is) ∙ ap (λ (w : ℕ × List ℕ). take k ws ++ w ∷ []) (get_or_from_slice_get ws k (b, x) (b, x) is))) (adds_then (take k ws) ((b, x) ∷ []) so_far.0 (t ∷ []) old mid new so_far.2 a),
 )
 
 -- all of them
@@ -59,7 +41,7 @@ front_lost ws k b x start now old mid new is so_far a = record {
   tickets = so_far.0;
   middle = mid;
   accepted = so_far.2;
-  ends = ⊎_elim (λ same. inl same) (λ lost. inr (b, x, drop (k + 1) ws, drop_get ws k (b, x) is, lost)) a;
+  ends = ⊎_elim (λ same. inl same) (λ lost. inr (b, x, drop (k + 1) ws, drop_more ws k (b, x) (slice_get_within ws k (b, x) is) ∙ ap (λ (w : ℕ × List ℕ). w ∷ drop (k + 1) ws) (get_or_from_slice_get ws k (b, x) (b, x) is), lost)) a;
 }
 
 pub front_written : {A E : Type 0} (ws : List (ℕ × List ℕ)) (k b : ℕ) (x : List ℕ) (r : Result A E) (start now next : List ℕ) (old mid new : List Event) → IsErr r → slice_get ws k ≡ Some (b, x) → HasWritten ws k start now old mid → (new ≡ mid) ⊎ (new ≡ mid ++ Lost b x ∷ [])

@@ -1,11 +1,11 @@
 -- A ticket that is noticed settles its block, where it is that of the last write.
 use Rattle.std.proofs.Common.{◌≡◌, ◌⊎◌, inl, inr, ⊎_elim, ℕ, ◌<◌, Bool, true, false, ◌==◌, if◌then◌else◌, List, [], ◌∷◌, ◌++◌, Some, None, refl, sym, ◌∙◌, ap, subst, arith}
-use Rattle.std.proofs.lemmas.Bool.{eq-eqb, ne_eqb, eqb-true, or_cases, false≢true, cases_Bool}
+use Rattle.std.proofs.lemmas.Bool.{eq-eqb, ne_eqb, eqb-true, or_cases, false≢true, cases_Bool, cond-true, cond-false}
 use Rattle.base_types.specs.Seal.{Blocks}
 use Rattle.disk_contract.specs.declared.event.Event.{Event}
 use Rattle.disk_contract.specs.declared.event.Event.TheVariants.{Wrote, Lost, Noticed}
 use Rattle.disk_contract.specs.Cell.{Cell, Write, with_write, is_ticket, from_ticket, settle, after, after_all, cell_of, greatest_ticket, IsNoticed}
-use Rattle.crash_argument.proofs.log.Events.{after_all-append, if_true, if_false, IsNoticed-append}
+use Rattle.crash_argument.proofs.log.Events.{after_all-append, IsNoticed-append}
 use Rattle.crash_argument.specs.LastWrites.{AvoidsBlock, IsLastWrite}
 use Rattle.crash_argument.specs.PipelineData.{IsSettledIn}
 
@@ -15,15 +15,15 @@ LacksTicket t ws = from_ticket t ws ≡ []
 
 -- so the first hasn't, and the others haven't
 lacks_tail : (t : ℕ) (w : Write) (ws : List Write) → LacksTicket t (w ∷ ws) → (is_ticket t w.ticket ≡ false) × LacksTicket t ws
-lacks_tail t w ws e = ⊎_elim (λ yes. absurd (clash (sym (if_true (is_ticket t w.ticket) (w ∷ ws) (from_ticket t ws) yes) ∙ e))) (λ other. (other, sym (if_false (is_ticket t w.ticket) (w ∷ ws) (from_ticket t ws) other) ∙ e)) (cases_Bool (is_ticket t w.ticket))
+lacks_tail t w ws e = ⊎_elim (λ yes. absurd (clash (sym (cond-true (is_ticket t w.ticket) (w ∷ ws) (from_ticket t ws) yes) ∙ e))) (λ other. (other, sym (cond-false (is_ticket t w.ticket) (w ∷ ws) (from_ticket t ws) other) ∙ e)) (cases_Bool (is_ticket t w.ticket))
   where
     clash : w ∷ ws ≡ [] → ⊥
     clash e = cc
 
 -- nor has one more that hasn't it
 lacks_more : (t : ℕ) (ws : List Write) (w : Write) → LacksTicket t ws → is_ticket t w.ticket ≡ false → LacksTicket t (ws ++ w ∷ [])
-lacks_more t [] w e other = if_false (is_ticket t w.ticket) (w ∷ []) [] other
-lacks_more t (v ∷ ws) w e other = let parts = lacks_tail t v ws e in if_false (is_ticket t v.ticket) _ _ parts.0 ∙ lacks_more t ws w parts.1 other
+lacks_more t [] w e other = cond-false (is_ticket t w.ticket) (w ∷ []) [] other
+lacks_more t (v ∷ ws) w e other = let parts = lacks_tail t v ws e in cond-false (is_ticket t v.ticket) _ _ parts.0 ∙ lacks_more t ws w parts.1 other
 
 -- nor have those from another ticket on
 lacks_from : (t u : ℕ) (ws : List Write) → LacksTicket t ws → LacksTicket t (from_ticket u ws)
@@ -61,8 +61,8 @@ pub record LastIs (ws : List Write) (t : ℕ) (x : List ℕ) : Type 0 where
 
 -- from its ticket on there is this write alone
 own_from : (t : ℕ) (x : List ℕ) (front : List Write) → LacksTicket t front → from_ticket t (front ++ record { ticket = Some t; bytes = x } ∷ []) ≡ record { ticket = Some t; bytes = x } ∷ []
-own_from t x [] e = if_true (t == t) _ _ (eq-eqb t t refl)
-own_from t x (w ∷ front) e = let parts = lacks_tail t w front e in if_false (is_ticket t w.ticket) _ _ parts.0 ∙ own_from t x front parts.1
+own_from t x [] e = cond-true (t == t) _ _ (eq-eqb t t refl)
+own_from t x (w ∷ front) e = let parts = lacks_tail t w front e in cond-false (is_ticket t w.ticket) _ _ parts.0 ∙ own_from t x front parts.1
 
 -- a notice of another ticket leaves the last one where it is, or settles it
 other_from : (u t : ℕ) (x : List ℕ) (front : List Write) (c : Cell) → LacksTicket t front → LastIs c.pending t x
@@ -82,8 +82,8 @@ done_notice u c x d = record { settled = ap (λ ws. (settle c (from_ticket u ws)
 -- and under all events that avoid the block
 done_stays : (b : ℕ) (c : Cell) (x : List ℕ) (later : List Event) → AvoidsBlock b later → IsSettledIn c x → IsSettledIn (after_all b c later) x
 done_stays b c x [] a d = d
-done_stays b c x (Wrote u e y ∷ later) a d = subst (λ (n : Cell). IsSettledIn (after_all b n later) x) (sym (if_false (e == b) (with_write c (Some u) y) c (ne_eqb e b a.0))) (done_stays b c x later a.1 d)
-done_stays b c x (Lost e y ∷ later) a d = subst (λ (n : Cell). IsSettledIn (after_all b n later) x) (sym (if_false (e == b) (with_write c None y) c (ne_eqb e b a.0))) (done_stays b c x later a.1 d)
+done_stays b c x (Wrote u e y ∷ later) a d = subst (λ (n : Cell). IsSettledIn (after_all b n later) x) (sym (cond-false (e == b) (with_write c (Some u) y) c (ne_eqb e b a.0))) (done_stays b c x later a.1 d)
+done_stays b c x (Lost e y ∷ later) a d = subst (λ (n : Cell). IsSettledIn (after_all b n later) x) (sym (cond-false (e == b) (with_write c None y) c (ne_eqb e b a.0))) (done_stays b c x later a.1 d)
 done_stays b c x (Noticed u ∷ later) a d = done_stays b (settle c (from_ticket u c.pending)) x later a (done_notice u c x d)
 
 -- a notice of its own ticket settles the last write
@@ -99,8 +99,8 @@ any_notice u t c x l = subst (λ (ws : List Write). IsSettledIn (settle c (from_
 -- and it is settled once a later event has noticed its ticket
 settles_later : (b t : ℕ) (c : Cell) (x : List ℕ) (later : List Event) → AvoidsBlock b later → LastIs c.pending t x → IsNoticed t later → IsSettledIn (after_all b c later) x
 settles_later b t c x [] a l n = absurd (false≢true n)
-settles_later b t c x (Wrote u e y ∷ later) a l n = subst (λ (k : Cell). IsSettledIn (after_all b k later) x) (sym (if_false (e == b) (with_write c (Some u) y) c (ne_eqb e b a.0))) (settles_later b t c x later a.1 l n)
-settles_later b t c x (Lost e y ∷ later) a l n = subst (λ (k : Cell). IsSettledIn (after_all b k later) x) (sym (if_false (e == b) (with_write c None y) c (ne_eqb e b a.0))) (settles_later b t c x later a.1 l n)
+settles_later b t c x (Wrote u e y ∷ later) a l n = subst (λ (k : Cell). IsSettledIn (after_all b k later) x) (sym (cond-false (e == b) (with_write c (Some u) y) c (ne_eqb e b a.0))) (settles_later b t c x later a.1 l n)
+settles_later b t c x (Lost e y ∷ later) a l n = subst (λ (k : Cell). IsSettledIn (after_all b k later) x) (sym (cond-false (e == b) (with_write c None y) c (ne_eqb e b a.0))) (settles_later b t c x later a.1 l n)
 settles_later b t c x (Noticed u ∷ later) a l n =
     ⊎_elim (λ e. done_stays b (settle c (from_ticket u c.pending)) x later a (own_notice u t c x l e))
     (λ m. ⊎_elim (λ d. done_stays b (settle c (from_ticket u c.pending)) x later a d) (λ k. settles_later b t (settle c (from_ticket u c.pending)) x later a k m) (any_notice u t c x l))
@@ -113,7 +113,7 @@ noticed_done base log b t x w n =
     let c = cell_of base w.before b in
     let later : IsNoticed t w.later = ⊎_elim (λ early. absurd (w.fresh early)) (λ r. r) (IsNoticed-append t w.before (Wrote t b x ∷ w.later) (subst (λ (lg : List Event). IsNoticed t lg) w.split n)) in
     let lacks = lacks_all t b (record { settled = base b; pending = [] }) w.before w.above refl in
-    let now : after b c (Wrote t b x) ≡ with_write c (Some t) x = if_true (b == b) _ _ (eq-eqb b b refl) in
+    let now : after b c (Wrote t b x) ≡ with_write c (Some t) x = cond-true (b == b) _ _ (eq-eqb b b refl) in
     subst (λ (lg : List Event). IsSettledIn (cell_of base lg b) x) (sym w.split)
     (subst (λ (d : Cell). IsSettledIn d x) (sym wrote) (subst (λ (d : Cell). IsSettledIn (after_all b d w.later) x) (sym now)
     (settles_later b t (with_write c (Some t) x) x w.later w.last (record { front = c.pending; split = refl; alone = lacks }) later)))

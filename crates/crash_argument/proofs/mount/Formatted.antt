@@ -1,11 +1,10 @@
 -- The formatted disk, once its first mount has written its header, is mounted.
-use Rattle.std.proofs.Common.{◌≡◌, ◌≢◌, ℕ, ◌+◌, ◌%◌, ◌<◌, ◌≤◌, ◌==◌, Bool, true, false, ◌&&◌, nat_le, nat_lt, List, [], ◌∷◌, Some, None, refl, sym, ◌∙◌, ap, subst, arith, replicate}
-use Rattle.std.proofs.lemmas.Bool.{eq-eqb, ne_eqb, lt-leb}
+use Rattle.std.proofs.Common.{◌≡◌, ◌≢◌, ℕ, ◌+◌, ◌%◌, ◌<◌, ◌≤◌, ◌==◌, Bool, true, false, List, [], ◌∷◌, Some, None, refl, sym, ◌∙◌, ap, subst, arith, replicate}
+use Rattle.std.proofs.lemmas.Bool.{eq-eqb, ne_eqb, cond-true, cond-false}
 use Rattle.std.proofs.lemmas.Option.{none-some, same_Some}
 use Rattle.base_types.specs.Seal.{Blocks}
 use Rattle.disk_contract.specs.Cell.{Cell, cell_of, settle, from_ticket}
-use Rattle.crash_argument.proofs.log.Events.{if_true, if_false}
-use Rattle.layout_geometry.specs.Geometry.{Geometry, ring_block, geometry_fits, bitmap_start, table_start, data_start}
+use Rattle.layout_geometry.specs.Geometry.{Geometry, ring_block, geometry_fits, bitmap_start, data_start}
 use Rattle.layout_journal.specs.declared.header.Header.{Header}
 use Rattle.layout_journal.specs.declared.entry.EntryKind.TheVariants.{Payload}
 use Rattle.layout_journal.specs.Layout.{header_of, commit_of, descriptor_of, is_stored}
@@ -34,18 +33,9 @@ empty_is g epoch turn fits ring e0 e2 t0 t2 = record {
   geom = fits;
 }
 
--- behind the header and before the bitmap the formatted disk has zeros
-pub zeros_stand : (g : Geometry) (b : ℕ) → 0 < b → b < bitmap_start g → formatted g b ≡ replicate 1024 0
-zeros_stand g b some low =
-    if_false (b == 0) _ _ (ne_eqb b 0 behind)
-    ∙ if_false (nat_le (bitmap_start g) b && nat_lt b (table_start g)) _ _ (ap (λ t. t && nat_lt b (table_start g)) (lt-leb (bitmap_start g) b low))
-    ∙ if_false (b == table_start g) _ _ (ne_eqb b (table_start g) before)
-  where
-    behind : b ≡ 0 → ⊥
-    behind e = omega arith
-
-    before : b ≡ table_start g → ⊥
-    before e = omega arith
+-- behind the header and before the bitmap a formatted disk has zeros, as the law of its blocks says
+abbrev pub HasZeros : Type 0
+HasZeros = (g : Geometry) (b : ℕ) → 0 < b → b < bitmap_start g → formatted g b ≡ replicate 1024 0
 
 -- a block of zeros is a payload as it is stored
 pub zeros_are_stored : is_stored Payload (replicate 1024 0) ≡ true
@@ -55,7 +45,7 @@ zeros_are_stored = refl
 -- what the laws of the journal's blocks say: a header that can be written reads back, and zeros read as nothing
 module _ (reads : (h : Header) → IsHeader h → header_of h.geom.n (header_block h) ≡ Some h)
     (no_commit : (g : Geometry) → commit_of g (replicate 1024 0) ≡ None) (no_descriptor : (g : Geometry) → descriptor_of g (replicate 1024 0) ≡ None)
-    (g : Geometry) (ticket : ℕ) (fits : geometry_fits g ≡ true) (sizes : (0 < g.j) × (data_start g ≤ g.n)) where
+    (zeros : HasZeros) (g : Geometry) (ticket : ℕ) (fits : geometry_fits g ≡ true) (sizes : (0 < g.j) × (data_start g ≤ g.n)) where
   -- what the disk held before the mount
   abbrev base : Blocks
   base = formatted g
@@ -66,15 +56,15 @@ module _ (reads : (h : Header) → IsHeader h → header_of h.geom.n (header_blo
 
   -- slot 1 is settled in the header
   own : cell_of base (mount_events g ticket) 1 ≡ record { settled = block; pending = [] }
-  own = ap (settle (record { settled = base 1; pending = record { ticket = Some ticket; bytes = block } ∷ [] })) (if_true (ticket == ticket) _ _ (eq-eqb ticket ticket refl))
+  own = ap (settle (record { settled = base 1; pending = record { ticket = Some ticket; bytes = block } ∷ [] })) (cond-true (ticket == ticket) _ _ (eq-eqb ticket ticket refl))
 
   -- every other block is settled in what it held
   other : (b : ℕ) → 1 ≢ b → cell_of base (mount_events g ticket) b ≡ record { settled = base b; pending = [] }
-  other b apart = ap (λ (c : Cell). settle c (from_ticket ticket c.pending)) (if_false (1 == b) _ _ (ne_eqb 1 b apart))
+  other b apart = ap (λ (c : Cell). settle c (from_ticket ticket c.pending)) (cond-false (1 == b) _ _ (ne_eqb 1 b apart))
 
   -- the ring is zeros
   on_ring : (p : ℕ) → (cell_of base (mount_events g ticket) (ring_block g p)).settled ≡ replicate 1024 0
-  on_ring p = ap (λ (c : Cell). c.settled) (other (ring_block g p) (apart (p % g.j))) ∙ zeros_stand g (ring_block g p) (omega arith) (in_ring g p sizes.0)
+  on_ring p = ap (λ (c : Cell). c.settled) (other (ring_block g p) (apart (p % g.j))) ∙ zeros g (ring_block g p) (omega arith) (in_ring g p sizes.0)
     where
       apart : (q : ℕ) → 1 ≢ 2 + q
       apart q e = omega arith

@@ -1,6 +1,6 @@
 -- Blocks that are written home one after another and noticed: what each of them holds then, and that a run leaves what lies behind the disk.
 use Rattle.std.proofs.Common.{◌≡◌, ◌≢◌, ⊎_elim, ℕ, zero, suc, ◌+◌, ◌<◌, ◌≤◌, ◌==◌, Bool, true, false, if◌then◌else◌, List, [], ◌∷◌, ◌++◌, slice_get, take, Option, Some, None, refl, ◌∙◌, ap, arith}
-use Rattle.std.proofs.lemmas.Bool.{eq-eqb, ne_eqb, cases_eq}
+use Rattle.std.proofs.lemmas.Bool.{eq-eqb, ne_eqb, cases_eq, cond-true, cond-false}
 use Rattle.base_types.specs.Seal.{Blocks}
 use Rattle.disk_contract.specs.declared.event.Event.{Event}
 use Rattle.disk_contract.specs.declared.event.Event.TheVariants.{Wrote, Lost, Noticed}
@@ -12,7 +12,7 @@ use Rattle.layout_journal.specs.Run.{Record, AreWhole, heads, payload_from, name
 use Rattle.crash_argument.specs.JournalLaws.{JournalLaws}
 use Rattle.crash_argument.specs.LastWrites.{AvoidsBlock}
 use Rattle.crash_argument.specs.ReplayMade.{home_write, home_events}
-use Rattle.crash_argument.proofs.log.Events.{if_true, if_false, after_all-append}
+use Rattle.crash_argument.proofs.log.Events.{after_all-append}
 use Rattle.crash_argument.proofs.log.LastWrites.{avoids_append}
 
 -- a block that is settled in these bytes, with nothing pending
@@ -25,17 +25,17 @@ pending s t x = record { settled = s; pending = record { ticket = Some t; bytes 
 
 -- a write is pending on its block
 pub own_write : (t b : ℕ) (s x : List ℕ) → after b (idle s) (Wrote t b x) ≡ pending s t x
-own_write t b s x = if_true (b == b) _ _ (eq-eqb b b refl)
+own_write t b s x = cond-true (b == b) _ _ (eq-eqb b b refl)
 
 -- and on no other
 pub other_write : (t a b : ℕ) (s x : List ℕ) → a ≢ b → after b (idle s) (Wrote t a x) ≡ idle s
-other_write t a b s x apart = if_false (a == b) _ _ (ne_eqb a b apart)
+other_write t a b s x apart = cond-false (a == b) _ _ (ne_eqb a b apart)
 
 -- once it is noticed, its block is settled in its bytes
 pub own_home : (t b : ℕ) (s x : List ℕ) (es : List Event) → after_all b (idle s) (Wrote t b x ∷ Noticed t ∷ es) ≡ after_all b (idle x) es
 own_home t b s x es =
     ap (λ (c : Cell). after_all b (after b c (Noticed t)) es) (own_write t b s x)
-    ∙ ap (λ (ws : List Write). after_all b (settle (pending s t x) ws) es) (if_true (t == t) _ _ (eq-eqb t t refl))
+    ∙ ap (λ (ws : List Write). after_all b (settle (pending s t x) ws) es) (cond-true (t == t) _ _ (eq-eqb t t refl))
 
 -- and every other is as it was
 pub other_home : (t a b : ℕ) (s x : List ℕ) (es : List Event) → a ≢ b → after_all b (idle s) (Wrote t a x ∷ Noticed t ∷ es) ≡ after_all b (idle s) es
@@ -44,8 +44,8 @@ other_home t a b s x es apart = ap (λ (c : Cell). after_all b (after b c (Notic
 -- events that don't write a block leave it, when nothing is pending on it
 pub left_alone : (b : ℕ) (s : List ℕ) (es : List Event) → AvoidsBlock b es → after_all b (idle s) es ≡ idle s
 left_alone b s [] avoids = refl
-left_alone b s (Wrote t a x ∷ es) avoids = ap (λ (c : Cell). after_all b c es) (if_false (a == b) _ _ (ne_eqb a b avoids.0)) ∙ left_alone b s es avoids.1
-left_alone b s (Lost a x ∷ es) avoids = ap (λ (c : Cell). after_all b c es) (if_false (a == b) _ _ (ne_eqb a b avoids.0)) ∙ left_alone b s es avoids.1
+left_alone b s (Wrote t a x ∷ es) avoids = ap (λ (c : Cell). after_all b c es) (cond-false (a == b) _ _ (ne_eqb a b avoids.0)) ∙ left_alone b s es avoids.1
+left_alone b s (Lost a x ∷ es) avoids = ap (λ (c : Cell). after_all b c es) (cond-false (a == b) _ _ (ne_eqb a b avoids.0)) ∙ left_alone b s es avoids.1
 left_alone b s (Noticed t ∷ es) avoids = left_alone b s es avoids
 
 -- the first of them don't write it either
@@ -112,7 +112,7 @@ at_home left t block (suc more) b s x is low high = ⊎_elim here (λ apart. pas
 none_from : (g : Geometry) (img : Blocks) (place : ℕ) (es : List Entry) (b : ℕ) → ((i : ℕ) (e : Entry) → slice_get es i ≡ Some e → e.block < b) → payload_from g img place es b ≡ None
 none_from g img place [] b low = refl
 none_from g img place (e ∷ es) b low =
-    if_false (e.block == b) _ _ (ne_eqb e.block b (apart e.block b (low 0 e refl))) ∙ none_from g img (place + 1) es b (λ i f is. low (suc i) f is)
+    cond-false (e.block == b) _ _ (ne_eqb e.block b (apart e.block b (low 0 e refl))) ∙ none_from g img (place + 1) es b (λ i f is. low (suc i) f is)
   where
     apart : (a b : ℕ) → a < b → a ≢ b
     apart a b lt same = omega arith

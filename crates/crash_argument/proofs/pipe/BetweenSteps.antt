@@ -1,14 +1,14 @@
 -- Between records: what is known of the next one stays through all other events, and freed blocks may wait longer.
 use Rattle.std.proofs.Common.{◌≡◌, ◌≢◌, inl, inr, ℕ, zero, suc, ◌+◌, ◌-◌, ◌%◌, ◌<◌, ◌≤◌, List, [], ◌∷◌, ◌++◌, length, take, drop, slice_get, Some, refl, ap, sym, ◌∙◌, subst, arith, length-drop, length-take}
-use Rattle.std.proofs.lemmas.List.{take-append-drop}
-use Rattle.std.proofs.lemmas.Option.{same_Some}
+use Rattle.std.proofs.lemmas.List.{take-append-drop, drop_more}
+use Rattle.std.proofs.lemmas.Option.{slice_get_within, get_or_from_slice_get}
 use Rattle.layout_journal.specs.Run.{Record, AreConsecutive, place_after}
 use Rattle.crash_argument.proofs.log.Lists.{consecutive_at, say_append, get_within}
 use Rattle.crash_argument.proofs.steps.HeaderSteps.{whole_list}
 use Rattle.crash_argument.proofs.log.Places.{apart}
 use Rattle.base_types.specs.Seal.{Blocks}
 use Rattle.disk_contract.specs.declared.event.Event.{Event}
-use Rattle.disk_contract.specs.declared.event.Event.TheVariants.{Wrote, Lost, Noticed}
+use Rattle.disk_contract.specs.declared.event.Event.TheVariants.{Wrote, Lost}
 use Rattle.disk_contract.specs.Cell.{cell_of}
 use Rattle.layout_geometry.specs.Geometry.{Geometry, ring_block}
 use Rattle.layout_journal.specs.declared.header.Header.{Header}
@@ -16,7 +16,7 @@ use Rattle.crash_argument.specs.Ledger.{Ledger, WrittenRecord, IsConsistentWith,
 use Rattle.crash_argument.specs.Steps.{NoneIsBeingWritten, with_known, with_header, with_durable_header}
 use Rattle.crash_argument.specs.PipelineData.{PipelineData, DataAgree, WaitMore, WaitAbove, with_waiting, SameNewTickets, with_tickets, with_sent}
 use Rattle.crash_argument.proofs.log.Adds.{adds_wrote, adds_lost}
-use Rattle.crash_argument.proofs.steps.Idle.{notice_idle, outside_idle}
+use Rattle.crash_argument.proofs.steps.Idle.{outside_idle}
 
 pub idle_known : (base : Blocks) (log : List Event) (l : Ledger) (number : ℕ) → NoneIsBeingWritten (cell_of base log) l → NoneIsBeingWritten (cell_of base log) (with_known l number)
 idle_known base log l number i = record { each = i.each }
@@ -30,9 +30,6 @@ same_next base log l h keeps is = let f = keeps.headers.fits h (inr is) in omega
 
 pub idle_durable : (base : Blocks) (log : List Event) (l : Ledger) (h : Header) → IsConsistentWith base log l → l.next ≡ Some h → NoneIsBeingWritten (cell_of base log) l → NoneIsBeingWritten (cell_of base log) (with_durable_header l h)
 idle_durable base log l h keeps is i = record { each = λ place x d st reads e. omega (arith, i.each place x d st reads e, same_next base log l h keeps is) }
-
-pub idle_notice : (base : Blocks) (log : List Event) (l : Ledger) (t : ℕ) → NoneIsBeingWritten (cell_of base log) l → NoneIsBeingWritten (cell_of base (log ++ Noticed t ∷ [])) l
-idle_notice = notice_idle
 
 pub idle_wrote : (base : Blocks) (log : List Event) (l : Ledger) (t b : ℕ) (x : List ℕ) → ((place : ℕ) → ring_block l.geom place ≢ b) → NoneIsBeingWritten (cell_of base log) l → NoneIsBeingWritten (cell_of base (log ++ Wrote t b x ∷ [])) l
 idle_wrote base log l t b x apart i = outside_idle base log (log ++ Wrote t b x ∷ []) l b x (adds_wrote base log t b x) apart i
@@ -103,20 +100,11 @@ knows_fewer base log l p tickets k same = record {
   waiting = k.waiting;
 }
 
--- the number and the place of a record at an index
-drop_get : {A : Type 0} (xs : List A) (k : ℕ) (x : A) → slice_get xs k ≡ Some x → drop k xs ≡ x ∷ drop (k + 1) xs
-drop_get [] k x e = cc
-drop_get {A} (y ∷ xs) zero x e = ap (λ z. z ∷ xs) (same_Some _ _ e)
-drop_get {A} (y ∷ xs) (suc k) x e = drop_get xs k x e ∙ ap (λ n. x ∷ drop n (y ∷ xs)) (s k)
-  where
-    s : (k : ℕ) → suc (k + 1) ≡ suc k + 1
-    s k = omega arith
-
 pub record_at : (base : Blocks) (log : List Event) (l : Ledger) (k : ℕ) (w : WrittenRecord) → IsConsistentWith base log l → slice_get l.records k ≡ Some w → (w.says.number ≡ l.header.start + k) × (w.says.place ≡ place_after l.geom.j l.header.at (all_say (take k l.records)))
 record_at base log l k w keeps is = let at = consecutive_at l.geom.j l.header.start l.header.at (take k l.records) w.says (all_say (drop (k + 1) l.records)) whole in (at.0 ∙ ap (λ n. l.header.start + n) size, at.1)
   where
     split : l.records ≡ take k l.records ++ w ∷ drop (k + 1) l.records
-    split = sym (take-append-drop k l.records) ∙ ap (λ (ws : List WrittenRecord). take k l.records ++ ws) (drop_get l.records k w is)
+    split = sym (take-append-drop k l.records) ∙ ap (λ (ws : List WrittenRecord). take k l.records ++ ws) (drop_more l.records k w (slice_get_within l.records k w is) ∙ ap (λ (v : WrittenRecord). v ∷ drop (k + 1) l.records) (get_or_from_slice_get l.records k w w is))
 
     size : length (take k l.records) ≡ k
     size = omega (arith, length-take k l.records, get_within l.records k w is)

@@ -1,6 +1,6 @@
 -- The test tells the blocks that are covered and live after the batch, and no others.
 use Rattle.std.proofs.Common.{◌≡◌, ⊎_elim, ℕ, zero, suc, ◌+◌, ◌<◌, ◌&&◌, ◌||◌, nat_le, nat_lt, Bool, true, false, if◌then◌else◌, List, [], ◌∷◌, ◌++◌, length, slice_get, Option, Some, None, refl, sym, ◌∙◌, ap, arith, length-append, length-drop, length-take, take, drop}
-use Rattle.std.proofs.lemmas.Bool.{false≢true, cases_lt, lt-ltb}
+use Rattle.std.proofs.lemmas.Bool.{false≢true, cases_lt, lt-ltb, cond-true, cond-false}
 use Rattle.base_types.specs.Seal.{Blocks}
 use Rattle.disk_contract.specs.declared.event.Event.{Event}
 use Rattle.layout_geometry.specs.Geometry.{Geometry, data_start, bitmap_start}
@@ -10,7 +10,6 @@ use Rattle.crash_argument.specs.Ledger.{Ledger, WrittenRecord, IsConsistentWith,
 use Rattle.crash_argument.specs.LastWrites.{FreshAreNew}
 use Rattle.crash_argument.specs.HomeTest.{is_one_of, goes_after, goes_home, AreFreedBy}
 use Rattle.crash_argument.specs.PipelineData.{PipelineData, DataAgree, NeedsCheckpoint}
-use Rattle.crash_argument.proofs.log.Events.{if_true, if_false}
 use Rattle.crash_argument.proofs.log.Lists.{get_front, get_behind, get_drop}
 use Rattle.crash_argument.proofs.pipe.InPlace.{numbered}
 use Rattle.std.proofs.lemmas.Option.{none-some}
@@ -57,11 +56,11 @@ module _ (l : Ledger) (new : FreshAreNew l) (freed : List (List ℕ)) (are : Are
       by_fresh e none false fresh = before ∙ by_live e none fresh (live (w.says.number + 1)) (live w.says.number) refl refl
 
       by_paid : is_one_of b f ≡ false → (o : Option (List ℕ)) → payload_in w b ≡ o → or_else o (if names_block w.says.fresh b then None else g) ≡ where_live (live (w.says.number + 1)) (or_else o (if names_block w.says.fresh b then None else c))
-      by_paid e (Some y) paid = sym (if_true (live (w.says.number + 1)) (Some y) None (new.paid k b w y is paid))
+      by_paid e (Some y) paid = sym (cond-true (live (w.says.number + 1)) (Some y) None (new.paid k b w y is paid))
       by_paid e None paid = by_fresh e paid (names_block w.says.fresh b) refl
 
       by_free : (v : Bool) → is_one_of b f ≡ v → (if v then None else or_else (payload_in w b) (if names_block w.says.fresh b then None else g)) ≡ where_live (live (w.says.number + 1)) (covered c w)
-      by_free true e = sym (if_false (live (w.says.number + 1)) (covered c w) None (are.dead k b w f is at e))
+      by_free true e = sym (cond-false (live (w.says.number + 1)) (covered c w) None (are.dead k b w f is at e))
       by_free false e = by_paid e (payload_in w b) refl
 
   -- and all of a row of records, the first of which is at place k of the ledger's
@@ -111,9 +110,9 @@ module _ (base : Blocks) (log : List Event) (l : Ledger) (keeps : IsConsistentWi
   test_needs x is = by (is_live l.geom (l.map_before (l.header.sure + 1)) b) refl (sym tested ∙ is)
     where
       by : (v : Bool) → is_live l.geom (l.map_before (l.header.sure + 1)) b ≡ v → where_live (is_live l.geom (l.map_before (l.header.sure + 1)) b) (cover None k.batch b) ≡ Some x → NeedsCheckpoint l k.batch b x
-      by true on e = record { covered = sym (if_true (is_live l.geom (l.map_before (l.header.sure + 1)) b) (cover None k.batch b) None on) ∙ e; live = on }
-      by false off e = absurd (none-some x (sym (if_false (is_live l.geom (l.map_before (l.header.sure + 1)) b) (cover None k.batch b) None off) ∙ e))
+      by true on e = record { covered = sym (cond-true (is_live l.geom (l.map_before (l.header.sure + 1)) b) (cover None k.batch b) None on) ∙ e; live = on }
+      by false off e = absurd (none-some x (sym (cond-false (is_live l.geom (l.map_before (l.header.sure + 1)) b) (cover None k.batch b) None off) ∙ e))
 
   -- and it finds all that has to
   pub needs_test : (x : List ℕ) → NeedsCheckpoint l k.batch b x → goes_home None k.batch (take p.batch (drop p.placed freed)) b ≡ Some x
-  needs_test x needs = tested ∙ if_true (is_live l.geom (l.map_before (l.header.sure + 1)) b) (cover None k.batch b) None needs.live ∙ needs.covered
+  needs_test x needs = tested ∙ cond-true (is_live l.geom (l.map_before (l.header.sure + 1)) b) (cover None k.batch b) None needs.live ∙ needs.covered

@@ -1,11 +1,10 @@
 -- When a block may be written in place: a fresh one that is dead, and a home block that the batch covers.
 use Rattle.std.proofs.Common.{◌≡◌, ◌≢◌, inl, ⊎_elim, ℕ, suc, ◌+◌, ◌-◌, ◌<◌, ◌≤◌, true, false, ◌==◌, if◌then◌else◌, IsTrue, List, [], ◌∷◌, ◌++◌, length, drop, slice_get, Option, Some, None, refl, sym, ◌∙◌, ap, subst, arith, length-append, length-drop, append_assoc}
-use Rattle.std.proofs.lemmas.Bool.{both_ways, eq-eqb, cases_Bool}
+use Rattle.std.proofs.lemmas.Bool.{both_ways, cases_Bool, cond-false}
 use Rattle.std.proofs.lemmas.Option.{none-some}
 use Rattle.base_types.specs.Seal.{Blocks}
 use Rattle.disk_contract.specs.declared.event.Event.{Event}
 use Rattle.disk_contract.specs.Cell.{cell_of}
-use Rattle.crash_argument.proofs.log.Events.{if_false}
 use Rattle.layout_geometry.specs.Geometry.{bitmap_start}
 use Rattle.layout_journal.specs.declared.header.Header.{Header}
 use Rattle.layout_journal.specs.declared.entry.Entry.{Entry}
@@ -44,7 +43,7 @@ module _ (base : Blocks) (log : List Event) (l : Ledger) (k : IsConsistentWith b
     where
       by : (p : Option (List ℕ)) → ((z : List ℕ) → (y : List ℕ) × (cover (Some z) ws b ≡ Some y)) → (y : List ℕ) × (cover (or_else p (if names_block w.says.fresh b then None else Some x)) ws b ≡ Some y)
       by (Some z) rest = rest z
-      by None rest = let one = rest x in (one.0, ap (λ o. cover o ws b) (if_false (names_block w.says.fresh b) None (Some x) (none 0 w refl)) ∙ one.1)
+      by None rest = let one = rest x in (one.0, ap (λ o. cover o ws b) (cond-false (names_block w.says.fresh b) None (Some x) (none 0 w refl)) ∙ one.1)
 
   -- the shorter of two fronts of a list is a front of the longer
   front_of : (xs ys good bad : List WrittenRecord) → xs ++ ys ≡ good ++ bad → length xs ≤ length good → (more : List WrittenRecord) × (good ≡ xs ++ more)
@@ -88,7 +87,7 @@ module _ (base : Blocks) (log : List Event) (l : Ledger) (k : IsConsistentWith b
 
       not_named : (es : List Entry) (b : ℕ) → ((i : ℕ) (e : Entry) → slice_get es i ≡ Some e → e.block ≡ b → ⊥) → names_block es b ≡ false
       not_named [] b none = refl
-      not_named (e ∷ es) b none = ⊎_elim (λ yes. absurd (none 0 e refl (Rattle.std.proofs.lemmas.Bool.eqb-true e.block b yes))) (λ other. if_false (e.block == b) true (names_block es b) other ∙ not_named es b (λ i a is. none (suc i) a is)) (cases_Bool (e.block == b))
+      not_named (e ∷ es) b none = ⊎_elim (λ yes. absurd (none 0 e refl (Rattle.std.proofs.lemmas.Bool.eqb-true e.block b yes))) (λ other. cond-false (e.block == b) true (names_block es b) other ∙ not_named es b (λ i a is. none (suc i) a is)) (cases_Bool (e.block == b))
 
       unnamed_later : (j : ℕ) (w : WrittenRecord) → slice_get l.records j ≡ Some w → length (placed ++ batch) ≤ j → names_block w.says.fresh block ≡ false
       unnamed_later j w is late = not_named w.says.fresh block (λ i e at same. late_apart j i w e is (omega (arith, numbered j w is, late, ends, length-append placed batch)) at same)

@@ -17,10 +17,6 @@ module _ (base : Blocks) (log : List Event) (l : Ledger) (keeps : IsConsistentWi
   whole : otherwise (cover None l.records b) (latest (cell_of base log b)) ≡ l.map_before (next_number l) b
   whole = keeps.home.map l.header l.records [] b (inl refl) (whole_list l ∙ sym (append-nil l.records)) keeps.known on
 
-  -- the records that aren't at their blocks
-  pub unplaced : List WrittenRecord
-  unplaced = k.batch ++ k.rest
-
   parts : cover None l.records b ≡ cover (cover None k.placed b) (k.batch ++ k.rest) b
   parts = ap (λ (ws : List WrittenRecord). cover None ws b) k.is_batch.split ∙ cover-parts k.placed (k.batch ++ k.rest) None b
 

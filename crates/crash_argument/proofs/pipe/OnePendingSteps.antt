@@ -1,6 +1,6 @@
 -- One pending write a block: how it is kept by each event, and that the blocks that are to be written are idle.
 use Rattle.std.proofs.Common.{◌≡◌, ◌≢◌, ◌⊎◌, inl, inr, ⊎_elim, ℕ, zero, suc, ◌+◌, ◌-◌, ◌%◌, ◌<◌, ◌≤◌, ◌==◌, Bool, true, false, if◌then◌else◌, IsTrue, List, [], ◌∷◌, ◌++◌, length, slice_get, Some, None, refl, sym, ◌∙◌, ap, subst, arith, length-append}
-use Rattle.std.proofs.lemmas.Bool.{cases_eq, cases_lt, cases_Bool, both_ways, eq-eqb, false≢true}
+use Rattle.std.proofs.lemmas.Bool.{cases_eq, cases_lt, cases_Bool, both_ways, eq-eqb, false≢true, cond-true, cond-false}
 use Rattle.std.proofs.lemmas.Nat.{mod_below}
 use Rattle.std.proofs.lemmas.Option.{none-some, same_Some}
 use Rattle.base_types.specs.Seal.{Blocks}
@@ -18,7 +18,7 @@ use Rattle.crash_argument.specs.HomeTest.{is_one_of}
 use Rattle.crash_argument.specs.PipelineData.{PipelineData, DataAgree, NeedsCheckpoint, IsHomeNoticed, with_pending, with_durable, with_batch, with_home, with_sent, with_placed, with_committed}
 use Rattle.crash_argument.specs.OnePending.{IsIdle, IsFreshInNew, IsOnItsWay, HasOnePending, IsNotOnItsWay, AreOfRecord}
 use Rattle.crash_argument.specs.Points.{IsMounted, ledger_at_mount}
-use Rattle.crash_argument.proofs.log.Events.{cell_of-append, if_true, if_false, other_wrote, other_lost}
+use Rattle.crash_argument.proofs.log.Events.{cell_of-append, other_wrote, other_lost}
 use Rattle.crash_argument.proofs.log.Tickets.{noticed_done}
 use Rattle.crash_argument.proofs.log.LastWrites.{last_stays, last_new}
 use Rattle.crash_argument.proofs.log.Adds.{settles_one}
@@ -44,7 +44,7 @@ fewer_noticed base log t b = subst (λ (c : Cell). length c.pending ≤ length (
 
 -- a write leaves one more on its block
 one_wrote : (base : Blocks) (log : List Event) (t b : ℕ) (x : List ℕ) → IsIdle (cell_of base log b) → length (cell_of base (log ++ Wrote t b x ∷ []) b).pending ≤ 1
-one_wrote base log t b x idle = subst (λ (c : Cell). length c.pending ≤ 1) (sym (cell_of-append base log (Wrote t b x ∷ []) b ∙ if_true (b == b) _ _ (eq-eqb b b refl))) (more (cell_of base log b) idle)
+one_wrote base log t b x idle = subst (λ (c : Cell). length c.pending ≤ 1) (sym (cell_of-append base log (Wrote t b x ∷ []) b ∙ cond-true (b == b) _ _ (eq-eqb b b refl))) (more (cell_of base log b) idle)
   where
     more : (c : Cell) → c.pending ≡ [] → length (with_write c (Some t) x).pending ≤ 1
     more c e = omega (arith, length-append c.pending (record { ticket = Some t; bytes = x } ∷ []), ap (λ (ws : List Write). length ws) e)
@@ -120,10 +120,7 @@ module _ (base : Blocks) (log : List Event) (l : Ledger) (p : PipelineData) (uw 
     none = λ e. refl;
   }
 
-  -- what may be written is idle: the slot, a free place, a block for a fresh write, and one that has to go home
-  pub slot_idle : l.next ≡ None → IsIdle (cell_of base log (1 - l.slot))
-  slot_idle = o.slot
-
+  -- what may be written is idle: a free place, a block for a fresh write, and one that has to go home
   pub fresh_idle : (b : ℕ) → IsConsistentWith base log l → FreshAreNew l → bitmap_start l.geom ≤ b → is_one_of b uw ≡ false → IsDead l b → IsNotOnItsWay log p b → IsIdle (cell_of base log b)
   fresh_idle b keeps new low out dead off = ⊎_elim (λ idle. idle) (λ r. ⊎_elim fresh (λ w. (noticed_done base log b w.ticket w.bytes w.last (off w.at w.ticket w.listed)).pending) r) (o.block b low out)
     where
@@ -150,8 +147,8 @@ out_of : (b c : ℕ) (uw : List ℕ) → is_one_of c (b ∷ uw) ≡ false → (b
 out_of b c uw e = by (b == c) refl
   where
     by : (v : Bool) → (b == c) ≡ v → (b ≢ c) × (is_one_of c uw ≡ false)
-    by true own = absurd (false≢true (sym e ∙ if_true (b == c) true (is_one_of c uw) own))
-    by false other = ((λ same. false≢true (sym other ∙ eq-eqb b c same)), sym (if_false (b == c) true (is_one_of c uw) other) ∙ e)
+    by true own = absurd (false≢true (sym e ∙ cond-true (b == c) true (is_one_of c uw) own))
+    by false other = ((λ same. false≢true (sym other ∙ eq-eqb b c same)), sym (cond-false (b == c) true (is_one_of c uw) other) ∙ e)
 
 module _ (base : Blocks) (log : List Event) (l : Ledger) (p : PipelineData) (uw : List ℕ) (o : HasOnePending base log l p uw) where
   -- one write more to a block that is idle
@@ -307,4 +304,4 @@ one_lost base log b x one idle c = ⊎_elim (λ same. subst (λ n. length (cell_
     more d e = omega (arith, length-append d.pending (record { ticket = None; bytes = x } ∷ []), ap (λ (ws : List Write). length ws) e)
 
     own : length (cell_of base (log ++ Lost b x ∷ []) b).pending ≤ 1
-    own = subst (λ (d : Cell). length d.pending ≤ 1) (sym (cell_of-append base log (Lost b x ∷ []) b ∙ if_true (b == b) _ _ (eq-eqb b b refl))) (more (cell_of base log b) idle)
+    own = subst (λ (d : Cell). length d.pending ≤ 1) (sym (cell_of-append base log (Lost b x ∷ []) b ∙ cond-true (b == b) _ _ (eq-eqb b b refl))) (more (cell_of base log b) idle)

@@ -1,12 +1,12 @@
 -- The steps of what a session's data say: a notice, records that become durable, a batch that is at home, a header that is durable, and the header that may be written.
 use Rattle.std.proofs.Common.{◌≡◌, ◌⊎◌, inl, inr, ⊎_elim, ℕ, zero, suc, ◌+◌, ◌-◌, ◌%◌, ◌<◌, ◌≤◌, nat_le, ◌==◌, Bool, true, false, if◌then◌else◌, IsTrue, List, [], ◌∷◌, ◌++◌, length, take, drop, slice_get, Option, Some, None, refl, sym, ◌∙◌, ap, subst, arith, length-append, length-drop, append_assoc}
-use Rattle.std.proofs.lemmas.Bool.{cases_lt, cases_Bool, false≢true, eqb-true, lt-leb}
+use Rattle.std.proofs.lemmas.Bool.{cases_lt, cases_Bool, false≢true, eqb-true, lt-leb, cond-true, cond-false}
 use Rattle.std.proofs.lemmas.Option.{none-some, same_Some}
 use Rattle.base_types.specs.Seal.{Blocks}
 use Rattle.disk_contract.specs.declared.event.Event.{Event}
 use Rattle.disk_contract.specs.declared.event.Event.TheVariants.{Noticed}
 use Rattle.disk_contract.specs.Cell.{Cell, Write, cell_of, IsNoticed}
-use Rattle.crash_argument.proofs.log.Events.{cell_of-append, if_true, if_false}
+use Rattle.crash_argument.proofs.log.Events.{cell_of-append}
 use Rattle.layout_geometry.specs.Geometry.{data_start}
 use Rattle.layout_journal.specs.declared.header.Header.{Header}
 use Rattle.layout_journal.specs.Layout.{header_of}
@@ -36,7 +36,7 @@ leave_or_decide (w ∷ ws) b = by (payload_in w b) (names_block w.says.fresh b) 
     by : (p : Option (List ℕ)) (n : Bool) → payload_in w b ≡ p → names_block w.says.fresh b ≡ n → ((k : ℕ) (v : WrittenRecord) → slice_get ws k ≡ Some v → LeavesAlone v b) ⊎ ((o : Option (List ℕ)) → cover o ws b ≡ cover None ws b)
         → ((k : ℕ) (v : WrittenRecord) → slice_get (w ∷ ws) k ≡ Some v → LeavesAlone v b) ⊎ ((o : Option (List ℕ)) → cover (or_else (payload_in w b) (if names_block w.says.fresh b then None else o)) ws b ≡ cover (or_else (payload_in w b) (if names_block w.says.fresh b then None else None)) ws b)
     by (Some x) n pe ne rest = inr (λ o. ap (λ q. cover (or_else q (if names_block w.says.fresh b then None else o)) ws b) pe ∙ sym (ap (λ q. cover (or_else q (if names_block w.says.fresh b then None else None)) ws b) pe))
-    by None true pe ne rest = inr (λ o. ap (λ q. cover (or_else (payload_in w b) q) ws b) (if_true (names_block w.says.fresh b) None o ne) ∙ sym (ap (λ q. cover (or_else (payload_in w b) q) ws b) (if_true (names_block w.says.fresh b) None None ne)))
+    by None true pe ne rest = inr (λ o. ap (λ q. cover (or_else (payload_in w b) q) ws b) (cond-true (names_block w.says.fresh b) None o ne) ∙ sym (ap (λ q. cover (or_else (payload_in w b) q) ws b) (cond-true (names_block w.says.fresh b) None None ne)))
     by None false pe ne rest = ⊎_elim (λ all. inl (alone pe ne all))
         (λ decide. inr (λ o. decide (or_else (payload_in w b) (if names_block w.says.fresh b then None else o)) ∙ sym (decide (or_else (payload_in w b) (if names_block w.says.fresh b then None else None))))) rest
 
@@ -45,7 +45,7 @@ pub alone_leaves : (ws : List WrittenRecord) (b : ℕ) (o : Option (List ℕ)) �
 alone_leaves [] b o all = refl
 alone_leaves (w ∷ ws) b o all =
     let first = all 0 w refl in
-    ap (λ q. cover (or_else q (if names_block w.says.fresh b then None else o)) ws b) first.paid ∙ ap (λ q. cover q ws b) (if_false (names_block w.says.fresh b) None o first.fresh) ∙ alone_leaves ws b o (λ k v e. all (suc k) v e)
+    ap (λ q. cover (or_else q (if names_block w.says.fresh b then None else o)) ws b) first.paid ∙ ap (λ q. cover q ws b) (cond-false (names_block w.says.fresh b) None o first.fresh) ∙ alone_leaves ws b o (λ k v e. all (suc k) v e)
 
 -- a ticket among noticed ones is noticed
 among_noticed : (log : List Event) (ts : List ℕ) (t : ℕ) → AllNoticed log ts → IsTrue (is_among ts t) → IsNoticed t log
@@ -253,11 +253,11 @@ module _ (base : Blocks) (log : List Event) (l : Ledger) (keeps : IsConsistentWi
     still_in ((c, s) ∷ ws) zero b r e late =
         let pair : ◌≡◌ {A = ℕ × ℕ} (c, s) (b, r) = cc in
         let same : s ≡ r = ap (λ (q : ℕ × ℕ). q.1) pair in
-        (0, ap (λ (l : List (ℕ × ℕ)). slice_get l 0) (if_false (nat_le s h.sure) (still_waiting h.sure ws) ((c, s) ∷ still_waiting h.sure ws) (lt-leb s h.sure (omega (arith, late, same)))) ∙ e)
+        (0, ap (λ (l : List (ℕ × ℕ)). slice_get l 0) (cond-false (nat_le s h.sure) (still_waiting h.sure ws) ((c, s) ∷ still_waiting h.sure ws) (lt-leb s h.sure (omega (arith, late, same)))) ∙ e)
     still_in ((c, s) ∷ ws) (suc i) b r e late =
         let rest = still_in ws i b r e late in
-        ⊎_elim (λ gone. (rest.0, ap (λ (l : List (ℕ × ℕ)). slice_get l rest.0) (if_true (nat_le s h.sure) (still_waiting h.sure ws) ((c, s) ∷ still_waiting h.sure ws) gone) ∙ rest.1))
-        (λ stays. (suc rest.0, ap (λ (l : List (ℕ × ℕ)). slice_get l (suc rest.0)) (if_false (nat_le s h.sure) (still_waiting h.sure ws) ((c, s) ∷ still_waiting h.sure ws) stays) ∙ rest.1)) (cases_Bool (nat_le s h.sure))
+        ⊎_elim (λ gone. (rest.0, ap (λ (l : List (ℕ × ℕ)). slice_get l rest.0) (cond-true (nat_le s h.sure) (still_waiting h.sure ws) ((c, s) ∷ still_waiting h.sure ws) gone) ∙ rest.1))
+        (λ stays. (suc rest.0, ap (λ (l : List (ℕ × ℕ)). slice_get l (suc rest.0)) (cond-false (nat_le s h.sure) (still_waiting h.sure ws) ((c, s) ∷ still_waiting h.sure ws) stays) ∙ rest.1)) (cases_Bool (nat_le s h.sure))
 
     -- records before its start are released, those up to its `sure` are sure, and blocks that these freed serve again
     pub knows_turned : DataAgree base log (with_durable_header l h) (with_durable p l h)

@@ -1,6 +1,6 @@
 -- Blocks that may be written fresh stay so: what a crash may leave loses maps and gains none, and a checkpoint write goes to a live block.
-use Rattle.std.proofs.Common.{◌≡◌, ◌⊎◌, inl, inr, ⊎_elim, ℕ, zero, suc, ◌+◌, ◌<◌, ◌≤◌, Bool, true, false, ◌||◌, List, [], ◌∷◌, ◌++◌, slice_get, Some, refl, sym, ◌∙◌, ap, arith}
-use Rattle.std.proofs.lemmas.Bool.{or_cases, false≢true}
+use Rattle.std.proofs.Common.{◌≡◌, ◌⊎◌, inl, inr, ⊎_elim, ℕ, zero, suc, ◌+◌, ◌<◌, ◌≤◌, false, List, [], ◌∷◌, ◌++◌, slice_get, Some, refl, sym, ◌∙◌, ap, arith}
+use Rattle.std.proofs.lemmas.Bool.{or_cases, false≢true, or_left, or_right}
 use Rattle.std.proofs.lemmas.Option.{same_Some, none-some}
 use Rattle.base_types.specs.Seal.{Blocks}
 use Rattle.disk_contract.specs.declared.event.Event.{Event}
@@ -19,15 +19,7 @@ noticed_stays : (t : ℕ) (log more : List Event) → IsNoticed t log → IsNoti
 noticed_stays t [] more h = absurd (false≢true h)
 noticed_stays t (Wrote u b x ∷ log) more h = noticed_stays t log more h
 noticed_stays t (Lost b x ∷ log) more h = noticed_stays t log more h
-noticed_stays t (Noticed u ∷ log) more h = ⊎_elim (λ e. left _ _ e) (λ r. right _ _ (noticed_stays t log more r)) (or_cases _ _ h)
-  where
-    left : (p q : Bool) → p ≡ true → (p || q) ≡ true
-    left true q e = refl
-    left false q e = cc
-
-    right : (p q : Bool) → q ≡ true → (p || q) ≡ true
-    right true q e = refl
-    right false q e = e
+noticed_stays t (Noticed u ∷ log) more h = ⊎_elim (λ e. or_left _ _ e) (λ r. or_right _ _ (noticed_stays t log more r)) (or_cases _ _ h)
 
 pub stay_by_events : (log more : List Event) (l : Ledger) (p : PipelineData) (taken : List ℕ) → MayWriteAllFresh log l p taken → MayWriteAllFresh (log ++ more) l p taken
 stay_by_events log more l p taken free b own = let f = free b own in (f.0, λ k t is. noticed_stays t log more (f.1 k t is))

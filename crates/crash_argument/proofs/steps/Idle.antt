@@ -34,13 +34,6 @@ notice_idle base log l t i = record { each = λ p x d st is e. i.each p x d ((se
 pub outside_idle : (base : Blocks) (log new : List Event) (l : Ledger) (block : ℕ) (x : List ℕ) → Adds base log new block x → ((p : ℕ) → ring_block l.geom p ≢ block) → NoneIsBeingWritten (cell_of base log) l → NoneIsBeingWritten (cell_of base new) l
 outside_idle base log new l block x a apart i = record { each = λ p y d st is e. i.each p y d (subst (λ (c : Cell). StandsIn c y) (a.other _ (apart p)) st) is e }
 
--- the record begins to be written
-pub idle_writing : (base : Blocks) (log : List Event) (l : Ledger) (w : WrittenRecord) → NoneIsBeingWritten (cell_of base log) l → IsBeingWritten (cell_of base log) l w
-idle_writing base log l w i = record { each = λ p x d st is e from. absurd (high d.number (i.each p x d st is e) from) }
-  where
-    high : (n : ℕ) → n < next_number l → next_number l ≤ n → ⊥
-    high n lt le = omega arith
-
 -- one of its descriptors is written
 pub descriptor_writing : (base : Blocks) (log new : List Event) (l : Ledger) (w : WrittenRecord) (place i : ℕ) (x : List ℕ) → Adds base log new (ring_block l.geom place) x → w.says.number ≡ next_number l
     → descriptor_of l.geom x ≡ Some (descriptor_says l.epoch w.says i) → x ≡ block_at w.ring (1 + i) → IsBeingWritten (cell_of base log) l w → IsBeingWritten (cell_of base new) l w

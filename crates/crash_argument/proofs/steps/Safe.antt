@@ -1,11 +1,10 @@
 -- Each step is safe: the ledger and the statement on each moment go on.
 use Rattle.std.proofs.Common.{◌≡◌, inr, ⊎_elim, ℕ, ◌+◌, ◌-◌, ◌<◌, ◌≤◌, nat_le, nat_lt, ◌&&◌, Bool, true, false, if◌then◌else◌, List, [], ◌∷◌, ◌++◌, None, Some, refl, sym, ◌∙◌, ap, subst, arith, length-append, append-nil, append_assoc}
-use Rattle.std.proofs.lemmas.Bool.{cases_lt, le-ltb, le-leb, lt-leb, lt-ltb, eq-eqb, and_from}
+use Rattle.std.proofs.lemmas.Bool.{cases_lt, le-ltb, le-leb, lt-leb, lt-ltb, eq-eqb, and_from, cond-true}
 use Rattle.base_types.specs.Seal.{Blocks}
 use Rattle.disk_contract.specs.declared.event.Event.{Event}
 use Rattle.disk_contract.specs.declared.event.Event.TheVariants.{Wrote, Lost, Noticed}
 use Rattle.disk_contract.specs.Cell.{cell_of, notices}
-use Rattle.crash_argument.proofs.log.Events.{if_true}
 use Rattle.layout_geometry.specs.Geometry.{ring_block, bitmap_start}
 use Rattle.layout_journal.specs.declared.header.Header.{Header}
 use Rattle.layout_journal.specs.Layout.{commit_of}
@@ -133,7 +132,7 @@ module _ (laws : JournalLaws) (s : MountedSession) (base : Blocks) (log : List E
         each = λ n low high. ⊎_elim
             (λ new. subst (λ q. IsPoint s base (log ++ e ∷ []) q (live_part l.geom ((with_record l w m).map_before n))) (omega (arith, new, grown, from_first, high))
             (subst (λ q. IsPoint s base (log ++ e ∷ []) (next_number l - s.first + 1) (live_part l.geom ((with_record l w m).map_before q))) (omega (arith, new, grown, high)) made))
-            (λ was. subst (λ (q : Blocks). IsPoint s base (log ++ e ∷ []) (n - s.first) (live_part l.geom q)) (sym (if_true (nat_le n (next_number l)) (l.map_before n) m (le-leb n (next_number l) was)))
+            (λ was. subst (λ (q : Blocks). IsPoint s base (log ++ e ∷ []) (n - s.first) (live_part l.geom q)) (sym (cond-true (nat_le n (next_number l)) (l.map_before n) m (le-leb n (next_number l) was)))
             (point_stays s base log (e ∷ []) (n - s.first) _ (old.each n low was)))
             (cases_lt (next_number l) n);
         noticed = λ q some le. noticed_stays s base log (e ∷ []) q (old.noticed q some le);

@@ -1,12 +1,11 @@
 -- Each kind of write leaves the disk as the ledger then says.
 use Rattle.std.proofs.Common.{◌≡◌, ◌≢◌, ◌⊎◌, inl, inr, ⊎_elim, ℕ, zero, suc, ◌+◌, ◌-◌, ◌%◌, ◌<◌, ◌≤◌, nat_le, Bool, true, false, if◌then◌else◌, IsTrue, List, [], ◌∷◌, ◌++◌, length, take, slice_get, Option, Some, None, refl, sym, ◌∙◌, ap, subst, arith, length-append, length-drop}
-use Rattle.std.proofs.lemmas.Bool.{cases_eq, both_ways, le-leb, lt-leb}
+use Rattle.std.proofs.lemmas.Bool.{cases_eq, both_ways, le-leb, lt-leb, cond-true, cond-false}
 use Rattle.std.proofs.lemmas.Option.{none-some, same_Some}
 use Rattle.base_types.specs.Seal.{Blocks}
 use Rattle.disk_contract.specs.declared.event.Event.{Event}
 use Rattle.disk_contract.specs.Cell.{Cell, cell_of}
-use Rattle.crash_argument.proofs.log.Events.{if_true, if_false}
-use Rattle.layout_geometry.specs.Geometry.{Geometry, ring_block, bitmap_start}
+use Rattle.layout_geometry.specs.Geometry.{ring_block, bitmap_start}
 use Rattle.layout_journal.specs.declared.header.Header.{Header}
 use Rattle.layout_journal.specs.declared.record.Commit.{Commit}
 use Rattle.layout_journal.specs.declared.entry.Entry.{Entry}
@@ -21,10 +20,6 @@ use Rattle.crash_argument.proofs.theorem.Core.{live_from}
 use Rattle.crash_argument.proofs.theorem.Images.{in_ring}
 use Rattle.crash_argument.proofs.log.Lists.{get_front, get_behind, in_longer, named_at, empty_parts, say_append, say_length, place_after-append, places_append}
 use Rattle.std.proofs.lemmas.List.{take-append-drop, take-append-le, drop-append-le}
-
--- the ring lies behind the headers
-ring_high : (g : Geometry) (p : ℕ) → 2 ≤ ring_block g p
-ring_high g p = omega arith
 
 module _ (base : Blocks) (log new : List Event) (l : Ledger) (block : ℕ) (x : List ℕ) (a : Adds base log new block x) (k : IsConsistentWith base log l) where
   -- the headers, where neither slot is written
@@ -99,7 +94,7 @@ module _ (laws : JournalLaws) (base : Blocks) (log new : List Event) (l : Ledger
   -- and so does a write into a free place of the ring
   pub write_in_ring : MayWriteInRing l place x → IsConsistentWith base new l
   write_in_ring may = record {
-    headers = same_headers base log new l _ x a k (ring_high l.geom place);
+    headers = same_headers base log new l _ x a k (omega arith);
     each = λ n w is. same_record base log new l _ x a k w (k.each n w is) (λ i lt. may.free n i w is lt) (λ late i e at same. fresh_clash n w i e is late at same);
     numbers = record {
       commit = λ p y c st is e from. ⊎_elim (λ old. k.numbers.commit p y c old is e from) (λ new_one. absurd (none-some c (sym may.no_commit ∙ ap (commit_of l.geom) (sym new_one) ∙ is))) (stood a _ y st);
@@ -154,11 +149,11 @@ get_last ws w k e = ap (slice_get (ws ++ w ∷ [])) (e ∙ z (length ws)) ∙ ge
 
 -- with a record the maps up to the next number are the old ones
 pub at_old : (l : Ledger) (w : WrittenRecord) (m : Blocks) (n : ℕ) → n ≤ next_number l → (with_record l w m).map_before n ≡ l.map_before n
-at_old l w m n le = if_true (nat_le n (next_number l)) (l.map_before n) m (le-leb n (next_number l) le)
+at_old l w m n le = cond-true (nat_le n (next_number l)) (l.map_before n) m (le-leb n (next_number l) le)
 
 -- and behind it there is the new one
 pub at_new : (l : Ledger) (w : WrittenRecord) (m : Blocks) (n : ℕ) → next_number l < n → (with_record l w m).map_before n ≡ m
-at_new l w m n lt = if_false (nat_le n (next_number l)) (l.map_before n) m (lt-leb n (next_number l) lt)
+at_new l w m n lt = cond-false (nat_le n (next_number l)) (l.map_before n) m (lt-leb n (next_number l) lt)
 
 module _ (laws : JournalLaws) (base : Blocks) (log new : List Event) (l : Ledger) (w : WrittenRecord) (m : Blocks) (a : Adds base log new (ring_block l.geom w.says.place) (block_at w.ring 0)) (k : IsConsistentWith base log l) (ready : IsReadyToCommit base log l w m) where
   -- a standing header starts within the records
@@ -205,7 +200,7 @@ module _ (laws : JournalLaws) (base : Blocks) (log new : List Event) (l : Ledger
 
   -- the headers are as they were
   old_headers : HeadersAlternate (cell_of base new) l
-  old_headers = same_headers base log new l _ _ a k (ring_high l.geom w.says.place)
+  old_headers = same_headers base log new l _ _ a k (omega arith)
 
   -- a block behind the journal isn't the commit block's
   fresh_apart : (b : ℕ) → bitmap_start l.geom ≤ b → b ≢ ring_block l.geom w.says.place

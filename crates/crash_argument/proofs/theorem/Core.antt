@@ -1,8 +1,7 @@
 -- An image stands for the map after some of the records.
 use Rattle.std.proofs.Common.{◌≡◌, ◌⊎◌, inl, inr, ⊎_elim, ℕ, zero, suc, ◌+◌, ◌-◌, ◌/◌, ◌%◌, ◌<◌, ◌≤◌, nat_le, nat_lt, ◌&&◌, ◌||◌, slice_index, Bool, true, false, IsTrue, if◌then◌else◌, ◌==◌, List, [], ◌∷◌, length, Option, Some, None, slice_get, refl, sym, ◌∙◌, ap, subst, arith, length-append}
-use Rattle.std.proofs.lemmas.Bool.{cases_lt, cases_Bool, false≢true, and_from, and_parts, leb-true, ltb-true, le-leb, lt-ltb, le-ltb}
+use Rattle.std.proofs.lemmas.Bool.{cases_lt, cases_Bool, and_from, and_parts, leb-true, ltb-true, le-leb, lt-ltb, le-ltb, cond-true, cond-false, or_left}
 use Rattle.std.proofs.lemmas.Option.{none-some, same_Some}
-use Rattle.crash_argument.proofs.log.Events.{if_true, if_false}
 use Rattle.std.specs.Int.{bit_at}
 use Rattle.base_types.specs.Seal.{Blocks, sha256}
 use Rattle.disk_contract.specs.Cell.{Cell}
@@ -236,11 +235,7 @@ module _ (g : Geometry) (m r : Blocks) (shape : data_start g ≤ g.n) (same : (b
 
   -- what lies between the journal and the data is live
   low_live : (b : ℕ) → bitmap_start g ≤ b → b < data_start g → IsTrue (is_live g m b)
-  low_live b ge lt = and_from _ _ (le-leb _ _ ge) (and_from _ _ (lt-ltb _ _ (omega (arith, shape))) (or_first _ _ (lt-ltb _ _ lt)))
-    where
-      or_first : (p q : Bool) → p ≡ true → (p || q) ≡ true
-      or_first true q e = refl
-      or_first false q e = absurd (false≢true e)
+  low_live b ge lt = and_from _ _ (le-leb _ _ ge) (and_from _ _ (lt-ltb _ _ (omega (arith, shape))) (or_left _ _ (lt-ltb _ _ lt)))
 
   -- the two maps have the same bits
   set_same : (b : ℕ) → b < g.n → is_set g r b ≡ is_set g m b
@@ -258,5 +253,5 @@ module _ (g : Geometry) (m r : Blocks) (shape : data_start g ≤ g.n) (same : (b
 
   -- and their live parts are the same
   pub live_part_same : (b : ℕ) → live_part g m b ≡ live_part g r b
-  live_part_same b = ⊎_elim (λ live. if_true _ _ _ live ∙ sym (same b live) ∙ sym (if_true _ _ _ (live_same b ∙ live)))
-      (λ dead. if_false _ _ _ dead ∙ sym (if_false _ _ _ (live_same b ∙ dead))) (cases_Bool (is_live g m b))
+  live_part_same b = ⊎_elim (λ live. cond-true _ _ _ live ∙ sym (same b live) ∙ sym (cond-true _ _ _ (live_same b ∙ live)))
+      (λ dead. cond-false _ _ _ dead ∙ sym (cond-false _ _ _ (live_same b ∙ dead))) (cases_Bool (is_live g m b))

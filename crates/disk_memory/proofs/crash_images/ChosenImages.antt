@@ -28,8 +28,12 @@ chosen_is_image n base log c img cells made whole b within = ⊎_elim
     (λ some. inr (inr (subst (λ (ws : List Write). 0 < length ws) (cells b) some, whole b within)))
     (left_or_some c b (cell_of base log b).settled (cell_of base log b).settled (pending_writes log))
 
+-- the pending writes that a choice may name are those of the cells, as the law says it
+abbrev pub PendingIsTold : Type 0
+PendingIsTold = (base : Blocks) (log : List Event) (b : ℕ) → IsLawful log → pending_on b log ≡ (cell_of base log b).pending
+
 -- so an image that a choice leaves at a moment of a lawful log is one
-pub left_is_image : ((base : Blocks) (log : List Event) (b : ℕ) → IsLawful log → pending_on b log ≡ (cell_of base log b).pending)
+pub left_is_image : PendingIsTold
     → (n : ℕ) (base : Blocks) (log : List Event) (moment : ℕ) (c : ChoiceState) (image : List (List ℕ)) → IsLawful log → AreBlocksOf n (chosen c base (take moment log)) image → AreBlocks image
     → IsImage n base (take moment log) (blocks_of image)
 left_is_image cells n base log moment c image lawful left blocks =

@@ -9,7 +9,8 @@ use Rattle.disk_contract.specs.Lawful.{IsLawful}
 use Rattle.disk_memory.specs.declared.choice.Fate.{Fate}
 use Rattle.disk_memory.specs.declared.choice.Named.{Named}
 use Rattle.disk_memory.specs.Choice.{ChoiceState, NamedWrite, same_name, joined, said_of, said_at_first, pending_writes, chosen, is_pending}
-use Rattle.disk_memory.specs.Torn.{pending_on, IsTornInFront}
+use Rattle.disk_memory.specs.Torn.{IsTornInFront}
+use Rattle.disk_memory.proofs.crash_images.ChosenImages.{PendingIsTold}
 use Rattle.disk_memory.proofs.crash_images.FatePending.{same_name-true}
 use Rattle.disk_memory.proofs.crash_images.TornNames.{IsIn, one_pending, name_pending}
 use Rattle.disk_memory.proofs.crash_images.TornLeft.{only, left_same}
@@ -74,7 +75,7 @@ module _ (base : Blocks) (log : List Event) (img : Blocks) (lawful : IsLawful lo
   makes_all (suc n) entries = makes_more n (makes_all n (λ b within. entries b (omega arith))) (entries n (omega arith))
 
 -- each torn image is the one of a choice, which names pending writes alone
-pub choice_of_torn : ((base : Blocks) (log : List Event) (b : ℕ) → IsLawful log → pending_on b log ≡ (cell_of base log b).pending)
+pub choice_of_torn : PendingIsTold
     → (n : ℕ) (base : Blocks) (log : List Event) (img : Blocks) → IsLawful log → IsTornInFront n base log img
     → (c : ChoiceState) × IsTrue (list_all (λ m. is_pending log m.write) c.named) × ((b : ℕ) → b < n → chosen c base log b ≡ img b)
 choice_of_torn cells n base log img lawful torn =

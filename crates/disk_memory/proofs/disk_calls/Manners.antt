@@ -1,6 +1,6 @@
 -- A disk in memory goes by its manner: what its log is, which calls fail, and what its polls answer.
-use Rattle.std.proofs.Common.{◌≡◌, inl, inr, ℕ, suc, ◌+◌, ◌-◌, ◌^◌, ◌<◌, ◌==◌, ◌&&◌, ◌||◌, Bool, true, false, not, nat_lt, List, [], ◌∷◌, ◌++◌, length, Option, Some, None, Result, Ok, Err, OnErr, is_ok, if◌then◌else◌, refl, sym, ◌∙◌, ap, ap₂, subst, arith, append-nil, append_assoc}
-use Rattle.std.proofs.lemmas.Bool.{and_parts, cond-true, cond-false, false≢true, or_left, or_right, ltb-true, eqb-true}
+use Rattle.std.proofs.Common.{◌≡◌, inr, ℕ, suc, ◌+◌, ◌-◌, ◌^◌, ◌<◌, ◌==◌, ◌&&◌, ◌||◌, Bool, true, false, not, nat_lt, List, [], ◌∷◌, ◌++◌, length, Option, Some, None, Result, Ok, if◌then◌else◌, refl, sym, ◌∙◌, ap, ap₂, subst, arith, append-nil, append_assoc}
+use Rattle.std.proofs.lemmas.Bool.{and_parts, false≢true, or_left, or_right, ltb-true, eqb-true}
 use Rattle.base_types.specs.Counts.{next_count}
 use Rattle.disk_contract.specs.declared.event.Event.{Event}
 use Rattle.disk_contract.specs.declared.event.Event.TheVariants.{Wrote, Lost, Noticed}
@@ -11,8 +11,8 @@ use Rattle.disk_memory.specs.declared.calls.Fail.{Fail}
 use Rattle.disk_memory.specs.declared.rule.Rule.{Rule}
 use Rattle.disk_memory.specs.declared.rule.Notices.{Notices}
 use Rattle.disk_memory.specs.Log.{write_count, open_tickets}
-use Rattle.disk_contract.specs.Cell.{has_lost, IsAccepted}
-use Rattle.disk_memory.specs.MemDisk.{MemDiskState, next_call, fails_next, has_room, can_wait, manner_of, after_write, after_poll, after_wait, same_call, is_listed, has_listed, polled, turned, turns, by_rule, manner_by, manner_known, CountsLost, GoesAsKnown}
+use Rattle.disk_contract.specs.Cell.{has_lost}
+use Rattle.disk_memory.specs.MemDisk.{MemDiskState, next_call, fails_next, manner_of, same_call, is_listed, has_listed, polled, turned, turns, by_rule, manner_by, manner_known, CountsLost, GoesAsKnown}
 
 -- any log goes by the manner of a disk of which nothing is known
 any_goes : (before log : List Event) → MayAllComeBy any_manner before log
@@ -147,11 +147,6 @@ module _ (room : ℕ) (log : List Event) (notices : Notices) (fails : List Fail)
       by_listed true e = tt
       by_listed false e = by_few e (nat_lt polls (2 ^ 64 - 1)) refl
 
--- a call fails for a reason that the manner has: past the room, as a listed poll or wait, or as a listed write that is lost
-pub full_fails : (room : ℕ) (fails : List Fail) (known : Option Rule) (log : List Event) → nat_lt (write_count log) room ≡ false → HasFailedBy (manner_known room fails known) log
-full_fails room fails None log full = inr (inl refl)
-full_fails room fails (Some rule) log full = inr (inl (ap not full))
-
 -- a poll or a wait that is listed fails where the manner lets these fail
 pub poll_stalls : (room : ℕ) (fails : List Fail) (known : Option Rule) (n : ℕ) → is_listed calls.Poll n fails ≡ true → (manner_known room fails known).stalls ≡ true
 poll_stalls room fails None n listed = refl
@@ -166,10 +161,6 @@ poll_fails room fails known log n listed = inr (inr (poll_stalls room fails know
 
 pub wait_fails : (room : ℕ) (fails : List Fail) (known : Option Rule) (log : List Event) (n : ℕ) → is_listed calls.Wait n fails ≡ true → HasFailedBy (manner_known room fails known) log
 wait_fails room fails known log n listed = inr (inr (wait_stalls room fails known n listed))
-
-pub lost_fails : (room : ℕ) (fails : List Fail) (known : Option Rule) (log : List Event) (b : ℕ) (x : List ℕ) → nat_lt (write_count log) room ≡ true → is_listed calls.Write (write_count log + 1) fails ≡ true → HasFailedBy (manner_known room fails known) (log ++ Lost b x ∷ [])
-lost_fails room fails None log b x some listed = inr (inl refl)
-lost_fails room fails (Some rule) log b x some listed = inl (record { before = log; block = b; bytes = x; is = refl; may = ap₂ (λ (v w : Bool). v && w) some listed })
 
 -- another list before anything happened
 pub goes_at_first : (room : ℕ) (log : List Event) (notices : Notices) (fails list : List Fail) (read_faults polls : ℕ) (known now : Option Rule) → now ≡ (if (length log == 0) && ((polls == 0) && (read_faults == 0)) then known else None)
@@ -193,32 +184,6 @@ goes_at_first room log notices fails list read_faults polls known now is goes = 
           first = goes.first;
           turn = λ none few. goes.first no_polls ∙ ap (λ k. turns k (by_rule rule)) (sym no_polls);
         }
-
--- by the disk's value alone: a write that failed, a poll, and a wait for a ticket that was given, had a reason
-pub write_failed : {E : Type 0} (d new : MemDiskState) (b : ℕ) (x : List ℕ) (r : Result ℕ E) → is_ok r ≡ (if fails_next calls.Write d then false else has_room d) → new ≡ after_write d b x → OnErr r (HasFailedBy (manner_of new) new.log)
-write_failed d new b x (Ok t) exact state = tt
-write_failed d new b x (Err e) exact state = subst (λ (n : MemDiskState). HasFailedBy (manner_of n) n.log) (sym state) (by (has_room d) refl (fails_next calls.Write d) refl)
-  where
-    by : (room : Bool) → has_room d ≡ room → (listed : Bool) → fails_next calls.Write d ≡ listed → HasFailedBy (manner_of (after_write d b x)) (after_write d b x).log
-    by false full listed is = subst (λ (n : MemDiskState). HasFailedBy (manner_of n) n.log) (sym (cond-false (has_room d) _ _ full)) (full_fails d.room d.fails d.known d.log full)
-    by true some true is = subst (λ (n : MemDiskState). HasFailedBy (manner_of n) n.log) (sym (cond-true (has_room d) _ _ some ∙ cond-true (fails_next calls.Write d) _ _ is)) (lost_fails d.room d.fails d.known d.log b x some is)
-    by true some false is = absurd (false≢true (exact ∙ cond-false (fails_next calls.Write d) false (has_room d) is ∙ some))
-
-pub poll_failed : {E : Type 0} (d new : MemDiskState) (r : Result (Option ℕ) E) → is_ok r ≡ not (fails_next calls.Poll d) → new ≡ after_poll d → OnErr r (HasFailedBy (manner_of new) new.log)
-poll_failed d new (Ok t) exact state = tt
-poll_failed d new (Err e) exact state = subst (λ (n : MemDiskState). HasFailedBy (manner_of n) n.log) (sym state) (by (fails_next calls.Poll d) refl)
-  where
-    by : (listed : Bool) → fails_next calls.Poll d ≡ listed → HasFailedBy (manner_of (after_poll d)) (after_poll d).log
-    by true is = subst (λ (n : MemDiskState). HasFailedBy (manner_of n) n.log) (sym (cond-true (fails_next calls.Poll d) _ _ is)) (poll_fails d.room d.fails d.known d.log (next_call calls.Poll d) is)
-    by false is = absurd (false≢true (exact ∙ ap not is))
-
-pub wait_failed : {E : Type 0} (d new : MemDiskState) (t : ℕ) (r : Result (Unit {0}) E) → is_ok r ≡ can_wait d t → new ≡ after_wait d t → IsAccepted t d.log → OnErr r (HasFailedBy (manner_of new) new.log)
-wait_failed d new t (Ok a) exact state given = tt
-wait_failed d new t (Err e) exact state given = subst (λ (n : MemDiskState). HasFailedBy (manner_of n) n.log) (sym state) (by (fails_next calls.Wait d) refl)
-  where
-    by : (listed : Bool) → fails_next calls.Wait d ≡ listed → HasFailedBy (manner_of (after_wait d t)) (after_wait d t).log
-    by true is = subst (λ (n : MemDiskState). HasFailedBy (manner_of n) n.log) (sym (cond-false (can_wait d t) _ _ (sym exact))) (wait_fails d.room d.fails d.known d.log (next_call calls.Wait d) is)
-    by false is = absurd (false≢true (exact ∙ ap₂ (λ (v w : Bool). not v && w) is given))
 
 -- and a poll answers what the manner says
 pub known_answer : {E : Type 0} (d : MemDiskState) (r : Result (Option ℕ) E) → GoesAsKnown d.room d.log d.notices d.fails d.read_faults d.polls d.known → (fails_next calls.Poll d ≡ false → r ≡ Ok (polled d.notices (open_tickets d.log))) → AnswersBy ((manner_of d).notice d.polls d.log) r

@@ -1,23 +1,11 @@
 -- Whether two lists of events are the same, place by place.
-use Rattle.std.proofs.Common.{◌≡◌, ℕ, zero, suc, ◌+◌, ◌<◌, ◌≤◌, ◌&&◌, Bool, true, false, List, [], ◌∷◌, length, take, refl, sym, ap, ap₂, ◌∙◌, arith}
-use Rattle.std.proofs.Common.{take_all}
+use Rattle.std.proofs.Common.{◌≡◌, ℕ, zero, suc, ◌+◌, ◌<◌, ◌&&◌, Bool, true, false, List, [], ◌∷◌, length, take, refl, ap, ap₂, ◌∙◌, arith}
 use Rattle.std.proofs.lemmas.Bool.{and_parts}
 use Rattle.std.specs.Cmp.Lexicographic.{pointwise}
 use Rattle.std.specs.List.{slice_get}
 use Rattle.disk_contract.specs.contracts.event.EventPartialEq.TheImpl as event
 use Rattle.disk_contract.specs.declared.event.Event.{Event}
 use Rattle.disk_memory.specs.Events.{same_there}
-
--- lists of other lengths aren't
-pub other_length : (xs ys : List Event) → (length xs ≡ length ys → ⊥) → pointwise event.ghosts.eq xs ys ≡ false
-other_length [] [] other = absurd (other refl)
-other_length [] (y ∷ ys) other = refl
-other_length (x ∷ xs) [] other = refl
-other_length (x ∷ xs) (y ∷ ys) other = ap (λ v. event.ghosts.eq x y && v) (other_length xs ys (λ e. other (ap suc e))) ∙ and_none (event.ghosts.eq x y)
-  where
-    and_none : (v : Bool) → (v && false) ≡ false
-    and_none true = refl
-    and_none false = refl
 
 -- nor are those that differ at a place
 pub other_at : (xs ys : List Event) (p : ℕ) → p < length xs → length xs ≡ length ys → same_there (slice_get xs p) (slice_get ys p) ≡ false → pointwise event.ghosts.eq xs ys ≡ false
@@ -41,7 +29,3 @@ one_same (x ∷ xs) (y ∷ ys) (suc p) low long here before =
 
 pub same_more : (xs ys : List Event) (p : ℕ) → p < length xs → length xs ≡ length ys → same_there (slice_get xs p) (slice_get ys p) ≡ true → pointwise event.ghosts.eq (take p xs) (take p ys) ≡ true → pointwise event.ghosts.eq (take (p + 1) xs) (take (p + 1) ys) ≡ true
 same_more xs ys p low long here before = ap (λ k. pointwise event.ghosts.eq (take k xs) (take k ys)) {x = p + 1} {y = suc p} (omega arith) ∙ one_same xs ys p low long here before
-
--- and at the end all are
-pub same_whole : (xs ys : List Event) (p : ℕ) → length xs ≤ p → length xs ≡ length ys → pointwise event.ghosts.eq (take p xs) (take p ys) ≡ true → pointwise event.ghosts.eq xs ys ≡ true
-same_whole xs ys p all long same = ap₂ (pointwise event.ghosts.eq) (sym (take_all p xs all)) (sym (take_all p ys (omega (arith, all, long)))) ∙ same

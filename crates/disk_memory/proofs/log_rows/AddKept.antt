@@ -12,7 +12,7 @@ use Rattle.disk_memory.specs.Ranks.{RanksState, with_next, without}
 use Rattle.disk_memory.specs.Log.{IsKeptLog, tickets, write_count, accepted_places, lost_places, numbers_of}
 use Rattle.disk_memory.proofs.log_rows.AddNumbers.{numbers_of_more, numbers_of_same, numbers_without, one_less}
 use Rattle.disk_memory.proofs.log_rows.AddRows.{accepted_places-append, lost_places-append, write_count_of_more, places_count}
-use Rattle.disk_memory.proofs.log_rows.Events.{tickets-append, greatest_wrote, greatest_lost, greatest_noticed, noticed-append, noticed_last, lawful_more, events_more, unnoticed_above}
+use Rattle.disk_memory.proofs.log_rows.Events.{tickets-append, greatest_wrote, greatest_lost, greatest_noticed, noticed-append, noticed_last, events_more, unnoticed_above, lawful_onto}
 use Rattle.disk_memory.proofs.log_rows.RowTickets.{tickets_ascend}
 
 -- whether a ticket has no notice
@@ -87,7 +87,7 @@ module _ {events : List Event} {row places lost : List ℕ} {ranks : RanksState}
       let same : (u : ℕ) → is_noticed u (events ++ Wrote t b x ∷ []) ≡ is_noticed u events = λ u. noticed-append u events (Wrote t b x ∷ []) ∙ or-false (is_noticed u events) in
       let passes : not (is_noticed t events) ≡ true = ap not (unnoticed_above events t kept.lawful above) in
       record {
-        lawful = lawful_more events (Wrote t b x) kept.lawful above;
+        lawful = lawful_onto [] events (Wrote t b x) kept.lawful above;
         whole = events_more (2 ^ 32) events (Wrote t b x) kept.whole event;
         next = λ some. greatest_wrote events t b x above ∙ omega (arith, next some);
         few = omega arith;
@@ -118,7 +118,7 @@ module _ {events : List Event} {row places lost : List ℕ} {ranks : RanksState}
       let writes = write_count_of_more events (Lost b x) in
       let same_tickets : tickets events ≡ tickets (events ++ Lost b x ∷ []) = sym (append-nil (tickets events)) ∙ sym (tickets-append events (Lost b x ∷ [])) in
       record {
-        lawful = lawful_more events (Lost b x) kept.lawful tt;
+        lawful = lawful_onto [] events (Lost b x) kept.lawful tt;
         whole = events_more (2 ^ 32) events (Lost b x) kept.whole event;
         next = λ some. greatest_lost events b x ∙ kept.next (omega (arith, some, fewer));
         few = omega arith;
@@ -147,7 +147,7 @@ module _ {events : List Event} {row places lost : List ℕ} {ranks : RanksState}
       let members = members_without t number some at in
       let fewer = one_less_open t number is_open at in
       record {
-        lawful = lawful_more events (Noticed t) kept.lawful is_open;
+        lawful = lawful_onto [] events (Noticed t) kept.lawful is_open;
         whole = events_more (2 ^ 32) events (Noticed t) kept.whole event;
         next = λ any. greatest_noticed events t ∙ kept.next any;
         few = omega (arith, kept.few);

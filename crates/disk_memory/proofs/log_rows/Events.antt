@@ -138,13 +138,9 @@ pub lawful_next : (log rest : List Event) (e : Event) → IsLawful (log ++ e ∷
 lawful_next log rest e h = (lawful_behind [] log (e ∷ rest) h).0
 
 -- one more event behind lawful ones, which may come there
-lawful_onto : (before log : List Event) (e : Event) → AreLawfulAfter before log → MayCome (before ++ log) e → AreLawfulAfter before (log ++ e ∷ [])
+pub lawful_onto : (before log : List Event) (e : Event) → AreLawfulAfter before log → MayCome (before ++ log) e → AreLawfulAfter before (log ++ e ∷ [])
 lawful_onto before [] e h may = (subst (λ (l : List Event). MayCome l e) (append-nil before) may, tt)
 lawful_onto before (x ∷ log) e h may = (h.0, lawful_onto (before ++ x ∷ []) log e h.1 (subst (λ (l : List Event). MayCome l e) (sym (append_assoc before (x ∷ []) log)) may))
-
--- a lawful log with one more event that may come is lawful
-pub lawful_more : (log : List Event) (e : Event) → IsLawful log → MayCome log e → IsLawful (log ++ e ∷ [])
-lawful_more log e h may = lawful_onto [] log e h may
 
 -- a noticed ticket of lawful events is at most the greatest, since it was accepted
 noticed_below : (before log : List Event) (u : ℕ) → AreLawfulAfter before log → IsNoticed u log → u ≤ greatest_ticket (before ++ log)

@@ -8,7 +8,7 @@ use Rattle.disk_contract.specs.Cell.{greatest_ticket, IsNoticed}
 use Rattle.disk_contract.specs.Lawful.{AreLawfulAfter, IsLawful, IsWriteOf}
 use Rattle.disk_memory.specs.Settled.{IsSettledPlace}
 use Rattle.disk_memory.proofs.settled_places.SettledWrites.{write_parts, write_place, accepted_place, once, ascend, no_smaller}
-use Rattle.disk_memory.proofs.log_rows.Events.{get_before, split_at, lawful_front, lawful_behind, lawful_more, noticed_before, noticed_last, noticed_parts, noticed_low}
+use Rattle.disk_memory.proofs.log_rows.Events.{get_before, split_at, lawful_front, lawful_behind, noticed_before, noticed_last, noticed_parts, noticed_low, lawful_onto}
 
 -- a write that was noticed has the settled place, where no noticed one to its block has a greater ticket
 settled_at : (log : List Event) (b place t : ℕ) (x : List ℕ) → slice_get log place ≡ Some (Wrote t b x) → IsNoticed t log → ((u : ℕ) → IsWriteOf u b log → IsNoticed u log → u ≤ t) → IsSettledPlace log b (suc place)
@@ -108,7 +108,7 @@ settled_event log (Noticed n) b place h s =
 settled_all : (before es : List Event) (b place : ℕ) → IsLawful before → AreLawfulAfter before es → IsSettledPlace before b place → (next : ℕ) × IsSettledPlace (before ++ es) b next
 settled_all before [] b place front h s = (place, subst (λ (l : List Event). IsSettledPlace l b place) (sym (append-nil before)) s)
 settled_all before (e ∷ es) b place front h s =
-    let now = lawful_more before e front h.0 in
+    let now = lawful_onto [] before e front h.0 in
     let next = settled_event before e b place now s in
     let last = settled_all (before ++ e ∷ []) es b next.0 now h.1 next.1 in
     (last.0, subst (λ (l : List Event). IsSettledPlace l b last.0) (append_assoc before (e ∷ []) es) last.1)

@@ -1,7 +1,8 @@
 -- A node in use fits the disk: its blocks are data blocks, as many as its size needs.
-use Rattle.std.proofs.Common.{◌≡◌, ℕ, zero, suc, ◌+◌, ◌/◌, ◌≤◌, Bool, true, false, nat_lt, nat_le, ◌&&◌, not, ◌==◌, List, [], ◌∷◌, ◌++◌, length, slice_index, slice_get, All, Option, Some, None, refl, ap, ap₂, subst, ◌∙◌, arith, length-append}
+use Rattle.std.proofs.Common.{◌≡◌, ℕ, zero, suc, ◌+◌, ◌/◌, ◌≤◌, Bool, true, false, nat_lt, nat_le, ◌&&◌, not, ◌==◌, List, [], ◌∷◌, length, slice_index, slice_get, All, Option, Some, None, refl, ap, ap₂, subst, ◌∙◌, arith, length-append}
 use Rattle.std.proofs.lemmas.Bool.{and_parts, leb-true, le-leb, eqb-true}
 use Rattle.std.proofs.lemmas.Option.{none-some, same_Some, slice_get_within, get_or_from_slice_get}
+use Rattle.std.proofs.lemmas.List.Elements.{All-append, All-cons}
 use Rattle.base_types.specs.Seal.{Blocks}
 use Rattle.base_types.specs.Runs.{blocks_from, run_places}
 use Rattle.base_types.specs.declared.places.Run.{Run}
@@ -48,20 +49,9 @@ used_at g m k from upto = ap (λ t. when t (node_at g m k)) (ap₂ (λ x y. x &&
 
 -- Its blocks are data.
 
-all_cons : (P : ℕ → Type 0) (x : ℕ) (xs : List ℕ) → P x → All P xs → All P (x ∷ xs)
-all_cons P x xs p ps zero d low = p
-all_cons P x xs p ps (suc i) d low = ps i d (omega (arith, low))
-
-pub tail_all : (P : ℕ → Type 0) (x : ℕ) (xs : List ℕ) → All P (x ∷ xs) → All P xs
-tail_all P x xs all i d low = all (suc i) d (omega (arith, low))
-
-all_append : (P : ℕ → Type 0) (xs ys : List ℕ) → All P xs → All P ys → All P (xs ++ ys)
-all_append P [] ys px py = py
-all_append P (x ∷ xs) ys px py = all_cons P x (xs ++ ys) (px 0 0 (omega arith)) (all_append P xs ys (tail_all P x xs px) py)
-
 blocks_data : (g : Geometry) (first n : ℕ) → data_start g ≤ first → first + n ≤ g.n → All (IsData g) (blocks_from first n)
 blocks_data g first zero from upto = λ i d low. absurd (omega (arith, low))
-blocks_data g first (suc n) from upto = all_cons (IsData g) first (blocks_from (first + 1) n) (record { from = from; below = omega (arith, upto) }) (blocks_data g (first + 1) n (omega (arith, from)) (omega (arith, upto)))
+blocks_data g first (suc n) from upto = All-cons (IsData g) first (blocks_from (first + 1) n) (record { from = from; below = omega (arith, upto) }) (blocks_data g (first + 1) n (omega (arith, from)) (omega (arith, upto)))
 
 runs_data : (g : Geometry) (end : ℕ) (rs : List Run) → runs_fit g end rs ≡ true → All (IsData g) (run_places rs)
 runs_data g end [] e = λ i d low. absurd (omega (arith, low))
@@ -70,7 +60,7 @@ runs_data g end (r ∷ rs) e =
     let from = and_parts (nat_le (data_start g) r.first) (nat_le (r.first + r.count) g.n && (not (r.first == end) && runs_fit g (r.first + r.count) rs)) some.1 in
     let upto = and_parts (nat_le (r.first + r.count) g.n) (not (r.first == end) && runs_fit g (r.first + r.count) rs) from.1 in
     let apart = and_parts (not (r.first == end)) (runs_fit g (r.first + r.count) rs) upto.1 in
-    all_append (IsData g) (blocks_from r.first r.count) (run_places rs) (blocks_data g r.first r.count (leb-true (data_start g) r.first from.0) (leb-true (r.first + r.count) g.n upto.0)) (runs_data g (r.first + r.count) rs apart.1)
+    All-append (IsData g) (blocks_from r.first r.count) (run_places rs) (blocks_data g r.first r.count (leb-true (data_start g) r.first from.0) (leb-true (r.first + r.count) g.n upto.0)) (runs_data g (r.first + r.count) rs apart.1)
 
 blocks_count : (first n : ℕ) → length (blocks_from first n) ≡ n
 blocks_count first zero = refl

@@ -20,7 +20,7 @@ use Rattle.fs_check.specs.Broken.{IsBroken}
 use Rattle.fs_check.specs.Calls.{IfDamaged}
 use Rattle.fs_files.specs.Effects.{LooksOnly}
 use Rattle.fs_check.specs.Meeting.{AreBits, HasMet, HasPlaces, IsCheckedTo, IsTailOf}
-use Rattle.fs_check.proofs.sound.Looks.{looks_none, looks_more}
+use Rattle.fs_check.proofs.sound.Looks.{looks_more}
 use Rattle.fs_check.proofs.sound.Meets.{at_place, meet_all, meet_begins, meet_none}
 use Rattle.fs_check.proofs.sound.Nodes.{used_at, used_is}
 
@@ -102,9 +102,6 @@ pub record Goes (P : Type 0) (tells : Bool) (g : Geometry) (s t : State) (bits m
   pub looks : LooksOnly tells false s t
   pub size : length new ≡ length met
   pub sound : P → IsCheckedTo g s.map bits met from → IsCheckedTo g s.map bits new at
-
-pub goes_none : (P : Type 0) (tells : Bool) (g : Geometry) (s : State) (bits met : List (List ℕ)) (from at : ℕ) → from ≡ at → Goes P tells g s s bits met met from at
-goes_none P tells g s bits met from at same = record { looks = looks_none tells s; size = refl; sound = λ p checked. subst (IsCheckedTo g s.map bits met) same checked }
 
 -- the map is the same in the midst
 pub goes_here : (tells : Bool) (g : Geometry) (s t : State) (bits new : List (List ℕ)) (at here : ℕ) → LooksOnly tells false s t → at ≡ here → IsTrue tells → IsCheckedTo g s.map bits new at → IsCheckedTo g t.map bits new here

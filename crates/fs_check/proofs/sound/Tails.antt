@@ -2,10 +2,10 @@
 use Rattle.std.proofs.Common.{◌≡◌, ℕ, zero, suc, ◌+◌, ◌-◌, ◌*◌, ◌/◌, ◌%◌, ◌<◌, ◌≤◌, true, List, [], ◌∷◌, ◌++◌, Some, length, drop, slice_get, refl, sym, ap, ◌∙◌, arith}
 use Rattle.std.specs.List.{All}
 use Rattle.std.proofs.lemmas.List.{length-append, drop_at, drop-drop, drop_all}
+use Rattle.std.proofs.lemmas.List.Elements.{All-tail}
 use Rattle.base_types.specs.Seal.{Blocks}
 use Rattle.layout_bytes.specs.Bytes.{are_zeros}
 use Rattle.crash_stands.specs.Files.{joined}
-use Rattle.fs_check.proofs.sound.Nodes.{tail_all}
 
 -- each of these blocks is whole
 abbrev pub AreWhole : Blocks → List ℕ → Type 0
@@ -16,7 +16,7 @@ first m b bs whole = whole 0 0 (omega arith)
 
 pub joined_length : (m : Blocks) (ps : List ℕ) → AreWhole m ps → length (joined m ps) ≡ 1024 * length ps
 joined_length m [] whole = refl
-joined_length m (b ∷ bs) whole = omega (arith, length-append (m b) (joined m bs), joined_length m bs (tail_all (λ b. length (m b) ≡ 1024) b bs whole), first m b bs whole)
+joined_length m (b ∷ bs) whole = omega (arith, length-append (m b) (joined m bs), joined_length m bs (All-tail (λ b. length (m b) ≡ 1024) b bs whole), first m b bs whole)
 
 -- whole blocks have nothing behind them
 pub nothing_past : (m : Blocks) (ps : List ℕ) (size : ℕ) → AreWhole m ps → size ≡ 1024 * length ps → are_zeros (drop size (joined m ps)) ≡ true
@@ -38,7 +38,7 @@ from_last m (p ∷ ps) (suc i) b used whole at count fits =
     let rest : drop (1024 * i + used) (drop 1024 (m p ++ joined m ps)) ≡ drop (1024 * i + used) (joined m ps) = ap (λ xs. drop (1024 * i + used) xs) (drop_at (m p) (joined m ps) 1024 size) in
     ap (λ k. drop k (m p ++ joined m ps)) {x = 1024 * suc i + used} {y = 1024 + (1024 * i + used)} (omega arith)
     ∙ sym (drop-drop (1024 * i + used) 1024 (m p ++ joined m ps)) ∙ rest
-    ∙ from_last m ps i b used (tail_all (λ b. length (m b) ≡ 1024) p ps whole) at (omega (arith, count)) fits
+    ∙ from_last m ps i b used (All-tail (λ b. length (m b) ≡ 1024) p ps whole) at (omega (arith, count)) fits
 
 pub past_last : (m : Blocks) (ps : List ℕ) (i b size used : ℕ) → AreWhole m ps → slice_get ps i ≡ Some b → length ps ≡ (size + 1023) / 1024 → used ≡ size % 1024 → 0 < used → i ≡ length ps - 1
     → drop size (joined m ps) ≡ drop used (m b)

@@ -1,5 +1,5 @@
 -- The check as a whole: what is left once the bits that no data block has and all nodes were found sound.
-use Rattle.std.proofs.Common.{◌≡◌, ◌⊎◌, inl, inr, ℕ, ◌+◌, ◌*◌, ◌/◌, ◌%◌, ◌<◌, ◌≤◌, Bool, true, false, not, ◌&&◌, ◌||◌, ◌==◌, IsTrue, nat_le, nat_lt, List, [], ◌++◌, length, take, drop, replicate, get_or, slice_index, refl, sym, ap, subst, ◌∙◌, arith, Err}
+use Rattle.std.proofs.Common.{◌≡◌, ◌⊎◌, inl, inr, ℕ, ◌+◌, ◌*◌, ◌/◌, ◌%◌, ◌<◌, ◌≤◌, Bool, true, false, not, ◌&&◌, ◌||◌, ◌==◌, IsTrue, nat_le, nat_lt, List, [], ◌++◌, length, take, drop, replicate, get_or, refl, sym, ap, subst, ◌∙◌, arith, Err}
 use Rattle.std.specs.Int.{bit_at}
 use Rattle.std.proofs.lemmas.Bool.{and_parts, or_parts, cases_lt, le-leb, lt-ltb, ltb-true, leb-true, false≢true, or_cases}
 use Rattle.std.proofs.lemmas.List.{get_or-replicate, get_or_past, length-replicate}
@@ -20,15 +20,11 @@ use Rattle.fs_check.specs.declared.block_damage.BlocksRefusal.TheVariants as ref
 use Rattle.fs_check.specs.Broken.{IsBroken, IsLost, Precedes}
 use Rattle.fs_check.specs.Calls.{IfDamaged}
 use Rattle.fs_files.specs.Effects.{LooksOnly}
-use Rattle.fs_check.specs.Meeting.{AreBits, IsCheckedTo, IsMet, IsUnmet}
+use Rattle.fs_check.specs.Meeting.{IsCheckedTo, IsMet, IsUnmet}
 use Rattle.fs_check.proofs.sound.Nodes.{used_is}
 use Rattle.fs_check.proofs.sound.Told.{defined_front, defined_data}
 
 -- Bits.
-
--- the bits of the blocks of the bitmap
-pub are_bits : (g : Geometry) (m : Blocks) (bits : List (List ℕ)) → ((k : ℕ) → k < bitmap_blocks g → blocks_of bits k ≡ m (bitmap_start g + k)) → AreBits g m bits
-are_bits g m bits same = λ b low. ap (λ (xs : List ℕ). bit_at (slice_index xs (b % 8192 / 8)) (b % 8) == 1) (same (b / 8192) (omega (arith, low)))
 
 -- a bitmap of zeros has no bit
 zero_in : (i : ℕ) → (i < 1024) ⊎ (1024 ≤ i) → get_or (replicate {A = ℕ} 1024 0) i 0 ≡ 0

@@ -1,11 +1,10 @@
 -- What a tick leaves of the session, and of what holds between two commands.
-use Rattle.std.proofs.Common.{◌≡◌, ◌⊎◌, inl, inr, ℕ, ◌^◌, ◌-◌, ◌<◌, ◌≤◌, Bool, false, IsTrue, sym, ap, ◌∙◌}
-use Rattle.std.proofs.lemmas.Bool.{le-leb, cases_lt, true≢false}
+use Rattle.std.proofs.Common.{◌≡◌, ℕ, Bool, false, IsTrue, ap}
 use Rattle.lang_tree.specs.Step.{Session}
 use Rattle.engine_blocks.specs.Running.{Running}
 use Rattle.engine_blocks.specs.State.{Bookkeeping, State}
 use Rattle.fs_files.specs.Finish.{MayGoOn}
-use Rattle.fs_commands.specs.Applying.{Ticks, is_spent}
+use Rattle.fs_commands.specs.Applying.{Ticks}
 use Rattle.fs_commands.specs.Sessions.{IsSession, IsBetween, Stands}
 use Rattle.fs_commands.proofs.carrying.Staying.{session_stays, between_stays, stands_still}
 
@@ -18,11 +17,3 @@ module _ (tells failed : Bool) (s t : State) (h : Ticks tells failed s t) where
 
   pub stands_ticks : IsTrue tells → Stands s → Stands t
   stands_ticks told stands = stands_still s t h.moves.pipeline.geom (h.moves.map told) stands
-
--- numbers that aren't used up leave room for the command
-pub turns_left : (k : Bookkeeping) → is_spent k ≡ false → k.turns < 2 ^ 63 - 8
-turns_left k e = by (cases_lt k.turns (2 ^ 63 - 8))
-  where
-    by : (k.turns < 2 ^ 63 - 8) ⊎ (2 ^ 63 - 8 ≤ k.turns) → k.turns < 2 ^ 63 - 8
-    by (inl below) = below
-    by (inr above) = absurd (true≢false (sym (le-leb (2 ^ 63 - 8) k.turns above) ∙ e))

@@ -13,16 +13,17 @@ use Rattle.fs_commands.specs.Applying.{Ticks, Runs, Began}
 use Rattle.fs_commands.specs.Commands.{Carries}
 use Rattle.fs_commands.specs.Syncs.{SyncsSession}
 
--- a log that grew grows on
-grows_on : (a b c : List Event) → Grows a b → Grows b c → Grows a c
-grows_on a b c one two = record { more = one.more ++ two.more; log = two.log ∙ ap (λ (es : List Event). es ++ two.more) one.log ∙ append_assoc a one.more two.more }
-
 -- what comes behind a tick leaves it the first
 ticked_on : (tells : Bool) (old mid new : State) → Ticked tells old mid → (IsTrue tells → Grows mid.crash.log new.crash.log) → new.counts.ticks ≡ mid.counts.ticks → Ticked tells old new
 ticked_on tells old mid new t grows same = record {
   made = ap (λ (k : Ticking). k.made) same ∙ t.made;
   manner = ap (λ (k : Ticking). k.manner) same ∙ t.manner;
-  polled = λ told p is. let q = t.polled told p is in (ap (λ (k : Ticking). k.polls) same ∙ q.0, grows_on p.log mid.crash.log new.crash.log q.1 (grows told));
+  polled = λ told p is.
+      let q = t.polled told p is in
+      let more = grows told in (
+        ap (λ (k : Ticking). k.polls) same ∙ q.0,
+        record { more = q.1.more ++ more.more; log = more.log ∙ ap (λ (es : List Event). es ++ more.more) q.1.log ∙ append_assoc p.log q.1.more more.more },
+      );
 }
 
 module _ {S : Type 0} (tells : Bool) (state : S → State) where

@@ -1,6 +1,7 @@
 -- What a path leads to, from the number that a walk comes to and what is known of the node. Looks come one behind the other.
-use Rattle.std.proofs.Common.{◌≡◌, ◌↔◌, ℕ, Bool, false, IsTrue, List, Option, None, Some, Result, Ok, option_map, option_and_then, refl, sym, subst, ap, ap₂, ◌∙◌}
+use Rattle.std.proofs.Common.{◌≡◌, ℕ, Bool, false, IsTrue, List, Option, None, Some, Result, Ok, option_map, option_and_then, refl, sym, subst, ap, ap₂, ◌∙◌}
 use Rattle.std.proofs.lemmas.Option.{none-some}
+use mathlib.Core.Logic.Iff.{trans}
 use Rattle.base_types.specs.Counts.{after_call}
 use Rattle.base_types.specs.Seal.{Blocks}
 use Rattle.engine_blocks.specs.State.{Bookkeeping, State}
@@ -18,9 +19,6 @@ use Rattle.fs_files.specs.Effects.{LooksOnly}
 use Rattle.fs_files.specs.Sound.{FitsBooks, IsSoundDraft, IsDraftOf}
 use Rattle.fs_dirs.specs.Directories.{inodes_in}
 
-iff_on : {A B C : Type 0} → A ↔ B → B ↔ C → A ↔ C
-iff_on p q = (λ a. q.0 (p.0 a), λ c. p.1 (q.1 c))
-
 -- two looks, of which the first didn't fail
 pub looks_more : (tells failed : Bool) (s t u : State) → LooksOnly tells false s t → LooksOnly tells failed t u → LooksOnly tells failed s u
 looks_more tells failed s t u first second = record {
@@ -35,13 +33,13 @@ looks_more tells failed s t u first second = record {
   crash = λ told. let a = first.crash told in let b = second.crash told in record {
     base = b.base ∙ a.base;
     log = b.log ∙ a.log;
-    point = λ p m. iff_on (b.point p m) (a.point p m);
-    left = λ n img. iff_on (b.left n img) (a.left n img);
-    holds = λ img m. iff_on (b.holds img m) (a.holds img m);
-    sure = λ log p. iff_on (b.sure log p) (a.sure log p);
-    records = record { told = b.records.told ∙ a.records.told; starts = λ log n. iff_on (b.records.starts log n) (a.records.starts log n) };
-    issued = λ m. iff_on (b.issued m) (a.issued m);
-    awaits = λ p n. iff_on (b.awaits p n) (a.awaits p n);
+    point = λ p m. trans (b.point p m) (a.point p m);
+    left = λ n img. trans (b.left n img) (a.left n img);
+    holds = λ img m. trans (b.holds img m) (a.holds img m);
+    sure = λ log p. trans (b.sure log p) (a.sure log p);
+    records = record { told = b.records.told ∙ a.records.told; starts = λ log n. trans (b.records.starts log n) (a.records.starts log n) };
+    issued = λ m. trans (b.issued m) (a.issued m);
+    awaits = λ p n. trans (b.awaits p n) (a.awaits p n);
   };
 }
 

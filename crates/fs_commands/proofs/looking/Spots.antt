@@ -1,6 +1,7 @@
 -- What a path comes to gives the walk along it, the number at it and the slots above it.
-use Rattle.std.proofs.Common.{◌≡◌, ◌⊎◌, inl, inr, ℕ, suc, ◌-◌, Bool, true, false, List, [], ◌∷◌, ◌++◌, length, take, Option, None, Some, option_map, option_and_then, Result, Ok, Err, if◌then◌else◌, refl, sym, ap, ◌∙◌, arith}
+use Rattle.std.proofs.Common.{◌≡◌, ◌⊎◌, inl, inr, ℕ, ◌-◌, Bool, true, false, List, [], ◌∷◌, ◌++◌, length, Option, None, Some, option_map, option_and_then, Result, Ok, Err, if◌then◌else◌, refl, sym, ap, ◌∙◌, arith, take_at}
 use Rattle.std.proofs.lemmas.Option.{none-some, same_Some}
+use Rattle.std.proofs.lemmas.List.{length-append}
 use Rattle.layout_bytes.specs.declared.slot.Slot.{Slot}
 use Rattle.lang_tree.specs.declared.command.Refusal.{Refusal}
 use Rattle.lang_tree.specs.declared.command.Refusal.TheVariants.{NotDir}
@@ -33,17 +34,8 @@ walk_last : (m : Inodes) (k : ℕ) (up : List (List ℕ)) (name : List ℕ) → 
 walk_last m k [] name = refl
 walk_last m k (a ∷ up) name = enter_last m up name (is_dir_inode (m k)) (entry_in (m k) a) (λ j. walk_last m j up name)
 
--- the path above a name
-one_less : (n : ℕ) → suc (suc n) - 1 ≡ suc (suc n - 1)
-one_less n = omega arith
-
-above_longer : (x : List ℕ) (up : List (List ℕ)) (name : List ℕ) → parent (x ∷ (up ++ name ∷ [])) ≡ x ∷ parent (up ++ name ∷ [])
-above_longer x [] name = refl
-above_longer x (y ∷ up) name = ap (λ n. take n (x ∷ (y ∷ (up ++ name ∷ [])))) (one_less (length (up ++ name ∷ [])))
-
 pub above : (up : List (List ℕ)) (name : List ℕ) → parent (up ++ name ∷ []) ≡ up
-above [] name = refl
-above (x ∷ up) name = above_longer x up name ∙ ap (λ rest. x ∷ rest) (above up name)
+above up name = take_at up (name ∷ []) (length (up ++ name ∷ []) - 1) (omega (arith, length-append up (name ∷ [])))
 
 -- a path is the root, or it has a last name
 pub from_end : (p : List (List ℕ)) → (p ≡ []) ⊎ ((up : List (List ℕ)) × (name : List ℕ) × (p ≡ up ++ name ∷ []))

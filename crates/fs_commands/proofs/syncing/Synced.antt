@@ -12,7 +12,7 @@ use Rattle.lang_tree.specs.declared.command.Reply.TheVariants.{Synced, DurableAt
 use Rattle.lang_tree.specs.Step.{Session, step, next_point, osync}
 use Rattle.engine_blocks.specs.Running.{Running, nothing_running}
 use Rattle.engine_blocks.specs.State.{Bookkeeping, Counts, State}
-use Rattle.engine_blocks.specs.Calls.{if_changed, IsAfterSync, OnNoMemory}
+use Rattle.engine_blocks.specs.Calls.{IsAfterSync, OnNoMemory}
 use Rattle.engine_blocks.specs.Serving.{EndsFrees}
 use Rattle.engine_blocks.specs.Crashes.{HearsRecords}
 use Rattle.engine_blocks.specs.Effects.{ChangesNothing, FitsRing, OrdersAtOnce, Syncs, WritesItsRecord}
@@ -25,18 +25,12 @@ use Rattle.fs_commands.specs.Syncs.{SyncsSession, refusal_of_sync}
 use Rattle.fs_commands.proofs.Logs.{grows_by_none, heard_same}
 use Rattle.fs_commands.proofs.carrying.Staying.{tree_stays, session_stays, between_stays}
 
-changed_is : {T : Type 0} (r : Running) (x y : T) → 0 < r.weight → if_changed r x y ≡ x
-changed_is r x y some = cond-false (r.weight == 0) y x (ne_eqb r.weight 0 (λ e. absurd (omega (arith, e, some))))
-
-unchanged_is : {T : Type 0} (r : Running) (x y : T) → r.weight ≡ 0 → if_changed r x y ≡ y
-unchanged_is r x y e = cond-true (r.weight == 0) y x (eq-eqb r.weight 0 e)
-
 -- one point more comes at most
 one_more : (k l : Bookkeeping) → IsAfterSync k l → l.point ≤ k.point + 1
 one_more k l after = by (cases_eq k.running.weight 0)
   where
     by : (k.running.weight ≡ 0) ⊎ (k.running.weight ≢ 0) → l.point ≤ k.point + 1
-    by (inl none) = omega (arith, after.point, unchanged_is {T = ℕ} k.running 1 0 none)
+    by (inl none) = omega (arith, after.point, cond-true {A = ℕ} (k.running.weight == 0) 0 1 (eq-eqb k.running.weight 0 none))
     by (inr some) = omega (arith, after.point, cond-false {A = ℕ} (k.running.weight == 0) 0 1 (ne_eqb k.running.weight 0 some))
 
 module _ (tells : Bool) (old new : State) (f : Session) (p : ℕ) (told : IsTrue tells) (going : old.books.stopped ≡ false) (syncs : Syncs tells (Ok p) old new) (below : p < 2 ^ 64) (h : IsSession old f) where
@@ -44,21 +38,21 @@ module _ (tells : Bool) (old new : State) (f : Session) (p : ℕ) (told : IsTrue
   pub after : (b : Bool) → f.changed ≡ b → (Synced p ≡ (osync f b).1) × IsSession new (osync f b).0
   after true e =
       let some : 0 < old.books.running.weight = ltb-true 0 old.books.running.weight (sym (h.changed going) ∙ e) in
-      let point : new.books.point ≡ old.books.point + 1 = syncs.after.point ∙ ap (λ n. old.books.point + n) (changed_is old.books.running 1 0 some) in
+      let point : new.books.point ≡ old.books.point + 1 = syncs.after.point ∙ ap (λ n. old.books.point + n) (cond-false (old.books.running.weight == 0) 0 1 (ne_eqb old.books.running.weight 0 (λ e. absurd (omega (arith, e, some))))) in
       let next : new.books.point ≡ next_point f.points = omega (arith, point, syncs.point, below, h.points going) in (
         ap (λ n. Synced n) (syncs.point ∙ next),
         record {
           tree = tree_stays old new f.tree syncs.after.geom (syncs.map told) h.tree;
           limit = h.limit ∙ ap (λ (k : Geometry). k.i) (sym syncs.after.geom);
           points = λ stopped. sym next;
-          changed = λ stopped. sym (ap (λ (r : Running). nat_lt 0 r.weight) (syncs.ends.running ∙ changed_is old.books.running nothing_running old.books.running some));
+          changed = λ stopped. sym (ap (λ (r : Running). nat_lt 0 r.weight) (syncs.ends.running ∙ cond-false (old.books.running.weight == 0) old.books.running nothing_running (ne_eqb old.books.running.weight 0 (λ e. absurd (omega (arith, e, some))))));
           durable = omega (arith, h.durable, syncs.after.floor);
         },
       )
   after false e =
       let none : old.books.running.weight ≡ 0 = omega (arith, ltb-false 0 old.books.running.weight (sym (h.changed going) ∙ e)) in
-      let point : new.books.point ≡ old.books.point = syncs.after.point ∙ ap (λ n. old.books.point + n) (unchanged_is old.books.running 1 0 none) ∙ omega arith in
-      let same : new.books.running ≡ old.books.running = syncs.ends.running ∙ unchanged_is old.books.running nothing_running old.books.running none in
+      let point : new.books.point ≡ old.books.point = syncs.after.point ∙ ap (λ n. old.books.point + n) (cond-true (old.books.running.weight == 0) 0 1 (eq-eqb old.books.running.weight 0 none)) ∙ omega arith in
+      let same : new.books.running ≡ old.books.running = syncs.ends.running ∙ cond-true (old.books.running.weight == 0) old.books.running nothing_running (eq-eqb old.books.running.weight 0 none) in
       (ap (λ n. Synced n) (syncs.point ∙ point ∙ sym (h.points going)), session_stays old new f going syncs.after.geom (syncs.map told) point (ap (λ (r : Running). r.weight) same) syncs.after.floor h)
 
   pub synced : (Synced p ≡ (step f Osync).1) × IsSession new (step f Osync).0

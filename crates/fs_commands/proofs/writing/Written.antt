@@ -36,10 +36,6 @@ use Rattle.fs_commands.proofs.writing.Puts.{PutsSo}
 use Rattle.fs_commands.proofs.Given.{DivisionLaw, WritingLaw}
 use Rattle.fs_commands.proofs.looking.InUse.{still_used, read_still}
 
--- some bytes over others
-pub overwritten_some : (off : ℕ) (ys xs : List ℕ) → 0 < length ys → overwritten off ys xs ≡ written off ys xs
-overwritten_some off ys xs some = cond-false (length ys == 0) xs (written off ys xs) (ne_eqb (length ys) 0 (λ e. absurd (omega (arith, e, some))))
-
 -- One node became a file with other bytes.
 
 pub file_reads : (x : FileNode) → x.kind ≡ File → inode_of x ≡ Some (AFile x.links x.bytes)
@@ -133,7 +129,7 @@ module _ (s t : State) (f : Session) (cmd : Cmd) (path : List (List ℕ)) (offse
       → ((l : ℕ) → l ≢ number → places_in t d l ≡ places_of s l) → MakesTree cmd d cost s t f
   puts_tree settles rests with reads grows among others =
       let new : FileNode = with_bytes x (overwritten offset bytes x.bytes) in
-      let becomes : inode_of new ≡ Some (AFile x.links (written offset bytes x.bytes)) = file_reads new file ∙ ap (λ xs. Some (AFile x.links xs)) (overwritten_some offset bytes x.bytes some) in
+      let becomes : inode_of new ≡ Some (AFile x.links (written offset bytes x.bytes)) = file_reads new file ∙ ap (λ xs. Some (AFile x.links xs)) (cond-false (length bytes == 0) x.bytes (written offset bytes x.bytes) (ne_eqb (length bytes) 0 (λ e. absurd (omega (arith, e, some))))) in
       let was : inodes_in s nothing_drafted number ≡ Some (AFile x.links x.bytes) = ap (option_and_then inode_of) is ∙ file_reads x file in
       record {
         accepted = weighed.accepted;

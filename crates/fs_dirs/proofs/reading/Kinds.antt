@@ -1,6 +1,6 @@
 -- What nodes are whose inodes are known, and which slots directories have.
 use Rattle.std.proofs.Common.{◌≡◌, ℕ, ◌+◌, ◌*◌, ◌/◌, ◌<◌, ◌≤◌, Bool, true, false, ◌==◌, List, length, Option, None, Some, IfSome, option_map, option_and_then, refl, sym, ap, ◌∙◌, arith}
-use Rattle.std.proofs.lemmas.Option.{none-some}
+use Rattle.std.proofs.lemmas.Option.{none-some, same_Some}
 use Rattle.layout_bytes.specs.declared.node.NodeKind.{NodeKind}
 use Rattle.layout_bytes.specs.declared.node.NodeKind.TheVariants.{Free, Dir, File}
 use Rattle.layout_bytes.specs.declared.slot.Slot.{Slot}
@@ -49,13 +49,10 @@ file_by File links l bytes b e = refl
 pub file_kind : (file : FileNode) (links : ℕ) (bytes : List ℕ) → inode_of file ≡ Some (AFile links bytes) → file.kind ≡ File
 file_kind file links bytes e = file_by file.kind file.links links file.bytes bytes e
 
-some_same : {A : Type 0} (x y : A) → Some x ≡ Some y → x ≡ y
-some_same x y e = cc
-
 -- what is known of a node in use is its own
 pub facts_are : (o : Option FileNode) (found : Option FileFacts) (facts : FileFacts) → found ≡ option_map facts_of o → found ≡ Some facts → (file : FileNode) × (o ≡ Some file) × (facts ≡ facts_of file)
 facts_are None found facts e is = absurd (none-some facts (sym e ∙ is))
-facts_are (Some file) found facts e is = (file, refl, some_same facts (facts_of file) (sym is ∙ e))
+facts_are (Some file) found facts e is = (file, refl, same_Some facts (facts_of file) (sym is ∙ e))
 
 -- how many slots an inode has, by the kind and the size of its node
 pub counts : (o : Option FileNode) (x : Inode) (facts : FileFacts) (count : Option ℕ) → option_and_then inode_of o ≡ Some x → ((file : FileNode) × (o ≡ Some file) × (facts ≡ facts_of file))
@@ -64,11 +61,11 @@ pub counts : (o : Option FileNode) (x : Inode) (facts : FileFacts) (count : Opti
     → ((file : FileNode) → o ≡ Some file → length file.bytes + 1024 ≤ 1073741824) → count ≡ slot_count x
 counts o (AFile links bytes) facts count e known file dir size fits =
     let r = node_of_inode o (AFile links bytes) e in
-    let same = some_same r.file known.0 (sym r.is ∙ known.1) in
+    let same = same_Some r.file known.0 (sym r.is ∙ known.1) in
     file (ap (λ (f : FileFacts). f.kind) known.2 ∙ ap (λ (y : FileNode). y.kind) (sym same) ∙ file_kind r.file links bytes r.reads)
 counts o (ADir slots) facts count e known file dir size fits =
     let r = node_of_inode o (ADir slots) e in
-    let same = some_same r.file known.0 (sym r.is ∙ known.1) in
+    let same = same_Some r.file known.0 (sym r.is ∙ known.1) in
     let kind = dir_kind r.file slots r.reads in
     let long : facts.size ≡ length r.file.bytes = ap (λ (f : FileFacts). f.size) known.2 ∙ ap (λ (y : FileNode). length y.bytes) (sym same) in
     dir (ap (λ (f : FileFacts). f.kind) known.2 ∙ ap (λ (y : FileNode). y.kind) (sym same) ∙ kind) (omega (arith, fits r.file r.is, long))

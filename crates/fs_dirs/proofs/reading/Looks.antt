@@ -1,5 +1,6 @@
 -- Looking at the blocks of a draft, one look behind the other: what may be read still may, and reads as before.
-use Rattle.std.proofs.Common.{◌≡◌, ◌↔◌, ℕ, Bool, false, IsTrue, refl, sym, subst, ap, ap₂, ◌∙◌, arith}
+use Rattle.std.proofs.Common.{◌≡◌, ℕ, Bool, false, IsTrue, refl, sym, subst, ap, ap₂, ◌∙◌}
+use mathlib.Core.Logic.Iff.{trans}
 use Rattle.base_types.specs.Counts.{after_call}
 use Rattle.base_types.specs.Seal.{Blocks}
 use Rattle.engine_blocks.specs.State.{Bookkeeping, State}
@@ -12,11 +13,6 @@ use Rattle.fs_files.specs.Drafts.{DraftState, drafted}
 use Rattle.fs_files.specs.Effects.{LooksOnly}
 use Rattle.fs_files.specs.Sound.{FitsBooks, IsSoundDraft, IsDraftOf}
 use Rattle.fs_dirs.specs.Directories.{inodes_in}
-use Rattle.fs_dirs.specs.Reading.{MayLook, MayRead}
-
--- what holds the same of two holds the same of both
-iff_on : {A B C : Type 0} → A ↔ B → B ↔ C → A ↔ C
-iff_on p q = (λ a. q.0 (p.0 a), λ c. p.1 (q.1 c))
 
 -- nothing was done
 pub looks_none : (tells : Bool) (s : State) → LooksOnly tells false s s
@@ -41,13 +37,13 @@ looks_more tells failed s t u first second = record {
   crash = λ told. let a = first.crash told in let b = second.crash told in record {
     base = b.base ∙ a.base;
     log = b.log ∙ a.log;
-    point = λ p m. iff_on (b.point p m) (a.point p m);
-    left = λ n img. iff_on (b.left n img) (a.left n img);
-    holds = λ img m. iff_on (b.holds img m) (a.holds img m);
-    sure = λ log p. iff_on (b.sure log p) (a.sure log p);
-    records = record { told = b.records.told ∙ a.records.told; starts = λ log n. iff_on (b.records.starts log n) (a.records.starts log n) };
-    issued = λ m. iff_on (b.issued m) (a.issued m);
-    awaits = λ p t. iff_on (b.awaits p t) (a.awaits p t);
+    point = λ p m. trans (b.point p m) (a.point p m);
+    left = λ n img. trans (b.left n img) (a.left n img);
+    holds = λ img m. trans (b.holds img m) (a.holds img m);
+    sure = λ log p. trans (b.sure log p) (a.sure log p);
+    records = record { told = b.records.told ∙ a.records.told; starts = λ log n. trans (b.records.starts log n) (a.records.starts log n) };
+    issued = λ m. trans (b.issued m) (a.issued m);
+    awaits = λ p t. trans (b.awaits p t) (a.awaits p t);
   };
 }
 
@@ -75,16 +71,3 @@ module _ (tells failed : Bool) (s t : State) (d : DraftState) (k : LooksOnly tel
     sound = λ told. subst (λ b. IsSoundDraft b t.map d) (sym k.books) (subst (λ m. IsSoundDraft s.books m d) (sym (k.map told)) (h.sound told));
     content = h.content;
   }
-
-  -- what may be looked at still may
-  pub may_look : (n : ℕ) → MayLook tells s d n → MayLook tells t d n
-  may_look n h = record {
-    going = ap (λ (b : Bookkeeping). b.stopped) k.books ∙ h.going;
-    from = h.from;
-    upto = omega (arith, h.upto, ap (λ (b : Bookkeeping). b.geom.i) k.books);
-    draft = draft_stays h.draft;
-  }
-
-  -- and what may be read
-  pub may_read : (n : ℕ) → MayRead tells s d n → MayRead tells t d n
-  may_read n h = record { look = may_look n h.look; used = λ told. let u = h.used told in (u.0, ap (λ f. f n) (same_files told) ∙ u.1) }

@@ -1,7 +1,7 @@
 -- What is found under a name: the slot at a place, where no slot before it has the name.
 use Rattle.std.proofs.Common.{◌≡◌, ◌≢◌, ℕ, zero, suc, ◌+◌, ◌≤◌, nat_lt, true, false, cond, not, List, [], ◌∷◌, length, bytes_eq, slice_get, None, Some, refl, sym, ap, ◌∙◌, arith}
 use Rattle.std.proofs.lemmas.Bool.{false_from_ne_true, lt-ltb, le-ltb}
-use Rattle.std.proofs.lemmas.Option.{none-some, slice_get_within}
+use Rattle.std.proofs.lemmas.Option.{none-some, slice_get_within, same_Some}
 use Rattle.std.proofs.lemmas.Slice.Eq.{bytes_eq-Decides}
 use Rattle.std.specs.List.{position_or_len}
 use Rattle.layout_bytes.specs.declared.slot.Slot.{Slot}
@@ -18,9 +18,6 @@ passes_not s name off = false_from_ne_true (bytes_eq s.name name) (λ e. off ((b
 passes : (s : Slot) (name : List ℕ) → s.name ≡ name → bytes_eq s.name name ≡ true
 passes s name e = (bytes_eq-Decides s.name name).1 e
 
-some_same : {A : Type 0} (x y : A) → Some x ≡ Some y → x ≡ y
-some_same x y e = cc
-
 -- the slots behind the first
 misses_rest : (s : Slot) (slots : List Slot) (name : List ℕ) (p : ℕ) → MissesBefore (s ∷ slots) name (suc p) → MissesBefore slots name p
 misses_rest s slots name p misses k t low at = misses (suc k) t (omega (arith, low)) at
@@ -30,7 +27,7 @@ at_place : (slots : List Slot) (name : List ℕ) (p node : ℕ) → slice_get sl
     → (position_or_len (λ s. bytes_eq s.name name) slots ≡ p) × (node_in slots name ≡ Some node)
 at_place [] name p node at misses = absurd (none-some (slot_of node name) at)
 at_place (s ∷ slots) name zero node at misses =
-    let same = some_same s (slot_of node name) at in
+    let same = same_Some s (slot_of node name) at in
     let yes_it = passes s name (ap (λ (t : Slot). t.name) same) in
     (ap (λ b. cond (not b) (1 + position_or_len (λ s. bytes_eq s.name name) slots) 0) yes_it, ap (λ b. cond b (Some s.node) (node_in slots name)) yes_it ∙ ap (λ (t : Slot). Some t.node) same)
 at_place (s ∷ slots) name (suc p) node at misses =

@@ -1,7 +1,7 @@
 -- A search for a name, block by block.
 use Rattle.std.proofs.Common.{◌≡◌, ◌≢◌, ◌⊎◌, inl, inr, ℕ, ◌+◌, ◌-◌, ◌<◌, ◌≤◌, min, Bool, false, IsTrue, List, length, slice_get, All, Option, None, Some, IfSome, sym, subst, ap, ◌∙◌, arith}
 use Rattle.std.proofs.lemmas.Bool.{cases_lt}
-use Rattle.std.proofs.lemmas.Option.{slice_get_within, get_or_from_slice_get}
+use Rattle.std.proofs.lemmas.Option.{slice_get_within, get_or_from_slice_get, same_Some}
 use Rattle.layout_bytes.specs.declared.slot.Slot.{Slot}
 use Rattle.layout_bytes.specs.Slot.{slots_in}
 use Rattle.layout_directory.specs.Directory.{place_of}
@@ -19,9 +19,6 @@ use Rattle.fs_dirs.specs.Reading.{HasSlots, MissesBefore, HasSought, slots_from}
 use Rattle.fs_dirs.proofs.reading.Looks.{looks_more, same_inodes, same_places}
 use Rattle.fs_dirs.proofs.reading.Names.{finds_slot, finds_nothing}
 use Rattle.fs_dirs.proofs.reading.Parts.{part_at, part_has, part_length}
-
-some_same : {A : Type 0} (x y : A) → Some x ≡ Some y → x ≡ y
-some_same x y e = cc
 
 -- a place before the block, or in it
 before_or_in : (k first : ℕ) → k < first + 16 → (k < first) ⊎ ((first ≤ k) × (k - first < 16))
@@ -54,7 +51,7 @@ module _ (first_law : (name : List ℕ) (slots : List Slot) (i k : ℕ) (s : Slo
   pub slot_there : (slots : List Slot) (name : List ℕ) (found : Found) → Finds slots name (Some found) → slice_get slots found.place ≡ Some (slot_of found.node name)
   slot_there slots name found h =
       let r = found_law slots name found.place (sym h.place) in
-      r.1 ∙ ap (λ n. Some (slot_of n name)) (some_same r.0 found.node (sym r.2 ∙ sym h.node))
+      r.1 ∙ ap (λ n. Some (slot_of n name)) (same_Some r.0 found.node (sym r.2 ∙ sym h.node))
 
   -- and where nothing was found, no slot has the name
   pub none_there : (slots : List Slot) (name : List ℕ) → Finds slots name None → (k : ℕ) (s : Slot) → slice_get slots k ≡ Some s → s.name ≢ name
@@ -99,8 +96,12 @@ read_entries tells start now d count first entries node block slots looks told h
 pub finds_end : (slots : List Slot) (name : List ℕ) (count first : ℕ) → length slots ≡ count → count ≤ first → MissesBefore slots name first → Finds slots name None
 finds_end slots name count first many all misses = finds_nothing slots name first (omega (arith, all, many)) misses
 
+-- a name stands at its place, as the law says it
+abbrev pub NamesAreFound : Type 0
+NamesAreFound = (slots : List Slot) (name : List ℕ) (place : ℕ) → place_of name slots ≡ Some place → (node : ℕ) × (slice_get slots place ≡ Some (slot_of node name)) × (node_in slots name ≡ Some node)
+
 -- what was found in a directory of a tree's map is a number of the table
-pub number_found : ((slots : List Slot) (name : List ℕ) (place : ℕ) → place_of name slots ≡ Some place → (node : ℕ) × (slice_get slots place ≡ Some (slot_of node name)) × (node_in slots name ≡ Some node))
+pub number_found : NamesAreFound
     → (limit l dir : ℕ) (m : Inodes) (t : Tree) (slots : List Slot) (name : List ℕ) (found : Option Found) → limit ≡ l → IsMapOf l m t
     → ((k i : ℕ) (slots : List Slot) (s : Slot) → m k ≡ Some (ADir slots) → slice_get slots i ≡ Some s → (x : Inode) × (m s.node ≡ Some x))
     → m dir ≡ Some (ADir slots) → Finds slots name found → IfSome found (λ (f : Found). IsNumber limit f.node)
@@ -108,6 +109,6 @@ number_found law limit l dir m t slots name None e map used is h = tt
 number_found law limit l dir m t slots name (Some f) e map used is h =
     let r = law slots name f.place (sym h.place) in
     let x = used dir f.place slots (slot_of r.0 name) is r.1 in
-    let same : r.0 ≡ f.node = some_same r.0 f.node (sym r.2 ∙ sym h.node) in
+    let same : r.0 ≡ f.node = same_Some r.0 f.node (sym r.2 ∙ sym h.node) in
     let low = map.within r.0 x.0 x.1 in
     record { from = omega (arith, low.0, same); upto = omega (arith, low.1, same, e) }

@@ -1,9 +1,9 @@
 -- Walks, name by name.
 use Rattle.std.proofs.Common.{◌≡◌, ℕ, suc, ◌+◌, ◌<◌, ◌≤◌, Bool, true, false, IsTrue, List, [], ◌∷◌, length, drop, get_or, slice_get, Option, None, Some, Result, Ok, Err, if◌then◌else◌, refl, sym, subst, ap, ◌∙◌, arith, drop-cons}
 use Rattle.std.proofs.lemmas.List.{drop_all}
-use Rattle.std.proofs.lemmas.Option.{none-some}
+use Rattle.std.proofs.lemmas.Option.{none-some, same_Some}
+use Rattle.fs_dirs.proofs.reading.Searches.{NamesAreFound}
 use Rattle.layout_bytes.specs.declared.slot.Slot.{Slot}
-use Rattle.layout_directory.specs.Directory.{place_of}
 use Rattle.lang_tree.specs.declared.command.Refusal.{Refusal}
 use Rattle.lang_tree.specs.declared.command.Refusal.TheVariants.{NotFound, NotDir}
 use Rattle.lang_tree.specs.Tree.{Tree}
@@ -23,9 +23,6 @@ use Rattle.fs_dirs.specs.Directories.{inodes_in, slot_count, EndsAtParent, Finds
 use Rattle.fs_dirs.specs.Reading.{EntersOn, HasWalked}
 use Rattle.fs_dirs.proofs.reading.Looks.{looks_none, looks_more, same_map, same_inodes}
 
-some_same : {A : Type 0} (x y : A) → Some x ≡ Some y → x ≡ y
-some_same x y e = cc
-
 -- a node without slots isn't entered
 pub enters_file : (m : Inodes) (k : ℕ) (name : List ℕ) (x : Inode) → m k ≡ Some x → None ≡ slot_count x → EntersOn m k name (Err NotDir)
 enters_file m k name (ADir slots) is none = absurd (none-some (length slots) none)
@@ -41,7 +38,7 @@ enters_nothing m k count name (AFile links bytes) is some finds = absurd (none-s
 enters_nothing m k count name (ADir slots) is some finds = record { step = sym (enters_by m k name slots is ∙ ap (λ o. enter true o Ok) (sym (finds slots is).node)); used = tt }
 
 -- a directory with the name
-pub enters_found : ((slots : List Slot) (name : List ℕ) (place : ℕ) → place_of name slots ≡ Some place → (node : ℕ) × (slice_get slots place ≡ Some (slot_of node name)) × (node_in slots name ≡ Some node))
+pub enters_found : NamesAreFound
     → (m : Inodes) (k count : ℕ) (name : List ℕ) (x : Inode) (found : Found)
     → ((k i : ℕ) (slots : List Slot) (s : Slot) → m k ≡ Some (ADir slots) → slice_get slots i ≡ Some s → (x : Inode) × (m s.node ≡ Some x))
     → m k ≡ Some x → Some count ≡ slot_count x → ((slots : List Slot) → m k ≡ Some (ADir slots) → Finds slots name (Some found)) → EntersOn m k name (Ok found.node)
@@ -52,7 +49,7 @@ enters_found law m k count name (ADir slots) found used is some finds =
     let x = used k found.place slots (slot_of r.0 name) is r.1 in
     record {
       step = sym (enters_by m k name slots is ∙ ap (λ o. enter true o Ok) (sym h.node));
-      used = (x.0, sym (ap m (some_same r.0 found.node (sym r.2 ∙ sym h.node))) ∙ x.1);
+      used = (x.0, sym (ap m (same_Some r.0 found.node (sym r.2 ∙ sym h.node))) ∙ x.1);
     }
 
 -- what one name leads to is where the walk goes on

@@ -129,10 +129,6 @@ refused_behind n m ps qs old mid new why count places books h =
 
 -- What an answer or a refusal says, another way.
 
-pub ok_maps : {T E P Q : Type 0} (r : Result T E) → (P → Q) → OnOk r P → OnOk r Q
-ok_maps (Ok x) to h = to h
-ok_maps (Err w) to h = h
-
 pub ok_both : {T E P Q R : Type 0} (r : Result T E) → (P → Q → R) → OnOk r P → OnOk r Q → OnOk r R
 ok_both (Ok x) to h i = to h i
 ok_both (Err w) to h i = h

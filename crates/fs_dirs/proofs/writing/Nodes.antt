@@ -1,7 +1,6 @@
 -- The node of a directory, and what its slots are once its bytes changed.
 use Rattle.std.proofs.Common.{◌≡◌, ◌⊎◌, inl, inr, true, false, ℕ, ◌*◌, ◌%◌, ◌<◌, ◌==◌, if◌then◌else◌, List, length, Option, Some, None, option_and_then, refl, sym, subst, ap, ap₂, ◌∙◌}
 use Rattle.std.proofs.lemmas.Bool.{cases_Bool, eqb-true, eqb-false}
-use Rattle.std.proofs.lemmas.Option.{same_Some}
 use Rattle.layout_bytes.specs.declared.node.NodeKind.TheVariants.{Dir}
 use Rattle.layout_bytes.specs.declared.slot.Slot.{Slot}
 use Rattle.lang_tree.specs.Step.{written}
@@ -28,14 +27,6 @@ dir_node o slots is whole count =
     let kind = dir_kind r.file slots r.reads in
     let all = whole r.file r.is kind in
     record { file = r.file; is = r.is; reads = r.reads; kind = kind; whole = all; long = count r.file slots r.reads all }
-
--- what the number has is that node
-pub its_node : (o : Option FileNode) (slots : List Slot) (r : DirNode o slots) (x : FileNode) → o ≡ Some x → x ≡ r.file
-its_node o slots r x at = same_Some x r.file (sym at ∙ r.is)
-
--- so it is as long
-pub its_length : (o : Option FileNode) (slots : List Slot) (r : DirNode o slots) (x : FileNode) → o ≡ Some x → length x.bytes ≡ 64 * length slots
-its_length o slots r x at = ap (λ (y : FileNode). length y.bytes) (its_node o slots r x at) ∙ r.long
 
 -- a directory has one list of slots
 pub dir_slots : (xs ys : List Slot) → Some (ADir xs) ≡ Some (ADir ys) → xs ≡ ys

@@ -13,10 +13,6 @@ use Rattle.fs_files.specs.Within.{Overwrites}
 use Rattle.fs_dirs.specs.Changing.{Alters, IsWithSlots}
 use Rattle.fs_dirs.proofs.writing.Nodes.{DirNode, sets_file, bytes_over}
 
--- the slot at a place is within the directory's bytes
-pub slot_within : (long count place offset size : ℕ) → long ≡ 64 * count → place < count → offset ≡ 64 * place → size ≡ 64 → offset + size ≤ long
-slot_within long count place offset size is low at all = omega (arith, is, low, at, all)
-
 -- its slots after the write
 pub sets_over : (old new : Files) (k place offset : ℕ) (text : List ℕ) (slots : List Slot) (s : Slot) (r : DirNode (old k) slots) → place < length slots → offset ≡ 64 * place → length text ≡ 64 → text ≡ slot_spelling s → IsLawful s
     → ((file : FileNode) (slots : List Slot) (place : ℕ) (s : Slot) → inode_of file ≡ Some (ADir slots) → length file.bytes % 64 ≡ 0 → place < length slots → IsLawful s → inode_of (with_bytes file (written (64 * place) (slot_spelling s) file.bytes)) ≡ Some (ADir (set slots place s)))

@@ -1,6 +1,5 @@
 -- The last slots of a directory cut off, and one slot taken out: its inode, and what is altered.
-use Rattle.std.proofs.Common.{◌≡◌, ℕ, ◌-◌, ◌*◌, ◌/◌, ◌%◌, ◌<◌, ◌≤◌, if◌then◌else◌, List, [], ◌∷◌, ◌++◌, length, take, drop, set, slice_get, Option, Some, Result, Ok, Err, sym, subst, ap, ◌∙◌, arith, append-nil}
-use Rattle.std.specs.Result.{IsErrAnd}
+use Rattle.std.proofs.Common.{◌≡◌, ℕ, ◌-◌, ◌*◌, ◌/◌, ◌%◌, ◌<◌, ◌≤◌, if◌then◌else◌, List, [], ◌∷◌, ◌++◌, length, take, drop, set, slice_get, Option, Some, sym, subst, ap, ◌∙◌, arith, append-nil}
 use Rattle.std.proofs.lemmas.List.{length-append, length-take, length-drop}
 use Rattle.std.proofs.lemmas.Option.{get_or_from_slice_get}
 use Rattle.layout_geometry.specs.Geometry.{Geometry}
@@ -63,8 +62,3 @@ slots_twice f g h k xs ys p q = record {
 -- and its places, once they were as before, and then cut
 pub places_twice : (f was g h : ℕ → List ℕ) (k n m : ℕ) → ((l : ℕ) → f l ≡ was l) → n ≡ m → IsWithPlaces f g k (f k) → IsWithPlaces g h k (take n (g k)) → IsWithPlaces was h k (take m (was k))
 places_twice f was g h k n m same count p q = record { own = q.own ∙ (λ i. take (count i) ((p.own ∙ same k) i)); others = λ l off. q.others l off ∙ p.others l off ∙ same l }
-
--- a refusal that is passed on is the same one
-pub same_error : {T E : Type 0} (r : Result T E) (w : E) (P : Result T E → Type 0) → IsErrAnd r (λ y. y ≡ w) → P (Err w) → P r
-same_error (Ok x) w P h p = absurd h
-same_error (Err y) w P h p = subst (λ z. P (Err z)) (sym h) p

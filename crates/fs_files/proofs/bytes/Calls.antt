@@ -11,8 +11,8 @@ use Rattle.fs_files.specs.Bytes.{overwrite, blocks_for}
 use Rattle.fs_files.specs.Content.{HasContent}
 use Rattle.fs_files.specs.Drafts.{DraftState, drafted, TakesBlocks, FreesBlocks}
 use Rattle.fs_files.proofs.bytes.Joins.{joined_length}
-use Rattle.fs_files.proofs.bytes.Contents.{written_within, written_past, grown, cut_short, cut_over}
-use Rattle.fs_files.proofs.bytes.Tails.{past_written, past_gap, past_grown, past_cut}
+use Rattle.fs_files.proofs.bytes.Contents.{written_within, written_past, cut_short, cut_over}
+use Rattle.fs_files.proofs.bytes.Tails.{past_written, past_gap, past_cut}
 use Rattle.fs_files.proofs.bytes.Places.{AreNew, bytes_grown, bytes_cut}
 use Rattle.fs_files.proofs.bytes.Sizes.{blocks_hold}
 
@@ -69,31 +69,6 @@ pub past_tail : (m : Blocks) (c : Class) (ps qs : List ℕ) (size off : ℕ) (ys
 past_tail m c ps qs size off ys d g e f w zeros =
     subst (λ xs. IsTrue (are_zeros (drop (max size (off + length ys)) xs))) (sym (past_all m c ps qs size off ys d g e f w))
     (past_gap size off (1024 * length ps) (1024 * length qs) ys (joined (drafted d m) ps) zeros (joined_length (drafted d m) ps w.content.whole) w.fits w.past w.ends)
-
--- Growth to `wide` bytes: d, then g with zeros past the end within the old places, then e with new places.
-pub record GrowsTo (m : Blocks) (c : Class) (ps qs : List ℕ) (size wide : ℕ) (d g e : DraftState) : Type 0 where
-  pub content : HasContent m d ps
-  pub fits : size ≤ 1024 * length ps
-  pub grows : size ≤ wide
-  pub ends : wide ≤ 1024 * length ps + 1024 * length qs
-  pub gap : joined (drafted g m) ps ≡ overwrite size (replicate (min wide (1024 * length ps) - size) 0) (joined (drafted d m) ps)
-  pub takes : TakesBehind c ps qs g e
-
-grown_all : (m : Blocks) (c : Class) (ps qs : List ℕ) (size wide : ℕ) (d g e : DraftState) → GrowsTo m c ps qs size wide d g e
-    → joined (drafted e m) (ps ++ qs) ≡ overwrite size (replicate (min wide (1024 * length ps) - size) 0) (joined (drafted d m) ps) ++ replicate (1024 * length qs) 0
-grown_all m c ps qs size wide d g e w = bytes_grown m c ps qs g e w.takes.takes w.takes.new w.takes.apart ∙ ap (λ xs. xs ++ replicate (1024 * length qs) 0) w.gap
-
-pub grown_bytes : (m : Blocks) (c : Class) (ps qs : List ℕ) (size wide : ℕ) (d g e : DraftState) → GrowsTo m c ps qs size wide d g e
-    → take wide (joined (drafted e m) (ps ++ qs)) ≡ resized wide (take size (joined (drafted d m) ps))
-grown_bytes m c ps qs size wide d g e w =
-    ap (λ xs. take wide xs) (grown_all m c ps qs size wide d g e w)
-    ∙ grown size wide (1024 * length ps) (1024 * length qs) (joined (drafted d m) ps) (joined_length (drafted d m) ps w.content.whole) w.fits w.grows w.ends
-
-pub grown_tail : (m : Blocks) (c : Class) (ps qs : List ℕ) (size wide : ℕ) (d g e : DraftState) → GrowsTo m c ps qs size wide d g e → IsTrue (are_zeros (drop size (joined (drafted d m) ps)))
-    → IsTrue (are_zeros (drop wide (joined (drafted e m) (ps ++ qs))))
-grown_tail m c ps qs size wide d g e w zeros =
-    subst (λ xs. IsTrue (are_zeros (drop wide xs))) (sym (grown_all m c ps qs size wide d g e w))
-    (past_grown size wide (1024 * length ps) (1024 * length qs) (joined (drafted d m) ps) zeros (joined_length (drafted d m) ps w.content.whole) w.fits w.grows)
 
 -- A cut to `less` bytes: d, then e without the places past them.
 pub cut_bytes : (m : Blocks) (ps : List ℕ) (size less : ℕ) (d e : DraftState) → HasContent m d ps → size ≤ 1024 * length ps → less ≤ size → FreesBlocks (drop (blocks_for less) ps) d e

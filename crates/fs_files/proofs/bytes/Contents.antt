@@ -26,11 +26,6 @@ written_past size off room n ys xs is fits past ends = same_lists _ _ (search (r
 
 -- Another size.
 
--- growth, once the bytes of its blocks past its end were filled with zeros, in new blocks of zeros too
-pub grown : (size wide room n : ℕ) (xs : List ℕ) → length xs ≡ room → size ≤ room → size ≤ wide → wide ≤ room + n
-    → take wide (overwrite size (replicate (min wide room - size) 0) xs ++ replicate n 0) ≡ resized wide (take size xs)
-grown size wide room n xs is fits grows ends = same_lists _ _ (search (rules, places)) (λ k d h. grind (arith, places))
-
 -- a cut, which keeps the first `room` bytes of the blocks
 pub cut_short : (size less room : ℕ) (xs : List ℕ) → less ≤ size → size ≤ length xs → less ≤ room
     → take less (take room xs) ≡ resized less (take size xs)

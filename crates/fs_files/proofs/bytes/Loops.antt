@@ -1,7 +1,7 @@
 -- The loops that read and write content: what holds once they are at some byte.
 use Rattle.std.proofs.Common.{◌≡◌, ◌≢◌, ℕ, zero, suc, ◌+◌, ◌-◌, ◌*◌, ◌/◌, ◌%◌, ◌≤◌, ◌<◌, min, Bool, true, false, IsTrue, ◌==◌, ◌||◌, List, [], ◌∷◌, ◌++◌, Some, None, is_some, length, take, drop, get_or, refl, sym, ap, ap₂, subst, ◌∙◌, arith, rules}
 use Rattle.std.specs.List.{All, slice_get}
-use Rattle.std.proofs.lemmas.List.{places, same_lists, length-take, length-drop, append-nil, append_assoc, take_all, get_or-take, get_or-drop}
+use Rattle.std.proofs.lemmas.List.{places, same_lists, length-take, length-drop, append_assoc, get_or-take, get_or-drop}
 use Rattle.std.proofs.lemmas.Bool.Decides.{nat_tests}
 use Rattle.std.proofs.lemmas.Option.{slice_get_within, get_or_from_slice_get}
 use Rattle.base_types.specs.Seal.{Blocks}
@@ -13,10 +13,10 @@ use Rattle.fs_files.specs.Bytes.{overwrite, met, blocks_for}
 use Rattle.fs_files.specs.Content.{HasContent, HasNewBytes, WritesContent}
 use Rattle.fs_files.specs.Drafts.{DraftState, change_of, drafted}
 use Rattle.fs_files.specs.Effects.{LooksOnly}
-use Rattle.fs_files.proofs.bytes.Overwrites.{overwrite_nothing, overwrite_more, length-overwrite}
+use Rattle.fs_files.proofs.bytes.Overwrites.{overwrite_more, length-overwrite}
 use Rattle.fs_files.proofs.bytes.Joins.{of_place, joined_length, joined_part, joined_put}
-use Rattle.fs_files.proofs.bytes.Looks.{looks_none, looks_more}
-use Rattle.fs_files.proofs.bytes.Pieces.{has_one, writes_none, writes_more, drafted_kept, content_kept}
+use Rattle.fs_files.proofs.bytes.Looks.{looks_more}
+use Rattle.fs_files.proofs.bytes.Pieces.{has_one, writes_more, drafted_kept, content_kept}
 
 -- Which block a byte is in.
 
@@ -70,14 +70,6 @@ pub record ReadsUpTo (tells : Bool) (s t : State) (d : DraftState) (ps : List �
   pub looks : LooksOnly tells false s t
   pub bytes : IsTrue tells → HasContent s.map d ps → new ≡ old ++ take (at - from) (drop from (joined (drafted d s.map) ps))
 
-pub reads_begin : (tells : Bool) (s : State) (d : DraftState) (ps : List ℕ) (from end : ℕ) (old : List ℕ) → from ≤ end → ReadsUpTo tells s s d ps from from end old old
-reads_begin tells s d ps from end old order = record {
-  above = omega arith;
-  below = order;
-  looks = looks_none tells s;
-  bytes = λ told content. sym (append-nil old) ∙ ap (λ n. old ++ take n (drop from (joined (drafted d s.map) ps))) {x = 0} {y = from - from} (omega arith);
-}
-
 take_on : (from at count : ℕ) (xs : List ℕ) → from ≤ at → take (at - from) (drop from xs) ++ take count (drop at xs) ≡ take (at + count - from) (drop from xs)
 take_on from at count xs above = same_lists _ _ (search (rules, places)) (λ k d h. grind (arith, places))
 
@@ -114,17 +106,6 @@ pub record WritesUpTo (tells : Bool) (s t : State) (class : Class) (bs : List �
   pub some : 0 < done → HasNewBytes e
   pub content : IsTrue tells → HasContent s.map d ps → HasContent s.map e ps
   pub bytes : IsTrue tells → HasContent s.map d ps → joined (drafted e s.map) ps ≡ overwrite from (take done ys) (joined (drafted d s.map) ps)
-
-pub writes_begin : (tells : Bool) (s : State) (class : Class) (bs : List ℕ) (d : DraftState) (ps : List ℕ) (from : ℕ) (bytes : List ℕ) → WritesUpTo tells s s class bs d d ps from 0 bytes
-writes_begin tells s class bs d ps from bytes = record {
-  below = omega arith;
-  aligned = λ e f. omega arith;
-  looks = looks_none tells s;
-  writes = writes_none class bs d;
-  some = λ l. absurd (omega (arith, l));
-  content = λ told content. content;
-  bytes = λ told content. sym (overwrite_nothing from (joined (drafted d s.map) ps));
-}
 
 -- where one block alone got bytes over its own, each place still has 1,024 bytes
 still_whole : (m : Blocks) (class : Class) (e f : DraftState) (ps : List ℕ) (b start : ℕ) (piece : List ℕ) → All (λ q. length (drafted e m q) ≡ 1024) ps → length (drafted e m b) ≡ 1024 → start + length piece ≤ 1024
@@ -178,8 +159,3 @@ writes_on tells s t u class d e f ps from done count b bytes so_far before size 
         ap (λ m. drafted f m b) (sym map)
         ∙ put told (subst (λ m. HasContent m e (b ∷ [])) (sym map) (content_at s.map e ps ((from + done) / 1024) b now place))
         ∙ ap (λ m. overwrite ((from + done) % 1024) (take count (drop done bytes)) (drafted e m b)) map
-
--- all were
-pub writes_all : (tells : Bool) (s t : State) (class : Class) (bs : List ℕ) (d e : DraftState) (ps : List ℕ) (from done : ℕ) (bytes : List ℕ) → WritesUpTo tells s t class bs d e ps from done bytes → length bytes ≤ done
-    → IsTrue tells → HasContent s.map d ps → joined (drafted e s.map) ps ≡ overwrite from bytes (joined (drafted d s.map) ps)
-writes_all tells s t class bs d e ps from done bytes so_far end told content = so_far.bytes told content ∙ ap (λ ys. overwrite from ys (joined (drafted d s.map) ps)) (take_all done bytes end)

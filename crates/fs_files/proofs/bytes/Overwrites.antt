@@ -1,5 +1,5 @@
 -- Bytes over bytes within a list, over plain lists.
-use Rattle.std.proofs.Common.{◌≡◌, ℕ, ◌+◌, ◌≤◌, List, [], ◌++◌, length, take, drop, arith, rules}
+use Rattle.std.proofs.Common.{◌≡◌, ℕ, ◌+◌, ◌≤◌, List, ◌++◌, length, take, drop, arith, rules}
 use Rattle.std.proofs.lemmas.List.{places, same_lists, length-append, length-take, length-drop}
 use Rattle.fs_files.specs.Bytes.{overwrite}
 
@@ -14,14 +14,6 @@ overwrite_front off ys a b fits = same_lists _ _ (search (rules, places)) (λ k 
 -- behind the front
 pub overwrite_behind : (n off : ℕ) (ys a b : List ℕ) → length a ≡ n → overwrite (n + off) ys (a ++ b) ≡ a ++ overwrite off ys b
 overwrite_behind n off ys a b is = same_lists _ _ (search (rules, places)) (λ k d h. grind (arith, places))
-
--- no bytes change nothing
-pub overwrite_nothing : (off : ℕ) (xs : List ℕ) → overwrite off [] xs ≡ xs
-overwrite_nothing off xs = same_lists _ _ (search (rules, places)) (λ k d h. grind (arith, places))
-
--- bytes behind bytes
-pub overwrite_on : (off : ℕ) (ys zs xs : List ℕ) → off + length ys + length zs ≤ length xs → overwrite (off + length ys) zs (overwrite off ys xs) ≡ overwrite off (ys ++ zs) xs
-overwrite_on off ys zs xs fits = same_lists _ _ (search (rules, places)) (λ k d h. grind (arith, places))
 
 -- one piece more
 pub overwrite_more : (off done count : ℕ) (ys xs : List ℕ) → off + length ys ≤ length xs → done + count ≤ length ys

@@ -1,18 +1,14 @@
 -- What the pieces of a write leave of a draft, one behind the other.
-use Rattle.std.proofs.Common.{◌≡◌, ◌⊎◌, ℕ, ◌≤◌, ◌<◌, Bool, true, false, not, ◌&&◌, ◌||◌, ◌==◌, if◌then◌else◌, List, [], ◌∷◌, length, Option, None, Some, is_some, get_or, inl, inr, refl, sym, ap, ap₂, subst, ◌∙◌, arith}
+use Rattle.std.proofs.Common.{◌≡◌, ◌⊎◌, ℕ, Bool, true, false, ◌&&◌, ◌||◌, ◌==◌, if◌then◌else◌, List, [], ◌∷◌, length, Option, None, Some, is_some, get_or, inl, inr, refl, sym, ap, ap₂, ◌∙◌, arith}
 use Rattle.std.specs.List.{All}
 use Rattle.std.proofs.lemmas.Bool.Decides.{nat_tests}
 use Rattle.std.proofs.lemmas.Bool.{or_left, or_right, or_cases}
 use Rattle.base_types.specs.Seal.{Blocks}
 use Rattle.base_types.specs.declared.words.Class.{Class}
-use Rattle.layout_geometry.specs.Geometry.{table_start}
 use Rattle.engine_blocks.specs.Running.{has}
-use Rattle.engine_blocks.specs.State.{Bookkeeping, MayBeTaken}
-use Rattle.engine_blocks.specs.Puts.{IsData}
 use Rattle.fs_files.specs.declared.changes.Changed.{Changed}
-use Rattle.fs_files.specs.Drafts.{DraftState, change_of, drafted, marks_of, bytes_or, PutsBlock}
+use Rattle.fs_files.specs.Drafts.{DraftState, change_of, drafted, bytes_or, PutsBlock}
 use Rattle.fs_files.specs.Content.{HasContent, HasNewBytes, WritesContent}
-use Rattle.fs_files.specs.Sound.{FitsBooks}
 
 -- Tests.
 
@@ -22,15 +18,6 @@ has_one b q e = grind (arith, nat_tests)
 
 has_same : (b : ℕ) → (b == b) ≡ true
 has_same b = grind (arith, nat_tests)
-
-pub has_self : (b : ℕ) → has (b ∷ []) b ≡ true
-has_self b = or_left (b == b) false (has_same b)
-
-not_flipped : (b q : ℕ) → has (b ∷ []) q ≡ false → (b == q) ≡ false
-not_flipped b q e = grind (arith, nat_tests)
-
-flipped : (b q : ℕ) → (b == q) ≡ true → q ≡ b
-flipped b q e = grind (arith, nat_tests)
 
 -- what isn't in a list isn't one of it
 pub not_one : (bs : List ℕ) (b q : ℕ) → has bs b ≡ true → has bs q ≡ false → has (b ∷ []) q ≡ false
@@ -42,67 +29,9 @@ not_one bs b q in_it out = by (has (b ∷ []) q) refl
 
 -- One put.
 
-other_put : (f t : Bool) (x : Option Changed) (c : Changed) → t ≡ false → (if f then x else if t then Some c else x) ≡ x
-other_put true t x c e = refl
-other_put false true x c e = absurd cc
-other_put false false x c e = refl
-
-put_stays : (f t : Bool) (x : Option Changed) (c : Changed) → is_some x ≡ true → is_some (if f then x else if t then Some c else x) ≡ true
-put_stays true t x c e = e
-put_stays false true x c e = refl
-put_stays false false x c e = e
-
-put_key : (f t : Bool) (x : Option Changed) (c : Changed) → is_some (if f then x else if t then Some c else x) ≡ true → (t ≡ true) ⊎ (is_some x ≡ true)
-put_key true t x c e = inr e
-put_key false true x c e = inl refl
-put_key false false x c e = inr e
-
 put_apart : (f t : Bool) (x : Option Changed) (c : Changed) → f ≡ true → (if f then x else if t then Some c else x) ≡ x
 put_apart true t x c e = refl
 put_apart false t x c e = absurd cc
-
-put_class : (f t : Bool) (x : Option Changed) (c o : Changed) (class : Class) → c.class ≡ class → (if f then x else if t then Some c else x) ≡ Some o → (o.class ≡ class) ⊎ (x ≡ Some o)
-put_class true t x c o class is e = inr e
-put_class false true x c o class is e = let same : c ≡ o = cc in inl (ap (λ (y : Changed). y.class) (sym same) ∙ is)
-put_class false false x c o class is e = inr e
-
-fresh_other : (f t : Bool) (x : Option Changed) (c : Changed) → t ≡ false → (if f && t then Some c else x) ≡ x
-fresh_other true true x c e = absurd cc
-fresh_other true false x c e = refl
-fresh_other false t x c e = refl
-
-fresh_class : (s : Bool) (x : Option Changed) (c o : Changed) (class : Class) → c.class ≡ class → (if s then Some c else x) ≡ Some o → (o.class ≡ class) ⊎ (x ≡ Some o)
-fresh_class true x c o class is e = let same : c ≡ o = cc in inl (ap (λ (y : Changed). y.class) (sym same) ∙ is)
-fresh_class false x c o class is e = inr e
-
-fresh_key : (f t : Bool) (x : Option Changed) (c : Changed) → (t ≡ true → f ≡ is_some x) → is_some (if f && t then Some c else x) ≡ is_some x
-fresh_key true true x c same = same refl
-fresh_key true false x c same = refl
-fresh_key false t x c same = refl
-
--- a block put is content written of that block
-pub one_put : (class : Class) (b : ℕ) (c : Changed) (d e : DraftState) → PutsBlock b c d e → c.class ≡ class → WritesContent class (b ∷ []) d e
-one_put class b c d e puts is = record {
-  others = λ q out. puts.changed q ∙ other_put (is_some (change_of d.fresh b)) (b == q) (change_of d.changed q) c (not_flipped b q out);
-  other_fresh = λ q out. puts.fresh q ∙ fresh_other (is_some (change_of d.fresh b)) (b == q) (change_of d.fresh q) c (not_flipped b q out);
-  keys = λ q some. key q (put_key (is_some (change_of d.fresh b)) (b == q) (change_of d.changed q) c (sym (ap is_some (puts.changed q)) ∙ some));
-  stays = λ q some. ap is_some (puts.changed q) ∙ put_stays (is_some (change_of d.fresh b)) (b == q) (change_of d.changed q) c some;
-  fresh_keys = λ q. ap is_some (puts.fresh q) ∙ fresh_key (is_some (change_of d.fresh b)) (b == q) (change_of d.fresh q) c (λ same. ap (λ x. is_some (change_of d.fresh x)) (sym (flipped b q same)));
-  fresh_len = puts.fresh_len;
-  taken = puts.taken;
-  freed = puts.freed;
-  apart = λ q some. apart_at q some (b == q) refl;
-  class_changed = λ q o at. put_class (is_some (change_of d.fresh b)) (b == q) (change_of d.changed q) c o class is (sym (puts.changed q) ∙ at);
-  class_fresh = λ q o at. fresh_class (is_some (change_of d.fresh b) && (b == q)) (change_of d.fresh q) c o class is (sym (puts.fresh q) ∙ at);
-}
-  where
-    key : (q : ℕ) → ((b == q) ≡ true) ⊎ (is_some (change_of d.changed q) ≡ true) → (has (b ∷ []) q || is_some (change_of d.changed q)) ≡ true
-    key q (inl same) = or_left (has (b ∷ []) q) (is_some (change_of d.changed q)) (subst (λ x. has (b ∷ []) x ≡ true) (sym (flipped b q same)) (has_self b))
-    key q (inr some) = or_right (has (b ∷ []) q) (is_some (change_of d.changed q)) some
-
-    apart_at : (q : ℕ) → is_some (change_of d.fresh q) ≡ true → (t : Bool) → (b == q) ≡ t → change_of e.changed q ≡ change_of d.changed q
-    apart_at q some true same = puts.changed q ∙ put_apart (is_some (change_of d.fresh b)) (b == q) (change_of d.changed q) c (ap (λ x. is_some (change_of d.fresh x)) (sym (flipped b q same)) ∙ some)
-    apart_at q some false other = puts.changed q ∙ other_put (is_some (change_of d.fresh b)) (b == q) (change_of d.changed q) c other
 
 -- it has new bytes then
 pub put_new : (b : ℕ) (c : Changed) (d e : DraftState) → PutsBlock b c d e → HasNewBytes e
@@ -155,39 +84,6 @@ writes_more class bs b d e f first second in_it = record {
     on A B C (inr x) go = go x
 
 -- What writing keeps.
-
-same_some : (o : Option Changed) → is_some o ≡ true → (c : Changed) × (o ≡ Some c)
-same_some None e = absurd cc
-same_some (Some c) e = (c, refl)
-
-some_is : (o : Option Changed) (c : Changed) → o ≡ Some c → is_some o ≡ true
-some_is o c e = ap is_some e
-
-filled_more : (a x x' y y' : Bool) → (x ≡ true → x' ≡ true) → y' ≡ y → (a || (x || y)) ≡ true → (a || (x' || y')) ≡ true
-filled_more true x x' y y' grows same e = refl
-filled_more false true x' y y' grows same e = or_left x' y' (grows refl)
-filled_more false false x' y y' grows same e = or_right x' y' (same ∙ e)
-
--- the draft still fits the bookkeeping
-pub fits_kept : (k : Bookkeeping) (class : Class) (bs : List ℕ) (d e : DraftState) → FitsBooks k d → WritesContent class bs d e → ((q : ℕ) → has bs q ≡ true → IsData k.geom q) → FitsBooks k e
-fits_kept k class bs d e fits writes inside = record {
-  none_bare = fits.none_bare;
-  changed = λ q c at. changed q (or_cases (has bs q) (is_some (change_of d.changed q)) (writes.keys q (some_is (change_of e.changed q) c at)));
-  fresh = λ q c at. let old = same_some (change_of d.fresh q) (sym (writes.fresh_keys q) ∙ some_is (change_of e.fresh q) c at) in ap (λ (ts : List ℕ). has ts q) writes.taken ∙ fits.fresh q old.0 old.1;
-  taken = subst (λ (ts : List ℕ). MayBeTaken k.geom k.reusable ts) (sym writes.taken) fits.taken;
-  filled = λ q taken. ap (λ (fs : List ℕ). has fs q || (is_some (change_of e.changed q) || is_some (change_of e.fresh q))) writes.freed
-      ∙ filled_more (has d.freed q) (is_some (change_of d.changed q)) (is_some (change_of e.changed q)) (is_some (change_of d.fresh q)) (is_some (change_of e.fresh q)) (writes.stays q) (writes.fresh_keys q)
-      (fits.filled q (ap (λ (ts : List ℕ). has ts q) (sym writes.taken) ∙ taken));
-  freed = subst (λ (fs : List ℕ). All (IsData k.geom) fs) (sym writes.freed) fits.freed;
-}
-  where
-    changed : (q : ℕ) → (has bs q ≡ true) ⊎ (is_some (change_of d.changed q) ≡ true) → (table_start k.geom ≤ q) × (q < k.geom.n)
-    changed q (inl in_it) = let place = inside q in_it in (omega (arith, place.from), place.below)
-    changed q (inr some) = let old = same_some (change_of d.changed q) some in fits.changed q old.0 old.1
-
--- the marks are the same
-pub marks_kept : (marked : ℕ → Bool) (class : Class) (bs : List ℕ) (d e : DraftState) (q : ℕ) → WritesContent class bs d e → marks_of e marked q ≡ marks_of d marked q
-marks_kept marked class bs d e q writes = ap₂ (λ (fs ts : List ℕ). not (has fs q) && (has ts q || marked q)) writes.freed writes.taken
 
 -- the other blocks are the same
 pub drafted_kept : (m : Blocks) (class : Class) (bs : List ℕ) (d e : DraftState) (q : ℕ) → WritesContent class bs d e → has bs q ≡ false → drafted e m q ≡ drafted d m q

@@ -2,8 +2,7 @@
 use Rattle.std.proofs.Common.{◌≡◌, ◌≢◌, ℕ, zero, suc, ◌*◌, ◌/◌, ◌<◌, Bool, true, false, ◌==◌, ◌&&◌, ◌||◌, not, if◌then◌else◌, List, [], ◌∷◌, ◌++◌, Option, Some, None, is_some, length, take, drop, replicate, get_or, refl, sym, ap, ap₂, subst, ◌∙◌, arith}
 use Rattle.std.specs.List.{All, AllPairs}
 use Rattle.std.proofs.lemmas.List.{length-take, length-replicate, get_or-take, get_or_default}
-use Rattle.std.proofs.lemmas.Bool.Decides.{nat_tests}
-use Rattle.std.proofs.lemmas.Bool.{or_right}
+use Rattle.std.proofs.lemmas.Bool.{or_right, eqb-true}
 use Rattle.base_types.specs.Seal.{Blocks}
 use Rattle.base_types.specs.declared.words.Class.{Class}
 use Rattle.base_types.specs.declared.words.Class.TheVariants.{Meta, Content}
@@ -19,9 +18,6 @@ use Rattle.fs_files.proofs.bytes.Loops.{has_at}
 
 -- Which places bytes meet.
 
-same_number : (a b : ℕ) → (a == b) ≡ true → a ≡ b
-same_number a b e = grind (arith, nat_tests)
-
 -- they are places
 pub met_in : (lo hi : ℕ) (ps : List ℕ) (q : ℕ) → has (met lo hi ps) q ≡ true → has ps q ≡ true
 met_in lo hi ps q e = in_front (blocks_for hi) ps q (in_rest (lo / 1024) (take (blocks_for hi) ps) q e)
@@ -33,10 +29,6 @@ met_out lo hi ps q out = by (has (met lo hi ps) q) refl
     by : (t : Bool) → has (met lo hi ps) q ≡ t → has (met lo hi ps) q ≡ false
     by true e = let clash : has ps q ≡ true = met_in lo hi ps q e in absurd cc
     by false e = e
-
--- what holds of each place holds of each that is met
-pub met_all : (P : ℕ → Type 0) (lo hi : ℕ) (ps : List ℕ) → All P ps → (q : ℕ) → has (met lo hi ps) q ≡ true → P q
-met_all P lo hi ps all q e = each_of P ps all q (met_in lo hi ps q e)
 
 -- Lists of places.
 
@@ -173,7 +165,7 @@ rest_apart (suc n) (x ∷ xs) q once in_it = by (q == x) refl (rest_apart n xs q
     gone is true e = absurd (each_of (λ b. x ≢ b) xs (λ k d l. once zero (suc k) d (omega arith) (omega arith)) q (in_rest n xs q e) (sym is))
 
     by : (t : Bool) → (q == x) ≡ t → (has (take n xs) q ≡ true → has (drop n xs) q ≡ false) → (t || has (take n xs) q) ≡ true → has (drop n xs) q ≡ false
-    by true is go e = gone (same_number q x is) (has (drop n xs) q) refl
+    by true is go e = gone (eqb-true q x is) (has (drop n xs) q) refl
     by false is go e = go e
 
 -- the first places are as before where the ones behind them are freed

@@ -1,5 +1,5 @@
 -- How many blocks so many bytes fill.
-use Rattle.std.proofs.Common.{ℕ, ◌+◌, ◌-◌, ◌*◌, ◌≤◌, ◌<◌, arith}
+use Rattle.std.proofs.Common.{ℕ, ◌+◌, ◌*◌, ◌≤◌, ◌<◌, arith}
 use Rattle.fs_files.specs.Bytes.{blocks_for}
 
 -- the bytes are within the blocks, and less than a block's bytes are left there
@@ -9,11 +9,3 @@ blocks_hold size = (omega arith, omega arith)
 -- more bytes fill as many blocks or more
 pub blocks_rise : (less size : ℕ) → less ≤ size → blocks_for less ≤ blocks_for size
 blocks_rise less size rises = omega arith
-
--- so many bytes fill no more blocks than these have
-pub blocks_suffice : (size n : ℕ) → size ≤ 1024 * n → blocks_for size ≤ n
-blocks_suffice size n fits = omega arith
-
--- what is left of the last block isn't more than a block
-pub rest_fits : (size stop : ℕ) → stop ≤ 1024 * blocks_for size → stop - size ≤ 1024
-rest_fits size stop ends = omega arith

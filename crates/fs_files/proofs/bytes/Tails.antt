@@ -2,19 +2,16 @@
 use Rattle.std.proofs.Common.{◌≡◌, ◌⊎◌, inl, inr, ℕ, zero, suc, ◌+◌, ◌-◌, ◌≤◌, ◌<◌, Bool, true, false, IsTrue, ◌==◌, ◌&&◌, List, [], ◌∷◌, ◌++◌, length, drop, replicate, get_or, min, max, refl, sym, ap, ◌∙◌, arith}
 use Rattle.std.proofs.lemmas.List.{places, length-drop, get_or-drop, get_or_past}
 use Rattle.std.proofs.lemmas.Bool.Decides.{nat_tests}
+use Rattle.std.proofs.lemmas.Bool.{and_parts}
 use Rattle.layout_bytes.specs.Bytes.{are_zeros}
 use Rattle.fs_files.specs.Bytes.{overwrite}
 
 -- zeros one by one
 
-both : (a b : Bool) → (a && b) ≡ true → (a ≡ true) × (b ≡ true)
-both true b e = (refl, e)
-both false b e = absurd cc
-
 pub zero_at : (xs : List ℕ) (k : ℕ) → IsTrue (are_zeros xs) → k < length xs → get_or xs k 0 ≡ 0
 zero_at [] k zeros l = refl
-zero_at (x ∷ xs) zero zeros l = let p : (x == 0) ≡ true = (both (x == 0) (are_zeros xs) zeros).0 in grind (arith, nat_tests)
-zero_at (x ∷ xs) (suc k) zeros l = zero_at xs k (both (x == 0) (are_zeros xs) zeros).1 (omega arith)
+zero_at (x ∷ xs) zero zeros l = let p : (x == 0) ≡ true = (and_parts (x == 0) (are_zeros xs) zeros).0 in grind (arith, nat_tests)
+zero_at (x ∷ xs) (suc k) zeros l = zero_at xs k (and_parts (x == 0) (are_zeros xs) zeros).1 (omega arith)
 
 pub zeros_from : (xs : List ℕ) → ((k : ℕ) → k < length xs → get_or xs k 0 ≡ 0) → IsTrue (are_zeros xs)
 zeros_from [] each = refl
@@ -56,16 +53,6 @@ past_gap size off room n ys xs zeros is fits past ends =
   where
     each : (k : ℕ) → get_or xs (max size (off + length ys) + k) 0 ≡ 0 → k < length (drop (max size (off + length ys)) (overwrite off ys (overwrite size (replicate (min off room - size) 0) xs ++ replicate n 0)))
         → get_or (drop (max size (off + length ys)) (overwrite off ys (overwrite size (replicate (min off room - size) 0) xs ++ replicate n 0))) k 0 ≡ 0
-    each k here l = grind (arith, places, here)
-
--- growth
-pub past_grown : (size wide room n : ℕ) (xs : List ℕ) → IsTrue (are_zeros (drop size xs)) → length xs ≡ room → size ≤ room → size ≤ wide
-    → IsTrue (are_zeros (drop wide (overwrite size (replicate (min wide room - size) 0) xs ++ replicate n 0)))
-past_grown size wide room n xs zeros is fits grows =
-    zeros_from (drop wide (overwrite size (replicate (min wide room - size) 0) xs ++ replicate n 0)) (λ k l. each k (zero_past size xs zeros (wide + k) (omega arith)) l)
-  where
-    each : (k : ℕ) → get_or xs (wide + k) 0 ≡ 0 → k < length (drop wide (overwrite size (replicate (min wide room - size) 0) xs ++ replicate n 0))
-        → get_or (drop wide (overwrite size (replicate (min wide room - size) 0) xs ++ replicate n 0)) k 0 ≡ 0
     each k here l = grind (arith, places, here)
 
 -- a cut, once all past the new end was filled with zeros

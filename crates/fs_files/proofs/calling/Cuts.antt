@@ -1,7 +1,7 @@
 -- A cut to fewer bytes: d, then f without the places past them, then g with zeros over the rest of a directory's last block, then e with the node.
 use Rattle.std.proofs.Common.{◌≡◌, ◌≢◌, ◌⊎◌, inl, inr, ℕ, ◌+◌, ◌-◌, ◌*◌, ◌/◌, ◌%◌, ◌^◌, ◌<◌, ◌≤◌, ◌==◌, nat_le, nat_lt, Bool, true, false, not, ◌&&◌, ◌||◌, if◌then◌else◌, IsTrue, List, [], ◌∷◌, ◌++◌, length, take, drop, replicate, All, Option, Some, None, is_some, refl, sym, ap, subst, ◌∙◌, arith}
 use Rattle.std.specs.List.{AllPairs}
-use Rattle.std.proofs.lemmas.Bool.{cases_Bool, false≢true, or_left, or_right, or_cases, and_parts, and_from, eq-eqb, le-leb, ltb-true}
+use Rattle.std.proofs.lemmas.Bool.{cases_Bool, false≢true, or_left, or_right, or_cases, and_parts, and_from, eq-eqb, le-leb, ltb-true, eqb-true}
 use Rattle.std.proofs.lemmas.List.{take-append-drop, length-take}
 use Rattle.base_types.specs.Seal.{Blocks}
 use Rattle.base_types.specs.Runs.{run_places}
@@ -36,7 +36,7 @@ use Rattle.fs_files.proofs.bytes.Places.{content_cut, rest_apart}
 use Rattle.fs_files.proofs.bytes.Sizes.{blocks_hold, blocks_rise}
 use Rattle.fs_files.proofs.calling.Nodes.{its_file}
 use Rattle.fs_files.proofs.calling.Resizes.{in_cleared, pairs_drop}
-use Rattle.fs_files.proofs.drafts.Lists.{turned, in_rest, in_front, none_of_table, has_append, each_of}
+use Rattle.fs_files.proofs.drafts.Lists.{in_rest, in_front, none_of_table, has_append, each_of}
 use Rattle.fs_files.proofs.frames.After.{IsStored, stored_after, stored_content, stored_cut}
 use Rattle.fs_files.proofs.frames.Carry.{draft_looks, files_look, places_look}
 use Rattle.fs_files.proofs.frames.Cells.{block_from, block_below}
@@ -168,7 +168,7 @@ module _ (tells : Bool) (s : State) (number size : ℕ) (o : OpenNode) (node : N
 
       by : ((node_block k.geom number == b) ≡ true) ⊎ ((node_block k.geom number == b) ≡ false) → (has (rest ++ node_block k.geom number ∷ []) b || is_some (change_of d.changed b)) ≡ true
       by (inl here) = or_left (has (rest ++ node_block k.geom number ∷ []) b) (is_some (change_of d.changed b))
-          (has_append rest (node_block k.geom number ∷ []) b ∙ or_right (has rest b) (has (node_block k.geom number ∷ []) b) (or_left (b == node_block k.geom number) false (turned b (node_block k.geom number) ∙ here)))
+          (has_append rest (node_block k.geom number ∷ []) b ∙ or_right (has rest b) (has (node_block k.geom number ∷ []) b) (or_left (b == node_block k.geom number) false (eq-eqb b (node_block k.geom number) (sym (eqb-true (node_block k.geom number) b here)))))
       by (inr away) = was (ap is_some (sym (put_changed k g e (node_block k.geom number) c is.geom low high g_fits is.puts b ∙ ap (λ t. if t then Some c else change_of g.changed b) away)) ∙ some)
 
   pub cut_taken : e.taken ≡ d.taken

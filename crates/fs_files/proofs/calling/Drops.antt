@@ -1,6 +1,6 @@
 -- A call on a file that drops its node, and one that reads its bytes.
 use Rattle.std.proofs.Common.{◌≡◌, ℕ, ◌≤◌, ◌==◌, ◌||◌, Bool, true, false, cond, List, [], ◌∷◌, All, Option, Some, None, is_some, option_map, refl, sym, ap, ◌∙◌, arith, subst, ◌⊎◌, inl, inr}
-use Rattle.std.proofs.lemmas.Bool.{cases_Bool, cond-false, false≢true, or_left, or_right}
+use Rattle.std.proofs.lemmas.Bool.{cases_Bool, cond-false, false≢true, or_left, or_right, eq-eqb, eqb-true}
 use Rattle.base_types.specs.Seal.{Blocks}
 use Rattle.base_types.specs.Runs.{run_places}
 use Rattle.base_types.specs.declared.words.Class.TheVariants.{Meta}
@@ -25,7 +25,7 @@ use Rattle.fs_files.proofs.frames.Dropped.{dropped_sound, dropped_file, dropped_
 use Rattle.fs_files.proofs.frames.Puts.{put_changed}
 use Rattle.fs_files.proofs.frames.Rules.{frees_fits}
 use Rattle.fs_files.proofs.calling.Nodes.{put_still_fits}
-use Rattle.fs_files.proofs.drafts.Lists.{has_one, turned}
+use Rattle.fs_files.proofs.drafts.Lists.{has_one}
 
 -- its blocks were freed and the node put: the draft fits, also where nothing is known of the blocks
 pub drop_fits : (k : Bookkeeping) (g : Geometry) (number : ℕ) (ps : List ℕ) (c : Changed) (d f e : DraftState) → g ≡ k.geom → IsGeometry g → 1 ≤ number → number ≤ k.geom.i → FitsBooks k d → All (IsData k.geom) ps
@@ -54,7 +54,7 @@ drop_sets k number ps c d f e geom from upto fits frees puts = record {
     was false o p e is = ap is_some (sym e) ∙ is
 
     by : (b : ℕ) → ((at == b) ≡ true) ⊎ ((at == b) ≡ false) → is_some (change_of e.changed b) ≡ true → (has (at ∷ []) b || is_some (change_of d.changed b)) ≡ true
-    by b (inl here) is = or_left (has (at ∷ []) b) (is_some (change_of d.changed b)) (has_one at b ∙ turned b at ∙ here)
+    by b (inl here) is = or_left (has (at ∷ []) b) (is_some (change_of d.changed b)) (has_one at b ∙ eq-eqb b at (sym (eqb-true at b here)))
     by b (inr away) is =
         or_right (has (at ∷ []) b) (is_some (change_of d.changed b))
         (was (has ps b) (change_of d.changed b) (change_of f.changed b) (frees.changed b) (ap is_some (sym (changed b ∙ cond-false (at == b) (Some c) (change_of f.changed b) away)) ∙ is))

@@ -1,6 +1,6 @@
 -- Growth to more bytes: d, then w with zeros past the end within the node's blocks, then g with new blocks, then e with the node.
 use Rattle.std.proofs.Common.{◌≡◌, ◌⊎◌, inl, inr, ℕ, ◌+◌, ◌-◌, ◌*◌, ◌/◌, ◌%◌, ◌^◌, ◌<◌, ◌≤◌, ◌==◌, nat_le, Bool, true, false, ◌&&◌, ◌||◌, if◌then◌else◌, IsTrue, List, [], ◌∷◌, ◌++◌, length, take, drop, replicate, min, max, All, Some, is_some, refl, sym, ap, subst, ◌∙◌, arith}
-use Rattle.std.proofs.lemmas.Bool.{cases_Bool, cases_lt, or_left, or_right, or_cases, leb-true}
+use Rattle.std.proofs.lemmas.Bool.{cases_Bool, cases_lt, or_left, or_right, or_cases, leb-true, eq-eqb, eqb-true}
 use Rattle.std.proofs.Math.Seq.{drop-append_seam}
 use Rattle.std.proofs.lemmas.List.{take-append-drop, append-nil, length-append, length-take-le, take_all, drop_all}
 use Rattle.base_types.specs.Seal.{Blocks}
@@ -36,7 +36,7 @@ use Rattle.fs_files.proofs.calling.Came.{Came, news}
 use Rattle.fs_files.proofs.calling.Cuts.{sized_kind, links_some, kind_of}
 use Rattle.fs_files.proofs.calling.Nodes.{its_file}
 use Rattle.fs_files.proofs.calling.Writes.{its, all_inside, wrote_fits, wrote_rules, wrote_marks, came_unmarked, wrote_others, content_after, bytes_written, tail_written}
-use Rattle.fs_files.proofs.drafts.Lists.{turned, none_of_table, has_append}
+use Rattle.fs_files.proofs.drafts.Lists.{none_of_table, has_append}
 use Rattle.fs_files.proofs.frames.After.{IsStored, stored_after, stored_content, stored_grown}
 use Rattle.fs_files.proofs.frames.Carry.{draft_settles, files_settle, places_settle}
 use Rattle.fs_files.proofs.frames.Cells.{block_from, block_below}
@@ -187,7 +187,7 @@ module _ (tells : Bool) (t : State) (number size : ℕ) (o p : OpenNode) (node :
       grown (inr was) = filled (or_cases (has gap_met b) (is_some (change_of d.changed b)) (w_writes.keys b was))
 
       by : ((node_block k.geom number == b) ≡ true) ⊎ ((node_block k.geom number == b) ≡ false) → (has (gap_met ++ (near ++ own)) b || is_some (change_of d.changed b)) ≡ true
-      by (inl here) = among (behind (has_append near own b ∙ or_right (has near b) (has own b) (or_left (b == node_block k.geom number) false (turned b (node_block k.geom number) ∙ here))))
+      by (inl here) = among (behind (has_append near own b ∙ or_right (has near b) (has own b) (or_left (b == node_block k.geom number) false (eq-eqb b (node_block k.geom number) (sym (eqb-true (node_block k.geom number) b here))))))
       by (inr away) = grown (g_some b (ap is_some (sym (put_changed k g e (node_block k.geom number) c is.geom low high g_fits is.puts b ∙ ap (λ u. if u then Some c else change_of g.changed b) away)) ∙ some))
 
   pub extend_taken : e.taken ≡ d.taken ++ extra

@@ -102,10 +102,6 @@ begins size at xs block is =
     let first : take 1024 (drop at (take size xs)) ≡ take (size - at) block = part_of_first size at xs ∙ ap (take (size - at)) is in
     ap (λ ys. take (length ys) block) first ∙ take_length (size - at) block ∙ sym first
 
--- the places of a node that was loaded are those that it has as the draft has it
-pub node_places : (g : Geometry) (m : Blocks) (number : ℕ) (o : OpenNode) → run_places (runs_of o.places) ≡ o.places → option_map node_of_open (Some o) ≡ used_node g m number → o.places ≡ places_of g m number
-node_places g m number o runs used = sym runs ∙ ap places_or_none used
-
 -- the blocks of a node in use have their bytes
 places_whole : (k : Bookkeeping) (m : Blocks) (d : DraftState) (number : ℕ) (node : Node) (ps : List ℕ) → IsSoundDraft k m d → used_node k.geom (drafted d m) number ≡ Some node → ps ≡ run_places node.runs → All (IsData k.geom) ps → All (λ q. length (drafted d m q) ≡ 1024) ps
 places_whole k m d number node ps sound used same inside =

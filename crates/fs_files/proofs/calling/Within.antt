@@ -1,6 +1,6 @@
--- A node that was read, and then written within its bytes; or cut.
-use Rattle.std.proofs.Common.{◌≡◌, ◌⊎◌, inl, inr, ℕ, zero, suc, ◌+◌, ◌%◌, ◌^◌, ◌<◌, ◌≤◌, ◌==◌, Bool, true, false, IsTrue, List, ◌++◌, length, take, max, Some, is_some, refl, sym, ap, subst, ◌∙◌, arith}
-use Rattle.std.proofs.lemmas.Bool.{or_cases, eqb-true, false≢true}
+-- A node that was read, and then written within its bytes.
+use Rattle.std.proofs.Common.{◌≡◌, ◌⊎◌, inl, inr, ℕ, ◌+◌, ◌%◌, ◌^◌, ◌<◌, ◌≤◌, Bool, true, false, IsTrue, List, ◌++◌, length, take, max, Some, is_some, refl, sym, ap, subst, ◌∙◌, arith}
+use Rattle.std.proofs.lemmas.Bool.{or_cases, eqb-true}
 use Rattle.std.proofs.lemmas.List.{append-nil}
 use Rattle.base_types.specs.Runs.{run_places}
 use Rattle.layout_extent.specs.Runs.{AreTidy, runs_of, stretches}
@@ -11,25 +11,18 @@ use Rattle.engine_blocks.specs.State.{State, IsReusable, reusable_blocks}
 use Rattle.crash_stands.specs.Files.{FileNode, joined, used_node, files_of}
 use Rattle.fs_files.specs.declared.nodes.OpenNode.{OpenNode}
 use Rattle.fs_files.specs.Bytes.{met, overwrite, overwritten}
-use Rattle.fs_files.specs.Calls.{IsWithFile, IsWithPlaces, Shrinks, ChangesAmong, files_in, places_in, places_or_none, with_bytes, cut_blocks}
+use Rattle.fs_files.specs.Calls.{IsWithFile, IsWithPlaces, files_in, places_in, places_or_none, with_bytes}
 use Rattle.fs_files.specs.Content.{HasContent, HasNewBytes, WritesContent}
 use Rattle.fs_files.specs.Drafts.{DraftState, ChangesSome, change_of, drafted}
 use Rattle.fs_files.specs.Effects.{LooksOnly}
 use Rattle.fs_files.specs.Growing.{more_blocks}
 use Rattle.fs_files.specs.Nodes.{IsOpen, class_of, node_block, node_of_open}
 use Rattle.fs_files.specs.Sound.{IsDraftOf, IsSoundDraft}
-use Rattle.fs_files.specs.Within.{Overwrites}
 use Rattle.fs_files.specs.Writing.{KeepsSize, WritesOpen}
 use Rattle.fs_files.proofs.frames.Carry.{draft_looks, looked_places}
 use Rattle.fs_files.proofs.calling.Cuts.{kind_of}
 use Rattle.fs_files.proofs.calling.Nodes.{looked_files}
-use Rattle.fs_files.proofs.calling.Resized.{IsRead, cut_resizes}
 use Rattle.fs_files.proofs.calling.Stores as stores
-
--- there are some where the number isn't zero
-pub some_bytes : (n : ℕ) → (n == 0) ≡ false → 0 < n
-some_bytes zero e = absurd (false≢true (sym e))
-some_bytes (suc n) e = omega arith
 
 -- some block changed where some has new bytes: where they are new content some other had changed before
 some_changes : (bs : List ℕ) (o : OpenNode) (d e : DraftState) → WritesContent (class_of o.kind) bs d e → ((b : ℕ) → is_some (change_of d.fresh b) ≡ true → ChangesSome d) → HasNewBytes e → ChangesSome e
@@ -127,25 +120,5 @@ module _ (tells : Bool) (s : State) (number off : ℕ) (ys : List ℕ) (o : Open
       (ap (λ n. o.places ++ take n (reusable_blocks s.books)) {x = more_blocks (max o.size (off + length ys)) o} {y = 0} (omega (arith, is.opened.count, is.within)) ∙ append-nil o.places ∙ sym (is.places o.places) ∙ ap places_or_none (is.used told))
       (stores.kept_places tells s.books s.map number off ys o o d e e table is.geom is.opened is.draft.fits w is.from is.upto keeps told (is.draft.sound told) is.free (sym (is.used told)) is.places is.count is.tidy refl is.few is.some slots)
 
-  pub within_overwrites : IsTrue tells → Overwrites (met off (off + length ys) (places_in s d number)) d e
-  within_overwrites told = record {
-    among = subst (λ ps. ChangesAmong (met off (off + length ys) ps) d e) (sym its) is.writes.keys;
-    taken = is.writes.taken;
-    freed = is.writes.freed;
-    fresh = omega (arith, is.writes.fresh_len);
-  }
-    where
-      its : places_in s d number ≡ o.places
-      its = ap places_or_none (sym (is.used told)) ∙ is.places o.places
-
   pub within_changes : ChangesSome e
   within_changes = changed
-
--- A cut of a node that was read: d, then e.
-module _ (tells : Bool) (s t : State) (number size : ℕ) (o : OpenNode) (x : FileNode) (d e : DraftState) (r : IsRead tells s t number o x d) (new_places : List ℕ) (less : size < o.size)
-    (shrinks : Shrinks x (places_in t d number) new_places size d e) (among : ChangesAmong (cut_blocks t.books.geom number x (places_in t d number) size) d e) (shorter : size < length x.bytes) where
-  pub cut_shrinks : Shrinks x (places_in s d number) new_places size d e
-  cut_shrinks = (cut_resizes tells s t number size o x d r s.books e new_places (sym r.looks.books) less shrinks among).shrinks shorter
-
-  pub cut_among : ChangesAmong (cut_blocks s.books.geom number x (places_in s d number) size) d e
-  cut_among = (cut_resizes tells s t number size o x d r s.books e new_places (sym r.looks.books) less shrinks among).shrinks_among shorter

@@ -25,9 +25,6 @@ use Rattle.fs_files.proofs.calling.Nodes.{its_file}
 -- The node that was loaded, in the state after it.
 module _ (tells : Bool) (s t : State) (number : ℕ) (d : DraftState) (o : OpenNode) (looks : LooksOnly tells false s t) (told : IsTrue tells) (sound : IsSoundDraft s.books s.map d) (opened : IsOpen s.books.geom o)
     (used : Some (node_of_open o) ≡ used_node s.books.geom (drafted d s.map) number) where
-  geom_same : s.books.geom ≡ t.books.geom
-  geom_same = sym (ap (λ (l : Bookkeeping). l.geom) looks.books)
-
   abbrev file : FileNode
   file = file_of (drafted d s.map) (node_of_open o)
 

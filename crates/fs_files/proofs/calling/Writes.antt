@@ -1,7 +1,7 @@
 -- What a draft is after a write into an open node, and what the node's bytes are: the steps of it put together.
 use Rattle.std.proofs.Common.{◌≡◌, ◌≢◌, ◌⊎◌, inl, inr, ℕ, ◌+◌, ◌*◌, ◌<◌, ◌≤◌, ◌||◌, Bool, true, false, IsTrue, List, ◌++◌, length, take, drop, max, min, All, Some, None, is_some, sym, ap, subst, ◌∙◌, arith}
 use Rattle.std.specs.List.{AllPairs}
-use Rattle.std.proofs.lemmas.Bool.{cases_Bool, cases_lt, false≢true, or_left, or_right, or_cases}
+use Rattle.std.proofs.lemmas.Bool.{cases_Bool, cases_lt, false≢true, or_left, or_right, or_cases, or_from}
 use Rattle.std.proofs.lemmas.List.{length-append}
 use Rattle.base_types.specs.Seal.{Blocks}
 use Rattle.base_types.specs.Runs.{run_places}
@@ -124,12 +124,8 @@ module _ (tells : Bool) (k : Bookkeeping) (m : Blocks) (number off : ℕ) (ys : 
 
     pub wrote_others : (b : ℕ) → has o.places b ≡ false → has extra b ≡ false → drafted f m b ≡ drafted d m b
     wrote_others b out_old out_new =
-        writes_others k class (met off (off + length ys) p.places) w.grown f w.writes m b (met_out off (off + length ys) p.places b (ap (λ xs. has xs b) its_places ∙ has_append o.places extra b ∙ neither (has o.places b) (has extra b) out_old out_new))
+        writes_others k class (met off (off + length ys) p.places) w.grown f w.writes m b (met_out off (off + length ys) p.places b (ap (λ xs. has xs b) its_places ∙ has_append o.places extra b ∙ or_from (has o.places b) (has extra b) out_old out_new))
         ∙ its.others m b out_new ∙ filled_others b out_old
-      where
-        neither : (x y : Bool) → x ≡ false → y ≡ false → (x || y) ≡ false
-        neither true y e h = e
-        neither false y e h = h
 
     -- The bytes.
 

@@ -3,12 +3,14 @@ use Rattle.std.proofs.Common.{◌≡◌, ℕ, ◌+◌, ◌-◌, ◌<◌, ◌≤�
 use Rattle.std.proofs.lemmas.List.{take_more, get_or-drop}
 use Rattle.std.proofs.lemmas.Option.{slice_get_within, get_or_from_slice_get}
 use Rattle.std.specs.Prelude.{is_some}
+use Rattle.std.proofs.lemmas.Bool.Decides.{same_from_decides, Decides-eqb}
+use Rattle.std.proofs.lemmas.Bool.{eq-eqb, eqb-true}
 use Rattle.base_types.specs.declared.words.Class.{Class}
 use Rattle.engine_blocks.specs.Running.{has}
 use Rattle.fs_files.specs.declared.changes.Changed.{Changed}
 use Rattle.fs_files.specs.Drafts.{DraftState, change_of, zeros_of, FreesBlocks}
 use Rattle.fs_files.specs.Zeros.{HaveZeros}
-use Rattle.fs_files.proofs.drafts.Lists.{has_push, has_append, turned, merged}
+use Rattle.fs_files.proofs.drafts.Lists.{has_push, has_append, merged}
 
 at_most_one : (t : Bool) → cond t 0 1 ≤ 1
 at_most_one true = omega arith
@@ -23,7 +25,7 @@ zeros_more class xs b old mid new h e n = record {
       e q
       ∙ ap (λ y. cond (b == q) (Some (zeros_of class)) y) (h.each q)
       ∙ merged (has xs q) (b == q) (Some (zeros_of class)) (change_of old q)
-      ∙ ap (λ t. cond (has xs q || t) (Some (zeros_of class)) (change_of old q)) (turned b q)
+      ∙ ap (λ t. cond (has xs q || t) (Some (zeros_of class)) (change_of old q)) (same_from_decides (b == q) (q == b) (Decides-eqb b q) (λ e. sym (eqb-true q b e), λ e. eq-eqb q b (sym e)))
       ∙ ap (λ t. cond t (Some (zeros_of class)) (change_of old q)) (sym (has_push xs b q));
   count = omega (arith, n, h.count, at_most_one (is_some (change_of mid b)), length-append xs (b ∷ []));
 }

@@ -1,6 +1,7 @@
 -- Which numbers a list has.
 use Rattle.std.proofs.Common.{◌≡◌, ℕ, zero, suc, ◌<◌, ◌==◌, Bool, true, false, cond, ◌||◌, List, [], ◌∷◌, ◌++◌, take, drop, All, refl, sym, ap, subst, ◌∙◌, arith, ◌⊎◌, inl, inr}
-use Rattle.std.proofs.lemmas.Bool.{cases_Bool, eqb-true, eq-eqb, false≢true, or_left, or_right, or_cases}
+use Rattle.std.proofs.lemmas.Bool.{cases_Bool, eqb-true, false≢true, or_left, or_right, or_cases}
+use Rattle.std.proofs.Math.Bool.{or_assoc}
 use Rattle.layout_geometry.specs.Geometry.{Geometry, data_start}
 use Rattle.engine_blocks.specs.Puts.{IsData}
 use Rattle.engine_blocks.specs.Running.{has}
@@ -9,29 +10,15 @@ or_none : (a : Bool) → (a || false) ≡ a
 or_none true = refl
 or_none false = refl
 
-or_assoc : (a b c : Bool) → (a || (b || c)) ≡ ((a || b) || c)
-or_assoc true b c = refl
-or_assoc false b c = refl
-
 pub has_one : (b c : ℕ) → has (b ∷ []) c ≡ (c == b)
 has_one b c = or_none (c == b)
 
 pub has_append : (xs ys : List ℕ) (c : ℕ) → has (xs ++ ys) c ≡ (has xs c || has ys c)
 has_append [] ys c = refl
-has_append (x ∷ xs) ys c = ap (λ t. (c == x) || t) (has_append xs ys c) ∙ or_assoc (c == x) (has xs c) (has ys c)
+has_append (x ∷ xs) ys c = ap (λ t. (c == x) || t) (has_append xs ys c) ∙ sym (or_assoc (c == x) (has xs c) (has ys c))
 
 pub has_push : (xs : List ℕ) (b c : ℕ) → has (xs ++ b ∷ []) c ≡ (has xs c || (c == b))
 has_push xs b c = has_append xs (b ∷ []) c ∙ ap (λ t. has xs c || t) (has_one b c)
-
--- a test of two numbers doesn't ask which is first
-pub turned : (a b : ℕ) → (a == b) ≡ (b == a)
-turned a b = by (cases_Bool (a == b)) (cases_Bool (b == a))
-  where
-    by : ((a == b) ≡ true) ⊎ ((a == b) ≡ false) → ((b == a) ≡ true) ⊎ ((b == a) ≡ false) → (a == b) ≡ (b == a)
-    by (inl e) (inl f) = e ∙ sym f
-    by (inr e) (inr f) = e ∙ sym f
-    by (inl e) (inr f) = absurd (false≢true (sym f ∙ eq-eqb b a (sym (eqb-true a b e))))
-    by (inr e) (inl f) = absurd (false≢true (sym e ∙ eq-eqb a b (sym (eqb-true b a f))))
 
 -- what holds of all numbers of a list holds of each that it has
 pub each_of : (P : ℕ → Type 0) (bs : List ℕ) → All P bs → (c : ℕ) → has bs c ≡ true → P c

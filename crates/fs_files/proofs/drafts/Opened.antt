@@ -1,9 +1,9 @@
 -- What is known of a node in use that fits a disk.
-use Rattle.std.proofs.Common.{◌≡◌, ℕ, zero, suc, ◌+◌, ◌*◌, ◌/◌, ◌≤◌, ◌==◌, nat_lt, nat_le, not, true, ◌&&◌, List, [], ◌∷◌, length, All, refl, sym, ap, subst, ◌∙◌, arith, length-append}
+use Rattle.std.proofs.Common.{◌≡◌, ℕ, ◌+◌, ◌*◌, ◌/◌, ◌≤◌, ◌==◌, nat_lt, nat_le, not, true, ◌&&◌, List, [], ◌∷◌, length, All, sym, ap, subst, ◌∙◌, arith, get_or}
 use Rattle.std.proofs.lemmas.Bool.{and_parts, eqb-true, leb-true}
-use Rattle.std.proofs.lemmas.List.Elements.{All-nil, All-cons, All-append}
+use Rattle.std.proofs.lemmas.Option.{slice_get-get_or}
 use Rattle.base_types.specs.declared.places.Run.{Run}
-use Rattle.base_types.specs.Runs.{blocks_from, run_places}
+use Rattle.base_types.specs.Runs.{run_places}
 use Rattle.layout_geometry.specs.Geometry.{Geometry, data_start}
 use Rattle.layout_extent.specs.Runs.{runs_of, stretches}
 use Rattle.layout_bytes.specs.declared.node.Node.{Node}
@@ -13,19 +13,10 @@ use Rattle.layout_bytes.specs.Node.{run_blocks, runs_fit, kind_fits, node_fits, 
 use Rattle.engine_blocks.specs.Puts.{IsData}
 use Rattle.fs_files.specs.declared.nodes.OpenNode.{OpenNode}
 use Rattle.fs_files.specs.Nodes.{node_of_open, IsOpen}
-
-blocks_data : (g : Geometry) (first n : ℕ) → data_start g ≤ first → first + n ≤ g.n → All (IsData g) (blocks_from first n)
-blocks_data g first zero from upto = All-nil (IsData g)
-blocks_data g first (suc n) from upto =
-    All-cons (IsData g) first (blocks_from (first + 1) n) (record { from = from; below = omega (arith, upto) }) (blocks_data g (first + 1) n (omega (arith, from)) (omega (arith, upto)))
-
-blocks_count : (first n : ℕ) → length (blocks_from first n) ≡ n
-blocks_count first zero = refl
-blocks_count first (suc n) = omega (arith, blocks_count (first + 1) n)
+use Rattle.fs_files.proofs.frames.Places.{has_place, runs_data, places_count}
 
 -- what the runs' test says of the first run
 record FirstFits (g : Geometry) (r : Run) (rs : List Run) : Type 0 where
-  from : data_start g ≤ r.first
   upto : r.first + r.count ≤ g.n
   rest : runs_fit g (r.first + r.count) rs ≡ true
 
@@ -34,17 +25,7 @@ first_fits g end r rs e =
     let a = (and_parts (nat_lt 0 r.count) (nat_le (data_start g) r.first && (nat_le (r.first + r.count) g.n && (not (r.first == end) && runs_fit g (r.first + r.count) rs))) e).1 in
     let b = and_parts (nat_le (data_start g) r.first) (nat_le (r.first + r.count) g.n && (not (r.first == end) && runs_fit g (r.first + r.count) rs)) a in
     let d = and_parts (nat_le (r.first + r.count) g.n) (not (r.first == end) && runs_fit g (r.first + r.count) rs) b.1 in
-    record { from = leb-true (data_start g) r.first b.0; upto = leb-true (r.first + r.count) g.n d.0; rest = (and_parts (not (r.first == end)) (runs_fit g (r.first + r.count) rs) d.1).1 }
-
-runs_data : (g : Geometry) (end : ℕ) (rs : List Run) → runs_fit g end rs ≡ true → All (IsData g) (run_places rs)
-runs_data g end [] e = All-nil (IsData g)
-runs_data g end (r ∷ rs) e =
-    let f = first_fits g end r rs e in
-    All-append (IsData g) (blocks_from r.first r.count) (run_places rs) (blocks_data g r.first r.count f.from f.upto) (runs_data g (r.first + r.count) rs f.rest)
-
-places_count : (rs : List Run) → length (run_places rs) ≡ run_blocks rs
-places_count [] = refl
-places_count (r ∷ rs) = omega (arith, length-append (blocks_from r.first r.count) (run_places rs), blocks_count r.first r.count, places_count rs)
+    record { upto = leb-true (r.first + r.count) g.n d.0; rest = (and_parts (not (r.first == end)) (runs_fit g (r.first + r.count) rs) d.1).1 }
 
 -- each run has at most so many blocks as the disk
 most_blocks_of : (g : Geometry) (end : ℕ) (rs : List Run) → g.n ≤ 1048576 → runs_fit g end rs ≡ true → run_blocks rs ≤ length rs * 1048576
@@ -83,7 +64,7 @@ opens g o small places stretch used fits =
     record {
       used = used;
       fits = fits;
-      «data» = subst (All (IsData g)) (places o.places) (runs_data g 0 (runs_of o.places) p.runs);
+      «data» = subst (All (IsData g)) (places o.places) (λ i d low. runs_data g 0 (runs_of o.places) (get_or (run_places (runs_of o.places)) i d) p.runs (has_place (run_places (runs_of o.places)) i (get_or (run_places (runs_of o.places)) i d) (slice_get-get_or (run_places (runs_of o.places)) i d low)));
       count = count;
       runs = omega (arith, stretch o.places, p.few);
       most = omega (arith, p.few, p.blocks, most_blocks_of g 0 (runs_of o.places) small p.runs);

@@ -41,22 +41,6 @@ nothing_on old mid new a b = record {
   awaits = λ p t. (λ is. (a.awaits p t).0 ((b.awaits p t).0 is), λ is. (b.awaits p t).1 ((a.awaits p t).1 is));
 }
 
-nothing_not : (s : State) → IssuesNothing s s
-nothing_not s = record {
-  base = refl;
-  log = refl;
-  point = λ p m. (λ is. is, λ is. is);
-  left = λ t m. (λ is. is, λ is. is);
-  holds = λ img m. (λ is. is, λ is. is);
-  sure = λ log p. (λ is. is, λ is. is);
-  records = record { told = refl; starts = λ log n. (λ is. is, λ is. is) };
-  issued = λ m. (λ is. is, λ is. is);
-  awaits = λ p t. (λ is. is, λ is. is);
-}
-
 -- the disk is left alone, twice
 pub leaves_on : (tells : Bool) (old mid new : State) → LeavesDisk tells old mid → LeavesDisk tells mid new → LeavesDisk tells old new
 leaves_on tells old mid new a b = record { counts = b.counts ∙ a.counts; crash = λ t. nothing_on old mid new (a.crash t) (b.crash t) }
-
-pub leaves_not : (tells : Bool) (s : State) → LeavesDisk tells s s
-leaves_not tells s = record { counts = refl; crash = λ t. nothing_not s }

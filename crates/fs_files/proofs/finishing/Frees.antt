@@ -1,7 +1,7 @@
 -- Frees, one by one.
-use Rattle.std.proofs.Common.{◌≡◌, ◌≢◌, ℕ, ◌+◌, ◌-◌, ◌<◌, ◌≤◌, ◌==◌, Bool, true, false, cond, IsTrue, List, [], ◌∷◌, ◌++◌, length, take, drop, get_or, AllPairs, refl, sym, ap, subst, ◌∙◌, arith, ◌⊎◌, inl, inr}
+use Rattle.std.proofs.Common.{◌≡◌, ◌≢◌, ℕ, ◌+◌, ◌-◌, ◌<◌, ◌≤◌, ◌==◌, Bool, true, false, cond, IsTrue, List, [], ◌∷◌, ◌++◌, length, take, drop, get_or, AllPairs, sym, ap, subst, ◌∙◌, arith, ◌⊎◌, inl, inr}
 use Rattle.std.proofs.lemmas.Bool.{cases_eq, eq-eqb, ne_eqb}
-use Rattle.std.proofs.lemmas.List.{drop_more, take_more, take_all, drop_all}
+use Rattle.std.proofs.lemmas.List.{drop_more, take_more}
 use Rattle.base_types.specs.Seal.{Blocks}
 use Rattle.layout_geometry.specs.Geometry.{Geometry, table_start}
 use Rattle.layout_bytes.specs.Bitmap.{is_set}
@@ -10,8 +10,8 @@ use Rattle.engine_blocks.specs.State.{State, after_free}
 use Rattle.engine_blocks.specs.Calls.{IsWithFreed}
 use Rattle.engine_blocks.specs.Effects.{LeavesDisk}
 use Rattle.engine_blocks.specs.Puts.{after_frees}
-use Rattle.fs_files.specs.Making.{AreFreed, HasFreed}
-use Rattle.fs_files.proofs.finishing.Basics.{not_before, leaves_on, leaves_not}
+use Rattle.fs_files.specs.Making.{AreFreed}
+use Rattle.fs_files.proofs.finishing.Basics.{not_before, leaves_on}
 use Rattle.fs_files.proofs.drafts.Lists.{has_push, merged}
 
 -- after the first i of a list: what is still to come makes the whole
@@ -21,15 +21,6 @@ pub record AreFreedUpTo (tells : Bool) (start now : State) (list : List ℕ) (i 
   pub room : now.books.spare.frees ≡ start.books.spare.frees - i
   pub map : IsTrue tells → AreFreed start.books.geom start.map now.map (take i list)
   pub disk : LeavesDisk tells start now
-
-pub none_freed : (tells : Bool) (s : State) (list : List ℕ) → AreFreedUpTo tells s s list 0
-none_freed tells s list = record {
-  books = refl;
-  geom = refl;
-  room = omega arith;
-  map = λ t. record { lies = λ b low. refl; bits = λ b low. refl };
-  disk = leaves_not tells s;
-}
 
 -- the next one's bit is set
 pub still_set : (tells : Bool) (start now : State) (list : List ℕ) (i b : ℕ) → AreFreedUpTo tells start now list i → i < length list → b ≡ get_or list i 0 → b < start.books.geom.n → AllPairs (λ a b. a ≢ b) list → IsTrue tells
@@ -58,11 +49,4 @@ one_freed tells start mid new list i b h low is below books map disk = record {
   room = omega (arith, ap (λ k. k.spare.frees) books, h.room);
   map = λ t. subst (AreFreed start.books.geom start.map new.map) (ap (λ c. take i list ++ c ∷ []) is ∙ sym (take_more list i 0 low)) (freed_more start.books.geom start.map mid.map new.map (take i list) b (h.map t) (subst (λ g. IsWithFreed g mid.map new.map b) h.geom (map t)) below);
   disk = leaves_on tells start mid new h.disk disk;
-}
-
-pub all_freed : (tells : Bool) (start now : State) (list : List ℕ) (i : ℕ) → AreFreedUpTo tells start now list i → length list ≤ i → HasFreed tells list start now
-all_freed tells start now list i h end = record {
-  books = sym (ap (after_frees now.books) (drop_all i list end)) ∙ h.books;
-  map = λ t. subst (AreFreed start.books.geom start.map now.map) (take_all i list end) (h.map t);
-  disk = h.disk;
 }

@@ -59,10 +59,6 @@ module _ (tells : Bool) (d : DraftState) (s one : State) (draft : IsDraftOf tell
   taken_data : (b : ℕ) → has d.taken b ≡ true → IsReusable s.books.geom s.books.reusable b
   taken_data b is = each_of (IsReusable s.books.geom s.books.reusable) d.taken draft.fits.taken.each b is
 
-  -- the new content may be put
-  pub fresh_room : length d.fresh ≤ one.books.spare.puts
-  fresh_room = omega (arith, ap (λ k. k.spare.puts) took.books, ready.enough_puts)
-
   pub fresh_within : All (λ (e : ℕ × Changed). IsTableOrData one.books.geom e.0) d.fresh
   fresh_within = by_keys (IsTableOrData one.books.geom) d.fresh (λ b c is.
       subst (λ g. IsTableOrData g b) (sym one_geom) (let r = taken_data b (draft.fits.fresh b c is) in record { from = omega (arith, r.from); below = r.below }))

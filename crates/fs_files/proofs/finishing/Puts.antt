@@ -1,5 +1,5 @@
 -- Puts of new bytes, one by one.
-use Rattle.std.proofs.Common.{◌≡◌, ◌≢◌, ℕ, suc, ◌+◌, ◌<◌, ◌≤◌, ◌==◌, Bool, true, cond, IsTrue, List, [], ◌∷◌, length, All, Some, None, refl, sym, ap, subst, ◌∙◌, arith, ◌⊎◌, inl, inr}
+use Rattle.std.proofs.Common.{◌≡◌, ◌≢◌, ℕ, suc, ◌+◌, ◌<◌, ◌≤◌, ◌==◌, Bool, true, cond, IsTrue, List, ◌∷◌, length, All, Some, None, sym, ap, subst, ◌∙◌, arith, ◌⊎◌, inl, inr}
 use Rattle.std.proofs.lemmas.Bool.{cases_eq, eq-eqb, ne_eqb}
 use Rattle.layout_geometry.specs.Geometry.{data_start, table_start}
 use Rattle.base_types.specs.Seal.{Blocks}
@@ -9,8 +9,8 @@ use Rattle.engine_blocks.specs.Calls.{IsWithBlock}
 use Rattle.engine_blocks.specs.Effects.{LeavesDisk}
 use Rattle.fs_files.specs.declared.changes.Changed.{Changed}
 use Rattle.fs_files.specs.Drafts.{change_of, bytes_or}
-use Rattle.fs_files.specs.Making.{put_class, after_changes, IsTableOrData, HasPut}
-use Rattle.fs_files.proofs.finishing.Basics.{bits_alike, leaves_on, leaves_not}
+use Rattle.fs_files.specs.Making.{put_class, after_changes, IsTableOrData}
+use Rattle.fs_files.proofs.finishing.Basics.{bits_alike, leaves_on}
 
 -- while some of them were put: what is still to come makes the whole
 pub record ArePutUpTo (tells fresh : Bool) (start now : State) (all rest : List (ℕ × Changed)) (i : ℕ) : Type 0 where
@@ -23,20 +23,6 @@ pub record ArePutUpTo (tells fresh : Bool) (start now : State) (all rest : List 
   pub map : IsTrue tells → (b : ℕ) → bytes_or (now.map b) (change_of rest b) ≡ bytes_or (start.map b) (change_of all b)
   pub before : IsTrue tells → (b : ℕ) → b < table_start start.books.geom → now.map b ≡ start.map b
   pub disk : LeavesDisk tells start now
-
-pub none_put : (tells fresh : Bool) (s : State) (all : List (ℕ × Changed)) → length all ≤ s.books.spare.puts → All (λ (e : ℕ × Changed). IsTableOrData s.books.geom e.0) all
-    → (IsTrue tells → All (λ (e : ℕ × Changed). data_start s.books.geom ≤ e.0 → is_set s.books.geom s.map e.0 ≡ true) all) → ArePutUpTo tells fresh s s all all 0
-none_put tells fresh s all room within marked = record {
-  books = refl;
-  geom = refl;
-  room = room;
-  count = omega arith;
-  within = within;
-  marked = marked;
-  map = λ t b. refl;
-  before = λ t b low. refl;
-  disk = leaves_not tells s;
-}
 
 -- the next one may be put
 pub record MayPut (tells : Bool) (now : State) (b : ℕ) : Type 0 where
@@ -95,18 +81,3 @@ one_put tells fresh start mid new all rest more i p h first found others books m
   where
     one : IsTableOrData start.books.geom p.0
     one = head_all (λ (e : ℕ × Changed). IsTableOrData start.books.geom e.0) p more (subst (All (λ (e : ℕ × Changed). IsTableOrData start.books.geom e.0)) first h.within)
-
-no_rest : {X : Type 0} (xs : List X) → length xs ≡ 0 → xs ≡ []
-no_rest [] e = refl
-no_rest (x ∷ xs) e = absurd (omega (arith, e))
-
--- all of them were put
-pub all_put : (tells fresh : Bool) (start now : State) (all rest : List (ℕ × Changed)) (i : ℕ) → ArePutUpTo tells fresh start now all rest i → length all ≤ i → HasPut tells fresh all start now
-all_put tells fresh start now all rest i h end =
-    let e = no_rest rest (omega (arith, h.count, end)) in
-    record {
-      books = sym (ap (after_changes now.books fresh) e) ∙ h.books;
-      map = λ t b. sym (ap (λ cs. bytes_or (now.map b) (change_of cs b)) e) ∙ h.map t b;
-      before = h.before;
-      disk = h.disk;
-    }

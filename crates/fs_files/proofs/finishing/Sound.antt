@@ -64,9 +64,6 @@ module _ (d : DraftState) (s new : State) (spare : Spare) (geom : IsGeometry s.b
   g : Geometry
   g = s.books.geom
 
-  w : Blocks
-  w = drafted d s.map
-
   alike : AreAlike s.books.geom new.map (drafted d s.map)
   alike b from below = made.lies b from
 

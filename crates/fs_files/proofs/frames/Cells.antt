@@ -1,9 +1,10 @@
 -- Bytes written over a part of a list, and the nodes of a node table in which one node was written.
 use Rattle.std.proofs.Common.{◌≡◌, ◌≢◌, ◌⊎◌, inl, inr, ℕ, ◌+◌, ◌-◌, ◌/◌, ◌%◌, ◌<◌, ◌≤◌, ◌&&◌, Bool, true, false, List, ◌++◌, length, take, drop, Option, None, nat_le, refl, sym, ap, ◌∙◌, arith}
-use Rattle.std.proofs.lemmas.List.{take-append-le, drop-append-le, length-drop, take-take, drop-take, length-take-le, drop-drop, length-append}
+use Rattle.std.proofs.lemmas.List.{take-append-le, drop-append-le, length-drop, take-take, drop-take, length-take-le, drop-drop}
 use Rattle.std.proofs.Math.Seq.{take-append_seam, drop-append_seam, drop-append-add}
 use Rattle.std.proofs.lemmas.Bool.{cases_eq, cases_lt, and_from, and_parts, le-leb, leb-true, false≢true}
 use Rattle.std.proofs.lemmas.Option.{none-some}
+use Rattle.fs_files.proofs.bytes.Overwrites.{length-overwrite}
 use Rattle.base_types.specs.Seal.{Blocks}
 use Rattle.layout_geometry.specs.Geometry.{Geometry, table_start, data_start}
 use Rattle.layout_bytes.specs.declared.node.Node.{Node}
@@ -48,9 +49,6 @@ overwrite_behind off at n ys xs le behind =
     ∙ ap (take n) (drop-append-add ys (drop (off + length ys) xs) (at - (off + length ys)))
     ∙ ap (take n) (drop-drop (at - (off + length ys)) (off + length ys) xs)
     ∙ ap (λ k. take n (drop k xs)) {x = off + length ys + (at - (off + length ys))} {y = at} (omega (arith, behind))
-
-pub overwrite_length : (off : ℕ) (ys xs : List ℕ) → off + length ys ≤ length xs → length (overwrite off ys xs) ≡ length xs
-overwrite_length off ys xs le = omega (arith, length-append (take off xs) (ys ++ drop (off + length ys) xs), length-append ys (drop (off + length ys) xs), length-take-le off xs (omega (arith, le)), length-drop (off + length ys) xs)
 
 -- Nodes of a table.
 
@@ -121,7 +119,7 @@ module _ (g : Geometry) (m n : Blocks) (k : ℕ) (ys : List ℕ) (whole : g.i % 
   stored_long b low high = by (cases_eq b (node_block g k))
     where
       by : (b ≡ node_block g k) ⊎ (b ≡ node_block g k → ⊥) → length (n b) ≡ 1024
-      by (inl e) = ap (λ c. length (n c)) e ∙ ap length block ∙ overwrite_length (node_byte k) ys (m (node_block g k)) (omega (arith, long, size)) ∙ long
+      by (inl e) = ap (λ c. length (n c)) e ∙ ap length block ∙ length-overwrite (node_byte k) ys (m (node_block g k)) (omega (arith, long, size)) ∙ long
       by (inr away) = ap length (rest b low high away) ∙ table b low high
 
 used_none : (node : Node) (kind : NodeKind) → used_by node kind ≡ None → kind ≡ Free

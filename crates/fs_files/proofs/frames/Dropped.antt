@@ -21,7 +21,7 @@ use Rattle.fs_files.specs.Sound.{AreSoundBy, FitsBooks, IsSoundDraft}
 use Rattle.fs_files.proofs.frames.Cells.{block_from, block_below, node_stored}
 use Rattle.fs_files.proofs.frames.Frames.{node_places}
 use Rattle.fs_files.proofs.frames.Places.{used_within, used_data, used_marked}
-use Rattle.fs_files.proofs.frames.Puts.{put_own, put_others, put_marks, put_fits, put_rules}
+use Rattle.fs_files.proofs.frames.Puts.{put_own, put_others, put_marks, put_rules}
 use Rattle.fs_files.proofs.frames.Rules.{rules_of, sound_from, frees_others, frees_marks, frees_fits, frees_rules}
 use Rattle.fs_files.proofs.frames.Steps.{both, all_of, used_once, node_dropped}
 
@@ -53,9 +53,6 @@ module _ (k : Bookkeeping) (m : Blocks) (number : ℕ) (old : Node) (c : Changed
       by : (has (run_places old.runs) b ≡ true) ⊎ (has (run_places old.runs) b ≡ false) → has (run_places old.runs) b ≡ false
       by (inl is) = absurd (omega (arith, (used_data k.geom (drafted d m) number old used b is).from, below))
       by (inr isnt) = isnt
-
-  pub dropped_fits : FitsBooks k e
-  dropped_fits = put_fits k f e (node_block k.geom number) c geom low high mid_fits puts
 
   other : (b : ℕ) → b ≢ node_block k.geom number → has (run_places old.runs) b ≡ false → drafted e m b ≡ drafted d m b
   other b away out = put_others k f e (node_block k.geom number) c geom low high mid_fits puts m b away ∙ frees_others k (run_places old.runs) d f frees m b out

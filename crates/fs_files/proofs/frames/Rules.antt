@@ -1,7 +1,7 @@
 -- What holds of a draft besides its blocks, kept by each change of it: blocks put, taken, freed, and content written.
 use Rattle.std.proofs.Common.{◌≡◌, ◌≢◌, ◌⊎◌, inl, inr, ℕ, ◌<◌, ◌≤◌, Bool, true, false, not, ◌&&◌, ◌||◌, if◌then◌else◌, List, [], ◌++◌, replicate, All, Option, Some, None, is_some, refl, sym, ap, subst, ◌∙◌, arith}
 use Rattle.std.specs.List.{AllPairs}
-use Rattle.std.proofs.lemmas.Bool.{cases_Bool, false≢true, or_left, or_right, or_cases, and_parts}
+use Rattle.std.proofs.lemmas.Bool.{cases_Bool, false≢true, or_left, or_right, or_cases, and_parts, cond-true, cond-false, and_right}
 use Rattle.std.proofs.lemmas.Option.{none-some}
 use Rattle.base_types.specs.Seal.{Blocks}
 use Rattle.base_types.specs.declared.words.Class.{Class}
@@ -40,14 +40,6 @@ none_of (Some x) isnt = absurd (isnt x refl)
 
 -- a choice is the one or the other
 
-when_in : {A : Type 0} (t : Bool) (x y : A) → t ≡ true → (if t then x else y) ≡ x
-when_in true x y e = refl
-when_in false x y e = absurd (false≢true e)
-
-when_out : {A : Type 0} (t : Bool) (x y : A) → t ≡ false → (if t then x else y) ≡ y
-when_out true x y e = absurd (false≢true (sym e))
-when_out false x y e = refl
-
 -- what the marks of a draft say
 
 marked_parts : (freed taken marked : Bool) → (not freed && (taken || marked)) ≡ true → (freed ≡ false) × ((taken || marked) ≡ true)
@@ -64,22 +56,22 @@ module _ (k : Bookkeeping) (bs : List ℕ) (d e : DraftState) (frees : FreesBloc
   not_freed_some b c is = by (has bs b) refl (sym (frees.changed b) ∙ is)
     where
       by : (t : Bool) → has bs b ≡ t → (if has bs b then None else change_of d.changed b) ≡ Some c → (has bs b ≡ false) × (change_of d.changed b ≡ Some c)
-      by true at x = absurd (none-some c (sym (when_in (has bs b) None (change_of d.changed b) at) ∙ x))
-      by false at x = (at, sym (when_out (has bs b) None (change_of d.changed b) at) ∙ x)
+      by true at x = absurd (none-some c (sym (cond-true (has bs b) None (change_of d.changed b) at) ∙ x))
+      by false at x = (at, sym (cond-false (has bs b) None (change_of d.changed b) at) ∙ x)
 
   not_freed_fresh : (b : ℕ) (c : Changed) → change_of e.fresh b ≡ Some c → (has bs b ≡ false) × (change_of d.fresh b ≡ Some c)
   not_freed_fresh b c is = by (has bs b) refl (sym (frees.fresh b) ∙ is)
     where
       by : (t : Bool) → has bs b ≡ t → (if has bs b then None else change_of d.fresh b) ≡ Some c → (has bs b ≡ false) × (change_of d.fresh b ≡ Some c)
-      by true at x = absurd (none-some c (sym (when_in (has bs b) None (change_of d.fresh b) at) ∙ x))
-      by false at x = (at, sym (when_out (has bs b) None (change_of d.fresh b) at) ∙ x)
+      by true at x = absurd (none-some c (sym (cond-true (has bs b) None (change_of d.fresh b) at) ∙ x))
+      by false at x = (at, sym (cond-false (has bs b) None (change_of d.fresh b) at) ∙ x)
 
   -- the blocks after it
   pub frees_others : (m : Blocks) (b : ℕ) → has bs b ≡ false → drafted e m b ≡ drafted d m b
   frees_others m b out =
       let freed : has e.freed b ≡ has d.freed b = freed_has b ∙ or_none (has d.freed b) (has bs b) out in
-      let changed : change_of e.changed b ≡ change_of d.changed b = frees.changed b ∙ when_out (has bs b) None (change_of d.changed b) out in
-      let fresh : change_of e.fresh b ≡ change_of d.fresh b = frees.fresh b ∙ when_out (has bs b) None (change_of d.fresh b) out in
+      let changed : change_of e.changed b ≡ change_of d.changed b = frees.changed b ∙ cond-false (has bs b) None (change_of d.changed b) out in
+      let fresh : change_of e.fresh b ≡ change_of d.fresh b = frees.fresh b ∙ cond-false (has bs b) None (change_of d.fresh b) out in
       λ i. if freed i then [] else bytes_or (bytes_or (m b) (fresh i)) (changed i)
     where
       or_none : (x y : Bool) → y ≡ false → (x || y) ≡ x
@@ -116,8 +108,8 @@ module _ (k : Bookkeeping) (bs : List ℕ) (d e : DraftState) (frees : FreesBloc
       filled : (b : ℕ) → is_filled d b ≡ true → (has bs b ≡ true) ⊎ (has bs b ≡ false) → is_filled e b ≡ true
       filled b was (inl is) = or_left (has e.freed b) (is_some (change_of e.changed b) || is_some (change_of e.fresh b)) (freed_has b ∙ or_right (has d.freed b) (has bs b) is)
       filled b was (inr out) =
-          let changed : change_of e.changed b ≡ change_of d.changed b = frees.changed b ∙ when_out (has bs b) None (change_of d.changed b) out in
-          let fresh : change_of e.fresh b ≡ change_of d.fresh b = frees.fresh b ∙ when_out (has bs b) None (change_of d.fresh b) out in
+          let changed : change_of e.changed b ≡ change_of d.changed b = frees.changed b ∙ cond-false (has bs b) None (change_of d.changed b) out in
+          let fresh : change_of e.fresh b ≡ change_of d.fresh b = frees.fresh b ∙ cond-false (has bs b) None (change_of d.fresh b) out in
           let freed : has e.freed b ≡ has d.freed b = freed_has b ∙ ap (λ t. has d.freed b || t) out ∙ false_last (has d.freed b) in
           (λ i. freed i || (is_some (changed i) || is_some (fresh i))) ∙ was
         where
@@ -133,7 +125,7 @@ module _ (k : Bookkeeping) (bs : List ℕ) (d e : DraftState) (frees : FreesBloc
         frees_marks k.marked b ∙ (λ i. marks_of d k.marked b && not (was.0 i)) ∙ kept (marks_of d k.marked b) (rules.changed b c was.1 low);
     fresh = λ b c is. let was = not_freed_fresh b c is in freed_has b ∙ (λ i. rules.fresh b c was.1 i || was.0 i);
     apart = λ b some. let x = some_of (change_of e.fresh b) some in let was = not_freed_fresh b x.0 x.1 in
-        frees.changed b ∙ when_out (has bs b) None (change_of d.changed b) was.0 ∙ rules.apart b (ap is_some was.1);
+        frees.changed b ∙ cond-false (has bs b) None (change_of d.changed b) was.0 ∙ rules.apart b (ap is_some was.1);
     freed = subst (All (λ b. (has e.taken b || k.marked b) ≡ true)) (sym frees.freed)
         (all_of (λ b. (has e.taken b || k.marked b) ≡ true) (d.freed ++ bs) (λ b is. ap (λ ts. has ts b || k.marked b) frees.taken ∙ held b (or_cases (has d.freed b) (has bs b) (sym (has_append d.freed bs b) ∙ is))));
     once = subst (AllPairs (λ a b. a ≢ b)) (sym frees.freed) (once_append d.freed bs rules.once once
@@ -167,25 +159,21 @@ module _ (k : Bookkeeping) (class : Class) (bs : List ℕ) (d e : DraftState) (t
     where
       by : ((is_meta class && has bs b) ≡ true) ⊎ ((is_meta class && has bs b) ≡ false) → (has bs b ≡ true) ⊎ (change_of d.changed b ≡ Some c)
       by (inl both) = inl (and_parts (is_meta class) (has bs b) both).1
-      by (inr isnt) = inr (sym (when_out (is_meta class && has bs b) (Some (zeros_of class)) (change_of d.changed b) isnt) ∙ sym (takes.changed b) ∙ is)
+      by (inr isnt) = inr (sym (cond-false (is_meta class && has bs b) (Some (zeros_of class)) (change_of d.changed b) isnt) ∙ sym (takes.changed b) ∙ is)
 
   takes_fresh : (b : ℕ) (c : Changed) → change_of e.fresh b ≡ Some c → (has bs b ≡ true) ⊎ (change_of d.fresh b ≡ Some c)
   takes_fresh b c is = by (cases_Bool (not (is_meta class) && has bs b))
     where
       by : ((not (is_meta class) && has bs b) ≡ true) ⊎ ((not (is_meta class) && has bs b) ≡ false) → (has bs b ≡ true) ⊎ (change_of d.fresh b ≡ Some c)
       by (inl both) = inl (and_parts (not (is_meta class)) (has bs b) both).1
-      by (inr isnt) = inr (sym (when_out (not (is_meta class) && has bs b) (Some (zeros_of class)) (change_of d.fresh b) isnt) ∙ sym (takes.fresh b) ∙ is)
+      by (inr isnt) = inr (sym (cond-false (not (is_meta class) && has bs b) (Some (zeros_of class)) (change_of d.fresh b) isnt) ∙ sym (takes.fresh b) ∙ is)
 
   -- a block that isn't taken is as before
   pub takes_others : (m : Blocks) (b : ℕ) → has bs b ≡ false → drafted e m b ≡ drafted d m b
   takes_others m b out =
-      let changed : change_of e.changed b ≡ change_of d.changed b = takes.changed b ∙ when_out (is_meta class && has bs b) (Some (zeros_of class)) (change_of d.changed b) (and_out (is_meta class) (has bs b) out) in
-      let fresh : change_of e.fresh b ≡ change_of d.fresh b = takes.fresh b ∙ when_out (not (is_meta class) && has bs b) (Some (zeros_of class)) (change_of d.fresh b) (and_out (not (is_meta class)) (has bs b) out) in
+      let changed : change_of e.changed b ≡ change_of d.changed b = takes.changed b ∙ cond-false (is_meta class && has bs b) (Some (zeros_of class)) (change_of d.changed b) (and_right (is_meta class) (has bs b) out) in
+      let fresh : change_of e.fresh b ≡ change_of d.fresh b = takes.fresh b ∙ cond-false (not (is_meta class) && has bs b) (Some (zeros_of class)) (change_of d.fresh b) (and_right (not (is_meta class)) (has bs b) out) in
       λ i. if has (takes.freed i) b then [] else bytes_or (bytes_or (m b) (fresh i)) (changed i)
-    where
-      and_out : (x y : Bool) → y ≡ false → (x && y) ≡ false
-      and_out true y e = e
-      and_out false y e = refl
 
   -- the draft still fits
   pub takes_fits : IsGeometry k.geom → FitsBooks k d → FitsBooks k e
@@ -208,10 +196,10 @@ module _ (k : Bookkeeping) (class : Class) (bs : List ℕ) (d e : DraftState) (t
 
       filled : (b : ℕ) → has bs b ≡ true → (is_meta class ≡ true) ⊎ (is_meta class ≡ false) → is_filled e b ≡ true
       filled b is (inl meta) =
-          let changed : change_of e.changed b ≡ Some (zeros_of class) = takes.changed b ∙ when_in (is_meta class && has bs b) (Some (zeros_of class)) (change_of d.changed b) (λ i. meta i && is i) in
+          let changed : change_of e.changed b ≡ Some (zeros_of class) = takes.changed b ∙ cond-true (is_meta class && has bs b) (Some (zeros_of class)) (change_of d.changed b) (λ i. meta i && is i) in
           or_right (has e.freed b) (is_some (change_of e.changed b) || is_some (change_of e.fresh b)) (or_left (is_some (change_of e.changed b)) (is_some (change_of e.fresh b)) (ap is_some changed))
       filled b is (inr content) =
-          let fresh : change_of e.fresh b ≡ Some (zeros_of class) = takes.fresh b ∙ when_in (not (is_meta class) && has bs b) (Some (zeros_of class)) (change_of d.fresh b) (λ i. not (content i) && is i) in
+          let fresh : change_of e.fresh b ≡ Some (zeros_of class) = takes.fresh b ∙ cond-true (not (is_meta class) && has bs b) (Some (zeros_of class)) (change_of d.fresh b) (λ i. not (content i) && is i) in
           or_right (has e.freed b) (is_some (change_of e.changed b) || is_some (change_of e.fresh b)) (or_right (is_some (change_of e.changed b)) (is_some (change_of e.fresh b)) (ap is_some fresh))
 
   module _ (unmarked : All (λ b. k.marked b ≡ false) bs) (rules : HasRules k d) where
@@ -257,11 +245,11 @@ module _ (k : Bookkeeping) (class : Class) (bs : List ℕ) (d e : DraftState) (t
 
         by : (is_meta class ≡ true) ⊎ (is_meta class ≡ false) → bytes_or (bytes_or (m b) (change_of e.fresh b)) (change_of e.changed b) ≡ replicate 1024 0
         by (inl meta) =
-            let changed : change_of e.changed b ≡ Some (zeros_of class) = takes.changed b ∙ when_in (is_meta class && has bs b) (Some (zeros_of class)) (change_of d.changed b) (λ i. meta i && is i) in
+            let changed : change_of e.changed b ≡ Some (zeros_of class) = takes.changed b ∙ cond-true (is_meta class && has bs b) (Some (zeros_of class)) (change_of d.changed b) (λ i. meta i && is i) in
             ap (bytes_or (bytes_or (m b) (change_of e.fresh b))) changed
         by (inr content) =
-            let changed : change_of e.changed b ≡ None = takes.changed b ∙ when_out (is_meta class && has bs b) (Some (zeros_of class)) (change_of d.changed b) (λ i. content i && has bs b) ∙ nothing in
-            let fresh : change_of e.fresh b ≡ Some (zeros_of class) = takes.fresh b ∙ when_in (not (is_meta class) && has bs b) (Some (zeros_of class)) (change_of d.fresh b) (λ i. not (content i) && is i) in
+            let changed : change_of e.changed b ≡ None = takes.changed b ∙ cond-false (is_meta class && has bs b) (Some (zeros_of class)) (change_of d.changed b) (λ i. content i && has bs b) ∙ nothing in
+            let fresh : change_of e.fresh b ≡ Some (zeros_of class) = takes.fresh b ∙ cond-true (not (is_meta class) && has bs b) (Some (zeros_of class)) (change_of d.fresh b) (λ i. not (content i) && is i) in
             λ i. bytes_or (bytes_or (m b) (fresh i)) (changed i)
 
     -- none of the blocks with new content is changed otherwise
@@ -274,14 +262,14 @@ module _ (k : Bookkeeping) (class : Class) (bs : List ℕ) (d e : DraftState) (t
         by (inl mine) c is =
             let parts = and_parts (not (is_meta class)) (has bs b) mine in
             let out : (is_meta class && has bs b) ≡ false = meta_out (is_meta class) (has bs b) parts.0 in
-            takes.changed b ∙ when_out (is_meta class && has bs b) (Some (zeros_of class)) (change_of d.changed b) out
+            takes.changed b ∙ cond-false (is_meta class && has bs b) (Some (zeros_of class)) (change_of d.changed b) out
             ∙ none_of (change_of d.changed b) (λ w was. false≢true (sym (takes_unmarked b parts.1) ∙ rules.changed b w was (each_of (IsReusable k.geom k.reusable) bs free.each b parts.1).from))
           where
             meta_out : (t h : Bool) → not t ≡ true → (t && h) ≡ false
             meta_out true h e = absurd (false≢true e)
             meta_out false h e = refl
         by (inr other) c is =
-            absurd (none-some c (sym (no_fresh k d none fits b) ∙ sym (when_out (not (is_meta class) && has bs b) (Some (zeros_of class)) (change_of d.fresh b) other) ∙ sym (takes.fresh b) ∙ is))
+            absurd (none-some c (sym (no_fresh k d none fits b) ∙ sym (cond-false (not (is_meta class) && has bs b) (Some (zeros_of class)) (change_of d.fresh b) other) ∙ sym (takes.fresh b) ∙ is))
 
     -- and the draft has its rules
     pub takes_rules : FitsBooks k d → HasRules k e

@@ -62,11 +62,6 @@ spelling_bytes node =
 
 -- What it reads as.
 
--- zeros read as no node in use
-zeros_read : (g : Geometry) → node_of g (replicate 256 0) ≡ None
-unfolding node_of
-zeros_read g = refl
-
 abbrev is_free : NodeKind → Bool
 is_free Free = true
 is_free Dir = false
@@ -80,10 +75,11 @@ file_used e = false≢true (ap is_free e)
 
 pub reads_back : (g : Geometry) (node : Node)
     → ((b : List ℕ) (n : Node) → length b ≡ 256 → ((i : ℕ) → slice_index b i < 256) → (node_of g b ≡ Some n) ↔ (IsNode g b n × (n.kind ≡ Free → ⊥)))
+    → ((b : List ℕ) (n : Node) → length b ≡ 256 → ((i : ℕ) → slice_index b i < 256) → IsNode g b n → n.kind ≡ Free → node_of g b ≡ None)
     → ((b : List ℕ) (n : Node) → IsNode g b n → length b ≡ 256)
     → ((b : List ℕ) (n : Node) → IsNode g b n → n.kind ≡ Free → b ≡ replicate 256 0)
     → IsNode g (node_spelling node) node → ReadsBack g node
-reads_back g node read size zeros is = record {
+reads_back g node read free size zeros is = record {
   size = size (node_spelling node) node is;
   reads = by node.kind refl;
   zeros = zeros (node_spelling node) node is;
@@ -93,7 +89,7 @@ reads_back g node read size zeros is = record {
     used isnt = (read (node_spelling node) node (size (node_spelling node) node is) (spelling_bytes node)).1 (is, isnt)
 
     by : (kind : NodeKind) → node.kind ≡ kind → node_of g (node_spelling node) ≡ used_by node kind
-    by Free e = ap (node_of g) (zeros (node_spelling node) node is e) ∙ zeros_read g
+    by Free e = free (node_spelling node) node (size (node_spelling node) node is) (spelling_bytes node) is e
     by Dir e = used (λ free. dir_used (sym e ∙ free))
     by File e = used (λ free. file_used (sym e ∙ free))
 

@@ -18,7 +18,7 @@ use Rattle.fs_files.specs.Sound.{AreSoundBy, FitsBooks, IsSoundDraft}
 use Rattle.fs_files.proofs.frames.Cells.{block_from, block_below}
 use Rattle.fs_files.proofs.frames.Frames.{node_places}
 use Rattle.fs_files.proofs.frames.Places.{used_kind_is}
-use Rattle.fs_files.proofs.frames.Puts.{put_others, put_marks, put_fits, put_sound, node_put}
+use Rattle.fs_files.proofs.frames.Puts.{put_others, put_marks, put_sound, node_put}
 use Rattle.fs_files.proofs.frames.Spelled.{used_some}
 use Rattle.fs_files.proofs.frames.Steps.{both, file_is, links_change, links_file, node_made, made_file}
 
@@ -48,9 +48,6 @@ module _ (k : Bookkeeping) (m : Blocks) (number : ℕ) (node : Node) (c : Change
 
   pub stored_marks : (b : ℕ) → marks_of e k.marked b ≡ marks_of d k.marked b
   stored_marks b = put_marks k d e (node_block k.geom number) c is.geom low high is.fits is.puts k.marked b
-
-  pub stored_fits : FitsBooks k e
-  stored_fits = put_fits k d e (node_block k.geom number) c is.geom low high is.fits is.puts
 
   pub stored_sound : AreSoundBy k.geom (marks_of e k.marked) (drafted e m) → IsSoundDraft k m e
   stored_sound blocks = put_sound k d e (node_block k.geom number) c is.geom low high is.fits is.puts m is.sound blocks

@@ -10,14 +10,13 @@ use Rattle.layout_bytes.specs.declared.node.NodeKind.TheVariants.{Dir}
 use Rattle.layout_bytes.specs.Bytes.{are_zeros}
 use Rattle.engine_blocks.specs.Running.{has}
 use Rattle.engine_blocks.specs.State.{Bookkeeping}
-use Rattle.engine_blocks.specs.Puts.{IsData}
 use Rattle.crash_stands.specs.Files.{past_content, used_node, file_of, files_of}
 use Rattle.fs_files.specs.Calls.{IsWithFile}
 use Rattle.fs_files.specs.Content.{WritesContent}
 use Rattle.fs_files.specs.Drafts.{DraftState, drafted, marks_of}
 use Rattle.fs_files.specs.Sound.{FitsBooks, IsSoundDraft}
 use Rattle.fs_files.proofs.frames.Places.{used_data, used_marked}
-use Rattle.fs_files.proofs.frames.Rules.{rules_of, sound_from, writes_others, writes_marks, writes_fits, writes_rules}
+use Rattle.fs_files.proofs.frames.Rules.{rules_of, sound_from, writes_others, writes_marks, writes_rules}
 use Rattle.fs_files.proofs.frames.Steps.{both, all_of, content_changes}
 
 module _ (k : Bookkeeping) (m : Blocks) (number : ℕ) (node : Node) (class : Class) (bs : List ℕ) (d e : DraftState) (geom : IsGeometry k.geom) (fits : FitsBooks k d) (sound : IsSoundDraft k m d)
@@ -37,9 +36,6 @@ module _ (k : Bookkeeping) (m : Blocks) (number : ℕ) (node : Node) (class : Cl
       by : (has (run_places node.runs) b ≡ true) ⊎ (has (run_places node.runs) b ≡ false) → has (run_places node.runs) b ≡ false
       by (inl is) = absurd (omega (arith, (used_data k.geom (drafted d m) number node used b is).from, below))
       by (inr isnt) = isnt
-
-  pub written_fits : FitsBooks k e
-  written_fits = writes_fits k class bs d e writes geom (all_of (IsData k.geom) bs (λ b mine. used_data k.geom (drafted d m) number node used b (its b mine))) fits
 
   pub written_sound : All (λ b. length (drafted e m b) ≡ 1024) (run_places node.runs) → (node.kind ≡ Dir → IsTrue (are_zeros (past_content (drafted e m) node)))
       → IsSoundDraft k m e × IsWithFile (files_of k.geom (drafted d m)) (files_of k.geom (drafted e m)) number (Some (file_of (drafted e m) node))

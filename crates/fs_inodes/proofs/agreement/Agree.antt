@@ -1,6 +1,7 @@
 -- An inode map and its tree, in the form in which each change is proved: the tree is sound, its paths go on as the map's entries do, and nodes and links are those of the map.
 use Rattle.std.proofs.Common.{◌≡◌, ℕ, true≢false, List, [], ◌∷◌, ◌++◌, Option, Some, None, option_map, option_and_then, sym, refl, ap, ◌∙◌, append_assoc, append-nil}
 use Rattle.std.specs.FinMap.{get}
+use Rattle.std.proofs.lemmas.Option.{none-some}
 use Rattle.layout_bytes.specs.declared.slot.Slot.{Slot}
 use Rattle.lang_tree.specs.Tree.{Tree, Thing, IsSound, Dir}
 use Rattle.lang_tree.specs.Names.{path_count}
@@ -9,7 +10,7 @@ use Rattle.crash_stands.specs.Inodes.{Inode, Inodes, ADir, AFile, AreDistinct, t
 use Rattle.crash_stands.specs.Walks.{Entries, entries_of, entry_in, walk}
 use Rattle.crash_stands.specs.Maps.{IsMapOf}
 use Rattle.fs_inodes.specs.TreeLaws.{TreeLaws}
-use Rattle.fs_inodes.proofs.basics.Paths.{Path, none_some}
+use Rattle.fs_inodes.proofs.basics.Paths.{Path}
 
 -- Where paths lead goes on from each to the next by the entries.
 abbrev pub GoesOn : Entries → (Path → Option ℕ) → Type 0
@@ -42,18 +43,18 @@ onward e names goes here (x ∷ rest) k at = by (e k x) (goes here x ∙ ap (opt
 
 -- what has an entry is a directory
 pub dir_with : (o : Option Inode) (name : List ℕ) (n : ℕ) → entry_in o name ≡ Some n → (slots : List Slot) × (o ≡ Some (ADir slots))
-dir_with None name n e = absurd (none_some n refl e)
+dir_with None name n e = absurd (none-some n e)
 dir_with (Some (ADir slots)) name n e = (slots, refl)
-dir_with (Some (AFile links bytes)) name n e = absurd (none_some n refl e)
+dir_with (Some (AFile links bytes)) name n e = absurd (none-some n e)
 
 -- a thing of the tree is an inode's
 pub inode_with : (o : Option Inode) (x : Thing) → option_map thing_of o ≡ Some x → (y : Inode) × (o ≡ Some y)
-inode_with None x e = absurd (none_some x refl e)
+inode_with None x e = absurd (none-some x e)
 inode_with (Some y) x e = (y, refl)
 
 -- a directory of the tree is a directory's
 pub dir_in : (o : Option Inode) → option_map thing_of o ≡ Some Dir → (slots : List Slot) × (o ≡ Some (ADir slots))
-dir_in None e = absurd (none_some Dir refl e)
+dir_in None e = absurd (none-some Dir e)
 dir_in (Some (ADir slots)) e = (slots, refl)
 dir_in (Some (AFile links bytes)) e = absurd (true≢false (ap is_dir (sym e)))
 

@@ -1,7 +1,8 @@
 -- Where paths lead after entries change: the new paths go on by the new entries. It knows no slots, nodes or trees.
 use Rattle.std.proofs.Common.{◌≡◌, ℕ, List, [], ◌∷◌, ◌++◌, Option, Some, None, option_and_then, sym, ap, ◌∙◌, ◌⊎◌, inl, inr, append_assoc, append-nil}
+use Rattle.std.proofs.lemmas.Option.{none-some}
 use Rattle.crash_stands.specs.Walks.{Entries}
-use Rattle.fs_inodes.proofs.basics.Paths.{Path, none_some, which, which_entry, which_side, last_same, no_end, longer, from_end}
+use Rattle.fs_inodes.proofs.basics.Paths.{Path, which, which_entry, which_side, last_same, no_end, longer, from_end}
 use Rattle.fs_inodes.proofs.agreement.Agree.{GoesOn}
 
 -- Entry `name` of directory d became x, and no other entry changed.
@@ -46,7 +47,7 @@ module _ (e f : Entries) (old new : Path → Option ℕ) (goes : GoesOn e old) (
   put_step at b (inr stays) side = by (which (old at))
     where
       by_none : old at ≡ None → (at ++ b ∷ [] ≡ up ++ name ∷ []) ⊎ (new (at ++ b ∷ []) ≡ old (at ++ b ∷ [])) → new (at ++ b ∷ []) ≡ None
-      by_none none (inl same) = absurd (none_some d (ap old (sym (last_same at up b name same).0) ∙ none) at_up)
+      by_none none (inl same) = absurd (none-some d (sym (ap old (sym (last_same at up b name same).0) ∙ none) ∙ at_up))
       by_none none (inr as_old) = as_old ∙ no_step e old goes at b none
 
       by : (old at ≡ None) ⊎ ((k : ℕ) × (old at ≡ Some k)) → new (at ++ b ∷ []) ≡ option_and_then (λ k. f k b) (new at)
@@ -180,7 +181,7 @@ module _ (e f : Entries) (old new : Path → Option ℕ) (goes : GoesOn e old) (
     from_nowhere none = by (which_side (up ++ name ∷ []) (at ++ b ∷ [])) (which_side (to ++ other ∷ []) (at ++ b ∷ []))
       where
         out_to : ((at ≡ to) × (b ≡ other)) ⊎ ((s : Path) × (at ≡ (to ++ other ∷ []) ++ s)) → ⊥
-        out_to (inl both) = none_some c (ap old (sym both.0) ∙ none) at_to
+        out_to (inl both) = none-some c (sym (ap old (sym both.0) ∙ none) ∙ at_to)
         out_to (inr s) = off_to s.0 s.1
 
         by : ((r : Path) × (at ++ b ∷ [] ≡ (up ++ name ∷ []) ++ r)) ⊎ ((r : Path) → at ++ b ∷ [] ≡ (up ++ name ∷ []) ++ r → ⊥)

@@ -2,11 +2,11 @@
 use Rattle.std.proofs.Common.{◌≡◌, ℕ, zero, suc, ◌+◌, ◌≤◌, ◌<◌, Bool, true, false, cond, Option, Some, None, option_map, is_none, find, sym, refl, ap, ◌∙◌, arith}
 use Rattle.std.specs.List.{range_with_len}
 use Rattle.std.specs.FinMap.{get}
+use Rattle.std.proofs.lemmas.Option.{same_Some, none-some}
 use Rattle.lang_tree.specs.Tree.{Nodes}
 use Rattle.lang_tree.specs.Conditions.{least_unused}
 use Rattle.crash_stands.specs.Inodes.{Inodes, thing_of}
 use Rattle.fs_inodes.specs.Lookups.{least_free}
-use Rattle.fs_inodes.proofs.basics.Paths.{none_some, some_same}
 
 -- functions that agree everywhere are the same
 pub everywhere : {A B : Type 0} (f h : A → B) → ((k : A) → f k ≡ h k) → f ≡ h
@@ -25,12 +25,12 @@ unused_is_free limit m nodes same =
 
 -- what is found in a range passes the test and lies there
 found_in : (test : ℕ → Bool) (a n m : ℕ) → find test (range_with_len a n) ≡ Some m → (test m ≡ true) × (a ≤ m) × (m < a + n)
-found_in test a zero m e = absurd (none_some m refl e)
+found_in test a zero m e = absurd (none-some m e)
 found_in test a (suc n) m e = by (test a) refl (found_in test (a + 1) n m) e
   where
     by : (b : Bool) → test a ≡ b → (find test (range_with_len (a + 1) n) ≡ Some m → (test m ≡ true) × (a + 1 ≤ m) × (m < a + 1 + n))
         → cond b (Some a) (find test (range_with_len (a + 1) n)) ≡ Some m → (test m ≡ true) × (a ≤ m) × (m < a + suc n)
-    by true is go e = let same : a ≡ m = some_same a m e in (ap test (sym same) ∙ is, omega (arith, same), omega (arith, same))
+    by true is go e = let same : a ≡ m = same_Some a m e in (ap test (sym same) ∙ is, omega (arith, same), omega (arith, same))
     by false is go e = let r = go e in (r.0, omega (arith, r.1), omega (arith, r.2))
 
 -- what is none is none

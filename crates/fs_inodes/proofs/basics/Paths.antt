@@ -1,21 +1,14 @@
 -- Options, and paths by their last name.
-use Rattle.std.proofs.Common.{◌≡◌, ℕ, suc, Bool, true, false, List, [], ◌∷◌, ◌++◌, ◌-◌, length, take, bytes_eq, Option, Some, None, is_some, if◌then◌else◌, refl, sym, ap, ◌∙◌, ◌⊎◌, inl, inr, length-append, arith, true≢false}
+use Rattle.std.proofs.Common.{◌≡◌, ℕ, Bool, true, false, List, [], ◌∷◌, ◌++◌, ◌-◌, length, bytes_eq, Option, Some, None, is_some, if◌then◌else◌, refl, sym, ap, ◌∙◌, ◌⊎◌, inl, inr, length-append, arith, true≢false, take_at}
 use Rattle.std.proofs.lemmas.Bool.{cases_Bool, cases_eq}
 use Rattle.std.proofs.lemmas.List.{same_from_push}
 use Rattle.std.proofs.lemmas.Slice.Eq.{bytes_eq-Decides}
+use Rattle.std.proofs.lemmas.Option.{same_Some, none-some}
 use Rattle.lang_tree.specs.Paths.{strip, is_within, parent}
 
 -- a path as the list of its names
 abbrev pub Path : Type 0
 Path = List (List ℕ)
-
--- nothing isn't something
-pub none_some : {A : Type 0} {o : Option A} (x : A) → o ≡ None → o ≡ Some x → ⊥
-none_some x none some = cc
-
--- something is one thing
-pub some_same : {A : Type 0} (x y : A) → Some x ≡ Some y → x ≡ y
-some_same x y e = cc
 
 -- what isn't something is nothing
 pub lacks : {A : Type 0} (o : Option A) → is_some o ≡ false → o ≡ None
@@ -69,19 +62,9 @@ no_end (x ∷ p) a e = cc
 pub longer : (p : Path) (a : List ℕ) → p ++ a ∷ [] ≡ p → ⊥
 longer p a e = omega (arith, length-append p (a ∷ []), ap length e)
 
--- a number less two and one
-one_less : (n : ℕ) → suc (suc n) - 1 ≡ suc (suc n - 1)
-one_less n = omega arith
-
--- one name more in front
-parent_longer : (x : List ℕ) (up : Path) (name : List ℕ) → parent (x ∷ (up ++ name ∷ [])) ≡ x ∷ parent (up ++ name ∷ [])
-parent_longer x [] name = refl
-parent_longer x (y ∷ up) name = ap (λ n. take n (x ∷ (y ∷ (up ++ name ∷ [])))) (one_less (length (up ++ name ∷ [])))
-
 -- the parent of a path with a last name is the path before it
 pub parent_end : (up : Path) (name : List ℕ) → parent (up ++ name ∷ []) ≡ up
-parent_end [] name = refl
-parent_end (x ∷ up) name = parent_longer x up name ∙ ap (λ rest. x ∷ rest) (parent_end up name)
+parent_end up name = take_at up (name ∷ []) (length (up ++ name ∷ []) - 1) (omega (arith, length-append up (name ∷ [])))
 
 -- a path is the root, or it has a last name
 pub from_end : (p : Path) → (p ≡ []) ⊎ ((up : Path) × (name : List ℕ) × (p ≡ up ++ name ∷ []))
@@ -94,13 +77,13 @@ from_end (a ∷ p) = by (from_end p)
 
 -- what is left of a path is behind its front
 pub strip_is : (p q r : Path) → strip p q ≡ Some r → q ≡ p ++ r
-strip_is [] q r e = some_same q r e
-strip_is (a ∷ p) [] r e = absurd (none_some r refl e)
+strip_is [] q r e = same_Some q r e
+strip_is (a ∷ p) [] r e = absurd (none-some r e)
 strip_is (a ∷ p) (b ∷ q) r e = by (bytes_eq a b) refl (strip_is p q r) e
   where
     by : (t : Bool) → bytes_eq a b ≡ t → (strip p q ≡ Some r → q ≡ p ++ r) → (if t then strip p q else None) ≡ Some r → b ∷ q ≡ (a ∷ p) ++ r
     by true is go e = let same : a ≡ b = (bytes_eq-Decides a b).0 is in let rest = go e in cc
-    by false is go e = absurd (none_some r refl e)
+    by false is go e = absurd (none-some r e)
 
 -- a path behind its front is what is left
 pub strip_join : (p r : Path) → strip p (p ++ r) ≡ Some r
@@ -116,7 +99,7 @@ pub which_side : (p q : Path) → ((r : Path) × (q ≡ p ++ r)) ⊎ ((r : Path)
 which_side p q = by (which (strip p q))
   where
     by : (strip p q ≡ None) ⊎ ((r : Path) × (strip p q ≡ Some r)) → ((r : Path) × (q ≡ p ++ r)) ⊎ ((r : Path) → q ≡ p ++ r → ⊥)
-    by (inl none) = inr (λ r e. none_some r none (ap (strip p) e ∙ strip_join p r))
+    by (inl none) = inr (λ r e. none-some r (sym none ∙ ap (strip p) e ∙ strip_join p r))
     by (inr some) = inl (some.0, strip_is p q some.0 some.1)
 
 -- a path that doesn't begin with another one doesn't lie there

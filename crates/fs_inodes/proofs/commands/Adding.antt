@@ -2,6 +2,7 @@
 use Rattle.std.proofs.Common.{◌≡◌, ℕ, zero, suc, ◌+◌, ◌≤◌, ◌==◌, if◌then◌else◌, List, [], ◌∷◌, ◌++◌, slice_get, Option, Some, None, option_map, sym, refl, ap, ◌∙◌, ◌⊎◌, inl, inr, arith, eq-eqb, ne_eqb}
 use Rattle.std.proofs.lemmas.Bool.{cases_eq}
 use Rattle.std.specs.FinMap.{get, insert}
+use Rattle.std.proofs.lemmas.Option.{same_Some, none-some}
 use Rattle.layout_bytes.specs.declared.slot.Slot.{Slot}
 use Rattle.lang_tree.specs.Tree.{Tree, Thing, Dir, File}
 use Rattle.lang_tree.specs.Paths.{parent}
@@ -10,7 +11,7 @@ use Rattle.crash_stands.specs.Inodes.{Inode, Inodes, ADir, AFile, AreDistinct, t
 use Rattle.crash_stands.specs.Walks.{entries_of, entry_in, node_in}
 use Rattle.fs_inodes.specs.Changes.{slot_of, new_inode, AddsSlot, AddsName}
 use Rattle.fs_inodes.specs.TreeLaws.{TreeLaws}
-use Rattle.fs_inodes.proofs.basics.Paths.{Path, none_some, some_same, parent_end}
+use Rattle.fs_inodes.proofs.basics.Paths.{Path, parent_end}
 use Rattle.fs_inodes.proofs.basics.FinMaps.{name_here, name_look, node_here, node_other}
 use Rattle.fs_inodes.proofs.slots.Slots.{added_distinct, added_here, added_other}
 use Rattle.fs_inodes.proofs.agreement.Steps.{EntryIs, step_at, put_goes}
@@ -112,7 +113,7 @@ module _ (laws : TreeLaws) (limit : ℕ) (m new : Inodes) (t : Tree) (a : Agrees
 
       by : (k ≡ d) ⊎ (k ≡ d → ⊥) → (k ≡ n) ⊎ (k ≡ n → ⊥) → AreDistinct slots
       by (inl e) side = as_added slots (one_dir slots ch.under.after (ap new (sym e) ∙ is) ch.under.now)
-      by (inr away) (inl e) = own slots (some_same x (ADir slots) (sym ch.named ∙ ap new (sym e) ∙ is))
+      by (inr away) (inl e) = own slots (same_Some x (ADir slots) (sym ch.named ∙ ap new (sym e) ∙ is))
       by (inr away) (inr far) = a.distinct k slots (sym (ch.others k away far) ∙ is)
 
   -- a number that no node has has no path
@@ -124,7 +125,7 @@ module _ (laws : TreeLaws) (limit : ℕ) (m new : Inodes) (t : Tree) (a : Agrees
       by (suc c) is =
           let p = laws.count_found t.names n (omega (arith, is)) in
           let y = a.sound.named p.0 n p.1 in
-          absurd (none_some y.0 (a.nodes n ∙ ap (option_map thing_of) none) y.1)
+          absurd (none-some y.0 (sym (a.nodes n ∙ ap (option_map thing_of) none) ∙ y.1))
 
   -- A new node.
   module _ (thing : Thing) (is_new : x ≡ new_inode thing) (unused : m n ≡ None) (low : 1 ≤ n) (high : n ≤ limit) where
@@ -140,7 +141,7 @@ module _ (laws : TreeLaws) (limit : ℕ) (m new : Inodes) (t : Tree) (a : Agrees
 
     -- it has no slots
     new_distinct : (y : Thing) (slots : List Slot) → new_inode y ≡ ADir slots → AreDistinct slots
-    new_distinct Dir slots e = λ i j s u at_i at_j same. absurd (none_some s refl (ap (λ l. slice_get l i) (none_in slots e) ∙ at_i))
+    new_distinct Dir slots e = λ i j s u at_i at_j same. absurd (none-some s (ap (λ l. slice_get l i) (none_in slots e) ∙ at_i))
       where
         none_in : (slots : List Slot) → ADir [] ≡ ADir slots → [] ≡ slots
         none_in slots e = cc
@@ -170,7 +171,7 @@ module _ (laws : TreeLaws) (limit : ℕ) (m new : Inodes) (t : Tree) (a : Agrees
         by : (k ≡ d) ⊎ (k ≡ d → ⊥) → (k ≡ n) ⊎ (k ≡ n → ⊥) → path_count (insert t.names (up ++ name ∷ []) n) k ≡ links
         by (inl e) side = absurd (dir_file ch.under.after links bytes (ap new e ∙ ch.under.now) is)
         by (inr away) (inl e) =
-            let one = one_link thing links bytes (some_same _ (AFile links bytes) (sym (ch.named ∙ ap Some is_new) ∙ ap new (sym e) ∙ is)) in
+            let one = one_link thing links bytes (same_Some _ (AFile links bytes) (sym (ch.named ∙ ap Some is_new) ∙ ap new (sym e) ∙ is)) in
             let none : path_count t.names k ≡ 0 = ap (path_count t.names) e ∙ no_paths unused in
             omega (arith, count, counts_one n k (sym e), none, one)
         by (inr away) (inr off) = omega (arith, count, counts_none n k (λ e. off (sym e)), a.links k links bytes (sym (ch.others k away off) ∙ is))

@@ -1,5 +1,6 @@
 -- The short runs, step by step: the inode map that the code would make, and the tree that goes with it.
 use Rattle.std.proofs.Common.{◌≡◌, ◌≢◌, ℕ, ◌==◌, false, List, [], ◌∷◌, codes, Option, Some, None, sym, refl, ap, subst, ◌∙◌, arith}
+use Rattle.std.proofs.lemmas.Option.{same_Some, none-some}
 use Rattle.layout_bytes.specs.declared.slot.Slot.{Slot}
 use Rattle.lang_tree.specs.declared.command.Cmd.{Cmd}
 use Rattle.lang_tree.specs.declared.command.Cmd.TheVariants.{Mkdir, Create, Write, Link, Unlink, Rename}
@@ -12,7 +13,6 @@ use Rattle.fs_inodes.specs.Lookups.{least_free, slots_of}
 use Rattle.fs_inodes.specs.Refusals.{reason}
 use Rattle.fs_inodes.specs.Examples.{after, short_run, run_of_moves}
 use Rattle.fs_inodes.specs.TreeLaws.{TreeLaws}
-use Rattle.fs_inodes.proofs.basics.Paths.{none_some, some_same}
 use Rattle.fs_inodes.proofs.agreement.Agree.{agrees}
 use Rattle.fs_inodes.proofs.lookups.Reasons.{reason_given}
 use Rattle.fs_inodes.proofs.commands.Made.{sets, adds, takes, moves}
@@ -64,7 +64,7 @@ differ i j e = grind (arith, e)
 
 -- and so do options that hold them
 differ_in : (i j : ℕ) → (i == j) ≡ false → Some i ≢ Some j
-differ_in i j e same = differ i j e (some_same i j same)
+differ_in i j e same = differ i j e (same_Some i j same)
 
 -- the sessions in between
 abbrev s1 : Session
@@ -110,7 +110,7 @@ module _ (laws : TreeLaws) where
   has4 : Has s4 m4
   has4 = go laws s3 m3 m4 (Rename (codes "g" ∷ []) (codes "a" ∷ codes "h" ∷ [])) has3 refl
       (λ is accepts. rename_shown laws s3 m3 m4 is [] (codes "a" ∷ []) (codes "g") (codes "h") 1 2 3 accepts refl refl
-      (moves m3 1 2 3 1 (codes "g") (codes "h") (slot_of 2 (codes "a") ∷ slot_of 3 (codes "g") ∷ []) (slot_of 3 (codes "f") ∷ []) refl refl refl (none_some 3 refl) (none_some 1 refl) (none_some 2 refl)))
+      (moves m3 1 2 3 1 (codes "g") (codes "h") (slot_of 2 (codes "a") ∷ slot_of 3 (codes "g") ∷ []) (slot_of 3 (codes "f") ∷ []) refl refl refl (none-some 3) (none-some 1) (none-some 2)))
 
   -- after the unlink
   has5 : Has s5 m5
@@ -219,7 +219,7 @@ module _ (laws : TreeLaws) where
   holds4 : Has t4 n4
   holds4 = go laws t3 n3 n4 (Rename (codes "f" ∷ []) (codes "h" ∷ [])) holds3 refl
       (λ is accepts. rename_shown laws t3 n3 n4 is [] [] (codes "f") (codes "h") 1 1 2 accepts refl refl
-      (moves n3 1 1 2 0 (codes "f") (codes "h") (slots_of (n3 1)) (slots_of (n3 1)) refl refl refl (none_some 2 refl) (none_some 1 refl) (none_some 1 refl)))
+      (moves n3 1 1 2 0 (codes "f") (codes "h") (slots_of (n3 1)) (slots_of (n3 1)) refl refl refl (none-some 2) (none-some 1) (none-some 1)))
 
   -- onto a file of the same directory
   holds5 : Has t5 n5
@@ -231,7 +231,7 @@ module _ (laws : TreeLaws) where
   holds6 : Has t6 n6
   holds6 = go laws t5 n5 n6 (Rename (codes "h" ∷ []) (codes "a" ∷ codes "f" ∷ [])) holds5 refl
       (λ is accepts. rename_shown laws t5 n5 n6 is [] (codes "a" ∷ []) (codes "h") (codes "f") 1 4 3 accepts refl refl
-      (moves n5 1 4 3 0 (codes "h") (codes "f") (slots_of (n5 1)) [] refl refl refl (none_some 3 refl) (none_some 1 refl) (none_some 4 refl)))
+      (moves n5 1 4 3 0 (codes "h") (codes "f") (slots_of (n5 1)) [] refl refl refl (none-some 3) (none-some 1) (none-some 4)))
 
   -- after the third create
   holds7 : Has t7 n7

@@ -2,6 +2,7 @@
 use Rattle.std.proofs.Common.{◌≡◌, ℕ, ◌+◌, ◌-◌, ◌==◌, Bool, true, false, if◌then◌else◌, List, Option, Some, None, option_map, option_and_then, sym, refl, ap, ◌∙◌, ◌⊎◌, inl, inr, arith, eq-eqb, ne_eqb}
 use Rattle.std.proofs.lemmas.Bool.{cases_eq}
 use Rattle.std.specs.FinMap.{get, remove}
+use Rattle.std.proofs.lemmas.Option.{none-some}
 use Rattle.layout_bytes.specs.declared.slot.Slot.{Slot}
 use Rattle.lang_tree.specs.Tree.{Tree, Thing, File}
 use Rattle.lang_tree.specs.Names.{path_count}
@@ -10,7 +11,7 @@ use Rattle.crash_stands.specs.Inodes.{Inode, Inodes, ADir, AFile, thing_of}
 use Rattle.crash_stands.specs.Walks.{entry_in}
 use Rattle.fs_inodes.specs.Changes.{one_link_less}
 use Rattle.fs_inodes.specs.TreeLaws.{TreeLaws}
-use Rattle.fs_inodes.proofs.basics.Paths.{Path, none_some}
+use Rattle.fs_inodes.proofs.basics.Paths.{Path}
 use Rattle.fs_inodes.proofs.basics.FinMaps.{node_gone, node_stays}
 use Rattle.fs_inodes.proofs.commands.Adding.{one_if, counts_one, dir_file, one_file}
 use Rattle.fs_inodes.proofs.agreement.Agree.{Agrees}
@@ -27,23 +28,23 @@ left_empty (Some (AFile links bytes)) b = by (links == 1) _
 
 -- what is left isn't a directory
 pub left_no_dir : (o : Option Inode) (slots : List Slot) → option_and_then one_link_less o ≡ Some (ADir slots) → ⊥
-left_no_dir None slots e = none_some (ADir slots) refl e
-left_no_dir (Some (ADir others)) slots e = none_some (ADir slots) refl e
+left_no_dir None slots e = none-some (ADir slots) e
+left_no_dir (Some (ADir others)) slots e = none-some (ADir slots) e
 left_no_dir (Some (AFile links bytes)) slots e = by (links == 1) _ e
   where
     by : (t : Bool) (less : ℕ) → (if t then None else Some (AFile less bytes)) ≡ Some (ADir slots) → ⊥
-    by true less e = none_some (ADir slots) refl e
+    by true less e = none-some (ADir slots) e
     by false less e = dir_file slots less bytes refl (sym e)
 
 -- a file that is left had one link more
 pub left_links : (o : Option Inode) (links : ℕ) (bytes : List ℕ) → option_and_then one_link_less o ≡ Some (AFile links bytes)
     → (old : ℕ) × (o ≡ Some (AFile old bytes)) × (links ≡ old - 1)
-left_links None links bytes e = absurd (none_some (AFile links bytes) refl e)
-left_links (Some (ADir slots)) links bytes e = absurd (none_some (AFile links bytes) refl e)
+left_links None links bytes e = absurd (none-some (AFile links bytes) e)
+left_links (Some (ADir slots)) links bytes e = absurd (none-some (AFile links bytes) e)
 left_links (Some (AFile old more)) links bytes e = by (old == 1) e
   where
     by : (t : Bool) → (if t then None else Some (AFile (old - 1) more)) ≡ Some (AFile links bytes) → (before : ℕ) × (Some (AFile old more) ≡ Some (AFile before bytes)) × (links ≡ before - 1)
-    by true e = absurd (none_some (AFile links bytes) refl e)
+    by true e = absurd (none-some (AFile links bytes) e)
     by false e = (old, ap (λ b. Some (AFile old b)) (bytes_same e), one_file links (old - 1) bytes more refl (sym e))
       where
         bytes_same : Some (AFile (old - 1) more) ≡ Some (AFile links bytes) → more ≡ bytes
@@ -96,7 +97,7 @@ module _ (laws : TreeLaws) (limit : ℕ) (m : Inodes) (t : Tree) (a : Agrees lim
           ∙ sym (ap (λ b. option_map thing_of (if b then None else Some (AFile (links - 1) bytes))) (ne_eqb links 1 more))
 
       by : (o : Option Inode) → m n ≡ o → nodes_left (get t.nodes n) (path_count (remove t.names path) n == 0) ≡ option_map thing_of (option_and_then one_link_less o)
-      by None is = let x = a.sound.named path n there in absurd (none_some x.0 (a.nodes n ∙ ap (option_map thing_of) is) x.1)
+      by None is = let x = a.sound.named path n there in absurd (none-some x.0 (sym (a.nodes n ∙ ap (option_map thing_of) is) ∙ x.1))
       by (Some (ADir slots)) is =
           let one = laws.count_dir limit t path n a.sound there (a.nodes n ∙ ap (option_map thing_of) is) in
           ap (nodes_left (get t.nodes n)) (zero_left (path_count (remove t.names path) n) (omega (arith, one_less_here, one)))

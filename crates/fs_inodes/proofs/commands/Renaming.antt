@@ -2,6 +2,7 @@
 use Rattle.std.proofs.Common.{◌≡◌, ℕ, false, List, [], ◌∷◌, ◌++◌, slice_get, Option, Some, None, option_map, option_and_then, sym, refl, ap, ap₂, ◌∙◌, ◌⊎◌, inl, inr, arith, ne_eqb}
 use Rattle.std.proofs.lemmas.Bool.{cases_eq}
 use Rattle.std.specs.FinMap.{get, remove}
+use Rattle.std.proofs.lemmas.Option.{same_Some, none-some}
 use Rattle.layout_bytes.specs.declared.slot.Slot.{Slot}
 use Rattle.layout_directory.specs.Directory.{without_at}
 use Rattle.lang_tree.specs.declared.command.Cmd.TheVariants.{Rename}
@@ -14,7 +15,7 @@ use Rattle.crash_stands.specs.Inodes.{Inodes, ADir, AFile, AreDistinct, thing_of
 use Rattle.crash_stands.specs.Walks.{entries_of, entry_in, node_in}
 use Rattle.fs_inodes.specs.Changes.{slot_of, with_slot, one_link_less, MovesSlot, MovesName}
 use Rattle.fs_inodes.specs.TreeLaws.{TreeLaws}
-use Rattle.fs_inodes.proofs.basics.Paths.{Path, none_some, some_same, which}
+use Rattle.fs_inodes.proofs.basics.Paths.{Path, which}
 use Rattle.fs_inodes.proofs.slots.Slots.{finds, taken_distinct, taken_here, taken_other}
 use Rattle.fs_inodes.proofs.slots.NamePlaces.{Puts, puts}
 use Rattle.fs_inodes.proofs.agreement.Steps.{step_at}
@@ -40,12 +41,12 @@ not_same n (Some w) off = ne_eqb n w (λ e. off (ap Some (sym e)))
 
 -- an option holds a number, or not
 holds_number : (o : Option ℕ) (k : ℕ) → (o ≡ Some k) ⊎ (o ≡ Some k → ⊥)
-holds_number None k = inr (λ e. none_some k refl e)
+holds_number None k = inr (λ e. none-some k e)
 holds_number (Some w) k = by (cases_eq w k)
   where
     by : (w ≡ k) ⊎ (w ≡ k → ⊥) → (Some w ≡ Some k) ⊎ (Some w ≡ Some k → ⊥)
     by (inl e) = inl (ap Some e)
-    by (inr off) = inr (λ e. off (some_same w k e))
+    by (inr off) = inr (λ e. off (same_Some w k e))
 
 -- What holds of all numbers but w holds of w too, which loses a path.
 module _ (laws : TreeLaws) (limit : ℕ) (m new : Inodes) (t : Tree) (a : Agrees limit m t) (target : Path) (w : ℕ) (there : get t.names target ≡ Some w)
@@ -255,18 +256,18 @@ module _ (laws : TreeLaws) (s : Session) (m new : Inodes) (a : Agrees s.limit m 
   nodes_left k = by (which (node_in ch.target other))
     where
       by : (node_in ch.target other ≡ None) ⊎ ((w : ℕ) × (node_in ch.target other ≡ Some w)) → get (removed s.tree (to ++ other ∷ [])).nodes k ≡ option_map thing_of (new k)
-      by (inl none) = ap (λ t. get t.nodes k) (ap (removed_by s.tree (to ++ other ∷ [])) (second_path ∙ none)) ∙ a.nodes k ∙ alike k (λ e. none_some k none e)
+      by (inl none) = ap (λ t. get t.nodes k) (ap (removed_by s.tree (to ++ other ∷ [])) (second_path ∙ none)) ∙ a.nodes k ∙ alike k (λ e. none-some k (sym none ∙ e))
       by (inr some) = nodes_onto laws s.limit m new s.tree a (to ++ other ∷ []) some.0 (second_path ∙ some.1) (ch.left some.0 some.1)
-          (λ j off. alike j (λ e. off (some_same j some.0 (sym e ∙ some.1)))) k
+          (λ j off. alike j (λ e. off (same_Some j some.0 (sym e ∙ some.1)))) k
 
   -- and each file has as many paths as links
   links_left : (k links : ℕ) (bytes : List ℕ) → new k ≡ Some (AFile links bytes) → path_count (removed s.tree (to ++ other ∷ [])).names k ≡ links
   links_left k links bytes is = by (which (node_in ch.target other))
     where
       by : (node_in ch.target other ≡ None) ⊎ ((w : ℕ) × (node_in ch.target other ≡ Some w)) → path_count (removed s.tree (to ++ other ∷ [])).names k ≡ links
-      by (inl none) = ap (λ t. path_count t.names k) (ap (removed_by s.tree (to ++ other ∷ [])) (second_path ∙ none)) ∙ a.links k links bytes (file_same k links bytes (λ e. none_some k none e) is)
+      by (inl none) = ap (λ t. path_count t.names k) (ap (removed_by s.tree (to ++ other ∷ [])) (second_path ∙ none)) ∙ a.links k links bytes (file_same k links bytes (λ e. none-some k (sym none ∙ e)) is)
       by (inr some) = links_onto laws s.limit m new s.tree a (to ++ other ∷ []) some.0 (second_path ∙ some.1) (ch.left some.0 some.1)
-          (λ j l bs off. file_same j l bs (λ e. off (some_same j some.0 (sym e ∙ some.1)))) k links bytes is
+          (λ j l bs off. file_same j l bs (λ e. off (same_Some j some.0 (sym e ∙ some.1)))) k links bytes is
 
   -- the new map is that of the tree after the move
   pub renamed_agrees : Agrees s.limit new (step s (Rename (up ++ name ∷ []) (to ++ other ∷ []))).0.tree

@@ -6,6 +6,7 @@ use Rattle.std.specs.declared.cmp.Ordering.{Ordering}
 use Rattle.std.specs.declared.cmp.Ordering.TheVariants.{Less, Equal, Greater}
 use Rattle.std.specs.FinMap.{get, entries, find, put, is_sorted, entries_sorted, get-entries, entries-insert, len-empty, len-entries, empty}
 use Rattle.std.specs.FinMap.Entries.{by_order}
+use Rattle.std.proofs.lemmas.Option.{same_Some, none-some}
 use Rattle.layout_bytes.specs.declared.slot.Slot.{Slot}
 use Rattle.lang_tree.specs.Tree.{Tree, Dir, path_cmp}
 use Rattle.lang_tree.specs.Paths.{name_in}
@@ -16,7 +17,7 @@ use Rattle.fs_inodes.specs.Lookups.{slots_of, inode_at}
 use Rattle.fs_inodes.specs.Names.{row_in}
 use Rattle.fs_inodes.specs.Links.{naming, naming_from, slots_naming}
 use Rattle.fs_inodes.specs.TreeLaws.{TreeLaws}
-use Rattle.fs_inodes.proofs.basics.Paths.{Path, none_some, some_same, which, from_end, last_same}
+use Rattle.fs_inodes.proofs.basics.Paths.{Path, which, from_end, last_same}
 use Rattle.fs_inodes.proofs.basics.FinMaps.{path_total, path_same, tied, which_key}
 use Rattle.fs_inodes.proofs.agreement.Agree.{Agrees}
 use Rattle.fs_inodes.proofs.commands.Adding.{dir_file}
@@ -44,7 +45,7 @@ put_in_row n b v (e ∷ es) none = by (name_cmp b e.0) none (put_in_row n b v es
     by : (o : Ordering) → cond (is_eq o) (Some e.1) (find name_cmp b es) ≡ None → (find name_cmp b es ≡ None → in_row n (put name_cmp b v es) ≡ (if v == n then 1 else 0) + in_row n es)
         → in_row n (by_order o ((b, v) ∷ e ∷ es) ((e.0, v) ∷ es) (e ∷ put name_cmp b v es)) ≡ (if v == n then 1 else 0) + in_row n (e ∷ es)
     by Less none go = refl
-    by Equal none go = absurd (none_some e.1 none refl)
+    by Equal none go = absurd (none-some e.1 (sym none))
     by Greater none go = ap (λ k. (if e.1 == n then 1 else 0) + k) (go none) ∙ swap_ones (if e.1 == n then 1 else 0) (if v == n then 1 else 0) (in_row n es)
 
 -- an empty row has no entries
@@ -150,7 +151,7 @@ module _ (e : Path × ℕ) (up : Path) (name : List ℕ) (is : e.0 ≡ up ++ nam
   no_parent (p ∷ ps) none = by (which_key path_total path_same up p.0) none (no_parent ps)
     where
       by : (up ≡ p.0) ⊎ (eq_by_cmp path_cmp up p.0 ≡ false) → cond (eq_by_cmp path_cmp up p.0) (Some p.1) (find path_cmp up ps) ≡ None → (find path_cmp up ps ≡ None → parents_of ps e ≡ 0) → parents_of (p ∷ ps) e ≡ 0
-      by (inl same) none go = absurd (none_some p.1 none (ap (λ b. cond b (Some p.1) (find path_cmp up ps)) (tied path_total path_same up p.0 same)))
+      by (inl same) none go = absurd (none-some p.1 (sym none ∙ ap (λ b. cond b (Some p.1) (find path_cmp up ps)) (tied path_total path_same up p.0 same)))
       by (inr off) none go =
           let rest = go (sym (ap (λ b. cond b (Some p.1) (find path_cmp up ps)) off) ∙ none) in
           let here = in_no_other p.0 (λ same. true≢false (sym (tied path_total path_same up p.0 (sym same)) ∙ off)) in
@@ -158,7 +159,7 @@ module _ (e : Path × ℕ) (up : Path) (name : List ℕ) (is : e.0 ≡ up ++ nam
 
   -- and one where it is
   one_parent : (ps : List (Path × ℕ)) (k : ℕ) → T (is_sorted path_cmp ps) → find path_cmp up ps ≡ Some k → parents_of ps e ≡ 1
-  one_parent [] k h at = absurd (none_some k refl at)
+  one_parent [] k h at = absurd (none-some k at)
   one_parent (p ∷ ps) k h at = by (which_key path_total path_same up p.0) at (one_parent ps k (both_of _ _ h).1)
     where
       by : (up ≡ p.0) ⊎ (eq_by_cmp path_cmp up p.0 ≡ false) → cond (eq_by_cmp path_cmp up p.0) (Some p.1) (find path_cmp up ps) ≡ Some k → (find path_cmp up ps ≡ Some k → parents_of ps e ≡ 1) → parents_of (p ∷ ps) e ≡ 1
@@ -177,7 +178,7 @@ module _ (laws : TreeLaws) (limit : ℕ) (m : Inodes) (t : Tree) (a : Agrees lim
   parent_counted e at = by (e.1 == n) refl
     where
       counted : e.1 ≡ n → (e.0 ≡ []) ⊎ ((up : Path) × (name : List ℕ) × (e.0 ≡ up ++ name ∷ [])) → parents_of (entries t.names) e ≡ 1
-      counted same (inl root) = absurd (not_root (some_same n 1 (ap Some (sym same) ∙ sym at ∙ ap (get t.names) root ∙ a.sound.root)))
+      counted same (inl root) = absurd (not_root (same_Some n 1 (ap Some (sym same) ∙ sym at ∙ ap (get t.names) root ∙ a.sound.root)))
       counted same (inr end) =
           let up = a.sound.parents end.0 end.1 e.1 (ap (get t.names) (sym end.2) ∙ at) in
           one_parent e end.0 end.1 end.2 (entries t.names) up.0 (entries_sorted t.names) (sym (get-entries t.names end.0) ∙ up.1)

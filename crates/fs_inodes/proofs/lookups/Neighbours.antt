@@ -2,12 +2,13 @@
 use Rattle.std.proofs.Common.{◌≡◌, ℕ, ◌==◌, false, List, [], ◌∷◌, ◌++◌, Some, None, is_some, option_map, sym, ap, ◌∙◌, ◌⊎◌, inl, inr, eq-eqb, ne_eqb}
 use Rattle.std.proofs.lemmas.Bool.{cases_eq}
 use Rattle.std.specs.FinMap.{get}
+use Rattle.std.proofs.lemmas.Option.{same_Some}
 use Rattle.layout_bytes.specs.declared.slot.Slot.{Slot}
 use Rattle.lang_tree.specs.Tree.{Tree}
 use Rattle.lang_tree.specs.Paths.{name_in}
 use Rattle.lang_tree.specs.Figures.{are_in_one}
 use Rattle.crash_stands.specs.Inodes.{Inodes, ADir, thing_of}
-use Rattle.fs_inodes.proofs.basics.Paths.{Path, some_same, which, last_same, parent_end}
+use Rattle.fs_inodes.proofs.basics.Paths.{Path, which, last_same, parent_end}
 use Rattle.fs_inodes.proofs.agreement.Agree.{Agrees}
 use Rattle.fs_inodes.proofs.lookups.Rows.{lone_is, lone_at}
 
@@ -31,4 +32,4 @@ module _ (limit : ℕ) (m : Inodes) (t : Tree) (a : Agrees limit m t) (up to : P
           none (inl e) = ap is_some e
           none (inr some) =
               let same = last_same to up other some.0 (lone_is up (to ++ other ∷ []) some.0 some.1) in
-              absurd (off (some_same d c (sym at_up ∙ ap (get t.names) (sym same.0) ∙ at_to)))
+              absurd (off (same_Some d c (sym at_up ∙ ap (get t.names) (sym same.0) ∙ at_to)))

@@ -1,7 +1,7 @@
 -- The names of a directory's slots, sorted, are the names that the tree has there.
 use Rattle.std.proofs.Common.{◌≡◌, ℕ, zero, suc, ◌<◌, Bool, true, false, true≢false, cond, T, List, [], ◌∷◌, map, length, get_or, set, slice_get, Some, None, is_some, refl, sym, ap, ◌∙◌, ◌⊎◌, inl, inr, arith}
 use Rattle.std.proofs.lemmas.Bool.{cases_eq}
-use Rattle.std.proofs.lemmas.Option.{slice_get-get_or, slice_get_within, get_or_from_slice_get}
+use Rattle.std.proofs.lemmas.Option.{slice_get-get_or, slice_get_within, get_or_from_slice_get, same_Some, none-some}
 use Rattle.std.proofs.lemmas.List.Sorted.{IsPermutation-keeps, IsPermutation-sym, All-permutation, sorted_far, ranks_by}
 use Rattle.std.specs.List.{All, swap}
 use Rattle.std.specs.List.Sorted.{IsPermutation, IsSorted}
@@ -13,7 +13,7 @@ use Rattle.std.specs.FinMap.Entries.{below_all}
 use Rattle.layout_bytes.specs.declared.slot.Slot.{Slot}
 use Rattle.crash_stands.specs.Inodes.{AreDistinct}
 use Rattle.crash_stands.specs.Walks.{node_in}
-use Rattle.fs_inodes.proofs.basics.Paths.{none_some, some_same, which}
+use Rattle.fs_inodes.proofs.basics.Paths.{which}
 use Rattle.fs_inodes.proofs.basics.FinMaps.{tied, which_key}
 use Rattle.fs_inodes.proofs.slots.Slots.{set_here, set_other, finds, found}
 use Rattle.fs_inodes.proofs.lookups.Rows.{name_cmp, name_total, name_same, row_in, row_at, join_of, both_of}
@@ -114,11 +114,11 @@ sorted_rises xs up one = rises xs (λ i j x y low at_i at_j.
 
 -- what is found among zeros is a zero
 zero_there : (q : List ℕ) (xs : List (List ℕ)) (n : ℕ) → find name_cmp q (zeros xs) ≡ Some n → n ≡ 0
-zero_there q [] n e = absurd (none_some n refl e)
+zero_there q [] n e = absurd (none-some n e)
 zero_there q (x ∷ xs) n e = by (eq_by_cmp name_cmp q x) e (zero_there q xs n)
   where
     by : (b : Bool) → cond b (Some 0) (find name_cmp q (zeros xs)) ≡ Some n → (find name_cmp q (zeros xs) ≡ Some n → n ≡ 0) → n ≡ 0
-    by true e go = sym (some_same 0 n e)
+    by true e go = sym (same_Some 0 n e)
     by false e go = go e
 
 -- a name that no one has isn't found
@@ -132,13 +132,13 @@ not_in q (x ∷ xs) all = by (which_key name_total name_same q x) (not_in q xs (
 
 -- a name that isn't found is at no place
 none_in : (q : List ℕ) (xs : List (List ℕ)) → find name_cmp q (zeros xs) ≡ None → (i : ℕ) (x : List ℕ) → slice_get xs i ≡ Some x → x ≡ q → ⊥
-none_in q [] none i x at same = none_some x refl at
+none_in q [] none i x at same = none-some x at
 none_in q (y ∷ xs) none zero x at same =
-    none_some 0 none (ap (λ b. cond b (Some 0) (find name_cmp q (zeros xs))) (tied name_total name_same q y (sym same ∙ sym (some_same y x at))))
+    none-some 0 (sym none ∙ ap (λ b. cond b (Some 0) (find name_cmp q (zeros xs))) (tied name_total name_same q y (sym same ∙ sym (same_Some y x at))))
 none_in q (y ∷ xs) none (suc i) x at same = by (which_key name_total name_same q y) (none_in q xs)
   where
     by : (q ≡ y) ⊎ (eq_by_cmp name_cmp q y ≡ false) → (find name_cmp q (zeros xs) ≡ None → (i : ℕ) (x : List ℕ) → slice_get xs i ≡ Some x → x ≡ q → ⊥) → ⊥
-    by (inl here) go = none_some 0 none (ap (λ b. cond b (Some 0) (find name_cmp q (zeros xs))) (tied name_total name_same q y here))
+    by (inl here) go = none-some 0 (sym none ∙ ap (λ b. cond b (Some 0) (find name_cmp q (zeros xs))) (tied name_total name_same q y here))
     by (inr off) go = go (sym (ap (λ b. cond b (Some 0) (find name_cmp q (zeros xs))) off) ∙ none) i x at same
 
 -- so no one has it
@@ -175,14 +175,14 @@ first_part (x ∷ l) = ap (λ l. x ∷ l) (first_part l)
 module _ (slots : List Slot) (distinct : AreDistinct slots) (names : List (List ℕ)) (shuffled : IsPermutation (map (λ s. s.name) slots) names) (up : IsSorted name_cmp names) where
   -- a name among them is that of a slot
   named : (l : List Slot) (i : ℕ) (x : List ℕ) → slice_get (map (λ s. s.name) l) i ≡ Some x → (s : Slot) × (slice_get l i ≡ Some s) × (s.name ≡ x)
-  named [] i x e = absurd (none_some x refl e)
-  named (s ∷ l) zero x e = (s, refl, some_same s.name x e)
+  named [] i x e = absurd (none-some x e)
+  named (s ∷ l) zero x e = (s, refl, same_Some s.name x e)
   named (s ∷ l) (suc i) x e = named l i x e
 
   -- and each slot's is among them
   at_name : (l : List Slot) (i : ℕ) (s : Slot) → slice_get l i ≡ Some s → slice_get (map (λ s. s.name) l) i ≡ Some s.name
-  at_name [] i s e = absurd (none_some s refl e)
-  at_name (r ∷ l) zero s e = ap (λ r. Some r.name) (some_same r s e)
+  at_name [] i s e = absurd (none-some s e)
+  at_name (r ∷ l) zero s e = ap (λ r. Some r.name) (same_Some r s e)
   at_name (r ∷ l) (suc i) s e = at_name l i s e
 
   -- each is at one place
@@ -213,7 +213,7 @@ module _ (slots : List Slot) (distinct : AreDistinct slots) (names : List (List 
   none_there q none = not_in q names (All-permutation (λ x. x ≡ q → ⊥) (map (λ s. s.name) slots) names shuffled
       (λ k d low same.
       let s = named slots k (get_or (map (λ s. s.name) slots) k d) (slice_get-get_or (map (λ s. s.name) slots) k d low) in
-      none_some s.0.node (ap (node_in slots) (s.2 ∙ same) ∙ none) (finds slots k s.0 distinct s.1)))
+      none-some s.0.node (sym (ap (node_in slots) (s.2 ∙ same) ∙ none) ∙ finds slots k s.0 distinct s.1)))
 
   -- what is found is a zero
   zero_of : (q : List ℕ) (l : List (List ℕ)) → is_some (find name_cmp q (zeros l)) ≡ true → find name_cmp q (zeros l) ≡ Some 0

@@ -8,6 +8,7 @@ use Rattle.std.specs.Cmp.{IsTotalOrder, nat_cmp_total, tied_itself}
 use Rattle.std.specs.Cmp.Lexicographic.{slice_cmp, lists_total}
 use Rattle.std.specs.FinMap.{IsAntisymmetric, nat_cmp-IsAntisymmetric, slice_cmp-IsAntisymmetric, get, entries, keys, from_sorted, find, is_sorted, entries_sorted, get-entries, get-from_entries, get-from_sorted, entries-from_sorted, same_map, len, len-entries, len-empty, len-insert}
 use Rattle.std.specs.FinMap.Entries.{below_all}
+use Rattle.std.proofs.lemmas.Option.{same_Some, none-some}
 use Rattle.layout_bytes.specs.declared.slot.Slot.{Slot}
 use Rattle.lang_tree.specs.Tree.{Tree, path_cmp}
 use Rattle.lang_tree.specs.Paths.{strip, name_in, lone_name}
@@ -16,7 +17,7 @@ use Rattle.crash_stands.specs.Inodes.{Inode, Inodes, ADir, AFile, AreDistinct}
 use Rattle.crash_stands.specs.Walks.{entry_in, node_in}
 use Rattle.fs_inodes.specs.Lookups.{slots_of, inode_at, number_at}
 pub use Rattle.fs_inodes.specs.Names.{row_in, names_of}
-use Rattle.fs_inodes.proofs.basics.Paths.{Path, none_some, some_same, which, strip_is, strip_join, same_name, other_name}
+use Rattle.fs_inodes.proofs.basics.Paths.{Path, which, strip_is, strip_join, same_name, other_name}
 use Rattle.fs_inodes.proofs.basics.FinMaps.{path_total, path_same, tied, which_key}
 use Rattle.fs_inodes.proofs.slots.Slots.{rest_distinct, found}
 use Rattle.fs_inodes.proofs.agreement.Agree.{Agrees}
@@ -62,10 +63,10 @@ pub lone_is : (up p : Path) (b : List ℕ) → name_in up p ≡ Some b → p ≡
 lone_is up p b e = by (strip up p) refl e
   where
     by : (o : Option Path) → strip up p ≡ o → lone_name o ≡ Some b → p ≡ up ++ b ∷ []
-    by None is e = absurd (none_some b refl e)
-    by (Some []) is e = absurd (none_some b refl e)
-    by (Some (x ∷ [])) is e = strip_is up p (x ∷ []) is ∙ ap (λ x. up ++ x ∷ []) (some_same x b e)
-    by (Some (x ∷ (y ∷ r))) is e = absurd (none_some b refl e)
+    by None is e = absurd (none-some b e)
+    by (Some []) is e = absurd (none-some b e)
+    by (Some (x ∷ [])) is e = strip_is up p (x ∷ []) is ∙ ap (λ x. up ++ x ∷ []) (same_Some x b e)
+    by (Some (x ∷ (y ∷ r))) is e = absurd (none-some b e)
 
 -- and a path with the name does
 pub lone_at : (up : Path) (b : List ℕ) → name_in up (up ++ b ∷ []) ≡ Some b
@@ -107,7 +108,7 @@ module _ (up : Path) where
     where
       by : (o : Option (List ℕ)) → name_in up e.0 ≡ o → (up ++ b ∷ [] ≡ e.0) ⊎ (eq_by_cmp path_cmp (up ++ b ∷ []) e.0 ≡ false) → find name_cmp b (row_of up es) ≡ find path_cmp (up ++ b ∷ []) es
           → find name_cmp b (cons_option (option_map (λ b. (b, e.1)) o) (row_of up es)) ≡ cond (eq_by_cmp path_cmp (up ++ b ∷ []) e.0) (Some e.1) (find path_cmp (up ++ b ∷ []) es)
-      by None is (inl same) rest = absurd (none_some b (ap (name_in up) same ∙ is) (lone_at up b))
+      by None is (inl same) rest = absurd (none-some b (sym (ap (name_in up) same ∙ is) ∙ lone_at up b))
       by None is (inr off) rest = rest ∙ sym (ap (λ t. cond t (Some e.1) (find path_cmp (up ++ b ∷ []) es)) off)
       by (Some c) is side rest =
           ap (λ o. cond (is_eq o) (Some e.1) (find name_cmp b (row_of up es))) (sym (same_front up b c))
@@ -196,11 +197,11 @@ module _ (limit : ℕ) (m : Inodes) (t : Tree) (a : Agrees limit m t) (up : Path
   here_distinct = by (inode_at m up) refl
     where
       none : AreDistinct []
-      none i j s v at_i at_j same = absurd (none_some s refl at_i)
+      none i j s v at_i at_j same = absurd (none-some s at_i)
 
       by_number : (o : Option ℕ) (x : Option Inode) → option_and_then m o ≡ x → AreDistinct (slots_of x)
       by_number o None is = none
-      by_number None (Some x) is = absurd (none_some x refl is)
+      by_number None (Some x) is = absurd (none-some x is)
       by_number (Some k) (Some (ADir slots)) is = a.distinct k slots is
       by_number (Some k) (Some (AFile links bytes)) is = none
 

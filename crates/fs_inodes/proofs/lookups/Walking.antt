@@ -2,6 +2,7 @@
 use Rattle.std.proofs.Common.{◌≡◌, ℕ, Bool, true, false, true≢false, List, [], ◌∷◌, ◌++◌, Option, Some, None, is_some, option_map, option_and_then, Result, Ok, Err, if◌then◌else◌, sym, refl, ap, ap₂, ◌∙◌}
 use Rattle.std.proofs.lemmas.Bool.{false_from_ne_true}
 use Rattle.std.specs.FinMap.{get}
+use Rattle.std.proofs.lemmas.Option.{none-some}
 use Rattle.layout_bytes.specs.declared.slot.Slot.{Slot}
 use Rattle.lang_tree.specs.declared.command.Refusal.{Refusal}
 use Rattle.lang_tree.specs.declared.command.Refusal.TheVariants.{NotDir}
@@ -14,7 +15,7 @@ use Rattle.crash_stands.specs.Walks.{entries_of, entry_in, walk as walk_map}
 use Rattle.fs_inodes.specs.Lookups.{is_dir_inode, is_file_inode, is_list, has_slots, links_in, bytes_of, walk_on, number_at, inode_at}
 use Rattle.fs_inodes.specs.Refusals.{dir_reason, parent_reason}
 use Rattle.fs_inodes.specs.TreeLaws.{TreeLaws}
-use Rattle.fs_inodes.proofs.basics.Paths.{Path, none_some}
+use Rattle.fs_inodes.proofs.basics.Paths.{Path}
 use Rattle.fs_inodes.proofs.slots.Slots.{finds}
 use Rattle.fs_inodes.proofs.agreement.Steps.{step_at}
 use Rattle.fs_inodes.proofs.agreement.Agree.{Agrees, onward}
@@ -56,9 +57,9 @@ ended m k n (name ∷ rest) e = by (is_dir_inode (m k)) (entry_in (m k) name) (�
 
 -- what has an entry is a directory
 is_dir_with : (o : Option Inode) (name : List ℕ) (j : ℕ) → entry_in o name ≡ Some j → is_dir_inode o ≡ true
-is_dir_with None name j e = absurd (none_some j refl e)
+is_dir_with None name j e = absurd (none-some j e)
 is_dir_with (Some (ADir slots)) name j e = refl
-is_dir_with (Some (AFile links bytes)) name j e = absurd (none_some j refl e)
+is_dir_with (Some (AFile links bytes)) name j e = absurd (none-some j e)
 
 -- a path that leads somewhere is walked to its end
 pub comes_to_end : (m : Inodes) (k n : ℕ) (rest : Path) → walk_map (entries_of m) k rest ≡ Some n → walk_on m k rest ≡ Ok n
@@ -67,7 +68,7 @@ comes_to_end m k n (name ∷ rest) e = by (entry_in (m k) name) refl (λ j. come
   where
     by : (o : Option ℕ) → entry_in (m k) name ≡ o → ((j : ℕ) → walk_map (entries_of m) j rest ≡ Some n → walk_on m j rest ≡ Ok n) → option_and_then (λ j. walk_map (entries_of m) j rest) o ≡ Some n
         → enter (is_dir_inode (m k)) o (λ j. walk_on m j rest) ≡ Ok n
-    by None is go e = absurd (none_some n refl e)
+    by None is go e = absurd (none-some n e)
     by (Some j) is go e = ap (λ b. enter b (Some j) (λ j. walk_on m j rest)) (is_dir_with (m k) name j is) ∙ go j e
 
 -- of walks from the root
@@ -134,7 +135,7 @@ module _ (limit : ℕ) (m : Inodes) (t : Tree) (a : Agrees limit m t) where
     links_given path = by (get t.names path) refl ∙ ap (λ o. links_in (option_and_then m o)) (number_given path)
       where
         by_inode : (n : ℕ) → get t.names path ≡ Some n → (o : Option Inode) → m n ≡ o → path_count t.names n ≡ links_in o
-        by_inode n at None is = let x = a.sound.named path n at in absurd (none_some x.0 (a.nodes n ∙ ap (option_map thing_of) is) x.1)
+        by_inode n at None is = let x = a.sound.named path n at in absurd (none-some x.0 (sym (a.nodes n ∙ ap (option_map thing_of) is) ∙ x.1))
         by_inode n at (Some (ADir slots)) is = laws.count_dir limit t path n a.sound at (a.nodes n ∙ ap (option_map thing_of) is)
         by_inode n at (Some (AFile links bytes)) is = a.links n links bytes is
 
@@ -157,10 +158,10 @@ module _ (limit : ℕ) (m : Inodes) (t : Tree) (a : Agrees limit m t) where
         by k.0 k.1 below.0 below.1 (sym (step_at (entries_of m) (get t.names) a.goes path below.0 k.0 k.1) ∙ below.2)
       where
         in_dir : (o : Option Inode) (b : List ℕ) (j : ℕ) → entry_in o b ≡ Some j → has_slots o ≡ true
-        in_dir None b j e = absurd (none_some j refl e)
-        in_dir (Some (ADir [])) b j e = absurd (none_some j refl e)
+        in_dir None b j e = absurd (none-some j e)
+        in_dir (Some (ADir [])) b j e = absurd (none-some j e)
         in_dir (Some (ADir (s ∷ slots))) b j e = refl
-        in_dir (Some (AFile links bytes)) b j e = absurd (none_some j refl e)
+        in_dir (Some (AFile links bytes)) b j e = absurd (none-some j e)
 
         by : (k : ℕ) → get t.names path ≡ Some k → (b : List ℕ) (j : ℕ) → entry_in (m k) b ≡ Some j → has_slots (inode_at m path) ≡ true
         by k at b j is = ap (λ o. has_slots (option_and_then m o)) (sym (number_given path) ∙ at) ∙ in_dir (m k) b j is

@@ -1,6 +1,6 @@
 -- What no tree stands for: an inode map that a scan finds wrong.
 use Rattle.std.proofs.Common.{◌≡◌, ℕ, List, [], ◌∷◌, ◌++◌, length, slice_get, Some, None, sym, refl, ap, ◌∙◌, ◌⊎◌, inl, inr, arith, append-nil, append_assoc}
-use Rattle.std.proofs.lemmas.Option.{slice_get_within}
+use Rattle.std.proofs.lemmas.Option.{slice_get_within, same_Some}
 use Rattle.std.specs.FinMap.{get, same_map}
 use Rattle.layout_bytes.specs.declared.slot.Slot.{Slot}
 use Rattle.lang_tree.specs.Tree.{Tree}
@@ -10,7 +10,7 @@ use Rattle.crash_stands.specs.Walks.{entries_of, entry_in, node_in}
 use Rattle.crash_stands.specs.Maps.{IsMapOf}
 use Rattle.fs_inodes.specs.Scan.{IsPartOf, IsThrough}
 use Rattle.fs_inodes.specs.TreeLaws.{TreeLaws}
-use Rattle.fs_inodes.proofs.basics.Paths.{Path, some_same, which, from_end}
+use Rattle.fs_inodes.proofs.basics.Paths.{Path, which, from_end}
 use Rattle.fs_inodes.proofs.basics.FinMaps.{path_total, path_same}
 use Rattle.fs_inodes.proofs.slots.Slots.{found, front_at}
 use Rattle.fs_inodes.proofs.agreement.Steps.{step_at}
@@ -64,7 +64,7 @@ module _ (laws : TreeLaws) (limit : ℕ) (m w : Inodes) (t u : Tree) (seen : IsM
       by : (p : Path) → get t.names p ≡ Some s.node → (p ≡ []) ⊎ ((up : Path) × (name : List ℕ) × (p ≡ up ++ name ∷ [])) → ⊥
       by p at (inl root) =
           laws.slot_root limit w u is d (length slots) (slots ++ s ∷ rest) s dir (next_at slots s rest)
-          (some_same s.node 1 (sym at ∙ ap (get t.names) root ∙ a.sound.root))
+          (same_Some s.node 1 (sym at ∙ ap (get t.names) root ∙ a.sound.root))
       by p at (inr end) =
           let up = a.sound.parents end.0 end.1 s.node (ap (get t.names) (sym end.2) ∙ at) in
           let entry : entry_in (m up.0) end.1 ≡ Some s.node = sym (step_at (entries_of m) (get t.names) a.goes end.0 end.1 up.0 up.1) ∙ ap (get t.names) (sym end.2) ∙ at in

@@ -2,6 +2,7 @@
 use Rattle.std.proofs.Common.{◌≡◌, ◌≢◌, ℕ, zero, suc, ◌+◌, ◌≤◌, ◌<◌, if◌then◌else◌, List, [], ◌∷◌, ◌++◌, length, Option, Some, None, option_map, option_and_then, sym, refl, subst, ap, ◌∙◌, ◌⊎◌, inl, inr, arith, append-nil, append_assoc, length-append, eq-eqb}
 use Rattle.std.proofs.lemmas.Bool.{cases_eq}
 use Rattle.std.specs.FinMap.{get}
+use Rattle.std.proofs.lemmas.Option.{none-some}
 use Rattle.layout_bytes.specs.declared.slot.Slot.{Slot}
 use Rattle.lang_tree.specs.Tree.{Tree, Dir, File}
 use Rattle.lang_tree.specs.Step.{start}
@@ -14,7 +15,7 @@ use Rattle.fs_inodes.specs.Links.{naming, naming_from, slots_naming}
 use Rattle.fs_inodes.specs.Rules.{FollowsRules}
 use Rattle.fs_inodes.specs.Scan.{IsPartOf, IsThrough, SawAll, LinksFit}
 use Rattle.fs_inodes.specs.TreeLaws.{TreeLaws}
-use Rattle.fs_inodes.proofs.basics.Paths.{Path, none_some}
+use Rattle.fs_inodes.proofs.basics.Paths.{Path}
 use Rattle.fs_inodes.proofs.agreement.Steps.{step_at}
 use Rattle.fs_inodes.proofs.agreement.Agree.{Agrees, agrees, inode_with}
 use Rattle.fs_inodes.proofs.commands.Adding.{one_dir, dir_file}
@@ -92,7 +93,7 @@ module _ (m w : Inodes) (part : IsPartOf m w) where
       in_dir slots is (s ∷ rest) all = inl (record { slots = slots; next = s; rest = rest; here = is; whole = all })
 
       by : (o : Option Inode) → m k ≡ o → IsOpen k ⊎ IsDone k
-      by None is = inr (λ slots at. absurd (none_some (ADir slots) is at))
+      by None is = inr (λ slots at. absurd (none-some (ADir slots) (sym is ∙ at)))
       by (Some (ADir slots)) is = let r = part.dirs k slots is in in_dir slots is r.0 r.1
       by (Some (AFile links bytes)) is = inr (λ slots at. absurd (dir_file slots links bytes at is))
 
@@ -209,7 +210,7 @@ module _ (laws : TreeLaws) (limit : ℕ) (w : Inodes) (rules : FollowsRules limi
 
     -- a node that wasn't seen isn't the directory
     apart : m next.node ≡ None → d ≢ next.node
-    apart none e = none_some (ADir slots) (ap m e ∙ none) here
+    apart none e = none-some (ADir slots) (sym (ap m e ∙ none) ∙ here)
 
     -- nor is a file
     apart_file : (links : ℕ) (bytes : List ℕ) → m next.node ≡ Some (AFile links bytes) → d ≢ next.node
@@ -290,7 +291,7 @@ module _ (laws : TreeLaws) (limit : ℕ) (w : Inodes) (rules : FollowsRules limi
         by : (o : Option ℕ) → entries_of w k b ≡ o → option_and_then (λ i. walk (entries_of w) i rest) o ≡ Some j
             → ((i : ℕ) → get s.tree.names (here ++ b ∷ []) ≡ Some i → walk (entries_of w) i rest ≡ Some j → get s.tree.names ((here ++ b ∷ []) ++ rest) ≡ Some j)
             → get s.tree.names (here ++ b ∷ rest) ≡ Some j
-        by None is ends go = absurd (none_some j refl ends)
+        by None is ends go = absurd (none-some j ends)
         by (Some i) is ends go =
             ap (get s.tree.names) (sym (append_assoc here (b ∷ []) rest))
             ∙ go i (step_at (entries_of m) (get s.tree.names) e.goes here b k at ∙ sym (same_in_use k x.0 b x.1) ∙ is) ends
@@ -305,7 +306,7 @@ module _ (laws : TreeLaws) (limit : ℕ) (w : Inodes) (rules : FollowsRules limi
       where
         by : (o : Option Inode) → m k ≡ o → (q : Option Inode) → w k ≡ q → slots_of o ≡ slots_of q
         by None is None at = refl
-        by None is (Some x) at = let y = saw_all k x at in absurd (none_some y.0 is y.1)
+        by None is (Some x) at = let y = saw_all k x at in absurd (none-some y.0 (sym is ∙ y.1))
         by (Some (ADir slots)) is q at = ap slots_of (sym (through k slots is) ∙ at)
         by (Some (AFile links bytes)) is q at = let r = s.part.files k links bytes is in ap slots_of (sym r.1 ∙ at)
 

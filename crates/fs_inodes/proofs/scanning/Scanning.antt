@@ -2,6 +2,7 @@
 use Rattle.std.proofs.Common.{◌≡◌, ℕ, zero, suc, ◌+◌, ◌≤◌, List, [], ◌∷◌, ◌++◌, Option, Some, None, option_map, sym, refl, subst, ap, ◌∙◌, ◌⊎◌, inl, inr, append_assoc}
 use Rattle.std.proofs.lemmas.Bool.{cases_eq}
 use Rattle.std.specs.FinMap.{get}
+use Rattle.std.proofs.lemmas.Option.{same_Some, none-some}
 use Rattle.layout_bytes.specs.declared.slot.Slot.{Slot}
 use Rattle.lang_tree.specs.Tree.{Tree, Thing, Dir}
 use Rattle.crash_stands.specs.Inodes.{Inode, Inodes, ADir, AFile, thing_of, root_alone}
@@ -10,7 +11,7 @@ use Rattle.crash_stands.specs.Maps.{IsMapOf}
 use Rattle.fs_inodes.specs.Changes.{slot_of, new_inode, AddsSlot}
 use Rattle.fs_inodes.specs.Scan.{IsPartOf, IsThrough, SawAll, LinksFit}
 use Rattle.fs_inodes.specs.TreeLaws.{TreeLaws}
-use Rattle.fs_inodes.proofs.basics.Paths.{Path, none_some, some_same}
+use Rattle.fs_inodes.proofs.basics.Paths.{Path}
 use Rattle.fs_inodes.proofs.basics.Numbers.{everywhere}
 use Rattle.fs_inodes.proofs.agreement.Steps.{step_at}
 use Rattle.fs_inodes.proofs.agreement.Agree.{Agrees, agrees, is_map}
@@ -20,9 +21,9 @@ use Rattle.fs_inodes.proofs.commands.Adding.{adds_name, one_dir, dir_file, node_
 
 -- only the root is there
 at_root : (k : ℕ) (x : Inode) → root_alone k ≡ Some x → (k ≡ 1) × (x ≡ ADir [])
-at_root zero x e = absurd (none_some x refl e)
-at_root (suc zero) x e = (refl, sym (some_same (ADir []) x e))
-at_root (suc (suc k)) x e = absurd (none_some x refl e)
+at_root zero x e = absurd (none-some x e)
+at_root (suc zero) x e = (refl, sym (same_Some (ADir []) x e))
+at_root (suc (suc k)) x e = absurd (none-some x e)
 
 -- no slots are no slots
 no_slots : {slots : List Slot} → ADir slots ≡ ADir [] → slots ≡ []
@@ -84,12 +85,12 @@ module _ (m new w : Inodes) (part : IsPartOf m w) (d n : ℕ) (name : List ℕ) 
       dirs k slots is (inl e) side =
           let same : slots ≡ ch.slots ++ slot_of n name ∷ [] = one_dir slots (ch.slots ++ slot_of n name ∷ []) (ap new (sym e) ∙ is) ch.added in
           (rest, ap w e ∙ next ∙ ap (λ l. Some (ADir l)) (sym (append_assoc ch.slots (slot_of n name ∷ []) rest) ∙ ap (λ l. l ++ rest) (sym same)))
-      dirs k slots is (inr away) (inl e) = let r = dir_in slots (some_same x (ADir slots) (sym ch.named ∙ ap new (sym e) ∙ is)) in (r.0, ap w e ∙ r.1)
+      dirs k slots is (inr away) (inl e) = let r = dir_in slots (same_Some x (ADir slots) (sym ch.named ∙ ap new (sym e) ∙ is)) in (r.0, ap w e ∙ r.1)
       dirs k slots is (inr away) (inr off) = part.dirs k slots (sym (ch.others k away off) ∙ is)
 
       files : (k links : ℕ) (bytes : List ℕ) → new k ≡ Some (AFile links bytes) → (k ≡ d) ⊎ (k ≡ d → ⊥) → (k ≡ n) ⊎ (k ≡ n → ⊥) → (all : ℕ) × (w k ≡ Some (AFile all bytes))
       files k links bytes is (inl e) side = absurd (dir_file (ch.slots ++ slot_of n name ∷ []) links bytes (ap new e ∙ ch.added) is)
-      files k links bytes is (inr away) (inl e) = let r = file_in links bytes (some_same x (AFile links bytes) (sym ch.named ∙ ap new (sym e) ∙ is)) in (r.0, ap w e ∙ r.1)
+      files k links bytes is (inr away) (inl e) = let r = file_in links bytes (same_Some x (AFile links bytes) (sym ch.named ∙ ap new (sym e) ∙ is)) in (r.0, ap w e ∙ r.1)
       files k links bytes is (inr away) (inr off) = part.files k links bytes (sym (ch.others k away off) ∙ is)
 
 -- the bytes of a file are one list
@@ -130,7 +131,7 @@ module _ (m w : Inodes) (part : IsPartOf m w) (through : IsThrough m w) (all : S
     where
       none : (o : Option Inode) → w k ≡ o → m k ≡ None → None ≡ w k
       none None is gone = sym is
-      none (Some x) is gone = let y = all k x is in absurd (none_some y.0 gone y.1)
+      none (Some x) is gone = let y = all k x is in absurd (none-some y.0 (sym gone ∙ y.1))
 
       by : (o : Option Inode) → m k ≡ o → o ≡ w k
       by None is = none (w k) refl is

@@ -1,7 +1,7 @@
 -- Slots written into the bytes of a directory, and cut off them.
 use Rattle.std.proofs.Common.{◌≡◌, ℕ, ◌+◌, ◌-◌, ◌*◌, ◌/◌, ◌%◌, ◌<◌, ◌≤◌, ◌==◌, Bool, true, false, List, [], ◌∷◌, ◌++◌, length, take, drop, replicate, set, get_or, slice_get, Option, Some, None, option_map, refl, ap, ap₂, ◌∙◌, arith, append-nil, take_all, sym}
 use Rattle.std.proofs.lemmas.List.{length-take-le, length-drop, length-append, take-append-le, drop_all, take-append-drop}
-use Rattle.std.proofs.lemmas.Option.{slice_get-get_or}
+use Rattle.std.proofs.lemmas.Option.{slice_get-get_or, none-some}
 use Rattle.layout_bytes.specs.declared.node.NodeKind.{NodeKind}
 use Rattle.layout_bytes.specs.declared.node.NodeKind.TheVariants.{Free, Dir, File}
 use Rattle.layout_bytes.specs.declared.slot.Slot.{Slot}
@@ -13,7 +13,6 @@ use Rattle.lang_tree.specs.Step.{written, resized}
 use Rattle.crash_stands.specs.Files.{FileNode}
 use Rattle.crash_stands.specs.Inodes.{ADir, AFile, inode_by, inode_of}
 use Rattle.fs_inodes.specs.SlotLaws.{SlotLaws}
-use Rattle.fs_inodes.proofs.basics.Paths.{none_some}
 use Rattle.fs_inodes.proofs.commands.Adding.{dir_file, one_file}
 
 -- so many slots read from a front of the bytes that is long enough
@@ -49,23 +48,23 @@ record IsDir (kind : NodeKind) (links : ℕ) (bytes : List ℕ) (slots : List Sl
 
 -- the slots of a directory are those that are read
 slots_same : (o : Option (List Slot)) (slots : List Slot) → option_map ADir o ≡ Some (ADir slots) → o ≡ Some slots
-slots_same None slots e = absurd (none_some (ADir slots) refl e)
+slots_same None slots e = absurd (none-some (ADir slots) e)
 slots_same (Some l) slots e = cc
 
 -- what reads as a directory is of that kind, and with other bytes it reads as their slots
 dir_is : (kind : NodeKind) (links : ℕ) (bytes : List ℕ) (slots : List Slot) → inode_by kind links bytes ≡ Some (ADir slots) → IsDir kind links bytes slots
-dir_is Free links bytes slots e = absurd (none_some (ADir slots) refl e)
+dir_is Free links bytes slots e = absurd (none-some (ADir slots) e)
 dir_is File links bytes slots e = absurd (dir_file slots links bytes e refl)
 dir_is Dir links bytes slots e = record { own = slots_same _ slots (own (links == 1) e); others = λ b list is. other (links == 1) e b list is }
   where
     own : (t : Bool) → when t (option_map ADir (slots_in (length bytes / 64) bytes)) ≡ Some (ADir slots) → option_map ADir (slots_in (length bytes / 64) bytes) ≡ Some (ADir slots)
     own true e = e
-    own false e = absurd (none_some (ADir slots) refl e)
+    own false e = absurd (none-some (ADir slots) e)
 
     other : (t : Bool) → when t (option_map ADir (slots_in (length bytes / 64) bytes)) ≡ Some (ADir slots) → (b : List ℕ) (list : List Slot) → slots_in (length b / 64) b ≡ Some list
         → when t (option_map ADir (slots_in (length b / 64) b)) ≡ Some (ADir list)
     other true e b list is = ap (option_map ADir) is
-    other false e b list is = absurd (none_some (ADir slots) refl e)
+    other false e b list is = absurd (none-some (ADir slots) e)
 
 module _ (laws : SlotLaws) (file : FileNode) (slots : List Slot) (is : inode_of file ≡ Some (ADir slots)) where
   -- the file is a directory
@@ -142,13 +141,13 @@ module _ (laws : SlotLaws) (file : FileNode) (slots : List Slot) (is : inode_of 
 
 -- what reads as slots is no file
 no_file : (l : ℕ) (b : List ℕ) (t : Bool) (o : Option (List Slot)) → when t (option_map ADir o) ≡ Some (AFile l b) → ⊥
-no_file l b true None e = none_some (AFile l b) refl e
+no_file l b true None e = none-some (AFile l b) e
 no_file l b true (Some list) e = dir_file list l b refl e
-no_file l b false o e = none_some (AFile l b) refl e
+no_file l b false o e = none-some (AFile l b) e
 
 -- a file has its links and bytes
 file_parts : (kind : NodeKind) (links l : ℕ) (bytes b : List ℕ) → inode_by kind links bytes ≡ Some (AFile l b) → (links ≡ l) × (bytes ≡ b)
-file_parts Free links l bytes b e = absurd (none_some (AFile l b) refl e)
+file_parts Free links l bytes b e = absurd (none-some (AFile l b) e)
 file_parts Dir links l bytes b e = absurd (no_file l b (links == 1) (slots_in (length bytes / 64) bytes) e)
 file_parts File links l bytes b e = (one_file links l bytes b refl e, same e)
   where
@@ -161,7 +160,7 @@ parts_of file links bytes e = file_parts file.kind file.links links file.bytes b
 
 -- and with others it is a file too
 with_others : (kind : NodeKind) (links l more : ℕ) (bytes b new : List ℕ) → inode_by kind links bytes ≡ Some (AFile l b) → inode_by kind more new ≡ Some (AFile more new)
-with_others Free links l more bytes b new e = absurd (none_some (AFile l b) refl e)
+with_others Free links l more bytes b new e = absurd (none-some (AFile l b) e)
 with_others Dir links l more bytes b new e = absurd (no_file l b (links == 1) (slots_in (length bytes / 64) bytes) e)
 with_others File links l more bytes b new e = refl
 

@@ -4,12 +4,12 @@ use Rattle.std.proofs.lemmas.Bool.{ltb-true, ltb-false, le-ltb}
 use Rattle.std.proofs.lemmas.List.{take-append-le, length-set}
 use Rattle.std.proofs.lemmas.Slice.Eq.{bytes_eq-Decides}
 use Rattle.std.specs.List.{position_or_len}
+use Rattle.std.proofs.lemmas.Option.{same_Some, none-some}
 use Rattle.layout_bytes.specs.declared.slot.Slot.{Slot}
 use Rattle.layout_directory.specs.Directory.{place_of, without_at}
 use Rattle.crash_stands.specs.Inodes.{AreDistinct}
 use Rattle.crash_stands.specs.Walks.{node_in}
 use Rattle.fs_inodes.specs.Changes.{slot_of, put_at, with_slot}
-use Rattle.fs_inodes.proofs.basics.Paths.{none_some, some_same}
 use Rattle.fs_inodes.proofs.slots.Slots.{front_at, set_other, added_distinct, added_here, added_other, set_distinct, set_here_name, set_other_name}
 
 -- the first slot of that name, by its place
@@ -65,15 +65,15 @@ place_found slots name place e = by (nat_lt (position_or_len (λ s. bytes_eq s.n
         → (node : ℕ) × (slice_get slots place ≡ Some (slot_of node name)) × (node_in slots name ≡ Some node)
     by true is e =
         let r = first_at name slots (ltb-true _ _ is) in
-        (r.node, ap (slice_get slots) (sym (some_same _ place e)) ∙ r.slot, r.under)
-    by false is e = absurd (none_some place refl e)
+        (r.node, ap (slice_get slots) (sym (same_Some _ place e)) ∙ r.slot, r.under)
+    by false is e = absurd (none-some place e)
 
 -- and that nothing stands where there is none
 pub place_missing : (slots : List Slot) (name : List ℕ) → place_of name slots ≡ None → node_in slots name ≡ None
 place_missing slots name e = by (nat_lt (position_or_len (λ s. bytes_eq s.name name) slots) (length slots)) refl e
   where
     by : (b : Bool) → nat_lt (position_or_len (λ s. bytes_eq s.name name) slots) (length slots) ≡ b → cond b (Some (position_or_len (λ s. bytes_eq s.name name) slots)) None ≡ None → node_in slots name ≡ None
-    by true is e = absurd (none_some (position_or_len (λ s. bytes_eq s.name name) slots) e refl)
+    by true is e = absurd (none-some (position_or_len (λ s. bytes_eq s.name name) slots) (sym e))
     by false is e = none_at name slots is
 
 -- The slots with one of that name.
@@ -104,20 +104,16 @@ puts slots s distinct = by (place_of s.name slots) refl
           distinct = set_distinct slots place (slot_of r.0 s.name) s distinct r.1 refl;
           here = set_here_name slots place (slot_of r.0 s.name) s distinct r.1 refl;
           others = set_other_name slots place (slot_of r.0 s.name) s distinct r.1 refl;
-          kept = λ i u at off. set_other slots place i s (λ e. off (ap (λ r. r.name) (some_same u (slot_of r.0 s.name) (sym at ∙ ap (slice_get slots) e ∙ r.1)))) ∙ at;
+          kept = λ i u at off. set_other slots place i s (λ e. off (ap (λ r. r.name) (same_Some u (slot_of r.0 s.name) (sym at ∙ ap (slice_get slots) e ∙ r.1)))) ∙ at;
         }
 
 -- A slot that only changes its name.
-
--- one less on both sides
-less_one_both : (i n : ℕ) → suc i < suc n → i < n
-less_one_both i n e = omega (arith, e)
 
 -- a place that is set in a list with one more at its end
 set_before : {A : Type 0} (xs : List A) (v w : A) (i : ℕ) → i < length xs → set (xs ++ v ∷ []) i w ≡ set xs i w ++ v ∷ []
 set_before [] v w i low = absurd (omega (arith, low))
 set_before (x ∷ xs) v w zero low = refl
-set_before (x ∷ xs) v w (suc i) low = ap (λ l. x ∷ l) (set_before xs v w i (less_one_both i (length xs) low))
+set_before (x ∷ xs) v w (suc i) low = ap (λ l. x ∷ l) (set_before xs v w i (omega (arith, low)))
 
 -- the last one of a list with one more at its end
 last_of : {A : Type 0} (xs : List A) (v w : A) → get_or (xs ++ v ∷ []) (length xs) w ≡ v

@@ -1,19 +1,19 @@
 -- Lists of slots: what is at a place, and what is under a name, after a slot came, changed or went.
 use Rattle.std.proofs.Common.{◌≡◌, ℕ, zero, suc, ◌-◌, ◌<◌, Bool, true, false, cond, List, [], ◌∷◌, ◌++◌, length, take, set, get_or, slice_get, bytes_eq, Some, None, sym, refl, ap, ◌∙◌, ◌⊎◌, inl, inr, arith}
 use Rattle.std.proofs.lemmas.Bool.{cases_Bool, cases_eq}
-use Rattle.std.proofs.lemmas.Option.{slice_get_within, slice_get-get_or}
+use Rattle.std.proofs.lemmas.Option.{slice_get_within, slice_get-get_or, same_Some, none-some}
 use Rattle.std.proofs.lemmas.Slice.Eq.{bytes_eq-Decides}
 use Rattle.layout_bytes.specs.declared.slot.Slot.{Slot}
 use Rattle.layout_directory.specs.Directory.{without_at}
 use Rattle.crash_stands.specs.Inodes.{AreDistinct}
 use Rattle.crash_stands.specs.Walks.{node_in}
-use Rattle.fs_inodes.proofs.basics.Paths.{none_some, some_same, which}
+use Rattle.fs_inodes.proofs.basics.Paths.{which}
 
 -- What is at a place.
 
 -- the place that was set has the new one
 pub set_here : {A : Type 0} (xs : List A) (i : ℕ) (x v : A) → slice_get xs i ≡ Some x → slice_get (set xs i v) i ≡ Some v
-set_here [] i x v e = absurd (none_some x refl e)
+set_here [] i x v e = absurd (none-some x e)
 set_here (y ∷ xs) zero x v e = refl
 set_here (y ∷ xs) (suc i) x v e = set_here xs i x v e
 
@@ -31,7 +31,7 @@ set_other (y ∷ xs) (suc i) (suc j) v off = set_other xs i j v (one_more j i of
 
 -- a list with more behind it has at each place what it had
 pub front_at : {A : Type 0} (xs ys : List A) (i : ℕ) (x : A) → slice_get xs i ≡ Some x → slice_get (xs ++ ys) i ≡ Some x
-front_at [] ys i x e = absurd (none_some x refl e)
+front_at [] ys i x e = absurd (none-some x e)
 front_at (y ∷ xs) ys zero x e = e
 front_at (y ∷ xs) ys (suc i) x e = front_at xs ys i x e
 
@@ -42,8 +42,8 @@ last_at (y ∷ xs) v = last_at xs v
 
 -- what is in a list with one more at its end stood there, or is that one
 pub at_in_longer : {A : Type 0} (xs : List A) (v : A) (i : ℕ) (x : A) → slice_get (xs ++ v ∷ []) i ≡ Some x → (slice_get xs i ≡ Some x) ⊎ ((i ≡ length xs) × (x ≡ v))
-at_in_longer [] v zero x e = inr (refl, sym (some_same v x e))
-at_in_longer [] v (suc i) x e = absurd (none_some x refl e)
+at_in_longer [] v zero x e = inr (refl, sym (same_Some v x e))
+at_in_longer [] v (suc i) x e = absurd (none-some x e)
 at_in_longer (y ∷ xs) v zero x e = inl e
 at_in_longer (y ∷ xs) v (suc i) x e = by (at_in_longer xs v i x e)
   where
@@ -51,21 +51,17 @@ at_in_longer (y ∷ xs) v (suc i) x e = by (at_in_longer xs v i x e)
     by (inl e) = inl e
     by (inr e) = inr (ap suc e.0, e.1)
 
--- one less on both sides
-less_one : (i n : ℕ) → suc i < suc n → i < n
-less_one i n e = omega (arith, e)
-
 -- a front has at each of its places what the list has
 pub take_at : {A : Type 0} (n : ℕ) (xs : List A) (i : ℕ) → i < n → slice_get (take n xs) i ≡ slice_get xs i
 take_at zero xs i low = absurd (omega (arith, low))
 take_at (suc n) [] i low = refl
 take_at (suc n) (x ∷ xs) zero low = refl
-take_at (suc n) (x ∷ xs) (suc i) low = take_at n xs i (less_one i n low)
+take_at (suc n) (x ∷ xs) (suc i) low = take_at n xs i (omega (arith, low))
 
 -- and no other places
 pub at_in_front : {A : Type 0} (n : ℕ) (xs : List A) (i : ℕ) (x : A) → slice_get (take n xs) i ≡ Some x → i < n
-at_in_front zero xs i x e = absurd (none_some x refl e)
-at_in_front (suc n) [] i x e = absurd (none_some x refl e)
+at_in_front zero xs i x e = absurd (none-some x e)
+at_in_front (suc n) [] i x e = absurd (none-some x e)
 at_in_front (suc n) (y ∷ xs) zero x e = omega arith
 at_in_front (suc n) (y ∷ xs) (suc i) x e = let low = at_in_front n xs i x e in omega (arith, low)
 
@@ -75,19 +71,15 @@ at_in_front (suc n) (y ∷ xs) (suc i) x e = let low = at_in_front n xs i x e in
 abbrev pub Has : List Slot → Slot → Type 0
 Has slots s = (i : ℕ) × (slice_get slots i ≡ Some s)
 
--- one less on both sides
-one_less : (j k : ℕ) → suc j ≡ suc k → j ≡ k
-one_less j k e = omega (arith, e)
-
 -- the slots behind the first have names of their own
 pub rest_distinct : (x : Slot) (slots : List Slot) → AreDistinct (x ∷ slots) → AreDistinct slots
-rest_distinct x slots distinct j k u v at_j at_k same = one_less j k (distinct (suc j) (suc k) u v at_j at_k same)
+rest_distinct x slots distinct j k u v at_j at_k same = omega (arith, distinct (suc j) (suc k) u v at_j at_k same)
 
 -- the name of each slot leads to its node
 pub finds : (slots : List Slot) (i : ℕ) (s : Slot) → AreDistinct slots → slice_get slots i ≡ Some s → node_in slots s.name ≡ Some s.node
-finds [] i s distinct at = absurd (none_some s refl at)
+finds [] i s distinct at = absurd (none-some s at)
 finds (x ∷ slots) zero s distinct at =
-    let same : x ≡ s = some_same x s at in
+    let same : x ≡ s = same_Some x s at in
     ap (λ b. cond b (Some x.node) (node_in slots s.name)) ((bytes_eq-Decides x.name s.name).1 (ap (λ r. r.name) same)) ∙ ap (λ r. Some r.node) same
 finds (x ∷ slots) (suc i) s distinct at = by (finds slots i s (rest_distinct x slots distinct) at) (cases_Bool (bytes_eq x.name s.name))
   where
@@ -97,18 +89,18 @@ finds (x ∷ slots) (suc i) s distinct at = by (finds slots i s (rest_distinct x
 
 -- what is under a name is what a slot of that name names
 pub found : (slots : List Slot) (name : List ℕ) (n : ℕ) → node_in slots name ≡ Some n → (s : Slot) × (Has slots s) × (s.name ≡ name) × (s.node ≡ n)
-found [] name n e = absurd (none_some n refl e)
+found [] name n e = absurd (none-some n e)
 found (x ∷ slots) name n e = by (bytes_eq x.name name) refl e (found slots name n)
   where
     by : (b : Bool) → bytes_eq x.name name ≡ b → cond b (Some x.node) (node_in slots name) ≡ Some n
         → (node_in slots name ≡ Some n → (s : Slot) × (Has slots s) × (s.name ≡ name) × (s.node ≡ n))
         → (s : Slot) × (Has (x ∷ slots) s) × (s.name ≡ name) × (s.node ≡ n)
-    by true is e go = (x, (0, refl), (bytes_eq-Decides x.name name).0 is, some_same x.node n e)
+    by true is e go = (x, (0, refl), (bytes_eq-Decides x.name name).0 is, same_Some x.node n e)
     by false is e go = let r = go e in (r.0, (suc r.1.0, r.1.1), r.2, r.3)
 
 -- a slot has no name under which nothing stands
 pub not_named : (slots : List Slot) (name : List ℕ) (i : ℕ) (s : Slot) → AreDistinct slots → node_in slots name ≡ None → slice_get slots i ≡ Some s → s.name ≡ name → ⊥
-not_named slots name i s distinct none at same = none_some s.node (ap (node_in slots) same ∙ none) (finds slots i s distinct at)
+not_named slots name i s distinct none at same = none-some s.node (sym (ap (node_in slots) same ∙ none) ∙ finds slots i s distinct at)
 
 -- under a name stands the same in two lists where the slots of that name are the same
 pub same_under : (old new : List Slot) (name : List ℕ) → AreDistinct old → AreDistinct new
@@ -164,7 +156,7 @@ module _ (slots : List Slot) (place : ℕ) (s v : Slot) (distinct : AreDistinct 
   at_set i u e = by (cases_eq i place)
     where
       by : (i ≡ place) ⊎ (i ≡ place → ⊥) → ((i ≡ place) × (u ≡ v)) ⊎ ((i ≡ place → ⊥) × (slice_get slots i ≡ Some u))
-      by (inl same) = inl (same, some_same u v (sym e ∙ ap (slice_get (set slots place v)) same ∙ set_here slots place s v at))
+      by (inl same) = inl (same, same_Some u v (sym e ∙ ap (slice_get (set slots place v)) same ∙ set_here slots place s v at))
       by (inr off) = inr (off, sym (set_other slots place i v off) ∙ e)
 
   -- its name is that of the one before
@@ -190,7 +182,7 @@ module _ (slots : List Slot) (place : ℕ) (s v : Slot) (distinct : AreDistinct 
     -- and under every other name what was there
     pub set_other_name : (name : List ℕ) → (name ≡ v.name → ⊥) → node_in (set slots place v) name ≡ node_in slots name
     set_other_name name off = same_under slots (set slots place v) name distinct set_distinct
-        (λ u there same. (there.0, set_other slots place there.0 v (λ e. off (sym same ∙ ap (λ r. r.name) (some_same u s (sym there.1 ∙ ap (slice_get slots) e ∙ at)) ∙ sym own)) ∙ there.1))
+        (λ u there same. (there.0, set_other slots place there.0 v (λ e. off (sym same ∙ ap (λ r. r.name) (same_Some u s (sym there.1 ∙ ap (slice_get slots) e ∙ at)) ∙ sym own)) ∙ there.1))
         (λ u there same. by u there same (at_set there.0 u there.1))
       where
         by : (u : Slot) (there : Has (set slots place v) u) → u.name ≡ name → ((there.0 ≡ place) × (u ≡ v)) ⊎ ((there.0 ≡ place → ⊥) × (slice_get slots there.0 ≡ Some u)) → Has slots u
@@ -267,5 +259,5 @@ module _ (slots : List Slot) (place : ℕ) (s : Slot) (distinct : AreDistinct sl
   -- and under every other name what was there
   pub taken_other : (name : List ℕ) → (name ≡ s.name → ⊥) → node_in (without_at place slots) name ≡ node_in slots name
   taken_other name off = same_under slots (without_at place slots) name distinct taken_distinct
-      (λ u there same. comes_to there.0 u (λ e. off (sym same ∙ ap (λ r. r.name) (some_same u s (sym there.1 ∙ ap (slice_get slots) e ∙ at)))) there.1)
+      (λ u there same. comes_to there.0 u (λ e. off (sym same ∙ ap (λ r. r.name) (same_Some u s (sym there.1 ∙ ap (slice_get slots) e ∙ at)))) there.1)
       (λ u there same. (was_there u there).0)

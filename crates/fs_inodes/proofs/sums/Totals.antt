@@ -5,6 +5,7 @@ use Rattle.std.specs.Ordering.{nat_cmp, eq_by_cmp, is_lt}
 use Rattle.std.specs.Cmp.{nat_cmp_total, tied_itself}
 use Rattle.std.specs.FinMap.{nat_cmp-IsAntisymmetric, get, entries, find, is_sorted, entries_sorted, get-entries}
 use Rattle.std.specs.FinMap.Entries.{below_all}
+use Rattle.std.proofs.lemmas.Option.{none-some}
 use Rattle.lang_tree.specs.Tree.{Tree, Thing, Dir, path_cmp}
 use Rattle.lang_tree.specs.Names.{times, path_count}
 use Rattle.lang_tree.specs.Figures.{directory_blocks, content_blocks, file_blocks, all_directory_blocks, blocks}
@@ -13,7 +14,7 @@ use Rattle.fs_inodes.specs.Lookups.{slots_of, links_in}
 use Rattle.fs_inodes.specs.Listing.{links_from}
 use Rattle.fs_inodes.specs.Figures.{inode_blocks, blocks_from, blocks_of}
 use Rattle.fs_inodes.specs.TreeLaws.{TreeLaws}
-use Rattle.fs_inodes.proofs.basics.Paths.{Path, none_some}
+use Rattle.fs_inodes.proofs.basics.Paths.{Path}
 use Rattle.fs_inodes.proofs.basics.FinMaps.{path_total, path_same, tied, which_key}
 use Rattle.fs_inodes.proofs.agreement.Agree.{Agrees}
 use Rattle.fs_inodes.proofs.lookups.Walking.{number_given}
@@ -118,7 +119,7 @@ files_summed : (es : List (ℕ × Thing)) (k n : ℕ) → T (is_sorted nat_cmp e
 files_summed [] k n h within = sym (sum_nothing (λ j. 0) k n (λ i low. refl))
 files_summed (e ∷ es) k n h within =
     let at = within e.0 e.1 (first_found e es h) in
-    let rest = files_summed es k n (both_of _ _ h).1 (λ j x is. within j x (found_later e es h j (λ same. none_some x (first_gone e es h) (ap (λ j. find nat_cmp j es) (sym same) ∙ is)) ∙ is)) in
+    let rest = files_summed es k n (both_of _ _ h).1 (λ j x is. within j x (found_later e es h j (λ same. none-some x (sym (first_gone e es h) ∙ ap (λ j. find nat_cmp j es) (sym same) ∙ is)) ∙ is)) in
     let one : sum_from (λ j. if j == e.0 then content_blocks e.1 else 0) k n ≡ content_blocks e.1
     = sum_one (λ j. if j == e.0 then content_blocks e.1 else 0) e.0 (content_blocks e.1) k n at.0 at.1
     (ap (λ b. if b then content_blocks e.1 else 0) (eq-eqb e.0 e.0 refl)) (λ i off. ap (λ b. if b then content_blocks e.1 else 0) (ne_eqb i e.0 off)) in
@@ -174,7 +175,7 @@ module _ (laws : TreeLaws) (limit : ℕ) (m : Inodes) (t : Tree) (a : Agrees lim
   later_paths e es h p n is = by (which_key path_total path_same p e.0)
     where
       by : (p ≡ e.0) ⊎ (eq_by_cmp path_cmp p e.0 ≡ false) → cond (eq_by_cmp path_cmp p e.0) (Some e.1) (find path_cmp p es) ≡ Some n
-      by (inl same) = absurd (none_some n (gone_in_front e.0 es (both_of _ _ h).0) (ap (λ p. find path_cmp p es) (sym same) ∙ is))
+      by (inl same) = absurd (none-some n (sym (gone_in_front e.0 es (both_of _ _ h).0) ∙ ap (λ p. find path_cmp p es) (sym same) ∙ is))
       by (inr off) = ap (λ b. cond b (Some e.1) (find path_cmp p es)) off ∙ is
 
   -- the first one is
@@ -271,7 +272,7 @@ module _ (laws : TreeLaws) (limit : ℕ) (m : Inodes) (t : Tree) (a : Agrees lim
       unused none (suc c) is =
           let p = laws.count_found t.names n (omega (arith, is)) in
           let x = a.sound.named p.0 n p.1 in
-          absurd (none_some x.0 (a.nodes n ∙ ap (option_map thing_of) none) x.1)
+          absurd (none-some x.0 (sym (a.nodes n ∙ ap (option_map thing_of) none) ∙ x.1))
 
       by : (o : Option Inode) → m n ≡ o → path_count t.names n * 1 ≡ links_in o
       by None is = once (path_count t.names n) 0 (unused is (path_count t.names n) refl)

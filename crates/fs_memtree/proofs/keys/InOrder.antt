@@ -1,5 +1,5 @@
 -- Entries whose keys strictly rise are the entries of the finite map that they make.
-use Rattle.std.proofs.Common.{◌≡◌, List, [], ◌∷◌, map, length, refl, sym, ap, ◌∙◌, arith, ℕ}
+use Rattle.std.proofs.Common.{◌≡◌, List, [], ◌∷◌, map, length, refl, sym, ap, ◌∙◌, ℕ}
 use Rattle.std.specs.declared.cmp.Ordering.{Ordering}
 use Rattle.std.specs.declared.cmp.Ordering.TheVariants.{Less}
 use Rattle.std.specs.Cmp.{IsTotalOrder}
@@ -7,19 +7,16 @@ use Rattle.std.specs.List.{AllByRecursion}
 use Rattle.std.specs.List.Sorted.{IsStrictlySortedBy}
 use Rattle.std.specs.FinMap.{entries, from_entries, empty, put, entries-insert, keys, len, len-empty, len-entries}
 use Rattle.std.specs.FinMap.Entries.{by_order}
+use Rattle.std.proofs.lemmas.List.{nil_from_length}
 use Rattle.fs_memtree.specs.Kept.{name_cmp, names_in, DirNames}
 use Rattle.fs_memtree.proofs.keys.Keys.{name_total}
-
-none_by_length : {A : Type 0} (xs : List A) → length xs ≡ 0 → xs ≡ []
-none_by_length [] none = refl
-none_by_length (x ∷ xs) none = absurd (omega arith)
 
 module _ {K X : Type 0} (R : K → K → Ordering) where
   abbrev pub Rise : List (K × X) → Type 0
   Rise es = IsStrictlySortedBy R (map (λ e. e.0) es)
 
   pub entries_empty : entries (empty {X = X} {R = R}) ≡ []
-  entries_empty = none_by_length _ (sym (len-entries _) ∙ len-empty R X)
+  entries_empty = nil_from_length _ (sym (len-entries _) ∙ len-empty R X)
 
   put_first : (e : K × X) (es : List (K × X)) → AllByRecursion (λ y. R e.0 y ≡ Less) (map (λ d. d.0) es) → put R e.0 e.1 es ≡ e ∷ es
   put_first e [] above = refl

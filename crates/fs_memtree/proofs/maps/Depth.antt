@@ -6,6 +6,7 @@ use Rattle.std.specs.Map.{lookup}
 use Rattle.std.specs.Ordering.{nat_cmp, eq_by_cmp}
 use Rattle.std.specs.Cmp.{nat_cmp_total, eq_by_cmp_equiv}
 use Rattle.std.specs.FinMap.{nat_cmp-IsAntisymmetric, get, entries, len, find, get-entries, len-entries}
+use Rattle.std.proofs.lemmas.Option.{none-some}
 use Rattle.layout_bytes.specs.declared.slot.Slot.{Slot}
 use Rattle.lang_tree.specs.Tree.{Tree}
 use Rattle.crash_stands.specs.Inodes.{Inode, Inodes, ADir, AFile}
@@ -14,9 +15,6 @@ use Rattle.crash_stands.specs.Walks.{entries_of, entry_in, walk, LeadsTo}
 use Rattle.fs_memtree.specs.Kept.{Kept, KeptNodes, map_of, inode_of}
 use Rattle.fs_memtree.proofs.keys.Keys.{which_key, apart}
 use Rattle.fs_memtree.proofs.maps.Walking.{walk_last}
-
-nothing_is : {A : Type 0} {x : A} → None ≡ Some x → ⊥
-nothing_is e = cc
 
 -- an item of a list
 all_more : {A : Type 0} {P Q : A → Type 0} → ((x : A) → P x → Q x) → (xs : List A) → AllByRecursion P xs → AllByRecursion Q xs
@@ -33,9 +31,9 @@ dir_or_end m j n [] at = inl refl
 dir_or_end m j n (x ∷ rest) at = inr (by (m j) refl)
   where
     by : (o : Option Inode) → m j ≡ o → (slots : List Slot) × (m j ≡ Some (ADir slots))
-    by None is = absurd (nothing_is (sym (ap (λ o. option_and_then (λ i. walk (entries_of m) i rest) (entry_in o x)) is) ∙ at))
+    by None is = absurd (none-some _ (sym (ap (λ o. option_and_then (λ i. walk (entries_of m) i rest) (entry_in o x)) is) ∙ at))
     by (Some (ADir slots)) is = (slots, is)
-    by (Some (AFile links bytes)) is = absurd (nothing_is (sym (ap (λ o. option_and_then (λ i. walk (entries_of m) i rest) (entry_in o x)) is) ∙ at))
+    by (Some (AFile links bytes)) is = absurd (none-some _ (sym (ap (λ o. option_and_then (λ i. walk (entries_of m) i rest) (entry_in o x)) is) ∙ at))
 
 -- a node behind a path on a walk
 abbrev IsBehind : Inodes → List (List ℕ) → ℕ → Type 0
@@ -83,7 +81,7 @@ module _ (limit : ℕ) (m : Inodes) (t : Tree) (is : IsMapOf limit m t) where
 
       by : (o : Option ℕ) → entries_of m k name ≡ o → option_and_then (λ j. walk (entries_of m) j rest) o ≡ Some n
           → ((j : ℕ) → LeadsTo m (here ++ name ∷ []) j → walk (entries_of m) j rest ≡ Some n → Chain m (here ++ name ∷ []) (length rest)) → Chain m here (length (name ∷ rest))
-      by None entry on go = absurd (nothing_is on)
+      by None entry on go = absurd (none-some _ on)
       by (Some j) entry on go =
           let c = go j (at_next j entry) on in
           record {
@@ -114,7 +112,7 @@ module _ (limit : ℕ) (nodes : KeptNodes) (t : Tree) (is : IsMapOf limit (map_o
   key_of q path at = by (get nodes q) (is.shows.used path q at).1
     where
       by : (o : Option Kept) {x : Inode} → option_map inode_of o ≡ Some x → IsSome o
-      by None e = absurd (nothing_is e)
+      by None e = absurd (none-some _ e)
       by (Some y) e = refl
 
   -- no path has as many names as there are nodes

@@ -7,6 +7,7 @@ use Rattle.std.specs.Ordering.{eq_by_cmp}
 use Rattle.std.specs.Cmp.{tied_itself}
 use Rattle.std.specs.FinMap.Entries.{below_all}
 use Rattle.std.specs.FinMap.{get, entries, from_entries, keys, len, find, is_sorted, get-entries, len-entries, entries_sorted, get-from_entries, same_map}
+use Rattle.std.proofs.lemmas.Option.{same_Some, none-some}
 use Rattle.layout_bytes.specs.declared.slot.Slot.{Slot}
 use Rattle.lang_tree.specs.declared.command.Kind.TheVariants.{Dir as DirKind}
 use Rattle.lang_tree.specs.declared.command.Reply.TheVariants.{Stat as StatReply}
@@ -29,12 +30,6 @@ test_same a b = by (cases_Bool (bytes_eq a b))
       where
         not_both : (t : Bool) → t ≡ true → t ≡ false → ⊥
         not_both t yes_ no_ = cc
-
-none_is_some : {A : Type 0} {x : A} → None ≡ Some x → ⊥
-none_is_some e = cc
-
-some_is : {A : Type 0} {x y : A} → Some x ≡ Some y → x ≡ y
-some_is e = cc
 
 abbrev pub as_slots : List (List ℕ × ℕ) → List Slot
 as_slots es = map (λ e. slot_of e.1 e.0) es
@@ -74,15 +69,15 @@ not_below : (x y : List ℕ) → T (is_lt (name_cmp x y)) → x ≡ y → ⊥
 not_below x y less same = subst (λ r. T (is_lt r)) (ap (λ z. name_cmp z y) same ∙ tied_itself name_total y) less
 
 below_apart : (x : List ℕ) (es : List (List ℕ × ℕ)) (i : ℕ) (s : Slot) → T (below_all name_cmp x es) → slice_get (as_slots es) i ≡ Some s → x ≡ s.name → ⊥
-below_apart x [] i s below at same = absurd (none_is_some at)
-below_apart x (e ∷ es) zero s below at same = not_below x e.0 (first_of _ _ below) (same ∙ ap (λ r. r.name) (sym (some_is at)))
+below_apart x [] i s below at same = absurd (none-some _ at)
+below_apart x (e ∷ es) zero s below at same = not_below x e.0 (first_of _ _ below) (same ∙ ap (λ r. r.name) (sym (same_Some _ _ at)))
 below_apart x (e ∷ es) (suc i) s below at same = below_apart x es i s (second_of _ _ below) at same
 
 distinct_in : (es : List (List ℕ × ℕ)) → T (is_sorted name_cmp es) → AreDistinct (as_slots es)
-distinct_in [] sorted i j s t at_i at_j same = absurd (none_is_some at_i)
+distinct_in [] sorted i j s t at_i at_j same = absurd (none-some _ at_i)
 distinct_in (e ∷ es) sorted zero zero s t at_i at_j same = refl
-distinct_in (e ∷ es) sorted zero (suc j) s t at_i at_j same = absurd (below_apart e.0 es j t (first_of _ _ sorted) at_j (ap (λ r. r.name) (some_is at_i) ∙ same))
-distinct_in (e ∷ es) sorted (suc i) zero s t at_i at_j same = absurd (below_apart e.0 es i s (first_of _ _ sorted) at_i (ap (λ r. r.name) (some_is at_j) ∙ sym same))
+distinct_in (e ∷ es) sorted zero (suc j) s t at_i at_j same = absurd (below_apart e.0 es j t (first_of _ _ sorted) at_j (ap (λ r. r.name) (same_Some _ _ at_i) ∙ same))
+distinct_in (e ∷ es) sorted (suc i) zero s t at_i at_j same = absurd (below_apart e.0 es i s (first_of _ _ sorted) at_i (ap (λ r. r.name) (same_Some _ _ at_j) ∙ sym same))
 distinct_in (e ∷ es) sorted (suc i) (suc j) s t at_i at_j same = ap suc (distinct_in es (second_of _ _ sorted) i j s t at_i at_j same)
 
 pub slots_distinct : (names : DirNames) → AreDistinct (slots_for names)

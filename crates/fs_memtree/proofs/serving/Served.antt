@@ -1,6 +1,7 @@
 -- A command is answered as the session that is kept answers it, and leaves the session after it.
-use Rattle.std.proofs.Common.{◌≡◌, ℕ, zero, suc, ◌<◌, ◌≤◌, ◌==◌, Bool, true, false, true≢false, if◌then◌else◌, List, length, replicate, Option, Some, None, option_map, refl, sym, ap, subst, ◌∙◌, arith, eq-eqb}
+use Rattle.std.proofs.Common.{◌≡◌, ℕ, ◌<◌, ◌≤◌, ◌==◌, Bool, true, false, true≢false, if◌then◌else◌, List, length, replicate, Option, Some, None, option_map, refl, sym, ap, subst, ◌∙◌, arith, eq-eqb}
 use Rattle.std.proofs.lemmas.List.{length-replicate}
+use Rattle.std.proofs.lemmas.Bool.{eqb-false}
 use Rattle.lang_tree.specs.declared.command.Cmd.{Cmd}
 use Rattle.lang_tree.specs.declared.command.Cmd.TheVariants.{Mkdir, Create, Write, Fill, Read, Truncate, Link, Unlink, Rmdir, Rename, Stat, List as ListNames, Osync, Dsync, Durable, Poll, Bad}
 use Rattle.lang_tree.specs.declared.command.Reply.{Reply}
@@ -10,7 +11,7 @@ use Rattle.lang_tree.specs.Tree.{Tree, File, HasSmallFiles}
 use Rattle.lang_tree.specs.Walk.{is_same_node}
 use Rattle.lang_tree.specs.Conditions.{refusal}
 use Rattle.lang_tree.specs.Points.{answers_point}
-use Rattle.lang_tree.specs.Step.{Session, step, answered, start, osync, dsync, written, resized}
+use Rattle.lang_tree.specs.Step.{Session, step, answered, osync, written, resized}
 use Rattle.lang_tree.specs.Step as tree
 use Rattle.crash_stands.specs.Inodes.{Inode, Inodes, ADir, AFile, thing_of}
 use Rattle.crash_stands.specs.Maps.{IsMapOf}
@@ -39,10 +40,6 @@ small_tree limit m t is small n bytes e = by (m n) refl (sym (is.shows.nodes n) 
     by None at f = absurd cc
     by (Some (ADir slots)) at f = absurd cc
     by (Some (AFile links b)) at f = subst (λ b. length b ≤ 1073741824) (same_bytes f) (small n links b at)
-
-some_length : (n : ℕ) → (n == 0) ≡ false → 0 < n
-some_length zero e = absurd (true≢false e)
-some_length (suc n) e = omega arith
 
 module _ (laws : MapLaws) (old : State) (kept : IsKept old) where
   abbrev s : Session
@@ -84,7 +81,7 @@ module _ (laws : MapLaws) (old : State) (kept : IsKept old) where
       by : (b : Bool) → (length bytes == 0) ≡ b → Serves cmd (if b then (old, Done) else changed_to old (edited old.nodes path (with_bytes (written offset bytes))))
       by true e = unchanged cmd Done (steps ∙ ap (λ b. if b then (s, Done) else tree.changed_to s (tree.edited s.tree path (written offset bytes))) e)
       by false e = changed cmd (edited old.nodes path (with_bytes (written offset bytes))) (tree.edited s.tree path (written offset bytes))
-          (steps ∙ ap (λ b. if b then (s, Done) else tree.changed_to s (tree.edited s.tree path (written offset bytes))) e) (maps (some_length (length bytes) e))
+          (steps ∙ ap (λ b. if b then (s, Done) else tree.changed_to s (tree.edited s.tree path (written offset bytes))) e) (maps (omega (arith, eqb-false (length bytes) 0 e)))
 
   truncates : (path : List (List ℕ)) (size : ℕ) → refusal s.limit s.tree (Truncate path size) ≡ None → Serves (Truncate path size) (accepted old (Truncate path size))
   truncates path size accepts = by (size == length (bytes_of (inode_at (map_of old.nodes) path))) refl

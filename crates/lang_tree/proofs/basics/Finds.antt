@@ -1,13 +1,13 @@
 -- What a finite map has at a key after a change, and which of its entries there are.
 use Rattle.std.proofs.Common.{◌≡◌, Bool, true, false, cond, ◌||◌, List, [], ◌∷◌, map, Some, None, refl, sym, ap, ◌∙◌, ◌⊎◌, inl, inr}
-use Rattle.std.proofs.lemmas.Bool.{cases_Bool}
+use Rattle.std.proofs.lemmas.Bool.{cases_Bool, or_right}
 use Rattle.std.specs.List.{list_any}
 use Rattle.std.specs.Ordering.{eq_by_cmp, is_eq}
 use Rattle.std.specs.declared.cmp.Ordering.{Ordering}
 use Rattle.std.specs.declared.cmp.Ordering.TheVariants.{Less, Equal, Greater}
 use Rattle.std.specs.Cmp.{IsTotalOrder, tied_itself}
 use Rattle.std.specs.FinMap.{FinMap, IsAntisymmetric, get, insert, remove, find, get-insert, get-remove, same_map}
-use Rattle.lang_tree.proofs.basics.Strips.{none_some}
+use Rattle.std.proofs.lemmas.Option.{none-some}
 
 equal_of : (o : Ordering) → is_eq o ≡ true → o ≡ Equal
 equal_of Less e = absurd cc
@@ -47,7 +47,7 @@ module _ {K X : Type 0} {R : K → K → Ordering} (o : IsTotalOrder R) where
   was m k q v e = by (eq_by_cmp R q k) (sym (get-remove o m k q) ∙ e)
     where
       by : (b : Bool) → cond b None (get m q) ≡ Some v → get m q ≡ Some v
-      by true e = absurd (none_some v refl e)
+      by true e = absurd (none-some v e)
       by false e = e
 
 module _ {K X : Type 0} {R : K → K → Ordering} (o : IsTotalOrder R) (same : IsAntisymmetric R) where
@@ -62,7 +62,7 @@ module _ {K X : Type 0} {R : K → K → Ordering} (o : IsTotalOrder R) (same : 
   keeps m k v q x free there = by (look m k v q)
     where
       by : (q ≡ k) ⊎ (get (insert m k v) q ≡ get m q) → get (insert m k v) q ≡ Some x
-      by (inl e) = absurd (none_some x (ap (get m) e ∙ free) there)
+      by (inl e) = absurd (none-some x (sym (ap (get m) e ∙ free) ∙ there))
       by (inr e) = e ∙ there
 
   -- what a removal leaves at another key
@@ -99,13 +99,9 @@ module _ {K X : Type 0} {R : K → K → Ordering} (o : IsTotalOrder R) (same : 
 
   -- one entry of a list passes the test
   pub found_any : (test : K → Bool) (es : List (K × X)) (q : K) (v : X) → find R q es ≡ Some v → test q ≡ true → list_any (λ e. test e.0) es ≡ true
-  found_any test [] q v e t = absurd (none_some v refl e)
+  found_any test [] q v e t = absurd (none-some v e)
   found_any test (e ∷ es) q v is t = by (which_key same q e.0) (found_any test es q v)
     where
-      or_right : (a b : Bool) → b ≡ true → (a || b) ≡ true
-      or_right true b p = refl
-      or_right false b p = p
-
       by : (q ≡ e.0) ⊎ (eq_by_cmp R q e.0 ≡ false) → (find R q es ≡ Some v → test q ≡ true → list_any (λ e. test e.0) es ≡ true) → (test e.0 || list_any (λ e. test e.0) es) ≡ true
       by (inl p) go = ap (λ b. b || list_any (λ e. test e.0) es) (ap test (sym p) ∙ t)
       by (inr p) go = or_right (test e.0) _ (go (sym (ap (λ b. cond b (Some e.1) (find R q es)) p) ∙ is) t)

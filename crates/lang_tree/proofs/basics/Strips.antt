@@ -1,14 +1,9 @@
 -- What lies at or below a path: its front is that path. Two paths, one with a name more, lie there together.
-use Rattle.std.proofs.Common.{◌≡◌, ℕ, suc, ◌-◌, arith, Bool, true, false, List, [], ◌∷◌, ◌++◌, length, take, bytes_eq, Option, Some, None, is_some, if◌then◌else◌, refl, sym, ap, ◌∙◌, ◌⊎◌, inl, inr, append_assoc, append-nil}
-use Rattle.std.proofs.lemmas.List.{same_from_push}
+use Rattle.std.proofs.Common.{◌≡◌, ℕ, ◌-◌, arith, Bool, true, false, List, [], ◌∷◌, ◌++◌, length, bytes_eq, Option, Some, None, is_some, if◌then◌else◌, refl, sym, ap, ◌∙◌, ◌⊎◌, inl, inr, append_assoc, append-nil, take_at}
+use Rattle.std.proofs.lemmas.List.{same_from_push, length-append}
 use Rattle.std.proofs.lemmas.Slice.Eq.{bytes_eq-Decides}
+use Rattle.std.proofs.lemmas.Option.{same_Some, none-some}
 use Rattle.lang_tree.specs.Paths.{strip, is_within, is_below, has_names, parent}
-
-pub none_some : {A : Type 0} {o : Option A} (x : A) → o ≡ None → o ≡ Some x → ⊥
-none_some x none some = cc
-
-pub some_same : {A : Type 0} (x y : A) → Some x ≡ Some y → x ≡ y
-some_same x y e = cc
 
 pub lacks : {A : Type 0} (o : Option A) → is_some o ≡ false → o ≡ None
 lacks None e = refl
@@ -20,13 +15,13 @@ has (Some x) e = (x, refl)
 
 -- what is left of a path is behind its front
 pub strip_is : (p q r : List (List ℕ)) → strip p q ≡ Some r → q ≡ p ++ r
-strip_is [] q r e = some_same q r e
-strip_is (a ∷ p) [] r e = absurd (none_some r refl e)
+strip_is [] q r e = same_Some q r e
+strip_is (a ∷ p) [] r e = absurd (none-some r e)
 strip_is (a ∷ p) (b ∷ q) r e = by (bytes_eq a b) refl (strip_is p q r) e
   where
     by : (t : Bool) → bytes_eq a b ≡ t → (strip p q ≡ Some r → q ≡ p ++ r) → (if t then strip p q else None) ≡ Some r → b ∷ q ≡ (a ∷ p) ++ r
     by true is go e = let same : a ≡ b = (bytes_eq-Decides a b).0 is in let rest = go e in cc
-    by false is go e = absurd (none_some r refl e)
+    by false is go e = absurd (none-some r e)
 
 pub strip_join : (p r : List (List ℕ)) → strip p (p ++ r) ≡ Some r
 strip_join [] r = refl
@@ -36,7 +31,7 @@ pub strip_at : (p q r : List (List ℕ)) → q ≡ p ++ r → strip p q ≡ Some
 strip_at p q r e = ap (strip p) e ∙ strip_join p r
 
 pub not_behind : (p q r : List (List ℕ)) → strip p q ≡ None → q ≡ p ++ r → ⊥
-not_behind p q r none e = none_some r none (strip_at p q r e)
+not_behind p q r none e = none-some r (sym none ∙ strip_at p q r e)
 
 pub within_is : (p q : List (List ℕ)) → is_within p q ≡ true → (r : List (List ℕ)) × (q ≡ p ++ r)
 within_is p q e = let r = has (strip p q) e in (r.0, strip_is p q r.0 r.1)
@@ -80,13 +75,5 @@ parted p up r name e = by (from_end r)
         let both = same_from_push up (p ++ t.0) name t.1 (e ∙ ap (λ r. p ++ r) t.2 ∙ sym (append_assoc p t.0 (t.1 ∷ []))) in
         inr (t.0, t.2 ∙ ap (λ x. t.0 ++ x ∷ []) (sym both.1), both.0)
 
-one_less : (n : ℕ) → suc (suc n) - 1 ≡ suc (suc n - 1)
-one_less n = omega arith
-
-parent_longer : (x : List ℕ) (up : List (List ℕ)) (name : List ℕ) → parent (x ∷ (up ++ name ∷ [])) ≡ x ∷ parent (up ++ name ∷ [])
-parent_longer x [] name = refl
-parent_longer x (y ∷ up) name = ap (λ n. take n (x ∷ (y ∷ (up ++ name ∷ [])))) (one_less (length (up ++ name ∷ [])))
-
 pub parent_append : (up : List (List ℕ)) (name : List ℕ) → parent (up ++ name ∷ []) ≡ up
-parent_append [] name = refl
-parent_append (x ∷ up) name = parent_longer x up name ∙ ap (λ rest. x ∷ rest) (parent_append up name)
+parent_append up name = take_at up (name ∷ []) (length (up ++ name ∷ []) - 1) (omega (arith, length-append up (name ∷ [])))

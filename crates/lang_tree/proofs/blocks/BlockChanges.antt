@@ -3,6 +3,7 @@ use Rattle.std.proofs.Common.{◌≡◌, ℕ, ◌+◌, ◌-◌, ◌==◌, max, B
 use Rattle.std.proofs.lemmas.List.{length-replicate}
 use Rattle.std.specs.Cmp.{nat_cmp_total}
 use Rattle.std.specs.FinMap.{nat_cmp-IsAntisymmetric, get, insert, remove, entries}
+use Rattle.std.proofs.lemmas.Option.{none-some}
 use Rattle.lang_tree.specs.declared.command.Refusal.{Refusal}
 use Rattle.lang_tree.specs.declared.command.Refusal.TheVariants.{Exists, IsDir, NotDir, NotEmpty, BelowItself, TooManyLinks, NoNode}
 use Rattle.lang_tree.specs.Tree.{Tree, Thing, Dir, File, IsSound}
@@ -12,7 +13,7 @@ use Rattle.lang_tree.specs.Walk.{walk_refusal, parent_refusal, thing_at, is_dir,
 use Rattle.lang_tree.specs.Conditions.{when, least_unused, make_refusal, link_refusal, rmdir_refusal, rename_refusal}
 use Rattle.lang_tree.specs.Step.{with_node, added, with_bytes, edited_at, edited, written, resized, linked_by, linked, with_used, removed, removed_by, moved}
 use Rattle.lang_tree.specs.Figures.{moving, growth, release, siblings, content_blocks, file_blocks, blocks, blocks_gone, blocks_for, are_in_one, move_figures}
-use Rattle.lang_tree.proofs.basics.Strips.{none_some, lacks, has, from_end, parent_append}
+use Rattle.lang_tree.proofs.basics.Strips.{lacks, has, from_end, parent_append}
 use Rattle.lang_tree.proofs.counting.PathCounts.{was_last}
 use Rattle.lang_tree.proofs.walking.Found.{no_reason, no_reasons, not_so, thing_is, walked_there, parent_is, nothing_below_absent, CanMove, target_apart}
 use Rattle.lang_tree.proofs.soundness.SoundChanges.{unused_is}
@@ -54,7 +55,7 @@ module _ (limit : ℕ) (t : Tree) (s : IsSound limit t) where
   empty_where_absent path none = holds_none t.names path (nothing_below_absent limit t s path none)
 
   not_root : (path : Place) → get t.names path ≡ None → path ≡ [] → ⊥
-  not_root path none root = none_some 1 (ap (get t.names) (sym root) ∙ none) s.root
+  not_root path none root = none-some 1 (sym (ap (get t.names) (sym root) ∙ none) ∙ s.root)
 
   above : (path : Place) (n : ℕ) → get t.names path ≡ Some n → (path ≡ [] → ⊥) → (k : ℕ) × (get t.names (parent path) ≡ Some k) × (get t.nodes k ≡ Some Dir)
   above path n at below_root = by (from_end path)

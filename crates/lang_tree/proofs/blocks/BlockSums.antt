@@ -4,12 +4,13 @@ use Rattle.std.proofs.lemmas.Bool.{false_from_ne_true}
 use Rattle.std.specs.List.{filter_map, cons_option}
 use Rattle.std.specs.Cmp.{nat_cmp_total}
 use Rattle.std.specs.FinMap.{nat_cmp-IsAntisymmetric, get, insert, remove, entries}
+use Rattle.std.proofs.lemmas.Option.{none-some}
 use Rattle.lang_tree.specs.Tree.{Names, Nodes, Thing}
 use Rattle.lang_tree.specs.Paths.{strip, name_in, lone_name, has_names, is_below, parent}
 use Rattle.lang_tree.specs.Names.{names_in, holds_names}
 use Rattle.lang_tree.specs.Figures.{content_blocks, file_blocks, directory_blocks, all_directory_blocks, growth, release}
 use Rattle.lang_tree.proofs.basics.Order.{path_total, path_same}
-use Rattle.lang_tree.proofs.basics.Strips.{none_some, strip_is, strip_join, from_end, parent_append}
+use Rattle.lang_tree.proofs.basics.Strips.{strip_is, strip_join, from_end, parent_append}
 use Rattle.lang_tree.proofs.basics.Finds.{gone_here, stays, put_back}
 use Rattle.lang_tree.proofs.walking.Found.{some_held}
 use Rattle.lang_tree.proofs.soundness.SoundMoves.{not_own_parent}
@@ -140,7 +141,7 @@ module _ (names : Names) (path : Place) (n k : ℕ) (none : get names path ≡ N
   pub dirs_more : dirs (insert names path n) + directory_blocks (held names (parent path)) ≡ dirs names + directory_blocks (1 + held names (parent path))
   unfolding blocks_then blocks_now
   dirs_more =
-      let own : one_in path path ≡ 0 = none_elsewhere path path (λ e. none_some k none (ap (get names) e ∙ up_at)) in
+      let own : one_in path path ≡ 0 = none_elsewhere path path (λ e. none-some k (sym none ∙ ap (get names) e ∙ up_at)) in
       let of_path : directory_blocks (held (insert names path n) path) ≡ 0 = ap directory_blocks (held_more names path n path none ∙ ap₂ (λ a b. a + b) own empty) in
       let of_up : held (insert names path n) (parent path) ≡ 1 + held names (parent path) = held_more names path n (parent path) none ∙ ap (λ a. a + held names (parent path)) (one_at_parent path below_root) in
       let with_path = total_inserted path_total (λ e. blocks_then e.0) names path n none in

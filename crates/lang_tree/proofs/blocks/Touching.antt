@@ -1,6 +1,6 @@
 -- How many blocks of a file touch a range of bytes, by two divisions.
-use Rattle.std.proofs.Common.{◌≡◌, ◌⊎◌, ℕ, suc, zero, ◌+◌, ◌-◌, ◌*◌, ◌/◌, ◌<◌, ◌≤◌, min, max, Bool, true, false, ◌&&◌, cond, nat_lt, List, ◌∷◌, length, refl, arith, inl, inr}
-use Rattle.std.proofs.lemmas.Bool.{and_parts, ltb-true, ltb-false}
+use Rattle.std.proofs.Common.{◌≡◌, ◌⊎◌, ℕ, suc, zero, ◌+◌, ◌-◌, ◌*◌, ◌/◌, ◌<◌, ◌≤◌, min, max, Bool, true, false, cond, nat_lt, List, ◌∷◌, length, refl, arith, inl, inr}
+use Rattle.std.proofs.lemmas.Bool.{and_parts, ltb-true, ltb-false, and_cases}
 use Rattle.std.specs.List.{filter, range_with_len}
 use Rattle.lang_tree.specs.Figures.{touches, blocks_for, blocks_met}
 
@@ -17,13 +17,9 @@ touched lo hi i h =
     let behind : lo < 1024 * (i + 1) = ltb-true lo (1024 * (i + 1)) both.1 in
     (omega arith, omega arith)
 
-apart : (a b : Bool) → (a && b) ≡ false → (a ≡ false) ⊎ (b ≡ false)
-apart false b h = inl refl
-apart true b h = inr h
-
 -- any other block lies before that one, or begins at their end or behind it
 untouched : (lo hi i : ℕ) → touches lo hi i ≡ false → (i < lo / 1024) ⊎ ((hi + 1023) / 1024 ≤ i)
-untouched lo hi i h = elim (apart (nat_lt (1024 * i) hi) (nat_lt lo (1024 * (i + 1))) h) [
+untouched lo hi i h = elim (and_cases (nat_lt (1024 * i) hi) (nat_lt lo (1024 * (i + 1))) h) [
   | inl late ↦ let behind : hi ≤ 1024 * i = ltb-false (1024 * i) hi late in inr (omega arith)
   | inr early ↦ let before : 1024 * (i + 1) ≤ lo = ltb-false lo (1024 * (i + 1)) early in inl (omega arith)
 ]

@@ -7,10 +7,10 @@ use Rattle.std.specs.declared.cmp.Ordering.TheVariants.{Less, Equal, Greater}
 use Rattle.std.specs.Cmp.{tied_itself, both_ways}
 use Rattle.std.specs.FinMap.{get, insert, remove, entries, find, put, from_entries, empty, is_sorted, entries_sorted, entries-insert, get-entries, get-from_entries, len-empty, len-entries}
 use Rattle.std.specs.FinMap.Entries.{below_all, by_order}
+use Rattle.std.proofs.lemmas.Option.{same_Some, none-some}
 use Rattle.lang_tree.specs.Tree.{Tree, Names, Dir, IsSound, path_cmp}
 use Rattle.lang_tree.specs.Names.{times, path_count}
 use Rattle.lang_tree.proofs.basics.Order.{path_total, path_same}
-use Rattle.lang_tree.proofs.basics.Strips.{none_some, some_same}
 use Rattle.lang_tree.proofs.basics.Finds.{tied, apart, which_key, gone_here, was, put_back, later, first_is, find_left}
 
 both : (a b : Bool) → T (a && b) → (T a) × (T b)
@@ -19,7 +19,7 @@ both false b h = absurd h
 
 -- a number that is found is counted
 pub counted : (es : List (List (List ℕ) × ℕ)) (p : List (List ℕ)) (n : ℕ) → find path_cmp p es ≡ Some n → 1 ≤ times n es
-counted [] p n is = absurd (none_some n refl is)
+counted [] p n is = absurd (none-some n is)
 counted (e ∷ es) p n is = by (eq_by_cmp path_cmp p e.0) is (counted es p n)
   where
     one : (b : Bool) → b ≡ true → 1 ≤ (if b then 1 else 0) + times n es
@@ -27,11 +27,11 @@ counted (e ∷ es) p n is = by (eq_by_cmp path_cmp p e.0) is (counted es p n)
     one false e = absurd cc
 
     by : (b : Bool) → cond b (Some e.1) (find path_cmp p es) ≡ Some n → (find path_cmp p es ≡ Some n → 1 ≤ times n es) → 1 ≤ times n (e ∷ es)
-    by true is go = one (e.1 == n) (eq-eqb e.1 n (some_same e.1 n is))
+    by true is go = one (e.1 == n) (eq-eqb e.1 n (same_Some e.1 n is))
     by false is go = omega (arith, go is)
 
 below_found : (x : List (List ℕ)) (es : List (List (List ℕ) × ℕ)) (p : List (List ℕ)) (n : ℕ) → T (below_all path_cmp x es) → find path_cmp p es ≡ Some n → x ≡ p → ⊥
-below_found x [] p n h is same = none_some n refl is
+below_found x [] p n h is same = none-some n is
 below_found x (e ∷ es) p n h is same = by (which_key path_same p e.0) (below_found x es p n)
   where
     less : p ≡ e.0 → ⊥
@@ -105,7 +105,7 @@ one_of_dir limit t s p n at dir = by (path_count (remove t.names p) n == 0) refl
     by false is =
         let q = used_by (remove t.names p) n is in
         let same : q.0 ≡ p = s.one_path n q.0 p dir (was path_total t.names p q.0 n q.1) at in
-        absurd (none_some n (gone_here path_total t.names p q.0 same) q.1)
+        absurd (none-some n (sym (gone_here path_total t.names p q.0 same) ∙ q.1))
 
 -- Other keys for all entries.
 

@@ -6,9 +6,9 @@ use Rattle.std.specs.declared.cmp.Ordering.TheVariants.{Less, Equal, Greater}
 use Rattle.std.specs.Cmp.{IsTotalOrder}
 use Rattle.std.specs.FinMap.{FinMap, IsAntisymmetric, get, insert, remove, entries, find, put, from_entries, is_sorted, entries-insert, get-entries, get-insert, get-remove, same_map}
 use Rattle.std.specs.FinMap.Entries.{by_order}
+use Rattle.std.proofs.lemmas.Option.{none-some}
 use Rattle.lang_tree.specs.Tree.{path_cmp}
 use Rattle.lang_tree.proofs.basics.Order.{path_total}
-use Rattle.lang_tree.proofs.basics.Strips.{none_some}
 use Rattle.lang_tree.proofs.basics.Finds.{gone_here, was, put_back, later, first_is}
 use Rattle.lang_tree.proofs.counting.PathCounts.{none_in, KeepApart, first_free, behind_first}
 
@@ -66,7 +66,7 @@ module _ {K X : Type 0} {R : K → K → Ordering} (o : IsTotalOrder R) (same : 
   total_changed f g m u v at alike =
       let a = total_removed (λ e. f e.0) m u v at in
       let b = total_removed (λ e. g e.0) m u v at in
-      let c = total_same o f g (remove m u) (λ k w is. alike k w (was o m u k w is) (λ e. none_some w (gone_here o m u k e) is)) in
+      let c = total_same o f g (remove m u) (λ k w is. alike k w (was o m u k w is) (λ e. none-some w (sym (gone_here o m u k e) ∙ is))) in
       omega (arith, a, b, c)
 
 -- Other keys for all entries, where no two come to one.

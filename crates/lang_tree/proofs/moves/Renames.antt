@@ -5,11 +5,12 @@ use Rattle.std.proofs.lemmas.List.{append_cancel_left}
 use Rattle.std.proofs.lemmas.Slice.Eq.{bytes_eq-Decides}
 use Rattle.std.specs.Ordering.{eq_by_cmp}
 use Rattle.std.specs.FinMap.{get, remove, entries, entries_sorted, find, get-entries, get-from_entries}
+use Rattle.std.proofs.lemmas.Option.{none-some}
 use Rattle.lang_tree.specs.Tree.{Names, path_cmp}
 use Rattle.lang_tree.specs.Paths.{strip, is_within, moved_path, moved_by}
 use Rattle.lang_tree.specs.Names.{path_count, holds_names, renamed}
 use Rattle.lang_tree.proofs.basics.Order.{path_total, path_same}
-use Rattle.lang_tree.proofs.basics.Strips.{none_some, lacks, strip_is, not_behind, within_at}
+use Rattle.lang_tree.proofs.basics.Strips.{lacks, strip_is, not_behind, within_at}
 use Rattle.lang_tree.proofs.basics.Finds.{tied, apart, which_key, gone_here, was, stays, find_moved, find_left}
 use Rattle.lang_tree.proofs.counting.PathCounts.{count_moved}
 use Rattle.lang_tree.proofs.walking.Found.{none_held, holds_some, some_held}
@@ -40,7 +41,7 @@ same_test p q r s = by (which_key path_same r s)
 module _ (names : Names) (from to : List (List ℕ)) (gone : get names to ≡ None) (free : holds_names names to ≡ false) where
   -- nothing is at or below `to`
   pub none_at : (r : List (List ℕ)) (n : ℕ) → get names (to ++ r) ≡ Some n → ⊥
-  none_at [] n at = none_some n gone (ap (get names) (sym (append-nil to)) ∙ at)
+  none_at [] n at = none-some n (sym gone ∙ ap (get names) (sym (append-nil to)) ∙ at)
   none_at (x ∷ r) n at = none_held names to r x n free at
 
   pub found : (k : List (List ℕ)) (v : ℕ) → find path_cmp k (entries names) ≡ Some v → get names k ≡ Some v

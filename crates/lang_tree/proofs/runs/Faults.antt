@@ -1,7 +1,8 @@
 -- After a disk fault the session has ended: so it is with one command more, and in a run of a tree in memory, which meets no disk fault.
-use Rattle.std.proofs.Common.{◌≡◌, ◌≢◌, ◌<◌, ◌⊎◌, ℕ, zero, suc, false, List, [], ◌∷◌, ◌++◌, length, Option, Some, None, is_some, refl, sym, ap, ◌∙◌, inl, inr, subst, arith}
+use Rattle.std.proofs.Common.{◌≡◌, ◌≢◌, ◌<◌, ◌⊎◌, ℕ, zero, suc, false, List, [], ◌∷◌, ◌++◌, length, Some, refl, sym, ap, ◌∙◌, inl, inr, subst, arith}
 use Rattle.std.specs.Prelude.{slice_get}
 use Rattle.std.proofs.lemmas.Bool.{false≢true}
+use Rattle.std.proofs.lemmas.Option.{same_Some, none-some, slice_get_within}
 use Rattle.lang_tree.specs.declared.command.Cmd.{Cmd}
 use Rattle.lang_tree.specs.declared.command.Cmd.TheVariants.{Bad}
 use Rattle.lang_tree.specs.declared.command.Reply.{Reply}
@@ -13,23 +14,8 @@ use Rattle.lang_tree.proofs.runs.Outside.{memory_alone}
 
 -- Places of a list.
 
-nowhere : {A : Type 0} {x : A} → None ≡ Some x → ⊥
-nowhere e = false≢true (ap is_some e)
-
-same_item : {A : Type 0} {x y : A} → Some x ≡ Some y → x ≡ y
-same_item {A} {x} {y} e = ap (λ o. from o) e
-  where
-    from : Option A → A
-    from (Some z) = z
-    from None = x
-
-within : {A : Type 0} (xs : List A) (i : ℕ) (x : A) → slice_get xs i ≡ Some x → i < length xs
-within [] i x e = absurd (nowhere e)
-within (y ∷ xs) zero x e = omega arith
-within (y ∷ xs) (suc i) x e = let rest = within xs i x e in omega (arith, rest)
-
 in_front : {A : Type 0} (xs more : List A) (i : ℕ) (x : A) → slice_get xs i ≡ Some x → slice_get (xs ++ more) i ≡ Some x
-in_front [] more i x e = absurd (nowhere e)
+in_front [] more i x e = absurd (none-some _ e)
 in_front (y ∷ xs) more zero x e = e
 in_front (y ∷ xs) more (suc i) x e = in_front xs more i x e
 
@@ -39,8 +25,8 @@ last_is (y ∷ xs) x = last_is xs x
 
 -- what is in a list with one item more is in the list, or is that item
 old_or_new : {A : Type 0} (xs : List A) (new : A) (i : ℕ) (x : A) → slice_get (xs ++ new ∷ []) i ≡ Some x → (slice_get xs i ≡ Some x) ⊎ ((i ≡ length xs) × (new ≡ x))
-old_or_new [] new zero x e = inr (refl, same_item e)
-old_or_new [] new (suc i) x e = absurd (nowhere e)
+old_or_new [] new zero x e = inr (refl, same_Some _ _ e)
+old_or_new [] new (suc i) x e = absurd (none-some _ e)
 old_or_new (y ∷ xs) new zero x e = inl e
 old_or_new (y ∷ xs) new (suc i) x e = behind (old_or_new xs new i x e)
   where
@@ -55,7 +41,7 @@ module _ (cmds : List Cmd) (replies : List Reply) (cmd : Cmd) (reply : Reply) (e
   old_command : (i k : ℕ) (c : Cmd) → i < k → slice_get cmds k ≡ Some c → c ≢ Bad
       → (slice_get replies i ≡ Some (Refused DiskFault)) ⊎ ((i ≡ length replies) × (reply ≡ Refused DiskFault)) → slice_get (replies ++ reply ∷ []) k ≡ Some (Refused Stopped)
   old_command i k c below at good (inl fault) = in_front replies (reply ∷ []) k (Refused Stopped) (so_far.each i k c below fault at good)
-  old_command i k c below at good (inr last) = absurd (omega (arith, below, last.0, even, within cmds k c at))
+  old_command i k c below at good (inr last) = absurd (omega (arith, below, last.0, even, slice_get_within cmds k c at))
 
   new_command : (i k : ℕ) (c : Cmd) → i < k → k ≡ length cmds → cmd ≡ c → c ≢ Bad
       → (slice_get replies i ≡ Some (Refused DiskFault)) ⊎ ((i ≡ length replies) × (reply ≡ Refused DiskFault)) → slice_get (replies ++ reply ∷ []) k ≡ Some (Refused Stopped)
@@ -86,10 +72,10 @@ answered_well old new cmd reply answer is =
     no_fault (memory_alone old new cmd DiskFault (subst P is answer))
 
 run_well : (s end : Session) (cmds : List Cmd) (replies : List Reply) (i : ℕ) → Run is_of_memory s cmds replies end → slice_get replies i ≡ Some (Refused DiskFault) → ⊥
-run_well s end [] [] i run e = nowhere e
+run_well s end [] [] i run e = none-some _ e
 run_well s end [] (reply ∷ replies) i run e = absurd run
 run_well s end (cmd ∷ cmds) [] i run e = absurd run
-run_well s end (cmd ∷ cmds) (reply ∷ replies) zero run e = answered_well s run.0 cmd reply run.1 (same_item e)
+run_well s end (cmd ∷ cmds) (reply ∷ replies) zero run e = answered_well s run.0 cmd reply run.1 (same_Some _ _ e)
 run_well s end (cmd ∷ cmds) (reply ∷ replies) (suc i) run e = run_well run.0 end cmds replies i run.2 e
 
 pub memory_stops : (s end : Session) (cmds : List Cmd) (replies : List Reply) → Run is_of_memory s cmds replies end → StopsAfterFault cmds replies

@@ -1,10 +1,11 @@
 -- No command makes a file larger than 2^30 bytes.
-use Rattle.std.proofs.Common.{◌≡◌, ℕ, ◌+◌, ◌-◌, ◌≤◌, ◌==◌, nat_lt, Bool, true, false, cond, ◌&&◌, if◌then◌else◌, List, [], ◌∷◌, ◌++◌, length, take, drop, replicate, Option, Some, None, is_some, unwrap_or, refl, sym, ap, ◌∙◌, subst, T, arith, true≢false}
+use Rattle.std.proofs.Common.{◌≡◌, ℕ, ◌+◌, ◌-◌, ◌≤◌, ◌==◌, nat_lt, Bool, true, false, cond, ◌&&◌, if◌then◌else◌, List, [], ◌∷◌, ◌++◌, length, take, drop, replicate, Option, Some, None, is_some, refl, sym, ap, ◌∙◌, subst, T, arith, true≢false}
 use Rattle.std.proofs.lemmas.Bool.{ltb-false}
 use Rattle.std.proofs.lemmas.List.{length-append, length-take, length-drop, length-replicate}
 use Rattle.std.specs.Ordering.{eq_by_cmp, nat_cmp}
 use Rattle.std.specs.Cmp.{nat_cmp_total}
 use Rattle.std.specs.FinMap.{get, insert, remove, empty, get-empty, get-insert, get-remove}
+use Rattle.std.proofs.lemmas.Option.{same_Some}
 use Rattle.lang_tree.specs.declared.command.Cmd.{Cmd}
 use Rattle.lang_tree.specs.declared.command.Cmd.TheVariants.{Mkdir, Create, Write, Fill, Read, Truncate, Link, Unlink, Rmdir, Rename, Stat, List as ListNames, Osync, Dsync, Durable, Poll, Bad}
 use Rattle.lang_tree.specs.declared.command.Reply.TheVariants.{Ok as Done}
@@ -19,9 +20,6 @@ use Rattle.lang_tree.specs.Step.{Session, start, step, answered, accepted, chang
 -- the nodes of a tree hold no file larger than the bound
 abbrev Small : ℕ → Nodes → Type 0
 Small most nodes = (n : ℕ) (bytes : List ℕ) → get nodes n ≡ Some (File bytes) → length bytes ≤ most
-
-some_same : {A : Type 0} (x y : A) → Some x ≡ Some y → x ≡ y
-some_same x y e = ap (λ o. unwrap_or o x) e
 
 none_some : {A : Type 0} (x : A) → ◌≡◌ {A = Option A} None (Some x) → ⊥
 none_some x e = subst T (ap is_some (sym e)) tt
@@ -39,7 +37,7 @@ module _ (most : ℕ) where
   with_small nodes n x small one m bytes e = by (eq_by_cmp nat_cmp m n) (sym (get-insert nat_cmp_total nodes n x m) ∙ e)
     where
       by : (b : Bool) → cond b (Some x) (get nodes m) ≡ Some (File bytes) → length bytes ≤ most
-      by true e = one bytes (some_same x (File bytes) e)
+      by true e = one bytes (same_Some x (File bytes) e)
       by false e = small m bytes e
 
   without_small : (nodes : Nodes) (n : ℕ) → Small most nodes → Small most (remove nodes n)
@@ -89,9 +87,6 @@ written_small most off ys xs fits small =
       length-drop (off + length ys) xs,
     )
 
-resized_small : (most size : ℕ) (xs : List ℕ) → size ≤ most → length (resized size xs) ≤ most
-resized_small most size xs fits = omega (arith, fits, length-take size (xs ++ replicate (size - length xs) 0))
-
 not_too_large : (size : ℕ) → is_too_large size ≡ false → size ≤ 1073741824
 not_too_large size e = ltb-false 1073741824 size e
 
@@ -129,7 +124,7 @@ write_small s path offset bytes free small = write_small_by (length bytes == 0) 
 
 truncate_small_by : (b : Bool) (s : Session) (path : List (List ℕ)) (size : ℕ) → size ≤ 1073741824 → HasSmallFiles s.tree.nodes → HasSmallFiles (if b then (s, Done) else changed_to s (edited s.tree path (resized size))).0.tree.nodes
 truncate_small_by true s path size fits small = small
-truncate_small_by false s path size fits small = edited_small 1073741824 s.tree (resized size) (get s.tree.names path) (λ old h. resized_small 1073741824 size old fits) small
+truncate_small_by false s path size fits small = edited_small 1073741824 s.tree (resized size) (get s.tree.names path) (λ old h. omega (arith, fits, length-take size (old ++ replicate (size - length old) 0))) small
 
 truncate_small : (s : Session) (path : List (List ℕ)) (size : ℕ) → truncate_refusal s.tree path size ≡ None → HasSmallFiles s.tree.nodes → HasSmallFiles (truncate s path size).0.tree.nodes
 truncate_small s path size free small =

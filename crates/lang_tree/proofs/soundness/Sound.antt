@@ -3,6 +3,7 @@ use Rattle.std.proofs.Common.{◌≡◌, ℕ, ◌≤◌, ◌==◌, Bool, true, f
 use Rattle.std.specs.Cmp.{nat_cmp_total}
 use Rattle.std.specs.FinMap.{nat_cmp-IsAntisymmetric, get, insert, empty, get-empty}
 use Rattle.std.specs.Ordering.{nat_cmp}
+use Rattle.std.proofs.lemmas.Option.{same_Some, none-some}
 use Rattle.lang_tree.specs.declared.command.Cmd.{Cmd}
 use Rattle.lang_tree.specs.declared.command.Cmd.TheVariants.{Mkdir, Create, Write, Fill, Read, Truncate, Link, Unlink, Rmdir, Rename, Stat, List as ListNames, Osync, Dsync, Durable, Poll, Bad}
 use Rattle.lang_tree.specs.declared.command.Reply.{Reply}
@@ -16,7 +17,7 @@ use Rattle.lang_tree.specs.Walk.{walk_refusal, parent_refusal, thing_at, is_dir,
 use Rattle.lang_tree.specs.Conditions.{when, file_refusal, link_refusal, rmdir_refusal, refusal}
 use Rattle.lang_tree.specs.Step.{Session, start, step, answered, changed_to, edited, written, resized, linked_by, linked, removed, moved, osync}
 use Rattle.lang_tree.proofs.basics.Order.{path_total, path_same}
-use Rattle.lang_tree.proofs.basics.Strips.{none_some, some_same, lacks, no_append}
+use Rattle.lang_tree.proofs.basics.Strips.{lacks, no_append}
 use Rattle.lang_tree.proofs.basics.Finds.{put_here, look}
 use Rattle.lang_tree.proofs.walking.Found.{no_reason, no_reasons, not_so, thing_is, walked_there, parent_is, nothing_below_file, target_apart}
 use Rattle.lang_tree.proofs.soundness.SoundChanges.{with_link, added_sound, edited_sound}
@@ -47,7 +48,7 @@ module _ (limit : ℕ) (t : Tree) (s : IsSound limit t) where
       let two = no_reason (parent_refusal t other) (there ∷ dir ∷ many ∷ []) one.1 in
       let r = no_reasons there dir many two.1 in
       let free : get t.names other ≡ None = lacks (get t.names other) (not_so (is_there t other) Exists r.0) in
-      let up = parent_is t other s.root (λ root. none_some 1 (ap (get t.names) (sym root) ∙ free) s.root) two.0 in
+      let up = parent_is t other s.root (λ root. none-some 1 (sym (ap (get t.names) (sym root) ∙ free) ∙ s.root)) two.0 in
       by (get t.names path) refl free (not_so (is_dir (thing_at t path)) IsDir r.1) up
     where
       by : (o : Option ℕ) → get t.names path ≡ o → get t.names other ≡ None → is_dir (thing_at t path) ≡ false → (k : ℕ) × (get t.names (parent other) ≡ Some k) × (get t.nodes k ≡ Some Dir)
@@ -179,7 +180,7 @@ start_sound limit low = record {
   root = put_here path_total no_names [] 1 [] refl;
   root_dir = put_here nat_cmp_total no_nodes 1 Dir 1 refl;
   parents = λ up name n e. absurd (no_append up name (name_by (up ++ name ∷ []) n e (look path_total path_same no_names [] 1 (up ++ name ∷ []))));
-  named = λ p n e. (Dir, put_here nat_cmp_total no_nodes 1 Dir n (some_same n 1 (sym e ∙ put_here path_total no_names [] 1 p (name_by p n e (look path_total path_same no_names [] 1 p)))));
+  named = λ p n e. (Dir, put_here nat_cmp_total no_nodes 1 Dir n (same_Some n 1 (sym e ∙ put_here path_total no_names [] 1 p (name_by p n e (look path_total path_same no_names [] 1 p)))));
   reached = λ n x e. ([], put_here path_total no_names [] 1 [] refl ∙ ap Some (sym (node_by n x e (look nat_cmp_total nat_cmp-IsAntisymmetric no_nodes 1 Dir n))));
   one_path = λ n p q dir at_p at_q. name_by p n at_p (look path_total path_same no_names [] 1 p) ∙ sym (name_by q n at_q (look path_total path_same no_names [] 1 q));
   within = λ n x e. let is = node_by n x e (look nat_cmp_total nat_cmp-IsAntisymmetric no_nodes 1 Dir n) in (omega (arith, is), omega (arith, is, low));
@@ -187,8 +188,8 @@ start_sound limit low = record {
   where
     name_by : (p : List (List ℕ)) (n : ℕ) → get (insert no_names [] 1) p ≡ Some n → (p ≡ []) ⊎ (get (insert no_names [] 1) p ≡ get no_names p) → p ≡ []
     name_by p n e (inl is) = is
-    name_by p n e (inr is) = absurd (none_some n (is ∙ get-empty path_cmp p) e)
+    name_by p n e (inr is) = absurd (none-some n (sym (is ∙ get-empty path_cmp p) ∙ e))
 
     node_by : (n : ℕ) (x : Thing) → get (insert no_nodes 1 Dir) n ≡ Some x → (n ≡ 1) ⊎ (get (insert no_nodes 1 Dir) n ≡ get no_nodes n) → n ≡ 1
     node_by n x e (inl is) = is
-    node_by n x e (inr is) = absurd (none_some x (is ∙ get-empty nat_cmp n) e)
+    node_by n x e (inr is) = absurd (none-some x (sym (is ∙ get-empty nat_cmp n) ∙ e))

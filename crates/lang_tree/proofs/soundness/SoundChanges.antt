@@ -3,6 +3,7 @@ use Rattle.std.proofs.Common.{◌≡◌, ℕ, zero, suc, ◌+◌, ◌≤◌, ◌
 use Rattle.std.specs.List.{range_with_len}
 use Rattle.std.specs.Cmp.{nat_cmp_total}
 use Rattle.std.specs.FinMap.{nat_cmp-IsAntisymmetric, get, insert}
+use Rattle.std.proofs.lemmas.Option.{same_Some, none-some}
 use Rattle.lang_tree.specs.declared.command.Refusal.TheVariants.{Exists, NoNode}
 use Rattle.lang_tree.specs.Tree.{Tree, Nodes, Thing, Dir, File, IsSound}
 use Rattle.lang_tree.specs.Paths.{parent}
@@ -10,17 +11,17 @@ use Rattle.lang_tree.specs.Walk.{parent_refusal, is_there}
 use Rattle.lang_tree.specs.Conditions.{when, least_unused, make_refusal}
 use Rattle.lang_tree.specs.Step.{with_node, added, with_bytes, edited_at, edited}
 use Rattle.lang_tree.proofs.basics.Order.{path_total, path_same}
-use Rattle.lang_tree.proofs.basics.Strips.{none_some, some_same, lacks, parent_append}
+use Rattle.lang_tree.proofs.basics.Strips.{lacks, parent_append}
 use Rattle.lang_tree.proofs.basics.Finds.{put_here, look, keeps}
 use Rattle.lang_tree.proofs.walking.Found.{no_reasons, not_so, dir_file, parent_is}
 
 found_in : (test : ℕ → Bool) (a n m : ℕ) → first test (range_with_len a n) ≡ Some m → (test m ≡ true) × (a ≤ m) × (m < a + n)
-found_in test a zero m e = absurd (none_some m refl e)
+found_in test a zero m e = absurd (none-some m e)
 found_in test a (suc n) m e = by (test a) refl (found_in test (a + 1) n m) e
   where
     by : (b : Bool) → test a ≡ b → (first test (range_with_len (a + 1) n) ≡ Some m → (test m ≡ true) × (a + 1 ≤ m) × (m < a + 1 + n))
         → cond b (Some a) (first test (range_with_len (a + 1) n)) ≡ Some m → (test m ≡ true) × (a ≤ m) × (m < a + suc n)
-    by true is go e = let same : a ≡ m = some_same a m e in (ap test (sym same) ∙ is, omega (arith, same), omega (arith, same))
+    by true is go e = let same : a ≡ m = same_Some a m e in (ap test (sym same) ∙ is, omega (arith, same), omega (arith, same))
     by false is go e = let r = go e in (r.0, omega (arith, r.1), omega (arith, r.2))
 
 none_of : {A : Type 0} (o : Option A) → is_none o ≡ true → o ≡ None
@@ -55,7 +56,7 @@ module _ (limit : ℕ) (t : Tree) (s : IsSound limit t) where
 
     -- no old path leads to the new number
     no_old : (p : List (List ℕ)) → get t.names p ≡ Some m → ⊥
-    no_old p e = let y = s.named p m e in none_some y.0 no_node y.1
+    no_old p e = let y = s.named p m e in none-some y.0 (sym no_node ∙ y.1)
 
     lift : (up : List (List ℕ)) → (j : ℕ) × (get t.names up ≡ Some j) × (get t.nodes j ≡ Some Dir) → (j : ℕ) × (get (insert t.names path m) up ≡ Some j) × (get (insert t.nodes m x) j ≡ Some Dir)
     lift up r = (r.0, keep_name up r.0 r.1, keep_node r.0 Dir r.2)
@@ -67,7 +68,7 @@ module _ (limit : ℕ) (t : Tree) (s : IsSound limit t) where
     parents_by up name n e (inr is) = lift up (s.parents up name n (sym is ∙ e))
 
     named_by : (p : List (List ℕ)) (n : ℕ) → get (insert t.names path m) p ≡ Some n → (p ≡ path) ⊎ (get (insert t.names path m) p ≡ get t.names p) → (y : Thing) × (get (insert t.nodes m x) n ≡ Some y)
-    named_by p n e (inl is) = (x, new_node n (some_same n m (sym e ∙ new_name p is)))
+    named_by p n e (inl is) = (x, new_node n (same_Some n m (sym e ∙ new_name p is)))
     named_by p n e (inr is) = let r = s.named p n (sym is ∙ e) in (r.0, keep_node n r.0 r.1)
 
     reached_by : (n : ℕ) (y : Thing) → get (insert t.nodes m x) n ≡ Some y → (n ≡ m) ⊎ (get (insert t.nodes m x) n ≡ get t.nodes n) → (p : List (List ℕ)) × (get (insert t.names path m) p ≡ Some n)
@@ -80,7 +81,7 @@ module _ (limit : ℕ) (t : Tree) (s : IsSound limit t) where
     own_path p e (inr is) = absurd (no_old p (sym is ∙ e))
 
     old_path : (n : ℕ) (p : List (List ℕ)) (y : Thing) → get t.nodes n ≡ Some y → get (insert t.names path m) p ≡ Some n → (p ≡ path) ⊎ (get (insert t.names path m) p ≡ get t.names p) → get t.names p ≡ Some n
-    old_path n p y there e (inl is) = absurd (none_some y no_node (ap (get t.nodes) (some_same m n (sym (new_name p is) ∙ e)) ∙ there))
+    old_path n p y there e (inl is) = absurd (none-some y (sym no_node ∙ ap (get t.nodes) (same_Some m n (sym (new_name p is) ∙ e)) ∙ there))
     old_path n p y there e (inr is) = sym is ∙ e
 
     one_by : (n : ℕ) (p q : List (List ℕ)) → get (insert t.nodes m x) n ≡ Some Dir → get (insert t.names path m) p ≡ Some n → get (insert t.names path m) q ≡ Some n
@@ -114,7 +115,7 @@ module _ (limit : ℕ) (t : Tree) (s : IsSound limit t) where
     keep_other p m e = keeps path_total path_same t.names path n p m no_path e
 
     link_here : (p : List (List ℕ)) (m : ℕ) → get (insert t.names path n) p ≡ Some m → p ≡ path → m ≡ n
-    link_here p m e is = some_same m n (sym e ∙ put_here path_total t.names path n p is)
+    link_here p m e is = same_Some m n (sym e ∙ put_here path_total t.names path n p is)
 
     link_parents : (up : List (List ℕ)) (name : List ℕ) (m : ℕ) → get (insert t.names path n) (up ++ name ∷ []) ≡ Some m
         → (up ++ name ∷ [] ≡ path) ⊎ (get (insert t.names path n) (up ++ name ∷ []) ≡ get t.names (up ++ name ∷ []))
@@ -186,7 +187,7 @@ module _ (limit : ℕ) (t : Tree) (s : IsSound limit t) where
       by (Some m) is =
           let r = no_reasons (parent_refusal t path) (when (is_there t path) Exists) (when (is_none (least_unused limit t.nodes)) NoNode) e in
           let free : get t.names path ≡ None = lacks (get t.names path) (not_so (is_there t path) Exists r.1) in
-          let up = parent_is t path s.root (λ root. none_some 1 (ap (get t.names) (sym root) ∙ free) s.root) r.0 in
+          let up = parent_is t path s.root (λ root. none-some 1 (sym (ap (get t.names) (sym root) ∙ free) ∙ s.root)) r.0 in
           let number = unused_is limit m t.nodes is in
           with_new path m up.0 x free number.0 number.1 number.2 up.1 up.2
 

@@ -4,12 +4,13 @@ use Rattle.std.proofs.lemmas.Bool.{cases_eq}
 use Rattle.std.proofs.lemmas.List.{append_cancel_left}
 use Rattle.std.specs.Cmp.{nat_cmp_total}
 use Rattle.std.specs.FinMap.{nat_cmp-IsAntisymmetric, get, remove}
+use Rattle.std.proofs.lemmas.Option.{same_Some, none-some}
 use Rattle.lang_tree.specs.Tree.{Tree, Names, Nodes, Thing, Dir, IsSound}
 use Rattle.lang_tree.specs.Paths.{strip, parent}
 use Rattle.lang_tree.specs.Names.{holds_names, path_count, renamed}
 use Rattle.lang_tree.specs.Step.{with_used, removed, removed_by, moved}
 use Rattle.lang_tree.proofs.basics.Order.{path_total, path_same}
-use Rattle.lang_tree.proofs.basics.Strips.{none_some, some_same, has, strip_is, not_behind, within_at, from_end, parted, parent_append}
+use Rattle.lang_tree.proofs.basics.Strips.{has, strip_is, not_behind, within_at, from_end, parted, parent_append}
 use Rattle.lang_tree.proofs.basics.Finds.{gone_here, was, stays}
 use Rattle.lang_tree.proofs.counting.PathCounts.{unused, used_by}
 use Rattle.lang_tree.proofs.walking.Found.{none_held, CanMove}
@@ -20,9 +21,6 @@ Place = List (List ℕ)
 
 -- a path other than the root goes, that leads to n and has nothing below it
 module _ (limit : ℕ) (t : Tree) (s : IsSound limit t) (path : Place) (n : ℕ) (at : get t.names path ≡ Some n) (free : holds_names t.names path ≡ false) (below_root : path ≡ [] → ⊥) where
-  left : Names
-  left = remove t.names path
-
   was_name : (p : Place) (m : ℕ) → get (remove t.names path) p ≡ Some m → get t.names p ≡ Some m
   was_name p m e = was path_total t.names path p m e
 
@@ -49,7 +47,7 @@ module _ (limit : ℕ) (t : Tree) (s : IsSound limit t) (path : Place) (n : ℕ)
     where
       reach : (m : ℕ) → (m ≡ n) ⊎ (m ≡ n → ⊥) → (q : Place) × (get t.names q ≡ Some m) → (q : Place) × (get (remove t.names path) q ≡ Some m)
       reach m (inl e) q = (p, other ∙ ap Some (sym e))
-      reach m (inr off) q = (q.0, name_stays q.0 m (λ same. off (some_same m n (sym q.1 ∙ ap (get t.names) same ∙ at))) q.1)
+      reach m (inr off) q = (q.0, name_stays q.0 m (λ same. off (same_Some m n (sym q.1 ∙ ap (get t.names) same ∙ at))) q.1)
 
   -- no other path leads to n, and it goes too
   last_sound : ((p : Place) → get (remove t.names path) p ≡ Some n → ⊥) → IsSound limit (record { names = remove t.names path; nodes = remove t.nodes n })
@@ -61,7 +59,7 @@ module _ (limit : ℕ) (t : Tree) (s : IsSound limit t) (path : Place) (n : ℕ)
         let up_at = up_stays up name m k.0 (was_name (up ++ name ∷ []) m e) k.1 in
         (k.0, up_at, node_stays k.0 Dir (λ e. last up (up_at ∙ ap Some e)) k.2);
     named = λ q m e. let x = s.named q m (was_name q m e) in (x.0, node_stays m x.0 (λ same. last q (e ∙ ap Some same)) x.1);
-    reached = λ m x e. let q = s.reached m x (was_node m x e) in (q.0, name_stays q.0 m (λ same. gone_node m x e (some_same m n (sym q.1 ∙ ap (get t.names) same ∙ at))) q.1);
+    reached = λ m x e. let q = s.reached m x (was_node m x e) in (q.0, name_stays q.0 m (λ same. gone_node m x e (same_Some m n (sym q.1 ∙ ap (get t.names) same ∙ at))) q.1);
     one_path = λ m p q dir at_p at_q. s.one_path m p q (was_node m Dir dir) (was_name p m at_p) (was_name q m at_q);
     within = λ m x e. s.within m x (was_node m x e);
   }
@@ -73,7 +71,7 @@ module _ (limit : ℕ) (t : Tree) (s : IsSound limit t) (path : Place) (n : ℕ)
       node_stays m x off e = stays nat_cmp_total nat_cmp-IsAntisymmetric t.nodes n m off ∙ e
 
       gone_node : (m : ℕ) (x : Thing) → get (remove t.nodes n) m ≡ Some x → m ≡ n → ⊥
-      gone_node m x e same = none_some x (gone_here nat_cmp_total t.nodes n m same) e
+      gone_node m x e same = none-some x (sym (gone_here nat_cmp_total t.nodes n m same) ∙ e)
 
   pub with_used_sound : IsSound limit (with_used (remove t.names path) t.nodes n)
   with_used_sound = by (path_count (remove t.names path) n == 0) refl
@@ -123,7 +121,7 @@ module _ (limit : ℕ) (t : Tree) (s : IsSound limit t) (from to : Place) (n : �
       by : (o u : Option Place) → strip to p ≡ o → strip from p ≡ u → Origin p m
       by (Some r) u is out = inl (r, strip_is to p r is, sym (at_target t.names from to gone can.free r) ∙ ap (get (renamed t.names from to)) (sym (strip_is to p r is)) ∙ e)
       by None None is out = inr (λ r. not_behind from p r out, sym (elsewhere t.names from to gone can.free p is out) ∙ e)
-      by None (Some r) is out = absurd (none_some m (at_source t.names from to gone can.free p r is (strip_is from p r out)) e)
+      by None (Some r) is out = absurd (none-some m (sym (at_source t.names from to gone can.free p r is (strip_is from p r out)) ∙ e))
 
   parents_by : (up : Place) (name : List ℕ) (m : ℕ) → Origin (up ++ name ∷ []) m → (k : ℕ) × (get (renamed t.names from to) up ≡ Some k) × (get t.nodes k ≡ Some Dir)
   unfolding Origin

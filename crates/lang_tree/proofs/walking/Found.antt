@@ -2,6 +2,7 @@
 use Rattle.std.proofs.Common.{◌≡◌, ℕ, Bool, true, false, ◌&&◌, List, [], ◌∷◌, ◌++◌, Option, Some, None, option_and_then, Result, Ok, Err, is_some, if◌then◌else◌, sym, refl, ap, ◌∙◌, ◌⊎◌, inl, inr, append_assoc, append-nil, eq-eqb}
 use Rattle.std.proofs.lemmas.Bool.{false_from_ne_true}
 use Rattle.std.specs.FinMap.{get, entries, get-entries}
+use Rattle.std.proofs.lemmas.Option.{none-some}
 use Rattle.lang_tree.specs.declared.command.Refusal.{Refusal}
 use Rattle.lang_tree.specs.declared.command.Refusal.TheVariants.{NotDir, IsDir, NotEmpty, BelowItself}
 use Rattle.lang_tree.specs.Tree.{Tree, Names, Thing, Dir, File, IsSound}
@@ -10,7 +11,7 @@ use Rattle.lang_tree.specs.Names.{holds_names}
 use Rattle.lang_tree.specs.Walk.{walk, walk_from, enter, is_dir, is_file, thing_at, refusal_in, walk_refusal, no_directory, parent_refusal, are_same, is_same_node}
 use Rattle.lang_tree.specs.Conditions.{when, first_reason, onto_refusal, rename_refusal}
 use Rattle.lang_tree.proofs.basics.Order.{path_total, path_same}
-use Rattle.lang_tree.proofs.basics.Strips.{none_some, within_is, below_is, below_at, from_end, no_append, parent_append}
+use Rattle.lang_tree.proofs.basics.Strips.{within_is, below_is, below_at, from_end, no_append, parent_append}
 use Rattle.lang_tree.proofs.basics.Finds.{any_found, found_any}
 
 -- Refusals.
@@ -112,7 +113,7 @@ module _ (limit : ℕ) (t : Tree) (s : IsSound limit t) where
       above p r.1 r.0 q.1 (ap (get t.names) (sym r.2) ∙ q.2)
 
   pub nothing_below_absent : (p : List (List ℕ)) → get t.names p ≡ None → holds_names t.names p ≡ false
-  nothing_below_absent p none = false_from_ne_true (holds_names t.names p) (λ e. let k = holds_dir p e in none_some k.0 none k.1)
+  nothing_below_absent p none = false_from_ne_true (holds_names t.names p) (λ e. let k = holds_dir p e in none-some k.0 (sym none ∙ k.1))
 
   pub nothing_below_file : (p : List (List ℕ)) → is_file (thing_at t p) ≡ true → holds_names t.names p ≡ false
   nothing_below_file p file = false_from_ne_true (holds_names t.names p) (λ e.

@@ -1,6 +1,6 @@
 use Rattle.std.proofs.Common.{◌≡◌, ◌<◌, ◌+◌, ◌++◌, ◌∷◌, [], false, refl, vec_len, vec_capacity, ◌∙◌, arith}
+use Rattle.std.proofs.lemmas.Bool.{cond-true}
 use Rattle.crash_argument.specs.Writes.{row_writes}
-use Rattle.crash_argument.proofs.log.Events.{if_true}
 use Rattle.crash_argument.proofs.log.Rows.{none_written, one_more, all_written, front_written, row_write_is, length_row_writes}
 use Rattle.crash_argument.proofs.log.Spending.{writes_on}
 use Rattle.crash_argument.proofs.guarded.write_all_in_ring.Goals as goal
@@ -28,11 +28,11 @@ returns-in_err-ticket-clause-safe g c = λ tells s l t floor place may safe.
 pub loop-block-preserved : goal.loop-block-preserved
 loop-block-preserved g c =
     let room : vec_len c.loop-block.tickets < vec_capacity c.loop-block.tickets = omega (arith, c.requires.room, c.loop-block.invariant.taken, c.loop-block.invariant.capacity, c.loop-block-test.true) in
-    let items : c.push.new.self.items ≡ c.loop-block.tickets.items ++ c.in_ok-ticket.ticket ∷ [] = c.push.ensures.items ∙ if_true _ _ _ (c.push.ensures.succeeds room) in
+    let items : c.push.new.self.items ≡ c.loop-block.tickets.items ++ c.in_ok-ticket.ticket ∷ [] = c.push.ensures.items ∙ cond-true _ _ _ (c.push.ensures.succeeds room) in
     record {
       at = omega (arith, c.loop-block.invariant.at);
       spent = writes_on false _ _ _ c.loop-block.invariant.spent c.in_ok-ticket.ensures.spends;
-      taken = c.push.ensures.len ∙ if_true _ _ _ (c.push.ensures.succeeds room) ∙ omega (arith, c.loop-block.invariant.taken);
+      taken = c.push.ensures.len ∙ cond-true _ _ _ (c.push.ensures.succeeds room) ∙ omega (arith, c.loop-block.invariant.taken);
       capacity = omega (arith, c.push.ensures.capacity, c.loop-block.invariant.capacity);
       log = λ tells.
           one_more (row_writes c.args.first c.args.blocks.now) c.loop-block.block-index c.loop-block.at _ c.in_ok-ticket.ticket c.args.tickets.now.items c.loop-block.tickets.items c.push.new.self.items (g.D.Disk.state c.args.disk.now).log (g.D.Disk.state c.loop-block.disk).log _

@@ -9,5 +9,5 @@ returns c = record {
       c.journal_blocks_read_back.ensures.headers
       (λ k. c.the_journal_is_lawful.ensures.stored_no_commit Payload k (replicate 1024 0) zeros_are_stored)
       (λ k. c.the_journal_is_lawful.ensures.stored_no_descriptor Payload k (replicate 1024 0) zeros_are_stored)
-      g ticket fits (c.the_journal_is_lawful.ensures.geometry_sizes g fits);
+      c.the_formatted_disk_is_empty.ensures.journal g ticket fits (c.the_journal_is_lawful.ensures.geometry_sizes g fits);
 }

@@ -11,6 +11,6 @@ returns c = record {
       (λ n. c.journal_blocks_are_told_apart.ensures.stored_no_header Payload n (replicate 1024 0) zeros_are_stored)
       (λ k. c.journal_blocks_are_told_apart.ensures.stored_no_commit Payload k (replicate 1024 0) zeros_are_stored)
       (λ k. c.journal_blocks_are_told_apart.ensures.stored_no_descriptor Payload k (replicate 1024 0) zeros_are_stored)
-      g fits (c.the_journal_is_lawful.ensures.geometry_sizes g fits);
-  run = λ g fits. formatted_runs (λ k. c.journal_blocks_are_told_apart.ensures.stored_no_commit Payload k (replicate 1024 0) zeros_are_stored) g (c.the_journal_is_lawful.ensures.geometry_sizes g fits).0;
+      c.the_formatted_disk_is_empty.ensures.journal g fits (c.the_journal_is_lawful.ensures.geometry_sizes g fits);
+  run = λ g fits. formatted_runs (λ k. c.journal_blocks_are_told_apart.ensures.stored_no_commit Payload k (replicate 1024 0) zeros_are_stored) c.the_formatted_disk_is_empty.ensures.journal g (c.the_journal_is_lawful.ensures.geometry_sizes g fits).0;
 }

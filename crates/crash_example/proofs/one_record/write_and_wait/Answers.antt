@@ -1,8 +1,9 @@
-use Rattle.std.proofs.Common.{◌+◌, ◌≤◌, [], arith}
+use Rattle.std.proofs.Common.{◌+◌, ◌≤◌, [], arith, ◌∷◌}
+use Rattle.std.proofs.lemmas.List.{length-append}
 use Rattle.crash_argument.specs.Ledger.{next_number}
 use Rattle.crash_argument.specs.Steps.{with_record}
 use Rattle.crash_argument.specs.PipelineData.{with_committed}
-use Rattle.crash_example.proofs.RecordClient.{left_unknown, only_noticed, one_longer}
+use Rattle.crash_example.proofs.RecordClient.{left_unknown, only_noticed}
 use Rattle.crash_example.proofs.SettlingSteps.{somehow}
 use Rattle.crash_example.specs.OneRecord.{writes_of}
 use Rattle.crash_example.proofs.Orders.{amid_then, prefix_all, in_order_failed}
@@ -24,7 +25,7 @@ returns-clause-known g c = λ tells s l p w m t floor freed is may safe knows id
     let both = c.make_known.ensures.knows tells (with_record l w m) joined (written.safe.keeps, written.joined freed are_freed) in
     let from : l.known ≤ next_number l + 1 = omega (arith, safe.keeps.known) in
     let noticed = only_noticed _ _ l p w m c.in_ok-tickets.tickets freed (next_number l + 1) both.1 none (c.in_ok-make_known.ensures.noticed tells) in
-    let durable = c.records_become_durable.ensures.noticed _ _ (with_record l w m) joined (next_number l + 1) both.0 both.1 from (omega (arith, one_longer l w m)) noticed in (
+    let durable = c.records_become_durable.ensures.noticed _ _ (with_record l w m) joined (next_number l + 1) both.0 both.1 from (omega (arith, length-append l.records (w ∷ []))) noticed in (
       c.noticed_records_are_known.ensures.known s _ _ (with_record l w m) t floor (next_number l + 1) durable (c.make_known.ensures.safe tells s (with_record l w m) t floor written.safe),
       c.records_become_durable.ensures.knows _ _ (with_record l w m) joined (next_number l + 1) both.0 both.1 from,
     )

@@ -1,12 +1,14 @@
-use Rattle.std.proofs.Common.{rules, ◌≡◌, false, IfErr, sym, ◌∙◌}
+use Rattle.std.proofs.Common.{rules, ◌≡◌, List, false, IfErr, sym, ◌∙◌, inl, subst}
 use Rattle.std.proofs.lemmas.Bool.{false≢true}
+use Rattle.disk_contract.specs.declared.event.Event.{Event}
+use Rattle.crash_argument.specs.Opening.{WritesOne}
 use Rattle.engine_recover.specs.Reading.{Searches}
 use Rattle.engine_mount.specs.Mount.{RefusalSays}
 use Rattle.engine_mount.specs.Refusal.{IsFault, is_unread, is_faulty}
 use Rattle.engine_mount.proofs.Founds.{searches_spend, faults_say, if_err}
 use Rattle.engine_mount.proofs.States.{same_idle}
 use Rattle.engine_mount.proofs.Opens.{idle_stays, found_on_still, held_still, window_before, begun_before, goes_before}
-use Rattle.engine_mount.proofs.OnlyWrite.{stops_too, stops_before, once_since, one_since}
+use Rattle.engine_mount.proofs.OnlyWrite.{stops_too, once_since}
 use Rattle.engine_mount.proofs.mounting.mount.Goals as goal
 
 pub returns-in_err-found-clause-holds : goal.returns-in_err-found-clause-holds
@@ -65,7 +67,7 @@ returns-in_err-found-clause-cause g c = λ tells faulty.
     absurd (false≢true (sym calm ∙ faulty))
 
 pub returns-in_err-found-clause-alone : goal.returns-in_err-found-clause-alone
-returns-in_err-found-clause-alone g c = λ tells idle none. stops_before (g.D.Disk.state c.args.disk.now).manner c.from_residual.result _ _ c.from_residual.ensures.0 (c.find.ensures.reads.log tells)
+returns-in_err-found-clause-alone g c = λ tells idle none. stops_too (g.D.Disk.state c.args.disk.now).manner c.from_residual.result _ _ c.from_residual.ensures.0 (inl (c.find.ensures.reads.log tells))
 
 pub returns-in_err-mounted-clause-alone : goal.returns-in_err-mounted-clause-alone
 returns-in_err-mounted-clause-alone g c = λ tells idle none.
@@ -75,4 +77,4 @@ returns-in_err-mounted-clause-alone g c = λ tells idle none.
 
 pub returns-clause-alone : goal.returns-clause-alone
 returns-clause-alone g c = λ tells idle none.
-    one_since (g.D.Disk.state c.args.disk.now) (g.D.Disk.state c.find.new.disk) (g.D.Disk.state c.open.new.disk) (c.find.ensures.reads.log tells) (c.in_ok-mounted.ensures.alone tells (none c.in_ok-found.found (c.in_ok-found.ensures.found tells idle)))
+    subst (λ (l : List Event). WritesOne l (g.D.Disk.state c.open.new.disk).log) (c.find.ensures.reads.log tells) (c.in_ok-mounted.ensures.alone tells (none c.in_ok-found.found (c.in_ok-found.ensures.found tells idle)))

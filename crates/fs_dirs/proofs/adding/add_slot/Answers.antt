@@ -1,6 +1,6 @@
 use Rattle.std.proofs.Common.{◌≡◌, ◌+◌, ◌*◌, false, IsTrue, List, [], ◌∷◌, ◌++◌, length, min, Some, IfSome, sym, subst, ap, ◌∙◌, rules, arith}
 use Rattle.std.proofs.lemmas.Option.{none-some, same_Some}
-use Rattle.std.proofs.lemmas.Result.{IfErr-weaker}
+use Rattle.std.proofs.lemmas.Result.{IfErr-weaker, on_ok_weaker}
 use Rattle.layout_bytes.specs.declared.slot.Slot.{Slot}
 use Rattle.crash_stands.specs.Files.{Files}
 use Rattle.crash_stands.specs.Inodes.{ADir}
@@ -12,7 +12,7 @@ use Rattle.fs_dirs.specs.Changing.{IsWithSlots}
 use Rattle.fs_dirs.specs.Directories.{inodes_in}
 use Rattle.fs_dirs.proofs.reading.Looks.{looks_more, same_files, same_inodes, same_places, draft_stays}
 use Rattle.fs_dirs.proofs.writing.Nodes.{DirNode, dir_node}
-use Rattle.fs_dirs.proofs.writing.Adding.{still_whole, sets_behind, same_growth, still_used, placed_behind, alters_behind, room_behind, runs_behind, refused_behind, ok_maps, ok_both}
+use Rattle.fs_dirs.proofs.writing.Adding.{still_whole, sets_behind, same_growth, still_used, placed_behind, alters_behind, room_behind, runs_behind, refused_behind, ok_both}
 use Rattle.fs_dirs.proofs.adding.add_slot.Goals as goal
 use Rattle.fs_dirs.proofs.adding.add_slot.Goals.{In-Some}
 
@@ -65,7 +65,7 @@ pub returns-clause-slots : goal.returns-clause-slots
 returns-clause-slots g c = λ told.
     let b = (goal.at.returns-clause-slots g c).In-Some in
     let new = files_in (g.S.Blocks.state c.write_at.new.blocks) c.write_at.new.self in
-    ok_maps c.write_at.result (λ write slots is.
+    on_ok_weaker c.write_at.result (λ write slots is.
     subst (λ (f : Files). IsWithSlots f new c.args.dir (slots ++ c.args.slot.now ∷ [])) (same_files g.S.Blocks.tells false (s g b) (mid g b) c.args.draft.now c.in_ok-count.ensures.looks told)
     (sets_behind (files_in (mid g b) c.args.draft.now) new c.args.dir c.in-Some.count (64 * c.from.result) c.as_slice.result.now slots c.args.slot.now (node g b told slots is) (many g b told slots is) (omega (arith, c.from.ensures)) (search rules)
     (c.as_slice.ensures ∙ c.slot_text-text.ensures.text) c.slot_text-text.ensures.lawful c.slots_follow_the_bytes.ensures.behind write)) (c.write_at.ensures.file told)
@@ -76,7 +76,7 @@ returns-clause-used g c = λ told.
     let same = same_files g.S.Blocks.tells false (s g b) (mid g b) c.args.draft.now c.in_ok-count.ensures.looks told in
     let there = subst (λ o. IfSome o (λ n. IsUsed (files_in (s g b) c.args.draft.now) c.args.dir)) c.in-Some.is (c.in_ok-count.ensures.used told) in
     let new = files_in (g.S.Blocks.state c.write_at.new.blocks) c.write_at.new.self in
-    ok_maps c.write_at.result (λ write l used.
+    on_ok_weaker c.write_at.result (λ write l used.
     still_used (files_in (mid g b) c.args.draft.now) new c.args.dir (with_bytes there.0 _) (write there.0 (ap (λ (f : Files). f c.args.dir) same ∙ there.1)) l (subst (λ (f : Files). IsUsed f l) (sym same) used)) (c.write_at.ensures.file told)
 
 pub returns-clause-places : goal.returns-clause-places
@@ -97,7 +97,7 @@ returns-clause-room g c = λ told.
     let b = (goal.at.returns-clause-room g c).In-Some in
     let size : length c.as_slice.result.now ≡ 64 = search rules in
     let new = g.S.Blocks.state c.write_at.new.blocks in
-    ok_maps c.write_at.result (λ grows slots is.
+    on_ok_weaker c.write_at.result (λ grows slots is.
     let r = node g b told slots is in
     room_behind new.books slots r.file (64 * c.from.result + length c.as_slice.result.now) (places_in (mid g b) c.args.draft.now c.args.dir) (places_in new c.write_at.new.self c.args.dir) c.args.draft.now c.write_at.new.self
     (grows r.file r.is (omega (arith, size))) r.long (omega (arith, c.from.ensures, many g b told slots is, size))) (c.write_at.ensures.grows told)
@@ -107,7 +107,7 @@ returns-clause-runs g c = λ told.
     let b = (goal.at.returns-clause-runs g c).In-Some in
     let size : length c.as_slice.result.now ≡ 64 = search rules in
     let new = g.S.Blocks.state c.write_at.new.blocks in
-    ok_maps c.write_at.result (λ grows slots is.
+    on_ok_weaker c.write_at.result (λ grows slots is.
     let r = node g b told slots is in
     runs_behind new.books slots r.file (64 * c.from.result + length c.as_slice.result.now) (places_in (mid g b) c.args.draft.now c.args.dir) (places_in (s g b) c.args.draft.now c.args.dir) (places_in new c.write_at.new.self c.args.dir) c.args.draft.now c.write_at.new.self
     (grows r.file r.is (omega (arith, size))) r.long (omega (arith, c.from.ensures, many g b told slots is, size))

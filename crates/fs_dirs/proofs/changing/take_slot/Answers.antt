@@ -1,5 +1,6 @@
-use Rattle.std.proofs.Common.{◌≡◌, ◌+◌, ◌-◌, ◌<◌, false, IsTrue, List, [], length, set, slice_get, Some, sym, subst, ap, ◌∙◌, arith, length-set}
+use Rattle.std.proofs.Common.{◌≡◌, ◌+◌, ◌-◌, ◌<◌, false, IsTrue, List, [], length, set, slice_get, Some, sym, subst, ap, ◌∙◌, arith, length-set, Err}
 use Rattle.std.proofs.lemmas.Option.{none-some, same_Some, slice_get-get_or}
+use Rattle.std.proofs.lemmas.Result.{err_from_is_err_and}
 use Rattle.layout_bytes.specs.declared.slot.Slot.{Slot}
 use Rattle.lang_tree.specs.Figures.{directory_blocks, release}
 use Rattle.crash_stands.specs.Files.{Files}
@@ -13,7 +14,7 @@ use Rattle.fs_dirs.specs.Directories.{inodes_in}
 use Rattle.fs_dirs.proofs.reading.Looks.{looks_more, same_files, same_inodes, same_places}
 use Rattle.fs_dirs.proofs.writing.Alterings.{alters_both}
 use Rattle.fs_dirs.proofs.writing.Nodes.{place_of_slots}
-use Rattle.fs_dirs.proofs.writing.Taking.{out_is, slots_twice, places_twice, same_error}
+use Rattle.fs_dirs.proofs.writing.Taking.{out_is, slots_twice, places_twice}
 use Rattle.fs_dirs.proofs.changing.take_slot.Goals as goal
 use Rattle.fs_dirs.proofs.changing.take_slot.Goals.{In-Some, In_ok-set_slot}
 
@@ -123,5 +124,6 @@ pub returns-in_err-cut_slots-clause-looks : goal.returns-in_err-cut_slots-clause
 returns-in_err-cut_slots-clause-looks g c =
     let b = (goal.at.returns-in_err-cut_slots-clause-looks g c).In_ok-set_slot in
     let new = g.S.Blocks.state c.cut_slots.new.blocks in
-    same_error c.from_residual-in_err-cut_slots.result c.in_err-cut_slots.field-0.0 (λ r. LooksOnly g.S.Blocks.tells (fails_reading r) (start g b) new) c.from_residual-in_err-cut_slots.ensures.1
+    let error = err_from_is_err_and c.from_residual-in_err-cut_slots.result c.from_residual-in_err-cut_slots.ensures.1 in
+    subst (λ r. LooksOnly g.S.Blocks.tells (fails_reading r) (start g b) new) (sym (error.1 ∙ ap Err error.2))
     (looks_more g.S.Blocks.tells _ (start g b) (put g b) new (put_looks g b) c.in_err-cut_slots.ensures.looks)

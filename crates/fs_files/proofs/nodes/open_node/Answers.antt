@@ -1,12 +1,12 @@
+use Rattle.std.proofs.Common.{sym}
 use Rattle.fs_files.proofs.drafts.Opened.{opens_dir, opens_file}
-use Rattle.fs_files.proofs.drafts.Opening.{none_there, free_there}
 use Rattle.fs_files.proofs.nodes.open_node.Goals as goal
 
 pub returns-in_default-clause-node : goal.returns-in_default-clause-node
-returns-in_default-clause-node c = none_there c.nodes_in_use_are_read.ensures c.args.geom.now c.args.bytes.now c.requires c.byte_ranges.ensures c.in_default.ensures.refused
+returns-in_default-clause-node c = sym (c.nodes_in_use_are_read.ensures.none c.args.geom.now c.args.bytes.now c.requires c.byte_ranges.ensures c.in_default.ensures.refused)
 
 pub returns-in-Free-clause-node : goal.returns-in-Free-clause-node
-returns-in-Free-clause-node c = free_there c.nodes_in_use_are_read.ensures c.a_spelling_has_one_node.ensures.one c.args.geom.now c.args.bytes.now c.requires c.byte_ranges.ensures c.in-Ok.node c.in-Ok.ensures.found c.in-Free.is
+returns-in-Free-clause-node c = sym (c.nodes_in_use_are_read.ensures.free c.args.geom.now c.args.bytes.now c.in-Ok.node c.requires c.byte_ranges.ensures c.in-Ok.ensures.found c.in-Free.is)
 
 pub returns-in-Dir-clause-open : goal.returns-in-Dir-clause-open
 returns-in-Dir-clause-open c = opens_dir c.args.geom.now c.opened.result c.in-Ok.node c.args.bytes.now c.lawful.ensures.limits.most_blocks c.a_list_has_its_runs.ensures.places c.a_list_has_its_runs.ensures.count c.opened.ensures c.in-Dir.is c.in-Ok.ensures.found

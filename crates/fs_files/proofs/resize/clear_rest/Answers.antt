@@ -1,7 +1,8 @@
 use Rattle.std.proofs.Common.{ap}
+use Rattle.std.proofs.lemmas.Result.{on_ok_weaker}
 use Rattle.fs_files.specs.Calls.{is_dir}
 use Rattle.fs_files.proofs.calling.Resizes.{clears_none, cleared_none, clears_dir, cleared_dir}
-use Rattle.fs_files.proofs.drafts.Refused.{ok_maps, ok_both}
+use Rattle.fs_files.proofs.drafts.Refused.{ok_both}
 use Rattle.fs_files.proofs.resize.clear_rest.Goals as goal
 
 pub returns-in-Free-clause-clears : goal.returns-in-Free-clause-clears
@@ -17,7 +18,7 @@ pub returns-in-File-clause-bytes : goal.returns-in-File-clause-bytes
 returns-in-File-clause-bytes g c = λ tells content. cleared_none (g.S.Blocks.state c.args.blocks.now).map c.args.kind c.args.size c.args.places.now c.args.draft.now (ap is_dir c.in-File.is) content
 
 pub returns-in-Dir-clause-clears : goal.returns-in-Dir-clause-clears
-returns-in-Dir-clause-clears g c = ok_maps c.zero_rest.result (clears_dir c.args.kind c.args.size c.args.places.now c.args.draft.now c.zero_rest.new.draft (ap is_dir c.in-Dir.is)) c.zero_rest.ensures.writes
+returns-in-Dir-clause-clears g c = on_ok_weaker c.zero_rest.result (clears_dir c.args.kind c.args.size c.args.places.now c.args.draft.now c.zero_rest.new.draft (ap is_dir c.in-Dir.is)) c.zero_rest.ensures.writes
 
 pub returns-in-Dir-clause-bytes : goal.returns-in-Dir-clause-bytes
 returns-in-Dir-clause-bytes g c = λ tells content.

@@ -11,11 +11,11 @@ returns-then-bytes-ne-NODE_LENGTH-clause-refused c =
 
 pub returns-then-are_zeros-clause-found : goal.returns-then-are_zeros-clause-found
 returns-then-are_zeros-clause-found c =
-    zeros_read c.args.geom.now c.args.bytes.now c.free_node.result c.if-bytes-ne-NODE_LENGTH.false (sym c.are_zeros.ensures ∙ c.if-are_zeros.true) c.free_node.ensures
+    zeros_read c.fields_tell_their_bytes.ensures.zeros c.fields_tell_their_bytes.ensures.first_zeros c.fields_tell_their_bytes.ensures.numbers c.args.geom.now c.args.bytes.now c.free_node.result c.if-bytes-ne-NODE_LENGTH.false (sym c.are_zeros.ensures ∙ c.if-are_zeros.true) c.free_node.ensures
 
 pub returns-clause-found : goal.returns-clause-found
 returns-clause-found c =
-    found c.args.geom.now c.args.bytes.now c.used_node.result c.ok_or.result c.ok_or.ensures.value c.used_node.ensures c.if-bytes-ne-NODE_LENGTH.false (λ i. omega (arith, c.type_inv.bytes i))
+    found c.fields_tell_their_bytes.ensures.zeros c.fields_tell_their_bytes.ensures.first_zeros c.fields_tell_their_bytes.ensures.numbers c.args.geom.now c.args.bytes.now c.used_node.result c.ok_or.result c.ok_or.ensures.value c.used_node.ensures c.if-bytes-ne-NODE_LENGTH.false (λ i. omega (arith, c.type_inv.bytes i))
 
 pub returns-clause-refused : goal.returns-clause-refused
 returns-clause-refused c =

@@ -1,5 +1,6 @@
 use Rattle.std.proofs.Common.{◌≡◌, ◌+◌, false, IsTrue, length, option_map, Some, sym, ap, subst, ◌∙◌, rules, arith}
 use Rattle.std.specs.Prelude.{IfSome}
+use Rattle.std.proofs.lemmas.Bool.{eqb-false}
 use Rattle.base_types.specs.Seal.{Blocks}
 use Rattle.base_types.specs.declared.words.Class.{Class}
 use Rattle.layout_geometry.specs.Geometry.{IsGeometry}
@@ -13,7 +14,7 @@ use Rattle.fs_files.specs.Nodes.{node_of_open, IsOpen}
 use Rattle.fs_files.proofs.bytes.Looks.{looks_more}
 use Rattle.fs_files.proofs.calling.Nodes.{has_table}
 use Rattle.fs_files.proofs.calling.WriteAt.{is_long}
-use Rattle.fs_files.proofs.calling.Within.{WritesWithin, some_bytes, within_draft, within_file, within_places, within_changes}
+use Rattle.fs_files.proofs.calling.Within.{WritesWithin, within_draft, within_file, within_places, within_changes}
 use Rattle.fs_files.proofs.draft.Draft.overwrite.Goals as goal
 use Rattle.fs_files.proofs.draft.Draft.overwrite.Goals.{In-Some}
 
@@ -69,7 +70,7 @@ module _ (g : _) (c : goal.In_ok-write_content g) where
         ∙ c.in_ok-node.ensures.node told (has_table old c.args.self.now c.args.number (subst IsGeometry c.geom.ensures c.lawful.ensures.limits) c.requires.above_zero c.requires.in_table (c.requires.draft.sound told));
     within = omega (arith, c.if-node-offset.false);
     few = c.requires.size;
-    some = some_bytes (length c.args.bytes.now) (sym c.is_empty.ensures ∙ c.if-is_empty.false);
+    some = omega (arith, eqb-false (length c.args.bytes.now) 0 ((sym c.is_empty.ensures ∙ c.if-is_empty.false)));
     writes = subst (λ (x : Class). WritesContent x (met c.args.offset (c.args.offset + length c.args.bytes.now) c.in-Some.node.places) c.args.self.now c.write_content.new.draft) c.class_of-class.ensures c.in_ok-write_content.ensures.writes;
     new = c.in_ok-write_content.ensures.some;
     content = λ told. subst (λ (m : Blocks). HasContent m c.args.self.now c.in-Some.node.places → HasContent m c.write_content.new.draft c.in-Some.node.places) (c.in_ok-node.ensures.looks.map told) (c.in_ok-write_content.ensures.content told);

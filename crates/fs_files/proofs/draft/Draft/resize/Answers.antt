@@ -1,5 +1,6 @@
 use Rattle.std.proofs.Common.{◌≡◌, true, false, IsTrue, option_map, Some, refl, sym, ap, subst, ◌∙◌, arith}
 use Rattle.std.specs.Prelude.{IfSome}
+use Rattle.std.proofs.lemmas.Result.{on_ok_weaker}
 use Rattle.layout_geometry.specs.Geometry.{IsGeometry}
 use Rattle.engine_blocks.specs.State.{State}
 use Rattle.crash_stands.specs.Files.{FileNode}
@@ -11,7 +12,7 @@ use Rattle.fs_files.specs.Nodes.{IsOpen, node_of_open}
 use Rattle.fs_files.proofs.bytes.Looks.{looks_more}
 use Rattle.fs_files.proofs.calling.Nodes.{has_table}
 use Rattle.fs_files.proofs.calling.Resized.{IsRead, read_at, read_growth, since_read, same_file, kept_places, cut_places, grown_places, same_resizes, cut_resizes, grown_resizes, grown_refused, few_read}
-use Rattle.fs_files.proofs.drafts.Refused.{ok_maps, ok_both, err_maps, same_error}
+use Rattle.fs_files.proofs.drafts.Refused.{ok_both, err_maps, same_error}
 use Rattle.fs_files.proofs.calling.WriteLooks.{looked, looks_then, settles_none}
 use Rattle.fs_files.proofs.draft.Draft.resize.Goals as goal
 use Rattle.fs_files.proofs.draft.Draft.resize.Goals.{In-Some}
@@ -54,14 +55,14 @@ returns-then-size-node-clause-resizes g c = λ known x at.
 pub returns-then-size-node-2-clause-file : goal.returns-then-size-node-2-clause-file
 returns-then-size-node-2-clause-file g c = λ known.
     let b = (goal.at.returns-then-size-node-2-clause-file g c).In-Some in
-    ok_maps c.cut.result (λ made x at.
+    on_ok_weaker c.cut.result (λ made x at.
     let r = read g b x known at in
     since_read g.S.Blocks.tells (s g b) (t g b) c.args.number c.args.size c.in-Some.node x c.args.self.now r _ _ (made x (read_at g.S.Blocks.tells (s g b) (t g b) c.args.number c.args.size c.in-Some.node x c.args.self.now r))) (c.cut.ensures.file known)
 
 pub returns-then-size-node-2-clause-places : goal.returns-then-size-node-2-clause-places
 returns-then-size-node-2-clause-places g c = λ known.
     let b = (goal.at.returns-then-size-node-2-clause-places g c).In-Some in
-    ok_maps c.cut.result (λ made x at. cut_places g.S.Blocks.tells (s g b) (t g b) c.args.number c.args.size c.in-Some.node x c.args.self.now (read g b x known at) (g.S.Blocks.state c.cut.new.blocks).books _ (omega (arith, c.if-size-node-2.true)) made) (c.cut.ensures.places known)
+    on_ok_weaker c.cut.result (λ made x at. cut_places g.S.Blocks.tells (s g b) (t g b) c.args.number c.args.size c.in-Some.node x c.args.self.now (read g b x known at) (g.S.Blocks.state c.cut.new.blocks).books _ (omega (arith, c.if-size-node-2.true)) made) (c.cut.ensures.places known)
 
 pub returns-then-size-node-2-clause-resizes : goal.returns-then-size-node-2-clause-resizes
 returns-then-size-node-2-clause-resizes g c = λ known.
@@ -93,14 +94,14 @@ returns-then-not-may_grow-clause-resizes g c = λ known x at.
 pub returns-clause-file : goal.returns-clause-file
 returns-clause-file g c = λ known.
     let b = (goal.at.returns-clause-file g c).In-Some in
-    ok_maps c.extend.result (λ made x at.
+    on_ok_weaker c.extend.result (λ made x at.
     let r = read g b x known at in
     since_read g.S.Blocks.tells (s g b) (t g b) c.args.number c.args.size c.in-Some.node x c.args.self.now r _ _ (made x (read_at g.S.Blocks.tells (s g b) (t g b) c.args.number c.args.size c.in-Some.node x c.args.self.now r))) (c.extend.ensures.file known)
 
 pub returns-clause-places : goal.returns-clause-places
 returns-clause-places g c = λ known.
     let b = (goal.at.returns-clause-places g c).In-Some in
-    ok_maps c.extend.result (λ made x at.
+    on_ok_weaker c.extend.result (λ made x at.
     let r = read g b x known at in
     grown_places g.S.Blocks.tells (s g b) (t g b) c.args.number c.args.size c.in-Some.node x c.args.self.now r (g.S.Blocks.state c.extend.new.blocks).books _ (made x (read_at g.S.Blocks.tells (s g b) (t g b) c.args.number c.args.size c.in-Some.node x c.args.self.now r))) (c.extend.ensures.places known)
 

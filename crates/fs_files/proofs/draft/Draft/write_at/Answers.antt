@@ -1,4 +1,5 @@
 use Rattle.std.proofs.Common.{◌≡◌, ◌+◌, ◌==◌, true, false, IsTrue, length, Some, refl, sym, ap, subst, ◌∙◌, rules}
+use Rattle.std.proofs.lemmas.Result.{on_ok_weaker}
 use Rattle.layout_geometry.specs.Geometry.{IsGeometry}
 use Rattle.engine_blocks.specs.State.{Bookkeeping, State, reusable_blocks}
 use Rattle.crash_stands.specs.Files.{used_node}
@@ -11,7 +12,7 @@ use Rattle.fs_files.specs.Nodes.{node_of_open, IsOpen}
 use Rattle.fs_files.proofs.bytes.Looks.{looks_more}
 use Rattle.fs_files.proofs.calling.Nodes.{has_table}
 use Rattle.fs_files.proofs.calling.WriteAt.{once_then, slots_then, refused_then, few_then, file_then, grows_then, has_then, among_then, none_come}
-use Rattle.fs_files.proofs.drafts.Refused.{ok_maps, err_maps, same_error}
+use Rattle.fs_files.proofs.drafts.Refused.{err_maps, same_error}
 use Rattle.fs_files.proofs.calling.WriteLooks.{looked, looks_then}
 use Rattle.fs_files.proofs.draft.Draft.write_at.Goals as goal
 use Rattle.fs_files.proofs.draft.Draft.write_at.Goals.{In-Some, After-write_loaded}
@@ -51,7 +52,7 @@ returns-clause-file g c = λ told.
     let b = (goal.at.returns-clause-file g c).In-Some in
     let u = g.S.Blocks.state c.write_loaded.new.blocks in
     let geom = geom_same g (goal.at.returns-clause-file g c).After-write_loaded in
-    ok_maps c.write_loaded.result (λ w. file_then (s g b) (t g b) u c.args.number c.args.offset c.args.bytes.now c.args.self.now c.write_loaded.new.draft geom (c.in_ok-node.ensures.looks.map told) (sym (c.write_loaded.ensures.settles.map told)) w)
+    on_ok_weaker c.write_loaded.result (λ w. file_then (s g b) (t g b) u c.args.number c.args.offset c.args.bytes.now c.args.self.now c.write_loaded.new.draft geom (c.in_ok-node.ensures.looks.map told) (sym (c.write_loaded.ensures.settles.map told)) w)
     (c.write_loaded.ensures.file told)
 
 pub returns-then-is_empty-clause-places : goal.returns-then-is_empty-clause-places
@@ -66,7 +67,7 @@ returns-clause-places g c = λ told.
     let b = (goal.at.returns-clause-places g c).In-Some in
     let u = g.S.Blocks.state c.write_loaded.new.blocks in
     let geom = geom_same g (goal.at.returns-clause-places g c).After-write_loaded in
-    ok_maps c.write_loaded.result (λ w. has_then (s g b) (t g b) u c.args.number c.args.offset c.args.bytes.now c.args.self.now c.write_loaded.new.draft geom (c.in_ok-node.ensures.looks.map told) (sym (c.write_loaded.ensures.settles.map told)) w)
+    on_ok_weaker c.write_loaded.result (λ w. has_then (s g b) (t g b) u c.args.number c.args.offset c.args.bytes.now c.args.self.now c.write_loaded.new.draft geom (c.in_ok-node.ensures.looks.map told) (sym (c.write_loaded.ensures.settles.map told)) w)
     (c.write_loaded.ensures.file told)
 
 pub returns-clause-grows : goal.returns-clause-grows
@@ -74,7 +75,7 @@ returns-clause-grows g c = λ told.
     let b = (goal.at.returns-clause-grows g c).In-Some in
     let u = g.S.Blocks.state c.write_loaded.new.blocks in
     let geom = geom_same g (goal.at.returns-clause-grows g c).After-write_loaded in
-    ok_maps c.write_loaded.result (λ w x at some. grows_then (s g b) (t g b) u c.args.number c.args.offset c.args.bytes.now c.args.self.now c.write_loaded.new.draft geom (c.in_ok-node.ensures.looks.map told) (sym (c.write_loaded.ensures.settles.map told)) w x at)
+    on_ok_weaker c.write_loaded.result (λ w x at some. grows_then (s g b) (t g b) u c.args.number c.args.offset c.args.bytes.now c.args.self.now c.write_loaded.new.draft geom (c.in_ok-node.ensures.looks.map told) (sym (c.write_loaded.ensures.settles.map told)) w x at)
     (c.write_loaded.ensures.file told)
 
 pub returns-clause-among : goal.returns-clause-among
@@ -82,7 +83,7 @@ returns-clause-among g c = λ told.
     let b = (goal.at.returns-clause-among g c).In-Some in
     let u = g.S.Blocks.state c.write_loaded.new.blocks in
     let geom = geom_same g (goal.at.returns-clause-among g c).After-write_loaded in
-    ok_maps c.write_loaded.result (λ w. among_then (s g b) (t g b) u c.args.number c.args.offset c.args.bytes.now c.args.self.now c.write_loaded.new.draft geom (c.in_ok-node.ensures.looks.map told) (sym (c.write_loaded.ensures.settles.map told)) w)
+    on_ok_weaker c.write_loaded.result (λ w. among_then (s g b) (t g b) u c.args.number c.args.offset c.args.bytes.now c.args.self.now c.write_loaded.new.draft geom (c.in_ok-node.ensures.looks.map told) (sym (c.write_loaded.ensures.settles.map told)) w)
     (c.write_loaded.ensures.file told)
 
 pub returns-clause-changes : goal.returns-clause-changes
@@ -91,7 +92,7 @@ returns-clause-changes g c = λ told.
     let u = g.S.Blocks.state c.write_loaded.new.blocks in
     let geom = geom_same g (goal.at.returns-clause-changes g c).After-write_loaded in
     let there = c.requires.used told in
-    ok_maps c.write_loaded.result (λ w some. (grows_then (s g b) (t g b) u c.args.number c.args.offset c.args.bytes.now c.args.self.now c.write_loaded.new.draft geom (c.in_ok-node.ensures.looks.map told) (sym (c.write_loaded.ensures.settles.map told)) w there.0 there.1).changes)
+    on_ok_weaker c.write_loaded.result (λ w some. (grows_then (s g b) (t g b) u c.args.number c.args.offset c.args.bytes.now c.args.self.now c.write_loaded.new.draft geom (c.in_ok-node.ensures.looks.map told) (sym (c.write_loaded.ensures.settles.map told)) w there.0 there.1).changes)
     (c.write_loaded.ensures.file told)
 
 pub returns-clause-refused : goal.returns-clause-refused
