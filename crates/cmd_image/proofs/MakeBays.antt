@@ -15,7 +15,7 @@ use Rattle.engine_store.specs.Formatting.{AddsFormatting, fails_formatting, IsFo
 use Rattle.cmd_image.specs.Shows.{CountsFault, HasImage}
 use Rattle.cmd_image.specs.declared.make_refusal.MakeRefusal.{MakeRefusal}
 use Rattle.cmd_image.specs.declared.make_refusal.MakeRefusal.TheVariants.{Fault, NoMemory}
-use Rattle.cmd_image.specs.Makes.{HasMakeCause, HasMakeReason, IsFormattedImage, MakeHandsBack, make_answer_of, make_refusal_of_bay}
+use Rattle.cmd_image.specs.Makes.{HasMakeCause, HasMakeReason, IsFormattedImage, MakeHandsBack, make_answer_of}
 use Rattle.cmd_image.proofs.Images.{FormattedLaws, rests, under}
 
 -- whether the answer is a fault
@@ -23,12 +23,6 @@ is_make_fault : Result (Unit {0}) MakeRefusal → Bool
 is_make_fault (Ok x) = false
 is_make_fault (Err Fault) = true
 is_make_fault (Err NoMemory) = false
-
--- a bay that made no disk
-pub unmade : {D : Type 0} (state : D → State) (tells : Bool) (name : List ℕ) (n : ℕ) (fault : BayFault) (result : Result (Unit {0}) MakeRefusal) (old new : BayState) → result ≡ Err (make_refusal_of_bay fault) → Makes tells state name n (Err fault) old new → IsTrue tells → result ≡ Err Fault → IsTrue old.may_fail
-unfolding is_make_fault
-unmade state tells name n bay.Fault result old new is makes t fault = makes.fails t
-unmade state tells name n bay.NoMemory result old new is makes t fault = absurd (false≢true (ap is_make_fault (sym is ∙ fault)))
 
 -- whether a formatting failed by a call of the disk
 fails : Result (Unit {0}) MkfsRefusal → Bool

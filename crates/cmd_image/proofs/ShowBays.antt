@@ -33,16 +33,6 @@ pub record RefusesUnopened (tells : Bool) (why : ShowRefusal) (taken : Option (L
   pub reason : IsTrue tells → why ≡ Fault → MayFailToOpen name old
   pub pushes : fails_pushing {T = Unit {0}} (Err why) ≡ false
 
--- a bay that nothing was asked
-pub unasked : (tells : Bool) (taken : Option (List ℕ)) (name : List ℕ) (old : BayState) → RefusesUnopened tells NoMemory taken name old old
-unasked tells taken name old = record {
-  says = inl (keeps taken);
-  back = inl (record { kept = λ t each. refl; faults = omega arith; disk_faults = refl; handed = refl; closed = refl });
-  cause = refl;
-  reason = λ t is. absurd (not_fault NoMemory refl is);
-  pushes = refl;
-}
-
 -- a bay that opened no disk
 pub unopened : {D : Type 0} (state : D → State) (tells : Bool) (taken : Option (List ℕ)) (name : List ℕ) (fault : BayFault) (old new : BayState) → Opens tells state name (Err fault) old new → RefusesUnopened tells (of_bay fault) taken name old new
 unopened state tells taken name bay.Fault old new opens = record {

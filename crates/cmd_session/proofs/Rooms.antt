@@ -253,10 +253,6 @@ module _ (g : Geometry) (follow : (outside : Refusal → Bool) (was now : Sessio
 
 -- What was said of a shorter log holds of a longer one.
 
--- a front of a log is one of a longer one
-pub front_longer : (log more : List Event) (k : ℕ) → k ≤ length log → take k (log ++ more) ≡ take k log
-front_longer log more k le = take-append-le k log more le
-
 pub own_longer : (ses : MountedSession) (log more : List Event) (behind mark : ℕ) → mark ≤ length log → own_records ses (log ++ more) behind mark ≡ own_records ses log behind mark
 own_longer ses log more behind mark le = ap (λ (es : List Event). commits_told ses.geom ses.epoch (drop behind es)) (take-append-le mark log more le)
 

@@ -1,11 +1,11 @@
 -- A block is given up: the steps of it.
-use Rattle.std.proofs.Common.{◌≡◌, ◌≢◌, ℕ, ◌+◌, ◌-◌, ◌/◌, ◌<◌, ◌≤◌, ◌==◌, Bool, true, false, not, List, length, refl, sym, ap, subst, ◌∙◌, arith, inl, inr}
-use Rattle.std.proofs.lemmas.Bool.{cases_eq, cond-true, cond-false, eq-eqb, false≢true}
+use Rattle.std.proofs.Common.{◌≡◌, ◌≢◌, ℕ, ◌+◌, ◌-◌, ◌/◌, ◌<◌, ◌≤◌, ◌==◌, Bool, true, false, not, List, length, refl, sym, ap, subst, ◌∙◌, arith}
+use Rattle.std.proofs.lemmas.Bool.{cond-true, cond-false, eq-eqb, false≢true}
 use Rattle.base_types.specs.Seal.{blocks_of}
 use Rattle.layout_geometry.specs.Geometry.{Geometry, LiesIn, data_start}
 use Rattle.layout_geometry.specs.Geometry.Area.{Data}
 use Rattle.layout_bitmap.specs.Bits.{bit_in, free_blocks, BitBecomes}
-use Rattle.engine_running.specs.Running.{Changes, Forgets, Frees}
+use Rattle.engine_running.specs.Running.{Changes, Frees}
 use Rattle.engine_reuse.specs.Numbers.{is_among}
 use Rattle.engine_reuse.specs.Dead.{DeadBlocks, IsLive, dead_blocks}
 use Rattle.engine_reuse.specs.Calls.{with_freed}
@@ -14,13 +14,6 @@ use Rattle.engine_books.specs.Kept.{AreKept}
 use Rattle.engine_books.specs.Taking.{GivesUp}
 use Rattle.engine_books.proofs.Tests.{eqb_not}
 use Rattle.engine_books.proofs.Counts.{one_less, few_from}
-
--- a bit that is clear may be cleared
-cleared_again : (old : ℕ → List ℕ) (b : ℕ) → bit_in old b ≡ false → BitBecomes old old b false
-cleared_again old b clear k = elim (cases_eq k b) [
-  | inl e ↦ ap (bit_in old) e ∙ clear ∙ sym (cond-true (k == b) false (bit_in old k) (eq-eqb k b e))
-  | inr d ↦ sym (cond-false (k == b) false (bit_in old k) (eqb_not k b d))
-]
 
 -- one free block more
 pub one_freed : (g : Geometry) (old new : ℕ → List ℕ) (b : ℕ) → data_start g ≤ b → b < g.n → bit_in old b ≡ true → BitBecomes old new b false → length (free_blocks g old) + 1 ≡ length (free_blocks g new)
@@ -42,23 +35,6 @@ is_live v b k from below set = record {
 -- and one is live
 pub some_live : (v : TransactionBooks) (bitmap : List (List ℕ)) (b : ℕ) → AreKept v → data_start v.geom ≤ b → b < v.geom.n → bit_now v b ≡ true → BitBecomes (blocks_of v.bitmap) (blocks_of bitmap) b false → 1 ≤ v.live
 some_live v bitmap b k from below set w = omega (arith, k.bits.counted, one_freed v.geom (blocks_of v.bitmap) (blocks_of bitmap) b from below set w, few_from (λ x. not (bit_in (blocks_of bitmap) x)) (data_start v.geom) (v.geom.n - data_start v.geom))
-
--- where the bit was clear
-pub given_clear : (v : TransactionBooks) (b : ℕ) (c : Changes) → bit_now v b ≡ false → Forgets b v.changes c → GivesUp b v (record v { changes = c })
-given_clear v b c clear f = record {
-  same = refl;
-  size = refl;
-  bits = cleared_again (blocks_of v.bitmap) b clear;
-  others = λ k d. refl;
-  set = λ set. absurd (false≢true (sym clear ∙ set));
-  clear = λ e. record { freed = f.freed; dead = refl; live = refl };
-  paid = f.paid;
-  laid = f.laid;
-  taken = f.taken;
-  puts = f.puts;
-  takes = f.takes;
-  frees = omega (arith, f.frees);
-}
 
 -- where it was set
 pub given_set : (v : TransactionBooks) (b : ℕ) (c : Changes) (bitmap : List (List ℕ)) (dead : DeadBlocks) → bit_now v b ≡ true → 1 ≤ v.live → Frees b v.changes c → dead ≡ with_freed v.dead b → BitBecomes (blocks_of v.bitmap) (blocks_of bitmap) b false

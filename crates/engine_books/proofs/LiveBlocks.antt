@@ -21,10 +21,6 @@ use Rattle.engine_books.proofs.NextRows.{both}
 use Rattle.engine_books.proofs.NextMap.{live_by}
 use Rattle.engine_books.proofs.Maps.{map_there, map_nowhere}
 
--- a block of the bitmap lies before the data
-bits_before : (v : TransactionBooks) (b : ℕ) → b < 8192 * bitmap_blocks v.geom → data_start v.geom ≤ bitmap_start v.geom + b / 8192 → ⊥
-bits_before v b low late = omega (arith, low, late)
-
 -- what lies between the journal and the data is live
 early_live : (v : TransactionBooks) (m : Blocks) (b : ℕ) → AreKept v → bitmap_start v.geom ≤ b → b < data_start v.geom → is_live v.geom m b ≡ true
 early_live v m b k from early = live_by v.geom m b from (omega (arith, early, k.limits.data_room)) (λ late. absurd (never early late))

@@ -22,9 +22,6 @@ pub any_is_has : (b : ℕ) (xs : List ℕ) → is_among b xs ≡ has xs b
 any_is_has b [] = refl
 any_is_has b (x ∷ xs) = ap₂ (λ u v. u || v) (eqb_sym x b) (any_is_has b xs)
 
-pub has_one : (b c : ℕ) → has (b ∷ []) c ≡ (c == b)
-has_one b c = or_none (c == b)
-
 pub has_push : (xs : List ℕ) (b c : ℕ) → has (xs ++ b ∷ []) c ≡ (has xs c || (c == b))
 has_push [] b c = or_none (c == b)
 has_push (x ∷ xs) b c = ap (λ t. (c == x) || t) (has_push xs b c) ∙ or_assoc (c == x) (has xs c) (c == b)

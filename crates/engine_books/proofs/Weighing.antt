@@ -1,9 +1,7 @@
 -- The books after a change of their weight.
 use Rattle.std.proofs.Common.{ℕ, ◌*◌, ◌-◌, ◌≤◌}
-use Rattle.base_types.specs.Seal.{Blocks}
 use Rattle.engine_books.specs.Books.{TransactionBooks}
 use Rattle.engine_books.specs.Kept.{AreKept, BitsAgree, ChangesLie, RoomIsKept}
-use Rattle.engine_books.specs.Point.{BeganAt}
 
 -- what doesn't read the weight
 pub bits_weighed : (v : TransactionBooks) (w : ℕ) → BitsAgree v → BitsAgree (record v { weight = w })
@@ -28,6 +26,3 @@ weighed v w k fits = record {
   took_few = k.took_few;
   fits = fits;
 }
-
-pub began_weighed : (v : TransactionBooks) (w : ℕ) (last : Blocks) → BeganAt v last → BeganAt (record v { weight = w }) last
-began_weighed v w last b = record { bitmap = b.bitmap; was_dead = b.was_dead; took = b.took; killed = b.killed; marked = b.marked; whole = b.whole }

@@ -34,15 +34,6 @@ payloads_push (j ∷ ks) k = omega (arith, payloads_push ks k)
 range_push : (a n : ℕ) → range_with_len a n ++ (a + n) ∷ [] ≡ range_with_len a (n + 1)
 range_push a n = ap (λ ns. ns ++ (a + n) ∷ []) (sym (map-id (range_with_len a n))) ∙ sym (map-range_with_len_more (λ x. x) a n (a + n) refl) ∙ map-id (range_with_len a (n + 1))
 
--- one ticket has one note at most
-pub note_at_most : (next : Option Pending) (notes : List Note) → pending_notes next notes ≤ 1
-note_at_most None notes = omega arith
-note_at_most (Some q) notes = by (is_expected q.ticket notes)
-  where
-    by : (v : Bool) → (if v then 1 else 0) ≤ 1
-    by true = omega arith
-    by false = omega arith
-
 -- and keeps it where more is expected
 pub note_stays : (next : Option Pending) (old new : List Note) → ExpectMore old new → pending_notes next old ≤ pending_notes next new
 note_stays None old new more = omega arith
@@ -51,14 +42,6 @@ note_stays (Some q) old new more = by (is_expected q.ticket old) refl
     by : (v : Bool) → is_expected q.ticket old ≡ v → (if is_expected q.ticket old then 1 else 0) ≤ (if is_expected q.ticket new then 1 else 0)
     by true e = omega (arith, choose_true {A = ℕ} (is_expected q.ticket old) 1 0 e, choose_true {A = ℕ} (is_expected q.ticket new) 1 0 (more q.ticket e))
     by false e = omega (arith, choose_false {A = ℕ} (is_expected q.ticket old) 1 0 e)
-
--- where a record is made ready, there are notes for its writes
-pub notes_ready : (v : Pipeline) → HasRoom v → 0 < v.ready.records → v.ready.writes ≤ v.notes.room
-notes_ready v room some = omega (arith, room.notes, some, note_at_most v.next v.notes.notes)
-
--- no record is unplaced beyond the places that the ring has
-pub few_unplaced : (v : Pipeline) (n m : ℕ) → IsInOrder v → n ≤ m → places_taken v + m ≤ v.geom.j → v.unplaced + n ≤ v.geom.j
-few_unplaced v n m o le within = omega (arith, o.few, le, within)
 
 -- a record of the same lists
 pub same_after : (before : Option Spot) (number b : ℕ) (ps qs : List Put) (fs gs hs is : List ℕ) → ps ≡ qs → fs ≡ gs → hs ≡ is → spot_after before number ps fs hs b ≡ spot_after before number qs gs is b

@@ -1,5 +1,5 @@
 -- The oldest committed transaction becomes durable: all its tickets are noticed.
-use Rattle.std.proofs.Common.{◌≡◌, ◌⊎◌, inl, inr, ⊎_elim, ℕ, zero, suc, ◌+◌, ◌-◌, ◌<◌, ◌≤◌, ◌&&◌, not, Bool, true, false, IsTrue, List, [], ◌∷◌, ◌++◌, length, map, slice_get, slice_index_or, remove, Option, Some, None, Vec, refl, sym, ◌∙◌, subst, ap, arith, length-append}
+use Rattle.std.proofs.Common.{◌≡◌, ◌⊎◌, inl, inr, ⊎_elim, ℕ, zero, suc, ◌+◌, ◌-◌, ◌<◌, ◌≤◌, ◌&&◌, not, true, List, [], ◌∷◌, ◌++◌, length, map, slice_get, Some, Vec, refl, sym, ◌∙◌, subst, ap, arith, length-append}
 use Rattle.std.proofs.lemmas.List.{length-map}
 use Rattle.std.proofs.lemmas.Bool.{and_parts}
 use Rattle.std.proofs.lemmas.Option.{same_Some}
@@ -42,14 +42,6 @@ behind (suc n) k xs = ap (slice_get ([] ∷ (no_tickets n ++ xs))) (s n k) ∙ b
 length_none : (n : ℕ) (xs : List (List ℕ)) → length (no_tickets n ++ xs) ≡ n + length xs
 length_none zero xs = omega arith
 length_none (suc n) xs = omega (arith, length_none n xs)
-
--- the first of a list, which is taken out
-pub front_of : {A : Type 0} (xs rest : List A) (x : A) → x ≡ slice_index_or xs 0 x → rest ≡ remove xs 0 → 0 < length xs → xs ≡ x ∷ rest
-front_of [] rest x value items some = absurd (none_first some)
-  where
-    none_first : 0 < 0 → ⊥
-    none_first lt = omega (arith, lt)
-front_of (y ∷ xs) rest x value items some = ap (λ z. z ∷ xs) (sym value) ∙ ap (λ zs. x ∷ zs) (sym items)
 
 -- a record of the ledger stays one once more are known
 still_at : (l : Ledger) (n : ℕ) (freed : List (List ℕ)) (i k number place count : ℕ) (payloads : List Rattle.engine_running.specs.declared.put.Put.Put) (fresh own : List ℕ) → i ≡ k → IsRecordAt l freed i number place count payloads fresh own → IsRecordAt (with_known l n) freed k number place count payloads fresh own

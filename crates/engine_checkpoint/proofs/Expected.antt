@@ -1,11 +1,10 @@
 -- Open tickets stay expected as the notes change.
-use Rattle.std.proofs.Common.{◌≡◌, ⊎_elim, ℕ, ◌++◌, ◌&&◌, ◌||◌, ◌==◌, Bool, true, false, List, [], ◌∷◌, slice_get, refl, sym, ◌∙◌, ap}
-use Rattle.std.proofs.lemmas.Bool.{and_parts, eq-eqb}
+use Rattle.std.proofs.Common.{◌≡◌, ⊎_elim, ℕ, ◌++◌, ◌&&◌, ◌||◌, ◌==◌, Bool, true, false, List, [], ◌∷◌, refl, ◌∙◌, ap}
+use Rattle.std.proofs.lemmas.Bool.{and_parts}
 use Rattle.engine_notes.specs.declared.notes.Note.{Note}
 use Rattle.engine_notes.specs.Notes.{Expected, is_expected, are_expected}
 use Rattle.engine_checkpoint.specs.declared.pipeline.HomeWrite.{HomeWrite}
 use Rattle.engine_checkpoint.specs.declared.pipeline.Pipeline.{Pipeline}
-use Rattle.engine_checkpoint.proofs.Lists.{last_or}
 use Rattle.engine_checkpoint.specs.Agree.{OpenAreExpected, AreExpectedHome}
 
 -- all that is expected by the first notes is so by the others
@@ -42,8 +41,3 @@ with_one t u e same = ap (λ b. b || e) same
 pub with_old : (w e : Bool) → e ≡ true → (w || e) ≡ true
 with_old true e is = refl
 with_old false e is = is
-
--- a checkpoint write joins the list as its ticket is expected
-pub home_pushed : (home more : List HomeWrite) (old new : List Note) (t b : ℕ) → more ≡ home ++ record { block = b; ticket = t } ∷ [] → AreExpectedHome home old → ((u : ℕ) → is_expected u new ≡ (t == u || is_expected u old)) → AreExpectedHome more new
-home_pushed home more old new t b is e expect k h at = ⊎_elim (λ was. expect h.ticket ∙ with_old (t == h.ticket) (is_expected h.ticket old) (e k h was)) (λ same. expect h.ticket ∙ with_one t h.ticket (is_expected h.ticket old) (eq-eqb t h.ticket (ap (λ (g : HomeWrite). g.ticket) same.1)))
-    (last_or home (record { block = b; ticket = t }) k h (ap (λ (hs : List HomeWrite). slice_get hs k) (sym is) ∙ at))

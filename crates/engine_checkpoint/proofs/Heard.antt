@@ -1,5 +1,5 @@
 -- All stays sound and right as more is heard: the notes alone have changed.
-use Rattle.std.proofs.Common.{◌≡◌, ◌⊎◌, ℕ, zero, suc, ◌+◌, ◌<◌, ◌≤◌, false, if◌then◌else◌, List, [], ◌∷◌, ◌++◌, length, map, slice_get, Option, Some, None, refl, sym, ◌∙◌, ap, subst, arith}
+use Rattle.std.proofs.Common.{◌≡◌, ◌⊎◌, ℕ, ◌+◌, ◌<◌, ◌≤◌, false, if◌then◌else◌, List, [], ◌∷◌, ◌++◌, length, map, slice_get, Option, Some, None, refl, sym, ◌∙◌, ap, subst, arith}
 use Rattle.disk_contract.specs.declared.event.Event.{Event}
 use Rattle.disk_contract.specs.declared.event.Event.TheVariants.{Wrote, Lost, Noticed}
 use Rattle.disk_contract.specs.Cell.{notices}
@@ -11,11 +11,9 @@ use Rattle.engine_notes.specs.Notes.{Expected, is_expected}
 use Rattle.engine_reuse.specs.Dead.{DeadBlocks}
 use Rattle.engine_checkpoint.specs.declared.pipeline.Pending.{Pending}
 use Rattle.engine_checkpoint.specs.declared.pipeline.Pipeline.{Pipeline}
-use Rattle.engine_checkpoint.specs.Agree.{PipelineAgrees}
 use Rattle.engine_checkpoint.specs.Order.{IsInOrder, HasRoom, pending_notes}
 use Rattle.engine_checkpoint.specs.Waits.{HearsMore}
 use Rattle.engine_checkpoint.specs.Advance.{IsSound, HasTurns, LeavesTurns, MayServe, NothingIsDue, writes_owed}
-use Rattle.engine_checkpoint.specs.Stages.{IsAtStage, AllAreDurable, AllAreSure, AllArePlaced, AllAreReleased}
 use Rattle.engine_checkpoint.proofs.Hears.{expected_same, heard_opens}
 
 abbrev pub heard : Pipeline → Expected → Pipeline
@@ -70,23 +68,3 @@ writes_noticed [] (t ∷ ts) = writes_noticed [] ts
 writes_noticed (Wrote t b x ∷ log) ts = ap (λ n. 1 + n) (writes_noticed log ts)
 writes_noticed (Lost b x ∷ log) ts = ap (λ n. 1 + n) (writes_noticed log ts)
 writes_noticed (Noticed t ∷ log) ts = writes_noticed log ts
-
--- the stage of the records has nothing to do with the notes
-pub stage_heard : (k : ℕ) (v : Pipeline) (notes : Expected) → IsAtStage k v → IsAtStage k (heard v notes)
-stage_heard zero v notes a = a
-stage_heard (suc zero) v notes a = durable_heard v notes a
-  where
-    durable_heard : (v : Pipeline) (notes : Expected) → AllAreDurable v → AllAreDurable (heard v notes)
-    durable_heard v notes a = record { committed = a.committed; start = a.start; sure = a.sure; durable = a.durable; placed = a.placed }
-stage_heard (suc (suc zero)) v notes a = sure_heard v notes a
-  where
-    sure_heard : (v : Pipeline) (notes : Expected) → AllAreSure v → AllAreSure (heard v notes)
-    sure_heard v notes a = record { before = record { committed = a.before.committed; start = a.before.start; sure = a.before.sure; durable = a.before.durable; placed = a.before.placed }; durable = a.durable; batch = a.batch }
-stage_heard (suc (suc (suc zero))) v notes a = placed_heard v notes a
-  where
-    placed_heard : (v : Pipeline) (notes : Expected) → AllArePlaced v → AllArePlaced (heard v notes)
-    placed_heard v notes a = record { before = record { before = record { committed = a.before.before.committed; start = a.before.before.start; sure = a.before.before.sure; durable = a.before.before.durable; placed = a.before.before.placed }; durable = a.before.durable; batch = a.before.batch }; sure = a.sure }
-stage_heard (suc (suc (suc (suc k)))) v notes a = released_heard v notes a
-  where
-    released_heard : (v : Pipeline) (notes : Expected) → AllAreReleased v → AllAreReleased (heard v notes)
-    released_heard v notes a = record { before = record { before = record { before = record { committed = a.before.before.before.committed; start = a.before.before.before.start; sure = a.before.before.before.sure; durable = a.before.before.before.durable; placed = a.before.before.before.placed }; durable = a.before.before.durable; batch = a.before.before.batch }; sure = a.before.sure }; placed = a.placed }

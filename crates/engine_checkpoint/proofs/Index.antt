@@ -17,7 +17,7 @@ use Rattle.engine_checkpoint.specs.Newest.{spot_of, spot_or, spot_in, spot_after
 use Rattle.engine_checkpoint.specs.Kept.{Kept, of_committed, of_durable, of_sure, number_of, placed_number, kept, numbers}
 use Rattle.engine_checkpoint.specs.Index.{newest_spot, IndexIsRight}
 use Rattle.engine_checkpoint.specs.Order.{IsInOrder}
-use Rattle.engine_checkpoint.specs.Steps.{SettlesFirst, Accepts}
+use Rattle.engine_checkpoint.specs.Steps.{SettlesFirst}
 use Rattle.engine_checkpoint.specs.Turns.{TurnsHeader, EndsBatch, AreSured}
 use Rattle.engine_checkpoint.proofs.Lists.{choose_true, choose_false, map_push}
 
@@ -87,17 +87,6 @@ kept_ended v w e le =
     ap (λ (p : Pipeline). map of_sure w.sure.items ++ (map of_durable p.durable.items ++ map of_committed p.committed.items)) e.rest
     ∙ ap (λ ss. map of_sure ss ++ (map of_durable v.durable.items ++ map of_committed v.committed.items)) e.sure
     ∙ drop_mapped v.batch v.sure.items (map of_durable v.durable.items ++ map of_committed v.committed.items) le
-
--- a record is accepted
-pub kept_accepted : (v w : Pipeline) (c : Committed) → Accepts c v w → kept w ≡ kept v ++ of_committed c ∷ []
-kept_accepted v w c e =
-    ap (λ (p : Pipeline). map of_sure p.sure.items ++ (map of_durable p.durable.items ++ map of_committed w.committed.items)) e.rest
-    ∙ ap (λ cs. map of_sure v.sure.items ++ (map of_durable v.durable.items ++ cs)) (ap (map of_committed) e.committed ∙ map_push of_committed v.committed.items c)
-    ∙ ap (λ ks. map of_sure v.sure.items ++ ks) (sym (append_assoc (map of_durable v.durable.items) (map of_committed v.committed.items) (of_committed c ∷ [])))
-    ∙ sym (append_assoc (map of_sure v.sure.items) (map of_durable v.durable.items ++ map of_committed v.committed.items) (of_committed c ∷ []))
-
-pub index_settled : (v w : Pipeline) → SettlesFirst v w → IndexIsRight v → IndexIsRight w
-index_settled v w s right = index_same v w (kept_settled v w s) (λ b. ap (λ (p : Pipeline). spot_of p.newest b) s.rest) right
 
 pub index_turned : (v w : Pipeline) (old new : RingPlaces) → TurnsHeader v w old new → IndexIsRight v → IndexIsRight w
 index_turned v w old new t right = index_same v w (kept_turned v w old new t) (λ b. ap (λ (p : Pipeline). spot_of p.newest b) t.rest) right

@@ -1,5 +1,5 @@
 -- Tickets that join a set one by one, as notices or as expected ones.
-use Rattle.std.proofs.Common.{◌≡◌, ℕ, zero, suc, ◌+◌, ◌<◌, ◌==◌, ◌&&◌, ◌||◌, Bool, true, false, if◌then◌else◌, List, [], ◌∷◌, ◌++◌, length, take, slice_index_or, min, Result, Ok, Err, IsErr, OnOk, refl, sym, ◌∙◌, ap, subst, arith, append_assoc, append-nil, length-append}
+use Rattle.std.proofs.Common.{◌≡◌, ℕ, zero, suc, ◌+◌, ◌<◌, ◌==◌, ◌&&◌, ◌||◌, Bool, true, false, if◌then◌else◌, List, [], ◌∷◌, ◌++◌, length, take, slice_index_or, min, Result, Ok, Err, OnOk, refl, sym, ◌∙◌, ap, subst, arith, append_assoc, append-nil, length-append}
 use Rattle.std.proofs.lemmas.Bool.{false≢true, eq-eqb}
 use Rattle.disk_contract.specs.declared.event.Event.{Event}
 use Rattle.disk_contract.specs.Cell.{notices}
@@ -149,9 +149,6 @@ one_taken (Err f) n u v w old mid new e so_far one = cc
 few_polls : (n k : ℕ) → n < 64 → k ≡ n → n + 1 ≡ min 64 (k + 1)
 few_polls n k few e = omega (arith, few, e)
 
-most_polls : (k : ℕ) → k ≡ 64 → 64 ≡ min 64 (k + 1)
-most_polls k e = omega (arith, e)
-
 on_ok : {A E : Type 0} {P : Type 0} (r : Result A E) → P → OnOk r P
 on_ok (Ok a) p = p
 on_ok (Err e) p = tt
@@ -165,23 +162,3 @@ last_taken (Ok false) result n u v w old mid new e few so_far one polls = record
   polls = on_ok result (polls ∙ ap (λ k. after_calls k old.polls) (few_polls n (length so_far.0) few so_far.1));
 }
 last_taken (Err f) result n u v w old mid new e few so_far one polls = cc
-
--- or the poll failed
-pub failed_taken : {A E F : Type 0} (r : Result Bool E) (result : Result A F) (n : ℕ) (u v w : Pipeline) (old mid new : State) → IsErr r → IsErr result → TakenSoFar n u v old.log mid.log → TakesOne r v w mid.log new.log → TakesNotices result u w old new
-failed_taken (Ok b) result n u v w old mid new e f so_far one = absurd (false≢true e)
-failed_taken (Err g) (Ok a) n u v w old mid new e f so_far one = absurd (false≢true f)
-failed_taken (Err g) (Err h) n u v w old mid new e f so_far one = record {
-  tickets = so_far.0;
-  log = one.0 ∙ so_far.2;
-  notes = subst (λ (p : Pipeline). TakesAll so_far.0 u.notes.notes p.notes.notes) (sym one.1) so_far.3;
-  polls = tt;
-}
-
--- or there were as many as one call takes
-pub all_taken : {A F : Type 0} (result : Result A F) (n : ℕ) (u v : Pipeline) (old new : State) → n ≡ 64 → TakenSoFar n u v old.log new.log → new.polls ≡ after_calls n old.polls → TakesNotices result u v old new
-all_taken result n u v old new many so_far polls = record {
-  tickets = so_far.0;
-  log = so_far.2;
-  notes = so_far.3;
-  polls = on_ok result (polls ∙ ap (λ k. after_calls k old.polls) (many ∙ most_polls (length so_far.0) (so_far.1 ∙ many)));
-}

@@ -1,8 +1,7 @@
 -- A pipeline that has more room is the same otherwise: its records are in order, the index is right, and it agrees with the same ledger.
-use Rattle.std.proofs.Common.{◌≡◌, ⊎_elim, inl, inr, ℕ, zero, suc, ◌+◌, ◌≤◌, nat_lt, if◌then◌else◌, List, [], ◌∷◌, ◌++◌, length, take, drop, map, slice_get, option_map, Some, refl, sym, ◌∙◌, subst, ap, arith, length-append}
+use Rattle.std.proofs.Common.{◌≡◌, ⊎_elim, inl, inr, ℕ, zero, suc, ◌+◌, ◌≤◌, nat_lt, if◌then◌else◌, List, [], ◌∷◌, ◌++◌, length, take, drop, map, slice_get, option_map, Some, refl, sym, ◌∙◌, subst, ap, arith}
 use Rattle.std.specs.List.{All, range_with_len}
 use Rattle.std.specs.VecDeque.{deque_len}
-use Rattle.std.proofs.lemmas.List.{length-map}
 use Rattle.base_types.specs.Seal.{Blocks}
 use Rattle.disk_contract.specs.declared.event.Event.{Event}
 use Rattle.layout_journal.specs.declared.header.Header.{Header}
@@ -26,9 +25,6 @@ use Rattle.engine_checkpoint.specs.Room.{NoLessRoom, RoomForRecords, RoomForPayl
 use Rattle.engine_checkpoint.specs.Steps.{SamePipeline}
 use Rattle.engine_checkpoint.proofs.Made.{same_parts}
 use Rattle.engine_checkpoint.proofs.Index.{index_same}
-
-pub same_itself : (v : Pipeline) → SamePipeline v v
-same_itself v = record { placed = refl; sure = refl; durable = refl; committed = refl; home = refl; notes = refl; newest = λ b. refl; rest = refl }
 
 pub same_twice : (u v w : Pipeline) → SamePipeline u v → SamePipeline v w → SamePipeline u w
 same_twice u v w s t = record {
@@ -54,20 +50,6 @@ no_less_twice u v w s t = record {
   newest = omega (arith, s.newest, t.newest);
   notes = omega (arith, s.notes, t.notes);
 }
-
--- how many records there are, by their states
-pub count_kept : (v : Pipeline) → length (kept v) ≡ length v.sure.items + length v.durable.items + length v.committed.items
-count_kept v = omega (
-  arith,
-  length-append (map of_sure v.sure.items) (map of_durable v.durable.items ++ map of_committed v.committed.items),
-  length-append (map of_durable v.durable.items) (map of_committed v.committed.items),
-  length-map v.sure.items of_sure,
-  length-map v.durable.items of_durable,
-  length-map v.committed.items of_committed,
-)
-
-pub count_all : (v : Pipeline) → length (numbers v) ≡ length v.placed.items + length (kept v)
-count_all v = omega (arith, length-append (map placed_number v.placed.items) (map number_of (kept v)), length-map v.placed.items placed_number, length-map (kept v) number_of)
 
 -- no more payloads come behind the batch than there are
 behind_few : (n : ℕ) (ks : List Kept) → payloads_in (drop n ks) ≤ payloads_in ks

@@ -1,5 +1,5 @@
 -- Which blocks are going home, write by write; and that there is room for their list.
-use Rattle.std.proofs.Common.{◌≡◌, ℕ, zero, suc, ◌+◌, ◌<◌, ◌≤◌, Bool, true, false, if◌then◌else◌, List, [], ◌∷◌, ◌++◌, length, take, get_or, vec_capacity, Vec, Global, refl, ◌∙◌, ap, arith}
+use Rattle.std.proofs.Common.{◌≡◌, ℕ, zero, suc, ◌+◌, ◌<◌, ◌≤◌, Bool, true, false, if◌then◌else◌, List, [], ◌∷◌, ◌++◌, length, take, get_or, vec_capacity, refl, ◌∙◌, ap, arith}
 use Rattle.std.proofs.lemmas.List.{take_more}
 use Rattle.engine_notes.specs.declared.notes.Note.{Note}
 use Rattle.engine_notes.specs.Notes.{is_open}
@@ -29,10 +29,3 @@ payloads_take (suc n) (k ∷ ks) = omega (arith, payloads_take n ks)
 -- the list of blocks has room for each checkpoint write
 pub room_for_home : (v : Pipeline) → IsInOrder v → HasRoom v → length v.home.items ≤ vec_capacity v.blocks
 room_for_home v o r = omega (arith, o.home, o.unplaced, payloads_take v.batch (kept v), r.blocks)
-
--- order and room have nothing to do with what is in the list of blocks
-pub order_blocks : (v : Pipeline) (bs : Vec ℕ Global) → IsInOrder v → IsInOrder (record v { blocks = bs })
-order_blocks v bs o = record { numbers_are = o.numbers_are; last = o.last; sure = o.sure; next = λ q is. let m = o.next q is in record { start = m.start; start_upto = m.start_upto; sure = m.sure; sure_upto = m.sure_upto; turn = m.turn; epoch = m.epoch }; written = o.written; batch = o.batch; none = o.none; home = o.home; unplaced = o.unplaced; few = o.few; have_places = o.have_places; within = o.within; below = o.below }
-
-pub room_blocks : (v : Pipeline) (bs : Vec ℕ Global) → vec_capacity v.blocks ≤ vec_capacity bs → HasRoom v → HasRoom (record v { blocks = bs })
-room_blocks v bs more r = record { placed = r.placed; sure = r.sure; durable = r.durable; committed = r.committed; home = r.home; blocks = omega (arith, r.blocks, more); last = r.last; newest = r.newest; notes = r.notes }

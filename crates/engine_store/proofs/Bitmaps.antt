@@ -1,8 +1,7 @@
 -- The bitmap that a run leaves, read block by block, and whose map it is.
-use Rattle.std.proofs.Common.{◌≡◌, ◌⊎◌, inl, inr, ⊎_elim, ℕ, zero, suc, ◌+◌, ◌*◌, ◌/◌, ◌%◌, ◌&&◌, ◌||◌, not, nat_le, nat_lt, ◌==◌, slice_index, Result, Ok, Err, IfErr, ◌<◌, ◌≤◌, Bool, true, false, IsTrue, Some, List, [], ◌∷◌, ◌++◌, length, if◌then◌else◌, refl, sym, ◌∙◌, ap, ap₂, subst, arith, length-append}
+use Rattle.std.proofs.Common.{◌≡◌, ◌⊎◌, ⊎_elim, ℕ, ◌+◌, ◌*◌, ◌/◌, ◌%◌, ◌&&◌, ◌||◌, not, nat_le, nat_lt, ◌==◌, slice_index, Result, Ok, Err, IfErr, ◌<◌, ◌≤◌, Bool, true, false, IsTrue, Some, List, [], ◌∷◌, ◌++◌, length, if◌then◌else◌, refl, sym, ◌∙◌, ap, ap₂, subst, arith}
 use Rattle.std.proofs.lemmas.Bool.{cases_lt, le-ltb}
 use Rattle.std.specs.Int.{bit_at}
-use Rattle.base_types.specs.Counts.{after_call}
 use Rattle.base_types.specs.Seal.{Blocks, blocks_of}
 use Rattle.disk_contract.specs.Cell.{cell_of}
 use Rattle.disk_contract.specs.Disk.{State}
@@ -24,23 +23,6 @@ use Rattle.engine_store.proofs.OnePoint.{low_live}
 
 -- What is read.
 
--- nothing is read so far
-pub searches_none : (tells : Bool) (s : State) → Searches tells false s s
-searches_none tells s = record { log = λ t. refl; only = record { same = record { blocks = refl; base = refl; manner = refl }; faults = refl; read_faults = refl; waits = refl; polls = refl } }
-
--- and then more, where only the last read may have failed
-pub searches_on : (tells failed : Bool) (old mid new : State) → Searches tells false old mid → Searches tells failed mid new → Searches tells failed old new
-searches_on tells failed old mid new one two = record {
-  log = λ t. two.log t ∙ one.log t;
-  only = record {
-    same = record { blocks = two.only.same.blocks ∙ one.only.same.blocks; base = two.only.same.base ∙ one.only.same.base; manner = two.only.same.manner ∙ one.only.same.manner };
-    faults = two.only.faults ∙ one.only.faults;
-    read_faults = two.only.read_faults ∙ ap (after_call failed) one.only.read_faults;
-    waits = two.only.waits ∙ one.only.waits;
-    polls = two.only.polls ∙ one.only.polls;
-  };
-}
-
 -- a disk is as idle as it was
 pub idle_still : (tells : Bool) (old now : State) → IsTrue tells → Searches tells false old now → IsIdle old → IsIdle now
 idle_still tells old now t s idle b = ap₂ (λ base log. (cell_of base log b).pending) s.only.same.base (s.log t) ∙ idle b
@@ -49,33 +31,9 @@ idle_still tells old now t s idle b = ap₂ (λ base log. (cell_of base log b).p
 pub settled_still : (tells : Bool) (old now : State) → IsTrue tells → Searches tells false old now → settled_on now ≡ settled_on old
 settled_still tells old now t s = ap₂ (λ base log. λ (b : ℕ). (cell_of base log b).settled) s.only.same.base (s.log t)
 
--- One block more.
-
-at_end : (xs : List (List ℕ)) (x : List ℕ) → blocks_of (xs ++ x ∷ []) (length xs) ≡ x
-at_end [] x = refl
-at_end (y ∷ xs) x = at_end xs x
-
-before_end : (xs : List (List ℕ)) (x : List ℕ) (j : ℕ) → j < length xs → blocks_of (xs ++ x ∷ []) j ≡ blocks_of xs j
-before_end [] x j low = absurd (omega (arith, low))
-before_end (y ∷ xs) x zero low = refl
-before_end (y ∷ xs) x (suc j) low = before_end xs x j (omega (arith, low))
-
 -- each block that was read so far is as it will be
 abbrev pub AreRead : FoundRun → Blocks → List (List ℕ) → Type 0
 AreRead r at xs = (j : ℕ) → j < length xs → blocks_of xs j ≡ replayed_bitmap r at j
-
-pub none_read : (r : FoundRun) (at : Blocks) (xs : List (List ℕ)) → length xs ≡ 0 → AreRead r at xs
-none_read r at xs none j low = absurd (omega (arith, none, low))
-
-pub one_read : (r : FoundRun) (at : Blocks) (xs ys : List (List ℕ)) (x : List ℕ) → ys ≡ xs ++ x ∷ [] → x ≡ replayed_bitmap r at (length xs) → AreRead r at xs → AreRead r at ys
-one_read r at xs ys x e is read j low = ap (λ (zs : List (List ℕ)). blocks_of zs j) e ∙ by (cases_lt j (length xs))
-  where
-    within : j < length xs + 1
-    within = omega (arith, low, ap (λ (zs : List (List ℕ)). length zs) e, length-append xs (x ∷ []))
-
-    by : (j < length xs) ⊎ (length xs ≤ j) → blocks_of (xs ++ x ∷ []) j ≡ replayed_bitmap r at j
-    by (inl lt) = before_end xs x j lt ∙ read j lt
-    by (inr ge) = let same : length xs ≡ j = omega (arith, ge, within) in subst (λ (k : ℕ). blocks_of (xs ++ x ∷ []) k ≡ replayed_bitmap r at k) same (at_end xs x ∙ is)
 
 -- Whose map it is.
 

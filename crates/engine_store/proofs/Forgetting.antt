@@ -71,11 +71,6 @@ put_gone ps k b p x c e lt at is before =
     ∙ both (is_some (put_of b (take k ps))) (p.block == b) x
     ∙ ap (λ t. if t then None else x) (ap (λ (r : Put). is_some (put_of b (take k ps)) || (r.block == b)) at ∙ sym (put_push ps k b p lt))
 
--- the puts, and then the fresh blocks
-pub record_gone : (payloads : List Put) (fresh : List ℕ) (old mid new : Cache) → ((b : ℕ) → get mid.kept b ≡ (if is_some (put_of b payloads) then None else get old.kept b)) → ((b : ℕ) → get new.kept b ≡ (if is_one_of b fresh then None else get mid.kept b)) → Forgets payloads fresh old new
-record_gone payloads fresh old mid new first second b =
-    second b ∙ ap (λ o. if is_one_of b fresh then None else o) (first b) ∙ both (is_some (put_of b payloads)) (is_one_of b fresh) (get old.kept b)
-
 -- a block that is kept then has no put and isn't fresh, and is kept as before
 pub record StillKept (payloads : List Put) (fresh : List ℕ) (old new : Cache) (b : ℕ) : Type 0 where
   pub same : get new.kept b ≡ get old.kept b

@@ -19,10 +19,6 @@ open_then : (ts us : List ℕ) (log : List Event) → AreOpen ts log → AreOpen
 open_then [] us log one two = subst (AreOpen us) (append-nil log) two
 open_then (t ∷ ts) us log one two = (one.0, open_then ts us (log ++ Noticed t ∷ []) one.1 (subst (AreOpen us) (sym (append_assoc log (Noticed t ∷ []) (notices ts))) two))
 
--- no notice
-pub no_notices : (log : List Event) → AddsNotices log log
-no_notices log = record { tickets = []; open_before = tt; log = sym (append-nil log) }
-
 -- notices, and then more
 pub notices_then : (old mid new : List Event) → AddsNotices old mid → AddsNotices mid new → AddsNotices old new
 notices_then old mid new one two = record {

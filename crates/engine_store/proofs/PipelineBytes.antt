@@ -50,11 +50,6 @@ writes_noticed (Noticed t ∷ log) ts = writes_noticed log ts
 none_in : (e : Event) → Contains [] e → ⊥
 none_in e there = let lt = there.1 in omega (arith, lt)
 
-IsNoWrite : Event → Type 0
-IsNoWrite (Wrote t b x) = ⊥
-IsNoWrite (Lost b x) = Unit {0}
-IsNoWrite (Noticed t) = Unit {0}
-
 no_write : (ts : List ℕ) (t b : ℕ) (x : List ℕ) → ¬ Contains (notices ts) (Wrote t b x)
 no_write [] t b x there = none_in (Wrote t b x) there
 no_write (u ∷ ts) t b x there = ⊎_elim (λ first. ⊎_elim (λ none. none_in (Wrote t b x) none) (λ same. is_other u t b x same) (Contains-push_cases [] (Noticed u) (Wrote t b x) first))

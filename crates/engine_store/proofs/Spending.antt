@@ -47,16 +47,6 @@ waits_on made next old mid new e one two = record {
     plus_one : (n : ℕ) → suc n ≡ n + 1
     plus_one n = omega arith
 
--- so many waits of which none failed
-pub all_waited : (failed : Bool) (made most : ℕ) (old new : State) → failed ≡ false → made ≡ most → Spends false made 0 old new → SpendsUpTo failed most old new
-all_waited failed made most old new is e one = subst (λ f. SpendsUpTo f most old new) (sym is) (record {
-  same = one.same;
-  faults = one.faults;
-  read_faults = one.read_faults;
-  waits = one.waits ∙ ap (λ k. after_calls k old.waits) e;
-  polls = one.polls;
-})
-
 -- and one that failed behind them
 pub wait_failed : (failed : Bool) (made most : ℕ) (old mid new : State) → failed ≡ true → made + 1 ≤ most → Spends false made 0 old mid → OnlyWaits true mid new → SpendsUpTo failed most old new
 wait_failed failed made most old mid new is le one two = subst (λ f. SpendsUpTo f most old new) (sym is) (record {
@@ -69,26 +59,6 @@ wait_failed failed made most old mid new is le one two = subst (λ f. SpendsUpTo
   where
     plus_one : (n : ℕ) → suc n ≡ n + 1
     plus_one n = omega arith
-
--- a write that failed, before any wait
-pub write_failed : (failed : Bool) (most : ℕ) (old new : State) → failed ≡ true → OnlyWrites true old new → SpendsUpTo failed most old new
-write_failed failed most old new is one = subst (λ f. SpendsUpTo f most old new) (sym is) (record {
-  same = one.same;
-  faults = one.faults;
-  read_faults = one.read_faults;
-  waits = (0, omega arith, one.waits);
-  polls = one.polls;
-})
-
--- what writes spend of which none failed, and then waits
-pub writes_then_waits : (failed : Bool) (most : ℕ) (old mid new : State) → OnlyWrites false old mid → SpendsUpTo failed most mid new → SpendsUpTo failed most old new
-writes_then_waits failed most old mid new one two = record {
-  same = record { blocks = two.same.blocks ∙ one.same.blocks; base = two.same.base ∙ one.same.base; manner = two.same.manner ∙ one.same.manner };
-  faults = two.faults ∙ ap (after_call failed) one.faults;
-  read_faults = two.read_faults ∙ one.read_faults;
-  waits = subst (λ n. MadeUpTo failed most n new.waits) one.waits two.waits;
-  polls = two.polls ∙ one.polls;
-}
 
 made_then : (failed : Bool) (a b most before mid now : ℕ) → a + b ≡ most → mid ≡ after_calls a before → MadeUpTo failed b mid now → MadeUpTo failed most before now
 made_then false a b most before mid now e one two = two ∙ ap (after_calls b) one ∙ more_calls a b before ∙ ap (λ k. after_calls k before) e

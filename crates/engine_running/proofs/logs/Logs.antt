@@ -121,7 +121,3 @@ still_more failed old mid new so_far more = record {
 pub all_err : {A E : Type 0} (ws : List (ℕ × List ℕ)) (r : Result A E) (start now : List ℕ) (old new : List Event) → IsErr r → AddsFront ws old new → AddsAll ws r start now old new
 all_err ws (Ok a) start now old new e f = absurd (false≢true e)
 all_err ws (Err a) start now old new e f = f
-
-pub all_front : {A E : Type 0} (ws : List (ℕ × List ℕ)) (r : Result A E) (start now : List ℕ) (old new : List Event) → IsErr r → AddsAll ws r start now old new → AddsFront ws old new
-all_front ws (Ok a) start now old new e f = absurd (false≢true e)
-all_front ws (Err a) start now old new e f = f
