@@ -151,6 +151,7 @@ module _ (tells : Bool) (told : IsTrue tells) (first : disk.State) (s : State) (
           mount = mount;
           is_mount = record { found = numbers.found; is_found = numbers.is_found; geom = numbers.geom; epoch = numbers.epoch; mounted = numbers.mounted; first = numbers.first };
           goes = subst (λ (p : Pace). GoesByLog mount first.base first.manner p t [] [] [] u) pace_first (goes mount first.base first.manner t begins_log);
+          mounts = λ alone. ap has_lost (take_all (length s.crash.log) u.crash.log (omega (arith, ap (λ (es : List Event). length es) same_log))) ∙ (begins_log.unlost alone).1;
           budget = subst (λ (n : ℕ). KeepsBudget g t n [] [] u)
               (omega (arith, (h.begins told).owed, ap (λ (es : List Event). writes_in es) (sym (ap (λ (es : List Event). take (length s.crash.log) es) same_log ∙ take_all (length s.crash.log) s.crash.log (omega arith))))) budget;
           spends = subst (λ (es : List Event). SpendsByMarks g f (length es) u.crash.log [] [] []) same_log spends;

@@ -56,6 +56,7 @@ module _ {D : Type 0} {k : Ghosts D} (known : D → disk.State) (tells : Bool) (
     mount = h.mount;
     is_mount = h.is_mount;
     serves = h.goes.paces;
+    mounts = h.mounts;
     writes = subst (λ (n : ℕ). AreAtMost h.mounted (state_of known store).crash.log n) (omega arith) (budget h.geom h.tree (writes_in (take h.mounted (state_of known store).crash.log)) 0 h.mounted cmds replies h.budget (omega arith));
     spends = h.spends;
     marked = h.marked;

@@ -5,6 +5,7 @@ use Rattle.std.proofs.lemmas.Bool.{leb-true}
 use Rattle.base_types.specs.Seal.{Blocks}
 use Rattle.disk_contract.specs.declared.bay.Mark.{Mark}
 use Rattle.disk_contract.specs.declared.event.Event.{Event}
+use Rattle.disk_contract.specs.Cell.{has_lost}
 use Rattle.disk_contract.specs.Disk as disk
 use Rattle.disk_contract.specs.Disk.{writes_in}
 use Rattle.disk_contract.specs.Manner.{Manner, HasFailedBy}
@@ -161,6 +162,7 @@ module _ (first : disk.State) (cmd : Cmd) (reply : Reply) (mark : Mark) (s u : S
     mount = h.mount;
     is_mount = h.is_mount;
     goes = goes_now;
+    mounts = λ alone. ap has_lost front ∙ h.mounts alone;
     budget = budget_on;
     spends = step.spends h.geom h.tree h.mounted cmds replies h.moments h.served budget_on h.spends;
     within = omega (arith, h.within, longer);

@@ -1,5 +1,5 @@
 -- What comes of a run over the image under a name: its commands and their replies, what is read and written, the marks, and what becomes of the bay and of the disk that it handed out. It is described in docs/RUNNING.md.
-use Rattle.std.specs.Prelude.{◌≡◌, ◌⊎◌, ℕ, ◌+◌, ◌-◌, ◌*◌, ◌^◌, ◌<◌, ◌≤◌, max, ⊤, Bool, true, IsTrue, List, [], ◌∷◌, ◌++◌, length, take, slice_get, Option, Some, Result, Ok, Err}
+use Rattle.std.specs.Prelude.{◌≡◌, ◌⊎◌, ℕ, ◌+◌, ◌-◌, ◌*◌, ◌^◌, ◌<◌, ◌≤◌, max, ⊤, Bool, true, false, IsTrue, List, [], ◌∷◌, ◌++◌, length, take, slice_get, Option, Some, Result, Ok, Err}
 use Rattle.std.specs.Io.KnownBytes.{Appends, Consumes, IsAtEnd}
 use Rattle.base_types.specs.Counts.{after_call, Rose}
 use Rattle.base_types.specs.Seal.{Blocks}
@@ -8,6 +8,7 @@ use Rattle.disk_contract.specs.declared.bay.Mark.{Mark}
 use Rattle.disk_contract.specs.declared.bay.BayFault.{BayFault}
 use Rattle.disk_contract.specs.Bay.{BayState, Opens, Closes, has_faults}
 use Rattle.disk_contract.specs.declared.event.Event.{Event}
+use Rattle.disk_contract.specs.Cell.{has_lost}
 use Rattle.disk_contract.specs.Disk.{State, HasFailed}
 use Rattle.disk_contract.specs.Manner.{Manner, HasFailedBy}
 use Rattle.layout_geometry.specs.Geometry.{Geometry, bitmap_blocks}
@@ -148,6 +149,8 @@ pub record RunsDisk (first last : State) (marks : List Mark) (cmds : List Cmd) (
   pub mount : MountedSession
   pub is_mount : IsMountOf first geom mounted mount
   pub serves : PacesBy mount first.base first.manner last.log (pace_at_mount first mounted (session_on geom.i tree) first_room) cmds replies moments end
+  -- the mount loses no write
+  pub mounts : first.manner.waits_alone ≡ true → has_lost (take mounted last.log) ≡ false
   pub writes : AreAtMost mounted last.log (budget_of (bitmap_blocks geom) (session_on geom.i tree) 0 cmds replies)
   pub spends : SpendsByMarks geom (session_on geom.i tree) mounted last.log cmds replies moments
   pub marked : AreMarks mounted replies moments marks (mark_on last)

@@ -3,6 +3,7 @@ use Rattle.std.specs.Prelude.{◌≡◌, ℕ, ◌+◌, ◌*◌, ◌^◌, ◌<◌
 use Rattle.std.specs.Io.KnownBytes.{Appends, Consumes}
 use Rattle.base_io.specs.Prefix.{TakesPrefix}
 use Rattle.disk_contract.specs.declared.bay.Mark.{Mark}
+use Rattle.disk_contract.specs.Cell.{has_lost}
 use Rattle.disk_contract.specs.Disk as disk
 use Rattle.disk_contract.specs.Disk.{writes_in}
 use Rattle.layout_geometry.specs.Geometry.{Geometry}
@@ -79,6 +80,7 @@ pub record KnownSoFar (first : disk.State) (cmds : List Cmd) (replies : List Rep
   pub mount : MountedSession
   pub is_mount : IsMountOf first geom mounted mount
   pub goes : GoesByLog mount first.base first.manner (pace_at_mount first mounted (session_on geom.i tree) first_room) tree cmds replies moments s
+  pub mounts : first.manner.waits_alone ≡ true → has_lost (take mounted s.crash.log) ≡ false
   -- no write was owed as the mount ended
   pub budget : KeepsBudget geom tree (writes_in (take mounted s.crash.log)) cmds replies s
   pub spends : SpendsByMarks geom (session_on geom.i tree) mounted s.crash.log cmds replies moments

@@ -1,10 +1,17 @@
-//! A law of mounted blocks, an empty function whose clause says it.
+//! Laws of mounted blocks and of runs, empty functions whose clauses say them.
 
-ghost use Rattle.std.specs.Prelude.{Bool, false};
+ghost use Rattle.std.specs.Prelude.{◌≡◌, Bool, false, true, List};
+ghost use Rattle.disk_contract.specs.declared.bay.Mark.{Mark};
 ghost use Rattle.disk_contract.specs.Disk.{State};
+ghost use Rattle.lang_tree.specs.declared.command.Cmd.{Cmd};
+ghost use Rattle.lang_tree.specs.declared.command.Reply.{Reply};
+ghost use Rattle.lang_tree.specs.Step.{session_on};
 ghost use Rattle.fs_files.specs.Effects.{LooksOnly};
+ghost use Rattle.cmd_session.specs.Accepted.{AcceptsLast};
 ghost use Rattle.cmd_image.specs.Mounted.{IsMountedOn};
+ghost use Rattle.cmd_image.specs.Runs.{RunsDisk};
 
+use cmd_session::what_was_issued_was_accepted;
 use engine_blocks::Blocks;
 
 /// A store that was mounted, or any other blocks, are so still where they were only read; a read that failed is counted.
@@ -12,3 +19,13 @@ pub fn what_is_read_stays_mounted<S: Blocks>()
     ensures { (old new : S) (first : State) (failed : Bool) → IsMountedOn S.tells false first (S.state old)
         → LooksOnly S.tells failed (S.state old) (S.state new) → IsMountedOn S.tells failed first (S.state new) }
 {}
+
+/// On a disk whose waits bring the notice of their own ticket alone, a run on an image loses no write before any fault
+/// of the disk. So at each mark before one, the image that has all accepted writes stands for the last point by then.
+pub fn a_run_stands_where_accepted_writes_do()
+    ensures { (first last : State) (marks : List Mark) (cmds : List Cmd) (replies : List Reply) (r : RunsDisk first last marks cmds replies)
+        → first.manner.waits_alone ≡ true
+        → AcceptsLast r.geom.n last.base (session_on r.geom.i r.tree) last.log r.mounted cmds replies r.moments }
+{
+    what_was_issued_was_accepted();
+}

@@ -24,7 +24,7 @@ mod store_laws;
 
 pub use ending::{Ending, RunRefusal};
 pub use formatted_laws::a_formatted_image_can_be_mounted;
-pub use image_laws::what_is_read_stays_mounted;
+pub use image_laws::{a_run_stands_where_accepted_writes_do, what_is_read_stays_mounted};
 pub use lent::LentDisk;
 pub use make::make_image;
 pub use make_refusal::MakeRefusal;

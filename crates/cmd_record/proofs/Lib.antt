@@ -3,7 +3,6 @@ pub mod Entries
 pub mod EventLines
 pub mod Mounts
 mod Sureness
-pub mod Losses
 mod Weights
 mod WrongTraces
 pub mod Runs

@@ -6,6 +6,5 @@ pub mod Mounting
 pub mod Running
 pub mod Follows
 pub mod Reading
-pub mod Accepted
 pub mod Weights
 pub mod WrongTraces

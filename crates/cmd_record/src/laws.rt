@@ -17,6 +17,7 @@ ghost use Rattle.lang_tree.specs.declared.command.Reply.{Reply};
 ghost use Rattle.lang_tree.specs.declared.command.Reply.TheVariants.{Known, Refused, Synced};
 ghost use Rattle.lang_tree.specs.Points.{floor, is_sync};
 ghost use Rattle.lang_tree.specs.Step.{start};
+ghost use Rattle.cmd_session.specs.Accepted.{AcceptsLast};
 ghost use Rattle.cmd_session.specs.Budget.{sync_places};
 ghost use Rattle.cmd_session.specs.Crashes.{IsCrashConsistent};
 ghost use Rattle.lang_lines.specs.Lines.{longest, commands_of};
@@ -25,12 +26,11 @@ ghost use Rattle.cmd_session.specs.Records.{own_records};
 ghost use Rattle.cmd_session.specs.Taking.{CameIn, Span, places_wanted};
 ghost use Rattle.cmd_record.specs.Behaving.{IsSureBy, StartsBy, pace_at_first, session_by};
 ghost use Rattle.cmd_record.specs.Traces.{Serves, ServesBy, Setting, IsTrace, contents};
-ghost use Rattle.cmd_record.specs.Accepted.{AcceptsLast};
 ghost use Rattle.cmd_record.specs.Weights.{blocks_needed, places_by_weight};
 ghost use Rattle.cmd_record.specs.WrongTraces.{Goes, IsHeard, IsUnwritten, LosesOwn, WaitsForNothing};
 
+use cmd_session::what_was_issued_was_accepted;
 use cmd_trace::equal_traces_have_equal_contents;
-use crash_argument::a_read_gives_what_was_written_last;
 use crash_stands::images_alike_below_n_stand_for_the_same;
 use fs_commands::a_command_takes_no_more_blocks_than_it_needs;
 
@@ -59,10 +59,9 @@ pub fn a_disk_at_rest_is_crash_consistent()
 /// writes stands for the last point by then.
 pub fn the_last_point_stands_where_accepted_writes_do()
     ensures { (set : Setting) (cmds : List Cmd) (text : List ℕ) (s : ServesBy set cmds text)
-        → AcceptsLast set.shape s.served.log s.served.mounted cmds s.served.replies s.served.marks }
+        → AcceptsLast set.shape.n (formatted set.shape) (start set.shape.i) s.served.log s.served.mounted cmds s.served.replies s.served.marks }
 {
-    a_read_gives_what_was_written_last();
-    images_alike_below_n_stand_for_the_same();
+    what_was_issued_was_accepted();
 }
 
 /// Nothing is waited for that need not come back. Where the records of all syncs so far would fit the ring by what

@@ -3,6 +3,7 @@ pub mod Histories
 pub mod Crashes
 pub mod Marks
 pub mod Issuing
+pub mod Losses
 pub mod Counting
 pub mod Serving
 pub mod Opening

@@ -2,6 +2,7 @@ pub mod Images
 pub mod Histories
 pub mod Crashes
 pub mod Issued
+pub mod Accepted
 pub mod Serving
 pub mod Budget
 pub mod Ending

@@ -3,6 +3,7 @@
 ghost use Rattle.std.specs.Prelude.{◌≡◌, ◌≢◌, ◌<◌, ◌≤◌, ◌+◌, ◌++◌, ◌∷◌, [], ℕ, false, true, IsTrue, List, length, take};
 ghost use Rattle.base_types.specs.Seal.{Blocks as BlockMap};
 ghost use Rattle.disk_contract.specs.declared.event.Event.{Event};
+ghost use Rattle.disk_contract.specs.Cell.{has_lost};
 ghost use Rattle.disk_contract.specs.Disk.{Grows, PollsThenWrites, writes_in};
 ghost use Rattle.disk_contract.specs.Manner.{Manner};
 ghost use Rattle.layout_geometry.specs.Geometry.{Geometry, bitmap_blocks};
@@ -19,16 +20,22 @@ ghost use Rattle.layout_journal.specs.Run.{places_from};
 ghost use Rattle.engine_store.specs.SessionView.{Starts};
 ghost use Rattle.crash_argument.specs.Counts.{AreAtMost};
 ghost use Rattle.crash_argument.specs.Points.{MountedSession, records_told};
+ghost use Rattle.cmd_session.specs.Accepted.{AcceptsLast};
 ghost use Rattle.cmd_session.specs.Budget.{KeepsBudget, SpendsByMarks, budget_of};
 ghost use Rattle.cmd_session.specs.Crashes.{IsCrashConsistent};
 ghost use Rattle.cmd_session.specs.Ending.{HasRun, ending_marks, ending_replies};
 ghost use Rattle.cmd_session.specs.Going.{AnswersOnDisk, BeginsByLog, GoesByLog, pace_of, session_at};
-ghost use Rattle.cmd_session.specs.Pacing.{DoneInRing, Pace, StepsBy};
+ghost use Rattle.cmd_session.specs.Issued.{IssuesLast};
+ghost use Rattle.cmd_session.specs.Pacing.{DoneInRing, Pace, PacesBy, StepsBy};
 ghost use Rattle.cmd_session.specs.Records.{own_records};
 ghost use Rattle.cmd_session.specs.Serving.{HasServed};
 ghost use Rattle.cmd_session.specs.Taking.{nothing_taken};
 
-use crash_stands::{a_tree_that_stands_is_sound, an_image_stands_for_one_tree};
+use crash_argument::a_read_gives_what_was_written_last;
+use crash_stands::{
+    a_tree_that_stands_is_sound, an_image_stands_for_one_tree,
+    images_alike_below_n_stand_for_the_same,
+};
 use engine_blocks::Blocks;
 use fs_commands::{
     a_command_begins_with_a_tick, a_command_is_answered_in_a_room_that_came_back,
@@ -113,6 +120,19 @@ pub fn a_command_goes_by_the_log<S: Blocks>()
     a_tree_that_stands_is_sound();
     an_image_holds_one_map();
     images_alike_below_n_hold_the_same();
+}
+
+/// On a disk whose waits bring the notice of their own ticket alone, a run before which no write was lost loses none
+/// before the first fault of the disk. So at each mark before one, the image that has all accepted writes stands for
+/// the last point by then.
+pub fn what_was_issued_was_accepted()
+    ensures { (s : MountedSession) (base : BlockMap) (m : Manner) (log : List Event) (f : Session) (first end : Pace) (cmds : List Cmd)
+        (replies : List Reply) (marks : List ℕ) → m.waits_alone ≡ true → has_lost (take first.events log) ≡ false
+        → PacesBy s base m log first cmds replies marks end → IssuesLast s.geom.n base f log first.events cmds replies marks
+        → AcceptsLast s.geom.n base f log first.events cmds replies marks }
+{
+    a_read_gives_what_was_written_last();
+    images_alike_below_n_stand_for_the_same();
 }
 
 /// Behind the notices of its tick come writes alone. And a sync that is done, of something that weighs in the room, finds

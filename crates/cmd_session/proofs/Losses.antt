@@ -1,4 +1,4 @@
--- A recording loses no write before a fault of its disk, by its commands and replies: so what was issued is what was accepted.
+-- A run loses no write before a fault of its disk, by its commands and replies: so what was issued is what was accepted.
 use Rattle.std.proofs.Common.{◌≡◌, ◌⊎◌, inl, inr, ℕ, zero, suc, ◌≤◌, ◌==◌, if◌then◌else◌, Bool, true, false, List, [], ◌∷◌, take, drop, Some, refl, sym, ap, ◌∙◌, subst, arith}
 use Rattle.std.proofs.lemmas.Bool.{cases_Bool, false≢true}
 use Rattle.base_types.specs.Seal.{Blocks}
