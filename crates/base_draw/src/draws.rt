@@ -17,7 +17,7 @@ const LOW_BITS: u32 = 33;
 
 /// A row of draws on its way, which contracts see as its state of 64 bits. It takes no memory. A copy
 /// draws the same numbers as the row that it was made from.
-#[derive(Clone, Copy, Debug, PartialEq, Eq)]
+#[derive(Clone, Copy)]
 pub struct Draws {
     state: u64,
 }

@@ -16,7 +16,7 @@ use std::error::Error;
 use std::fmt;
 
 /// Why no trace was read.
-#[derive(Clone, Copy, Debug, PartialEq, Eq)]
+#[derive(Clone, Copy, Debug)]
 pub enum TraceRefusal {
     /// The bytes aren't the text of a trace, and this line is the first at which that shows, counted from 1.
     BadTrace {

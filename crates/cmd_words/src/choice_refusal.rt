@@ -6,7 +6,7 @@ use std::error::Error;
 use std::fmt;
 
 /// Why texts say no choice.
-#[derive(Clone, Copy, Debug, PartialEq, Eq)]
+#[derive(Clone, Copy, Debug)]
 pub enum ChoiceRefusal {
     /// A text is none of those that say which writes stand, or which are torn.
     BadText,

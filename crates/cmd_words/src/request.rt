@@ -23,7 +23,7 @@ use disk_memory::Choice;
 use std::alloc::Global;
 
 /// By which rule a disk in memory brings its notices.
-#[derive(Clone, Copy, Debug, PartialEq, Eq)]
+#[derive(Clone, Copy)]
 pub enum Notices {
     /// None comes.
     Silent,
@@ -34,7 +34,7 @@ pub enum Notices {
 }
 
 /// What the words ask for.
-#[derive(Debug, PartialEq, Eq, Drop)]
+#[derive(Drop)]
 pub enum Request {
     /// Record a script on a disk in memory, with so many blocks, journal blocks and nodes. Each number
     /// is in its range of `base_types::limits`.

@@ -1,6 +1,6 @@
 -- What a disk holds of each block after a list of events: its settled content, and the writes that are
 -- pending on it. The rules are described in docs/DISK.md; what a crash makes of it is in Crash.
-use Rattle.std.specs.Prelude.{◌≡◌, ◌⊎◌, ℕ, max, ◌==◌, ◌||◌, Bool, true, false, IsTrue, if◌then◌else◌, List, [], ◌∷◌, ◌++◌, Option, None, Some}
+use Rattle.std.specs.Prelude.{◌≡◌, ◌≢◌, ◌⊎◌, ℕ, max, ◌==◌, ◌||◌, Bool, true, false, IsTrue, if◌then◌else◌, List, [], ◌∷◌, ◌++◌, Option, None, Some}
 use Rattle.base_types.specs.Seal.{Blocks}
 use Rattle.disk_contract.specs.declared.event.Event.{Event}
 use Rattle.disk_contract.specs.declared.event.Event.TheVariants.{Wrote, Lost, Noticed}
@@ -48,6 +48,12 @@ after_all b c (e ∷ es) = after_all b (after b c e) es
 -- block b of a disk that began with the blocks `base`, settled all, after the events of the log
 abbrev pub cell_of : Blocks → List Event → ℕ → Cell
 cell_of base log b = after_all b (record { settled = base b; pending = [] }) log
+
+-- nothing is pending on two blocks, and the second one hasn't these bytes yet
+pub record IsReadyFor (base : Blocks) (log : List Event) (a b : ℕ) (second : List ℕ) : Type 0 where
+  pub idle_a : (cell_of base log a).pending ≡ []
+  pub idle_b : (cell_of base log b).pending ≡ []
+  pub differs : (cell_of base log b).settled ≢ second
 
 -- the bytes of the last accepted write to the block among these events, or else these bytes
 abbrev pub accepted_from : ℕ → List ℕ → List Event → List ℕ

@@ -9,7 +9,7 @@ use std::error::Error;
 use std::fmt;
 
 /// A place in a disk's life that is to be found again: its moment, and its two counts of faults there.
-#[derive(Clone, Copy, Debug, PartialEq, Eq)]
+#[derive(Clone, Copy)]
 pub struct Mark {
     /// The number of events so far.
     pub moment: u64,
@@ -20,7 +20,7 @@ pub struct Mark {
 }
 
 /// Why a bay didn't do what it was asked.
-#[derive(Clone, Copy, Debug, PartialEq, Eq)]
+#[derive(Clone, Copy, Debug)]
 pub enum BayFault {
     /// The call failed, which the bay has counted.
     Fault,

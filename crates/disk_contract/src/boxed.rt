@@ -70,27 +70,6 @@ fn byte_ranges(bytes: &[u8])
     ensures { (i : ℕ) → slice_index_or bytes.now i 0 < 256 }
 {}
 
-/// Equal boxes have the same bytes.
-impl PartialEq for BoxedBlock {
-    ghost use Rattle.std.specs.Prelude.{bytes_eq};
-    ghost use Rattle.std.specs.Cmp.{partial_equiv_from_equiv};
-    ghost use Rattle.std.specs.Cmp.Lexicographic.{nat_list_eq_equiv};
-
-    ghost eq = { λ left right. bytes_eq left right };
-
-    ghost laws = { partial_equiv_from_equiv nat_list_eq_equiv };
-
-    fn eq(&self, other: &BoxedBlock) -> bool {
-        self.bytes() == other.bytes()
-    }
-}
-
-impl Eq for BoxedBlock {
-    ghost use Rattle.std.specs.Cmp.Lexicographic.{nat_list_eq_equiv};
-
-    ghost laws = { nat_list_eq_equiv };
-}
-
 /// A clone has the same bytes, in a box of its own.
 impl Clone for BoxedBlock {
     ghost use Rattle.std.specs.Prelude.{◌≡◌};

@@ -5,7 +5,7 @@ use crate::BoxedBlock;
 
 /// What happened on a disk, one step at a time. A poll or wait without a notice, and a read, leave no
 /// event.
-#[derive(Debug, PartialEq, Eq, Drop)]
+#[derive(Drop)]
 pub enum Event {
     /// The disk accepted a write. It is pending until its durability is noticed.
     Wrote {

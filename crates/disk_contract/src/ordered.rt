@@ -2,7 +2,7 @@
 //! another, and an example of a promise over every moment of a log.
 
 ghost use Rattle.std.specs.Prelude.{◌≡◌, ◌≢◌, ◌<◌, [], length, IsTrue, OnOk, is_err};
-ghost use Rattle.disk_contract.specs.Cell.{cell_of, accepted};
+ghost use Rattle.disk_contract.specs.Cell.{IsReadyFor, cell_of, accepted};
 ghost use Rattle.disk_contract.specs.Crash.{Window};
 ghost use Rattle.disk_contract.specs.Disk.{SpendsUpTo};
 
@@ -25,9 +25,7 @@ pub fn write_in_order<D: Disk>(
     requires apart { a ≢ b }
     requires a_in { a < (D.state disk.old).blocks }
     requires b_in { b < (D.state disk.old).blocks }
-    requires idle_a { IsTrue D.tells → (cell_of (D.state disk.old).base (D.state disk.old).log a).pending ≡ [] }
-    requires idle_b { IsTrue D.tells → (cell_of (D.state disk.old).base (D.state disk.old).log b).pending ≡ [] }
-    requires differs { IsTrue D.tells → (cell_of (D.state disk.old).base (D.state disk.old).log b).settled ≢ second.now }
+    requires ready { IsTrue D.tells → IsReadyFor (D.state disk.old).base (D.state disk.old).log a b second.now }
     ensures first { IsTrue D.tells → OnOk result (cell_of (D.state disk.old).base (D.state disk.new).log a ≡ record { settled = first.now; pending = [] }) }
     ensures second { IsTrue D.tells → OnOk result (accepted (D.state disk.old).base (D.state disk.new).log b ≡ second.now) }
     ensures spends { SpendsUpTo (is_err result) 1 (D.state disk.old) (D.state disk.new) }

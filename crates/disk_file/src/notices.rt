@@ -15,7 +15,7 @@ use std::marker::Model;
 const MOST: usize = 1024;
 
 /// The tickets that are over: those up to a number, and some above it that were waited for.
-#[derive(Debug, Drop)]
+#[derive(Drop)]
 pub(crate) struct Notices {
     upto: u64,
     /// Tickets above `upto`, in any order.

@@ -1,8 +1,7 @@
 -- What is kept of the events of a disk in memory, and which events these are.
-use Rattle.std.specs.Prelude.{ℕ, ◌+◌, ◌<◌, ◌≤◌, List, [], ◌∷◌, map, get_or, Bool, true, false, Option, Some, None}
+use Rattle.std.specs.Prelude.{ℕ, ◌+◌, ◌<◌, ◌≤◌, List, [], ◌∷◌, map, get_or}
 use Rattle.disk_contract.specs.declared.event.Event.{Event}
 use Rattle.disk_contract.specs.declared.event.Event.TheVariants as events
-use Rattle.disk_contract.specs.contracts.event.EventPartialEq.TheImpl as event
 use Rattle.disk_memory.specs.declared.events.Entry.{Entry}
 use Rattle.disk_memory.specs.declared.events.Entry.TheVariants.{Given, Wrote, Lost, Noticed}
 
@@ -22,13 +21,6 @@ event_kept blocks (Noticed ticket) = events.Noticed ticket
 -- those of all entries
 abbrev pub events_kept : List (List ℕ) → List Entry → List Event
 events_kept blocks entries = map (event_kept blocks) entries
-
--- whether both are the same event, or none is there
-abbrev pub same_there : Option Event → Option Event → Bool
-same_there (Some left) (Some right) = event.ghosts.eq left right
-same_there None None = true
-same_there (Some left) None = false
-same_there None (Some right) = false
 
 -- the bytes of an entry are among the first n
 abbrev pub IsHeld : ℕ → Entry → Type 0

@@ -6,7 +6,6 @@ pub mod Image
 pub mod ImageBlock
 pub mod Log
 pub mod Logged
-pub mod MemBay
 pub mod MemDisk
 pub mod Ranks
 pub mod Settled

@@ -40,10 +40,6 @@ begun image room = record { base = image; log = []; room = room; notices = notic
 abbrev pub with_log : List (List ℕ) → List Event → MemDiskState
 with_log image log = record (begun image (write_count log)) { log = log; known = None }
 
--- the numbers of a disk: its room, its counts of failed calls, and those of all calls but writes
-abbrev pub room_and_counts : MemDiskState → List ℕ
-room_and_counts d = d.room ∷ d.faults ∷ d.read_faults ∷ d.reads ∷ d.polls ∷ d.waits ∷ []
-
 -- which call of a kind the next one is, counted from 1; of writes those count that are in the log, since past the room none is accepted or lost
 abbrev pub next_call : DiskCall → MemDiskState → ℕ
 next_call calls.Read d = next_count d.reads

@@ -5,7 +5,7 @@ ghost use Rattle.std.specs.Prelude.{◌≡◌, ◌&&◌, ◌==◌};
 ghost use Rattle.disk_memory.specs.MemDisk.{same_call, is_listed};
 
 /// A kind of call that may fail.
-#[derive(Clone, Copy, Debug, PartialEq, Eq)]
+#[derive(Clone, Copy, PartialEq, Eq)]
 pub enum DiskCall {
     Read,
     Write,
@@ -14,7 +14,7 @@ pub enum DiskCall {
 }
 
 /// A call that is to fail.
-#[derive(Clone, Copy, Debug, PartialEq, Eq)]
+#[derive(Clone, Copy)]
 pub struct Fail {
     /// The kind of call.
     pub kind: DiskCall,

@@ -12,7 +12,7 @@ use std::fmt;
 use std::marker::Model;
 
 /// What names a write of a log.
-#[derive(Clone, Copy, Debug, PartialEq, Eq)]
+#[derive(Clone, Copy, Debug)]
 pub enum WriteName {
     /// The accepted write of this ticket.
     Accepted { ticket: u64 },
@@ -30,7 +30,7 @@ impl fmt::Display for WriteName {
 }
 
 /// What is on the medium of a pending write.
-#[derive(Clone, Copy, Debug, PartialEq, Eq)]
+#[derive(Clone, Copy)]
 pub enum Fate {
     /// All of its bytes.
     Stands,
@@ -39,7 +39,7 @@ pub enum Fate {
 }
 
 /// What a choice says of one write.
-#[derive(Clone, Copy, Debug, PartialEq, Eq)]
+#[derive(Clone, Copy)]
 pub struct Named {
     pub write: WriteName,
     pub fate: Fate,
@@ -49,7 +49,7 @@ pub struct Named {
 /// named nothing is on the medium, but for accepted ones where all of them stand. A write that is both to
 /// stand and torn is torn, and where it is torn twice the later one counts. Of several writes to one block
 /// that are on the medium the last of the log counts.
-#[derive(Debug, Drop)]
+#[derive(Drop)]
 pub struct Choice {
     all: bool,
     named: Vec<Named>,
@@ -130,34 +130,8 @@ impl Choice {
     }
 }
 
-/// Equal choices say the same, in the same order.
-impl PartialEq for Choice {
-    ghost use mathlib.Core.Bool.{beq};
-    ghost use Rattle.std.specs.Ordering.{on, eq_of_both};
-    ghost use Rattle.std.specs.Cmp.{partial_equiv_from_equiv, and_equiv, on_equiv, bool_eq_equiv};
-    ghost use Rattle.std.specs.Cmp.Lexicographic.{pointwise, lists_equiv};
-    ghost use Rattle.disk_memory.specs.contracts.choice.NamedPartialEq.TheImpl as named;
-    ghost use Rattle.disk_memory.specs.contracts.choice.NamedEq.TheImpl.Laws as named_laws;
-
-    ghost eq = { eq_of_both (on (λ c. c.all) beq) (on (λ c. c.named) (pointwise named.ghosts.eq)) };
-
-    ghost laws = { partial_equiv_from_equiv (and_equiv (on_equiv (λ c. c.all) bool_eq_equiv) (on_equiv (λ c. c.named) (lists_equiv named_laws.laws-law))) };
-
-    fn eq(&self, other: &Choice) -> bool {
-        self.all == other.all && self.named.as_slice() == other.named.as_slice()
-    }
-}
-
-impl Eq for Choice {
-    ghost use Rattle.std.specs.Cmp.{and_equiv, on_equiv, bool_eq_equiv};
-    ghost use Rattle.std.specs.Cmp.Lexicographic.{lists_equiv};
-    ghost use Rattle.disk_memory.specs.contracts.choice.NamedEq.TheImpl.Laws as named_laws;
-
-    ghost laws = { and_equiv (on_equiv (λ c. c.all) bool_eq_equiv) (on_equiv (λ c. c.named) (lists_equiv named_laws.laws-law)) };
-}
-
 /// Why no image was made.
-#[derive(Clone, Copy, Debug, PartialEq, Eq)]
+#[derive(Clone, Copy, Debug)]
 pub enum ImageRefusal {
     /// The moment is past the log, which has only so many events.
     PastTheLog { moment: u64, events: u64 },

@@ -6,7 +6,7 @@ ghost use Rattle.std.specs.Prelude.{◌≡◌, ◌≢◌, ℕ, ◌+◌, ◌*◌,
 ghost use Rattle.disk_memory.specs.Counts.{AreMarks, AreSums, IsDoubled, sum_from};
 
 /// Makes this leaf 0 or 1, and every count above it the sum of the two below.
-pub fn set_leaf(counts: &mut [u32], size: usize, leaf: usize, mark: u32)
+pub(crate) fn set_leaf(counts: &mut [u32], size: usize, leaf: usize, mark: u32)
     requires twice { length counts.old ≡ 2 * size }
     requires leaf { leaf < size }
     requires mark { mark ≤ 1 }
@@ -27,7 +27,7 @@ pub fn set_leaf(counts: &mut [u32], size: usize, leaf: usize, mark: u32)
 }
 
 /// The leaf of 1 that has so many of these before it. There must be more than that.
-pub fn leaf_at(counts: &[u32], size: usize, rank: u32) -> usize
+pub(crate) fn leaf_at(counts: &[u32], size: usize, rank: u32) -> usize
     requires doubled { (times : ℕ) × IsDoubled times 1 size }
     requires twice { length counts.now ≡ 2 * size }
     requires sums { AreSums counts.now size }

@@ -19,7 +19,7 @@ ghost use Rattle.disk_memory.specs.Choice.{GivesImage};
 ghost use Rattle.disk_memory.specs.Log.{AreWithin, write_count};
 ghost use Rattle.disk_memory.specs.Logged.{event_of};
 ghost use Rattle.disk_memory.specs.MemDisk.{begun, with_log, state_of, manner_of, is_untouched, turned, has_room, next_ticket, next_call, fails_next};
-ghost use Rattle.disk_memory.specs.MemDisk.{with_event, room_and_counts, counted, faulted, after_read, after_write, after_poll, after_wait};
+ghost use Rattle.disk_memory.specs.MemDisk.{with_event, counted, faulted, after_read, after_write, after_poll, after_wait};
 ghost use Rattle.disk_memory.specs.MemDisk.{poll_answer, can_wait, by_rule, AreLast};
 ghost use Rattle.disk_memory.specs.declared.calls.DiskCall.TheVariants.{Read, Write, Poll, Wait};
 ghost use Rattle.disk_memory.specs.declared.rule.Rule.TheVariants.{Silent};
@@ -36,7 +36,7 @@ use std::alloc::Global;
 use std::marker::Model;
 
 /// A disk of the blocks of an image.
-#[derive(Debug, Drop)]
+#[derive(Drop)]
 pub struct MemDisk {
     base: Image,
     /// For each block one more than the place in the log of its last accepted write, or 0.
@@ -263,20 +263,6 @@ impl MemDisk {
         }
     }
 
-    // The room, the counts of failed calls, and those of all calls but writes.
-    fn room_and_counts(&self) -> [u64; 6]
-        ensures { result ≡ room_and_counts self.now }
-    {
-        [
-            u64::from(self.log.room()),
-            self.faults,
-            self.read_faults,
-            self.reads,
-            self.polls,
-            self.waits,
-        ]
-    }
-
     // Counts a failed call that isn't a read.
     fn fault(&mut self) -> DiskFault
         ensures cause { HasCause {T = ℕ} (Err result) self.old.faults self.new.faults }
@@ -329,53 +315,6 @@ impl MemDisk {
     {
         self.log.add_notice(ticket);
     }
-}
-
-/// Equal disks began with the same blocks and have the same events. Polls find their notices alike, the same
-/// calls are listed to fail, and the room and all counts are the same.
-impl PartialEq for MemDisk {
-    ghost use Rattle.std.specs.Prelude.{◌==◌};
-    ghost use Rattle.std.specs.Ordering.{on, eq_of_both};
-    ghost use Rattle.std.specs.Cmp.{partial_equiv_from_equiv, and_equiv, on_equiv, nat_eq_equiv};
-    ghost use Rattle.std.specs.Cmp.Lexicographic.{pointwise, lists_equiv};
-    ghost use Rattle.disk_contract.specs.contracts.event.EventPartialEq.TheImpl as event;
-    ghost use Rattle.disk_contract.specs.contracts.event.EventEq.TheImpl.Laws as event_laws;
-    ghost use Rattle.disk_memory.specs.contracts.calls.FailPartialEq.TheImpl as fail;
-    ghost use Rattle.disk_memory.specs.contracts.calls.FailEq.TheImpl.Laws as fail_laws;
-    ghost use Rattle.disk_memory.specs.contracts.image.ImagePartialEq.TheImpl as image;
-    ghost use Rattle.disk_memory.specs.contracts.image.ImageEq.TheImpl.Laws as image_laws;
-    ghost use Rattle.disk_memory.specs.contracts.rule.NoticesPartialEq.TheImpl as notices;
-    ghost use Rattle.disk_memory.specs.contracts.rule.NoticesEq.TheImpl.Laws as notices_laws;
-
-    ghost eq = { eq_of_both (eq_of_both (eq_of_both (eq_of_both (on (λ d. d.base) image.ghosts.eq) (on (λ d. d.log) (pointwise event.ghosts.eq)))
-        (on (λ d. d.notices) notices.ghosts.eq)) (on (λ d. d.fails) (pointwise fail.ghosts.eq))) (on room_and_counts (pointwise ◌==◌)) };
-
-    ghost laws = { partial_equiv_from_equiv (and_equiv
-        (and_equiv (and_equiv (and_equiv (on_equiv (λ d. d.base) image_laws.laws-law) (on_equiv (λ d. d.log) (lists_equiv event_laws.laws-law)))
-        (on_equiv (λ d. d.notices) notices_laws.laws-law)) (on_equiv (λ d. d.fails) (lists_equiv fail_laws.laws-law)))
-        (on_equiv room_and_counts (lists_equiv nat_eq_equiv))) };
-
-    fn eq(&self, other: &MemDisk) -> bool {
-        self.base == other.base
-            && self.log.has_same_events(&other.log)
-            && self.notices == other.notices
-            && self.fails.as_slice() == other.fails.as_slice()
-            && self.room_and_counts() == other.room_and_counts()
-    }
-}
-
-impl Eq for MemDisk {
-    ghost use Rattle.std.specs.Cmp.{and_equiv, on_equiv, nat_eq_equiv};
-    ghost use Rattle.std.specs.Cmp.Lexicographic.{lists_equiv};
-    ghost use Rattle.disk_contract.specs.contracts.event.EventEq.TheImpl.Laws as event_laws;
-    ghost use Rattle.disk_memory.specs.contracts.calls.FailEq.TheImpl.Laws as fail_laws;
-    ghost use Rattle.disk_memory.specs.contracts.image.ImageEq.TheImpl.Laws as image_laws;
-    ghost use Rattle.disk_memory.specs.contracts.rule.NoticesEq.TheImpl.Laws as notices_laws;
-
-    ghost laws = { and_equiv (and_equiv (and_equiv
-        (and_equiv (on_equiv (λ d. d.base) image_laws.laws-law) (on_equiv (λ d. d.log) (lists_equiv event_laws.laws-law)))
-        (on_equiv (λ d. d.notices) notices_laws.laws-law)) (on_equiv (λ d. d.fails) (lists_equiv fail_laws.laws-law)))
-        (on_equiv room_and_counts (lists_equiv nat_eq_equiv)) };
 }
 
 // For each of so many blocks one more than the place of its last accepted write, or 0.

@@ -4,10 +4,8 @@
 
 ghost use Rattle.std.specs.Prelude.{◌≡◌, ◌<◌, ◌≤◌, ◌-◌, ◌++◌, [], ◌∷◌, length, option_map, IfOk, vec_capacity};
 ghost use Rattle.std.specs.List.{slice_get};
-ghost use Rattle.std.specs.Cmp.Lexicographic.{pointwise};
-ghost use Rattle.disk_contract.specs.contracts.event.EventPartialEq.TheImpl as event;
 ghost use Rattle.disk_contract.specs.declared.event.Event.TheVariants.{Wrote, Lost, Noticed};
-ghost use Rattle.disk_memory.specs.Events.{event_kept, same_there, IsHeld};
+ghost use Rattle.disk_memory.specs.Events.{event_kept, IsHeld};
 ghost use Rattle.disk_memory.specs.Logged.{event_of};
 
 use crate::Logged;
@@ -17,7 +15,7 @@ use std::alloc::Global;
 use std::marker::Model;
 
 /// What is kept of one event.
-#[derive(Debug, Drop)]
+#[derive(Drop)]
 pub(crate) enum Entry {
     /// An event that there was when the disk was made. Its bytes are its own.
     Given(Event),
@@ -30,7 +28,7 @@ pub(crate) enum Entry {
 }
 
 /// The events in their order.
-#[derive(Debug, Drop)]
+#[derive(Drop)]
 pub(crate) struct Events {
     entries: Vec<Entry>,
     /// The bytes of the disk's own writes.
@@ -90,21 +88,6 @@ impl Events {
     {
         let entry = self.entries.get(place)?;
         Some(looked_up(self.bytes.as_slice(), entry))
-    }
-
-    /// Whether these are the same events in the same order.
-    pub(crate) fn is_same(&self, other: &Events) -> bool
-        ensures { result ≡ pointwise event.ghosts.eq self.now.events other.now.events }
-    {
-        if self.len() != other.len() {
-            return false;
-        }
-        for place in 0..self.len() {
-            if !are_same(self.at(place), other.at(place)) {
-                return false;
-            }
-        }
-        true
     }
 
     /// Adds an accepted write, for which there must be room.
@@ -181,44 +164,5 @@ fn looked_up<'a>(blocks: &'a [Block], entry: &'a Entry) -> Logged<'a>
             bytes: &blocks[*at],
         },
         Entry::Noticed { ticket } => Logged::Noticed { ticket: *ticket },
-    }
-}
-
-// Whether both are the same event, or none is there.
-fn are_same(left: Option<Logged<'_>>, right: Option<Logged<'_>>) -> bool
-    ensures { result ≡ same_there (option_map event_of left.entry) (option_map event_of right.entry) }
-{
-    match (left, right) {
-        (Some(left), Some(right)) => is_same(left, right),
-        (None, None) => true,
-        (Some(_), None) => false,
-        (None, Some(_)) => false,
-    }
-}
-
-// Whether both are the same event.
-fn is_same(left: Logged<'_>, right: Logged<'_>) -> bool
-    ensures { result ≡ event.ghosts.eq (event_of left.entry) (event_of right.entry) }
-{
-    match (left, right) {
-        (
-            Logged::Wrote {
-                ticket,
-                block,
-                bytes,
-            },
-            Logged::Wrote {
-                ticket: t,
-                block: b,
-                bytes: x,
-            },
-        ) => ticket == t && block == b && bytes == x,
-        (Logged::Lost { block, bytes }, Logged::Lost { block: b, bytes: x }) => {
-            block == b && bytes == x
-        }
-        (Logged::Noticed { ticket }, Logged::Noticed { ticket: t }) => ticket == t,
-        (Logged::Wrote { .. }, Logged::Lost { .. } | Logged::Noticed { .. }) => false,
-        (Logged::Lost { .. }, Logged::Wrote { .. } | Logged::Noticed { .. }) => false,
-        (Logged::Noticed { .. }, Logged::Wrote { .. } | Logged::Lost { .. }) => false,
     }
 }

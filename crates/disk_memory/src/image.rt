@@ -13,7 +13,7 @@ use std::alloc::Global;
 use std::marker::Model;
 
 /// A list of blocks, which contracts see as that list. Of blocks of zeros it keeps no bytes.
-#[derive(Debug, Drop)]
+#[derive(Drop)]
 pub struct Image {
     blocks: Vec<ImageBlock>,
 }

@@ -7,7 +7,6 @@ ghost use Rattle.disk_contract.specs.Lawful.{IsBlock};
 use base_types::{Block, NoMemory};
 use disk_contract::{BoxedBlock, a_block_has_its_bytes};
 use std::alloc::{AllocError, Global};
-use std::fmt;
 use std::marker::Model;
 
 /// The bytes of a block that has zeros.
@@ -73,13 +72,6 @@ impl ImageBlock {
             None => self.boxed = Some(BoxedBlock::new(alloc, bytes)?),
         }
         Ok(())
-    }
-}
-
-/// The bytes.
-impl fmt::Debug for ImageBlock {
-    fn fmt<W: fmt::Write>(&self, f: &mut fmt::Formatter<W>) -> fmt::Result {
-        self.bytes().fmt(f)
     }
 }
 

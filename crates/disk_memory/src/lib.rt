@@ -1,10 +1,9 @@
-//! A disk in memory that keeps its log, the images that it begins with and that crashes leave of it, and a
-//! bay of such disks. It is for tests and for runs that say what a disk does; nothing here outlives
+//! A disk in memory that keeps its log, and the images that it begins with and that crashes leave of it. Its bay
+//! is in disk_memory_bay. It is for tests and for runs that say what a disk does; nothing here outlives
 //! the program. The rules are described in docs/DISK.md. Which of its writes have no notice yet, the disk
 //! keeps in a set of numbers, `Ranks`, which knows no disk and no tickets.
 #![tactic(auto)]
 
-mod bay;
 mod calls;
 mod choice;
 mod counts;
@@ -20,7 +19,6 @@ mod ranks;
 mod rule;
 mod settled;
 
-pub use bay::MemBay;
 pub use calls::{DiskCall, Fail};
 pub use choice::{Choice, Fate, ImageRefusal, Named, WriteName};
 pub use disk::MemDisk;

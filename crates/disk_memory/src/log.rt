@@ -6,8 +6,6 @@
 ghost use Rattle.std.specs.Prelude.{◌≡◌, ◌<◌, ◌≤◌, ◌+◌, ◌-◌, ◌^◌, ◌++◌, ℕ, [], ◌∷◌, false, length, nat_lt, Option, Some, IfSome, IfNone, IfOk, option_map};
 ghost use Rattle.std.specs.List.{slice_get};
 ghost use Rattle.std.specs.List.Sorted.{IsNonDecreasing};
-ghost use Rattle.std.specs.Cmp.Lexicographic.{pointwise};
-ghost use Rattle.disk_contract.specs.contracts.event.EventPartialEq.TheImpl as event;
 ghost use Rattle.disk_contract.specs.declared.event.Event.TheVariants.{Wrote, Lost, Noticed};
 ghost use Rattle.disk_contract.specs.Cell.{greatest_ticket, is_accepted, is_noticed, IsAccepted};
 ghost use Rattle.disk_contract.specs.Disk.{IsOpen};
@@ -21,7 +19,6 @@ use crate::{Logged, Ranks, WriteName};
 use base_types::{Block, NoMemory};
 use disk_contract::{BoxedBlock, Event, a_block_has_its_bytes};
 use std::alloc::Global;
-use std::fmt;
 use std::marker::Model;
 
 /// The events of a disk.
@@ -50,16 +47,6 @@ impl Model for Log {
 
     ghost invariant = { λ l. IsKeptLog l.events.events l.tickets.items l.places.items l.lost.items l.unnoticed l.room l.events.ready l.events.most
         (vec_capacity l.tickets) (vec_capacity l.places) (vec_capacity l.lost) };
-}
-
-/// What is kept of the events, and the room alone.
-impl fmt::Debug for Log {
-    fn fmt<W: fmt::Write>(&self, f: &mut fmt::Formatter<W>) -> fmt::Result {
-        f.debug_struct("Log")
-            .field("events", &self.events)
-            .field("room", &self.room)
-            .finish_non_exhaustive()
-    }
 }
 
 impl Log {
@@ -148,13 +135,6 @@ impl Log {
         ensures { slice_get self.now.events place ≡ Some (event_of result) }
     {
         self.events.at(place).unwrap()
-    }
-
-    /// Whether these are the same events in the same order.
-    pub(crate) fn has_same_events(&self, other: &Log) -> bool
-        ensures { result ≡ pointwise event.ghosts.eq self.now.events other.now.events }
-    {
-        self.events.is_same(&other.events)
     }
 
     /// For how many writes there is room for the bytes yet.

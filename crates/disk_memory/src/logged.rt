@@ -4,7 +4,7 @@
 use base_types::Block;
 
 /// An event of the log of a disk. It borrows the bytes.
-#[derive(Clone, Copy, Debug)]
+#[derive(Clone, Copy)]
 pub enum Logged<'a> {
     /// The disk accepted a write. It is pending until its durability is noticed.
     Wrote {

@@ -8,7 +8,7 @@ use crate::log::Log;
 use base_draw::Draws;
 
 /// By which rule a poll finds its notice among the tickets of accepted writes that have none.
-#[derive(Clone, Copy, Debug, PartialEq, Eq)]
+#[derive(Clone, Copy)]
 pub enum Rule {
     /// A poll never has a notice.
     Silent,
@@ -20,7 +20,7 @@ pub enum Rule {
 }
 
 /// A rule at work: that of a seed has its row of draws.
-#[derive(Clone, Copy, Debug, PartialEq, Eq)]
+#[derive(Clone, Copy)]
 pub(crate) enum Notices {
     Silent,
     Fifo,

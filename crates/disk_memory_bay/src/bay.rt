@@ -22,7 +22,7 @@ use std::alloc::Global;
 use std::marker::Model;
 
 /// A bay of disks in memory.
-#[derive(Debug, Drop)]
+#[derive(Drop)]
 pub struct MemBay {
     alloc: Global,
     room: u32,

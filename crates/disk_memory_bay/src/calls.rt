@@ -5,7 +5,7 @@ ghost use Rattle.std.specs.List.{list_any};
 ghost use Rattle.disk_memory_bay.specs.MemBay.{same_call};
 
 /// A kind of call that may fail.
-#[derive(Clone, Copy, Debug, PartialEq, Eq)]
+#[derive(Clone, Copy, PartialEq, Eq)]
 pub enum BayCall {
     Make,
     Open,
@@ -13,7 +13,7 @@ pub enum BayCall {
 }
 
 /// A call that is to fail.
-#[derive(Clone, Copy, Debug, PartialEq, Eq)]
+#[derive(Clone, Copy)]
 pub struct BayFail {
     /// The kind of call.
     pub kind: BayCall,

@@ -20,7 +20,7 @@ use std::alloc::Global;
 use std::marker::Model;
 
 /// A disk in memory that a bay handed out. Contracts see the disk in memory.
-#[derive(Debug, Drop)]
+#[derive(Drop)]
 pub struct BayDisk {
     disk: MemDisk,
     /// Of each block its last accepted bytes, or else those of the base.

@@ -14,7 +14,7 @@ use std::alloc::Global;
 use std::marker::Model;
 
 /// An image, and the disk that was handed back last with its marks.
-#[derive(Debug, Drop)]
+#[derive(Drop)]
 pub(crate) struct Held {
     image: Vec<Block>,
     last: Option<MemDisk>,

@@ -14,7 +14,7 @@ use std::alloc::Global;
 use std::marker::Model;
 
 /// A name, which calls of its disks are to fail, and what is held under it.
-#[derive(Debug, Drop)]
+#[derive(Drop)]
 struct Shelf {
     name: String,
     fails: Vec<Fail>,
@@ -31,7 +31,7 @@ impl Model for Shelf {
 }
 
 /// All shelves. Where two had one name, the first would count.
-#[derive(Debug, Drop)]
+#[derive(Drop)]
 pub(crate) struct Shelves {
     shelves: Vec<Shelf>,
 }

@@ -3,7 +3,7 @@
 use lang_tree::Cmd;
 
 /// What comes next of an input.
-#[derive(Debug, PartialEq, Eq, Drop)]
+#[derive(Drop)]
 pub enum Next {
     /// This command.
     Command(Cmd),

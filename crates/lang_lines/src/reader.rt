@@ -41,7 +41,7 @@ impl Model for CommandReader {
 }
 
 /// What a pull brought.
-#[derive(Clone, Copy, Debug, PartialEq, Eq)]
+#[derive(Clone, Copy)]
 pub enum Pulled {
     /// Some bytes.
     Bytes,

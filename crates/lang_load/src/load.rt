@@ -18,7 +18,7 @@ const OFFSETS: u32 = 8192;
 const LENGTHS: u32 = 4096;
 
 /// A load on its way, which contracts see as the state of its draws.
-#[derive(Clone, Copy, Debug, PartialEq, Eq)]
+#[derive(Clone, Copy)]
 pub struct Load {
     draws: Draws,
 }

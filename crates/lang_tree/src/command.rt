@@ -10,7 +10,7 @@ use std::error::Error;
 use std::fmt;
 
 /// One command. `Bad` is a line that is none; it changes nothing and is answered `Bad`.
-#[derive(Debug, PartialEq, Eq, Drop)]
+#[derive(Drop)]
 pub enum Cmd {
     /// Makes an empty directory.
     Mkdir(Path),
@@ -49,7 +49,7 @@ pub enum Cmd {
 }
 
 /// The answer to one command.
-#[derive(Debug, PartialEq, Eq, Drop)]
+#[derive(Drop)]
 pub enum Reply {
     /// Done.
     Ok,
@@ -72,14 +72,14 @@ pub enum Reply {
 }
 
 /// Whether a node is a directory or a file.
-#[derive(Clone, Copy, Debug, PartialEq, Eq)]
+#[derive(Clone, Copy)]
 pub enum Kind {
     Dir,
     File,
 }
 
 /// What is at a path.
-#[derive(Clone, Copy, Debug, PartialEq, Eq)]
+#[derive(Clone, Copy)]
 pub struct Stat {
     pub kind: Kind,
     /// The number of the node.

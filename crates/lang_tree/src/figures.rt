@@ -10,7 +10,7 @@ use crate::sizes::{blocks_for, blocks_met};
 const PAYLOAD: u32 = 25;
 
 /// What a command does to the blocks.
-#[derive(Clone, Copy, Debug, PartialEq, Eq)]
+#[derive(Clone, Copy)]
 pub struct Figures {
     /// By how many blocks its file or its target directory grows.
     pub need: u32,

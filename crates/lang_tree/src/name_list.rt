@@ -7,7 +7,7 @@ use std::alloc::Global;
 use std::marker::Model;
 
 /// Names in a row. Contracts see them as the list of the names' bytes.
-#[derive(Debug, Drop)]
+#[derive(Drop)]
 pub struct NameList {
     names: Vec<Name>,
 }
@@ -32,27 +32,6 @@ impl NameList {
     {
         self.names.as_slice()
     }
-}
-
-/// Equal lists have the same names.
-impl PartialEq for NameList {
-    ghost use Rattle.std.specs.Prelude.{bytes_eq};
-    ghost use Rattle.std.specs.Cmp.{partial_equiv_from_equiv};
-    ghost use Rattle.std.specs.Cmp.Lexicographic.{pointwise, lists_equiv, nat_list_eq_equiv};
-
-    ghost eq = { λ left right. pointwise bytes_eq left right };
-
-    ghost laws = { partial_equiv_from_equiv (lists_equiv nat_list_eq_equiv) };
-
-    fn eq(&self, other: &NameList) -> bool {
-        self.names.as_slice() == other.names.as_slice()
-    }
-}
-
-impl Eq for NameList {
-    ghost use Rattle.std.specs.Cmp.Lexicographic.{lists_equiv, nat_list_eq_equiv};
-
-    ghost laws = { lists_equiv nat_list_eq_equiv };
 }
 
 /// A copy of the names.

@@ -10,7 +10,7 @@ use std::alloc::Global;
 use std::marker::Model;
 
 /// The names from the root down. Contracts see a path as the list of its names' bytes.
-#[derive(Debug, Drop)]
+#[derive(Drop)]
 pub struct Path {
     names: Vec<Name>,
 }
@@ -72,25 +72,4 @@ impl Path {
         }
         self.names.starts_with(top.names())
     }
-}
-
-/// Equal paths have the same names.
-impl PartialEq for Path {
-    ghost use Rattle.std.specs.Prelude.{bytes_eq};
-    ghost use Rattle.std.specs.Cmp.{partial_equiv_from_equiv};
-    ghost use Rattle.std.specs.Cmp.Lexicographic.{pointwise, lists_equiv, nat_list_eq_equiv};
-
-    ghost eq = { λ left right. pointwise bytes_eq left right };
-
-    ghost laws = { partial_equiv_from_equiv (lists_equiv nat_list_eq_equiv) };
-
-    fn eq(&self, other: &Path) -> bool {
-        self.names.as_slice() == other.names.as_slice()
-    }
-}
-
-impl Eq for Path {
-    ghost use Rattle.std.specs.Cmp.Lexicographic.{lists_equiv, nat_list_eq_equiv};
-
-    ghost laws = { lists_equiv nat_list_eq_equiv };
 }
