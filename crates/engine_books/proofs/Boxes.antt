@@ -1,13 +1,12 @@
 -- Room for puts while blocks of the bitmap are put.
 use Rattle.std.proofs.Common.{◌≡◌, ◌≢◌, ℕ, ◌+◌, ◌-◌, ◌<◌, ◌≤◌, ◌==◌, Bool, true, false, not, cond, length, Some, is_some, min, refl, sym, ap, ◌∙◌, arith, ◌⊎◌, inl, inr}
-use Rattle.std.proofs.lemmas.Bool.{cases_Bool, cond-true, cond-false, eq-eqb, eqb-true}
+use Rattle.std.proofs.lemmas.Bool.{cases_Bool, cond-true, cond-false, eq-eqb, eqb-true, ne_eqb}
 use Rattle.layout_geometry.specs.Geometry.{Geometry, bitmap_start, bitmap_blocks}
 use Rattle.engine_running.specs.declared.put.Put.{Put}
 use Rattle.engine_running.specs.Rows.{put_of}
 use Rattle.engine_running.specs.Running.{Changes, IsOrdered, Puts}
 use Rattle.engine_blocks.specs.Ranges.{counted}
 use Rattle.engine_books.specs.Books.{has_put}
-use Rattle.engine_books.proofs.Tests.{eqb_not}
 use Rattle.engine_books.proofs.Rows.{put_with, as_long, no_longer}
 use Rattle.engine_books.proofs.Counts.{one_less, as_many}
 
@@ -28,7 +27,7 @@ bits_room g before c now p o put from below no_less same puts t some room = by (
     here = has_now p.block ∙ ap is_some (cond-true (p.block == p.block) (Some p.bytes) (put_of p.block c.paid) (eq-eqb p.block p.block refl))
 
     there : (b : ℕ) → b ≢ p.block → has_put b now.paid ≡ has_put b c.paid
-    there b d = has_now b ∙ ap is_some (cond-false (p.block == b) (Some p.bytes) (put_of b c.paid) (eqb_not p.block b (λ e. d (sym e))))
+    there b d = has_now b ∙ ap is_some (cond-false (p.block == b) (Some p.bytes) (put_of b c.paid) (ne_eqb p.block b (λ e. d (sym e))))
 
     by : (has_put p.block c.paid ≡ true) ⊎ (has_put p.block c.paid ≡ false) → puts + min (t - 1) (clean now + 1) ≤ now.puts
     by (inl e) = omega (

@@ -1,12 +1,11 @@
 -- How many numbers of a range pass a test that changes at one number, or that a row or a list decides.
 use Rattle.std.proofs.Common.{◌≡◌, ◌≢◌, ℕ, zero, suc, ◌+◌, ◌<◌, ◌≤◌, ◌==◌, Bool, true, false, cond, List, [], ◌∷◌, length, Some, is_some, refl, sym, ap, ◌∙◌, arith, ◌⊎◌, inl, inr}
-use Rattle.std.proofs.lemmas.Bool.{cases_Bool, cases_eq, cond-true, cond-false, eq-eqb}
+use Rattle.std.proofs.lemmas.Bool.{cases_Bool, cases_eq, cond-true, cond-false, eq-eqb, ne_eqb}
 use Rattle.crash_argument.specs.HomeTest.{is_one_of}
 use Rattle.engine_running.specs.declared.put.Put.{Put}
 use Rattle.engine_running.specs.Rows.{IsRising, put_of}
 use Rattle.engine_blocks.specs.Ranges.{counted, first_passes, first_fails, same_from, parts_from}
 use Rattle.engine_books.specs.Books.{has_put}
-use Rattle.engine_books.proofs.Tests.{eqb_not}
 use Rattle.engine_books.proofs.Rows.{none_put, rising_tail, rising_head}
 
 -- of n numbers no more than n pass
@@ -42,7 +41,7 @@ row_counted (q ∷ qs) n rising below =
       arith,
       one_less (λ b. has_put b (q ∷ qs)) (λ b. has_put b qs) q.block 0 n (omega arith) (omega (arith, below q.block here)) here
           (ap is_some (none_put q.block qs (λ k p is e. above q.block p.block (rising_head q qs rising k p is) e)))
-          (λ k from upto d. sym (ap is_some (cond-false (q.block == k) (Some q.bytes) (put_of k qs) (eqb_not q.block k (λ e. d (sym e)))))),
+          (λ k from upto d. sym (ap is_some (cond-false (q.block == k) (Some q.bytes) (put_of k qs) (ne_eqb q.block k (λ e. d (sym e)))))),
       row_counted qs n (rising_tail q qs rising) (λ b is. below b (more b (q.block == b) is)),
     )
   where
@@ -73,10 +72,10 @@ list_counted (m ∷ ms) a n = omega (arith, one_more (λ b. is_one_of b ms) m a 
         q b = cond (m == b) true (p b)
 
         behind : m ≡ a → counted q (a + 1) n ≡ counted p (a + 1) n
-        behind e = as_many q p (a + 1) n (λ b from below. cond-false (m == b) true (p b) (eqb_not m b (λ h. omega (arith, h, e, from))))
+        behind e = as_many q p (a + 1) n (λ b from below. cond-false (m == b) true (p b) (ne_eqb m b (λ h. omega (arith, h, e, from))))
 
         by : (m ≡ a) ⊎ (m ≢ a) → (p a ≡ true) ⊎ (p a ≡ false) → counted q (a + 1) n ≤ counted p (a + 1) n + 1 → counted q a (suc n) ≤ counted p a (suc n) + 1
         by (inl e) (inl f) rest = omega (arith, first_passes q a n (cond-true (m == a) true (p a) (eq-eqb m a e)), first_passes p a n f, behind e)
         by (inl e) (inr f) rest = omega (arith, first_passes q a n (cond-true (m == a) true (p a) (eq-eqb m a e)), first_fails p a n f, behind e)
-        by (inr d) (inl f) rest = omega (arith, first_passes q a n (cond-false (m == a) true (p a) (eqb_not m a d) ∙ f), first_passes p a n f, rest)
-        by (inr d) (inr f) rest = omega (arith, first_fails q a n (cond-false (m == a) true (p a) (eqb_not m a d) ∙ f), first_fails p a n f, rest)
+        by (inr d) (inl f) rest = omega (arith, first_passes q a n (cond-false (m == a) true (p a) (ne_eqb m a d) ∙ f), first_passes p a n f, rest)
+        by (inr d) (inr f) rest = omega (arith, first_fails q a n (cond-false (m == a) true (p a) (ne_eqb m a d) ∙ f), first_fails p a n f, rest)

@@ -1,6 +1,6 @@
 -- The books once a block is freed.
 use Rattle.std.proofs.Common.{◌≡◌, ◌≢◌, ℕ, ◌+◌, ◌-◌, ◌/◌, ◌<◌, ◌≤◌, ◌==◌, nat_lt, Bool, true, false, not, ◌||◌, ◌&&◌, cond, List, [], ◌∷◌, ◌++◌, length, Option, Some, None, is_some, refl, sym, ap, ap₂, subst, ◌∙◌, arith, ◌⊎◌, inl, inr, length-append}
-use Rattle.std.proofs.lemmas.Bool.{cases_Bool, cases_eq, cond-true, cond-false, eq-eqb, lt-ltb, false≢true}
+use Rattle.std.proofs.lemmas.Bool.{cases_Bool, cases_eq, cond-true, cond-false, eq-eqb, lt-ltb, false≢true, ne_eqb}
 use Rattle.std.proofs.lemmas.Option.{same_Some, none-some}
 use mathlib.Core.Path.{fun_ext}
 use Rattle.base_types.specs.Seal.{Blocks, blocks_of}
@@ -22,7 +22,7 @@ use Rattle.engine_books.specs.Books.{TransactionBooks, has_put, bit_now, is_take
 use Rattle.engine_books.specs.Kept.{AreKept, BitsAgree, HasBoxes}
 use Rattle.engine_books.specs.Point.{BeganAt}
 use Rattle.engine_books.specs.Taking.{GivesUp, bits_put}
-use Rattle.engine_books.proofs.Tests.{eqb_not, eqb_sym, not_true}
+use Rattle.engine_books.proofs.Tests.{eqb_sym, not_true}
 use Rattle.engine_books.proofs.Rows.{put_with, put_without}
 use Rattle.engine_books.proofs.Numbers.{one_is_any}
 use Rattle.engine_books.proofs.Counts.{as_many}
@@ -108,20 +108,20 @@ module _ (v : TransactionBooks) (bitmap : List (List ℕ)) (mid c : Changes) (de
       among_it : (x : ℕ) → bit_now v b ≡ false → is_among x (dead_blocks v.dead) ≡ (b == x || is_among x (dead_blocks v.dead))
       among_it x f = elim (cases_eq b x) [
         | inl e ↦ ap (λ y. is_among y (dead_blocks v.dead)) (sym e) ∙ off (is_among b (dead_blocks v.dead)) (sym (k.bits.same b lies) ∙ f) ∙ sym (ap (λ u. u || is_among x (dead_blocks v.dead)) (eq-eqb b x e))
-        | inr d ↦ sym (ap (λ u. u || is_among x (dead_blocks v.dead)) (eqb_not b x d))
+        | inr d ↦ sym (ap (λ u. u || is_among x (dead_blocks v.dead)) (ne_eqb b x d))
       ]
 
       clear_bits : (x : ℕ) → bit_now v b ≡ false → bit_in (blocks_of bitmap) x ≡ bit_now v x
       clear_bits x f = h.bits x ∙ elim (cases_eq x b) [
         | inl e ↦ cond-true (x == b) false (bit_now v x) (eq-eqb x b e) ∙ sym (ap (bit_now v) e ∙ f)
-        | inr d ↦ cond-false (x == b) false (bit_now v x) (eqb_not x b d)
+        | inr d ↦ cond-false (x == b) false (bit_now v x) (ne_eqb x b d)
       ]
 
   bits : (x : ℕ) → bit_in (blocks_of bitmap) x ≡ cond (x == b) false (bit_now v x)
   bits x = h.bits x
 
   bit_other : (x : ℕ) → x ≢ b → bit_in (blocks_of bitmap) x ≡ bit_now v x
-  bit_other x d = bits x ∙ cond-false (x == b) false (bit_now v x) (eqb_not x b d)
+  bit_other x d = bits x ∙ cond-false (x == b) false (bit_now v x) (ne_eqb x b d)
 
   bit_here : bit_in (blocks_of bitmap) b ≡ false
   bit_here = bits b ∙ cond-true (b == b) false (bit_now v b) (eq-eqb b b refl)
@@ -142,10 +142,10 @@ module _ (v : TransactionBooks) (bitmap : List (List ℕ)) (mid c : Changes) (de
 
   -- the puts of the block, of that with its bit, and of the others
   paid_here : put_of b c.paid ≡ None
-  paid_here = paid b ∙ cond-false (bit_block v.geom b == b) (Some (blocks_of bitmap (b / 8192))) (cond (b == b) None (put_of b v.changes.paid)) (eqb_not (bit_block v.geom b) b apart) ∙ cond-true (b == b) None (put_of b v.changes.paid) (eq-eqb b b refl)
+  paid_here = paid b ∙ cond-false (bit_block v.geom b == b) (Some (blocks_of bitmap (b / 8192))) (cond (b == b) None (put_of b v.changes.paid)) (ne_eqb (bit_block v.geom b) b apart) ∙ cond-true (b == b) None (put_of b v.changes.paid) (eq-eqb b b refl)
 
   laid_here : put_of b c.laid ≡ None
-  laid_here = laid b ∙ cond-false (bit_block v.geom b == b) None (cond (b == b) None (put_of b v.changes.laid)) (eqb_not (bit_block v.geom b) b apart) ∙ cond-true (b == b) None (put_of b v.changes.laid) (eq-eqb b b refl)
+  laid_here = laid b ∙ cond-false (bit_block v.geom b == b) None (cond (b == b) None (put_of b v.changes.laid)) (ne_eqb (bit_block v.geom b) b apart) ∙ cond-true (b == b) None (put_of b v.changes.laid) (eq-eqb b b refl)
 
   paid_bits : put_of (bit_block v.geom b) c.paid ≡ Some (blocks_of bitmap (b / 8192))
   paid_bits = paid (bit_block v.geom b) ∙ cond-true (bit_block v.geom b == bit_block v.geom b) (Some (blocks_of bitmap (b / 8192))) (cond (b == bit_block v.geom b) None (put_of (bit_block v.geom b) v.changes.paid)) (eq-eqb (bit_block v.geom b) (bit_block v.geom b) refl)
@@ -154,10 +154,10 @@ module _ (v : TransactionBooks) (bitmap : List (List ℕ)) (mid c : Changes) (de
   laid_bits = laid (bit_block v.geom b) ∙ cond-true (bit_block v.geom b == bit_block v.geom b) None (cond (b == bit_block v.geom b) None (put_of (bit_block v.geom b) v.changes.laid)) (eq-eqb (bit_block v.geom b) (bit_block v.geom b) refl)
 
   paid_other : (x : ℕ) → x ≢ b → x ≢ bit_block v.geom b → put_of x c.paid ≡ put_of x v.changes.paid
-  paid_other x d a = paid x ∙ cond-false (bit_block v.geom b == x) (Some (blocks_of bitmap (b / 8192))) (cond (b == x) None (put_of x v.changes.paid)) (eqb_not (bit_block v.geom b) x (λ e. a (sym e))) ∙ cond-false (b == x) None (put_of x v.changes.paid) (eqb_not b x (λ e. d (sym e)))
+  paid_other x d a = paid x ∙ cond-false (bit_block v.geom b == x) (Some (blocks_of bitmap (b / 8192))) (cond (b == x) None (put_of x v.changes.paid)) (ne_eqb (bit_block v.geom b) x (λ e. a (sym e))) ∙ cond-false (b == x) None (put_of x v.changes.paid) (ne_eqb b x (λ e. d (sym e)))
 
   laid_other : (x : ℕ) → x ≢ b → x ≢ bit_block v.geom b → put_of x c.laid ≡ put_of x v.changes.laid
-  laid_other x d a = laid x ∙ cond-false (bit_block v.geom b == x) None (cond (b == x) None (put_of x v.changes.laid)) (eqb_not (bit_block v.geom b) x (λ e. a (sym e))) ∙ cond-false (b == x) None (put_of x v.changes.laid) (eqb_not b x (λ e. d (sym e)))
+  laid_other x d a = laid x ∙ cond-false (bit_block v.geom b == x) None (cond (b == x) None (put_of x v.changes.laid)) (ne_eqb (bit_block v.geom b) x (λ e. a (sym e))) ∙ cond-false (b == x) None (put_of x v.changes.laid) (ne_eqb b x (λ e. d (sym e)))
 
   not_taken : (x : ℕ) → x < data_start v.geom → is_one_of x v.changes.taken ≡ false
   not_taken x low = not_true (is_one_of x v.changes.taken) (λ is. omega (arith, low, (k.lie.taken x is).from))
@@ -182,8 +182,8 @@ module _ (v : TransactionBooks) (bitmap : List (List ℕ)) (mid c : Changes) (de
           ap (roles_of (freed_books v bitmap c dead live)) e
           ∙ ap₂ (λ y z. role_by (is_some y) (is_some z) (is_taken_now (freed_books v bitmap c dead live) (bit_block v.geom b))) laid_bits paid_bits
           ∙ ap (λ y. role_by false true (y && bit_in (blocks_of bitmap) (bit_block v.geom b))) (ap (is_one_of (bit_block v.geom b)) taken ∙ not_taken (bit_block v.geom b) (omega (arith, below)))
-          ∙ sym (cond-false (x == b) Untouched (cond (x == bit_block v.geom b) Changed (roles_of v x)) (eqb_not x b d) ∙ cond-true (x == bit_block v.geom b) Changed (roles_of v x) (eq-eqb x (bit_block v.geom b) e))
-      by (inr d) (inr a) = role_other x d a ∙ sym (cond-false (x == b) Untouched (cond (x == bit_block v.geom b) Changed (roles_of v x)) (eqb_not x b d) ∙ cond-false (x == bit_block v.geom b) Changed (roles_of v x) (eqb_not x (bit_block v.geom b) a))
+          ∙ sym (cond-false (x == b) Untouched (cond (x == bit_block v.geom b) Changed (roles_of v x)) (ne_eqb x b d) ∙ cond-true (x == bit_block v.geom b) Changed (roles_of v x) (eq-eqb x (bit_block v.geom b) e))
+      by (inr d) (inr a) = role_other x d a ∙ sym (cond-false (x == b) Untouched (cond (x == bit_block v.geom b) Changed (roles_of v x)) (ne_eqb x b d) ∙ cond-false (x == bit_block v.geom b) Changed (roles_of v x) (ne_eqb x (bit_block v.geom b) a))
 
   marks : (x : ℕ) → is_marked (freed_books v bitmap c dead live) x ≡ cond (x == b) false (is_marked v x)
   marks x = ap (λ u. nat_lt x v.geom.n && u) (bits x) ∙ by (x == b) (nat_lt x v.geom.n) (bit_now v x)
@@ -237,7 +237,7 @@ module _ (v : TransactionBooks) (bitmap : List (List ℕ)) (mid c : Changes) (de
     arith,
     some,
     bits_room v.geom v.changes mid c (bits_put (record v { bitmap = bitmap }) b) o1 put (omega arith) (omega (arith, below)) h.puts
-        (λ x low high. ap is_some (ap (put_of x) h.paid ∙ put_without b v.changes.paid x k.lie.ordered.paid ∙ cond-false (b == x) None (put_of x v.changes.paid) (eqb_not b x (λ e. omega (arith, e, high, from)))))
+        (λ x low high. ap is_some (ap (put_of x) h.paid ∙ put_without b v.changes.paid x k.lie.ordered.paid ∙ cond-false (b == x) None (put_of x v.changes.paid) (ne_eqb b x (λ e. omega (arith, e, high, from)))))
         v.spare.puts (v.spare.takes + v.spare.frees) (omega (arith, some)) k.room.boxes,
   )
 
@@ -316,7 +316,7 @@ module _ (v : TransactionBooks) (bitmap : List (List ℕ)) (mid c : Changes) (de
         (ap (λ u. u && not (is_bare (roles_of (freed_books v bitmap c dead live) b))) (ap (λ u. nat_lt b v.geom.n && u) bit_here ∙ and_false (nat_lt b v.geom.n))));
     bits = λ x low. map_bit (freed_books v bitmap c dead live) last x (began_freed law full last began) low ∙ bits x ∙ ap (cond (x == b) false) (sym (map_bit v last x began low));
     others = λ x d a. ap₂ (λ y z. cond y z [])
-        (ap₂ (λ m r. defined_by v.geom m (is_bare r) x) (marks x ∙ cond-false (x == b) false (is_marked v x) (eqb_not x b d)) (role_other x d a))
+        (ap₂ (λ m r. defined_by v.geom m (is_bare r) x) (marks x ∙ cond-false (x == b) false (is_marked v x) (ne_eqb x b d)) (role_other x d a))
         (same_bytes v.changes c last x (laid_other x d a) (paid_other x d a));
   }
 

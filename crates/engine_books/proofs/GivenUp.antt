@@ -1,6 +1,6 @@
 -- A block is given up: the steps of it.
 use Rattle.std.proofs.Common.{◌≡◌, ◌≢◌, ℕ, ◌+◌, ◌-◌, ◌/◌, ◌<◌, ◌≤◌, ◌==◌, Bool, true, false, not, List, length, refl, sym, ap, subst, ◌∙◌, arith}
-use Rattle.std.proofs.lemmas.Bool.{cond-true, cond-false, eq-eqb, false≢true}
+use Rattle.std.proofs.lemmas.Bool.{cond-true, cond-false, eq-eqb, false≢true, ne_eqb}
 use Rattle.base_types.specs.Seal.{blocks_of}
 use Rattle.layout_geometry.specs.Geometry.{Geometry, LiesIn, data_start}
 use Rattle.layout_geometry.specs.Geometry.Area.{Data}
@@ -12,14 +12,13 @@ use Rattle.engine_reuse.specs.Calls.{with_freed}
 use Rattle.engine_books.specs.Books.{TransactionBooks, bit_now}
 use Rattle.engine_books.specs.Kept.{AreKept}
 use Rattle.engine_books.specs.Taking.{GivesUp}
-use Rattle.engine_books.proofs.Tests.{eqb_not}
 use Rattle.engine_books.proofs.Counts.{one_less, few_from}
 
 -- one free block more
 pub one_freed : (g : Geometry) (old new : ℕ → List ℕ) (b : ℕ) → data_start g ≤ b → b < g.n → bit_in old b ≡ true → BitBecomes old new b false → length (free_blocks g old) + 1 ≡ length (free_blocks g new)
 one_freed g old new b from below set w =
     one_less (λ k. not (bit_in new k)) (λ k. not (bit_in old k)) b (data_start g) (g.n - data_start g) from (omega (arith, from, below))
-    (ap not (w b ∙ cond-true (b == b) false (bit_in old b) (eq-eqb b b refl))) (ap not set) (λ k low high d. ap not (sym (w k ∙ cond-false (k == b) false (bit_in old k) (eqb_not k b d))))
+    (ap not (w b ∙ cond-true (b == b) false (bit_in old b) (eq-eqb b b refl))) (ap not set) (λ k low high d. ap not (sym (w k ∙ cond-false (k == b) false (bit_in old k) (ne_eqb k b d))))
 
 -- a marked block is live
 pub is_live : (v : TransactionBooks) (b : ℕ) → AreKept v → data_start v.geom ≤ b → b < v.geom.n → bit_now v b ≡ true → IsLive v.dead b

@@ -1,6 +1,6 @@
 -- Rows of puts as the entries of a record.
 use Rattle.std.proofs.Common.{◌≡◌, ℕ, zero, suc, ◌+◌, ◌<◌, ◌≤◌, ◌==◌, Bool, true, false, not, ◌&&◌, cond, List, [], ◌∷◌, map, slice_get, Some, is_some, IsTrue, refl, ap, ap₂, subst, ◌∙◌, arith}
-use Rattle.std.proofs.lemmas.Bool.{cond-true, cond-false, le-leb, lt-ltb}
+use Rattle.std.proofs.lemmas.Bool.{cond-true, cond-false, le-leb, lt-ltb, ne_eqb}
 use Rattle.std.proofs.lemmas.Option.{none-some, same_Some}
 use Rattle.layout_geometry.specs.Geometry.{Geometry, LiesIn, bitmap_start, data_start}
 use Rattle.layout_geometry.specs.Geometry.Area.{Data}
@@ -10,7 +10,7 @@ use Rattle.engine_running.specs.declared.put.Put.{Put}
 use Rattle.engine_running.specs.Rows.{IsRising, put_of}
 use Rattle.engine_running.specs.Record.{payload_entry, fresh_entry, record_of}
 use Rattle.engine_books.specs.Books.{has_put}
-use Rattle.engine_books.proofs.Tests.{eqb_refl, eqb_not}
+use Rattle.engine_books.proofs.Tests.{eqb_refl}
 use Rattle.engine_books.proofs.Rows.{rising_tail, rising_head}
 
 -- each entry is of its put's block
@@ -25,7 +25,7 @@ pub put_at : (row : List Put) → IsRising row → (k : ℕ) (p : Put) → slice
 put_at [] rising k p is = absurd (none-some p is)
 put_at (q ∷ qs) rising zero p is = subst (λ (r : Put). put_of r.block (q ∷ qs) ≡ Some r.bytes) (same_Some q p is) (cond-true (q.block == q.block) (Some q.bytes) (put_of q.block qs) (eqb_refl q.block))
 put_at (q ∷ qs) rising (suc k) p is =
-    cond-false (q.block == p.block) (Some q.bytes) (put_of p.block qs) (eqb_not q.block p.block (λ e. omega (arith, e, rising_head q qs rising k p is)))
+    cond-false (q.block == p.block) (Some q.bytes) (put_of p.block qs) (ne_eqb q.block p.block (λ e. omega (arith, e, rising_head q qs rising k p is)))
     ∙ put_at qs (rising_tail q qs rising) k p is
 
 pub has_it : (row : List Put) → IsRising row → (k : ℕ) (p : Put) → slice_get row k ≡ Some p → has_put p.block row ≡ true

@@ -1,13 +1,13 @@
 -- Lists of numbers: which are among them.
 use Rattle.std.proofs.Common.{◌≡◌, ◌≢◌, ℕ, zero, suc, ◌+◌, ◌<◌, ◌≤◌, ◌==◌, nat_lt, Bool, true, false, cond, ◌||◌, List, [], ◌∷◌, ◌++◌, length, get_or, take, All, AllPairs, refl, sym, ap, ap₂, subst, ◌∙◌, arith, ◌⊎◌, inl, inr}
-use Rattle.std.proofs.lemmas.Bool.{cases_Bool, cond-true, cond-false, eqb-true, eq-eqb, false≢true}
+use Rattle.std.proofs.lemmas.Bool.{cases_Bool, cond-true, cond-false, eqb-true, eq-eqb, false≢true, ne_eqb}
 use Rattle.std.proofs.lemmas.List.{get_or-take, length-take}
 use Rattle.layout_geometry.specs.Geometry.{Geometry}
 use Rattle.crash_argument.specs.HomeTest.{is_one_of}
 use Rattle.engine_running.specs.Running.{with_number}
 use Rattle.engine_reuse.specs.Numbers.{is_among}
 use Rattle.engine_blocks.specs.Running.{has, has_bit, bit_block}
-use Rattle.engine_books.proofs.Tests.{eqb_not, eqb_sym, or_none, or_assoc}
+use Rattle.engine_books.proofs.Tests.{eqb_sym, or_none, or_assoc}
 
 -- one word for another
 pub one_is_any : (b : ℕ) (xs : List ℕ) → is_one_of b xs ≡ is_among b xs
@@ -103,7 +103,7 @@ pub not_before : (xs : List ℕ) (i d : ℕ) → i < length xs → AllPairs (λ 
 not_before [] i d low pairs = absurd (omega (arith, low))
 not_before (x ∷ xs) zero d low pairs = refl
 not_before (x ∷ xs) (suc i) d low pairs =
-    ap (λ t. t || has (take i xs) (get_or xs i d)) (eqb_not (get_or xs i d) x (λ e. pairs 0 (suc i) d (omega arith) low (sym e)))
+    ap (λ t. t || has (take i xs) (get_or xs i d)) (ne_eqb (get_or xs i d) x (λ e. pairs 0 (suc i) d (omega arith) low (sym e)))
     ∙ not_before xs i d (omega (arith, low)) (λ j k e a b. pairs (suc j) (suc k) e (omega (arith, a)) (omega (arith, b)))
 
 -- what holds of a list holds of its front

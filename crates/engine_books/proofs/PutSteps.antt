@@ -1,6 +1,6 @@
 -- The books after a put.
 use Rattle.std.proofs.Common.{◌≡◌, ◌≢◌, ℕ, ◌+◌, ◌-◌, ◌<◌, ◌≤◌, ◌==◌, Bool, true, false, not, ◌&&◌, cond, List, [], length, Some, None, is_some, refl, sym, ap, ap₂, subst, ◌∙◌, arith, ◌⊎◌, inl, inr}
-use Rattle.std.proofs.lemmas.Bool.{cases_eq, cases_lt, cond-true, cond-false, eq-eqb, lt-ltb, false≢true}
+use Rattle.std.proofs.lemmas.Bool.{cases_eq, cases_lt, cond-true, cond-false, eq-eqb, lt-ltb, false≢true, ne_eqb}
 use Rattle.std.proofs.lemmas.Option.{same_Some}
 use mathlib.Core.Path.{fun_ext}
 use Rattle.base_types.specs.Seal.{Blocks}
@@ -19,7 +19,6 @@ use Rattle.engine_blocks.specs.Calls.{IsWithBlock}
 use Rattle.engine_books.specs.Books.{TransactionBooks, has_put, bit_now, is_taken_now, role_by, roles_of, is_marked, with_books, bytes_over, map_of, class_for}
 use Rattle.engine_books.specs.Kept.{AreKept}
 use Rattle.engine_books.specs.Point.{BeganAt}
-use Rattle.engine_books.proofs.Tests.{eqb_not}
 use Rattle.engine_books.proofs.Rows.{put_with, put_without}
 use Rattle.engine_books.proofs.Counts.{as_many}
 use Rattle.engine_books.proofs.Maps.{table_defined, data_defined, same_bytes, map_there}
@@ -90,10 +89,10 @@ module _ (v : TransactionBooks) (c : Changes) (b : ℕ) (bytes : List ℕ) (clas
   paid x = (row_of fresh (record { block = b; bytes = bytes }) v.changes c k.lie.ordered now x).1
 
   laid_other : (x : ℕ) → x ≢ b → put_of x c.laid ≡ put_of x v.changes.laid
-  laid_other x d = laid x ∙ cond-false (b == x) (cond fresh (Some bytes) None) (put_of x v.changes.laid) (eqb_not b x (λ e. d (sym e)))
+  laid_other x d = laid x ∙ cond-false (b == x) (cond fresh (Some bytes) None) (put_of x v.changes.laid) (ne_eqb b x (λ e. d (sym e)))
 
   paid_other : (x : ℕ) → x ≢ b → put_of x c.paid ≡ put_of x v.changes.paid
-  paid_other x d = paid x ∙ cond-false (b == x) (cond fresh None (Some bytes)) (put_of x v.changes.paid) (eqb_not b x (λ e. d (sym e)))
+  paid_other x d = paid x ∙ cond-false (b == x) (cond fresh None (Some bytes)) (put_of x v.changes.paid) (ne_eqb b x (λ e. d (sym e)))
 
   laid_here : put_of b c.laid ≡ cond fresh (Some bytes) None
   laid_here = laid b ∙ cond-true (b == b) (cond fresh (Some bytes) None) (put_of b v.changes.laid) (eq-eqb b b refl)
@@ -127,7 +126,7 @@ module _ (v : TransactionBooks) (c : Changes) (b : ℕ) (bytes : List ℕ) (clas
   roles : (x : ℕ) → roles_of (put_books v c) x ≡ with_put (roles_of v) b class x
   roles x = elim (cases_eq x b) [
     | inl e ↦ ap (roles_of (put_books v c)) e ∙ role_here ∙ given_role class (has_put b v.changes.laid) (has_put b v.changes.paid) (is_taken_now v b) (k.lie.laid b) ∙ sym (cond-true (x == b) (put_role class (roles_of v b)) (roles_of v x) (eq-eqb x b e))
-    | inr d ↦ role_other x d ∙ sym (cond-false (x == b) (put_role class (roles_of v b)) (roles_of v x) (eqb_not x b d))
+    | inr d ↦ role_other x d ∙ sym (cond-false (x == b) (put_role class (roles_of v b)) (roles_of v x) (ne_eqb x b d))
   ]
 
   pub books_put : (q : Bookkeeping) → with_books q (put_books v c) ≡ after_put (with_books q v) b class

@@ -1,6 +1,7 @@
 -- What a release lets be taken, and how many wait then.
 use Rattle.std.proofs.Common.{◌≡◌, ◌≢◌, ℕ, zero, suc, ◌+◌, ◌-◌, ◌<◌, ◌≤◌, ◌==◌, Bool, true, false, not, ◌&&◌, ◌||◌, List, [], ◌∷◌, filter, length, refl, sym, ap, ap₂, subst, ◌∙◌, arith, ◌⊎◌, inl, inr}
-use Rattle.std.proofs.lemmas.Bool.{cases_Bool, cases_eq, cond-true, cond-false, eq-eqb}
+use Rattle.std.proofs.lemmas.Bool.{cases_Bool, cases_eq, cond-true, cond-false, eq-eqb, eqb-true}
+use Rattle.std.proofs.lemmas.Map.Views.{any-filter_same}
 use Rattle.std.specs.List.{range_with_len}
 use Rattle.layout_geometry.specs.Geometry.{Geometry, LiesIn, data_start}
 use Rattle.layout_geometry.specs.Geometry.Area.{Data}
@@ -9,7 +10,6 @@ use Rattle.engine_reuse.specs.Dead.{DeadBlocks}
 use Rattle.engine_reuse.specs.Calls.{with_released, given_up, is_given_up}
 use Rattle.engine_books.specs.Books.{TransactionBooks, is_free_now}
 use Rattle.engine_books.specs.Kept.{AreKept}
-use Rattle.engine_books.proofs.Members.{among_filter}
 
 -- a range has each of its numbers
 among_range : (a n b : ℕ) → a ≤ b → b < a + n → is_among b (range_with_len a n) ≡ true
@@ -36,7 +36,8 @@ fewer p (x ∷ xs) = by (cases_Bool (p x)) (fewer p xs)
 -- what may be taken still may
 still_may : (d : DeadBlocks) (sure : ℕ) (home : List ℕ) (b : ℕ) → LiesIn d.geom Data b → is_among b d.reusable ≡ true → is_among b (with_released d sure home).reusable ≡ true
 still_may d sure home b lie is =
-    among_filter (λ x. is_among x (given_up sure home d.waiting) || is_among x d.reusable) b (range_with_len (data_start d.geom) (d.geom.n - data_start d.geom))
+    any-filter_same (λ x. x == b) (λ x. is_among x (given_up sure home d.waiting) || is_among x d.reusable) (is_among b (given_up sure home d.waiting) || is_among b d.reusable)
+    (λ y e. ap (λ x. is_among x (given_up sure home d.waiting) || is_among x d.reusable) (eqb-true y b e)) (range_with_len (data_start d.geom) (d.geom.n - data_start d.geom))
     ∙ ap₂ (λ u w. (is_among b (given_up sure home d.waiting) || u) && w) is (among_range (data_start d.geom) (d.geom.n - data_start d.geom) b lie.from (omega (arith, lie.from, lie.below)))
     ∙ all (is_among b (given_up sure home d.waiting))
   where

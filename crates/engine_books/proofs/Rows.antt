@@ -1,11 +1,11 @@
 -- Rows of puts as maps, and how long they are.
 use Rattle.std.proofs.Common.{◌≡◌, ◌≢◌, ℕ, suc, ◌<◌, ◌≤◌, ◌==◌, nat_lt, Bool, true, false, cond, List, [], ◌∷◌, length, slice_get, Option, Some, None, is_some, refl, sym, ap, ◌∙◌, arith, ◌⊎◌, inl, inr}
-use Rattle.std.proofs.lemmas.Bool.{cases_Bool, cond-true, cond-false, eqb-true, eq-eqb, ltb-true, ltb-false, false≢true}
+use Rattle.std.proofs.lemmas.Bool.{cases_Bool, cond-true, cond-false, eqb-true, eq-eqb, ltb-true, ltb-false, false≢true, ne_eqb}
 use Rattle.engine_running.specs.declared.put.Put.{Put}
 use Rattle.engine_running.specs.Rows.{IsRising, with_put, without_put, put_of, LacksBlock}
 use Rattle.engine_running.specs.Running.{IsOrdered}
 use Rattle.engine_books.specs.Books.{has_put}
-use Rattle.engine_books.proofs.Tests.{eqb_not, swap_tests, drop_test, same_choice}
+use Rattle.engine_books.proofs.Tests.{swap_tests, drop_test, same_choice}
 
 pub rising_tail : (q : Put) (qs : List Put) → IsRising (q ∷ qs) → IsRising qs
 rising_tail q qs rising i k a b lt p r = rising (suc i) (suc k) a b (omega (arith, lt)) p r
@@ -16,7 +16,7 @@ rising_head q qs rising k p is = rising 0 (suc k) q p (omega arith) refl is
 -- a row that lacks a block has no bytes for it
 pub none_put : (b : ℕ) (row : List Put) → LacksBlock b row → put_of b row ≡ None
 none_put b [] lacks = refl
-none_put b (q ∷ qs) lacks = cond-false (q.block == b) (Some q.bytes) (put_of b qs) (eqb_not q.block b (lacks 0 q refl)) ∙ none_put b qs (λ k p is. lacks (suc k) p is)
+none_put b (q ∷ qs) lacks = cond-false (q.block == b) (Some q.bytes) (put_of b qs) (ne_eqb q.block b (lacks 0 q refl)) ∙ none_put b qs (λ k p is. lacks (suc k) p is)
 
 -- a row that has a put of a block has it at a place
 pub has_at : (b : ℕ) (row : List Put) → has_put b row ≡ true → (k : ℕ) × (p : Put) × (slice_get row k ≡ Some p) × (p.block ≡ b)
@@ -87,7 +87,7 @@ as_long p (q ∷ qs) rising is = by (nat_lt q.block p.block) refl (q.block == p.
     by : (u : Bool) → nat_lt q.block p.block ≡ u → (v : Bool) → (q.block == p.block) ≡ v → (has_put p.block qs ≡ true → length (with_put p qs) ≡ length qs) → length (with_put p (q ∷ qs)) ≡ length (q ∷ qs)
     by true e v f rest =
         ap length (cond-true (nat_lt q.block p.block) (q ∷ with_put p qs) (cond (q.block == p.block) (p ∷ qs) (p ∷ q ∷ qs)) e)
-        ∙ ap suc (rest (sym (ap is_some (cond-false (q.block == p.block) (Some q.bytes) (put_of p.block qs) (eqb_not q.block p.block (less q.block p.block (ltb-true _ _ e))))) ∙ is))
+        ∙ ap suc (rest (sym (ap is_some (cond-false (q.block == p.block) (Some q.bytes) (put_of p.block qs) (ne_eqb q.block p.block (less q.block p.block (ltb-true _ _ e))))) ∙ is))
     by false e true f rest = ap length (cond-false (nat_lt q.block p.block) (q ∷ with_put p qs) (cond (q.block == p.block) (p ∷ qs) (p ∷ q ∷ qs)) e ∙ cond-true (q.block == p.block) (p ∷ qs) (p ∷ q ∷ qs) f)
     by false e false f rest = absurd (false≢true (sym (ap is_some (cond-false (q.block == p.block) (Some q.bytes) (put_of p.block qs) f ∙ none_put p.block qs (λ k r is. past q.block p.block r.block (ltb-false _ _ e) (rising_head q qs rising k r is)))) ∙ is))
 

@@ -1,8 +1,9 @@
 -- The books once all blocks of a list are taken.
 use Rattle.std.proofs.Common.{◌≡◌, ℕ, ◌+◌, ◌-◌, ◌*◌, ◌<◌, ◌≤◌, nat_lt, Bool, true, false, not, ◌||◌, ◌&&◌, cond, List, [], length, get_or, take, Option, Some, None, is_some, All, refl, sym, ap, ap₂, subst, ◌∙◌, arith, ◌⊎◌, inl, inr}
-use Rattle.std.proofs.lemmas.Bool.{cases_Bool, cond-true, lt-ltb, false≢true}
+use Rattle.std.proofs.lemmas.Bool.{cases_Bool, cond-true, lt-ltb, false≢true, eqb-true}
 use Rattle.std.proofs.lemmas.List.{take_more, length-take-le}
 use Rattle.std.proofs.lemmas.Option.{same_Some, none-some}
+use Rattle.std.proofs.lemmas.Map.Views.{any-filter_same}
 use mathlib.Core.Path.{fun_ext}
 use Rattle.base_types.specs.Seal.{Blocks, blocks_of}
 use Rattle.layout_geometry.specs.Geometry.{Geometry, LiesIn, bitmap_start, bitmap_blocks, data_start}
@@ -26,7 +27,7 @@ use Rattle.engine_books.specs.Taking.{HasTaken, TakesOne}
 use Rattle.engine_books.proofs.Tests.{not_true, and_first}
 use Rattle.engine_books.proofs.Numbers.{one_is_any, any_is_has, among, bit_of_one, not_before, front_all}
 use Rattle.engine_books.proofs.Takes.{more_taken_books}
-use Rattle.engine_books.proofs.Members.{among_first, among_filter, still_good}
+use Rattle.engine_books.proofs.Members.{among_first, still_good}
 use Rattle.engine_books.proofs.Maps.{data_undefined, same_bytes, map_nowhere, map_bit}
 
 -- the books with the dead blocks and the counts told
@@ -104,7 +105,7 @@ module _ (v : TransactionBooks) (bitmap : List (List ℕ)) (c : Changes) (bs : L
       by (inr f) = ap (λ y. nat_lt b v.geom.n && (y || bit_now v b)) f ∙ sym (ap (λ y. y || (nat_lt b v.geom.n && bit_now v b)) f)
 
   frees : (b : ℕ) → is_free_now (taken_books v bitmap c bs) b ≡ (not (has bs b) && is_free_now v b)
-  frees b = among_filter (λ x. not (is_among x bs)) b v.dead.reusable ∙ ap (λ u. not u && is_among b v.dead.reusable) (any_is_has b bs)
+  frees b = any-filter_same (λ x. x == b) (λ x. not (is_among x bs)) (not (is_among b bs)) (λ x e. ap (λ y. not (is_among y bs)) (eqb-true x b e)) v.dead.reusable ∙ ap (λ u. not u && is_among b v.dead.reusable) (any_is_has b bs)
 
   pub books_taken : (q : Bookkeeping) → with_books q (taken_books v bitmap c bs) ≡ after_take (with_books q v) bs
   books_taken q =

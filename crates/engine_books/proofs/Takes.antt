@@ -1,6 +1,6 @@
 -- One block is taken, and then the next.
 use Rattle.std.proofs.Common.{◌≡◌, ◌≢◌, ℕ, ◌+◌, ◌-◌, ◌/◌, ◌<◌, ◌≤◌, ◌==◌, Bool, true, false, not, ◌||◌, cond, List, [], ◌∷◌, ◌++◌, length, Option, Some, None, is_some, refl, sym, ap, ap₂, subst, ◌∙◌, arith, ◌⊎◌, inl, inr, length-append}
-use Rattle.std.proofs.lemmas.Bool.{cases_Bool, cases_eq, cond-true, cond-false, eq-eqb, false≢true}
+use Rattle.std.proofs.lemmas.Bool.{cases_Bool, cases_eq, cond-true, cond-false, eq-eqb, false≢true, ne_eqb}
 use Rattle.base_types.specs.Seal.{blocks_of}
 use Rattle.layout_geometry.specs.Geometry.{IsGeometry, bitmap_start, bitmap_blocks, data_start}
 use Rattle.layout_bitmap.specs.Bits.{bit_in, free_blocks, BitBecomes}
@@ -11,7 +11,7 @@ use Rattle.engine_blocks.specs.Running.{has, has_bit, bit_block}
 use Rattle.engine_books.specs.Books.{TransactionBooks, has_put, bit_now}
 use Rattle.engine_books.specs.Kept.{HasBoxes}
 use Rattle.engine_books.specs.Taking.{TakesOne, HasTaken, bits_put}
-use Rattle.engine_books.proofs.Tests.{eqb_not, eqb_sym, or_first, or_last}
+use Rattle.engine_books.proofs.Tests.{eqb_sym, or_first, or_last}
 use Rattle.engine_books.proofs.Rows.{put_with, put_without}
 use Rattle.engine_books.proofs.Numbers.{has_push, has_bit_push, bit_of_one, one_with, with_one_more}
 use Rattle.engine_books.proofs.Counts.{one_less}
@@ -82,7 +82,7 @@ module _ (v : TransactionBooks) (mid now : List (List ℕ)) (cm cn : Changes) (x
     | inl e ↦ paid_one c ∙ cond-true (bit_block v.geom b == c) (Some (blocks_of now (b / 8192))) (cond (b == c) None (put_of c cm.paid)) (eq-eqb (bit_block v.geom b) c (sym e))
         ∙ ap (λ k. Some (blocks_of now k)) (place e)
         ∙ sym (cond-true (has_bit v.geom (xs ++ b ∷ []) c) (Some (blocks_of now (c - bitmap_start v.geom))) (cond (has (xs ++ b ∷ []) c) None (put_of c v.changes.paid)) (has_bit_push v.geom xs b c ∙ last (has_bit v.geom xs c) (eq-eqb c (bit_block v.geom b) e)))
-    | inr d ↦ paid_one c ∙ cond-false (bit_block v.geom b == c) (Some (blocks_of now (b / 8192))) (cond (b == c) None (put_of c cm.paid)) (eqb_not (bit_block v.geom b) c (λ e. d (sym e)))
+    | inr d ↦ paid_one c ∙ cond-false (bit_block v.geom b == c) (Some (blocks_of now (b / 8192))) (cond (b == c) None (put_of c cm.paid)) (ne_eqb (bit_block v.geom b) c (λ e. d (sym e)))
         ∙ ap (λ (o : Option (List ℕ)). cond (b == c) None o) (h.paid c) ∙ by d (cases_Bool (has_bit v.geom xs c))
   ]
     where
@@ -99,7 +99,7 @@ module _ (v : TransactionBooks) (mid now : List (List ℕ)) (cm cn : Changes) (x
       by : c ≢ bit_block v.geom b → (has_bit v.geom xs c ≡ true) ⊎ (has_bit v.geom xs c ≡ false)
           → cond (b == c) None (cond (has_bit v.geom xs c) (Some (blocks_of mid (c - bitmap_start v.geom))) (cond (has xs c) None old)) ≡ cond (has_bit v.geom (xs ++ b ∷ []) c) (Some (blocks_of now (c - bitmap_start v.geom))) (cond (has (xs ++ b ∷ []) c) None old)
       by d (inl e) =
-          cond-false (b == c) None (cond (has_bit v.geom xs c) (Some (blocks_of mid (c - bitmap_start v.geom))) (cond (has xs c) None old)) (eqb_not b c (λ q. of_bits c e (sym q)))
+          cond-false (b == c) None (cond (has_bit v.geom xs c) (Some (blocks_of mid (c - bitmap_start v.geom))) (cond (has xs c) None old)) (ne_eqb b c (λ q. of_bits c e (sym q)))
           ∙ cond-true (has_bit v.geom xs c) (Some (blocks_of mid (c - bitmap_start v.geom))) (cond (has xs c) None old) e
           ∙ ap (λ x. Some x) (sym (t.others (c - bitmap_start v.geom) (let r = bit_of_one v.geom xs c e in λ q. d (omega (arith, q, r.2)))))
           ∙ sym (cond-true (has_bit v.geom (xs ++ b ∷ []) c) (Some (blocks_of now (c - bitmap_start v.geom))) (cond (has (xs ++ b ∷ []) c) None old) (has_bit_push v.geom xs b c ∙ ap (λ u. u || (c == bit_block v.geom b)) e))
@@ -107,7 +107,7 @@ module _ (v : TransactionBooks) (mid now : List (List ℕ)) (cm cn : Changes) (x
           ap (λ (o : Option (List ℕ)). cond (b == c) None o) (cond-false (has_bit v.geom xs c) (Some (blocks_of mid (c - bitmap_start v.geom))) (cond (has xs c) None old) f)
           ∙ both (b == c) (has xs c) (c == b) old (eqb_sym c b)
           ∙ ap (λ u. cond u None old) (sym (has_push xs b c))
-          ∙ sym (cond-false (has_bit v.geom (xs ++ b ∷ []) c) (Some (blocks_of now (c - bitmap_start v.geom))) (cond (has (xs ++ b ∷ []) c) None old) (has_bit_push v.geom xs b c ∙ ap (λ u. u || (c == bit_block v.geom b)) f ∙ eqb_not c (bit_block v.geom b) d))
+          ∙ sym (cond-false (has_bit v.geom (xs ++ b ∷ []) c) (Some (blocks_of now (c - bitmap_start v.geom))) (cond (has (xs ++ b ∷ []) c) None old) (has_bit_push v.geom xs b c ∙ ap (λ u. u || (c == bit_block v.geom b)) f ∙ ne_eqb c (bit_block v.geom b) d))
 
   more_laid : (c : ℕ) → put_of c cn.laid ≡ cond (has_bit v.geom (xs ++ b ∷ []) c) None (cond (has (xs ++ b ∷ []) c) None (put_of c v.changes.laid))
   more_laid c =
@@ -137,7 +137,7 @@ module _ (v : TransactionBooks) (mid now : List (List ℕ)) (cm cn : Changes) (x
       omega (arith, second, long)
     where
       same : (c : ℕ) → bitmap_start v.geom ≤ c → c < bitmap_start v.geom + bitmap_blocks v.geom → has_put c t.taken.paid ≡ has_put c cm.paid
-      same c low high = ap is_some (ap (put_of c) (t.takes.paid ∙ t.forgets.paid) ∙ put_without b cm.paid c t.ordered.paid ∙ cond-false (b == c) None (put_of c cm.paid) (eqb_not b c (λ e. omega (arith, e, high, from))))
+      same c low high = ap is_some (ap (put_of c) (t.takes.paid ∙ t.forgets.paid) ∙ put_without b cm.paid c t.ordered.paid ∙ cond-false (b == c) None (put_of c cm.paid) (ne_eqb b c (λ e. omega (arith, e, high, from))))
 
   more_free : bit_in (blocks_of mid) b ≡ false → length (free_blocks v.geom (blocks_of now)) + length (xs ++ b ∷ []) ≡ length (free_blocks v.geom (blocks_of v.bitmap))
   more_free clear = omega (
@@ -146,7 +146,7 @@ module _ (v : TransactionBooks) (mid now : List (List ℕ)) (cm cn : Changes) (x
     length-append xs (b ∷ []),
     one_less (λ k. not (bit_in (blocks_of mid) k)) (λ k. not (bit_in (blocks_of now) k)) b (data_start v.geom) (v.geom.n - data_start v.geom) from (omega (arith, from, below)) (ap not clear)
         (ap not (t.bits b ∙ cond-true (b == b) true (bit_in (blocks_of mid) b) (eq-eqb b b refl)))
-        (λ k first upto d. ap not (t.bits k ∙ cond-false (k == b) true (bit_in (blocks_of mid) k) (eqb_not k b d))),
+        (λ k first upto d. ap not (t.bits k ∙ cond-false (k == b) true (bit_in (blocks_of mid) k) (ne_eqb k b d))),
   )
 
   more_bits : (k : ℕ) → bit_in (blocks_of now) k ≡ (has (xs ++ b ∷ []) k || bit_now v k)
@@ -180,7 +180,7 @@ module _ (v : TransactionBooks) (mid now : List (List ℕ)) (cm cn : Changes) (x
       by : (c ≡ bit_block v.geom b) ⊎ (c ≢ bit_block v.geom b) → length (blocks_of now (c - bitmap_start v.geom)) ≡ 1024
       by (inl e) = ap (λ k. length (blocks_of now k)) {y = b / 8192} (omega (arith, e)) ∙ t.whole
       by (inr d) =
-          let old = or_before (has_bit v.geom xs c) (c == bit_block v.geom b) (sym (has_bit_push v.geom xs b c) ∙ is) (eqb_not c (bit_block v.geom b) d) in
+          let old = or_before (has_bit v.geom xs c) (c == bit_block v.geom b) (sym (has_bit_push v.geom xs b c) ∙ is) (ne_eqb c (bit_block v.geom b) d) in
           ap (λ (x : List ℕ). length x) (t.others (c - bitmap_start v.geom) (let r = bit_of_one v.geom xs c old in λ q. d (omega (arith, q, r.2)))) ∙ h.whole c old
         where
           or_before : (u w : Bool) → (u || w) ≡ true → w ≡ false → u ≡ true

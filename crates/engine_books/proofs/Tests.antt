@@ -1,15 +1,12 @@
 -- Tests and choices.
 use Rattle.std.proofs.Common.{◌≡◌, ◌≢◌, ℕ, ◌==◌, Bool, true, false, ◌||◌, ◌&&◌, cond, refl, sym, ◌∙◌, ⊎_elim}
-use Rattle.std.proofs.lemmas.Bool.{cases_Bool, eqb-true, eq-eqb, false≢true}
+use Rattle.std.proofs.lemmas.Bool.{cases_Bool, eqb-true, eq-eqb, false≢true, ne_eqb}
 
 pub eqb_refl : (n : ℕ) → (n == n) ≡ true
 eqb_refl n = eq-eqb n n refl
 
-pub eqb_not : (a b : ℕ) → a ≢ b → (a == b) ≡ false
-eqb_not a b ne = ⊎_elim (λ e. absurd (ne (eqb-true a b e))) (λ e. e) (cases_Bool (a == b))
-
 pub eqb_sym : (a b : ℕ) → (a == b) ≡ (b == a)
-eqb_sym a b = ⊎_elim (λ e. e ∙ sym (eq-eqb b a (sym (eqb-true a b e)))) (λ f. f ∙ sym (eqb_not b a (λ h. false≢true (sym f ∙ eq-eqb a b (sym h))))) (cases_Bool (a == b))
+eqb_sym a b = ⊎_elim (λ e. e ∙ sym (eq-eqb b a (sym (eqb-true a b e)))) (λ f. f ∙ sym (ne_eqb b a (λ h. false≢true (sym f ∙ eq-eqb a b (sym h))))) (cases_Bool (a == b))
 
 pub not_true : (a : Bool) → (a ≡ true → ⊥) → a ≡ false
 not_true true never = absurd (never refl)

@@ -5,6 +5,7 @@ use Rattle.std.specs.VecDeque.{deque_len, deque_capacity}
 use Rattle.std.proofs.lemmas.List.{length-map, map-id, drop-append-le, take-append-le}
 use Rattle.std.proofs.lemmas.List.Elements.{All-nil, All-cons, All-append}
 use Rattle.std.proofs.lemmas.List.FromFn.{map-range_with_len_more}
+use Rattle.std.proofs.lemmas.Bool.{cond-true, cond-false}
 use Rattle.engine_notes.specs.declared.notes.Note.{Note}
 use Rattle.engine_notes.specs.Notes.{Expected, is_expected}
 use Rattle.engine_running.specs.Record.{AreBelow}
@@ -20,7 +21,7 @@ use Rattle.engine_checkpoint.specs.Order.{IsInOrder, HasRoom, HasPlaces, Payload
 use Rattle.engine_checkpoint.specs.Steps.{ready_after}
 use Rattle.engine_checkpoint.proofs.DueHeaders.{count_numbers}
 use Rattle.engine_checkpoint.proofs.Expected.{ExpectMore}
-use Rattle.engine_checkpoint.proofs.Lists.{choose_true, choose_false, map_push}
+use Rattle.engine_checkpoint.proofs.Lists.{map_push}
 
 -- one more number at the end
 total_push : (ns : List ℕ) (n : ℕ) → total (ns ++ n ∷ []) ≡ total ns + n
@@ -40,8 +41,8 @@ note_stays None old new more = omega arith
 note_stays (Some q) old new more = by (is_expected q.ticket old) refl
   where
     by : (v : Bool) → is_expected q.ticket old ≡ v → (if is_expected q.ticket old then 1 else 0) ≤ (if is_expected q.ticket new then 1 else 0)
-    by true e = omega (arith, choose_true {A = ℕ} (is_expected q.ticket old) 1 0 e, choose_true {A = ℕ} (is_expected q.ticket new) 1 0 (more q.ticket e))
-    by false e = omega (arith, choose_false {A = ℕ} (is_expected q.ticket old) 1 0 e)
+    by true e = omega (arith, cond-true {A = ℕ} (is_expected q.ticket old) 1 0 e, cond-true {A = ℕ} (is_expected q.ticket new) 1 0 (more q.ticket e))
+    by false e = omega (arith, cond-false {A = ℕ} (is_expected q.ticket old) 1 0 e)
 
 -- a record of the same lists
 pub same_after : (before : Option Spot) (number b : ℕ) (ps qs : List Put) (fs gs hs is : List ℕ) → ps ≡ qs → fs ≡ gs → hs ≡ is → spot_after before number ps fs hs b ≡ spot_after before number qs gs is b

@@ -1,11 +1,10 @@
 -- A committed transaction joins the pipeline: its record is in the ledger, and is the last one of the committed.
 use Rattle.std.proofs.Common.{◌≡◌, ◌⊎◌, ⊎_elim, ℕ, suc, ◌+◌, ◌%◌, ◌<◌, ◌≤◌, ◌==◌, ◌||◌, nat_le, Bool, true, false, IsTrue, List, [], ◌∷◌, ◌++◌, length, map, slice_get, Some, refl, sym, ◌∙◌, subst, ap, arith, length-append, append_assoc}
-use Rattle.std.proofs.lemmas.Bool.{eqb-true, false≢true, le-leb, lt-leb}
+use Rattle.std.proofs.lemmas.Bool.{eqb-true, false≢true, le-leb, lt-leb, cond-true, cond-false}
 use Rattle.std.proofs.lemmas.Option.{slice_get_within}
 use Rattle.base_types.specs.Seal.{Blocks}
 use Rattle.disk_contract.specs.declared.event.Event.{Event}
 use Rattle.disk_contract.specs.Cell.{cell_of, greatest_ticket, IsNoticed}
-use Rattle.layout_geometry.specs.Geometry.{data_start}
 use Rattle.layout_journal.specs.Ring.{RingPlaces, with_places}
 use Rattle.layout_journal.specs.Run.{places, is_live}
 use Rattle.crash_argument.specs.Ledger.{Ledger, WrittenRecord, next_number}
@@ -17,7 +16,7 @@ use Rattle.engine_notes.specs.Notes.{Expected, is_expected, is_noticed, are_expe
 use Rattle.engine_running.specs.declared.commit.Committed.{Committed}
 use Rattle.engine_checkpoint.specs.declared.pipeline.Pipeline.{Pipeline}
 use Rattle.engine_checkpoint.specs.Agree.{PipelineAgrees, AreApart, AreNewTickets, HomeIsSent, IsRecordAt, KeepsRecord, HasFreed, data_of, durable_count, home_pair, no_tickets, tickets_in}
-use Rattle.engine_checkpoint.proofs.Lists.{choose_true, choose_false, map_push, last_or, get_old, get_new}
+use Rattle.engine_checkpoint.proofs.Lists.{map_push, last_or, get_old, get_new}
 use Rattle.engine_checkpoint.proofs.Apart.{none_new, one_or}
 use Rattle.engine_checkpoint.proofs.Expected.{ExpectMore, are_more, home_more}
 
@@ -28,7 +27,7 @@ one_of_get b (c ∷ cs) e = by (one_of_get b cs) (c == b) refl
   where
     by : (is_one_of b cs ≡ true → (i : ℕ) × (slice_get cs i ≡ Some b)) → (v : Bool) → (c == b) ≡ v → (i : ℕ) × (slice_get (c ∷ cs) i ≡ Some b)
     by rest true own = (0, ap Some (eqb-true c b own))
-    by rest false other = let r = rest (sym (choose_false (c == b) true (is_one_of b cs) other) ∙ e) in (suc r.0, r.1)
+    by rest false other = let r = rest (sym (cond-false (c == b) true (is_one_of b cs) other) ∙ e) in (suc r.0, r.1)
 
 module _ (base : Blocks) (old new : List Event) (l : Ledger) (v : Pipeline) (ring : RingPlaces) (waiting : List (ℕ × ℕ)) (taken : List ℕ) (a : PipelineAgrees base old l v ring waiting taken)
     (w : WrittenRecord) (m : Blocks) (c : Committed) (out : Pipeline) (notes : Expected) (more : out.committed.items ≡ v.committed.items ++ c ∷ [])
@@ -63,10 +62,10 @@ module _ (base : Blocks) (old new : List Event) (l : Ledger) (v : Pipeline) (rin
       ∙ ap (λ (ts : List (List ℕ)). record (data_of next ring_then waiting_then) { tickets = ts }) (append_assoc (no_tickets (durable_count v)) (map tickets_in v.committed.items) (c.tickets.items ∷ []) ∙ ap (λ (ts : List (List ℕ)). no_tickets (durable_count v) ++ ts) (sym (map_push tickets_in v.committed.items c) ∙ ap (map tickets_in) (sym more)))
 
   before : (n : ℕ) → n ≤ next_number l → (with_record l w m).map_before n ≡ l.map_before n
-  before n le = choose_true (nat_le n (next_number l)) (l.map_before n) m (le-leb n (next_number l) le)
+  before n le = cond-true (nat_le n (next_number l)) (l.map_before n) m (le-leb n (next_number l) le)
 
   after : (n : ℕ) → next_number l < n → (with_record l w m).map_before n ≡ m
-  after n lt = choose_false (nat_le n (next_number l)) (l.map_before n) m (lt-leb n (next_number l) lt)
+  after n lt = cond-false (nat_le n (next_number l)) (l.map_before n) m (lt-leb n (next_number l) lt)
 
   -- each record is where it was
   still_at : (i k number place count : ℕ) (payloads : List Rattle.engine_running.specs.declared.put.Put.Put) (fresh own : List ℕ) → i ≡ k → IsRecordAt l a.freed i number place count payloads fresh own → IsRecordAt (with_record l w m) (a.freed ++ c.freed.items ∷ []) k number place count payloads fresh own

@@ -1,6 +1,6 @@
 -- A row of checkpoint writes, ascending: what is between two of them, and behind the last, isn't in it.
-use Rattle.std.proofs.Common.{◌≡◌, ◌≢◌, ⊎_elim, ℕ, zero, suc, ◌+◌, ◌<◌, ◌≤◌, ◌==◌, Bool, true, false, List, [], ◌∷◌, length, take, map, slice_get, Some, None, Result, Ok, Err, IsErr, OnOk, refl, sym, ◌∙◌, ap, subst, arith}
-use Rattle.std.proofs.lemmas.Bool.{cases_lt, eqb-true, eq-eqb, false≢true}
+use Rattle.std.proofs.Common.{◌≡◌, ◌≢◌, ⊎_elim, ℕ, zero, suc, ◌+◌, ◌<◌, ◌≤◌, ◌==◌, Bool, true, false, List, [], ◌∷◌, length, take, map, slice_get, Some, None, Result, Ok, Err, IsErr, refl, sym, ◌∙◌, ap, subst, arith}
+use Rattle.std.proofs.lemmas.Bool.{cases_lt, eqb-true, eq-eqb, false≢true, cond-true, cond-false}
 use Rattle.std.proofs.lemmas.Option.{same_Some, none-some, slice_get_within}
 use Rattle.engine_running.specs.declared.put.Put.{Put}
 use Rattle.engine_running.specs.Record.{AreBelow}
@@ -8,12 +8,8 @@ use Rattle.engine_running.specs.Rows.{IsRising, put_of}
 use Rattle.crash_argument.specs.Writes.{AddsFront, AddsAll}
 use Rattle.engine_running.specs.Writes.{fresh_write}
 use Rattle.disk_contract.specs.declared.event.Event.{Event}
-use Rattle.engine_checkpoint.proofs.Lists.{choose_true, choose_false, below_none}
+use Rattle.engine_checkpoint.proofs.Lists.{below_none}
 use Rattle.engine_checkpoint.specs.HomeState.{sent_behind}
-
-pub on_err : {T E : Type 0} (r : Result T E) (P : Type 0) → IsErr r → OnOk r P
-on_err (Ok a) P e = absurd (false≢true e)
-on_err (Err a) P e = tt
 
 -- an error adds a front of the writes
 pub on_err_adds : {A E : Type 0} (ws : List (ℕ × List ℕ)) (r : Result A E) (before now : List ℕ) (old new : List Event) → IsErr r → AddsFront ws old new → AddsAll ws r before now old new
@@ -66,7 +62,7 @@ lacks_none c (q ∷ row) lacks = by (lacks_none c row (λ i p is. lacks (suc i) 
   where
     by : put_of c row ≡ None → (v : Bool) → (q.block == c) ≡ v → put_of c (q ∷ row) ≡ None
     by rest true own = absurd (lacks 0 q refl (eqb-true q.block c own))
-    by rest false other = choose_false (q.block == c) (Some q.bytes) (put_of c row) other ∙ rest
+    by rest false other = cond-false (q.block == c) (Some q.bytes) (put_of c row) other ∙ rest
 
 -- what lies behind the first k and below the others isn't in the row
 pub none_between : (row : List Put) → IsRising row → (k c : ℕ) → k ≤ length row → sent_behind 0 (take k row) ≤ c → ((i : ℕ) (p : Put) → k ≤ i → slice_get row i ≡ Some p → c < p.block) → put_of c row ≡ None
@@ -88,7 +84,7 @@ skipped row rising k q is c from upto = none_between row rising k c (omega (arit
 
 pub put_at : (row : List Put) → IsRising row → (k : ℕ) (q : Put) → slice_get row k ≡ Some q → put_of q.block row ≡ Some q.bytes
 put_at [] rising k q is = absurd (none-some q is)
-put_at (r ∷ row) rising zero q is = subst (λ (x : Put). put_of x.block (r ∷ row) ≡ Some x.bytes) (same_Some r q is) (choose_true (r.block == r.block) (Some r.bytes) (put_of r.block row) (eq-eqb r.block r.block refl))
+put_at (r ∷ row) rising zero q is = subst (λ (x : Put). put_of x.block (r ∷ row) ≡ Some x.bytes) (same_Some r q is) (cond-true (r.block == r.block) (Some r.bytes) (put_of r.block row) (eq-eqb r.block r.block refl))
 put_at (r ∷ row) rising (suc k) q is = by (put_at row (λ i j x y lt a b. rising (suc i) (suc j) x y (omega (arith, lt)) a b) k q is) (r.block == q.block) refl
   where
     clash : (a b : ℕ) → a ≡ b → a < b → ⊥
@@ -96,7 +92,7 @@ put_at (r ∷ row) rising (suc k) q is = by (put_at row (λ i j x y lt a b. risi
 
     by : put_of q.block row ≡ Some q.bytes → (v : Bool) → (r.block == q.block) ≡ v → put_of q.block (r ∷ row) ≡ Some q.bytes
     by rest true own = absurd (clash r.block q.block (eqb-true r.block q.block own) (rising 0 (suc k) r q (omega arith) refl is))
-    by rest false other = choose_false (r.block == q.block) (Some r.bytes) (put_of q.block row) other ∙ rest
+    by rest false other = cond-false (r.block == q.block) (Some r.bytes) (put_of q.block row) other ∙ rest
 
 -- and behind all of them none is
 pub no_more : (row : List Put) → IsRising row → (k c : ℕ) → k ≤ length row → length row ≤ k → sent_behind 0 (take k row) ≤ c → put_of c row ≡ None

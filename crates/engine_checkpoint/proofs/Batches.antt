@@ -1,6 +1,6 @@
 -- The sure records have become the batch, and all its checkpoint writes are made.
 use Rattle.std.proofs.Common.{◌≡◌, ℕ, ◌<◌, ◌≤◌, ◌||◌, nat_lt, Bool, List, [], map, length, inr, ⊎_elim, Result, Ok, Err, OnOk, refl, sym, ◌∙◌, subst, ap, arith}
-use Rattle.std.proofs.lemmas.Bool.{lt-ltb}
+use Rattle.std.proofs.lemmas.Bool.{lt-ltb, cond-true}
 use Rattle.std.proofs.lemmas.Option.{none-some}
 use Rattle.base_types.specs.Seal.{Blocks}
 use Rattle.disk_contract.specs.declared.event.Event.{Event}
@@ -15,7 +15,6 @@ use Rattle.engine_checkpoint.specs.declared.pipeline.Pipeline.{Pipeline}
 use Rattle.engine_checkpoint.specs.Agree.{PipelineAgrees, AreExpectedHome, AreNewTickets, data_of, home_pair, home_ticket}
 use Rattle.engine_checkpoint.specs.HomeState.{HomeState, with_homes}
 use Rattle.engine_checkpoint.specs.Turns.{BeginsBatch}
-use Rattle.engine_checkpoint.proofs.Lists.{choose_true}
 use Rattle.engine_checkpoint.proofs.Apart.{not_old, one_of_home, one_or, new_tickets}
 use Rattle.engine_checkpoint.proofs.Expected.{ExpectMore, are_more, with_old}
 
@@ -33,7 +32,7 @@ module _ (base : Blocks) (old new : List Event) (l : Ledger) (v : Pipeline) (rin
   on_its_way = record v { notes = w.notes; batch = count; home = w.home; batch_newest = w.batch_newest; blocks = w.blocks }
 
   data_is : with_sent (record (with_batch (data_of v ring waiting) count) { home = map home_pair w.home.items }) v.geom.n ≡ data_of on_its_way ring waiting
-  data_is = ap (λ n. record (data_of on_its_way ring waiting) { sent = n }) (sym (choose_true (nat_lt 0 count) v.geom.n 0 (lt-ltb 0 count some)))
+  data_is = ap (λ n. record (data_of on_its_way ring waiting) { sent = n }) (sym (cond-true (nat_lt 0 count) v.geom.n 0 (lt-ltb 0 count some)))
 
   -- what was expected is so still, and so are the batch's tickets
   expect : ExpectMore v.notes.notes w.notes.notes

@@ -1,6 +1,6 @@
 -- While the pipeline agrees, no write to a block behind the journal is lost: nothing is pending there, or the last write to it was accepted.
 use Rattle.std.proofs.Common.{◌≡◌, ⊎_elim, inl, ℕ, zero, suc, ◌≤◌, ◌==◌, ◌&&◌, ◌||◌, nat_le, nat_lt, Bool, true, false, if◌then◌else◌, List, [], ◌∷◌, ◌++◌, length, slice_get, Some, refl, sym, ◌∙◌, ap, arith}
-use Rattle.std.proofs.lemmas.Bool.{eq-eqb, ne_eqb, leb-true, and_parts}
+use Rattle.std.proofs.lemmas.Bool.{eq-eqb, ne_eqb, leb-true, and_parts, cond-true, cond-false}
 use Rattle.std.proofs.lemmas.Option.{none-some}
 use Rattle.base_types.specs.Seal.{Blocks}
 use Rattle.layout_geometry.specs.Geometry.{bitmap_start, data_start}
@@ -15,7 +15,6 @@ use Rattle.crash_argument.specs.OnePending.{IsFreshInNew}
 use Rattle.engine_checkpoint.specs.declared.pipeline.Pipeline.{Pipeline}
 use Rattle.engine_checkpoint.specs.Agree.{PipelineAgrees, data_of}
 use Rattle.engine_checkpoint.specs.Bytes.{IsLiveNow}
-use Rattle.engine_checkpoint.proofs.Lists.{choose_true, choose_false}
 
 -- lost writes of a log in two parts
 pub lost_on : (b : ℕ) (lost : Bool) (log more : List Event) → is_lost_from b lost (log ++ more) ≡ is_lost_from b (is_lost_from b lost log) more
@@ -26,8 +25,8 @@ lost_on b lost (Noticed t ∷ log) more = lost_on b lost log more
 
 avoids_calm : (b : ℕ) (es : List Event) → AvoidsBlock b es → (lost : Bool) → is_lost_from b lost es ≡ lost
 avoids_calm b [] avoids lost = refl
-avoids_calm b (Wrote t c y ∷ es) avoids lost = ap (λ v. is_lost_from b v es) (choose_false (c == b) false lost (ne_eqb c b avoids.0)) ∙ avoids_calm b es avoids.1 lost
-avoids_calm b (Lost c y ∷ es) avoids lost = ap (λ v. is_lost_from b v es) (choose_false (c == b) true lost (ne_eqb c b avoids.0)) ∙ avoids_calm b es avoids.1 lost
+avoids_calm b (Wrote t c y ∷ es) avoids lost = ap (λ v. is_lost_from b v es) (cond-false (c == b) false lost (ne_eqb c b avoids.0)) ∙ avoids_calm b es avoids.1 lost
+avoids_calm b (Lost c y ∷ es) avoids lost = ap (λ v. is_lost_from b v es) (cond-false (c == b) true lost (ne_eqb c b avoids.0)) ∙ avoids_calm b es avoids.1 lost
 avoids_calm b (Noticed t ∷ es) avoids lost = avoids_calm b es avoids lost
 
 -- where the last write to the block was accepted, none is lost behind it
@@ -35,7 +34,7 @@ last_calm : (log : List Event) (b t : ℕ) (x : List ℕ) → IsLastWrite log b 
 last_calm log b t x w =
     let was = is_lost_from b false w.before in
     ap (is_lost b) w.split ∙ lost_on b false w.before (Wrote t b x ∷ w.later)
-    ∙ ap (λ v. is_lost_from b v w.later) (choose_true (b == b) false was (eq-eqb b b refl)) ∙ avoids_calm b w.later w.last false
+    ∙ ap (λ v. is_lost_from b v w.later) (cond-true (b == b) false was (eq-eqb b b refl)) ∙ avoids_calm b w.later w.last false
 
 both_at : {A B : Type 0} (xs : List A) (ys : List B) → length ys ≡ length xs → (k : ℕ) (x : A) → slice_get xs k ≡ Some x → (y : B) × (slice_get ys k ≡ Some y)
 both_at [] ys same k x is = absurd (none-some x is)

@@ -1,13 +1,12 @@
 -- Notes with the same tickets: which are expected, and where each stands.
 use Rattle.std.proofs.Common.{◌≡◌, ℕ, zero, suc, ◌+◌, ◌<◌, ◌≤◌, ◌==◌, ◌&&◌, not, Bool, true, false, if◌then◌else◌, List, [], ◌∷◌, length, map, slice_get, Option, Some, None, option_map, get_or, refl, sym, ◌∙◌, ap, subst, arith}
-use Rattle.std.proofs.lemmas.Bool.{eqb-true, eq-eqb, false≢true}
+use Rattle.std.proofs.lemmas.Bool.{eqb-true, eq-eqb, false≢true, cond-true, cond-false}
 use Rattle.std.proofs.lemmas.Option.{same_Some, none-some, slice_get_read, get_or_from_slice_get}
 use Rattle.engine_notes.specs.declared.notes.Note.{Note}
 use Rattle.engine_notes.specs.Notes.{Expected, is_expected, is_noticed, is_open, none_open, is_among, ticket_of}
 use Rattle.engine_running.specs.declared.commit.Committed.{Committed}
 use Rattle.engine_checkpoint.specs.Waits.{HearsMore, AreAllNoticed}
 use Rattle.engine_checkpoint.proofs.Forgotten.{OpensNone}
-use Rattle.engine_checkpoint.proofs.Lists.{choose_true, choose_false}
 
 -- a ticket is expected where it is among the tickets
 pub expected_is : (ns : List Note) (u : ℕ) → is_expected u ns ≡ is_among u (map ticket_of ns)
@@ -24,11 +23,11 @@ stands_at (n ∷ ns) u e = by (stands_at ns u) (n.ticket == u) refl
   where
     by : (is_expected u ns ≡ true → (k : ℕ) × (m : Note) × (slice_get ns k ≡ Some m) × (m.ticket ≡ u)) → (v : Bool) → (n.ticket == u) ≡ v → (k : ℕ) × (m : Note) × (slice_get (n ∷ ns) k ≡ Some m) × (m.ticket ≡ u)
     by rest true own = (0, n, refl, eqb-true n.ticket u own)
-    by rest false other = let r = rest (sym (choose_false (n.ticket == u) true (is_expected u ns) other) ∙ e) in (suc r.0, r.1, r.2, r.3)
+    by rest false other = let r = rest (sym (cond-false (n.ticket == u) true (is_expected u ns) other) ∙ e) in (suc r.0, r.1, r.2, r.3)
 
 pub there_is_expected : (ns : List Note) (k : ℕ) (n : Note) → slice_get ns k ≡ Some n → is_expected n.ticket ns ≡ true
 there_is_expected [] k n is = absurd (none-some n is)
-there_is_expected (m ∷ ns) zero n is = choose_true (m.ticket == n.ticket) true (is_expected n.ticket ns) (eq-eqb m.ticket n.ticket (ap ticket_of (same_Some m n is)))
+there_is_expected (m ∷ ns) zero n is = cond-true (m.ticket == n.ticket) true (is_expected n.ticket ns) (eq-eqb m.ticket n.ticket (ap ticket_of (same_Some m n is)))
 there_is_expected (m ∷ ns) (suc k) n is = or_else (m.ticket == n.ticket) (is_expected n.ticket ns) (there_is_expected ns k n is)
   where
     or_else : (w e : Bool) → e ≡ true → (if w then true else e) ≡ true

@@ -1,6 +1,6 @@
 -- A block that a batch has to bring home, and that lives on, has a newest payload in all records that aren't placed: no record behind the sure ones took it away.
 use Rattle.std.proofs.Common.{◌≡◌, ◌⊎◌, inl, inr, ⊎_elim, ℕ, zero, suc, ◌+◌, ◌-◌, ◌<◌, ◌≤◌, ◌==◌, nat_lt, Bool, true, false, IsTrue, if◌then◌else◌, List, [], ◌∷◌, length, take, drop, map, slice_get, Option, Some, None, refl, sym, ◌∙◌, ap, ap₂, subst, arith, length-drop}
-use Rattle.std.proofs.lemmas.Bool.{false≢true, eqb-true, and_parts}
+use Rattle.std.proofs.lemmas.Bool.{false≢true, eqb-true, and_parts, cond-false}
 use Rattle.layout_journal.specs.declared.entry.Entry.{Entry}
 use Rattle.layout_journal.specs.Run.{names_block, or_else, is_live}
 use Rattle.crash_argument.specs.Ledger.{Ledger, WrittenRecord, IsConsistentWith, payload_in, next_number}
@@ -17,7 +17,7 @@ use Rattle.engine_checkpoint.specs.Kept.{kept, of_sure, newest_in}
 use Rattle.engine_checkpoint.specs.Turns.{is_batch_due}
 use Rattle.engine_checkpoint.proofs.Added.{drop_more}
 use Rattle.engine_checkpoint.proofs.HomeBytes.{home_is_newest}
-use Rattle.engine_checkpoint.proofs.Lists.{get_drop, choose_false}
+use Rattle.engine_checkpoint.proofs.Lists.{get_drop}
 use Rattle.engine_checkpoint.proofs.Told.{newest_goes_home}
 
 named_at : (es : List Entry) (b : ℕ) → names_block es b ≡ true → (i : ℕ) × (e : Entry) × (slice_get es i ≡ Some e) × (e.block ≡ b)
@@ -40,7 +40,7 @@ module _ (l : Ledger) (new : FreshAreNew l) (freed : List (List ℕ)) (are : Are
   one k w f ws fs is at behind lives goes = by_free (is_one_of b f) refl
     where
       free : is_one_of b f ≡ false → (g : Option (List ℕ)) → goes_after g w f b ≡ or_else (payload_in w b) (if names_block w.says.fresh b then None else g)
-      free e g = choose_false (is_one_of b f) None (or_else (payload_in w b) (if names_block w.says.fresh b then None else g)) e
+      free e g = cond-false (is_one_of b f) None (or_else (payload_in w b) (if names_block w.says.fresh b then None else g)) e
 
       by_fresh : is_one_of b f ≡ false → payload_in w b ≡ None → (v : Bool) → names_block w.says.fresh b ≡ v → Keeps w.says.number (w ∷ ws) (f ∷ fs)
       by_fresh e none true fresh = let r = named_at w.says.fresh b fresh in absurd (false≢true (sym (ap live_at (sym r.3) ∙ new.dead k r.0 (l.header.sure + 1) w r.1 is (omega arith) (omega (arith, behind)) r.2) ∙ stands))

@@ -2,7 +2,7 @@
 use Rattle.std.proofs.Common.{◌≡◌, ℕ, zero, suc, ◌+◌, ◌<◌, ◌==◌, ◌||◌, Bool, true, false, if◌then◌else◌, List, [], ◌∷◌, ◌++◌, length, take, map, slice_get, slice_index_or, Option, Some, None, IsSome, refl, sym, ◌∙◌, subst, ap, arith}
 use Rattle.std.proofs.Math.Path.{ap₂}
 use Rattle.std.specs.Option.{is_some}
-use Rattle.std.proofs.lemmas.Bool.{eqb-true, false≢true}
+use Rattle.std.proofs.lemmas.Bool.{eqb-true, false≢true, cond-true, cond-false}
 use Rattle.std.proofs.lemmas.List.{length-map}
 use Rattle.std.proofs.lemmas.Option.{same_Some, none-some}
 use Rattle.crash_argument.specs.HomeTest.{is_one_of}
@@ -18,7 +18,7 @@ use Rattle.engine_checkpoint.proofs.BatchRows.{put_at}
 use Rattle.engine_checkpoint.specs.declared.pipeline.HomeWrite.{HomeWrite}
 use Rattle.engine_checkpoint.specs.Agree.{home_ticket}
 use Rattle.engine_checkpoint.specs.Batch.{home_block}
-use Rattle.engine_checkpoint.proofs.Lists.{choose_true, choose_false, map_push, below_none}
+use Rattle.engine_checkpoint.proofs.Lists.{map_push, below_none}
 use Rattle.engine_checkpoint.proofs.Placing.{take_at_next}
 use Rattle.engine_checkpoint.proofs.RecordSpots.{some_in}
 
@@ -95,9 +95,9 @@ put_in_row ks (c ∷ bs) b = by (c == b) refl (put_in_row ks bs b)
   where
     by : (v : Bool) → (c == b) ≡ v → put_of b (home_row ks bs) ≡ (if is_one_of b bs then Some (bytes_or (newest_in None ks b)) else None)
         → (if c == b then Some (bytes_or (newest_in None ks c)) else put_of b (home_row ks bs)) ≡ (if (if c == b then true else is_one_of b bs) then Some (bytes_or (newest_in None ks b)) else None)
-    by true own rest = choose_true (c == b) (Some (bytes_or (newest_in None ks c))) (put_of b (home_row ks bs)) own ∙ ap (λ n. Some (bytes_or (newest_in None ks n))) (eqb-true c b own)
-        ∙ sym (choose_true (if c == b then true else is_one_of b bs) (Some (bytes_or (newest_in None ks b))) None (choose_true (c == b) true (is_one_of b bs) own))
-    by false other rest = choose_false (c == b) (Some (bytes_or (newest_in None ks c))) (put_of b (home_row ks bs)) other ∙ rest ∙ sym (ap (λ v. if v then Some (bytes_or (newest_in None ks b)) else None) (choose_false (c == b) true (is_one_of b bs) other))
+    by true own rest = cond-true (c == b) (Some (bytes_or (newest_in None ks c))) (put_of b (home_row ks bs)) own ∙ ap (λ n. Some (bytes_or (newest_in None ks n))) (eqb-true c b own)
+        ∙ sym (cond-true (if c == b then true else is_one_of b bs) (Some (bytes_or (newest_in None ks b))) None (cond-true (c == b) true (is_one_of b bs) own))
+    by false other rest = cond-false (c == b) (Some (bytes_or (newest_in None ks c))) (put_of b (home_row ks bs)) other ∙ rest ∙ sym (ap (λ v. if v then Some (bytes_or (newest_in None ks b)) else None) (cond-false (c == b) true (is_one_of b bs) other))
 
 get_for : (ks : List Kept) (bs : List ℕ) (i : ℕ) (q : Put) → slice_get (home_row ks bs) i ≡ Some q → slice_get bs i ≡ Some q.block
 get_for ks [] i q is = absurd (none-some q is)

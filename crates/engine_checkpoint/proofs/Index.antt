@@ -1,7 +1,7 @@
 -- The index of newest payloads stays right: a record joins at the end, records change their state, the first records are placed.
 use Rattle.std.proofs.Common.{◌≡◌, ℕ, zero, suc, ◌+◌, ◌<◌, ◌≤◌, ◌==◌, nat_le, Bool, true, false, if◌then◌else◌, List, [], ◌∷◌, ◌++◌, length, drop, map, slice_get, Option, Some, None, refl, sym, ◌∙◌, ap, arith, append_assoc}
 use Rattle.std.specs.List.{range_with_len}
-use Rattle.std.proofs.lemmas.Bool.{le-leb, lt-leb}
+use Rattle.std.proofs.lemmas.Bool.{le-leb, lt-leb, cond-true, cond-false}
 use Rattle.std.proofs.lemmas.List.{length-map, map-append}
 use Rattle.std.proofs.lemmas.Option.{same_Some, none-some}
 use Rattle.crash_argument.specs.HomeTest.{is_one_of}
@@ -19,7 +19,7 @@ use Rattle.engine_checkpoint.specs.Index.{newest_spot, IndexIsRight}
 use Rattle.engine_checkpoint.specs.Order.{IsInOrder}
 use Rattle.engine_checkpoint.specs.Steps.{SettlesFirst}
 use Rattle.engine_checkpoint.specs.Turns.{TurnsHeader, EndsBatch, AreSured}
-use Rattle.engine_checkpoint.proofs.Lists.{choose_true, choose_false, map_push}
+use Rattle.engine_checkpoint.proofs.Lists.{map_push}
 
 -- ---- a record joins at the end
 
@@ -42,10 +42,10 @@ index_same v w same as_before right = record {
 same_kept : (n m c d : ℕ) (ps qs : List Put) (fs gs hs is : List ℕ) → n ≡ m → c ≡ d → ps ≡ qs → fs ≡ gs → hs ≡ is → ◌≡◌ {A = Kept} (record { number = n; count = c; payloads = ps; fresh = fs; freed = hs }) (record { number = m; count = d; payloads = qs; fresh = gs; freed = is })
 same_kept n m c d ps qs fs gs hs is e1 e2 e3 e4 e5 = cc
 
-durable_kept : (c : Committed) (d : Durable) → IsDurableOf c d → of_durable d ≡ of_committed c
+pub durable_kept : (c : Committed) (d : Durable) → IsDurableOf c d → of_durable d ≡ of_committed c
 durable_kept c d e = same_kept d.number c.number d.count c.count d.payloads.items c.payloads.items d.fresh.items c.fresh.items d.freed.items c.freed.items e.number e.count (ap (λ xs. xs.items) e.payloads) (ap (λ xs. xs.items) e.fresh) (ap (λ xs. xs.items) e.freed)
 
-sure_kept : (d : Durable) (s : Sure) → IsSureOf d s → of_sure s ≡ of_durable d
+pub sure_kept : (d : Durable) (s : Sure) → IsSureOf d s → of_sure s ≡ of_durable d
 sure_kept d s e = same_kept s.number d.number s.count d.count s.payloads.items d.payloads.items s.fresh.items d.fresh.items s.freed.items d.freed.items e.number e.count (ap (λ xs. xs.items) e.payloads) (ap (λ xs. xs.items) e.fresh) (ap (λ xs. xs.items) e.freed)
 
 -- the oldest committed record becomes durable
@@ -116,7 +116,7 @@ own_stays last number k (p ∷ ps) b above = by (p.block == b) (own_stays last n
     own = record { number = number; at = k }
 
     by : (v : Bool) → without_upto last (spot_in number (k + 1) ps b) ≡ spot_in number (k + 1) ps b → without_upto last (if v then Some own else spot_in number (k + 1) ps b) ≡ (if v then Some own else spot_in number (k + 1) ps b)
-    by true rest = choose_false (nat_le number last) None (Some own) (lt-leb number last above)
+    by true rest = cond-false (nat_le number last) None (Some own) (lt-leb number last above)
     by false rest = rest
 
 own_goes : (last number k : ℕ) (ps : List Put) (b : ℕ) → number ≤ last → without_upto last (spot_in number k ps b) ≡ None
@@ -127,7 +127,7 @@ own_goes last number k (p ∷ ps) b upto = by (p.block == b) (own_goes last numb
     own = record { number = number; at = k }
 
     by : (v : Bool) → without_upto last (spot_in number (k + 1) ps b) ≡ None → without_upto last (if v then Some own else spot_in number (k + 1) ps b) ≡ None
-    by true rest = choose_true (nat_le number last) None (Some own) (le-leb number last upto)
+    by true rest = cond-true (nat_le number last) None (Some own) (le-leb number last upto)
     by false rest = rest
 
 -- a record above the number, and one up to it

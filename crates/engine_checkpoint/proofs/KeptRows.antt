@@ -1,12 +1,12 @@
 -- Rows of records: what is so of their numbers and their ring places as some leave at the front, or go from one state into the next.
-use Rattle.std.proofs.Common.{◌≡◌, ⊎_elim, ℕ, zero, suc, ◌+◌, ◌-◌, ◌≤◌, List, [], ◌∷◌, ◌++◌, length, take, drop, map, slice_get, option_map, Some, Vec, Global, refl, sym, ◌∙◌, subst, ap, arith, append_assoc}
+use Rattle.std.proofs.Common.{◌≡◌, ⊎_elim, ℕ, zero, suc, ◌+◌, ◌-◌, ◌≤◌, List, [], ◌∷◌, ◌++◌, length, take, drop, map, slice_get, option_map, Some, refl, sym, ◌∙◌, subst, ap, arith, append_assoc}
 use Rattle.std.specs.List.{range_with_len}
 use Rattle.std.proofs.lemmas.Option.{same_Some, none-some, slice_get-map}
 use Rattle.layout_journal.specs.Ring.{RingPlaces, without_places}
-use Rattle.engine_running.specs.declared.put.Put.{Put}
 use Rattle.engine_running.specs.declared.states.Durable.{Durable}
 use Rattle.engine_running.specs.declared.states.Sure.{Sure}
 use Rattle.engine_running.specs.States.{IsSureOf}
+use Rattle.engine_checkpoint.proofs.Index.{sure_kept}
 use Rattle.engine_checkpoint.proofs.Lists.{last_or}
 use Rattle.engine_checkpoint.specs.Kept.{of_sure, of_durable, total}
 use Rattle.engine_checkpoint.specs.Turns.{AreSured}
@@ -65,19 +65,11 @@ without_more old now new n m k first then sum = then ∙ ap (λ (r : RingPlaces)
 pub sured_next : (ds : List Durable) (ss : List Sure) (d : Durable) (s : Sure) → AreSured ds ss → slice_get ds (length ss) ≡ Some d → IsSureOf d s → AreSured ds (ss ++ s ∷ [])
 sured_next ds ss d s each is of i t at = ⊎_elim (each i t) (λ own. (d, ap (slice_get ds) own.0 ∙ is, subst (IsSureOf d) own.1 of)) (last_or ss s i t at)
 
-same_kept : (d : Durable) (s : Sure) → IsSureOf d s → of_sure s ≡ of_durable d
-same_kept d s e =
-    ap (λ n. record (of_sure s) { number = n }) e.number
-    ∙ ap (λ n. record (of_sure s) { number = d.number; count = n }) e.count
-    ∙ ap (λ (ps : Vec Put Global). record (of_sure s) { number = d.number; count = d.count; payloads = ps.items }) e.payloads
-    ∙ ap (λ (bs : Vec ℕ Global). record (of_durable d) { fresh = bs.items; freed = s.freed.items }) e.fresh
-    ∙ ap (λ (bs : Vec ℕ Global). record (of_durable d) { freed = bs.items }) e.freed
-
 -- they keep what is kept of them
 pub sured_kept : (ds : List Durable) (ss : List Sure) → AreSured ds ss → map of_sure ss ≡ map of_durable (take (length ss) ds)
 sured_kept ds [] each = refl
 sured_kept [] (s ∷ ss) each = let d = each 0 s refl in absurd (none-some d.0 d.1)
-sured_kept (d ∷ ds) (s ∷ ss) each = let r = each 0 s refl in ap (λ k. k ∷ map of_sure ss) (same_kept d s (subst (λ (x : Durable). IsSureOf x s) (sym (same_Some _ _ r.1)) r.2)) ∙ ap (λ ks. of_durable d ∷ ks) (sured_kept ds ss (λ i t is. each (suc i) t is))
+sured_kept (d ∷ ds) (s ∷ ss) each = let r = each 0 s refl in ap (λ k. k ∷ map of_sure ss) (sure_kept d s (subst (λ (x : Durable). IsSureOf x s) (sym (same_Some _ _ r.1)) r.2)) ∙ ap (λ ks. of_durable d ∷ ks) (sured_kept ds ss (λ i t is. each (suc i) t is))
 
 -- Numbers that follow one another.
 

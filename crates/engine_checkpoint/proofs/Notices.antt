@@ -1,6 +1,6 @@
 -- A notice leaves all that the pipeline keeps.
 use Rattle.std.proofs.Common.{◌≡◌, ◌⊎◌, inl, inr, ⊎_elim, ℕ, ◌≤◌, ◌&&◌, ◌||◌, ◌==◌, Bool, true, false, List, [], ◌∷◌, ◌++◌, map, Option, Some, None, Result, Ok, Err, IsErr, refl, sym, ◌∙◌, subst, ap}
-use Rattle.std.proofs.lemmas.Bool.{eq-eqb, eqb-true, and_parts, false≢true}
+use Rattle.std.proofs.lemmas.Bool.{eq-eqb, eqb-true, and_parts, false≢true, or_right, or_left}
 use Rattle.std.proofs.lemmas.Option.{same_Some, none-some}
 use Rattle.base_types.specs.Seal.{Blocks}
 use Rattle.disk_contract.specs.declared.event.Event.{Event}
@@ -20,14 +20,6 @@ use Rattle.engine_checkpoint.specs.Steps.{TakesOne}
 use Rattle.engine_checkpoint.proofs.Apart.{accepted_more, greatest_more, apart_on}
 use Rattle.engine_checkpoint.proofs.Expected.{expected_with, same_more}
 use Rattle.engine_checkpoint.proofs.HomeSent.{sent_noticed}
-
-or_right : (p q : Bool) → q ≡ true → (p || q) ≡ true
-or_right true q e = refl
-or_right false q e = e
-
-or_left : (p q : Bool) → p ≡ true → (p || q) ≡ true
-or_left true q e = refl
-or_left false q e = absurd (false≢true e)
 
 -- what is noticed stays so, and the last notice is one
 pub noticed_before : (t : ℕ) (log : List Event) (e : Event) → IsNoticed t log → IsNoticed t (log ++ e ∷ [])

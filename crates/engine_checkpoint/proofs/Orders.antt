@@ -1,22 +1,14 @@
 -- The order of the records and the room for them stay as a record goes from one state to the next: which records there are, and how many payloads, doesn't change.
-use Rattle.std.proofs.Common.{◌≡◌, ℕ, ◌+◌, ◌-◌, ◌<◌, ◌≤◌, List, [], ◌∷◌, ◌++◌, length, map, take, drop, slice_get, Some, refl, sym, ◌∙◌, ap, subst, arith, deque_len, deque_capacity, append_assoc, length-append}
+use Rattle.std.proofs.Common.{◌≡◌, ℕ, ◌+◌, ◌-◌, ◌<◌, ◌≤◌, List, [], ◌∷◌, ◌++◌, length, map, take, drop, sym, ◌∙◌, ap, subst, arith, deque_len, deque_capacity, append_assoc}
 use Rattle.engine_running.specs.declared.commit.Committed.{Committed}
 use Rattle.engine_running.specs.declared.states.Durable.{Durable}
 use Rattle.engine_running.specs.States.{IsDurableOf}
 use Rattle.engine_checkpoint.specs.declared.pipeline.Pipeline.{Pipeline}
 use Rattle.engine_checkpoint.specs.Agree.{durable_count}
 use Rattle.engine_checkpoint.specs.Kept.{Kept, kept, of_committed, of_durable, of_sure, numbers, number_of, placed_number, behind_batch, payloads_in, places_taken}
-use Rattle.engine_checkpoint.specs.Order.{IsInOrder, HasRoom, MovesHeader, header_notes}
+use Rattle.engine_checkpoint.specs.Order.{IsInOrder, HasRoom, header_notes}
+use Rattle.engine_checkpoint.proofs.Index.{durable_kept}
 use Rattle.engine_checkpoint.proofs.Lists.{map_push}
-
--- a record is kept the same once it is durable
-kept_durable : (c : Committed) (d : Durable) → IsDurableOf c d → of_durable d ≡ of_committed c
-kept_durable c d is =
-    ap (λ n. record (of_durable d) { number = n }) is.number
-    ∙ ap (λ n. record (of_durable d) { number = c.number; count = n }) is.count
-    ∙ ap (λ ps. record (of_durable d) { number = c.number; count = c.count; payloads = Rattle.std.proofs.Common.vec_items ps }) is.payloads
-    ∙ ap (λ ns. record (of_durable d) { number = c.number; count = c.count; payloads = c.payloads.items; fresh = Rattle.std.proofs.Common.vec_items ns }) is.fresh
-    ∙ ap (λ ns. record (of_durable d) { number = c.number; count = c.count; payloads = c.payloads.items; fresh = c.fresh.items; freed = Rattle.std.proofs.Common.vec_items ns }) is.freed
 
 -- the oldest committed record becomes the last durable one: the records are the same
 pub kept_settled : (v w : Pipeline) (c : Committed) (d : Durable) → w ≡ record v { committed = w.committed; durable = w.durable; notes = w.notes } → v.committed.items ≡ c ∷ w.committed.items → w.durable.items ≡ v.durable.items ++ d ∷ [] → IsDurableOf c d → kept w ≡ kept v
@@ -26,7 +18,7 @@ kept_settled v w c d rest was more is =
     (ap (λ ds. map of_durable ds ++ map of_committed w.committed.items) more
     ∙ ap (λ ks. ks ++ map of_committed w.committed.items) (map_push of_durable v.durable.items d)
     ∙ append_assoc (map of_durable v.durable.items) (of_durable d ∷ []) (map of_committed w.committed.items)
-    ∙ ap (λ k. map of_durable v.durable.items ++ (k ∷ map of_committed w.committed.items)) (kept_durable c d is)
+    ∙ ap (λ k. map of_durable v.durable.items ++ (k ∷ map of_committed w.committed.items)) (durable_kept c d is)
     ∙ ap (λ cs. map of_durable v.durable.items ++ map of_committed cs) (sym was))
 
 module _ (v w : Pipeline) (rest : w ≡ record v { committed = w.committed; durable = w.durable; notes = w.notes }) (same : kept w ≡ kept v) where

@@ -1,12 +1,11 @@
 -- What is pending on a block, by its last write: that write where its ticket isn't noticed, and else nothing.
 use Rattle.std.proofs.Common.{◌≡◌, ◌≢◌, ◌⊎◌, inl, inr, ℕ, ◌<◌, ◌==◌, ◌||◌, Bool, true, false, List, [], ◌∷◌, ◌++◌, length, Some, None, refl, sym, ◌∙◌, ap, subst, arith, length-append}
-use Rattle.std.proofs.lemmas.Bool.{eqb-true, eq-eqb, ne_eqb, false≢true}
+use Rattle.std.proofs.lemmas.Bool.{eqb-true, eq-eqb, ne_eqb, false≢true, cond-true, cond-false}
 use Rattle.base_types.specs.Seal.{Blocks}
 use Rattle.disk_contract.specs.declared.event.Event.{Event}
 use Rattle.disk_contract.specs.declared.event.Event.TheVariants.{Wrote, Lost, Noticed}
 use Rattle.disk_contract.specs.Cell.{Cell, Write, after, after_all, cell_of, from_ticket, greatest_ticket, is_noticed, is_ticket, settle, with_write, IsNoticed}
 use Rattle.crash_argument.specs.LastWrites.{AvoidsBlock, IsLastWrite}
-use Rattle.engine_checkpoint.proofs.Lists.{choose_true, choose_false}
 
 after_append : (b : ℕ) (c : Cell) (es fs : List Event) → after_all b c (es ++ fs) ≡ after_all b (after_all b c es) fs
 after_append b c [] fs = refl
@@ -28,8 +27,8 @@ none_settle t u c [] here none = here
 none_settle t u c (w ∷ ws) here none = by (is_ticket u w.ticket) refl (none_settle t u c ws here none.1)
   where
     by : (v : Bool) → is_ticket u w.ticket ≡ v → HasNone t (settle c (from_ticket u ws)).pending → HasNone t (settle c (from_ticket u (w ∷ ws))).pending
-    by true own rest = subst (λ (us : List Write). HasNone t (settle c us).pending) (sym (choose_true (is_ticket u w.ticket) (w ∷ ws) (from_ticket u ws) own)) none.1
-    by false other rest = subst (λ (us : List Write). HasNone t (settle c us).pending) (sym (choose_false (is_ticket u w.ticket) (w ∷ ws) (from_ticket u ws) other)) rest
+    by true own rest = subst (λ (us : List Write). HasNone t (settle c us).pending) (sym (cond-true (is_ticket u w.ticket) (w ∷ ws) (from_ticket u ws) own)) none.1
+    by false other rest = subst (λ (us : List Write). HasNone t (settle c us).pending) (sym (cond-false (is_ticket u w.ticket) (w ∷ ws) (from_ticket u ws) other)) rest
 
 -- a write of the list adds none, where its ticket is another
 none_written : (b t d : ℕ) (c : Cell) (w : Write) → HasNone t c.pending → is_ticket t w.ticket ≡ false → HasNone t (Rattle.std.specs.Prelude.if◌then◌else◌ (d == b) (with_write c w.ticket w.bytes) c).pending
@@ -55,27 +54,27 @@ pub record EndsWith (t : ℕ) (x : List ℕ) (ws : List Write) : Type 0 where
 
 -- behind the notice of another ticket it is so still
 ends_from : (t u : ℕ) (x : List ℕ) (c : Cell) (front : List Write) → (t == u) ≡ false → HasNone t front → EndsWith t x c.pending → EndsWith t x (settle c (from_ticket u (front ++ record { ticket = Some t; bytes = x } ∷ []))).pending
-ends_from t u x c [] other none ends = subst (λ (us : List Write). EndsWith t x (settle c us).pending) (sym (choose_false (t == u) (record { ticket = Some t; bytes = x } ∷ []) [] other)) ends
+ends_from t u x c [] other none ends = subst (λ (us : List Write). EndsWith t x (settle c us).pending) (sym (cond-false (t == u) (record { ticket = Some t; bytes = x } ∷ []) [] other)) ends
 ends_from t u x c (w ∷ front) other none ends = by (is_ticket u w.ticket) refl (ends_from t u x c front other none.1 ends)
   where
     rest : List Write
     rest = front ++ record { ticket = Some t; bytes = x } ∷ []
 
     by : (v : Bool) → is_ticket u w.ticket ≡ v → EndsWith t x (settle c (from_ticket u rest)).pending → EndsWith t x (settle c (from_ticket u (w ∷ rest))).pending
-    by true own then = subst (λ (us : List Write). EndsWith t x (settle c us).pending) (sym (choose_true (is_ticket u w.ticket) (w ∷ rest) (from_ticket u rest) own)) (record { front = front; is = refl; alone = none.1 })
-    by false other then = subst (λ (us : List Write). EndsWith t x (settle c us).pending) (sym (choose_false (is_ticket u w.ticket) (w ∷ rest) (from_ticket u rest) other)) then
+    by true own then = subst (λ (us : List Write). EndsWith t x (settle c us).pending) (sym (cond-true (is_ticket u w.ticket) (w ∷ rest) (from_ticket u rest) own)) (record { front = front; is = refl; alone = none.1 })
+    by false other then = subst (λ (us : List Write). EndsWith t x (settle c us).pending) (sym (cond-false (is_ticket u w.ticket) (w ∷ rest) (from_ticket u rest) other)) then
 
 -- its own notice leaves nothing pending
 own_from : (t : ℕ) (x : List ℕ) (front : List Write) → HasNone t front → from_ticket t (front ++ record { ticket = Some t; bytes = x } ∷ []) ≡ record { ticket = Some t; bytes = x } ∷ []
-own_from t x [] none = choose_true (t == t) (record { ticket = Some t; bytes = x } ∷ []) [] (eq-eqb t t refl)
-own_from t x (w ∷ front) none = choose_false (is_ticket t w.ticket) (w ∷ (front ++ record { ticket = Some t; bytes = x } ∷ [])) (from_ticket t (front ++ record { ticket = Some t; bytes = x } ∷ [])) none.0 ∙ own_from t x front none.1
+own_from t x [] none = cond-true (t == t) (record { ticket = Some t; bytes = x } ∷ []) [] (eq-eqb t t refl)
+own_from t x (w ∷ front) none = cond-false (is_ticket t w.ticket) (w ∷ (front ++ record { ticket = Some t; bytes = x } ∷ [])) (from_ticket t (front ++ record { ticket = Some t; bytes = x } ∷ [])) none.0 ∙ own_from t x front none.1
 
 own_settles : (t : ℕ) (x : List ℕ) (c : Cell) → EndsWith t x c.pending → (settle c (from_ticket t c.pending)).pending ≡ []
 own_settles t x c ends = ap (λ (us : List Write). (settle c (from_ticket t us)).pending) ends.is ∙ ap (λ (us : List Write). (settle c us).pending) (own_from t x ends.front ends.alone)
 
 -- an event elsewhere leaves the block
 elsewhere : (b d : ℕ) (c k : Cell) → d ≢ b → (Rattle.std.specs.Prelude.if◌then◌else◌ (d == b) k c) ≡ c
-elsewhere b d c k other = choose_false (d == b) k c (ne_eqb d b other)
+elsewhere b d c k other = cond-false (d == b) k c (ne_eqb d b other)
 
 -- on a block at rest nothing comes
 stays_idle : (b : ℕ) (c : Cell) (es : List Event) → AvoidsBlock b es → c.pending ≡ [] → (after_all b c es).pending ≡ []
@@ -147,7 +146,7 @@ module _ (base : Blocks) (log : List Event) (b t : ℕ) (x : List ℕ) (w : IsLa
   cell = after_all b (record { settled = base b; pending = [] }) w.before
 
   comes : EndsWith t x (after b cell (Wrote t b x)).pending
-  comes = subst (λ (k : Cell). EndsWith t x k.pending) (sym (choose_true (b == b) (with_write cell (Some t) x) cell (eq-eqb b b refl))) (record { front = cell.pending; is = refl; alone = none_after b t (record { settled = base b; pending = [] }) w.before w.above tt })
+  comes = subst (λ (k : Cell). EndsWith t x k.pending) (sym (cond-true (b == b) (with_write cell (Some t) x) cell (eq-eqb b b refl))) (record { front = cell.pending; is = refl; alone = none_after b t (record { settled = base b; pending = [] }) w.before w.above tt })
 
   is_cell : cell_of base log b ≡ after_all b (after b cell (Wrote t b x)) w.later
   is_cell = ap (λ (es : List Event). cell_of base es b) w.split ∙ after_append b (record { settled = base b; pending = [] }) w.before (Wrote t b x ∷ w.later)

@@ -1,7 +1,7 @@
 -- What may be taken may be so still once a batch has begun: to none of it a checkpoint write goes.
 use Rattle.std.proofs.Common.{◌≡◌, ℕ, zero, suc, ◌+◌, ◌≤◌, ◌==◌, ◌||◌, Bool, true, false, List, [], ◌∷◌, ◌++◌, length, map, take, drop, slice_get, Option, Some, None, Ok, nat_lt, is_some, refl, sym, ◌∙◌, ap, subst, arith}
 use Rattle.std.proofs.lemmas.List.Folds.{list_any-append}
-use Rattle.std.proofs.lemmas.Bool.{false≢true, eq-eqb, eqb-true, and_parts}
+use Rattle.std.proofs.lemmas.Bool.{false≢true, eq-eqb, eqb-true, and_parts, cond-true, or_right, or_left}
 use Rattle.std.proofs.lemmas.Option.{none-some, same_Some}
 use Rattle.base_types.specs.Seal.{Blocks}
 use Rattle.disk_contract.specs.declared.event.Event.{Event}
@@ -20,15 +20,7 @@ use Rattle.engine_checkpoint.specs.Advance.{MayServe}
 use Rattle.engine_checkpoint.specs.Batch.{AreHomeBlocks, home_block}
 use Rattle.engine_checkpoint.specs.Kept.{of_sure, newest_in}
 use Rattle.engine_checkpoint.specs.Turns.{BeginsBatch, BatchAdds, is_batch_due}
-use Rattle.engine_checkpoint.proofs.Lists.{choose_true}
 use Rattle.engine_checkpoint.proofs.HomeLives.{live_then}
-
-pub among_left : (b : ℕ) (xs ys : List ℕ) → is_among b xs ≡ true → is_among b (xs ++ ys) ≡ true
-among_left b xs ys e = list_any-append (λ x. x == b) xs ys ∙ ap (λ v. v || is_among b ys) e
-
-pub or_right : (p q : Bool) → q ≡ true → (p || q) ≡ true
-or_right true q e = refl
-or_right false q e = e
 
 pub pair_among : (b r k : ℕ) (ps : List (ℕ × ℕ)) → slice_get ps k ≡ Some (b, r) → is_among b (map block_of ps) ≡ true
 pair_among b r k [] is = absurd (none-some (b, r) is)
@@ -37,7 +29,7 @@ pair_among b r (suc k) (p ∷ ps) is = or_right (block_of p == b) (is_among b (m
 
 home_one : (hs : List HomeWrite) (k : ℕ) (h : HomeWrite) → slice_get hs k ≡ Some h → is_one_of h.block (map home_block hs) ≡ true
 home_one [] k h is = absurd (none-some h is)
-home_one (g ∷ hs) zero h is = choose_true (g.block == h.block) true (is_one_of h.block (map home_block hs)) (eq-eqb g.block h.block (ap home_block (same_Some g h is)))
+home_one (g ∷ hs) zero h is = cond-true (g.block == h.block) true (is_one_of h.block (map home_block hs)) (eq-eqb g.block h.block (ap home_block (same_Some g h is)))
 home_one (g ∷ hs) (suc k) h is = or_else (g.block == h.block) (is_one_of h.block (map home_block hs)) (home_one hs k h is)
   where
     or_else : (w e : Bool) → e ≡ true → (Rattle.std.specs.Prelude.if◌then◌else◌ w true e) ≡ true
@@ -59,8 +51,8 @@ module _ (base : Blocks) (log : List Event) (l : Ledger) (v w : Pipeline) (ring 
   goes_home_apart : v.batch ≡ 0 → (b : ℕ) (x : List ℕ) → newest_in None (map of_sure v.sure.items) b ≡ Some x → is_among b dead.reusable ≡ true → ⊥
   goes_home_apart none b x newest may =
       let then = live_then base log l v ring dead.waiting taken a keeps begins tells needs none b x newest in
-      let dead_now = serves.dead_now b (among_left b dead.reusable (map block_of dead.waiting) may) in
-      let lies = sound.lie b (among_left b dead.reusable (dead.held ++ map block_of dead.waiting) may) in
+      let dead_now = serves.dead_now b (list_any-append (λ x. x == b) dead.reusable (map block_of dead.waiting) ∙ or_left _ _ may) in
+      let lies = sound.lie b (list_any-append (λ x. x == b) dead.reusable (dead.held ++ map block_of dead.waiting) ∙ or_left _ _ may) in
       let from : data_start l.geom ≤ b = subst (λ g. data_start g ≤ b) (dead_geom ∙ a.geom) lies.from in
       let wait = a.agree.waiting.each b (l.header.sure + 1) from (omega arith) (omega (arith, a.count, a.sure)) then dead_now in
       false≢true (sym (waits dead b sound (pair_among b wait.1 wait.0 dead.waiting wait.2)) ∙ may)

@@ -1,6 +1,6 @@
 -- Which freed blocks serve again, by the disk's log: those that a step gave up are those on which nothing is pending, of those whose record the newest header at rest makes sure.
 use Rattle.std.proofs.Common.{◌≡◌, ◌⊎◌, inl, inr, ⊎_elim, ℕ, zero, suc, ◌+◌, ◌-◌, ◌<◌, ◌≤◌, ◌==◌, ◌||◌, ◌&&◌, not, nat_le, nat_lt, Bool, true, false, List, [], ◌∷◌, ◌++◌, length, map, slice_get, Option, Some, None, option_map, Ok, refl, sym, ◌∙◌, ap, subst, arith}
-use Rattle.std.proofs.lemmas.Bool.{and_parts, eqb-true, false≢true, le-leb}
+use Rattle.std.proofs.lemmas.Bool.{and_parts, eqb-true, false≢true, le-leb, cond-true, cond-false}
 use Rattle.std.proofs.lemmas.Option.{none-some, same_Some, slice_get_within}
 use Rattle.base_types.specs.Seal.{Blocks}
 use Rattle.disk_contract.specs.declared.disk.DiskFault.{DiskFault}
@@ -26,7 +26,6 @@ use Rattle.engine_checkpoint.specs.Serving.{IsNewestAtRest, ServesByLog, is_at_r
 use Rattle.engine_checkpoint.specs.Turns.{BatchAdds, HeaderAdds, going_home, is_batch_due}
 use Rattle.engine_checkpoint.specs.Waits.{HearsAll}
 use Rattle.engine_checkpoint.proofs.Expected.{with_old}
-use Rattle.engine_checkpoint.proofs.Lists.{choose_true, choose_false}
 use Rattle.engine_checkpoint.proofs.PendingCells.{noticed_rests, open_is_pending}
 use Rattle.engine_checkpoint.proofs.Serves.{among_left, pair_among}
 use Rattle.engine_checkpoint.proofs.Taking.{home_at}
@@ -45,8 +44,8 @@ going_has b (h ∷ hs) notes is = by (is_open h.ticket notes) refl (going_has b 
     more rest at = let r = rest at in (suc r.0, r.1, r.2, r.3, r.4)
 
     by : (v : Bool) → is_open h.ticket notes ≡ v → (is_among b (going_home hs notes) ≡ true → (k : ℕ) × (g : HomeWrite) × (slice_get hs k ≡ Some g) × (g.block ≡ b) × (is_open g.ticket notes ≡ true)) → (k : ℕ) × (g : HomeWrite) × (slice_get (h ∷ hs) k ≡ Some g) × (g.block ≡ b) × (is_open g.ticket notes ≡ true)
-    by false closed rest = more rest (sym (ap (is_among b) (choose_false (is_open h.ticket notes) (h.block ∷ going_home hs notes) (going_home hs notes) closed)) ∙ is)
-    by true opens rest = own (h.block == b) refl (sym (ap (is_among b) (choose_true (is_open h.ticket notes) (h.block ∷ going_home hs notes) (going_home hs notes) opens)) ∙ is)
+    by false closed rest = more rest (sym (ap (is_among b) (cond-false (is_open h.ticket notes) (h.block ∷ going_home hs notes) (going_home hs notes) closed)) ∙ is)
+    by true opens rest = own (h.block == b) refl (sym (ap (is_among b) (cond-true (is_open h.ticket notes) (h.block ∷ going_home hs notes) (going_home hs notes) opens)) ∙ is)
       where
         own : (v : Bool) → (h.block == b) ≡ v → (h.block == b || is_among b (going_home hs notes)) ≡ true → (k : ℕ) × (g : HomeWrite) × (slice_get (h ∷ hs) k ≡ Some g) × (g.block ≡ b) × (is_open g.ticket notes ≡ true)
         own true same at = (0, h, refl, eqb-true h.block b same, opens)

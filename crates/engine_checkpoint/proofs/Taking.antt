@@ -1,6 +1,6 @@
 -- What stays right as the running transaction takes blocks: each block that may be taken may be written fresh.
 use Rattle.std.proofs.Common.{◌≡◌, ◌⊎◌, ⊎_elim, ℕ, zero, suc, ◌≤◌, ◌==◌, ◌&&◌, ◌||◌, not, Bool, true, false, List, [], ◌∷◌, ◌++◌, map, filter, slice_get, Some, refl, sym, ◌∙◌, ap, subst}
-use Rattle.std.proofs.lemmas.Bool.{false≢true, eqb-true}
+use Rattle.std.proofs.lemmas.Bool.{false≢true, eqb-true, or_left}
 use Rattle.std.proofs.lemmas.List.Folds.{list_any-append}
 use Rattle.std.proofs.lemmas.Map.Views.{any-filter_same}
 use Rattle.std.proofs.lemmas.Option.{none-some, same_Some}
@@ -24,7 +24,7 @@ use Rattle.engine_checkpoint.specs.declared.pipeline.HomeWrite.{HomeWrite}
 use Rattle.engine_checkpoint.specs.declared.pipeline.Pipeline.{Pipeline}
 use Rattle.engine_checkpoint.specs.Advance.{IsRight, MayServe}
 use Rattle.engine_checkpoint.specs.Agree.{PipelineAgrees, data_of, home_pair}
-use Rattle.engine_checkpoint.proofs.Serves.{among_left, pair_among}
+use Rattle.engine_checkpoint.proofs.Serves.{pair_among}
 
 -- a dead block that doesn't wait may be written, as the crash argument has it
 abbrev pub DeadLaw : Type 0
@@ -36,9 +36,6 @@ WaitLaw = (d : DeadBlocks) (b : ℕ) → AreSound d → is_among b (map block_of
 
 -- what a filter leaves
 
-filtered : (p : ℕ → Bool) (b : ℕ) (xs : List ℕ) → is_among b (filter p xs) ≡ (p b && is_among b xs)
-filtered p b xs = any-filter_same (λ x. x == b) p (p b) (λ k e. ap p (eqb-true k b e)) xs
-
 or_was : (p q r : Bool) → ((p && q) || r) ≡ true → (q || r) ≡ true
 or_was true q r e = e
 or_was false true r e = refl
@@ -46,14 +43,14 @@ or_was false false r e = e
 
 -- what is among those that were left or among others was so before
 left_was : (p : ℕ → Bool) (b : ℕ) (xs ys : List ℕ) → is_among b (filter p xs ++ ys) ≡ true → is_among b (xs ++ ys) ≡ true
-left_was p b xs ys e = list_any-append (λ x. x == b) xs ys ∙ or_was (p b) (is_among b xs) (is_among b ys) (sym (ap (λ t. t || is_among b ys) (filtered p b xs)) ∙ sym (list_any-append (λ x. x == b) (filter p xs) ys) ∙ e)
+left_was p b xs ys e = list_any-append (λ x. x == b) xs ys ∙ or_was (p b) (is_among b xs) (is_among b ys) (sym (ap (λ t. t || is_among b ys) (any-filter_same (λ x. x == b) p (p b) (λ k e. ap p (eqb-true k b e)) xs)) ∙ sym (list_any-append (λ x. x == b) (filter p xs) ys) ∙ e)
 
 and_not : (p q : Bool) → q ≡ false → (p && q) ≡ false
 and_not true q e = e
 and_not false q e = refl
 
 left_not : (p : ℕ → Bool) (b : ℕ) (xs : List ℕ) → is_among b xs ≡ false → is_among b (filter p xs) ≡ false
-left_not p b xs e = filtered p b xs ∙ and_not (p b) (is_among b xs) e
+left_not p b xs e = any-filter_same (λ x. x == b) p (p b) (λ k e. ap p (eqb-true k b e)) xs ∙ and_not (p b) (is_among b xs) e
 
 -- the checkpoint write of a pair
 pub home_at : (hs : List HomeWrite) (k b t : ℕ) → slice_get (map home_pair hs) k ≡ Some (b, t) → (h : HomeWrite) × (slice_get hs k ≡ Some h) × (h.block ≡ b) × (h.ticket ≡ t)
@@ -122,9 +119,9 @@ module _ (base : Blocks) (log : List Event) (l : Ledger) (v : Pipeline) (ring : 
   -- a block that may be taken may be written fresh
   may_write : (b : ℕ) → is_among b dead.reusable ≡ true → MayWriteFresh log l (data_of v ring dead.waiting) b
   may_write b may =
-      let lies = sound.lie b (among_left b dead.reusable (dead.held ++ map block_of dead.waiting) may) in
+      let lies = sound.lie b (list_any-append (λ x. x == b) dead.reusable (dead.held ++ map block_of dead.waiting) ∙ or_left _ _ may) in
       let from : data_start l.geom ≤ b = subst (λ g. data_start g ≤ b) (dead_geom ∙ a.geom) lies.from in
-      let dead_now = serves.dead_now b (among_left b dead.reusable (map block_of dead.waiting) may) in (
+      let dead_now = serves.dead_now b (list_any-append (λ x. x == b) dead.reusable (map block_of dead.waiting) ∙ or_left _ _ may) in (
         law base log l (data_of v ring dead.waiting) b keeps a.agree from dead_now (λ i r is. false≢true (sym (waits dead b sound (pair_among b r i dead.waiting is)) ∙ may)),
         not_on_its_way b may,
       )

@@ -1,6 +1,6 @@
 -- What the newest payloads are on a disk that tells: those of the ledger's records that aren't placed, and so the newest bytes of live blocks.
 use Rattle.std.proofs.Common.{◌≡◌, ◌⊎◌, inl, inr, ⊎_elim, ℕ, zero, suc, ◌+◌, ◌-◌, ◌≤◌, Bool, true, false, IsTrue, if◌then◌else◌, List, [], ◌∷◌, ◌++◌, length, take, drop, map, slice_get, Option, Some, None, refl, sym, ◌∙◌, ap, ap₂, subst, arith, length-append, length-drop}
-use Rattle.std.proofs.lemmas.Bool.{false≢true}
+use Rattle.std.proofs.lemmas.Bool.{false≢true, cond-false}
 use Rattle.std.proofs.lemmas.List.{length-map}
 use Rattle.std.proofs.lemmas.Option.{same_Some, none-some}
 use Rattle.base_types.specs.Seal.{Blocks}
@@ -18,7 +18,7 @@ use Rattle.engine_running.specs.declared.states.Sure.{Sure}
 use Rattle.engine_checkpoint.specs.declared.pipeline.Pipeline.{Pipeline}
 use Rattle.engine_checkpoint.specs.Agree.{PipelineAgrees, IsRecordAt, durable_count}
 use Rattle.engine_checkpoint.specs.Kept.{Kept, of_committed, of_durable, of_sure, kept, newest_after, newest_in}
-use Rattle.engine_checkpoint.proofs.Lists.{either, get_drop, choose_false}
+use Rattle.engine_checkpoint.proofs.Lists.{either, get_drop}
 
 -- ---- the records that aren't placed are those of the ledger
 
@@ -132,7 +132,7 @@ module _ (l : Ledger) (new : FreshAreNew l) (freed : List (List ℕ)) (are : Are
   one k w f ws fs is at (lives, covers, goes) = by_free (is_one_of b f) refl
     where
       free : is_one_of b f ≡ false → (g : Option (List ℕ)) → goes_after g w f b ≡ or_else (payload_in w b) (if names_block w.says.fresh b then None else g)
-      free e g = choose_false (is_one_of b f) None (or_else (payload_in w b) (if names_block w.says.fresh b then None else g)) e
+      free e g = cond-false (is_one_of b f) None (or_else (payload_in w b) (if names_block w.says.fresh b then None else g)) e
 
       by_fresh : is_one_of b f ≡ false → payload_in w b ≡ None → (v : Bool) → names_block w.says.fresh b ≡ v → Decides (w ∷ ws) (f ∷ fs) ⊎ Leaves w.says.number (w ∷ ws) (f ∷ fs)
       by_fresh e none true fresh = inl (λ c g. covers (covered c w) ∙ same c ∙ sym (goes (goes_after g w f b) ∙ free e g ∙ same g))

@@ -1,9 +1,8 @@
 -- Notes whose tickets ascend are no more than a list that has all these tickets.
 use Rattle.std.proofs.Common.{◌≡◌, ℕ, suc, ◌≤◌, ◌==◌, Bool, true, false, if◌then◌else◌, List, [], ◌∷◌, length, refl, sym, ◌∙◌, ap, arith}
-use Rattle.std.proofs.lemmas.Bool.{eqb-true, eq-eqb, false≢true}
+use Rattle.std.proofs.lemmas.Bool.{eqb-true, eq-eqb, false≢true, cond-true}
 use Rattle.engine_notes.specs.declared.notes.Note.{Note}
 use Rattle.engine_notes.specs.Notes.{is_expected, is_among, are_rising}
-use Rattle.engine_notes.proofs.Marks.{if_true}
 use Rattle.engine_notes.proofs.Rising.{rises, not_above}
 
 -- the list without the first of these
@@ -48,6 +47,6 @@ pub no_more : (ns : List Note) (ts : List ℕ) → are_rising ns ≡ true → ((
 no_more [] ts up within = omega arith
 no_more (n ∷ ns) ts up within = omega (
   arith,
-  one_less n.ticket ts (within n.ticket (if_true (n.ticket == n.ticket) true (is_expected n.ticket ns) (eq-eqb n.ticket n.ticket refl))),
+  one_less n.ticket ts (within n.ticket (cond-true (n.ticket == n.ticket) true (is_expected n.ticket ns) (eq-eqb n.ticket n.ticket refl))),
   no_more ns (without n.ticket ts) (rises n.ticket ns up) (λ u e. others_stay n.ticket u ts (first_alone n ns up u e) (within u (later_expected n ns u e))),
 )

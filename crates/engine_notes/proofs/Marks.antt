@@ -1,14 +1,8 @@
 -- What becomes of the set as a ticket is noticed. The first note of a ticket decides.
 use Rattle.std.proofs.Common.{◌≡◌, ℕ, zero, suc, ◌==◌, ◌<◌, ◌&&◌, ◌||◌, Bool, true, false, if◌then◌else◌, List, [], ◌∷◌, length, take, map, slice_get, slice_set, slice_index_or, Some, refl, sym, ◌∙◌, ap, arith}
-use Rattle.std.proofs.lemmas.Bool.{eqb-true, eq-eqb, false≢true}
+use Rattle.std.proofs.lemmas.Bool.{eqb-true, eq-eqb, false≢true, cond-true, cond-false}
 use Rattle.engine_notes.specs.declared.notes.Note.{Note}
 use Rattle.engine_notes.specs.Notes.{ticket_of, is_expected, is_noticed}
-
-pub if_true : {A : Type 0} (c : Bool) (x y : A) → c ≡ true → (if c then x else y) ≡ x
-if_true c x y e = ap (λ (b : Bool). if b then x else y) e
-
-pub if_false : {A : Type 0} (c : Bool) (x y : A) → c ≡ false → (if c then x else y) ≡ y
-if_false c x y e = ap (λ (b : Bool). if b then x else y) e
 
 -- the marked note
 abbrev pub marked : ℕ → Note
@@ -83,7 +77,7 @@ expected_at t [] at lt own = absurd (below at lt)
   where
     below : (k : ℕ) → k < 0 → ⊥
     below k lt = omega (arith, lt)
-expected_at t (n ∷ ns) zero lt own = if_true (n.ticket == t) true (is_expected t ns) (eq-eqb n.ticket t (own n refl))
+expected_at t (n ∷ ns) zero lt own = cond-true (n.ticket == t) true (is_expected t ns) (eq-eqb n.ticket t (own n refl))
 expected_at t (n ∷ ns) (suc at) lt own = by (n.ticket == t) (expected_at t ns at (omega (arith, lt)) own)
   where
     by : (v : Bool) → is_expected t ns ≡ true → (if v then true else is_expected t ns) ≡ true
@@ -95,9 +89,9 @@ mark_at t [] at d lt none own = absurd (below at lt)
   where
     below : (k : ℕ) → k < 0 → ⊥
     below k lt = omega (arith, lt)
-mark_at t (n ∷ ns) zero d lt none own = sym (if_true (n.ticket == t) n.noticed (is_noticed t ns) (eq-eqb n.ticket t (own n refl)))
-mark_at t (n ∷ ns) (suc at) d lt none own = mark_at t ns at d (omega (arith, lt)) (other_rest t n.ticket (is_expected t (take at ns)) none) own ∙ sym (if_false (n.ticket == t) n.noticed (is_noticed t ns) (other_first t n.ticket (is_expected t (take at ns)) none))
+mark_at t (n ∷ ns) zero d lt none own = sym (cond-true (n.ticket == t) n.noticed (is_noticed t ns) (eq-eqb n.ticket t (own n refl)))
+mark_at t (n ∷ ns) (suc at) d lt none own = mark_at t ns at d (omega (arith, lt)) (other_rest t n.ticket (is_expected t (take at ns)) none) own ∙ sym (cond-false (n.ticket == t) n.noticed (is_noticed t ns) (other_first t n.ticket (is_expected t (take at ns)) none))
 
 pub unmarked : (t : ℕ) (ns : List Note) → is_expected t ns ≡ false → false ≡ is_noticed t ns
 unmarked t [] none = refl
-unmarked t (n ∷ ns) none = unmarked t ns (other_rest t n.ticket (is_expected t ns) none) ∙ sym (if_false (n.ticket == t) n.noticed (is_noticed t ns) (other_first t n.ticket (is_expected t ns) none))
+unmarked t (n ∷ ns) none = unmarked t ns (other_rest t n.ticket (is_expected t ns) none) ∙ sym (cond-false (n.ticket == t) n.noticed (is_noticed t ns) (other_first t n.ticket (is_expected t ns) none))

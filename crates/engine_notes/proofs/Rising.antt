@@ -1,11 +1,11 @@
 -- Notes whose tickets ascend: what a search finds among them, and how they are with a ticket more or less.
 use Rattle.std.proofs.Common.{◌≡◌, ◌≢◌, ⊎_elim, ℕ, zero, suc, ◌+◌, ◌<◌, ◌≤◌, ◌==◌, ◌&&◌, ◌||◌, nat_lt, not, Bool, true, false, if◌then◌else◌, List, [], ◌∷◌, length, take, slice_get, slice_set, slice_index_or, insert, remove, Some, refl, sym, ◌∙◌, ap, subst, arith}
-use Rattle.std.proofs.lemmas.Bool.{cases_Bool, cases_eq, eqb-true, eq-eqb, false≢true, ltb-true, ltb-false, lt-ltb, le-ltb, and_parts, and_from}
+use Rattle.std.proofs.lemmas.Bool.{cases_eq, eqb-true, eq-eqb, false≢true, ltb-true, ltb-false, lt-ltb, le-ltb, and_parts, and_from, cond-true, cond-false, ne_eqb}
 use Rattle.std.proofs.lemmas.Option.{same_Some, none-some, slice_get-get_or}
 use Rattle.std.specs.List.Sorted.{IsPartitionedBy}
 use Rattle.engine_notes.specs.declared.notes.Note.{Note}
 use Rattle.engine_notes.specs.Notes.{is_expected, is_noticed, is_among, are_above, are_rising, with_ticket, without_ticket}
-use Rattle.engine_notes.proofs.Marks.{if_true, if_false, marked}
+use Rattle.engine_notes.proofs.Marks.{marked}
 
 -- the parts of an ascent
 head_above : (s : ℕ) (n : Note) (ns : List Note) → are_above s (n ∷ ns) ≡ true → s < n.ticket
@@ -52,20 +52,17 @@ From ns at t = (k : ℕ) (n : Note) → slice_get ns k ≡ Some n → at ≤ k �
 less : (a b : ℕ) → a < b → a ≡ b → ⊥
 less a b lt e = omega (arith, lt, e)
 
-eqb_not : (a b : ℕ) → a ≢ b → (a == b) ≡ false
-eqb_not a b ne = ⊎_elim (λ e. absurd (ne (eqb-true a b e))) (λ e. e) (cases_Bool (a == b))
-
 -- a ticket that is at or below s isn't in a list above s
 pub not_above : (t s : ℕ) (ns : List Note) → t ≤ s → are_above s ns ≡ true → is_expected t ns ≡ false
 not_above t s [] le up = refl
 not_above t s (n ∷ ns) le up =
-    if_false (n.ticket == t) true (is_expected t ns) (eqb_not n.ticket t (λ e. less t n.ticket (omega (arith, le, head_above s n ns up)) (sym e)))
+    cond-false (n.ticket == t) true (is_expected t ns) (ne_eqb n.ticket t (λ e. less t n.ticket (omega (arith, le, head_above s n ns up)) (sym e)))
     ∙ not_above t n.ticket ns (omega (arith, le, head_above s n ns up)) (rest_above s n ns up)
 
 pub no_mark_above : (t s : ℕ) (ns : List Note) → t ≤ s → are_above s ns ≡ true → is_noticed t ns ≡ false
 no_mark_above t s [] le up = refl
 no_mark_above t s (n ∷ ns) le up =
-    if_false (n.ticket == t) n.noticed (is_noticed t ns) (eqb_not n.ticket t (λ e. less t n.ticket (omega (arith, le, head_above s n ns up)) (sym e)))
+    cond-false (n.ticket == t) n.noticed (is_noticed t ns) (ne_eqb n.ticket t (λ e. less t n.ticket (omega (arith, le, head_above s n ns up)) (sym e)))
     ∙ no_mark_above t n.ticket ns (omega (arith, le, head_above s n ns up)) (rest_above s n ns up)
 
 -- the front up to the search's place has no note of the ticket
@@ -74,16 +71,16 @@ front_lacks t [] zero low = refl
 front_lacks t [] (suc at) low = refl
 front_lacks t (n ∷ ns) zero low = refl
 front_lacks t (n ∷ ns) (suc at) low =
-    if_false (n.ticket == t) true (is_expected t (take at ns)) (eqb_not n.ticket t (less n.ticket t (low 0 n refl (omega arith))))
+    cond-false (n.ticket == t) true (is_expected t (take at ns)) (ne_eqb n.ticket t (less n.ticket t (low 0 n refl (omega arith))))
     ∙ front_lacks t ns at (λ k m is lt. low (suc k) m is (omega arith))
 
 -- nor has the whole, where the one at the search's place is of another
 pub lacks : (t : ℕ) (ns : List Note) (at : ℕ) → are_rising ns ≡ true → Below ns at t → From ns at t → ((n : Note) → slice_get ns at ≡ Some n → n.ticket ≢ t) → is_expected t ns ≡ false
 lacks t [] at up low from other = refl
 lacks t (n ∷ ns) zero up low from other =
-    if_false (n.ticket == t) true (is_expected t ns) (eqb_not n.ticket t (other n refl)) ∙ not_above t n.ticket ns (from 0 n refl (omega arith)) up
+    cond-false (n.ticket == t) true (is_expected t ns) (ne_eqb n.ticket t (other n refl)) ∙ not_above t n.ticket ns (from 0 n refl (omega arith)) up
 lacks t (n ∷ ns) (suc at) up low from other =
-    if_false (n.ticket == t) true (is_expected t ns) (eqb_not n.ticket t (less n.ticket t (low 0 n refl (omega arith))))
+    cond-false (n.ticket == t) true (is_expected t ns) (ne_eqb n.ticket t (less n.ticket t (low 0 n refl (omega arith))))
     ∙ lacks t ns at (rises n.ticket ns up) (λ k m is lt. low (suc k) m is (omega arith)) (λ k m is le. from (suc k) m is (omega arith)) other
 
 -- a new ticket goes to the search's place
@@ -97,37 +94,37 @@ pub put_new : (t : ℕ) (ns : List Note) (at : ℕ) → at ≤ length ns → Bel
 put_new t [] zero le low from other = refl
 put_new t [] (suc at) le low from other = absurd (omega arith)
 put_new t (n ∷ ns) zero le low from other =
-    sym (if_false (nat_lt n.ticket t) (n ∷ with_ticket t ns) (if n.ticket == t then n ∷ ns else new_note t ∷ n ∷ ns) (le-ltb n.ticket t (from 0 n refl (omega arith)))
-    ∙ if_false (n.ticket == t) (n ∷ ns) (new_note t ∷ n ∷ ns) (eqb_not n.ticket t (other n refl)))
+    sym (cond-false (nat_lt n.ticket t) (n ∷ with_ticket t ns) (if n.ticket == t then n ∷ ns else new_note t ∷ n ∷ ns) (le-ltb n.ticket t (from 0 n refl (omega arith)))
+    ∙ cond-false (n.ticket == t) (n ∷ ns) (new_note t ∷ n ∷ ns) (ne_eqb n.ticket t (other n refl)))
 put_new t (n ∷ ns) (suc at) le low from other =
     ap (λ (l : List Note). n ∷ l) (put_new t ns at (omega arith) (λ k m is lt. low (suc k) m is (omega arith)) (λ k m is le. from (suc k) m is (omega arith)) other)
-    ∙ sym (if_true (nat_lt n.ticket t) (n ∷ with_ticket t ns) (if n.ticket == t then n ∷ ns else new_note t ∷ n ∷ ns) (lt-ltb n.ticket t (low 0 n refl (omega arith))))
+    ∙ sym (cond-true (nat_lt n.ticket t) (n ∷ with_ticket t ns) (if n.ticket == t then n ∷ ns else new_note t ∷ n ∷ ns) (lt-ltb n.ticket t (low 0 n refl (omega arith))))
 
 -- and one that is there stays
 pub put_again : (t : ℕ) (ns : List Note) (at : ℕ) → at < length ns → Below ns at t → ((n : Note) → slice_get ns at ≡ Some n → n.ticket ≡ t) → ns ≡ with_ticket t ns
 put_again t [] at lt low own = absurd (omega arith)
 put_again t (n ∷ ns) zero lt low own =
-    sym (if_false (nat_lt n.ticket t) (n ∷ with_ticket t ns) (if n.ticket == t then n ∷ ns else new_note t ∷ n ∷ ns) (le-ltb n.ticket t (omega (arith, own n refl)))
-    ∙ if_true (n.ticket == t) (n ∷ ns) (new_note t ∷ n ∷ ns) (eq-eqb n.ticket t (own n refl)))
+    sym (cond-false (nat_lt n.ticket t) (n ∷ with_ticket t ns) (if n.ticket == t then n ∷ ns else new_note t ∷ n ∷ ns) (le-ltb n.ticket t (omega (arith, own n refl)))
+    ∙ cond-true (n.ticket == t) (n ∷ ns) (new_note t ∷ n ∷ ns) (eq-eqb n.ticket t (own n refl)))
 put_again t (n ∷ ns) (suc at) lt low own =
     ap (λ (l : List Note). n ∷ l) (put_again t ns at (omega arith) (λ k m is lt. low (suc k) m is (omega arith)) own)
-    ∙ sym (if_true (nat_lt n.ticket t) (n ∷ with_ticket t ns) (if n.ticket == t then n ∷ ns else new_note t ∷ n ∷ ns) (lt-ltb n.ticket t (low 0 n refl (omega arith))))
+    ∙ sym (cond-true (nat_lt n.ticket t) (n ∷ with_ticket t ns) (if n.ticket == t then n ∷ ns else new_note t ∷ n ∷ ns) (lt-ltb n.ticket t (low 0 n refl (omega arith))))
 
 -- the ticket at the search's place goes
 pub taken_out : (t : ℕ) (ns : List Note) (at : ℕ) → at < length ns → Below ns at t → ((n : Note) → slice_get ns at ≡ Some n → n.ticket ≡ t) → remove ns at ≡ without_ticket t ns
 taken_out t [] at lt low own = absurd (omega arith)
-taken_out t (n ∷ ns) zero lt low own = sym (if_true (n.ticket == t) ns (n ∷ without_ticket t ns) (eq-eqb n.ticket t (own n refl)))
+taken_out t (n ∷ ns) zero lt low own = sym (cond-true (n.ticket == t) ns (n ∷ without_ticket t ns) (eq-eqb n.ticket t (own n refl)))
 taken_out t (n ∷ ns) (suc at) lt low own =
     ap (λ (l : List Note). n ∷ l) (taken_out t ns at (omega arith) (λ k m is lt. low (suc k) m is (omega arith)) own)
-    ∙ sym (if_false (n.ticket == t) ns (n ∷ without_ticket t ns) (eqb_not n.ticket t (less n.ticket t (low 0 n refl (omega arith)))))
+    ∙ sym (cond-false (n.ticket == t) ns (n ∷ without_ticket t ns) (ne_eqb n.ticket t (less n.ticket t (low 0 n refl (omega arith)))))
 
 pub none_out : (t : ℕ) (ns : List Note) → is_expected t ns ≡ false → ns ≡ without_ticket t ns
 none_out t [] out = refl
 none_out t (n ∷ ns) out = by (n.ticket == t) refl (none_out t ns)
   where
     by : (v : Bool) → (n.ticket == t) ≡ v → (is_expected t ns ≡ false → ns ≡ without_ticket t ns) → n ∷ ns ≡ without_ticket t (n ∷ ns)
-    by true e rest = absurd (false≢true (sym out ∙ if_true (n.ticket == t) true (is_expected t ns) e))
-    by false e rest = ap (λ (l : List Note). n ∷ l) (rest (sym (if_false (n.ticket == t) true (is_expected t ns) e) ∙ out)) ∙ sym (if_false (n.ticket == t) ns (n ∷ without_ticket t ns) e)
+    by true e rest = absurd (false≢true (sym out ∙ cond-true (n.ticket == t) true (is_expected t ns) e))
+    by false e rest = ap (λ (l : List Note). n ∷ l) (rest (sym (cond-false (n.ticket == t) true (is_expected t ns) e) ∙ out)) ∙ sym (cond-false (n.ticket == t) ns (n ∷ without_ticket t ns) e)
 
 -- The set with a ticket more.
 
@@ -136,10 +133,10 @@ above_with s t [] lt up = above_cons s (new_note t) [] lt refl
 above_with s t (n ∷ ns) lt up = by (nat_lt n.ticket t) refl (n.ticket == t) refl (above_with n.ticket t ns)
   where
     by : (u : Bool) → nat_lt n.ticket t ≡ u → (v : Bool) → (n.ticket == t) ≡ v → (n.ticket < t → are_above n.ticket ns ≡ true → are_above n.ticket (with_ticket t ns) ≡ true) → are_above s (with_ticket t (n ∷ ns)) ≡ true
-    by true e v f more = ap (are_above s) (if_true (nat_lt n.ticket t) (n ∷ with_ticket t ns) (if n.ticket == t then n ∷ ns else new_note t ∷ n ∷ ns) e)
+    by true e v f more = ap (are_above s) (cond-true (nat_lt n.ticket t) (n ∷ with_ticket t ns) (if n.ticket == t then n ∷ ns else new_note t ∷ n ∷ ns) e)
         ∙ above_cons s n (with_ticket t ns) (head_above s n ns up) (more (ltb-true n.ticket t e) (rest_above s n ns up))
-    by false e true f more = ap (are_above s) (if_false (nat_lt n.ticket t) (n ∷ with_ticket t ns) (if n.ticket == t then n ∷ ns else new_note t ∷ n ∷ ns) e ∙ if_true (n.ticket == t) (n ∷ ns) (new_note t ∷ n ∷ ns) f) ∙ up
-    by false e false f more = ap (are_above s) (if_false (nat_lt n.ticket t) (n ∷ with_ticket t ns) (if n.ticket == t then n ∷ ns else new_note t ∷ n ∷ ns) e ∙ if_false (n.ticket == t) (n ∷ ns) (new_note t ∷ n ∷ ns) f)
+    by false e true f more = ap (are_above s) (cond-false (nat_lt n.ticket t) (n ∷ with_ticket t ns) (if n.ticket == t then n ∷ ns else new_note t ∷ n ∷ ns) e ∙ cond-true (n.ticket == t) (n ∷ ns) (new_note t ∷ n ∷ ns) f) ∙ up
+    by false e false f more = ap (are_above s) (cond-false (nat_lt n.ticket t) (n ∷ with_ticket t ns) (if n.ticket == t then n ∷ ns else new_note t ∷ n ∷ ns) e ∙ cond-false (n.ticket == t) (n ∷ ns) (new_note t ∷ n ∷ ns) f)
         ∙ above_cons s (new_note t) (n ∷ ns) lt (above_cons t n ns (strict n.ticket t (ltb-false n.ticket t e) (λ same. false≢true (sym f ∙ eq-eqb n.ticket t same))) (rest_above s n ns up))
 
 pub rising_with : (t : ℕ) (ns : List Note) → are_rising ns ≡ true → are_rising (with_ticket t ns) ≡ true
@@ -147,9 +144,9 @@ rising_with t [] up = refl
 rising_with t (n ∷ ns) up = by (nat_lt n.ticket t) refl (n.ticket == t) refl
   where
     by : (u : Bool) → nat_lt n.ticket t ≡ u → (v : Bool) → (n.ticket == t) ≡ v → are_rising (with_ticket t (n ∷ ns)) ≡ true
-    by true e v f = ap are_rising (if_true (nat_lt n.ticket t) (n ∷ with_ticket t ns) (if n.ticket == t then n ∷ ns else new_note t ∷ n ∷ ns) e) ∙ above_with n.ticket t ns (ltb-true n.ticket t e) up
-    by false e true f = ap are_rising (if_false (nat_lt n.ticket t) (n ∷ with_ticket t ns) (if n.ticket == t then n ∷ ns else new_note t ∷ n ∷ ns) e ∙ if_true (n.ticket == t) (n ∷ ns) (new_note t ∷ n ∷ ns) f) ∙ up
-    by false e false f = ap are_rising (if_false (nat_lt n.ticket t) (n ∷ with_ticket t ns) (if n.ticket == t then n ∷ ns else new_note t ∷ n ∷ ns) e ∙ if_false (n.ticket == t) (n ∷ ns) (new_note t ∷ n ∷ ns) f)
+    by true e v f = ap are_rising (cond-true (nat_lt n.ticket t) (n ∷ with_ticket t ns) (if n.ticket == t then n ∷ ns else new_note t ∷ n ∷ ns) e) ∙ above_with n.ticket t ns (ltb-true n.ticket t e) up
+    by false e true f = ap are_rising (cond-false (nat_lt n.ticket t) (n ∷ with_ticket t ns) (if n.ticket == t then n ∷ ns else new_note t ∷ n ∷ ns) e ∙ cond-true (n.ticket == t) (n ∷ ns) (new_note t ∷ n ∷ ns) f) ∙ up
+    by false e false f = ap are_rising (cond-false (nat_lt n.ticket t) (n ∷ with_ticket t ns) (if n.ticket == t then n ∷ ns else new_note t ∷ n ∷ ns) e ∙ cond-false (n.ticket == t) (n ∷ ns) (new_note t ∷ n ∷ ns) f)
         ∙ above_cons t n ns (strict n.ticket t (ltb-false n.ticket t e) (λ same. false≢true (sym f ∙ eq-eqb n.ticket t same))) up
 
 pub expected_with : (t u : ℕ) (ns : List Note) → is_expected u (with_ticket t ns) ≡ (t == u || is_expected u ns)
@@ -176,10 +173,10 @@ expected_with t u (n ∷ ns) = by (nat_lt n.ticket t) refl (n.ticket == t) refl 
     first false y = refl
 
     by : (c : Bool) → nat_lt n.ticket t ≡ c → (v : Bool) → (n.ticket == t) ≡ v → is_expected u (with_ticket t ns) ≡ (t == u || is_expected u ns) → is_expected u (with_ticket t (n ∷ ns)) ≡ (t == u || is_expected u (n ∷ ns))
-    by true e v f more = ap (is_expected u) (if_true (nat_lt n.ticket t) (n ∷ with_ticket t ns) (if n.ticket == t then n ∷ ns else new_note t ∷ n ∷ ns) e) ∙ shift (n.ticket == u) (t == u) (is_expected u (with_ticket t ns)) (is_expected u ns) more
-    by false e true f more = ap (is_expected u) (if_false (nat_lt n.ticket t) (n ∷ with_ticket t ns) (if n.ticket == t then n ∷ ns else new_note t ∷ n ∷ ns) e ∙ if_true (n.ticket == t) (n ∷ ns) (new_note t ∷ n ∷ ns) f)
+    by true e v f more = ap (is_expected u) (cond-true (nat_lt n.ticket t) (n ∷ with_ticket t ns) (if n.ticket == t then n ∷ ns else new_note t ∷ n ∷ ns) e) ∙ shift (n.ticket == u) (t == u) (is_expected u (with_ticket t ns)) (is_expected u ns) more
+    by false e true f more = ap (is_expected u) (cond-false (nat_lt n.ticket t) (n ∷ with_ticket t ns) (if n.ticket == t then n ∷ ns else new_note t ∷ n ∷ ns) e ∙ cond-true (n.ticket == t) (n ∷ ns) (new_note t ∷ n ∷ ns) f)
         ∙ twice (n.ticket == u) (t == u) (is_expected u ns) (ap (λ k. k == u) (eqb-true n.ticket t f))
-    by false e false f more = ap (is_expected u) (if_false (nat_lt n.ticket t) (n ∷ with_ticket t ns) (if n.ticket == t then n ∷ ns else new_note t ∷ n ∷ ns) e ∙ if_false (n.ticket == t) (n ∷ ns) (new_note t ∷ n ∷ ns) f)
+    by false e false f more = ap (is_expected u) (cond-false (nat_lt n.ticket t) (n ∷ with_ticket t ns) (if n.ticket == t then n ∷ ns else new_note t ∷ n ∷ ns) e ∙ cond-false (n.ticket == t) (n ∷ ns) (new_note t ∷ n ∷ ns) f)
         ∙ first (t == u) (is_expected u (n ∷ ns))
 
 pub noticed_with : (t u : ℕ) (ns : List Note) → are_rising ns ≡ true → is_noticed u (with_ticket t ns) ≡ is_noticed u ns
@@ -195,10 +192,10 @@ noticed_with t u (n ∷ ns) up = by (nat_lt n.ticket t) refl (n.ticket == t) ref
     none false same e = refl
 
     by : (c : Bool) → nat_lt n.ticket t ≡ c → (v : Bool) → (n.ticket == t) ≡ v → is_noticed u (with_ticket t ns) ≡ is_noticed u ns → is_noticed u (with_ticket t (n ∷ ns)) ≡ is_noticed u (n ∷ ns)
-    by true e v f more = ap (is_noticed u) (if_true (nat_lt n.ticket t) (n ∷ with_ticket t ns) (if n.ticket == t then n ∷ ns else new_note t ∷ n ∷ ns) e) ∙ ap (λ b. if n.ticket == u then n.noticed else b) more
-    by false e true f more = ap (is_noticed u) (if_false (nat_lt n.ticket t) (n ∷ with_ticket t ns) (if n.ticket == t then n ∷ ns else new_note t ∷ n ∷ ns) e ∙ if_true (n.ticket == t) (n ∷ ns) (new_note t ∷ n ∷ ns) f)
-    by false e false f more = ap (is_noticed u) (if_false (nat_lt n.ticket t) (n ∷ with_ticket t ns) (if n.ticket == t then n ∷ ns else new_note t ∷ n ∷ ns) e ∙ if_false (n.ticket == t) (n ∷ ns) (new_note t ∷ n ∷ ns) f)
-        ∙ none (t == u) refl (if_false (n.ticket == t) n.noticed (is_noticed t ns) f ∙ no_mark_above t n.ticket ns (ltb-false n.ticket t e) up)
+    by true e v f more = ap (is_noticed u) (cond-true (nat_lt n.ticket t) (n ∷ with_ticket t ns) (if n.ticket == t then n ∷ ns else new_note t ∷ n ∷ ns) e) ∙ ap (λ b. if n.ticket == u then n.noticed else b) more
+    by false e true f more = ap (is_noticed u) (cond-false (nat_lt n.ticket t) (n ∷ with_ticket t ns) (if n.ticket == t then n ∷ ns else new_note t ∷ n ∷ ns) e ∙ cond-true (n.ticket == t) (n ∷ ns) (new_note t ∷ n ∷ ns) f)
+    by false e false f more = ap (is_noticed u) (cond-false (nat_lt n.ticket t) (n ∷ with_ticket t ns) (if n.ticket == t then n ∷ ns else new_note t ∷ n ∷ ns) e ∙ cond-false (n.ticket == t) (n ∷ ns) (new_note t ∷ n ∷ ns) f)
+        ∙ none (t == u) refl (cond-false (n.ticket == t) n.noticed (is_noticed t ns) f ∙ no_mark_above t n.ticket ns (ltb-false n.ticket t e) up)
 
 -- The set with a ticket less.
 
@@ -207,16 +204,16 @@ above_without s t [] up = refl
 above_without s t (n ∷ ns) up = by (n.ticket == t) refl (above_without n.ticket t ns (rest_above s n ns up))
   where
     by : (v : Bool) → (n.ticket == t) ≡ v → are_above n.ticket (without_ticket t ns) ≡ true → are_above s (without_ticket t (n ∷ ns)) ≡ true
-    by true e more = ap (are_above s) (if_true (n.ticket == t) ns (n ∷ without_ticket t ns) e) ∙ lower s n.ticket ns (omega (arith, head_above s n ns up)) (rest_above s n ns up)
-    by false e more = ap (are_above s) (if_false (n.ticket == t) ns (n ∷ without_ticket t ns) e) ∙ above_cons s n (without_ticket t ns) (head_above s n ns up) more
+    by true e more = ap (are_above s) (cond-true (n.ticket == t) ns (n ∷ without_ticket t ns) e) ∙ lower s n.ticket ns (omega (arith, head_above s n ns up)) (rest_above s n ns up)
+    by false e more = ap (are_above s) (cond-false (n.ticket == t) ns (n ∷ without_ticket t ns) e) ∙ above_cons s n (without_ticket t ns) (head_above s n ns up) more
 
 pub rising_without : (t : ℕ) (ns : List Note) → are_rising ns ≡ true → are_rising (without_ticket t ns) ≡ true
 rising_without t [] up = refl
 rising_without t (n ∷ ns) up = by (n.ticket == t) refl
   where
     by : (v : Bool) → (n.ticket == t) ≡ v → are_rising (without_ticket t (n ∷ ns)) ≡ true
-    by true e = ap are_rising (if_true (n.ticket == t) ns (n ∷ without_ticket t ns) e) ∙ rises n.ticket ns up
-    by false e = ap are_rising (if_false (n.ticket == t) ns (n ∷ without_ticket t ns) e) ∙ above_without n.ticket t ns up
+    by true e = ap are_rising (cond-true (n.ticket == t) ns (n ∷ without_ticket t ns) e) ∙ rises n.ticket ns up
+    by false e = ap are_rising (cond-false (n.ticket == t) ns (n ∷ without_ticket t ns) e) ∙ above_without n.ticket t ns up
 
 pub expected_without : (t u : ℕ) (ns : List Note) → are_rising ns ≡ true → is_expected u (without_ticket t ns) ≡ (not (t == u) && is_expected u ns)
 expected_without t u [] up = here (t == u)
@@ -232,15 +229,15 @@ expected_without t u (n ∷ ns) up = by (n.ticket == t) refl (expected_without t
     shift false w x y other e = e
 
     apart : (n.ticket == t) ≡ false → (n.ticket == u) ≡ true → (t == u) ≡ false
-    apart f own = eqb_not t u (λ same. false≢true (sym f ∙ eq-eqb n.ticket t (eqb-true n.ticket u own ∙ sym same)))
+    apart f own = ne_eqb t u (λ same. false≢true (sym f ∙ eq-eqb n.ticket t (eqb-true n.ticket u own ∙ sym same)))
 
     gone : (w : Bool) → (t == u) ≡ w → (n.ticket == t) ≡ true → is_expected u ns ≡ (not w && (if n.ticket == u then true else is_expected u ns))
     gone true same f = ap (λ k. is_expected k ns) (sym (eqb-true t u same)) ∙ not_above t n.ticket ns (omega (arith, eqb-true n.ticket t f)) up
-    gone false same f = sym (if_false (n.ticket == u) true (is_expected u ns) (ap (λ k. k == u) (eqb-true n.ticket t f) ∙ same))
+    gone false same f = sym (cond-false (n.ticket == u) true (is_expected u ns) (ap (λ k. k == u) (eqb-true n.ticket t f) ∙ same))
 
     by : (v : Bool) → (n.ticket == t) ≡ v → is_expected u (without_ticket t ns) ≡ (not (t == u) && is_expected u ns) → is_expected u (without_ticket t (n ∷ ns)) ≡ (not (t == u) && is_expected u (n ∷ ns))
-    by true f more = ap (is_expected u) (if_true (n.ticket == t) ns (n ∷ without_ticket t ns) f) ∙ gone (t == u) refl f
-    by false f more = ap (is_expected u) (if_false (n.ticket == t) ns (n ∷ without_ticket t ns) f) ∙ shift (n.ticket == u) (t == u) (is_expected u (without_ticket t ns)) (is_expected u ns) (apart f) more
+    by true f more = ap (is_expected u) (cond-true (n.ticket == t) ns (n ∷ without_ticket t ns) f) ∙ gone (t == u) refl f
+    by false f more = ap (is_expected u) (cond-false (n.ticket == t) ns (n ∷ without_ticket t ns) f) ∙ shift (n.ticket == u) (t == u) (is_expected u (without_ticket t ns)) (is_expected u ns) (apart f) more
 
 pub noticed_without : (t u : ℕ) (ns : List Note) → are_rising ns ≡ true → is_noticed u (without_ticket t ns) ≡ (not (t == u) && is_noticed u ns)
 noticed_without t u [] up = here (t == u)
@@ -257,15 +254,15 @@ noticed_without t u (n ∷ ns) up = by (n.ticket == t) refl (noticed_without t u
     shift false w m x y other e = e
 
     apart : (n.ticket == t) ≡ false → (n.ticket == u) ≡ true → (t == u) ≡ false
-    apart f own = eqb_not t u (λ same. false≢true (sym f ∙ eq-eqb n.ticket t (eqb-true n.ticket u own ∙ sym same)))
+    apart f own = ne_eqb t u (λ same. false≢true (sym f ∙ eq-eqb n.ticket t (eqb-true n.ticket u own ∙ sym same)))
 
     gone : (w : Bool) → (t == u) ≡ w → (n.ticket == t) ≡ true → is_noticed u ns ≡ (not w && (if n.ticket == u then n.noticed else is_noticed u ns))
     gone true same f = ap (λ k. is_noticed k ns) (sym (eqb-true t u same)) ∙ no_mark_above t n.ticket ns (omega (arith, eqb-true n.ticket t f)) up
-    gone false same f = sym (if_false (n.ticket == u) n.noticed (is_noticed u ns) (ap (λ k. k == u) (eqb-true n.ticket t f) ∙ same))
+    gone false same f = sym (cond-false (n.ticket == u) n.noticed (is_noticed u ns) (ap (λ k. k == u) (eqb-true n.ticket t f) ∙ same))
 
     by : (v : Bool) → (n.ticket == t) ≡ v → is_noticed u (without_ticket t ns) ≡ (not (t == u) && is_noticed u ns) → is_noticed u (without_ticket t (n ∷ ns)) ≡ (not (t == u) && is_noticed u (n ∷ ns))
-    by true f more = ap (is_noticed u) (if_true (n.ticket == t) ns (n ∷ without_ticket t ns) f) ∙ gone (t == u) refl f
-    by false f more = ap (is_noticed u) (if_false (n.ticket == t) ns (n ∷ without_ticket t ns) f) ∙ shift (n.ticket == u) (t == u) n.noticed (is_noticed u (without_ticket t ns)) (is_noticed u ns) (apart f) more
+    by true f more = ap (is_noticed u) (cond-true (n.ticket == t) ns (n ∷ without_ticket t ns) f) ∙ gone (t == u) refl f
+    by false f more = ap (is_noticed u) (cond-false (n.ticket == t) ns (n ∷ without_ticket t ns) f) ∙ shift (n.ticket == u) (t == u) n.noticed (is_noticed u (without_ticket t ns)) (is_noticed u ns) (apart f) more
 
 -- The set with a mark.
 

@@ -1,33 +1,14 @@
 -- What a test keeps of a range of numbers.
 use Rattle.std.proofs.Common.{◌≡◌, ◌≢◌, ℕ, zero, suc, ◌+◌, ◌<◌, ◌≤◌, ◌==◌, ◌&&◌, ◌||◌, Bool, true, false, cond, ◌⊎◌, inl, inr, List, [], ◌∷◌, ◌++◌, length, filter, refl, sym, ap, ap₂, ◌∙◌, arith}
-use Rattle.std.proofs.Math.Bool.{and-false}
 use Rattle.std.proofs.lemmas.Bool.{cases_eq, eq-eqb, eqb-true, ne_eqb, cond-true, cond-false, false≢true}
 use Rattle.std.proofs.lemmas.List.Elements.{filter-append}
 use Rattle.std.specs.List.{range_with_len}
+use Rattle.std.proofs.lemmas.Map.Views.{any-filter_same}
 use Rattle.engine_reuse.specs.Numbers.{is_among}
 
 -- a number passes the filter where it is there and passes the test
 pub among-filter : (p : ℕ → Bool) (b : ℕ) (xs : List ℕ) → is_among b (filter p xs) ≡ (p b && is_among b xs)
-among-filter p b [] = sym (and-false (p b))
-among-filter p b (x ∷ xs) = by (p x) refl (among-filter p b xs)
-  where
-    kept : (t u v : Bool) → (t ≡ true → u ≡ true) → (t || (u && v)) ≡ (u && (t || v))
-    kept true true v same = refl
-    kept true false v same = absurd (false≢true (same refl))
-    kept false u v same = refl
-
-    left_out : (t u v : Bool) → (t ≡ true → u ≡ false) → (u && v) ≡ (u && (t || v))
-    left_out true true v same = absurd (false≢true (sym (same refl)))
-    left_out true false v same = refl
-    left_out false u v same = refl
-
-    by : (t : Bool) → p x ≡ t → is_among b (filter p xs) ≡ (p b && is_among b xs) → is_among b (cond (p x) (x ∷ filter p xs) (filter p xs)) ≡ (p b && ((x == b) || is_among b xs))
-    by true is rest =
-        ap (is_among b) (cond-true (p x) (x ∷ filter p xs) (filter p xs) is) ∙ ap (λ v. (x == b) || v) rest
-        ∙ kept (x == b) (p b) (is_among b xs) (λ same. ap p (sym (eqb-true x b same)) ∙ is)
-    by false is rest =
-        ap (is_among b) (cond-false (p x) (x ∷ filter p xs) (filter p xs) is) ∙ rest
-        ∙ left_out (x == b) (p b) (is_among b xs) (λ same. ap p (sym (eqb-true x b same)) ∙ is)
+among-filter p b xs = any-filter_same (λ x. x == b) p (p b) (λ k e. ap p (eqb-true k b e)) xs
 
 -- a number is in a range, or it isn't
 pub among_inside : (b a n : ℕ) → a ≤ b → b < a + n → is_among b (range_with_len a n) ≡ true

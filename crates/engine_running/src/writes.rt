@@ -21,7 +21,7 @@ ghost use Rattle.engine_running.specs.Commits.{RecordLeaves};
 
 use crate::{Put, descriptor_at};
 use base_types::Block;
-use crash_argument::{write_fresh, write_last, write_part};
+use crash_argument::{write_fresh, write_last, write_part, writes_join_a_log_one_by_one};
 use disk_contract::{Disk, DiskFault};
 use layout_geometry::Geom;
 use layout_journal::{
@@ -48,6 +48,7 @@ pub(crate) fn issue_fresh<D: Disk>(
     ensures taken { OnOk result (vec_len tickets.new ≡ vec_len tickets.old + length laid.now) }
     ensures capacity { vec_capacity tickets.old ≤ vec_capacity tickets.new }
 {
+    writes_join_a_log_one_by_one();
     for put in laid {
         let ticket = write_fresh(disk, put.block, put.bytes.bytes())?;
         tickets.push(ticket).unwrap();
@@ -87,6 +88,7 @@ pub(crate) fn issue_descriptors<D: Disk>(
     ensures capacity { vec_capacity tickets.old ≤ vec_capacity tickets.new }
 {
     geom.lawful();
+    writes_join_a_log_one_by_one();
     let mut block: Block = [0; 1024];
     for index in 0..descriptor_count((paid.len() + laid.len()) as u32) {
         let descriptor = descriptor_at(epoch, number, index, paid, laid);
@@ -123,6 +125,7 @@ pub(crate) fn issue_payloads<D: Disk>(
     ensures taken { OnOk result (vec_len tickets.new ≡ vec_len tickets.old + length paid.now) }
     ensures capacity { vec_capacity tickets.old ≤ vec_capacity tickets.new }
 {
+    writes_join_a_log_one_by_one();
     let mut stored: Block = [0; 1024];
     let mut at = first;
     for put in paid {

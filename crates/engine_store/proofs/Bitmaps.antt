@@ -81,10 +81,6 @@ books_have_it one runs bounds limits d g m r books held found read geom =
 
 -- A refusal for a wrong bit.
 
--- a block below the bits' end has its bit in a block of the bitmap
-in_bitmap : (n b : ℕ) → b < 8192 * ((n + 8191) / 8192) → b / 8192 < (n + 8191) / 8192
-in_bitmap n b low = omega (arith, low)
-
 -- a test on the bits of one block or the other, where the bit isn't looked at
 unlooked : (low high : Bool) (p q : Bool) → ((false && not p) || (high && (false && p))) ≡ ((false && not q) || (high && (false && q)))
 unlooked low true p q = refl
@@ -93,7 +89,7 @@ unlooked low false p q = refl
 -- which bits are wrong is said by the bitmap's blocks alone
 same_bad : (g : Geometry) (m q : Blocks) (b : ℕ) → data_start g ≤ g.n → ((k : ℕ) → k < bitmap_blocks g → m k ≡ q k) → is_bad_bit g m b ≡ is_bad_bit g q b
 same_bad g m q b room same = ⊎_elim
-    (λ low. ap (λ (x : List ℕ). (nat_lt b (data_start g) && not (bit_at (slice_index x (b % 8192 / 8)) (b % 8) == 1)) || (nat_le g.n b && (nat_lt b (8192 * bitmap_blocks g) && (bit_at (slice_index x (b % 8192 / 8)) (b % 8) == 1)))) (same (b / 8192) (in_bitmap g.n b low)))
+    (λ low. ap (λ (x : List ℕ). (nat_lt b (data_start g) && not (bit_at (slice_index x (b % 8192 / 8)) (b % 8) == 1)) || (nat_le g.n b && (nat_lt b (8192 * bitmap_blocks g) && (bit_at (slice_index x (b % 8192 / 8)) (b % 8) == 1)))) (same (b / 8192) (omega (arith, low))))
     (λ high.
     ap₂ (λ (t u : Bool). (t && not (bit_in m b)) || (nat_le g.n b && (u && bit_in m b))) (le-ltb b (data_start g) (omega (arith, room, high, past g.n b high))) (le-ltb b (8192 * bitmap_blocks g) high)
     ∙ unlooked false (nat_le g.n b) (bit_in m b) (bit_in q b)

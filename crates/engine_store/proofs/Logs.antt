@@ -1,6 +1,6 @@
 -- Logs that go on: notices behind notices, and events that write no block from some block on.
-use Rattle.std.proofs.Common.{◌≡◌, ◌≢◌, ◌⊎◌, inl, inr, ⊎_elim, ℕ, zero, suc, ◌+◌, ◌<◌, ◌≤◌, ◌||◌, Bool, true, false, List, [], ◌∷◌, ◌++◌, take, length, get_or, refl, sym, ◌∙◌, ap, subst, arith, append_assoc, append-nil}
-use Rattle.std.proofs.lemmas.Bool.{false≢true, or_cases}
+use Rattle.std.proofs.Common.{◌≡◌, ◌≢◌, ◌⊎◌, inl, inr, ⊎_elim, ℕ, zero, suc, ◌+◌, ◌<◌, ◌≤◌, ◌||◌, List, [], ◌∷◌, ◌++◌, take, length, get_or, refl, sym, ◌∙◌, ap, subst, arith, append_assoc, append-nil}
+use Rattle.std.proofs.lemmas.Bool.{false≢true, or_cases, or_right, or_left}
 use Rattle.disk_contract.specs.declared.event.Event.{Event}
 use Rattle.disk_contract.specs.declared.event.Event.TheVariants.{Wrote, Lost, Noticed}
 use Rattle.disk_contract.specs.Cell.{IsNoticed, notices}
@@ -28,14 +28,6 @@ notices_then old mid new one two = record {
       two.log ∙ ap (λ (l : List Event). l ++ notices two.tickets) one.log ∙ append_assoc old (notices one.tickets) (notices two.tickets)
       ∙ ap (λ (l : List Event). old ++ l) (sym (notices-append one.tickets two.tickets));
 }
-
-or_left : (p q : Bool) → p ≡ true → (p || q) ≡ true
-or_left true q e = refl
-or_left false q e = absurd (false≢true e)
-
-or_right : (p q : Bool) → q ≡ true → (p || q) ≡ true
-or_right true q e = refl
-or_right false q e = e
 
 -- what is noticed stays so
 pub noticed_still : (t : ℕ) (log more : List Event) → IsNoticed t log → IsNoticed t (log ++ more)
@@ -83,7 +75,7 @@ avoids_both b (Wrote t d x ∷ xs) ys p q = (p.0, avoids_both b xs ys p.1 q)
 avoids_both b (Lost d x ∷ xs) ys p q = (p.0, avoids_both b xs ys p.1 q)
 avoids_both b (Noticed t ∷ xs) ys p q = avoids_both b xs ys p q
 
-notices_avoid : (b : ℕ) (ts : List ℕ) → AvoidsBlock b (notices ts)
+pub notices_avoid : (b : ℕ) (ts : List ℕ) → AvoidsBlock b (notices ts)
 notices_avoid b [] = tt
 notices_avoid b (t ∷ ts) = notices_avoid b ts
 

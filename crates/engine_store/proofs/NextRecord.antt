@@ -109,10 +109,6 @@ newest_is l w m = cond-false (nat_le (next_number (with_record l w m)) (next_num
 pub bitmap_then : BitmapLaw → (l : Ledger) (w : WrittenRecord) (v : TransactionBooks) (last : Blocks) → BeganAt v last → HasBitmap v ((with_record l w (map_of v last)).map_before (next_number (with_record l w (map_of v last))))
 bitmap_then law l w v last began = subst (λ (m : Blocks). HasBitmap v m) (sym (newest_is l w (map_of v last))) (law v last began)
 
--- a bit of a map that has the bitmap
-bit_there : (v : TransactionBooks) (m : Blocks) (b : ℕ) → HasBitmap v m → b < 8192 * bitmap_blocks v.geom → is_set v.geom m b ≡ bit_now v b
-bit_there v m b has low = ap (λ x. bit_at (slice_index x (b % 8192 / 8)) (b % 8) == 1) (has (b / 8192) (omega (arith, low)))
-
 -- an empty transaction put nothing
 none_put : (c : Changes) → IsEmpty c → (b : ℕ) → bytes_put c b ≡ None
 none_put c e b = ap₂ (λ (x y : List Put). or_else (put_of b x) (put_of b y)) e.laid e.paid
@@ -122,8 +118,8 @@ pub began_then : BitmapLaw → (l : Ledger) (w : WrittenRecord) (v : Transaction
 began_then law l w v c last number began e = record {
   bitmap = λ k low. ap (λ x. otherwise x (newest (bitmap_start v.geom + k))) (none_put c e (bitmap_start v.geom + k)) ∙ has k low;
   was_dead = λ b own. absurd (false≢true (sym (ap (is_one_of b) e.taken) ∙ own));
-  took = λ b low is out. absurd (false≢true (sym out ∙ bit_there v newest b has low ∙ is));
-  killed = λ b low is set. absurd (false≢true (sym is ∙ sym (bit_there v newest b has low) ∙ set));
+  took = λ b low is out. absurd (false≢true (sym out ∙ bit b low ∙ is));
+  killed = λ b low is set. absurd (false≢true (sym is ∙ sym (bit b low) ∙ set));
   marked = λ b from is. absurd (false≢true (sym (ap is_some (none_put c e b)) ∙ is));
   whole = λ b bytes is. absurd (none-some bytes (sym (none_put c e b) ∙ is));
 }
@@ -133,6 +129,9 @@ began_then law l w v c last number began e = record {
 
     has : HasBitmap v newest
     has = bitmap_then law l w v last began
+
+    bit : (b : ℕ) → b < 8192 * bitmap_blocks v.geom → is_set v.geom newest b ≡ bit_now v b
+    bit b low = ap (λ x. bit_at (slice_index x (b % 8192 / 8)) (b % 8) == 1) (has (b / 8192) (omega (arith, low)))
 
 -- a map that was cut to where it is defined stays as it is, cut so again
 cut_twice : (d : Bool) (x : List ℕ) → (if d then (if d then x else []) else []) ≡ (if d then x else [])

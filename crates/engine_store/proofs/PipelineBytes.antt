@@ -47,12 +47,9 @@ writes_noticed (Wrote t c y ∷ log) ts = ap (λ n. 1 + n) (writes_noticed log t
 writes_noticed (Lost c y ∷ log) ts = ap (λ n. 1 + n) (writes_noticed log ts)
 writes_noticed (Noticed t ∷ log) ts = writes_noticed log ts
 
-none_in : (e : Event) → Contains [] e → ⊥
-none_in e there = let lt = there.1 in omega (arith, lt)
-
 no_write : (ts : List ℕ) (t b : ℕ) (x : List ℕ) → ¬ Contains (notices ts) (Wrote t b x)
-no_write [] t b x there = none_in (Wrote t b x) there
-no_write (u ∷ ts) t b x there = ⊎_elim (λ first. ⊎_elim (λ none. none_in (Wrote t b x) none) (λ same. is_other u t b x same) (Contains-push_cases [] (Noticed u) (Wrote t b x) first))
+no_write [] t b x there = let lt = there.1 in omega (arith, lt)
+no_write (u ∷ ts) t b x there = ⊎_elim (λ first. ⊎_elim (λ none. let lt = none.1 in omega (arith, lt)) (λ same. is_other u t b x same) (Contains-push_cases [] (Noticed u) (Wrote t b x) first))
     (λ behind. no_write ts t b x behind) (Contains-append_cases (Noticed u ∷ []) (notices ts) (Wrote t b x) there)
   where
     is_other : (u t b : ℕ) (x : List ℕ) → Noticed u ≡ Wrote t b x → ⊥

@@ -192,13 +192,10 @@ rest_lacks q qs rising k p is = differ q.block p.block (rising 0 (suc k) q p (om
     differ : (a c : ℕ) → a < c → c ≢ a
     differ a c low e = omega (arith, low, e)
 
-rising_rest : (q : Put) (qs : List Put) → IsRising (q ∷ qs) → IsRising qs
-rising_rest q qs rising i k p r low at_p at_r = rising (suc i) (suc k) p r (omega (arith, low)) at_p at_r
-
 -- the fresh blocks have the bytes that were put
 fresh_after : (b : ℕ) (x : List ℕ) (laid : List Put) → IsRising laid → after_writes b x (map fresh_write laid) ≡ otherwise (put_of b laid) x
 fresh_after b x [] rising = refl
-fresh_after b x (q ∷ qs) rising = by (q.block == b) refl (fresh_after b x qs (rising_rest q qs rising))
+fresh_after b x (q ∷ qs) rising = by (q.block == b) refl (fresh_after b x qs (λ i k p r low. rising (suc i) (suc k) p r (omega (arith, low))))
   where
     by : (v : Bool) → (q.block == b) ≡ v → after_writes b x (map fresh_write qs) ≡ otherwise (put_of b qs) x → after_writes b (if q.block == b then q.bytes else x) (map fresh_write qs) ≡ otherwise (if q.block == b then Some q.bytes else put_of b qs) x
     by true e rest =

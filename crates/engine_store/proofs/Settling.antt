@@ -1,6 +1,6 @@
 -- What a row of writes leaves that is waited for, block by block, where nothing was pending.
-use Rattle.std.proofs.Common.{◌≡◌, ◌≢◌, ◌⊎◌, inl, inr, ⊎_elim, ℕ, zero, suc, ◌+◌, ◌<◌, ◌≤◌, ◌==◌, nat_lt, Bool, true, false, if◌then◌else◌, List, [], ◌∷◌, ◌++◌, Some, refl, sym, ◌∙◌, ap, subst, arith}
-use Rattle.std.proofs.lemmas.Bool.{false≢true, or_cases, cases_eq, cases_Bool, ltb-true, ltb-false, eq-eqb, ne_eqb, eqb-true, eqb-false}
+use Rattle.std.proofs.Common.{◌≡◌, ◌≢◌, ◌⊎◌, inl, inr, ⊎_elim, ℕ, zero, suc, ◌+◌, ◌<◌, ◌≤◌, ◌==◌, nat_lt, true, false, if◌then◌else◌, List, [], ◌∷◌, ◌++◌, Some, refl, sym, ◌∙◌, ap, subst, arith}
+use Rattle.std.proofs.lemmas.Bool.{false≢true, or_cases, cases_eq, cases_Bool, ltb-true, ltb-false, eq-eqb, ne_eqb, eqb-true, eqb-false, cond-true, cond-false}
 use Rattle.base_types.specs.Seal.{Blocks}
 use Rattle.disk_contract.specs.declared.event.Event.{Event}
 use Rattle.disk_contract.specs.declared.event.Event.TheVariants.{Wrote, Lost, Noticed}
@@ -9,15 +9,7 @@ use Rattle.crash_argument.specs.LastWrites.{AvoidsBlock}
 use Rattle.crash_argument.specs.PipelineData.{AllNoticed}
 use Rattle.crash_argument.specs.Writes.{AddsWrites}
 use Rattle.engine_store.specs.Formatting.{row_of, AddsDurably}
-use Rattle.engine_store.proofs.Logs.{noticed_in}
-
-if_true : {A : Type 0} (t : Bool) (x y : A) → t ≡ true → (if t then x else y) ≡ x
-if_true true x y e = refl
-if_true false x y e = cc
-
-if_false : {A : Type 0} (t : Bool) (x y : A) → t ≡ false → (if t then x else y) ≡ y
-if_false true x y e = cc
-if_false false x y e = refl
+use Rattle.engine_store.proofs.Logs.{noticed_in, notices_avoid}
 
 -- events behind others
 after_all-append : (b : ℕ) (c : Cell) (xs ys : List Event) → after_all b c (xs ++ ys) ≡ after_all b (after_all b c xs) ys
@@ -34,13 +26,9 @@ idle_notice c t e = rw e refl
 -- and so do all events that don't write the block
 pub idle_avoids : (b : ℕ) (c : Cell) (es : List Event) → c.pending ≡ [] → AvoidsBlock b es → after_all b c es ≡ c
 idle_avoids b c [] e a = refl
-idle_avoids b c (Wrote t d x ∷ es) e a = ap (λ k. after_all b k es) (if_false (d == b) (with_write c (Some t) x) c (ne_eqb d b a.0)) ∙ idle_avoids b c es e a.1
-idle_avoids b c (Lost d x ∷ es) e a = ap (λ k. after_all b k es) (if_false (d == b) _ c (ne_eqb d b a.0)) ∙ idle_avoids b c es e a.1
+idle_avoids b c (Wrote t d x ∷ es) e a = ap (λ k. after_all b k es) (cond-false (d == b) (with_write c (Some t) x) c (ne_eqb d b a.0)) ∙ idle_avoids b c es e a.1
+idle_avoids b c (Lost d x ∷ es) e a = ap (λ k. after_all b k es) (cond-false (d == b) _ c (ne_eqb d b a.0)) ∙ idle_avoids b c es e a.1
 idle_avoids b c (Noticed t ∷ es) e a = ap (λ k. after_all b k es) (idle_notice c t e) ∙ idle_avoids b c es e a
-
-pub notices_avoid : (b : ℕ) (ts : List ℕ) → AvoidsBlock b (notices ts)
-notices_avoid b [] = tt
-notices_avoid b (t ∷ ts) = notices_avoid b ts
 
 -- the one pending write is settled once its ticket is among the notices
 waited : (b t : ℕ) (old x : List ℕ) (ts : List ℕ) → IsNoticed t (notices ts)
@@ -54,10 +42,10 @@ waited b t old x (u ∷ ts) h =
 
 -- the first write of a row, on another block and on its own
 other_wrote : (base : Blocks) (log : List Event) (t a b : ℕ) (x : List ℕ) → a ≢ b → cell_of base (log ++ Wrote t a x ∷ []) b ≡ cell_of base log b
-other_wrote base log t a b x apart = cell_of-append base log _ b ∙ if_false (a == b) _ _ (ne_eqb a b apart)
+other_wrote base log t a b x apart = cell_of-append base log _ b ∙ cond-false (a == b) _ _ (ne_eqb a b apart)
 
 own_wrote : (base : Blocks) (log : List Event) (t a b : ℕ) (x : List ℕ) → a ≡ b → cell_of base (log ++ Wrote t a x ∷ []) b ≡ with_write (cell_of base log b) (Some t) x
-own_wrote base log t a b x e = cell_of-append base log _ b ∙ if_true (a == b) _ _ (eq-eqb a b e)
+own_wrote base log t a b x e = cell_of-append base log _ b ∙ cond-true (a == b) _ _ (eq-eqb a b e)
 
 -- a write is no notice
 not_noticed : (t u b : ℕ) (x : List ℕ) (log : List Event) → ¬ IsNoticed t log → ¬ IsNoticed t (log ++ Wrote u b x ∷ [])

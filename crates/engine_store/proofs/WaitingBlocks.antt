@@ -111,11 +111,8 @@ all_wait (x ∷ bs) b n = by (x == b) (all_wait bs b n)
 
 -- Dead blocks.
 
-among_append : (b : ℕ) (xs ys : List ℕ) → is_among b (xs ++ ys) ≡ (is_among b xs || is_among b ys)
-among_append b xs ys = list_any-append (λ x. x == b) xs ys
-
 pub dead_is : (v : DeadBlocks) (b : ℕ) → is_among b (dead_blocks v) ≡ (is_among b v.reusable || (is_among b v.held || is_among b (map block_of v.waiting)))
-dead_is v b = among_append b v.reusable (v.held ++ map block_of v.waiting) ∙ ap (λ x. is_among b v.reusable || x) (among_append b v.held (map block_of v.waiting))
+dead_is v b = list_any-append (λ x. x == b) v.reusable (v.held ++ map block_of v.waiting) ∙ ap (λ x. is_among b v.reusable || x) (list_any-append (λ x. x == b) v.held (map block_of v.waiting))
 
 times_append : (b : ℕ) (xs ys : List ℕ) → times b (xs ++ ys) ≡ times b xs + times b ys
 times_append b xs ys = sum_by-append (λ x. cond (x == b) 1 0) xs ys

@@ -2,12 +2,7 @@
 use Rattle.std.proofs.Common.{◌≡◌, ℕ, zero, suc, Bool, true, false, List, ◌++◌, replicate, Option, Some, refl}
 use Rattle.layout_bytes.specs.Bytes.{are_zeros, when}
 
--- where a test holds, the value is there
-pub when_is : {A : Type 0} (t : Bool) (o : Option A) → t ≡ true → when t o ≡ o
-when_is true o e = refl
-when_is false o e = cc
-
--- both at once
+-- what is there under a test passed the test, and is the value under it
 pub when_parts : {A : Type 0} (t : Bool) (o : Option A) (y : A) → when t o ≡ Some y → (t ≡ true) × (o ≡ Some y)
 when_parts true o y e = (refl, e)
 when_parts false o y e = cc

@@ -1,5 +1,5 @@
 -- A slot's spelling reads as that slot, and what reads as a slot is its spelling.
-use Rattle.std.proofs.Common.{◌+◌, ◌-◌, ◌≡◌, ◌<◌, ◌≤◌, ℕ, zero, suc, true, List, [], ◌∷◌, ◌++◌, length, take, drop, replicate, slice_index, Some, refl, sym, ◌∙◌, ap, ap₂, arith, take_all}
+use Rattle.std.proofs.Common.{◌+◌, ◌-◌, ◌≡◌, ◌<◌, ◌≤◌, ℕ, zero, suc, Bool, true, List, [], ◌∷◌, ◌++◌, length, take, drop, replicate, slice_index, Some, refl, sym, ◌∙◌, ap, ap₂, arith, take_all}
 use Rattle.std.proofs.Math.Seq.{take-append_seam, drop-append_seam}
 use Rattle.std.proofs.lemmas.List.{length-replicate, length-take-le, length-drop, length-append, drop-drop, take-append-drop}
 use Rattle.std.proofs.lemmas.Bool.{and_from, and_parts, le-leb, leb-true}
@@ -7,8 +7,8 @@ use Rattle.std.proofs.lemmas.Nat.{le_bytes_4}
 use Rattle.byteorder.specs.Endian.{little_bytes}
 use Rattle.byteorder.specs.Numbers.{little_number-reads_back, little_from-lt}
 use Rattle.base_types.specs.Name.{is_name}
-use Rattle.layout_bytes.specs.Bytes.{field, are_zeros, has_zeros, ZerosAreTold}
-use Rattle.layout_directory.proofs.Fields.{when_is, when_parts, zeros_are}
+use Rattle.layout_bytes.specs.Bytes.{field, are_zeros, has_zeros, when, ZerosAreTold}
+use Rattle.layout_directory.proofs.Fields.{when_parts, zeros_are}
 use Rattle.layout_bytes.specs.Slot.{name_in, slot_of, slot_spelling}
 use Rattle.layout_directory.specs.Slots.{Slot, IsLawful, IsSlot}
 
@@ -39,7 +39,8 @@ reads s lawful =
     ap (λ xs. are_zeros (take (64 - (5 + length s.name)) xs)) behind
     ∙ ap are_zeros (take_all (64 - (5 + length s.name)) (replicate (59 - length s.name) 0) (omega (arith, length-replicate {A = ℕ} (59 - length s.name) 0)))
     ∙ zeros_are (59 - length s.name) in
-    when_is _ _ (and_from _ _ (le-leb (length s.name) 59 short) (and_from _ _ (ap is_name name ∙ lawful.name) zeros))
+    let slot : Slot = record { node = field b 0 4; name = name_in b } in
+    ap (λ (t : Bool). when t (Some slot)) (and_from _ _ (le-leb (length s.name) 59 short) (and_from _ _ (ap is_name name ∙ lawful.name) zeros))
     ∙ ap (λ (r : Slot). Some r) (slot_from s _ _ (little_number-reads_back 4 s.node (length s.name ∷ (s.name ++ replicate (59 - length s.name) 0)) (omega (arith, lawful.node))) name)
 
 -- a spelling has one slot

@@ -2,20 +2,10 @@
 use Rattle.std.proofs.Common.{◌≡◌, ℕ, zero, suc, ◌<◌, Bool, true, false, List, [], ◌∷◌, ◌++◌, drop, replicate, slice_index, Option, Some, None, refl, ap, ◌∙◌, append_assoc}
 use Rattle.layout_bytes.specs.Bytes.{are_zeros, when}
 
--- where a test holds, the value is there
-pub when_is : {A : Type 0} (t : Bool) (o : Option A) → t ≡ true → when t o ≡ o
-when_is true o e = refl
-when_is false o e = cc
-
--- what is there under a test passed the test
-pub when_some : {A : Type 0} (t : Bool) (o : Option A) (y : A) → when t o ≡ Some y → t ≡ true
-when_some true o y e = refl
-when_some false o y e = cc
-
--- and is the value under it
-pub when_inner : {A : Type 0} (t : Bool) (o : Option A) (y : A) → when t o ≡ Some y → o ≡ Some y
-when_inner true o y e = e
-when_inner false o y e = cc
+-- what is there under a test passed the test, and is the value under it
+pub when_parts : {A : Type 0} (t : Bool) (o : Option A) (y : A) → when t o ≡ Some y → (t ≡ true) × (o ≡ Some y)
+when_parts true o y e = (refl, e)
+when_parts false o y e = cc
 
 -- a value under a test that fails isn't there, whatever the test before says
 pub none_behind : {A : Type 0} (s : Bool) {t : Bool} (x : Option A) → t ≡ false → when s (when t x) ≡ None

@@ -12,7 +12,7 @@ use Rattle.layout_bytes.specs.declared.node.NodeKind.TheVariants.{Free, Dir, Fil
 use Rattle.layout_node.specs.declared.read.BadNode.{BadNode}
 use Rattle.layout_bytes.specs.Bytes.{field, are_zeros, has_zeros, ZerosAreTold, FirstZerosAreTold, NumbersAreTold}
 use Rattle.layout_bytes.specs.Node.{used_kind, runs_in, node_fits, spare_zeros, node_fields, node_with, node_of, kind_byte, run_bytes, node_spelling, free_node, FitsAs, HasRoom, IsNode}
-use Rattle.layout_node.proofs.Fields.{when_some, when_inner, AreBytes, bytes_drop, so_many_zeros}
+use Rattle.layout_node.proofs.Fields.{when_parts, AreBytes, bytes_drop, so_many_zeros}
 use Rattle.layout_node.proofs.Runs.{runs_again, runs_length, runs_room}
 use Rattle.layout_node.proofs.Spelled.{node_reads, free_zeros, zeros_free}
 
@@ -110,16 +110,15 @@ module _ (zeros_are : ZerosAreTold) (first_zeros_are : FirstZerosAreTold) (numbe
       → IsNode g b n × (n.kind ≡ Free → ⊥)
   by_kind g b n None len low k e = cc
   by_kind g b n (Some kind) len low k e =
-      let inner = when_inner (spare_zeros b) _ n e in
-      let spare = when_some (spare_zeros b) _ n e in
-      let fits = when_some (node_fits g (node_fields kind b)) _ n inner in
-      let same = same_Some _ _ (when_inner (node_fits g (node_fields kind b)) _ n inner) in
+      let read = when_parts (spare_zeros b) _ n e in
+      let used = when_parts (node_fits g (node_fields kind b)) _ n read.1 in
+      let same = same_Some _ _ used.1 in
       let told = kind_spelled (slice_index b 0) kind k in
-      let few : length (runs_in (field b 2 2) (drop 32 b)) ≤ 28 = leb-true _ 28 (and_parts _ _ (and_parts _ _ fits).1).0 in
+      let few : length (runs_in (field b 2 2) (drop 32 b)) ≤ 28 = leb-true _ 28 (and_parts _ _ (and_parts _ _ used.0).1).0 in
       let whole : IsNode g b (node_fields kind b) = record {
         room = fields_room kind b low;
-        fits = fits_as g (node_fields kind b) kind told.1 fits;
-        spelling = spelled g b kind len low told.0 spare few;
+        fits = fits_as g (node_fields kind b) kind told.1 used.0;
+        spelling = spelled g b kind len low told.0 read.0 few;
       } in
       subst (λ (m : Node). IsNode g b m × (m.kind ≡ Free → ⊥)) same (whole, told.1)
 

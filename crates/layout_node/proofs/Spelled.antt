@@ -1,5 +1,5 @@
 -- A node that is written as it is spelled reads as itself, and no other node is spelled so.
-use Rattle.std.proofs.Common.{◌≡◌, ℕ, ◌+◌, ◌-◌, ◌*◌, ◌≤◌, ◌==◌, ◌&&◌, if◌then◌else◌, true, List, [], ◌++◌, length, take, drop, replicate, slice_index, Some, refl, sym, subst, ap, ◌∙◌, arith, length-append, drop-drop}
+use Rattle.std.proofs.Common.{◌≡◌, ℕ, ◌+◌, ◌-◌, ◌*◌, ◌≤◌, ◌==◌, ◌&&◌, if◌then◌else◌, Bool, true, List, [], ◌++◌, length, take, drop, replicate, slice_index, Some, refl, sym, subst, ap, ◌∙◌, arith, length-append, drop-drop}
 use Rattle.std.proofs.Math.Seq.{drop-append_seam}
 use Rattle.std.proofs.lemmas.Bool.{and_parts, and_from, leb-true}
 use Rattle.std.proofs.lemmas.List.{length-replicate, take-replicate}
@@ -11,7 +11,7 @@ use Rattle.layout_bytes.specs.declared.node.NodeKind.{NodeKind}
 use Rattle.layout_bytes.specs.declared.node.NodeKind.TheVariants.{Free, Dir, File}
 use Rattle.layout_bytes.specs.Bytes.{field, are_zeros, has_zeros, when}
 use Rattle.layout_bytes.specs.Node.{used_kind, runs_in, node_fits, spare_zeros, node_fields, node_with, node_of, kind_byte, run_bytes, node_spelling, free_node, FitsAs, HasRoom, IsNode}
-use Rattle.layout_node.proofs.Fields.{when_is, so_many_zeros}
+use Rattle.layout_node.proofs.Fields.{so_many_zeros}
 use Rattle.layout_node.proofs.Runs.{runs_read, bytes_length}
 
 -- a node that fits has at most 28 runs
@@ -87,9 +87,9 @@ spare_read n few =
 reads_as : (g : Geometry) (b : List ℕ) (n : Node) (kind : NodeKind) → spare_zeros b ≡ true → node_fields kind b ≡ n → node_fits g n ≡ true
     → when (spare_zeros b) (when (node_fits g (node_fields kind b)) (Some (node_fields kind b))) ≡ Some n
 reads_as g b n kind spare fields fits =
-    when_is (spare_zeros b) _ spare
+    ap (λ (t : Bool). when t (when (node_fits g (node_fields kind b)) (Some (node_fields kind b)))) spare
     ∙ ap (λ (m : Node). when (node_fits g m) (Some m)) fields
-    ∙ when_is (node_fits g n) _ fits
+    ∙ ap (λ (t : Bool). when t (Some n)) fits
 
 used_read : (g : Geometry) (n : Node) (kind : NodeKind) → HasRoom n → kind ≡ n.kind → FitsAs g n kind → (kind ≡ Free → ⊥) → node_of g (node_spelling n) ≡ Some n
 unfolding node_of

@@ -1,17 +1,14 @@
 -- Writes join a log one by one.
-use Rattle.std.proofs.Common.{◌≡◌, ◌⊎◌, ⊎_elim, inl, inr, Bool, false, ℕ, zero, suc, ◌+◌, ◌<◌, ◌≤◌, List, [], ◌∷◌, ◌++◌, length, take, drop, slice_get, Some, Result, Ok, Err, IsErr, refl, sym, ◌∙◌, ap, subst, arith, append_assoc, append-nil}
+use Rattle.std.proofs.Common.{◌≡◌, ◌⊎◌, ⊎_elim, inl, inr, Bool, false, ℕ, zero, suc, ◌+◌, ◌<◌, ◌≤◌, List, [], ◌∷◌, ◌++◌, length, slice_get, Some, Result, Ok, Err, IsErr, refl, sym, ◌∙◌, ap, subst, arith, append_assoc}
 use Rattle.std.proofs.lemmas.Bool.{false≢true}
-use Rattle.std.proofs.lemmas.List.{take_all, take-append-drop}
 use Rattle.std.proofs.lemmas.Option.{same_Some}
 use Rattle.disk_contract.specs.declared.event.Event.{Event}
 use Rattle.disk_contract.specs.declared.event.Event.TheVariants.{Wrote, Lost}
-use Rattle.disk_contract.specs.Cell.{greatest_ticket, IsNoticed}
 use Rattle.base_types.specs.Counts.{after_call}
 use Rattle.disk_contract.specs.Disk.{State, OnlyWrites}
 use Rattle.layout_geometry.specs.Geometry.{Geometry, ring_block}
-use Rattle.crash_argument.specs.Writes.{AddsWrites, AddsFront, AddsAll, HasWritten}
+use Rattle.crash_argument.specs.Writes.{AddsWrites, AddsFront, AddsAll}
 use Rattle.engine_running.specs.Writes.{ring_writes}
-use Rattle.engine_running.proofs.spelling.Forms.{push, drop_get}
 
 -- writes behind others
 pub adds_then : (vs ws : List (ℕ × List ℕ)) (ts us : List ℕ) (old mid new : List Event) → AddsWrites vs ts old mid → AddsWrites ws us mid new → AddsWrites (vs ++ ws) (ts ++ us) old new
@@ -19,40 +16,6 @@ adds_then [] ws [] us old mid new one two = subst (λ (l : List Event). AddsWrit
 adds_then [] ws (t ∷ ts) us old mid new one two = absurd one
 adds_then (v ∷ vs) ws [] us old mid new one two = absurd one
 adds_then (v ∷ vs) ws (t ∷ ts) us old mid new one two = (one.0, one.1, adds_then vs ws ts us (old ++ Wrote t v.0 v.1 ∷ []) mid new one.2 two)
-
--- before the first
-pub none_written : (ws : List (ℕ × List ℕ)) (start : List ℕ) (old : List Event) → HasWritten ws 0 start start old old
-none_written ws start old = ([], sym (append-nil start), refl)
-
--- one more
-pub one_more : (ws : List (ℕ × List ℕ)) (k b : ℕ) (x : List ℕ) (t : ℕ) (start now next : List ℕ) (old mid new : List Event) → slice_get ws k ≡ Some (b, x) → next ≡ now ++ t ∷ [] → HasWritten ws k start now old mid → (greatest_ticket mid < t) × (¬ IsNoticed t mid) × (new ≡ mid ++ Wrote t b x ∷ [])
-    → HasWritten ws (k + 1) start next old new
-one_more ws k b x t start now next old mid new is joined so_far a = (
-  so_far.0 ++ t ∷ [],
-  joined ∙ ap (λ (l : List ℕ). l ++ t ∷ []) so_far.1 ∙ append_assoc start so_far.0 (t ∷ []),
-  subst (λ (l : List (ℕ × List ℕ)). AddsWrites l (so_far.0 ++ t ∷ []) old new) (push ws k (b, x) is) (adds_then (take k ws) ((b, x) ∷ []) so_far.0 (t ∷ []) old mid new so_far.2 a),
-)
-
--- all of them
-pub all_written : (ws : List (ℕ × List ℕ)) (k : ℕ) (start now : List ℕ) (old new : List Event) → length ws ≤ k → HasWritten ws k start now old new → (ts : List ℕ) × (now ≡ start ++ ts) × AddsWrites ws ts old new
-all_written ws k start now old new le so_far = (so_far.0, so_far.1, subst (λ (l : List (ℕ × List ℕ)). AddsWrites l so_far.0 old new) (take_all k ws le) so_far.2)
-
--- or the next of them fails
-pub front_lost : (ws : List (ℕ × List ℕ)) (k b : ℕ) (x : List ℕ) (start now : List ℕ) (old mid new : List Event) → slice_get ws k ≡ Some (b, x) → HasWritten ws k start now old mid → (new ≡ mid) ⊎ (new ≡ mid ++ Lost b x ∷ []) → AddsFront ws old new
-front_lost ws k b x start now old mid new is so_far a = record {
-  front = take k ws;
-  rest = drop k ws;
-  split = sym (take-append-drop k ws);
-  tickets = so_far.0;
-  middle = mid;
-  accepted = so_far.2;
-  ends = ⊎_elim (λ same. inl same) (λ lost. inr (b, x, drop (k + 1) ws, drop_get ws k (b, x) is, lost)) a;
-}
-
-pub front_written : {A E : Type 0} (ws : List (ℕ × List ℕ)) (k b : ℕ) (x : List ℕ) (r : Result A E) (start now next : List ℕ) (old mid new : List Event) → IsErr r → slice_get ws k ≡ Some (b, x) → HasWritten ws k start now old mid → (new ≡ mid) ⊎ (new ≡ mid ++ Lost b x ∷ [])
-    → AddsAll ws r start next old new
-front_written ws k b x (Ok a) start now next old mid new e is so_far a2 = absurd (false≢true e)
-front_written ws k b x (Err e2) start now next old mid new e is so_far a = front_lost ws k b x start now old mid new is so_far a
 
 -- the tickets of some calls behind those of others
 pub then_all : (vs ws : List (ℕ × List ℕ)) (start mid now : List ℕ) (a b c : List Event) → ((ts : List ℕ) × (mid ≡ start ++ ts) × AddsWrites vs ts a b) → ((us : List ℕ) × (now ≡ mid ++ us) × AddsWrites ws us b c)

@@ -1,11 +1,10 @@
 -- The rows of a transaction are a map from blocks to the bytes that were put.
 use Rattle.std.proofs.Common.{◌≡◌, ◌<◌, ◌==◌, ℕ, nat_lt, Bool, true, false, if◌then◌else◌, List, [], ◌∷◌, Option, Some, None, refl, sym, ap, ap₂, ◌∙◌, arith}
-use Rattle.std.proofs.lemmas.Bool.{eqb-true, ltb-true, eq-eqb, false≢true}
+use Rattle.std.proofs.lemmas.Bool.{eqb-true, ltb-true, eq-eqb, false≢true, cond-true, cond-false}
 use Rattle.layout_journal.specs.Run.{or_else}
 use Rattle.engine_running.specs.declared.put.Put.{Put}
 use Rattle.engine_running.specs.Rows.{IsRising, with_put, without_put, put_of}
 use Rattle.engine_running.specs.Running.{Changes, IsOrdered, Puts, Takes, Frees, bytes_put}
-use Rattle.engine_running.proofs.spelling.Forms.{if_true, if_false}
 use Rattle.engine_running.proofs.ordering.RowOrder.{rising_tail, rising_head}
 use Rattle.engine_running.proofs.ordering.RowSteps.{none_put}
 
@@ -35,14 +34,14 @@ put_with p (q ∷ qs) b = by (nat_lt q.block p.block) refl (q.block == p.block) 
 
     by : (u : Bool) → nat_lt q.block p.block ≡ u → (v : Bool) → (q.block == p.block) ≡ v → put_of b (with_put p qs) ≡ (if p.block == b then Some p.bytes else put_of b qs) → put_of b (with_put p (q ∷ qs)) ≡ (if p.block == b then Some p.bytes else put_of b (q ∷ qs))
     by true e v f rest =
-        ap (put_of b) (if_true (nat_lt q.block p.block) (q ∷ with_put p qs) (if q.block == p.block then p ∷ qs else p ∷ q ∷ qs) e)
+        ap (put_of b) (cond-true (nat_lt q.block p.block) (q ∷ with_put p qs) (if q.block == p.block then p ∷ qs else p ∷ q ∷ qs) e)
         ∙ ap (λ (o : Option (List ℕ)). if q.block == b then Some q.bytes else o) rest
         ∙ swap_tests (q.block == b) (p.block == b) (Some q.bytes) (Some p.bytes) (put_of b qs) (less q.block p.block b (ltb-true _ _ e))
     by false e true f rest =
-        ap (put_of b) (if_false (nat_lt q.block p.block) (q ∷ with_put p qs) (if q.block == p.block then p ∷ qs else p ∷ q ∷ qs) e ∙ if_true (q.block == p.block) (p ∷ qs) (p ∷ q ∷ qs) f)
+        ap (put_of b) (cond-false (nat_lt q.block p.block) (q ∷ with_put p qs) (if q.block == p.block then p ∷ qs else p ∷ q ∷ qs) e ∙ cond-true (q.block == p.block) (p ∷ qs) (p ∷ q ∷ qs) f)
         ∙ drop_test (p.block == b) (q.block == b) (Some p.bytes) (Some q.bytes) (put_of b qs) (same_block q.block p.block b (eqb-true q.block p.block f))
     by false e false f rest =
-        ap (put_of b) (if_false (nat_lt q.block p.block) (q ∷ with_put p qs) (if q.block == p.block then p ∷ qs else p ∷ q ∷ qs) e ∙ if_false (q.block == p.block) (p ∷ qs) (p ∷ q ∷ qs) f)
+        ap (put_of b) (cond-false (nat_lt q.block p.block) (q ∷ with_put p qs) (if q.block == p.block then p ∷ qs else p ∷ q ∷ qs) e ∙ cond-false (q.block == p.block) (p ∷ qs) (p ∷ q ∷ qs) f)
 
 -- a row without a block has no bytes for it, and for others what it had
 pub put_without : (c : ℕ) (row : List Put) (b : ℕ) → IsRising row → put_of b (without_put c row) ≡ (if c == b then None else put_of b row)
@@ -61,14 +60,14 @@ put_without c (q ∷ qs) b rising = by (q.block == c) refl (c == b) refl (put_wi
 
     by : (u : Bool) → (q.block == c) ≡ u → (v : Bool) → (c == b) ≡ v → put_of b (without_put c qs) ≡ (if c == b then None else put_of b qs) → put_of b (without_put c (q ∷ qs)) ≡ (if c == b then None else put_of b (q ∷ qs))
     by true e true f rest =
-        ap (put_of b) (if_true (q.block == c) qs (q ∷ without_put c qs) e)
+        ap (put_of b) (cond-true (q.block == c) qs (q ∷ without_put c qs) e)
         ∙ none_put b qs (λ k p is same. differ q.block p.block b (rising_head q qs rising k p is) same (eqb-true q.block c e ∙ eqb-true c b f))
-        ∙ sym (if_true (c == b) None (put_of b (q ∷ qs)) f)
+        ∙ sym (cond-true (c == b) None (put_of b (q ∷ qs)) f)
     by true e false f rest =
-        ap (put_of b) (if_true (q.block == c) qs (q ∷ without_put c qs) e)
-        ∙ sym (if_false (c == b) None (put_of b (q ∷ qs)) f ∙ if_false (q.block == b) (Some q.bytes) (put_of b qs) (other q.block b c e f))
+        ap (put_of b) (cond-true (q.block == c) qs (q ∷ without_put c qs) e)
+        ∙ sym (cond-false (c == b) None (put_of b (q ∷ qs)) f ∙ cond-false (q.block == b) (Some q.bytes) (put_of b qs) (other q.block b c e f))
     by false e v f rest =
-        ap (put_of b) (if_false (q.block == c) qs (q ∷ without_put c qs) e)
+        ap (put_of b) (cond-false (q.block == c) qs (q ∷ without_put c qs) e)
         ∙ ap (λ (o : Option (List ℕ)). if q.block == b then Some q.bytes else o) rest
         ∙ swap_tests (q.block == b) (c == b) (Some q.bytes) None (put_of b qs) (λ s t. false≢true (sym e ∙ eq-eqb q.block c (eqb-true q.block b s ∙ sym (eqb-true c b t))))
 

@@ -1,10 +1,9 @@
 -- Rows stay in order, with a put more or less.
 use Rattle.std.proofs.Common.{◌≡◌, ◌≢◌, ◌⊎◌, ⊎_elim, inl, inr, ℕ, zero, suc, ◌<◌, ◌≤◌, ◌==◌, nat_lt, Bool, true, false, if◌then◌else◌, List, [], ◌∷◌, slice_get, Some, refl, sym, ◌∙◌, ap, subst, arith}
-use Rattle.std.proofs.lemmas.Bool.{eqb-true, ltb-true, ltb-false, eq-eqb, false≢true}
+use Rattle.std.proofs.lemmas.Bool.{eqb-true, ltb-true, ltb-false, eq-eqb, false≢true, cond-true, cond-false}
 use Rattle.std.proofs.lemmas.Option.{same_Some, none-some}
 use Rattle.engine_running.specs.declared.put.Put.{Put}
 use Rattle.engine_running.specs.Rows.{IsRising, with_put, without_put, LacksBlock}
-use Rattle.engine_running.proofs.spelling.Forms.{if_true, if_false}
 
 -- each member of a row with one put more is that put, or one of the row
 pub in_with : (p : Put) (row : List Put) (k : ℕ) (q : Put) → slice_get (with_put p row) k ≡ Some q → (q ≡ p) ⊎ ((i : ℕ) × (slice_get row i ≡ Some q))
@@ -25,9 +24,9 @@ in_with p (r ∷ rs) k q is = by (nat_lt r.block p.block) refl (r.block == p.blo
     front (suc k) e = inr (k, e)
 
     by : (u : Bool) → nat_lt r.block p.block ≡ u → (v : Bool) → (r.block == p.block) ≡ v → ((k : ℕ) (q : Put) → slice_get (with_put p rs) k ≡ Some q → (q ≡ p) ⊎ ((i : ℕ) × (slice_get rs i ≡ Some q))) → (q ≡ p) ⊎ ((i : ℕ) × (slice_get (r ∷ rs) i ≡ Some q))
-    by true e v f rest = later k rest (ap (λ (l : List Put). slice_get l k) (sym (if_true (nat_lt r.block p.block) (r ∷ with_put p rs) (if r.block == p.block then p ∷ rs else p ∷ r ∷ rs) e)) ∙ is)
-    by false e true f rest = same k (ap (λ (l : List Put). slice_get l k) (sym (if_false (nat_lt r.block p.block) (r ∷ with_put p rs) (if r.block == p.block then p ∷ rs else p ∷ r ∷ rs) e ∙ if_true (r.block == p.block) (p ∷ rs) (p ∷ r ∷ rs) f)) ∙ is)
-    by false e false f rest = front k (ap (λ (l : List Put). slice_get l k) (sym (if_false (nat_lt r.block p.block) (r ∷ with_put p rs) (if r.block == p.block then p ∷ rs else p ∷ r ∷ rs) e ∙ if_false (r.block == p.block) (p ∷ rs) (p ∷ r ∷ rs) f)) ∙ is)
+    by true e v f rest = later k rest (ap (λ (l : List Put). slice_get l k) (sym (cond-true (nat_lt r.block p.block) (r ∷ with_put p rs) (if r.block == p.block then p ∷ rs else p ∷ r ∷ rs) e)) ∙ is)
+    by false e true f rest = same k (ap (λ (l : List Put). slice_get l k) (sym (cond-false (nat_lt r.block p.block) (r ∷ with_put p rs) (if r.block == p.block then p ∷ rs else p ∷ r ∷ rs) e ∙ cond-true (r.block == p.block) (p ∷ rs) (p ∷ r ∷ rs) f)) ∙ is)
+    by false e false f rest = front k (ap (λ (l : List Put). slice_get l k) (sym (cond-false (nat_lt r.block p.block) (r ∷ with_put p rs) (if r.block == p.block then p ∷ rs else p ∷ r ∷ rs) e ∙ cond-false (r.block == p.block) (p ∷ rs) (p ∷ r ∷ rs) f)) ∙ is)
 
 -- and of a row without a block, one of the row
 pub in_without : (b : ℕ) (row : List Put) (k : ℕ) (q : Put) → slice_get (without_put b row) k ≡ Some q → (i : ℕ) × (k ≤ i) × (slice_get row i ≡ Some q)
@@ -39,8 +38,8 @@ in_without b (r ∷ rs) k q is = by (r.block == b) refl (in_without b rs)
     later (suc k) rest e = let old = rest k q e in (suc old.0, omega (arith, old.1), old.2)
 
     by : (v : Bool) → (r.block == b) ≡ v → ((k : ℕ) (q : Put) → slice_get (without_put b rs) k ≡ Some q → (i : ℕ) × (k ≤ i) × (slice_get rs i ≡ Some q)) → (i : ℕ) × (k ≤ i) × (slice_get (r ∷ rs) i ≡ Some q)
-    by true e rest = (suc k, omega arith, ap (λ (l : List Put). slice_get l k) (sym (if_true (r.block == b) rs (r ∷ without_put b rs) e)) ∙ is)
-    by false e rest = later k rest (ap (λ (l : List Put). slice_get l k) (sym (if_false (r.block == b) rs (r ∷ without_put b rs) e)) ∙ is)
+    by true e rest = (suc k, omega arith, ap (λ (l : List Put). slice_get l k) (sym (cond-true (r.block == b) rs (r ∷ without_put b rs) e)) ∙ is)
+    by false e rest = later k rest (ap (λ (l : List Put). slice_get l k) (sym (cond-false (r.block == b) rs (r ∷ without_put b rs) e)) ∙ is)
 
 -- a row is in order where its first put is below all others, and these are in order
 rising_cons : (r : Put) (rs : List Put) → ((k : ℕ) (q : Put) → slice_get rs k ≡ Some q → r.block < q.block) → IsRising rs → IsRising (r ∷ rs)
@@ -62,11 +61,11 @@ rising_with p (r ∷ rs) rising = by (nat_lt r.block p.block) refl (r.block == p
     less a b c lt e = omega (arith, lt, e)
 
     by : (u : Bool) → nat_lt r.block p.block ≡ u → (v : Bool) → (r.block == p.block) ≡ v → IsRising (with_put p rs) → IsRising (with_put p (r ∷ rs))
-    by true e v f rest = subst IsRising (sym (if_true (nat_lt r.block p.block) (r ∷ with_put p rs) (if r.block == p.block then p ∷ rs else p ∷ r ∷ rs) e))
+    by true e v f rest = subst IsRising (sym (cond-true (nat_lt r.block p.block) (r ∷ with_put p rs) (if r.block == p.block then p ∷ rs else p ∷ r ∷ rs) e))
         (rising_cons r (with_put p rs) (λ k q is. ⊎_elim (λ own. less r.block p.block q.block (ltb-true _ _ e) (ap (λ (s : Put). s.block) own)) (λ old. rising_head r rs rising old.0 q old.1) (in_with p rs k q is)) rest)
-    by false e true f rest = subst IsRising (sym (if_false (nat_lt r.block p.block) (r ∷ with_put p rs) (if r.block == p.block then p ∷ rs else p ∷ r ∷ rs) e ∙ if_true (r.block == p.block) (p ∷ rs) (p ∷ r ∷ rs) f))
+    by false e true f rest = subst IsRising (sym (cond-false (nat_lt r.block p.block) (r ∷ with_put p rs) (if r.block == p.block then p ∷ rs else p ∷ r ∷ rs) e ∙ cond-true (r.block == p.block) (p ∷ rs) (p ∷ r ∷ rs) f))
         (rising_cons p rs (λ k q is. omega (arith, eqb-true r.block p.block f, rising_head r rs rising k q is)) (rising_tail r rs rising))
-    by false e false f rest = subst IsRising (sym (if_false (nat_lt r.block p.block) (r ∷ with_put p rs) (if r.block == p.block then p ∷ rs else p ∷ r ∷ rs) e ∙ if_false (r.block == p.block) (p ∷ rs) (p ∷ r ∷ rs) f))
+    by false e false f rest = subst IsRising (sym (cond-false (nat_lt r.block p.block) (r ∷ with_put p rs) (if r.block == p.block then p ∷ rs else p ∷ r ∷ rs) e ∙ cond-false (r.block == p.block) (p ∷ rs) (p ∷ r ∷ rs) f))
         (rising_cons p (r ∷ rs) (first (ltb-false _ _ e)) rising)
       where
         apart : r.block ≢ p.block
@@ -84,8 +83,8 @@ rising_without b [] rising = rising
 rising_without b (r ∷ rs) rising = by (r.block == b) refl (rising_without b rs (rising_tail r rs rising))
   where
     by : (v : Bool) → (r.block == b) ≡ v → IsRising (without_put b rs) → IsRising (without_put b (r ∷ rs))
-    by true e rest = subst IsRising (sym (if_true (r.block == b) rs (r ∷ without_put b rs) e)) (rising_tail r rs rising)
-    by false e rest = subst IsRising (sym (if_false (r.block == b) rs (r ∷ without_put b rs) e))
+    by true e rest = subst IsRising (sym (cond-true (r.block == b) rs (r ∷ without_put b rs) e)) (rising_tail r rs rising)
+    by false e rest = subst IsRising (sym (cond-false (r.block == b) rs (r ∷ without_put b rs) e))
         (rising_cons r (without_put b rs) (λ k q is. let old = in_without b rs k q is in rising_head r rs rising old.0 q old.2) rest)
 
 -- a row without a block lacks it
@@ -101,8 +100,8 @@ lacks_without b (r ∷ rs) rising = by (r.block == b) refl (lacks_without b rs (
     later e rest (suc k) p at same = rest k p at same
 
     by : (v : Bool) → (r.block == b) ≡ v → LacksBlock b (without_put b rs) → LacksBlock b (without_put b (r ∷ rs))
-    by true e rest = subst (LacksBlock b) (sym (if_true (r.block == b) rs (r ∷ without_put b rs) e)) (λ k p is. above r.block p.block b (eqb-true r.block b e) (rising_head r rs rising k p is))
-    by false e rest = subst (LacksBlock b) (sym (if_false (r.block == b) rs (r ∷ without_put b rs) e)) (later e rest)
+    by true e rest = subst (LacksBlock b) (sym (cond-true (r.block == b) rs (r ∷ without_put b rs) e)) (λ k p is. above r.block p.block b (eqb-true r.block b e) (rising_head r rs rising k p is))
+    by false e rest = subst (LacksBlock b) (sym (cond-false (r.block == b) rs (r ∷ without_put b rs) e)) (later e rest)
 
 -- what two rows have in common stays apart as a block goes from one to the other
 pub apart_over : (p : Put) (into other : List Put) → IsRising other → ((k : ℕ) (q : Put) → slice_get into k ≡ Some q → LacksBlock q.block other) → (k : ℕ) (q : Put) → slice_get (with_put p into) k ≡ Some q → LacksBlock q.block (without_put p.block other)

@@ -1,10 +1,9 @@
 -- A row with one put more, and with one less, by the place that a search finds.
 use Rattle.std.proofs.Common.{◌≡◌, ◌≢◌, ◌⊎◌, ⊎_elim, inl, inr, ℕ, zero, suc, ◌<◌, ◌≤◌, ◌==◌, nat_lt, Bool, true, false, IsTrue, if◌then◌else◌, List, [], ◌∷◌, length, slice_get, slice_set, insert, remove, Some, None, refl, sym, ◌∙◌, ap, subst, arith}
-use Rattle.std.proofs.lemmas.Bool.{cases_Bool, eqb-true, cases_eq, cases_lt, lt-ltb, le-ltb, eq-eqb, false≢true}
+use Rattle.std.proofs.lemmas.Bool.{eqb-true, cases_eq, cases_lt, lt-ltb, le-ltb, eq-eqb, false≢true, cond-true, cond-false, ne_eqb}
 use Rattle.std.proofs.lemmas.Option.{same_Some, slice_get_within}
 use Rattle.engine_running.specs.declared.put.Put.{Put}
 use Rattle.engine_running.specs.Rows.{IsRising, with_put, without_put, put_of, LacksBlock}
-use Rattle.engine_running.proofs.spelling.Forms.{if_true, if_false}
 
 -- all before this place are of lower blocks
 abbrev Below : List Put → ℕ → ℕ → Type 0
@@ -16,47 +15,44 @@ From row at b = (k : ℕ) (p : Put) → slice_get row k ≡ Some p → at ≤ k 
 eqb_refl : (n : ℕ) → (n == n) ≡ true
 eqb_refl n = eq-eqb n n refl
 
-eqb_not : (a b : ℕ) → a ≢ b → (a == b) ≡ false
-eqb_not a b ne = ⊎_elim (λ e. absurd (ne (eqb-true a b e))) (λ e. e) (cases_Bool (a == b))
-
 -- a put of a block that the row lacks
 pub inserted : (p : Put) (row : List Put) (at : ℕ) → at ≤ length row → Below row at p.block → ((k : ℕ) (q : Put) → slice_get row k ≡ Some q → at ≤ k → p.block < q.block) → insert row at p ≡ with_put p row
 inserted p [] zero le low high = refl
 inserted p [] (suc at) le low high = absurd (omega arith)
 inserted p (q ∷ qs) zero le low high =
-    sym (if_false (nat_lt q.block p.block) (q ∷ with_put p qs) (if q.block == p.block then p ∷ qs else p ∷ q ∷ qs) (le-ltb _ _ (omega (arith, high 0 q refl (omega arith))))
-    ∙ if_false (q.block == p.block) (p ∷ qs) (p ∷ q ∷ qs) (eqb_not q.block p.block (λ e. less q.block p.block (high 0 q refl (omega arith)) e)))
+    sym (cond-false (nat_lt q.block p.block) (q ∷ with_put p qs) (if q.block == p.block then p ∷ qs else p ∷ q ∷ qs) (le-ltb _ _ (omega (arith, high 0 q refl (omega arith))))
+    ∙ cond-false (q.block == p.block) (p ∷ qs) (p ∷ q ∷ qs) (ne_eqb q.block p.block (λ e. less q.block p.block (high 0 q refl (omega arith)) e)))
   where
     less : (a b : ℕ) → b < a → a ≡ b → ⊥
     less a b lt e = omega arith
 inserted p (q ∷ qs) (suc at) le low high =
     ap (λ (l : List Put). q ∷ l) (inserted p qs at (omega arith) (λ k r is lt. low (suc k) r is (omega arith)) (λ k r is le. high (suc k) r is (omega arith)))
-    ∙ sym (if_true (nat_lt q.block p.block) (q ∷ with_put p qs) (if q.block == p.block then p ∷ qs else p ∷ q ∷ qs) (lt-ltb _ _ (low 0 q refl (omega arith))))
+    ∙ sym (cond-true (nat_lt q.block p.block) (q ∷ with_put p qs) (if q.block == p.block then p ∷ qs else p ∷ q ∷ qs) (lt-ltb _ _ (low 0 q refl (omega arith))))
 
 -- a put of a block that the row has
 pub replaced : (p : Put) (row : List Put) (at : ℕ) → at < length row → Below row at p.block → ((q : Put) → slice_get row at ≡ Some q → q.block ≡ p.block) → slice_set row at p ≡ with_put p row
 replaced p [] at lt low here = absurd (omega arith)
 replaced p (q ∷ qs) zero lt low here =
-    sym (if_false (nat_lt q.block p.block) (q ∷ with_put p qs) (if q.block == p.block then p ∷ qs else p ∷ q ∷ qs) (le-ltb _ _ (omega (arith, here q refl)))
-    ∙ if_true (q.block == p.block) (p ∷ qs) (p ∷ q ∷ qs) (ap (λ n. n == p.block) (here q refl) ∙ eqb_refl p.block))
+    sym (cond-false (nat_lt q.block p.block) (q ∷ with_put p qs) (if q.block == p.block then p ∷ qs else p ∷ q ∷ qs) (le-ltb _ _ (omega (arith, here q refl)))
+    ∙ cond-true (q.block == p.block) (p ∷ qs) (p ∷ q ∷ qs) (ap (λ n. n == p.block) (here q refl) ∙ eqb_refl p.block))
 replaced p (q ∷ qs) (suc at) lt low here =
     ap (λ (l : List Put). q ∷ l) (replaced p qs at (omega arith) (λ k r is lt. low (suc k) r is (omega arith)) here)
-    ∙ sym (if_true (nat_lt q.block p.block) (q ∷ with_put p qs) (if q.block == p.block then p ∷ qs else p ∷ q ∷ qs) (lt-ltb _ _ (low 0 q refl (omega arith))))
+    ∙ sym (cond-true (nat_lt q.block p.block) (q ∷ with_put p qs) (if q.block == p.block then p ∷ qs else p ∷ q ∷ qs) (lt-ltb _ _ (low 0 q refl (omega arith))))
 
 -- the row without a block
 pub removed : (b : ℕ) (row : List Put) (at : ℕ) → at < length row → Below row at b → ((q : Put) → slice_get row at ≡ Some q → q.block ≡ b) → remove row at ≡ without_put b row
 removed b [] at lt low here = absurd (omega arith)
-removed b (q ∷ qs) zero lt low here = sym (if_true (q.block == b) qs (q ∷ without_put b qs) (ap (λ n. n == b) (here q refl) ∙ eqb_refl b))
+removed b (q ∷ qs) zero lt low here = sym (cond-true (q.block == b) qs (q ∷ without_put b qs) (ap (λ n. n == b) (here q refl) ∙ eqb_refl b))
 removed b (q ∷ qs) (suc at) lt low here =
     ap (λ (l : List Put). q ∷ l) (removed b qs at (omega arith) (λ k r is lt. low (suc k) r is (omega arith)) here)
-    ∙ sym (if_false (q.block == b) qs (q ∷ without_put b qs) (eqb_not q.block b (λ e. less q.block b (low 0 q refl (omega arith)) e)))
+    ∙ sym (cond-false (q.block == b) qs (q ∷ without_put b qs) (ne_eqb q.block b (λ e. less q.block b (low 0 q refl (omega arith)) e)))
   where
     less : (a b : ℕ) → a < b → a ≡ b → ⊥
     less a b lt e = omega arith
 
 pub lacking : (b : ℕ) (row : List Put) → LacksBlock b row → row ≡ without_put b row
 lacking b [] lacks = refl
-lacking b (q ∷ qs) lacks = ap (λ (l : List Put). q ∷ l) (lacking b qs (λ k r is. lacks (suc k) r is)) ∙ sym (if_false (q.block == b) qs (q ∷ without_put b qs) (eqb_not q.block b (lacks 0 q refl)))
+lacking b (q ∷ qs) lacks = ap (λ (l : List Put). q ∷ l) (lacking b qs (λ k r is. lacks (suc k) r is)) ∙ sym (cond-false (q.block == b) qs (q ∷ without_put b qs) (ne_eqb q.block b (lacks 0 q refl)))
 
 -- no put of the row is of this block, where the one at the search's place isn't
 pub lacks_at : (b : ℕ) (row : List Put) (at : ℕ) → IsRising row → Below row at b → From row at b → ((q : Put) → slice_get row at ≡ Some q → q.block ≢ b) → LacksBlock b row
@@ -81,7 +77,7 @@ lacks_at b row at rising low from other k p is e = ⊎_elim (λ lt. less p.block
 -- no bytes were put for a block that the row lacks
 pub none_put : (b : ℕ) (row : List Put) → LacksBlock b row → put_of b row ≡ None
 none_put b [] lacks = refl
-none_put b (q ∷ row) lacks = if_false (q.block == b) (Some q.bytes) (put_of b row) (by (q.block == b) refl) ∙ none_put b row (λ k p is. lacks (suc k) p is)
+none_put b (q ∷ row) lacks = cond-false (q.block == b) (Some q.bytes) (put_of b row) (by (q.block == b) refl) ∙ none_put b row (λ k p is. lacks (suc k) p is)
   where
     by : (v : Bool) → (q.block == b) ≡ v → v ≡ false
     by true e = absurd (lacks 0 q refl (eqb-true q.block b e))
@@ -90,8 +86,8 @@ none_put b (q ∷ row) lacks = if_false (q.block == b) (Some q.bytes) (put_of b 
 -- the bytes of a block
 pub found : (b : ℕ) (row : List Put) (at : ℕ) (p : Put) → slice_get row at ≡ Some p → p.block ≡ b → Below row at b → put_of b row ≡ Some p.bytes
 found b [] at p is e low = cc
-found b (q ∷ qs) zero p is e low = if_true (q.block == b) (Some q.bytes) (put_of b qs) (ap (λ n. n == b) (ap (λ (r : Put). r.block) (same_Some _ _ is) ∙ e) ∙ eqb_refl b) ∙ ap (λ (r : Put). Some r.bytes) (same_Some _ _ is)
-found b (q ∷ qs) (suc at) p is e low = if_false (q.block == b) (Some q.bytes) (put_of b qs) (eqb_not q.block b (λ e. less q.block b (low 0 q refl (omega arith)) e)) ∙ found b qs at p is e (λ k r at_r lt. low (suc k) r at_r (omega arith))
+found b (q ∷ qs) zero p is e low = cond-true (q.block == b) (Some q.bytes) (put_of b qs) (ap (λ n. n == b) (ap (λ (r : Put). r.block) (same_Some _ _ is) ∙ e) ∙ eqb_refl b) ∙ ap (λ (r : Put). Some r.bytes) (same_Some _ _ is)
+found b (q ∷ qs) (suc at) p is e low = cond-false (q.block == b) (Some q.bytes) (put_of b qs) (ne_eqb q.block b (λ e. less q.block b (low 0 q refl (omega arith)) e)) ∙ found b qs at p is e (λ k r at_r lt. low (suc k) r at_r (omega arith))
   where
     less : (a b : ℕ) → a < b → a ≡ b → ⊥
     less a b lt e = omega arith

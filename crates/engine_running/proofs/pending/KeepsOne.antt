@@ -1,5 +1,6 @@
 -- A record that is written next goes to idle blocks, each of its own: so one write a block stays pending.
-use Rattle.std.proofs.Common.{◌≡◌, ◌≢◌, ℕ, ◌+◌, ◌<◌, ◌≤◌, false, IsTrue, List, [], ◌∷◌, ◌++◌, length, map, slice_get, Some, refl, sym, subst, arith}
+use Rattle.std.proofs.Common.{◌≡◌, ◌≢◌, ℕ, ◌+◌, ◌<◌, ◌≤◌, false, IsTrue, List, [], ◌∷◌, ◌++◌, length, map, slice_get, Some, refl, sym, subst, arith, option_map}
+use Rattle.std.proofs.lemmas.Option.{slice_get-map}
 use Rattle.base_types.specs.Seal.{Blocks}
 use Rattle.disk_contract.specs.declared.event.Event.{Event}
 use Rattle.disk_contract.specs.declared.event.Event.TheVariants.{Wrote, Lost}
@@ -18,7 +19,6 @@ use Rattle.engine_running.specs.Record.{record_of, written_of, fresh_entry, IsTr
 use Rattle.crash_argument.specs.Writes.{AddsWrites, AddsFront}
 use Rattle.engine_running.specs.Writes.{record_writes}
 use Rattle.engine_running.specs.Commits.{AreNotOnTheirWay}
-use Rattle.engine_running.proofs.spelling.Forms.{map_get}
 use Rattle.engine_running.proofs.pending.OnePending.{AreIdle, AreUnlike, record_idle, record_unlike, record_own, one_all, one_front, under}
 
 abbrev pub FitsFresh : Type 0
@@ -52,7 +52,7 @@ module _ (fits : FitsFresh) (ascends : Ascends) (fresh_idle : FreshIdle) (behind
   in_data i e is = omega (arith, (fits l.geom (record_of number next paid laid) i e may.fit is).0)
 
   laid_in_data : (i : ℕ) (q : Put) → slice_get laid i ≡ Some q → bitmap_start l.geom ≤ q.block
-  laid_in_data i q is = in_data i (fresh_entry q) (map_get fresh_entry laid i q is)
+  laid_in_data i q is = in_data i (fresh_entry q) (slice_get-map fresh_entry laid i ∙ ap (option_map fresh_entry) is)
 
   idle : AreIdle base old (record_writes l.geom epoch number next paid laid)
   idle = record_idle l.geom epoch number next paid laid base old
@@ -61,7 +61,7 @@ module _ (fits : FitsFresh) (ascends : Ascends) (fresh_idle : FreshIdle) (behind
 
   unlike : AreUnlike (record_writes l.geom epoch number next paid laid)
   unlike = record_unlike l.geom epoch number next paid laid keeps.ring (omega (arith, may.within))
-      (λ i k q r less is at. ascends l.geom (record_of number next paid laid) i k (fresh_entry q) (fresh_entry r) may.fit less (map_get fresh_entry laid i q is) (map_get fresh_entry laid k r at))
+      (λ i k q r less is at. ascends l.geom (record_of number next paid laid) i k (fresh_entry q) (fresh_entry r) may.fit less (slice_get-map fresh_entry laid i ∙ ap (option_map fresh_entry) is) (slice_get-map fresh_entry laid k ∙ ap (option_map fresh_entry) at))
       laid_in_data apart
 
   pub keeps_one : Joins → (tickets freed : List ℕ) (new : List Event) → AddsWrites (record_writes l.geom epoch number next paid laid) tickets old new

@@ -1,9 +1,9 @@
 -- A record's writes go to idle blocks, each to another one: so no block has two writes pending after them.
-use Rattle.std.proofs.Common.{◌≡◌, ◌≢◌, ◌⊎◌, inl, inr, ⊎_elim, ℕ, zero, suc, ◌+◌, ◌-◌, ◌%◌, ◌<◌, ◌≤◌, ◌==◌, Bool, true, false, List, [], ◌∷◌, ◌++◌, length, map, slice_get, Some, refl, sym, ◌∙◌, ap, subst, arith}
-use Rattle.std.proofs.lemmas.Bool.{eqb-true, false≢true}
+use Rattle.std.proofs.Common.{◌≡◌, ◌≢◌, ◌⊎◌, inl, inr, ⊎_elim, ℕ, zero, suc, ◌+◌, ◌-◌, ◌%◌, ◌<◌, ◌≤◌, ◌==◌, Bool, true, false, List, [], ◌∷◌, ◌++◌, length, map, slice_get, Some, refl, sym, ◌∙◌, ap, subst, arith, option_map}
+use Rattle.std.proofs.lemmas.Bool.{eqb-true, false≢true, cond-false}
 use Rattle.std.proofs.lemmas.Nat.{mod_below}
 use Rattle.std.proofs.lemmas.List.{length-map}
-use Rattle.std.proofs.lemmas.Option.{same_Some, none-some, slice_get_within}
+use Rattle.std.proofs.lemmas.Option.{same_Some, none-some, slice_get_within, slice_get-map}
 use Rattle.base_types.specs.Seal.{Blocks}
 use Rattle.disk_contract.specs.declared.event.Event.{Event}
 use Rattle.disk_contract.specs.declared.event.Event.TheVariants.{Wrote, Lost}
@@ -19,7 +19,7 @@ use Rattle.engine_running.specs.declared.put.Put.{Put}
 use Rattle.engine_running.specs.Record.{record_of, written_of, descriptor_blocks, stored_put, fresh_entry}
 use Rattle.crash_argument.specs.Writes.{AddsWrites, AddsFront}
 use Rattle.engine_running.specs.Writes.{fresh_write, ring_writes, record_writes}
-use Rattle.engine_running.proofs.spelling.Forms.{if_false, get_map, map_get}
+use Rattle.engine_running.proofs.spelling.Forms.{get_map}
 use Rattle.engine_running.proofs.logs.Logs.{length_ring_writes}
 use Rattle.engine_running.proofs.spelling.Spelled.{length_descriptor_blocks}
 
@@ -30,7 +30,7 @@ after_all-append b c (x ∷ xs) ys = after_all-append b (after b c x) xs ys
 
 -- a write to another block leaves a cell
 other_wrote : (base : Blocks) (log : List Event) (t a b : ℕ) (x : List ℕ) → a ≢ b → cell_of base (log ++ Wrote t a x ∷ []) b ≡ cell_of base log b
-other_wrote base log t a b x apart = after_all-append b _ log _ ∙ if_false (a == b) _ _ (neq a b apart)
+other_wrote base log t a b x apart = after_all-append b _ log _ ∙ cond-false (a == b) _ _ (neq a b apart)
   where
     neq : (m n : ℕ) → m ≢ n → (m == n) ≡ false
     neq m n d = grind arith
@@ -47,7 +47,7 @@ in_under (w ∷ ws) uw b e = ⊎_elim (λ inside. by (w.0 == b) refl inside) (λ
   where
     by : (v : Bool) → (w.0 == b) ≡ v → is_one_of b (w.0 ∷ uw) ≡ true → (is_one_of b uw ≡ true) ⊎ ((i : ℕ) × (x : ℕ × List ℕ) × (slice_get (w ∷ ws) i ≡ Some x) × (x.0 ≡ b))
     by true own inside = inr (0, w, refl, eqb-true w.0 b own)
-    by false other inside = inl (sym (if_false (w.0 == b) true (is_one_of b uw) other) ∙ inside)
+    by false other inside = inl (sym (cond-false (w.0 == b) true (is_one_of b uw) other) ∙ inside)
 
 -- each goes to an idle block behind the header slots
 abbrev pub AreIdle : Blocks → List Event → List (ℕ × List ℕ) → Type 0
@@ -182,7 +182,7 @@ module _ (g : Geometry) (epoch number place : ℕ) (paid laid : List Put) where
   pub record_own : (l : Ledger) → g ≡ l.geom → AreOfRecord l (written_of epoch number place paid laid) (under (record_writes g epoch number place paid laid) [])
   record_own l same = record {
     each = λ b inside. ⊎_elim (λ none. absurd (false≢true none)) (λ r. ⊎_elim
-        (λ f. let q = fresh_part r.0 r.1 f.1 in inr (r.0, fresh_entry q.0, map_get fresh_entry laid r.0 q.0 q.1, q.2 ∙ r.3))
+        (λ f. let q = fresh_part r.0 r.1 f.1 in inr (r.0, fresh_entry q.0, slice_get-map fresh_entry laid r.0 ∙ ap (option_map fresh_entry) q.1, q.2 ∙ r.3))
         (λ h. let q = ring_part h.0 r.1 h.2 in inl (q.turn, q.within, ap (λ (k : Geometry). ring_block k (place + q.turn)) (sym same) ∙ sym q.block ∙ r.3)) (either fs (ds ++ (ps ++ cs)) r.0 r.1 r.2)) (in_under (record_writes g epoch number place paid laid) [] b inside);
   }
 

@@ -1,5 +1,5 @@
 -- Facts of lists that are gone through by an index.
-use Rattle.std.proofs.Common.{◌≡◌, ℕ, zero, suc, ◌+◌, ◌<◌, ◌≤◌, Bool, true, false, if◌then◌else◌, List, [], ◌∷◌, ◌++◌, length, take, drop, map, slice_get, slice_index_or, Some, Result, Ok, Err, IsErr, OnOk, refl, ◌∙◌, ap, sym, arith}
+use Rattle.std.proofs.Common.{◌≡◌, ℕ, zero, suc, ◌+◌, ◌<◌, ◌≤◌, if◌then◌else◌, List, [], ◌∷◌, ◌++◌, length, take, drop, map, slice_get, slice_index_or, Some, refl, ◌∙◌, ap, sym, arith}
 use Rattle.std.proofs.lemmas.Option.{same_Some}
 
 -- what is at an index within a list
@@ -8,21 +8,11 @@ get_is [] k d lt = absurd (omega arith)
 get_is (x ∷ xs) zero d lt = refl
 get_is (x ∷ xs) (suc k) d lt = get_is xs k d (omega arith)
 
--- what is asked of an answer that failed holds
-pub on_err : {T E : Type 0} (r : Result T E) (P : Type 0) → IsErr r → OnOk r P
-on_err (Ok x) P e = cc
-on_err (Err x) P e = tt
-
 -- what is in a list that was mapped
 pub get_map : {A B : Type 0} (f : A → B) (xs : List A) (k : ℕ) (y : B) → slice_get (map f xs) k ≡ Some y → (x : A) × (slice_get xs k ≡ Some x) × (f x ≡ y)
 get_map f [] k y e = cc
 get_map f (x ∷ xs) zero y e = (x, refl, same_Some _ _ e)
 get_map f (x ∷ xs) (suc k) y e = get_map f xs k y e
-
-pub map_get : {A B : Type 0} (f : A → B) (xs : List A) (k : ℕ) (x : A) → slice_get xs k ≡ Some x → slice_get (map f xs) k ≡ Some (f x)
-map_get f [] k x e = cc
-map_get f (y ∷ xs) zero x e = ap (λ z. Some (f z)) (same_Some _ _ e)
-map_get f (y ∷ xs) (suc k) x e = map_get f xs k x e
 
 pub index_map : {A : Type 0} (f : A → List ℕ) (xs : List A) (k : ℕ) (x : A) → slice_get xs k ≡ Some x → slice_index_or (map f xs) k [] ≡ f x
 index_map f [] k x e = cc
@@ -79,22 +69,6 @@ take_enough [] (suc m) (suc n) p q = refl
 take_enough (x ∷ xs) zero n p q = absurd (omega arith)
 take_enough (x ∷ xs) (suc m) zero p q = absurd (omega arith)
 take_enough {A} (x ∷ xs) (suc m) (suc n) p q = ap (λ (l : List A). x ∷ l) (take_enough xs m n (omega arith) (omega arith))
-
--- tests that are known
-pub if_true : {A : Type 0} (c : Bool) (x y : A) → c ≡ true → (if c then x else y) ≡ x
-if_true c x y e = ap (λ (b : Bool). if b then x else y) e
-
-pub if_false : {A : Type 0} (c : Bool) (x y : A) → c ≡ false → (if c then x else y) ≡ y
-if_false c x y e = ap (λ (b : Bool). if b then x else y) e
-
--- what is left of a list from an element on
-pub drop_get : {A : Type 0} (xs : List A) (k : ℕ) (x : A) → slice_get xs k ≡ Some x → drop k xs ≡ x ∷ drop (k + 1) xs
-drop_get [] k x e = cc
-drop_get {A} (y ∷ xs) zero x e = ap (λ z. z ∷ xs) (same_Some _ _ e)
-drop_get {A} (y ∷ xs) (suc k) x e = drop_get xs k x e ∙ ap (λ n. x ∷ drop n (y ∷ xs)) (s k)
-  where
-    s : (k : ℕ) → suc (k + 1) ≡ suc k + 1
-    s k = omega arith
 
 -- one element more of a list that was mapped
 pub push_map : {A B : Type 0} (f : A → B) (xs : List A) (k : ℕ) (x : A) → slice_get xs k ≡ Some x → map f (take k xs) ++ f x ∷ [] ≡ map f (take (k + 1) xs)

@@ -1,7 +1,8 @@
 -- The blocks of a record, from its puts.
-use Rattle.std.proofs.Common.{◌≡◌, ◌⊎◌, ⊎_elim, inl, inr, ℕ, suc, ◌+◌, ◌<◌, ◌≤◌, List, [], ◌∷◌, ◌++◌, length, map, slice_get, Some, Result, Ok, Err, IsErr, refl, sym, ◌∙◌, ap, arith}
+use Rattle.std.proofs.Common.{◌≡◌, ◌⊎◌, ⊎_elim, inl, inr, ℕ, suc, ◌+◌, ◌<◌, ◌≤◌, List, [], ◌∷◌, ◌++◌, length, map, slice_get, Some, Result, Ok, Err, IsErr, refl, sym, ◌∙◌, ap, arith, option_map}
 use Rattle.std.proofs.lemmas.Bool.{false≢true}
 use Rattle.std.proofs.lemmas.List.{length-map}
+use Rattle.std.proofs.lemmas.Option.{slice_get-map}
 use Rattle.base_types.specs.Seal.{Blocks}
 use Rattle.disk_contract.specs.declared.event.Event.{Event}
 use Rattle.disk_contract.specs.Cell.{cell_of}
@@ -19,7 +20,7 @@ use Rattle.engine_running.specs.declared.put.Put.{Put}
 use Rattle.engine_running.specs.Record.{record_of, written_of, descriptor_blocks, stored_put, bytes_of, fresh_entry, payload_entry, AreLaid, AreParts}
 use Rattle.engine_running.specs.Writes.{fresh_write, ring_writes, record_writes}
 use Rattle.engine_running.specs.Commits.{RecordLeaves}
-use Rattle.engine_running.proofs.spelling.Forms.{get_is, map_get, index_map}
+use Rattle.engine_running.proofs.spelling.Forms.{get_is, index_map}
 use Rattle.engine_running.proofs.spelling.Spelled.{ring_descriptor, ring_payload, descriptor_block_at, length_descriptor_blocks, same_descriptors, entries_length}
 
 -- between records nothing of the next one is issued
@@ -34,7 +35,7 @@ nothing_issued base log l p w tickets idle known = record { knows = known; fresh
 
 module _ (epoch number place : ℕ) (paid laid : List Put) where
   pub are_laid : AreLaid laid (written_of epoch number place paid laid)
-  are_laid i p is = (fresh_entry p, map_get fresh_entry laid i p is, refl, sym (index_map bytes_of laid i p is))
+  are_laid i p is = (fresh_entry p, slice_get-map fresh_entry laid i ∙ ap (option_map fresh_entry) is, refl, sym (index_map bytes_of laid i p is))
 
   pub are_descriptors : AreParts (written_of epoch number place paid laid) 1 (descriptor_blocks epoch (record_of number 0 paid laid))
   are_descriptors i lt = ap (λ (l : List (List ℕ)). block_at l i) (same_descriptors epoch number 0 place paid laid)

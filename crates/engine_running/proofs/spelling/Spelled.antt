@@ -1,7 +1,7 @@
 -- A transaction's record is spelled by its blocks.
 use Rattle.std.proofs.Common.{◌≡◌, ℕ, zero, suc, ◌+◌, ◌*◌, ◌/◌, ◌<◌, ◌≤◌, ◌==◌, Bool, true, false, IsTrue, if◌then◌else◌, List, [], ◌∷◌, ◌++◌, length, take, drop, map, slice_get, slice_index_or, Some, None, refl, sym, ◌∙◌, ap, subst, arith, length-append, length-drop}
 use Rattle.std.proofs.lemmas.List.{length-map, length-take}
-use Rattle.std.proofs.lemmas.Bool.{eqb-true}
+use Rattle.std.proofs.lemmas.Bool.{eqb-true, cond-true, cond-false}
 use Rattle.std.proofs.lemmas.Option.{same_Some, none-some}
 use Rattle.sha2.proofs.Facts256.{length-sha256}
 use Rattle.base_types.specs.Seal.{Blocks, sha256}
@@ -18,7 +18,7 @@ use Rattle.crash_argument.specs.LastWrites.{IsDead}
 use Rattle.crash_argument.specs.Recording.{IsNextRecord}
 use Rattle.engine_running.specs.declared.put.Put.{Put}
 use Rattle.engine_running.specs.Record.{payload_entry, fresh_entry, stored_put, bytes_of, record_of, written_of, descriptors_from, descriptor_blocks, IsTransaction}
-use Rattle.engine_running.proofs.spelling.Forms.{get_is, get_map, index_map, index_behind, index_front, get_drop, if_true, if_false}
+use Rattle.engine_running.proofs.spelling.Forms.{get_is, get_map, index_map, index_behind, index_front, get_drop}
 
 pub entries_length : (number place : ℕ) (paid laid : List Put) → length (entries (record_of number place paid laid)) ≡ length paid + length laid
 entries_length number place paid laid = omega (arith, length-append (map payload_entry paid) (map fresh_entry laid), length-map paid payload_entry, length-map laid fresh_entry)
@@ -127,9 +127,9 @@ payload_is reads ring (p ∷ es) i b y at is = by (p.block == b) refl (payload_i
         → (payload_among ring (i + 1) (map payload_entry es) b ≡ Some y → (k : ℕ) × (q : Put) × (slice_get es k ≡ Some q) × (q.block ≡ b) × (q.bytes ≡ y))
         → (k : ℕ) × (q : Put) × (slice_get (p ∷ es) k ≡ Some q) × (q.block ≡ b) × (q.bytes ≡ y)
     by true own rest =
-        let here = same_Some _ _ (sym (if_true (p.block == b) (Some (unescaped (stored_kind p.bytes) (block_at ring i))) (payload_among ring (i + 1) (map payload_entry es) b) own) ∙ is) in
+        let here = same_Some _ _ (sym (cond-true (p.block == b) (Some (unescaped (stored_kind p.bytes) (block_at ring i))) (payload_among ring (i + 1) (map payload_entry es) b) own) ∙ is) in
         (0, p, refl, eqb-true p.block b own, sym (reads p.bytes) ∙ sym (ap (unescaped (stored_kind p.bytes)) (ap (block_at ring) (z i) ∙ at 0 p refl)) ∙ here)
-    by false other rest = let one = rest (sym (if_false (p.block == b) (Some (unescaped (stored_kind p.bytes) (block_at ring i))) (payload_among ring (i + 1) (map payload_entry es) b) other) ∙ is) in
+    by false other rest = let one = rest (sym (cond-false (p.block == b) (Some (unescaped (stored_kind p.bytes) (block_at ring i))) (payload_among ring (i + 1) (map payload_entry es) b) other) ∙ is) in
         (suc one.0, one.1, one.2, one.3, one.4)
 
 payload_none : (ring : List (List ℕ)) (es : List Put) (i b : ℕ) → payload_among ring i (map payload_entry es) b ≡ None → names_block (map payload_entry es) b ≡ false
@@ -137,8 +137,8 @@ payload_none ring [] i b is = refl
 payload_none ring (p ∷ es) i b is = by (p.block == b) refl (payload_none ring es (i + 1) b)
   where
     by : (v : Bool) → (p.block == b) ≡ v → (payload_among ring (i + 1) (map payload_entry es) b ≡ None → names_block (map payload_entry es) b ≡ false) → names_block (map payload_entry (p ∷ es)) b ≡ false
-    by true own rest = absurd (none-some _ (sym (sym (if_true (p.block == b) (Some (unescaped (stored_kind p.bytes) (block_at ring i))) (payload_among ring (i + 1) (map payload_entry es) b) own) ∙ is)))
-    by false other rest = if_false (p.block == b) true (names_block (map payload_entry es) b) other ∙ rest (sym (if_false (p.block == b) (Some (unescaped (stored_kind p.bytes) (block_at ring i))) (payload_among ring (i + 1) (map payload_entry es) b) other) ∙ is)
+    by true own rest = absurd (none-some _ (sym (sym (cond-true (p.block == b) (Some (unescaped (stored_kind p.bytes) (block_at ring i))) (payload_among ring (i + 1) (map payload_entry es) b) own) ∙ is)))
+    by false other rest = cond-false (p.block == b) true (names_block (map payload_entry es) b) other ∙ rest (sym (cond-false (p.block == b) (Some (unescaped (stored_kind p.bytes) (block_at ring i))) (payload_among ring (i + 1) (map payload_entry es) b) other) ∙ is)
 
 -- what the journal's laws say of its blocks: payloads, commit blocks and descriptors read back, and entries that fit keep to the disk
 module _ (reads : (x : List ℕ) → unescaped (stored_kind x) (stored_of x) ≡ x) (stored : (x : List ℕ) → is_stored (stored_kind x) (stored_of x) ≡ true)

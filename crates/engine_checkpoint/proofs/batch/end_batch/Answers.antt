@@ -1,7 +1,7 @@
 -- The batch is placed, and its tickets leave the notes.
 use Rattle.std.proofs.Common.{◌≡◌, ◌++◌, ◌≤◌, ◌<◌, ◌-◌, ◌&&◌, true, List, [], None, length, take, map, slice_get, Some, if◌then◌else◌, refl, sym, ◌∙◌, ap, subst, arith}
 use Rattle.std.proofs.lemmas.Option.{slice_get_read}
-use Rattle.std.proofs.lemmas.Bool.{lt-ltb}
+use Rattle.std.proofs.lemmas.Bool.{lt-ltb, cond-true}
 use Rattle.crash_argument.specs.PipelineData.{IsHomeNoticed, with_placed}
 use Rattle.engine_notes.specs.Notes.{none_open}
 use Rattle.engine_running.specs.States.{Forgets}
@@ -13,7 +13,6 @@ use Rattle.engine_checkpoint.specs.Kept.{Kept, of_sure, of_durable, of_committed
 use Rattle.engine_checkpoint.specs.Newest.{spot_of, is_upto}
 use Rattle.engine_checkpoint.specs.Batch.{have_payload}
 use Rattle.engine_checkpoint.specs.Turns.{EndsBatch, last_of_batch}
-use Rattle.engine_checkpoint.proofs.Lists.{choose_true}
 use Rattle.engine_checkpoint.proofs.Homes.{home_noticed, agrees_at_home}
 use Rattle.engine_checkpoint.proofs.BatchEnds.{take_front, few_in_batch, order_ended, room_ended, owed_ended}
 use Rattle.engine_checkpoint.proofs.Numbers.{sure_number}
@@ -80,7 +79,7 @@ returns-clause-agrees c = λ s base log l t floor ring waiting taken safe a.
     let v = c.args.pipeline.now in
     let none : none_open (map home_ticket v.home.items) v.notes.notes ≡ true = sym (ap (λ (hs : List HomeWrite). none_open (map home_ticket hs) v.notes.notes) c.as_slice.ensures.value) ∙ sym c.no_write_is_open.ensures ∙ c.if-not-no_write_is_open.false in
     let noticed : IsHomeNoticed log (map home_pair v.home.items) = home_noticed log v.home.items v.notes.notes a.notes a.expected.home none in
-    let sent : (data_of v ring waiting).sent ≡ v.geom.n = choose_true _ v.geom.n 0 (lt-ltb 0 v.batch (omega (arith, c.if-pipeline-eq0.false))) in
+    let sent : (data_of v ring waiting).sent ≡ v.geom.n = cond-true _ v.geom.n 0 (lt-ltb 0 v.batch (omega (arith, c.if-pipeline-eq0.false))) in
     let all : l.geom.n ≤ (data_of v ring waiting).sent = omega (arith, sent, ap (λ (g : Geometry). g.n) a.geom) in
     let fewer : 0 ≤ (with_placed (data_of v ring waiting)).sent = omega arith in
     agrees_at_home base log l v ring waiting taken a (then_is c) (ends c)

@@ -1,12 +1,12 @@
 -- Each turn places one record more.
 use Rattle.std.proofs.Common.{◌≡◌, ◌≤◌, ◌<◌, ◌+◌, ◌++◌, ◌∷◌, ◌&&◌, [], List, None, length, take, drop, map, option_to_list, if◌then◌else◌, sym, ◌∙◌, ap, subst, arith}
 use Rattle.std.specs.VecDeque.{deque_len, deque_capacity}
+use Rattle.std.proofs.lemmas.Bool.{cond-true}
 use Rattle.engine_running.specs.declared.put.Put.{Put}
 use Rattle.engine_running.specs.declared.states.Sure.{Sure}
 use Rattle.engine_checkpoint.specs.Kept.{of_sure, payloads_in}
 use Rattle.engine_checkpoint.specs.Newest.{spot_of, has_block, is_upto}
 use Rattle.engine_checkpoint.specs.Batch.{have_payload}
-use Rattle.engine_checkpoint.proofs.Lists.{choose_true}
 use Rattle.engine_checkpoint.proofs.Placing.{take_next, drop_next, payloads_push, payloads_front, drops_next, placed_next}
 use Rattle.engine_checkpoint.proofs.batch.place_first.Goals as goal
 
@@ -24,9 +24,9 @@ loop-turn-preserved c =
       left = omega (arith, c.loop-turn.invariant.left, size, payloads_push (take k all) s, ap (λ (xs : List Sure). payloads_in (map of_sure xs)) next, payloads_front all (k + 1) c.args.count more, c.requires.few);
       rest = drop_next all c.pop_front.new.self.items k s front;
       rest_room = omega (arith, c.loop-turn.invariant.rest_room, c.pop_front.ensures.capacity);
-      placed = placed_next c.args.placed.now.items (take k all) s c.loop-turn.placed.items c.push_back.new.self.items c.as_placed.result c.as_placed.ensures c.loop-turn.invariant.placed (c.push_back.ensures.items ∙ choose_true _ _ _ (c.push_back.ensures.succeeds room))
+      placed = placed_next c.args.placed.now.items (take k all) s c.loop-turn.placed.items c.push_back.new.self.items c.as_placed.result c.as_placed.ensures c.loop-turn.invariant.placed (c.push_back.ensures.items ∙ cond-true _ _ _ (c.push_back.ensures.succeeds room))
           ∙ ap (λ (xs : List Sure). c.args.placed.now.items ++ map Rattle.engine_checkpoint.specs.Batch.placed_of xs) (sym next);
-      placed_len = c.push_back.ensures.len ∙ choose_true _ _ _ (c.push_back.ensures.succeeds room) ∙ omega (arith, c.loop-turn.invariant.placed_len);
+      placed_len = c.push_back.ensures.len ∙ cond-true _ _ _ (c.push_back.ensures.succeeds room) ∙ omega (arith, c.loop-turn.invariant.placed_len);
       placed_room = omega (arith, c.loop-turn.invariant.placed_room, c.push_back.ensures.capacity);
       newest = λ b. drops_next (take k all) s b c.args.last (spot_of c.args.newest.now b) (spot_of c.loop-turn.newest b) (spot_of c.drop_upto.new.self b) (c.loop-turn.invariant.newest b)
           (subst (λ (ps : List Put). spot_of c.drop_upto.new.self b ≡ (if has_block b ps && is_upto c.args.last (spot_of c.loop-turn.newest b) then None else spot_of c.loop-turn.newest b)) c.as_slice-own.ensures.value (c.drop_upto.ensures.at b))

@@ -2,6 +2,8 @@
 use Rattle.std.proofs.Common.{◌≡◌, ◌<◌, ◌≤◌, ◌+◌, ◌++◌, ◌∷◌, ◌||◌, [], ℕ, List, map, take, length, drop, slice_index_or, vec_len, vec_capacity, None, ap, ◌∙◌, refl, sym, subst, arith}
 use Rattle.std.proofs.lemmas.List.{length-map}
 use Rattle.std.proofs.lemmas.Option.{none-some}
+use Rattle.std.proofs.lemmas.Bool.{cond-true}
+use Rattle.std.proofs.lemmas.Result.{IfOk-from_err}
 use Rattle.crash_argument.specs.Ledger.{WrittenRecord}
 use Rattle.crash_argument.specs.HomeTest.{is_one_of, goes_home}
 use Rattle.crash_argument.specs.PipelineData.{NeedsCheckpoint}
@@ -14,8 +16,8 @@ use Rattle.engine_checkpoint.specs.Agree.{home_pair, home_ticket}
 use Rattle.engine_checkpoint.specs.Batch.{home_block}
 use Rattle.engine_checkpoint.specs.HomeState.{HomeState, with_homes, sent_behind, home_of}
 use Rattle.engine_checkpoint.specs.Kept.{of_sure}
-use Rattle.engine_checkpoint.proofs.Lists.{choose_true, map_push}
-use Rattle.engine_checkpoint.proofs.BatchRows.{on_err, sent_push, sent_low, sent_below, skipped, put_at, no_more, row_get, on_err_adds}
+use Rattle.engine_checkpoint.proofs.Lists.{map_push}
+use Rattle.engine_checkpoint.proofs.BatchRows.{sent_push, sent_low, sent_below, skipped, put_at, no_more, row_get, on_err_adds}
 use Rattle.engine_checkpoint.proofs.HomeRows.{item_is, row_item, row_length, row_below, listed_next, expected_next}
 use Rattle.engine_checkpoint.proofs.batch.write_batch.Goals as goal
 
@@ -53,7 +55,7 @@ returns-in_err-ticket-clause-home g c = λ tells row home same s l p freed taken
     let own = test b ∙ put_at row home.rising k q is in
     let between : (d : ℕ) → sent_behind 0 (take k row) ≤ d → d < b → home_of l p freed d ≡ None = λ d ge lt. test d ∙ skipped row home.rising k q is d ge lt in
     let now = c.in_err-ticket.ensures.home tells s l (with_homes p (map home_pair c.loop-block.home.items) (sent_behind 0 (take k row))) freed taken t floor was.0 was.1 (sent_low row home.rising k q is) own between in
-    (now, on_err _ _ c.from_residual.ensures.0)
+    (now, IfOk-from_err _ _ c.from_residual.ensures.0)
 
 pub returns-in_err-ticket-clause-log : goal.returns-in_err-ticket-clause-log
 returns-in_err-ticket-clause-log g c = λ tells row home same.
@@ -75,7 +77,7 @@ loop-block-preserved g c =
     let t = c.in_ok-ticket.ticket in
     let one : HomeWrite = record { block = b; ticket = t } in
     let room : vec_len c.loop-block.home < vec_capacity c.loop-block.home = omega (arith, c.requires.room, c.loop-block.invariant.taken, c.loop-block.invariant.capacity, c.loop-block-test.true) in
-    let items : c.push.new.self.items ≡ c.loop-block.home.items ++ one ∷ [] = c.push.ensures.items ∙ choose_true _ _ _ (c.push.ensures.succeeds room) in
+    let items : c.push.new.self.items ≡ c.loop-block.home.items ++ one ∷ [] = c.push.ensures.items ∙ cond-true _ _ _ (c.push.ensures.succeeds room) in
     let at = item_is blocks k c.loop-block-test.true in
     record {
       spends = record {
@@ -85,7 +87,7 @@ loop-block-preserved g c =
         waits = c.write_home.ensures.spends.waits ∙ c.loop-block.invariant.spends.waits;
         polls = c.write_home.ensures.spends.polls ∙ c.loop-block.invariant.spends.polls;
       };
-      taken = c.push.ensures.len ∙ choose_true _ _ _ (c.push.ensures.succeeds room) ∙ omega (arith, c.loop-block.invariant.taken);
+      taken = c.push.ensures.len ∙ cond-true _ _ _ (c.push.ensures.succeeds room) ∙ omega (arith, c.loop-block.invariant.taken);
       capacity = omega (arith, c.push.ensures.capacity, c.loop-block.invariant.capacity);
       room = omega (arith, c.loop-block.invariant.room, c.expect.ensures.room);
       listed = ap (map home_block) items ∙ listed_next c.loop-block.home.items blocks k t c.loop-block-test.true c.loop-block.invariant.listed;

@@ -1,5 +1,6 @@
 -- The due header is the ledger's next one.
 use Rattle.std.proofs.Common.{◌≡◌, ◌-◌, ◌++◌, ◌∷◌, [], true, length, Some, None, option_map, ℕ, List, take, slice_get, refl, sym, ◌∙◌, ap, subst}
+use Rattle.std.proofs.lemmas.Bool.{cond-true}
 use Rattle.base_types.specs.Seal.{Blocks}
 use Rattle.disk_contract.specs.declared.event.Event.{Event}
 use Rattle.disk_contract.specs.declared.event.Event.TheVariants.{Wrote}
@@ -15,7 +16,6 @@ use Rattle.crash_argument.specs.Steps.{with_header}
 use Rattle.engine_checkpoint.specs.declared.pipeline.Pipeline.{Pipeline}
 use Rattle.engine_checkpoint.specs.Agree.{PipelineAgrees, data_of, header_in}
 use Rattle.engine_checkpoint.specs.Turns.{is_header_due, due_header, header_made}
-use Rattle.engine_checkpoint.proofs.Lists.{choose_true}
 use Rattle.engine_checkpoint.proofs.DueHeaders.{none_pending, due_is, due_reads, adds_lost, adds_wrote, header_failed}
 use Rattle.engine_checkpoint.proofs.NextHeaders.{agrees_header}
 use Rattle.engine_checkpoint.proofs.header.write_next_header.Goals as goal
@@ -69,7 +69,7 @@ returns-clause-agrees g c = λ tells s l t floor waiting taken safe a.
     (c.a_write_to_an_idle_block_is_the_one.ensures.header base log l (data_of v ring waiting) [] ticket x next a.one safe.keeps.headers.is_slot none)
     (c.taken_blocks_stay_dead.ensures.events log (Wrote ticket (1 - l.slot) x ∷ []) (with_header l next) (data_of v ring waiting) taken (c.taken_blocks_stay_dead.ensures.header log l (data_of v ring waiting) taken next a.free))
     (λ b free. c.nothing_is_written_between_records.ensures.accepted base log l ticket b x free) in
-    let made : header_made v ring l ≡ with_header l next = choose_true (is_header_due v) (with_header l (due_header v ring)) l due ∙ ap (with_header l) due_next in
+    let made : header_made v ring l ≡ with_header l next = cond-true (is_header_due v) (with_header l (due_header v ring)) l due ∙ ap (with_header l) due_next in
     let now = (g.D.Disk.state c.write_header-2.new.disk).base in
     let new = (g.D.Disk.state c.write_header-2.new.disk).log in
     let with_next : Header → Pipeline = λ h. record v { next = Some (record { header = h; ticket = ticket }); written = h; notes = c.expect.new.self } in

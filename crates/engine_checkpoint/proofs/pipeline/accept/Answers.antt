@@ -1,5 +1,6 @@
 -- The transaction is the last one of the committed, and keeps its record.
 use Rattle.std.proofs.Common.{◌≡◌, ◌||◌, ℕ, ◌+◌, ◌<◌, true, List, [], ◌∷◌, ◌++◌, length, deque_len, deque_capacity, ap, ap₂, ◌∙◌, refl, sym, arith}
+use Rattle.std.proofs.lemmas.Bool.{cond-true}
 use Rattle.crash_argument.specs.HomeTest.{is_one_of}
 use Rattle.crash_argument.specs.Ledger.{next_number}
 use Rattle.engine_notes.specs.Notes.{is_expected}
@@ -8,7 +9,6 @@ use Rattle.engine_running.specs.Record.{written_of}
 use Rattle.engine_running.specs.declared.put.Put.{Put}
 use Rattle.engine_checkpoint.specs.Kept.{of_committed}
 use Rattle.engine_checkpoint.specs.Newest.{spot_after, spot_of}
-use Rattle.engine_checkpoint.proofs.Lists.{choose_true}
 use Rattle.engine_checkpoint.proofs.Accepted.{same_after, order_joined, room_joined, owed_joined, taken_joined, kept_joined}
 use Rattle.engine_checkpoint.proofs.Index.{index_joins}
 use Rattle.engine_checkpoint.proofs.Accepts.{agrees_accepted}
@@ -22,7 +22,7 @@ returns c =
     let tx = c.args.committed in
     let free : deque_len v.committed < deque_capacity v.committed = omega (arith, c.requires.room.committed, c.requires.ready.records) in
     let out = record v { committed = c.push_back.new.self; last = tx.number; unplaced = v.unplaced + c.payload_count.result; newest = c.add.new.self; ready = c.ready_after-pipeline.result } in
-    let joined : c.push_back.new.self.items ≡ v.committed.items ++ tx ∷ [] = c.push_back.ensures.items ∙ choose_true _ _ _ (c.push_back.ensures.succeeds free) in
+    let joined : c.push_back.new.self.items ≡ v.committed.items ++ tx ∷ [] = c.push_back.ensures.items ∙ cond-true _ _ _ (c.push_back.ensures.succeeds free) in
     let unplaced = ap (λ (n : ℕ). v.unplaced + n) c.payload_count.ensures in
     let expected : (u : ℕ) → is_expected u c.expect_all.new.notes.notes ≡ (is_one_of u tx.tickets.items || is_expected u v.notes.notes) = λ u. c.expect_all.ensures.expected u ∙ ap (λ (ts : List ℕ). is_one_of u ts || is_expected u v.notes.notes) c.as_slice.ensures.value in
     let still : (u : ℕ) → is_expected u v.notes.notes ≡ true → is_expected u c.expect_all.new.notes.notes ≡ true = λ u e. c.expect_all.ensures.expected u ∙ with_old (is_one_of u c.as_slice.result.now) (is_expected u v.notes.notes) e in
@@ -51,7 +51,7 @@ returns c =
       };
       order = order_joined v out tx c.expect_all.new.notes joined c.requires.order c.requires.next refl unplaced c.requires.has c.requires.places c.requires.below;
       room = room_joined v out tx c.expect_all.new.notes joined c.requires.order unplaced c.ready_after-pipeline.ensures c.requires.ready.records c.requires.ready.writes c.requires.ready.payloads
-          (c.push_back.ensures.len ∙ choose_true _ _ _ (c.push_back.ensures.succeeds free)) c.push_back.ensures.capacity
+          (c.push_back.ensures.len ∙ cond-true _ _ _ (c.push_back.ensures.succeeds free)) c.push_back.ensures.capacity
           (omega (arith, c.add.ensures.spare, ap (λ (ps : List Put). length ps) c.as_slice-2.ensures.value)) (omega (arith, c.expect_all.ensures.left, ap (λ (ts : List ℕ). length ts) c.as_slice.ensures.value))
           still c.requires.room;
       index = index_joins v (record out { notes = c.expect_all.new.notes }) (of_committed tx) (kept_joined v out tx c.expect_all.new.notes joined) newest c.requires.index;

@@ -8,8 +8,7 @@ use Rattle.engine_running.specs.declared.commit.Committed.{Committed}
 use Rattle.engine_running.specs.States.{IsDurableOf, Forgets}
 use Rattle.engine_checkpoint.specs.Agree.{data_of}
 use Rattle.engine_checkpoint.specs.Steps.{is_first_settled}
-use Rattle.engine_checkpoint.proofs.Lists.{choose_true}
-use Rattle.std.proofs.lemmas.Bool.{and_parts}
+use Rattle.std.proofs.lemmas.Bool.{and_parts, cond-true}
 use Rattle.engine_running.specs.declared.states.Durable.{Durable}
 use Rattle.engine_checkpoint.specs.declared.pipeline.Pipeline.{Pipeline}
 use Rattle.engine_checkpoint.proofs.Dropped.{room_of_header}
@@ -27,7 +26,7 @@ returns-clause-agrees c = λ s base log l t floor ring waiting taken safe a.
     let all_came : are_noticed tx.tickets.items v.notes.notes ≡ true = sym (c.expected_tickets_are_noticed_or_open.ensures tx.tickets.items v.notes.notes (a.expected.records 0 tx (ap (λ (xs : List Committed). slice_get xs 0) first))) ∙ sym c.settled_for_good.ensures.exact ∙ ap is_ok c.unwrap-durable.ensures in
     let is_of : IsDurableOf tx d = subst (λ r. IfOk r (IsDurableOf tx)) c.unwrap-durable.ensures c.settled_for_good.ensures.ok in
     let forgets : Forgets tx.tickets.items v.notes c.settled_for_good.new.notes = subst (λ r. OnOk r (Forgets tx.tickets.items v.notes c.settled_for_good.new.notes)) c.unwrap-durable.ensures c.settled_for_good.ensures.forgets in
-    let more : c.push_back.new.self.items ≡ v.durable.items ++ d ∷ [] = c.push_back.ensures.items ∙ choose_true _ _ _ (c.push_back.ensures.succeeds (omega (arith, c.requires.room.durable, c.pop_front.ensures.len, ap (λ o. length (option_to_list o)) c.unwrap-first.ensures))) in
+    let more : c.push_back.new.self.items ≡ v.durable.items ++ d ∷ [] = c.push_back.ensures.items ∙ cond-true _ _ _ (c.push_back.ensures.succeeds (omega (arith, c.requires.room.durable, c.pop_front.ensures.len, ap (λ o. length (option_to_list o)) c.unwrap-first.ensures))) in
     let upto : l.known + 1 ≤ next_number l = omega (arith, a.known, a.count, ap (λ (xs : List Committed). length xs) first) in
     let grows : l.known ≤ l.known + 1 = omega arith in
     let noticed = c.records_become_durable.ensures.newly base log l (data_of v ring waiting) (l.known + 1) safe.keeps a.agree grows upto
@@ -51,7 +50,7 @@ returns-clause-settles c =
       settled = d;
       was = c.pop_front.ensures.items ∙ ap (λ o. option_to_list o ++ cs.items) c.unwrap-first.ensures;
       keeps = subst (λ r. IfOk r (IsDurableOf tx)) c.unwrap-durable.ensures c.settled_for_good.ensures.ok;
-      durable = c.push_back.ensures.items ∙ choose_true _ _ _ (c.push_back.ensures.succeeds (omega (arith, c.requires.room.durable, c.pop_front.ensures.len, ap (λ o. length (option_to_list o)) c.unwrap-first.ensures)));
+      durable = c.push_back.ensures.items ∙ cond-true _ _ _ (c.push_back.ensures.succeeds (omega (arith, c.requires.room.durable, c.pop_front.ensures.len, ap (λ o. length (option_to_list o)) c.unwrap-first.ensures)));
       forgets = subst (λ r. OnOk r (Forgets tx.tickets.items v.notes c.settled_for_good.new.notes)) c.unwrap-durable.ensures c.settled_for_good.ensures.forgets;
       rest = refl;
     }
@@ -76,7 +75,7 @@ returns-clause-fit c = record {
       let w : Pipeline = record v { committed = cs; durable = c.push_back.new.self; notes = c.settled_for_good.new.notes } in
       let first : v.committed.items ≡ tx ∷ cs.items = c.pop_front.ensures.items ∙ ap (λ o. option_to_list o ++ cs.items) c.unwrap-first.ensures in
       let is_of : IsDurableOf tx d = subst (λ r. IfOk r (IsDurableOf tx)) c.unwrap-durable.ensures c.settled_for_good.ensures.ok in
-      let more : c.push_back.new.self.items ≡ v.durable.items ++ d ∷ [] = c.push_back.ensures.items ∙ choose_true _ _ _ (c.push_back.ensures.succeeds (omega (arith, c.requires.room.durable, c.pop_front.ensures.len, ap (λ o. length (option_to_list o)) c.unwrap-first.ensures))) in
+      let more : c.push_back.new.self.items ≡ v.durable.items ++ d ∷ [] = c.push_back.ensures.items ∙ cond-true _ _ _ (c.push_back.ensures.succeeds (omega (arith, c.requires.room.durable, c.pop_front.ensures.len, ap (λ o. length (option_to_list o)) c.unwrap-first.ensures))) in
       order_settled v w refl (kept_settled v w tx d refl first more is_of) (omega (arith, length-append v.durable.items (d ∷ []), ap (λ (ds : List Durable). length ds) more)) c.requires.order;
   room = let v = c.args.pipeline.now in
       let tx = c.unwrap-first.result in
@@ -88,8 +87,8 @@ returns-clause-fit c = record {
       let forgets : Forgets tx.tickets.items v.notes c.settled_for_good.new.notes = subst (λ r. OnOk r (Forgets tx.tickets.items v.notes c.settled_for_good.new.notes)) c.unwrap-durable.ensures c.settled_for_good.ensures.forgets in
       let less : deque_len cs + 1 ≡ deque_len v.committed = ap (λ o. deque_len cs + length (option_to_list o)) (sym c.unwrap-first.ensures) ∙ c.pop_front.ensures.len in
       let room : deque_len v.durable < deque_capacity v.durable = omega (arith, c.requires.room.durable, less) in
-      let more : c.push_back.new.self.items ≡ v.durable.items ++ d ∷ [] = c.push_back.ensures.items ∙ choose_true _ _ _ (c.push_back.ensures.succeeds room) in
-      let one : deque_len c.push_back.new.self ≡ deque_len v.durable + 1 = c.push_back.ensures.len ∙ choose_true _ _ _ (c.push_back.ensures.succeeds room) in
+      let more : c.push_back.new.self.items ≡ v.durable.items ++ d ∷ [] = c.push_back.ensures.items ∙ cond-true _ _ _ (c.push_back.ensures.succeeds room) in
+      let one : deque_len c.push_back.new.self ≡ deque_len v.durable + 1 = c.push_back.ensures.len ∙ cond-true _ _ _ (c.push_back.ensures.succeeds room) in
       room_settled v w refl (kept_settled v w tx d refl first more is_of) (omega (arith, less, one)) (omega (arith, less)) c.push_back.ensures.capacity (omega (arith, c.pop_front.ensures.capacity))
       (room_of_header c.notes_of_few_tickets_are_few.ensures v.next v.notes c.settled_for_good.new.notes c.lawful-2.ensures (λ u e. (and_parts _ _ (sym (forgets.expected u) ∙ e)).1) forgets.room) c.requires.room;
 }

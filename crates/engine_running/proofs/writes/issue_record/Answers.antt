@@ -1,6 +1,7 @@
 -- A record is issued part by part; whichever part fails, the disk is safe.
 use Rattle.std.proofs.Common.{◌≡◌, ◌<◌, ◌+◌, ◌++◌, ◌∷◌, [], ℕ, List, map, length, vec_len, vec_capacity, ap, ◌∙◌, refl, sym, subst, arith}
 use Rattle.std.proofs.lemmas.List.{length-map}
+use Rattle.std.proofs.lemmas.Bool.{cond-true}
 use Rattle.layout_geometry.specs.Geometry.{ring_block}
 use Rattle.layout_journal.specs.Layout.{descriptor_count}
 use Rattle.layout_journal.specs.Spelling.{commit_block}
@@ -9,7 +10,6 @@ use Rattle.crash_argument.specs.Recording.{IsPartlyWritten, IsInLedger}
 use Rattle.engine_running.specs.Record.{record_of, written_of, fresh_entry, stored_put, descriptor_blocks}
 use Rattle.crash_argument.specs.Writes.{AddsFront, AddsWrites}
 use Rattle.engine_running.specs.Writes.{fresh_write, ring_writes}
-use Rattle.engine_running.proofs.spelling.Forms.{if_true}
 use Rattle.engine_running.proofs.logs.Logs.{then_all, front_first, front_behind, front_one, all_err}
 use Rattle.engine_running.proofs.spelling.Parts.{nothing_issued, are_laid, are_descriptors, are_payloads, heads_is, ends_is, commit_is, first_block, left_safe, left_either, writes_are}
 use Rattle.engine_running.proofs.writes.issue_record.Goals as goal
@@ -85,7 +85,7 @@ returns-clause-leaves g c = λ tells s l p m t floor next same idle known safe.
     let block = first_block c.args.geom.now l.geom place c.ring_block.result same c.ring_block.ensures.block in
     let recorded = c.in_ok-ticket.ensures.recorded tells s l p w m t floor c.issue_payloads.new.tickets.items known.new next block bytes three.0 all in
     let room : vec_len c.issue_payloads.new.tickets < vec_capacity c.issue_payloads.new.tickets = omega (arith, c.requires.room, c.requires.none, c.args.tickets.now.ok.0, ap (λ (q : List ℕ). length q) c.requires.none, c.in_ok-issue_fresh.ensures.taken, c.in_ok-issue_descriptors.ensures.taken, c.in_ok-issue_payloads.ensures.taken, c.issue_fresh.ensures.capacity, c.issue_descriptors.ensures.capacity, c.issue_payloads.ensures.capacity, ends_is 0 0 0 paid laid from refl) in
-    let items : c.push.new.self.items ≡ c.issue_payloads.new.tickets.items ++ c.in_ok-ticket.ticket ∷ [] = c.push.ensures.items ∙ if_true _ _ _ (c.push.ensures.succeeds room) in
+    let items : c.push.new.self.items ≡ c.issue_payloads.new.tickets.items ++ c.in_ok-ticket.ticket ∷ [] = c.push.ensures.items ∙ cond-true _ _ _ (c.push.ensures.succeeds room) in
     subst (λ (ts : List ℕ). IsInLedger s (g.D.Disk.state c.write_last.new.disk).base (g.D.Disk.state c.write_last.new.disk).log l p w m t floor ts) (sym items) recorded
 
 pub returns-in_err-issue_fresh-clause-log : goal.returns-in_err-issue_fresh-clause-log
@@ -183,6 +183,6 @@ returns-clause-log g c = λ tells.
     let last = c.in_ok-ticket.ensures.log tells in
     let from = 1 + descriptor_count (length paid + length laid) in
     let room : vec_len c.issue_payloads.new.tickets < vec_capacity c.issue_payloads.new.tickets = omega (arith, c.requires.room, c.requires.none, c.args.tickets.now.ok.0, ap (λ (q : List ℕ). length q) c.requires.none, c.in_ok-issue_fresh.ensures.taken, c.in_ok-issue_descriptors.ensures.taken, c.in_ok-issue_payloads.ensures.taken, c.issue_fresh.ensures.capacity, c.issue_descriptors.ensures.capacity, c.issue_payloads.ensures.capacity, ends_is 0 0 0 paid laid from refl) in
-    let items : c.push.new.self.items ≡ c.issue_payloads.new.tickets.items ++ c.in_ok-ticket.ticket ∷ [] = c.push.ensures.items ∙ if_true _ _ _ (c.push.ensures.succeeds room) in
+    let items : c.push.new.self.items ≡ c.issue_payloads.new.tickets.items ++ c.in_ok-ticket.ticket ∷ [] = c.push.ensures.items ∙ cond-true _ _ _ (c.push.ensures.succeeds room) in
     let joined = then_all fs (bs ++ (cs ++ ds)) now c.issue_fresh.new.tickets.items c.push.new.self.items log (g.D.Disk.state c.issue_fresh.new.disk).log (g.D.Disk.state c.write_last.new.disk).log one (then_all bs (cs ++ ds) c.issue_fresh.new.tickets.items c.issue_descriptors.new.tickets.items c.push.new.self.items (g.D.Disk.state c.issue_fresh.new.disk).log (g.D.Disk.state c.issue_descriptors.new.disk).log (g.D.Disk.state c.write_last.new.disk).log two (then_all cs ds c.issue_descriptors.new.tickets.items c.issue_payloads.new.tickets.items c.push.new.self.items (g.D.Disk.state c.issue_descriptors.new.disk).log (g.D.Disk.state c.issue_payloads.new.disk).log (g.D.Disk.state c.write_last.new.disk).log three (c.in_ok-ticket.ticket ∷ [], items, (last.0, last.1, last.2)))) in
     (joined.0, joined.1, subst (λ (l : List (ℕ × List ℕ)). AddsWrites l joined.0 log (g.D.Disk.state c.write_last.new.disk).log) are joined.2)
