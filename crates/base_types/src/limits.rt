@@ -52,8 +52,8 @@ pub const MOST_LINKS: u32 = 65_535;
 /// The most notices that one tick of the pipeline takes.
 pub const MOST_NOTICES: u32 = 64;
 
-/// A disk with a number of a header or record from here on isn't mounted: 2^63 - 16.
+/// The least epoch, turn or number of a record from which no mount goes on: 2^63 - 16.
 pub const SPENT_AT_MOUNT: u64 = 9_223_372_036_854_775_792;
 
-/// A session whose next turn or record would be numbered from here on is spent: 2^63 - 8.
+/// The least number of a next turn or record by which a session is spent: 2^63 - 8.
 pub const SPENT: u64 = 9_223_372_036_854_775_800;

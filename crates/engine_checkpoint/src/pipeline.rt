@@ -21,6 +21,7 @@ ghost use Rattle.engine_checkpoint.specs.Steps.{TakesNotices, TakesOne, TakesAns
 ghost use Rattle.engine_checkpoint.specs.Steps.{is_first_settled, ready_after};
 
 use crate::newest::Newest;
+use base_types::limits::MOST_NOTICES;
 use crash_argument::{
     known_tickets_may_go, nothing_is_written_between_records, noticed_records_are_known,
     one_write_is_pending, one_write_stays_pending, poll_once, records_become_durable,
@@ -32,9 +33,6 @@ use engine_running::{Committed, Durable, Placed, Sure, a_record_keeps_its_puts};
 use layout_geometry::Geom;
 use layout_journal::Header;
 use std::collections::VecDeque;
-
-/// How many notices one call takes at most.
-const MOST_NOTICES: u32 = 64;
 
 /// A header that was written and isn't known to be durable.
 #[derive(Clone, Copy, Debug, PartialEq, Eq)]

@@ -12,14 +12,12 @@ ghost use Rattle.engine_mount.specs.Refusal.{is_unread, is_faulty};
 use crate::refusal::{MountRefusal, refusal_of};
 use crate::replay::payload_of;
 use base_types::Block;
+use base_types::limits::SPENT_AT_MOUNT;
 use crash_argument::a_read_gives_what_was_written_last;
 use disk_contract::{Disk, DiskFault};
 use engine_recover::{Run, find_run, greatest_epoch};
 use std::alloc::Global;
 use std::marker::Model;
-
-/// The least epoch that no mount goes on from.
-const SPENT: u64 = 9_223_372_036_854_775_792;
 
 /// What was found on a disk that is to be mounted. `open` goes on from it.
 #[derive(Debug, Drop)]
@@ -134,7 +132,7 @@ fn epoch_on<D: Disk>(disk: &mut D, run: &Run) -> Result<u64, MountRefusal>
         Ok(epoch) => epoch,
         Err(_) => return Err(MountRefusal::ReadFault),
     };
-    if epoch >= SPENT {
+    if epoch >= SPENT_AT_MOUNT {
         return Err(MountRefusal::Spent);
     }
     Ok(epoch)

@@ -10,6 +10,7 @@ use crate::newest::newest_header;
 use crate::reading::Stop;
 use crate::run::recoverable_run;
 use crate::stored::{stored_at, stored_by};
+use base_types::limits::SPENT_AT_MOUNT;
 use crash_record::RecordList;
 use disk_contract::Disk;
 use layout_journal::{EntryKind, Header};
@@ -18,9 +19,6 @@ use std::collections::BTreeMap;
 use std::error::Error;
 use std::fmt;
 use std::marker::Model;
-
-/// The least turn or number of a record that no mount goes on from.
-const SPENT: u64 = 9_223_372_036_854_775_792;
 
 /// Why no run was found.
 #[derive(Clone, Copy, Debug, PartialEq, Eq)]
@@ -157,14 +155,14 @@ fn is_spent(header: &Header, count: u64) -> bool
     requires few { count ≤ 4294967296 }
     ensures { result ≡ is_spent header.now count }
 {
-    if header.turn >= SPENT {
+    if header.turn >= SPENT_AT_MOUNT {
         return true;
     }
-    if header.start >= SPENT {
+    if header.start >= SPENT_AT_MOUNT {
         return true;
     }
-    if header.sure >= SPENT {
+    if header.sure >= SPENT_AT_MOUNT {
         return true;
     }
-    header.start - 1 + count >= SPENT
+    header.start - 1 + count >= SPENT_AT_MOUNT
 }

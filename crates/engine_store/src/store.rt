@@ -15,14 +15,12 @@ use crate::reading::read_block;
 use crate::refusal::StoreRefusal;
 use crate::told::a_store_that_is_kept_is_told;
 use crate::{running, syncing};
+use base_types::limits::SPENT;
 use base_types::{Block, Class, NoMemory, Places, ReadFault};
 use disk_contract::{Disk, DiskFault};
 use engine_blocks::{Blocks, Figures, LowestRefusal, SyncRefusal};
 use layout_geometry::Geom;
 use std::alloc::Global;
-
-/// The first number of the journal's headers and records at which no command is taken any more.
-const SPENT: u64 = 9_223_372_036_854_775_800;
 
 /// How many blocks the cache keeps at most, where nothing else is said.
 const CACHED: u32 = 64;
