@@ -7,7 +7,7 @@ use std::alloc::Global;
 use std::marker::Model;
 
 /// A list of bytes, as a command carries it to a file and a reply brings it back.
-#[derive(Debug, Drop)]
+#[derive(Drop)]
 pub struct Bytes {
     bytes: Vec<u8>,
 }
@@ -66,25 +66,4 @@ impl Bytes {
     {
         self.bytes.is_empty()
     }
-}
-
-/// Equal lists have the same bytes.
-impl PartialEq for Bytes {
-    ghost use Rattle.std.specs.Prelude.{bytes_eq};
-    ghost use Rattle.std.specs.Cmp.{partial_equiv_from_equiv};
-    ghost use Rattle.std.specs.Cmp.Lexicographic.{nat_list_eq_equiv};
-
-    ghost eq = { λ left right. bytes_eq left right };
-
-    ghost laws = { partial_equiv_from_equiv nat_list_eq_equiv };
-
-    fn eq(&self, other: &Bytes) -> bool {
-        self.bytes.as_slice() == other.bytes.as_slice()
-    }
-}
-
-impl Eq for Bytes {
-    ghost use Rattle.std.specs.Cmp.Lexicographic.{nat_list_eq_equiv};
-
-    ghost laws = { nat_list_eq_equiv };
 }

@@ -12,7 +12,7 @@ use std::alloc::Global;
 use std::marker::Model;
 
 /// A list of block numbers of any length, which contracts see as that list.
-#[derive(Debug, Drop)]
+#[derive(Drop)]
 pub struct Places {
     numbers: Vec<u32>,
 }

@@ -86,12 +86,4 @@ impl Trace {
     {
         mem::replace(&mut self.log, Vec::new(alloc))
     }
-
-    /// The events, in their order, without the rest.
-    pub fn into_log(self) -> Vec<Event>
-        ensures { result.items ≡ self.log }
-    {
-        let Trace { log, .. } = self;
-        log
-    }
 }

@@ -1,21 +1,22 @@
 -- What `clap` makes of one word behind the name of a command, and of the end: which faults they have, and which rows are kept.
 use Rattle.std.proofs.Common.{◌≡◌, ◌⊎◌, inl, inr, ◌&&◌, ◌||◌, ℕ, Bool, true, false, cond, List, [], ◌∷◌, ◌++◌, Option, Some, None, refl, sym, ap, ap₂, subst, ◌∙◌, arith, codes, fold, length}
-use Rattle.std.specs.Prelude.{IfSome, find, not, if◌then◌else◌, option_map}
+use Rattle.std.specs.Prelude.{IfSome, find, not, if◌then◌else◌, nat_lt, option_map}
 use Rattle.std.specs.Option.{option_map_or}
 use Rattle.std.specs.List.{list_all}
 use Rattle.std.specs.Str.{bytes_eq}
 use Rattle.std.proofs.lemmas.Bool.{and_parts, eqb-true, false≢true}
 use Rattle.std.proofs.lemmas.List.{append-nil, append_assoc}
+use Rattle.std.proofs.lemmas.Slice.Eq.{bytes_eq-Decides}
 use Rattle.clap.specs.Facts.{explicit_source}
 use Rattle.clap.specs.Kinds.{Kinds, check_kinds, or_else}
-use Rattle.clap.specs.Faults.{settle_fault, default_fault, defaults_fault, given_default_fault, check_fault, repeat_fault}
-use Rattle.clap.specs.Walk.{Held, Row, Rule, Text, Waiting, Walk, finished, settled, settled_rows, idle, option, next, plain_word, default_rows, reading_by, with_default, with_values, without, is_empty, has_row}
-use Rattle.clap.specs.Simple.{App, Shape, filled_from, new_shape}
+use Rattle.clap.specs.Faults.{settle_fault, use_fault, default_fault, defaults_fault, given_default_fault, check_fault, repeat_fault}
+use Rattle.clap.specs.Walk.{Held, Row, Rule, Step, Text, Waiting, Walk, arg_by_id, finished, most_values, option_word, settled, settled_rows, used_by_id, idle, option, next, plain_word, default_rows, reading_by, with_default, with_values, without, is_empty, has_row}
+use Rattle.clap.specs.Simple.{App, Shape, filled, filled_from, new_shape, with_index}
 use Rattle.clap.specs.Takes.{is_given}
 use Rattle.clap.specs.declared.builder.value_parser.Reading.TheVariants.{AsWritten}
 use Rattle.clap.specs.declared.error.kind.ErrorKind.TheVariants.{ArgumentConflict}
 use Rattle.clap.specs.declared.parser.matches.ValueSource.TheVariants.{CommandLine}
-use Rattle.cmd_words.specs.Program.{loading, making, recording, replaying, running, showing, kept}
+use Rattle.cmd_words.specs.Program.{loading, making, recording, replaying, running, showing, kept, word as word_rule, option as option_rule}
 use Rattle.cmd_words.specs.Words.{Command, to_record, to_replay, to_show, to_make, to_run, to_load, name_of, Named, has_name, are_apart}
 use Rattle.cmd_words.proofs.Apart.{rows, has_row_is, without_fresh, with_fresh, apart_repeat, apart_more}
 
@@ -100,56 +101,96 @@ pub record IsArg (k : Command) (name : Text) : Type 0 where
   pub takes : (word : Text) (rs : List Row) → plain_word (rules k) (option name) word (record { rows = rs; pending = Some (name, []); skip = 0 })
       ≡ (record { rows = rs; pending = Some (name, word ∷ []); skip = 0 }, next idle)
 
+-- the word behind an option that waits for its value, by what the command has under its name
+abbrev word_behind : Text → Text → List Row → Option Rule → Held × Step
+word_behind name text rs o =
+    let h : Held = record { rows = rs; pending = Some (name, []); skip = 0 } in
+    ((option_word o name text h).0, next (option_word o name text h).1)
+
+-- the same by the test of the name, and by how many values the option has
+abbrev value_behind : Text → Text → List Row → Bool → ℕ → Held × Step
+value_behind name text rs b most = (record { rows = rs; pending = Some (name, text ∷ []); skip = 0 }, next (if nat_lt (if b then 1 else 0) most then option name else idle))
+
+one_value : (name text : Text) (rs : List Row) (a : Rule) (o : Option Rule) → o ≡ Some a → bytes_eq name a.id ≡ bytes_eq name name → most_values a ≡ 1
+    → word_behind name text rs o ≡ value_behind name text rs true 1
+one_value name text rs a o found same one =
+    ap (word_behind name text rs) found ∙ ap₂ (value_behind name text rs) (same ∙ (bytes_eq-Decides name name).1 refl) one
+
+-- an argument takes its word by its place, or by its name; where it goes by its name, whether it must stand
+pub data Form : Type 0 where
+  at_place : ℕ → Form
+  by_name : Bool → Form
+
+-- the rule of an argument as `clap` builds it
+abbrev pub rule_as : Form → Text → Rule
+rule_as (at_place i) name = with_index i (filled (word_rule name))
+rule_as (by_name required) name = filled (record (option_rule name) { required = required })
+
+-- what a command has under a name is the argument of that name
+pub is_arg : (k : Command) (name : Text) (form : Form) → arg_by_id (rules k) name ≡ Some (rule_as form name) → IsArg k name
+is_arg k name (at_place i) found = record {
+  fault = λ word rs. ap (λ (o : Option Rule). option_map_or (λ a. use_fault false a (word ∷ []) rs) o []) found;
+  keeps = λ word rs. ap (λ (o : Option Rule). used_by_id o (word ∷ []) rs) found;
+  lacks = λ rs. ap (λ (o : Option Rule). is_clean (option_map_or (λ a. use_fault false a [] rs) o [])) found;
+  takes = λ word rs. one_value name word rs _ _ found refl refl;
+}
+is_arg k name (by_name required) found = record {
+  fault = λ word rs. ap (λ (o : Option Rule). option_map_or (λ a. use_fault false a (word ∷ []) rs) o []) found;
+  keeps = λ word rs. ap (λ (o : Option Rule). used_by_id o (word ∷ []) rs) found;
+  lacks = λ rs. ap (λ (o : Option Rule). is_clean (option_map_or (λ a. use_fault false a [] rs) o [])) found;
+  takes = λ word rs. one_value name word rs _ _ found refl refl;
+}
+
 pub blocks_is : IsArg to_record (codes "blocks")
-blocks_is = record { fault = λ word rs. refl; keeps = λ word rs. refl; lacks = λ rs. refl; takes = λ word rs. refl }
+blocks_is = is_arg to_record (codes "blocks") (at_place 1) refl
 
 pub journal_is : IsArg to_record (codes "journal")
-journal_is = record { fault = λ word rs. refl; keeps = λ word rs. refl; lacks = λ rs. refl; takes = λ word rs. refl }
+journal_is = is_arg to_record (codes "journal") (at_place 2) refl
 
 pub nodes_is : IsArg to_record (codes "nodes")
-nodes_is = record { fault = λ word rs. refl; keeps = λ word rs. refl; lacks = λ rs. refl; takes = λ word rs. refl }
+nodes_is = is_arg to_record (codes "nodes") (at_place 3) refl
 
 pub notices_is : IsArg to_record (codes "notices")
-notices_is = record { fault = λ word rs. refl; keeps = λ word rs. refl; lacks = λ rs. refl; takes = λ word rs. refl }
+notices_is = is_arg to_record (codes "notices") (by_name false) refl
 
 pub room_is : IsArg to_record (codes "room")
-room_is = record { fault = λ word rs. refl; keeps = λ word rs. refl; lacks = λ rs. refl; takes = λ word rs. refl }
+room_is = is_arg to_record (codes "room") (by_name false) refl
 
 pub fail_is : IsArg to_record (codes "fail")
-fail_is = record { fault = λ word rs. refl; keeps = λ word rs. refl; lacks = λ rs. refl; takes = λ word rs. refl }
+fail_is = is_arg to_record (codes "fail") (by_name false) refl
 
 pub at_is : IsArg to_replay (codes "at")
-at_is = record { fault = λ word rs. refl; keeps = λ word rs. refl; lacks = λ rs. refl; takes = λ word rs. refl }
+at_is = is_arg to_replay (codes "at") (by_name true) refl
 
 pub stand_is : IsArg to_replay (codes "stand")
-stand_is = record { fault = λ word rs. refl; keeps = λ word rs. refl; lacks = λ rs. refl; takes = λ word rs. refl }
+stand_is = is_arg to_replay (codes "stand") (by_name false) refl
 
 pub tear_is : IsArg to_replay (codes "tear")
-tear_is = record { fault = λ word rs. refl; keeps = λ word rs. refl; lacks = λ rs. refl; takes = λ word rs. refl }
+tear_is = is_arg to_replay (codes "tear") (by_name false) refl
 
 pub image_is : IsArg to_show (codes "image")
-image_is = record { fault = λ word rs. refl; keeps = λ word rs. refl; lacks = λ rs. refl; takes = λ word rs. refl }
+image_is = is_arg to_show (codes "image") (at_place 1) refl
 
 pub made_image_is : IsArg to_make (codes "image")
-made_image_is = record { fault = λ word rs. refl; keeps = λ word rs. refl; lacks = λ rs. refl; takes = λ word rs. refl }
+made_image_is = is_arg to_make (codes "image") (at_place 1) refl
 
 pub made_blocks_is : IsArg to_make (codes "blocks")
-made_blocks_is = record { fault = λ word rs. refl; keeps = λ word rs. refl; lacks = λ rs. refl; takes = λ word rs. refl }
+made_blocks_is = is_arg to_make (codes "blocks") (at_place 2) refl
 
 pub made_journal_is : IsArg to_make (codes "journal")
-made_journal_is = record { fault = λ word rs. refl; keeps = λ word rs. refl; lacks = λ rs. refl; takes = λ word rs. refl }
+made_journal_is = is_arg to_make (codes "journal") (at_place 3) refl
 
 pub made_nodes_is : IsArg to_make (codes "nodes")
-made_nodes_is = record { fault = λ word rs. refl; keeps = λ word rs. refl; lacks = λ rs. refl; takes = λ word rs. refl }
+made_nodes_is = is_arg to_make (codes "nodes") (at_place 4) refl
 
 pub run_image_is : IsArg to_run (codes "image")
-run_image_is = record { fault = λ word rs. refl; keeps = λ word rs. refl; lacks = λ rs. refl; takes = λ word rs. refl }
+run_image_is = is_arg to_run (codes "image") (at_place 1) refl
 
 pub seed_is : IsArg to_load (codes "seed")
-seed_is = record { fault = λ word rs. refl; keeps = λ word rs. refl; lacks = λ rs. refl; takes = λ word rs. refl }
+seed_is = is_arg to_load (codes "seed") (by_name true) refl
 
 pub count_is : IsArg to_load (codes "count")
-count_is = record { fault = λ word rs. refl; keeps = λ word rs. refl; lacks = λ rs. refl; takes = λ word rs. refl }
+count_is = is_arg to_load (codes "count") (by_name true) refl
 
 -- ---- the text whose word was the last is kept, unless its name stands before
 

@@ -1,6 +1,6 @@
 -- What `clap` makes of the words behind the name of a command: it keeps the texts that the definition names, or it has a fault.
 use Rattle.std.proofs.Common.{◌≡◌, ◌⊎◌, inl, inr, ◌==◌, ◌&&◌, ◌||◌, ℕ, Bool, true, false, cond, List, [], ◌∷◌, ◌++◌, length, Option, Some, None, refl, sym, ap, subst, ◌∙◌, codes, fold, bytes_eq}
-use Rattle.std.specs.Prelude.{IfSome, find, is_some, slice_get, if◌then◌else◌, option_and_then, unwrap_or}
+use Rattle.std.specs.Prelude.{IfSome, find, is_some, slice_get, if◌then◌else◌, option_and_then}
 use Rattle.std.specs.Option.{option_map_or}
 use Rattle.std.specs.Str.{chars}
 use Rattle.std.proofs.lemmas.Bool.{eqb-true}
@@ -8,13 +8,14 @@ use Rattle.std.proofs.lemmas.List.{append-nil, append_assoc}
 use Rattle.std.proofs.lemmas.Slice.Eq.{bytes_eq-Decides}
 use Rattle.clap.specs.Lexer.{long_of, long_of_rest, short_of, short_of_rest, strip_byte}
 use Rattle.clap.specs.Kinds.{Kinds, or_else}
-use Rattle.clap.specs.Faults.{turn_fault, walk_fault, settle_fault, flags_fault, step_fault, flag_word_fault, long_fault, option_fault, react_fault, bundle_fault, bundle_step_fault}
-use Rattle.clap.specs.Walk.{Held, Row, Rule, Step, Text, Waiting, Walk, bundle_met, finished, settled, walked, after_flag, after_step, arg_by_id, arg_by_long, arg_by_short, bundle_step, long_met, long_or_other, idle, option, plain_word, pushed, value, trailing, short_or_plain, takes_values, plain as plain_outcome}
-use Rattle.clap.specs.Simple.{new_rule}
+use Rattle.clap.specs.Faults.{turn_fault, walk_fault, positional_fault, repeat_fault, settle_fault, stray_fault, flags_fault, step_fault, flag_word_fault, long_fault, option_fault, react_fault, bundle_fault, bundle_step_fault}
+use Rattle.clap.specs.Walk.{Held, Row, Rule, Step, Text, Waiting, Walk, bundle_met, finished, settled, walked, after_flag, after_step, arg_by_index, arg_by_long, arg_by_short, next_position, to_positional, with_values, without, bundle_step, long_met, long_or_other, idle, option, plain_word, pushed, value, trailing, short_or_plain, takes_values, plain as plain_outcome}
+use Rattle.clap.specs.declared.builder.value_parser.Reading.TheVariants.{AsWritten}
 use Rattle.clap.specs.declared.error.kind.ErrorKind.TheVariants.{TooManyValues}
+use Rattle.clap.specs.declared.parser.matches.ValueSource.TheVariants.{CommandLine}
 use Rattle.cmd_words.specs.Words.{Command, to_record, to_replay, to_show, to_make, to_run, to_load, words_of, options_of, Named, is_flag, before, with_next, with_option, with_word, placed, named, are_apart}
 use Rattle.cmd_words.proofs.Apart.{rows}
-use Rattle.cmd_words.proofs.Steps.{is_clean, unclean_first, unclean_second, clean_first, or_else_nil, or_else_assoc, shape, rules, held_at, at, pends, listed, IsArg, blocks_is, journal_is, nodes_is, notices_is, room_is, fail_is, at_is, stand_is, tear_is, image_is, made_image_is, made_blocks_is, made_journal_is, made_nodes_is, run_image_is, seed_is, count_is, IsKept, IsRepeated, settles, end_faults, Refused, Fate, behind, ends}
+use Rattle.cmd_words.proofs.Steps.{is_clean, unclean_first, unclean_second, clean_first, or_else_nil, or_else_assoc, shape, rules, held_at, at, pends, listed, IsArg, at_place, by_name, rule_as, blocks_is, journal_is, nodes_is, notices_is, room_is, fail_is, at_is, stand_is, tear_is, image_is, made_image_is, made_blocks_is, made_journal_is, made_nodes_is, run_image_is, seed_is, count_is, IsKept, IsRepeated, settles, end_faults, Refused, Fate, behind, ends}
 
 -- ---- the words that are left
 
@@ -106,6 +107,44 @@ abbrev Later : Command → Bool → List Text → (List Text → Option (List Na
 Later k trails words rest = (place : Place) (texts : List Named) (pending : Option Named) → IfSome pending (λ text. IsArg k text.0) → are_apart texts ≡ true
     → Goes k (at trails idle texts (pends pending) (position place)) words (behind (texts ++ listed pending) (rest (names_from k place)))
 
+-- no word is wanted at a place
+record NoWord (k : Command) (place : Place) : Type 0 where
+  there : arg_by_index (rules k) (position place) ≡ None
+  names : names_from k place ≡ []
+
+-- or one is, which has the first of the names that are still to come
+record OneWord (k : Command) (place : Place) : Type 0 where
+  name : Text
+  next : Place
+  is : IsArg k name
+  there : arg_by_index (rules k) (position place) ≡ Some (rule_as (at_place (position place)) name)
+  names : names_from k place ≡ name ∷ names_from k next
+  leads : next_position (rule_as (at_place (position place)) name) (position place) ≡ position next
+
+at_each : (k : Command) (place : Place) → NoWord k place ⊎ OneWord k place
+at_each to_record first = inr record { name = codes "blocks"; next = second; is = blocks_is; there = refl; names = refl; leads = refl }
+at_each to_record second = inr record { name = codes "journal"; next = third; is = journal_is; there = refl; names = refl; leads = refl }
+at_each to_record third = inr record { name = codes "nodes"; next = fourth; is = nodes_is; there = refl; names = refl; leads = refl }
+at_each to_record fourth = inl record { there = refl; names = refl }
+at_each to_record past = inl record { there = refl; names = refl }
+at_each to_replay place = inl record { there = refl; names = refl }
+at_each to_show first = inr record { name = codes "image"; next = second; is = image_is; there = refl; names = refl; leads = refl }
+at_each to_show second = inl record { there = refl; names = refl }
+at_each to_show third = inl record { there = refl; names = refl }
+at_each to_show fourth = inl record { there = refl; names = refl }
+at_each to_show past = inl record { there = refl; names = refl }
+at_each to_make first = inr record { name = codes "image"; next = second; is = made_image_is; there = refl; names = refl; leads = refl }
+at_each to_make second = inr record { name = codes "blocks"; next = third; is = made_blocks_is; there = refl; names = refl; leads = refl }
+at_each to_make third = inr record { name = codes "journal"; next = fourth; is = made_journal_is; there = refl; names = refl; leads = refl }
+at_each to_make fourth = inr record { name = codes "nodes"; next = past; is = made_nodes_is; there = refl; names = refl; leads = refl }
+at_each to_make past = inl record { there = refl; names = refl }
+at_each to_run first = inr record { name = codes "image"; next = second; is = run_image_is; there = refl; names = refl; leads = refl }
+at_each to_run second = inl record { there = refl; names = refl }
+at_each to_run third = inl record { there = refl; names = refl }
+at_each to_run fourth = inl record { there = refl; names = refl }
+at_each to_run past = inl record { there = refl; names = refl }
+at_each to_load place = inl record { there = refl; names = refl }
+
 -- the faults of such a word, by the test whether the last word was this one's too, and where it leads
 abbrev number_faults : Command → Bool → Held → Kinds
 number_faults k b h = if b && false then [] else settle_fault (rules k) false h
@@ -146,14 +185,30 @@ number_goes k trails name is place texts pending arg apart word words rest later
     go (inr r) = turn_unclean k (settle_fault (rules k) false h) (number_next k false trails name word h (position place)) words want r.0
         (refused_repeat k all r.1 (before (name, word) (rest (names_from k place))))
 
+-- where such a word leads, by the same test and by the argument that it goes to
+abbrev number_behind : Command → Bool → Bool → Text → Text → Held → ℕ → Walk
+number_behind k b trails name word h p = record {
+  held = pushed name word (if b && false then h else settled (rules k) h);
+  waiting = idle;
+  position = p;
+  is_trailing = trails || false;
+  stopped = None;
+}
+
 by_pending : (k : Command) (b trails : Bool) (name : Text) (word : Text) (h : Held) (p : ℕ) (words : List Text) (want : Option (List Named))
     → Turn k (settle_fault (rules k) false h) (number_next k false trails name word h p) words want
-    → Turn k (number_faults k b h) (number_next k b trails name word h p) words want
-by_pending k true trails name word h p words want turn = turn
-by_pending k false trails name word h p words want turn = turn
+    → Turn k (number_faults k b h) (number_behind k b trails name word h p) words want
+by_pending k true true name word h p words want turn = turn
+by_pending k true false name word h p words want turn = turn
+by_pending k false true name word h p words want turn = turn
+by_pending k false false name word h p words want turn = turn
 
 abbrev is_last : Text → Option (Text × List Text) → Bool
 is_last name pending = option_map_or (λ (q : Text × List Text). bytes_eq q.0 name) pending false
+
+-- the faults of a word that goes to this argument, where one is wanted
+abbrev word_faults : Command → Option Rule → Held → Kinds
+word_faults k o h = option_map_or (λ a. positional_fault (rules k) false a h) o (stray_fault (shape k))
 
 -- a word that goes to one of those that must stand
 number_turn : (k : Command) (trails : Bool) (place : Place) (texts : List Named) (pending : Option Named)
@@ -162,86 +217,29 @@ number_turn : (k : Command) (trails : Bool) (place : Place) (texts : List Named)
     → Turn k (step_fault (shape k) (position place) (held_at texts (pends pending)) value)
     (after_step (rules k) word (at trails idle texts (pends pending) (position place)) (held_at texts (pends pending)) value)
     words (behind (texts ++ listed pending) (with_next word (names_from k place) rest))
-number_turn to_record true first texts pending arg apart word words rest later =
-    by_pending to_record (is_last (codes "blocks") (pends pending)) true (codes "blocks") word (held_at texts (pends pending)) 2 words _
-    (number_goes to_record true (codes "blocks") blocks_is second texts pending arg apart word words rest later)
-number_turn to_record true second texts pending arg apart word words rest later =
-    by_pending to_record (is_last (codes "journal") (pends pending)) true (codes "journal") word (held_at texts (pends pending)) 3 words _
-    (number_goes to_record true (codes "journal") journal_is third texts pending arg apart word words rest later)
-number_turn to_record true third texts pending arg apart word words rest later =
-    by_pending to_record (is_last (codes "nodes") (pends pending)) true (codes "nodes") word (held_at texts (pends pending)) 4 words _
-    (number_goes to_record true (codes "nodes") nodes_is fourth texts pending arg apart word words rest later)
-number_turn to_record true fourth texts pending arg apart word words rest later = tt
-number_turn to_record true past texts pending arg apart word words rest later = tt
-number_turn to_record false first texts pending arg apart word words rest later =
-    by_pending to_record (is_last (codes "blocks") (pends pending)) false (codes "blocks") word (held_at texts (pends pending)) 2 words _
-    (number_goes to_record false (codes "blocks") blocks_is second texts pending arg apart word words rest later)
-number_turn to_record false second texts pending arg apart word words rest later =
-    by_pending to_record (is_last (codes "journal") (pends pending)) false (codes "journal") word (held_at texts (pends pending)) 3 words _
-    (number_goes to_record false (codes "journal") journal_is third texts pending arg apart word words rest later)
-number_turn to_record false third texts pending arg apart word words rest later =
-    by_pending to_record (is_last (codes "nodes") (pends pending)) false (codes "nodes") word (held_at texts (pends pending)) 4 words _
-    (number_goes to_record false (codes "nodes") nodes_is fourth texts pending arg apart word words rest later)
-number_turn to_record false fourth texts pending arg apart word words rest later = tt
-number_turn to_record false past texts pending arg apart word words rest later = tt
-number_turn to_replay true place texts pending arg apart word words rest later = tt
-number_turn to_replay false place texts pending arg apart word words rest later = tt
-number_turn to_show true first texts pending arg apart word words rest later =
-    by_pending to_show (is_last (codes "image") (pends pending)) true (codes "image") word (held_at texts (pends pending)) 2 words _
-    (number_goes to_show true (codes "image") image_is second texts pending arg apart word words rest later)
-number_turn to_show true second texts pending arg apart word words rest later = tt
-number_turn to_show true third texts pending arg apart word words rest later = tt
-number_turn to_show true fourth texts pending arg apart word words rest later = tt
-number_turn to_show true past texts pending arg apart word words rest later = tt
-number_turn to_show false first texts pending arg apart word words rest later =
-    by_pending to_show (is_last (codes "image") (pends pending)) false (codes "image") word (held_at texts (pends pending)) 2 words _
-    (number_goes to_show false (codes "image") image_is second texts pending arg apart word words rest later)
-number_turn to_show false second texts pending arg apart word words rest later = tt
-number_turn to_show false third texts pending arg apart word words rest later = tt
-number_turn to_show false fourth texts pending arg apart word words rest later = tt
-number_turn to_show false past texts pending arg apart word words rest later = tt
-number_turn to_make true first texts pending arg apart word words rest later =
-    by_pending to_make (is_last (codes "image") (pends pending)) true (codes "image") word (held_at texts (pends pending)) 2 words _
-    (number_goes to_make true (codes "image") made_image_is second texts pending arg apart word words rest later)
-number_turn to_make true second texts pending arg apart word words rest later =
-    by_pending to_make (is_last (codes "blocks") (pends pending)) true (codes "blocks") word (held_at texts (pends pending)) 3 words _
-    (number_goes to_make true (codes "blocks") made_blocks_is third texts pending arg apart word words rest later)
-number_turn to_make true third texts pending arg apart word words rest later =
-    by_pending to_make (is_last (codes "journal") (pends pending)) true (codes "journal") word (held_at texts (pends pending)) 4 words _
-    (number_goes to_make true (codes "journal") made_journal_is fourth texts pending arg apart word words rest later)
-number_turn to_make true fourth texts pending arg apart word words rest later =
-    by_pending to_make (is_last (codes "nodes") (pends pending)) true (codes "nodes") word (held_at texts (pends pending)) 5 words _
-    (number_goes to_make true (codes "nodes") made_nodes_is past texts pending arg apart word words rest later)
-number_turn to_make true past texts pending arg apart word words rest later = tt
-number_turn to_make false first texts pending arg apart word words rest later =
-    by_pending to_make (is_last (codes "image") (pends pending)) false (codes "image") word (held_at texts (pends pending)) 2 words _
-    (number_goes to_make false (codes "image") made_image_is second texts pending arg apart word words rest later)
-number_turn to_make false second texts pending arg apart word words rest later =
-    by_pending to_make (is_last (codes "blocks") (pends pending)) false (codes "blocks") word (held_at texts (pends pending)) 3 words _
-    (number_goes to_make false (codes "blocks") made_blocks_is third texts pending arg apart word words rest later)
-number_turn to_make false third texts pending arg apart word words rest later =
-    by_pending to_make (is_last (codes "journal") (pends pending)) false (codes "journal") word (held_at texts (pends pending)) 4 words _
-    (number_goes to_make false (codes "journal") made_journal_is fourth texts pending arg apart word words rest later)
-number_turn to_make false fourth texts pending arg apart word words rest later =
-    by_pending to_make (is_last (codes "nodes") (pends pending)) false (codes "nodes") word (held_at texts (pends pending)) 5 words _
-    (number_goes to_make false (codes "nodes") made_nodes_is past texts pending arg apart word words rest later)
-number_turn to_make false past texts pending arg apart word words rest later = tt
-number_turn to_run true first texts pending arg apart word words rest later =
-    by_pending to_run (is_last (codes "image") (pends pending)) true (codes "image") word (held_at texts (pends pending)) 2 words _
-    (number_goes to_run true (codes "image") run_image_is second texts pending arg apart word words rest later)
-number_turn to_run true second texts pending arg apart word words rest later = tt
-number_turn to_run true third texts pending arg apart word words rest later = tt
-number_turn to_run true fourth texts pending arg apart word words rest later = tt
-number_turn to_run true past texts pending arg apart word words rest later = tt
-number_turn to_run false first texts pending arg apart word words rest later =
-    by_pending to_run (is_last (codes "image") (pends pending)) false (codes "image") word (held_at texts (pends pending)) 2 words _
-    (number_goes to_run false (codes "image") run_image_is second texts pending arg apart word words rest later)
-number_turn to_run false second texts pending arg apart word words rest later = tt
-number_turn to_run false third texts pending arg apart word words rest later = tt
-number_turn to_run false fourth texts pending arg apart word words rest later = tt
-number_turn to_run false past texts pending arg apart word words rest later = tt
-number_turn to_load true place texts pending arg apart word words rest later = tt
-number_turn to_load false place texts pending arg apart word words rest later = tt
+number_turn k trails place texts pending arg apart word words rest later = go (at_each k place)
+  where
+    h : Held
+    h = held_at texts (pends pending)
+
+    all : List Named
+    all = texts ++ listed pending
+
+    TurnBy : Option Rule → List Text → Type 0
+    TurnBy o names = Turn k (word_faults k o h) (to_positional (rules k) o word (at trails idle texts (pends pending) (position place)) h) words (behind all (with_next word names rest))
+
+    one_turn : (one : OneWord k place) → TurnBy (Some (rule_as (at_place (position place)) one.name)) (one.name ∷ names_from k one.next)
+    one_turn one =
+        let b : Bool = is_last one.name (pends pending) in
+        let want : Option (List Named) = behind all (before (one.name, word) (rest (names_from k one.next))) in
+        subst (λ (p : ℕ). Turn k (number_faults k b h) (number_behind k b trails one.name word h p) words want) (sym one.leads)
+        (by_pending k b trails one.name word h (position one.next) words want
+        (number_goes k trails one.name one.is one.next texts pending arg apart word words rest later))
+
+    go : NoWord k place ⊎ OneWord k place → TurnBy (arg_by_index (rules k) (position place)) (names_from k place)
+    go (inl none) = subst (λ (o : Option Rule). TurnBy o (names_from k place)) (sym none.there) (subst (TurnBy None) (sym none.names) tt)
+    go (inr one) = subst (λ (o : Option Rule). TurnBy o (names_from k place)) (sym one.there)
+        (subst (TurnBy (Some (rule_as (at_place (position place)) one.name))) (sym one.names) (one_turn one))
 
 -- behind `--` each word is one that must stand
 behind_dashes : (k : Command) (words : List Text) → Later k true words (placed words)
@@ -361,22 +359,16 @@ wait_goes k name is place texts pending arg apart words rest later = go (settles
 
 -- ---- `--name=value` and `--name`
 
-abbrev rule_named : Command → Text → Rule
-rule_named k name = unwrap_or (arg_by_id (rules k) name) (new_rule name)
+-- the first of three by their tests
+abbrev first_of_three : {A : Type 0} → A → A → A → Bool → Bool → Bool → Option A
+first_of_three x y z a b c = cond a (Some x) (cond b (Some y) (cond c (Some z) None))
 
--- the option and its name, of three, by the tests of a name
-abbrev rule_by : Command → Text → Text → Text → Bool → Bool → Bool → Option Rule
-rule_by k x y z a b c = cond (a || false) (Some (rule_named k x)) (cond (b || false) (Some (rule_named k y)) (cond (c || false) (Some (rule_named k z)) None))
-
-abbrev name_by : Text → Text → Text → Bool → Bool → Bool → Option Text
-name_by x y z a b c = cond a (Some x) (cond b (Some y) (cond c (Some z) None))
-
--- the same of two
-abbrev rule_of_two : Command → Text → Text → Bool → Bool → Option Rule
-rule_of_two k x y a b = cond (a || false) (Some (rule_named k x)) (cond (b || false) (Some (rule_named k y)) None)
-
-abbrev name_of_two : Text → Text → Bool → Bool → Option Text
-name_of_two x y a b = cond a (Some x) (cond b (Some y) None)
+-- a rule and a name are those of one option, or there is neither
+abbrev IsOption : Command → Option Rule → Option Text → Type 0
+IsOption k None None = Unit {0}
+IsOption k None (Some name) = ⊥
+IsOption k (Some a) None = ⊥
+IsOption k (Some a) (Some name) = (required : Bool) × IsArg k name × (a ≡ rule_as (by_name required) name)
 
 abbrev long_step : Command → Waiting → Text → Option Rule → Option Text → Held → Held × Step
 long_step k waiting word rule given h = after_flag (rules k) waiting word (long_met (rules k) rule given h).0 (long_met (rules k) rule given h).1
@@ -395,57 +387,77 @@ LongGoes k rule name given = (place : Place) (texts : List Named) (pending : Opt
     (long_step k idle word rule given (held_at texts (pends pending))).0 (long_step k idle word rule given (held_at texts (pends pending))).1)
     words (behind (texts ++ listed pending) (with_option name given (λ waiting. rest waiting (names_from k place))))
 
-record_long : (a b c : Bool) (given : Option Text) → LongGoes to_record (rule_by to_record (codes "notices") (codes "room") (codes "fail") a b c) (name_by (codes "notices") (codes "room") (codes "fail") a b c) given
-record_long true b c (Some text) place texts pending arg apart word words rest later waits =
-    value_goes to_record (codes "notices") notices_is place texts pending arg apart text words (rest None) later
-record_long true b c None place texts pending arg apart word words rest later waits =
-    wait_goes to_record (codes "notices") notices_is place texts pending arg apart words (λ name. rest (Some name)) waits
-record_long false true c (Some text) place texts pending arg apart word words rest later waits =
-    value_goes to_record (codes "room") room_is place texts pending arg apart text words (rest None) later
-record_long false true c None place texts pending arg apart word words rest later waits =
-    wait_goes to_record (codes "room") room_is place texts pending arg apart words (λ name. rest (Some name)) waits
-record_long false false true (Some text) place texts pending arg apart word words rest later waits =
-    value_goes to_record (codes "fail") fail_is place texts pending arg apart text words (rest None) later
-record_long false false true None place texts pending arg apart word words rest later waits =
-    wait_goes to_record (codes "fail") fail_is place texts pending arg apart words (λ name. rest (Some name)) waits
-record_long false false false given place texts pending arg apart word words rest later waits = tt
+-- an option with its value in the same word
+value_turn : (k : Command) (name : Text) → IsArg k name → (place : Place) (texts : List Named) (pending : Option Named)
+    → IfSome pending (λ text. IsArg k text.0) → are_apart texts ≡ true → (word : Text) (words : List Text) (rest : List Text → Option (List Named))
+    → Later k false words rest
+    → Turn k (or_else (or_else (settle_fault (rules k) false (held_at texts (pends pending))) (or_else (repeat_fault false name (settled (rules k) (held_at texts (pends pending))).rows) [])) [])
+    (record {
+      held = record { rows = with_values name AsWritten CommandLine (word ∷ []) (without name (settled (rules k) (held_at texts (pends pending))).rows); pending = None; skip = 0 };
+      waiting = idle;
+      position = position place;
+      is_trailing = false;
+      stopped = None;
+    }) words (behind (texts ++ listed pending) (before (name, word) (rest (names_from k place))))
+value_turn k name is place texts pending arg apart word words rest later =
+    let h : Held = held_at texts (pends pending) in
+    let rs : List Row = (settled (rules k) h).rows in
+    let want : Option (List Named) = behind (texts ++ listed pending) (before (name, word) (rest (names_from k place))) in
+    let next : List Row → Walk = λ found. record { held = record { rows = found; pending = None; skip = 0 }; waiting = idle; position = position place; is_trailing = false; stopped = None } in
+    subst (λ (f : Kinds). Turn k (or_else (or_else (settle_fault (rules k) false h) f) []) (next (with_values name AsWritten CommandLine (word ∷ []) (without name rs))) words want) (is.fault word rs)
+    (subst (λ (found : List Row). Turn k (value_faults k name word h) (next found) words want) (is.keeps word rs)
+    (value_goes k name is place texts pending arg apart word words rest later))
 
-replay_long : (a b c : Bool) (given : Option Text) → LongGoes to_replay (rule_by to_replay (codes "at") (codes "stand") (codes "tear") a b c) (name_by (codes "at") (codes "stand") (codes "tear") a b c) given
-replay_long true b c (Some text) place texts pending arg apart word words rest later waits =
-    value_goes to_replay (codes "at") at_is place texts pending arg apart text words (rest None) later
-replay_long true b c None place texts pending arg apart word words rest later waits =
-    wait_goes to_replay (codes "at") at_is place texts pending arg apart words (λ name. rest (Some name)) waits
-replay_long false true c (Some text) place texts pending arg apart word words rest later waits =
-    value_goes to_replay (codes "stand") stand_is place texts pending arg apart text words (rest None) later
-replay_long false true c None place texts pending arg apart word words rest later waits =
-    wait_goes to_replay (codes "stand") stand_is place texts pending arg apart words (λ name. rest (Some name)) waits
-replay_long false false true (Some text) place texts pending arg apart word words rest later waits =
-    value_goes to_replay (codes "tear") tear_is place texts pending arg apart text words (rest None) later
-replay_long false false true None place texts pending arg apart word words rest later waits =
-    wait_goes to_replay (codes "tear") tear_is place texts pending arg apart words (λ name. rest (Some name)) waits
-replay_long false false false given place texts pending arg apart word words rest later waits = tt
+long_goes : (k : Command) (rule : Option Rule) (name : Option Text) (given : Option Text) → IsOption k rule name → LongGoes k rule name given
+long_goes k None None given is place texts pending arg apart word words rest later waits = tt
+long_goes k None (Some name) given is place texts pending arg apart word words rest later waits = absurd is
+long_goes k (Some a) None given is place texts pending arg apart word words rest later waits = absurd is
+long_goes k (Some a) (Some name) (Some text) is place texts pending arg apart word words rest later waits =
+    subst (λ (r : Rule). Turn k (long_faults k idle word (Some r) (Some text) (held_at texts (pends pending)) (position place))
+    (after_step (rules k) word (at false idle texts (pends pending) (position place))
+    (long_step k idle word (Some r) (Some text) (held_at texts (pends pending))).0 (long_step k idle word (Some r) (Some text) (held_at texts (pends pending))).1)
+    words (behind (texts ++ listed pending) (before (name, text) (rest None (names_from k place))))) (sym is.2)
+    (value_turn k name is.1 place texts pending arg apart text words (rest None) later)
+long_goes k (Some a) (Some name) None is place texts pending arg apart word words rest later waits =
+    subst (λ (r : Rule). Turn k (long_faults k idle word (Some r) None (held_at texts (pends pending)) (position place))
+    (after_step (rules k) word (at false idle texts (pends pending) (position place))
+    (long_step k idle word (Some r) None (held_at texts (pends pending))).0 (long_step k idle word (Some r) None (held_at texts (pends pending))).1)
+    words (behind (texts ++ listed pending) (rest (Some name) (names_from k place)))) (sym is.2)
+    (wait_goes k name is.1 place texts pending arg apart words (λ name. rest (Some name)) waits)
 
-load_long : (a b : Bool) (given : Option Text) → LongGoes to_load (rule_of_two to_load (codes "seed") (codes "count") a b) (name_of_two (codes "seed") (codes "count") a b) given
-load_long true b (Some text) place texts pending arg apart word words rest later waits =
-    value_goes to_load (codes "seed") seed_is place texts pending arg apart text words (rest None) later
-load_long true b None place texts pending arg apart word words rest later waits =
-    wait_goes to_load (codes "seed") seed_is place texts pending arg apart words (λ name. rest (Some name)) waits
-load_long false true (Some text) place texts pending arg apart word words rest later waits =
-    value_goes to_load (codes "count") count_is place texts pending arg apart text words (rest None) later
-load_long false true None place texts pending arg apart word words rest later waits =
-    wait_goes to_load (codes "count") count_is place texts pending arg apart words (λ name. rest (Some name)) waits
-load_long false false given place texts pending arg apart word words rest later waits = tt
+record_option : (a b c : Bool) → IsOption to_record
+    (first_of_three (rule_as (by_name false) (codes "notices")) (rule_as (by_name false) (codes "room")) (rule_as (by_name false) (codes "fail")) (a || false) (b || false) (c || false))
+    (first_of_three (codes "notices") (codes "room") (codes "fail") a b c)
+record_option true b c = (false, notices_is, refl)
+record_option false true c = (false, room_is, refl)
+record_option false false true = (false, fail_is, refl)
+record_option false false false = tt
 
-no_long : (k : Command) (given : Option Text) → LongGoes k None None given
-no_long k given place texts pending arg apart word words rest later waits = tt
+replay_option : (a b c : Bool) → IsOption to_replay
+    (first_of_three (rule_as (by_name true) (codes "at")) (rule_as (by_name false) (codes "stand")) (rule_as (by_name false) (codes "tear")) (a || false) (b || false) (c || false))
+    (first_of_three (codes "at") (codes "stand") (codes "tear") a b c)
+replay_option true b c = (true, at_is, refl)
+replay_option false true c = (false, stand_is, refl)
+replay_option false false true = (false, tear_is, refl)
+replay_option false false false = tt
+
+load_option : (a b : Bool) → IsOption to_load
+    (cond (a || false) (Some (rule_as (by_name true) (codes "seed"))) (cond (b || false) (Some (rule_as (by_name true) (codes "count"))) None))
+    (cond a (Some (codes "seed")) (cond b (Some (codes "count")) None))
+load_option true b = (true, seed_is, refl)
+load_option false true = (true, count_is, refl)
+load_option false false = tt
+
+is_option : (k : Command) (name : Text) → IsOption k (arg_by_long (rules k) name) (find (λ known. bytes_eq known name) (options_of k))
+is_option to_record name = record_option (bytes_eq (codes "notices") name) (bytes_eq (codes "room") name) (bytes_eq (codes "fail") name)
+is_option to_replay name = replay_option (bytes_eq (codes "at") name) (bytes_eq (codes "stand") name) (bytes_eq (codes "tear") name)
+is_option to_show name = tt
+is_option to_make name = tt
+is_option to_run name = tt
+is_option to_load name = load_option (bytes_eq (codes "seed") name) (bytes_eq (codes "count") name)
 
 long_turn : (k : Command) (name : Text) (given : Option Text) → LongGoes k (arg_by_long (rules k) name) (find (λ known. bytes_eq known name) (options_of k)) given
-long_turn to_record name given = record_long (bytes_eq (codes "notices") name) (bytes_eq (codes "room") name) (bytes_eq (codes "fail") name) given
-long_turn to_replay name given = replay_long (bytes_eq (codes "at") name) (bytes_eq (codes "stand") name) (bytes_eq (codes "tear") name) given
-long_turn to_show name given = no_long to_show given
-long_turn to_make name given = no_long to_make given
-long_turn to_run name given = no_long to_run given
-long_turn to_load name given = load_long (bytes_eq (codes "seed") name) (bytes_eq (codes "count") name) given
+long_turn k name given = long_goes k (arg_by_long (rules k) name) (find (λ known. bytes_eq known name) (options_of k)) given (is_option k name)
 
 -- ---- one word where `--` was not met yet
 
@@ -610,28 +622,14 @@ number_refused k true h bad = bad
 number_refused k false h bad = bad
 
 step_refused : (k : Command) (name : Text) → IsArg k name → (place : Place) (texts : List Named) → is_clean (step_fault (shape k) (position place) (held_at texts (Some (name, []))) value) ≡ false
-step_refused to_record name is first texts = number_refused to_record (bytes_eq name (codes "blocks")) (held_at texts (Some (name, []))) (is.lacks (rows texts))
-step_refused to_record name is second texts = number_refused to_record (bytes_eq name (codes "journal")) (held_at texts (Some (name, []))) (is.lacks (rows texts))
-step_refused to_record name is third texts = number_refused to_record (bytes_eq name (codes "nodes")) (held_at texts (Some (name, []))) (is.lacks (rows texts))
-step_refused to_record name is fourth texts = refl
-step_refused to_record name is past texts = refl
-step_refused to_replay name is place texts = refl
-step_refused to_show name is first texts = number_refused to_show (bytes_eq name (codes "image")) (held_at texts (Some (name, []))) (is.lacks (rows texts))
-step_refused to_show name is second texts = refl
-step_refused to_show name is third texts = refl
-step_refused to_show name is fourth texts = refl
-step_refused to_show name is past texts = refl
-step_refused to_make name is first texts = number_refused to_make (bytes_eq name (codes "image")) (held_at texts (Some (name, []))) (is.lacks (rows texts))
-step_refused to_make name is second texts = number_refused to_make (bytes_eq name (codes "blocks")) (held_at texts (Some (name, []))) (is.lacks (rows texts))
-step_refused to_make name is third texts = number_refused to_make (bytes_eq name (codes "journal")) (held_at texts (Some (name, []))) (is.lacks (rows texts))
-step_refused to_make name is fourth texts = number_refused to_make (bytes_eq name (codes "nodes")) (held_at texts (Some (name, []))) (is.lacks (rows texts))
-step_refused to_make name is past texts = refl
-step_refused to_run name is first texts = number_refused to_run (bytes_eq name (codes "image")) (held_at texts (Some (name, []))) (is.lacks (rows texts))
-step_refused to_run name is second texts = refl
-step_refused to_run name is third texts = refl
-step_refused to_run name is fourth texts = refl
-step_refused to_run name is past texts = refl
-step_refused to_load name is place texts = refl
+step_refused k name is place texts = go (at_each k place)
+  where
+    h : Held
+    h = held_at texts (Some (name, []))
+
+    go : NoWord k place ⊎ OneWord k place → is_clean (word_faults k (arg_by_index (rules k) (position place)) h) ≡ false
+    go (inl none) = ap (λ (o : Option Rule). is_clean (word_faults k o h)) none.there
+    go (inr one) = ap (λ (o : Option Rule). is_clean (word_faults k o h)) one.there ∙ number_refused k (bytes_eq name one.name) h (is.lacks (rows texts))
 
 -- `--` has no value
 dashes_refused : (k : Command) (name : Text) → IsArg k name → (place : Place) (texts : List Named) (words : List Text)

@@ -23,7 +23,7 @@ use disk_memory::Choice;
 use std::alloc::Global;
 
 /// By which rule a disk in memory brings its notices.
-#[derive(Clone, Copy)]
+#[derive(Clone, Copy, Debug, PartialEq, Eq)]
 pub enum Notices {
     /// None comes.
     Silent,

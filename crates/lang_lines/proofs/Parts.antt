@@ -1,7 +1,7 @@
 -- More bytes of an input: its whole lines, its open line, and the commands that they are.
 use Rattle.std.proofs.Common.{◌≡◌, ℕ, suc, ◌+◌, ◌<◌, ◌≤◌, Bool, true, false, not, ◌==◌, cond, eqb, ltb, List, [], ◌∷◌, ◌++◌, length, take, refl, sym, ap, ◌∙◌, subst, arith, add-one, append_assoc, append-nil, take_all}
 use Rattle.std.specs.List.{onto_first, flat_map, list_all}
-use Rattle.std.proofs.lemmas.Bool.{and_parts, lt-ltb}
+use Rattle.std.proofs.lemmas.Bool.{and_parts, eqb-true, lt-ltb}
 use Rattle.std.proofs.lemmas.Bool.Decides.{nat_tests}
 use Rattle.std.proofs.lemmas.Grind.{flat_map-append}
 use Rattle.std.proofs.lemmas.List.{length-take, length-take-le}
@@ -103,13 +103,10 @@ commands-feed n xs = ap (flat_map (commands_of_line n)) (ap all_but_last (parts-
 
 -- What is read later takes no command away that is there.
 
-eqb_feed : (b : ℕ) → eqb b 10 ≡ true → b ≡ 10
-eqb_feed b e = grind arith
-
 behind : (n : ℕ) (xs : List ℕ) (b : ℕ) (t : Bool) → eqb b 10 ≡ t → (more : List Cmd) × (whole_commands n (xs ++ b ∷ []) ≡ whole_commands n xs ++ more)
 behind n xs b true e =
     let P : ℕ → Type 0 = λ c. (more : List Cmd) × (whole_commands n (xs ++ c ∷ []) ≡ whole_commands n xs ++ more) in
-    subst P (sym (eqb_feed b e)) (commands_of_line n (open_line xs), commands-feed n xs ∙ commands-end n xs)
+    subst P (sym (eqb-true b 10 e)) (commands_of_line n (open_line xs), commands-feed n xs ∙ commands-end n xs)
 behind n xs b false e = ([], commands-byte n xs b e ∙ sym (append-nil (whole_commands n xs)))
 
 pub commands-more : (n : ℕ) (xs ys : List ℕ) → (more : List Cmd) × (commands_of n (xs ++ ys) ≡ whole_commands n xs ++ more)
