@@ -9,10 +9,10 @@ use Rattle.layout_bitmap.specs.Bits.{bit_in, is_bad_bit}
 use Rattle.engine_reuse.specs.Numbers.{is_among}
 
 pub among_first : (b : ℕ) (xs ys : List ℕ) → is_among b xs ≡ true → is_among b (xs ++ ys) ≡ true
-among_first b xs ys is = list_any-append (λ x. x == b) xs ys ∙ or_left _ _ is
+among_first b xs ys is = list_any-append (λ x. x == b) xs ys ∙ or_left (is_among b xs) (is_among b ys) is
 
 pub among_last : (b : ℕ) (xs ys : List ℕ) → is_among b ys ≡ true → is_among b (xs ++ ys) ≡ true
-among_last b xs ys is = list_any-append (λ x. x == b) xs ys ∙ or_right _ _ is
+among_last b xs ys is = list_any-append (λ x. x == b) xs ys ∙ or_right (is_among b xs) (is_among b ys) is
 
 -- where no other bit changed than those of data blocks, the others are still good
 pub still_good : (g : Geometry) (old new : Blocks) → ((b : ℕ) → (LiesIn g Data b → ⊥) → bit_in new b ≡ bit_in old b) → ((b : ℕ) → is_bad_bit g old b ≡ false) → (b : ℕ) → is_bad_bit g new b ≡ false

@@ -16,7 +16,8 @@ use Rattle.engine_notes.specs.Notes.{Expected, is_expected, is_noticed, are_expe
 use Rattle.engine_running.specs.declared.commit.Committed.{Committed}
 use Rattle.engine_checkpoint.specs.declared.pipeline.Pipeline.{Pipeline}
 use Rattle.engine_checkpoint.specs.Agree.{PipelineAgrees, AreApart, AreNewTickets, HomeIsSent, IsRecordAt, KeepsRecord, HasFreed, data_of, durable_count, home_pair, no_tickets, tickets_in}
-use Rattle.engine_checkpoint.proofs.Lists.{map_push, last_or, get_old, get_new}
+use Rattle.engine_checkpoint.proofs.Lists.{map_push, last_or, get_old}
+use Rattle.engine_checkpoint.proofs.KeptRows.{get_behind}
 use Rattle.engine_checkpoint.proofs.Apart.{none_new, one_or}
 use Rattle.engine_checkpoint.proofs.Expected.{ExpectMore, are_more, home_more}
 
@@ -80,9 +81,9 @@ module _ (base : Blocks) (old new : List Event) (l : Ledger) (v : Pipeline) (rin
   own : (k : ℕ) (t : Committed) → k ≡ length v.committed.items → c ≡ t → IsRecordAt (with_record l w m) (a.freed ++ c.freed.items ∷ []) (durable_count v + k) t.number t.place t.count t.payloads.items t.fresh.items t.freed.items
   own k t e same = subst (λ (q : Committed). IsRecordAt (with_record l w m) (a.freed ++ c.freed.items ∷ []) (durable_count v + k) q.number q.place q.count q.payloads.items q.fresh.items q.freed.items) same (record {
     written = w;
-    is = ap (slice_get (l.records ++ w ∷ [])) (place k e a.count) ∙ get_new l.records w;
+    is = ap (slice_get (l.records ++ w ∷ [])) (place k e a.count) ∙ get_behind l.records (w ∷ []) (length l.records) 0 w (omega arith) refl;
     keeps = keeps;
-    freed_is = ap (slice_get (a.freed ++ c.freed.items ∷ [])) (place k e a.count ∙ sym a.freed_by.count) ∙ get_new a.freed c.freed.items;
+    freed_is = ap (slice_get (a.freed ++ c.freed.items ∷ [])) (place k e a.count ∙ sym a.freed_by.count) ∙ get_behind a.freed (c.freed.items ∷ []) (length a.freed) 0 c.freed.items (omega arith) refl;
   })
     where
       place : (k : ℕ) → k ≡ length v.committed.items → length l.records ≡ durable_count v + length v.committed.items → durable_count v + k ≡ length l.records

@@ -22,10 +22,6 @@ get_old [] ys k x e = cc
 get_old (y ∷ xs) ys zero x e = e
 get_old (y ∷ xs) ys (suc k) x e = get_old xs ys k x e
 
-pub get_new : {A : Type 0} (xs : List A) (y : A) → slice_get (xs ++ y ∷ []) (length xs) ≡ Some y
-get_new [] y = refl
-get_new (x ∷ xs) y = get_new xs y
-
 -- what is in two lists, one behind the other
 pub either : {A : Type 0} (xs ys : List A) (k : ℕ) (z : A) → slice_get (xs ++ ys) k ≡ Some z → (slice_get xs k ≡ Some z) ⊎ ((i : ℕ) × (k ≡ length xs + i) × (slice_get ys i ≡ Some z))
 either [] ys k z is = inr (k, omega arith, is)

@@ -1,7 +1,8 @@
 -- Which freed blocks serve again, by the disk's log: those that a step gave up are those on which nothing is pending, of those whose record the newest header at rest makes sure.
 use Rattle.std.proofs.Common.{◌≡◌, ◌⊎◌, inl, inr, ⊎_elim, ℕ, zero, suc, ◌+◌, ◌-◌, ◌<◌, ◌≤◌, ◌==◌, ◌||◌, ◌&&◌, not, nat_le, nat_lt, Bool, true, false, List, [], ◌∷◌, ◌++◌, length, map, slice_get, Option, Some, None, option_map, Ok, refl, sym, ◌∙◌, ap, subst, arith}
-use Rattle.std.proofs.lemmas.Bool.{and_parts, eqb-true, false≢true, le-leb, cond-true, cond-false}
+use Rattle.std.proofs.lemmas.Bool.{and_parts, eqb-true, false≢true, le-leb, cond-true, cond-false, or_left}
 use Rattle.std.proofs.lemmas.Option.{none-some, same_Some, slice_get_within}
+use Rattle.std.proofs.lemmas.List.Folds.{list_any-append}
 use Rattle.base_types.specs.Seal.{Blocks}
 use Rattle.disk_contract.specs.declared.disk.DiskFault.{DiskFault}
 use Rattle.disk_contract.specs.declared.event.Event.{Event}
@@ -27,7 +28,7 @@ use Rattle.engine_checkpoint.specs.Turns.{BatchAdds, HeaderAdds, going_home, is_
 use Rattle.engine_checkpoint.specs.Waits.{HearsAll}
 use Rattle.engine_checkpoint.proofs.Expected.{with_old}
 use Rattle.engine_checkpoint.proofs.PendingCells.{noticed_rests, open_is_pending}
-use Rattle.engine_checkpoint.proofs.Serves.{among_left, pair_among}
+use Rattle.engine_checkpoint.proofs.Serves.{pair_among}
 use Rattle.engine_checkpoint.proofs.Taking.{home_at}
 
 -- Open checkpoint writes.
@@ -141,7 +142,7 @@ module _ (base : Blocks) (log : List Event) (l : Ledger) (y : Pipeline) (ring : 
   taken_rests b may = by (a.one.block b (omega (arith, from)) refl)
     where
       from : data_start l.geom ≤ b
-      from = subst (λ (g : Geometry). data_start g ≤ b) served_geom (sound.lie b (among_left b served.reusable (served.held ++ map block_of served.waiting) may)).from
+      from = subst (λ (g : Geometry). data_start g ≤ b) served_geom (sound.lie b (list_any-append (λ x. x == b) served.reusable (served.held ++ map block_of served.waiting) ∙ or_left _ _ may)).from
 
       way : IsOnItsWay log (data_of y ring served.waiting) b → (cell_of base log b).pending ≡ []
       way w = let at = home_at y.home.items w.at b w.ticket w.listed in seen at.0 at.1 at.2 at.3 (is_open at.0.ticket y.notes.notes) refl
@@ -161,7 +162,7 @@ module _ (base : Blocks) (log : List Event) (l : Ledger) (y : Pipeline) (ring : 
           let number = numbers f.place f.written f.is_record in
           let within = slice_get_within l.records f.place f.written f.is_record in
           let live = a.agree.new.live f.place f.at f.written f.entry f.is_record (omega (arith, sure, f.not_known)) f.is_entry in
-          let wait = a.agree.waiting.each b (f.written.says.number + 1) from (omega (arith, sure, f.not_known)) (omega (arith, number, within)) (subst (λ n. Rattle.std.proofs.Common.IsTrue (is_live l.geom (l.map_before (f.written.says.number + 1)) n)) f.own live) (serves.dead_now b (among_left b served.reusable (map block_of served.waiting) may)) in
+          let wait = a.agree.waiting.each b (f.written.says.number + 1) from (omega (arith, sure, f.not_known)) (omega (arith, number, within)) (subst (λ n. Rattle.std.proofs.Common.IsTrue (is_live l.geom (l.map_before (f.written.says.number + 1)) n)) f.own live) (serves.dead_now b (list_any-append (λ x. x == b) served.reusable (map block_of served.waiting) ∙ or_left _ _ may)) in
           false≢true (sym (waits served b sound (pair_among b wait.1 wait.0 served.waiting wait.2)) ∙ may)
 
       by : IsIdle (cell_of base log b) ⊎ (IsFreshInNew l b ⊎ IsOnItsWay log (data_of y ring served.waiting) b) → (cell_of base log b).pending ≡ []

@@ -1,5 +1,5 @@
 -- An image that has the formatted disk's blocks before the data, whatever is in the data.
-use Rattle.std.proofs.Common.{◌≡◌, ◌⊎◌, inl, inr, ℕ, ◌+◌, ◌*◌, ◌/◌, ◌%◌, ◌<◌, ◌≤◌, ◌==◌, ◌&&◌, ◌||◌, Bool, true, false, nat_lt, nat_le, if◌then◌else◌, List, [], replicate, get_or, Option, Some, None, sym, refl, ap, ap₂, subst, ◌∙◌, arith}
+use Rattle.std.proofs.Common.{◌≡◌, ◌⊎◌, inl, inr, ℕ, ◌+◌, ◌*◌, ◌/◌, ◌%◌, ◌<◌, ◌≤◌, ◌==◌, ◌&&◌, ◌||◌, Bool, true, false, nat_lt, nat_le, if◌then◌else◌, List, [], replicate, get_or, Some, None, sym, refl, ap, ap₂, subst, ◌∙◌, arith}
 use Rattle.std.proofs.lemmas.Bool.{cases_Bool, ltb-true, ltb-false, lt-ltb, le-ltb}
 use Rattle.std.proofs.lemmas.Nat.{mod_below}
 use Rattle.std.proofs.lemmas.Option.{none-some}
@@ -22,20 +22,20 @@ pub record IsFormatted (g : Geometry) : Type 0 where
   pub bits : (b : ℕ) → b < 8192 * bitmap_blocks g → is_set g (formatted g) b ≡ nat_lt b (data_start g)
   pub journal : (b : ℕ) → 0 < b → b < bitmap_start g → formatted g b ≡ replicate 1024 0
 
--- what is there behind a test was there before it
-when_inner : {A : Type 0} (t : Bool) (o : Option A) (y : A) → when t o ≡ Some y → o ≡ Some y
-when_inner true o y e = e
-when_inner false o y e = cc
+-- nothing is there behind a test where nothing was before it
+nothing_behind : {A : Type 0} (t : Bool) (y : A) → when t None ≡ Some y → ⊥
+nothing_behind true y e = none-some y e
+nothing_behind false y e = none-some y e
 
 -- zeros read as no header: the first of them is no letter
 zeros_no_header : (n : ℕ) (h : Header) → header_of n (replicate 1024 0) ≡ Some h → ⊥
 unfolding header_of
-zeros_no_header n h e = none-some h (when_inner (is_sealed (replicate 1024 0)) None h e)
+zeros_no_header n h e = nothing_behind (is_sealed (replicate 1024 0)) h e
 
 -- zeros read as no commit block
 zeros_no_commit : (g : Geometry) (c : Commit) → commit_of g (replicate 1024 0) ≡ Some c → ⊥
 unfolding commit_of
-zeros_no_commit g c e = none-some c (when_inner (is_sealed (replicate 1024 0)) None c e)
+zeros_no_commit g c e = nothing_behind (is_sealed (replicate 1024 0)) c e
 
 -- 0 and 1 have eight bytes at most
 small : (x : ℕ) → x ≤ 1 → fits_in 8 x

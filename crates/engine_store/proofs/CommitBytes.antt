@@ -49,6 +49,10 @@ defined_live true true false set marked bare live is filled = ap₂ (λ x y. x &
 defined_live true false early set marked bare live is filled = absurd (false≢true live)
 defined_live false below early set marked bare live is filled = absurd (false≢true live)
 
+-- a live block doesn't lie before the bitmap
+pub live_from : (g : Geometry) (m : Blocks) (b : ℕ) → IsTrue (is_live g m b) → bitmap_start g ≤ b
+live_from g m b live = leb-true (bitmap_start g) b (and_parts _ _ live).0
+
 module _ (laws : MapLaws) (v : TransactionBooks) (last : Blocks) (k : AreKept v) (began : BeganAt v last) where
   -- what is written in place was dead in the last map
   pub not_fresh : (b : ℕ) → IsTrue (is_live v.geom last b) → put_of b v.changes.laid ≡ None
@@ -107,7 +111,7 @@ module _ (laws : MapLaws) (v : TransactionBooks) (last : Blocks) (k : AreKept v)
       pub stands : HasSameLive w (map_of v last) next
       stands b live =
           let now = to_now (map_of v last) b live in
-          bytes b (leb-true _ _ (and_parts _ _ now).0) (not_freed b now) ∙ sym (map_there b now)
+          bytes b (live_from v.geom (map_of v last) b now) (not_freed b now) ∙ sym (map_there b now)
 
       -- the next transaction begins at it, whatever ledger has the record
       began_now : Ledger → WrittenRecord → BeganAt w (map_of v last)

@@ -1,6 +1,6 @@
 -- A commit of the running transaction keeps the store and makes a point of it, whether it succeeded or the disk failed.
-use Rattle.std.proofs.Common.{◌≡◌, ◌⊎◌, ⊎_elim, ℕ, ◌+◌, ◌-◌, ◌≤◌, is_some, Bool, true, false, IsTrue, List, length, map, Option, None, Ok, Err, refl, sym, ◌∙◌, ap, subst, arith, length-append}
-use Rattle.std.proofs.lemmas.Bool.{false≢true, leb-true, and_parts}
+use Rattle.std.proofs.Common.{◌≡◌, ◌⊎◌, ⊎_elim, ℕ, ◌+◌, ◌-◌, ◌≤◌, is_some, Bool, true, false, IsTrue, List, length, map, Option, None, Result, Ok, Err, refl, sym, ◌∙◌, ap, subst, arith, length-append}
+use Rattle.std.proofs.lemmas.Bool.{false≢true}
 use Rattle.base_types.specs.Seal.{Blocks}
 use Rattle.disk_contract.specs.declared.disk.DiskFault.{DiskFault}
 use Rattle.disk_contract.specs.declared.event.Event.{Event}
@@ -31,7 +31,7 @@ use Rattle.engine_store.specs.SessionView.{state_of}
 use Rattle.engine_store.specs.Syncing.{Forgets}
 use Rattle.engine_store.specs.Told.{CacheAgrees, IsToldBy, awaited_in, last_map, map_now, session_of}
 use Rattle.engine_store.proofs.Awaiting.{joined_heard}
-use Rattle.engine_store.proofs.CommitBytes.{MapLaws, began_next, live_now, map_next, none_newest, not_fresh, not_laid, not_put, still_disks, was_live, whole_next}
+use Rattle.engine_store.proofs.CommitBytes.{MapLaws, began_next, live_from, live_now, map_next, none_newest, not_fresh, not_laid, not_put, still_disks, was_live, whole_next}
 use Rattle.engine_store.proofs.Forgetting.{StillKept, still_kept}
 use Rattle.engine_store.proofs.LastMap.{LastMapLaws, newest_is, none_lost}
 use Rattle.engine_store.proofs.NextRecord.{newest_is as newest_of, next_more}
@@ -63,13 +63,19 @@ ledger_then v l = ledger_with l v.ring v.pipeline.header.epoch (v.first + v.poin
 abbrev pub RightBefore : StoreParts → State → MountedSession → Ledger → ℕ → ℕ → Type 0
 RightBefore v d s l t floor = IsRightOn s d l t floor v.pipeline v.ring v.books.dead v.books.changes.taken
 
+abbrev pub committed : Unit {0} → Result (Unit {0}) DiskFault
+committed a = Ok a
+
+abbrev pub faulted : DiskFault → Result (Unit {0}) DiskFault
+faulted x = Err x
+
 -- What a commit gave that succeeded.
 pub record Succeeded (tells : Bool) (v : StoreParts) (d e : State) (ring : RingPlaces) (q : Pipeline) (w : TransactionBooks) (c : Cache) : Type 0 where
   pub kept : AreKept w
   pub right : IsTrue tells → (s : MountedSession) (l : Ledger) (t floor : ℕ) → BeganAt v.books (l.map_before (next_number l)) → HasNoBare (running_of v.books) → RightBefore v d s l t floor → IsRightOn s e (ledger_then v l) t floor q ring w.dead w.changes.taken
   pub becomes : BecomesRecord (v.first + v.point) v.books w v.pipeline q ring
   pub ring_is : ring ≡ with_places v.ring (places_for v.books.changes)
-  pub writes : IsTrue tells → WritesRecord {A = Unit {0}} {E = DiskFault} (Ok tt) (writes_of v.ring v.pipeline.header.epoch (v.first + v.point) v.books.changes) v.books v.pipeline q d e
+  pub writes : IsTrue tells → WritesRecord {A = Unit {0}} {E = DiskFault} (committed tt) (writes_of v.ring v.pipeline.header.epoch (v.first + v.point) v.books.changes) v.books v.pipeline q d e
   pub spends : OnlyWrites false d e
   pub forgets : Forgets v.books.changes.paid (map block_of v.books.changes.laid) v.cache c
   pub due : IsTrue tells → StaysDue d.log v.pipeline q
@@ -79,7 +85,7 @@ pub record Succeeded (tells : Bool) (v : StoreParts) (d e : State) (ring : RingP
 pub record Failed (tells : Bool) (v : StoreParts) (d e : State) (ring : RingPlaces) (fault : DiskFault) : Type 0 where
   pub right : IsTrue tells → (s : MountedSession) (l : Ledger) (t floor : ℕ) → BeganAt v.books (l.map_before (next_number l)) → HasNoBare (running_of v.books) → RightBefore v d s l t floor → IsSafe s e.base e.log l t floor ⊎ IsSafe s e.base e.log (ledger_then v l) t floor
   pub ring_is : ring ≡ with_places v.ring (places_for v.books.changes)
-  pub writes : IsTrue tells → WritesRecord {A = Unit {0}} {E = DiskFault} (Err fault) (writes_of v.ring v.pipeline.header.epoch (v.first + v.point) v.books.changes) v.books v.pipeline v.pipeline d e
+  pub writes : IsTrue tells → WritesRecord {A = Unit {0}} {E = DiskFault} (faulted fault) (writes_of v.ring v.pipeline.header.epoch (v.first + v.point) v.books.changes) v.books v.pipeline v.pipeline d e
   pub spends : OnlyWrites true d e
   pub cause : IsTrue tells → HasFailed e
 
@@ -126,7 +132,7 @@ module _ (laws : Laws) (v : StoreParts) (d : State) (l : Ledger) (k : AreKept v.
     abbrev record_then : WrittenRecord
     record_then = written_of v.pipeline.header.epoch (v.first + v.point) v.ring.next v.books.changes.paid v.books.changes.laid
 
-    writes : WritesRecord {A = Unit {0}} {E = DiskFault} (Ok tt) (writes_of v.ring v.pipeline.header.epoch (v.first + v.point) v.books.changes) v.books v.pipeline q d e
+    writes : WritesRecord {A = Unit {0}} {E = DiskFault} (committed tt) (writes_of v.ring v.pipeline.header.epoch (v.first + v.point) v.books.changes) v.books v.pipeline q d e
     writes = s.writes t
 
     right : IsRightOn (session_of v) e (ledger_then v l) (length d.log) v.floor q ring w.dead w.changes.taken
@@ -156,7 +162,7 @@ module _ (laws : Laws) (v : StoreParts) (d : State) (l : Ledger) (k : AreKept v.
           ((told.going going).cache.newest b (live_still b live st) (subst (λ (o : Option (List ℕ)). IsTrue (is_some o)) st.same there));
       same = λ b live. still_disks v.books.changes v.cache c b d e s.forgets (λ st.
           let before = live_still b live st in
-          (none_lost laws.last v d l k told going b before, (writes.elsewhere b (leb-true _ _ (and_parts _ _ before).0) (not_laid v.books.changes v.cache c b st)).bytes, (told.going going).cache.same b before));
+          (none_lost laws.last v d l k told going b before, (writes.elsewhere b (live_from v.books.geom (last_map v d) b before) (not_laid v.books.changes v.cache c b st)).bytes, (told.going going).cache.same b before));
     }
 
     pub after_success : After v parts d e
@@ -183,7 +189,7 @@ module _ (laws : Laws) (v : StoreParts) (d : State) (l : Ledger) (k : AreKept v.
     abbrev stopped_parts : StoreParts
     stopped_parts = record v { ring = ring; point = v.point + 1; stopped = true }
 
-    front : WritesRecord {A = Unit {0}} {E = DiskFault} (Err fault) (writes_of v.ring v.pipeline.header.epoch (v.first + v.point) v.books.changes) v.books v.pipeline v.pipeline d e
+    front : WritesRecord {A = Unit {0}} {E = DiskFault} (faulted fault) (writes_of v.ring v.pipeline.header.epoch (v.first + v.point) v.books.changes) v.books v.pipeline v.pipeline d e
     front = f.writes t
 
     front_grew : length d.log ≤ length e.log
@@ -191,7 +197,7 @@ module _ (laws : Laws) (v : StoreParts) (d : State) (l : Ledger) (k : AreKept v.
 
     -- the live blocks of the last map stay
     stays : HasSameLive v.books (last_map v d) (last_map stopped_parts e)
-    stays b live = ap (λ (x : List ℕ). otherwise (newest_in None (kept v.pipeline) b) x) (front.elsewhere b (leb-true _ _ (and_parts _ _ live).0) (not_fresh laws.map v.books (last_map v d) k told.began b live)).bytes
+    stays b live = ap (λ (x : List ℕ). otherwise (newest_in None (kept v.pipeline) b) x) (front.elsewhere b (live_from v.books.geom (last_map v d) b live) (not_fresh laws.map v.books (last_map v d) k told.began b live)).bytes
 
     live_before : (b : ℕ) → IsTrue (is_live v.books.geom (last_map stopped_parts e) b) → IsTrue (is_live v.books.geom (last_map v d) b)
     live_before b live = sym (laws.map.live v.books (last_map v d) (last_map stopped_parts e) b k stays) ∙ live

@@ -1,13 +1,17 @@
 -- Logs that go on: notices behind notices, and events that write no block from some block on.
-use Rattle.std.proofs.Common.{◌≡◌, ◌≢◌, ◌⊎◌, inl, inr, ⊎_elim, ℕ, zero, suc, ◌+◌, ◌<◌, ◌≤◌, ◌||◌, List, [], ◌∷◌, ◌++◌, take, length, get_or, refl, sym, ◌∙◌, ap, subst, arith, append_assoc, append-nil}
+use Rattle.std.proofs.Common.{◌≡◌, ◌≢◌, ◌⊎◌, inl, inr, ⊎_elim, ℕ, zero, suc, ◌+◌, ◌<◌, ◌≤◌, ◌||◌, List, [], ◌∷◌, ◌++◌, take, length, get_or, refl, sym, ◌∙◌, ap, subst, arith, append_assoc, append-nil, length-append}
 use Rattle.std.proofs.lemmas.Bool.{false≢true, or_cases, or_right, or_left}
 use Rattle.disk_contract.specs.declared.event.Event.{Event}
 use Rattle.disk_contract.specs.declared.event.Event.TheVariants.{Wrote, Lost, Noticed}
 use Rattle.disk_contract.specs.Cell.{IsNoticed, notices}
-use Rattle.disk_contract.specs.Disk.{AreOpen, AddsNotices}
+use Rattle.disk_contract.specs.Disk.{AreOpen, AddsNotices, Grows}
 use Rattle.crash_argument.specs.LastWrites.{AvoidsBlock}
 use Rattle.crash_argument.specs.PipelineData.{AllNoticed}
 use Rattle.engine_store.specs.Formatting.{WritesBelow}
+
+-- a log that goes on has no fewer events
+pub longer : (old new : List Event) → Grows old new → length old ≤ length new
+longer old new grows = omega (arith, ap (λ (es : List Event). length es) grows.log, length-append old grows.more)
 
 -- the notices of two lists of tickets
 notices-append : (ts us : List ℕ) → notices (ts ++ us) ≡ notices ts ++ notices us

@@ -1,5 +1,5 @@
 -- What stands for the live blocks of the last map by the pipeline and the disk: a call that only waits leaves it, and so does the cache go on agreeing with the disk.
-use Rattle.std.proofs.Common.{◌≡◌, ◌⊎◌, inl, inr, ⊎_elim, ℕ, zero, suc, ◌+◌, ◌==◌, Bool, true, false, if◌then◌else◌, List, [], ◌∷◌, ◌++◌, drop, Option, Some, None, IfSome, Contains, refl, sym, ◌∙◌, ap, arith}
+use Rattle.std.proofs.Common.{◌≡◌, ◌⊎◌, inl, inr, ⊎_elim, ℕ, zero, suc, ◌+◌, ◌<◌, ◌==◌, Bool, true, false, if◌then◌else◌, List, [], ◌∷◌, ◌++◌, drop, Option, Some, None, IfSome, Contains, refl, sym, ◌∙◌, ap, arith}
 use Rattle.std.specs.Prelude.{IsSome}
 use Rattle.std.specs.FinMap.{get}
 use Rattle.std.proofs.lemmas.List.Elements.{Contains-push_cases, Contains-append_cases}
@@ -48,7 +48,7 @@ writes_noticed (Lost c y ∷ log) ts = ap (λ n. 1 + n) (writes_noticed log ts)
 writes_noticed (Noticed t ∷ log) ts = writes_noticed log ts
 
 no_write : (ts : List ℕ) (t b : ℕ) (x : List ℕ) → ¬ Contains (notices ts) (Wrote t b x)
-no_write [] t b x there = let lt = there.1 in omega (arith, lt)
+no_write [] t b x there = let lt : there.0 < 0 = there.1 in omega (arith, lt)
 no_write (u ∷ ts) t b x there = ⊎_elim (λ first. ⊎_elim (λ none. let lt = none.1 in omega (arith, lt)) (λ same. is_other u t b x same) (Contains-push_cases [] (Noticed u) (Wrote t b x) first))
     (λ behind. no_write ts t b x behind) (Contains-append_cases (Noticed u ∷ []) (notices ts) (Wrote t b x) there)
   where

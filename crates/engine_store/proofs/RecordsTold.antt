@@ -1,13 +1,12 @@
 -- The record that a sync writes, as the log tells it: behind a commit, behind a drain with a commit, and behind a wait.
-use Rattle.std.proofs.Common.{◌≡◌, ⊎_elim, ℕ, ◌+◌, ◌<◌, ◌≤◌, ◌*◌, Bool, true, false, IsTrue, List, [], ◌∷◌, ◌++◌, length, map, take, Some, Ok, Result, OnOk, refl, sym, ◌∙◌, ap, ap₂, subst, arith, length-append}
+use Rattle.std.proofs.Common.{◌≡◌, ⊎_elim, ℕ, ◌+◌, ◌<◌, ◌≤◌, ◌*◌, Bool, false, IsTrue, List, [], ◌∷◌, ◌++◌, length, map, take, Some, refl, sym, ◌∙◌, ap, ap₂, subst, arith, length-append}
 use Rattle.std.proofs.Math.Seq.{take-append_seam}
-use Rattle.std.proofs.lemmas.List.{length-map, take-append-le, take_all}
+use Rattle.std.proofs.lemmas.List.{length-map, take-append-le}
 use mathlib.Core.Path.{subst₂}
 use Rattle.base_types.specs.Seal.{Blocks}
 use Rattle.disk_contract.specs.declared.event.Event.{Event}
 use Rattle.disk_contract.specs.Cell.{is_accepted}
 use Rattle.disk_contract.specs.Disk.{State, Grows, writes_in}
-use Rattle.layout_geometry.specs.Geometry.{Geometry}
 use Rattle.layout_journal.specs.declared.record.Commit.{Commit}
 use Rattle.layout_journal.specs.Layout.{descriptor_count}
 use Rattle.layout_journal.specs.Ring.{RingPlaces}
@@ -21,8 +20,8 @@ use Rattle.engine_running.specs.declared.commit.CommitRoom.{CommitRoom}
 use Rattle.engine_checkpoint.specs.declared.pipeline.Pipeline.{Pipeline}
 use Rattle.engine_blocks.specs.Running.{Running, fresh_blocks, payloads}
 use Rattle.engine_blocks.specs.State as blocks
-use Rattle.engine_blocks.specs.Effects.{FitsRing, RunsPipeline, TellsNone, WritesItsRecord, WritesRecord}
-use Rattle.engine_books.specs.Books.{TransactionBooks, map_of, running_of}
+use Rattle.engine_blocks.specs.Effects.{FitsRing, RunsPipeline, WritesItsRecord}
+use Rattle.engine_books.specs.Books.{TransactionBooks, map_of}
 use Rattle.engine_store.specs.declared.parts.StoreParts.{StoreParts}
 use Rattle.engine_running.specs.Commits.{writes_of}
 use Rattle.engine_store.specs.Syncing.{MayCommit}
@@ -30,6 +29,7 @@ use Rattle.engine_store.specs.Told.{IsKeptOn, IsToldBy, awaited_in, session_of, 
 use Rattle.engine_store.proofs.Awaiting.{awaited_point, joined_awaits}
 use Rattle.engine_store.proofs.CommitSets.{same_by_some}
 use Rattle.engine_store.proofs.CommitCalls.{Laws, Succeeded, began_newest, ledger_then, session_then}
+use Rattle.engine_store.proofs.Logs.{longer}
 use Rattle.engine_store.proofs.TicketLogs.{grows_by}
 
 -- what a law says of a ledger with one record more
@@ -38,9 +38,6 @@ MoreLaw = (s : MountedSession) (base : Blocks) (log more : List Event) (l : Ledg
     → records_told s (log ++ more) ≡ records_told s log ++ commit_says s.epoch w.says ∷ []
 
 -- A log that goes on.
-
-longer : (old new : List Event) → Grows old new → length old ≤ length new
-longer old new grows = omega (arith, ap (λ (es : List Event). length es) grows.log, length-append old grows.more)
 
 front_is : (old new : List Event) → Grows old new → take (length old) new ≡ old
 front_is old new grows = ap (take (length old)) grows.log ∙ take-append_seam old grows.more

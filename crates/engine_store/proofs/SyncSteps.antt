@@ -4,13 +4,13 @@ use Rattle.std.proofs.Props.{props}
 use Rattle.std.proofs.Math.Logic.{∥∥₁_elim, ∥∥₁_map}
 use Rattle.std.specs.Result.{IsErrAnd}
 use Rattle.std.proofs.lemmas.Bool.{cond-true, eq-eqb, false≢true}
-use Rattle.std.proofs.lemmas.List.{append_assoc, length-append}
+use Rattle.std.proofs.lemmas.List.{append_assoc}
 use mathlib.Core.Path.{subst₂}
 use Rattle.base_types.specs.Counts.{after_call}
 use Rattle.base_types.specs.Seal.{Blocks}
 use Rattle.disk_contract.specs.Disk as disk
 use Rattle.disk_contract.specs.Cell.{is_accepted}
-use Rattle.disk_contract.specs.Disk.{Grows, GrowsByWrites}
+use Rattle.disk_contract.specs.Disk.{GrowsByWrites}
 use Rattle.layout_geometry.specs.Geometry.{Geometry}
 use Rattle.layout_journal.specs.Run.{is_live}
 use Rattle.crash_argument.specs.Ledger.{Ledger, next_number}
@@ -36,6 +36,7 @@ use Rattle.engine_store.specs.Syncing.{IsSameStore, MayCommit}
 use Rattle.engine_store.specs.Told.{AsksNothing, IsKeptOn, IsToldBy, awaited_in, counts_of, map_now, session_of, store_state}
 use Rattle.engine_store.proofs.Awaiting.{same_awaited}
 use Rattle.engine_store.proofs.CommitSyncs.{heavy}
+use Rattle.engine_store.proofs.Logs.{longer}
 use Rattle.engine_store.proofs.Reserving.{places_fit}
 use Rattle.engine_store.proofs.StoreStates.{goes_on_itself}
 use Rattle.engine_store.proofs.TicketLogs.{not_before, noticed_before}
@@ -114,19 +115,15 @@ kept_point old mid new b img i = record { point = i.point; from = i.from; upto =
 lower_point : (old mid new : State) → Advances old mid → (img : Blocks) → HoldsPointBetween new mid.books.floor new.books.point img → HoldsPointBetween new old.books.floor new.books.point img
 lower_point old mid new a img i = record { point = i.point; from = omega (arith, a.floor, i.from); upto = i.upto; map = i.map; holds = i.holds; is = i.is }
 
--- a log that goes on has no fewer events
-later : (old new : List Event) → Grows old new → length old ≤ length new
-later old new a = omega (arith, ap (λ (es : List Event). length es) a.log, length-append old a.more)
-
 advances_on : (old mid new : State) → Advances old mid → Advances mid new → Advances old new
 advances_on old mid new a b = record {
   base = b.base ∙ a.base;
   grows = record { more = a.grows.more ++ b.grows.more; log = b.grows.log ∙ ap (λ (es : List Event). es ++ b.grows.more) a.grows.log ∙ append_assoc old.crash.log a.grows.more b.grows.more };
-  window = λ img left. ⊎_elim (λ was. ∥∥₁_map (a.window img was) (kept_point old mid new b img)) (λ late. ∥∥₁_map late (lower_point old mid new a img)) (b.earlier (length old.crash.log) img (later old.crash.log mid.crash.log a.grows) left);
+  window = λ img left. ⊎_elim (λ was. ∥∥₁_map (a.window img was) (kept_point old mid new b img)) (λ late. ∥∥₁_map late (lower_point old mid new a img)) (b.earlier (length old.crash.log) img (longer old.crash.log mid.crash.log a.grows) left);
   earlier = λ t img before left. ⊎_elim
       (λ was. ⊎_elim inl (λ point. inr (∥∥₁_map point (kept_point old mid new b img))) (a.earlier t img before was))
       (λ late. inr (∥∥₁_map late (lower_point old mid new a img)))
-      (b.earlier t img (omega (arith, before, later old.crash.log mid.crash.log a.grows)) left);
+      (b.earlier t img (omega (arith, before, longer old.crash.log mid.crash.log a.grows)) left);
   holds = λ img m. (λ is. (a.holds img m).0 ((b.holds img m).0 is), λ is. (b.holds img m).1 ((a.holds img m).1 is));
   sure = λ log p. (λ is. (a.sure log p).0 ((b.sure log p).0 is), λ is. (b.sure log p).1 ((a.sure log p).1 is));
   records = record { told = b.records.told ∙ a.records.told; starts = λ log n. (λ is. (a.records.starts log n).0 ((b.records.starts log n).0 is), λ is. (b.records.starts log n).1 ((a.records.starts log n).1 is)) };
