@@ -30,7 +30,7 @@ ghost use Rattle.cmd_session.specs.Taking.{nothing_taken};
 
 use crash_stands::{a_tree_that_stands_is_sound, an_image_stands_for_one_tree};
 use engine_blocks::Blocks;
-use fs_commands::{
+use fs_session::{
     a_command_begins_with_a_tick, a_command_is_answered_in_a_room_that_came_back,
     a_command_serves_what_is_sure, a_command_that_needs_no_wait_makes_none,
     a_refusal_for_the_disk_has_its_cause,

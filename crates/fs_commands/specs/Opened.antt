@@ -2,7 +2,7 @@
 use Rattle.std.specs.Prelude.{ℕ, Bool, IsTrue}
 use Rattle.engine_blocks.specs.State.{State}
 use Rattle.fs_commands.specs.declared.fs.Fs.{Fs}
-use Rattle.fs_commands.specs.Sessions.{IsBetween, Stands}
+use Rattle.fs_session.specs.Sessions.{IsBetween, Stands}
 
 module _ {S : Type 0} where
   -- the blocks over which it is

@@ -1,7 +1,7 @@
 use Rattle.std.proofs.Common.{sym, subst, ap}
 use Rattle.engine_blocks.specs.State.{Bookkeeping}
 use Rattle.fs_files.specs.Finish.{MayGoOn}
-use Rattle.fs_commands.proofs.carrying.Staying.{between_stays, stands_still}
+use Rattle.fs_session.specs.Staying.{between_stays, stands_still}
 use Rattle.fs_commands.proofs.fs.Fs.listing.Goals as goal
 
 pub returns-clause-between : goal.returns-clause-between
