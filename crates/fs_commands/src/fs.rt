@@ -35,7 +35,7 @@ pub struct Fs<S: Blocks> {
 }
 
 impl<S: Blocks> Fs<S> {
-    ghost use Rattle.fs_commands.specs.Opened.{blocks_in, used_to};
+    ghost use Rattle.fs_commands.specs.Opened.{blocks_in, used_to, StaysOpen};
 
     /// Opens the file system of these blocks, if a tree stands in them. All of the node table and the
     /// directories is read, and nothing is written.
@@ -96,8 +96,7 @@ impl<S: Blocks> Fs<S> {
         ensures nothing { (S.state (blocks_in self.old)).books.stopped ≡ true → (blocks_in self.new ≡ blocks_in self.old) × (out.new ≡ out.old) }
         ensures looks { LooksOnly S.tells (ended_by_read result) (S.state (blocks_in self.old)) (S.state (blocks_in self.new)) }
         ensures pushes { CountsPushes (ended_by_push result) (K.faults out.old) (K.faults out.new) }
-        ensures between { IsBetween S.tells (S.state (blocks_in self.new)) (used_to self.new) }
-        ensures stands { IsTrue S.tells → Stands (S.state (blocks_in self.old)) → Stands (S.state (blocks_in self.new)) }
+        ensures stays { StaysOpen S.tells S.state self.old self.new }
     {
         listing(alloc, &mut self.blocks, out)
     }

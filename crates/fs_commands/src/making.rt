@@ -340,7 +340,7 @@ pub(crate) fn a_disk_is_small<S: Blocks>(blocks: &S)
 }
 
 /// Where a name may come to be.
-#[derive(Debug, Drop)]
+#[derive(Drop)]
 pub(crate) struct Vacancy {
     /// The directory.
     pub dir: u32,

@@ -45,7 +45,7 @@ use layout_bytes::Slot;
 use std::alloc::Global;
 
 /// A name in directory `dir`, which has `count` slots, and what stands under it, if anything does.
-#[derive(Clone, Copy, Debug, PartialEq, Eq)]
+#[derive(Clone, Copy)]
 pub(crate) struct Goal {
     pub dir: u32,
     pub count: u32,

@@ -29,14 +29,14 @@ use lang_tree::{Path, Refusal};
 use std::alloc::Global;
 
 /// A node in use that a path leads to.
-#[derive(Clone, Copy, Debug, PartialEq, Eq)]
+#[derive(Clone, Copy)]
 pub struct NodeFound {
     pub number: u32,
     pub facts: FileFacts,
 }
 
 /// What stands under a name in a directory.
-#[derive(Clone, Copy, Debug, PartialEq, Eq)]
+#[derive(Clone, Copy)]
 pub struct Entry {
     /// The place of its slot, from 0 on.
     pub place: u32,
@@ -45,7 +45,7 @@ pub struct Entry {
 }
 
 /// What a path comes to, whose directory is there.
-#[derive(Clone, Copy, Debug, PartialEq, Eq)]
+#[derive(Clone, Copy)]
 pub enum Spot {
     /// The root, which has no directory above it.
     Root,

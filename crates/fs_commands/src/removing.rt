@@ -50,7 +50,7 @@ use lang_tree::{Figures, Kind, Path, Refusal, Reply};
 use std::alloc::Global;
 
 /// What stands under a name in directory `dir`, which has `count` slots.
-#[derive(Clone, Copy, Debug, PartialEq, Eq)]
+#[derive(Clone, Copy)]
 pub(crate) struct Named {
     pub dir: u32,
     pub count: u32,

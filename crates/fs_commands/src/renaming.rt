@@ -42,7 +42,7 @@ use std::alloc::Global;
 
 /// What a rename found at its two ends: the entry at the first path, and what is under the last name of the
 /// second one.
-#[derive(Clone, Copy, Debug)]
+#[derive(Clone, Copy)]
 struct Ends {
     pub source: Named,
     pub goal: Goal,

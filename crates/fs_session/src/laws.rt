@@ -2,7 +2,7 @@
 //! tree, and the links of a node; and of each command that it answers its session and that time goes on, its tick, its
 //! refusals for the disk, what it waits for, and how many blocks it takes.
 
-ghost use Rattle.std.specs.Prelude.{◌≡◌, ◌≢◌, ◌<◌, ◌≤◌, ◌+◌, ◌^◌, true, false, if◌then◌else◌, length, Some, IsTrue};
+ghost use Rattle.std.specs.Prelude.{◌≡◌, ◌≢◌, ◌<◌, ◌≤◌, ◌+◌, ◌^◌, ℕ, true, false, if◌then◌else◌, length, Some, IsTrue};
 ghost use Rattle.std.specs.List.{filter};
 ghost use Rattle.base_types.specs.Seal.{Blocks as BlockMap};
 ghost use Rattle.disk_contract.specs.Disk.{PollsThenWrites};
