@@ -24,11 +24,11 @@ use Rattle.engine_store.specs.StoreOf.{state_of}
 use Rattle.engine_store.specs.declared.store.Store.{Store}
 use Rattle.fs_files.specs.Calls.{places_of}
 use Rattle.fs_files.specs.Effects.{LooksOnly}
-use Rattle.fs_commands.specs.DiskRoom.{IsRoomOf}
-use Rattle.fs_commands.specs.Memory.{room_of}
-use Rattle.fs_commands.specs.Serving.{room_on}
-use Rattle.fs_commands.specs.Sessions.{IsSession}
-use Rattle.fs_commands.specs.Space.{left_of}
+use Rattle.fs_session.specs.DiskRoom.{IsRoomOf}
+use Rattle.fs_session.specs.Memory.{room_of}
+use Rattle.fs_session.specs.Serving.{room_on}
+use Rattle.fs_session.specs.Sessions.{IsSession}
+use Rattle.fs_session.specs.Space.{left_of}
 use Rattle.cmd_session.specs.Budget.{KeepsBudget, SpendsByMarks}
 use Rattle.cmd_session.specs.Going.{BeginsByLog, GoesByLog, pace_of, session_at}
 use Rattle.cmd_session.specs.Pacing.{Pace}

@@ -16,10 +16,10 @@ use Rattle.crash_stands.specs.Stands.{IsTreeOf}
 use Rattle.engine_blocks.specs.Running.{Running}
 use Rattle.engine_blocks.specs.State.{State}
 use Rattle.cmd_session.specs.Ending.{is_none}
-use Rattle.fs_commands.specs.Applying.{Applies, Began, Runs, Ticks, is_spent, reply_for}
-use Rattle.fs_commands.specs.Commands.{Carries, is_disk_fault, is_read_fault}
-use Rattle.fs_commands.specs.Sessions.{IsSession}
-use Rattle.fs_commands.specs.Syncs.{SyncsSession}
+use Rattle.fs_session.specs.Applying.{Applies, Began, Runs, Ticks, is_spent, reply_for}
+use Rattle.fs_session.specs.Commands.{Carries, is_disk_fault, is_read_fault}
+use Rattle.fs_session.specs.Sessions.{IsSession}
+use Rattle.fs_session.specs.Syncs.{SyncsSession}
 use Rattle.cmd_image.specs.Refusals.{is_failed, is_unread}
 
 -- a line that is none is told apart

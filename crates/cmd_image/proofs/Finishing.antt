@@ -11,8 +11,8 @@ use Rattle.lang_tree.specs.declared.command.Cmd.{Cmd}
 use Rattle.lang_tree.specs.declared.command.Reply.{Reply}
 use Rattle.lang_tree.specs.Step.{session_on}
 use Rattle.lang_tree.specs.Tree.{Tree}
-use Rattle.fs_commands.specs.DiskRoom.{RunsOn}
-use Rattle.fs_commands.specs.Memory.{room_of}
+use Rattle.fs_session.specs.DiskRoom.{RunsOn}
+use Rattle.fs_session.specs.Memory.{room_of}
 use Rattle.cmd_session.specs.Budget.{KeepsBudget, budget_of}
 use Rattle.cmd_session.specs.Going.{pace_of}
 use Rattle.engine_store.specs.StoreOf.{disk_in, state_of}

@@ -19,8 +19,8 @@ use Rattle.lang_tree.specs.Step.{Session, session_on}
 use Rattle.lang_tree.specs.Tree.{Tree}
 use Rattle.engine_blocks.specs.Crashes.{Advances}
 use Rattle.engine_blocks.specs.State.{Bookkeeping, State}
-use Rattle.fs_commands.specs.Applying.{is_spent}
-use Rattle.fs_commands.specs.Sessions.{IsSession}
+use Rattle.fs_session.specs.Applying.{is_spent}
+use Rattle.fs_session.specs.Sessions.{IsSession}
 use Rattle.cmd_session.specs.Budget.{KeepsBudget, SpendsByMarks, weight_after}
 use Rattle.cmd_session.specs.Going.{GoesByLog, session_at}
 use Rattle.cmd_session.specs.Histories.{session_after}

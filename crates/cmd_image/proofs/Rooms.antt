@@ -9,8 +9,8 @@ use Rattle.lang_tree.specs.declared.command.Reply.{Reply}
 use Rattle.engine_blocks.specs.Crashes.{IssuesNothing, SameRecords}
 use Rattle.engine_blocks.specs.State.{State}
 use Rattle.engine_store.specs.SessionView.{IsSure, Starts, records_of}
-use Rattle.fs_commands.specs.DiskRoom.{RunsOn}
-use Rattle.fs_commands.specs.Moments.{answer_in_room}
+use Rattle.fs_session.specs.DiskRoom.{RunsOn}
+use Rattle.fs_session.specs.Moments.{answer_in_room}
 use Rattle.cmd_session.specs.Going.{IsOfMount}
 use Rattle.cmd_session.specs.Pacing.{Pace, PacesBy}
 

@@ -32,7 +32,7 @@ use Rattle.fs_files.specs.Effects.{LooksOnly}
 use Rattle.fs_check.specs.declared.checking.CheckRefusal.{CheckRefusal}
 use Rattle.fs_check.specs.declared.checking.CheckRefusal.TheVariants as check
 use Rattle.fs_check.specs.Whole.{IsDamaged, OnDamage, fails_by}
-use Rattle.fs_commands.specs.Sessions.{IsSession}
+use Rattle.fs_session.specs.Sessions.{IsSession}
 use Rattle.cmd_image.specs.declared.show_refusal.ShowRefusal.{ShowRefusal}
 use Rattle.cmd_image.specs.declared.show_refusal.ShowRefusal.TheVariants.{Fault, Damaged, Spent, SinkFault, NoMemory}
 use Rattle.cmd_session.specs.declared.images.ImageDamage.{ImageDamage}

@@ -15,7 +15,7 @@ use Rattle.engine_store.specs.declared.refusal.StoreRefusal.{StoreRefusal}
 use Rattle.engine_store.specs.declared.refusal.StoreRefusal.TheVariants as store
 use Rattle.fs_check.specs.declared.checking.CheckRefusal.{CheckRefusal}
 use Rattle.fs_check.specs.declared.checking.CheckRefusal.TheVariants as check
-use Rattle.fs_commands.specs.Sessions.{IsSession}
+use Rattle.fs_session.specs.Sessions.{IsSession}
 use Rattle.cmd_session.specs.declared.images.ImageDamage.TheVariants.{NoHeader, BadBit, Broken}
 use Rattle.cmd_image.specs.declared.show_refusal.ShowRefusal.{ShowRefusal}
 use Rattle.cmd_image.specs.declared.show_refusal.ShowRefusal.TheVariants.{Fault, Damaged, Spent, SinkFault, NoMemory}

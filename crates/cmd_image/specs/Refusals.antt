@@ -4,7 +4,7 @@ use Rattle.disk_contract.specs.declared.bay.BayFault.{BayFault}
 use Rattle.disk_contract.specs.declared.bay.BayFault.TheVariants as bay
 use Rattle.lang_tree.specs.declared.command.Reply.{Reply}
 use Rattle.lang_tree.specs.declared.command.Reply.TheVariants.{Refused}
-use Rattle.fs_commands.specs.Commands.{is_disk_fault, is_read_fault}
+use Rattle.fs_session.specs.Commands.{is_disk_fault, is_read_fault}
 use Rattle.cmd_image.specs.declared.show_refusal.ShowRefusal.{ShowRefusal}
 use Rattle.cmd_image.specs.declared.show_refusal.ShowRefusal.TheVariants as show
 use Rattle.cmd_image.specs.declared.ending.Ending.{Ending}

@@ -23,8 +23,8 @@ use Rattle.lang_tree.specs.Tree.{Tree}
 use Rattle.crash_argument.specs.Counts.{AreAtMost}
 use Rattle.crash_argument.specs.Points.{MountedSession}
 use Rattle.fs_files.specs.Calls.{places_of}
-use Rattle.fs_commands.specs.DiskRoom.{IsRoomOf, RunsOn}
-use Rattle.fs_commands.specs.Room.{Room, left_in}
+use Rattle.fs_session.specs.DiskRoom.{IsRoomOf, RunsOn}
+use Rattle.fs_session.specs.Room.{Room, left_in}
 use Rattle.cmd_session.specs.Budget.{SpendsByMarks, budget_of}
 use Rattle.cmd_session.specs.Ending.{HasRun}
 use Rattle.cmd_session.specs.Pacing.{Pace, PacesBy}

@@ -6,7 +6,7 @@ use Rattle.engine_recover.specs.Search.{last_number}
 use Rattle.crash_argument.specs.Points.{MountedSession}
 use Rattle.engine_mount.specs.Mount.{FoundDisk, IsFoundOn}
 use Rattle.lang_tree.specs.Step.{Session}
-use Rattle.fs_commands.specs.Room.{Room}
+use Rattle.fs_session.specs.Room.{Room}
 use Rattle.cmd_session.specs.Pacing.{Pace}
 use Rattle.cmd_session.specs.Taking.{nothing_taken}
 

@@ -13,7 +13,7 @@ use Rattle.lang_tree.specs.Step.{session_on}
 use Rattle.lang_tree.specs.Tree.{Tree}
 use Rattle.crash_argument.specs.Points.{MountedSession}
 use Rattle.engine_blocks.specs.State.{State}
-use Rattle.fs_commands.specs.Room.{Room}
+use Rattle.fs_session.specs.Room.{Room}
 use Rattle.cmd_session.specs.Budget.{KeepsBudget, SpendsByMarks}
 use Rattle.cmd_session.specs.Going.{GoesByLog}
 use Rattle.cmd_session.specs.Serving.{HasServed}

@@ -35,7 +35,7 @@ use cmd_session::{
 use disk_contract::{Bay, Disk, Mark};
 use engine_blocks::Blocks;
 use engine_store::Store;
-use fs_commands::{
+use fs_session::{
     a_command_is_answered_in_a_room_that_came_back, as_many_blocks_are_marked_as_the_tree_has,
 };
 use lang_lines::{CommandReader, Next, all_was_given};

@@ -19,7 +19,7 @@ use cmd_session::{
 };
 use disk_contract::{Disk, Mark};
 use engine_store::Store;
-use fs_commands::{a_command_raises_the_numbers_little, a_refusal_for_the_disk_has_its_cause};
+use fs_session::{a_command_raises_the_numbers_little, a_refusal_for_the_disk_has_its_cause};
 use lang_script::reply_text;
 use lang_tree::{Cmd, Reply, a_tree_in_memory_refuses_for_no_disk};
 use std::alloc::{AllocError, AllocFailed, Global};

@@ -14,7 +14,7 @@ ghost use Rattle.fs_files.specs.Effects.{LooksOnly};
 ghost use Rattle.engine_store.specs.StoreOf.{state_of};
 ghost use Rattle.fs_commands.specs.Listing.{CountsPushes};
 ghost use Rattle.fs_commands.specs.Opened.{blocks_in, used_to};
-ghost use Rattle.fs_commands.specs.Sessions.{IsBetween, IsSession};
+ghost use Rattle.fs_session.specs.Sessions.{IsBetween, IsSession};
 ghost use Rattle.cmd_image.specs.declared.show_refusal.ShowRefusal.TheVariants.{Fault};
 ghost use Rattle.cmd_image.specs.Mounted.{IsFresh, IsMarkOf, IsMountedOn, HasSession, ShowsDisk, answer_of, is_fault, of_bay};
 ghost use Rattle.cmd_image.specs.Shows.{HasFaultReason, HasImage, HasShowCause, LeavesBay, Lists, Refuses, fails_pushing, says_nothing};

@@ -8,8 +8,8 @@ use Rattle.lang_tree.specs.declared.command.Refusal.TheVariants as because
 use Rattle.lang_tree.specs.declared.command.Reply.{Reply}
 use Rattle.engine_blocks.specs.Effects.{Ticked}
 use Rattle.engine_blocks.specs.State.{State}
-use Rattle.fs_commands.specs.Applying.{Applies, Began, Runs, Ticks, is_spent, reply_for}
-use Rattle.fs_commands.specs.Commands.{is_disk_fault}
+use Rattle.fs_session.specs.Applying.{Applies, Began, Runs, Ticks, is_spent, reply_for}
+use Rattle.fs_session.specs.Commands.{is_disk_fault}
 use Rattle.cmd_load.specs.Serving.{has_run_out}
 
 -- a line that is none

@@ -14,10 +14,10 @@ use Rattle.lang_tree.specs.Points.{is_refusal, is_sync}
 use Rattle.lang_tree.specs.Step.{Session, accepted, answered, osync}
 use Rattle.lang_tree.specs.Tree.{Tree}
 use Rattle.lang_tree.specs.Walk.{content, is_same_node, is_there}
-use Rattle.fs_commands.specs.Commands.{is_on_tree}
-use Rattle.fs_commands.specs.DiskRoom.{AnswersOn, BeginsOver, ClearsRoom, SyncsOver}
-use Rattle.fs_commands.specs.Room.{HoldsTree, IsDoneIn, IsRefusedIn, RefusesIn, Room, left_in, most_weight}
-use Rattle.fs_commands.specs.Space.{FailsToFit, FitsIn}
+use Rattle.fs_session.specs.Commands.{is_on_tree}
+use Rattle.fs_session.specs.DiskRoom.{AnswersOn, BeginsOver, ClearsRoom, SyncsOver}
+use Rattle.fs_session.specs.Room.{HoldsTree, IsDoneIn, IsRefusedIn, RefusesIn, Room, left_in, most_weight}
+use Rattle.fs_session.specs.Space.{FailsToFit, FitsIn}
 use Rattle.cmd_load.specs.Summary.{Progress, after, answer_to, blocks_left, done_by, figures_of, load_refusal, room_refusals, shape}
 use Rattle.cmd_load.specs.Trees.{IsLoadTree}
 use Rattle.cmd_load.specs.Serving.{has_run_out}

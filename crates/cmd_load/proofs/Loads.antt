@@ -8,7 +8,7 @@ use Rattle.base_types.specs.Seal.{sha256}
 use Rattle.lang_tree.specs.Listing.{listing}
 use Rattle.lang_tree.specs.Step.{Session}
 use Rattle.engine_blocks.specs.State.{State}
-use Rattle.fs_commands.specs.Sessions.{IsSession}
+use Rattle.fs_session.specs.Sessions.{IsSession}
 use Rattle.cmd_load.specs.Summary.{Progress, Totals, after, after_all, at_first, summary_of}
 use Rattle.cmd_load.specs.Serving.{IsAnswered, Serves, has_run_out}
 use Rattle.cmd_load.proofs.Steps.{refused_on, serves_on}

@@ -17,8 +17,8 @@ use Rattle.lang_tree.specs.Step.{Session}
 use Rattle.lang_tree.specs.Tree.{Tree, Thing, Dir, File}
 use Rattle.lang_tree.specs.Walk.{content, is_same_node, is_there}
 use Rattle.layout_geometry.specs.Geometry.{bitmap_blocks}
-use Rattle.fs_commands.specs.Room.{HoldsTree, Room, Scatters, figures_in}
-use Rattle.fs_commands.specs.Space.{grown_path}
+use Rattle.fs_session.specs.Room.{HoldsTree, Room, Scatters, figures_in}
+use Rattle.fs_session.specs.Space.{grown_path}
 use Rattle.cmd_load.specs.Summary.{shape}
 use Rattle.cmd_load.specs.Trees.{IsLoadTree}
 use Rattle.cmd_load.proofs.Fullness.{few_names}

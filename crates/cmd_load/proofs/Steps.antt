@@ -8,10 +8,10 @@ use Rattle.lang_tree.specs.Conditions.{refusal}
 use Rattle.lang_tree.specs.Points.{is_refusal, is_sync}
 use Rattle.lang_tree.specs.Step.{Session}
 use Rattle.engine_blocks.specs.State.{State}
-use Rattle.fs_commands.specs.DiskRoom.{AnswersOn}
-use Rattle.fs_commands.specs.Memory.{room_of}
-use Rattle.fs_commands.specs.Room.{most_weight}
-use Rattle.fs_commands.specs.Sessions.{IsSession}
+use Rattle.fs_session.specs.DiskRoom.{AnswersOn}
+use Rattle.fs_session.specs.Memory.{room_of}
+use Rattle.fs_session.specs.Room.{most_weight}
+use Rattle.fs_session.specs.Sessions.{IsSession}
 use Rattle.cmd_load.specs.Summary.{Progress, after, answer_to, done_by, figures_of, load_refusal, shape}
 use Rattle.cmd_load.specs.Serving.{IsAnswered, Serves, has_run_out}
 use Rattle.cmd_load.specs.Trees.{IsLoadTree}

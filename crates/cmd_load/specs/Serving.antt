@@ -13,10 +13,10 @@ use Rattle.lang_tree.specs.Step.{Session, start}
 use Rattle.crash_stands.specs.Stands.{IsTreeOf}
 use Rattle.engine_blocks.specs.Crashes.{IsBegun}
 use Rattle.engine_blocks.specs.State.{State}
-use Rattle.fs_commands.specs.Applying.{is_spent}
-use Rattle.fs_commands.specs.DiskRoom.{AnswersOn, IsRoomOf}
-use Rattle.fs_commands.specs.Memory.{room_of}
-use Rattle.fs_commands.specs.Sessions.{IsSession}
+use Rattle.fs_session.specs.Applying.{is_spent}
+use Rattle.fs_session.specs.DiskRoom.{AnswersOn, IsRoomOf}
+use Rattle.fs_session.specs.Memory.{room_of}
+use Rattle.fs_session.specs.Sessions.{IsSession}
 use Rattle.cmd_load.specs.Summary.{Progress, shape}
 use Rattle.cmd_load.specs.Trees.{IsLoadTree}
 

@@ -12,7 +12,7 @@ use Rattle.lang_tree.specs.Figures.{Figures, blocks}
 use Rattle.lang_tree.specs.Listing.{listing}
 use Rattle.lang_tree.specs.Points.{is_refusal, is_sync}
 use Rattle.lang_tree.specs.Step.{Session, answered, start}
-use Rattle.fs_commands.specs.Room.{figures_in, most_weight}
+use Rattle.fs_session.specs.Room.{figures_in, most_weight}
 use Rattle.lang_load.specs.Load.{load_commands}
 
 -- the geometry of the disk

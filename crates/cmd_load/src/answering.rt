@@ -4,7 +4,7 @@ ghost use Rattle.std.specs.Prelude.{◌≡◌, true, false, if◌then◌else◌,
 ghost use Rattle.disk_memory.specs.MemDisk.{state_of as disk_state};
 ghost use Rattle.engine_store.specs.StoreOf.{state_of};
 ghost use Rattle.fs_commands.specs.Opened.{blocks_in, used_to};
-ghost use Rattle.fs_commands.specs.Sessions.{IsBetween, Stands};
+ghost use Rattle.fs_session.specs.Sessions.{IsBetween, Stands};
 ghost use Rattle.lang_tree.specs.Points.{is_refusal};
 ghost use Rattle.cmd_load.specs.Serving.{IsAnswered, has_run_out};
 
@@ -13,7 +13,7 @@ use base_types::NoMemory;
 use disk_contract::Disk;
 use disk_memory::MemDisk;
 use engine_store::Store;
-use fs_commands::{
+use fs_session::{
     a_command_begins_with_a_tick, a_command_is_answered_in_a_room_that_came_back,
     a_command_raises_the_numbers_little, a_refusal_for_the_disk_has_its_cause,
 };

@@ -5,7 +5,7 @@ ghost use Rattle.base_types.specs.Seal.{sha256};
 ghost use Rattle.disk_memory.specs.MemDisk.{state_of as disk_state};
 ghost use Rattle.engine_store.specs.StoreOf.{state_of};
 ghost use Rattle.fs_commands.specs.Opened.{blocks_in, used_to};
-ghost use Rattle.fs_commands.specs.Sessions.{IsBetween, IsSession};
+ghost use Rattle.fs_session.specs.Sessions.{IsBetween, IsSession};
 ghost use Rattle.lang_tree.specs.Listing.{listing};
 ghost use Rattle.lang_tree.specs.Step.{Session};
 ghost use Rattle.cmd_load.specs.Serving.{IsReadable};

@@ -6,7 +6,7 @@ ghost use Rattle.disk_memory.specs.MemDisk.{state_of as disk_state};
 ghost use Rattle.disk_memory.specs.declared.rule.Rule.{Rule};
 ghost use Rattle.engine_store.specs.StoreOf.{state_of};
 ghost use Rattle.fs_commands.specs.Opened.{blocks_in, used_to};
-ghost use Rattle.fs_commands.specs.Sessions.{IsBetween, Stands};
+ghost use Rattle.fs_session.specs.Sessions.{IsBetween, Stands};
 ghost use Rattle.cmd_load.specs.Serving.{IsFormattedDisk, IsMounted, Serves};
 ghost use Rattle.cmd_load.specs.Summary.{at_first};
 

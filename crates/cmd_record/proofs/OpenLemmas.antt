@@ -25,8 +25,8 @@ use Rattle.crash_argument.specs.Points as points
 use Rattle.engine_blocks.specs.Crashes.{HasLiveBlocks, HasMapOfPoint, IsBegun}
 use Rattle.engine_blocks.specs.State.{Bookkeeping, State, Ticking}
 use Rattle.fs_files.specs.Effects.{LooksOnly}
-use Rattle.fs_commands.specs.Memory.{HasNoBlocks, room_of}
-use Rattle.fs_commands.specs.Room.{IsFirstRoom}
+use Rattle.fs_session.specs.Memory.{HasNoBlocks, room_of}
+use Rattle.fs_session.specs.Room.{IsFirstRoom}
 use Rattle.engine_store.specs.declared.store.Store.{Store}
 use Rattle.engine_store.specs.StoreOf.{state_of}
 use Rattle.cmd_session.specs.Budget.{KeepsBudget}

@@ -29,12 +29,12 @@ use Rattle.lang_tree.specs.declared.command.Reply.TheVariants.{Bad as NotUnderst
 use Rattle.lang_tree.specs.Step.{Session, start, session_on}
 use Rattle.lang_tree.specs.Tree.{Tree}
 use Rattle.engine_blocks.specs.State.{Bookkeeping, State}
-use Rattle.fs_commands.specs.Applying.{is_spent}
-use Rattle.fs_commands.specs.Serving.{RoomOn, room_on}
-use Rattle.fs_commands.specs.DiskRoom.{AnswersOn, ComesBack, IsRoomOf, KeepsRoom, RunsOn}
-use Rattle.fs_commands.specs.Memory.{room_of}
-use Rattle.fs_commands.specs.Room.{Room, IsFirstRoom}
-use Rattle.fs_commands.specs.Sessions.{IsSession}
+use Rattle.fs_session.specs.Applying.{is_spent}
+use Rattle.fs_session.specs.Serving.{RoomOn, room_on}
+use Rattle.fs_session.specs.DiskRoom.{AnswersOn, ComesBack, IsRoomOf, KeepsRoom, RunsOn}
+use Rattle.fs_session.specs.Memory.{room_of}
+use Rattle.fs_session.specs.Room.{Room, IsFirstRoom}
+use Rattle.fs_session.specs.Sessions.{IsSession}
 use Rattle.cmd_session.specs.Budget.{KeepsBudget, SpendsByMarks, budget_of}
 use Rattle.cmd_session.specs.Crashes.{LeavesPoints, IsCrashConsistent}
 use Rattle.cmd_session.specs.Ending.{HasRun, is_none, over_after, ending_reply, ending_replies, ending_marks}

@@ -29,9 +29,9 @@ use Rattle.lang_tree.specs.Points.{is_refusal, is_sync}
 use Rattle.lang_tree.specs.Step.{Session, start}
 use Rattle.engine_blocks.specs.Running.{has}
 use Rattle.engine_blocks.specs.State.{data_blocks}
-use Rattle.fs_commands.specs.DiskRoom.{AnswersOn}
-use Rattle.fs_commands.specs.Moments.{answer_in_room}
-use Rattle.fs_commands.specs.Room.{Room, figures_in}
+use Rattle.fs_session.specs.DiskRoom.{AnswersOn}
+use Rattle.fs_session.specs.Moments.{answer_in_room}
+use Rattle.fs_session.specs.Room.{Room, figures_in}
 use Rattle.cmd_session.specs.Budget.{sync_places}
 use Rattle.cmd_session.specs.Pacing.{OrdersAtOnce, Pace, PacesBy, StepsBy, TellsRing, is_fault}
 use Rattle.cmd_session.specs.Records.{own_records}

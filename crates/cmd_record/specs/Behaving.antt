@@ -21,7 +21,7 @@ use Rattle.lang_tree.specs.declared.command.Refusal.TheVariants.{Spent}
 use Rattle.lang_tree.specs.declared.command.Reply.{Reply}
 use Rattle.lang_tree.specs.declared.command.Reply.TheVariants.{Refused}
 use Rattle.lang_tree.specs.Step.{start}
-use Rattle.fs_commands.specs.Serving.{RoomOn}
+use Rattle.fs_session.specs.Serving.{RoomOn}
 use Rattle.cmd_session.specs.Pacing.{Pace, PacesBy}
 use Rattle.cmd_session.specs.Taking.{nothing_taken}
 use Rattle.cmd_record.specs.Mounts.{MountsOnce}

@@ -22,8 +22,8 @@ use Rattle.crash_argument.specs.Points as points
 use Rattle.engine_blocks.specs.Crashes.{HasMapOfPoint, IsBegun}
 use Rattle.engine_blocks.specs.State.{State}
 use Rattle.engine_store.specs.Mounting.{BeginsWith}
-use Rattle.fs_commands.specs.Memory.{room_of}
-use Rattle.fs_commands.specs.Room.{IsFirstRoom}
+use Rattle.fs_session.specs.Memory.{room_of}
+use Rattle.fs_session.specs.Room.{IsFirstRoom}
 use Rattle.cmd_session.specs.Budget.{KeepsBudget}
 use Rattle.cmd_session.specs.Crashes.{IsCrashConsistent}
 use Rattle.cmd_session.specs.Going.{IsOfMount}

@@ -23,11 +23,11 @@ use Rattle.lang_tree.specs.Tree.{Tree}
 use Rattle.crash_stands.specs.Stands.{StandsFor}
 use Rattle.crash_argument.specs.Counts.{AreAtMost}
 use Rattle.engine_blocks.specs.State.{State}
-use Rattle.fs_commands.specs.Memory.{room_of}
-use Rattle.fs_commands.specs.Room.{Room, IsFirstRoom}
-use Rattle.fs_commands.specs.DiskRoom.{AnswersOn, IsRoomOf, RunsOn}
-use Rattle.fs_commands.specs.Applying.{is_spent}
-use Rattle.fs_commands.specs.Sessions.{IsSession}
+use Rattle.fs_session.specs.Memory.{room_of}
+use Rattle.fs_session.specs.Room.{Room, IsFirstRoom}
+use Rattle.fs_session.specs.DiskRoom.{AnswersOn, IsRoomOf, RunsOn}
+use Rattle.fs_session.specs.Applying.{is_spent}
+use Rattle.fs_session.specs.Sessions.{IsSession}
 use Rattle.cmd_session.specs.Budget.{KeepsBudget, SpendsByMarks, budget_of, weight_after}
 use Rattle.cmd_session.specs.Ending.{HasRun, ending_marks, ending_replies}
 use Rattle.cmd_session.specs.Going.{BeginsByLog, GoesByLog, pace_of, session_at}

@@ -12,8 +12,8 @@ use Rattle.lang_tree.specs.declared.command.Reply.{Reply}
 use Rattle.lang_tree.specs.Step.{Session, start}
 use Rattle.lang_tree.specs.Run.{StopsAfterFault}
 use Rattle.crash_argument.specs.Counts.{AreAtMost}
-use Rattle.fs_commands.specs.Room.{Room, IsFirstRoom}
-use Rattle.fs_commands.specs.DiskRoom.{RunsOn}
+use Rattle.fs_session.specs.Room.{Room, IsFirstRoom}
+use Rattle.fs_session.specs.DiskRoom.{RunsOn}
 use Rattle.cmd_session.specs.Budget.{SpendsByMarks, budget_of}
 use Rattle.cmd_session.specs.Crashes.{IsCrashConsistent}
 use Rattle.cmd_session.specs.Issued.{IssuesLast}

@@ -5,7 +5,7 @@ use Rattle.lang_tree.specs.declared.command.Cmd.{Cmd}
 use Rattle.lang_tree.specs.declared.command.Reply.{Reply}
 use Rattle.lang_tree.specs.Points.{after_reply, is_refusal, is_sync}
 use Rattle.lang_tree.specs.Step.{Session}
-use Rattle.fs_commands.specs.Room.{figures_in}
+use Rattle.fs_session.specs.Room.{figures_in}
 use Rattle.cmd_session.specs.Budget.{sync_places, weight_by}
 
 -- the ring places that the records of all syncs may have, each by what the transaction weighs

@@ -32,7 +32,7 @@ ghost use Rattle.cmd_record.specs.WrongTraces.{Goes, IsHeard, IsUnwritten, Loses
 use cmd_session::what_was_issued_was_accepted;
 use cmd_trace::equal_traces_have_equal_contents;
 use crash_stands::images_alike_below_n_stand_for_the_same;
-use fs_commands::a_command_takes_no_more_blocks_than_it_needs;
+use fs_session::a_command_takes_no_more_blocks_than_it_needs;
 
 /// Whoever has the text has the geometry, the events of the disk and how many of them are the mount's, the
 /// commands, the replies and their marks: they are the same in all that a text begins a trace of. So it is

@@ -21,7 +21,7 @@ use disk_contract::Disk;
 use disk_memory::MemDisk;
 use engine_store::{Store, StoreRefusal, the_data_of_a_formatted_disk_may_be_anything};
 use fs_check::CheckRefusal;
-use fs_commands::nothing_is_taken_at_first;
+use fs_session::nothing_is_taken_at_first;
 use layout_geometry::Geom;
 use layout_journal::{
     an_image_holds_one_map, journal_blocks_are_told_apart, the_formatted_disk_is_empty,

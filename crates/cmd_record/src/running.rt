@@ -21,7 +21,7 @@ use crash_stands::{
 };
 use disk_memory::MemDisk;
 use engine_store::Store;
-use fs_commands::{
+use fs_session::{
     a_command_is_answered_in_a_room_that_came_back, a_command_raises_the_numbers_little,
     a_refusal_for_the_disk_has_its_cause,
 };

@@ -11,7 +11,7 @@ ghost use Rattle.lang_tree.specs.Step.{Session};
 ghost use Rattle.lang_tree.specs.Listing.{listing};
 ghost use Rattle.crash_stands.specs.Stands.{IsTreeOf};
 ghost use Rattle.fs_commands.specs.Opened.{blocks_in, used_to};
-ghost use Rattle.fs_commands.specs.Sessions.{IsBetween, IsSession};
+ghost use Rattle.fs_session.specs.Sessions.{IsBetween, IsSession};
 ghost use Rattle.cmd_session.specs.Images.{StandsMounted};
 ghost use Rattle.cmd_replay.specs.Images.{RefusesImage};
 ghost use Rattle.cmd_replay.specs.Mounted.{IsReadable, RefusesMap, resting_disk};

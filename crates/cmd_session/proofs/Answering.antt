@@ -18,12 +18,12 @@ use Rattle.engine_blocks.specs.Effects.{Ticked}
 use Rattle.engine_blocks.specs.State.{State}
 use Rattle.cmd_session.specs.Budget.{sync_budget, sync_places, writes_of}
 use Rattle.cmd_session.specs.Ending.{is_none}
-use Rattle.fs_commands.specs.Applying.{Applies, Began, NeedsNoWait, Runs, Ticks, is_spent, reply_for}
-use Rattle.fs_commands.specs.Commands.{Carries, is_disk_fault}
-use Rattle.fs_commands.specs.DiskRoom.{IsRoomOf}
-use Rattle.fs_commands.specs.Memory.{room_of}
-use Rattle.fs_commands.specs.Sessions.{IsSession}
-use Rattle.fs_commands.specs.Syncs.{SyncsSession}
+use Rattle.fs_session.specs.Applying.{Applies, Began, NeedsNoWait, Runs, Ticks, is_spent, reply_for}
+use Rattle.fs_session.specs.Commands.{Carries, is_disk_fault}
+use Rattle.fs_session.specs.DiskRoom.{IsRoomOf}
+use Rattle.fs_session.specs.Memory.{room_of}
+use Rattle.fs_session.specs.Sessions.{IsSession}
+use Rattle.fs_session.specs.Syncs.{SyncsSession}
 use Rattle.cmd_session.specs.Answered.{StepsOn, WaitsOn}
 use Rattle.cmd_session.specs.Pacing.{is_fault}
 

@@ -16,10 +16,10 @@ use Rattle.lang_tree.specs.Step.{Session, step, osync}
 use Rattle.engine_blocks.specs.Running.{Running}
 use Rattle.engine_blocks.specs.State.{Bookkeeping, State}
 use Rattle.engine_blocks.specs.Calls.{if_changed}
-use Rattle.fs_commands.specs.Applying.{Ticks, Runs, Began, Applies, AnswersSession, is_spent, reply_for}
-use Rattle.fs_commands.specs.Commands.{Carries, is_disk_fault}
-use Rattle.fs_commands.specs.Sessions.{IsSession}
-use Rattle.fs_commands.specs.Syncs.{SyncsSession}
+use Rattle.fs_session.specs.Applying.{Ticks, Runs, Began, Applies, AnswersSession, is_spent, reply_for}
+use Rattle.fs_session.specs.Commands.{Carries, is_disk_fault}
+use Rattle.fs_session.specs.Sessions.{IsSession}
+use Rattle.fs_session.specs.Syncs.{SyncsSession}
 
 -- the reason that a reply names
 abbrev reason_of : Reply → Refusal

@@ -14,8 +14,8 @@ use Rattle.lang_tree.specs.Tree.{Tree}
 use Rattle.engine_blocks.specs.Crashes.{HasLiveBlocks, HasMapOfPoint, IsBegun}
 use Rattle.engine_blocks.specs.State.{Bookkeeping, State}
 use Rattle.fs_files.specs.Effects.{LooksOnly}
-use Rattle.fs_commands.specs.Points.{KnowsPoints}
-use Rattle.fs_commands.specs.Sessions.{IsSession, Stands}
+use Rattle.fs_session.specs.Points.{KnowsPoints}
+use Rattle.fs_session.specs.Sessions.{IsSession, Stands}
 use Rattle.cmd_session.specs.Budget.{KeepsBudget}
 use Rattle.cmd_session.specs.Crashes.{StandsForOne, LeavesPoints}
 use Rattle.cmd_session.specs.Histories.{HasNoFault, last_mark}

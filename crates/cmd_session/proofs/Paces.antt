@@ -26,8 +26,8 @@ use Rattle.lang_tree.specs.Points.{after_reply, is_refusal, is_sync}
 use Rattle.lang_tree.specs.Step.{Session}
 use Rattle.engine_blocks.specs.State.{State}
 use Rattle.cmd_session.specs.Histories.{HasNoFault}
-use Rattle.fs_commands.specs.Memory.{room_of}
-use Rattle.fs_commands.specs.Sessions.{IsSession}
+use Rattle.fs_session.specs.Memory.{room_of}
+use Rattle.fs_session.specs.Sessions.{IsSession}
 use Rattle.cmd_session.specs.Records.{own_records}
 use Rattle.cmd_session.specs.Answered.{StaysPlaced, StepsOn}
 use Rattle.cmd_session.specs.Going.{pace_of}

@@ -25,10 +25,10 @@ use Rattle.crash_argument.specs.Ledger.{HoldsUnder, issued}
 use Rattle.engine_blocks.specs.Crashes.{HasLiveBlocks, HasMapOfPoint, StandsForLast}
 use Rattle.engine_blocks.specs.State.{State}
 use Rattle.fs_files.specs.Calls.{places_of, places_or_none}
-use Rattle.fs_commands.specs.DiskRoom.{AnswersOn, AnswersOver, BeginsOver, IsRoomOf, SyncsOver}
-use Rattle.fs_commands.specs.Memory.{room_of}
-use Rattle.fs_commands.specs.Room.{HoldsTree, IsDoneIn, RefusesIn, Room, figures_in}
-use Rattle.fs_commands.specs.Sessions.{IsSession}
+use Rattle.fs_session.specs.DiskRoom.{AnswersOn, AnswersOver, BeginsOver, IsRoomOf, SyncsOver}
+use Rattle.fs_session.specs.Memory.{room_of}
+use Rattle.fs_session.specs.Room.{HoldsTree, IsDoneIn, RefusesIn, Room, figures_in}
+use Rattle.fs_session.specs.Sessions.{IsSession}
 use Rattle.cmd_session.specs.Answered.{PassesPoints, PlaceLaws, StaysPlaced}
 use Rattle.cmd_session.specs.Going.{KeepsPlaces}
 use Rattle.cmd_session.specs.Places.{LiesAt}

@@ -26,12 +26,12 @@ use Rattle.engine_blocks.specs.Effects.{OrdersAtOnce, RingIsTold}
 use Rattle.engine_blocks.specs.Running.{Running, fresh_blocks, payloads, record_places}
 use Rattle.engine_blocks.specs.State.{State}
 use Rattle.engine_store.specs.SessionView.{IsSure}
-use Rattle.fs_commands.specs.Applying.{is_spent}
-use Rattle.fs_commands.specs.DiskRoom.{AnswersOn, AnswersOver, BeginsOver, SyncsOver}
-use Rattle.fs_commands.specs.Memory.{room_of}
-use Rattle.fs_commands.specs.Room.{IsDoneIn, RefusesIn, Room}
-use Rattle.fs_commands.specs.Serving.{AnswersAt, SaysNoMore, ServesCommand, SyncsBehind, moment_of, room_on}
-use Rattle.fs_commands.specs.Moments.{answer_at_others, answer_in_room}
+use Rattle.fs_session.specs.Applying.{is_spent}
+use Rattle.fs_session.specs.DiskRoom.{AnswersOn, AnswersOver, BeginsOver, SyncsOver}
+use Rattle.fs_session.specs.Memory.{room_of}
+use Rattle.fs_session.specs.Room.{IsDoneIn, RefusesIn, Room}
+use Rattle.fs_session.specs.Serving.{AnswersAt, SaysNoMore, ServesCommand, SyncsBehind, moment_of, room_on}
+use Rattle.fs_session.specs.Moments.{answer_at_others, answer_in_room}
 use Rattle.cmd_session.specs.Records.{own_records}
 use Rattle.cmd_session.specs.Going.{pace_of}
 use Rattle.cmd_session.specs.Pacing.{AnswersBy, DoneInRing, FindsPlaces, Pace, moment_by}

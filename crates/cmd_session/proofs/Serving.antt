@@ -21,10 +21,10 @@ use Rattle.lang_tree.specs.Step.{Session, step, osync, session_on}
 use Rattle.lang_tree.specs.Tree.{Tree}
 use Rattle.engine_blocks.specs.Crashes.{Advances, MakesPoint}
 use Rattle.engine_blocks.specs.State.{State}
-use Rattle.fs_commands.specs.Applying.{Applies, AnswersSession, PassesTime}
-use Rattle.fs_commands.specs.Commands.{is_disk_fault}
-use Rattle.fs_commands.specs.Points.{KnowsPoints, LeavesTree, trees_after, with_tree}
-use Rattle.fs_commands.specs.Sessions.{IsSession}
+use Rattle.fs_session.specs.Applying.{Applies, AnswersSession, PassesTime}
+use Rattle.fs_session.specs.Commands.{is_disk_fault}
+use Rattle.fs_session.specs.Points.{KnowsPoints, LeavesTree, trees_after, with_tree}
+use Rattle.fs_session.specs.Sessions.{IsSession}
 use Rattle.cmd_session.specs.Crashes.{LeavesPoints}
 use Rattle.cmd_session.specs.Histories.{session_after, last_mark, HasNoFault}
 use Rattle.cmd_session.specs.Issued.{StandsForLast, IssuesLast}

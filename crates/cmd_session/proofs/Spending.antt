@@ -16,10 +16,10 @@ use Rattle.engine_blocks.specs.Running.{Running}
 use Rattle.engine_blocks.specs.Calls.{MaySync, MovesPipeline, commit_writes}
 use Rattle.engine_blocks.specs.Crashes.{WritesAtMost}
 use Rattle.engine_blocks.specs.State.{Bookkeeping, State}
-use Rattle.fs_commands.specs.Applying.{Ticks, Runs, Began, Applies, reply_for, is_spent}
-use Rattle.fs_commands.specs.Commands.{Carries}
-use Rattle.fs_commands.specs.Sessions.{IsSession, Stands}
-use Rattle.fs_commands.specs.Syncs.{SyncsSession}
+use Rattle.fs_session.specs.Applying.{Ticks, Runs, Began, Applies, reply_for, is_spent}
+use Rattle.fs_session.specs.Commands.{Carries}
+use Rattle.fs_session.specs.Sessions.{IsSession, Stands}
+use Rattle.fs_session.specs.Syncs.{SyncsSession}
 use Rattle.cmd_session.specs.Budget.{KeepsBudget, budget_of, commits, may_have_begun, sync_budget, weight_after, weight_by, writes_of}
 use Rattle.cmd_session.specs.Histories.{session_after}
 use Rattle.cmd_session.specs.Serving.{HasServed}

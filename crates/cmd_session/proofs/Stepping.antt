@@ -20,11 +20,11 @@ use Rattle.lang_tree.specs.Tree.{Tree}
 use Rattle.engine_blocks.specs.Crashes.{IsTold, MayAwait}
 use Rattle.engine_blocks.specs.Effects.{Ticked}
 use Rattle.engine_blocks.specs.State.{State}
-use Rattle.fs_commands.specs.Applying.{NeedsNoWait, is_spent}
-use Rattle.fs_commands.specs.DiskRoom.{AnswersOn, IsRoomOf}
-use Rattle.fs_commands.specs.Memory.{room_of}
-use Rattle.fs_commands.specs.Serving.{ServesCommand}
-use Rattle.fs_commands.specs.Sessions.{IsSession}
+use Rattle.fs_session.specs.Applying.{NeedsNoWait, is_spent}
+use Rattle.fs_session.specs.DiskRoom.{AnswersOn, IsRoomOf}
+use Rattle.fs_session.specs.Memory.{room_of}
+use Rattle.fs_session.specs.Serving.{ServesCommand}
+use Rattle.fs_session.specs.Sessions.{IsSession}
 use Rattle.cmd_session.specs.Answered.{AnsweredIn, PassesPoints, PlaceLaws, StaysPlaced, StepsOn, WaitsOn}
 use Rattle.cmd_session.specs.Going.{AnswersOnDisk, BeginsByLog, GoesByLog, IsOfMount, KeepsTaken, pace_of, session_at}
 use Rattle.cmd_session.specs.Histories.{session_after}

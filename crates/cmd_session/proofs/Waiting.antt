@@ -37,11 +37,11 @@ use Rattle.engine_blocks.specs.Crashes.{AwaitsSince, MayAwait, SameRecords, Stil
 use Rattle.engine_blocks.specs.Running.{fresh_blocks, payloads, record_writes}
 use Rattle.engine_blocks.specs.State.{State, reusable_blocks}
 use Rattle.engine_store.specs.SessionView.{Starts, records_of}
-use Rattle.fs_commands.specs.Applying.{NeedsNoWait}
-use Rattle.fs_commands.specs.Commands.{figures_on}
-use Rattle.fs_commands.specs.Memory.{room_of}
-use Rattle.fs_commands.specs.Room.{figures_in}
-use Rattle.fs_commands.specs.Sessions.{IsSession}
+use Rattle.fs_session.specs.Applying.{NeedsNoWait}
+use Rattle.fs_session.specs.Commands.{figures_on}
+use Rattle.fs_session.specs.Memory.{room_of}
+use Rattle.fs_session.specs.Room.{figures_in}
+use Rattle.fs_session.specs.Sessions.{IsSession}
 use Rattle.cmd_session.specs.Budget.{commits, sync_budget, sync_places, weight_after, weight_by, writes_of}
 use Rattle.cmd_session.specs.Histories.{session_after}
 use Rattle.cmd_session.specs.Serving.{HasServed}

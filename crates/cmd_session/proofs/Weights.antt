@@ -17,10 +17,10 @@ use Rattle.lang_tree.specs.Walk.{content, is_same_node}
 use Rattle.engine_blocks.specs.Running.{Running, payloads, fresh_blocks, record_writes, nothing_running}
 use Rattle.engine_blocks.specs.Calls.{MaySync, commit_places, commit_writes, if_changed}
 use Rattle.engine_blocks.specs.State.{Bookkeeping, State}
-use Rattle.fs_commands.specs.Applying.{Ticks, Runs, Began, Applies, reply_for, is_spent}
-use Rattle.fs_commands.specs.Commands.{Carries, is_disk_fault}
-use Rattle.fs_commands.specs.Sessions.{IsSession}
-use Rattle.fs_commands.specs.Syncs.{SyncsSession}
+use Rattle.fs_session.specs.Applying.{Ticks, Runs, Began, Applies, reply_for, is_spent}
+use Rattle.fs_session.specs.Commands.{Carries, is_disk_fault}
+use Rattle.fs_session.specs.Sessions.{IsSession}
+use Rattle.fs_session.specs.Syncs.{SyncsSession}
 use Rattle.cmd_session.specs.Budget.{sync_budget, sync_places, weight_by}
 use Rattle.cmd_session.proofs.Counting.{is_bad, session_ticks}
 

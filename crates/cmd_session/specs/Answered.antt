@@ -25,11 +25,11 @@ use Rattle.engine_blocks.specs.Calls.{commit_places, commit_writes}
 use Rattle.engine_blocks.specs.Crashes.{AwaitsSince, MayAwait, StandsForLast, StillAwaits, WritesAtMost}
 use Rattle.engine_blocks.specs.Running.{fresh_blocks, payloads}
 use Rattle.engine_blocks.specs.State.{State}
-use Rattle.fs_commands.specs.Applying.{NeedsNoWait, PassesTime}
-use Rattle.fs_commands.specs.DiskRoom.{IsRoomOf}
-use Rattle.fs_commands.specs.Memory.{room_of}
-use Rattle.fs_commands.specs.Serving.{AnswersAt, Moment, room_on}
-use Rattle.fs_commands.specs.Sessions.{IsSession}
+use Rattle.fs_session.specs.Applying.{NeedsNoWait, PassesTime}
+use Rattle.fs_session.specs.DiskRoom.{IsRoomOf}
+use Rattle.fs_session.specs.Memory.{room_of}
+use Rattle.fs_session.specs.Serving.{AnswersAt, Moment, room_on}
+use Rattle.fs_session.specs.Sessions.{IsSession}
 use Rattle.cmd_session.specs.Budget.{sync_budget, sync_places, writes_of}
 use Rattle.cmd_session.specs.Going.{KeepsPlaces}
 use Rattle.cmd_session.specs.Places.{LiesAt}

@@ -18,9 +18,9 @@ use Rattle.engine_blocks.specs.Crashes.{HasMapOfPoint, SameRecords, StillAwaits,
 use Rattle.engine_blocks.specs.State.{State}
 use Rattle.engine_store.specs.SessionView.{IsSure, records_of}
 use Rattle.fs_files.specs.Calls.{places_of}
-use Rattle.fs_commands.specs.Applying.{Applies, PassesTime}
-use Rattle.fs_commands.specs.Memory.{room_of}
-use Rattle.fs_commands.specs.Serving.{room_on}
+use Rattle.fs_session.specs.Applying.{Applies, PassesTime}
+use Rattle.fs_session.specs.Memory.{room_of}
+use Rattle.fs_session.specs.Serving.{room_on}
 use Rattle.cmd_session.specs.Budget.{sync_budget, sync_places, weight_after, writes_of}
 use Rattle.cmd_session.specs.Histories.{session_after}
 use Rattle.cmd_session.specs.Pacing.{Pace, PacesBy}

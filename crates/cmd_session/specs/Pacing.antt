@@ -17,8 +17,8 @@ use Rattle.lang_tree.specs.declared.command.Reply.{Reply}
 use Rattle.lang_tree.specs.declared.command.Reply.TheVariants.{Known, Refused}
 use Rattle.lang_tree.specs.Points.{is_refusal, is_sync}
 use Rattle.engine_store.specs.SessionView.{IsSure}
-use Rattle.fs_commands.specs.Room.{Room, figures_in}
-use Rattle.fs_commands.specs.Serving.{AnswersAt, Moment, RoomOn}
+use Rattle.fs_session.specs.Room.{Room, figures_in}
+use Rattle.fs_session.specs.Serving.{AnswersAt, Moment, RoomOn}
 use Rattle.cmd_session.specs.Budget.{sync_places}
 use Rattle.cmd_session.specs.Places.{LiesAt}
 use Rattle.cmd_session.specs.Records.{own_records}

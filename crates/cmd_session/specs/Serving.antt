@@ -15,8 +15,8 @@ use Rattle.cmd_trace.specs.Trace.{Ascend}
 use Rattle.crash_argument.specs.Ledger.{HoldsUnder, issued}
 use Rattle.engine_blocks.specs.Crashes.{HasMapOfPoint}
 use Rattle.engine_blocks.specs.State.{State}
-use Rattle.fs_commands.specs.Points.{KnowsPoints}
-use Rattle.fs_commands.specs.Sessions.{IsSession}
+use Rattle.fs_session.specs.Points.{KnowsPoints}
+use Rattle.fs_session.specs.Sessions.{IsSession}
 use Rattle.cmd_session.specs.Crashes.{LeavesPoints}
 use Rattle.cmd_session.specs.Histories.{session_after, HasNoFault}
 use Rattle.cmd_session.specs.Issued.{IssuesLast}

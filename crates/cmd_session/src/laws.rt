@@ -37,7 +37,7 @@ use crash_stands::{
     images_alike_below_n_stand_for_the_same,
 };
 use engine_blocks::Blocks;
-use fs_commands::{
+use fs_session::{
     a_command_begins_with_a_tick, a_command_is_answered_in_a_room_that_came_back,
     a_command_serves_what_is_sure, a_command_that_needs_no_wait_makes_none,
     a_refusal_for_the_disk_has_its_cause,

@@ -4,7 +4,8 @@
 use crash_stands::an_image_stands_for_one_tree;
 use engine_blocks::{Blocks, Figures};
 use fs_check::CheckRefusal;
-use fs_commands::{Fs, a_crash_leaves_the_tree_of_a_point, points_stay_known};
+use fs_commands::Fs;
+use fs_session::{a_crash_leaves_the_tree_of_a_point, points_stay_known};
 use lang_tree::{
     Cmd, Reply, a_fault_ends_the_session, a_reply_tells_the_session,
     a_tree_in_memory_refuses_for_no_disk, no_other_command_is_promised_a_point,
@@ -42,7 +43,7 @@ impl<S: Blocks + Drop> Served<S> {
     ghost use Rattle.engine_blocks.specs.Crashes.{IsBegun, IsTold, WritesAtMost};
     ghost use Rattle.fs_files.specs.Effects.{LooksOnly};
     ghost use Rattle.fs_check.specs.Whole.{IsDamaged, OnDamage, fails_by};
-    ghost use Rattle.fs_commands.specs.Applying.{Applies, PassesTime};
+    ghost use Rattle.fs_session.specs.Applying.{Applies, PassesTime};
     ghost use Rattle.fs_commands.specs.Opened.{blocks_in};
     ghost use Rattle.cmd_session.specs.Budget.{KeepsBudget, sync_budget, sync_places, writes_of};
     ghost use Rattle.cmd_session.specs.Serving.{HasServed, IsDrawn, IsMountedWith};

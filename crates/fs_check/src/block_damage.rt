@@ -67,7 +67,7 @@ impl fmt::Display for BlockDamage {
 impl Error for BlockDamage {}
 
 /// Why a check of blocks didn't find them sound.
-#[derive(Clone, Copy, Debug, PartialEq, Eq)]
+#[derive(Clone, Copy)]
 pub enum BlocksRefusal {
     /// Something is broken.
     Damaged(BlockDamage),
@@ -76,18 +76,6 @@ pub enum BlocksRefusal {
     /// Out of memory.
     NoMemory,
 }
-
-impl fmt::Display for BlocksRefusal {
-    fn fmt<W: fmt::Write>(&self, f: &mut fmt::Formatter<W>) -> fmt::Result {
-        match self {
-            BlocksRefusal::Damaged(damage) => write!(f, "{damage}"),
-            BlocksRefusal::ReadFault => write!(f, "a block could not be read"),
-            BlocksRefusal::NoMemory => write!(f, "out of memory"),
-        }
-    }
-}
-
-impl Error for BlocksRefusal {}
 
 impl From<BlockDamage> for BlocksRefusal {
     ghost use Rattle.std.specs.Prelude.{◌≡◌};

@@ -30,7 +30,7 @@ use std::alloc::Global;
 /// # Errors
 /// Something is broken, and where; a read of the disk failed, which the disk has counted; or out of
 /// memory.
-pub fn check_blocks<S: Blocks>(alloc: Global, blocks: &mut S) -> Result<(), BlocksRefusal>
+pub(crate) fn check_blocks<S: Blocks>(alloc: Global, blocks: &mut S) -> Result<(), BlocksRefusal>
     requires going { (S.state blocks.old).books.stopped ≡ false }
     requires none_bare { HasNoBare (S.state blocks.old).books.running }
     ensures sound { IsTrue S.tells → OnOk result (AreSound (S.state blocks.old).books.geom (S.state blocks.old).map) }

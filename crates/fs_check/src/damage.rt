@@ -63,7 +63,7 @@ impl fmt::Display for TreeDamage {
 impl Error for TreeDamage {}
 
 /// Why a check of a tree didn't find it whole.
-#[derive(Clone, Copy, Debug, PartialEq, Eq)]
+#[derive(Clone, Copy)]
 pub enum TreeRefusal {
     /// Something is broken.
     Damaged(TreeDamage),
@@ -72,18 +72,6 @@ pub enum TreeRefusal {
     /// Out of memory.
     NoMemory,
 }
-
-impl fmt::Display for TreeRefusal {
-    fn fmt<W: fmt::Write>(&self, f: &mut fmt::Formatter<W>) -> fmt::Result {
-        match self {
-            TreeRefusal::Damaged(damage) => write!(f, "{damage}"),
-            TreeRefusal::ReadFault => write!(f, "a block could not be read"),
-            TreeRefusal::NoMemory => write!(f, "out of memory"),
-        }
-    }
-}
-
-impl Error for TreeRefusal {}
 
 impl From<TreeDamage> for TreeRefusal {
     ghost use Rattle.std.specs.Prelude.{◌≡◌};

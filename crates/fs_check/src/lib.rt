@@ -21,9 +21,8 @@ mod slots;
 mod table;
 mod tree;
 
-pub use block_damage::{BlockDamage, BlocksRefusal};
-pub use blocks::check_blocks;
+pub use block_damage::BlockDamage;
 pub use checking::{CheckRefusal, Damage, check};
-pub use damage::{TreeDamage, TreeRefusal};
+pub use damage::TreeDamage;
 pub use laws::broken_blocks_are_not_sound;
-pub use tree::{check_tree, no_tree_stands_where_it_is_broken};
+pub use tree::no_tree_stands_where_it_is_broken;

@@ -35,7 +35,7 @@ use std::alloc::Global;
 /// # Errors
 /// Something is broken, and no tree stands; a read of the disk failed, which the disk has counted; or out of
 /// memory.
-pub fn check_tree<S: Blocks>(alloc: Global, blocks: &mut S) -> Result<(), TreeRefusal>
+pub(crate) fn check_tree<S: Blocks>(alloc: Global, blocks: &mut S) -> Result<(), TreeRefusal>
     requires going { (S.state blocks.old).books.stopped ≡ false }
     requires none_bare { HasNoBare (S.state blocks.old).books.running }
     requires sound { IsTrue S.tells → AreSound (S.state blocks.old).books.geom (S.state blocks.old).map }

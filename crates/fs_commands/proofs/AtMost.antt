@@ -7,7 +7,7 @@ use Rattle.fs_files.specs.Calls.{ChangesAmong}
 use Rattle.fs_files.specs.Drafts.{DraftState, nothing_drafted}
 use Rattle.fs_files.specs.Finish.{ChangesOnly}
 use Rattle.fs_dirs.specs.Changing.{Alters}
-use Rattle.fs_commands.specs.Changes.{ChangesAtMost, IsWithinCost}
+use Rattle.fs_session.specs.Changes.{ChangesAtMost, IsWithinCost}
 
 -- what comes to an empty draft is all that it changes
 pub only_these : (bs : List ℕ) (d : DraftState) → ChangesAmong bs nothing_drafted d → ChangesOnly bs d

@@ -1,6 +1,8 @@
 -- What laws say that proofs take as arguments.
 use Rattle.std.proofs.Common.{◌≡◌, ℕ, ◌+◌, ◌-◌, ◌*◌, ◌/◌, ◌≤◌, min, max, false, List, ◌++◌, length, slice_get, Some, Ok}
+use Rattle.base_types.specs.Seal.{Blocks}
 use Rattle.layout_geometry.specs.Geometry.{Geometry, bitmap_blocks}
+use Rattle.layout_bytes.specs.declared.node.NodeKind.TheVariants.{File}
 use Rattle.layout_bytes.specs.declared.slot.Slot.{Slot}
 use Rattle.layout_directory.specs.Directory.{place_of}
 use Rattle.lang_tree.specs.declared.command.Cmd.{Cmd}
@@ -9,7 +11,7 @@ use Rattle.lang_tree.specs.Figures.{blocks_for, blocks_met, figures, writing}
 use Rattle.lang_tree.specs.Points.{answers_point}
 use Rattle.lang_tree.specs.Step.{Session, step}
 use Rattle.lang_tree.specs.Tree.{Tree}
-use Rattle.crash_stands.specs.Files.{Files}
+use Rattle.crash_stands.specs.Files.{FileNode, Files, files_of}
 use Rattle.crash_stands.specs.Inodes.{AreInodesOf, Inodes, inodes_of}
 use Rattle.crash_stands.specs.Maps.{IsMapOf}
 use Rattle.crash_stands.specs.Walks.{LeadsTo, node_in}
@@ -21,7 +23,7 @@ use Rattle.fs_inodes.specs.Replies.{reply_of}
 use Rattle.fs_files.specs.Drafts.{DraftState, nothing_drafted}
 use Rattle.fs_files.specs.Finish.{ChangesOnly, price}
 use Rattle.fs_dirs.specs.Changing.{Alters, IsWithSlots}
-use Rattle.fs_commands.specs.Changes.{ChangesAtMost, IsWithinCost}
+use Rattle.fs_session.specs.Changes.{ChangesAtMost, IsWithinCost}
 
 -- the tree refuses a command for the reason that its inode map gives
 abbrev pub RefusalLaw : Type 0
@@ -46,6 +48,10 @@ PlaceLaw = (slots : List Slot) (name : List ℕ) (place : ℕ) → place_of name
 -- where a directory has other slots, each node in use reads as an inode still
 abbrev pub SlotsReadLaw : Type 0
 SlotsReadLaw = (old new : Files) (k : ℕ) (slots : List Slot) → IsWithSlots old new k slots → AreInodesOf old (inodes_of old) → AreInodesOf new (inodes_of new)
+
+-- a node in use has a link, and a file few
+abbrev pub LinksLaw : Type 0
+LinksLaw = (g : Geometry) (m : Blocks) (k : ℕ) (x : FileNode) → files_of g m k ≡ Some x → (1 ≤ x.links) × (x.kind ≡ File → x.links ≤ 65535)
 
 -- two alterations of a draft add up to one
 abbrev pub SumLaw : Type 0

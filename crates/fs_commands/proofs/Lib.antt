@@ -1,19 +1,15 @@
 pub mod Opening
+pub mod Formatted
 pub mod Weighing
-pub mod Logs
 pub mod AtMost
 pub mod Placing
 pub mod FirstReason
 pub mod Given
 pub mod looking
-pub mod carrying
 pub mod planning
 pub mod growing
-pub mod syncing
 pub mod naming
 pub mod running
-pub mod applying
-pub mod standing
 pub mod writing
 pub mod sizing
 pub mod filling
@@ -21,4 +17,3 @@ pub mod removed
 pub mod moved
 pub mod renamed
 pub mod listed
-pub mod rooms

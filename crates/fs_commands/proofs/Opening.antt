@@ -6,8 +6,8 @@ use Rattle.lang_tree.specs.Step.{session_on}
 use Rattle.lang_tree.specs.Tree.{Tree}
 use Rattle.crash_stands.specs.Stands.{IsTreeOf}
 use Rattle.fs_files.specs.Effects.{LooksOnly}
-use Rattle.fs_commands.specs.Sessions.{IsSession}
-use Rattle.fs_commands.proofs.carrying.Staying.{tree_stays}
+use Rattle.fs_session.specs.Sessions.{IsSession}
+use Rattle.fs_session.specs.Staying.{tree_stays}
 
 pub opened : (tells : Bool) (s t : State) (tree : Tree) → IsTrue tells → LooksOnly tells false s t → IsBegun s → IsTreeOf s.books.geom s.map tree → IsSession t (session_on s.books.geom.i tree)
 opened tells s t tree told looks begun stands = record {

@@ -4,7 +4,7 @@ use Rattle.std.proofs.Math.Seq.{take-append_seam}
 use Rattle.std.proofs.lemmas.Bool.{cases_eq}
 use Rattle.std.proofs.lemmas.List.{append-nil, length-take, take_all, take_min, take-append-le, take-take}
 use Rattle.fs_files.specs.Calls.{IsWithPlaces}
-use Rattle.fs_commands.specs.Space.{ArePlaced}
+use Rattle.fs_session.specs.Space.{ArePlaced}
 
 -- what is the first of a list is so by its own length
 pub front : (xs zs : List ℕ) (n : ℕ) → xs ≡ take n zs → xs ≡ take (length xs) zs
@@ -21,10 +21,6 @@ cut_front n ps more =
 
 pub grown_front : (ps more : List ℕ) → ps ++ more ≡ take (length (ps ++ more)) (ps ++ more)
 grown_front ps more = sym (take_all (length (ps ++ more)) (ps ++ more) (omega arith))
-
--- no node has other blocks
-pub placed_same : (old new : ℕ → List ℕ) (more : List ℕ) → ((k : ℕ) → new k ≡ old k) → ArePlaced old new more
-placed_same old new more same k = subst (λ (ps : List ℕ). ps ≡ take (length ps) (old k ++ more)) (sym (same k)) (own_front (old k) more)
 
 -- one node has
 pub placed_by : (old new : ℕ → List ℕ) (k : ℕ) (ps more : List ℕ) → IsWithPlaces old new k ps → ps ≡ take (length ps) (old k ++ more) → ArePlaced old new more

@@ -7,8 +7,8 @@ use Rattle.lang_tree.specs.declared.command.Refusal.{Refusal}
 use Rattle.lang_tree.specs.declared.command.Reply.{Reply}
 use Rattle.lang_tree.specs.Points.{is_sync}
 use Rattle.engine_blocks.specs.State.{State}
-use Rattle.fs_commands.specs.Applying.{Runs}
-use Rattle.fs_commands.specs.Commands.{Carries, is_on_tree}
+use Rattle.fs_session.specs.Applying.{Runs}
+use Rattle.fs_session.specs.Commands.{Carries, is_on_tree}
 
 pub on_tree_is_no_sync : (cmd : Cmd) → is_on_tree cmd ≡ true → is_sync cmd ≡ false
 on_tree_is_no_sync (Mkdir path) e = refl

@@ -15,8 +15,12 @@ use Rattle.crash_stands.specs.Walks.{node_in}
 use Rattle.fs_inodes.specs.Lookups.{is_dir_inode, is_file_inode, has_slots, links_in, bytes_of, walk_on, inode_at}
 use Rattle.fs_inodes.specs.Refusals.{parent_reason, file_reason}
 use Rattle.fs_files.specs.declared.look.FileFacts.{FileFacts}
+use Rattle.fs_files.specs.declared.refusal.FileRefusal.{FileRefusal}
 use Rattle.fs_files.specs.Calls.{facts_of, is_dir}
 use Rattle.fs_dirs.specs.Directories.{IsNumber}
+use Rattle.fs_session.specs.declared.plan.Plan.{Plan}
+use Rattle.fs_session.specs.declared.plan.Plan.TheVariants.{Answer}
+use Rattle.fs_commands.specs.Refusals.{refusal_of}
 use Rattle.fs_commands.specs.declared.paths.NodeFound.{NodeFound}
 use Rattle.fs_commands.specs.declared.paths.Entry.{Entry}
 use Rattle.fs_commands.specs.declared.paths.Spot.{Spot}
@@ -87,3 +91,8 @@ pub record ShowsFacts (m : Inodes) (path : List (List ℕ)) (f : FileFacts) : Ty
   pub links : links_in (inode_at m path) ≡ f.links
   pub bytes : is_dir f.kind ≡ false → length (bytes_of (inode_at m path)) ≡ f.size
   pub slots : is_dir f.kind ≡ true → has_slots (inode_at m path) ≡ nat_lt 0 f.size
+
+-- the plan of a command that only looks, by what the look answers
+abbrev pub answer_of : Result Reply FileRefusal → Result Plan Refusal
+answer_of (Ok reply) = Ok (Answer reply)
+answer_of (Err why) = Err (refusal_of why)

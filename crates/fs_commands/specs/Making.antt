@@ -26,10 +26,10 @@ use Rattle.fs_files.specs.Drafts.{DraftState}
 use Rattle.fs_dirs.specs.Directories.{inodes_in}
 use Rattle.fs_commands.specs.declared.making.Vacancy.{Vacancy}
 use Rattle.fs_commands.specs.declared.paths.Spot.TheVariants.{Inside}
-use Rattle.fs_commands.specs.Changes.{IsWithinCost, Uses}
-use Rattle.fs_commands.specs.Commands.{GrowsInRuns, figures_on, grown_by, places_of}
+use Rattle.fs_session.specs.Changes.{IsWithinCost, Uses}
+use Rattle.fs_session.specs.Commands.{GrowsInRuns, figures_on, grown_by, places_of}
 use Rattle.fs_commands.specs.Looks.{ComesTo}
-use Rattle.fs_commands.specs.Sessions.{inodes}
+use Rattle.fs_session.specs.Sessions.{inodes}
 
 -- the command that makes a node of this kind
 abbrev pub make_cmd : Kind → List (List ℕ) → Cmd

@@ -18,11 +18,11 @@ use Rattle.fs_dirs.specs.Directories.{inodes_in}
 use Rattle.fs_commands.specs.declared.paths.Entry.{Entry}
 use Rattle.fs_commands.specs.declared.paths.Spot.TheVariants.{Inside}
 use Rattle.fs_commands.specs.declared.removing.Named.{Named}
-use Rattle.fs_commands.specs.Commands.{places_of}
+use Rattle.fs_session.specs.Commands.{places_of}
 use Rattle.fs_commands.specs.Looks.{ComesTo, HasEntry}
 use Rattle.fs_commands.specs.Removing.{IsFound}
-use Rattle.fs_commands.specs.Sessions.{AreUsedBelow, inodes}
-use Rattle.fs_commands.specs.Space.{ArePlaced}
+use Rattle.fs_session.specs.Sessions.{AreUsedBelow, inodes}
+use Rattle.fs_session.specs.Space.{ArePlaced}
 
 -- The slot at the entry's place, the first of its name, names the entry's node, in a directory of so many slots.
 pub record HasNamed (m : Inodes) (name : List ℕ) (n : Named) : Type 0 where

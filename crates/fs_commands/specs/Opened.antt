@@ -2,7 +2,7 @@
 use Rattle.std.specs.Prelude.{ℕ, Bool, IsTrue}
 use Rattle.engine_blocks.specs.State.{State}
 use Rattle.fs_commands.specs.declared.fs.Fs.{Fs}
-use Rattle.fs_commands.specs.Sessions.{IsBetween, Stands}
+use Rattle.fs_session.specs.Sessions.{IsBetween, Stands}
 
 module _ {S : Type 0} where
   -- the blocks over which it is
@@ -17,3 +17,8 @@ module _ {S : Type 0} where
   pub record MayFollow (tells : Bool) (state : S → State) (fs : Fs S) : Type 0 where
     pub between : IsBetween tells (state (blocks_in fs)) (used_to fs)
     pub stands : IsTrue tells → Stands (state (blocks_in fs))
+
+  -- What must hold between two commands does afterwards, and where a tree stood in known blocks, one stands still.
+  pub record StaysOpen (tells : Bool) (state : S → State) (old new : Fs S) : Type 0 where
+    pub between : IsBetween tells (state (blocks_in new)) (used_to new)
+    pub stands : IsTrue tells → Stands (state (blocks_in old)) → Stands (state (blocks_in new))

@@ -24,11 +24,11 @@ use Rattle.fs_commands.specs.declared.paths.Entry.{Entry}
 use Rattle.fs_commands.specs.declared.paths.NodeFound.{NodeFound}
 use Rattle.fs_commands.specs.declared.paths.Spot.TheVariants.{Inside}
 use Rattle.fs_commands.specs.declared.removing.Named.{Named}
-use Rattle.fs_commands.specs.Commands.{places_of}
+use Rattle.fs_session.specs.Commands.{places_of}
 use Rattle.fs_commands.specs.Figures.{HasFacts}
 use Rattle.fs_commands.specs.Looks.{ComesTo}
-use Rattle.fs_commands.specs.Sessions.{AreUsedBelow, inodes}
-use Rattle.fs_commands.specs.Space.{ArePlaced}
+use Rattle.fs_session.specs.Sessions.{AreUsedBelow, inodes}
+use Rattle.fs_session.specs.Space.{ArePlaced}
 
 -- the command that takes the path to a node of this kind away, and why the tree refuses it
 abbrev pub lose_cmd : Kind → List (List ℕ) → Cmd

@@ -8,7 +8,7 @@ use Rattle.fs_inodes.specs.Lookups.{walk_on}
 use Rattle.engine_blocks.specs.State.{State}
 use Rattle.fs_files.specs.Calls.{files_in}
 use Rattle.fs_files.specs.Drafts.{nothing_drafted}
-use Rattle.fs_commands.specs.Sessions.{IsSession}
+use Rattle.fs_session.specs.Sessions.{IsSession}
 use Rattle.fs_commands.specs.Writing.{IsWeighed}
 
 -- A truncate may be drafted: the path leads to the node, whose size is another, and the command is weighed in each session of these blocks.

@@ -12,9 +12,9 @@ use Rattle.engine_blocks.specs.State.{State}
 use Rattle.fs_files.specs.Calls.{facts_of, files_in}
 use Rattle.fs_files.specs.Drafts.{nothing_drafted}
 use Rattle.fs_commands.specs.declared.paths.NodeFound.{NodeFound}
-use Rattle.fs_commands.specs.Commands.{figures_on}
-use Rattle.fs_commands.specs.Sessions.{IsSession}
-use Rattle.fs_commands.specs.Space.{HasRoom}
+use Rattle.fs_session.specs.Commands.{figures_on}
+use Rattle.fs_session.specs.Sessions.{IsSession}
+use Rattle.fs_session.specs.Space.{HasRoom}
 
 -- this node is a file, and these are its facts
 abbrev pub IsFile : Files → NodeFound → Type 0

@@ -17,19 +17,16 @@ ghost use Rattle.fs_files.specs.Drafts.{nothing_drafted};
 ghost use Rattle.fs_files.specs.Effects.{LooksOnly};
 ghost use Rattle.fs_dirs.specs.Directories.{IsNumber};
 ghost use Rattle.fs_commands.specs.Looks.{LeadsToFile};
-ghost use Rattle.fs_commands.specs.Plans.{MayBeMade, OnChange, Plans};
-ghost use Rattle.fs_commands.specs.Sessions.{MayBegin, MayPlan};
+ghost use Rattle.fs_session.specs.Plans.{MayBeMade, OnChange, Plans};
+ghost use Rattle.fs_session.specs.Sessions.{MayBegin, MayPlan};
 ghost use Rattle.fs_commands.specs.Writing.{IsFile, MayPut};
 
 use crate::facts::the_node_at_a_path_gives_the_inode;
 use crate::figures::overwrite_figures;
-use crate::laws::blocks_have_the_map_of_their_tree;
 use crate::look::is_dir;
 use crate::paths::{NodeFound, find_node};
-use crate::plan::Plan;
 use crate::prices::small_drafts_are_within_the_cost;
 use crate::refusals::refusal_of;
-use crate::space::has_room;
 use base_types::limits::LARGEST_FILE;
 use engine_blocks::{Blocks, calls_compose};
 use fs_files::{
@@ -40,6 +37,7 @@ use fs_inodes::{
     new_bytes_are_mapped, paths_lead_to_inodes, the_map_gives_the_refusal, walks_are_the_same,
     what_changes_nothing_keeps_the_map,
 };
+use fs_session::{Plan, blocks_have_the_map_of_their_tree, has_room};
 use lang_tree::{Path, Refusal, Reply, touched_blocks_are_counted_by_division};
 use std::alloc::Global;
 

@@ -1,35 +1,55 @@
-//! A command carried out once it began: which call plans or does it. Whether a command begins is decided
-//! elsewhere, and so is what each one plans.
+//! A command answered: whether it begins, and which call plans or does it then. What each one plans is decided
+//! elsewhere.
 
 ghost use Rattle.std.specs.Prelude.{◌≡◌, ◌≢◌, true, false, IsTrue};
 ghost use Rattle.lang_tree.specs.declared.command.Cmd.TheVariants.{Bad as NoCommand};
-ghost use Rattle.fs_commands.specs.Applying.{Began, Runs, is_spent, reply_for};
-ghost use Rattle.fs_commands.specs.Commands.{is_on_tree};
-ghost use Rattle.fs_commands.specs.Plans.{MayBeMade, OnChange, Plans};
-ghost use Rattle.fs_commands.specs.Sessions.{IsBetween, MayPlan, Stands};
-ghost use Rattle.fs_commands.specs.Syncs.{MaySyncNow};
+ghost use Rattle.fs_session.specs.Applying.{Applies, Began, Runs, is_spent, reply_for};
+ghost use Rattle.fs_session.specs.Commands.{is_on_tree};
+ghost use Rattle.fs_session.specs.Plans.{MayBeMade, OnChange, Plans};
+ghost use Rattle.fs_session.specs.Sessions.{IsBetween, MayPlan, Stands};
+ghost use Rattle.fs_session.specs.Syncs.{MaySyncNow};
 
 use crate::bytes::plan_write;
 use crate::fills::plan_fill;
 use crate::look::{plan_list, plan_read, plan_stat};
 use crate::making::{plan_link, plan_node};
-use crate::plan::{Plan, carry};
 use crate::removing::{plan_rmdir, plan_unlink};
 use crate::renaming::plan_rename;
 use crate::sizes::plan_truncate;
-use crate::syncs::{dsync, osync};
 use engine_blocks::Blocks;
 use fs_files::a_sync_may_follow;
+use fs_session::{Plan, carry, dsync, osync};
 use lang_tree::{Cmd, Kind, Refusal, Reply};
 use std::alloc::Global;
 
-/// Begins a command with a tick, and carries it out. All nodes of a number below `first_unused` are in use.
-pub(crate) fn begin<S: Blocks>(
+/// Answers a command: at once where it is none, where a call of the disk failed before, or where the journal's numbers
+/// are used up; and else as it begins. All nodes of a number below `first_unused` are in use.
+pub(crate) fn answer<S: Blocks>(
     alloc: Global,
     blocks: &mut S,
     cmd: &Cmd,
     first_unused: &mut u32,
 ) -> Reply
+    requires between { IsBetween S.tells (S.state blocks.old) first_unused.old }
+    requires stands { IsTrue S.tells → Stands (S.state blocks.old) }
+    ensures applies { Applies S.tells S.state cmd.now result blocks.old blocks.new }
+    ensures between { IsBetween S.tells (S.state blocks.new) first_unused.new }
+{
+    if let Cmd::Bad = cmd {
+        return Reply::Bad;
+    }
+    let now = blocks.figures();
+    if now.stopped {
+        return Reply::Refused(Refusal::Stopped);
+    }
+    if now.spent {
+        return Reply::Refused(Refusal::Spent);
+    }
+    begin(alloc, blocks, cmd, first_unused)
+}
+
+/// Begins a command with a tick, and carries it out. All nodes of a number below `first_unused` are in use.
+fn begin<S: Blocks>(alloc: Global, blocks: &mut S, cmd: &Cmd, first_unused: &mut u32) -> Reply
     requires going { (S.state blocks.old).books.stopped ≡ false }
     requires unspent { is_spent (S.state blocks.old).books ≡ false }
     requires between { IsBetween S.tells (S.state blocks.old) first_unused.old }
@@ -59,7 +79,7 @@ fn reply_for(ended: Result<Reply, Refusal>) -> Reply
 ///
 /// # Errors
 /// The blocks have no room for it; a read of the disk failed, or another call of it; or out of memory.
-pub(crate) fn run<S: Blocks>(
+fn run<S: Blocks>(
     alloc: Global,
     blocks: &mut S,
     cmd: &Cmd,

@@ -8,20 +8,18 @@ ghost use Rattle.fs_inodes.specs.Lookups.{walk_on};
 ghost use Rattle.fs_files.specs.Calls.{files_in};
 ghost use Rattle.fs_files.specs.Drafts.{nothing_drafted};
 ghost use Rattle.fs_dirs.specs.Directories.{IsNumber};
-ghost use Rattle.fs_commands.specs.Plans.{MayBeMade, OnChange, Plans};
-ghost use Rattle.fs_commands.specs.Sessions.{MayPlan};
+ghost use Rattle.fs_session.specs.Plans.{MayBeMade, OnChange, Plans};
+ghost use Rattle.fs_session.specs.Sessions.{MayPlan};
 ghost use Rattle.fs_commands.specs.Writing.{IsFile};
 
 use crate::bytes::{find_file, is_too_large, plan_bytes, size_of};
 use crate::figures::overwrite_figures;
 use crate::found::a_file_is_at_its_path;
-use crate::laws::blocks_have_the_map_of_their_tree;
 use crate::paths::NodeFound;
-use crate::plan::Plan;
 use crate::refusals::refusal_of;
-use crate::space::has_room;
 use engine_blocks::{Blocks, calls_compose};
 use fs_inodes::the_map_gives_the_refusal;
+use fs_session::{Plan, blocks_have_the_map_of_their_tree, has_room};
 use lang_tree::{Path, Refusal, Reply};
 use std::alloc::Global;
 

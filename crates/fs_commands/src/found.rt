@@ -8,14 +8,14 @@ ghost use Rattle.fs_files.specs.Calls.{files_in};
 ghost use Rattle.fs_files.specs.Drafts.{nothing_drafted};
 ghost use Rattle.fs_commands.specs.declared.paths.NodeFound.{NodeFound as FoundValue};
 ghost use Rattle.fs_commands.specs.Found.{IsKnownFile};
-ghost use Rattle.fs_commands.specs.Sessions.{IsSession, MayBegin, inodes};
+ghost use Rattle.fs_session.specs.Sessions.{IsSession, MayBegin, inodes};
 ghost use Rattle.fs_commands.specs.Writing.{IsFile};
 
 use crate::facts::the_node_at_a_path_gives_the_inode;
-use crate::laws::blocks_have_the_map_of_their_tree;
 use engine_blocks::Blocks;
 use fs_files::{a_draft_begins, a_file_fits_the_disk};
 use fs_inodes::{paths_lead_to_inodes, walks_are_the_same};
+use fs_session::blocks_have_the_map_of_their_tree;
 
 /// A file that a walk along a path ends at is the one at the path, in the tree and among the inodes of each
 /// session over these blocks. It has at most 2^30 bytes.

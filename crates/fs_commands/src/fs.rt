@@ -12,17 +12,18 @@ ghost use Rattle.lang_tree.specs.Step.{Session, session_on};
 ghost use Rattle.crash_stands.specs.Stands.{IsTreeOf};
 ghost use Rattle.fs_files.specs.Effects.{LooksOnly};
 ghost use Rattle.fs_check.specs.Whole.{IsDamaged, OnDamage, fails_by};
-ghost use Rattle.fs_commands.specs.Applying.{AnswersSession, Applies, PassesTime};
+ghost use Rattle.fs_session.specs.Applying.{AnswersSession, Applies, PassesTime};
 ghost use Rattle.fs_commands.specs.Listing.{ended_by_read, ended_by_push, ended_by_stop, CountsPushes};
-ghost use Rattle.fs_commands.specs.Sessions.{IsSession, IsBetween, Stands};
+ghost use Rattle.fs_session.specs.Sessions.{IsSession, IsBetween, Stands};
 
-use crate::commands::begin;
+use crate::commands::answer;
 use crate::listing::{ListRefusal, listing};
 use base_io::Sink;
-use engine_blocks::{Blocks, Figures, calls_compose};
+use engine_blocks::{Blocks, Figures};
 use fs_check::{CheckRefusal, check};
 use fs_files::a_sync_may_follow;
-use lang_tree::{Cmd, Refusal, Reply};
+use fs_session::a_command_answers_its_session;
+use lang_tree::{Cmd, Reply};
 use std::alloc::Global;
 
 /// A file system over a map of blocks.
@@ -34,7 +35,7 @@ pub struct Fs<S: Blocks> {
 }
 
 impl<S: Blocks> Fs<S> {
-    ghost use Rattle.fs_commands.specs.Opened.{blocks_in, used_to};
+    ghost use Rattle.fs_commands.specs.Opened.{blocks_in, used_to, StaysOpen};
 
     /// Opens the file system of these blocks, if a tree stands in them. All of the node table and the
     /// directories is read, and nothing is written.
@@ -74,18 +75,8 @@ impl<S: Blocks> Fs<S> {
         ensures between { IsBetween S.tells (S.state (blocks_in self.new)) (used_to self.new) }
         ensures stands { IsTrue S.tells → Stands (S.state (blocks_in self.new)) }
     {
-        calls_compose::<S>();
-        if let Cmd::Bad = cmd {
-            return Reply::Bad;
-        }
-        let now = self.blocks.figures();
-        if now.stopped {
-            return Reply::Refused(Refusal::Stopped);
-        }
-        if now.spent {
-            return Reply::Refused(Refusal::Spent);
-        }
-        begin(alloc, &mut self.blocks, cmd, &mut self.first_unused)
+        a_command_answers_its_session::<S>();
+        answer(alloc, &mut self.blocks, cmd, &mut self.first_unused)
     }
 
     /// Writes the listing of the tree to a sink. It takes memory for the names of the directories on one path and
@@ -105,8 +96,7 @@ impl<S: Blocks> Fs<S> {
         ensures nothing { (S.state (blocks_in self.old)).books.stopped ≡ true → (blocks_in self.new ≡ blocks_in self.old) × (out.new ≡ out.old) }
         ensures looks { LooksOnly S.tells (ended_by_read result) (S.state (blocks_in self.old)) (S.state (blocks_in self.new)) }
         ensures pushes { CountsPushes (ended_by_push result) (K.faults out.old) (K.faults out.new) }
-        ensures between { IsBetween S.tells (S.state (blocks_in self.new)) (used_to self.new) }
-        ensures stands { IsTrue S.tells → Stands (S.state (blocks_in self.old)) → Stands (S.state (blocks_in self.new)) }
+        ensures stays { StaysOpen S.tells S.state self.old self.new }
     {
         listing(alloc, &mut self.blocks, out)
     }

@@ -23,9 +23,8 @@ ghost use Rattle.fs_dirs.specs.Reading.{MayRead};
 ghost use Rattle.fs_commands.specs.Listing.{ended_by_read, ended_by_push, ended_by_stop, CountsPushes, Lists, MayList, MayWalk, IsMapIn, IsFrame};
 ghost use Rattle.fs_commands.specs.Listing.{AreFrames, IsWalk, HasWritten, Enters, TakesName, HaveNumbers, lines_of, under_frame, to_come, turns_of};
 ghost use Rattle.fs_commands.specs.Listing.{turns_left};
-ghost use Rattle.fs_commands.specs.Sessions.{IsSession};
+ghost use Rattle.fs_session.specs.Sessions.{IsSession};
 
-use crate::laws::blocks_have_the_map_of_their_tree;
 use crate::lines::{write_digits, write_dir, write_file_head};
 use crate::look::is_dir;
 use base_io::{Sink, SinkFault, prefixes_join, push_all};
@@ -35,6 +34,7 @@ use engine_blocks::Blocks;
 use fs_dirs::{find, names};
 use fs_files::{Draft, FileRefusal, a_draft_begins};
 use fs_inodes::{a_listing_goes_down, the_map_gives_the_names, walks_are_the_same};
+use fs_session::blocks_have_the_map_of_their_tree;
 use lang_tree::{NameList, paths_are_counted};
 use std::alloc::{AllocFailed, Global};
 use std::error::Error;

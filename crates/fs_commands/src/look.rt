@@ -7,13 +7,11 @@ ghost use Rattle.lang_tree.specs.Step.{Session, step};
 ghost use Rattle.fs_files.specs.Calls.{LookRefused, is_dir};
 ghost use Rattle.fs_files.specs.Content.{fails_reading};
 ghost use Rattle.fs_files.specs.Effects.{LooksOnly};
-ghost use Rattle.fs_commands.specs.Looks.{stat_of_kind};
-ghost use Rattle.fs_commands.specs.Plans.{IsAnswer, Plans, answer_of};
-ghost use Rattle.fs_commands.specs.Sessions.{IsSession, MayBegin, MayPlan};
+ghost use Rattle.fs_commands.specs.Looks.{answer_of, stat_of_kind};
+ghost use Rattle.fs_session.specs.Plans.{IsAnswer, Plans};
+ghost use Rattle.fs_session.specs.Sessions.{IsSession, MayBegin, MayPlan};
 
-use crate::laws::blocks_have_the_map_of_their_tree;
 use crate::paths::{NodeFound, find_node};
-use crate::plan::Plan;
 use crate::refusals::refusal_of;
 use engine_blocks::{Blocks, calls_compose};
 use fs_dirs::names;
@@ -21,6 +19,7 @@ use fs_files::{Draft, FileRefusal, a_directory_has_whole_slots, a_draft_begins};
 use fs_inodes::{
     slots_follow_the_bytes, the_map_gives_the_names, the_map_gives_the_reply, walks_are_the_same,
 };
+use fs_session::{Plan, blocks_have_the_map_of_their_tree};
 use lang_tree::{Kind, Path, Refusal, Reply, Stat};
 use layout_bytes::NodeKind;
 use std::alloc::Global;

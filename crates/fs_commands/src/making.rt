@@ -29,20 +29,17 @@ ghost use Rattle.fs_files.specs.Sound.{IsDraftOf};
 ghost use Rattle.fs_dirs.specs.Directories.{IsNumber};
 ghost use Rattle.fs_commands.specs.declared.paths.NodeFound.{NodeFound as FoundValue};
 ghost use Rattle.fs_commands.specs.declared.making.Vacancy.{Vacancy as VacancyValue};
-ghost use Rattle.fs_commands.specs.Commands.{places_of, IsCalm};
+ghost use Rattle.fs_session.specs.Commands.{places_of, IsCalm};
 ghost use Rattle.fs_commands.specs.Looks.{ComesTo, IsWithin, LeadsToFound};
 ghost use Rattle.fs_commands.specs.Making.{AcceptsName, AddsName, MayAppear, MayLink, first_thing, make_cmd, node_kind};
-ghost use Rattle.fs_commands.specs.Plans.{MayBeMade, OnChange, Plans};
-ghost use Rattle.fs_commands.specs.Sessions.{AreUsedBelow, IsSession, MayBegin, MayPlan, inodes};
+ghost use Rattle.fs_session.specs.Plans.{MayBeMade, OnChange, Plans};
+ghost use Rattle.fs_session.specs.Sessions.{AreUsedBelow, IsSession, MayBegin, MayPlan, inodes};
 
 use crate::facts::what_a_path_comes_to_gives_the_walk;
 use crate::figures::new_name_figures;
-use crate::laws::blocks_have_the_map_of_their_tree;
 use crate::look::is_dir;
 use crate::paths::{NodeFound, Spot, find_node, look_up};
-use crate::plan::Plan;
 use crate::refusals::refusal_of;
-use crate::space::has_room;
 use base_types::Name;
 use base_types::limits::MOST_LINKS;
 use crash_stands::{blocks_have_a_map, files_have_one_map};
@@ -53,6 +50,7 @@ use fs_inodes::{
     a_file_reads_as_itself, a_new_node_is_mapped, a_new_path_is_mapped, the_map_gives_the_figures,
     the_map_gives_the_refusal, walks_are_the_same,
 };
+use fs_session::{Plan, blocks_have_the_map_of_their_tree, has_room};
 use lang_tree::{Kind, Path, Refusal, Reply};
 use layout_bytes::{NodeKind, Slot};
 use std::alloc::Global;
@@ -342,7 +340,7 @@ pub(crate) fn a_disk_is_small<S: Blocks>(blocks: &S)
 }
 
 /// Where a name may come to be.
-#[derive(Debug, Drop)]
+#[derive(Drop)]
 pub(crate) struct Vacancy {
     /// The directory.
     pub dir: u32,

@@ -16,20 +16,17 @@ ghost use Rattle.fs_files.specs.Effects.{LooksOnly, LooksAndSettles};
 ghost use Rattle.fs_files.specs.Sound.{IsDraftOf};
 ghost use Rattle.fs_dirs.specs.Directories.{IsNumber};
 ghost use Rattle.fs_commands.specs.Looks.{MayBeEntry};
-ghost use Rattle.fs_commands.specs.Commands.{GrowsInRuns, places_of, IsCalm};
+ghost use Rattle.fs_session.specs.Commands.{GrowsInRuns, places_of, IsCalm};
 ghost use Rattle.fs_commands.specs.Moving.{IsMove, KnowsMove, MayMoveAway, MayMoveOnto, MayRename, MovesName};
-ghost use Rattle.fs_commands.specs.Plans.{MayBeMade, OnChange, Plans};
+ghost use Rattle.fs_session.specs.Plans.{MayBeMade, OnChange, Plans};
 ghost use Rattle.fs_commands.specs.Removing.{blocks_gone, first_after};
-ghost use Rattle.fs_commands.specs.Sessions.{MayBegin, MayPlan, Stands, inodes};
+ghost use Rattle.fs_session.specs.Sessions.{MayBegin, MayPlan, Stands, inodes};
 
 use crate::facts::{the_node_at_a_path_gives_the_inode, what_a_path_comes_to_gives_the_walk};
-use crate::laws::blocks_have_the_map_of_their_tree;
 use crate::making::a_disk_is_small;
 use crate::paths::{Entry, NodeFound};
-use crate::plan::Plan;
 use crate::refusals::refusal_of;
 use crate::removing::{Named, first_after, lose_link};
-use crate::space::has_room;
 use base_types::Name;
 use base_types::limits::LARGEST_FILE;
 use crash_stands::{blocks_have_a_map, files_have_one_map};
@@ -42,12 +39,13 @@ use fs_inodes::{
     a_move_is_mapped, a_name_stands_at_its_place, paths_lead_to_inodes, the_map_gives_the_figures,
     the_map_gives_the_refusal, the_map_gives_the_reply, walks_are_the_same,
 };
+use fs_session::{Plan, blocks_have_the_map_of_their_tree, has_room};
 use lang_tree::{Refusal, blocks_for, growth, moving, release};
 use layout_bytes::Slot;
 use std::alloc::Global;
 
 /// A name in directory `dir`, which has `count` slots, and what stands under it, if anything does.
-#[derive(Clone, Copy, Debug, PartialEq, Eq)]
+#[derive(Clone, Copy)]
 pub(crate) struct Goal {
     pub dir: u32,
     pub count: u32,

@@ -16,27 +16,27 @@ ghost use Rattle.fs_files.specs.Drafts.{nothing_drafted};
 ghost use Rattle.fs_files.specs.Effects.{LooksOnly};
 ghost use Rattle.fs_dirs.specs.Directories.{inodes_in, IsNumber};
 ghost use Rattle.fs_commands.specs.Looks.{LeadsToFound, ComesTo, HasEntry, IsWithin, MayBeEntry};
-ghost use Rattle.fs_commands.specs.Sessions.{MayBegin};
+ghost use Rattle.fs_session.specs.Sessions.{MayBegin};
 
-use crate::laws::blocks_have_the_map_of_their_tree;
 use base_types::Name;
 use crash_stands::slots_name_nodes_in_use;
 use engine_blocks::{Blocks, calls_compose};
 use fs_dirs::{count_slots, find, walk, walk_to_parent};
 use fs_files::{Draft, FileFacts, FileRefusal, a_draft_begins};
 use fs_inodes::{a_name_stands_at_its_place, walks_are_the_same};
+use fs_session::blocks_have_the_map_of_their_tree;
 use lang_tree::{Path, Refusal};
 use std::alloc::Global;
 
 /// A node in use that a path leads to.
-#[derive(Clone, Copy, Debug, PartialEq, Eq)]
+#[derive(Clone, Copy)]
 pub struct NodeFound {
     pub number: u32,
     pub facts: FileFacts,
 }
 
 /// What stands under a name in a directory.
-#[derive(Clone, Copy, Debug, PartialEq, Eq)]
+#[derive(Clone, Copy)]
 pub struct Entry {
     /// The place of its slot, from 0 on.
     pub place: u32,
@@ -45,7 +45,7 @@ pub struct Entry {
 }
 
 /// What a path comes to, whose directory is there.
-#[derive(Clone, Copy, Debug, PartialEq, Eq)]
+#[derive(Clone, Copy)]
 pub enum Spot {
     /// The root, which has no directory above it.
     Root,

@@ -5,7 +5,7 @@ ghost use Rattle.std.specs.Prelude.{◌+◌, ◌-◌, ℕ, max};
 ghost use Rattle.layout_geometry.specs.Geometry.{Geometry, bitmap_blocks};
 ghost use Rattle.lang_tree.specs.Figures as spec;
 ghost use Rattle.fs_files.specs.Drafts.{DraftState};
-ghost use Rattle.fs_commands.specs.Changes.{ChangesAtMost, IsWithinCost};
+ghost use Rattle.fs_session.specs.Changes.{ChangesAtMost, IsWithinCost};
 
 /// A draft is within the cost of a name less in a directory, of bytes from `lo` up to `hi` that come into a
 /// file, or of a file that loses blocks, where it changes no more than these.

@@ -21,21 +21,18 @@ ghost use Rattle.lang_tree.specs.Values.{value_of};
 ghost use Rattle.fs_commands.specs.declared.paths.Spot.TheVariants.{Inside};
 ghost use Rattle.fs_commands.specs.Figures.{AreFiguresOf, HasFacts};
 ghost use Rattle.fs_commands.specs.Looks.{ComesTo, IsWithin, MayBeEntry, ShowsFacts, entry_number};
-ghost use Rattle.fs_commands.specs.Plans.{IsAnswer, MayBeMade, OnChange, Plans};
+ghost use Rattle.fs_session.specs.Plans.{IsAnswer, MayBeMade, OnChange, Plans};
 ghost use Rattle.fs_commands.specs.Removing.{IsFound, IsLoss, IsNamed, KnowsLoss, LosesLink, LosesName, MayLose, blocks_gone, first_after, lose_cmd};
 ghost use Rattle.fs_commands.specs.Removing.{lose_reason};
-ghost use Rattle.fs_commands.specs.Sessions.{MayBegin, MayPlan, Stands, inodes};
-ghost use Rattle.fs_commands.specs.Space.{ArePlaced};
+ghost use Rattle.fs_session.specs.Sessions.{MayBegin, MayPlan, Stands, inodes};
+ghost use Rattle.fs_session.specs.Space.{ArePlaced};
 
 use crate::facts::{the_node_at_a_path_gives_the_inode, what_a_path_comes_to_gives_the_walk};
 use crate::figures::{rmdir_figures, unlink_figures};
-use crate::laws::blocks_have_the_map_of_their_tree;
 use crate::look::is_dir;
 use crate::paths::{Entry, NodeFound, Spot, look_up};
-use crate::plan::Plan;
 use crate::prices::small_drafts_are_within_the_cost;
 use crate::refusals::refusal_of;
-use crate::space::has_room;
 use base_types::limits::{LARGEST_FILE, MOST_LINKS, ROOT};
 use crash_stands::{blocks_have_a_map, files_have_one_map};
 use engine_blocks::{Blocks, calls_compose};
@@ -48,11 +45,12 @@ use fs_inodes::{
     a_lost_path_is_mapped, a_name_stands_at_its_place, the_map_gives_the_figures,
     the_map_gives_the_refusal, walks_are_the_same,
 };
+use fs_session::{Plan, a_node_in_use_has_links, blocks_have_the_map_of_their_tree, has_room};
 use lang_tree::{Figures, Kind, Path, Refusal, Reply};
 use std::alloc::Global;
 
 /// What stands under a name in directory `dir`, which has `count` slots.
-#[derive(Clone, Copy, Debug, PartialEq, Eq)]
+#[derive(Clone, Copy)]
 pub(crate) struct Named {
     pub dir: u32,
     pub count: u32,
@@ -206,6 +204,7 @@ pub(crate) fn lose_link<S: Blocks>(
     ensures looks { LooksOnly S.tells (fails_reading result) (S.state blocks.old) (S.state blocks.new) }
 {
     a_file_has_its_blocks::<S>();
+    a_node_in_use_has_links();
     alterations_add_up();
     let links = node.facts.links;
     if links == 1 {

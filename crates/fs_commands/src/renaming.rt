@@ -18,16 +18,14 @@ ghost use Rattle.fs_dirs.specs.Directories.{IsNumber};
 ghost use Rattle.fs_commands.specs.declared.paths.Entry.{Entry as EntryValue};
 ghost use Rattle.fs_commands.specs.declared.paths.Spot.TheVariants.{Inside};
 ghost use Rattle.fs_commands.specs.Looks.{ComesTo, IsWithin, MayBeEntry, ShowsFacts};
-ghost use Rattle.fs_commands.specs.Plans.{IsAnswer, MayBeMade, OnChange, Plans};
+ghost use Rattle.fs_session.specs.Plans.{IsAnswer, MayBeMade, OnChange, Plans};
 ghost use Rattle.fs_commands.specs.Renaming.{HasRoot, IsBelowRoot, ShowsEntry};
-ghost use Rattle.fs_commands.specs.Sessions.{MayBegin, MayPlan, inodes};
+ghost use Rattle.fs_session.specs.Sessions.{MayBegin, MayPlan, inodes};
 
 use crate::facts::what_a_path_comes_to_gives_the_walk;
-use crate::laws::blocks_have_the_map_of_their_tree;
 use crate::look::is_dir;
 use crate::moving::{Goal, plan_move};
 use crate::paths::{Entry, Spot, look_up};
-use crate::plan::Plan;
 use crate::refusals::refusal_of;
 use crate::removing::{Named, what_stands_there_is_shown};
 use base_types::Name;
@@ -38,12 +36,13 @@ use fs_inodes::{
     the_map_gives_the_refusal, the_map_gives_the_reply, walks_are_the_same,
     what_changes_nothing_keeps_the_map,
 };
+use fs_session::{Plan, blocks_have_the_map_of_their_tree};
 use lang_tree::{Path, Refusal, Reply};
 use std::alloc::Global;
 
 /// What a rename found at its two ends: the entry at the first path, and what is under the last name of the
 /// second one.
-#[derive(Clone, Copy, Debug)]
+#[derive(Clone, Copy)]
 struct Ends {
     pub source: Named,
     pub goal: Goal,

@@ -11,8 +11,8 @@ ghost use Rattle.fs_inodes.specs.Lookups.{walk_on};
 ghost use Rattle.fs_files.specs.Calls.{files_in};
 ghost use Rattle.fs_files.specs.Drafts.{nothing_drafted};
 ghost use Rattle.fs_dirs.specs.Directories.{IsNumber};
-ghost use Rattle.fs_commands.specs.Plans.{MayBeMade, OnChange, Plans};
-ghost use Rattle.fs_commands.specs.Sessions.{MayPlan};
+ghost use Rattle.fs_session.specs.Plans.{MayBeMade, OnChange, Plans};
+ghost use Rattle.fs_session.specs.Sessions.{MayPlan};
 ghost use Rattle.fs_commands.specs.Sizing.{MayResize};
 ghost use Rattle.fs_commands.specs.Writing.{IsFile};
 
@@ -20,18 +20,16 @@ use crate::bytes::{find_file, size_of};
 use crate::facts::the_node_at_a_path_gives_the_inode;
 use crate::figures::resize_figures;
 use crate::found::a_file_is_at_its_path;
-use crate::laws::blocks_have_the_map_of_their_tree;
 use crate::paths::NodeFound;
-use crate::plan::Plan;
 use crate::prices::small_drafts_are_within_the_cost;
 use crate::refusals::refusal_of;
-use crate::space::has_room;
 use base_types::limits::LARGEST_FILE;
 use engine_blocks::{Blocks, calls_compose};
 use fs_files::{Draft, a_draft_begins, a_file_fits_the_disk, a_file_has_its_blocks};
 use fs_inodes::{
     new_bytes_are_mapped, paths_lead_to_inodes, the_map_gives_the_refusal, walks_are_the_same,
 };
+use fs_session::{Plan, blocks_have_the_map_of_their_tree, has_room};
 use lang_tree::{Path, Refusal, Reply, touched_blocks_are_counted_by_division};
 use std::alloc::Global;
 

@@ -16,10 +16,10 @@ use Rattle.engine_blocks.specs.State.{Bookkeeping, State, data_blocks, live_bloc
 use Rattle.fs_files.specs.declared.refusal.FileRefusal.{FileRefusal}
 use Rattle.fs_files.specs.declared.refusal.FileRefusal.TheVariants as file
 use Rattle.fs_files.specs.Calls.{GrowthRefused}
-use Rattle.fs_commands.specs.Commands.{figures_on, grown_by, places_of, IsRefusedFor}
+use Rattle.fs_session.specs.Commands.{figures_on, grown_by, places_of, IsRefusedFor}
 use Rattle.fs_commands.specs.Refusals.{refusal_of}
-use Rattle.fs_commands.specs.Sessions.{inodes}
-use Rattle.fs_commands.specs.Space.{HasRoom, left_of}
+use Rattle.fs_session.specs.Sessions.{inodes}
+use Rattle.fs_session.specs.Space.{HasRoom, left_of}
 
 -- a list has no more stretches than places
 pub few_stretches : (xs : List ℕ) → stretches xs ≤ length xs

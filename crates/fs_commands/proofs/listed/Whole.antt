@@ -24,7 +24,7 @@ use Rattle.fs_dirs.specs.Directories.{IsNumber, inodes_in}
 use Rattle.fs_commands.specs.declared.listing.Frame.{Frame}
 use Rattle.fs_commands.specs.declared.listing.Walk.{Walk}
 use Rattle.fs_commands.specs.Listing.{IsMapIn, lines_of, dirs_among, under_names, paths_left, to_come, IsFrame, AreFrames, IsWalk, HasWritten, HaveNumbers}
-use Rattle.fs_commands.specs.Sessions.{IsSession}
+use Rattle.fs_session.specs.Sessions.{IsSession}
 use Rattle.fs_commands.proofs.listed.Texts.{IsSecond}
 use Rattle.fs_commands.proofs.listed.Walks.{lines_join, left_behind, frames_split}
 use Rattle.fs_commands.proofs.listed.Rooms.{few_dirs}

@@ -24,7 +24,7 @@ use Rattle.fs_inodes.specs.Lookups.{walk_on, is_dir_inode, is_file_inode, bytes_
 use Rattle.fs_inodes.specs.Names.{names_of, stat_at, stat_by}
 use Rattle.fs_inodes.specs.Replies.{reply_by, reply_of}
 use Rattle.fs_commands.specs.Looks.{stat_of_kind}
-use Rattle.fs_commands.specs.Sessions.{IsSession}
+use Rattle.fs_session.specs.Sessions.{IsSession}
 use Rattle.fs_commands.proofs.looking.Facts.{file_told, kind_told, not_file}
 
 -- what is told of a node that reads as an inode is what the inode gives

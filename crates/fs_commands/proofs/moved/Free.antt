@@ -9,7 +9,7 @@ use Rattle.fs_inodes.specs.Changes.{slot_of, with_slot, MovesSlot}
 use Rattle.fs_dirs.specs.Changing.{IsWithSlots}
 use Rattle.fs_commands.specs.declared.removing.Named.{Named}
 use Rattle.fs_commands.specs.Moving.{HasNamed, LacksName}
-use Rattle.fs_commands.specs.Sessions.{AreUsedBelow}
+use Rattle.fs_session.specs.Sessions.{AreUsedBelow}
 use Rattle.fs_commands.proofs.moved.Onto.{place_within}
 use Rattle.fs_commands.proofs.moved.Slots.{within, across, slots_same}
 use Rattle.fs_commands.proofs.removed.Slots.{slots_used}

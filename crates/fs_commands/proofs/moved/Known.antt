@@ -25,7 +25,7 @@ use Rattle.fs_commands.specs.declared.removing.Named.{Named}
 use Rattle.fs_commands.specs.Looks.{ComesTo, HasEntry, ShowsFacts, number_of}
 use Rattle.fs_commands.specs.Moving.{HasNamed, IsMove, KnowsMove, LacksName, MayMoveOnto}
 use Rattle.fs_commands.specs.Removing.{IsFound, blocks_gone}
-use Rattle.fs_commands.specs.Sessions.{inodes}
+use Rattle.fs_session.specs.Sessions.{inodes}
 use Rattle.fs_commands.proofs.removed.Accepted.{bare_facts, file_bare}
 use Rattle.fs_commands.proofs.moved.Slots.{slots_same}
 use Rattle.fs_commands.proofs.removed.Slots.{apart}

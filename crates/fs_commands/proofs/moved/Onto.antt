@@ -12,7 +12,7 @@ use Rattle.fs_dirs.specs.Changing.{IsWithSlots}
 use Rattle.fs_commands.specs.declared.removing.Named.{Named}
 use Rattle.fs_commands.specs.Moving.{HasNamed}
 use Rattle.fs_commands.specs.Removing.{IsFound, LosesLink, first_after}
-use Rattle.fs_commands.specs.Sessions.{AreUsedBelow}
+use Rattle.fs_session.specs.Sessions.{AreUsedBelow}
 use Rattle.fs_commands.proofs.moved.Slots.{onto, slots_same}
 use Rattle.fs_commands.proofs.removed.Slots.{found_still, lost_inode, lost_others, lost_reads, lost_used, slots_used, used_inode}
 use Rattle.fs_commands.proofs.Given.{SlotsReadLaw}

@@ -26,14 +26,14 @@ use Rattle.fs_files.specs.Sound.{IsDraftOf}
 use Rattle.fs_files.specs.Drafts.{DraftState, nothing_drafted}
 use Rattle.fs_dirs.specs.Changing.{Alters}
 use Rattle.fs_dirs.specs.Directories.{inodes_in}
-use Rattle.fs_commands.specs.Changes.{IsWithinCost, Uses}
-use Rattle.fs_commands.specs.Commands.{FindsRuns, figures_on, grown_by, places_of}
+use Rattle.fs_session.specs.Changes.{IsWithinCost, Uses}
+use Rattle.fs_session.specs.Commands.{FindsRuns, figures_on, grown_by, places_of}
 use Rattle.fs_commands.specs.declared.removing.Named.{Named}
 use Rattle.fs_commands.specs.Moving.{KnowsMove, KnowsPaths, MayMoveAway, MayRename, MovesName}
-use Rattle.fs_commands.specs.Plans.{MakesTree, MayBeMade}
+use Rattle.fs_session.specs.Plans.{MakesTree, MayBeMade}
 use Rattle.fs_commands.specs.Removing.{blocks_gone}
-use Rattle.fs_commands.specs.Sessions.{AreUsedBelow, IsSession, inodes}
-use Rattle.fs_commands.specs.Space.{ArePlaced, HasRoom}
+use Rattle.fs_session.specs.Sessions.{AreUsedBelow, IsSession, inodes}
+use Rattle.fs_session.specs.Space.{ArePlaced, HasRoom}
 use Rattle.fs_commands.specs.Writing.{IsWeighed}
 use Rattle.fs_commands.proofs.looking.Spots.{above}
 use Rattle.fs_commands.proofs.moved.Known.{entry_lacks}

@@ -32,10 +32,10 @@ use Rattle.fs_commands.specs.declared.paths.NodeFound.{NodeFound}
 use Rattle.fs_commands.specs.declared.paths.Entry.{Entry}
 use Rattle.fs_commands.specs.declared.paths.Spot.{Spot}
 use Rattle.fs_commands.specs.declared.paths.Spot.TheVariants.{Inside}
-use Rattle.fs_commands.specs.Commands.{grown_by}
+use Rattle.fs_session.specs.Commands.{grown_by}
 use Rattle.fs_commands.specs.Looks.{ComesTo, LeadsToFound, number_of}
 use Rattle.fs_commands.specs.Making.{AcceptsName, MayAppear, MayLink, first_thing, make_cmd}
-use Rattle.fs_commands.specs.Sessions.{IsSession, inodes}
+use Rattle.fs_session.specs.Sessions.{IsSession, inodes}
 use Rattle.fs_commands.proofs.looking.Facts.{inode_is, kind_told, file_told}
 use Rattle.fs_commands.proofs.looking.Spots.{above}
 use Rattle.fs_commands.proofs.FirstReason.{alone, first_more}

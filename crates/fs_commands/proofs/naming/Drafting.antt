@@ -23,11 +23,11 @@ use Rattle.fs_files.specs.Drafts.{DraftState, drafted, nothing_drafted}
 use Rattle.fs_files.specs.Effects.{LooksOnly, LooksAndSettles}
 use Rattle.fs_dirs.specs.Changing.{Alters, IsWithSlots}
 use Rattle.fs_dirs.specs.Directories.{inodes_in}
-use Rattle.fs_commands.specs.Changes.{IsWithinCost, Uses}
-use Rattle.fs_commands.specs.Commands.{places_of}
+use Rattle.fs_session.specs.Changes.{IsWithinCost, Uses}
+use Rattle.fs_session.specs.Commands.{places_of}
 use Rattle.fs_commands.specs.Making.{AddsName, first_thing, node_kind}
-use Rattle.fs_commands.specs.Sessions.{AreUsedBelow, inodes}
-use Rattle.fs_commands.specs.Space.{ArePlaced}
+use Rattle.fs_session.specs.Sessions.{AreUsedBelow, inodes}
+use Rattle.fs_session.specs.Space.{ArePlaced}
 use Rattle.fs_commands.proofs.Placing.{placed_grown, placed_then}
 use Rattle.fs_commands.proofs.Given.{PriceLaw, SumLaw}
 

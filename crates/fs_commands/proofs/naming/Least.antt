@@ -9,7 +9,7 @@ use Rattle.crash_stands.specs.Inodes.{Inode, Inodes, inode_of, inodes_of}
 use Rattle.fs_inodes.specs.Lookups.{least_free}
 use Rattle.fs_files.specs.declared.refusal.FileRefusal.{FileRefusal}
 use Rattle.fs_files.specs.Calls.{IsUsed, IsLeastUnused}
-use Rattle.fs_commands.specs.Sessions.{AreUsedBelow}
+use Rattle.fs_session.specs.Sessions.{AreUsedBelow}
 
 -- the first number of a range that passes a test
 first_at : (test : ℕ → Bool) (a n k : ℕ) → a ≤ k → k < a + n → test k ≡ true → ((l : ℕ) → a ≤ l → l < k → test l ≡ false) → find test (range_with_len a n) ≡ Some k

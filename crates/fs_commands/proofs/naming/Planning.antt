@@ -15,14 +15,14 @@ use Rattle.fs_files.specs.Content.{fails_reading, fails_settling}
 use Rattle.fs_files.specs.Drafts.{DraftState}
 use Rattle.fs_files.specs.Effects.{LooksAndSettles}
 use Rattle.fs_dirs.specs.Directories.{inodes_in}
-use Rattle.fs_commands.specs.declared.plan.Plan.TheVariants.{Change}
-use Rattle.fs_commands.specs.Changes.{IsWithinCost, Uses}
-use Rattle.fs_commands.specs.Commands.{figures_on, places_of, GrowsInRuns, IsCalm, IsRefusedFor}
+use Rattle.fs_session.specs.declared.plan.Plan.TheVariants.{Change}
+use Rattle.fs_session.specs.Changes.{IsWithinCost, Uses}
+use Rattle.fs_session.specs.Commands.{figures_on, places_of, GrowsInRuns, IsCalm, IsRefusedFor}
 use Rattle.fs_commands.specs.Making.{AcceptsName, AddsName}
-use Rattle.fs_commands.specs.Plans.{Plans, MakesTree}
+use Rattle.fs_session.specs.Plans.{Plans, MakesTree}
 use Rattle.fs_commands.specs.Refusals.{refusal_of}
-use Rattle.fs_commands.specs.Sessions.{IsSession, inodes}
-use Rattle.fs_commands.specs.Space.{HasRoom}
+use Rattle.fs_session.specs.Sessions.{IsSession, inodes}
+use Rattle.fs_session.specs.Space.{HasRoom}
 use Rattle.fs_commands.proofs.growing.Refused.{growth_refused}
 use Rattle.fs_commands.proofs.planning.Looking.{growth_plan}
 

@@ -9,10 +9,10 @@ use Rattle.lang_tree.specs.Figures.{Figures, nothing, figures_by}
 use Rattle.lang_tree.specs.Step.{Session, step, answered}
 use Rattle.engine_blocks.specs.Calls.{IsSound}
 use Rattle.engine_blocks.specs.State.{Bookkeeping, State}
-use Rattle.fs_commands.specs.declared.plan.Plan.TheVariants.{Answer}
-use Rattle.fs_commands.specs.Commands.{figures_on, FindsRuns}
-use Rattle.fs_commands.specs.Plans.{IsRight}
-use Rattle.fs_commands.specs.Space.{HasRoom, left_of}
+use Rattle.fs_session.specs.declared.plan.Plan.TheVariants.{Answer}
+use Rattle.fs_session.specs.Commands.{figures_on, FindsRuns}
+use Rattle.fs_session.specs.Plans.{IsRight}
+use Rattle.fs_session.specs.Space.{HasRoom, left_of}
 
 -- there is room for nothing
 pub room_for_nothing : (k : Bookkeeping) (f : Figures) → IsSound k → f ≡ nothing → HasRoom k f

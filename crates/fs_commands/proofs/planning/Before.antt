@@ -14,14 +14,14 @@ use Rattle.engine_blocks.specs.State.{Bookkeeping, State, reusable_blocks}
 use Rattle.fs_files.specs.Calls.{places_in}
 use Rattle.fs_files.specs.Drafts.{DraftState}
 use Rattle.fs_files.specs.Effects.{LooksOnly}
-use Rattle.fs_commands.specs.declared.plan.Plan.{Plan}
-use Rattle.fs_commands.specs.declared.plan.Plan.TheVariants.{Answer, Change}
-use Rattle.fs_commands.specs.Changes.{Uses}
-use Rattle.fs_commands.specs.Commands.{figures_on, grown_by, places_of, GrowsInRuns, FindsRuns, IsRefusedFor, IsScattered}
-use Rattle.fs_commands.specs.Plans.{Plans, PlanIs, IsRight, plan_fails_reading, plan_fails_settling}
-use Rattle.fs_commands.specs.Sessions.{IsSession, inodes}
-use Rattle.fs_commands.specs.Space.{HasRoom, LacksRoom}
-use Rattle.fs_commands.proofs.carrying.Staying.{session_stays}
+use Rattle.fs_session.specs.declared.plan.Plan.{Plan}
+use Rattle.fs_session.specs.declared.plan.Plan.TheVariants.{Answer, Change}
+use Rattle.fs_session.specs.Changes.{Uses}
+use Rattle.fs_session.specs.Commands.{figures_on, grown_by, places_of, GrowsInRuns, FindsRuns, IsRefusedFor, IsScattered}
+use Rattle.fs_session.specs.Plans.{Plans, PlanIs, IsRight, plan_fails_reading, plan_fails_settling}
+use Rattle.fs_session.specs.Sessions.{IsSession, inodes}
+use Rattle.fs_session.specs.Space.{HasRoom, LacksRoom}
+use Rattle.fs_session.specs.Staying.{session_stays}
 use Rattle.fs_commands.proofs.planning.Looking.{calm_on, looked_calmly, settled_after}
 
 -- two states with the same bookkeeping and the same blocks

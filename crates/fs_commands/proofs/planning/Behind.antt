@@ -15,9 +15,9 @@ use Rattle.fs_commands.specs.declared.paths.NodeFound.{NodeFound}
 use Rattle.fs_commands.specs.declared.paths.Spot.{Spot}
 use Rattle.fs_commands.specs.Looks.{ComesTo, LeadsToFile, LeadsToFound}
 use Rattle.fs_commands.specs.Making.{MayAppear}
-use Rattle.fs_commands.specs.Sessions.{MayBegin, MayPlan, inodes}
+use Rattle.fs_session.specs.Sessions.{MayBegin, MayPlan, inodes}
 use Rattle.fs_commands.specs.Writing.{IsFile}
-use Rattle.fs_commands.proofs.carrying.Staying.{below_stays, sound_stays, stands_still}
+use Rattle.fs_session.specs.Staying.{below_stays, sound_stays, stands_still}
 use Rattle.fs_commands.proofs.looking.Found.{same_files}
 
 module _ (tells : Bool) (s t : State) (looks : LooksOnly tells false s t) where

@@ -17,16 +17,15 @@ use Rattle.fs_files.specs.declared.refusal.FileRefusal.TheVariants as file
 use Rattle.fs_files.specs.Calls.{GrowthRefused, LookRefused}
 use Rattle.fs_files.specs.Content.{fails_reading, fails_settling}
 use Rattle.fs_files.specs.Drafts.{DraftState}
-use Rattle.engine_blocks.specs.Serving.{SameFreed}
 use Rattle.fs_files.specs.Effects.{LooksOnly, LooksAndSettles, ServesAllOrNone}
-use Rattle.fs_commands.specs.declared.plan.Plan.{Plan}
-use Rattle.fs_commands.specs.declared.plan.Plan.TheVariants.{Answer, Change}
-use Rattle.fs_commands.specs.Commands.{figures_on, IsCalm, IsCutShort, IsRefusedFor, is_read_fault, is_disk_fault}
-use Rattle.fs_commands.specs.Plans.{Plans, MakesTree, plan_fails_reading, plan_fails_settling}
+use Rattle.fs_session.specs.declared.plan.Plan.{Plan}
+use Rattle.fs_session.specs.declared.plan.Plan.TheVariants.{Answer, Change}
+use Rattle.fs_session.specs.Commands.{figures_on, IsCalm, IsCutShort, IsRefusedFor, is_read_fault, is_disk_fault}
+use Rattle.fs_session.specs.Plans.{Plans, MakesTree, plan_fails_reading, plan_fails_settling}
 use Rattle.fs_commands.specs.Refusals.{refusal_of}
-use Rattle.fs_commands.specs.Sessions.{IsSession, inodes}
-use Rattle.fs_commands.specs.Space.{LacksRoom}
-use Rattle.fs_commands.proofs.applying.Passing.{nothing_issued}
+use Rattle.fs_session.specs.Sessions.{IsSession, inodes}
+use Rattle.fs_session.specs.Space.{LacksRoom}
+use Rattle.fs_session.specs.Staying.{freed_alike, nothing_issued}
 use Rattle.fs_commands.proofs.planning.Answers.{tree_refuses, tree_stays}
 use Rattle.fs_commands.proofs.Given.{RefusalLaw}
 use Rattle.crash_stands.specs.Maps.{IsMapOf}
@@ -98,10 +97,6 @@ looked_after tells read_failed s t u first second advances = record {
   crash = advances;
   writes = λ told. omega (arith, ap writes_in (second.crash told).log, ap (λ (b : Bookkeeping). b.owed) second.books, first.writes told);
 }
-
--- the same blocks wait where the bookkeeping is the same
-pub freed_alike : (old new : Bookkeeping) → new ≡ old → SameFreed old new
-freed_alike old new e = record { reusable = λ b at. ap (λ (k : Bookkeeping). k.reusable b) e; since = λ b at. ap (λ (k : Bookkeeping). k.since b) e }
 
 -- what was only read has no event, whatever is needed
 pub looked_calmly : (tells failed : Bool) (s t : State) → LooksOnly tells failed s t → IsTrue tells → (t.books ≡ s.books) × (t.crash.log ≡ s.crash.log)

@@ -15,9 +15,10 @@ use Rattle.fs_files.specs.declared.refusal.FileRefusal.{FileRefusal}
 use Rattle.fs_files.specs.Calls.{LookRefused}
 use Rattle.fs_files.specs.Content.{fails_reading}
 use Rattle.fs_files.specs.Effects.{LooksOnly}
-use Rattle.fs_commands.specs.Commands.{figures_on}
-use Rattle.fs_commands.specs.Plans.{Plans, answer_of}
-use Rattle.fs_commands.specs.Sessions.{IsSession}
+use Rattle.fs_session.specs.Commands.{figures_on}
+use Rattle.fs_session.specs.Plans.{Plans}
+use Rattle.fs_commands.specs.Looks.{answer_of}
+use Rattle.fs_session.specs.Sessions.{IsSession}
 use Rattle.fs_commands.proofs.planning.Answers.{room_for_nothing, runs_for_nothing}
 use Rattle.fs_commands.proofs.planning.Looking.{looked, looked_quietly, cut_short_plan}
 

@@ -9,10 +9,10 @@ use Rattle.fs_inodes.specs.Lookups.{walk_on}
 use Rattle.engine_blocks.specs.State.{State, reusable_blocks}
 use Rattle.fs_commands.specs.declared.paths.Entry.{Entry}
 use Rattle.fs_commands.specs.declared.paths.Spot.TheVariants.{Inside}
-use Rattle.fs_commands.specs.declared.plan.Plan.{Plan}
-use Rattle.fs_commands.specs.Commands.{figures_on}
+use Rattle.fs_session.specs.declared.plan.Plan.{Plan}
+use Rattle.fs_session.specs.Commands.{figures_on}
 use Rattle.fs_commands.specs.Looks.{ComesTo, ShowsFacts, entry_number}
-use Rattle.fs_commands.specs.Plans.{Plans, PlanIs}
+use Rattle.fs_session.specs.Plans.{Plans, PlanIs}
 use Rattle.fs_commands.specs.Removing.{IsLoss, MayLose}
 
 -- a path with a last name isn't the root

@@ -1,42 +1,30 @@
 -- A node that loses a link: how many it has, and what it is then.
-use Rattle.std.proofs.Common.{◌≡◌, ◌≢◌, ℕ, ◌-◌, ◌≤◌, ◌==◌, nat_le, Bool, true, false, List, length, if◌then◌else◌, Option, Some, None, option_map, option_and_then, Result, Ok, Err, OnOk, refl, sym, ap, subst, ◌∙◌, arith}
-use Rattle.std.proofs.lemmas.Bool.{and_parts, leb-true, eqb-true, eq-eqb}
+use Rattle.std.proofs.Common.{◌≡◌, ◌≢◌, ℕ, ◌-◌, ◌≤◌, ◌==◌, Bool, true, false, List, length, if◌then◌else◌, Option, Some, None, option_and_then, Result, Ok, Err, OnOk, refl, sym, ap, subst, ◌∙◌, arith}
+use Rattle.std.proofs.lemmas.Bool.{eqb-true, eq-eqb}
 use Rattle.std.proofs.lemmas.Option.{none-some, same_Some}
 use Rattle.base_types.specs.Seal.{Blocks}
 use Rattle.layout_geometry.specs.Geometry.{Geometry}
-use Rattle.layout_bytes.specs.declared.node.Node.{Node}
 use Rattle.layout_bytes.specs.declared.node.NodeKind.{NodeKind}
 use Rattle.layout_bytes.specs.declared.node.NodeKind.TheVariants.{Free, Dir, File}
-use Rattle.layout_bytes.specs.Node.{kind_fits}
+use Rattle.layout_bytes.specs.Bytes.{when}
 use Rattle.lang_tree.specs.Figures.{blocks_for}
-use Rattle.crash_stands.specs.Files.{FileNode, Files, file_of, files_of, used_node}
+use Rattle.crash_stands.specs.Files.{FileNode, Files, files_of}
 use Rattle.crash_stands.specs.Inodes.{Inode, AFile, IsInodeOf, inode_by, inode_of, inodes_of}
 use Rattle.fs_inodes.specs.Changes.{one_link_less}
 use Rattle.fs_files.specs.declared.look.FileFacts.{FileFacts}
 use Rattle.fs_files.specs.Calls.{IsWithFile, with_links}
 use Rattle.fs_commands.specs.declared.paths.NodeFound.{NodeFound}
 use Rattle.fs_commands.specs.Removing.{IsFound, LosesLink, blocks_gone}
-use Rattle.fs_commands.proofs.standing.Nodes.{Fits, fits_parts, used_fits, when_some}
+use Rattle.fs_commands.proofs.Given.{LinksLaw}
 
--- a node in use has a link, and a file has at most 65,535
-record HasLinks (kind : NodeKind) (links : ℕ) : Type 0 where
-  some : 1 ≤ links
-  most : kind ≡ File → links ≤ 65535
+-- what is left of a test that fails: nothing
+left_by : {A : Type 0} (t : Bool) (x : Option A) (y : A) → (t ≡ true → ⊥) → when t x ≡ Some y → ⊥
+left_by true x y fails e = fails refl
+left_by false x y fails e = none-some y e
 
-node_links : (g : Geometry) (node : Node) → Fits g node → HasLinks node.kind node.links
-node_links g node fits = record {
-  some = fits.links;
-  most = λ is. leb-true node.links 65535 (and_parts (nat_le node.links 65535) (nat_le node.size 1073741824) (subst (λ kind. kind_fits node kind ≡ true) is fits.kind)).0;
-}
-
-file_links : (g : Geometry) (m : Blocks) (k : ℕ) (x : FileNode) → files_of g m k ≡ Some x → HasLinks x.kind x.links
-file_links g m k x e = by (used_node g m k) refl e
-  where
-    by : (o : Option Node) → used_node g m k ≡ o → option_map (file_of m) o ≡ Some x → HasLinks x.kind x.links
-    by None is none = absurd (none-some x none)
-    by (Some node) is some =
-        subst (λ (f : FileNode). HasLinks f.kind f.links) (same_Some (file_of m node) x some)
-        (node_links g node (fits_parts g node (used_fits g m k node is)))
+-- a directory has one link
+pub dir_links : (links : ℕ) (bytes : List ℕ) (inode : Inode) → links ≢ 1 → inode_by Dir links bytes ≡ Some inode → ⊥
+dir_links links bytes inode more reads = left_by (links == 1) _ inode (λ e. more (eqb-true links 1 e)) reads
 
 -- what holds where two calls' results do
 pub on_both : {A E P Q R : Type 0} (r : Result A E) → OnOk r P → OnOk r Q → (P → Q → R) → OnOk r R
@@ -52,7 +40,7 @@ on_one (Err e) p on = tt
 -- what has more links than one is a file, and reads as one with one link less
 less : (kind : NodeKind) (links : ℕ) (bytes : List ℕ) (inode : Inode) → links ≢ 1 → inode_by kind links bytes ≡ Some inode → IsInodeOf (Some (record { kind = kind; links = links - 1; bytes = bytes })) (one_link_less inode)
 less Free links bytes inode more reads = absurd (none-some inode reads)
-less Dir links bytes inode more reads = absurd (more (eqb-true links 1 (when_some (links == 1) _ inode reads).0))
+less Dir links bytes inode more reads = absurd (dir_links links bytes inode more reads)
 less File links bytes inode more reads = subst (λ (i : Inode). IsInodeOf (Some (record { kind = File; links = links - 1; bytes = bytes })) (one_link_less i)) (same_Some (AFile links bytes) inode reads) (file (links == 1) refl)
   where
     file : (b : Bool) → (links == 1) ≡ b → IsInodeOf (Some (record { kind = File; links = links - 1; bytes = bytes })) (if links == 1 then None else Some (AFile (links - 1) bytes))
@@ -60,17 +48,17 @@ less File links bytes inode more reads = subst (λ (i : Inode). IsInodeOf (Some 
     file false e = subst (λ b. IsInodeOf (Some (record { kind = File; links = links - 1; bytes = bytes })) (if b then None else Some (AFile (links - 1) bytes))) (sym e) refl
 
 -- it has as many links as a number on the disk, of those that a node keeps
-kept_links : (kind : NodeKind) (links : ℕ) (bytes : List ℕ) (inode : Inode) → HasLinks kind links → links ≢ 1 → inode_by kind links bytes ≡ Some inode → (2 ≤ links) × (links ≤ 65535)
+kept_links : (kind : NodeKind) (links : ℕ) (bytes : List ℕ) (inode : Inode) → (1 ≤ links) × (kind ≡ File → links ≤ 65535) → links ≢ 1 → inode_by kind links bytes ≡ Some inode → (2 ≤ links) × (links ≤ 65535)
 kept_links Free links bytes inode has more reads = absurd (none-some inode reads)
-kept_links Dir links bytes inode has more reads = absurd (more (eqb-true links 1 (when_some (links == 1) _ inode reads).0))
-kept_links File links bytes inode has more reads = (omega (arith, has.some, more), has.most refl)
+kept_links Dir links bytes inode has more reads = absurd (dir_links links bytes inode more reads)
+kept_links File links bytes inode has more reads = (omega (arith, has.0, more), has.1 refl)
 
-pub keeps_links : (g : Geometry) (m : Blocks) (node : NodeFound) (found : IsFound (files_of g m) node) (inode : Inode) (less : ℕ) → inodes_of (files_of g m) node.number ≡ Some inode → node.facts.links ≢ 1
+pub keeps_links : LinksLaw → (g : Geometry) (m : Blocks) (node : NodeFound) (found : IsFound (files_of g m) node) (inode : Inode) (less : ℕ) → inodes_of (files_of g m) node.number ≡ Some inode → node.facts.links ≢ 1
     → (2 ≤ node.facts.links → node.facts.links ≤ 65535 → less ≡ node.facts.links - 1) → less ≡ found.file.links - 1
-keeps_links g m node found inode less reads more law =
+keeps_links has g m node found inode less reads more law =
     let x = found.file in
     let links : node.facts.links ≡ x.links = ap (λ (f : FileFacts). f.links) found.facts in
-    let so = kept_links x.kind x.links x.bytes inode (file_links g m node.number x found.is) (λ e. more (links ∙ e)) (sym (ap (option_and_then inode_of) found.is) ∙ reads) in
+    let so = kept_links x.kind x.links x.bytes inode (has g m node.number x found.is) (λ e. more (links ∙ e)) (sym (ap (option_and_then inode_of) found.is) ∙ reads) in
     law (omega (arith, links, so.0)) (omega (arith, links, so.1)) ∙ ap (λ n. n - 1) links
 
 pub link_kept : (old new : Files) (node : NodeFound) (found : IsFound old node) (inode : Inode) (less : ℕ) → inodes_of old node.number ≡ Some inode → node.facts.links ≢ 1 → less ≡ found.file.links - 1

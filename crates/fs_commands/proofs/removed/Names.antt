@@ -11,10 +11,10 @@ use Rattle.fs_files.specs.Drafts.{DraftState, nothing_drafted}
 use Rattle.fs_dirs.specs.Changing.{Alters, IsWithSlots, HasPlace}
 use Rattle.fs_dirs.specs.Directories.{inodes_in}
 use Rattle.fs_commands.specs.declared.removing.Named.{Named}
-use Rattle.fs_commands.specs.Commands.{places_of}
+use Rattle.fs_session.specs.Commands.{places_of}
 use Rattle.fs_commands.specs.Removing.{IsFound, IsNamed, LosesLink, LosesName, blocks_gone}
-use Rattle.fs_commands.specs.Sessions.{inodes}
-use Rattle.fs_commands.specs.Space.{ArePlaced}
+use Rattle.fs_session.specs.Sessions.{inodes}
+use Rattle.fs_session.specs.Space.{ArePlaced}
 use Rattle.fs_commands.proofs.Placing.{placed_cut, placed_then}
 use Rattle.fs_commands.proofs.removed.Slots.{apart, used_inode, slots_used, found_still, lost_inode, lost_others, lost_reads, lost_used}
 use Rattle.fs_commands.proofs.Given.{SlotsReadLaw, SumLaw}

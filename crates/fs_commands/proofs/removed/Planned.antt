@@ -15,13 +15,13 @@ use Rattle.fs_files.specs.Effects.{LooksOnly}
 use Rattle.fs_files.specs.Sound.{IsDraftOf}
 use Rattle.fs_dirs.specs.Directories.{inodes_in}
 use Rattle.fs_commands.specs.declared.removing.Named.{Named}
-use Rattle.fs_commands.specs.Changes.{ChangesAtMost, IsWithinCost, Uses}
-use Rattle.fs_commands.specs.Commands.{figures_on, places_of, FindsRuns}
+use Rattle.fs_session.specs.Changes.{ChangesAtMost, IsWithinCost, Uses}
+use Rattle.fs_session.specs.Commands.{figures_on, places_of, FindsRuns}
 use Rattle.fs_commands.specs.Figures.{AreFiguresOf}
-use Rattle.fs_commands.specs.Plans.{MakesTree, MayBeMade}
+use Rattle.fs_session.specs.Plans.{MakesTree, MayBeMade}
 use Rattle.fs_commands.specs.Removing.{KnowsLoss, LosesName, blocks_gone, first_after, lose_cmd}
-use Rattle.fs_commands.specs.Sessions.{AreUsedBelow, inodes}
-use Rattle.fs_commands.specs.Space.{HasRoom}
+use Rattle.fs_session.specs.Sessions.{AreUsedBelow, inodes}
+use Rattle.fs_session.specs.Space.{HasRoom}
 use Rattle.fs_commands.proofs.AtMost.{altered_few}
 use Rattle.fs_commands.proofs.removed.Accepted.{LossLaw, accepted_removes, loss_done, loss_mapped, reason_is}
 

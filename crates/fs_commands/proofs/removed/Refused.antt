@@ -10,10 +10,10 @@ use Rattle.engine_blocks.specs.Calls.{IsSound}
 use Rattle.engine_blocks.specs.Crashes.{Advances}
 use Rattle.engine_blocks.specs.State.{State}
 use Rattle.fs_files.specs.Effects.{LooksOnly}
-use Rattle.fs_commands.specs.declared.plan.Plan.TheVariants.{Answer}
-use Rattle.fs_commands.specs.Plans.{Plans}
+use Rattle.fs_session.specs.declared.plan.Plan.TheVariants.{Answer}
+use Rattle.fs_session.specs.Plans.{Plans}
 use Rattle.fs_commands.specs.Removing.{lose_cmd, lose_reason}
-use Rattle.fs_commands.specs.Sessions.{inodes}
+use Rattle.fs_session.specs.Sessions.{inodes}
 use Rattle.fs_commands.proofs.planning.Looking.{reason_plan}
 use Rattle.fs_commands.proofs.removed.Accepted.{reason_is}
 use Rattle.fs_commands.proofs.Given.{RefusalLaw}

@@ -14,8 +14,8 @@ use Rattle.fs_files.specs.Calls.{IsUsed}
 use Rattle.fs_dirs.specs.Changing.{IsWithSlots}
 use Rattle.fs_commands.specs.declared.paths.NodeFound.{NodeFound}
 use Rattle.fs_commands.specs.Removing.{IsFound, LosesLink, first_after}
-use Rattle.fs_commands.specs.Sessions.{AreUsedBelow}
-use Rattle.fs_commands.proofs.standing.Nodes.{when_some}
+use Rattle.fs_session.specs.Sessions.{AreUsedBelow}
+use Rattle.fs_commands.proofs.removed.Links.{dir_links}
 use Rattle.fs_commands.proofs.looking.InUse.{node_there, own_inode, read_still}
 
 -- A node and its inode.
@@ -67,7 +67,7 @@ module _ (old new : Files) (k : ℕ) (lost : LosesLink old new k) where
 -- a node with more links than one is in use still
 more_left : (kind : NodeKind) (links : ℕ) (bytes : List ℕ) (inode : Inode) → links ≢ 1 → inode_by kind links bytes ≡ Some inode → (left : Inode) × (one_link_less inode ≡ Some left)
 more_left Free links bytes inode more reads = absurd (none-some inode reads)
-more_left Dir links bytes inode more reads = absurd (more (eqb-true links 1 (when_some (links == 1) _ inode reads).0))
+more_left Dir links bytes inode more reads = absurd (dir_links links bytes inode more reads)
 more_left File links bytes (ADir slots) more reads = absurd cc
 more_left File links bytes (AFile l b) more reads = by (l == 1) refl
   where

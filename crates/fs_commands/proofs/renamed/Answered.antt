@@ -20,10 +20,10 @@ use Rattle.engine_blocks.specs.Calls.{IsSound}
 use Rattle.engine_blocks.specs.Crashes.{Advances}
 use Rattle.engine_blocks.specs.State.{State}
 use Rattle.fs_files.specs.Effects.{LooksOnly}
-use Rattle.fs_commands.specs.declared.plan.Plan.TheVariants.{Answer}
-use Rattle.fs_commands.specs.Commands.{figures_on}
-use Rattle.fs_commands.specs.Plans.{Plans}
-use Rattle.fs_commands.specs.Sessions.{inodes}
+use Rattle.fs_session.specs.declared.plan.Plan.TheVariants.{Answer}
+use Rattle.fs_session.specs.Commands.{figures_on}
+use Rattle.fs_session.specs.Plans.{Plans}
+use Rattle.fs_session.specs.Sessions.{inodes}
 use Rattle.fs_commands.proofs.planning.Looking.{done_plan, reason_plan}
 use Rattle.fs_commands.proofs.renamed.Reasons.{same_accepted, same_is}
 use Rattle.fs_commands.proofs.Given.{RefusalLaw, FiguresLaw, ReplyLaw}

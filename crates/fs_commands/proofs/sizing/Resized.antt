@@ -25,10 +25,10 @@ use Rattle.fs_files.specs.Drafts.{DraftState, nothing_drafted}
 use Rattle.fs_files.specs.Effects.{LooksAndSettles}
 use Rattle.fs_files.specs.Nodes.{node_block}
 use Rattle.fs_dirs.specs.Directories.{inodes_in}
-use Rattle.fs_commands.specs.Changes.{ChangesAtMost, IsWithinCost, Uses}
-use Rattle.fs_commands.specs.Commands.{FindsRuns, GrowsInRuns, figures_on, places_of}
-use Rattle.fs_commands.specs.Plans.{MakesTree}
-use Rattle.fs_commands.specs.Sessions.{IsSession}
+use Rattle.fs_session.specs.Changes.{ChangesAtMost, IsWithinCost, Uses}
+use Rattle.fs_session.specs.Commands.{FindsRuns, GrowsInRuns, figures_on, places_of}
+use Rattle.fs_session.specs.Plans.{MakesTree}
+use Rattle.fs_session.specs.Sessions.{IsSession}
 use Rattle.fs_commands.specs.Writing.{IsWeighed}
 use Rattle.fs_commands.proofs.AtMost.{only_these}
 use Rattle.fs_commands.proofs.Placing.{placed_cut}

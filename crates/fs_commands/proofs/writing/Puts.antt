@@ -11,7 +11,7 @@ use Rattle.crash_stands.specs.Maps.{IsMapOf}
 use Rattle.crash_stands.specs.Walks.{LeadsTo}
 use Rattle.fs_inodes.specs.Changes.{Sets}
 use Rattle.fs_inodes.specs.Lookups.{number_at}
-use Rattle.fs_commands.specs.Commands.{grown_by}
+use Rattle.fs_session.specs.Commands.{grown_by}
 use Rattle.fs_commands.specs.Writing.{PutsBytes}
 
 -- what other bytes of a file make of the inode map, for a command

@@ -2,7 +2,7 @@ use Rattle.std.proofs.Common.{true}
 use Rattle.disk_memory.specs.MemDisk.{state_of as disk_state}
 use Rattle.engine_store.specs.StoreOf.{state_of}
 use Rattle.fs_commands.specs.Opened.{blocks_in, used_to}
-use Rattle.fs_commands.specs.Sessions.{IsBetween, Stands}
+use Rattle.fs_session.specs.Sessions.{IsBetween, Stands}
 use Rattle.cmd_load.proofs.Loads.{ServesTo}
 use Rattle.cmd_load.proofs.serving.serve.Given as goal
 

@@ -6,8 +6,8 @@ use Rattle.lang_tree.specs.Step.{start}
 use Rattle.crash_argument.specs.Counts.{AreAtMost}
 use Rattle.disk_memory.specs.MemDisk.{state_of as disk_state}
 use Rattle.engine_store.specs.StoreOf.{state_of}
-use Rattle.fs_commands.specs.DiskRoom.{IsRoomOf}
-use Rattle.fs_commands.specs.Memory.{room_of}
+use Rattle.fs_session.specs.DiskRoom.{IsRoomOf}
+use Rattle.fs_session.specs.Memory.{room_of}
 use Rattle.fs_commands.specs.Opened.{blocks_in}
 use Rattle.cmd_record.proofs.running.a_run_is_known.Goals as goal
 

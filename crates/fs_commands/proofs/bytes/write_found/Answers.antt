@@ -10,7 +10,7 @@ use Rattle.fs_files.specs.declared.look.FileFacts.{FileFacts}
 use Rattle.fs_files.specs.Calls.{files_in, is_dir}
 use Rattle.fs_files.specs.Drafts.{nothing_drafted}
 use Rattle.fs_dirs.specs.Directories.{inodes_in}
-use Rattle.fs_commands.proofs.applying.Passing.{nothing_issued}
+use Rattle.fs_session.specs.Staying.{nothing_issued}
 use Rattle.fs_commands.proofs.planning.Looking.{no_look, refusal_plan, done_plan, full_plan}
 use Rattle.fs_commands.proofs.writing.Reasons.{write_reason_is, nothing_put}
 use Rattle.fs_commands.proofs.writing.Written.{file_bytes}

@@ -1,7 +1,7 @@
 use Rattle.std.proofs.Common.{true, false, inl, inr, Err, refl, sym}
 use Rattle.std.proofs.lemmas.Bool.{false≢true}
 use Rattle.lang_tree.specs.declared.command.Refusal.TheVariants.{DiskFault}
-use Rattle.fs_commands.proofs.applying.Ticked.{between_ticks, stands_ticks}
+use Rattle.fs_session.specs.Staying.{between_ticks, stands_ticks}
 use Rattle.fs_commands.proofs.commands.begin.Goals as goal
 
 pub run-requires-clause-between : goal.run-requires-clause-between

@@ -1,6 +1,6 @@
-use Rattle.fs_commands.proofs.carrying.Staying.{between_settles}
+use Rattle.fs_session.specs.Staying.{between_settles}
 use Rattle.fs_commands.proofs.running.{runs_on_tree, on_tree_is_no_sync}
-use Rattle.fs_commands.specs.Plans.{plan_fails_reading, plan_fails_settling}
+use Rattle.fs_session.specs.Plans.{plan_fails_reading, plan_fails_settling}
 use Rattle.fs_commands.proofs.commands.run_on_tree.Goals as goal
 
 pub carry-requires-clause-between : goal.carry-requires-clause-between

@@ -4,8 +4,8 @@ use Rattle.lang_tree.specs.declared.command.Cmd.TheVariants.{Fill}
 use Rattle.lang_tree.specs.declared.command.Refusal.TheVariants.{TooLarge, NoMemory}
 use Rattle.lang_tree.specs.Figures.{figures}
 use Rattle.lang_tree.specs.Values.{value_of}
-use Rattle.fs_commands.specs.Sessions.{inodes}
-use Rattle.fs_commands.proofs.applying.Passing.{nothing_issued}
+use Rattle.fs_session.specs.Sessions.{inodes}
+use Rattle.fs_session.specs.Staying.{nothing_issued}
 use Rattle.fs_commands.proofs.filling.Reasons.{ends_past, refusal_is, nothing_filled}
 use Rattle.fs_commands.proofs.planning.Looking.{no_look, refusal_plan, done_plan, full_plan, room_plan}
 use Rattle.fs_commands.proofs.Weighing.{is_weighed}

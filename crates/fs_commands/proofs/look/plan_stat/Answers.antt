@@ -2,8 +2,8 @@ use Rattle.std.proofs.Common.{Result, sym, subst, ap}
 use Rattle.lang_tree.specs.declared.command.Cmd.TheVariants.{Stat}
 use Rattle.lang_tree.specs.declared.command.Refusal.{Refusal}
 use Rattle.engine_blocks.specs.State.{Bookkeeping}
-use Rattle.fs_commands.specs.declared.plan.Plan.{Plan}
-use Rattle.fs_commands.specs.Plans.{Plans}
+use Rattle.fs_session.specs.declared.plan.Plan.{Plan}
+use Rattle.fs_session.specs.Plans.{Plans}
 use Rattle.fs_commands.proofs.planning.Looks.{look_plan, stat_looks}
 use Rattle.fs_commands.proofs.look.plan_stat.Goals as goal
 

@@ -10,7 +10,7 @@ use Rattle.fs_files.specs.Drafts.{DraftState, nothing_drafted}
 use Rattle.fs_files.specs.Effects.{LooksAndSettles}
 use Rattle.fs_dirs.specs.Changing.{Alters, IsWithSlots}
 use Rattle.fs_dirs.specs.Directories.{inodes_in}
-use Rattle.fs_commands.specs.Sessions.{inodes}
+use Rattle.fs_session.specs.Sessions.{inodes}
 use Rattle.fs_commands.proofs.Placing.{placed_kept}
 use Rattle.fs_commands.proofs.naming.Drafting.{dir_no_file, name_added}
 use Rattle.fs_commands.proofs.planning.Looking.{looked_after, quiet_settling}

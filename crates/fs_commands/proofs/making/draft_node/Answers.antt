@@ -14,7 +14,7 @@ use Rattle.fs_files.specs.Effects.{LooksAndSettles}
 use Rattle.fs_dirs.specs.Changing.{Alters, IsWithSlots}
 use Rattle.fs_dirs.specs.Directories.{inodes_in}
 use Rattle.fs_commands.specs.Making.{first_thing}
-use Rattle.fs_commands.specs.Sessions.{inodes}
+use Rattle.fs_session.specs.Sessions.{inodes}
 use Rattle.fs_commands.proofs.Placing.{placed_by}
 use Rattle.fs_commands.proofs.looking.Found.{same_files}
 use Rattle.fs_commands.proofs.naming.Drafting.{used_upto, found_is, no_node, first_read, name_added}

@@ -5,7 +5,7 @@ use Rattle.crash_stands.specs.Inodes.{Inode, inode_of, inodes_of}
 use Rattle.crash_stands.specs.Stands.{IsTreeOf}
 use Rattle.fs_inodes.specs.Lookups.{least_free}
 use Rattle.fs_files.specs.Calls.{files_in}
-use Rattle.fs_commands.specs.Sessions.{AreUsedBelow, inodes}
+use Rattle.fs_session.specs.Sessions.{AreUsedBelow, inodes}
 use Rattle.fs_commands.proofs.naming.Least.{least_of, ok_given, used_before}
 use Rattle.fs_commands.proofs.making.least_unused.Goals as goal
 

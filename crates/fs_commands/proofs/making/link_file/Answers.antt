@@ -4,7 +4,7 @@ use Rattle.lang_tree.specs.Values.{value_of}
 use Rattle.crash_stands.specs.Inodes.{AFile}
 use Rattle.engine_blocks.specs.Running.{Running}
 use Rattle.fs_dirs.specs.Directories.{inodes_in}
-use Rattle.fs_commands.specs.Plans.{Plans}
+use Rattle.fs_session.specs.Plans.{Plans}
 use Rattle.fs_commands.proofs.naming.Planning.{named_plan, name_refused}
 use Rattle.fs_commands.proofs.planning.Looking.{full_plan, no_look}
 use Rattle.fs_commands.proofs.making.link_file.Goals as goal

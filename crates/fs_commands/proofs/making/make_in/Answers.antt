@@ -5,8 +5,8 @@ use Rattle.fs_files.specs.Calls.{files_in}
 use Rattle.fs_files.specs.Drafts.{nothing_drafted}
 use Rattle.fs_dirs.specs.Directories.{IsNumber}
 use Rattle.fs_commands.specs.Making.{make_cmd}
-use Rattle.fs_commands.specs.Plans.{Plans}
-use Rattle.fs_commands.specs.Sessions.{AreUsedBelow}
+use Rattle.fs_session.specs.Plans.{Plans}
+use Rattle.fs_session.specs.Sessions.{AreUsedBelow}
 use Rattle.fs_commands.proofs.planning.Behind.{may_plan_still, may_appear_still, least_still}
 use Rattle.fs_commands.proofs.planning.Before.{plans_behind}
 use Rattle.fs_commands.proofs.planning.Looking.{cut_short_plan, refusal_plan}

@@ -6,8 +6,8 @@ use Rattle.fs_inodes.specs.Changes.{new_inode}
 use Rattle.engine_blocks.specs.Running.{Running}
 use Rattle.fs_dirs.specs.Directories.{inodes_in}
 use Rattle.fs_commands.specs.Making.{AcceptsName, AddsName, first_thing, make_cmd}
-use Rattle.fs_commands.specs.Plans.{Plans}
-use Rattle.fs_commands.specs.Sessions.{IsSession, inodes}
+use Rattle.fs_session.specs.Plans.{Plans}
+use Rattle.fs_session.specs.Sessions.{IsSession, inodes}
 use Rattle.fs_commands.proofs.naming.Least.{least_unused}
 use Rattle.fs_commands.proofs.naming.Planning.{named_plan, name_refused}
 use Rattle.fs_commands.proofs.planning.Looking.{full_plan, no_look}

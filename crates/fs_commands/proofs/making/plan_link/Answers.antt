@@ -4,7 +4,7 @@ use Rattle.engine_blocks.specs.State.{Bookkeeping}
 use Rattle.fs_files.specs.Calls.{files_in}
 use Rattle.fs_files.specs.Drafts.{nothing_drafted}
 use Rattle.fs_commands.specs.Looks.{LeadsToFound}
-use Rattle.fs_commands.specs.Plans.{Plans}
+use Rattle.fs_session.specs.Plans.{Plans}
 use Rattle.fs_commands.proofs.planning.Behind.{may_plan_still, found_still}
 use Rattle.fs_commands.proofs.planning.Before.{plans_behind}
 use Rattle.fs_commands.proofs.planning.Looking.{cut_short_plan, refusal_plan}

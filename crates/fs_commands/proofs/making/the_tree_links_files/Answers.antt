@@ -1,7 +1,7 @@
 use Rattle.crash_stands.specs.Maps.{IsMapOf}
 use Rattle.lang_tree.specs.Step.{Session}
 use Rattle.engine_blocks.specs.State.{State}
-use Rattle.fs_commands.specs.Sessions.{IsSession, inodes}
+use Rattle.fs_session.specs.Sessions.{IsSession, inodes}
 use Rattle.fs_commands.proofs.naming.Accepting.{link_nowhere, link_refused, link_directory, link_many, link_made}
 use Rattle.fs_commands.proofs.making.the_tree_links_files.Goals as goal
 

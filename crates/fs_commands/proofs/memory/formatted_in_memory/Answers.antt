@@ -1,6 +1,7 @@
 use Rattle.std.proofs.Common.{◌≡◌, refl, sym, ap, ◌∙◌, subst}
 use Rattle.base_types.specs.Seal.{Blocks}
 use Rattle.layout_geometry.specs.Geometry.{Geometry}
+use Rattle.layout_journal.specs.Formatted.{formatted}
 use Rattle.engine_blocks.specs.PlainOf.{state_of}
 use Rattle.engine_blocks.specs.State.{Bookkeeping}
 use Rattle.crash_stands.specs.Stands.{IsTreeOf}
@@ -9,10 +10,10 @@ use Rattle.fs_check.specs.declared.checking.CheckRefusal.{CheckRefusal}
 use Rattle.lang_tree.specs.Step.{start, session_on}
 use Rattle.lang_tree.specs.Tree.{Tree}
 use Rattle.fs_commands.specs.Opened.{blocks_in}
-use Rattle.fs_commands.specs.Memory.{room_of}
-use Rattle.fs_commands.specs.Room.{IsFirstRoom}
-use Rattle.fs_commands.specs.Sessions.{IsSession}
-use Rattle.fs_commands.proofs.rooms.Formatted.{has_live, no_data, still_begun, still_empty}
+use Rattle.fs_session.specs.Memory.{room_of}
+use Rattle.fs_session.specs.Room.{IsFirstRoom}
+use Rattle.fs_session.specs.Sessions.{IsSession}
+use Rattle.fs_commands.proofs.Formatted.{has_live, no_data, still_begun, still_empty}
 use Rattle.fs_commands.proofs.memory.formatted_in_memory.Goals as goal
 use Rattle.fs_commands.proofs.memory.formatted_in_memory.Goals.{In_ok-blocks}
 
@@ -22,7 +23,7 @@ root_stands c =
     let g = c.args.geom.now in
     let m = (state_of c.in_ok-blocks.blocks).map in
     c.live_blocks_are_enough.ensures.tree g _ m (start g.i).tree c.lawful.ensures.limits
-    (has_live g c.lawful.ensures.limits m c.in_ok-blocks.ensures.map (λ b. c.the_formatted_disk_is_empty.ensures.bits g b c.lawful.ensures.fits))
+    (has_live g m (λ b. c.bitmap_and_node_table_are_live.ensures g (formatted g) b c.lawful.ensures.limits) c.in_ok-blocks.ensures.map (λ b. c.the_formatted_disk_is_empty.ensures.bits g b c.lawful.ensures.fits))
     (c.the_formatted_disk_stands_for_the_root.ensures.blocks g c.lawful.ensures.fits)
 
 pub returns-in-Ok-clause-session : goal.returns-in-Ok-clause-session
@@ -46,7 +47,7 @@ returns-in-Ok-clause-room c =
     let looks = c.in-Ok.ensures.looks in
     subst (λ (k : Geometry). IsFirstRoom k (room_of t)) (ap (λ (k : Bookkeeping). k.geom) looks.books ∙ c.in_ok-blocks.ensures.geom)
     (c.nothing_is_taken_at_first.ensures refl (blocks_in c.in-Ok.fs) (start g.i) refl (returns-in-Ok-clause-session c)
-    (still_empty g (state_of c.in_ok-blocks.blocks) t c.in_ok-blocks.ensures.geom looks.books (looks.map refl) (no_data g c.lawful.ensures.limits (state_of c.in_ok-blocks.blocks).map c.in_ok-blocks.ensures.map (λ b. c.the_formatted_disk_is_empty.ensures.bits g b c.lawful.ensures.fits)))
+    (still_empty g (state_of c.in_ok-blocks.blocks) t c.in_ok-blocks.ensures.geom looks.books (looks.map refl) (no_data g (state_of c.in_ok-blocks.blocks).map (λ b. c.bitmap_and_node_table_are_live.ensures g (formatted g) b c.lawful.ensures.limits) c.in_ok-blocks.ensures.map (λ b. c.the_formatted_disk_is_empty.ensures.bits g b c.lawful.ensures.fits)))
     (still_begun (state_of c.in_ok-blocks.blocks) t looks.books c.in_ok-blocks.ensures.begun))
 
 pub unreachable-requires : goal.unreachable-requires

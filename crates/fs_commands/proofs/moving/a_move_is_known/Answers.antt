@@ -4,7 +4,7 @@ use Rattle.fs_files.specs.Drafts.{nothing_drafted}
 use Rattle.fs_commands.specs.declared.paths.Spot.TheVariants.{Inside}
 use Rattle.fs_files.specs.declared.look.FileFacts.{FileFacts}
 use Rattle.fs_commands.specs.Looks.{ShowsFacts}
-use Rattle.fs_commands.specs.Sessions.{inodes}
+use Rattle.fs_session.specs.Sessions.{inodes}
 use Rattle.fs_commands.proofs.moved.Known.{known_move, known_onto}
 use Rattle.fs_commands.proofs.moving.a_move_is_known.Goals as goal
 

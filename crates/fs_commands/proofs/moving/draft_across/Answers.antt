@@ -12,8 +12,8 @@ use Rattle.fs_files.specs.Effects.{LooksAndSettles}
 use Rattle.fs_files.specs.Drafts.{nothing_drafted}
 use Rattle.fs_dirs.specs.Changing.{Alters, IsWithSlots}
 use Rattle.fs_dirs.specs.Directories.{inodes_in}
-use Rattle.fs_commands.specs.Commands.{GrowsInRuns, places_of}
-use Rattle.fs_commands.specs.Space.{ArePlaced}
+use Rattle.fs_session.specs.Commands.{GrowsInRuns, places_of}
+use Rattle.fs_session.specs.Space.{ArePlaced}
 use Rattle.fs_commands.proofs.Placing.{placed_cut, placed_grown, placed_then}
 use Rattle.fs_commands.proofs.planning.Looking.{looked_after, cut_growth, quiet_settling}
 use Rattle.fs_commands.proofs.moved.Free.{moves_across, used_across}

@@ -7,7 +7,7 @@ use Rattle.fs_files.specs.Content.{fails_reading}
 use Rattle.fs_files.specs.Drafts.{nothing_drafted}
 use Rattle.fs_dirs.specs.Changing.{Alters, IsWithSlots}
 use Rattle.fs_dirs.specs.Directories.{inodes_in}
-use Rattle.fs_commands.specs.Commands.{places_of}
+use Rattle.fs_session.specs.Commands.{places_of}
 use Rattle.fs_commands.specs.Removing.{blocks_gone}
 use Rattle.fs_commands.proofs.Placing.{placed_cut, placed_kept, placed_then}
 use Rattle.fs_commands.proofs.looking.Found.{looks_more}

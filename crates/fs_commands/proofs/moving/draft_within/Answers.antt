@@ -5,7 +5,7 @@ use Rattle.fs_files.specs.Calls.{IsWithPlaces, files_in, places_in}
 use Rattle.fs_files.specs.Drafts.{nothing_drafted}
 use Rattle.fs_dirs.specs.Changing.{Alters, IsWithSlots}
 use Rattle.fs_dirs.specs.Directories.{inodes_in}
-use Rattle.fs_commands.specs.Commands.{places_of}
+use Rattle.fs_session.specs.Commands.{places_of}
 use Rattle.fs_commands.proofs.Placing.{placed_kept}
 use Rattle.fs_commands.proofs.moved.Free.{moves_within, used_within}
 use Rattle.fs_commands.proofs.moved.Onto.{place_within}

@@ -9,9 +9,9 @@ use Rattle.crash_stands.specs.Maps.{IsMapOf}
 use Rattle.engine_blocks.specs.Running.{Running}
 use Rattle.engine_blocks.specs.State.{reusable_blocks}
 use Rattle.fs_files.specs.Calls.{GrowthRefused}
-use Rattle.fs_commands.specs.Commands.{GrowsInRuns, IsCalm, places_of}
-use Rattle.fs_commands.specs.Plans.{Plans}
-use Rattle.fs_commands.specs.Sessions.{inodes}
+use Rattle.fs_session.specs.Commands.{GrowsInRuns, IsCalm, places_of}
+use Rattle.fs_session.specs.Plans.{Plans}
+use Rattle.fs_session.specs.Sessions.{inodes}
 use Rattle.fs_commands.proofs.growing.Refused.{growth_refused}
 use Rattle.fs_commands.proofs.moved.Planned.{across_counted, counted_as, grown_into, may_move_away, move_made, move_refusal, planned_move}
 use Rattle.fs_commands.proofs.planning.Looking.{growth_plan, no_look, full_plan}

@@ -6,9 +6,9 @@ use Rattle.lang_tree.specs.Figures.{release}
 use Rattle.lang_tree.specs.Values.{value_of}
 use Rattle.crash_stands.specs.Maps.{IsMapOf}
 use Rattle.engine_blocks.specs.State.{Bookkeeping}
-use Rattle.fs_commands.specs.Plans.{Plans}
+use Rattle.fs_session.specs.Plans.{Plans}
 use Rattle.fs_commands.specs.Removing.{blocks_gone, first_after}
-use Rattle.fs_commands.specs.Sessions.{inodes}
+use Rattle.fs_session.specs.Sessions.{inodes}
 use Rattle.fs_commands.proofs.moved.Planned.{counted_as, move_refusal, no_growth, onto_counted, planned_move}
 use Rattle.fs_commands.proofs.planning.Looking.{cut_short_plan, no_look, full_plan, looked_change}
 use Rattle.fs_commands.proofs.removed.Planned.{loss_made}

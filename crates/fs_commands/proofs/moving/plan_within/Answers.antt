@@ -5,8 +5,8 @@ use Rattle.lang_tree.specs.declared.command.Refusal.{Refusal}
 use Rattle.lang_tree.specs.Values.{value_of}
 use Rattle.crash_stands.specs.Maps.{IsMapOf}
 use Rattle.engine_blocks.specs.State.{Bookkeeping}
-use Rattle.fs_commands.specs.Plans.{Plans}
-use Rattle.fs_commands.specs.Sessions.{inodes}
+use Rattle.fs_session.specs.Plans.{Plans}
+use Rattle.fs_session.specs.Sessions.{inodes}
 use Rattle.fs_commands.proofs.moved.Planned.{counted_as, may_rename, move_made, move_refusal, no_growth, planned_move, within_counted}
 use Rattle.fs_commands.proofs.planning.Looking.{cut_short_plan, no_look, full_plan, looked_change}
 use Rattle.fs_commands.proofs.Weighing.{is_weighed}

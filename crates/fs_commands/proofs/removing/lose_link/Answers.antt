@@ -38,7 +38,7 @@ returns-clause-link g c = λ told.
     let found = c.requires.found told in
     on_one c.set_links.result (c.set_links.ensures.file told) (λ set inode reads.
     link_kept (files_in s d) (files_in (g.S.Blocks.state c.set_links.new.blocks) c.set_links.new.self) node found inode c.one_less.result reads c.if-links-eq1.false
-    (keeps_links s.books.geom (drafted d s.map) node found inode c.one_less.result reads c.if-links-eq1.false c.one_less.ensures.value) (set found.file found.is))
+    (keeps_links c.a_node_in_use_has_links.ensures s.books.geom (drafted d s.map) node found inode c.one_less.result reads c.if-links-eq1.false c.one_less.ensures.value) (set found.file found.is))
 
 pub returns-clause-alters : goal.returns-clause-alters
 returns-clause-alters g c = λ told.

@@ -4,9 +4,9 @@ use Rattle.lang_tree.specs.declared.command.Refusal.{Refusal}
 use Rattle.lang_tree.specs.Values.{value_of}
 use Rattle.crash_stands.specs.Maps.{IsMapOf}
 use Rattle.engine_blocks.specs.State.{Bookkeeping}
-use Rattle.fs_commands.specs.Plans.{Plans}
+use Rattle.fs_session.specs.Plans.{Plans}
 use Rattle.fs_commands.specs.Removing.{lose_cmd}
-use Rattle.fs_commands.specs.Sessions.{inodes}
+use Rattle.fs_session.specs.Sessions.{inodes}
 use Rattle.fs_commands.proofs.planning.Looking.{cut_short_plan, no_look, full_plan, looked_change}
 use Rattle.fs_commands.proofs.removed.Accepted.{law_of}
 use Rattle.fs_commands.proofs.removed.Planned.{loss_accepted, loss_figures_are, makes_loss, loss_made}

@@ -1,7 +1,7 @@
 use Rattle.std.proofs.Common.{[], Err, sym, subst, ap}
 use Rattle.lang_tree.specs.declared.command.Refusal.{Refusal}
 use Rattle.engine_blocks.specs.State.{Bookkeeping}
-use Rattle.fs_commands.specs.Plans.{Plans}
+use Rattle.fs_session.specs.Plans.{Plans}
 use Rattle.fs_commands.specs.Removing.{lose_cmd}
 use Rattle.fs_commands.proofs.planning.Looking.{cut_short_plan}
 use Rattle.fs_commands.proofs.removed.Refused.{refused_loss}

@@ -6,7 +6,7 @@ use Rattle.crash_stands.specs.Inodes.{ADir}
 use Rattle.fs_inodes.specs.Lookups.{is_dir_inode}
 use Rattle.fs_dirs.specs.Directories.{inodes_in}
 use Rattle.fs_commands.specs.Removing.{lose_reason}
-use Rattle.fs_commands.specs.Sessions.{inodes}
+use Rattle.fs_session.specs.Sessions.{inodes}
 use Rattle.fs_commands.proofs.removing.root_refusal.Goals as goal
 
 pub returns-in-File-clause-reason : goal.returns-in-File-clause-reason

@@ -4,7 +4,7 @@ use Rattle.fs_files.specs.Calls.{files_in}
 use Rattle.fs_files.specs.Drafts.{nothing_drafted}
 use Rattle.fs_commands.specs.declared.paths.Spot.TheVariants.{Inside}
 use Rattle.fs_commands.specs.Looks.{ShowsFacts}
-use Rattle.fs_commands.specs.Sessions.{inodes}
+use Rattle.fs_session.specs.Sessions.{inodes}
 use Rattle.fs_commands.proofs.removing.what_stands_there_is_shown.Goals as goal
 
 pub returns : goal.returns

@@ -3,8 +3,8 @@ use Rattle.fs_files.specs.Calls.{files_in}
 use Rattle.fs_files.specs.Drafts.{nothing_drafted}
 use Rattle.fs_commands.specs.declared.paths.Entry.{Entry}
 use Rattle.fs_commands.specs.declared.paths.Spot.TheVariants.{Inside}
-use Rattle.fs_commands.specs.Sessions.{inodes}
-use Rattle.fs_commands.proofs.applying.Passing.{nothing_issued}
+use Rattle.fs_session.specs.Sessions.{inodes}
+use Rattle.fs_session.specs.Staying.{nothing_issued}
 use Rattle.fs_commands.proofs.planning.Looking.{no_look}
 use Rattle.fs_commands.proofs.renamed.Reasons.{moved_reason}
 use Rattle.fs_commands.proofs.renamed.Answered.{lead_to_one, refused_rename, same_rename}

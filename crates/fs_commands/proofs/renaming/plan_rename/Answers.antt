@@ -6,8 +6,8 @@ use Rattle.fs_files.specs.Calls.{files_in}
 use Rattle.fs_files.specs.Drafts.{nothing_drafted}
 use Rattle.fs_commands.specs.declared.paths.Spot.{Spot}
 use Rattle.fs_commands.specs.Looks.{ComesTo, walk_of}
-use Rattle.fs_commands.specs.Plans.{Plans}
-use Rattle.fs_commands.specs.Sessions.{inodes}
+use Rattle.fs_session.specs.Plans.{Plans}
+use Rattle.fs_session.specs.Sessions.{inodes}
 use Rattle.fs_commands.proofs.planning.Before.{plans_behind}
 use Rattle.fs_commands.proofs.planning.Looking.{cut_short_plan}
 use Rattle.fs_commands.proofs.planning.Behind.{may_plan_still, comes_still}

@@ -6,8 +6,8 @@ use Rattle.fs_files.specs.Drafts.{nothing_drafted}
 use Rattle.fs_commands.specs.declared.paths.Spot.{Spot}
 use Rattle.fs_commands.specs.declared.paths.Spot.TheVariants.{Inside}
 use Rattle.fs_commands.specs.Looks.{ComesTo, walk_of}
-use Rattle.fs_commands.specs.Sessions.{inodes}
-use Rattle.fs_commands.proofs.applying.Passing.{nothing_issued}
+use Rattle.fs_session.specs.Sessions.{inodes}
+use Rattle.fs_session.specs.Staying.{nothing_issued}
 use Rattle.fs_commands.proofs.planning.Looking.{no_look}
 use Rattle.fs_commands.proofs.removed.Decided.{plans_as}
 use Rattle.fs_commands.proofs.renamed.Reasons.{walk_refuses}

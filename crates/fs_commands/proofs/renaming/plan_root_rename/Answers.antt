@@ -7,8 +7,8 @@ use Rattle.fs_files.specs.Drafts.{nothing_drafted}
 use Rattle.fs_commands.specs.declared.paths.Spot.{Spot}
 use Rattle.fs_commands.specs.declared.paths.Spot.TheVariants.{Root as TheRoot, Inside}
 use Rattle.fs_commands.specs.Looks.{ComesTo}
-use Rattle.fs_commands.specs.Plans.{Plans}
-use Rattle.fs_commands.specs.Sessions.{inodes}
+use Rattle.fs_session.specs.Plans.{Plans}
+use Rattle.fs_session.specs.Sessions.{inodes}
 use Rattle.fs_commands.proofs.planning.Looking.{cut_short_plan}
 use Rattle.fs_commands.proofs.removed.Decided.{not_root}
 use Rattle.fs_commands.proofs.renamed.Reasons.{of_root_refuses, parent_refuses}

@@ -1,7 +1,7 @@
 use Rattle.fs_files.specs.Calls.{files_in}
 use Rattle.fs_files.specs.Drafts.{nothing_drafted}
 use Rattle.fs_commands.specs.declared.paths.Spot.TheVariants.{Inside}
-use Rattle.fs_commands.specs.Sessions.{inodes}
+use Rattle.fs_session.specs.Sessions.{inodes}
 use Rattle.fs_commands.proofs.renamed.Found.{found_shown}
 use Rattle.fs_commands.proofs.renaming.what_is_found_is_shown.Goals as goal
 

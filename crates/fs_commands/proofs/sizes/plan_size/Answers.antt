@@ -13,9 +13,9 @@ use Rattle.fs_files.specs.Content.{fails_reading}
 use Rattle.fs_files.specs.Drafts.{nothing_drafted}
 use Rattle.fs_files.specs.Effects.{LooksOnly}
 use Rattle.fs_dirs.specs.Directories.{inodes_in}
-use Rattle.fs_commands.specs.Commands.{places_of}
-use Rattle.fs_commands.specs.Plans.{Plans}
-use Rattle.fs_commands.specs.declared.plan.Plan.{Plan}
+use Rattle.fs_session.specs.Commands.{places_of}
+use Rattle.fs_session.specs.Plans.{Plans}
+use Rattle.fs_session.specs.declared.plan.Plan.{Plan}
 use Rattle.fs_commands.proofs.growing.Refused.{growth_refused}
 use Rattle.fs_commands.proofs.planning.Looking.{growth_plan}
 use Rattle.fs_commands.proofs.sizing.Resized.{need_is, resized_tree, within_cost}

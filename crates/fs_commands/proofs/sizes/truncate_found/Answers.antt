@@ -7,8 +7,8 @@ use Rattle.lang_tree.specs.Figures.{figures}
 use Rattle.lang_tree.specs.Values.{value_of}
 use Rattle.crash_stands.specs.Files.{FileNode}
 use Rattle.fs_files.specs.declared.look.FileFacts.{FileFacts}
-use Rattle.fs_commands.specs.Sessions.{inodes}
-use Rattle.fs_commands.proofs.applying.Passing.{nothing_issued}
+use Rattle.fs_session.specs.Sessions.{inodes}
+use Rattle.fs_session.specs.Staying.{nothing_issued}
 use Rattle.fs_commands.proofs.planning.Looking.{no_look, refusal_plan, done_plan, full_plan}
 use Rattle.fs_commands.proofs.sizing.Reasons.{refusal_is, nothing_resized}
 use Rattle.fs_commands.proofs.Weighing.{is_weighed}

@@ -1,8 +1,0 @@
-pub mod Ticked
-pub mod Answered
-pub mod Passing
-pub mod Ticking
-pub mod Unread
-pub mod Late
-pub mod Turning
-pub mod Waiting

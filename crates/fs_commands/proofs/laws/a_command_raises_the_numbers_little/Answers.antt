@@ -1,5 +1,0 @@
-use Rattle.fs_commands.proofs.applying.Turning.{few_turns}
-use Rattle.fs_commands.proofs.laws.a_command_raises_the_numbers_little.Goals as goal
-
-pub returns : goal.returns
-returns g c = λ old new cmd reply applies. few_turns g.S.Blocks.tells g.S.Blocks.state cmd reply old new applies

@@ -1,7 +1,0 @@
-use Rattle.fs_commands.proofs.rooms.Begun.{first_room, none_marked}
-use Rattle.fs_commands.proofs.memory.nothing_is_taken_at_first.Goals as goal
-
-pub returns : goal.returns
-returns g c = λ told s f waits h empty begun.
-    let agrees = g.met.S.Blocks.is_told s told in
-    first_room (g.S.Blocks.state s) agrees h.tree.sound (none_marked (g.S.Blocks.state s) agrees empty) (g.met.S.Blocks.is_sound s) waits begun

@@ -1,5 +1,0 @@
-pub mod Lists
-pub mod Nodes
-pub mod Marks
-pub mod Alive
-pub mod Known

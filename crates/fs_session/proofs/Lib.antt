@@ -1,0 +1,7 @@
+pub mod Weighing
+pub mod Logs
+pub mod carrying
+pub mod syncing
+pub mod applying
+pub mod standing
+pub mod rooms

@@ -1,0 +1,23 @@
+use Rattle.std.proofs.Common.{IsTrue}
+use Rattle.fs_session.proofs.rooms.Known.{Known, room_is}
+use Rattle.fs_session.proofs.rooms.Over.{applied_over}
+use Rattle.fs_session.proofs.disk.a_command_is_answered_in_a_room_that_came_back.Goals as goal
+
+pub returns : goal.returns
+returns g c =
+    let known : IsTrue g.S.Blocks.tells → Known g.S.Blocks.tells g.S.Blocks.state = λ told. record {
+      told = told;
+      sound = g.met.S.Blocks.is_sound;
+      agrees = λ s. g.met.S.Blocks.is_told s told;
+      live = λ s f h. c.as_many_blocks_are_marked_as_the_tree_has.ensures.live s f told h;
+      map = c.blocks_have_the_map_of_their_tree.ensures.map;
+      slots = c.slots_follow_the_bytes.ensures.count;
+      bytes = c.a_file_reads_as_itself.ensures.parts;
+      names = c.the_map_gives_the_names.ensures.count;
+      back = c.tidy_runs_are_those_of_their_numbers.ensures;
+      many = c.a_list_has_its_runs.ensures.count;
+    } in
+    record {
+      room = λ told s f h. room_is g.S.Blocks.tells g.S.Blocks.state (known told) s f h;
+      answers = λ told old new f cmd reply h applies. applied_over g.S.Blocks.tells g.S.Blocks.state (known told) f cmd reply old new h applies;
+    }

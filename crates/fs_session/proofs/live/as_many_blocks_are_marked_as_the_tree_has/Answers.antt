@@ -1,0 +1,14 @@
+use Rattle.std.proofs.Common.{◌-◌, sym, ap, ◌∙◌}
+use Rattle.fs_session.proofs.standing.Marks.{inodes_count}
+use Rattle.fs_session.proofs.live.as_many_blocks_are_marked_as_the_tree_has.Goals as goal
+
+pub returns-clause-live : goal.returns-clause-live
+returns-clause-live g c = λ s f tells h.
+    let state = g.S.Blocks.state s in
+    let t = h.tree in
+    inodes_count c.slots_follow_the_bytes.ensures.count c.a_file_reads_as_itself.ensures.parts state.books.geom state.map t.sound t.inodes t.read state.books.marked (g.met.S.Blocks.is_told s tells).bits
+    ∙ sym (c.the_map_gives_the_figures.ensures.blocks state.books.geom.i t.inodes f.tree t.map)
+
+pub returns-clause-left : goal.returns-clause-left
+returns-clause-left g c = λ s f tells h.
+    ap (λ n. (g.S.Blocks.state s).books.area - n - (g.S.Blocks.state s).books.running.held) (returns-clause-live g c s f tells h)

@@ -1,0 +1,13 @@
+pub mod Lists
+pub mod Nodes
+pub mod Same
+pub mod Known
+pub mod Waits
+pub mod Begun
+pub mod Carried
+pub mod Synced
+pub mod Answered
+pub mod Over
+pub mod Quiet
+pub mod Exactly
+pub mod Taking

@@ -1,0 +1,6 @@
+pub mod Lists
+pub mod Nodes
+pub mod Links
+pub mod Marks
+pub mod Alive
+pub mod Known

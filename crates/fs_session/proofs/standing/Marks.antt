@@ -1,0 +1,126 @@
+-- As many data blocks are marked as the tree has, where it stands.
+use Rattle.std.proofs.Common.{◌≡◌, ℕ, zero, suc, ◌+◌, ◌-◌, ◌*◌, ◌%◌, ◌<◌, ◌≤◌, ◌==◌, ◌&&◌, ◌||◌, nat_lt, Bool, true, false, List, length, filter, Option, Some, None, option_map, refl, sym, ap, ap₂, ◌∙◌, arith}
+use Rattle.std.specs.List.{IsDistinct, range_with_len}
+use Rattle.std.proofs.lemmas.Bool.{eqb-true, false≢true, le-leb, lt-ltb, or_right}
+use Rattle.std.proofs.lemmas.List.{length-append}
+use Rattle.std.proofs.lemmas.Option.{none-some, same_Some}
+use Rattle.base_types.specs.Seal.{Blocks}
+use Rattle.base_types.specs.Runs.{run_places}
+use Rattle.layout_geometry.specs.Geometry.{Geometry, IsGeometry, bitmap_start, data_start}
+use Rattle.layout_journal.specs.Run.{is_live}
+use Rattle.layout_bytes.specs.declared.node.Node.{Node}
+use Rattle.layout_bytes.specs.declared.node.NodeKind.{NodeKind}
+use Rattle.layout_bytes.specs.declared.node.NodeKind.TheVariants.{Free, Dir, File}
+use Rattle.layout_bytes.specs.declared.slot.Slot.{Slot}
+use Rattle.layout_bytes.specs.Bitmap.{is_set}
+use Rattle.layout_bytes.specs.Node.{kind_fits}
+use Rattle.lang_tree.specs.Figures.{blocks_for}
+use Rattle.engine_blocks.specs.Running.{has}
+use Rattle.crash_stands.specs.Files.{FileNode, files_of, file_of, used_node, content}
+use Rattle.crash_stands.specs.Inodes.{Inode, Inodes, ADir, AFile, AreInodesOf, IsInodeOf, inode_by, inode_of}
+use Rattle.crash_stands.specs.Stands.{AreSound, HasBlock}
+use Rattle.fs_inodes.specs.Figures.{inode_blocks, blocks_from}
+use Rattle.fs_files.specs.Calls.{places_or_none}
+use Rattle.fs_session.proofs.standing.Lists.{place_of, has_place, as_long, kept_is, is_kept, distinct_kept, in_turn, turn_of, in_its_turn, distinct_turns}
+use Rattle.fs_session.proofs.standing.Nodes.{Fits, used_number, used_fits, fits_parts, node_count, content_length, places_at, block_place, place_block, place_data}
+
+-- Which blocks are live: those of the bitmap and the node table, and the data blocks that are marked.
+
+pub low_live : (g : Geometry) → IsGeometry g → (m : Blocks) (b : ℕ) → bitmap_start g ≤ b → b < data_start g → is_live g m b ≡ true
+low_live g limits m b from below =
+    ap₂ (λ s t. s && (t && (nat_lt b (data_start g) || is_set g m b))) (le-leb (bitmap_start g) b from) (lt-ltb b g.n (omega (arith, below, limits.data_room)))
+    ∙ ap (λ t. t || is_set g m b) (lt-ltb b (data_start g) below)
+
+pub data_live : (g : Geometry) (m : Blocks) (b : ℕ) → bitmap_start g ≤ b → b < g.n → is_set g m b ≡ true → is_live g m b ≡ true
+data_live g m b from below set =
+    ap₂ (λ s t. s && (t && (nat_lt b (data_start g) || is_set g m b))) (le-leb (bitmap_start g) b from) (lt-ltb b g.n below) ∙ or_right (nat_lt b (data_start g)) (is_set g m b) set
+
+module _ (g : Geometry) (m : Blocks) (sound : AreSound g m) where
+  -- a block of a node is marked, and whole
+  pub place_marked : (k b : ℕ) → has (places_at g m k) b ≡ true → is_set g m b ≡ true
+  place_marked k b is =
+      let at = place_data g m k b is in
+      let r = place_of (places_at g m k) b is in
+      (sound.marked b at.from at.below).1 (k, r.0, place_block g m k r.0 b r.1)
+
+  place_whole : (k b : ℕ) → has (places_at g m k) b ≡ true → length (m b) ≡ 1024
+  place_whole k b is =
+      let at = place_data g m k b is in
+      sound.whole b (data_live g m b (omega (arith, at.from)) at.below (place_marked k b is))
+
+  -- The places of all nodes.
+
+  abbrev all_places : List ℕ
+  all_places = in_turn (places_at g m) 1 g.i
+
+  all_once : IsDistinct (λ a b. a == b) all_places
+  all_once = distinct_turns (places_at g m) 1 g.i (λ k l i j b at_i at_j. sound.own k l i j b (place_block g m k i b at_i) (place_block g m l j b at_j))
+
+  place_among : (k i b : ℕ) → HasBlock g m k i b → has all_places b ≡ true
+  place_among k i b h =
+      let number = used_number g m k h.node h.is_node in
+      in_its_turn (places_at g m) 1 g.i b k number.0 (omega (arith, number.1)) (has_place (places_at g m k) i b (block_place g m k i b h))
+
+  -- as many data blocks are marked as the nodes have
+  marked_count : (p : ℕ → Bool) → ((b : ℕ) → b < g.n → p b ≡ is_set g m b) → length (filter p (range_with_len (data_start g) (g.n - data_start g))) ≡ length all_places
+  marked_count p same = as_long (filter p (range_with_len (data_start g) (g.n - data_start g))) all_places (distinct_kept p (data_start g) (g.n - data_start g)) all_once
+      (λ b is.
+      let r = kept_is p (data_start g) (g.n - data_start g) b is in
+      let below : b < g.n = omega (arith, r.0, r.1) in
+      let owner = (sound.marked b r.0 below).0 (sym (same b below) ∙ r.2) in
+      place_among owner.0 owner.1 b owner.2)
+      (λ b is.
+      let r = turn_of (places_at g m) 1 g.i b is in
+      let at = place_data g m r.0 b r.3 in
+      is_kept p (data_start g) (g.n - data_start g) b at.from (omega (arith, at.from, at.below)) (same b at.below ∙ place_marked r.0 b r.3))
+
+-- The blocks of an inode.
+
+-- a directory's bytes are whole slots
+dir_whole : (node : Node) (kind : NodeKind) (links : ℕ) (bytes : List ℕ) (slots : List Slot) → kind_fits node kind ≡ true → inode_by kind links bytes ≡ Some (ADir slots) → node.size % 64 ≡ 0
+dir_whole node Free links bytes slots fits e = absurd (none-some (ADir slots) e)
+dir_whole node Dir links bytes slots fits e = eqb-true (node.size % 64) 0 fits
+dir_whole node File links bytes slots fits e = absurd (false≢true (ap is_dir (same_Some (AFile links bytes) (ADir slots) e)))
+  where
+    is_dir : Inode → Bool
+    is_dir (ADir s) = true
+    is_dir (AFile l b) = false
+
+-- what the laws say of the bytes of a directory and a file
+abbrev pub HasSlots : Type 0
+HasSlots = (file : FileNode) (slots : List Slot) → inode_of file ≡ Some (ADir slots) → length file.bytes % 64 ≡ 0 → length file.bytes ≡ 64 * length slots
+
+abbrev pub HasItsBytes : Type 0
+HasItsBytes = (file : FileNode) (links : ℕ) (bytes : List ℕ) → inode_of file ≡ Some (AFile links bytes) → (file.links ≡ links) × (file.bytes ≡ bytes)
+
+module _ (slots_law : HasSlots) (bytes_law : HasItsBytes) (g : Geometry) (m : Blocks) (sound : AreSound g m) where
+  -- a node in use has as many blocks as the inode that it reads as
+  used_blocks : (k : ℕ) (node : Node) (x : Inode) → used_node g m k ≡ Some node → inode_of (file_of m node) ≡ Some x → inode_blocks (Some x) ≡ length (run_places node.runs)
+  used_blocks k node x used reads = by x reads
+    where
+      fits : Fits g node
+      fits = fits_parts g node (used_fits g m k node used)
+
+      long : length (content m node) ≡ node.size
+      long = content_length g m node fits (λ b is. place_whole g m sound k b (ap (λ o. has (places_or_none o) b) used ∙ is))
+
+      by : (y : Inode) → inode_of (file_of m node) ≡ Some y → inode_blocks (Some y) ≡ length (run_places node.runs)
+      by (ADir slots) e =
+          let whole = dir_whole node node.kind node.links (content m node) slots fits.kind e in
+          let count = slots_law (file_of m node) slots e (ap (λ n. n % 64) long ∙ whole) in
+          ap blocks_for (sym count ∙ long) ∙ sym (node_count g node fits)
+      by (AFile links bytes) e =
+          ap (λ (xs : List ℕ). blocks_for (length xs)) (sym (bytes_law (file_of m node) links bytes e).1) ∙ (ap blocks_for long ∙ sym (node_count g node fits))
+
+  pub inode_has : (k : ℕ) (o : Option Node) (y : Option Inode) → used_node g m k ≡ o → IsInodeOf (option_map (file_of m) o) y → inode_blocks y ≡ length (places_or_none o)
+  inode_has k None y used is = ap inode_blocks is
+  inode_has k (Some node) None used is = absurd is
+  inode_has k (Some node) (Some x) used is = used_blocks k node x used is
+
+  turns_count : (f : Inodes) → AreInodesOf (files_of g m) f → (k n : ℕ) → blocks_from f k n ≡ length (in_turn (places_at g m) k n)
+  turns_count f read k zero = refl
+  turns_count f read k (suc n) = omega (arith, length-append (places_at g m k) (in_turn (places_at g m) (k + 1) n), inode_has k (used_node g m k) (f k) refl (read k), turns_count f read (k + 1) n)
+
+  -- as many data blocks are marked as the inodes have
+  pub inodes_count : (f : Inodes) → AreInodesOf (files_of g m) f → (p : ℕ → Bool) → ((b : ℕ) → b < g.n → p b ≡ is_set g m b) → length (filter p (range_with_len (data_start g) (g.n - data_start g))) ≡ blocks_from f 1 g.i
+  inodes_count f read p same = marked_count g m sound p same ∙ sym (turns_count f read 1 g.i)

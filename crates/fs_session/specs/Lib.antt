@@ -1,0 +1,14 @@
+pub mod Sessions
+pub mod Space
+pub mod Room
+pub mod Memory
+pub mod Changes
+pub mod Commands
+pub mod DiskRoom
+pub mod Plans
+pub mod Syncs
+pub mod Applying
+pub mod Staying
+pub mod Serving
+pub mod Moments
+pub mod Points

@@ -1,0 +1,70 @@
+//! What a command has planned before anything is changed, and carrying it out. What each command plans is
+//! described elsewhere.
+
+ghost use Rattle.std.specs.Prelude.{◌≡◌, false};
+ghost use Rattle.lang_tree.specs.declared.command.Cmd.{Cmd};
+ghost use Rattle.lang_tree.specs.Points.{is_sync};
+ghost use Rattle.fs_session.specs.Commands.{Carries};
+ghost use Rattle.fs_session.specs.Plans.{MayBeMade, OnChange, Plans};
+ghost use Rattle.fs_session.specs.Sessions.{IsBetween};
+
+use crate::change::carry_out;
+use engine_blocks::{Blocks, calls_compose};
+use fs_files::{Draft, a_sync_may_follow};
+use lang_tree::{Refusal, Reply, a_command_changes_where_it_costs};
+use std::alloc::Global;
+
+/// What a command is to answer or to change.
+#[derive(Drop)]
+pub enum Plan {
+    /// This reply, and nothing changes.
+    Answer(Reply),
+    /// The changes of this draft at this cost, and that the command is done. All nodes of a number below
+    /// `first_unused` are in use then.
+    Change {
+        draft: Draft,
+        cost: u32,
+        first_unused: u32,
+    },
+}
+
+/// Carries out what a command has planned. All nodes of a number below `first_unused` are in use.
+///
+/// # Errors
+/// The plan's; or out of memory. Then nothing is changed. A draft past its cost is answered as `TooBig`,
+/// which never comes where the blocks are known.
+pub fn carry<S: Blocks>(
+    alloc: Global,
+    blocks: &mut S,
+    planned: Result<Plan, Refusal>,
+    first_unused: &mut u32,
+) -> Result<Reply, Refusal>
+    requires may { OnChange planned (λ draft cost first. MayBeMade S.tells draft cost first (S.state blocks.old)) }
+    requires between { IsBetween S.tells (S.state blocks.old) first_unused.old }
+    ensures carries { (cmd : Cmd) (start : S) → is_sync cmd ≡ false → Plans S.tells cmd planned (S.state start) (S.state blocks.old)
+        → Carries S.tells cmd result (S.state start) (S.state blocks.new) }
+    ensures between { IsBetween S.tells (S.state blocks.new) first_unused.new }
+{
+    a_command_changes_where_it_costs();
+    a_sync_may_follow();
+    calls_compose::<S>();
+    match planned {
+        Err(why) => Err(why),
+        Ok(Plan::Answer(reply)) => Ok(reply),
+        Ok(
+            Plan::Change {
+                draft,
+                cost,
+                first_unused: first,
+            },
+        ) => {
+            match carry_out(alloc, blocks, draft, cost) {
+                Ok(()) => {
+                    *first_unused = first;
+                    Ok(Reply::Ok)
+                }
+                Err(why) => Err(why),
+            }
+        }
+    }
+}
