@@ -1,4 +1,4 @@
-use Rattle.std.proofs.Common.{◌≡◌, IsTrue, Some, option_map, sym, subst, ap, ◌∙◌, arith}
+use Rattle.std.proofs.Common.{rules, ◌≡◌, IsTrue, Some, option_map, sym, subst, ap, ◌∙◌, arith}
 use Rattle.std.specs.Prelude.{IfSome}
 use Rattle.layout_geometry.specs.Geometry.{IsGeometry}
 use Rattle.engine_blocks.specs.State.{State}
@@ -22,27 +22,40 @@ module _ (g : _) (c : In-Some g) where
   read x known at = record {
     known = known;
     looks = c.in_ok-node.ensures.looks;
-    draft = c.requires.draft;
+    draft = c.requires.look.draft;
     fits = subst (λ f. IfSome f (IsOpen s.books.geom)) c.in-Some.is c.in_ok-node.ensures.open;
     is = ap (option_map node_of_open) (sym c.in-Some.is)
-        ∙ c.in_ok-node.ensures.node known (has_table s c.args.self.now c.args.number (subst IsGeometry c.geom.ensures c.lawful.ensures.limits) c.requires.above_zero c.requires.in_table (c.requires.draft.sound known));
+        ∙ c.in_ok-node.ensures.node known (has_table s c.args.self.now c.args.number (subst IsGeometry c.geom.ensures c.lawful.ensures.limits) c.requires.look.from c.requires.look.upto (c.requires.look.draft.sound known));
     at = at;
     places = c.a_list_has_its_runs.ensures.places;
   }
 
-pub returns-then-node-size-clause-shrinks : goal.returns-then-node-size-clause-shrinks
-returns-then-node-size-clause-shrinks g c = λ told x at.
-    let b = (goal.at.returns-then-node-size-clause-shrinks g c).In-Some in
-    absurd (omega (arith, c.if-node-size.true, c.requires.shorter told x at, read_size g.S.Blocks.tells (s g b) (t g b) c.args.number c.args.size c.in-Some.node x c.args.self.now (read g b x told at)))
+pub returns-then-node-size : goal.returns-then-node-size
+returns-then-node-size g c =
+    let b = (goal.at.returns-then-node-size g c).In-Some in
+    record {
+      file = search rules;
+      places = search rules;
+      draft = search rules;
+      shrinks = λ told x at. absurd (omega (arith, c.if-node-size.true, c.requires.cuts.shorter told x at, read_size g.S.Blocks.tells (s g b) (t g b) c.args.number c.args.size c.in-Some.node x c.args.self.now (read g b x told at)));
+      among = search rules;
+      refused = search rules;
+      looks = search rules;
+    }
 
-pub returns-clause-file : goal.returns-clause-file
-returns-clause-file g c = λ told x at.
-    let b = (goal.at.returns-clause-file g c).In-Some in
-    let r = read g b x told at in
-    since_read g.S.Blocks.tells (s g b) (t g b) c.args.number c.args.size c.in-Some.node x c.args.self.now r _ _ (c.in_ok-cut.ensures.file told x (read_at g.S.Blocks.tells (s g b) (t g b) c.args.number c.args.size c.in-Some.node x c.args.self.now r))
-
-pub returns-clause-places : goal.returns-clause-places
-returns-clause-places g c = λ told.
-    let b = (goal.at.returns-clause-places g c).In-Some in
-    let there = c.requires.used told in
-    cut_read g.S.Blocks.tells (s g b) (t g b) c.args.number c.args.size c.in-Some.node there.0 c.args.self.now (read g b there.0 told there.1) _ (c.in_ok-cut.ensures.places told)
+pub returns : goal.returns
+returns g c =
+    let b = (goal.at.returns g c).In-Some in
+    record {
+      file = λ told x at.
+          let r = read g b x told at in
+          since_read g.S.Blocks.tells (s g b) (t g b) c.args.number c.args.size c.in-Some.node x c.args.self.now r _ _ (c.in_ok-cut.ensures.file told x (read_at g.S.Blocks.tells (s g b) (t g b) c.args.number c.args.size c.in-Some.node x c.args.self.now r));
+      places = λ told.
+          let there = c.requires.used told in
+          cut_read g.S.Blocks.tells (s g b) (t g b) c.args.number c.args.size c.in-Some.node there.0 c.args.self.now (read g b there.0 told there.1) _ (c.in_ok-cut.ensures.places told);
+      draft = search rules;
+      shrinks = search rules;
+      among = search rules;
+      refused = search rules;
+      looks = search rules;
+    }

@@ -32,18 +32,27 @@ module _ (g : _) (c : In-Some g) where
   used : IsTrue g.S.Blocks.tells → Some (node_of_open c.in-Some.node) ≡ used_node s.books.geom (drafted c.args.self.now s.map) c.args.number
   used told =
       ap (option_map node_of_open) (sym c.in-Some.is)
-      ∙ c.in_ok-node.ensures.node told (has_table s c.args.self.now c.args.number (subst IsGeometry c.geom.ensures c.lawful.ensures.limits) c.requires.above_zero c.requires.in_table (c.requires.draft.sound told))
+      ∙ c.in_ok-node.ensures.node told (has_table s c.args.self.now c.args.number (subst IsGeometry c.geom.ensures c.lawful.ensures.limits) c.requires.look.from c.requires.look.upto (c.requires.look.draft.sound told))
 
-pub returns-then-node-offset-clause-changes : goal.returns-then-node-offset-clause-changes
-returns-then-node-offset-clause-changes g c = λ told some.
-    let b = (goal.at.returns-then-node-offset-clause-changes g c).In-Some in
-    let there = c.requires.used told in
-    absurd (omega (
-      arith,
-      c.if-node-offset.true,
-      c.requires.within told there.0 there.1,
-      is_long g.S.Blocks.tells (s g b) (t g b) c.args.number c.args.self.now c.in-Some.node c.in_ok-node.ensures.looks told (c.requires.draft.sound told) (opened g b) (used g b told) there.0 there.1,
-    ))
+pub returns-then-node-offset : goal.returns-then-node-offset
+returns-then-node-offset g c =
+    let b = (goal.at.returns-then-node-offset g c).In-Some in
+    record {
+      file = search rules;
+      places = search rules;
+      draft = search rules;
+      overwrites = search rules;
+      changes = λ told some.
+          let there = c.requires.used told in
+          absurd (omega (
+            arith,
+            c.if-node-offset.true,
+            c.requires.within told there.0 there.1,
+            is_long g.S.Blocks.tells (s g b) (t g b) c.args.number c.args.self.now c.in-Some.node c.in_ok-node.ensures.looks told (c.requires.look.draft.sound told) (opened g b) (used g b told) there.0 there.1,
+          ));
+      refused = search rules;
+      looks = search rules;
+    }
 
 -- the node was written
 module _ (g : _) (c : goal.In_ok-write_content g) where
@@ -62,12 +71,12 @@ module _ (g : _) (c : goal.In_ok-write_content g) where
   written : WritesWithin g.S.Blocks.tells old c.args.number c.args.offset c.args.bytes.now c.in-Some.node c.args.self.now c.write_content.new.draft
   written = record {
     geom = subst IsGeometry c.geom.ensures c.lawful.ensures.limits;
-    from = c.requires.above_zero;
-    upto = c.requires.in_table;
-    draft = c.requires.draft;
+    from = c.requires.look.from;
+    upto = c.requires.look.upto;
+    draft = c.requires.look.draft;
     opened = subst (λ f. IfSome f (IsOpen old.books.geom)) c.in-Some.is c.in_ok-node.ensures.open;
     used = λ told. ap (option_map node_of_open) (sym c.in-Some.is)
-        ∙ c.in_ok-node.ensures.node told (has_table old c.args.self.now c.args.number (subst IsGeometry c.geom.ensures c.lawful.ensures.limits) c.requires.above_zero c.requires.in_table (c.requires.draft.sound told));
+        ∙ c.in_ok-node.ensures.node told (has_table old c.args.self.now c.args.number (subst IsGeometry c.geom.ensures c.lawful.ensures.limits) c.requires.look.from c.requires.look.upto (c.requires.look.draft.sound told));
     within = omega (arith, c.if-node-offset.false);
     few = c.requires.size;
     some = omega (arith, eqb-false (length c.args.bytes.now) 0 ((sym c.is_empty.ensures ∙ c.if-is_empty.false)));
@@ -81,17 +90,13 @@ module _ (g : _) (c : goal.In_ok-write_content g) where
     tidy = c.a_list_has_its_runs.ensures.tidy;
   }
 
-pub returns-clause-file : goal.returns-clause-file
-returns-clause-file g c = within_file g.S.Blocks.tells (old g c) c.args.number c.args.offset c.args.bytes.now c.in-Some.node c.args.self.now c.write_content.new.draft (written g c) false (new g c) (looks g c)
-
-pub returns-clause-places : goal.returns-clause-places
-returns-clause-places g c = within_places g.S.Blocks.tells (old g c) c.args.number c.args.offset c.args.bytes.now c.in-Some.node c.args.self.now c.write_content.new.draft (written g c) false (new g c) (looks g c)
-
-pub returns-clause-draft : goal.returns-clause-draft
-returns-clause-draft g c = within_draft g.S.Blocks.tells (old g c) c.args.number c.args.offset c.args.bytes.now c.in-Some.node c.args.self.now c.write_content.new.draft (written g c) false (new g c) (looks g c)
-
-pub returns-clause-changes : goal.returns-clause-changes
-returns-clause-changes g c = λ told some. within_changes g.S.Blocks.tells (old g c) c.args.number c.args.offset c.args.bytes.now c.in-Some.node c.args.self.now c.write_content.new.draft (written g c)
-
-pub returns-clause-looks : goal.returns-clause-looks
-returns-clause-looks g c = looks g c
+pub returns : goal.returns
+returns g c = record {
+  file = within_file g.S.Blocks.tells (old g c) c.args.number c.args.offset c.args.bytes.now c.in-Some.node c.args.self.now c.write_content.new.draft (written g c) false (new g c) (looks g c);
+  places = within_places g.S.Blocks.tells (old g c) c.args.number c.args.offset c.args.bytes.now c.in-Some.node c.args.self.now c.write_content.new.draft (written g c) false (new g c) (looks g c);
+  draft = within_draft g.S.Blocks.tells (old g c) c.args.number c.args.offset c.args.bytes.now c.in-Some.node c.args.self.now c.write_content.new.draft (written g c) false (new g c) (looks g c);
+  overwrites = search rules;
+  changes = λ told some. within_changes g.S.Blocks.tells (old g c) c.args.number c.args.offset c.args.bytes.now c.in-Some.node c.args.self.now c.write_content.new.draft (written g c);
+  refused = search rules;
+  looks = looks g c;
+}

@@ -30,7 +30,7 @@ module _ (g : _) (c : In-Some g) where
 
   used : IsTrue g.S.Blocks.tells → Some (node_of_open c.in-Some.node) ≡ used_node s.books.geom (drafted c.args.self.now s.map) c.args.number
   used told =
-      let there = c.in_ok-node.ensures.node told (has_table s c.args.self.now c.args.number (subst IsGeometry c.geom-geom.ensures c.lawful.ensures.limits) c.requires.above_zero c.requires.in_table (c.requires.draft.sound told)) in
+      let there = c.in_ok-node.ensures.node told (has_table s c.args.self.now c.args.number (subst IsGeometry c.geom-geom.ensures c.lawful.ensures.limits) c.requires.look.from c.requires.look.upto (c.requires.look.draft.sound told)) in
       search (rules, there)
 
 -- the geometry stays
@@ -40,80 +40,94 @@ geom_same g c = c.write_loaded.ensures.settles.pipeline.geom ∙ ap (λ (k : Boo
 pub write_loaded-requires-clause-once : goal.write_loaded-requires-clause-once
 write_loaded-requires-clause-once g c = λ told more.
     let b = (goal.at.write_loaded-requires-clause-once g c).In-Some in
-    once_then g.S.Blocks.tells (s g b) (t g b) c.args.number c.args.self.now c.in-Some.node c.in_ok-node.ensures.looks told (c.requires.draft.sound told) (opened g b) (used g b told) (c.args.offset + length c.args.bytes.now) (c.requires.once told) more
+    once_then g.S.Blocks.tells (s g b) (t g b) c.args.number c.args.self.now c.in-Some.node c.in_ok-node.ensures.looks told (c.requires.look.draft.sound told) (opened g b) (used g b told) (c.args.offset + length c.args.bytes.now) (c.requires.grows.once told) more
 
 pub write_loaded-requires-clause-slots : goal.write_loaded-requires-clause-slots
 write_loaded-requires-clause-slots g c = λ told dir.
     let b = (goal.at.write_loaded-requires-clause-slots g c).In-Some in
-    slots_then g.S.Blocks.tells (s g b) (t g b) c.args.number c.args.self.now c.in-Some.node c.in_ok-node.ensures.looks told (c.requires.draft.sound told) (opened g b) (used g b told) (c.args.offset + length c.args.bytes.now) (c.requires.slots told) dir
+    slots_then g.S.Blocks.tells (s g b) (t g b) c.args.number c.args.self.now c.in-Some.node c.in_ok-node.ensures.looks told (c.requires.look.draft.sound told) (opened g b) (used g b told) (c.args.offset + length c.args.bytes.now) (c.requires.slots told) dir
 
-pub returns-clause-file : goal.returns-clause-file
-returns-clause-file g c = λ told.
-    let b = (goal.at.returns-clause-file g c).In-Some in
-    let u = g.S.Blocks.state c.write_loaded.new.blocks in
-    let geom = geom_same g (goal.at.returns-clause-file g c).After-write_loaded in
-    on_ok_weaker c.write_loaded.result (λ w. file_then (s g b) (t g b) u c.args.number c.args.offset c.args.bytes.now c.args.self.now c.write_loaded.new.draft geom (c.in_ok-node.ensures.looks.map told) (sym (c.write_loaded.ensures.settles.map told)) w)
-    (c.write_loaded.ensures.file told)
+pub returns-then-is_empty : goal.returns-then-is_empty
+returns-then-is_empty g c = record {
+  file = search rules;
+  places = λ told x at.
+      let s = g.S.Blocks.state c.args.blocks.now in
+      let ps = places_in s c.args.self.now c.args.number in
+      let none : (length c.args.bytes.now == 0) ≡ true = sym c.is_empty.ensures ∙ c.if-is_empty.true in
+      record { own = none_come ps (reusable_blocks s.books) c.args.bytes.now x c.args.offset none; others = λ l other. refl };
+  draft = search rules;
+  grows = search rules;
+  among = search rules;
+  changes = search rules;
+  refused = search rules;
+  settles = search rules;
+  looks = search rules;
+}
 
-pub returns-then-is_empty-clause-places : goal.returns-then-is_empty-clause-places
-returns-then-is_empty-clause-places g c = λ told x at.
-    let s = g.S.Blocks.state c.args.blocks.now in
-    let ps = places_in s c.args.self.now c.args.number in
-    let none : (length c.args.bytes.now == 0) ≡ true = sym c.is_empty.ensures ∙ c.if-is_empty.true in
-    record { own = none_come ps (reusable_blocks s.books) c.args.bytes.now x c.args.offset none; others = λ l other. refl }
+pub returns : goal.returns
+returns g c =
+    let b = (goal.at.returns g c).In-Some in
+    record {
+      file = λ told.
+          let u = g.S.Blocks.state c.write_loaded.new.blocks in
+          let geom = geom_same g (goal.at.returns g c).After-write_loaded in
+          on_ok_weaker c.write_loaded.result (λ w. file_then (s g b) (t g b) u c.args.number c.args.offset c.args.bytes.now c.args.self.now c.write_loaded.new.draft geom (c.in_ok-node.ensures.looks.map told) (sym (c.write_loaded.ensures.settles.map told)) w)
+          (c.write_loaded.ensures.file told);
+      places = λ told.
+          let u = g.S.Blocks.state c.write_loaded.new.blocks in
+          let geom = geom_same g (goal.at.returns g c).After-write_loaded in
+          on_ok_weaker c.write_loaded.result (λ w. has_then (s g b) (t g b) u c.args.number c.args.offset c.args.bytes.now c.args.self.now c.write_loaded.new.draft geom (c.in_ok-node.ensures.looks.map told) (sym (c.write_loaded.ensures.settles.map told)) w)
+          (c.write_loaded.ensures.file told);
+      draft = search rules;
+      grows = λ told.
+          let u = g.S.Blocks.state c.write_loaded.new.blocks in
+          let geom = geom_same g (goal.at.returns g c).After-write_loaded in
+          on_ok_weaker c.write_loaded.result (λ w x at some. grows_then (s g b) (t g b) u c.args.number c.args.offset c.args.bytes.now c.args.self.now c.write_loaded.new.draft geom (c.in_ok-node.ensures.looks.map told) (sym (c.write_loaded.ensures.settles.map told)) w x at)
+          (c.write_loaded.ensures.file told);
+      among = λ told.
+          let u = g.S.Blocks.state c.write_loaded.new.blocks in
+          let geom = geom_same g (goal.at.returns g c).After-write_loaded in
+          on_ok_weaker c.write_loaded.result (λ w. among_then (s g b) (t g b) u c.args.number c.args.offset c.args.bytes.now c.args.self.now c.write_loaded.new.draft geom (c.in_ok-node.ensures.looks.map told) (sym (c.write_loaded.ensures.settles.map told)) w)
+          (c.write_loaded.ensures.file told);
+      changes = λ told.
+          let u = g.S.Blocks.state c.write_loaded.new.blocks in
+          let geom = geom_same g (goal.at.returns g c).After-write_loaded in
+          let there = c.requires.used told in
+          on_ok_weaker c.write_loaded.result (λ w some. (grows_then (s g b) (t g b) u c.args.number c.args.offset c.args.bytes.now c.args.self.now c.write_loaded.new.draft geom (c.in_ok-node.ensures.looks.map told) (sym (c.write_loaded.ensures.settles.map told)) w there.0 there.1).changes)
+          (c.write_loaded.ensures.file told);
+      refused = λ told.
+          err_maps c.write_loaded.result (λ why h x at. refused_then g.S.Blocks.tells (s g b) (t g b) c.args.number c.args.self.now c.in-Some.node c.in_ok-node.ensures.looks told (c.requires.look.draft.sound told) (opened g b) (used g b told)
+          (c.args.offset + length c.args.bytes.now) x (g.S.Blocks.state c.write_loaded.new.blocks).books why c.a_list_has_its_runs.ensures.places at h) c.write_loaded.ensures.refused;
+      settles = looks_then g.S.Blocks.state g.S.Blocks.tells c.calls_compose.ensures.advances c.calls_compose.ensures.rests _ _ c.args.blocks.now c.load.new.blocks c.write_loaded.new.blocks c.requires.look.going c.in_ok-node.ensures.looks c.write_loaded.ensures.settles;
+      looks = λ told x at few.
+          looks_more g.S.Blocks.tells (fails_reading c.write_loaded.result) (s g b) (t g b) (g.S.Blocks.state c.write_loaded.new.blocks) c.in_ok-node.ensures.looks
+          (c.write_loaded.ensures.looks (few_then g.S.Blocks.tells (s g b) (t g b) c.args.number c.args.self.now c.in-Some.node c.in_ok-node.ensures.looks told (c.requires.look.draft.sound told) (opened g b) (used g b told) (c.args.offset + length c.args.bytes.now) x at few));
+    }
 
-pub returns-clause-places : goal.returns-clause-places
-returns-clause-places g c = λ told.
-    let b = (goal.at.returns-clause-places g c).In-Some in
-    let u = g.S.Blocks.state c.write_loaded.new.blocks in
-    let geom = geom_same g (goal.at.returns-clause-places g c).After-write_loaded in
-    on_ok_weaker c.write_loaded.result (λ w. has_then (s g b) (t g b) u c.args.number c.args.offset c.args.bytes.now c.args.self.now c.write_loaded.new.draft geom (c.in_ok-node.ensures.looks.map told) (sym (c.write_loaded.ensures.settles.map told)) w)
-    (c.write_loaded.ensures.file told)
+pub returns-in_default : goal.returns-in_default
+returns-in_default g c = record {
+  file = search rules;
+  places = search rules;
+  draft = search rules;
+  grows = search rules;
+  among = search rules;
+  changes = search rules;
+  refused = search rules;
+  settles = looked g.S.Blocks.state g.S.Blocks.tells c.calls_compose.ensures.advances c.calls_compose.ensures.rests false c.args.blocks.now c.load.new.blocks c.requires.look.going c.in_ok-node.ensures.looks;
+  looks = search rules;
+}
 
-pub returns-clause-grows : goal.returns-clause-grows
-returns-clause-grows g c = λ told.
-    let b = (goal.at.returns-clause-grows g c).In-Some in
-    let u = g.S.Blocks.state c.write_loaded.new.blocks in
-    let geom = geom_same g (goal.at.returns-clause-grows g c).After-write_loaded in
-    on_ok_weaker c.write_loaded.result (λ w x at some. grows_then (s g b) (t g b) u c.args.number c.args.offset c.args.bytes.now c.args.self.now c.write_loaded.new.draft geom (c.in_ok-node.ensures.looks.map told) (sym (c.write_loaded.ensures.settles.map told)) w x at)
-    (c.write_loaded.ensures.file told)
-
-pub returns-clause-among : goal.returns-clause-among
-returns-clause-among g c = λ told.
-    let b = (goal.at.returns-clause-among g c).In-Some in
-    let u = g.S.Blocks.state c.write_loaded.new.blocks in
-    let geom = geom_same g (goal.at.returns-clause-among g c).After-write_loaded in
-    on_ok_weaker c.write_loaded.result (λ w. among_then (s g b) (t g b) u c.args.number c.args.offset c.args.bytes.now c.args.self.now c.write_loaded.new.draft geom (c.in_ok-node.ensures.looks.map told) (sym (c.write_loaded.ensures.settles.map told)) w)
-    (c.write_loaded.ensures.file told)
-
-pub returns-clause-changes : goal.returns-clause-changes
-returns-clause-changes g c = λ told.
-    let b = (goal.at.returns-clause-changes g c).In-Some in
-    let u = g.S.Blocks.state c.write_loaded.new.blocks in
-    let geom = geom_same g (goal.at.returns-clause-changes g c).After-write_loaded in
-    let there = c.requires.used told in
-    on_ok_weaker c.write_loaded.result (λ w some. (grows_then (s g b) (t g b) u c.args.number c.args.offset c.args.bytes.now c.args.self.now c.write_loaded.new.draft geom (c.in_ok-node.ensures.looks.map told) (sym (c.write_loaded.ensures.settles.map told)) w there.0 there.1).changes)
-    (c.write_loaded.ensures.file told)
-
-pub returns-clause-refused : goal.returns-clause-refused
-returns-clause-refused g c = λ told.
-    let b = (goal.at.returns-clause-refused g c).In-Some in
-    err_maps c.write_loaded.result (λ why h x at. refused_then g.S.Blocks.tells (s g b) (t g b) c.args.number c.args.self.now c.in-Some.node c.in_ok-node.ensures.looks told (c.requires.draft.sound told) (opened g b) (used g b told)
-    (c.args.offset + length c.args.bytes.now) x (g.S.Blocks.state c.write_loaded.new.blocks).books why c.a_list_has_its_runs.ensures.places at h) c.write_loaded.ensures.refused
-
-pub returns-clause-looks : goal.returns-clause-looks
-returns-clause-looks g c = λ told x at few.
-    let b = (goal.at.returns-clause-looks g c).In-Some in
-    looks_more g.S.Blocks.tells (fails_reading c.write_loaded.result) (s g b) (t g b) (g.S.Blocks.state c.write_loaded.new.blocks) c.in_ok-node.ensures.looks
-    (c.write_loaded.ensures.looks (few_then g.S.Blocks.tells (s g b) (t g b) c.args.number c.args.self.now c.in-Some.node c.in_ok-node.ensures.looks told (c.requires.draft.sound told) (opened g b) (used g b told) (c.args.offset + length c.args.bytes.now) x at few))
-
-pub returns-clause-settles : goal.returns-clause-settles
-returns-clause-settles g c = looks_then g.S.Blocks.state g.S.Blocks.tells c.calls_compose.ensures.advances c.calls_compose.ensures.rests _ _ c.args.blocks.now c.load.new.blocks c.write_loaded.new.blocks c.requires.going c.in_ok-node.ensures.looks c.write_loaded.ensures.settles
-
-pub returns-in_default-clause-settles : goal.returns-in_default-clause-settles
-returns-in_default-clause-settles g c = looked g.S.Blocks.state g.S.Blocks.tells c.calls_compose.ensures.advances c.calls_compose.ensures.rests false c.args.blocks.now c.load.new.blocks c.requires.going c.in_ok-node.ensures.looks
-
-pub returns-in_err-node-clause-settles : goal.returns-in_err-node-clause-settles
-returns-in_err-node-clause-settles g c =
-    same_error c.from_residual.result refusal.ReadFault (λ r. LooksAndSettles g.S.Blocks.tells (fails_reading r) (fails_settling r) (g.S.Blocks.state c.args.blocks.now) (g.S.Blocks.state c.load.new.blocks)) c.from_residual.ensures.1
-    (looked g.S.Blocks.state g.S.Blocks.tells c.calls_compose.ensures.advances c.calls_compose.ensures.rests true c.args.blocks.now c.load.new.blocks c.requires.going c.in_err-node.ensures.looks)
+pub returns-in_err-node : goal.returns-in_err-node
+returns-in_err-node g c = record {
+  file = search rules;
+  places = search rules;
+  draft = search rules;
+  grows = search rules;
+  among = search rules;
+  changes = search rules;
+  refused = search rules;
+  settles =
+      same_error c.from_residual.result refusal.ReadFault (λ r. LooksAndSettles g.S.Blocks.tells (fails_reading r) (fails_settling r) (g.S.Blocks.state c.args.blocks.now) (g.S.Blocks.state c.load.new.blocks)) c.from_residual.ensures.1
+      (looked g.S.Blocks.state g.S.Blocks.tells c.calls_compose.ensures.advances c.calls_compose.ensures.rests true c.args.blocks.now c.load.new.blocks c.requires.look.going c.in_err-node.ensures.looks);
+  looks = search rules;
+}
