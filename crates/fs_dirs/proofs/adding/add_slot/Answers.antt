@@ -1,4 +1,5 @@
 use Rattle.std.proofs.Common.{◌≡◌, ◌+◌, ◌*◌, false, IsTrue, List, [], ◌∷◌, ◌++◌, length, min, Some, IfSome, sym, subst, ap, ◌∙◌, rules, arith}
+use Rattle.std.proofs.lemmas.Grind.{common_steps}
 use Rattle.std.proofs.lemmas.Option.{none-some, same_Some}
 use Rattle.std.proofs.lemmas.Result.{IfErr-weaker, on_ok_weaker}
 use Rattle.layout_bytes.specs.declared.slot.Slot.{Slot}
@@ -22,13 +23,13 @@ returns-in_default g c = record {
   slots = λ told slots is. absurd (none-some _ (sym c.in_default.is ∙ c.in_ok-count.ensures.count told (ADir slots) is));
   used = λ told l used. subst (λ (f : Files). IsUsed f l) (sym (same_files g.S.Blocks.tells false (g.S.Blocks.state c.args.blocks.now) (g.S.Blocks.state c.count_slots.new.blocks) c.args.draft.now c.in_ok-count.ensures.looks told)) used;
   places = λ told slots is. absurd (none-some _ (sym c.in_default.is ∙ c.in_ok-count.ensures.count told (ADir slots) is));
-  draft = search rules;
+  draft = draft_stays g.S.Blocks.tells false (g.S.Blocks.state c.args.blocks.now) (g.S.Blocks.state c.count_slots.new.blocks) c.args.draft.now c.in_ok-count.ensures.looks c.requires.look.draft;
   room = λ told slots is. absurd (none-some _ (sym c.in_default.is ∙ c.in_ok-count.ensures.count told (ADir slots) is));
   runs = λ told slots is. absurd (none-some _ (sym c.in_default.is ∙ c.in_ok-count.ensures.count told (ADir slots) is));
   alters = λ told slots is. absurd (none-some _ (sym c.in_default.is ∙ c.in_ok-count.ensures.count told (ADir slots) is));
-  refused = search rules;
-  settles = search rules;
-  looks = search rules;
+  refused = λ told. tt;
+  settles = first_of (search rules, grind (arith, common_steps));
+  looks = λ told slots is few. c.in_ok-count.ensures.looks;
 }
 
 -- its slots were counted
@@ -82,7 +83,7 @@ returns g c =
           (same_growth (length r.file.bytes) (length slots) (64 * c.from.result) (length c.as_slice.result.now) r.long (omega (arith, c.from.ensures, many g b told slots is)) size)
           (grows r.file r.is (omega (arith, size))).behind (places r.file r.is))
           (c.write_at.ensures.grows told) (c.write_at.ensures.places told);
-      draft = search rules;
+      draft = c.write_at.ensures.draft;
       room = λ told.
           let size : length c.as_slice.result.now ≡ 64 = search rules in
           let new = g.S.Blocks.state c.write_at.new.blocks in
@@ -118,7 +119,7 @@ returns g c =
           refused_behind _ _ (places_in look c.args.draft.now c.args.dir) (places_in old c.args.draft.now c.args.dir) old.books look.books (g.S.Blocks.state c.write_at.new.blocks).books why
           (same_growth (length r.file.bytes) (length slots) (64 * c.from.result) (length c.as_slice.result.now) r.long (omega (arith, c.from.ensures, many g b told slots is)) size)
           (same_places g.S.Blocks.tells false old look c.args.draft.now c.in_ok-count.ensures.looks c.args.dir told) c.in_ok-count.ensures.looks.books (refused r.file r.is)) (c.write_at.ensures.refused told);
-      settles = search rules;
+      settles = first_of (search rules, grind (arith, common_steps));
       looks = λ told slots is few.
           let size : length c.as_slice.result.now ≡ 64 = search rules in
           let r = node g b told slots is in

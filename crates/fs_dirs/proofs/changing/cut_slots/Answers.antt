@@ -1,4 +1,4 @@
-use Rattle.std.proofs.Common.{rules, ◌≡◌, ◌*◌, IsTrue, List, Some, take, subst, arith}
+use Rattle.std.proofs.Common.{◌≡◌, ◌*◌, IsTrue, List, Some, take, subst, arith}
 use Rattle.layout_bytes.specs.declared.slot.Slot.{Slot}
 use Rattle.crash_stands.specs.Inodes.{ADir}
 use Rattle.engine_blocks.specs.State.{State}
@@ -35,12 +35,12 @@ returns g c = record {
       let size : 64 * c.from.result ≡ 64 * c.args.count = omega (arith, c.from.ensures) in
       subst (λ n. IsWithPlaces (places_in (s g c) c.args.draft.now) (places_in new c.cut_to.new.self) c.args.dir (take (blocks_for n) (places_in (s g c) c.args.draft.now c.args.dir))) size
       (c.in_ok-cut_to.ensures.places told);
-  draft = search rules;
+  draft = c.in_ok-cut_to.ensures.draft;
   alters = λ told slots is.
       let r = node g c told slots is in
       alters_cut (s g c).books.geom c.args.dir c.args.count (64 * c.from.result) slots _ r (places_in (s g c) c.args.draft.now c.args.dir) (places_in (g.S.Blocks.state c.cut_to.new.blocks) c.cut_to.new.self c.args.dir) c.args.draft.now c.cut_to.new.self
       (omega (arith, c.from.ensures)) (c.a_file_has_its_blocks.ensures c.args.blocks.now c.args.draft.now c.args.dir r.file told c.requires.look.draft r.is)
       (c.in_ok-cut_to.ensures.shrinks told r.file r.is) (c.in_ok-cut_to.ensures.among told r.file r.is);
-  refused = search rules;
-  looks = search rules;
+  refused = tt;
+  looks = c.in_ok-cut_to.ensures.looks;
 }

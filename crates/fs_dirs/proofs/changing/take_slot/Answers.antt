@@ -1,4 +1,4 @@
-use Rattle.std.proofs.Common.{rules, ◌≡◌, ◌+◌, ◌-◌, ◌<◌, false, IsTrue, List, [], length, set, slice_get, Some, sym, subst, ap, ◌∙◌, arith, length-set, Err}
+use Rattle.std.proofs.Common.{◌≡◌, ◌+◌, ◌-◌, ◌<◌, false, IsTrue, List, [], length, set, slice_get, Some, sym, subst, ap, ◌∙◌, arith, length-set, Err}
 use Rattle.std.proofs.lemmas.Option.{none-some, same_Some, slice_get-get_or}
 use Rattle.std.proofs.lemmas.Result.{err_from_is_err_and}
 use Rattle.layout_bytes.specs.declared.slot.Slot.{Slot}
@@ -7,11 +7,10 @@ use Rattle.crash_stands.specs.Files.{Files}
 use Rattle.crash_stands.specs.Inodes.{ADir}
 use Rattle.engine_blocks.specs.State.{State}
 use Rattle.fs_files.specs.Calls.{files_in, places_in}
-use Rattle.fs_files.specs.Content.{fails_reading}
 use Rattle.fs_files.specs.Effects.{LooksOnly}
-use Rattle.fs_dirs.specs.Changing.{Alters, IsWithSlots}
+use Rattle.fs_dirs.specs.Changing.{Alters, IsWithSlots, TakesSlot}
 use Rattle.fs_dirs.specs.Directories.{inodes_in}
-use Rattle.fs_dirs.proofs.reading.Looks.{looks_more, same_files, same_inodes, same_places}
+use Rattle.fs_dirs.proofs.reading.Looks.{draft_stays, looks_more, same_files, same_inodes, same_places}
 use Rattle.fs_dirs.proofs.writing.Alterings.{alters_both}
 use Rattle.fs_dirs.proofs.writing.Nodes.{place_of_slots}
 use Rattle.fs_dirs.proofs.writing.Taking.{out_is, slots_twice, places_twice}
@@ -39,16 +38,18 @@ pub returns-in_default-2 : goal.returns-in_default-2
 returns-in_default-2 g c =
     let b = (goal.at.returns-in_default-2 g c).In-Some in
     record {
-      slots = search rules;
+      slots = λ told slots is.
+          absurd (none-some _ (sym c.in_default-2.is ∙ c.in_ok-moved.ensures.slot told slots (still g b told slots is) (omega (arith, last_is g b told slots is, place_low g b told slots is))
+          ∙ slice_get-get_or slots c.in-Some.last (record { node = 0; name = [] }) (omega (arith, last_is g b told slots is, place_low g b told slots is))));
       places = λ told slots is.
           absurd (none-some _ (sym c.in_default-2.is ∙ c.in_ok-moved.ensures.slot told slots (still g b told slots is) (omega (arith, last_is g b told slots is, place_low g b told slots is))
           ∙ slice_get-get_or slots c.in-Some.last (record { node = 0; name = [] }) (omega (arith, last_is g b told slots is, place_low g b told slots is))));
-      draft = search rules;
+      draft = draft_stays g.S.Blocks.tells false (s g b) (g.S.Blocks.state c.slot_at.new.blocks) c.args.draft.now (looks_more g.S.Blocks.tells false (s g b) (t g b) (g.S.Blocks.state c.slot_at.new.blocks) c.in_ok-last.ensures.looks c.in_ok-moved.ensures.looks) c.requires.look.draft;
       alters = λ told slots is.
           absurd (none-some _ (sym c.in_default-2.is ∙ c.in_ok-moved.ensures.slot told slots (still g b told slots is) (omega (arith, last_is g b told slots is, place_low g b told slots is))
           ∙ slice_get-get_or slots c.in-Some.last (record { node = 0; name = [] }) (omega (arith, last_is g b told slots is, place_low g b told slots is))));
-      refused = search rules;
-      looks = search rules;
+      refused = tt;
+      looks = looks_more g.S.Blocks.tells false (s g b) (t g b) (g.S.Blocks.state c.slot_at.new.blocks) c.in_ok-last.ensures.looks c.in_ok-moved.ensures.looks;
     }
 
 -- and its slot was written over the one at the place
@@ -107,7 +108,7 @@ returns g c =
           places_twice (places_in (read g b) c.args.draft.now) (places_in (start g b) c.args.draft.now) (places_in (put g b) c.set_slot.new.draft) (places_in (g.S.Blocks.state c.cut_slots.new.blocks) c.cut_slots.new.draft) c.args.dir _ _
           (λ l. same_places g.S.Blocks.tells false (start g b) (read g b) c.args.draft.now (looks g b) l told) (ap directory_blocks (its_last g b told slots is))
           (c.in_ok-set_slot.ensures.places told) (c.in_ok-cut_slots.ensures.places told);
-      draft = search rules;
+      draft = c.in_ok-cut_slots.ensures.draft;
       alters = λ told slots is.
           let mine = set_is g b told slots is in
           let long = length-set slots c.args.place c.in-Some-2.moved in
@@ -115,22 +116,21 @@ returns g c =
           let fewer : 0 + (directory_blocks (length (set slots c.args.place c.in-Some-2.moved)) - directory_blocks c.in-Some.last) ≡ release (length slots) = omega (arith, long, last) in
           subst (λ n. Alters 3 [] n c.args.draft.now c.cut_slots.new.draft) fewer
           (alters_both 1 2 0 _ [] [] c.args.draft.now c.set_slot.new.draft c.cut_slots.new.draft (c.in_ok-set_slot.ensures.alters told) (c.in_ok-cut_slots.ensures.alters told (set slots c.args.place c.in-Some-2.moved) mine.inodes.here));
-      refused = search rules;
+      refused = tt;
       looks = looks_more g.S.Blocks.tells false (start g b) (put g b) (g.S.Blocks.state c.cut_slots.new.blocks) (put_looks g b) c.in_ok-cut_slots.ensures.looks;
     }
 
 pub returns-in_err-cut_slots : goal.returns-in_err-cut_slots
 returns-in_err-cut_slots g c =
     let b = (goal.at.returns-in_err-cut_slots g c).In_ok-set_slot in
-    record {
-      slots = search rules;
-      places = search rules;
-      draft = search rules;
-      alters = search rules;
-      refused = search rules;
-      looks =
-          let new = g.S.Blocks.state c.cut_slots.new.blocks in
-          let error = err_from_is_err_and c.from_residual-in_err-cut_slots.result c.from_residual-in_err-cut_slots.ensures.1 in
-          subst (λ r. LooksOnly g.S.Blocks.tells (fails_reading r) (start g b) new) (sym (error.1 ∙ ap Err error.2))
-          (looks_more g.S.Blocks.tells _ (start g b) (put g b) new (put_looks g b) c.in_err-cut_slots.ensures.looks);
-    }
+    let new = g.S.Blocks.state c.cut_slots.new.blocks in
+    let error = err_from_is_err_and c.from_residual-in_err-cut_slots.result c.from_residual-in_err-cut_slots.ensures.1 in
+    subst (λ r. TakesSlot g.S.Blocks.tells c.args.dir c.args.place r (start g b) new c.args.draft.now c.cut_slots.new.draft) (sym (error.1 ∙ ap Err error.2))
+    (record {
+      slots = λ told. tt;
+      places = λ told. tt;
+      draft = tt;
+      alters = λ told. tt;
+      refused = c.in_err-cut_slots.ensures.refused;
+      looks = looks_more g.S.Blocks.tells _ (start g b) (put g b) new (put_looks g b) c.in_err-cut_slots.ensures.looks;
+    })

@@ -1,4 +1,3 @@
-use Rattle.std.proofs.Common.{rules}
 use Rattle.engine_blocks.specs.State.{State}
 use Rattle.fs_files.proofs.calling.Cuts.{CutsNode, cut_steps, cut_draft, cut_file, cut_places, cut_shrinks, cut_changes, file_looks}
 use Rattle.fs_files.proofs.resize.cut.Goals as goal
@@ -25,6 +24,6 @@ returns g c = record {
   draft = cut_draft g.S.Blocks.tells (s g c) (t g c) c.args.number c.args.size c.args.node.now c.to_node.result c.args.table.now c.args.draft.now c.shrink.new.draft c.clear_rest.new.draft c.store.new.draft (steps g c) c.in_ok-clear_rest.ensures.looks;
   shrinks = λ known x at. cut_shrinks g.S.Blocks.tells (s g c) c.args.number c.args.size c.args.node.now c.to_node.result c.args.table.now c.args.draft.now c.shrink.new.draft c.clear_rest.new.draft c.store.new.draft (steps g c) known (t g c) c.in_ok-clear_rest.ensures.looks x;
   among = λ known x at. cut_changes g.S.Blocks.tells (s g c) c.args.number c.args.size c.args.node.now c.to_node.result c.args.table.now c.args.draft.now c.shrink.new.draft c.clear_rest.new.draft c.store.new.draft (steps g c) known x at;
-  refused = search rules;
-  looks = search rules;
+  refused = tt;
+  looks = c.in_ok-clear_rest.ensures.looks;
 }

@@ -47,6 +47,6 @@ returns g c = record {
   draft = draft_looks g.S.Blocks.tells _ (s g c) (g.S.Blocks.state c.load.new.blocks) c.store.new.draft c.load.ensures.looks (record { fits = fits g c; sound = λ tells. (made g c tells).0; content = λ b some. changed g c });
   among = λ tells. (made g c tells).2;
   changes = λ tells. changed g c;
-  refused = search rules;
-  looks = search rules;
+  refused = tt;
+  looks = c.in_ok-node.ensures.looks;
 }

@@ -1,4 +1,5 @@
 use Rattle.std.proofs.Common.{rules, ap, refl, ◌+◌, ◌≡◌, ◌≤◌, arith}
+use Rattle.std.proofs.lemmas.Grind.{common_steps}
 use Rattle.engine_blocks.specs.State.{Bookkeeping}
 use Rattle.fs_files.specs.Calls.{AreUsed, IsFirstUnused}
 use Rattle.fs_files.specs.Drafts.{ChangesSome, drafted}
@@ -6,24 +7,25 @@ use Rattle.fs_files.specs.Nodes.{node_block}
 use Rattle.fs_files.specs.Sound.{FitsBooks}
 use Rattle.fs_files.proofs.frames.Carry.{draft_looks, looked_places}
 use Rattle.fs_files.proofs.frames.Puts.{put_changes}
+use Rattle.fs_files.proofs.calling.Drops.{put_sets}
 use Rattle.fs_files.proofs.calling.Nodes.{put_still_fits, looked_files}
 use Rattle.fs_files.proofs.calling.News.{news, all_used}
 use Rattle.fs_files.proofs.draft.Draft.new_node.Goals as goal
 
 pub returns-in_default : goal.returns-in_default
 returns-in_default g c = record {
-  node = search rules;
-  places = search rules;
+  node = λ tells. tt;
+  places = λ tells. tt;
   none = λ tells.
       let s = g.S.Blocks.state c.args.blocks.now in
       let used : AreUsed s.books.geom (drafted c.args.self.now s.map) c.args.from (s.books.geom.i + 1) = search rules in
       (λ l low high. all_used s.books.geom (drafted c.args.self.now s.map) c.args.from (s.books.geom.i + 1) (c.requires.below tells) used l low (omega (arith, high)), refl);
-  number = search rules;
-  draft = search rules;
-  among = search rules;
-  changes = search rules;
-  refused = search rules;
-  looks = search rules;
+  number = tt;
+  draft = first_of (search rules, grind (arith, common_steps));
+  among = tt;
+  changes = tt;
+  refused = tt;
+  looks = first_of (search rules, grind (arith, common_steps));
 }
 
 module _ (g : _) (c : goal.In_ok-store g) where
@@ -59,8 +61,8 @@ returns g c = record {
       c.geom-geom.ensures c.lawful.ensures.limits (range g c).0 (range g c).1 c.requires.draft.fits (c.requires.draft.sound tells) c.requires.kind (c.requires.below tells) found.0 found.1
       (ap (λ rs. record { kind = c.args.kind; links = 1; size = 0; runs = rs }) c.new.ensures) c.in_ok-store.ensures.ok c.in_ok-store.ensures.back in
       looked_places g.S.Blocks.tells _ s (g.S.Blocks.state c.least_unused.new.blocks) c.args.self.now c.store.new.draft c.in-Some.number _ _ c.least_unused.ensures.looks tells refl made.3;
-  none = search rules;
-  number = search rules;
+  none = λ tells. tt;
+  number = range g c;
   draft =
       let s = g.S.Blocks.state c.args.blocks.now in
       draft_looks g.S.Blocks.tells _ s (g.S.Blocks.state c.least_unused.new.blocks) c.store.new.draft c.least_unused.ensures.looks (record {
@@ -72,8 +74,8 @@ returns g c = record {
             (ap (λ rs. record { kind = c.args.kind; links = 1; size = 0; runs = rs }) c.new.ensures) c.in_ok-store.ensures.ok c.in_ok-store.ensures.back).0;
         content = λ b some. changed g c;
       });
-  among = search rules;
+  among = put_sets (k g c) c.geom-geom.result c.in-Some.number _ c.args.self.now c.store.new.draft c.geom-geom.ensures c.lawful.ensures.limits (range g c).0 (range g c).1 c.requires.draft.fits c.in_ok-store.ensures.ok;
   changes = changed g c;
-  refused = search rules;
-  looks = search rules;
+  refused = tt;
+  looks = first_of (search rules, grind (arith, common_steps));
 }

@@ -1,4 +1,4 @@
-use Rattle.std.proofs.Common.{◌≡◌, ◌+◌, false, IsTrue, length, option_map, Some, sym, ap, subst, ◌∙◌, rules, arith}
+use Rattle.std.proofs.Common.{◌≡◌, ◌+◌, ℕ, List, false, IsTrue, length, option_map, Some, sym, ap, subst, ◌∙◌, rules, arith}
 use Rattle.std.specs.Prelude.{IfSome}
 use Rattle.std.proofs.lemmas.Bool.{eqb-false}
 use Rattle.base_types.specs.Seal.{Blocks}
@@ -7,11 +7,13 @@ use Rattle.layout_geometry.specs.Geometry.{IsGeometry}
 use Rattle.engine_blocks.specs.State.{State}
 use Rattle.crash_stands.specs.Files.{joined, used_node}
 use Rattle.fs_files.specs.Bytes.{met, overwrite}
+use Rattle.fs_files.specs.Calls.{places_in, places_or_none, ChangesAmong}
 use Rattle.fs_files.specs.Content.{HasContent, WritesContent}
 use Rattle.fs_files.specs.Drafts.{drafted}
 use Rattle.fs_files.specs.Effects.{LooksOnly}
 use Rattle.fs_files.specs.Nodes.{node_of_open, IsOpen}
 use Rattle.fs_files.proofs.bytes.Looks.{looks_more}
+use Rattle.fs_files.proofs.frames.Carry.{draft_looks}
 use Rattle.fs_files.proofs.calling.Nodes.{has_table}
 use Rattle.fs_files.proofs.calling.WriteAt.{is_long}
 use Rattle.fs_files.proofs.calling.Within.{WritesWithin, within_draft, within_file, within_places, within_changes}
@@ -37,21 +39,16 @@ module _ (g : _) (c : In-Some g) where
 pub returns-then-node-offset : goal.returns-then-node-offset
 returns-then-node-offset g c =
     let b = (goal.at.returns-then-node-offset g c).In-Some in
+    let there = c.requires.used in
+    let short = λ (told : IsTrue g.S.Blocks.tells). is_long g.S.Blocks.tells (s g b) (t g b) c.args.number c.args.self.now c.in-Some.node c.in_ok-node.ensures.looks told (c.requires.look.draft.sound told) (opened g b) (used g b told) (there told).0 (there told).1 in
     record {
-      file = search rules;
-      places = search rules;
-      draft = search rules;
-      overwrites = search rules;
-      changes = λ told some.
-          let there = c.requires.used told in
-          absurd (omega (
-            arith,
-            c.if-node-offset.true,
-            c.requires.within told there.0 there.1,
-            is_long g.S.Blocks.tells (s g b) (t g b) c.args.number c.args.self.now c.in-Some.node c.in_ok-node.ensures.looks told (c.requires.look.draft.sound told) (opened g b) (used g b told) there.0 there.1,
-          ));
-      refused = search rules;
-      looks = search rules;
+      file = λ told x at. absurd (omega (arith, c.if-node-offset.true, c.requires.within told (there told).0 (there told).1, short told));
+      places = λ told. absurd (omega (arith, c.if-node-offset.true, c.requires.within told (there told).0 (there told).1, short told));
+      draft = draft_looks g.S.Blocks.tells false (s g b) (t g b) c.args.self.now c.in_ok-node.ensures.looks c.requires.look.draft;
+      overwrites = λ told. absurd (omega (arith, c.if-node-offset.true, c.requires.within told (there told).0 (there told).1, short told));
+      changes = λ told some. absurd (omega (arith, c.if-node-offset.true, c.requires.within told (there told).0 (there told).1, short told));
+      refused = tt;
+      looks = c.in_ok-node.ensures.looks;
     }
 
 -- the node was written
@@ -95,8 +92,17 @@ returns g c = record {
   file = within_file g.S.Blocks.tells (old g c) c.args.number c.args.offset c.args.bytes.now c.in-Some.node c.args.self.now c.write_content.new.draft (written g c) false (new g c) (looks g c);
   places = within_places g.S.Blocks.tells (old g c) c.args.number c.args.offset c.args.bytes.now c.in-Some.node c.args.self.now c.write_content.new.draft (written g c) false (new g c) (looks g c);
   draft = within_draft g.S.Blocks.tells (old g c) c.args.number c.args.offset c.args.bytes.now c.in-Some.node c.args.self.now c.write_content.new.draft (written g c) false (new g c) (looks g c);
-  overwrites = search rules;
+  overwrites = λ told.
+      let bs = met c.args.offset (c.args.offset + length c.args.bytes.now) in
+      let same : c.in-Some.node.places ≡ places_in (old g c) c.args.self.now c.args.number = sym (c.a_list_has_its_runs.ensures.places c.in-Some.node.places) ∙ ap places_or_none ((written g c).used told) in
+      let w = (written g c).writes in
+      record {
+        among = subst (λ (ps : List ℕ). ChangesAmong (bs ps) c.args.self.now c.write_content.new.draft) same w.keys;
+        taken = w.taken;
+        freed = w.freed;
+        fresh = omega (arith, w.fresh_len);
+      };
   changes = λ told some. within_changes g.S.Blocks.tells (old g c) c.args.number c.args.offset c.args.bytes.now c.in-Some.node c.args.self.now c.write_content.new.draft (written g c);
-  refused = search rules;
+  refused = tt;
   looks = looks g c;
 }

@@ -1,4 +1,4 @@
-use Rattle.std.proofs.Common.{◌≡◌, rules, IsTrue, Some, refl, sym, subst, ap, ◌∙◌, option_map}
+use Rattle.std.proofs.Common.{◌≡◌, false, rules, IsTrue, Some, refl, sym, subst, ap, ◌∙◌, option_map}
 use Rattle.layout_geometry.specs.Geometry.{IsGeometry}
 use Rattle.engine_blocks.specs.State.{Bookkeeping, State}
 use Rattle.crash_stands.specs.Files.{FileNode, files_of}
@@ -8,6 +8,7 @@ use Rattle.fs_files.specs.Nodes.{node_of_open, IsOpen}
 use Rattle.fs_files.specs.Sound.{FitsBooks, IsSoundDraft}
 use Rattle.fs_files.proofs.frames.Carry.{draft_looks, looked_places}
 use Rattle.fs_files.proofs.frames.Puts.{put_changes}
+use Rattle.fs_files.proofs.calling.Drops.{put_sets}
 use Rattle.fs_files.proofs.calling.Nodes.{links_set, has_table, none_found, put_still_fits, looked_files}
 use Rattle.fs_files.proofs.draft.Draft.set_links.Goals as goal
 
@@ -38,29 +39,21 @@ module _ (g : _) (c : goal.In_ok-store g) where
       c.in_ok-store.ensures.ok c.in_ok-store.ensures.back at
 
 pub returns-in_default : goal.returns-in_default
-returns-in_default g c = record {
-  file = λ tells x at.
-      let s = g.S.Blocks.state c.args.blocks.now in
-      let geom = subst IsGeometry c.geom-geom.ensures c.lawful.ensures.limits in
-      let there = has_table s c.args.self.now c.args.number geom c.requires.look.from c.requires.look.upto (c.requires.look.draft.sound tells) in
-      none_found s c.args.self.now c.args.number x c.in_ok-node.field-0 c.in_default.is (c.in_ok-node.ensures.node tells there) at;
-  places = λ tells.
-      let s = g.S.Blocks.state c.args.blocks.now in
-      let used = c.requires.used tells in
-      let geom = subst IsGeometry c.geom-geom.ensures c.lawful.ensures.limits in
-      let there = has_table s c.args.self.now c.args.number geom c.requires.look.from c.requires.look.upto (c.requires.look.draft.sound tells) in
-      none_found s c.args.self.now c.args.number used.0 c.in_ok-node.field-0 c.in_default.is (c.in_ok-node.ensures.node tells there) used.1;
-  draft = search rules;
-  among = search rules;
-  changes = λ tells.
-      let s = g.S.Blocks.state c.args.blocks.now in
-      let used = c.requires.used tells in
-      let geom = subst IsGeometry c.geom-geom.ensures c.lawful.ensures.limits in
-      let there = has_table s c.args.self.now c.args.number geom c.requires.look.from c.requires.look.upto (c.requires.look.draft.sound tells) in
-      none_found s c.args.self.now c.args.number used.0 c.in_ok-node.field-0 c.in_default.is (c.in_ok-node.ensures.node tells there) used.1;
-  refused = search rules;
-  looks = search rules;
-}
+returns-in_default g c =
+    let s = g.S.Blocks.state c.args.blocks.now in
+    let t = g.S.Blocks.state c.load.new.blocks in
+    let d = c.args.self.now in
+    let geom = subst IsGeometry c.geom-geom.ensures c.lawful.ensures.limits in
+    let node = λ (tells : IsTrue g.S.Blocks.tells). c.in_ok-node.ensures.node tells (has_table s d c.args.number geom c.requires.look.from c.requires.look.upto (c.requires.look.draft.sound tells)) in
+    record {
+      file = λ tells x at. none_found s d c.args.number x c.in_ok-node.field-0 c.in_default.is (node tells) at;
+      places = λ tells. let used = c.requires.used tells in none_found s d c.args.number used.0 c.in_ok-node.field-0 c.in_default.is (node tells) used.1;
+      draft = draft_looks g.S.Blocks.tells false s t d c.in_ok-node.ensures.looks c.requires.look.draft;
+      among = λ tells. let used = c.requires.used tells in none_found s d c.args.number used.0 c.in_ok-node.field-0 c.in_default.is (node tells) used.1;
+      changes = λ tells. let used = c.requires.used tells in none_found s d c.args.number used.0 c.in_ok-node.field-0 c.in_default.is (node tells) used.1;
+      refused = tt;
+      looks = c.in_ok-node.ensures.looks;
+    }
 
 pub returns : goal.returns
 returns g c = record {
@@ -71,8 +64,8 @@ returns g c = record {
   draft =
       draft_looks g.S.Blocks.tells _ (s g c) (g.S.Blocks.state c.load.new.blocks) c.store.new.draft c.load.ensures.looks
       (record { fits = fits g c; sound = λ tells. let used = c.requires.used tells in (made g c tells used.0 used.1).0; content = λ b some. changed g c });
-  among = search rules;
+  among = λ tells. put_sets (k g c) c.geom-geom.result c.args.number _ c.args.self.now c.store.new.draft c.geom-geom.ensures c.lawful.ensures.limits c.requires.look.from c.requires.look.upto c.requires.look.draft.fits c.in_ok-store.ensures.ok;
   changes = λ tells. changed g c;
-  refused = search rules;
-  looks = search rules;
+  refused = tt;
+  looks = c.in_ok-node.ensures.looks;
 }
