@@ -8,6 +8,7 @@ use Rattle.engine_blocks.specs.State.{State}
 use Rattle.crash_stands.specs.Files.{joined, used_node}
 use Rattle.fs_files.specs.Bytes.{met, overwrite}
 use Rattle.fs_files.specs.Calls.{places_in, places_or_none, ChangesAmong}
+use Rattle.fs_files.specs.Changing.{OverwritesFile}
 use Rattle.fs_files.specs.Content.{HasContent, WritesContent}
 use Rattle.fs_files.specs.Drafts.{drafted}
 use Rattle.fs_files.specs.Effects.{LooksOnly}
@@ -15,6 +16,7 @@ use Rattle.fs_files.specs.Nodes.{node_of_open, IsOpen}
 use Rattle.fs_files.proofs.bytes.Looks.{looks_more}
 use Rattle.fs_files.proofs.frames.Carry.{draft_looks}
 use Rattle.fs_files.proofs.calling.Nodes.{has_table}
+use Rattle.fs_files.proofs.drafts.Refused.{same_error}
 use Rattle.fs_files.proofs.calling.WriteAt.{is_long}
 use Rattle.fs_files.proofs.calling.Within.{WritesWithin, within_draft, within_file, within_places, within_changes}
 use Rattle.fs_files.proofs.draft.Draft.overwrite.Goals as goal
@@ -106,3 +108,20 @@ returns g c = record {
   refused = tt;
   looks = looks g c;
 }
+
+pub returns-in_err-write_content : goal.returns-in_err-write_content
+returns-in_err-write_content g c =
+    let tells = g.S.Blocks.tells in
+    let start = g.S.Blocks.state c.args.blocks.now in
+    let read = g.S.Blocks.state c.load.new.blocks in
+    let end = g.S.Blocks.state c.write_content.new.blocks in
+    same_error c.from_residual-in_err-write_content.result c.in_err-write_content.field-0.0 (λ r. OverwritesFile tells c.args.number c.args.offset c.args.bytes.now r start end c.args.self.now c.write_content.new.draft) c.from_residual-in_err-write_content.ensures.1
+    (record {
+      file = λ told. tt;
+      places = λ told. tt;
+      draft = tt;
+      overwrites = λ told. tt;
+      changes = λ told. tt;
+      refused = c.in_err-write_content.ensures.refused;
+      looks = looks_more tells _ start read end c.in_ok-node.ensures.looks c.in_err-write_content.ensures.looks;
+    })

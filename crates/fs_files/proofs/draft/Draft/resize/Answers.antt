@@ -1,11 +1,11 @@
-use Rattle.std.proofs.Common.{◌≡◌, true, false, IsTrue, option_map, Some, refl, sym, ap, subst, ◌∙◌, arith}
+use Rattle.std.proofs.Common.{◌≡◌, true, false, IsTrue, length, option_map, Some, refl, sym, ap, subst, ◌∙◌, arith}
 use Rattle.std.specs.Prelude.{IfSome}
 use Rattle.std.proofs.lemmas.Result.{on_ok_weaker}
 use Rattle.layout_geometry.specs.Geometry.{IsGeometry}
 use Rattle.engine_blocks.specs.State.{State}
 use Rattle.crash_stands.specs.Files.{FileNode}
 use Rattle.fs_files.specs.declared.refusal.FileRefusal.TheVariants as refusal
-use Rattle.fs_files.specs.Calls.{files_in}
+use Rattle.fs_files.specs.Calls.{files_in, growth, places_in}
 use Rattle.fs_files.specs.Changing.{ResizesFile}
 use Rattle.fs_files.specs.Content.{fails_reading}
 use Rattle.fs_files.specs.Effects.{LooksAndSettles}
@@ -129,7 +129,7 @@ returns-then-size-node-2 g c =
           let now = read_at g.S.Blocks.tells (s g b) (t g b) c.args.number c.args.size c.in-Some.node x c.args.self.now r in
           cut_resizes g.S.Blocks.tells (s g b) (t g b) c.args.number c.args.size c.in-Some.node x c.args.self.now r (g.S.Blocks.state c.cut.new.blocks).books c.cut.new.draft _ c.cut.ensures.looks.books
           (omega (arith, c.if-size-node-2.true)) (shrinks x now) (among x now)) (c.cut.ensures.shrinks known) (c.cut.ensures.among known);
-      refused = λ known. err_maps c.cut.result (λ why no x at. look_growth _ _ _ _ why no) c.cut.ensures.refused;
+      refused = λ known. err_maps c.cut.result (λ why no x at. look_growth (growth (length x.bytes) c.args.size) (places_in (s g b) c.args.self.now c.args.number) (s g b).books (g.S.Blocks.state c.cut.new.blocks).books why no) c.cut.ensures.refused;
       settles =
           let tells = g.S.Blocks.tells in
           let s = g.S.Blocks.state c.args.blocks.now in
