@@ -1,12 +1,19 @@
--- What the calls that change a directory make of a draft. They are described in docs/DIRECTORIES.md.
-use Rattle.std.specs.Prelude.{◌≡◌, ◌≢◌, ℕ, ◌+◌, ◌<◌, ◌≤◌, List, ◌++◌, length, Some}
+-- What the calls that change a directory make of a draft, and what each of them does. They are described in docs/DIRECTORIES.md.
+use Rattle.std.specs.Prelude.{◌≡◌, ◌≢◌, ℕ, ◌+◌, ◌-◌, ◌<◌, ◌≤◌, Bool, IsTrue, List, [], ◌∷◌, ◌++◌, length, take, set, Some, Result, IfErr, OnOk}
+use Rattle.layout_extent.specs.Runs.{stretches}
 use Rattle.layout_bytes.specs.declared.slot.Slot.{Slot}
+use Rattle.layout_directory.specs.Directory.{without_at}
+use Rattle.lang_tree.specs.Figures.{directory_blocks, growth, release}
 use Rattle.crash_stands.specs.Files.{Files}
 use Rattle.crash_stands.specs.Inodes.{ADir, inodes_of}
 use Rattle.fs_inodes.specs.Changes.{Sets}
-use Rattle.engine_blocks.specs.State.{State}
-use Rattle.fs_files.specs.Calls.{ChangesAmong}
+use Rattle.engine_blocks.specs.State.{State, reusable_blocks}
+use Rattle.fs_files.specs.declared.refusal.FileRefusal.{FileRefusal}
+use Rattle.fs_files.specs.Calls.{files_in, places_in, ChangesAmong, IsUsed, IsWithPlaces, GrowthRefused, LookRefused}
+use Rattle.fs_files.specs.Content.{fails_reading, fails_settling}
 use Rattle.fs_files.specs.Drafts.{DraftState, ChangesSome}
+use Rattle.fs_files.specs.Effects.{LooksOnly, LooksAndSettles}
+use Rattle.fs_files.specs.Sound.{IsDraftOf}
 use Rattle.fs_dirs.specs.Directories.{inodes_in}
 
 -- node k is a directory that has this place
@@ -29,3 +36,69 @@ pub record Alters (most : ℕ) (takes : List ℕ) (frees : ℕ) (d e : DraftStat
   pub taken : e.taken ≡ d.taken ++ takes
   pub freed : length e.freed ≡ length d.freed + frees
   pub fresh : length e.fresh ≤ length d.fresh
+
+-- In each of these, `s` and `t` are the blocks and `d` and `e` the draft before and after the call.
+
+-- What `add_slot` does: directory `dir` has this slot too, behind the last one.
+pub record AddsSlot {T : Type 0} (tells : Bool) (dir : ℕ) (slot : Slot) (result : Result T FileRefusal) (s t : State) (d e : DraftState) : Type 0 where
+  -- no other node changed, and what was in use still is
+  pub slots : IsTrue tells → OnOk result ((slots : List Slot) → inodes_in s d dir ≡ Some (ADir slots) → IsWithSlots (files_in s d) (files_in t e) dir (slots ++ slot ∷ []))
+  pub used : IsTrue tells → OnOk result ((l : ℕ) → IsUsed (files_in s d) l → IsUsed (files_in t e) l)
+  -- its blocks are those that it had, and behind them the least that may be taken, where it grows
+  pub places : IsTrue tells → OnOk result ((slots : List Slot) → inodes_in s d dir ≡ Some (ADir slots)
+      → IsWithPlaces (places_in s d) (places_in t e) dir (places_in s d dir ++ take (growth (length slots)) (reusable_blocks t.books)))
+  -- the draft is one of the blocks as they are then
+  pub draft : OnOk result (IsDraftOf tells t e)
+  -- so many may be taken, and the directory has at most 28 runs
+  pub room : IsTrue tells → OnOk result ((slots : List Slot) → inodes_in s d dir ≡ Some (ADir slots) → growth (length slots) ≤ length (reusable_blocks t.books))
+  pub runs : IsTrue tells → OnOk result ((slots : List Slot) → inodes_in s d dir ≡ Some (ADir slots) → stretches (places_in s d dir ++ take (growth (length slots)) (reusable_blocks t.books)) ≤ 28)
+  -- it changes two blocks at most, and takes those
+  pub alters : IsTrue tells → OnOk result ((slots : List Slot) → inodes_in s d dir ≡ Some (ADir slots) → Alters 2 (take (growth (length slots)) (reusable_blocks t.books)) 0 d e)
+  -- why it is refused
+  pub refused : IsTrue tells → IfErr result (λ why. (slots : List Slot) → inodes_in s d dir ≡ Some (ADir slots) → GrowthRefused (growth (length slots)) (places_in s d dir) s.books t.books why)
+  -- what becomes of the blocks: where enough may be taken they are only read
+  pub settles : LooksAndSettles tells (fails_reading result) (fails_settling result) s t
+  pub looks : IsTrue tells → (slots : List Slot) → inodes_in s d dir ≡ Some (ADir slots) → growth (length slots) ≤ length (reusable_blocks s.books) → LooksOnly tells (fails_reading result) s t
+
+-- What `set_slot` does: the slot at a place of directory `dir` is another one.
+pub record SetsSlot {T : Type 0} (tells : Bool) (dir place : ℕ) (slot : Slot) (result : Result T FileRefusal) (s t : State) (d e : DraftState) : Type 0 where
+  -- no other node changed
+  pub slots : IsTrue tells → OnOk result ((slots : List Slot) → inodes_in s d dir ≡ Some (ADir slots) → IsWithSlots (files_in s d) (files_in t e) dir (set slots place slot))
+  -- it has the blocks that it had
+  pub places : IsTrue tells → OnOk result (IsWithPlaces (places_in s d) (places_in t e) dir (places_in s d dir))
+  -- the draft is one of the blocks as they are then
+  pub draft : OnOk result (IsDraftOf tells t e)
+  -- it changes one block
+  pub alters : IsTrue tells → OnOk result (Alters 1 [] 0 d e)
+  -- a read of the disk failed, or it is out of memory; blocks are only read
+  pub refused : IfErr result LookRefused
+  pub looks : LooksOnly tells (fails_reading result) s t
+
+-- What `take_slot` does: the slot at a place of directory `dir` is out, and the last one is in its place.
+pub record TakesSlot {T : Type 0} (tells : Bool) (dir place : ℕ) (result : Result T FileRefusal) (s t : State) (d e : DraftState) : Type 0 where
+  -- no other node changed
+  pub slots : IsTrue tells → OnOk result ((slots : List Slot) → inodes_in s d dir ≡ Some (ADir slots) → IsWithSlots (files_in s d) (files_in t e) dir (without_at place slots))
+  -- it has the first of its blocks, as many as one slot less needs
+  pub places : IsTrue tells → OnOk result ((slots : List Slot) → inodes_in s d dir ≡ Some (ADir slots)
+      → IsWithPlaces (places_in s d) (places_in t e) dir (take (directory_blocks (length slots - 1)) (places_in s d dir)))
+  -- the draft is one of the blocks as they are then
+  pub draft : OnOk result (IsDraftOf tells t e)
+  -- it changes three blocks at most, and frees one where it needs one less
+  pub alters : IsTrue tells → OnOk result ((slots : List Slot) → inodes_in s d dir ≡ Some (ADir slots) → Alters 3 [] (release (length slots)) d e)
+  -- a read of the disk failed, or it is out of memory; blocks are only read
+  pub refused : IfErr result LookRefused
+  pub looks : LooksOnly tells (fails_reading result) s t
+
+-- What a cut of directory `dir` to its first `count` slots does, which are fewer than it has.
+pub record CutsSlots {T : Type 0} (tells : Bool) (dir count : ℕ) (result : Result T FileRefusal) (s t : State) (d e : DraftState) : Type 0 where
+  -- no other node changed
+  pub slots : IsTrue tells → OnOk result ((slots : List Slot) → inodes_in s d dir ≡ Some (ADir slots) → IsWithSlots (files_in s d) (files_in t e) dir (take count slots))
+  -- it has the first of its blocks, as many as these slots need
+  pub places : IsTrue tells → OnOk result (IsWithPlaces (places_in s d) (places_in t e) dir (take (directory_blocks count) (places_in s d dir)))
+  -- the draft is one of the blocks as they are then
+  pub draft : OnOk result (IsDraftOf tells t e)
+  -- it changes two blocks at most, and frees the others of its own
+  pub alters : IsTrue tells → OnOk result ((slots : List Slot) → inodes_in s d dir ≡ Some (ADir slots) → Alters 2 [] (directory_blocks (length slots) - directory_blocks count) d e)
+  -- a read of the disk failed, or it is out of memory; blocks are only read
+  pub refused : IfErr result LookRefused
+  pub looks : LooksOnly tells (fails_reading result) s t

@@ -1,5 +1,5 @@
 -- What the steps of reading a directory need and give.
-use Rattle.std.specs.Prelude.{◌≡◌, ◌≢◌, ℕ, ◌%◌, ◌≤◌, ◌<◌, Bool, false, IsTrue, IfOk, List, ◌++◌, length, map, take, drop, slice_get, Some, Result, Ok}
+use Rattle.std.specs.Prelude.{◌≡◌, ◌≢◌, ℕ, ◌%◌, ◌^◌, ◌<◌, Bool, false, IsTrue, IfErr, IfOk, IfSome, List, ◌++◌, length, map, take, drop, slice_get, Option, Some, Result, Ok}
 use Rattle.std.specs.List.{All}
 use Rattle.layout_bytes.specs.declared.slot.Slot.{Slot}
 use Rattle.lang_tree.specs.declared.command.Refusal.{Refusal}
@@ -11,20 +11,17 @@ use Rattle.crash_stands.specs.Walks.{entry_in}
 use Rattle.fs_inodes.specs.Lookups.{is_dir_inode, walk_on}
 use Rattle.engine_blocks.specs.State.{State}
 use Rattle.engine_blocks.specs.Puts.{IsData}
+use Rattle.fs_files.specs.Asks.{MayLook}
 use Rattle.fs_files.specs.Drafts.{DraftState}
 use Rattle.fs_files.specs.Sound.{IsDraftOf}
-use Rattle.fs_files.specs.Calls.{files_in, places_in, IsUsed}
+use Rattle.fs_files.specs.Calls.{files_in, places_in, IsUsed, LookRefused}
+use Rattle.fs_files.specs.Content.{fails_reading}
 use Rattle.fs_files.specs.Effects.{LooksOnly}
-use Rattle.fs_dirs.specs.Directories.{inodes_in, IsNumber}
+use Rattle.fs_files.specs.declared.refusal.FileRefusal.{FileRefusal}
+use Rattle.fs_dirs.specs.declared.lookup.Found.{Found}
+use Rattle.fs_dirs.specs.Directories.{inodes_in, Finds, IsNumber}
 
--- Node k may be looked at in this draft.
-pub record MayLook (tells : Bool) (s : State) (d : DraftState) (k : ℕ) : Type 0 where
-  pub going : s.books.stopped ≡ false
-  pub from : 1 ≤ k
-  pub upto : k ≤ s.books.geom.i
-  pub draft : IsDraftOf tells s d
-
--- Node k may be read: it is in use too.
+-- Node k may be read: it may be looked at, and is in use.
 pub record MayRead (tells : Bool) (s : State) (d : DraftState) (k : ℕ) : Type 0 where
   pub look : MayLook tells s d k
   pub used : IsTrue tells → IsUsed (files_in s d) k
@@ -54,6 +51,17 @@ pub record HasSought (tells : Bool) (start now : State) (d : DraftState) (node :
   pub looks : LooksOnly tells false start now
   pub begins : first % 16 ≡ 0
   pub misses : IsTrue tells → (slots : List Slot) → HasSlots start d node slots → length slots ≡ count → MissesBefore slots name first
+
+-- What a look for a name in directory `dir` answers.
+pub record LooksForName (tells : Bool) (dir : ℕ) (name : List ℕ) (result : Result (Option Found) FileRefusal) (s t : State) (d : DraftState) : Type 0 where
+  -- the first slot that has it, where the blocks have a map
+  pub found : IsTrue tells → IfOk result (λ found. (tree : Tree) (slots : List Slot) → IsMapOf s.books.geom.i (inodes_in s d) tree → inodes_in s d dir ≡ Some (ADir slots) → Finds slots name found)
+  -- a place of a directory, and a number of the table
+  pub place : IfOk result (λ found. IfSome found (λ f. f.place < 2 ^ 24))
+  pub number : IfOk result (λ found. IfSome found (λ f. IsNumber s.books.geom.i f.node))
+  -- a read of the disk failed; blocks are only read
+  pub refused : IfErr result LookRefused
+  pub looks : LooksOnly tells (fails_reading result) s t
 
 -- What one name more of a walk comes to: the number under the name, which is a node in use, or why there is none.
 pub record EntersOn (m : Inodes) (k : ℕ) (name : List ℕ) (next : Result ℕ Refusal) : Type 0 where

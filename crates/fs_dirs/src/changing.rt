@@ -1,20 +1,19 @@
 //! Slots of a directory of a draft changed in place and taken out. One slot is written at a time, and never a
 //! whole directory; and no call here grows it.
 
-ghost use Rattle.std.specs.Prelude.{◌≡◌, ◌≤◌, ◌<◌, ◌-◌, ◌^◌, ℕ, IsTrue, false, List, [], length, take, set, slice_get, Some, IfOk, IfSome, IfErr, OnOk};
+ghost use Rattle.std.specs.Prelude.{◌≡◌, ◌<◌, ◌-◌, ◌^◌, IsTrue, List, length, slice_get, Some, IfOk, IfSome, IfErr};
 ghost use Rattle.layout_bytes.specs.declared.slot.Slot.{Slot as SlotValue};
 ghost use Rattle.layout_bytes.specs.Slot.{slot_spelling};
 ghost use Rattle.layout_directory.specs.Slots.{IsLawful};
-ghost use Rattle.layout_directory.specs.Directory.{without_at};
-ghost use Rattle.lang_tree.specs.Figures.{directory_blocks, release};
 ghost use Rattle.crash_stands.specs.Inodes.{ADir};
-ghost use Rattle.fs_files.specs.Sound.{IsDraftOf};
+ghost use Rattle.fs_files.specs.Asks.{MayLook};
 ghost use Rattle.fs_files.specs.Content.{fails_reading};
 ghost use Rattle.fs_files.specs.Effects.{LooksOnly};
-ghost use Rattle.fs_files.specs.Calls.{files_in, places_in, IsWithPlaces, LookRefused};
+ghost use Rattle.fs_files.specs.Calls.{LookRefused};
 ghost use Rattle.fs_dirs.specs.Directories.{inodes_in};
 ghost use Rattle.fs_dirs.specs.Reading.{MayRead};
-ghost use Rattle.fs_dirs.specs.Changing.{Alters, HasPlace, IsWithSlots};
+ghost use Rattle.fs_dirs.specs.Changing.{CutsSlots, SetsSlot, TakesSlot};
+ghost use Rattle.fs_dirs.specs.Changing.{HasPlace};
 
 use crate::block::{SLOTS_IN_BLOCK, ZEROS, read_slots, slot_in};
 use crate::lookup::count_slots;
@@ -40,21 +39,10 @@ pub fn set_slot<S: Blocks>(
     place: u32,
     slot: &Slot,
 ) -> Result<(), FileRefusal>
-    requires going { (S.state blocks.old).books.stopped ≡ false }
-    requires above_zero { 1 ≤ dir }
-    requires in_table { dir ≤ (S.state blocks.old).books.geom.i }
-    requires draft { IsDraftOf S.tells (S.state blocks.old) draft.old }
+    requires look { MayLook S.tells (S.state blocks.old) draft.old dir }
     requires low { place < 2 ^ 24 }
     requires there { IsTrue S.tells → HasPlace (S.state blocks.old) draft.old dir place }
-    ensures slots { IsTrue S.tells → OnOk result ((slots : List SlotValue) → inodes_in (S.state blocks.old) draft.old dir ≡ Some (ADir slots)
-        → IsWithSlots (files_in (S.state blocks.old) draft.old) (files_in (S.state blocks.new) draft.new) dir (set slots place slot.now)) }
-    ensures places { IsTrue S.tells → OnOk result
-        (IsWithPlaces (places_in (S.state blocks.old) draft.old) (places_in (S.state blocks.new) draft.new) dir
-        (places_in (S.state blocks.old) draft.old dir)) }
-    ensures draft { OnOk result (IsDraftOf S.tells (S.state blocks.new) draft.new) }
-    ensures alters { IsTrue S.tells → OnOk result (Alters 1 [] 0 draft.old draft.new) }
-    ensures refused { IfErr result LookRefused }
-    ensures looks { LooksOnly S.tells (fails_reading result) (S.state blocks.old) (S.state blocks.new) }
+    ensures { SetsSlot S.tells dir place slot.now result (S.state blocks.old) (S.state blocks.new) draft.old draft.new }
 {
     a_directory_has_whole_slots::<S>();
     bytes_lie_in_blocks();
@@ -77,22 +65,10 @@ pub fn take_slot<S: Blocks>(
     dir: u32,
     place: u32,
 ) -> Result<(), FileRefusal>
-    requires going { (S.state blocks.old).books.stopped ≡ false }
-    requires above_zero { 1 ≤ dir }
-    requires in_table { dir ≤ (S.state blocks.old).books.geom.i }
-    requires draft { IsDraftOf S.tells (S.state blocks.old) draft.old }
+    requires look { MayLook S.tells (S.state blocks.old) draft.old dir }
     requires low { place < 2 ^ 24 }
     requires there { IsTrue S.tells → HasPlace (S.state blocks.old) draft.old dir place }
-    ensures slots { IsTrue S.tells → OnOk result ((slots : List SlotValue) → inodes_in (S.state blocks.old) draft.old dir ≡ Some (ADir slots)
-        → IsWithSlots (files_in (S.state blocks.old) draft.old) (files_in (S.state blocks.new) draft.new) dir (without_at place slots)) }
-    ensures places { IsTrue S.tells → OnOk result ((slots : List SlotValue) → inodes_in (S.state blocks.old) draft.old dir ≡ Some (ADir slots)
-        → IsWithPlaces (places_in (S.state blocks.old) draft.old) (places_in (S.state blocks.new) draft.new) dir
-        (take (directory_blocks (length slots - 1)) (places_in (S.state blocks.old) draft.old dir))) }
-    ensures draft { OnOk result (IsDraftOf S.tells (S.state blocks.new) draft.new) }
-    ensures alters { IsTrue S.tells → OnOk result ((slots : List SlotValue) → inodes_in (S.state blocks.old) draft.old dir ≡ Some (ADir slots)
-        → Alters 3 [] (release (length slots)) draft.old draft.new) }
-    ensures refused { IfErr result LookRefused }
-    ensures looks { LooksOnly S.tells (fails_reading result) (S.state blocks.old) (S.state blocks.new) }
+    ensures { TakesSlot S.tells dir place result (S.state blocks.old) (S.state blocks.new) draft.old draft.new }
 {
     calls_compose::<S>();
     let Some(last) = last_place(draft, blocks, dir)? else {
@@ -115,10 +91,7 @@ fn last_place<S: Blocks>(
     blocks: &mut S,
     dir: u32,
 ) -> Result<Option<u32>, FileRefusal>
-    requires going { (S.state blocks.old).books.stopped ≡ false }
-    requires above_zero { 1 ≤ dir }
-    requires in_table { dir ≤ (S.state blocks.old).books.geom.i }
-    requires draft { IsDraftOf S.tells (S.state blocks.old) draft.now }
+    requires { MayLook S.tells (S.state blocks.old) draft.now dir }
     ensures last { IsTrue S.tells → IfOk result (λ last. (slots : List SlotValue) → inodes_in (S.state blocks.old) draft.now dir ≡ Some (ADir slots)
         → 0 < length slots → last ≡ Some (length slots - 1)) }
     ensures low { IfOk result (λ last. IfSome last (λ n. n < 2 ^ 24)) }
@@ -170,22 +143,10 @@ fn cut_slots<S: Blocks>(
     dir: u32,
     count: u32,
 ) -> Result<(), FileRefusal>
-    requires going { (S.state blocks.old).books.stopped ≡ false }
-    requires above_zero { 1 ≤ dir }
-    requires in_table { dir ≤ (S.state blocks.old).books.geom.i }
-    requires draft { IsDraftOf S.tells (S.state blocks.old) draft.old }
+    requires look { MayLook S.tells (S.state blocks.old) draft.old dir }
     requires low { count < 2 ^ 24 }
     requires there { IsTrue S.tells → HasPlace (S.state blocks.old) draft.old dir count }
-    ensures slots { IsTrue S.tells → OnOk result ((slots : List SlotValue) → inodes_in (S.state blocks.old) draft.old dir ≡ Some (ADir slots)
-        → IsWithSlots (files_in (S.state blocks.old) draft.old) (files_in (S.state blocks.new) draft.new) dir (take count slots)) }
-    ensures places { IsTrue S.tells → OnOk result
-        (IsWithPlaces (places_in (S.state blocks.old) draft.old) (places_in (S.state blocks.new) draft.new) dir
-        (take (directory_blocks count) (places_in (S.state blocks.old) draft.old dir))) }
-    ensures draft { OnOk result (IsDraftOf S.tells (S.state blocks.new) draft.new) }
-    ensures alters { IsTrue S.tells → OnOk result ((slots : List SlotValue) → inodes_in (S.state blocks.old) draft.old dir ≡ Some (ADir slots)
-        → Alters 2 [] (directory_blocks (length slots) - directory_blocks count) draft.old draft.new) }
-    ensures refused { IfErr result LookRefused }
-    ensures looks { LooksOnly S.tells (fails_reading result) (S.state blocks.old) (S.state blocks.new) }
+    ensures { CutsSlots S.tells dir count result (S.state blocks.old) (S.state blocks.new) draft.old draft.new }
 {
     a_directory_has_whole_slots::<S>();
     a_file_has_its_blocks::<S>();

@@ -1,13 +1,13 @@
 //! The names of a directory of a draft, in their order, as a listing needs them.
 
-ghost use Rattle.std.specs.Prelude.{◌≡◌, ◌≤◌, ◌<◌, ◌^◌, ◌++◌, ℕ, IsTrue, false, List, [], ◌∷◌, length, map, slice_get, Some, IfOk, IfErr, OnOk};
+ghost use Rattle.std.specs.Prelude.{◌≡◌, ◌≤◌, ◌<◌, ◌^◌, ◌++◌, ℕ, IsTrue, List, [], ◌∷◌, length, map, slice_get, Some, IfOk, IfErr, OnOk};
 ghost use Rattle.std.specs.List.Sorted.{IsPermutation, IsSorted};
 ghost use Rattle.std.specs.Ordering.{nat_cmp};
 ghost use Rattle.std.specs.Cmp.Lexicographic.{slice_cmp};
 ghost use Rattle.layout_bytes.specs.declared.slot.Slot.{Slot};
 ghost use Rattle.layout_bytes.specs.Slot.{slots_in};
 ghost use Rattle.crash_stands.specs.Inodes.{ADir};
-ghost use Rattle.fs_files.specs.Sound.{IsDraftOf};
+ghost use Rattle.fs_files.specs.Asks.{MayLook};
 ghost use Rattle.fs_files.specs.Content.{fails_reading};
 ghost use Rattle.fs_files.specs.Effects.{LooksOnly};
 ghost use Rattle.fs_files.specs.Calls.{LookRefused};
@@ -33,10 +33,7 @@ pub fn names<S: Blocks>(
     blocks: &mut S,
     dir: u32,
 ) -> Result<NameList, FileRefusal>
-    requires going { (S.state blocks.old).books.stopped ≡ false }
-    requires above_zero { 1 ≤ dir }
-    requires in_table { dir ≤ (S.state blocks.old).books.geom.i }
-    requires draft { IsDraftOf S.tells (S.state blocks.old) draft.now }
+    requires { MayLook S.tells (S.state blocks.old) draft.now dir }
     ensures all { IsTrue S.tells → IfOk result (λ names. (slots : List Slot) → inodes_in (S.state blocks.old) draft.now dir ≡ Some (ADir slots)
         → IsPermutation (map (λ s. s.name) slots) names) }
     ensures sorted { IfOk result (IsSorted (slice_cmp nat_cmp)) }

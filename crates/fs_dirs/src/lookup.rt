@@ -1,17 +1,16 @@
 //! Names looked up in a directory of a draft. A directory is read a block at a time, and nothing of it is
 //! kept.
 
-ghost use Rattle.std.specs.Prelude.{◌≡◌, ◌≤◌, ◌<◌, ◌/◌, ◌^◌, ℕ, IsTrue, false, is_err, List, length, Some, IfOk, IfErr, IfSome};
+ghost use Rattle.std.specs.Prelude.{◌≡◌, ◌<◌, ◌/◌, ◌^◌, IsTrue, is_err, List, length, Some, IfOk, IfErr, IfSome};
 ghost use Rattle.layout_bytes.specs.declared.node.NodeKind.TheVariants.{Dir, File};
 ghost use Rattle.layout_bytes.specs.declared.slot.Slot.{Slot};
-ghost use Rattle.lang_tree.specs.Tree.{Tree};
 ghost use Rattle.crash_stands.specs.Inodes.{Inode, ADir};
-ghost use Rattle.crash_stands.specs.Maps.{IsMapOf};
-ghost use Rattle.fs_files.specs.Sound.{IsDraftOf};
+ghost use Rattle.fs_files.specs.Asks.{MayLook};
 ghost use Rattle.fs_files.specs.Content.{fails_reading};
 ghost use Rattle.fs_files.specs.Effects.{LooksOnly};
 ghost use Rattle.fs_files.specs.Calls.{files_in, IsUsed, LookRefused};
 ghost use Rattle.fs_dirs.specs.Directories.{inodes_in, slot_count, Finds, IsNumber};
+ghost use Rattle.fs_dirs.specs.Reading.{LooksForName};
 ghost use Rattle.fs_dirs.specs.Reading.{MayRead, MayLook, MayReadBlocks, HasSlots};
 
 use crate::block::{SLOTS_IN_BLOCK, ZEROS, find_in, read_slots};
@@ -44,10 +43,7 @@ pub fn count_slots<S: Blocks>(
     blocks: &mut S,
     number: u32,
 ) -> Result<Option<u32>, ReadFault>
-    requires going { (S.state blocks.old).books.stopped ≡ false }
-    requires above_zero { 1 ≤ number }
-    requires in_table { number ≤ (S.state blocks.old).books.geom.i }
-    requires draft { IsDraftOf S.tells (S.state blocks.old) draft.now }
+    requires { MayLook S.tells (S.state blocks.old) draft.now number }
     ensures count { IsTrue S.tells → IfOk result (λ count. (x : Inode) → inodes_in (S.state blocks.old) draft.now number ≡ Some x → count ≡ slot_count x) }
     ensures used { IsTrue S.tells → IfOk result (λ count. IfSome count (λ n. IsUsed (files_in (S.state blocks.old) draft.now) number)) }
     ensures few { IfOk result (λ count. IfSome count (λ n. n < 2 ^ 24)) }
@@ -88,17 +84,8 @@ pub fn find<S: Blocks>(
     dir: u32,
     name: &Name,
 ) -> Result<Option<Found>, FileRefusal>
-    requires going { (S.state blocks.old).books.stopped ≡ false }
-    requires above_zero { 1 ≤ dir }
-    requires in_table { dir ≤ (S.state blocks.old).books.geom.i }
-    requires draft { IsDraftOf S.tells (S.state blocks.old) draft.now }
-    ensures found { IsTrue S.tells → IfOk result (λ found. (t : Tree) (slots : List Slot)
-        → IsMapOf (S.state blocks.old).books.geom.i (inodes_in (S.state blocks.old) draft.now) t
-        → inodes_in (S.state blocks.old) draft.now dir ≡ Some (ADir slots) → Finds slots name.now found) }
-    ensures place { IfOk result (λ found. IfSome found (λ f. f.place < 2 ^ 24)) }
-    ensures number { IfOk result (λ found. IfSome found (λ f. IsNumber (S.state blocks.old).books.geom.i f.node)) }
-    ensures refused { IfErr result LookRefused }
-    ensures looks { LooksOnly S.tells (fails_reading result) (S.state blocks.old) (S.state blocks.new) }
+    requires { MayLook S.tells (S.state blocks.old) draft.now dir }
+    ensures { LooksForName S.tells dir name.now result (S.state blocks.old) (S.state blocks.new) draft.now }
 {
     calls_compose::<S>();
     let Some(count) = count_slots(draft, blocks, dir)? else {
@@ -122,13 +109,7 @@ pub(crate) fn find_among<S: Blocks>(
     requires read { MayRead S.tells (S.state blocks.old) draft.now dir }
     requires count { IsTrue S.tells → (x : Inode) → inodes_in (S.state blocks.old) draft.now dir ≡ Some x → Some count ≡ slot_count x }
     requires few { count < 2 ^ 24 }
-    ensures found { IsTrue S.tells → IfOk result (λ found. (t : Tree) (slots : List Slot)
-        → IsMapOf (S.state blocks.old).books.geom.i (inodes_in (S.state blocks.old) draft.now) t
-        → inodes_in (S.state blocks.old) draft.now dir ≡ Some (ADir slots) → Finds slots name.now found) }
-    ensures place { IfOk result (λ found. IfSome found (λ f. f.place < 2 ^ 24)) }
-    ensures number { IfOk result (λ found. IfSome found (λ f. IsNumber (S.state blocks.old).books.geom.i f.node)) }
-    ensures refused { IfErr result LookRefused }
-    ensures looks { LooksOnly S.tells (fails_reading result) (S.state blocks.old) (S.state blocks.new) }
+    ensures { LooksForName S.tells dir name.now result (S.state blocks.old) (S.state blocks.new) draft.now }
 {
     slots_name_nodes_in_use();
     a_name_stands_at_its_place();

@@ -1,9 +1,8 @@
 //! Paths walked from the root, name by name, in the directories of a draft.
 
-ghost use Rattle.std.specs.Prelude.{◌≡◌, ◌≤◌, ◌<◌, ◌^◌, ℕ, IsTrue, false, is_err, List, length, Some, IfOk, IfErr, IfSome};
-ghost use Rattle.layout_bytes.specs.declared.slot.Slot.{Slot};
+ghost use Rattle.std.specs.Prelude.{◌≡◌, ◌≤◌, ◌<◌, IsTrue, false, Some, IfOk, IfErr, IfSome};
 ghost use Rattle.lang_tree.specs.Tree.{Tree};
-ghost use Rattle.crash_stands.specs.Inodes.{Inode, ADir};
+ghost use Rattle.crash_stands.specs.Inodes.{Inode};
 ghost use Rattle.crash_stands.specs.Maps.{IsMapOf};
 ghost use Rattle.fs_inodes.specs.Lookups.{walk_on};
 ghost use Rattle.fs_files.specs.Sound.{IsDraftOf};

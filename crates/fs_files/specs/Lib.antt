@@ -13,3 +13,5 @@ pub mod Making
 pub mod Resizing
 pub mod Writing
 pub mod Within
+pub mod Asks
+pub mod Changing

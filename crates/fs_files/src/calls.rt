@@ -1,18 +1,20 @@
 //! The six calls on a file of a draft: reading, writing and resizing its bytes, making and dropping a
 //! node, and setting its links.
 
-ghost use Rattle.std.specs.Prelude.{◌≡◌, ◌≤◌, ◌<◌, ◌+◌, ◌*◌, ◌%◌, ◌-◌, ◌^◌, ◌≢◌, ℕ, IsTrue, false, max, min, [], length, take, drop, replicate, None};
-ghost use Rattle.std.specs.Prelude.{Some, IfOk, IfErr, IfSome, IfNone, OnOk};
-ghost use Rattle.layout_bytes.specs.declared.node.NodeKind.TheVariants.{Free, Dir};
+ghost use Rattle.std.specs.Prelude.{◌≡◌, ◌≤◌, ◌<◌, ◌+◌, ◌*◌, ◌-◌, ◌≢◌, ℕ, IsTrue, false, min, length, take, drop, replicate, None};
+ghost use Rattle.std.specs.Prelude.{Some, IfOk, IfErr, OnOk};
+ghost use Rattle.layout_bytes.specs.declared.node.NodeKind.TheVariants.{Free};
 ghost use Rattle.crash_stands.specs.Files.{FileNode, joined};
 ghost use Rattle.layout_bytes.specs.Node.{free_node};
 ghost use Rattle.fs_files.specs.Bytes.{met, overwrite};
-ghost use Rattle.fs_files.specs.Drafts.{drafted, ChangesSome};
+ghost use Rattle.fs_files.specs.Drafts.{drafted};
 ghost use Rattle.fs_files.specs.Nodes.{class_of, IsOpen};
 ghost use Rattle.fs_files.specs.Sound.{IsDraftOf};
+ghost use Rattle.fs_files.specs.Changing.{DropsNode, MakesNode, SetsLinks};
 ghost use Rattle.fs_files.specs.Content.{HasContent, WritesContent, fails_reading};
 ghost use Rattle.fs_files.specs.Effects.{LooksOnly};
-ghost use Rattle.fs_files.specs.Calls.{files_in, places_in, IsUsed, IsWithFile, IsWithPlaces, with_links, SetsNode, LookRefused, IsLeastUnused};
+ghost use Rattle.fs_files.specs.Asks.{MayLook};
+ghost use Rattle.fs_files.specs.Calls.{files_in, IsUsed, LookRefused};
 
 use crate::FileRefusal;
 use crate::content::{read_content, write_content};
@@ -40,10 +42,7 @@ impl Draft {
         offset: u64,
         len: u32,
     ) -> Result<Bytes, FileRefusal>
-        requires going { (S.state blocks.old).books.stopped ≡ false }
-        requires above_zero { 1 ≤ number }
-        requires in_table { number ≤ (S.state blocks.old).books.geom.i }
-        requires draft { IsDraftOf S.tells (S.state blocks.old) self.now }
+        requires look { MayLook S.tells (S.state blocks.old) self.now number }
         requires used { IsTrue S.tells → IsUsed (files_in (S.state blocks.old) self.now) number }
         ensures bytes { IsTrue S.tells → IfOk result (λ bytes. (x : FileNode) → files_in (S.state blocks.old) self.now number ≡ Some x
             → bytes ≡ take len (drop offset x.bytes)) }
@@ -82,22 +81,7 @@ impl Draft {
         requires above_zero { 1 ≤ from }
         requires draft { IsDraftOf S.tells (S.state blocks.old) self.old }
         requires below { IsTrue S.tells → (l : ℕ) → 1 ≤ l → l < from → IsUsed (files_in (S.state blocks.old) self.old) l }
-        ensures node { IsTrue S.tells → IfOk result
-            (λ found. IfSome found (λ number. IsLeastUnused (S.state blocks.old).books.geom.i (files_in (S.state blocks.old) self.old) number
-            × IsWithFile (files_in (S.state blocks.old) self.old) (files_in (S.state blocks.new) self.new) number
-            (Some (record { kind = kind; links = 1; bytes = [] })))) }
-        ensures places { IsTrue S.tells → IfOk result
-            (λ found. IfSome found (λ number. IsWithPlaces (places_in (S.state blocks.old) self.old) (places_in (S.state blocks.new) self.new) number
-            [])) }
-        ensures none { IsTrue S.tells → IfOk result
-            (λ found. IfNone found (((l : ℕ) → 1 ≤ l → l ≤ (S.state blocks.old).books.geom.i → IsUsed (files_in (S.state blocks.old) self.old) l)
-            × (self.new ≡ self.old))) }
-        ensures number { IfOk result (λ found. IfSome found (λ number. (1 ≤ number) × (number ≤ (S.state blocks.old).books.geom.i))) }
-        ensures draft { OnOk result (IsDraftOf S.tells (S.state blocks.new) self.new) }
-        ensures among { IfOk result (λ found. IfSome found (λ number. SetsNode (S.state blocks.old).books.geom number [] self.old self.new)) }
-        ensures changes { IfOk result (λ found. IfSome found (λ number. ChangesSome self.new)) }
-        ensures refused { IfErr result LookRefused }
-        ensures looks { LooksOnly S.tells (fails_reading result) (S.state blocks.old) (S.state blocks.new) }
+        ensures { MakesNode S.tells kind result (S.state blocks.old) (S.state blocks.new) self.old self.new }
     {
         let geom = blocks.geom();
         geom.lawful();
@@ -126,20 +110,9 @@ impl Draft {
         blocks: &mut S,
         number: u32,
     ) -> Result<(), FileRefusal>
-        requires going { (S.state blocks.old).books.stopped ≡ false }
-        requires above_zero { 1 ≤ number }
-        requires in_table { number ≤ (S.state blocks.old).books.geom.i }
-        requires draft { IsDraftOf S.tells (S.state blocks.old) self.old }
+        requires look { MayLook S.tells (S.state blocks.old) self.old number }
         requires used { IsTrue S.tells → IsUsed (files_in (S.state blocks.old) self.old) number }
-        ensures file { IsTrue S.tells → OnOk result (IsWithFile (files_in (S.state blocks.old) self.old) (files_in (S.state blocks.new) self.new) number None) }
-        ensures places { IsTrue S.tells → OnOk result
-            (IsWithPlaces (places_in (S.state blocks.old) self.old) (places_in (S.state blocks.new) self.new) number []) }
-        ensures draft { OnOk result (IsDraftOf S.tells (S.state blocks.new) self.new) }
-        ensures among { IsTrue S.tells → OnOk result
-            (SetsNode (S.state blocks.old).books.geom number (places_in (S.state blocks.old) self.old number) self.old self.new) }
-        ensures changes { IsTrue S.tells → OnOk result (ChangesSome self.new) }
-        ensures refused { IfErr result LookRefused }
-        ensures looks { LooksOnly S.tells (fails_reading result) (S.state blocks.old) (S.state blocks.new) }
+        ensures { DropsNode S.tells number result (S.state blocks.old) (S.state blocks.new) self.old self.new }
     {
         let geom = blocks.geom();
         geom.lawful();
@@ -165,23 +138,11 @@ impl Draft {
         number: u32,
         links: u32,
     ) -> Result<(), FileRefusal>
-        requires going { (S.state blocks.old).books.stopped ≡ false }
-        requires above_zero { 1 ≤ number }
-        requires in_table { number ≤ (S.state blocks.old).books.geom.i }
+        requires look { MayLook S.tells (S.state blocks.old) self.old number }
+        requires used { IsTrue S.tells → IsUsed (files_in (S.state blocks.old) self.old) number }
         requires some { 1 ≤ links }
         requires most { links ≤ 65535 }
-        requires draft { IsDraftOf S.tells (S.state blocks.old) self.old }
-        requires used { IsTrue S.tells → IsUsed (files_in (S.state blocks.old) self.old) number }
-        ensures file { IsTrue S.tells → OnOk result ((x : FileNode) → files_in (S.state blocks.old) self.old number ≡ Some x
-            → IsWithFile (files_in (S.state blocks.old) self.old) (files_in (S.state blocks.new) self.new) number (Some (with_links x links))) }
-        ensures places { IsTrue S.tells → OnOk result
-            (IsWithPlaces (places_in (S.state blocks.old) self.old) (places_in (S.state blocks.new) self.new) number
-            (places_in (S.state blocks.old) self.old number)) }
-        ensures draft { OnOk result (IsDraftOf S.tells (S.state blocks.new) self.new) }
-        ensures among { IsTrue S.tells → OnOk result (SetsNode (S.state blocks.old).books.geom number [] self.old self.new) }
-        ensures changes { IsTrue S.tells → OnOk result (ChangesSome self.new) }
-        ensures refused { IfErr result LookRefused }
-        ensures looks { LooksOnly S.tells (fails_reading result) (S.state blocks.old) (S.state blocks.new) }
+        ensures { SetsLinks S.tells number links result (S.state blocks.old) (S.state blocks.new) self.old self.new }
     {
         let geom = blocks.geom();
         geom.lawful();

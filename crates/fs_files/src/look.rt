@@ -1,11 +1,11 @@
 //! What is known of a file but for its bytes: its kind, its links and its size. Which bytes it has is
 //! read elsewhere.
 
-ghost use Rattle.std.specs.Prelude.{◌≡◌, ◌≢◌, ◌≤◌, IsTrue, false, is_err, IfOk, IfSome, option_map};
+ghost use Rattle.std.specs.Prelude.{◌≡◌, ◌≢◌, IsTrue, is_err, IfOk, IfSome, option_map};
 ghost use Rattle.layout_bytes.specs.declared.node.NodeKind.TheVariants.{Free};
+ghost use Rattle.fs_files.specs.Asks.{MayLook};
 ghost use Rattle.fs_files.specs.Calls.{facts_of, files_in};
 ghost use Rattle.fs_files.specs.Effects.{LooksOnly};
-ghost use Rattle.fs_files.specs.Sound.{IsDraftOf};
 
 use crate::draft::{Draft, ZEROS};
 use crate::nodes::load;
@@ -32,10 +32,7 @@ impl Draft {
         blocks: &mut S,
         number: u32,
     ) -> Result<Option<FileFacts>, ReadFault>
-        requires going { (S.state blocks.old).books.stopped ≡ false }
-        requires above_zero { 1 ≤ number }
-        requires in_table { number ≤ (S.state blocks.old).books.geom.i }
-        requires draft { IsDraftOf S.tells (S.state blocks.old) self.now }
+        requires { MayLook S.tells (S.state blocks.old) self.now number }
         ensures facts { IsTrue S.tells → IfOk result (λ found. found ≡ option_map facts_of (files_in (S.state blocks.old) self.now number)) }
         ensures used { IfOk result (λ found. IfSome found (λ f. f.kind ≢ Free)) }
         ensures looks { LooksOnly S.tells (is_err result) (S.state blocks.old) (S.state blocks.new) }

@@ -5,6 +5,7 @@ ghost use Rattle.std.specs.Prelude.{◌≡◌, ◌≤◌, ℕ, false, IsTrue, is
 ghost use Rattle.std.specs.List.{All};
 ghost use Rattle.engine_blocks.specs.Puts.{IsData};
 ghost use Rattle.crash_stands.specs.Files.{FileNode};
+ghost use Rattle.fs_files.specs.Asks.{MayLook};
 ghost use Rattle.fs_files.specs.Calls.{block_bytes, files_in, places_in};
 ghost use Rattle.fs_files.specs.Effects.{LooksOnly};
 ghost use Rattle.fs_files.specs.Sound.{IsDraftOf};
@@ -37,10 +38,7 @@ impl Draft {
     /// # Errors
     /// A read of the disk failed, which the disk has counted.
     pub fn blocks_of<S: Blocks>(&self, blocks: &mut S, number: u32) -> Result<NodeBlocks, ReadFault>
-        requires going { (S.state blocks.old).books.stopped ≡ false }
-        requires above_zero { 1 ≤ number }
-        requires in_table { number ≤ (S.state blocks.old).books.geom.i }
-        requires draft { IsDraftOf S.tells (S.state blocks.old) self.now }
+        requires { MayLook S.tells (S.state blocks.old) self.now number }
         ensures places { IsTrue S.tells → IfOk result (λ node. node ≡ places_in (S.state blocks.old) self.now number) }
         ensures data { IfOk result (All (IsData (S.state blocks.old).books.geom)) }
         ensures looks { LooksOnly S.tells (is_err result) (S.state blocks.old) (S.state blocks.new) }

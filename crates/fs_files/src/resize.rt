@@ -12,8 +12,10 @@ ghost use Rattle.engine_blocks.specs.Calls.{HasTurns};
 ghost use Rattle.engine_blocks.specs.Puts.{IsData};
 ghost use Rattle.engine_blocks.specs.State.{reusable_blocks};
 ghost use Rattle.fs_files.specs.Bytes.{blocks_for, overwrite};
-ghost use Rattle.fs_files.specs.Calls.{files_in, places_in, IsUsed, IsWithFile, IsWithPlaces, with_bytes, ChangesAmong, Grows, Resizes, Shrinks};
-ghost use Rattle.fs_files.specs.Calls.{cut_blocks, growth, written_blocks, GrowthRefused, LookRefused};
+ghost use Rattle.fs_files.specs.Asks.{MayGrow, MayLook};
+ghost use Rattle.fs_files.specs.Calls.{files_in, places_in, IsUsed, IsWithFile, IsWithPlaces, with_bytes, ChangesAmong, Grows};
+ghost use Rattle.fs_files.specs.Calls.{growth, written_blocks, GrowthRefused, LookRefused};
+ghost use Rattle.fs_files.specs.Changing.{CutsFile, ResizesFile};
 ghost use Rattle.fs_files.specs.Content.{HasContent, WritesContent, fails_reading, fails_settling};
 ghost use Rattle.fs_files.specs.Drafts.{drafted};
 ghost use Rattle.fs_files.specs.Effects.{LooksOnly, LooksAndSettles};
@@ -48,34 +50,11 @@ impl Draft {
         number: u32,
         size: u64,
     ) -> Result<(), FileRefusal>
-        requires going { (S.state blocks.old).books.stopped ≡ false }
-        requires turns { HasTurns (S.state blocks.old).books }
-        requires above_zero { 1 ≤ number }
-        requires in_table { number ≤ (S.state blocks.old).books.geom.i }
-        requires size { size ≤ 2 ^ 30 }
-        requires once { IsTrue S.tells → (x : FileNode) → files_in (S.state blocks.old) self.old number ≡ Some x → 0 < growth (length x.bytes) size
-            → self.old.taken ≡ [] }
-        requires draft { IsDraftOf S.tells (S.state blocks.old) self.old }
+        requires look { MayLook S.tells (S.state blocks.old) self.old number }
         requires used { IsTrue S.tells → IsUsed (files_in (S.state blocks.old) self.old) number }
+        requires grows { MayGrow S.tells (S.state blocks.old) self.old number size }
         requires slots { IsTrue S.tells → (x : FileNode) → files_in (S.state blocks.old) self.old number ≡ Some x → x.kind ≡ Dir → size % 64 ≡ 0 }
-        ensures file { IsTrue S.tells → OnOk result ((x : FileNode) → files_in (S.state blocks.old) self.old number ≡ Some x
-            → IsWithFile (files_in (S.state blocks.old) self.old) (files_in (S.state blocks.new) self.new) number
-            (Some (with_bytes x (resized size x.bytes)))) }
-        ensures places { IsTrue S.tells → OnOk result ((x : FileNode) → files_in (S.state blocks.old) self.old number ≡ Some x
-            → IsWithPlaces (places_in (S.state blocks.old) self.old) (places_in (S.state blocks.new) self.new) number
-            (take (blocks_for size) (places_in (S.state blocks.old) self.old number) ++ take (growth (length x.bytes) size)
-            (reusable_blocks (S.state blocks.new).books))) }
-        ensures draft { OnOk result (IsDraftOf S.tells (S.state blocks.new) self.new) }
-        ensures resizes { IsTrue S.tells → OnOk result ((x : FileNode) → files_in (S.state blocks.old) self.old number ≡ Some x
-            → Resizes (S.state blocks.new).books number x (places_in (S.state blocks.old) self.old number)
-            (places_in (S.state blocks.new) self.new number) size self.old self.new) }
-        ensures refused { IsTrue S.tells → IfErr result (λ why. (x : FileNode) → files_in (S.state blocks.old) self.old number ≡ Some x
-            → GrowthRefused (growth (length x.bytes) size) (places_in (S.state blocks.old) self.old number) (S.state blocks.old).books
-            (S.state blocks.new).books why) }
-        ensures settles { LooksAndSettles S.tells (fails_reading result) (fails_settling result) (S.state blocks.old) (S.state blocks.new) }
-        ensures looks { IsTrue S.tells → (x : FileNode) → files_in (S.state blocks.old) self.old number ≡ Some x
-            → growth (length x.bytes) size ≤ length (reusable_blocks (S.state blocks.old).books)
-            → LooksOnly S.tells (fails_reading result) (S.state blocks.old) (S.state blocks.new) }
+        ensures { ResizesFile S.tells number size result (S.state blocks.old) (S.state blocks.new) self.old self.new }
     {
         calls_compose::<S>();
         a_list_has_its_runs();
@@ -126,18 +105,7 @@ pub(crate) fn cut<S: Blocks>(
     requires size { size ≤ 2 ^ 30 }
     requires less { size < node.old.size }
     requires slots { IsTrue S.tells → node.old.kind ≡ Dir → size % 64 ≡ 0 }
-    ensures file { IsTrue S.tells → OnOk result ((x : FileNode) → files_in (S.state blocks.old) draft.old number ≡ Some x
-        → IsWithFile (files_in (S.state blocks.old) draft.old) (files_in (S.state blocks.new) draft.new) number (Some (with_bytes x (resized size x.bytes)))) }
-    ensures places { IsTrue S.tells → OnOk result
-        (IsWithPlaces (places_in (S.state blocks.old) draft.old) (places_in (S.state blocks.new) draft.new) number
-        (take (blocks_for size) (places_in (S.state blocks.old) draft.old number))) }
-    ensures draft { OnOk result (IsDraftOf S.tells (S.state blocks.new) draft.new) }
-    ensures shrinks { IsTrue S.tells → OnOk result ((x : FileNode) → files_in (S.state blocks.old) draft.old number ≡ Some x
-        → Shrinks x (places_in (S.state blocks.old) draft.old number) (places_in (S.state blocks.new) draft.new number) size draft.old draft.new) }
-    ensures among { IsTrue S.tells → OnOk result ((x : FileNode) → files_in (S.state blocks.old) draft.old number ≡ Some x
-        → ChangesAmong (cut_blocks (S.state blocks.old).books.geom number x (places_in (S.state blocks.old) draft.old number) size) draft.old draft.new) }
-    ensures refused { IfErr result LookRefused }
-    ensures looks { LooksOnly S.tells (fails_reading result) (S.state blocks.old) (S.state blocks.new) }
+    ensures { CutsFile S.tells number size result (S.state blocks.old) (S.state blocks.new) draft.old draft.new }
 {
     let geom = blocks.geom();
     geom.lawful();

@@ -1,17 +1,11 @@
 //! Changes of a file of a draft that never grow it: bytes written over those that it has, and a cut to its
 //! first bytes. They only look at the map of blocks, also where it isn't observed.
 
-ghost use Rattle.std.specs.Prelude.{◌≡◌, ◌≤◌, ◌<◌, ◌+◌, ◌%◌, ◌^◌, IsTrue, false, length, take, Some, IfErr, OnOk};
-ghost use Rattle.layout_bytes.specs.declared.node.NodeKind.TheVariants.{Dir};
-ghost use Rattle.lang_tree.specs.Step.{resized};
+ghost use Rattle.std.specs.Prelude.{◌≡◌, ◌≤◌, ◌<◌, ◌+◌, ◌^◌, IsTrue, length, Some};
 ghost use Rattle.crash_stands.specs.Files.{FileNode};
-ghost use Rattle.fs_files.specs.Bytes.{blocks_for, met, overwritten};
-ghost use Rattle.fs_files.specs.Calls.{files_in, places_in, IsUsed, IsWithFile, IsWithPlaces, with_bytes, ChangesAmong, Shrinks, cut_blocks, LookRefused};
-ghost use Rattle.fs_files.specs.Content.{fails_reading};
-ghost use Rattle.fs_files.specs.Drafts.{ChangesSome};
-ghost use Rattle.fs_files.specs.Effects.{LooksOnly};
-ghost use Rattle.fs_files.specs.Sound.{IsDraftOf};
-ghost use Rattle.fs_files.specs.Within.{Overwrites};
+ghost use Rattle.fs_files.specs.Asks.{MayCut, MayLook};
+ghost use Rattle.fs_files.specs.Calls.{files_in, IsUsed};
+ghost use Rattle.fs_files.specs.Changing.{CutsFile, OverwritesFile};
 
 use crate::FileRefusal;
 use crate::content::write_content;
@@ -38,26 +32,12 @@ impl Draft {
         offset: u64,
         bytes: &[u8],
     ) -> Result<(), FileRefusal>
-        requires going { (S.state blocks.old).books.stopped ≡ false }
-        requires above_zero { 1 ≤ number }
-        requires in_table { number ≤ (S.state blocks.old).books.geom.i }
-        requires size { offset + length bytes.now ≤ 2 ^ 30 }
-        requires draft { IsDraftOf S.tells (S.state blocks.old) self.old }
+        requires look { MayLook S.tells (S.state blocks.old) self.old number }
         requires used { IsTrue S.tells → IsUsed (files_in (S.state blocks.old) self.old) number }
+        requires size { offset + length bytes.now ≤ 2 ^ 30 }
         requires within { IsTrue S.tells → (x : FileNode) → files_in (S.state blocks.old) self.old number ≡ Some x
             → offset + length bytes.now ≤ length x.bytes }
-        ensures file { IsTrue S.tells → OnOk result ((x : FileNode) → files_in (S.state blocks.old) self.old number ≡ Some x
-            → IsWithFile (files_in (S.state blocks.old) self.old) (files_in (S.state blocks.new) self.new) number
-            (Some (with_bytes x (overwritten offset bytes.now x.bytes)))) }
-        ensures places { IsTrue S.tells → OnOk result
-            (IsWithPlaces (places_in (S.state blocks.old) self.old) (places_in (S.state blocks.new) self.new) number
-            (places_in (S.state blocks.old) self.old number)) }
-        ensures draft { OnOk result (IsDraftOf S.tells (S.state blocks.new) self.new) }
-        ensures overwrites { IsTrue S.tells → OnOk result
-            (Overwrites (met offset (offset + length bytes.now) (places_in (S.state blocks.old) self.old number)) self.old self.new) }
-        ensures changes { IsTrue S.tells → OnOk result (0 < length bytes.now → ChangesSome self.new) }
-        ensures refused { IfErr result LookRefused }
-        ensures looks { LooksOnly S.tells (fails_reading result) (S.state blocks.old) (S.state blocks.new) }
+        ensures { OverwritesFile S.tells number offset bytes.now result (S.state blocks.old) (S.state blocks.new) self.old self.new }
     {
         a_list_has_its_runs();
         blocks.geom().lawful();
@@ -87,27 +67,10 @@ impl Draft {
         number: u32,
         size: u64,
     ) -> Result<(), FileRefusal>
-        requires going { (S.state blocks.old).books.stopped ≡ false }
-        requires above_zero { 1 ≤ number }
-        requires in_table { number ≤ (S.state blocks.old).books.geom.i }
-        requires size { size ≤ 2 ^ 30 }
-        requires draft { IsDraftOf S.tells (S.state blocks.old) self.old }
+        requires look { MayLook S.tells (S.state blocks.old) self.old number }
         requires used { IsTrue S.tells → IsUsed (files_in (S.state blocks.old) self.old) number }
-        requires slots { IsTrue S.tells → (x : FileNode) → files_in (S.state blocks.old) self.old number ≡ Some x → x.kind ≡ Dir → size % 64 ≡ 0 }
-        requires shorter { IsTrue S.tells → (x : FileNode) → files_in (S.state blocks.old) self.old number ≡ Some x → size < length x.bytes }
-        ensures file { IsTrue S.tells → OnOk result ((x : FileNode) → files_in (S.state blocks.old) self.old number ≡ Some x
-            → IsWithFile (files_in (S.state blocks.old) self.old) (files_in (S.state blocks.new) self.new) number
-            (Some (with_bytes x (resized size x.bytes)))) }
-        ensures places { IsTrue S.tells → OnOk result
-            (IsWithPlaces (places_in (S.state blocks.old) self.old) (places_in (S.state blocks.new) self.new) number
-            (take (blocks_for size) (places_in (S.state blocks.old) self.old number))) }
-        ensures draft { OnOk result (IsDraftOf S.tells (S.state blocks.new) self.new) }
-        ensures shrinks { IsTrue S.tells → OnOk result ((x : FileNode) → files_in (S.state blocks.old) self.old number ≡ Some x
-            → Shrinks x (places_in (S.state blocks.old) self.old number) (places_in (S.state blocks.new) self.new number) size self.old self.new) }
-        ensures among { IsTrue S.tells → OnOk result ((x : FileNode) → files_in (S.state blocks.old) self.old number ≡ Some x
-            → ChangesAmong (cut_blocks (S.state blocks.old).books.geom number x (places_in (S.state blocks.old) self.old number) size) self.old self.new) }
-        ensures refused { IfErr result LookRefused }
-        ensures looks { LooksOnly S.tells (fails_reading result) (S.state blocks.old) (S.state blocks.new) }
+        requires cuts { MayCut S.tells (S.state blocks.old) self.old number size }
+        ensures { CutsFile S.tells number size result (S.state blocks.old) (S.state blocks.new) self.old self.new }
     {
         a_list_has_its_runs();
         blocks.geom().lawful();

@@ -1,16 +1,17 @@
 //! Writing bytes into a file of a draft: the gap before them, the blocks that they need, and the bytes
 //! themselves. What a draft is then is described by the clauses of `write_at`.
 
-ghost use Rattle.std.specs.Prelude.{◌≡◌, ◌≤◌, ◌<◌, ◌+◌, ◌%◌, ◌^◌, ℕ, IsTrue, false, max, min, [], ◌++◌, length, take, drop, Some, IfErr, OnOk};
+ghost use Rattle.std.specs.Prelude.{◌≡◌, ◌≤◌, ◌<◌, ◌+◌, ◌%◌, ◌^◌, IsTrue, false, max, [], length, Some, IfErr, OnOk};
 ghost use Rattle.layout_bytes.specs.declared.node.NodeKind.TheVariants.{Dir};
 ghost use Rattle.engine_blocks.specs.Calls.{HasTurns};
 ghost use Rattle.engine_blocks.specs.State.{reusable_blocks};
-ghost use Rattle.fs_files.specs.Bytes.{overwritten};
-ghost use Rattle.fs_files.specs.Calls.{files_in, places_in, IsUsed, IsWithFile, IsWithPlaces, with_bytes, ChangesAmong, Grows, growth};
-ghost use Rattle.fs_files.specs.Calls.{written_blocks, GrowthRefused, LookRefused};
+ghost use Rattle.fs_files.specs.Asks.{MayGrow, MayLook};
+ghost use Rattle.fs_files.specs.Calls.{files_in, IsUsed};
+ghost use Rattle.fs_files.specs.Calls.{GrowthRefused, LookRefused};
+ghost use Rattle.fs_files.specs.Changing.{WritesAt};
 ghost use Rattle.fs_files.specs.Content.{fails_reading, fails_settling};
 ghost use Rattle.fs_files.specs.Effects.{LooksOnly, LooksAndSettles};
-ghost use Rattle.fs_files.specs.Drafts.{drafted, ChangesSome};
+ghost use Rattle.fs_files.specs.Drafts.{drafted};
 ghost use Rattle.fs_files.specs.Growing.{more_blocks};
 ghost use Rattle.fs_files.specs.Nodes.{largest_node, node_block, node_of_open, IsOpen};
 ghost use Rattle.fs_files.specs.Sound.{IsDraftOf};
@@ -45,40 +46,12 @@ impl Draft {
         offset: u64,
         bytes: &[u8],
     ) -> Result<(), FileRefusal>
-        requires going { (S.state blocks.old).books.stopped ≡ false }
-        requires turns { HasTurns (S.state blocks.old).books }
-        requires above_zero { 1 ≤ number }
-        requires in_table { number ≤ (S.state blocks.old).books.geom.i }
-        requires size { offset + length bytes.now ≤ 2 ^ 30 }
-        requires once { IsTrue S.tells → (x : FileNode) → files_in (S.state blocks.old) self.old number ≡ Some x
-            → 0 < growth (length x.bytes) (offset + length bytes.now) → self.old.taken ≡ [] }
-        requires draft { IsDraftOf S.tells (S.state blocks.old) self.old }
+        requires look { MayLook S.tells (S.state blocks.old) self.old number }
         requires used { IsTrue S.tells → IsUsed (files_in (S.state blocks.old) self.old) number }
+        requires grows { MayGrow S.tells (S.state blocks.old) self.old number (offset + length bytes.now) }
         requires slots { IsTrue S.tells → (x : FileNode) → files_in (S.state blocks.old) self.old number ≡ Some x → x.kind ≡ Dir
             → (max (length x.bytes) (offset + length bytes.now)) % 64 ≡ 0 }
-        ensures file { IsTrue S.tells → OnOk result ((x : FileNode) → files_in (S.state blocks.old) self.old number ≡ Some x
-            → IsWithFile (files_in (S.state blocks.old) self.old) (files_in (S.state blocks.new) self.new) number
-            (Some (with_bytes x (overwritten offset bytes.now x.bytes)))) }
-        ensures places { IsTrue S.tells → OnOk result ((x : FileNode) → files_in (S.state blocks.old) self.old number ≡ Some x
-            → IsWithPlaces (places_in (S.state blocks.old) self.old) (places_in (S.state blocks.new) self.new) number
-            (places_in (S.state blocks.old) self.old number ++ take (growth (length x.bytes) (length (overwritten offset bytes.now x.bytes)))
-            (reusable_blocks (S.state blocks.new).books))) }
-        ensures draft { OnOk result (IsDraftOf S.tells (S.state blocks.new) self.new) }
-        ensures grows { IsTrue S.tells → OnOk result ((x : FileNode) → files_in (S.state blocks.old) self.old number ≡ Some x → 0 < length bytes.now
-            → Grows (S.state blocks.new).books x (places_in (S.state blocks.old) self.old number) (places_in (S.state blocks.new) self.new number)
-            (offset + length bytes.now) self.old self.new) }
-        ensures among { IsTrue S.tells → OnOk result ((x : FileNode) → files_in (S.state blocks.old) self.old number ≡ Some x
-            → ChangesAmong (written_blocks (S.state blocks.old).books.geom number x (places_in (S.state blocks.old) self.old number)
-            (drop (length (places_in (S.state blocks.old) self.old number)) (places_in (S.state blocks.new) self.new number))
-            (min offset (length x.bytes)) (offset + length bytes.now)) self.old self.new) }
-        ensures changes { IsTrue S.tells → OnOk result (0 < length bytes.now → ChangesSome self.new) }
-        ensures refused { IsTrue S.tells → IfErr result (λ why. (x : FileNode) → files_in (S.state blocks.old) self.old number ≡ Some x
-            → GrowthRefused (growth (length x.bytes) (offset + length bytes.now)) (places_in (S.state blocks.old) self.old number)
-            (S.state blocks.old).books (S.state blocks.new).books why) }
-        ensures settles { LooksAndSettles S.tells (fails_reading result) (fails_settling result) (S.state blocks.old) (S.state blocks.new) }
-        ensures looks { IsTrue S.tells → (x : FileNode) → files_in (S.state blocks.old) self.old number ≡ Some x
-            → growth (length x.bytes) (offset + length bytes.now) ≤ length (reusable_blocks (S.state blocks.old).books)
-            → LooksOnly S.tells (fails_reading result) (S.state blocks.old) (S.state blocks.new) }
+        ensures { WritesAt S.tells number offset bytes.now result (S.state blocks.old) (S.state blocks.new) self.old self.new }
     {
         calls_compose::<S>();
         a_list_has_its_runs();

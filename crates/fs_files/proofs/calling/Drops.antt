@@ -1,6 +1,7 @@
 -- A call on a file that drops its node, and one that reads its bytes.
 use Rattle.std.proofs.Common.{◌≡◌, ℕ, ◌≤◌, ◌==◌, ◌||◌, Bool, true, false, cond, List, [], ◌∷◌, All, Option, Some, None, is_some, option_map, refl, sym, ap, ◌∙◌, arith, subst, ◌⊎◌, inl, inr}
 use Rattle.std.proofs.lemmas.Bool.{cases_Bool, cond-false, false≢true, or_left, or_right, eq-eqb, eqb-true}
+use Rattle.std.proofs.lemmas.List.{append-nil}
 use Rattle.base_types.specs.Seal.{Blocks}
 use Rattle.base_types.specs.Runs.{run_places}
 use Rattle.base_types.specs.declared.words.Class.TheVariants.{Meta}
@@ -58,6 +59,13 @@ drop_sets k number ps c d f e geom from upto fits frees puts = record {
     by b (inr away) is =
         or_right (has (at ∷ []) b) (is_some (change_of d.changed b))
         (was (has ps b) (change_of d.changed b) (change_of f.changed b) (frees.changed b) (ap is_some (sym (changed b ∙ cond-false (at == b) (Some c) (change_of f.changed b) away)) ∙ is))
+
+-- and where the node alone was put
+pub put_sets : (k : Bookkeeping) (g : Geometry) (number : ℕ) (c : Changed) (d e : DraftState) → g ≡ k.geom → IsGeometry g → 1 ≤ number → number ≤ k.geom.i → FitsBooks k d → PutsBlock (node_block g number) c d e → SetsNode k.geom number [] d e
+put_sets k g number c d e same geom from upto fits puts = drop_sets k number [] c d d e (subst IsGeometry same geom) from upto fits none (subst (λ h. PutsBlock (node_block h number) c d e) same puts)
+  where
+    none : FreesBlocks [] d d
+    none = record { changed = λ q. refl; fresh = λ q. refl; fresh_len = omega arith; taken = refl; freed = sym (append-nil d.freed) }
 
 -- the draft is sound, the node is gone, and its blocks are freed
 pub drops : (k : Bookkeeping) (m : Blocks) (g : Geometry) (number : ℕ) (o : OpenNode) (n : Node) (table : List ℕ) (d f e : DraftState) → g ≡ k.geom → IsGeometry g → 1 ≤ number → number ≤ k.geom.i

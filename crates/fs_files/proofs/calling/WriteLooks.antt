@@ -1,12 +1,12 @@
 -- Calls that look and calls that settle, one behind the other, where what a crash leaves composes.
-use Rattle.std.proofs.Common.{◌≡◌, Bool, false, IsTrue, Result, Ok, Err, refl, sym, ap, subst, arith}
+use Rattle.std.proofs.Common.{◌≡◌, ℕ, List, Bool, false, IsTrue, Result, Ok, Err, refl, sym, ap, subst, arith}
 use Rattle.std.specs.Prelude.{IfErr}
 use Rattle.std.specs.Result.{IsErrAnd}
 use Rattle.engine_blocks.specs.State.{Bookkeeping, State}
 use Rattle.engine_blocks.specs.Crashes.{IssuesNothing, Advances}
 use Rattle.fs_files.specs.declared.refusal.FileRefusal.{FileRefusal}
 use Rattle.fs_files.specs.declared.refusal.FileRefusal.TheVariants as refusal
-use Rattle.fs_files.specs.Calls.{LookRefused}
+use Rattle.fs_files.specs.Calls.{GrowthRefused, LookRefused}
 use Rattle.fs_files.specs.Content.{fails_reading, fails_settling}
 use Rattle.fs_files.specs.Effects.{LooksOnly, LooksAndSettles}
 use Rattle.fs_files.proofs.effects.Settles.{looks_settle, settles_more}
@@ -55,3 +55,11 @@ settles_none (Err (refusal.Scattered runs)) is = absurd is
 settles_none (Err refusal.DiskFault) is = absurd is
 settles_none (Err refusal.ReadFault) is = refl
 settles_none (Err refusal.NoMemory) is = refl
+
+-- a refused look is refused as a call that grows may be
+pub look_growth : (n : ℕ) (places : List ℕ) (old new : Bookkeeping) (why : FileRefusal) → LookRefused why → GrowthRefused n places old new why
+look_growth n places old new (refusal.Short need reusable) is = absurd is
+look_growth n places old new (refusal.Scattered runs) is = absurd is
+look_growth n places old new refusal.DiskFault is = absurd is
+look_growth n places old new refusal.ReadFault is = tt
+look_growth n places old new refusal.NoMemory is = tt

@@ -1,4 +1,4 @@
-use Rattle.std.proofs.Common.{◌≡◌, ◌+◌, ◌<◌, ◌≤◌, ◌++◌, min, false, take, drop, length, Some, Err, sym, subst, ap, ◌∙◌, arith}
+use Rattle.std.proofs.Common.{rules, ◌≡◌, ◌+◌, ◌<◌, ◌≤◌, ◌++◌, min, false, take, drop, length, Some, Err, sym, subst, ap, ◌∙◌, arith}
 use Rattle.layout_geometry.specs.Geometry.{Geometry}
 use Rattle.lang_tree.specs.declared.command.Refusal.{Refusal}
 use Rattle.engine_blocks.specs.Running.{Running}
@@ -22,9 +22,13 @@ use Rattle.fs_commands.proofs.writing.Written.{file_bytes, moved_to, need_is, pu
 use Rattle.fs_commands.proofs.looking.InUse.{all_read}
 use Rattle.fs_commands.proofs.bytes.plan_bytes.Goals as goal
 
-pub write_at-requires-clause-draft : goal.write_at-requires-clause-draft
-write_at-requires-clause-draft g c =
-    subst (λ d. IsDraftOf g.S.Blocks.tells (g.S.Blocks.state c.args.blocks.now) d) (sym c.new-draft.ensures) (c.a_draft_begins.ensures.draft c.requires.may.begin.none_bare c.requires.may.begin.sound)
+pub write_at-requires-clause-look : goal.write_at-requires-clause-look
+write_at-requires-clause-look g c = record {
+  going = search rules;
+  from = search rules;
+  upto = search rules;
+  draft = subst (λ d. IsDraftOf g.S.Blocks.tells (g.S.Blocks.state c.args.blocks.now) d) (sym c.new-draft.ensures) (c.a_draft_begins.ensures.draft c.requires.may.begin.none_bare c.requires.may.begin.sound);
+}
 
 pub returns-in-Ok-clause-made : goal.returns-in-Ok-clause-made
 returns-in-Ok-clause-made g c =

@@ -1,4 +1,4 @@
-use Rattle.std.proofs.Common.{◌≡◌, ℕ, List, map, Some, IfOk, false, sym, subst, ap, ◌∙◌}
+use Rattle.std.proofs.Common.{rules, ◌≡◌, ℕ, List, map, Some, IfOk, false, sym, subst, ap, ◌∙◌}
 use Rattle.std.specs.List.Sorted.{IsPermutation, IsSorted}
 use Rattle.std.specs.Ordering.{nat_cmp}
 use Rattle.std.specs.Cmp.Lexicographic.{slice_cmp}
@@ -34,11 +34,16 @@ returns-then-not-is_dir-clause-answer g c = λ told f h.
     (list_there s f h tree_map c.args.path.now (λ cmd e i. c.the_map_gives_the_reply.ensures.reply f m cmd i e) c.in-Ok.found.number led.1.0 led.0 (c.walks_are_the_same.ensures.ends m c.args.path.now c.in-Ok.found.number led.0) led.1.1).0
     (sym (ap (λ (q : FileFacts). is_dir q.kind) led.1.2) ∙ sym c.is_dir.ensures ∙ c.if-not-is_dir.true)
 
-pub names-requires-clause-draft : goal.names-requires-clause-draft
-names-requires-clause-draft g c =
+pub names-requires : goal.names-requires
+names-requires g c =
     let s = g.S.Blocks.state c.args.blocks.now in
-    draft_stays g.S.Blocks.tells false s (g.S.Blocks.state c.find_node.new.blocks) c.new-draft.result c.in_ok-found.ensures.looks
-    (subst (λ d. IsDraftOf g.S.Blocks.tells s d) (sym c.new-draft.ensures) (c.a_draft_begins.ensures.draft c.requires.begin.none_bare c.requires.begin.sound))
+    record {
+      going = search rules;
+      from = search rules;
+      upto = search rules;
+      draft = draft_stays g.S.Blocks.tells false s (g.S.Blocks.state c.find_node.new.blocks) c.new-draft.result c.in_ok-found.ensures.looks
+          (subst (λ d. IsDraftOf g.S.Blocks.tells s d) (sym c.new-draft.ensures) (c.a_draft_begins.ensures.draft c.requires.begin.none_bare c.requires.begin.sound));
+    }
 
 pub returns-in-Ok-names-clause-answer : goal.returns-in-Ok-names-clause-answer
 returns-in-Ok-names-clause-answer g c = λ told f h.

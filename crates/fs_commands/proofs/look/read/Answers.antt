@@ -1,4 +1,4 @@
-use Rattle.std.proofs.Common.{◌≡◌, ℕ, List, false, Some, IfOk, take, drop, sym, subst, ap, ◌∙◌}
+use Rattle.std.proofs.Common.{rules, ◌≡◌, ℕ, List, false, Some, IfOk, take, drop, sym, subst, ap, ◌∙◌}
 use Rattle.lang_tree.specs.declared.command.Reply.TheVariants.{Bytes}
 use Rattle.fs_files.specs.declared.look.FileFacts.{FileFacts}
 use Rattle.fs_files.specs.Calls.{files_in, facts_of, is_dir}
@@ -30,11 +30,16 @@ returns-then-is_dir-clause-answer g c = λ told f h.
     (read_there s f h map c.args.path.now (λ cmd e i. c.the_map_gives_the_reply.ensures.reply f m cmd i e) c.in-Ok.found.number led.1.0 led.0 (c.walks_are_the_same.ensures.ends m c.args.path.now c.in-Ok.found.number led.0) led.1.1 c.args.offset c.args.len).0
     (sym (ap (λ (q : FileFacts). is_dir q.kind) led.1.2) ∙ sym c.is_dir.ensures ∙ c.if-is_dir.true)
 
-pub read_at-requires-clause-draft : goal.read_at-requires-clause-draft
-read_at-requires-clause-draft g c =
+pub read_at-requires-clause-look : goal.read_at-requires-clause-look
+read_at-requires-clause-look g c =
     let s = g.S.Blocks.state c.args.blocks.now in
-    draft_stays g.S.Blocks.tells false s (g.S.Blocks.state c.find_node.new.blocks) c.new-draft.result c.in_ok-found.ensures.looks
-    (subst (λ d. IsDraftOf g.S.Blocks.tells s d) (sym c.new-draft.ensures) (c.a_draft_begins.ensures.draft c.requires.begin.none_bare c.requires.begin.sound))
+    record {
+      going = search rules;
+      from = search rules;
+      upto = search rules;
+      draft = draft_stays g.S.Blocks.tells false s (g.S.Blocks.state c.find_node.new.blocks) c.new-draft.result c.in_ok-found.ensures.looks
+          (subst (λ d. IsDraftOf g.S.Blocks.tells s d) (sym c.new-draft.ensures) (c.a_draft_begins.ensures.draft c.requires.begin.none_bare c.requires.begin.sound));
+    }
 
 pub read_at-requires-clause-used : goal.read_at-requires-clause-used
 read_at-requires-clause-used g c = λ told.

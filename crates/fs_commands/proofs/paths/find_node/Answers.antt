@@ -1,4 +1,4 @@
-use Rattle.std.proofs.Common.{false, sym, subst, ◌∙◌}
+use Rattle.std.proofs.Common.{rules, false, sym, subst, ◌∙◌}
 use Rattle.fs_files.specs.Drafts.{nothing_drafted}
 use Rattle.fs_files.specs.Sound.{IsDraftOf}
 use Rattle.fs_dirs.specs.Directories.{inodes_in}
@@ -10,11 +10,16 @@ returns-in-Err-clause-found g c = λ told t h.
     let s = g.S.Blocks.state c.args.blocks.now in
     walked_as s c.new-draft.result c.args.path.now c.in_ok-number.field-0 _ c.new-draft.ensures c.in-Err.is (c.in_ok-number.ensures.end told) t (c.blocks_have_the_map_of_their_tree.ensures.map s.books.geom s.map t h)
 
-pub look-requires-clause-draft : goal.look-requires-clause-draft
-look-requires-clause-draft g c =
+pub look-requires : goal.look-requires
+look-requires g c =
     let s = g.S.Blocks.state c.args.blocks.now in
-    draft_stays g.S.Blocks.tells false s (g.S.Blocks.state c.walk.new.blocks) c.new-draft.result c.in_ok-number.ensures.looks
-    (subst (λ d. IsDraftOf g.S.Blocks.tells s d) (sym c.new-draft.ensures) (c.a_draft_begins.ensures.draft c.requires.begin.none_bare c.requires.begin.sound))
+    record {
+      going = search rules;
+      from = search rules;
+      upto = search rules;
+      draft = draft_stays g.S.Blocks.tells false s (g.S.Blocks.state c.walk.new.blocks) c.new-draft.result c.in_ok-number.ensures.looks
+          (subst (λ d. IsDraftOf g.S.Blocks.tells s d) (sym c.new-draft.ensures) (c.a_draft_begins.ensures.draft c.requires.begin.none_bare c.requires.begin.sound));
+    }
 
 pub returns-in-Some-clause-found : goal.returns-in-Some-clause-found
 returns-in-Some-clause-found g c = λ told t h.

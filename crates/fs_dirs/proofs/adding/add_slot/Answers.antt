@@ -1,4 +1,5 @@
 use Rattle.std.proofs.Common.{◌≡◌, ◌+◌, ◌*◌, false, IsTrue, List, [], ◌∷◌, ◌++◌, length, min, Some, IfSome, sym, subst, ap, ◌∙◌, rules, arith}
+use Rattle.std.proofs.lemmas.Grind.{common_steps}
 use Rattle.std.proofs.lemmas.Option.{none-some, same_Some}
 use Rattle.std.proofs.lemmas.Result.{IfErr-weaker, on_ok_weaker}
 use Rattle.layout_bytes.specs.declared.slot.Slot.{Slot}
@@ -17,24 +18,19 @@ use Rattle.fs_dirs.proofs.adding.add_slot.Goals as goal
 use Rattle.fs_dirs.proofs.adding.add_slot.Goals.{In-Some}
 
 -- a directory has a count
-pub returns-in_default-clause-slots : goal.returns-in_default-clause-slots
-returns-in_default-clause-slots g c = λ told slots is. absurd (none-some _ (sym c.in_default.is ∙ c.in_ok-count.ensures.count told (ADir slots) is))
-
-pub returns-in_default-clause-used : goal.returns-in_default-clause-used
-returns-in_default-clause-used g c = λ told l used.
-    subst (λ (f : Files). IsUsed f l) (sym (same_files g.S.Blocks.tells false (g.S.Blocks.state c.args.blocks.now) (g.S.Blocks.state c.count_slots.new.blocks) c.args.draft.now c.in_ok-count.ensures.looks told)) used
-
-pub returns-in_default-clause-places : goal.returns-in_default-clause-places
-returns-in_default-clause-places g c = λ told slots is. absurd (none-some _ (sym c.in_default.is ∙ c.in_ok-count.ensures.count told (ADir slots) is))
-
-pub returns-in_default-clause-room : goal.returns-in_default-clause-room
-returns-in_default-clause-room g c = λ told slots is. absurd (none-some _ (sym c.in_default.is ∙ c.in_ok-count.ensures.count told (ADir slots) is))
-
-pub returns-in_default-clause-runs : goal.returns-in_default-clause-runs
-returns-in_default-clause-runs g c = λ told slots is. absurd (none-some _ (sym c.in_default.is ∙ c.in_ok-count.ensures.count told (ADir slots) is))
-
-pub returns-in_default-clause-alters : goal.returns-in_default-clause-alters
-returns-in_default-clause-alters g c = λ told slots is. absurd (none-some _ (sym c.in_default.is ∙ c.in_ok-count.ensures.count told (ADir slots) is))
+pub returns-in_default : goal.returns-in_default
+returns-in_default g c = record {
+  slots = λ told slots is. absurd (none-some _ (sym c.in_default.is ∙ c.in_ok-count.ensures.count told (ADir slots) is));
+  used = λ told l used. subst (λ (f : Files). IsUsed f l) (sym (same_files g.S.Blocks.tells false (g.S.Blocks.state c.args.blocks.now) (g.S.Blocks.state c.count_slots.new.blocks) c.args.draft.now c.in_ok-count.ensures.looks told)) used;
+  places = λ told slots is. absurd (none-some _ (sym c.in_default.is ∙ c.in_ok-count.ensures.count told (ADir slots) is));
+  draft = draft_stays g.S.Blocks.tells false (g.S.Blocks.state c.args.blocks.now) (g.S.Blocks.state c.count_slots.new.blocks) c.args.draft.now c.in_ok-count.ensures.looks c.requires.look.draft;
+  room = λ told slots is. absurd (none-some _ (sym c.in_default.is ∙ c.in_ok-count.ensures.count told (ADir slots) is));
+  runs = λ told slots is. absurd (none-some _ (sym c.in_default.is ∙ c.in_ok-count.ensures.count told (ADir slots) is));
+  alters = λ told slots is. absurd (none-some _ (sym c.in_default.is ∙ c.in_ok-count.ensures.count told (ADir slots) is));
+  refused = λ told. tt;
+  settles = first_of (search rules, grind (arith, common_steps));
+  looks = λ told slots is few. c.in_ok-count.ensures.looks;
+}
 
 -- its slots were counted
 module _ (g : _) (c : In-Some g) where
@@ -45,7 +41,7 @@ module _ (g : _) (c : In-Some g) where
   mid = g.S.Blocks.state c.count_slots.new.blocks
 
   still : IsDraftOf g.S.Blocks.tells mid c.args.draft.now
-  still = draft_stays g.S.Blocks.tells false s mid c.args.draft.now c.in_ok-count.ensures.looks c.requires.draft
+  still = draft_stays g.S.Blocks.tells false s mid c.args.draft.now c.in_ok-count.ensures.looks c.requires.look.draft
 
   many : IsTrue g.S.Blocks.tells → (slots : List Slot) → inodes_in s c.args.draft.now c.args.dir ≡ Some (ADir slots) → c.in-Some.count ≡ length slots
   many told slots is = same_Some _ _ (sym c.in-Some.is ∙ c.in_ok-count.ensures.count told (ADir slots) is)
@@ -61,93 +57,77 @@ write_at-requires-clause-slots g c = λ told x at dir.
     still_whole (length x.bytes) c.in-Some.count (64 * c.from.result) (length c.as_slice.result.now) (c.a_directory_has_whole_slots.ensures c.count_slots.new.blocks c.args.draft.now c.args.dir x told (still g b) at dir)
     (omega (arith, c.from.ensures)) (search rules)
 
-pub returns-clause-slots : goal.returns-clause-slots
-returns-clause-slots g c = λ told.
-    let b = (goal.at.returns-clause-slots g c).In-Some in
-    let new = files_in (g.S.Blocks.state c.write_at.new.blocks) c.write_at.new.self in
-    on_ok_weaker c.write_at.result (λ write slots is.
-    subst (λ (f : Files). IsWithSlots f new c.args.dir (slots ++ c.args.slot.now ∷ [])) (same_files g.S.Blocks.tells false (s g b) (mid g b) c.args.draft.now c.in_ok-count.ensures.looks told)
-    (sets_behind (files_in (mid g b) c.args.draft.now) new c.args.dir c.in-Some.count (64 * c.from.result) c.as_slice.result.now slots c.args.slot.now (node g b told slots is) (many g b told slots is) (omega (arith, c.from.ensures)) (search rules)
-    (c.as_slice.ensures ∙ c.slot_text-text.ensures.text) c.slot_text-text.ensures.lawful c.slots_follow_the_bytes.ensures.behind write)) (c.write_at.ensures.file told)
-
-pub returns-clause-used : goal.returns-clause-used
-returns-clause-used g c = λ told.
-    let b = (goal.at.returns-clause-used g c).In-Some in
-    let same = same_files g.S.Blocks.tells false (s g b) (mid g b) c.args.draft.now c.in_ok-count.ensures.looks told in
-    let there = subst (λ o. IfSome o (λ n. IsUsed (files_in (s g b) c.args.draft.now) c.args.dir)) c.in-Some.is (c.in_ok-count.ensures.used told) in
-    let new = files_in (g.S.Blocks.state c.write_at.new.blocks) c.write_at.new.self in
-    on_ok_weaker c.write_at.result (λ write l used.
-    still_used (files_in (mid g b) c.args.draft.now) new c.args.dir (with_bytes there.0 _) (write there.0 (ap (λ (f : Files). f c.args.dir) same ∙ there.1)) l (subst (λ (f : Files). IsUsed f l) (sym same) used)) (c.write_at.ensures.file told)
-
-pub returns-clause-places : goal.returns-clause-places
-returns-clause-places g c = λ told.
-    let b = (goal.at.returns-clause-places g c).In-Some in
-    let size : length c.as_slice.result.now ≡ 64 = search rules in
-    let new = g.S.Blocks.state c.write_at.new.blocks in
-    ok_both c.write_at.result (λ grows places slots is.
-    let r = node g b told slots is in
-    placed_behind (places_in (mid g b) c.args.draft.now) (places_in (s g b) c.args.draft.now) (places_in new c.write_at.new.self) c.args.dir _ _ (reusable_blocks new.books) _
-    (λ l. same_places g.S.Blocks.tells false (s g b) (mid g b) c.args.draft.now c.in_ok-count.ensures.looks l told)
-    (same_growth (length r.file.bytes) (length slots) (64 * c.from.result) (length c.as_slice.result.now) r.long (omega (arith, c.from.ensures, many g b told slots is)) size)
-    (grows r.file r.is (omega (arith, size))).behind (places r.file r.is))
-    (c.write_at.ensures.grows told) (c.write_at.ensures.places told)
-
-pub returns-clause-room : goal.returns-clause-room
-returns-clause-room g c = λ told.
-    let b = (goal.at.returns-clause-room g c).In-Some in
-    let size : length c.as_slice.result.now ≡ 64 = search rules in
-    let new = g.S.Blocks.state c.write_at.new.blocks in
-    on_ok_weaker c.write_at.result (λ grows slots is.
-    let r = node g b told slots is in
-    room_behind new.books slots r.file (64 * c.from.result + length c.as_slice.result.now) (places_in (mid g b) c.args.draft.now c.args.dir) (places_in new c.write_at.new.self c.args.dir) c.args.draft.now c.write_at.new.self
-    (grows r.file r.is (omega (arith, size))) r.long (omega (arith, c.from.ensures, many g b told slots is, size))) (c.write_at.ensures.grows told)
-
-pub returns-clause-runs : goal.returns-clause-runs
-returns-clause-runs g c = λ told.
-    let b = (goal.at.returns-clause-runs g c).In-Some in
-    let size : length c.as_slice.result.now ≡ 64 = search rules in
-    let new = g.S.Blocks.state c.write_at.new.blocks in
-    on_ok_weaker c.write_at.result (λ grows slots is.
-    let r = node g b told slots is in
-    runs_behind new.books slots r.file (64 * c.from.result + length c.as_slice.result.now) (places_in (mid g b) c.args.draft.now c.args.dir) (places_in (s g b) c.args.draft.now c.args.dir) (places_in new c.write_at.new.self c.args.dir) c.args.draft.now c.write_at.new.self
-    (grows r.file r.is (omega (arith, size))) r.long (omega (arith, c.from.ensures, many g b told slots is, size))
-    (same_places g.S.Blocks.tells false (s g b) (mid g b) c.args.draft.now c.in_ok-count.ensures.looks c.args.dir told)) (c.write_at.ensures.grows told)
-
-pub returns-clause-alters : goal.returns-clause-alters
-returns-clause-alters g c = λ told.
-    let b = (goal.at.returns-clause-alters g c).In-Some in
-    let size : length c.as_slice.result.now ≡ 64 = search rules in
-    let new = g.S.Blocks.state c.write_at.new.blocks in
-    ok_both c.write_at.result (λ grows among slots is.
-    let r = node g b told slots is in
-    let count = many g b told slots is in
-    alters_behind new.books (mid g b).books.geom c.args.dir (min (64 * c.from.result) (length r.file.bytes)) (64 * c.from.result + length c.as_slice.result.now) slots r.file
-    (places_in (mid g b) c.args.draft.now c.args.dir) (places_in new c.write_at.new.self c.args.dir) c.args.draft.now c.write_at.new.self
-    (grows r.file r.is (omega (arith, size))) r.kind r.long (omega (arith, c.from.ensures, count, r.long)) (omega (arith, c.from.ensures, count, size))
-    (c.a_file_has_its_blocks.ensures c.count_slots.new.blocks c.args.draft.now c.args.dir r.file told (still g b) r.is) (among r.file r.is))
-    (c.write_at.ensures.grows told) (c.write_at.ensures.among told)
-
-pub returns-clause-refused : goal.returns-clause-refused
-returns-clause-refused g c = λ told.
-    let b = (goal.at.returns-clause-refused g c).In-Some in
-    let size : length c.as_slice.result.now ≡ 64 = search rules in
-    let old = s g b in
-    let look = mid g b in
-    IfErr-weaker c.write_at.result _ _ (λ why refused slots is.
-    let r = node g b told slots is in
-    refused_behind _ _ (places_in look c.args.draft.now c.args.dir) (places_in old c.args.draft.now c.args.dir) old.books look.books (g.S.Blocks.state c.write_at.new.blocks).books why
-    (same_growth (length r.file.bytes) (length slots) (64 * c.from.result) (length c.as_slice.result.now) r.long (omega (arith, c.from.ensures, many g b told slots is)) size)
-    (same_places g.S.Blocks.tells false old look c.args.draft.now c.in_ok-count.ensures.looks c.args.dir told) c.in_ok-count.ensures.looks.books (refused r.file r.is)) (c.write_at.ensures.refused told)
-
-pub returns-clause-looks : goal.returns-clause-looks
-returns-clause-looks g c = λ told slots is few.
-    let b = (goal.at.returns-clause-looks g c).In-Some in
-    let size : length c.as_slice.result.now ≡ 64 = search rules in
-    let r = node g b told slots is in
-    looks_more g.S.Blocks.tells (fails_reading c.write_at.result) (s g b) (mid g b) (g.S.Blocks.state c.write_at.new.blocks) c.in_ok-count.ensures.looks
-    (c.write_at.ensures.looks told r.file r.is (omega (
-      arith,
-      few,
-      same_growth (length r.file.bytes) (length slots) (64 * c.from.result) (length c.as_slice.result.now) r.long (omega (arith, c.from.ensures, many g b told slots is)) size,
-      ap (λ (k : Bookkeeping). length (reusable_blocks k)) c.in_ok-count.ensures.looks.books,
-    )))
+pub returns : goal.returns
+returns g c =
+    let b = (goal.at.returns g c).In-Some in
+    record {
+      slots = λ told.
+          let new = files_in (g.S.Blocks.state c.write_at.new.blocks) c.write_at.new.self in
+          on_ok_weaker c.write_at.result (λ write slots is.
+          subst (λ (f : Files). IsWithSlots f new c.args.dir (slots ++ c.args.slot.now ∷ [])) (same_files g.S.Blocks.tells false (s g b) (mid g b) c.args.draft.now c.in_ok-count.ensures.looks told)
+          (sets_behind (files_in (mid g b) c.args.draft.now) new c.args.dir c.in-Some.count (64 * c.from.result) c.as_slice.result.now slots c.args.slot.now (node g b told slots is) (many g b told slots is) (omega (arith, c.from.ensures)) (search rules)
+          (c.as_slice.ensures ∙ c.slot_text-text.ensures.text) c.slot_text-text.ensures.lawful c.slots_follow_the_bytes.ensures.behind write)) (c.write_at.ensures.file told);
+      used = λ told.
+          let same = same_files g.S.Blocks.tells false (s g b) (mid g b) c.args.draft.now c.in_ok-count.ensures.looks told in
+          let there = subst (λ o. IfSome o (λ n. IsUsed (files_in (s g b) c.args.draft.now) c.args.dir)) c.in-Some.is (c.in_ok-count.ensures.used told) in
+          let new = files_in (g.S.Blocks.state c.write_at.new.blocks) c.write_at.new.self in
+          on_ok_weaker c.write_at.result (λ write l used.
+          still_used (files_in (mid g b) c.args.draft.now) new c.args.dir (with_bytes there.0 _) (write there.0 (ap (λ (f : Files). f c.args.dir) same ∙ there.1)) l (subst (λ (f : Files). IsUsed f l) (sym same) used)) (c.write_at.ensures.file told);
+      places = λ told.
+          let size : length c.as_slice.result.now ≡ 64 = search rules in
+          let new = g.S.Blocks.state c.write_at.new.blocks in
+          ok_both c.write_at.result (λ grows places slots is.
+          let r = node g b told slots is in
+          placed_behind (places_in (mid g b) c.args.draft.now) (places_in (s g b) c.args.draft.now) (places_in new c.write_at.new.self) c.args.dir _ _ (reusable_blocks new.books) _
+          (λ l. same_places g.S.Blocks.tells false (s g b) (mid g b) c.args.draft.now c.in_ok-count.ensures.looks l told)
+          (same_growth (length r.file.bytes) (length slots) (64 * c.from.result) (length c.as_slice.result.now) r.long (omega (arith, c.from.ensures, many g b told slots is)) size)
+          (grows r.file r.is (omega (arith, size))).behind (places r.file r.is))
+          (c.write_at.ensures.grows told) (c.write_at.ensures.places told);
+      draft = c.write_at.ensures.draft;
+      room = λ told.
+          let size : length c.as_slice.result.now ≡ 64 = search rules in
+          let new = g.S.Blocks.state c.write_at.new.blocks in
+          on_ok_weaker c.write_at.result (λ grows slots is.
+          let r = node g b told slots is in
+          room_behind new.books slots r.file (64 * c.from.result + length c.as_slice.result.now) (places_in (mid g b) c.args.draft.now c.args.dir) (places_in new c.write_at.new.self c.args.dir) c.args.draft.now c.write_at.new.self
+          (grows r.file r.is (omega (arith, size))) r.long (omega (arith, c.from.ensures, many g b told slots is, size))) (c.write_at.ensures.grows told);
+      runs = λ told.
+          let size : length c.as_slice.result.now ≡ 64 = search rules in
+          let new = g.S.Blocks.state c.write_at.new.blocks in
+          on_ok_weaker c.write_at.result (λ grows slots is.
+          let r = node g b told slots is in
+          runs_behind new.books slots r.file (64 * c.from.result + length c.as_slice.result.now) (places_in (mid g b) c.args.draft.now c.args.dir) (places_in (s g b) c.args.draft.now c.args.dir) (places_in new c.write_at.new.self c.args.dir) c.args.draft.now c.write_at.new.self
+          (grows r.file r.is (omega (arith, size))) r.long (omega (arith, c.from.ensures, many g b told slots is, size))
+          (same_places g.S.Blocks.tells false (s g b) (mid g b) c.args.draft.now c.in_ok-count.ensures.looks c.args.dir told)) (c.write_at.ensures.grows told);
+      alters = λ told.
+          let size : length c.as_slice.result.now ≡ 64 = search rules in
+          let new = g.S.Blocks.state c.write_at.new.blocks in
+          ok_both c.write_at.result (λ grows among slots is.
+          let r = node g b told slots is in
+          let count = many g b told slots is in
+          alters_behind new.books (mid g b).books.geom c.args.dir (min (64 * c.from.result) (length r.file.bytes)) (64 * c.from.result + length c.as_slice.result.now) slots r.file
+          (places_in (mid g b) c.args.draft.now c.args.dir) (places_in new c.write_at.new.self c.args.dir) c.args.draft.now c.write_at.new.self
+          (grows r.file r.is (omega (arith, size))) r.kind r.long (omega (arith, c.from.ensures, count, r.long)) (omega (arith, c.from.ensures, count, size))
+          (c.a_file_has_its_blocks.ensures c.count_slots.new.blocks c.args.draft.now c.args.dir r.file told (still g b) r.is) (among r.file r.is))
+          (c.write_at.ensures.grows told) (c.write_at.ensures.among told);
+      refused = λ told.
+          let size : length c.as_slice.result.now ≡ 64 = search rules in
+          let old = s g b in
+          let look = mid g b in
+          IfErr-weaker c.write_at.result _ _ (λ why refused slots is.
+          let r = node g b told slots is in
+          refused_behind _ _ (places_in look c.args.draft.now c.args.dir) (places_in old c.args.draft.now c.args.dir) old.books look.books (g.S.Blocks.state c.write_at.new.blocks).books why
+          (same_growth (length r.file.bytes) (length slots) (64 * c.from.result) (length c.as_slice.result.now) r.long (omega (arith, c.from.ensures, many g b told slots is)) size)
+          (same_places g.S.Blocks.tells false old look c.args.draft.now c.in_ok-count.ensures.looks c.args.dir told) c.in_ok-count.ensures.looks.books (refused r.file r.is)) (c.write_at.ensures.refused told);
+      settles = first_of (search rules, grind (arith, common_steps));
+      looks = λ told slots is few.
+          let size : length c.as_slice.result.now ≡ 64 = search rules in
+          let r = node g b told slots is in
+          looks_more g.S.Blocks.tells (fails_reading c.write_at.result) (s g b) (mid g b) (g.S.Blocks.state c.write_at.new.blocks) c.in_ok-count.ensures.looks
+          (c.write_at.ensures.looks told r.file r.is (omega (
+            arith,
+            few,
+            same_growth (length r.file.bytes) (length slots) (64 * c.from.result) (length c.as_slice.result.now) r.long (omega (arith, c.from.ensures, many g b told slots is)) size,
+            ap (λ (k : Bookkeeping). length (reusable_blocks k)) c.in_ok-count.ensures.looks.books,
+          )));
+    }

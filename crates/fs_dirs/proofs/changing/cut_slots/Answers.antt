@@ -23,23 +23,24 @@ module _ (g : _) (c : goal.In_ok-cut_to g) where
   node : IsTrue g.S.Blocks.tells → (slots : List Slot) → inodes_in s c.args.draft.now c.args.dir ≡ Some (ADir slots) → DirNode (files_in s c.args.draft.now c.args.dir) slots
   node told slots is =
       dir_node (files_in s c.args.draft.now c.args.dir) slots is
-      (λ x at dir. c.a_directory_has_whole_slots.ensures c.args.blocks.now c.args.draft.now c.args.dir x told c.requires.draft at dir) c.slots_follow_the_bytes.ensures.count
+      (λ x at dir. c.a_directory_has_whole_slots.ensures c.args.blocks.now c.args.draft.now c.args.dir x told c.requires.look.draft at dir) c.slots_follow_the_bytes.ensures.count
 
-pub returns-clause-slots : goal.returns-clause-slots
-returns-clause-slots g c = λ told slots is.
-    sets_cut _ _ c.args.dir c.args.count (64 * c.from.result) slots (node g c told slots is) (place_of_slots _ c.args.count slots (c.requires.there told) is) (omega (arith, c.from.ensures))
-    c.slots_follow_the_bytes.ensures.cut (c.in_ok-cut_to.ensures.file told)
-
-pub returns-clause-places : goal.returns-clause-places
-returns-clause-places g c = λ told.
-    let new = g.S.Blocks.state c.cut_to.new.blocks in
-    let size : 64 * c.from.result ≡ 64 * c.args.count = omega (arith, c.from.ensures) in
-    subst (λ n. IsWithPlaces (places_in (s g c) c.args.draft.now) (places_in new c.cut_to.new.self) c.args.dir (take (blocks_for n) (places_in (s g c) c.args.draft.now c.args.dir))) size
-    (c.in_ok-cut_to.ensures.places told)
-
-pub returns-clause-alters : goal.returns-clause-alters
-returns-clause-alters g c = λ told slots is.
-    let r = node g c told slots is in
-    alters_cut (s g c).books.geom c.args.dir c.args.count (64 * c.from.result) slots _ r (places_in (s g c) c.args.draft.now c.args.dir) (places_in (g.S.Blocks.state c.cut_to.new.blocks) c.cut_to.new.self c.args.dir) c.args.draft.now c.cut_to.new.self
-    (omega (arith, c.from.ensures)) (c.a_file_has_its_blocks.ensures c.args.blocks.now c.args.draft.now c.args.dir r.file told c.requires.draft r.is)
-    (c.in_ok-cut_to.ensures.shrinks told r.file r.is) (c.in_ok-cut_to.ensures.among told r.file r.is)
+pub returns : goal.returns
+returns g c = record {
+  slots = λ told slots is.
+      sets_cut _ _ c.args.dir c.args.count (64 * c.from.result) slots (node g c told slots is) (place_of_slots _ c.args.count slots (c.requires.there told) is) (omega (arith, c.from.ensures))
+      c.slots_follow_the_bytes.ensures.cut (c.in_ok-cut_to.ensures.file told);
+  places = λ told.
+      let new = g.S.Blocks.state c.cut_to.new.blocks in
+      let size : 64 * c.from.result ≡ 64 * c.args.count = omega (arith, c.from.ensures) in
+      subst (λ n. IsWithPlaces (places_in (s g c) c.args.draft.now) (places_in new c.cut_to.new.self) c.args.dir (take (blocks_for n) (places_in (s g c) c.args.draft.now c.args.dir))) size
+      (c.in_ok-cut_to.ensures.places told);
+  draft = c.in_ok-cut_to.ensures.draft;
+  alters = λ told slots is.
+      let r = node g c told slots is in
+      alters_cut (s g c).books.geom c.args.dir c.args.count (64 * c.from.result) slots _ r (places_in (s g c) c.args.draft.now c.args.dir) (places_in (g.S.Blocks.state c.cut_to.new.blocks) c.cut_to.new.self c.args.dir) c.args.draft.now c.cut_to.new.self
+      (omega (arith, c.from.ensures)) (c.a_file_has_its_blocks.ensures c.args.blocks.now c.args.draft.now c.args.dir r.file told c.requires.look.draft r.is)
+      (c.in_ok-cut_to.ensures.shrinks told r.file r.is) (c.in_ok-cut_to.ensures.among told r.file r.is);
+  refused = tt;
+  looks = c.in_ok-cut_to.ensures.looks;
+}

@@ -22,15 +22,19 @@ module _ (g : _) (c : goal.In_ok-overwrite g) where
   node : IsTrue g.S.Blocks.tells → (slots : List Slot) → inodes_in (g.S.Blocks.state c.args.blocks.now) c.args.draft.now c.args.dir ≡ Some (ADir slots) → DirNode (files_in (g.S.Blocks.state c.args.blocks.now) c.args.draft.now c.args.dir) slots
   node told slots is =
       dir_node (files_in (g.S.Blocks.state c.args.blocks.now) c.args.draft.now c.args.dir) slots is
-      (λ x at dir. c.a_directory_has_whole_slots.ensures c.args.blocks.now c.args.draft.now c.args.dir x told c.requires.draft at dir) c.slots_follow_the_bytes.ensures.count
+      (λ x at dir. c.a_directory_has_whole_slots.ensures c.args.blocks.now c.args.draft.now c.args.dir x told c.requires.look.draft at dir) c.slots_follow_the_bytes.ensures.count
 
-pub returns-clause-slots : goal.returns-clause-slots
-returns-clause-slots g c = λ told slots is.
-    sets_over _ _ c.args.dir c.args.place (64 * c.from.result) c.as_slice.result.now slots c.args.slot.now (node g c told slots is) (place_of_slots _ c.args.place slots (c.requires.there told) is) (omega (arith, c.from.ensures)) (size g c)
-    (c.as_slice.ensures ∙ c.slot_text-text.ensures.text) c.slot_text-text.ensures.lawful c.slots_follow_the_bytes.ensures.over (c.in_ok-overwrite.ensures.file told)
-
-pub returns-clause-alters : goal.returns-clause-alters
-returns-clause-alters g c = λ told.
-    alters_one (met (64 * c.from.result) (64 * c.from.result + length c.as_slice.result.now) (places_in (g.S.Blocks.state c.args.blocks.now) c.args.draft.now c.args.dir)) c.args.draft.now c.overwrite.new.self
-    (one_block c.args.place (64 * c.from.result) (length c.as_slice.result.now) _ (omega (arith, c.from.ensures)) (size g c) (c.bytes_lie_in_blocks.ensures.most (64 * c.from.result) (64 * c.from.result + length c.as_slice.result.now) (places_in (g.S.Blocks.state c.args.blocks.now) c.args.draft.now c.args.dir)))
-    (c.in_ok-overwrite.ensures.overwrites told) (c.in_ok-overwrite.ensures.changes told (omega (arith, size g c)))
+pub returns : goal.returns
+returns g c = record {
+  slots = λ told slots is.
+      sets_over _ _ c.args.dir c.args.place (64 * c.from.result) c.as_slice.result.now slots c.args.slot.now (node g c told slots is) (place_of_slots _ c.args.place slots (c.requires.there told) is) (omega (arith, c.from.ensures)) (size g c)
+      (c.as_slice.ensures ∙ c.slot_text-text.ensures.text) c.slot_text-text.ensures.lawful c.slots_follow_the_bytes.ensures.over (c.in_ok-overwrite.ensures.file told);
+  places = c.in_ok-overwrite.ensures.places;
+  draft = c.in_ok-overwrite.ensures.draft;
+  alters = λ told.
+      alters_one (met (64 * c.from.result) (64 * c.from.result + length c.as_slice.result.now) (places_in (g.S.Blocks.state c.args.blocks.now) c.args.draft.now c.args.dir)) c.args.draft.now c.overwrite.new.self
+      (one_block c.args.place (64 * c.from.result) (length c.as_slice.result.now) _ (omega (arith, c.from.ensures)) (size g c) (c.bytes_lie_in_blocks.ensures.most (64 * c.from.result) (64 * c.from.result + length c.as_slice.result.now) (places_in (g.S.Blocks.state c.args.blocks.now) c.args.draft.now c.args.dir)))
+      (c.in_ok-overwrite.ensures.overwrites told) (c.in_ok-overwrite.ensures.changes told (omega (arith, size g c)));
+  refused = tt;
+  looks = c.in_ok-overwrite.ensures.looks;
+}

@@ -7,11 +7,10 @@ use Rattle.crash_stands.specs.Files.{Files}
 use Rattle.crash_stands.specs.Inodes.{ADir}
 use Rattle.engine_blocks.specs.State.{State}
 use Rattle.fs_files.specs.Calls.{files_in, places_in}
-use Rattle.fs_files.specs.Content.{fails_reading}
 use Rattle.fs_files.specs.Effects.{LooksOnly}
-use Rattle.fs_dirs.specs.Changing.{Alters, IsWithSlots}
+use Rattle.fs_dirs.specs.Changing.{Alters, IsWithSlots, TakesSlot}
 use Rattle.fs_dirs.specs.Directories.{inodes_in}
-use Rattle.fs_dirs.proofs.reading.Looks.{looks_more, same_files, same_inodes, same_places}
+use Rattle.fs_dirs.proofs.reading.Looks.{draft_stays, looks_more, same_files, same_inodes, same_places}
 use Rattle.fs_dirs.proofs.writing.Alterings.{alters_both}
 use Rattle.fs_dirs.proofs.writing.Nodes.{place_of_slots}
 use Rattle.fs_dirs.proofs.writing.Taking.{out_is, slots_twice, places_twice}
@@ -35,17 +34,23 @@ module _ (g : _) (c : In-Some g) where
   still : IsTrue g.S.Blocks.tells → (slots : List Slot) → inodes_in s c.args.draft.now c.args.dir ≡ Some (ADir slots) → inodes_in t c.args.draft.now c.args.dir ≡ Some (ADir slots)
   still told slots is = ap (λ m. m c.args.dir) (same_inodes g.S.Blocks.tells false s t c.args.draft.now c.in_ok-last.ensures.looks told) ∙ is
 
-pub returns-in_default-2-clause-places : goal.returns-in_default-2-clause-places
-returns-in_default-2-clause-places g c = λ told slots is.
-    let b = (goal.at.returns-in_default-2-clause-places g c).In-Some in
-    absurd (none-some _ (sym c.in_default-2.is ∙ c.in_ok-moved.ensures.slot told slots (still g b told slots is) (omega (arith, last_is g b told slots is, place_low g b told slots is))
-    ∙ slice_get-get_or slots c.in-Some.last (record { node = 0; name = [] }) (omega (arith, last_is g b told slots is, place_low g b told slots is))))
-
-pub returns-in_default-2-clause-alters : goal.returns-in_default-2-clause-alters
-returns-in_default-2-clause-alters g c = λ told slots is.
-    let b = (goal.at.returns-in_default-2-clause-alters g c).In-Some in
-    absurd (none-some _ (sym c.in_default-2.is ∙ c.in_ok-moved.ensures.slot told slots (still g b told slots is) (omega (arith, last_is g b told slots is, place_low g b told slots is))
-    ∙ slice_get-get_or slots c.in-Some.last (record { node = 0; name = [] }) (omega (arith, last_is g b told slots is, place_low g b told slots is))))
+pub returns-in_default-2 : goal.returns-in_default-2
+returns-in_default-2 g c =
+    let b = (goal.at.returns-in_default-2 g c).In-Some in
+    record {
+      slots = λ told slots is.
+          absurd (none-some _ (sym c.in_default-2.is ∙ c.in_ok-moved.ensures.slot told slots (still g b told slots is) (omega (arith, last_is g b told slots is, place_low g b told slots is))
+          ∙ slice_get-get_or slots c.in-Some.last (record { node = 0; name = [] }) (omega (arith, last_is g b told slots is, place_low g b told slots is))));
+      places = λ told slots is.
+          absurd (none-some _ (sym c.in_default-2.is ∙ c.in_ok-moved.ensures.slot told slots (still g b told slots is) (omega (arith, last_is g b told slots is, place_low g b told slots is))
+          ∙ slice_get-get_or slots c.in-Some.last (record { node = 0; name = [] }) (omega (arith, last_is g b told slots is, place_low g b told slots is))));
+      draft = draft_stays g.S.Blocks.tells false (s g b) (g.S.Blocks.state c.slot_at.new.blocks) c.args.draft.now (looks_more g.S.Blocks.tells false (s g b) (t g b) (g.S.Blocks.state c.slot_at.new.blocks) c.in_ok-last.ensures.looks c.in_ok-moved.ensures.looks) c.requires.look.draft;
+      alters = λ told slots is.
+          absurd (none-some _ (sym c.in_default-2.is ∙ c.in_ok-moved.ensures.slot told slots (still g b told slots is) (omega (arith, last_is g b told slots is, place_low g b told slots is))
+          ∙ slice_get-get_or slots c.in-Some.last (record { node = 0; name = [] }) (omega (arith, last_is g b told slots is, place_low g b told slots is))));
+      refused = tt;
+      looks = looks_more g.S.Blocks.tells false (s g b) (t g b) (g.S.Blocks.state c.slot_at.new.blocks) c.in_ok-last.ensures.looks c.in_ok-moved.ensures.looks;
+    }
 
 -- and its slot was written over the one at the place
 module _ (g : _) (c : In_ok-set_slot g) where
@@ -90,40 +95,42 @@ cut_slots-requires-clause-there g c = λ told.
     let there = c.requires.there told in
     (set there.0 c.args.place c.in-Some-2.moved, (set_is g b told there.0 there.1).inodes.here, omega (arith, its_last g b told there.0 there.1, there.2, length-set there.0 c.args.place c.in-Some-2.moved))
 
-pub returns-clause-slots : goal.returns-clause-slots
-returns-clause-slots g c = λ told slots is.
-    let b = (goal.at.returns-clause-slots g c).In_ok-set_slot in
-    let mine = set_is g b told slots is in
-    let new = files_in (g.S.Blocks.state c.cut_slots.new.blocks) c.cut_slots.new.draft in
-    subst (λ xs. IsWithSlots (files_in (start g b) c.args.draft.now) new c.args.dir xs) (out_is slots c.args.place c.in-Some.last c.in-Some-2.moved (its_last g b told slots is) (moved_is g b told slots is))
-    (slots_twice (files_in (start g b) c.args.draft.now) (files_in (put g b) c.set_slot.new.draft) new c.args.dir (set slots c.args.place c.in-Some-2.moved) _ mine (c.in_ok-cut_slots.ensures.slots told (set slots c.args.place c.in-Some-2.moved) mine.inodes.here))
+pub returns : goal.returns
+returns g c =
+    let b = (goal.at.returns g c).In_ok-set_slot in
+    record {
+      slots = λ told slots is.
+          let mine = set_is g b told slots is in
+          let new = files_in (g.S.Blocks.state c.cut_slots.new.blocks) c.cut_slots.new.draft in
+          subst (λ xs. IsWithSlots (files_in (start g b) c.args.draft.now) new c.args.dir xs) (out_is slots c.args.place c.in-Some.last c.in-Some-2.moved (its_last g b told slots is) (moved_is g b told slots is))
+          (slots_twice (files_in (start g b) c.args.draft.now) (files_in (put g b) c.set_slot.new.draft) new c.args.dir (set slots c.args.place c.in-Some-2.moved) _ mine (c.in_ok-cut_slots.ensures.slots told (set slots c.args.place c.in-Some-2.moved) mine.inodes.here));
+      places = λ told slots is.
+          places_twice (places_in (read g b) c.args.draft.now) (places_in (start g b) c.args.draft.now) (places_in (put g b) c.set_slot.new.draft) (places_in (g.S.Blocks.state c.cut_slots.new.blocks) c.cut_slots.new.draft) c.args.dir _ _
+          (λ l. same_places g.S.Blocks.tells false (start g b) (read g b) c.args.draft.now (looks g b) l told) (ap directory_blocks (its_last g b told slots is))
+          (c.in_ok-set_slot.ensures.places told) (c.in_ok-cut_slots.ensures.places told);
+      draft = c.in_ok-cut_slots.ensures.draft;
+      alters = λ told slots is.
+          let mine = set_is g b told slots is in
+          let long = length-set slots c.args.place c.in-Some-2.moved in
+          let last = its_last g b told slots is in
+          let fewer : 0 + (directory_blocks (length (set slots c.args.place c.in-Some-2.moved)) - directory_blocks c.in-Some.last) ≡ release (length slots) = omega (arith, long, last) in
+          subst (λ n. Alters 3 [] n c.args.draft.now c.cut_slots.new.draft) fewer
+          (alters_both 1 2 0 _ [] [] c.args.draft.now c.set_slot.new.draft c.cut_slots.new.draft (c.in_ok-set_slot.ensures.alters told) (c.in_ok-cut_slots.ensures.alters told (set slots c.args.place c.in-Some-2.moved) mine.inodes.here));
+      refused = tt;
+      looks = looks_more g.S.Blocks.tells false (start g b) (put g b) (g.S.Blocks.state c.cut_slots.new.blocks) (put_looks g b) c.in_ok-cut_slots.ensures.looks;
+    }
 
-pub returns-clause-places : goal.returns-clause-places
-returns-clause-places g c = λ told slots is.
-    let b = (goal.at.returns-clause-places g c).In_ok-set_slot in
-    places_twice (places_in (read g b) c.args.draft.now) (places_in (start g b) c.args.draft.now) (places_in (put g b) c.set_slot.new.draft) (places_in (g.S.Blocks.state c.cut_slots.new.blocks) c.cut_slots.new.draft) c.args.dir _ _
-    (λ l. same_places g.S.Blocks.tells false (start g b) (read g b) c.args.draft.now (looks g b) l told) (ap directory_blocks (its_last g b told slots is))
-    (c.in_ok-set_slot.ensures.places told) (c.in_ok-cut_slots.ensures.places told)
-
-pub returns-clause-alters : goal.returns-clause-alters
-returns-clause-alters g c = λ told slots is.
-    let b = (goal.at.returns-clause-alters g c).In_ok-set_slot in
-    let mine = set_is g b told slots is in
-    let long = length-set slots c.args.place c.in-Some-2.moved in
-    let last = its_last g b told slots is in
-    let fewer : 0 + (directory_blocks (length (set slots c.args.place c.in-Some-2.moved)) - directory_blocks c.in-Some.last) ≡ release (length slots) = omega (arith, long, last) in
-    subst (λ n. Alters 3 [] n c.args.draft.now c.cut_slots.new.draft) fewer
-    (alters_both 1 2 0 _ [] [] c.args.draft.now c.set_slot.new.draft c.cut_slots.new.draft (c.in_ok-set_slot.ensures.alters told) (c.in_ok-cut_slots.ensures.alters told (set slots c.args.place c.in-Some-2.moved) mine.inodes.here))
-
-pub returns-clause-looks : goal.returns-clause-looks
-returns-clause-looks g c =
-    let b = (goal.at.returns-clause-looks g c).In_ok-set_slot in
-    looks_more g.S.Blocks.tells false (start g b) (put g b) (g.S.Blocks.state c.cut_slots.new.blocks) (put_looks g b) c.in_ok-cut_slots.ensures.looks
-
-pub returns-in_err-cut_slots-clause-looks : goal.returns-in_err-cut_slots-clause-looks
-returns-in_err-cut_slots-clause-looks g c =
-    let b = (goal.at.returns-in_err-cut_slots-clause-looks g c).In_ok-set_slot in
+pub returns-in_err-cut_slots : goal.returns-in_err-cut_slots
+returns-in_err-cut_slots g c =
+    let b = (goal.at.returns-in_err-cut_slots g c).In_ok-set_slot in
     let new = g.S.Blocks.state c.cut_slots.new.blocks in
     let error = err_from_is_err_and c.from_residual-in_err-cut_slots.result c.from_residual-in_err-cut_slots.ensures.1 in
-    subst (λ r. LooksOnly g.S.Blocks.tells (fails_reading r) (start g b) new) (sym (error.1 ∙ ap Err error.2))
-    (looks_more g.S.Blocks.tells _ (start g b) (put g b) new (put_looks g b) c.in_err-cut_slots.ensures.looks)
+    subst (λ r. TakesSlot g.S.Blocks.tells c.args.dir c.args.place r (start g b) new c.args.draft.now c.cut_slots.new.draft) (sym (error.1 ∙ ap Err error.2))
+    (record {
+      slots = λ told. tt;
+      places = λ told. tt;
+      draft = tt;
+      alters = λ told. tt;
+      refused = c.in_err-cut_slots.ensures.refused;
+      looks = looks_more g.S.Blocks.tells _ (start g b) (put g b) new (put_looks g b) c.in_err-cut_slots.ensures.looks;
+    })

@@ -1,13 +1,20 @@
 use Rattle.std.proofs.Common.{sym, subst, ap, ◌∙◌}
+use Rattle.std.specs.Prelude.{IfSome}
 use Rattle.layout_geometry.specs.Geometry.{Geometry}
-use Rattle.fs_dirs.specs.Directories.{inodes_in, Finds}
+use Rattle.fs_dirs.specs.Directories.{inodes_in, Finds, IsNumber}
 use Rattle.fs_dirs.proofs.reading.Searches.{number_found}
 use Rattle.fs_dirs.proofs.lookup.find_among.Goals as goal
 
-pub returns-clause-found : goal.returns-clause-found
-returns-clause-found g c = λ told t slots map is.
-    let finds = c.in_ok-found.ensures.found told slots is in
-    subst (λ r. Finds slots c.args.name.now r)
-    (sym (c.in_table.ensures.same (number_found c.a_name_stands_at_its_place.ensures.found c.i-limit.result (g.S.Blocks.state c.args.blocks.now).books.geom.i c.args.dir (inodes_in (g.S.Blocks.state c.args.blocks.now) c.args.draft.now) t slots c.args.name.now
-    c.in_ok-found.found (c.i-limit.ensures ∙ ap (λ (h : Geometry). h.i) c.geom.ensures) map (c.slots_name_nodes_in_use.ensures.used _ _ t map) is finds)))
-    finds
+pub returns : goal.returns
+returns g c = record {
+  found = λ told t slots map is.
+      let finds = c.in_ok-found.ensures.found told slots is in
+      subst (λ r. Finds slots c.args.name.now r)
+      (sym (c.in_table.ensures.same (number_found c.a_name_stands_at_its_place.ensures.found c.i-limit.result (g.S.Blocks.state c.args.blocks.now).books.geom.i c.args.dir (inodes_in (g.S.Blocks.state c.args.blocks.now) c.args.draft.now) t slots c.args.name.now
+      c.in_ok-found.found (c.i-limit.ensures ∙ ap (λ (h : Geometry). h.i) c.geom.ensures) map (c.slots_name_nodes_in_use.ensures.used _ _ t map) is finds)))
+      finds;
+  place = c.in_table.ensures.place c.in_ok-found.ensures.place;
+  number = subst (λ n. IfSome c.in_table.result (λ f. IsNumber n f.node)) (c.i-limit.ensures ∙ ap (λ (h : Geometry). h.i) c.geom.ensures) c.in_table.ensures.number;
+  refused = tt;
+  looks = c.in_ok-found.ensures.looks;
+}

@@ -15,23 +15,15 @@ module _ (g : _) (c : goal.In_ok-store g) where
       c.in_ok-clear_rest.ensures.clears c.in_ok-clear_rest.ensures.bytes c.to_node.ensures c.in_ok-store.ensures.ok c.in_ok-store.ensures.back
       c.a_list_has_its_runs.ensures.places c.a_list_has_its_runs.ensures.count c.a_list_has_its_runs.ensures.tidy
 
-pub returns-clause-draft : goal.returns-clause-draft
-returns-clause-draft g c =
-    cut_draft g.S.Blocks.tells (s g c) (t g c) c.args.number c.args.size c.args.node.now c.to_node.result c.args.table.now c.args.draft.now c.shrink.new.draft c.clear_rest.new.draft c.store.new.draft (steps g c) c.in_ok-clear_rest.ensures.looks
-
-pub returns-clause-file : goal.returns-clause-file
-returns-clause-file g c = λ known x at.
-    file_looks g.S.Blocks.tells (s g c) (t g c) c.store.new.draft _ c.args.number _ c.in_ok-clear_rest.ensures.looks known
-    (cut_file g.S.Blocks.tells (s g c) c.args.number c.args.size c.args.node.now c.to_node.result c.args.table.now c.args.draft.now c.shrink.new.draft c.clear_rest.new.draft c.store.new.draft (steps g c) known x at)
-
-pub returns-clause-places : goal.returns-clause-places
-returns-clause-places g c = λ known.
-    cut_places g.S.Blocks.tells (s g c) c.args.number c.args.size c.args.node.now c.to_node.result c.args.table.now c.args.draft.now c.shrink.new.draft c.clear_rest.new.draft c.store.new.draft (steps g c) known (t g c) c.in_ok-clear_rest.ensures.looks
-
-pub returns-clause-shrinks : goal.returns-clause-shrinks
-returns-clause-shrinks g c = λ known x at.
-    cut_shrinks g.S.Blocks.tells (s g c) c.args.number c.args.size c.args.node.now c.to_node.result c.args.table.now c.args.draft.now c.shrink.new.draft c.clear_rest.new.draft c.store.new.draft (steps g c) known (t g c) c.in_ok-clear_rest.ensures.looks x
-
-pub returns-clause-among : goal.returns-clause-among
-returns-clause-among g c = λ known x at.
-    cut_changes g.S.Blocks.tells (s g c) c.args.number c.args.size c.args.node.now c.to_node.result c.args.table.now c.args.draft.now c.shrink.new.draft c.clear_rest.new.draft c.store.new.draft (steps g c) known x at
+pub returns : goal.returns
+returns g c = record {
+  file = λ known x at.
+      file_looks g.S.Blocks.tells (s g c) (t g c) c.store.new.draft _ c.args.number _ c.in_ok-clear_rest.ensures.looks known
+      (cut_file g.S.Blocks.tells (s g c) c.args.number c.args.size c.args.node.now c.to_node.result c.args.table.now c.args.draft.now c.shrink.new.draft c.clear_rest.new.draft c.store.new.draft (steps g c) known x at);
+  places = λ known. cut_places g.S.Blocks.tells (s g c) c.args.number c.args.size c.args.node.now c.to_node.result c.args.table.now c.args.draft.now c.shrink.new.draft c.clear_rest.new.draft c.store.new.draft (steps g c) known (t g c) c.in_ok-clear_rest.ensures.looks;
+  draft = cut_draft g.S.Blocks.tells (s g c) (t g c) c.args.number c.args.size c.args.node.now c.to_node.result c.args.table.now c.args.draft.now c.shrink.new.draft c.clear_rest.new.draft c.store.new.draft (steps g c) c.in_ok-clear_rest.ensures.looks;
+  shrinks = λ known x at. cut_shrinks g.S.Blocks.tells (s g c) c.args.number c.args.size c.args.node.now c.to_node.result c.args.table.now c.args.draft.now c.shrink.new.draft c.clear_rest.new.draft c.store.new.draft (steps g c) known (t g c) c.in_ok-clear_rest.ensures.looks x;
+  among = λ known x at. cut_changes g.S.Blocks.tells (s g c) c.args.number c.args.size c.args.node.now c.to_node.result c.args.table.now c.args.draft.now c.shrink.new.draft c.clear_rest.new.draft c.store.new.draft (steps g c) known x at;
+  refused = tt;
+  looks = c.in_ok-clear_rest.ensures.looks;
+}

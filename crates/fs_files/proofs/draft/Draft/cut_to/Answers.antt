@@ -1,10 +1,12 @@
-use Rattle.std.proofs.Common.{◌≡◌, IsTrue, Some, option_map, sym, subst, ap, ◌∙◌, arith}
+use Rattle.std.proofs.Common.{◌≡◌, ℕ, List, false, IsTrue, Some, option_map, sym, subst, ap, ◌∙◌, arith}
 use Rattle.std.specs.Prelude.{IfSome}
 use Rattle.layout_geometry.specs.Geometry.{IsGeometry}
-use Rattle.engine_blocks.specs.State.{State}
+use Rattle.engine_blocks.specs.State.{Bookkeeping, State}
 use Rattle.crash_stands.specs.Files.{FileNode}
-use Rattle.fs_files.specs.Calls.{files_in}
+use Rattle.fs_files.specs.Calls.{files_in, places_in, cut_blocks, ChangesAmong, Shrinks}
 use Rattle.fs_files.specs.Nodes.{IsOpen, node_of_open}
+use Rattle.fs_files.proofs.bytes.Looks.{looks_more}
+use Rattle.fs_files.proofs.frames.Carry.{draft_looks, places_look}
 use Rattle.fs_files.proofs.calling.Nodes.{has_table}
 use Rattle.fs_files.proofs.calling.Resized.{IsRead, read_at, read_size, since_read, cut_read}
 use Rattle.fs_files.proofs.draft.Draft.cut_to.Goals as goal
@@ -22,27 +24,50 @@ module _ (g : _) (c : In-Some g) where
   read x known at = record {
     known = known;
     looks = c.in_ok-node.ensures.looks;
-    draft = c.requires.draft;
+    draft = c.requires.look.draft;
     fits = subst (λ f. IfSome f (IsOpen s.books.geom)) c.in-Some.is c.in_ok-node.ensures.open;
     is = ap (option_map node_of_open) (sym c.in-Some.is)
-        ∙ c.in_ok-node.ensures.node known (has_table s c.args.self.now c.args.number (subst IsGeometry c.geom.ensures c.lawful.ensures.limits) c.requires.above_zero c.requires.in_table (c.requires.draft.sound known));
+        ∙ c.in_ok-node.ensures.node known (has_table s c.args.self.now c.args.number (subst IsGeometry c.geom.ensures c.lawful.ensures.limits) c.requires.look.from c.requires.look.upto (c.requires.look.draft.sound known));
     at = at;
     places = c.a_list_has_its_runs.ensures.places;
   }
 
-pub returns-then-node-size-clause-shrinks : goal.returns-then-node-size-clause-shrinks
-returns-then-node-size-clause-shrinks g c = λ told x at.
-    let b = (goal.at.returns-then-node-size-clause-shrinks g c).In-Some in
-    absurd (omega (arith, c.if-node-size.true, c.requires.shorter told x at, read_size g.S.Blocks.tells (s g b) (t g b) c.args.number c.args.size c.in-Some.node x c.args.self.now (read g b x told at)))
+pub returns-then-node-size : goal.returns-then-node-size
+returns-then-node-size g c =
+    let b = (goal.at.returns-then-node-size g c).In-Some in
+    let longer = λ (told : IsTrue g.S.Blocks.tells) (x : FileNode) (at : files_in (s g b) c.args.self.now c.args.number ≡ Some x). read_size g.S.Blocks.tells (s g b) (t g b) c.args.number c.args.size c.in-Some.node x c.args.self.now (read g b x told at) in
+    record {
+      file = λ told x at. absurd (omega (arith, c.if-node-size.true, c.requires.cuts.shorter told x at, longer told x at));
+      places = λ told. let there = c.requires.used told in absurd (omega (arith, c.if-node-size.true, c.requires.cuts.shorter told there.0 there.1, longer told there.0 there.1));
+      draft = draft_looks g.S.Blocks.tells false (s g b) (t g b) c.args.self.now c.in_ok-node.ensures.looks c.requires.look.draft;
+      shrinks = λ told x at. absurd (omega (arith, c.if-node-size.true, c.requires.cuts.shorter told x at, longer told x at));
+      among = λ told x at. absurd (omega (arith, c.if-node-size.true, c.requires.cuts.shorter told x at, longer told x at));
+      refused = tt;
+      looks = c.in_ok-node.ensures.looks;
+    }
 
-pub returns-clause-file : goal.returns-clause-file
-returns-clause-file g c = λ told x at.
-    let b = (goal.at.returns-clause-file g c).In-Some in
-    let r = read g b x told at in
-    since_read g.S.Blocks.tells (s g b) (t g b) c.args.number c.args.size c.in-Some.node x c.args.self.now r _ _ (c.in_ok-cut.ensures.file told x (read_at g.S.Blocks.tells (s g b) (t g b) c.args.number c.args.size c.in-Some.node x c.args.self.now r))
-
-pub returns-clause-places : goal.returns-clause-places
-returns-clause-places g c = λ told.
-    let b = (goal.at.returns-clause-places g c).In-Some in
-    let there = c.requires.used told in
-    cut_read g.S.Blocks.tells (s g b) (t g b) c.args.number c.args.size c.in-Some.node there.0 c.args.self.now (read g b there.0 told there.1) _ (c.in_ok-cut.ensures.places told)
+pub returns : goal.returns
+returns g c =
+    let b = (goal.at.returns g c).In-Some in
+    let tells = g.S.Blocks.tells in
+    let u = g.S.Blocks.state c.cut.new.blocks in
+    let d = c.args.self.now in
+    let e = c.cut.new.draft in
+    record {
+      file = λ told x at.
+          let r = read g b x told at in
+          since_read tells (s g b) (t g b) c.args.number c.args.size c.in-Some.node x d r _ _ (c.in_ok-cut.ensures.file told x (read_at tells (s g b) (t g b) c.args.number c.args.size c.in-Some.node x d r));
+      places = λ told.
+          let there = c.requires.used told in
+          cut_read tells (s g b) (t g b) c.args.number c.args.size c.in-Some.node there.0 d (read g b there.0 told there.1) _ (c.in_ok-cut.ensures.places told);
+      draft = c.in_ok-cut.ensures.draft;
+      shrinks = λ told x at.
+          subst (λ (ps : List ℕ). Shrinks x ps (places_in u e c.args.number) c.args.size d e) (places_look tells false (s g b) (t g b) d c.in_ok-node.ensures.looks told c.args.number)
+          (c.in_ok-cut.ensures.shrinks told x (read_at tells (s g b) (t g b) c.args.number c.args.size c.in-Some.node x d (read g b x told at)));
+      among = λ told x at.
+          subst (λ (ps : List ℕ). ChangesAmong (cut_blocks (s g b).books.geom c.args.number x ps c.args.size) d e) (places_look tells false (s g b) (t g b) d c.in_ok-node.ensures.looks told c.args.number)
+          (subst (λ (k : Bookkeeping). ChangesAmong (cut_blocks k.geom c.args.number x (places_in (t g b) d c.args.number) c.args.size) d e) c.in_ok-node.ensures.looks.books
+          (c.in_ok-cut.ensures.among told x (read_at tells (s g b) (t g b) c.args.number c.args.size c.in-Some.node x d (read g b x told at))));
+      refused = tt;
+      looks = looks_more tells false (s g b) (t g b) u c.in_ok-node.ensures.looks c.in_ok-cut.ensures.looks;
+    }

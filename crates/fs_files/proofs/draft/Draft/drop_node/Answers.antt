@@ -23,37 +23,30 @@ module _ (g : _) (c : goal.In_ok-store g) where
   k = s.books
 
   fits : FitsBooks k c.store.new.draft
-  fits = drop_fits k c.geom-geom.result c.args.number c.in-Some.node.places _ c.args.self.now c.shrink.new.draft c.store.new.draft c.geom-geom.ensures c.lawful.ensures.limits c.requires.above_zero c.requires.in_table c.requires.draft.fits
+  fits = drop_fits k c.geom-geom.result c.args.number c.in-Some.node.places _ c.args.self.now c.shrink.new.draft c.store.new.draft c.geom-geom.ensures c.lawful.ensures.limits c.requires.look.from c.requires.look.upto c.requires.look.draft.fits
       opened.«data» c.in_ok-shrink.ensures.frees c.in_ok-store.ensures.ok
 
   changed : ChangesSome c.store.new.draft
-  changed = put_changes k c.geom-geom.result c.args.number _ c.shrink.new.draft c.store.new.draft c.geom-geom.ensures c.lawful.ensures.limits c.requires.above_zero c.requires.in_table fits c.in_ok-store.ensures.ok
+  changed = put_changes k c.geom-geom.result c.args.number _ c.shrink.new.draft c.store.new.draft c.geom-geom.ensures c.lawful.ensures.limits c.requires.look.from c.requires.look.upto fits c.in_ok-store.ensures.ok
 
   -- what was made of the draft, where the blocks are known
   made : IsTrue g.S.Blocks.tells → IsSoundDraft k s.map c.store.new.draft × IsWithFile (files_in s c.args.self.now) (files_of k.geom (drafted c.store.new.draft s.map)) c.args.number None × SetsNode k.geom c.args.number (places_in s c.args.self.now c.args.number) c.args.self.now c.store.new.draft
       × IsWithPlaces (places_in s c.args.self.now) (places_of k.geom (drafted c.store.new.draft s.map)) c.args.number []
   made tells =
-      let sound = c.requires.draft.sound tells in
-      let there = has_table s c.args.self.now c.args.number (subst IsGeometry c.geom-geom.ensures c.lawful.ensures.limits) c.requires.above_zero c.requires.in_table sound in
+      let sound = c.requires.look.draft.sound tells in
+      let there = has_table s c.args.self.now c.args.number (subst IsGeometry c.geom-geom.ensures c.lawful.ensures.limits) c.requires.look.from c.requires.look.upto sound in
       drops k s.map c.geom-geom.result c.args.number c.in-Some.node c.free_node.result c.load.new.table c.args.self.now c.shrink.new.draft c.store.new.draft
-      c.geom-geom.ensures c.lawful.ensures.limits c.requires.above_zero c.requires.in_table c.requires.draft.fits sound opened.«data» (c.a_list_has_its_runs.ensures.places c.in-Some.node.places)
+      c.geom-geom.ensures c.lawful.ensures.limits c.requires.look.from c.requires.look.upto c.requires.look.draft.fits sound opened.«data» (c.a_list_has_its_runs.ensures.places c.in-Some.node.places)
       (ap (option_map node_of_open) (sym c.in-Some.is) ∙ c.in_ok-node.ensures.node tells there) (c.in_ok-node.ensures.table tells there)
       c.in_ok-shrink.ensures.frees c.free_node.ensures c.in_ok-store.ensures.ok c.in_ok-store.ensures.back
 
-pub returns-clause-file : goal.returns-clause-file
-returns-clause-file g c = λ tells.
-    looked_files g.S.Blocks.tells _ (s g c) (g.S.Blocks.state c.load.new.blocks) c.args.self.now c.store.new.draft c.args.number _ c.load.ensures.looks tells (made g c tells).1
-
-pub returns-clause-places : goal.returns-clause-places
-returns-clause-places g c = λ tells.
-    looked_places g.S.Blocks.tells _ (s g c) (g.S.Blocks.state c.load.new.blocks) c.args.self.now c.store.new.draft c.args.number _ _ c.load.ensures.looks tells refl (made g c tells).3
-
-pub returns-clause-draft : goal.returns-clause-draft
-returns-clause-draft g c =
-    draft_looks g.S.Blocks.tells _ (s g c) (g.S.Blocks.state c.load.new.blocks) c.store.new.draft c.load.ensures.looks (record { fits = fits g c; sound = λ tells. (made g c tells).0; content = λ b some. changed g c })
-
-pub returns-clause-changes : goal.returns-clause-changes
-returns-clause-changes g c = λ tells. changed g c
-
-pub returns-clause-among : goal.returns-clause-among
-returns-clause-among g c = λ tells. (made g c tells).2
+pub returns : goal.returns
+returns g c = record {
+  file = λ tells. looked_files g.S.Blocks.tells _ (s g c) (g.S.Blocks.state c.load.new.blocks) c.args.self.now c.store.new.draft c.args.number _ c.load.ensures.looks tells (made g c tells).1;
+  places = λ tells. looked_places g.S.Blocks.tells _ (s g c) (g.S.Blocks.state c.load.new.blocks) c.args.self.now c.store.new.draft c.args.number _ _ c.load.ensures.looks tells refl (made g c tells).3;
+  draft = draft_looks g.S.Blocks.tells _ (s g c) (g.S.Blocks.state c.load.new.blocks) c.store.new.draft c.load.ensures.looks (record { fits = fits g c; sound = λ tells. (made g c tells).0; content = λ b some. changed g c });
+  among = λ tells. (made g c tells).2;
+  changes = λ tells. changed g c;
+  refused = tt;
+  looks = c.in_ok-node.ensures.looks;
+}

@@ -1,16 +1,20 @@
-use Rattle.std.proofs.Common.{◌≡◌, ◌+◌, ◌==◌, true, false, IsTrue, length, Some, refl, sym, ap, subst, ◌∙◌, rules}
+use Rattle.std.proofs.Common.{◌≡◌, ◌+◌, ◌==◌, Bool, true, false, IsTrue, if◌then◌else◌, length, Some, is_some, refl, sym, ap, subst, ◌∙◌, rules, arith}
+use Rattle.std.proofs.lemmas.Grind.{common_steps}
+use Rattle.std.proofs.lemmas.Bool.{eqb-true, or_right}
 use Rattle.std.proofs.lemmas.Result.{on_ok_weaker}
+use Rattle.lang_tree.specs.Step.{written}
 use Rattle.layout_geometry.specs.Geometry.{IsGeometry}
 use Rattle.engine_blocks.specs.State.{Bookkeeping, State, reusable_blocks}
 use Rattle.crash_stands.specs.Files.{used_node}
-use Rattle.fs_files.specs.Calls.{places_in}
+use Rattle.fs_files.specs.Calls.{places_in, with_bytes}
 use Rattle.fs_files.specs.declared.refusal.FileRefusal.TheVariants as refusal
-use Rattle.fs_files.specs.Content.{fails_reading, fails_settling}
-use Rattle.fs_files.specs.Effects.{LooksAndSettles}
-use Rattle.fs_files.specs.Drafts.{drafted}
+use Rattle.fs_files.specs.Changing.{WritesAt}
+use Rattle.fs_files.specs.Content.{fails_reading}
+use Rattle.fs_files.specs.Drafts.{change_of, drafted}
 use Rattle.fs_files.specs.Nodes.{node_of_open, IsOpen}
 use Rattle.fs_files.proofs.bytes.Looks.{looks_more}
-use Rattle.fs_files.proofs.calling.Nodes.{has_table}
+use Rattle.fs_files.proofs.frames.Carry.{draft_looks}
+use Rattle.fs_files.proofs.calling.Nodes.{has_table, none_found}
 use Rattle.fs_files.proofs.calling.WriteAt.{once_then, slots_then, refused_then, few_then, file_then, grows_then, has_then, among_then, none_come}
 use Rattle.fs_files.proofs.drafts.Refused.{err_maps, same_error}
 use Rattle.fs_files.proofs.calling.WriteLooks.{looked, looks_then}
@@ -30,7 +34,7 @@ module _ (g : _) (c : In-Some g) where
 
   used : IsTrue g.S.Blocks.tells → Some (node_of_open c.in-Some.node) ≡ used_node s.books.geom (drafted c.args.self.now s.map) c.args.number
   used told =
-      let there = c.in_ok-node.ensures.node told (has_table s c.args.self.now c.args.number (subst IsGeometry c.geom-geom.ensures c.lawful.ensures.limits) c.requires.above_zero c.requires.in_table (c.requires.draft.sound told)) in
+      let there = c.in_ok-node.ensures.node told (has_table s c.args.self.now c.args.number (subst IsGeometry c.geom-geom.ensures c.lawful.ensures.limits) c.requires.look.from c.requires.look.upto (c.requires.look.draft.sound told)) in
       search (rules, there)
 
 -- the geometry stays
@@ -40,80 +44,104 @@ geom_same g c = c.write_loaded.ensures.settles.pipeline.geom ∙ ap (λ (k : Boo
 pub write_loaded-requires-clause-once : goal.write_loaded-requires-clause-once
 write_loaded-requires-clause-once g c = λ told more.
     let b = (goal.at.write_loaded-requires-clause-once g c).In-Some in
-    once_then g.S.Blocks.tells (s g b) (t g b) c.args.number c.args.self.now c.in-Some.node c.in_ok-node.ensures.looks told (c.requires.draft.sound told) (opened g b) (used g b told) (c.args.offset + length c.args.bytes.now) (c.requires.once told) more
+    once_then g.S.Blocks.tells (s g b) (t g b) c.args.number c.args.self.now c.in-Some.node c.in_ok-node.ensures.looks told (c.requires.look.draft.sound told) (opened g b) (used g b told) (c.args.offset + length c.args.bytes.now) (c.requires.grows.once told) more
 
 pub write_loaded-requires-clause-slots : goal.write_loaded-requires-clause-slots
 write_loaded-requires-clause-slots g c = λ told dir.
     let b = (goal.at.write_loaded-requires-clause-slots g c).In-Some in
-    slots_then g.S.Blocks.tells (s g b) (t g b) c.args.number c.args.self.now c.in-Some.node c.in_ok-node.ensures.looks told (c.requires.draft.sound told) (opened g b) (used g b told) (c.args.offset + length c.args.bytes.now) (c.requires.slots told) dir
+    slots_then g.S.Blocks.tells (s g b) (t g b) c.args.number c.args.self.now c.in-Some.node c.in_ok-node.ensures.looks told (c.requires.look.draft.sound told) (opened g b) (used g b told) (c.args.offset + length c.args.bytes.now) (c.requires.slots told) dir
 
-pub returns-clause-file : goal.returns-clause-file
-returns-clause-file g c = λ told.
-    let b = (goal.at.returns-clause-file g c).In-Some in
-    let u = g.S.Blocks.state c.write_loaded.new.blocks in
-    let geom = geom_same g (goal.at.returns-clause-file g c).After-write_loaded in
-    on_ok_weaker c.write_loaded.result (λ w. file_then (s g b) (t g b) u c.args.number c.args.offset c.args.bytes.now c.args.self.now c.write_loaded.new.draft geom (c.in_ok-node.ensures.looks.map told) (sym (c.write_loaded.ensures.settles.map told)) w)
-    (c.write_loaded.ensures.file told)
-
-pub returns-then-is_empty-clause-places : goal.returns-then-is_empty-clause-places
-returns-then-is_empty-clause-places g c = λ told x at.
+pub returns-then-is_empty : goal.returns-then-is_empty
+returns-then-is_empty g c =
     let s = g.S.Blocks.state c.args.blocks.now in
-    let ps = places_in s c.args.self.now c.args.number in
-    let none : (length c.args.bytes.now == 0) ≡ true = sym c.is_empty.ensures ∙ c.if-is_empty.true in
-    record { own = none_come ps (reusable_blocks s.books) c.args.bytes.now x c.args.offset none; others = λ l other. refl }
+    let d = c.args.self.now in
+    let ys = c.args.bytes.now in
+    let none : (length ys == 0) ≡ true = sym c.is_empty.ensures ∙ c.if-is_empty.true in
+    record {
+      file = λ told x at. record { own = at ∙ ap (λ (q : Bool). Some (with_bytes x (if q then x.bytes else written c.args.offset ys x.bytes))) {x = true} {y = length ys == 0} (sym none); others = λ l other. refl };
+      places = λ told x at. record { own = none_come (places_in s d c.args.number) (reusable_blocks s.books) ys x c.args.offset none; others = λ l other. refl };
+      draft = c.requires.look.draft;
+      grows = λ told x at some. absurd (omega (arith, some, eqb-true (length ys) 0 none));
+      among = λ told x at b some. or_right _ (is_some (change_of d.changed b)) some;
+      changes = λ told some. absurd (omega (arith, some, eqb-true (length ys) 0 none));
+      refused = λ told. tt;
+      settles = first_of (search rules, grind (arith, common_steps));
+      looks = first_of (search rules, grind (arith, common_steps));
+    }
 
-pub returns-clause-places : goal.returns-clause-places
-returns-clause-places g c = λ told.
-    let b = (goal.at.returns-clause-places g c).In-Some in
-    let u = g.S.Blocks.state c.write_loaded.new.blocks in
-    let geom = geom_same g (goal.at.returns-clause-places g c).After-write_loaded in
-    on_ok_weaker c.write_loaded.result (λ w. has_then (s g b) (t g b) u c.args.number c.args.offset c.args.bytes.now c.args.self.now c.write_loaded.new.draft geom (c.in_ok-node.ensures.looks.map told) (sym (c.write_loaded.ensures.settles.map told)) w)
-    (c.write_loaded.ensures.file told)
+pub returns : goal.returns
+returns g c =
+    let b = (goal.at.returns g c).In-Some in
+    record {
+      file = λ told.
+          let u = g.S.Blocks.state c.write_loaded.new.blocks in
+          let geom = geom_same g (goal.at.returns g c).After-write_loaded in
+          on_ok_weaker c.write_loaded.result (λ w. file_then (s g b) (t g b) u c.args.number c.args.offset c.args.bytes.now c.args.self.now c.write_loaded.new.draft geom (c.in_ok-node.ensures.looks.map told) (sym (c.write_loaded.ensures.settles.map told)) w)
+          (c.write_loaded.ensures.file told);
+      places = λ told.
+          let u = g.S.Blocks.state c.write_loaded.new.blocks in
+          let geom = geom_same g (goal.at.returns g c).After-write_loaded in
+          on_ok_weaker c.write_loaded.result (λ w. has_then (s g b) (t g b) u c.args.number c.args.offset c.args.bytes.now c.args.self.now c.write_loaded.new.draft geom (c.in_ok-node.ensures.looks.map told) (sym (c.write_loaded.ensures.settles.map told)) w)
+          (c.write_loaded.ensures.file told);
+      draft = c.write_loaded.ensures.draft;
+      grows = λ told.
+          let u = g.S.Blocks.state c.write_loaded.new.blocks in
+          let geom = geom_same g (goal.at.returns g c).After-write_loaded in
+          on_ok_weaker c.write_loaded.result (λ w x at some. grows_then (s g b) (t g b) u c.args.number c.args.offset c.args.bytes.now c.args.self.now c.write_loaded.new.draft geom (c.in_ok-node.ensures.looks.map told) (sym (c.write_loaded.ensures.settles.map told)) w x at)
+          (c.write_loaded.ensures.file told);
+      among = λ told.
+          let u = g.S.Blocks.state c.write_loaded.new.blocks in
+          let geom = geom_same g (goal.at.returns g c).After-write_loaded in
+          on_ok_weaker c.write_loaded.result (λ w. among_then (s g b) (t g b) u c.args.number c.args.offset c.args.bytes.now c.args.self.now c.write_loaded.new.draft geom (c.in_ok-node.ensures.looks.map told) (sym (c.write_loaded.ensures.settles.map told)) w)
+          (c.write_loaded.ensures.file told);
+      changes = λ told.
+          let u = g.S.Blocks.state c.write_loaded.new.blocks in
+          let geom = geom_same g (goal.at.returns g c).After-write_loaded in
+          let there = c.requires.used told in
+          on_ok_weaker c.write_loaded.result (λ w some. (grows_then (s g b) (t g b) u c.args.number c.args.offset c.args.bytes.now c.args.self.now c.write_loaded.new.draft geom (c.in_ok-node.ensures.looks.map told) (sym (c.write_loaded.ensures.settles.map told)) w there.0 there.1).changes)
+          (c.write_loaded.ensures.file told);
+      refused = λ told.
+          err_maps c.write_loaded.result (λ why h x at. refused_then g.S.Blocks.tells (s g b) (t g b) c.args.number c.args.self.now c.in-Some.node c.in_ok-node.ensures.looks told (c.requires.look.draft.sound told) (opened g b) (used g b told)
+          (c.args.offset + length c.args.bytes.now) x (g.S.Blocks.state c.write_loaded.new.blocks).books why c.a_list_has_its_runs.ensures.places at h) c.write_loaded.ensures.refused;
+      settles = looks_then g.S.Blocks.state g.S.Blocks.tells c.calls_compose.ensures.advances c.calls_compose.ensures.rests _ _ c.args.blocks.now c.load.new.blocks c.write_loaded.new.blocks c.requires.look.going c.in_ok-node.ensures.looks c.write_loaded.ensures.settles;
+      looks = λ told x at few.
+          looks_more g.S.Blocks.tells (fails_reading c.write_loaded.result) (s g b) (t g b) (g.S.Blocks.state c.write_loaded.new.blocks) c.in_ok-node.ensures.looks
+          (c.write_loaded.ensures.looks (few_then g.S.Blocks.tells (s g b) (t g b) c.args.number c.args.self.now c.in-Some.node c.in_ok-node.ensures.looks told (c.requires.look.draft.sound told) (opened g b) (used g b told) (c.args.offset + length c.args.bytes.now) x at few));
+    }
 
-pub returns-clause-grows : goal.returns-clause-grows
-returns-clause-grows g c = λ told.
-    let b = (goal.at.returns-clause-grows g c).In-Some in
-    let u = g.S.Blocks.state c.write_loaded.new.blocks in
-    let geom = geom_same g (goal.at.returns-clause-grows g c).After-write_loaded in
-    on_ok_weaker c.write_loaded.result (λ w x at some. grows_then (s g b) (t g b) u c.args.number c.args.offset c.args.bytes.now c.args.self.now c.write_loaded.new.draft geom (c.in_ok-node.ensures.looks.map told) (sym (c.write_loaded.ensures.settles.map told)) w x at)
-    (c.write_loaded.ensures.file told)
+pub returns-in_default : goal.returns-in_default
+returns-in_default g c =
+    let s = g.S.Blocks.state c.args.blocks.now in
+    let t = g.S.Blocks.state c.load.new.blocks in
+    let d = c.args.self.now in
+    let geom = subst IsGeometry c.geom-geom.ensures c.lawful.ensures.limits in
+    let node = λ (told : IsTrue g.S.Blocks.tells). c.in_ok-node.ensures.node told (has_table s d c.args.number geom c.requires.look.from c.requires.look.upto (c.requires.look.draft.sound told)) in
+    record {
+      file = λ told x at. none_found s d c.args.number x c.in_ok-node.field-0 c.in_default.is (node told) at;
+      places = λ told x at. none_found s d c.args.number x c.in_ok-node.field-0 c.in_default.is (node told) at;
+      draft = draft_looks g.S.Blocks.tells false s t d c.in_ok-node.ensures.looks c.requires.look.draft;
+      grows = λ told x at some. none_found s d c.args.number x c.in_ok-node.field-0 c.in_default.is (node told) at;
+      among = λ told x at. none_found s d c.args.number x c.in_ok-node.field-0 c.in_default.is (node told) at;
+      changes = λ told some. let there = c.requires.used told in none_found s d c.args.number there.0 c.in_ok-node.field-0 c.in_default.is (node told) there.1;
+      refused = λ told. tt;
+      settles = looked g.S.Blocks.state g.S.Blocks.tells c.calls_compose.ensures.advances c.calls_compose.ensures.rests false c.args.blocks.now c.load.new.blocks c.requires.look.going c.in_ok-node.ensures.looks;
+      looks = λ told x at few. c.in_ok-node.ensures.looks;
+    }
 
-pub returns-clause-among : goal.returns-clause-among
-returns-clause-among g c = λ told.
-    let b = (goal.at.returns-clause-among g c).In-Some in
-    let u = g.S.Blocks.state c.write_loaded.new.blocks in
-    let geom = geom_same g (goal.at.returns-clause-among g c).After-write_loaded in
-    on_ok_weaker c.write_loaded.result (λ w. among_then (s g b) (t g b) u c.args.number c.args.offset c.args.bytes.now c.args.self.now c.write_loaded.new.draft geom (c.in_ok-node.ensures.looks.map told) (sym (c.write_loaded.ensures.settles.map told)) w)
-    (c.write_loaded.ensures.file told)
-
-pub returns-clause-changes : goal.returns-clause-changes
-returns-clause-changes g c = λ told.
-    let b = (goal.at.returns-clause-changes g c).In-Some in
-    let u = g.S.Blocks.state c.write_loaded.new.blocks in
-    let geom = geom_same g (goal.at.returns-clause-changes g c).After-write_loaded in
-    let there = c.requires.used told in
-    on_ok_weaker c.write_loaded.result (λ w some. (grows_then (s g b) (t g b) u c.args.number c.args.offset c.args.bytes.now c.args.self.now c.write_loaded.new.draft geom (c.in_ok-node.ensures.looks.map told) (sym (c.write_loaded.ensures.settles.map told)) w there.0 there.1).changes)
-    (c.write_loaded.ensures.file told)
-
-pub returns-clause-refused : goal.returns-clause-refused
-returns-clause-refused g c = λ told.
-    let b = (goal.at.returns-clause-refused g c).In-Some in
-    err_maps c.write_loaded.result (λ why h x at. refused_then g.S.Blocks.tells (s g b) (t g b) c.args.number c.args.self.now c.in-Some.node c.in_ok-node.ensures.looks told (c.requires.draft.sound told) (opened g b) (used g b told)
-    (c.args.offset + length c.args.bytes.now) x (g.S.Blocks.state c.write_loaded.new.blocks).books why c.a_list_has_its_runs.ensures.places at h) c.write_loaded.ensures.refused
-
-pub returns-clause-looks : goal.returns-clause-looks
-returns-clause-looks g c = λ told x at few.
-    let b = (goal.at.returns-clause-looks g c).In-Some in
-    looks_more g.S.Blocks.tells (fails_reading c.write_loaded.result) (s g b) (t g b) (g.S.Blocks.state c.write_loaded.new.blocks) c.in_ok-node.ensures.looks
-    (c.write_loaded.ensures.looks (few_then g.S.Blocks.tells (s g b) (t g b) c.args.number c.args.self.now c.in-Some.node c.in_ok-node.ensures.looks told (c.requires.draft.sound told) (opened g b) (used g b told) (c.args.offset + length c.args.bytes.now) x at few))
-
-pub returns-clause-settles : goal.returns-clause-settles
-returns-clause-settles g c = looks_then g.S.Blocks.state g.S.Blocks.tells c.calls_compose.ensures.advances c.calls_compose.ensures.rests _ _ c.args.blocks.now c.load.new.blocks c.write_loaded.new.blocks c.requires.going c.in_ok-node.ensures.looks c.write_loaded.ensures.settles
-
-pub returns-in_default-clause-settles : goal.returns-in_default-clause-settles
-returns-in_default-clause-settles g c = looked g.S.Blocks.state g.S.Blocks.tells c.calls_compose.ensures.advances c.calls_compose.ensures.rests false c.args.blocks.now c.load.new.blocks c.requires.going c.in_ok-node.ensures.looks
-
-pub returns-in_err-node-clause-settles : goal.returns-in_err-node-clause-settles
-returns-in_err-node-clause-settles g c =
-    same_error c.from_residual.result refusal.ReadFault (λ r. LooksAndSettles g.S.Blocks.tells (fails_reading r) (fails_settling r) (g.S.Blocks.state c.args.blocks.now) (g.S.Blocks.state c.load.new.blocks)) c.from_residual.ensures.1
-    (looked g.S.Blocks.state g.S.Blocks.tells c.calls_compose.ensures.advances c.calls_compose.ensures.rests true c.args.blocks.now c.load.new.blocks c.requires.going c.in_err-node.ensures.looks)
+pub returns-in_err-node : goal.returns-in_err-node
+returns-in_err-node g c =
+    let s = g.S.Blocks.state c.args.blocks.now in
+    let t = g.S.Blocks.state c.load.new.blocks in
+    let d = c.args.self.now in
+    same_error c.from_residual.result refusal.ReadFault (λ r. WritesAt g.S.Blocks.tells c.args.number c.args.offset c.args.bytes.now r s t d d) c.from_residual.ensures.1
+    (record {
+      file = λ told. tt;
+      places = λ told. tt;
+      draft = tt;
+      grows = λ told. tt;
+      among = λ told. tt;
+      changes = λ told. tt;
+      refused = λ told x at. tt;
+      settles = looked g.S.Blocks.state g.S.Blocks.tells c.calls_compose.ensures.advances c.calls_compose.ensures.rests true c.args.blocks.now c.load.new.blocks c.requires.look.going c.in_err-node.ensures.looks;
+      looks = λ told x at few. c.in_err-node.ensures.looks;
+    })

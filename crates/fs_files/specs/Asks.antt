@@ -1,0 +1,36 @@
+-- What the calls on the files of a draft ask. It is described in docs/FILES.md.
+use Rattle.std.specs.Prelude.{◌≡◌, ℕ, ◌<◌, ◌≤◌, ◌%◌, ◌^◌, Bool, false, IsTrue, [], length, Some}
+use Rattle.layout_bytes.specs.declared.node.NodeKind.TheVariants.{Dir}
+use Rattle.crash_stands.specs.Files.{FileNode}
+use Rattle.engine_blocks.specs.Calls.{HasTurns}
+use Rattle.engine_blocks.specs.State.{State}
+use Rattle.fs_files.specs.Calls.{files_in, growth}
+use Rattle.fs_files.specs.Drafts.{DraftState}
+use Rattle.fs_files.specs.Sound.{IsDraftOf}
+
+-- Node `number` may be looked at in this draft.
+pub record MayLook (tells : Bool) (s : State) (d : DraftState) (number : ℕ) : Type 0 where
+  -- the disk hasn't failed
+  pub going : s.books.stopped ≡ false
+  -- it is a number of the table
+  pub from : 1 ≤ number
+  pub upto : number ≤ s.books.geom.i
+  -- and the draft is one of these blocks
+  pub draft : IsDraftOf tells s d
+
+-- Node `number` may get `count` bytes, where it is in use.
+pub record MayGrow (tells : Bool) (s : State) (d : DraftState) (number count : ℕ) : Type 0 where
+  -- the pipeline may settle
+  pub turns : HasTurns s.books
+  -- no file has more bytes
+  pub size : count ≤ 2 ^ 30
+  -- one call of a draft takes blocks, and this is it, if it needs some
+  pub once : IsTrue tells → (x : FileNode) → files_in s d number ≡ Some x → 0 < growth (length x.bytes) count → d.taken ≡ []
+
+-- Node `number` may be cut to its first `count` bytes, where it is in use.
+pub record MayCut (tells : Bool) (s : State) (d : DraftState) (number count : ℕ) : Type 0 where
+  pub size : count ≤ 2 ^ 30
+  -- a directory keeps whole slots
+  pub slots : IsTrue tells → (x : FileNode) → files_in s d number ≡ Some x → x.kind ≡ Dir → count % 64 ≡ 0
+  -- it has more bytes
+  pub shorter : IsTrue tells → (x : FileNode) → files_in s d number ≡ Some x → count < length x.bytes
