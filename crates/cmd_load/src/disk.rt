@@ -6,7 +6,7 @@ ghost use Rattle.cmd_load.specs.Serving.{IsFormattedDisk, rule_of};
 ghost use Rattle.cmd_load.specs.Summary.{shape};
 
 use base_types::NoMemory;
-use cmd_formatted::formatted_image;
+use cmd_host::formatted_image;
 use disk_memory::{MemDisk, Rule};
 use layout_geometry::Geom;
 use std::alloc::Global;

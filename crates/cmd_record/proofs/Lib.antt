@@ -1,8 +1,8 @@
 pub mod LineLemmas
 pub mod Entries
 pub mod EventLines
-pub mod Mounts
 mod Sureness
+mod Views
 pub mod Losses
 mod Weights
 mod WrongTraces
@@ -10,6 +10,3 @@ pub mod Runs
 pub mod RecordingLemmas
 pub mod ReadingLemmas
 mod Quiet
-mod FormattedFound
-mod MountLemmas
-mod OpenLemmas

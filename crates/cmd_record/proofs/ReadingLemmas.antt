@@ -8,8 +8,9 @@ use Rattle.lang_lines.specs.Lines.{longest, commands_of, open_line}
 use Rattle.cmd_trace.specs.Line.{end_line}
 use Rattle.disk_contract.specs.Manner.{Manner}
 use Rattle.layout_geometry.specs.Geometry.{Geometry}
-use Rattle.cmd_record.specs.Disks.{IsOpened}
-use Rattle.cmd_record.specs.Traces.{ServesBy, Setting}
+use Rattle.cmd_host.specs.Disks.{IsOpened}
+use Rattle.cmd_host.specs.Behaving.{Setting}
+use Rattle.cmd_record.specs.Traces.{ServesBy}
 use Rattle.engine_blocks.specs.State.{State}
 use Rattle.cmd_record.specs.Follows.{Follows, Stopped, ServesTo, StopsByCause}
 use Rattle.cmd_record.specs.declared.recording.Stop.{Stop}

@@ -18,7 +18,8 @@ use Rattle.cmd_trace.specs.Trace.{entry}
 use Rattle.disk_contract.specs.declared.event.Event.{Event}
 use Rattle.lang_tree.specs.declared.command.Reply.{Reply}
 use Rattle.lang_lines.specs.Lines.{longest, open_line, whole_commands, commands_of, commands_of_line}
-use Rattle.cmd_record.specs.Traces.{BeginsFirst, Serves, ServesBy, Setting}
+use Rattle.cmd_host.specs.Behaving.{Setting}
+use Rattle.cmd_record.specs.Traces.{BeginsFirst, Serves, ServesBy}
 use Rattle.cmd_record.specs.Running.{Records, BreaksOff, ServesFrom, TriesFrom}
 use Rattle.cmd_record.specs.Follows.{Follows, Stopped, ServesTo}
 use Rattle.cmd_record.proofs.LineLemmas.{open-byte, open-feed, commands-byte, commands-feed, commands-end, commands-more}

@@ -7,7 +7,8 @@ use Rattle.engine_blocks.specs.State.{State}
 use Rattle.lang_script.specs.Values.{IsCommand}
 use Rattle.cmd_trace.specs.Contents.{Each}
 use Rattle.lang_lines.specs.Lines.{longest, open_line, whole_commands, commands_of}
-use Rattle.cmd_record.specs.Traces.{IsBrokenOff, ServesBy, Setting}
+use Rattle.cmd_host.specs.Behaving.{Setting}
+use Rattle.cmd_record.specs.Traces.{IsBrokenOff, ServesBy}
 use Rattle.cmd_record.specs.Running.{Records}
 use Rattle.cmd_record.specs.declared.recording.Stop.{Stop}
 use Rattle.cmd_record.specs.declared.recording.Stop.TheVariants.{NoMemory, SinkFault}

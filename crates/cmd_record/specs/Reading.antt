@@ -3,7 +3,7 @@ use Rattle.std.specs.Prelude.{◌≡◌, ℕ, ◌+◌, ◌^◌, ◌<◌, ◌≤�
 use Rattle.std.specs.Io.KnownBytes.{Consumes, IsAtEnd}
 use Rattle.base_types.specs.Counts.{Rose}
 use Rattle.lang_lines.specs.Lines.{longest, commands_of, whole_commands}
-use Rattle.cmd_record.specs.Traces.{Setting}
+use Rattle.cmd_host.specs.Behaving.{Setting}
 use Rattle.engine_blocks.specs.State.{State}
 use Rattle.cmd_record.specs.Follows.{Follows, Stopped, ServesTo}
 use Rattle.cmd_record.specs.declared.reading.Turn.{Turn}

@@ -6,7 +6,7 @@ ghost use Rattle.disk_memory.specs.MemDisk.{state_of as disk_state};
 ghost use Rattle.engine_store.specs.StoreOf.{state_of};
 ghost use Rattle.fs_commands.specs.Opened.{blocks_in};
 ghost use Rattle.cmd_record.specs.Follows.{StopsByCause};
-ghost use Rattle.cmd_record.specs.Traces.{Setting};
+ghost use Rattle.cmd_host.specs.Behaving.{Setting};
 ghost use Rattle.cmd_record.specs.Reading.{At, Halted, Brings, AfterTurn, AtEnding};
 
 use crate::recording::{Recording, Stop};

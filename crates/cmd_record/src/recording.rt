@@ -12,18 +12,18 @@ ghost use Rattle.disk_memory.specs.MemDisk.{state_of as disk_state};
 ghost use Rattle.engine_store.specs.StoreOf.{state_of};
 ghost use Rattle.fs_commands.specs.Opened.{blocks_in};
 ghost use Rattle.lang_lines.specs.Lines.{longest, commands_of_line, commands_of};
-ghost use Rattle.cmd_record.specs.Traces.{Setting};
+ghost use Rattle.cmd_host.specs.Behaving.{Setting};
 ghost use Rattle.lang_tree.specs.declared.command.Cmd.{Cmd};
 ghost use Rattle.lang_tree.specs.declared.command.Reply.{Reply};
 ghost use Rattle.cmd_record.specs.Running.{BeginsSo, KnownRun, Ran, RunLaws, ServesFrom, TriesFrom};
 ghost use Rattle.cmd_record.specs.Follows.{Follows, Stopped, ServesTo, StopsByCause};
 
 use crate::events::write_events;
-use crate::mounting::System;
 use crate::running::{a_run_is_known, answer};
 use base_io::{Sink, SinkFault};
 use base_types::NoMemory;
 use base_types::limits::LONGEST_LINE;
+use cmd_host::System;
 use cmd_trace::{write_command, write_reply};
 use disk_contract::Disk;
 use disk_memory::MemDisk;
@@ -43,7 +43,7 @@ pub enum Stop {
 
 impl From<NoMemory> for Stop {
     ghost use Rattle.std.specs.Prelude.{◌≡◌};
-    ghost use Rattle.cmd_record.specs.declared.recording.Stop.TheVariants.{NoMemory as OutOfMemory};
+    ghost use Rattle.cmd_record.specs.declared.recording.Stop.TheVariants.{NoMemory as OutOfMemory, SinkFault as Failed};
 
     ghost from_gives = { λ _ stop. stop ≡ OutOfMemory };
 
@@ -54,7 +54,6 @@ impl From<NoMemory> for Stop {
 
 impl<T: Drop> From<AllocFailed<T>> for Stop {
     ghost use Rattle.std.specs.Prelude.{◌≡◌};
-    ghost use Rattle.cmd_record.specs.declared.recording.Stop.TheVariants.{NoMemory as OutOfMemory};
 
     ghost from_gives = { λ _ stop. stop ≡ OutOfMemory };
 
@@ -65,7 +64,6 @@ impl<T: Drop> From<AllocFailed<T>> for Stop {
 
 impl From<SinkFault> for Stop {
     ghost use Rattle.std.specs.Prelude.{◌≡◌};
-    ghost use Rattle.cmd_record.specs.declared.recording.Stop.TheVariants.{SinkFault as Failed};
 
     ghost from_gives = { λ _ stop. stop ≡ Failed };
 

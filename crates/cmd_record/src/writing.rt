@@ -9,15 +9,15 @@ ghost use Rattle.disk_memory.specs.MemDisk.{state_of as disk_state};
 ghost use Rattle.engine_store.specs.StoreOf.{state_of};
 ghost use Rattle.fs_commands.specs.Opened.{blocks_in};
 ghost use Rattle.cmd_trace.specs.Line.{geometry_line, event_lines, end_line};
-ghost use Rattle.cmd_record.specs.Disks.{IsOpened};
+ghost use Rattle.cmd_host.specs.Disks.{IsOpened};
 ghost use Rattle.cmd_record.specs.Follows.{StopsByCause};
 ghost use Rattle.cmd_record.specs.Reading.{AtEnding, Halted};
 
 use crate::events::write_head;
-use crate::mounting::System;
 use crate::reading::{Ending, read_lines};
 use crate::recording::{Recording, Stop};
 use base_io::{Sink, SinkFault, Source};
+use cmd_host::System;
 use cmd_trace::write_end;
 use disk_memory::MemDisk;
 use layout_geometry::Geom;

@@ -6,7 +6,8 @@ use Rattle.crash_argument.specs.Ledger.{issued}
 use Rattle.layout_journal.specs.Formatted.{formatted}
 use Rattle.cmd_session.specs.Histories.{last_mark}
 use Rattle.cmd_record.proofs.Losses.{not_lost, unlost_at}
-use Rattle.cmd_record.specs.Behaving.{pace_at_first, session_by}
+use Rattle.cmd_host.specs.Behaving.{session_by}
+use Rattle.cmd_record.specs.Behaving.{pace_at_first}
 use Rattle.cmd_record.proofs.laws.the_last_point_stands_where_accepted_writes_do.Goals as goal
 
 pub returns : goal.returns

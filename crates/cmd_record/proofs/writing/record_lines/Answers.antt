@@ -4,7 +4,7 @@ use Rattle.disk_contract.specs.Manner.{Manner}
 use Rattle.disk_memory.specs.MemDisk.{state_of as disk_state}
 use Rattle.engine_store.specs.StoreOf.{state_of}
 use Rattle.fs_commands.specs.Opened.{blocks_in}
-use Rattle.cmd_record.specs.Disks.{IsOpened}
+use Rattle.cmd_host.specs.Disks.{IsOpened}
 use Rattle.cmd_record.specs.Reading.{AtEnding, Halted}
 use Rattle.cmd_record.proofs.writing.record_lines.Goals as goal
 

@@ -4,7 +4,7 @@ use Rattle.disk_memory.specs.MemDisk.{state_of as disk_state}
 use Rattle.engine_store.specs.StoreOf.{state_of}
 use Rattle.fs_commands.specs.Opened.{blocks_in}
 use Rattle.cmd_record.specs.Follows.{Follows}
-use Rattle.cmd_record.specs.Traces.{Setting}
+use Rattle.cmd_host.specs.Behaving.{Setting}
 use Rattle.cmd_record.proofs.recording.Recording.take_all.Given as goal
 
 pub record IsTaken (faults_before faults : ℕ) (old new : Setting → (List ℕ) → Option (List ℕ) → Type 0) : Type 0 where

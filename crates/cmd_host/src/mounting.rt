@@ -1,4 +1,4 @@
-//! The mount of the disk of a recording, and the file system that is opened on it. A formatted disk is refused by
+//! The mount of a disk in memory that was just formatted, and the file system that is opened on it. A formatted disk is refused by
 //! neither, but for a call of the disk that fails and for want of memory.
 
 ghost use Rattle.std.specs.Prelude.{◌≡◌, ◌<◌, ◌≤◌, ◌+◌, ◌^◌, false, true, length, IfOk};
@@ -9,8 +9,8 @@ ghost use Rattle.disk_memory.specs.MemDisk.{state_of as disk_state};
 ghost use Rattle.engine_blocks.specs.Crashes.{StillAwaits};
 ghost use Rattle.engine_store.specs.StoreOf.{state_of};
 ghost use Rattle.fs_commands.specs.Opened.{blocks_in};
-ghost use Rattle.cmd_record.specs.Disks.{HasFault, HoldsRoot, IsFormatted, IsMounted, ShowsRoot, setting_on};
-ghost use Rattle.cmd_record.specs.Mounting.{Mounts};
+ghost use Rattle.cmd_host.specs.Disks.{HasFault, HoldsRoot, IsFormatted, IsMounted, ShowsRoot, setting_on};
+ghost use Rattle.cmd_host.specs.Mounting.{Mounts};
 
 use crate::disk::{Behaviour, formatted_disk};
 use base_types::NoMemory;

@@ -1,9 +1,9 @@
 use Rattle.std.proofs.Common.{inl, inr, sym, ap, ◌∙◌, subst}
 use Rattle.layout_geometry.specs.Geometry.{Geometry}
 use Rattle.disk_memory.specs.MemDisk.{MemDiskState, state_of as disk_state}
-use Rattle.cmd_record.specs.Disks.{HasFault, HoldsRoot}
-use Rattle.cmd_record.specs.Mounting.{Mounts}
-use Rattle.cmd_record.proofs.mounting.unread.Goals as goal
+use Rattle.cmd_host.specs.Disks.{HasFault, HoldsRoot}
+use Rattle.cmd_host.specs.Mounting.{Mounts}
+use Rattle.cmd_host.proofs.mounting.unread.Goals as goal
 
 pub failed-requires : goal.failed-requires
 failed-requires c = record {

@@ -32,10 +32,10 @@ use Rattle.engine_store.specs.StoreOf.{state_of}
 use Rattle.cmd_session.specs.Budget.{KeepsBudget}
 use Rattle.cmd_session.specs.Going.{IsOfMount}
 use Rattle.cmd_session.specs.Serving.{HasServed, IsDrawn, IsMountedWith}
-use Rattle.cmd_record.specs.Disks.{IsMounted, IsOpened, ShowsRoot}
-use Rattle.cmd_record.specs.Behaving.{session_by}
-use Rattle.cmd_record.specs.Mounts.{MountsOnce}
-use Rattle.cmd_record.proofs.Mounts.{header_by, once_by}
+use Rattle.cmd_host.specs.Disks.{IsMounted, IsOpened, ShowsRoot}
+use Rattle.cmd_host.specs.Behaving.{session_by}
+use Rattle.cmd_host.specs.Mounts.{MountsOnce}
+use Rattle.cmd_host.proofs.Mounts.{header_by, once_by}
 
 -- the view of crashes of a store is drawn from its disk
 pub drawn : {D : Type 0} {k : Ghosts D} (known : D → disk.State) (s : Store D k) → IsDrawn (state_of known s)

@@ -2,10 +2,10 @@
 use Rattle.disk_memory.specs.MemDisk.{state_of as disk_state}
 use Rattle.engine_store.specs.StoreOf.{state_of}
 use Rattle.fs_commands.specs.Opened.{blocks_in}
-use Rattle.cmd_record.specs.Disks.{IsOpened, FailedToMount}
-use Rattle.cmd_record.specs.Traces.{Setting}
-use Rattle.cmd_record.specs.declared.mounting.Mounted.{Mounted}
-use Rattle.cmd_record.specs.declared.mounting.Mounted.TheVariants.{Opened, Failed}
+use Rattle.cmd_host.specs.Disks.{IsOpened, FailedToMount}
+use Rattle.cmd_host.specs.Behaving.{Setting}
+use Rattle.cmd_host.specs.declared.mounting.Mounted.{Mounted}
+use Rattle.cmd_host.specs.declared.mounting.Mounted.TheVariants.{Opened, Failed}
 
 -- The file system was opened, and the root alone stands in it; or a call of the disk failed.
 abbrev pub Mounts : Setting → Mounted → Type 0

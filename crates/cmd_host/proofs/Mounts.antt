@@ -13,8 +13,8 @@ use Rattle.layout_journal.specs.declared.header.Header.{Header}
 use Rattle.layout_journal.specs.Layout.{header_of}
 use Rattle.crash_argument.specs.Opening.{StopsAtOne, WritesOne}
 use Rattle.crash_argument.specs.Points.{IsMounted}
-use Rattle.cmd_record.specs.Disks.{OpensAtMost}
-use Rattle.cmd_record.specs.Mounts.{IsFirstHeader, MountsAtMost, MountsOnce, WritesAlone}
+use Rattle.cmd_host.specs.Disks.{OpensAtMost}
+use Rattle.cmd_host.specs.Mounts.{IsFirstHeader, MountsAtMost, MountsOnce, WritesAlone}
 
 -- a ticket that is open behind one write is that write's
 own : (ticket block t : ℕ) (bytes : List ℕ) → IsOpen t (Wrote ticket block bytes ∷ []) → t ≡ ticket

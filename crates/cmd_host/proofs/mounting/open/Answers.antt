@@ -12,9 +12,9 @@ use Rattle.fs_commands.specs.Opened.{blocks_in}
 use Rattle.fs_files.specs.Effects.{LooksOnly}
 use Rattle.fs_check.specs.Whole.{OnDamage, fails_by}
 use Rattle.fs_check.specs.declared.checking.CheckRefusal.{CheckRefusal}
-use Rattle.cmd_record.specs.Mounting.{Mounts}
-use Rattle.cmd_record.proofs.OpenLemmas.{drawn, has_none, mounted_with, nothing_waits, opened_with, root_stands, still_begun, still_shows}
-use Rattle.cmd_record.proofs.mounting.open.Goals as goal
+use Rattle.cmd_host.specs.Mounting.{Mounts}
+use Rattle.cmd_host.proofs.OpenLemmas.{drawn, has_none, mounted_with, nothing_waits, opened_with, root_stands, still_begun, still_shows}
+use Rattle.cmd_host.proofs.mounting.open.Goals as goal
 
 -- the disk shows what it showed, and a read of it was counted
 pub unread-requires : goal.unread-requires

@@ -1,9 +1,9 @@
 -- A disk that was just formatted may be mounted, and has the manner that was asked for.
 use Rattle.std.proofs.Common.{subst}
-use Rattle.cmd_record.specs.Mounting.{Mounts}
-use Rattle.cmd_record.specs.Traces.{Setting}
-use Rattle.cmd_record.proofs.MountLemmas.{formatted_in_memory, manner_in_memory}
-use Rattle.cmd_record.proofs.mounting.begin.Goals as goal
+use Rattle.cmd_host.specs.Mounting.{Mounts}
+use Rattle.cmd_host.specs.Behaving.{Setting}
+use Rattle.cmd_host.proofs.MountLemmas.{formatted_in_memory, manner_in_memory}
+use Rattle.cmd_host.proofs.mounting.begin.Goals as goal
 
 pub mount-requires : goal.mount-requires
 mount-requires c = formatted_in_memory c.args.geom.now c.args.behaviour.now c.in_ok-disk.disk c.in_ok-disk.ensures

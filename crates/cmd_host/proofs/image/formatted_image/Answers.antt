@@ -1,8 +1,8 @@
 use Rattle.std.proofs.Common.{◌≡◌, arith, rules}
 use Rattle.disk_contract.specs.Bay.{zero_blocks}
 use Rattle.layout_journal.specs.Formatted.{formatted}
-use Rattle.cmd_formatted.proofs.Images.{none_yet, one_more, all_there}
-use Rattle.cmd_formatted.proofs.image.formatted_image.Goals as goal
+use Rattle.cmd_host.proofs.Images.{none_yet, one_more, all_there}
+use Rattle.cmd_host.proofs.image.formatted_image.Goals as goal
 
 pub loop-b-init : goal.loop-b-init
 loop-b-init c =

@@ -1,7 +1,7 @@
 use Rattle.std.proofs.Common.{arith}
 use Rattle.disk_memory.specs.MemDisk.{state_of as disk_state}
-use Rattle.cmd_record.proofs.MountLemmas.{held_by, fails_with}
-use Rattle.cmd_record.proofs.mounting.failed.Goals as goal
+use Rattle.cmd_host.proofs.MountLemmas.{held_by, fails_with}
+use Rattle.cmd_host.proofs.mounting.failed.Goals as goal
 
 pub returns : goal.returns
 returns c =

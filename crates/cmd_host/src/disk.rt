@@ -1,19 +1,19 @@
-//! The disk of a recording: that of a formatted image in memory, which brings its notices and fails a write as the
-//! words ask for. What a disk in memory does is described in docs/DISK.md.
+//! The disk of a hosted session: that of a formatted image in memory, which brings its notices and fails a write as it is
+//! asked to. What a disk in memory does is described in docs/DISK.md.
 
 ghost use Rattle.std.specs.Prelude.{◌≡◌, IfOk};
 ghost use Rattle.disk_memory.specs.declared.calls.DiskCall.TheVariants.{Write};
-ghost use Rattle.cmd_record.specs.Behaving.{fails_of, rule_of};
-ghost use Rattle.cmd_record.specs.Disks.{IsFormattedDisk};
+ghost use Rattle.cmd_host.specs.Behaving.{fails_of, rule_of};
+ghost use Rattle.cmd_host.specs.Disks.{IsFormattedDisk};
 
+use crate::image::formatted_image;
 use base_types::NoMemory;
-use cmd_formatted::formatted_image;
 use cmd_words::Notices;
 use disk_memory::{DiskCall, Fail, MemDisk, Rule};
 use layout_geometry::Geom;
 use std::alloc::Global;
 
-/// How the disk of a recording behaves.
+/// How a disk in memory behaves.
 #[derive(Clone, Copy, Debug, PartialEq, Eq)]
 pub struct Behaviour {
     /// By which rule it brings its notices.

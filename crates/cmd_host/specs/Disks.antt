@@ -28,10 +28,9 @@ use Rattle.cmd_session.specs.Budget.{KeepsBudget}
 use Rattle.cmd_session.specs.Crashes.{IsCrashConsistent}
 use Rattle.cmd_session.specs.Going.{IsOfMount}
 use Rattle.cmd_session.specs.Serving.{HasServed}
-use Rattle.cmd_record.specs.Behaving.{MountFails, fails_of, rule_of, session_by}
-use Rattle.cmd_record.specs.Mounts.{IsFirstHeader, MountsAtMost, MountsOnce}
-use Rattle.cmd_record.specs.Traces.{Setting}
-use Rattle.cmd_record.specs.declared.disk.Behaviour.{Behaviour}
+use Rattle.cmd_host.specs.Behaving.{MountFails, fails_of, rule_of, session_by, Setting}
+use Rattle.cmd_host.specs.Mounts.{IsFirstHeader, MountsAtMost, MountsOnce}
+use Rattle.cmd_host.specs.declared.disk.Behaviour.{Behaviour}
 
 -- A disk in memory that has the formatted disk's blocks and behaves so. No call of it was made yet.
 pub record IsFormattedDisk (g : Geometry) (b : Behaviour) (d : MemDiskState) : Type 0 where

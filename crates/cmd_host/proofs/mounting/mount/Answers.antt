@@ -8,11 +8,11 @@ use Rattle.engine_store.specs.StoreOf.{disk_in}
 use Rattle.engine_store.specs.Mounting.{LeavesDisk}
 use Rattle.engine_store.specs.Refusal.{RefusalSays, is_disk_fault, is_read_fault}
 use Rattle.engine_store.specs.declared.refusal.StoreRefusal.{StoreRefusal}
-use Rattle.cmd_record.specs.Mounting.{Mounts}
-use Rattle.cmd_record.proofs.FormattedFound.{HasLaws, zeros_are_stored}
-use Rattle.cmd_record.proofs.MountLemmas.{HasRoot, held_by, holds, header_found, bits_good, unspent, left_faulty, left_unread, left_with, nothing_to_replay, few_turns, of_mount_by, opened_by, opened_once, stopped_once}
-use Rattle.cmd_record.proofs.mounting.mount.Goals as goal
-use Rattle.cmd_record.proofs.mounting.mount.Goals.{After-journal_blocks_are_told_apart}
+use Rattle.cmd_host.specs.Mounting.{Mounts}
+use Rattle.cmd_host.proofs.FormattedFound.{HasLaws, zeros_are_stored}
+use Rattle.cmd_host.proofs.MountLemmas.{HasRoot, held_by, holds, header_found, bits_good, unspent, left_faulty, left_unread, left_with, nothing_to_replay, few_turns, of_mount_by, opened_by, opened_once, stopped_once}
+use Rattle.cmd_host.proofs.mounting.mount.Goals as goal
+use Rattle.cmd_host.proofs.mounting.mount.Goals.{After-journal_blocks_are_told_apart}
 
 -- what the laws say of this geometry's formatted disk
 laws : (c : After-journal_blocks_are_told_apart) → HasLaws c.args.geom.now

@@ -31,12 +31,12 @@ use Rattle.engine_store.specs.SessionView.{IsSure, Starts}
 use Rattle.cmd_session.specs.Crashes.{LeavesPoints, IsCrashConsistent}
 use Rattle.cmd_session.specs.Going.{IsOfMount}
 use Rattle.disk_memory.specs.MemDisk.{MemDiskState, state_of as disk_state}
-use Rattle.cmd_record.specs.declared.disk.Behaviour.{Behaviour}
-use Rattle.cmd_record.specs.Behaving.{MountFails, session_by}
-use Rattle.cmd_record.specs.Disks.{BeganFormatted, IsFormatted, IsFormattedDisk, HasFault, HoldsRoot, FailedToMount, OpensAtMost, StandsOpened, setting_on}
-use Rattle.cmd_record.proofs.FormattedFound.{HasLaws, first_epoch, found_header, found_records, has_header, header_epoch, low_epoch, not_used_up, no_bad_bit}
-use Rattle.cmd_record.proofs.Mounts.{at_most_by, stopped_at}
-use Rattle.cmd_record.proofs.Sureness.{starts_then, sure_then}
+use Rattle.cmd_host.specs.declared.disk.Behaviour.{Behaviour}
+use Rattle.cmd_host.specs.Behaving.{MountFails, session_by}
+use Rattle.cmd_host.specs.Disks.{BeganFormatted, IsFormatted, IsFormattedDisk, HasFault, HoldsRoot, FailedToMount, OpensAtMost, StandsOpened, setting_on}
+use Rattle.cmd_host.proofs.FormattedFound.{HasLaws, first_epoch, found_header, found_records, has_header, header_epoch, low_epoch, not_used_up, no_bad_bit}
+use Rattle.cmd_host.proofs.Mounts.{at_most_by, stopped_at}
+use Rattle.cmd_host.proofs.Sureness.{starts_then, sure_then}
 
 -- what laws of other crates say of the formatted disk's live blocks, and of each image that has them
 pub record HasRoot (g : Geometry) : Type 0 where
@@ -59,7 +59,7 @@ none_lost (x ∷ before) e is = absurd cc
 cell_alike : (base other : Blocks) (log : List Event) (b : ℕ) → base b ≡ other b → cell_of base log b ≡ cell_of other log b
 cell_alike base other log b same = ap (λ (x : List ℕ). cell_of (λ _. x) log b) same
 
-pub honest_alike : (n : ℕ) (base other : Blocks) (log : List Event) (img : Blocks) → ((b : ℕ) → b < n → base b ≡ other b) → IsHonest n base log img → IsHonest n other log img
+honest_alike : (n : ℕ) (base other : Blocks) (log : List Event) (img : Blocks) → ((b : ℕ) → b < n → base b ≡ other b) → IsHonest n base log img → IsHonest n other log img
 honest_alike n base other log img same h = record {
   leaves = λ b low. subst (λ (c : Cell). MayHold c (img b)) (cell_alike base other log b (same b low)) (h.leaves b low);
   unsealed = λ b low torn. h.unsealed b low (subst (λ (c : Cell). IsTorn c (img b)) (sym (cell_alike base other log b (same b low))) torn);

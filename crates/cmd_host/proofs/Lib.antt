@@ -1,0 +1,6 @@
+mod Images
+mod Mounts
+mod Sureness
+mod FormattedFound
+mod MountLemmas
+mod OpenLemmas

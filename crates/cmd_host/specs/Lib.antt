@@ -1,0 +1,4 @@
+pub mod Mounts
+pub mod Behaving
+pub mod Disks
+pub mod Mounting
