@@ -5,8 +5,11 @@
 
 mod disk;
 mod image;
+mod listed;
 mod mounting;
+mod text;
 
 pub use disk::Behaviour;
 pub use image::formatted_image;
+pub use listed::listing_text;
 pub use mounting::{Mounted, System, begin, the_disk_keeps_to_its_manner};

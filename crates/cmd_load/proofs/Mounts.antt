@@ -26,7 +26,8 @@ use Rattle.engine_store.specs.Refusal.{RefusalSays}
 use Rattle.fs_files.specs.Effects.{LooksOnly}
 use Rattle.crash_stands.specs.Stands.{IsTreeOf}
 use Rattle.lang_tree.specs.Step.{start}
-use Rattle.cmd_load.specs.Serving.{IsFormattedDisk, IsMounted, IsReadable, Serves, room}
+use Rattle.cmd_host.specs.Listed.{IsReadable}
+use Rattle.cmd_load.specs.Serving.{IsFormattedDisk, IsMounted, Serves, room}
 use Rattle.cmd_load.specs.Summary.{at_first, shape}
 use Rattle.cmd_load.proofs.Trees.{start_tree}
 use Rattle.cmd_load.proofs.Found.{HasLaws, found_header, found_records, has_header, not_used_up, no_bad_bit}

@@ -1,5 +1,5 @@
 -- A disk that was just formatted, and a file system on its way through a load. Only private contracts speak of it.
-use Rattle.std.specs.Prelude.{◌≡◌, ℕ, ◌+◌, ◌*◌, ◌^◌, ◌≤◌, ◌==◌, if◌then◌else◌, Bool, true, false, List, Some}
+use Rattle.std.specs.Prelude.{◌≡◌, ℕ, ◌+◌, ◌*◌, ◌^◌, ◌≤◌, ◌==◌, if◌then◌else◌, Bool, true, false, Some}
 use Rattle.layout_journal.specs.Formatted.{formatted}
 use Rattle.disk_memory.specs.Choice.{AreBlocksOf}
 use Rattle.disk_memory.specs.MemDisk.{MemDiskState, begun, by_rule}
@@ -17,6 +17,7 @@ use Rattle.fs_commands.specs.Applying.{is_spent}
 use Rattle.fs_commands.specs.DiskRoom.{AnswersOn, IsRoomOf}
 use Rattle.fs_commands.specs.Memory.{room_of}
 use Rattle.fs_commands.specs.Sessions.{IsSession}
+use Rattle.cmd_host.specs.Listed.{IsReadable}
 use Rattle.cmd_load.specs.Summary.{Progress, shape}
 use Rattle.cmd_load.specs.Trees.{IsLoadTree}
 
@@ -32,10 +33,6 @@ rule_of seed = if seed == 0 then rules.Silent else rules.Seed seed
 pub record IsFormattedDisk (rule : Rule) (d : MemDiskState) : Type 0 where
   pub blocks : AreBlocksOf shape.n (formatted shape) d.base
   pub behaves : d ≡ record (begun d.base room) { notices = by_rule rule; known = Some rule }
-
--- No read of its disk fails.
-abbrev pub IsReadable : State → Type 0
-IsReadable s = s.counts.ticks.manner.reads_fail ≡ false
 
 -- A map of blocks that was mounted on such a disk: nothing was done yet, and the root alone stands in it.
 pub record IsMounted (s : State) : Type 0 where
@@ -76,8 +73,3 @@ pub record IsAnswered (cmd : Cmd) (reply : Reply) (old new : State) : Type 0 whe
   pub spent : (f : Session) → IsSession old f → reply ≡ Refused Spent → is_spent old.books ≡ true
   pub stops : (f : Session) → IsSession old f → reply ≡ Refused Stopped → old.books.stopped ≡ true
   pub reads : (f : Session) → IsSession old f → reply ≡ Refused ReadFault → new.counts.ticks.manner.reads_fail ≡ true
-
--- a sink that keeps what it takes as a text: the text, and how many pushes failed
-pub record TextState : Type 0 where
-  pub text : List ℕ
-  pub faults : ℕ

@@ -17,7 +17,7 @@ pub(crate) struct TextSink {
 }
 
 impl Model for TextSink {
-    ghost use Rattle.cmd_replay.specs.Mounted.{TextState};
+    ghost use Rattle.cmd_host.specs.Listed.{TextState};
 
     ghost Value = { TextState };
 

@@ -6,9 +6,9 @@ use Rattle.fs_commands.specs.Listing.{ended_by_read}
 use Rattle.fs_commands.specs.Opened.{blocks_in}
 use Rattle.fs_commands.specs.declared.listing.ListRefusal.{ListRefusal}
 use Rattle.lang_tree.specs.Listing.{listing}
-use Rattle.cmd_replay.specs.Mounted.{TextState}
-use Rattle.cmd_replay.proofs.Mounting.{never_unread}
-use Rattle.cmd_replay.proofs.listed.text_of.Goals as goal
+use Rattle.cmd_host.specs.Listed.{TextState}
+use Rattle.cmd_host.proofs.Reads.{never_unread}
+use Rattle.cmd_host.proofs.listed.listing_text.Goals as goal
 
 -- what the sink kept
 pub returns-in-Ok : goal.returns-in-Ok
