@@ -1,5 +1,5 @@
 -- How the disk of a load behaves, and a file system on its way through a load. Only private contracts speak of it.
-use Rattle.std.specs.Prelude.{◌≡◌, ℕ, ◌+◌, ◌*◌, ◌^◌, ◌≤◌, ◌==◌, if◌then◌else◌, Bool, true, false}
+use Rattle.std.specs.Prelude.{◌≡◌, ℕ, ◌+◌, ◌*◌, ◌^◌, ◌≤◌, ◌==◌, if◌then◌else◌, Bool, true, false, None}
 use Rattle.lang_tree.specs.declared.command.Cmd.{Cmd}
 use Rattle.lang_tree.specs.declared.command.Refusal.TheVariants.{DiskFault, NoMemory, ReadFault, Spent, Stopped}
 use Rattle.lang_tree.specs.declared.command.Reply.{Reply}
