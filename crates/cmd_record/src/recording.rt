@@ -43,7 +43,7 @@ pub enum Stop {
 
 impl From<NoMemory> for Stop {
     ghost use Rattle.std.specs.Prelude.{◌≡◌};
-    ghost use Rattle.cmd_record.specs.declared.recording.Stop.TheVariants.{NoMemory as OutOfMemory, SinkFault as Failed};
+    ghost use Rattle.cmd_record.specs.declared.recording.Stop.TheVariants.{NoMemory as OutOfMemory};
 
     ghost from_gives = { λ _ stop. stop ≡ OutOfMemory };
 
@@ -54,6 +54,7 @@ impl From<NoMemory> for Stop {
 
 impl<T: Drop> From<AllocFailed<T>> for Stop {
     ghost use Rattle.std.specs.Prelude.{◌≡◌};
+    ghost use Rattle.cmd_record.specs.declared.recording.Stop.TheVariants.{NoMemory as OutOfMemory};
 
     ghost from_gives = { λ _ stop. stop ≡ OutOfMemory };
 
@@ -64,6 +65,7 @@ impl<T: Drop> From<AllocFailed<T>> for Stop {
 
 impl From<SinkFault> for Stop {
     ghost use Rattle.std.specs.Prelude.{◌≡◌};
+    ghost use Rattle.cmd_record.specs.declared.recording.Stop.TheVariants.{SinkFault as Failed};
 
     ghost from_gives = { λ _ stop. stop ≡ Failed };
 
