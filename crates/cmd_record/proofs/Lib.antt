@@ -1,4 +1,3 @@
-pub mod LineLemmas
 pub mod Entries
 pub mod EventLines
 mod Sureness
