@@ -10,6 +10,7 @@ use Rattle.fs_commands.specs.Applying.{is_spent}
 use Rattle.fs_commands.specs.DiskRoom.{AnswersOn, IsRoomOf}
 use Rattle.fs_commands.specs.Memory.{room_of}
 use Rattle.fs_commands.specs.Sessions.{IsSession}
+use Rattle.cmd_words.specs.declared.request.Notices.{Notices}
 use Rattle.cmd_words.specs.declared.request.Notices.TheVariants as notices
 use Rattle.cmd_host.specs.declared.disk.Behaviour.{Behaviour}
 use Rattle.cmd_host.specs.Listed.{IsReadable}
@@ -20,9 +21,13 @@ use Rattle.cmd_load.specs.Trees.{IsLoadTree}
 abbrev pub room : ℕ
 room = 65536
 
--- how the disk behaves: a seed of 0 gives no notices, and no write is to fail
+-- by which rule the disk gives its notices: a seed of 0 gives none
+abbrev pub notices_of : ℕ → Notices
+notices_of seed = if seed == 0 then notices.Silent else notices.Seed seed
+
+-- how the disk behaves: no write is to fail
 abbrev pub behaviour_of : ℕ → Behaviour
-behaviour_of seed = record { notices = if seed == 0 then notices.Silent else notices.Seed seed; room = room; fail = None }
+behaviour_of seed = record { notices = notices_of seed; room = room; fail = None }
 
 -- The blocks have come so far with a load, by so many commands: they are those of its session, weigh and hold as much, and the disk never failed.
 pub record Serves (p : Progress) (made : ℕ) (s : State) : Type 0 where

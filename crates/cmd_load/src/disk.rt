@@ -2,7 +2,7 @@
 //! described in docs/DISK.md.
 
 ghost use Rattle.std.specs.Prelude.{◌≡◌};
-ghost use Rattle.cmd_load.specs.Serving.{behaviour_of};
+ghost use Rattle.cmd_load.specs.Serving.{behaviour_of, notices_of};
 ghost use Rattle.cmd_load.specs.Summary.{shape};
 
 use cmd_host::Behaviour;
@@ -19,18 +19,24 @@ pub(crate) fn geom() -> Geom
     Geom::new(4_096, 256, 256).unwrap()
 }
 
-/// How the disk behaves: a seed of 0 gives no notices, and no write is to fail.
+/// How the disk behaves: it gives its notices by the seed, and no write is to fail.
 pub(crate) fn behaviour(seed: u32) -> Behaviour
     ensures { result ≡ behaviour_of seed }
 {
-    let notices = if seed == 0 {
+    Behaviour {
+        notices: notices_of(seed),
+        room: ROOM,
+        fail: None,
+    }
+}
+
+/// The notices: a seed of 0 gives none.
+fn notices_of(seed: u32) -> Notices
+    ensures { result ≡ notices_of seed }
+{
+    if seed == 0 {
         Notices::Silent
     } else {
         Notices::Seed(seed)
-    };
-    Behaviour {
-        notices,
-        room: ROOM,
-        fail: None,
     }
 }
