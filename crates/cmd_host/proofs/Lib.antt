@@ -4,4 +4,4 @@ mod Sureness
 mod FormattedFound
 mod MountLemmas
 mod OpenLemmas
-mod Reads
+mod Unread

@@ -7,7 +7,7 @@ use Rattle.fs_commands.specs.Opened.{blocks_in}
 use Rattle.fs_commands.specs.declared.listing.ListRefusal.{ListRefusal}
 use Rattle.lang_tree.specs.Listing.{listing}
 use Rattle.cmd_host.specs.Listed.{TextState}
-use Rattle.cmd_host.proofs.Reads.{never_unread}
+use Rattle.cmd_host.proofs.Unread.{never_unread}
 use Rattle.cmd_host.proofs.listed.listing_text.Goals as goal
 
 -- what the sink kept
