@@ -68,7 +68,7 @@ module _ (laws : GivenLaws) (set : Setting) (left mid now told out : Option (Lis
         seen = h.seen ++ holds.more;
         read = Consumes-trans left mid now h.seen holds.more h.read holds.read;
         short = given.most;
-        stopped = stopped_off set (h.seen ++ holds.more) (h.cmds ++ later.0) h.body told out out h.told (breaks_here set h.cmds later.0 h.body s out h.records) later.1;
+        stopped = stopped_off set (h.seen ++ holds.more) (h.cmds ++ later.0) h.body told out out h.took (breaks_here set h.cmds later.0 h.body s out h.records) later.1;
       }
 
   module _ (faults faults_now : ℕ) where
@@ -84,7 +84,7 @@ module _ (laws : GivenLaws) (set : Setting) (left mid now told out : Option (Lis
           read = Consumes-trans left mid now h.seen reads.more h.read reads.read;
           ends = reads.over h.ends;
           records = more.records;
-          told = Appends-trans told out out_now h.body more.piece h.told more.told;
+          took = Appends-trans told out out_now h.body more.piece h.took more.told;
         }
 
     -- it came, and its entry broke off
@@ -96,7 +96,7 @@ module _ (laws : GivenLaws) (set : Setting) (left mid now told out : Option (Lis
           seen = h.seen ++ reads.more;
           read = Consumes-trans left mid now h.seen reads.more h.read reads.read;
           short = given.most;
-          stopped = stopped_off set (h.seen ++ reads.more) ((h.cmds ++ cmd ∷ []) ++ later.0) h.body told out out_now h.told (tries set h.cmds later.0 h.body h.records) later.1;
+          stopped = stopped_off set (h.seen ++ reads.more) ((h.cmds ++ cmd ∷ []) ++ later.0) h.body told out out_now h.took (tries set h.cmds later.0 h.body h.records) later.1;
         }
 
     pub end_at : ReadsOn next.End r q mid now faults faults_now → ReadsAll set left now told out
@@ -107,7 +107,7 @@ module _ (laws : GivenLaws) (set : Setting) (left mid now told out : Option (Lis
           read = Consumes-trans left mid now h.seen reads.more h.read reads.read;
           over = reads.over h.ends reads.ends.0;
           short = given.most;
-          serves = serves_to set h.cmds (commands_of longest (h.seen ++ reads.more)) h.body s told out (laws.end (h.seen ++ reads.more) h.cmds q given reads.ends.0 reads.ends.1) h.records h.told;
+          serves = serves_to set h.cmds (commands_of longest (h.seen ++ reads.more)) h.body s told out (laws.end (h.seen ++ reads.more) h.cmds q given reads.ends.0 reads.ends.1) h.records h.took;
         }
 
     pub fault_at : (first : ℕ) → first ≤ faults → ReadsOn next.SourceFault r q mid now faults faults_now → Rose first faults_now × ReadsSome set left now told out
@@ -118,7 +118,7 @@ module _ (laws : GivenLaws) (set : Setting) (left mid now told out : Option (Lis
             seen = h.seen ++ reads.more;
             read = Consumes-trans left mid now h.seen reads.more h.read reads.read;
             short = given.most;
-            serves = serves_to set h.cmds (whole_commands longest (h.seen ++ reads.more)) h.body s told out (laws.whole (h.seen ++ reads.more) h.cmds q given reads.ends.1 reads.ends.2) h.records h.told;
+            serves = serves_to set h.cmds (whole_commands longest (h.seen ++ reads.more)) h.body s told out (laws.whole (h.seen ++ reads.more) h.cmds q given reads.ends.1 reads.ends.2) h.records h.took;
           },
         )
 
@@ -130,7 +130,7 @@ module _ (laws : GivenLaws) (set : Setting) (left mid now told out : Option (Lis
           next = reads.read.0;
           read = subst (λ (xs : List ℕ). Consumes left now xs) (sym (append_assoc h.seen reads.more (reads.read.0 ∷ []))) (Consumes-trans left mid now h.seen (reads.more ++ reads.read.0 ∷ []) h.read reads.read.1);
           long = sym given.count ∙ reads.ends.0;
-          serves = serves_to set h.cmds (whole_commands longest (h.seen ++ reads.more)) h.body s told out (laws.whole (h.seen ++ reads.more) h.cmds q given reads.ends.1 reads.ends.2) h.records h.told;
+          serves = serves_to set h.cmds (whole_commands longest (h.seen ++ reads.more)) h.body s told out (laws.whole (h.seen ++ reads.more) h.cmds q given reads.ends.1 reads.ends.2) h.records h.took;
         }
 
 -- the turn stops so
@@ -170,7 +170,7 @@ first_serving sources sinks left out s r laws is =
         read = Consumes-nil left;
         ends = λ over. absurd (true≢false (sym over ∙ ap (λ (x : ReaderState). x.over) is));
         records = records;
-        told = took;
+        took = took;
       };
     }
 

@@ -22,7 +22,7 @@ pub record At (set : Setting) (left_first left told_first told : Option (List �
   pub read : Consumes left_first left seen
   pub ends : KnowsEnd r left
   pub records : Records set cmds body s
-  pub told : Appends told_first told body
+  pub took : Appends told_first told body
 
 -- The recording stopped, with at most so many bytes read.
 pub record Halted (set : Setting) (most : ℕ) (left_first left told_first told : Option (List ℕ)) : Type 0 where
