@@ -178,10 +178,10 @@ first_serving sources sinks left out s r laws is =
 pub no_more : GivenLaws → (r : ReaderState) (count : ℕ) → GivesSome r count → 2 ^ 30 + 2 ≤ count → ⊥
 no_more laws r count g many = omega (arith, g.are, laws.few g.seen g.cmds r g.given, many)
 
-module _ (count sources_first sources sources_now sinks_first sinks sinks_now : ℕ) (left mid now out_first out out_now : Option (List ℕ)) (s_first s t : State) (r q : ReaderState) (h : IsServing count sources_first sources sinks_first sinks left mid out_first out s_first s r) (result : Result (Option Ending) Stop)
+module _ (count sources_first sources sources_now sinks_first sinks : ℕ) (left mid now out_first out out_now : Option (List ℕ)) (s_first s t : State) (r q : ReaderState) (h : IsServing count sources_first sources sinks_first sinks left mid out_first out s_first s r) (result : Result (Option Ending) Stop)
     (turns : (set : Setting) (first : ℕ) (start told : Option (List ℕ)) → first ≤ sources → At set start mid told out s r → Turns set result first sources_now start now told out_now t q) where
-  pub next_serving : result ≡ Ok None → GivesOn result r q → sources ≤ sources_now → sinks ≤ sinks_now → IsServing (count + 1) sources_first sources_now sinks_first sinks_now left now out_first out_now s_first t q
-  next_serving is gives source sink =
+  pub next_serving : (sinks_now : ℕ) → result ≡ Ok None → GivesOn result r q → sources ≤ sources_now → sinks ≤ sinks_now → IsServing (count + 1) sources_first sources_now sinks_first sinks_now left now out_first out_now s_first t q
+  next_serving sinks_now is gives source sink =
       let one = subst (λ (x : Result (Option Ending) Stop). GivesOn x r q) is gives h.gives.seen h.gives.cmds h.gives.given in
       record {
         source = omega (arith, h.source, source);
