@@ -3,11 +3,8 @@ use Rattle.std.proofs.Common.{◌≡◌, ◌⊎◌, inl, inr, ℕ, ◌+◌, ◌-
 use Rattle.std.proofs.lemmas.Bool.{cases_Bool}
 use Rattle.std.proofs.lemmas.Result.{err_from_is_err_and}
 use Rattle.std.specs.Result.{IsErrAnd}
-use Rattle.std.proofs.lemmas.List.Splits.{length-slice_split}
-use Rattle.std.proofs.lemmas.List.Sums.{count_by-le-length}
 use Rattle.std.proofs.KnownBytes.{Appends-nil, Appends-trans, Consumes-nil, Consumes-trans}
 use Rattle.std.specs.Io.KnownBytes.{Appends, Consumes}
-use Rattle.std.specs.List.{flat_map}
 use Rattle.base_types.specs.Counts.{after_call, Rose}
 use Rattle.base_io.specs.Prefix.{TakesPrefix}
 use Rattle.disk_contract.specs.declared.bay.Mark.{Mark}
@@ -16,7 +13,7 @@ use Rattle.lang_tree.specs.declared.command.Cmd.{Cmd}
 use Rattle.lang_tree.specs.declared.command.Reply.{Reply}
 use Rattle.engine_blocks.specs.State.{State}
 use Rattle.lang_lines.specs.declared.next.Next.TheVariants as next
-use Rattle.lang_lines.specs.Lines.{all_but_last, commands_of, commands_of_line, is_skipped, longest, parts_of, whole_commands}
+use Rattle.lang_lines.specs.Lines.{commands_of, longest, whole_commands}
 use Rattle.lang_lines.specs.Reading.{HasGiven, HoldsOn, KnowsEnd, ReaderState, ReadsOn, first_state}
 use Rattle.cmd_image.specs.declared.ending.Ending.{Ending}
 use Rattle.cmd_image.specs.declared.ending.Ending.TheVariants.{End, SourceFault, LongInput}
@@ -34,34 +31,6 @@ pub record GivenLaws : Type 0 where
   pub end : (seen : List ℕ) (cmds : List Cmd) (r : ReaderState) → HasGiven seen cmds r → r.over ≡ true → r.ahead ≡ [] → cmds ≡ commands_of longest seen
   pub whole : (seen : List ℕ) (cmds : List Cmd) (r : ReaderState) → HasGiven seen cmds r → r.over ≡ false → r.ahead ≡ [] → cmds ≡ whole_commands longest seen
   pub front : (seen rest : List ℕ) (cmds : List Cmd) (r : ReaderState) → HasGiven seen cmds r → r.over ≡ false → (later : List Cmd) × (commands_of longest (seen ++ rest) ≡ cmds ++ later)
-
--- How many commands an input has.
-
-line_short : (most : ℕ) (line : List ℕ) → length (commands_of_line most line) ≤ 1
-line_short most line = by (is_skipped line) _
-  where
-    by : (b : Bool) (c : Cmd) → length (if b then [] else (c ∷ [])) ≤ 1
-    by true c = omega arith
-    by false c = omega arith
-
-lines_short : (most : ℕ) (lines : List (List ℕ)) → length (flat_map (commands_of_line most) lines) ≤ length lines
-lines_short most [] = omega arith
-lines_short most (line ∷ lines) = omega (arith, line_short most line, lines_short most lines, length-append (commands_of_line most line) (flat_map (commands_of_line most) lines))
-
-all_but_short : (parts : List (List ℕ)) → length (all_but_last parts) ≤ length parts
-all_but_short [] = omega arith
-all_but_short (part ∷ []) = omega arith
-all_but_short (part ∷ more ∷ parts) = omega (arith, all_but_short (more ∷ parts))
-
-parts_short : (input : List ℕ) → length (parts_of input) ≤ length input + 1
-parts_short input = omega (arith, length-slice_split (λ b. b == 10) input, count_by-le-length (λ b. b == 10) input)
-
-commands_short : (over : Bool) (most : ℕ) (front : List ℕ) → length (if over then commands_of most front else whole_commands most front) ≤ length front + 1
-commands_short true most front = omega (arith, lines_short most (parts_of front), parts_short front)
-commands_short false most front = omega (arith, lines_short most (all_but_last (parts_of front)), all_but_short (parts_of front), parts_short front)
-
-pub few_given : (seen : List ℕ) (cmds : List Cmd) (r : ReaderState) → HasGiven seen cmds r → length cmds ≤ 2 ^ 30 + 1
-few_given seen cmds r given = omega (arith, given.most, ap (λ (cs : List Cmd). length cs) given.are, commands_short r.over longest given.front, ap (λ (bs : List ℕ). length bs) given.split, length-append given.front r.ahead)
 
 -- Commands of a reader, by their number.
 pub record GivesSome (r : ReaderState) (count : ℕ) : Type 0 where
@@ -251,10 +220,10 @@ module _ (tells : Bool) (marks_first : List Mark) (s_first : State) (marks : Lis
         so_far = λ first k. subst (λ (x : Result (Option Ending) Stop). Turns tells first marks_now s_now q x before after) is (turns first before h.source (h.so_far first k));
       }
 
-  pub next_smaller : result ≡ Ok None → OnNext result (length marks_now ≡ length marks + 1) → (length marks_first + 2 ^ 30 + 2) - length marks_now < (length marks_first + 2 ^ 30 + 2) - length marks
-  next_smaller is marked =
+  pub next_smaller : length h.gives.cmds ≤ 2 ^ 30 + 1 → result ≡ Ok None → OnNext result (length marks_now ≡ length marks + 1) → (length marks_first + 2 ^ 30 + 2) - length marks_now < (length marks_first + 2 ^ 30 + 2) - length marks
+  next_smaller few is marked =
       let more : length marks_now ≡ length marks + 1 = subst (λ (x : Result (Option Ending) Stop). OnNext x (length marks_now ≡ length marks + 1)) is marked in
-      omega (arith, h.marked, h.gives.count_is, few_given h.gives.seen h.gives.cmds r h.gives.given, more)
+      omega (arith, h.marked, h.gives.count_is, few, more)
 
   -- the run ends
 

@@ -7,5 +7,4 @@ pub mod Commands
 pub mod Steps
 pub mod Loads
 pub mod Shape
-pub mod Found
 pub mod Mounts

@@ -1,22 +1,19 @@
--- A disk that was just formatted, and a file system on its way through a load. Only private contracts speak of it.
-use Rattle.std.specs.Prelude.{◌≡◌, ℕ, ◌+◌, ◌*◌, ◌^◌, ◌≤◌, ◌==◌, if◌then◌else◌, Bool, true, false, List, Some}
-use Rattle.layout_journal.specs.Formatted.{formatted}
-use Rattle.disk_memory.specs.Choice.{AreBlocksOf}
-use Rattle.disk_memory.specs.MemDisk.{MemDiskState, begun, by_rule}
-use Rattle.disk_memory.specs.declared.rule.Rule.{Rule}
-use Rattle.disk_memory.specs.declared.rule.Rule.TheVariants as rules
+-- How the disk of a load behaves, and a file system on its way through a load. Only private contracts speak of it.
+use Rattle.std.specs.Prelude.{◌≡◌, ℕ, ◌+◌, ◌*◌, ◌^◌, ◌≤◌, ◌==◌, if◌then◌else◌, Bool, true, false, None}
 use Rattle.lang_tree.specs.declared.command.Cmd.{Cmd}
 use Rattle.lang_tree.specs.declared.command.Refusal.TheVariants.{DiskFault, NoMemory, ReadFault, Spent, Stopped}
 use Rattle.lang_tree.specs.declared.command.Reply.{Reply}
 use Rattle.lang_tree.specs.declared.command.Reply.TheVariants.{Refused}
-use Rattle.lang_tree.specs.Step.{Session, start}
-use Rattle.crash_stands.specs.Stands.{IsTreeOf}
-use Rattle.engine_blocks.specs.Crashes.{IsBegun}
+use Rattle.lang_tree.specs.Step.{Session}
 use Rattle.engine_blocks.specs.State.{State}
 use Rattle.fs_session.specs.Applying.{is_spent}
 use Rattle.fs_session.specs.DiskRoom.{AnswersOn, IsRoomOf}
 use Rattle.fs_session.specs.Memory.{room_of}
 use Rattle.fs_session.specs.Sessions.{IsSession}
+use Rattle.cmd_words.specs.declared.request.Notices.{Notices}
+use Rattle.cmd_words.specs.declared.request.Notices.TheVariants as notices
+use Rattle.cmd_host.specs.declared.disk.Behaviour.{Behaviour}
+use Rattle.cmd_host.specs.Listed.{IsReadable}
 use Rattle.cmd_load.specs.Summary.{Progress, shape}
 use Rattle.cmd_load.specs.Trees.{IsLoadTree}
 
@@ -25,25 +22,12 @@ abbrev pub room : ℕ
 room = 65536
 
 -- by which rule the disk gives its notices: a seed of 0 gives none
-abbrev pub rule_of : ℕ → Rule
-rule_of seed = if seed == 0 then rules.Silent else rules.Seed seed
+abbrev pub notices_of : ℕ → Notices
+notices_of seed = if seed == 0 then notices.Silent else notices.Seed seed
 
--- A disk in memory that has the formatted disk's blocks and the room, and goes by this rule; none of its calls is listed to fail. No call of it was made yet.
-pub record IsFormattedDisk (rule : Rule) (d : MemDiskState) : Type 0 where
-  pub blocks : AreBlocksOf shape.n (formatted shape) d.base
-  pub behaves : d ≡ record (begun d.base room) { notices = by_rule rule; known = Some rule }
-
--- No read of its disk fails.
-abbrev pub IsReadable : State → Type 0
-IsReadable s = s.counts.ticks.manner.reads_fail ≡ false
-
--- A map of blocks that was mounted on such a disk: nothing was done yet, and the root alone stands in it.
-pub record IsMounted (s : State) : Type 0 where
-  pub begun : IsBegun s
-  pub geom : s.books.geom ≡ shape
-  pub tree : IsTreeOf shape s.map (start shape.i).tree
-  pub readable : IsReadable s
-  pub turns : s.books.turns ≤ 3
+-- how the disk behaves: no write is to fail
+abbrev pub behaviour_of : ℕ → Behaviour
+behaviour_of seed = record { notices = notices_of seed; room = room; fail = None }
 
 -- The blocks have come so far with a load, by so many commands: they are those of its session, weigh and hold as much, and the disk never failed.
 pub record Serves (p : Progress) (made : ℕ) (s : State) : Type 0 where
@@ -76,8 +60,3 @@ pub record IsAnswered (cmd : Cmd) (reply : Reply) (old new : State) : Type 0 whe
   pub spent : (f : Session) → IsSession old f → reply ≡ Refused Spent → is_spent old.books ≡ true
   pub stops : (f : Session) → IsSession old f → reply ≡ Refused Stopped → old.books.stopped ≡ true
   pub reads : (f : Session) → IsSession old f → reply ≡ Refused ReadFault → new.counts.ticks.manner.reads_fail ≡ true
-
--- a sink that keeps what it takes as a text: the text, and how many pushes failed
-pub record TextState : Type 0 where
-  pub text : List ℕ
-  pub faults : ℕ

@@ -1,47 +1,42 @@
-//! The disk of a load: that of a formatted image in memory, which gives its notices by the seed. What a disk in memory
-//! does is described in docs/DISK.md.
+//! The disk of a load: its geometry, and how it behaves. It gives its notices by the seed. What a disk in memory does is
+//! described in docs/DISK.md.
 
-ghost use Rattle.std.specs.Prelude.{◌≡◌, IfOk};
-ghost use Rattle.cmd_load.specs.Serving.{IsFormattedDisk, rule_of};
+ghost use Rattle.std.specs.Prelude.{◌≡◌};
+ghost use Rattle.cmd_load.specs.Serving.{behaviour_of, notices_of};
 ghost use Rattle.cmd_load.specs.Summary.{shape};
 
-use base_types::NoMemory;
-use cmd_formatted::formatted_image;
-use disk_memory::{MemDisk, Rule};
+use cmd_host::Behaviour;
+use cmd_words::Notices;
 use layout_geometry::Geom;
-use std::alloc::Global;
 
 /// For how many writes the disk has room.
 const ROOM: u32 = 65_536;
 
-/// A disk that was just formatted, and gives its notices by this seed. Nothing was written to it yet.
-///
-/// # Errors
-/// Out of memory.
-pub(crate) fn formatted_disk(alloc: Global, seed: u32) -> Result<MemDisk, NoMemory>
-    ensures { IfOk result (λ disk. IsFormattedDisk (rule_of seed) disk) }
-{
-    let geom = geom();
-    let image = formatted_image(alloc, &geom)?;
-    let mut disk = MemDisk::of_image(alloc, image, ROOM)?;
-    disk.notices(rule_of(seed));
-    Ok(disk)
-}
-
 /// The geometry of the disk.
-fn geom() -> Geom
+pub(crate) fn geom() -> Geom
     ensures { result ≡ shape }
 {
     Geom::new(4_096, 256, 256).unwrap()
 }
 
-/// The rule of the notices: a seed of 0 gives none.
-fn rule_of(seed: u32) -> Rule
-    ensures { result ≡ rule_of seed }
+/// How the disk behaves: it gives its notices by the seed, and no write is to fail.
+pub(crate) fn behaviour(seed: u32) -> Behaviour
+    ensures { result ≡ behaviour_of seed }
+{
+    Behaviour {
+        notices: notices_of(seed),
+        room: ROOM,
+        fail: None,
+    }
+}
+
+/// The notices: a seed of 0 gives none.
+fn notices_of(seed: u32) -> Notices
+    ensures { result ≡ notices_of seed }
 {
     if seed == 0 {
-        Rule::Silent
+        Notices::Silent
     } else {
-        Rule::Seed(seed)
+        Notices::Seed(seed)
     }
 }

@@ -10,7 +10,6 @@ mod loading;
 mod mounting;
 mod serving;
 mod summary;
-mod text;
 
 pub use loading::{MOST_COMMANDS, load};
 pub use summary::Summary;

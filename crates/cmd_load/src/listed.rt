@@ -8,13 +8,11 @@ ghost use Rattle.fs_commands.specs.Opened.{blocks_in, used_to};
 ghost use Rattle.fs_session.specs.Sessions.{IsBetween, IsSession};
 ghost use Rattle.lang_tree.specs.Listing.{listing};
 ghost use Rattle.lang_tree.specs.Step.{Session};
-ghost use Rattle.cmd_load.specs.Serving.{IsReadable};
+ghost use Rattle.cmd_host.specs.Listed.{IsReadable};
 
 use crate::mounting::System;
-use crate::text::TextSink;
 use base_types::NoMemory;
-use disk_contract::Disk;
-use fs_commands::ListRefusal;
+use cmd_host::listing_text;
 use sha2::{Digest, Sha256};
 use std::alloc::Global;
 
@@ -28,15 +26,6 @@ pub(crate) fn digest_of(alloc: Global, fs: &mut System) -> Result<[u8; 32], NoMe
     requires readable { IsReadable (state_of disk_state (blocks_in fs.old)) }
     ensures { IfOk result (λ digest. (f : Session) → IsSession (state_of disk_state (blocks_in fs.old)) f → digest ≡ sha256 (listing f.tree)) }
 {
-    let mut out = TextSink::new(alloc);
-    match fs.listing(alloc, &mut out) {
-        Ok(()) => Ok(Sha256::digest(out.text())),
-        Err(ListRefusal::Stopped) => unreachable!(),
-        Err(ListRefusal::ReadFault) => {
-            fs.blocks().disk().lawful();
-            unreachable!()
-        }
-        Err(ListRefusal::SinkFault) => Err(NoMemory),
-        Err(ListRefusal::NoMemory) => Err(NoMemory),
-    }
+    let text = listing_text(alloc, fs)?;
+    Ok(Sha256::digest(text.as_slice()))
 }

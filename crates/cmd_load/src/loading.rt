@@ -8,7 +8,6 @@ ghost use Rattle.fs_session.specs.Sessions.{IsBetween, Stands};
 ghost use Rattle.cmd_load.specs.Serving.{Serves};
 ghost use Rattle.cmd_load.specs.Summary.{at_first, summary_of};
 
-use crate::disk::formatted_disk;
 use crate::listed::digest_of;
 use crate::mounting::{System, mount};
 use crate::serving::serve;
@@ -29,8 +28,7 @@ pub fn load(alloc: Global, seed: u32, count: u32) -> Result<Summary, NoMemory>
     requires { count ≤ 2000 }
     ensures { IfOk result (λ summary. summary ≡ summary_of seed count) }
 {
-    let disk = formatted_disk(alloc, seed)?;
-    let fs = mount(alloc, disk)?;
+    let fs = mount(alloc, seed)?;
     let summary = run(alloc, fs, seed, count)?;
     Ok(summary)
 }

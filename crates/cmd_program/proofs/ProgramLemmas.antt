@@ -14,8 +14,9 @@ use Rattle.cmd_trace.specs.Contents.{Each}
 use Rattle.cmd_trace.specs.Line.{geometry_line, event_lines, end_line}
 use Rattle.lang_tree.specs.declared.command.Cmd.TheVariants.{Bad}
 use Rattle.lang_tree.specs.Step.{start}
-use Rattle.cmd_record.specs.Disks.{FailedToMount}
-use Rattle.cmd_record.specs.Traces.{ServesBy, Setting}
+use Rattle.cmd_host.specs.Disks.{FailedToMount}
+use Rattle.cmd_host.specs.Behaving.{Setting}
+use Rattle.cmd_record.specs.Traces.{ServesBy}
 use Rattle.cmd_record.specs.Reading.{AtEnding, Halted, ReadsAll, ReadsSome, ReadsTooMuch}
 use Rattle.lang_lines.specs.Lines.{longest, commands_of_line, commands_of, whole_commands, whole_lines, parts_of}
 use Rattle.cmd_program.specs.Output.{IsWhole, FailsToMount}

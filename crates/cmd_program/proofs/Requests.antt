@@ -33,9 +33,9 @@ use Rattle.cmd_image.specs.declared.ending.RunRefusal.TheVariants as run
 use Rattle.cmd_image.specs.Runs.{HasRunCause}
 use Rattle.cmd_words.specs.declared.request.Request.{Request}
 use Rattle.cmd_words.specs.declared.request.Request.TheVariants.{Record, Replay, Tree, Make, Run, Load}
-use Rattle.cmd_record.specs.declared.disk.Behaviour.{Behaviour}
-use Rattle.cmd_record.specs.Behaving.{MountFails, fails_of, rule_of}
-use Rattle.cmd_record.specs.Disks.{setting_on}
+use Rattle.cmd_host.specs.declared.disk.Behaviour.{Behaviour}
+use Rattle.cmd_host.specs.Behaving.{MountFails, fails_of, rule_of}
+use Rattle.cmd_host.specs.Disks.{setting_on}
 use Rattle.cmd_program.specs.Endings.{EndsBehind, HasFault, Met, Tells, met, usage_line, disk_line, damaged_line, spent_line, no_prefix_line, long_line, choice_line}
 use Rattle.cmd_program.specs.Loading.{LoadsTo}
 use Rattle.cmd_program.specs.Making.{EndsMaking, MakesTo}

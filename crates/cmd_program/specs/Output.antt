@@ -10,9 +10,9 @@ use Rattle.lang_tree.specs.declared.command.Cmd.{Cmd}
 use Rattle.lang_tree.specs.Step.{start}
 use Rattle.cmd_session.specs.Crashes.{IsCrashConsistent}
 use Rattle.lang_lines.specs.Lines.{longest, whole_commands}
-use Rattle.cmd_record.specs.Behaving.{MountFails}
-use Rattle.cmd_record.specs.Mounts.{MountsAtMost}
-use Rattle.cmd_record.specs.Traces.{IsBrokenOff, IsFront, IsTrace, ServesBy, Setting, says}
+use Rattle.cmd_host.specs.Behaving.{MountFails, Setting}
+use Rattle.cmd_host.specs.Mounts.{MountsAtMost}
+use Rattle.cmd_record.specs.Traces.{IsBrokenOff, IsFront, IsTrace, ServesBy, says}
 use Rattle.cmd_program.specs.Endings.{disk_line, source_line, long_line}
 use Rattle.cmd_program.specs.declared.status.Status.{Status}
 use Rattle.cmd_program.specs.declared.status.Status.TheVariants.{Done, NoMemory, DiskFault, SourceFault, SinkFault, LongInput}

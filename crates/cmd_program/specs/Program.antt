@@ -8,8 +8,7 @@ use Rattle.cmd_words.specs.declared.request.Request.{Request}
 use Rattle.cmd_words.specs.declared.request.Request.TheVariants.{Record, Replay, Tree, Make, Run, Load}
 use Rattle.disk_memory.specs.MemDisk.{manner_by}
 use Rattle.cmd_image.specs.Shows.{CountsFault}
-use Rattle.cmd_record.specs.Behaving.{fails_of, rule_of}
-use Rattle.cmd_record.specs.Traces.{Setting}
+use Rattle.cmd_host.specs.Behaving.{fails_of, rule_of, Setting}
 use Rattle.cmd_program.specs.Endings.{Met, EndsBehind, EndsSilent, usage_line, shape_line}
 use Rattle.cmd_program.specs.Loading.{LoadsTo}
 use Rattle.cmd_program.specs.Making.{MakesTo}

@@ -11,7 +11,7 @@ ghost use Rattle.disk_memory.specs.MemDisk.{state_of as disk_state};
 ghost use Rattle.engine_store.specs.StoreOf.{state_of};
 ghost use Rattle.fs_commands.specs.Opened.{blocks_in};
 ghost use Rattle.cmd_words.specs.Words.{IsInRange, request_of};
-ghost use Rattle.cmd_record.specs.Disks.{FailedToMount, IsOpened, setting_on};
+ghost use Rattle.cmd_host.specs.Disks.{FailedToMount, IsOpened, setting_on};
 ghost use Rattle.cmd_program.specs.Endings.{HasFault, met};
 ghost use Rattle.cmd_program.specs.Program.{Completes, Does, EndsSo, RecordsTo, RecordsWhere, opens_bay, reads_input, shape_of};
 
@@ -24,9 +24,8 @@ use crate::status::Status;
 use crate::telling::{DISK, END, LONG, SHAPE, SOURCE, USAGE, tell};
 use base_io::{Sink, SinkFault, Source};
 use base_types::NoMemory;
-use cmd_record::{
-    Behaviour, Ending, Mounted, Stop, System, begin, record_lines, write_failed_mount,
-};
+use cmd_host::{Behaviour, Mounted, System, begin};
+use cmd_record::{Ending, Stop, record_lines, write_failed_mount};
 use cmd_words::{Request, read_words};
 use crash_stands::the_formatted_disk_stands_for_the_root;
 use disk_contract::Bay;

@@ -1,145 +1,201 @@
--- What each pull does to how far the reading has come.
-use Rattle.std.proofs.Common.{arith, ◌≡◌, ℕ, ◌+◌, ◌^◌, ◌<◌, ◌≤◌, List, [], ◌∷◌, ◌++◌, length, take, drop, Option, Result, Ok, Err, OnErr, IfOk, IsErrAnd, refl, sym, ap, ◌∙◌, subst, append_assoc, append-nil, take-append-drop, take_all}
-use Rattle.std.proofs.lemmas.List.{length-take-le, length-append}
-use Rattle.std.specs.Io.KnownBytes.{Appends, Consumes, IsAtEnd, Keeps}
-use Rattle.std.proofs.KnownBytes.{Consumes-trans, Consumes-kept, Consumes-nil}
-use Rattle.base_types.specs.Counts.{Rose, next_count}
-use Rattle.lang_lines.specs.Lines.{longest, commands_of, open_line}
+-- What each turn of a reading does to how far it has come, and how it ends.
+use Rattle.std.proofs.Common.{arith, ◌≡◌, ◌⊎◌, inl, inr, ℕ, ◌+◌, ◌^◌, ◌<◌, ◌≤◌, true, false, true≢false, List, [], ◌∷◌, ◌++◌, length, take, drop, Option, Some, None, Result, Ok, Err, OnErr, IsErrAnd, refl, sym, ap, ◌∙◌, subst, append_assoc, append-nil, take-append-drop}
+use Rattle.std.proofs.lemmas.Bool.{cases_Bool}
+use Rattle.std.proofs.lemmas.List.{length-append}
+use Rattle.std.proofs.lemmas.Result.{err_from_is_err_and}
+use Rattle.std.specs.Io.KnownBytes.{Appends, Consumes}
+use Rattle.std.proofs.KnownBytes.{Appends-trans, Consumes-trans, Consumes-nil}
+use Rattle.base_types.specs.Counts.{Rose}
+use Rattle.lang_tree.specs.declared.command.Cmd.{Cmd}
+use Rattle.lang_script.specs.Values.{IsCommand}
+use Rattle.lang_lines.specs.Lines.{longest, commands_of, whole_commands}
+use Rattle.lang_lines.specs.Reading.{HasGiven, HoldsOn, ReaderState, ReadsOn, first_state}
+use Rattle.lang_lines.specs.declared.next.Next.TheVariants as next
+use Rattle.cmd_trace.specs.Contents.{Each}
 use Rattle.cmd_trace.specs.Line.{end_line}
 use Rattle.disk_contract.specs.Manner.{Manner}
 use Rattle.layout_geometry.specs.Geometry.{Geometry}
-use Rattle.cmd_record.specs.Disks.{IsOpened}
-use Rattle.cmd_record.specs.Traces.{ServesBy, Setting}
 use Rattle.engine_blocks.specs.State.{State}
-use Rattle.cmd_record.specs.Follows.{Follows, Stopped, ServesTo, StopsByCause}
+use Rattle.cmd_host.specs.Behaving.{Setting}
+use Rattle.cmd_host.specs.Disks.{IsOpened}
+use Rattle.cmd_record.specs.Traces.{ServesBy}
+use Rattle.cmd_record.specs.Follows.{ServesTo, StopsByCause}
 use Rattle.cmd_record.specs.declared.recording.Stop.{Stop}
 use Rattle.cmd_record.specs.declared.recording.Stop.TheVariants.{NoMemory, SinkFault}
-use Rattle.cmd_record.specs.Reading.{At, Halted, Brings, AfterTurn, AtEnding, ReadsAll, ReadsSome, ReadsTooMuch}
-use Rattle.cmd_record.specs.declared.reading.Turn.{Turn}
-use Rattle.cmd_record.specs.declared.reading.Turn.TheVariants.{Took, Ended, Failed}
+use Rattle.cmd_record.specs.Reading.{At, Halted, AtEnding, GivesOn, ReadsAll, ReadsSome, ReadsTooMuch, Turns}
 use Rattle.cmd_record.specs.declared.reading.Ending.{Ending}
 use Rattle.cmd_record.specs.declared.reading.Ending.TheVariants.{End, SourceFault, LongInput}
-use Rattle.cmd_record.specs.Running.{Records}
-use Rattle.cmd_record.proofs.RecordingLemmas.{stopped_here}
+use Rattle.cmd_record.specs.Running.{Records, ServesFrom, TriesFrom}
+use Rattle.cmd_record.proofs.RecordingLemmas.{breaks_here, stopped_off}
 
--- One pull.
+-- What lang_lines says of the commands that were given.
+pub record GivenLaws : Type 0 where
+  pub first : HasGiven [] [] first_state
+  pub end : (seen : List ℕ) (cmds : List Cmd) (r : ReaderState) → HasGiven seen cmds r → r.over ≡ true → r.ahead ≡ [] → cmds ≡ commands_of longest seen
+  pub whole : (seen : List ℕ) (cmds : List Cmd) (r : ReaderState) → HasGiven seen cmds r → r.over ≡ false → r.ahead ≡ [] → cmds ≡ whole_commands longest seen
+  pub front : (seen rest : List ℕ) (cmds : List Cmd) (r : ReaderState) → HasGiven seen cmds r → r.over ≡ false → (later : List Cmd) × (commands_of longest (seen ++ rest) ≡ cmds ++ later)
+  pub few : (seen : List ℕ) (cmds : List Cmd) (r : ReaderState) → HasGiven seen cmds r → length cmds ≤ 2 ^ 30 + 1
 
-pub took : (set : Setting) (count n : ℕ) (left mid now told out_old out_new : Option (List ℕ)) (system next : State) (line later bytes : List ℕ)
-    → At set count left mid told out_old system line → n ≤ length bytes → Consumes mid now (take n bytes)
-    → ((set : Setting) (seen : List ℕ) (before : Option (List ℕ)) → Follows set seen before out_old system line → Follows set (seen ++ take n bytes) before out_new next later)
-    → At set (count + n) left now told out_new next later
-took set count n left mid now told out_old out_new system next line later bytes a fits taken goes = record {
-  seen = a.seen ++ take n bytes;
-  read = Consumes-trans left mid now a.seen (take n bytes) a.read taken;
-  long = length-append a.seen (take n bytes) ∙ omega (arith, a.long, length-take-le n bytes fits);
-  follows = goes set a.seen told a.follows;
-}
+-- the commands that were given are the first ones of the bytes that were pulled
+firsts : GivenLaws → (seen : List ℕ) (cmds : List Cmd) (r : ReaderState) → HasGiven seen cmds r → (r.over ≡ true → r.ahead ≡ []) → (later : List Cmd) × (cmds ++ later ≡ commands_of longest seen)
+firsts laws seen cmds r given none = by (cases_Bool r.over)
+  where
+    by : (r.over ≡ true) ⊎ (r.over ≡ false) → (later : List Cmd) × (cmds ++ later ≡ commands_of longest seen)
+    by (inl over) = ([], append-nil cmds ∙ laws.end seen cmds r given over (none over))
+    by (inr going) = let more = laws.front seen [] cmds r given going in (more.0, sym more.1 ∙ ap (commands_of longest) (append-nil seen))
 
-pub took_halts : {T E : Type 0} (r : Result T E) (n most : ℕ) (mid now out_old out_new : Option (List ℕ)) (system : State) (line bytes : List ℕ)
-    → n ≤ length bytes → length bytes ≡ most → Consumes mid now (take n bytes)
-    → ((set : Setting) (seen : List ℕ) (before : Option (List ℕ)) → Follows set seen before out_old system line → Stopped set (seen ++ take n bytes) before out_new)
-    → OnErr r ((set : Setting) (count : ℕ) (left told : Option (List ℕ)) → At set count left mid told out_old system line → Halted set (count + most) left now told out_new)
-took_halts (Ok x) n most mid now out_old out_new system line bytes fits long taken goes = tt
-took_halts (Err e) n most mid now out_old out_new system line bytes fits long taken goes = λ set count left told a. record {
-  seen = a.seen ++ take n bytes;
-  read = Consumes-trans left mid now a.seen (take n bytes) a.read taken;
-  short = omega (arith, length-append a.seen (take n bytes), a.long, length-take-le n bytes fits);
-  stopped = goes set a.seen told a.follows;
-}
+-- what is recorded of some commands is of the same ones
+serves_to : (set : Setting) (cmds same : List Cmd) (body : List ℕ) (s : State) (before after : Option (List ℕ)) → cmds ≡ same → Records set cmds body s → Appends before after body → ServesTo set same before after
+serves_to set cmds same body s before after is records told = record { body = body; served = subst (λ (cs : List Cmd). Each IsCommand cs → ServesBy set cs body) is records.served; told = told }
 
--- The byte past the end.
-
-first_of : (n : ℕ) (bytes : List ℕ) → length bytes ≡ 1 → 0 < n → n ≤ length bytes → (b : ℕ) × (take n bytes ≡ b ∷ [])
-first_of n [] one some fits = absurd (omega arith)
-first_of n (b ∷ []) one some fits = (b, take_all n (b ∷ []) (omega arith))
-first_of n (b ∷ c ∷ bytes) one some fits = absurd (omega arith)
-
-pub past : (set : Setting) (n : ℕ) (left mid now told out : Option (List ℕ)) (system : State) (line bytes : List ℕ)
-    → length bytes ≡ 1 → 0 < n → n ≤ length bytes → Consumes mid now (take n bytes)
-    → At set (2 ^ 30) left mid told out system line → ReadsTooMuch set left now told out
-past set n left mid now told out system line bytes one some fits taken a =
-    let byte = first_of n bytes one some fits in
-    record {
-      seen = a.seen;
-      next = byte.0;
-      read = Consumes-trans left mid now a.seen (byte.0 ∷ []) a.read (let P : List ℕ → Type 0 = λ l. Consumes mid now l in subst P byte.1 taken);
-      long = a.long;
-      serves = record { body = a.follows.body; served = a.follows.records.served; told = a.follows.told };
-    }
-
--- no byte came
-pub none_came : (set : Setting) (count n : ℕ) (left mid now told out : Option (List ℕ)) (system : State) (line bytes : List ℕ)
-    → n ≡ 0 → Consumes mid now (take n bytes) → At set count left mid told out system line → At set count left now told out system line
-none_came set count n left mid now told out system line bytes none taken a =
-    let nothing : Consumes mid now [] = subst (λ k. Consumes mid now (take k bytes)) none taken in
-    record {
-      seen = a.seen;
-      read = subst (λ (xs : List ℕ). Consumes left now xs) (append-nil a.seen) (Consumes-trans left mid now a.seen [] a.read nothing);
-      long = a.long;
-      follows = a.follows;
-    }
-
--- a pull that failed brought nothing
-pub none_read : (set : Setting) (count : ℕ) (left mid now told out : Option (List ℕ)) (system : State) (line : List ℕ) → Keeps mid now → At set count left mid told out system line → At set count left now told out system line
-none_read set count left mid now told out system line kept a = record { seen = a.seen; read = Consumes-kept left mid now a.seen a.read kept; long = a.long; follows = a.follows }
-
--- its count rose
-pub broke : (before now : ℕ) → (before ≤ now) × (now ≡ next_count before) → Rose before now
-broke before now h = omega (arith, h.1)
-
-pub end_halts : {T E : Type 0} (r : Result T E) (now out_old out_new mid : Option (List ℕ)) (system : State) (line : List ℕ)
-    → ((set : Setting) (left told : Option (List ℕ)) → At set (2 ^ 30) left mid told out_old system line → At set (2 ^ 30) left now told out_old system line)
-    → ((set : Setting) (seen : List ℕ) (before : Option (List ℕ)) → Follows set seen before out_old system line → Stopped set seen before out_new)
-    → OnErr r ((set : Setting) (left told : Option (List ℕ)) → At set (2 ^ 30) left mid told out_old system line → Halted set (2 ^ 30) left now told out_new)
-end_halts (Ok x) now out_old out_new mid system line comes stops = tt
-end_halts (Err e) now out_old out_new mid system line comes stops = λ set left told h.
-    let a = comes set left told h in
-    record { seen = a.seen; read = a.read; short = omega (arith, a.long); stopped = stops set a.seen told a.follows }
-
--- The whole reading.
-
-pub some_read : (set : Setting) (count : ℕ) (left now told out : Option (List ℕ)) (system : State) (line : List ℕ) → count ≤ 2 ^ 30 → At set count left now told out system line → ReadsSome set left now told out
-some_read set count left now told out system line within a = record {
-  seen = a.seen;
-  read = a.read;
-  short = omega (arith, a.long);
-  serves = record { body = a.follows.body; served = a.follows.records.served; told = a.follows.told };
-}
-
-pub all_read : (set : Setting) (count : ℕ) (left now told out_old out_new : Option (List ℕ)) (system : State) (line : List ℕ) → count ≤ 2 ^ 30 → At set count left now told out_old system line → IsAtEnd now
-    → ((set : Setting) (seen : List ℕ) (before : Option (List ℕ)) → Follows set seen before out_old system line → ServesTo set (commands_of longest seen) before out_new)
-    → ReadsAll set left now told out_new
-all_read set count left now told out_old out_new system line within a over ends = record {
-  seen = a.seen;
-  read = a.read;
-  over = over;
-  short = omega (arith, a.long);
-  serves = ends set a.seen told a.follows;
-}
-
-pub halted_end : {T E : Type 0} (r : Result T E) (count : ℕ) (l0 o0 : Option (List ℕ)) (t0 : State) (n0 : List ℕ) (now out_old out_new : Option (List ℕ)) (system : State) (line : List ℕ)
-    → count ≤ 2 ^ 30 → ((set : Setting) (left told : Option (List ℕ)) → At set 0 left l0 told o0 t0 n0 → At set count left now told out_old system line)
-    → ((set : Setting) (seen : List ℕ) (before : Option (List ℕ)) → Follows set seen before out_old system line → Stopped set seen before out_new)
-    → OnErr r ((set : Setting) (left told : Option (List ℕ)) → At set 0 left l0 told o0 t0 n0 → Halted set (2 ^ 30) left now told out_new)
-halted_end (Ok x) count l0 o0 t0 n0 now out_old out_new system line within so_far stops = tt
-halted_end (Err e) count l0 o0 t0 n0 now out_old out_new system line within so_far stops = λ set left told f.
-    let a = so_far set left told f in
-    record { seen = a.seen; read = a.read; short = omega (arith, a.long); stopped = stops set a.seen told a.follows }
-
-wider : (set : Setting) (n m : ℕ) (left now told out : Option (List ℕ)) → n ≤ m → Halted set n left now told out → Halted set m left now told out
-wider set n m left now told out le h = record { seen = h.seen; read = h.read; short = omega (arith, h.short); stopped = h.stopped }
-
-pub halted_turn : {T E : Type 0} (r : Result T E) (count room : ℕ) (l0 o0 : Option (List ℕ)) (t0 : State) (n0 : List ℕ) (mid now out_old out_new : Option (List ℕ)) (system : State) (line : List ℕ)
-    → count + room ≤ 2 ^ 30 → ((set : Setting) (left told : Option (List ℕ)) → At set 0 left l0 told o0 t0 n0 → At set count left mid told out_old system line)
-    → ((set : Setting) (count : ℕ) (left told : Option (List ℕ)) → At set count left mid told out_old system line → Halted set (count + room) left now told out_new)
-    → OnErr r ((set : Setting) (left told : Option (List ℕ)) → At set 0 left l0 told o0 t0 n0 → Halted set (2 ^ 30) left now told out_new)
-halted_turn (Ok x) count room l0 o0 t0 n0 mid now out_old out_new system line within so_far stops = tt
-halted_turn (Err e) count room l0 o0 t0 n0 mid now out_old out_new system line within so_far stops = λ set left told f.
-    wider set (count + room) (2 ^ 30) left now told out_new within (stops set count left told (so_far set left told f))
-
--- The faults of the source before this call count too.
-pub rose_before : (first before now : ℕ) → first ≤ before → Rose before now → Rose first now
+-- the faults of the source before this call count too
+rose_before : (first before now : ℕ) → first ≤ before → Rose before now → Rose first now
 rose_before first before now le rose = omega arith
+
+-- One turn.
+
+module _ (laws : GivenLaws) (set : Setting) (left mid now told out : Option (List ℕ)) (s : State) (r q : ReaderState) (h : At set left mid told out s r) where
+  -- no command came
+  same_commands : (more : List ℕ) → HasGiven (h.seen ++ more) (h.cmds ++ []) q → HasGiven (h.seen ++ more) h.cmds q
+  same_commands more given = subst (λ (cs : List Cmd). HasGiven (h.seen ++ more) cs q) (append-nil h.cmds) given
+
+  -- memory ran out before a command came
+  pub held_at : HoldsOn r q mid now → (q.over ≡ true → q.ahead ≡ []) → Halted set (2 ^ 30) left now told out
+  held_at holds none =
+      let given = holds.given h.seen h.cmds h.given in
+      let later = firsts laws (h.seen ++ holds.more) h.cmds q given none in
+      record {
+        seen = h.seen ++ holds.more;
+        read = Consumes-trans left mid now h.seen holds.more h.read holds.read;
+        short = given.most;
+        stopped = stopped_off set (h.seen ++ holds.more) (h.cmds ++ later.0) h.body told out out h.took (breaks_here set h.cmds later.0 h.body s out h.records) later.1;
+      }
+
+  module _ (faults faults_now : ℕ) where
+    -- a command came, and it was answered
+    pub command_at : (cmd : Cmd) (t : State) (out_now : Option (List ℕ)) → ReadsOn (next.Command cmd) r q mid now faults faults_now → ServesFrom (cmd ∷ []) s t out out_now → At set left now told out_now t q
+    command_at cmd t out_now reads serves =
+        let more = serves set h.cmds h.body h.records in
+        record {
+          seen = h.seen ++ reads.more;
+          cmds = h.cmds ++ cmd ∷ [];
+          body = h.body ++ more.piece;
+          given = reads.given h.seen h.cmds h.given;
+          read = Consumes-trans left mid now h.seen reads.more h.read reads.read;
+          ends = reads.over h.ends;
+          records = more.records;
+          took = Appends-trans told out out_now h.body more.piece h.took more.told;
+        }
+
+    -- it came, and its entry broke off
+    pub stops_at : (cmd : Cmd) (out_now : Option (List ℕ)) → ReadsOn (next.Command cmd) r q mid now faults faults_now → (q.over ≡ true → q.ahead ≡ []) → TriesFrom (cmd ∷ []) s out out_now → Halted set (2 ^ 30) left now told out_now
+    stops_at cmd out_now reads none tries =
+        let given = reads.given h.seen h.cmds h.given in
+        let later = firsts laws (h.seen ++ reads.more) (h.cmds ++ cmd ∷ []) q given none in
+        record {
+          seen = h.seen ++ reads.more;
+          read = Consumes-trans left mid now h.seen reads.more h.read reads.read;
+          short = given.most;
+          stopped = stopped_off set (h.seen ++ reads.more) ((h.cmds ++ cmd ∷ []) ++ later.0) h.body told out out_now h.took (tries set h.cmds later.0 h.body h.records) later.1;
+        }
+
+    pub end_at : ReadsOn next.End r q mid now faults faults_now → ReadsAll set left now told out
+    end_at reads =
+        let given = same_commands reads.more (reads.given h.seen h.cmds h.given) in
+        record {
+          seen = h.seen ++ reads.more;
+          read = Consumes-trans left mid now h.seen reads.more h.read reads.read;
+          over = reads.over h.ends reads.ends.0;
+          short = given.most;
+          serves = serves_to set h.cmds (commands_of longest (h.seen ++ reads.more)) h.body s told out (laws.end (h.seen ++ reads.more) h.cmds q given reads.ends.0 reads.ends.1) h.records h.took;
+        }
+
+    pub fault_at : (first : ℕ) → first ≤ faults → ReadsOn next.SourceFault r q mid now faults faults_now → Rose first faults_now × ReadsSome set left now told out
+    fault_at first le reads =
+        let given = same_commands reads.more (reads.given h.seen h.cmds h.given) in (
+          rose_before first faults faults_now le reads.ends.0,
+          record {
+            seen = h.seen ++ reads.more;
+            read = Consumes-trans left mid now h.seen reads.more h.read reads.read;
+            short = given.most;
+            serves = serves_to set h.cmds (whole_commands longest (h.seen ++ reads.more)) h.body s told out (laws.whole (h.seen ++ reads.more) h.cmds q given reads.ends.1 reads.ends.2) h.records h.took;
+          },
+        )
+
+    pub long_at : ReadsOn next.LongInput r q mid now faults faults_now → ReadsTooMuch set left now told out
+    long_at reads =
+        let given = same_commands reads.more (reads.given h.seen h.cmds h.given) in
+        record {
+          seen = h.seen ++ reads.more;
+          next = reads.read.0;
+          read = subst (λ (xs : List ℕ). Consumes left now xs) (sym (append_assoc h.seen reads.more (reads.read.0 ∷ []))) (Consumes-trans left mid now h.seen (reads.more ++ reads.read.0 ∷ []) h.read reads.read.1);
+          long = sym given.count ∙ reads.ends.0;
+          serves = serves_to set h.cmds (whole_commands longest (h.seen ++ reads.more)) h.body s told out (laws.whole (h.seen ++ reads.more) h.cmds q given reads.ends.1 reads.ends.2) h.records h.took;
+        }
+
+-- the turn stops so
+pub stops_turn : (set : Setting) (faults faults_now : ℕ) (left now told out : Option (List ℕ)) (s : State) (r : ReaderState) (Q : Stop → Type 0) (x : Result (Option Ending) Stop) → IsErrAnd x Q → Halted set (2 ^ 30) left now told out → Turns set x faults faults_now left now told out s r
+stops_turn set faults faults_now left now told out s r Q x is halts =
+    let p = err_from_is_err_and x is in
+    subst (λ (y : Result (Option Ending) Stop). Turns set y faults faults_now left now told out s r) (sym p.1) halts
+
+-- The loop.
+
+-- some commands were given, so many
+pub record GivesSome (r : ReaderState) (count : ℕ) : Type 0 where
+  pub seen : List ℕ
+  pub cmds : List Cmd
+  pub given : HasGiven seen cmds r
+  pub are : length cmds ≡ count
+
+-- Behind so many turns each has brought a command, and no count of faults has fallen.
+pub record IsServing (count sources_first sources sinks_first sinks : ℕ) (left now out_first out : Option (List ℕ)) (s_first s : State) (r : ReaderState) : Type 0 where
+  pub source : sources_first ≤ sources
+  pub sink : sinks_first ≤ sinks
+  pub gives : GivesSome r count
+  pub so_far : (set : Setting) (body : List ℕ) (told : Option (List ℕ)) → Records set [] body s_first → Appends told out_first body → At set left now told out s r
+
+pub first_serving : (sources sinks : ℕ) (left out : Option (List ℕ)) (s : State) (r : ReaderState) → GivenLaws → r ≡ first_state → IsServing 0 sources sources sinks sinks left left out out s s r
+first_serving sources sinks left out s r laws is =
+    let given : HasGiven [] [] r = subst (λ (x : ReaderState). HasGiven [] [] x) (sym is) laws.first in
+    record {
+      source = omega arith;
+      sink = omega arith;
+      gives = record { seen = []; cmds = []; given = given; are = refl };
+      so_far = λ set body told records took. record {
+        seen = [];
+        cmds = [];
+        body = body;
+        given = given;
+        read = Consumes-nil left;
+        ends = λ over. absurd (true≢false (sym over ∙ ap (λ (x : ReaderState). x.over) is));
+        records = records;
+        took = took;
+      };
+    }
+
+-- no input has more commands
+pub no_more : GivenLaws → (r : ReaderState) (count : ℕ) → GivesSome r count → 2 ^ 30 + 2 ≤ count → ⊥
+no_more laws r count g many = omega (arith, g.are, laws.few g.seen g.cmds r g.given, many)
+
+module _ (count sources_first sources sources_now sinks_first sinks : ℕ) (left mid now out_first out out_now : Option (List ℕ)) (s_first s t : State) (r q : ReaderState) (h : IsServing count sources_first sources sinks_first sinks left mid out_first out s_first s r) (result : Result (Option Ending) Stop)
+    (turns : (set : Setting) (first : ℕ) (start told : Option (List ℕ)) → first ≤ sources → At set start mid told out s r → Turns set result first sources_now start now told out_now t q) where
+  pub next_serving : (sinks_now : ℕ) → result ≡ Ok None → GivesOn result r q → sources ≤ sources_now → sinks ≤ sinks_now → IsServing (count + 1) sources_first sources_now sinks_first sinks_now left now out_first out_now s_first t q
+  next_serving sinks_now is gives source sink =
+      let one = subst (λ (x : Result (Option Ending) Stop). GivesOn x r q) is gives h.gives.seen h.gives.cmds h.gives.given in
+      record {
+        source = omega (arith, h.source, source);
+        sink = omega (arith, h.sink, sink);
+        gives = record { seen = h.gives.seen ++ one.0; cmds = h.gives.cmds ++ one.1 ∷ []; given = one.2; are = omega (arith, h.gives.are, length-append h.gives.cmds (one.1 ∷ [])) };
+        so_far = λ set body told records took. subst (λ (x : Result (Option Ending) Stop). Turns set x sources_first sources_now left now told out_now t q) is (turns set sources_first left told h.source (h.so_far set body told records took));
+      }
+
+  pub next_ends : (ending : Ending) → result ≡ Ok (Some ending) → (set : Setting) (body : List ℕ) (told : Option (List ℕ)) → Records set [] body s_first → Appends told out_first body → AtEnding set ending sources_first sources_now left now told out_now
+  next_ends ending is set body told records took = subst (λ (x : Result (Option Ending) Stop). Turns set x sources_first sources_now left now told out_now t q) is (turns set sources_first left told h.source (h.so_far set body told records took))
+
+  pub next_stops : (why : Stop) (x : Result Ending Stop) → result ≡ Err why → OnErr x ((set : Setting) (body : List ℕ) (told : Option (List ℕ)) → Records set [] body s_first → Appends told out_first body → Halted set (2 ^ 30) left now told out_now)
+  next_stops why (Ok ending) is = tt
+  next_stops why (Err stop) is = λ set body told records took. subst (λ (x : Result (Option Ending) Stop). Turns set x sources_first sources_now left now told out_now t q) is (turns set sources_first left told h.source (h.so_far set body told records took))
 
 -- the sink's count before this call counts too
 pub stopped_before : (T U : Type 0) (r : Result T Stop) (why : Stop) (first before now : ℕ) → IsErrAnd r (λ stop. stop ≡ why) → first ≤ before
@@ -152,84 +208,7 @@ stopped_before T U (Err x) SinkFault first before now is le h =
     let P : Stop → Type 0 = λ stop. StopsByCause {T = T} first now (Err stop) in
     subst P (sym is) (omega (arith, le, h.0), rose_before first before now le h.1)
 
-pub ending_before : (set : Setting) (ending : Ending) (first before now : ℕ) (left left_now told out : Option (List ℕ)) → first ≤ before
-    → AtEnding set ending before now left left_now told out → AtEnding set ending first now left left_now told out
-ending_before set End first before now left left_now told out le h = h
-ending_before set SourceFault first before now left left_now told out le h = (rose_before first before now le h.0, h.1)
-ending_before set LongInput first before now left left_now told out le h = h
-
-pub after_loop : {E : Type 0} (r : Result Ending E) (count first before now : ℕ) (l0 o0 : Option (List ℕ)) (t0 : State) (n0 : List ℕ) (mid left_now out_old out_new : Option (List ℕ)) (system : State) (line : List ℕ)
-    → count ≡ 2 ^ 30 → first ≤ before → ((set : Setting) (left told : Option (List ℕ)) → At set 0 left l0 told o0 t0 n0 → At set count left mid told out_old system line)
-    → IfOk r (λ ending. (set : Setting) (left told : Option (List ℕ)) → At set (2 ^ 30) left mid told out_old system line → AtEnding set ending before now left left_now told out_new)
-    → IfOk r (λ ending. (set : Setting) (left told : Option (List ℕ)) → At set 0 left l0 told o0 t0 n0 → AtEnding set ending first now left left_now told out_new)
-after_loop (Err e) count first before now l0 o0 t0 n0 mid left_now out_old out_new system line full le so_far ends = tt
-after_loop (Ok ending) count first before now l0 o0 t0 n0 mid left_now out_old out_new system line full le so_far ends = λ set left told f.
-    let P : ℕ → Type 0 = λ n. At set n left mid told out_old system line in
-    ending_before set ending first before now left left_now told out_new le (ends set left told (subst P full (so_far set left told f)))
-
-pub halted_loop : {T E : Type 0} (r : Result T E) (count : ℕ) (l0 o0 : Option (List ℕ)) (t0 : State) (n0 : List ℕ) (mid left_now out_old out_new : Option (List ℕ)) (system : State) (line : List ℕ)
-    → count ≡ 2 ^ 30 → ((set : Setting) (left told : Option (List ℕ)) → At set 0 left l0 told o0 t0 n0 → At set count left mid told out_old system line)
-    → OnErr r ((set : Setting) (left told : Option (List ℕ)) → At set (2 ^ 30) left mid told out_old system line → Halted set (2 ^ 30) left left_now told out_new)
-    → OnErr r ((set : Setting) (left told : Option (List ℕ)) → At set 0 left l0 told o0 t0 n0 → Halted set (2 ^ 30) left left_now told out_new)
-halted_loop (Ok x) count l0 o0 t0 n0 mid left_now out_old out_new system line full so_far halts = tt
-halted_loop (Err e) count l0 o0 t0 n0 mid left_now out_old out_new system line full so_far halts = λ set left told f.
-    let P : ℕ → Type 0 = λ n. At set n left mid told out_old system line in
-    halts set left told (subst P full (so_far set left told f))
-
--- A turn after which the input is over, or the source failed.
-
-pub took_turn : (turn : Turn) (more count before now : ℕ) (l0 o0 : Option (List ℕ)) (t0 : State) (n0 : List ℕ) (mid left_now out_old out_new : Option (List ℕ)) (system next : State) (line later : List ℕ)
-    → turn ≡ Took more → ((set : Setting) (left told : Option (List ℕ)) → At set 0 left l0 told o0 t0 n0 → At set count left mid told out_old system line)
-    → ((set : Setting) (count : ℕ) (left told : Option (List ℕ)) → At set count left mid told out_old system line → AfterTurn set turn count before now left left_now told out_new next later)
-    → (set : Setting) (left told : Option (List ℕ)) → At set 0 left l0 told o0 t0 n0 → At set (count + more) left left_now told out_new next later
-took_turn turn more count before now l0 o0 t0 n0 mid left_now out_old out_new system next line later is so_far goes set left told f =
-    let P : Turn → Type 0 = λ t. AfterTurn set t count before now left left_now told out_new next later in
-    subst P is (goes set count left told (so_far set left told f))
-
--- a pull that brought bytes brought no more than it asked for
-pub took_few : (turn : Turn) (more most : ℕ) → turn ≡ Took more → Brings turn most → more ≤ most
-took_few turn more most is brings = (subst (λ (t : Turn). Brings t most) is brings).1
-
-pub ended_turn : (turn : Turn) (count before now : ℕ) (l0 o0 : Option (List ℕ)) (t0 : State) (n0 : List ℕ) (mid left_now out_old out_new : Option (List ℕ)) (system next : State) (line later : List ℕ)
-    → turn ≡ Ended → ((set : Setting) (left told : Option (List ℕ)) → At set 0 left l0 told o0 t0 n0 → At set count left mid told out_old system line)
-    → ((set : Setting) (count : ℕ) (left told : Option (List ℕ)) → At set count left mid told out_old system line → AfterTurn set turn count before now left left_now told out_new next later)
-    → (set : Setting) (left told : Option (List ℕ)) → At set 0 left l0 told o0 t0 n0 → IsAtEnd left_now × At set count left left_now told out_new next later
-ended_turn turn count before now l0 o0 t0 n0 mid left_now out_old out_new system next line later is so_far goes set left told f =
-    let P : Turn → Type 0 = λ t. AfterTurn set t count before now left left_now told out_new next later in
-    subst P is (goes set count left told (so_far set left told f))
-
-pub failed_turn : (turn : Turn) (count first before now : ℕ) (l0 o0 : Option (List ℕ)) (t0 : State) (n0 : List ℕ) (mid left_now out_old out_new : Option (List ℕ)) (system next : State) (line later : List ℕ)
-    → turn ≡ Failed → count ≤ 2 ^ 30 → first ≤ before → ((set : Setting) (left told : Option (List ℕ)) → At set 0 left l0 told o0 t0 n0 → At set count left mid told out_old system line)
-    → ((set : Setting) (count : ℕ) (left told : Option (List ℕ)) → At set count left mid told out_old system line → AfterTurn set turn count before now left left_now told out_new next later)
-    → (set : Setting) (left told : Option (List ℕ)) → At set 0 left l0 told o0 t0 n0 → Rose first now × ReadsSome set left left_now told out_new
-failed_turn turn count first before now l0 o0 t0 n0 mid left_now out_old out_new system next line later is within le so_far goes set left told f =
-    let P : Turn → Type 0 = λ t. AfterTurn set t count before now left left_now told out_new next later in
-    let h : Rose before now × At set count left left_now told out_new next later = subst P is (goes set count left told (so_far set left told f)) in
-    (rose_before first before now le h.0, some_read set count left left_now told out_new next later within h.1)
-
-pub all_turn : (count : ℕ) (l0 o0 : Option (List ℕ)) (t0 : State) (n0 : List ℕ) (left_now out_old out_new : Option (List ℕ)) (system : State) (line : List ℕ) → count ≤ 2 ^ 30
-    → ((set : Setting) (left told : Option (List ℕ)) → At set 0 left l0 told o0 t0 n0 → IsAtEnd left_now × At set count left left_now told out_old system line)
-    → ((set : Setting) (seen : List ℕ) (before : Option (List ℕ)) → Follows set seen before out_old system line → ServesTo set (commands_of longest seen) before out_new)
-    → (set : Setting) (left told : Option (List ℕ)) → At set 0 left l0 told o0 t0 n0 → ReadsAll set left left_now told out_new
-all_turn count l0 o0 t0 n0 left_now out_old out_new system line within so_far ends set left told f =
-    let h = so_far set left told f in
-    all_read set count left left_now told out_old out_new system line within h.1 h.0 ends
-
 -- The beginning.
-
-no_line : [] ≡ take (longest + 1) (open_line [])
-no_line = sym (take_all (longest + 1) [] (omega arith))
-
-pub begins : (set : Setting) (system : State) (line body written : List ℕ) (left told out : Option (List ℕ)) → Records set [] body system → line ≡ [] → written ≡ body
-    → Appends told out written → At set 0 left left told out system line
-begins set system line body written left told out records empty same taken =
-    let P : List ℕ → Type 0 = λ l. Appends told out l in
-    record {
-      seen = [];
-      read = Consumes-nil left;
-      long = refl;
-      follows = record { body = body; records = records; told = subst P same taken; kept = empty ∙ no_line };
-    }
 
 -- the sink has a front of the first lines, and nothing was read
 pub head_cut : (set : Setting) (system : State) (body written : List ℕ) (left told out : Option (List ℕ)) (n : ℕ) → Records set [] body system → written ≡ body
@@ -262,17 +241,16 @@ pub lines_halt : {T E : Type 0} (r : Result T E) (g : Geometry) (system : State)
 lines_halt (Ok x) g system left now told out halts = tt
 lines_halt (Err e) g system left now told out halts = halts
 
--- the sink has what it had before the first byte
-pub not_begun : {T E : Type 0} (r : Result T E) (now out : Option (List ℕ)) (system : State) (line : List ℕ)
-    → OnErr r ((set : Setting) (left told : Option (List ℕ)) → At set 0 left now told out system line → Halted set (2 ^ 30) left now told out)
-not_begun (Ok x) now out system line = tt
-not_begun (Err e) now out system line = λ set left told a.
-    let P : List ℕ → Type 0 = λ xs. Stopped set xs told out in
+-- no reader was made: the sink has what it had before the first byte
+pub not_begun : {T E : Type 0} (r : Result T E) (left out : Option (List ℕ)) (s : State)
+    → OnErr r ((set : Setting) (body : List ℕ) (told : Option (List ℕ)) → Records set [] body s → Appends told out body → Halted set (2 ^ 30) left left told out)
+not_begun (Ok x) left out s = tt
+not_begun (Err e) left out s = λ set body told records took.
     record {
-      seen = a.seen;
-      read = a.read;
-      short = omega (arith, a.long);
-      stopped = subst P (append-nil a.seen) (stopped_here set a.seen [] told out system line a.follows);
+      seen = [];
+      read = Consumes-nil left;
+      short = omega arith;
+      stopped = stopped_off set [] [] body told out out took (breaks_here set [] [] body s out records) refl;
     }
 
 -- a stop for want of memory is none by the sink

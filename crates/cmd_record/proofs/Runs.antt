@@ -6,9 +6,10 @@ use Rattle.std.specs.List.{slice_get}
 use Rattle.std.proofs.lemmas.Bool.{and_parts, leb-true}
 use Rattle.std.proofs.lemmas.Bool.Decides.{nat_tests}
 use mathlib.Core.Path.{fun_ext}
-use Rattle.base_types.specs.Seal.{Blocks}
+use Rattle.base_types.specs.Seal.{Blocks, sha256}
 use Rattle.disk_contract.specs.declared.event.Event.{Event}
-use Rattle.disk_contract.specs.Cell.{has_lost}
+use Rattle.disk_contract.specs.Cell.{Cell, cell_of, has_lost}
+use Rattle.disk_contract.specs.Crash.{IsHonest, IsTorn, MayHold}
 use Rattle.disk_contract.specs.Disk.{Grows, writes_in}
 use Rattle.disk_contract.specs.Lawful.{IsLogOf}
 use Rattle.disk_contract.specs.Manner.{Manner, GoesBy}
@@ -43,13 +44,26 @@ use Rattle.cmd_session.specs.Issued.{IssuesLast}
 use Rattle.cmd_session.specs.Going.{GoesByLog, pace_of}
 use Rattle.cmd_session.specs.Pacing.{Pace}
 use Rattle.cmd_session.specs.Taking.{nothing_taken}
-use Rattle.cmd_record.specs.Disks.{IsOpened}
-use Rattle.cmd_record.specs.Behaving.{pace_at_first, room_at_first, session_by}
-use Rattle.cmd_record.specs.Mounts.{MountsOnce}
-use Rattle.cmd_record.specs.Traces.{Serves, ServesBy, Setting, says}
+use Rattle.cmd_host.specs.Disks.{IsOpened}
+use Rattle.cmd_host.specs.Behaving.{session_by, Setting}
+use Rattle.cmd_record.specs.Behaving.{pace_at_first, room_at_first}
+use Rattle.cmd_host.specs.Mounts.{MountsOnce}
+use Rattle.cmd_record.specs.Traces.{Serves, ServesBy, says}
 use Rattle.cmd_record.specs.Running.{BeginsSo, Ran, PacedRun, Records, GoesOnWith, RunLaws, KnownRun, IsAnswered}
 use Rattle.cmd_record.proofs.Entries.{front_on, one_entry, first_line}
-use Rattle.cmd_record.proofs.MountLemmas.{honest_alike}
+
+-- Images that are alike are left by crashes of disks that began alike.
+
+cell_alike : (base other : Blocks) (log : List Event) (b : ℕ) → base b ≡ other b → cell_of base log b ≡ cell_of other log b
+cell_alike base other log b same = ap (λ (x : List ℕ). cell_of (λ _. x) log b) same
+
+honest_alike : (n : ℕ) (base other : Blocks) (log : List Event) (img : Blocks) → ((b : ℕ) → b < n → base b ≡ other b) → IsHonest n base log img → IsHonest n other log img
+honest_alike n base other log img same h = record {
+  leaves = λ b low. subst (λ (c : Cell). MayHold c (img b)) (cell_alike base other log b (same b low)) (h.leaves b low);
+  unsealed = λ b low torn. h.unsealed b low (subst (λ (c : Cell). IsTorn c (img b)) (sym (cell_alike base other log b (same b low))) torn);
+  like_base = λ b c low below e. h.like_base b c low below (e ∙ ap sha256 (sym (same c below))) ∙ same c below;
+  like_written = h.like_written;
+}
 
 -- Runs joined.
 

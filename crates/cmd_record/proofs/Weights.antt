@@ -36,7 +36,8 @@ use Rattle.cmd_session.specs.Budget.{sync_places}
 use Rattle.cmd_session.specs.Pacing.{OrdersAtOnce, Pace, PacesBy, StepsBy, TellsRing, is_fault}
 use Rattle.cmd_session.specs.Records.{own_records}
 use Rattle.cmd_session.specs.Taking.{is_done_sync, places_wanted}
-use Rattle.cmd_record.specs.Behaving.{pace_at_first, session_by}
+use Rattle.cmd_host.specs.Behaving.{session_by}
+use Rattle.cmd_record.specs.Behaving.{pace_at_first}
 use Rattle.cmd_record.specs.Weights.{blocks_needed, places_by_weight}
 
 -- Places of records.

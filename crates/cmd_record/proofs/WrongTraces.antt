@@ -33,7 +33,8 @@ use Rattle.cmd_session.specs.Budget.{commits, sync_budget}
 use Rattle.cmd_session.specs.Pacing.{FailsSince, OrdersAtOnce, Pace, StepsBy, TellsRing}
 use Rattle.cmd_session.specs.Records.{own_records}
 use Rattle.cmd_session.specs.Taking.{CameIn, Span, makes_point, places_wanted}
-use Rattle.cmd_record.specs.Behaving.{pace_at_first, session_by}
+use Rattle.cmd_host.specs.Behaving.{session_by}
+use Rattle.cmd_record.specs.Behaving.{pace_at_first}
 use Rattle.cmd_record.specs.WrongTraces.{Goes, IsHeard, IsUnwritten, LosesOwn, WaitsForNothing}
 use Rattle.cmd_record.proofs.Weights.{none_written}
 

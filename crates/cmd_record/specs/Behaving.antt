@@ -1,21 +1,13 @@
--- What the disk of a recording does by its manner: its rule of notices, the write that is lost, and how a run over it goes by its log. It is described in docs/TRACE.md.
-use Rattle.std.specs.Prelude.{◌≡◌, ◌⊎◌, ℕ, ◌^◌, ◌<◌, ◌≤◌, true, false, IsTrue, slice_get, List, [], ◌∷◌, take, Option, Some, None}
+-- How a run over the disk of a recording goes by its log, and by the manner of the disk. It is described in docs/TRACE.md.
+use Rattle.std.specs.Prelude.{◌≡◌, ℕ, ◌^◌, ◌<◌, ◌≤◌, true, false, IsTrue, slice_get, List, [], take, Some, None}
 use Rattle.disk_contract.specs.declared.event.Event.{Event}
 use Rattle.disk_contract.specs.Cell.{cell_of, has_lost}
 use Rattle.disk_contract.specs.Manner.{Manner, GoesBy}
 use Rattle.layout_geometry.specs.Geometry.{Geometry}
 use Rattle.layout_journal.specs.declared.header.Header.{Header}
 use Rattle.layout_journal.specs.Formatted.{formatted}
-use Rattle.crash_argument.specs.Opening.{LosesOne}
-use Rattle.crash_argument.specs.Points.{MountedSession}
 use Rattle.engine_checkpoint.specs.Serving.{IsNewestAtRest}
 use Rattle.engine_blocks.specs.State.{data_blocks}
-use Rattle.disk_memory.specs.declared.calls.DiskCall.TheVariants.{Write}
-use Rattle.disk_memory.specs.declared.calls.Fail.{Fail}
-use Rattle.disk_memory.specs.declared.rule.Rule.{Rule}
-use Rattle.disk_memory.specs.declared.rule.Rule.TheVariants as rules
-use Rattle.cmd_words.specs.declared.request.Notices.{Notices}
-use Rattle.cmd_words.specs.declared.request.Notices.TheVariants as words
 use Rattle.lang_tree.specs.declared.command.Cmd.{Cmd}
 use Rattle.lang_tree.specs.declared.command.Refusal.TheVariants.{Spent}
 use Rattle.lang_tree.specs.declared.command.Reply.{Reply}
@@ -24,22 +16,8 @@ use Rattle.lang_tree.specs.Step.{start}
 use Rattle.fs_session.specs.Serving.{RoomOn}
 use Rattle.cmd_session.specs.Pacing.{Pace, PacesBy}
 use Rattle.cmd_session.specs.Taking.{nothing_taken}
-use Rattle.cmd_record.specs.Mounts.{MountsOnce}
-
--- the rule of a disk in memory that the words name
-abbrev pub rule_of : Notices → Rule
-rule_of words.Silent = rules.Silent
-rule_of words.Fifo = rules.Fifo
-rule_of (words.Seed seed) = rules.Seed seed
-
--- the calls that are to fail: the write of this number, or none
-abbrev pub fails_of : Option ℕ → List Fail
-fails_of None = []
-fails_of (Some write) = record { kind = Write; nth = write } ∷ []
-
--- the session of a recording, behind so many events of its mount: the formatted disk has epoch 1, so its records have the next one
-abbrev pub session_by : Geometry → ℕ → MountedSession
-session_by g mounted = record { geom = g; epoch = 2; mounted = mounted; first = 1 }
+use Rattle.cmd_host.specs.Behaving.{session_by}
+use Rattle.cmd_host.specs.Mounts.{MountsOnce}
 
 -- The newest header at rest after these events starts with the record of this number.
 pub record StartsBy (g : Geometry) (front : List Event) (number : ℕ) : Type 0 where
@@ -73,7 +51,3 @@ pub record RunsBy (g : Geometry) (m : Manner) (log : List Event) (mounted : ℕ)
   -- the mount wrote the new session's header, waited for it, and did nothing else
   pub once : MountsOnce g (take mounted log)
   pub unspent : (i : ℕ) → i < 2 ^ 40 → slice_get replies i ≡ Some (Refused Spent) → ⊥
-
--- A mount with nothing to replay fails where a read may, or a poll or a wait; where no first write may come; or where the first may be lost, and then that is its one event.
-abbrev pub MountFails : Manner → List Event → Type 0
-MountFails m log = (m.reads_fail ≡ true) ⊎ ((m.stalls ≡ true) ⊎ (IsTrue (m.refuses []) ⊎ (LosesOne [] log × IsTrue (m.loses []))))

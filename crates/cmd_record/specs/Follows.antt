@@ -1,23 +1,15 @@
--- How far a recording has come after the bytes that it has seen. The contract of `record_lines` says by it how a recording stops; of the rest only proofs and private contracts speak.
-use Rattle.std.specs.Prelude.{◌≡◌, ℕ, ◌+◌, ◌≤◌, List, take, Option, Result, Ok, Err}
+-- What a recording has written as it ends or stops. The contract of `record_lines` says by it how a recording stops; of the rest only proofs and private contracts speak.
+use Rattle.std.specs.Prelude.{◌≡◌, ℕ, ◌+◌, ◌≤◌, List, Option, Result, Ok, Err}
 use Rattle.std.specs.Io.KnownBytes.{Appends}
 use Rattle.base_types.specs.Counts.{Rose}
 use Rattle.lang_tree.specs.declared.command.Cmd.{Cmd}
-use Rattle.engine_blocks.specs.State.{State}
 use Rattle.lang_script.specs.Values.{IsCommand}
 use Rattle.cmd_trace.specs.Contents.{Each}
-use Rattle.lang_lines.specs.Lines.{longest, open_line, whole_commands, commands_of}
-use Rattle.cmd_record.specs.Traces.{IsBrokenOff, ServesBy, Setting}
-use Rattle.cmd_record.specs.Running.{Records}
+use Rattle.lang_lines.specs.Lines.{longest, commands_of}
+use Rattle.cmd_host.specs.Behaving.{Setting}
+use Rattle.cmd_record.specs.Traces.{IsBrokenOff, ServesBy}
 use Rattle.cmd_record.specs.declared.recording.Stop.{Stop}
 use Rattle.cmd_record.specs.declared.recording.Stop.TheVariants.{NoMemory, SinkFault}
-
--- The commands of the whole lines seen are answered, the sink took the text that begins their trace, and the open line is kept, up to one byte more than a line may have.
-pub record Follows (set : Setting) (seen : List ℕ) (before after : Option (List ℕ)) (s : State) (line : List ℕ) : Type 0 where
-  pub body : List ℕ
-  pub records : Records set (whole_commands longest seen) body s
-  pub told : Appends before after body
-  pub kept : line ≡ take (longest + 1) (open_line seen)
 
 -- The sink took a text that breaks off in the trace of these bytes.
 pub record Stopped (set : Setting) (seen : List ℕ) (before after : Option (List ℕ)) : Type 0 where

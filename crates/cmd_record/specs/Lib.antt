@@ -1,8 +1,5 @@
-pub mod Mounts
 pub mod Behaving
 pub mod Traces
-pub mod Disks
-pub mod Mounting
 pub mod Running
 pub mod Follows
 pub mod Reading

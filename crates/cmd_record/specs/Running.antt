@@ -34,9 +34,10 @@ use Rattle.cmd_session.specs.Going.{BeginsByLog, GoesByLog, pace_of, session_at}
 use Rattle.cmd_session.specs.Pacing.{Pace}
 use Rattle.cmd_session.specs.Serving.{HasServed}
 use Rattle.cmd_session.specs.Taking.{nothing_taken}
-use Rattle.cmd_record.specs.Behaving.{pace_at_first, session_by}
-use Rattle.cmd_record.specs.Mounts.{MountsOnce}
-use Rattle.cmd_record.specs.Traces.{BeginsFirst, Serves, ServesBy, Setting, says}
+use Rattle.cmd_host.specs.Behaving.{session_by, Setting}
+use Rattle.cmd_record.specs.Behaving.{pace_at_first}
+use Rattle.cmd_host.specs.Mounts.{MountsOnce}
+use Rattle.cmd_record.specs.Traces.{BeginsFirst, Serves, ServesBy, says}
 
 -- These commands were answered with these replies, at these marks, since a disk that was formatted with this geometry was mounted; and so much is known of the blocks now.
 pub record Ran (g : Geometry) (mounted : ℕ) (cmds : List Cmd) (replies : List Reply) (marks : List ℕ) (s : State) : Type 0 where

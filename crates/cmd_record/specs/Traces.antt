@@ -1,7 +1,6 @@
 -- What the trace of a recording is, whole or broken off. It is described in docs/TRACE.md.
 use Rattle.std.specs.Prelude.{◌≡◌, ℕ, List, ◌++◌}
 use Rattle.disk_contract.specs.declared.event.Event.{Event}
-use Rattle.disk_contract.specs.Manner.{Manner}
 use Rattle.layout_geometry.specs.Geometry.{Geometry, bitmap_blocks}
 use Rattle.layout_journal.specs.Formatted.{formatted}
 use Rattle.crash_stands.specs.Stands.{StandsFor}
@@ -18,12 +17,8 @@ use Rattle.cmd_session.specs.Budget.{SpendsByMarks, budget_of}
 use Rattle.cmd_session.specs.Crashes.{IsCrashConsistent}
 use Rattle.cmd_session.specs.Issued.{IssuesLast}
 use Rattle.lang_lines.specs.Lines.{longest, commands_of}
+use Rattle.cmd_host.specs.Behaving.{Setting}
 use Rattle.cmd_record.specs.Behaving.{RunsBy}
-
--- the disk of a recording: its geometry, and how it behaves
-pub record Setting : Type 0 where
-  pub shape : Geometry
-  pub manner : Manner
 
 -- what the trace of a run on a disk of this geometry says
 abbrev pub says : Geometry → List Event → ℕ → List Cmd → List Reply → List ℕ → Contents

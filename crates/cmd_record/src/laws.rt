@@ -24,8 +24,9 @@ ghost use Rattle.lang_lines.specs.Lines.{longest, commands_of};
 ghost use Rattle.cmd_session.specs.Pacing.{OrdersAtOnce, Pace, PacesBy, StepsBy};
 ghost use Rattle.cmd_session.specs.Records.{own_records};
 ghost use Rattle.cmd_session.specs.Taking.{CameIn, Span, places_wanted};
-ghost use Rattle.cmd_record.specs.Behaving.{IsSureBy, StartsBy, pace_at_first, session_by};
-ghost use Rattle.cmd_record.specs.Traces.{Serves, ServesBy, Setting, IsTrace, contents};
+ghost use Rattle.cmd_host.specs.Behaving.{session_by, Setting};
+ghost use Rattle.cmd_record.specs.Behaving.{IsSureBy, StartsBy, pace_at_first};
+ghost use Rattle.cmd_record.specs.Traces.{Serves, ServesBy, IsTrace, contents};
 ghost use Rattle.cmd_record.specs.Weights.{blocks_needed, places_by_weight};
 ghost use Rattle.cmd_record.specs.WrongTraces.{Goes, IsHeard, IsUnwritten, LosesOwn, WaitsForNothing};
 

@@ -10,7 +10,7 @@ ghost use Rattle.lang_tree.specs.declared.command.Cmd.{Cmd};
 ghost use Rattle.lang_tree.specs.declared.command.Reply.{Reply};
 ghost use Rattle.cmd_record.specs.Running.{BeginsSo, IsAnswered, KnownRun, Ran, RunLaws};
 
-use crate::mounting::{System, the_disk_keeps_to_its_manner};
+use cmd_host::{System, the_disk_keeps_to_its_manner};
 use cmd_session::{
     a_command_goes_by_the_log, a_run_begins_by_the_log, a_run_may_end_at_once,
     the_writes_keep_within_the_budget, the_writes_keep_within_the_budget_at_each_mark,

@@ -28,7 +28,8 @@ use Rattle.cmd_session.specs.Images.{CanBeMounted, HasDamage, StandsForNone, Sta
 use Rattle.cmd_replay.specs.declared.refusal.ReplayRefusal.{ReplayRefusal}
 use Rattle.cmd_replay.specs.declared.refusal.ReplayRefusal.TheVariants.{Choice, Damaged, Spent, NoMemory}
 use Rattle.cmd_replay.specs.Images.{RefusesImage}
-use Rattle.cmd_replay.specs.Mounted.{IsReadable, RefusesMap, resting_disk}
+use Rattle.cmd_host.specs.Listed.{IsReadable}
+use Rattle.cmd_replay.specs.Mounted.{RefusesMap, resting_disk}
 
 -- A store whose disk fails no read.
 

@@ -9,7 +9,6 @@ mod listed;
 mod points;
 mod refusal;
 mod replaying;
-mod text;
 mod walk;
 
 pub use laws::{

@@ -14,17 +14,18 @@ ghost use Rattle.fs_commands.specs.Opened.{blocks_in, used_to};
 ghost use Rattle.fs_session.specs.Sessions.{IsBetween, IsSession};
 ghost use Rattle.cmd_session.specs.Images.{StandsMounted};
 ghost use Rattle.cmd_replay.specs.Images.{RefusesImage};
-ghost use Rattle.cmd_replay.specs.Mounted.{IsReadable, RefusesMap, resting_disk};
+ghost use Rattle.cmd_host.specs.Listed.{IsReadable};
+ghost use Rattle.cmd_replay.specs.Mounted.{RefusesMap, resting_disk};
 
 use crate::refusal::ReplayRefusal;
-use crate::text::TextSink;
 use base_types::NoMemory;
+use cmd_host::listing_text;
 use cmd_session::{ImageDamage, a_damaged_image_stands_for_no_tree};
 use disk_contract::Disk;
 use disk_memory::{Image, MemDisk};
 use engine_store::{Store, StoreRefusal};
 use fs_check::CheckRefusal;
-use fs_commands::{Fs, ListRefusal};
+use fs_commands::Fs;
 use std::alloc::Global;
 
 /// The listing of the tree for which an image stands, once it is mounted in memory.
@@ -108,28 +109,5 @@ fn list_fs(alloc: Global, mut fs: Fs<Store<MemDisk>>) -> Result<Vec<u8>, NoMemor
     requires readable { IsReadable (state_of disk_state (blocks_in fs)) }
     ensures { IfOk result (λ text. (f : Session) → IsSession (state_of disk_state (blocks_in fs)) f → text.items ≡ listing f.tree) }
 {
-    text_of(alloc, &mut fs)
-}
-
-/// The listing of a file system.
-///
-/// # Errors
-/// Out of memory.
-fn text_of(alloc: Global, fs: &mut Fs<Store<MemDisk>>) -> Result<Vec<u8>, NoMemory>
-    requires between { IsBetween true (state_of disk_state (blocks_in fs.old)) (used_to fs.old) }
-    requires going { (state_of disk_state (blocks_in fs.old)).books.stopped ≡ false }
-    requires readable { IsReadable (state_of disk_state (blocks_in fs.old)) }
-    ensures { IfOk result (λ text. (f : Session) → IsSession (state_of disk_state (blocks_in fs.old)) f → text.items ≡ listing f.tree) }
-{
-    let mut out = TextSink::new(alloc);
-    match fs.listing(alloc, &mut out) {
-        Ok(()) => Ok(out.into_text()),
-        Err(ListRefusal::Stopped) => unreachable!(),
-        Err(ListRefusal::ReadFault) => {
-            fs.blocks().disk().lawful();
-            unreachable!()
-        }
-        Err(ListRefusal::SinkFault) => Err(NoMemory),
-        Err(ListRefusal::NoMemory) => Err(NoMemory),
-    }
+    listing_text(alloc, &mut fs)
 }

@@ -16,7 +16,7 @@ use crate::listed::listing_of;
 use crate::points::newest_point;
 use crate::refusal::ReplayRefusal;
 use base_io::{Sink, SinkFault, prefixes_join, push_all};
-use cmd_formatted::formatted_image;
+use cmd_host::formatted_image;
 use cmd_trace_reader::Trace;
 use disk_contract::Event;
 use disk_memory::{Choice, Image, ImageRefusal, MemDisk};

@@ -44,7 +44,7 @@ impl<S: Blocks + Drop> Served<S> {
     ghost use Rattle.fs_files.specs.Effects.{LooksOnly};
     ghost use Rattle.fs_check.specs.Whole.{IsDamaged, OnDamage, fails_by};
     ghost use Rattle.fs_session.specs.Applying.{Applies, PassesTime};
-    ghost use Rattle.fs_commands.specs.Opened.{blocks_in};
+    ghost use Rattle.fs_commands.specs.Opened.{MayFollow, blocks_in};
     ghost use Rattle.cmd_session.specs.Budget.{KeepsBudget, sync_budget, sync_places, writes_of};
     ghost use Rattle.cmd_session.specs.Serving.{HasServed, IsDrawn, IsMountedWith};
 
@@ -130,6 +130,15 @@ impl<S: Blocks + Drop> Served<S> {
         ensures { result.now ≡ blocks_in self.now }
     {
         self.fs.blocks()
+    }
+
+    /// The file system by itself, on which a command may follow.
+    pub fn into_files(self) -> Fs<S>
+        ensures same { result ≡ self }
+        ensures follows { MayFollow S.tells S.state result }
+    {
+        let Served { fs } = self;
+        fs
     }
 
     /// The blocks, given back. What no sync point has is lost.

@@ -3,3 +3,4 @@ mod Parts
 mod Giving
 mod Feeds
 mod Calling
+mod Few

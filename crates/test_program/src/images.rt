@@ -3,7 +3,7 @@
 use crate::texts::{flat, push_number};
 use base_types::limits::BLOCK_LENGTH;
 use base_types::{Block, NoMemory};
-use cmd_formatted::formatted_image;
+use cmd_host::formatted_image;
 use disk_contract::Disk;
 use disk_memory::{Image, Logged, MemDisk};
 use disk_memory_bay::MemBay;

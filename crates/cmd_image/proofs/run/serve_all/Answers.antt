@@ -16,7 +16,7 @@ pub loop-reader-preserved : goal.loop-reader-preserved
 loop-reader-preserved g c = next_serving _ _ _ _ _ _ _ _ c.loop-reader.invariant _ _ _ _ c.serve_next.result c.serve_next.ensures.turns c.serve_next.ensures.source c.serve_next.ensures.sink c.serve_next.ensures.rises (c.in_ok-ending.was ∙ ap Ok c.in_default.is) c.serve_next.ensures.gives c.serve_next.ensures.marks
 
 pub loop-reader-smaller : goal.loop-reader-smaller
-loop-reader-smaller g c = next_smaller _ _ _ _ _ _ _ _ c.loop-reader.invariant _ _ _ _ c.serve_next.result c.serve_next.ensures.turns c.serve_next.ensures.source c.serve_next.ensures.sink c.serve_next.ensures.rises (c.in_ok-ending.was ∙ ap Ok c.in_default.is) c.serve_next.ensures.marks
+loop-reader-smaller g c = next_smaller _ _ _ _ _ _ _ _ c.loop-reader.invariant _ _ _ _ c.serve_next.result c.serve_next.ensures.turns c.serve_next.ensures.source c.serve_next.ensures.sink c.serve_next.ensures.rises (c.all_was_given.ensures.few _ _ _ c.loop-reader.invariant.gives.given) (c.in_ok-ending.was ∙ ap Ok c.in_default.is) c.serve_next.ensures.marks
 
 pub returns-in-Some-clause-runs : goal.returns-in-Some-clause-runs
 returns-in-Some-clause-runs g c = λ first h. next_ends _ _ _ _ _ _ _ _ c.loop-reader.invariant _ _ _ _ c.serve_next.result c.serve_next.ensures.turns c.serve_next.ensures.source c.serve_next.ensures.sink c.serve_next.ensures.rises c.in-Some.ending (c.in_ok-ending.was ∙ ap Ok c.in-Some.is) first h

@@ -1,25 +1,7 @@
--- The digest of what the sink kept.
-use Rattle.std.proofs.Common.{◌≡◌, ◌++◌, ◌<◌, true, Err, ap, refl, subst, ◌∙◌}
+-- The digest of the listing.
+use Rattle.std.proofs.Common.{ap, ◌∙◌}
 use Rattle.base_types.specs.Seal.{sha256}
-use Rattle.disk_memory.specs.MemDisk.{MemDiskState, state_of as disk_state}
-use Rattle.engine_store.specs.StoreOf.{disk_in, state_of}
-use Rattle.fs_files.specs.Effects.{LooksOnly}
-use Rattle.fs_commands.specs.Listing.{ended_by_read}
-use Rattle.fs_commands.specs.Opened.{blocks_in}
-use Rattle.fs_commands.specs.declared.listing.ListRefusal.{ListRefusal}
-use Rattle.lang_tree.specs.Listing.{listing}
-use Rattle.cmd_load.specs.Serving.{TextState}
-use Rattle.cmd_load.proofs.Mounts.{never_unread}
 use Rattle.cmd_load.proofs.listed.digest_of.Goals as goal
 
-pub returns-in-Ok : goal.returns-in-Ok
-returns-in-Ok c = λ f is. c.digest.ensures ∙ ap sha256 (c.text.ensures ∙ c.in-Ok.ensures.all refl f is ∙ ap (λ (s : TextState). s.text ++ listing f.tree) c.new-out.ensures)
-
--- no read of the disk fails
-pub unreachable-requires-in-Err-ReadFault : goal.unreachable-requires-in-Err-ReadFault
-unreachable-requires-in-Err-ReadFault c =
-    let s = state_of disk_state (blocks_in c.args.fs.now) in
-    let store = blocks_in c.listing.new.self in
-    let looks : LooksOnly true true s (state_of disk_state store) = subst (λ (why : ListRefusal). LooksOnly true (ended_by_read {T = Unit {0}} (Err why)) s (state_of disk_state store)) c.in-Err-ReadFault.field-0-is c.in-Err-ReadFault.ensures.looks in
-    let is : c.disk.result.now ≡ disk_in store = c.disk.ensures.value ∙ ap (λ x. disk_in x) c.blocks-in-Err-ReadFault.ensures in
-    never_unread s (state_of disk_state store) c.requires.readable looks (subst (λ (d : MemDiskState). 0 < (disk_state d).read_faults → (disk_state d).manner.reads_fail ≡ true) is (c.lawful.ensures refl).reads)
+pub returns : goal.returns
+returns c = λ f is. c.digest.ensures ∙ ap sha256 (c.as_slice.ensures.value ∙ c.in_ok-text.ensures f is)

@@ -1,8 +1,8 @@
 -- Where no memory is found before the mount has ended, nothing is written.
 use Rattle.std.proofs.Common.{subst}
-use Rattle.cmd_record.specs.Disks.{setting_on}
-use Rattle.cmd_record.specs.Mounting.{Mounts}
-use Rattle.cmd_record.specs.declared.mounting.Mounted.{Mounted}
+use Rattle.cmd_host.specs.Disks.{setting_on}
+use Rattle.cmd_host.specs.Mounting.{Mounts}
+use Rattle.cmd_host.specs.declared.mounting.Mounted.{Mounted}
 use Rattle.cmd_program.proofs.ProgramLemmas.{never_begun}
 use Rattle.cmd_program.proofs.program.record.Goals as goal
 

@@ -1,6 +1,7 @@
 use Rattle.layout_journal.specs.Formatted.{formatted}
 use Rattle.lang_tree.specs.Step.{start}
-use Rattle.cmd_record.specs.Behaving.{pace_at_first, session_by}
+use Rattle.cmd_host.specs.Behaving.{session_by}
+use Rattle.cmd_record.specs.Behaving.{pace_at_first}
 use Rattle.cmd_record.proofs.laws.the_last_point_stands_where_accepted_writes_do.Goals as goal
 
 pub returns : goal.returns

@@ -1,0 +1,7 @@
+mod Images
+mod Mounts
+mod Sureness
+mod FormattedFound
+mod MountLemmas
+mod OpenLemmas
+mod Unread
