@@ -13,10 +13,11 @@ ghost use Rattle.layout_geometry.specs.Geometry.{bitmap_blocks};
 ghost use Rattle.layout_bytes.specs.Bitmap.{bit_in};
 ghost use Rattle.crash_stands.specs.Stands.{AreSound};
 
+use crate::BlockDamage;
+use crate::block_damage::BlocksRefusal;
 use crate::laws::broken_blocks_are_not_sound;
 use crate::meeting::first_unmet;
 use crate::table::check_table;
-use crate::{BlockDamage, BlocksRefusal};
 use base_types::limits::BLOCK_LENGTH;
 use base_types::{Block, NoMemory, ReadFault};
 use engine_blocks::Blocks;

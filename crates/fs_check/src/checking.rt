@@ -7,10 +7,11 @@ ghost use Rattle.engine_blocks.specs.Running.{HasNoBare};
 ghost use Rattle.fs_files.specs.Effects.{LooksOnly};
 ghost use Rattle.fs_check.specs.Whole.{IsDamaged, OnDamage, fails_reading};
 
-use crate::{
-    BlockDamage, BlocksRefusal, TreeDamage, TreeRefusal, broken_blocks_are_not_sound, check_blocks,
-    check_tree,
-};
+use crate::block_damage::BlocksRefusal;
+use crate::blocks::check_blocks;
+use crate::damage::TreeRefusal;
+use crate::tree::check_tree;
+use crate::{BlockDamage, TreeDamage, broken_blocks_are_not_sound};
 use engine_blocks::Blocks;
 use std::alloc::Global;
 use std::error::Error;

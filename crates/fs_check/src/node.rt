@@ -19,8 +19,9 @@ ghost use Rattle.layout_bytes.specs.Bytes.{are_zeros};
 ghost use Rattle.layout_bytes.specs.Node.{node_bytes, node_fits, node_of};
 ghost use Rattle.crash_stands.specs.Files.{joined, used_node};
 
+use crate::BlockDamage;
+use crate::block_damage::BlocksRefusal;
 use crate::meeting::meet_places;
-use crate::{BlockDamage, BlocksRefusal};
 use base_types::limits::BLOCK_LENGTH;
 use base_types::{Block, ReadFault};
 use engine_blocks::Blocks;

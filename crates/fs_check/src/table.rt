@@ -7,7 +7,7 @@ ghost use Rattle.fs_files.specs.Effects.{LooksOnly};
 ghost use Rattle.fs_check.specs.Meeting.{IsCheckedTo, MayCheck};
 ghost use Rattle.layout_geometry.specs.Geometry.{table_start};
 
-use crate::BlocksRefusal;
+use crate::block_damage::BlocksRefusal;
 use crate::node::check_node;
 use base_types::Block;
 use base_types::limits::BLOCK_LENGTH;
