@@ -1,5 +1,5 @@
 -- What a record of three ring places and one fresh block is as blocks to be written, and what its steps leave of the disk.
-use Rattle.std.specs.Prelude.{◌≡◌, ◌≢◌, ℕ, ◌+◌, List, [], ◌∷◌, length, slice_get, Some, None, Result, Ok, Err, ◌⊎◌, ◌-◌, ◌++◌}
+use Rattle.std.specs.Prelude.{◌≡◌, ◌≢◌, ℕ, ◌<◌, ◌+◌, List, [], ◌∷◌, length, slice_get, Some, None, Result, Ok, Err, ◌⊎◌, ◌-◌, ◌++◌}
 use Rattle.base_types.specs.Seal.{Blocks}
 use Rattle.disk_contract.specs.declared.event.Event.{Event}
 use Rattle.disk_contract.specs.declared.event.Event.TheVariants.{Wrote, Lost, Noticed}
@@ -17,6 +17,13 @@ use Rattle.crash_argument.specs.Points.{MountedSession, IsSafe, IsSafeOn}
 use Rattle.crash_argument.specs.PipelineData.{PipelineData, DataAgreeOn, NeedsCheckpoint, next_header, with_committed, with_pending, with_durable, with_batch, with_home, with_sent, with_placed}
 use Rattle.crash_argument.specs.Counts.{WriteCounts, AreWithinSum, AreCounted, AreAtMost, share, with_point, with_part, with_home_write, with_header_write}
 use Rattle.crash_argument.specs.Recording.{IsInLedger}
+
+-- the blocks of the record go to blocks of a disk that has so many
+pub record AreOnDisk (o : OneRecord) (blocks : ℕ) : Type 0 where
+  pub fresh : o.fresh_block < blocks
+  pub descriptor : o.descriptor_block < blocks
+  pub payload : o.payload_block < blocks
+  pub commit : o.commit_block < blocks
 
 -- these are the blocks of the record, and where they go
 pub record IsWrittenAs (l : Ledger) (w : WrittenRecord) (o : OneRecord) : Type 0 where

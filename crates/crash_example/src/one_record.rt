@@ -11,7 +11,7 @@ ghost use Rattle.crash_argument.specs.PipelineData.{PipelineData, DataAgreeOn, A
 ghost use Rattle.crash_argument.specs.Points.{MountedSession, IsSafeOn, StaysSafe};
 ghost use Rattle.crash_argument.specs.Recording.{IsNextRecord};
 ghost use Rattle.crash_argument.specs.Steps.{NoneIsBeingWritten};
-ghost use Rattle.crash_example.specs.OneRecord.{HasNoRecord, KeepsCount, IsWrittenAs, IsSettledBy, RecordLeaves, KnownLeaves, ReleasedLeaves};
+ghost use Rattle.crash_example.specs.OneRecord.{AreOnDisk, HasNoRecord, KeepsCount, IsWrittenAs, IsSettledBy, RecordLeaves, KnownLeaves, ReleasedLeaves};
 ghost use Rattle.crash_example.specs.OneRecord.{AddsInOrder, AddsAmidNotices, writes_of, writes_of_life};
 
 use crate::settling::{checkpoint, make_sure};
@@ -61,10 +61,7 @@ pub fn serve_one_record<D: Disk>(
     record: &OneRecord,
     settling: &Settling,
 ) -> Result<(), DiskFault>
-    requires fresh { «record».now.fresh_block < (D.state disk.old).blocks }
-    requires descriptor { «record».now.descriptor_block < (D.state disk.old).blocks }
-    requires payload { «record».now.payload_block < (D.state disk.old).blocks }
-    requires commit { «record».now.commit_block < (D.state disk.old).blocks }
+    requires blocks { AreOnDisk «record».now (D.state disk.old).blocks }
     requires home { settling.now.home_block < (D.state disk.old).blocks }
     requires slot { settling.now.slot < 2 }
     requires slots { 2 ≤ (D.state disk.old).blocks }
@@ -89,10 +86,7 @@ pub(crate) fn settle_one_record<D: Disk>(
     record: &OneRecord,
     settling: &Settling,
 ) -> Result<(), DiskFault>
-    requires fresh { «record».now.fresh_block < (D.state disk.old).blocks }
-    requires descriptor { «record».now.descriptor_block < (D.state disk.old).blocks }
-    requires payload { «record».now.payload_block < (D.state disk.old).blocks }
-    requires commit { «record».now.commit_block < (D.state disk.old).blocks }
+    requires blocks { AreOnDisk «record».now (D.state disk.old).blocks }
     requires home { settling.now.home_block < (D.state disk.old).blocks }
     requires slot { settling.now.slot < 2 }
     requires slots { 2 ≤ (D.state disk.old).blocks }
@@ -112,10 +106,7 @@ pub(crate) fn settle_one_record<D: Disk>(
 
 /// Writes the blocks of a record, the commit block last, and gives their tickets.
 pub(crate) fn write_record<D: Disk>(disk: &mut D, record: &OneRecord) -> Result<[u64; 4], DiskFault>
-    requires fresh { «record».now.fresh_block < (D.state disk.old).blocks }
-    requires descriptor { «record».now.descriptor_block < (D.state disk.old).blocks }
-    requires payload { «record».now.payload_block < (D.state disk.old).blocks }
-    requires commit { «record».now.commit_block < (D.state disk.old).blocks }
+    requires blocks { AreOnDisk «record».now (D.state disk.old).blocks }
     ensures leaves { IsTrue D.tells → (s : MountedSession) (l : Ledger) (p : PipelineData) (w : WrittenRecord) (m : Blocks) (t floor : ℕ)
         → IsWrittenAs l w «record».now → IsNextRecord l w m
         → IsSafeOn s (D.state disk.old) l t floor → DataAgreeOn (D.state disk.old) l p → NoneIsBeingWritten (cells_of (D.state disk.old)) l
@@ -149,10 +140,7 @@ pub(crate) fn write_and_wait<D: Disk>(
     disk: &mut D,
     record: &OneRecord,
 ) -> Result<[u64; 4], DiskFault>
-    requires fresh { «record».now.fresh_block < (D.state disk.old).blocks }
-    requires descriptor { «record».now.descriptor_block < (D.state disk.old).blocks }
-    requires payload { «record».now.payload_block < (D.state disk.old).blocks }
-    requires commit { «record».now.commit_block < (D.state disk.old).blocks }
+    requires blocks { AreOnDisk «record».now (D.state disk.old).blocks }
     ensures known { IsTrue D.tells → (s : MountedSession) (l : Ledger) (p : PipelineData) (w : WrittenRecord) (m : Blocks) (t floor : ℕ)
         (freed : List ℕ) → IsWrittenAs l w «record».now → IsNextRecord l w m
         → IsSafeOn s (D.state disk.old) l t floor → DataAgreeOn (D.state disk.old) l p → NoneIsBeingWritten (cells_of (D.state disk.old)) l

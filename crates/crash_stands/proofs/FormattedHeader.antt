@@ -1,5 +1,5 @@
 -- The header of a formatted disk has the geometry that it was formatted with.
-use Rattle.std.proofs.Common.{◌≡◌, ℕ, zero, suc, ◌<◌, ◌≤◌, Bool, true, false, replicate, Option, Some, None, unwrap_or, sym, subst, ap, ◌∙◌, arith}
+use Rattle.std.proofs.Common.{◌≡◌, ℕ, zero, suc, ◌<◌, ◌≤◌, Bool, true, false, replicate, Some, None, unwrap_or, sym, subst, ap, ◌∙◌, arith}
 use Rattle.std.proofs.lemmas.Option.{none-some}
 use Rattle.base_types.specs.Seal.{Blocks, is_sealed}
 use Rattle.layout_geometry.specs.Geometry.{Geometry, IsGeometry, geometry_fits}
@@ -13,14 +13,14 @@ use Rattle.lang_tree.specs.Tree.{Tree}
 use Rattle.crash_stands.specs.Stands.{IsTreeOf, StandsFor}
 use Rattle.crash_stands.proofs.FormattedBlocks.{IsFormatted}
 
-when_inner : {A : Type 0} (t : Bool) (o : Option A) (y : A) → when t o ≡ Some y → o ≡ Some y
-when_inner true o y e = e
-when_inner false o y e = cc
-
 -- zeros read as no header: the first of them is no letter
 zeros_read : (n : ℕ) (h : Header) → header_of n (replicate 1024 0) ≡ Some h → ⊥
 unfolding header_of
-zeros_read n h e = none-some h (when_inner (is_sealed (replicate 1024 0)) None h e)
+zeros_read n h e = never (is_sealed (replicate 1024 0)) e
+  where
+    never : (sealed : Bool) → when sealed None ≡ Some h → ⊥
+    never true e = none-some h e
+    never false e = none-some h e
 
 -- 0 and 1 have eight bytes at most
 small : (x : ℕ) → x ≤ 1 → fits_in 8 x

@@ -27,9 +27,6 @@ no_end : (p : List (List ℕ)) (a : List ℕ) → p ++ a ∷ [] ≡ [] → ⊥
 no_end [] a e = cc
 no_end (x ∷ p) a e = cc
 
-slots_same : (slots others : List Slot) → Some (ADir slots) ≡ Some (ADir others) → slots ≡ others
-slots_same slots others e = cc
-
 number_same : (k l : ℕ) → Some k ≡ Some l → k ≡ l
 number_same k l e = cc
 
@@ -65,4 +62,6 @@ module _ (limit : ℕ) (m : Inodes) (t : Tree) (is : IsMapOf limit m t) where
       let q = named_at l j others u other at_j in
       let one = same_from_push p.0 q.0 s.name u.name (is.shows.only n below (q.0 ++ u.name ∷ []) dir_below (q.1.1 ∙ ap Some to_u) (p.0 ++ s.name ∷ []) (p.1.1 ∙ ap Some to_s)) in
       let same : k ≡ l = number_same k l (sym p.1.0 ∙ ap (walk (entries_of m) 1) one.0 ∙ q.1.0) in
-      (same, is.distinct l others other i j s u (subst (λ list. slice_get list i ≡ Some s) (slots_same slots others (sym dir ∙ ap m same ∙ other)) at_i) at_j one.1)
+      let found : Some (ADir slots) ≡ Some (ADir others) = sym dir ∙ ap m same ∙ other in
+      let lists : slots ≡ others = cc in
+      (same, is.distinct l others other i j s u (subst (λ list. slice_get list i ≡ Some s) lists at_i) at_j one.1)

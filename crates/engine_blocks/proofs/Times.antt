@@ -22,10 +22,6 @@ kept old mid new a b m i = record { point = i.point; from = i.from; upto = omega
 lower : (old mid new : State) → Advances old mid → (m : Blocks) → HoldsPointBetween new mid.books.floor new.books.point m → HoldsPointBetween new old.books.floor new.books.point m
 lower old mid new a m i = record { point = i.point; from = omega (arith, a.floor, i.from); upto = i.upto; map = i.map; holds = i.holds; is = i.is }
 
--- a log that goes on has no fewer events
-later : (old new : List Event) → Grows old new → length old ≤ length new
-later old new a = omega (arith, ap (λ (es : List Event). length es) a.log, length-append old a.more)
-
 -- a log that goes on goes on from where it had come to
 grows_on : (old mid new : List Event) → Grows old mid → Grows mid new → Grows old new
 grows_on old mid new a b = record { more = a.more ++ b.more; log = b.log ∙ ap (λ (es : List Event). es ++ b.more) a.log ∙ append_assoc old a.more b.more }
@@ -52,11 +48,11 @@ pub advances_on : (old mid new : State) → Advances old mid → Advances mid ne
 advances_on old mid new a b = record {
   base = b.base ∙ a.base;
   grows = grows_on old.crash.log mid.crash.log new.crash.log a.grows b.grows;
-  window = λ m left. ⊎_elim (λ was. ∥∥₁_map (a.window m was) (kept old mid new a b m)) (λ late. ∥∥₁_map late (lower old mid new a m)) (b.earlier (length old.crash.log) m (later old.crash.log mid.crash.log a.grows) left);
+  window = λ m left. ⊎_elim (λ was. ∥∥₁_map (a.window m was) (kept old mid new a b m)) (λ late. ∥∥₁_map late (lower old mid new a m)) (b.earlier (length old.crash.log) m later left);
   earlier = λ t m before left. ⊎_elim
       (λ was. ⊎_elim inl (λ point. inr (∥∥₁_map point (kept old mid new a b m))) (a.earlier t m before was))
       (λ late. inr (∥∥₁_map late (lower old mid new a m)))
-      (b.earlier t m (omega (arith, before, later old.crash.log mid.crash.log a.grows)) left);
+      (b.earlier t m (omega (arith, before, later)) left);
   point = λ p m low. (λ is. (a.point p m low).0 ((b.point p m (omega (arith, low, a.last))).0 is), λ is. (b.point p m (omega (arith, low, a.last))).1 ((a.point p m low).1 is));
   holds = λ img m. (λ is. (a.holds img m).0 ((b.holds img m).0 is), λ is. (b.holds img m).1 ((a.holds img m).1 is));
   sure = λ log p. (λ is. (a.sure log p).0 ((b.sure log p).0 is), λ is. (b.sure log p).1 ((a.sure log p).1 is));
@@ -65,6 +61,9 @@ advances_on old mid new a b = record {
   floor = omega (arith, a.floor, b.floor);
   awaits = λ p t waits. ⊎_elim (a.awaits p t) (λ since. inr (since_before old mid a p t since)) (b.awaits p t waits);
 }
+  where
+    later : length old.crash.log ≤ length mid.crash.log
+    later = omega (arith, ap (λ (es : List Event). length es) a.grows.log, length-append old.crash.log a.grows.more)
 
 -- nothing is issued, twice
 pub nothing_on : (old mid new : State) → IssuesNothing old mid → IssuesNothing mid new → IssuesNothing old new
@@ -80,25 +79,25 @@ nothing_on old mid new a b = record {
   awaits = λ p t. (λ is. (a.awaits p t).0 ((b.awaits p t).0 is), λ is. (b.awaits p t).1 ((a.awaits p t).1 is));
 }
 
-pub nothing_not : (s : State) → IssuesNothing s s
-nothing_not s = record {
-  base = refl;
-  log = refl;
-  point = λ p m. (λ is. is, λ is. is);
-  left = λ t m. (λ is. is, λ is. is);
-  holds = λ img m. (λ is. is, λ is. is);
-  sure = λ log p. (λ is. is, λ is. is);
-  records = records_not s.crash.records;
-  issued = λ m. (λ is. is, λ is. is);
-  awaits = λ p t. (λ is. is, λ is. is);
-}
-
 -- the disk is left alone, twice
 pub leaves_on : (tells : Bool) (old mid new : State) → LeavesDisk tells old mid → LeavesDisk tells mid new → LeavesDisk tells old new
 leaves_on tells old mid new a b = record { counts = b.counts ∙ a.counts; crash = λ t. nothing_on old mid new (a.crash t) (b.crash t) }
 
 pub leaves_not : (tells : Bool) (s : State) → LeavesDisk tells s s
-leaves_not tells s = record { counts = refl; crash = λ t. nothing_not s }
+leaves_not tells s = record {
+  counts = refl;
+  crash = λ t. record {
+    base = refl;
+    log = refl;
+    point = λ p m. (λ is. is, λ is. is);
+    left = λ t m. (λ is. is, λ is. is);
+    holds = λ img m. (λ is. is, λ is. is);
+    sure = λ log p. (λ is. is, λ is. is);
+    records = records_not s.crash.records;
+    issued = λ m. (λ is. is, λ is. is);
+    awaits = λ p t. (λ is. is, λ is. is);
+  };
+}
 
 -- a call that issues nothing is one in which time goes on, if the points' numbers stay
 pub nothing_advances : (old new : State) → IsTold old → new.books.point ≡ old.books.point → new.books.floor ≡ old.books.floor → IssuesNothing old new → Advances old new

@@ -1,6 +1,7 @@
 -- The test tells the blocks that are covered and live after the batch, and no others.
-use Rattle.std.proofs.Common.{◌≡◌, ⊎_elim, ℕ, zero, suc, ◌+◌, ◌<◌, ◌&&◌, ◌||◌, nat_le, nat_lt, Bool, true, false, if◌then◌else◌, List, [], ◌∷◌, ◌++◌, length, slice_get, Option, Some, None, refl, sym, ◌∙◌, ap, arith, length-append, length-drop, length-take, take, drop}
+use Rattle.std.proofs.Common.{◌≡◌, ⊎_elim, ℕ, suc, ◌+◌, ◌<◌, ◌&&◌, ◌||◌, nat_le, nat_lt, Bool, true, false, if◌then◌else◌, List, [], ◌∷◌, ◌++◌, length, slice_get, Option, Some, None, refl, sym, ◌∙◌, ap, arith, length-append, length-drop, length-take, take, drop}
 use Rattle.std.proofs.lemmas.Bool.{false≢true, cases_lt, lt-ltb, cond-true, cond-false}
+use Rattle.std.proofs.lemmas.List.{take-append-drop}
 use Rattle.base_types.specs.Seal.{Blocks}
 use Rattle.disk_contract.specs.declared.event.Event.{Event}
 use Rattle.layout_geometry.specs.Geometry.{Geometry, data_start, bitmap_start}
@@ -25,12 +26,6 @@ where_none false = refl
 -- a block before the data is live in every map, or in none
 table_lives : (g : Geometry) (m q : Blocks) (b : ℕ) → b < data_start g → is_live g m b ≡ is_live g q b
 table_lives g m q b low = ap (λ v. nat_le (bitmap_start g) b && (nat_lt b g.n && (v || is_set g m b))) (lt-ltb b (data_start g) low) ∙ sym (ap (λ v. nat_le (bitmap_start g) b && (nat_lt b g.n && (v || is_set g q b))) (lt-ltb b (data_start g) low))
-
-get_taken : {A : Type 0} (n : ℕ) (xs : List A) (i : ℕ) (x : A) → slice_get (take n xs) i ≡ Some x → slice_get xs i ≡ Some x
-get_taken zero xs i x e = cc
-get_taken (suc n) [] i x e = cc
-get_taken (suc n) (y ∷ xs) zero x e = e
-get_taken (suc n) (y ∷ xs) (suc i) x e = get_taken n xs i x e
 
 module _ (l : Ledger) (new : FreshAreNew l) (freed : List (List ℕ)) (are : AreFreedBy l freed) (b : ℕ) where
   abbrev live : ℕ → Bool
@@ -103,7 +98,7 @@ module _ (base : Blocks) (log : List Event) (l : Ledger) (keeps : IsConsistentWi
           (here, omega (arith, numbered base log l keeps k.new (p.placed + i) w here))
 
       lists : (i : ℕ) (f : List ℕ) → slice_get (take p.batch (drop p.placed freed)) i ≡ Some f → slice_get freed (p.placed + i) ≡ Some f
-      lists i f is = sym (get_drop p.placed freed i) ∙ get_taken p.batch (drop p.placed freed) i f is
+      lists i f is = sym (get_drop p.placed freed i) ∙ ap (λ (l : List (List ℕ)). slice_get l i) (sym (take-append-drop p.batch (drop p.placed freed))) ∙ get_front (take p.batch (drop p.placed freed)) (drop p.batch (drop p.placed freed)) i f is
 
   -- what the test finds has to go home
   pub test_needs : (x : List ℕ) → goes_home None k.batch (take p.batch (drop p.placed freed)) b ≡ Some x → NeedsCheckpoint l k.batch b x
