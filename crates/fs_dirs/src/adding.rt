@@ -9,7 +9,9 @@ ghost use Rattle.fs_dirs.specs.Changing.{AddsSlot};
 use crate::changing::slot_text;
 use crate::lookup::count_slots;
 use engine_blocks::{Blocks, calls_compose};
-use fs_files::{Draft, FileRefusal, a_directory_has_whole_slots, a_file_has_its_blocks};
+use fs_files::{
+    Draft, FileRefusal, a_directory_has_whole_slots, a_file_has_its_blocks, settlings_add_up,
+};
 use fs_inodes::slots_follow_the_bytes;
 use layout_bytes::{SLOT_LENGTH, Slot};
 use std::alloc::Global;
@@ -36,6 +38,7 @@ pub fn add_slot<S: Blocks>(
     a_directory_has_whole_slots::<S>();
     a_file_has_its_blocks::<S>();
     slots_follow_the_bytes();
+    settlings_add_up();
     let Some(count) = count_slots(draft, blocks, dir)? else {
         return Ok(());
     };

@@ -11,7 +11,7 @@ ghost use Rattle.fs_files.specs.Effects.{LooksOnly};
 ghost use Rattle.fs_files.specs.Calls.{files_in, IsUsed, LookRefused};
 ghost use Rattle.fs_dirs.specs.Directories.{inodes_in, slot_count, Finds, IsNumber};
 ghost use Rattle.fs_dirs.specs.Reading.{LooksForName};
-ghost use Rattle.fs_dirs.specs.Reading.{MayRead, MayLook, MayReadBlocks, HasSlots};
+ghost use Rattle.fs_dirs.specs.Reading.{MayRead, MayReadBlocks, HasSlots};
 
 use crate::block::{SLOTS_IN_BLOCK, ZEROS, find_in, read_slots};
 use base_types::{Name, ReadFault};

@@ -1,11 +1,14 @@
 //! Laws of drafts and of the files in them, each a function that changes nothing: what a draft is before
 //! anything was done, how many blocks a file has, and how many bytes a directory.
 
-ghost use Rattle.std.specs.Prelude.{◌≡◌, ◌≤◌, ◌+◌, ◌-◌, ◌*◌, ◌/◌, ◌%◌, ◌^◌, ℕ, IsTrue, List, length, Some};
+ghost use Rattle.std.specs.Prelude.{◌≡◌, ◌≤◌, ◌+◌, ◌-◌, ◌*◌, ◌/◌, ◌%◌, ◌^◌, ℕ, Bool, false, IsTrue, List, length, Some};
+ghost use Rattle.engine_blocks.specs.Crashes.{Advances};
 ghost use Rattle.engine_blocks.specs.Running.{HasNoBare};
+ghost use Rattle.engine_blocks.specs.State.{State};
 ghost use Rattle.fs_files.specs.Bytes.{blocks_for, met};
 ghost use Rattle.fs_files.specs.Calls.{files_in, places_in, places_of};
 ghost use Rattle.fs_files.specs.Drafts.{DraftState, nothing_drafted};
+ghost use Rattle.fs_files.specs.Effects.{LooksOnly, LooksAndSettles};
 ghost use Rattle.fs_files.specs.Sound.{IsDraftOf};
 ghost use Rattle.layout_bytes.specs.declared.node.NodeKind.TheVariants.{Dir};
 ghost use Rattle.crash_stands.specs.Files.{FileNode, files_of};
@@ -50,4 +53,14 @@ pub fn a_directory_has_whole_slots<S: Blocks>()
 pub fn bytes_lie_in_blocks()
     ensures count { (lo hi : ℕ) (places : List ℕ) → hi ≤ 1024 * length places → length (met lo hi places) ≡ blocks_for hi - lo / 1024 }
     ensures most { (lo hi : ℕ) (places : List ℕ) → length (met lo hi places) ≤ blocks_for hi - lo / 1024 }
+{}
+
+/// A call that only looked at blocks is one that may have settled; and such a call that failed nowhere, with another
+/// after it, is one.
+pub fn settlings_add_up()
+    ensures looks { (tells failed : Bool) (s t : State) → s.books.stopped ≡ false → LooksOnly tells failed s t → (IsTrue tells → Advances s t)
+        → LooksAndSettles tells failed false s t }
+    ensures both { (tells read_failed failed : Bool) (s t u : State) → s.books.geom ≡ t.books.geom → LooksAndSettles tells false false s t
+        → LooksAndSettles tells read_failed failed t u → (IsTrue tells → Advances s t → Advances t u → Advances s u)
+        → u.books.turns ≤ s.books.turns + 262144 → LooksAndSettles tells read_failed failed s u }
 {}

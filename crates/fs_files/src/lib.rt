@@ -25,7 +25,7 @@ pub use draft::Draft;
 pub use finish::a_sync_may_follow;
 pub use laws::{
     a_directory_has_whole_slots, a_draft_begins, a_file_fits_the_disk, a_file_has_its_blocks,
-    bytes_lie_in_blocks,
+    bytes_lie_in_blocks, settlings_add_up,
 };
 pub use look::FileFacts;
 pub use node_blocks::NodeBlocks;
