@@ -1,5 +1,5 @@
 -- A store whose disk fails no read.
-use Rattle.std.proofs.Common.{◌≡◌, ◌+◌, ◌<◌, true, true≢false, sym, ap, ◌∙◌, arith}
+use Rattle.std.proofs.Common.{◌≡◌, ◌<◌, true, true≢false, sym, ap, ◌∙◌, arith}
 use Rattle.engine_blocks.specs.State.{State, Ticking}
 use Rattle.fs_files.specs.Effects.{LooksOnly}
 use Rattle.cmd_host.specs.Listed.{IsReadable}

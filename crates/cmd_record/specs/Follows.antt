@@ -1,5 +1,5 @@
 -- What a recording has written as it ends or stops. The contract of `record_lines` says by it how a recording stops; of the rest only proofs and private contracts speak.
-use Rattle.std.specs.Prelude.{◌≡◌, ℕ, ◌+◌, ◌≤◌, List, Option, Result, Ok, Err}
+use Rattle.std.specs.Prelude.{ℕ, ◌≤◌, List, Option, Result, Ok, Err}
 use Rattle.std.specs.Io.KnownBytes.{Appends}
 use Rattle.base_types.specs.Counts.{Rose}
 use Rattle.lang_tree.specs.declared.command.Cmd.{Cmd}
