@@ -2,3 +2,4 @@ pub mod Name
 pub mod Runs
 pub mod Seal
 pub mod Counts
+pub mod Draws

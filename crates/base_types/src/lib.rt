@@ -1,11 +1,13 @@
 //! What every other crate names: the name of a directory entry, a list of bytes, a block with its digest
-//! and its seal, lists of block numbers and of runs, the error of being out of memory, and the limits. It knows no tree, no
+//! and its seal, lists of block numbers and of runs, draws of a seed, the error of being out of memory, and the limits. It knows no tree, no
 //! disk, no layout of a block but its seal, and no text but that of a name. The limits are described in
 //! docs/TREE.md, docs/SCRIPT.md and docs/LAYOUT.md.
 #![tactic(auto)]
 
 mod block;
 mod bytes;
+mod draw_laws;
+mod draws;
 pub mod limits;
 mod memory;
 mod name;
@@ -14,6 +16,8 @@ mod words;
 
 pub use block::{Block, digest, is_sealed, seal};
 pub use bytes::Bytes;
+pub use draw_laws::{draws_have_31_bits, seed_one_gives_these_draws};
+pub use draws::Draws;
 pub use memory::NoMemory;
 pub use name::Name;
 pub use places::{Places, Run, RunList};

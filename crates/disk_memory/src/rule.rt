@@ -5,7 +5,7 @@ ghost use Rattle.disk_memory.specs.Log.{open_tickets};
 ghost use Rattle.disk_memory.specs.MemDisk.{by_rule, polled, turned, drawn_ticket};
 
 use crate::log::Log;
-use base_draw::Draws;
+use base_types::Draws;
 
 /// By which rule a poll finds its notice among the tickets of accepted writes that have none.
 #[derive(Clone, Copy)]

@@ -1,6 +1,6 @@
 -- The commands of a large run, which a seed decides. They are described in docs/LOADS.md.
 use Rattle.std.specs.Prelude.{ℕ, zero, suc, ◌+◌, ◌/◌, ◌%◌, ◌==◌, if◌then◌else◌, List, [], ◌∷◌, slice_index_or}
-use Rattle.base_draw.specs.Draws.{next_state, drawn, draws}
+use Rattle.base_types.specs.Draws.{next_state, drawn, draws}
 use Rattle.lang_tree.specs.declared.command.Cmd.{Cmd}
 use Rattle.lang_tree.specs.declared.command.Cmd.TheVariants as commands
 use Rattle.lang_load.specs.declared.kind.Kind.{Kind}

@@ -1,12 +1,11 @@
 //! A row of commands on its way. Each is made of the next draws of the seed.
 
 ghost use Rattle.std.specs.Prelude.{◌≡◌, ◌<◌, ◌%◌, IfOk, OnOk, OnErr};
-ghost use Rattle.base_draw.specs.Draws.{next_state, drawn};
+ghost use Rattle.base_types.specs.Draws.{next_state, drawn};
 ghost use Rattle.lang_load.specs.Load.{name, path, next_command, state_behind};
 
 use crate::kind::{Kind, kind_of};
-use base_draw::Draws;
-use base_types::{Bytes, Name, NoMemory};
+use base_types::{Bytes, Draws, Name, NoMemory};
 use lang_tree::{Cmd, Path};
 use std::alloc::Global;
 use std::marker::Model;

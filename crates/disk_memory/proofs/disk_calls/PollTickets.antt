@@ -4,7 +4,7 @@ use Rattle.std.specs.List.{All, slice_get}
 use Rattle.std.proofs.lemmas.Bool.{both_ways, not-true}
 use Rattle.std.proofs.lemmas.List.Elements.{All-filter, All-get_or, filter_passes}
 use Rattle.std.proofs.lemmas.Option.{get_or_from_slice_get, slice_get-get_or, slice_get_within}
-use Rattle.base_draw.specs.Draws.{next_state, drawn}
+use Rattle.base_types.specs.Draws.{next_state, drawn}
 use Rattle.disk_contract.specs.declared.event.Event.{Event}
 use Rattle.disk_contract.specs.Cell.{is_accepted, is_noticed}
 use Rattle.disk_contract.specs.Disk.{IsOpen}

@@ -3,7 +3,7 @@
 
 ghost use Rattle.std.specs.Prelude.{◌≡◌, ◌<◌, ◌^◌, ℕ, List, [], ◌∷◌, length};
 ghost use Rattle.std.specs.List.{All};
-ghost use Rattle.base_draw.specs.Draws.{next_state, drawn, draws};
+ghost use Rattle.base_types.specs.Draws.{next_state, drawn, draws};
 
 /// From each state there are as many draws as are asked for, and each is below 2^31.
 pub fn draws_have_31_bits()

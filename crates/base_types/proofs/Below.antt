@@ -3,7 +3,7 @@ use Rattle.std.proofs.Common.{◌≡◌, ℕ, zero, suc, ◌+◌, ◌*◌, ◌/�
 use Rattle.std.specs.List.{All}
 use Rattle.std.proofs.Math.Nat.{mod-lt, div-lt_iff_lt-mul}
 use Rattle.std.proofs.lemmas.List.Elements.{All-nil, All-cons}
-use Rattle.base_draw.specs.Draws.{next_state, drawn, draws}
+use Rattle.base_types.specs.Draws.{next_state, drawn, draws}
 
 -- a quotient of a number below a product is below the other factor
 quotient_below : (m k q : ℕ) → m < q * k → 0 < k → m / k < q

@@ -2,7 +2,7 @@
 //! no ranges: a caller takes from a draw what it needs.
 
 ghost use Rattle.std.specs.Prelude.{◌≡◌, ◌<◌, ◌^◌};
-ghost use Rattle.base_draw.specs.Draws.{next_state, drawn};
+ghost use Rattle.base_types.specs.Draws.{next_state, drawn};
 
 use std::marker::Model;
 

@@ -1,5 +1,5 @@
-use Rattle.base_draw.proofs.Below.{draws_count, draws_below}
-use Rattle.base_draw.proofs.laws.draws_have_31_bits.Goals as goal
+use Rattle.base_types.proofs.Below.{draws_count, draws_below}
+use Rattle.base_types.proofs.draw_laws.draws_have_31_bits.Goals as goal
 
 pub returns-clause-count : goal.returns-clause-count
 returns-clause-count c = draws_count
