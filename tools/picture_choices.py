@@ -10,7 +10,7 @@ import subprocess
 from typing import NamedTuple
 
 GONE, TORN, ARRIVED = range(3)
-# Of a moment with many pending writes so many are lost alone, torn alone, and lost with all behind them.
+# Of a moment with many pending writes so many are lost alone, torn alone, and lost with all behind or before them.
 MOST_ALONE = 25
 # Statuses of a replay that found what a crash leaves: a sync point, damage, a number at its end, no sync point.
 FOUND = (0, 6, 9, 10)
@@ -56,15 +56,16 @@ def place_of_all(count, plan):
 
 
 def chosen(ways):
-    """All is lost; all arrived; and for some writes: it alone is lost, it alone is torn, it and all behind it are lost."""
+    """All is lost; all arrived; and for some writes: it is lost alone, torn alone, lost with all behind or before it."""
     count = len(ways)
     found = [(GONE,) * count, (ARRIVED,) * count]
     for part in range(min(count, MOST_ALONE)):
         place = part * count // min(count, MOST_ALONE)
-        front, behind = (ARRIVED,) * place, count - place - 1
+        before, behind = place, count - place - 1
         torn = TORN if TORN in ways[place] else GONE
-        found += [(*front, way, *(ARRIVED,) * behind) for way in (GONE, torn)]
-        found.append(front + (GONE,) * (behind + 1))
+        found += [(ARRIVED,) * before + (way,) + (ARRIVED,) * behind for way in (GONE, torn)]
+        found.append((ARRIVED,) * before + (GONE,) * (1 + behind))
+        found.append((GONE,) * (before + 1) + (ARRIVED,) * behind)
     return found
 
 
@@ -199,9 +200,9 @@ class Crashes:
         return self.outcomes[moment][place_of_all(len(self.recording.pending[moment]), self.plan)]
 
     def is_short(self, moment):
-        """Whether all that was issued should stand for the last point at this moment, and doesn't."""
-        last, point = self.recording.last.get(moment), self.points[self.all_arrived(moment)]
-        return last is not None and (point < 0 or self.recording.listings[point] != self.recording.listings[last])
+        """Whether all that was issued should stand for the last point of a reply at this moment, and doesn't."""
+        listings, point = self.recording.listings, self.points[self.all_arrived(moment)]
+        return any(point < 0 or listings[point] != listings[last] for last in self.recording.last.get(moment, ()))
 
     def short(self):
         """The moments at which that is so."""

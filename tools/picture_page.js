@@ -53,7 +53,8 @@ function chosen(ways) {
     const behind = count - place - 1;
     const torn = ways[place].includes(TORN) ? TORN : GONE;
     for (const way of [GONE, torn]) found.push([...rows(place, ARRIVED), way, ...rows(behind, ARRIVED)]);
-    found.push([...rows(place, ARRIVED), ...rows(behind + 1, GONE)]);
+    found.push([...rows(place, ARRIVED), ...rows(1 + behind, GONE)]);
+    found.push([...rows(place + 1, GONE), ...rows(behind, ARRIVED)]);
   }
   return found;
 }
@@ -303,7 +304,7 @@ function verdictOf(moment, point) {
     return first.startsWith("error") ? `✕ No tree is left: ${first}.` : "✕ No sync point has the tree that is left.";
   }
   if (isOutside(moment.number, point)) return `✕ Point ${point} is left, which lies outside the band.`;
-  if (isWrong(moment, shown.place)) return `✕ Point ${point} is left, though all arrived, and a later one was answered.`;
+  if (isWrong(moment, shown.place)) return `✕ All arrived, and point ${point} is left: it isn't the last one of each reply at this moment.`;
   if (point == top) return `Point ${point} is left: the newest that has begun.`;
   return `Point ${point} is left, whole, and nothing of ${top - point == 1 ? `point ${top}` : `points ${point + 1} to ${top}`}.`;
 }

@@ -139,13 +139,14 @@ class Recording:
         return [by(promised, moment) for moment in moments], [by(begun, moment) for moment in moments]
 
     def last_points(self):
-        """For the mount's end and each mark before a disk fault the last point, for which all that was issued stands."""
-        last, point = {self.mount: 0}, 0
+        """For the mount's end and each mark before a disk fault, the last points of the replies with that mark: for each of
+        them all that was issued stands."""
+        last, point = {self.mount: {0}}, 0
         for command in self.commands:
             if command.meets_fault:
                 break
             point = point if command.makes is None else command.makes
-            last[command.mark] = point
+            last.setdefault(command.mark, set()).add(point)
         return last
 
     def pending_writes(self):
