@@ -10,6 +10,8 @@ from typing import NamedTuple
 # Widths and heights in pixels.
 NAMES, LANE, SYNC, PENDING, LETTER = 78, 16, 22, 34, 6.3
 MOST_LANES, LONGEST_LABEL = 5, 22
+# The width in which a picture lies whole where it can.
+USUAL = 1130
 # The shares of a moment's choices from which on a dot is of the second and the third size.
 SHARES = (0.05, 0.4)
 HAS_VALUE = ("known", "durable", "synced")
@@ -58,7 +60,7 @@ class Chart:
     def __init__(self, recording, crashes, width=0):
         self.recording, self.crashes = recording, crashes
         self.count, self.points = len(recording.events) + 1, recording.points
-        self.step = max(22 if self.count <= 14 else 13 if self.count <= 101 else 9, width / self.count)
+        self.step = max(22 if self.count <= 14 else max(9, min(13, USUAL / self.count)), width / self.count)
         self.row = max(5, min(34, 300 // (self.points + 1)))
         self.most = max(1, *map(len, recording.pending))
         self.left_out = 0
@@ -161,8 +163,8 @@ class Chart:
             yield tag("rect", cls="band", x=self.edge(first), width=width, y=self.level(high) - self.row / 2, height=height)
         yield from self.edges("begun", top, -1)
         yield from self.edges("promised", floor, 1)
-        at = self.level(top[-1]) - self.row / 2 - 5
-        yield tag("text", "top: begun", cls="tag", x="100%", dx=-4, y=at, text_anchor="end")
+        first = next((moment for moment, point in enumerate(top) if point > 0), 0)
+        yield tag("text", "top: begun", cls="tag", x=self.edge(first), dx=3, y=self.level(top[first]) - self.row / 2 - 5)
         yield tag("text", "floor: promised", cls="tag strong", x=2, y=self.level(floor[0]) + self.row / 2 + 13)
 
     def edges(self, cls, row, side):
