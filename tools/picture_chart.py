@@ -195,7 +195,8 @@ class Chart:
                 wrong.add(self.crashes.points[self.crashes.all_arrived(moment)])
             for point in sorted(wrong):
                 path = f"M-4 {self.level(point) - 4:g}l8 8m-8 0l8 -8"
-                yield tag("svg", tag("path", cls="halo", d=path) + tag("path", cls="bad", d=path), cls="col", x=self.middle(moment))
+                cross = tag("path", cls="halo", d=path) + tag("path", cls="bad", d=path)
+                yield tag("svg", cross, cls="col", x=self.middle(moment))
 
     # Events
 
@@ -227,8 +228,8 @@ class Chart:
 
     def sizes(self):
         """The widths of dots, as CSS."""
-        radius = min(5.5, 0.42 * min(self.row, self.step))
-        return "".join(f"#chart .d{size}{{stroke-width:{radius * share:.2f}px}}" for size, share in ((1, 0.9), (2, 1.4), (3, 2)))
+        radius, sizes = min(5.5, 0.42 * min(self.row, self.step)), ((1, 0.9), (2, 1.4), (3, 2))
+        return "".join(f"#chart .d{size} {{ stroke-width: {radius * part:.2f}px; }}\n" for size, part in sizes)
 
     def drawing(self):
         """All that is drawn, but for what the page moves over it."""
@@ -280,7 +281,9 @@ class Chart:
         width, above = round(NAMES + self.width), 34
         chart = tag("svg", self.drawing(), id="chart", x=NAMES, width=round(self.width), height=self.height)
         moved = tag("g", self.names() + chart, transform=f"translate(0 {above})")
-        inside = tag("title", headline) + tag("style", css + self.sizes()) + tag("rect", cls="ground", width="100%", height="100%")
+        inside = tag("title", headline) + tag("style", css + self.sizes())
+        inside += tag("rect", cls="ground", width="100%", height="100%")
         inside += tag("text", headline, cls="headline", x=8, y=20) + moved
-        box = f"0 0 {width + 8} {self.height + above}"
-        return tag("svg", inside, xmlns="http://www.w3.org/2000/svg", viewBox=box, width=width + 8, height=self.height + above) + "\n"
+        size = {"width": width + 8, "height": self.height + above}
+        box = f"0 0 {size['width']} {size['height']}"
+        return tag("svg", inside, xmlns="http://www.w3.org/2000/svg", viewBox=box, **size) + "\n"

@@ -25,16 +25,17 @@ def part(name):
     return (FOLDER / f"picture_{name}").read_text(encoding="utf-8")
 
 
-def counted(number, thing):
+def counted(number, thing, things=None):
     """So many things, in words."""
-    return f"{number:,} {thing}{'' if number == 1 else 's'}"
+    return f"{number:,} {thing if number == 1 else things or f'{thing}s'}"
 
 
 def headline_of(crashes):
     """What was counted, in a sentence."""
-    (tried, outside), short = crashes.count(), crashes.short()
+    tried, outside = crashes.count()
+    replies = counted(len(crashes.short()), "reply", "replies")
     told = [f"{outside:,} of {tried:,} crashes tried lie outside the band"] * bool(outside)
-    told += [f"at {counted(len(short), 'reply').replace('replys', 'replies')} all that was written isn't the last sync point"] * bool(short)
+    told += [f"at {replies} all that was issued isn't the last sync point"] * bool(crashes.short())
     return "; ".join(told) or f"{tried:,} crashes tried: no dot lies outside the band"
 
 
@@ -81,8 +82,8 @@ class Page:
         recording, crashes = self.recording, self.crashes
         moments, plan = len(crashes.outcomes), crashes.plan
         whole = sum(len(waiting) <= plan.all for waiting in recording.pending)
-        some = f"At {whole:,} of {moments:,} moments all choices were tried, since at most {plan.all} writes were pending; at each "
-        some += f"other one {plan.sample}, some chosen and the others drawn by the seed {plan.seed}."
+        some = f"At {whole:,} of {moments:,} moments all choices were tried, since at most {plan.all} writes were pending; "
+        some += f"at each other one {plan.sample}, some chosen and the others drawn by the seed {plan.seed}."
         claim = "That no honest crash of a recording lies outside is proved; this page only shows it of one."
         if is_wrong(crashes):
             claim = "No recording leaves that, as is proved: so <code>optfs</code> didn't write this trace, or not all of it."
@@ -91,8 +92,8 @@ class Page:
         told = [
             f"{html.escape(self.name)}: geometry {shape}, {counted(len(recording.events), 'event')}.",
             some if whole < moments else "At each moment all choices of lost, torn and arrived were tried.",
-            f"Each tree that is left is what <code>optfs replay</code> printed, in {counted(crashes.calls, 'call')}: crashes of one image and of "
-            "the same floor and top share one.",
+            f"Each tree that is left is what <code>optfs replay</code> printed, in {counted(crashes.calls, 'call')}: crashes of "
+            "one image and of the same floor and top share one.",
             "A dot lies at the point that has the tree, sought among all points.",
             claim,
             left_out if self.chart.left_out else "",
