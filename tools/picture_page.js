@@ -171,7 +171,8 @@ function whyBounds(number) {
   const promise = D.commands.find((one) => one.mark <= number && one.promises == floor);
   const begin = D.commands.find((one) => one.makes == top);
   const may = floor == top ? `<b>point ${floor}</b> alone` : `<b>points ${floor} to ${top}</b>`;
-  const low = floor && promise ? `point ${floor} is promised since moment ${promise.mark}` : "no point after point 0 is promised";
+  const since = promise && `point ${floor} is promised since moment ${promise.mark}`;
+  const low = floor && since ? since : "no point after point 0 is promised";
   const high = top > floor && begin ? `, and point ${top} has begun at moment ${begin.begins}` : "";
   return `A crash now may leave ${may}: ${low}${high}.`;
 }
@@ -241,10 +242,11 @@ function showThree() {
   byId("three").hidden = !moment.pending.length;
   const buttons = three.map(([name, place], at) => {
     const missing = moment.choices[place].filter((way) => way != ARRIVED).length;
-    const fewest = at < 2 ? "" : missing ? `, for want of ${missing} of ${moment.pending.length} writes` : ", though all arrived";
-    const left = `leaves ${pointName(D.points[moment.outcomes[place]])}${fewest}`;
+    const why = missing ? `, for want of ${missing} of ${moment.pending.length} writes` : ", though all arrived";
+    const left = `leaves ${pointName(D.points[moment.outcomes[place]])}${at < 2 ? "" : why}`;
     const wrong = isWrong(moment, place) ? ' <span class="wrong">✕</span>' : "";
-    return `<button data-place="${place}" aria-pressed="${place == shown.place}"><b>${name}</b><span>${left}</span>${wrong}</button>`;
+    const isShown = place == shown.place;
+    return `<button data-place="${place}" aria-pressed="${isShown}"><b>${name}</b><span>${left}</span>${wrong}</button>`;
   });
   byId("three").innerHTML = buttons.join("");
 }
@@ -269,7 +271,8 @@ function showPoints() {
   const all = moment.choices.length;
   const some = `${count(all)} of the choices were tried, since more than ${D.plan.all} writes are pending:`;
   const every = `All ${count(all)} choices of lost, torn and arrived were tried:`;
-  byId("tried").textContent = !moment.pending.length ? "One crash is possible:" : moment.pending.length > D.plan.all ? some : every;
+  const pending = moment.pending.length;
+  byId("tried").textContent = !pending ? "One crash is possible:" : pending > D.plan.all ? some : every;
 }
 
 function showWrites() {
@@ -304,9 +307,11 @@ function verdictOf(moment, point) {
     return first.startsWith("error") ? `✕ No tree is left: ${first}.` : "✕ No sync point has the tree that is left.";
   }
   if (isOutside(moment.number, point)) return `✕ Point ${point} is left, which lies outside the band.`;
-  if (isWrong(moment, shown.place)) return `✕ All arrived, and point ${point} is left: it isn't the last one of each reply at this moment.`;
+  const isntLast = "it isn't the last one of each reply at this moment";
+  if (isWrong(moment, shown.place)) return `✕ All arrived, and point ${point} is left: ${isntLast}.`;
   if (point == top) return `Point ${point} is left: the newest that has begun.`;
-  return `Point ${point} is left, whole, and nothing of ${top - point == 1 ? `point ${top}` : `points ${point + 1} to ${top}`}.`;
+  const later = top - point == 1 ? `point ${top}` : `points ${point + 1} to ${top}`;
+  return `Point ${point} is left, whole, and nothing of ${later}.`;
 }
 
 function showVerdict() {
@@ -325,8 +330,9 @@ function pathsOf(lines) {
 
 function rowOf(found, path, cls, note) {
   const size = found.kind == "dir" ? "directory" : `${count(+found.size)} B`;
-  const more = note ? ` <span class="soft">${note}</span>` : "";
-  return `<tr class="${cls}"><td class="mono">${escaped(path)}</td><td class="number">${size}</td><td class="mono">${escaped(bytesOf(found.hex))}${more}</td></tr>`;
+  const bytes = escaped(bytesOf(found.hex)) + (note ? ` <span class="soft">${note}</span>` : "");
+  const name = `<td class="mono">${escaped(path)}</td>`;
+  return `<tr class="${cls}">${name}<td class="number">${size}</td><td class="mono">${bytes}</td></tr>`;
 }
 
 // The tree that is left, and in a second colour what the newest point that has begun has otherwise
@@ -340,7 +346,8 @@ function showTree() {
     const row = one ? rowOf(one, path, "", "") : "";
     if (one && other && one.line == other.line) return row;
     if (!other) return `${row}<tr class="ghost"><td colspan="3">↳ not in point ${top}</td></tr>`;
-    return row + (one ? rowOf(other, `↳ in point ${top}`, "ghost", "") : rowOf(other, path, "ghost", `in point ${top} alone`));
+    if (one) return row + rowOf(other, `↳ in point ${top}`, "ghost", "");
+    return rowOf(other, path, "ghost", `in point ${top} alone`);
   });
   const head = '<tr><th>path</th><th class="number">size</th><th>bytes</th></tr>';
   byId("tree").innerHTML = rows.length ? head + rows.join("") : "";

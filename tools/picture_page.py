@@ -88,12 +88,12 @@ class Page:
         if is_wrong(crashes):
             claim = "No recording leaves that, as is proved: so <code>optfs</code> didn't write this trace, or not all of it."
         left_out = f"{counted(self.chart.left_out, 'command')} had no room for a label; the list below the picture has them."
-        shape = " ".join(map(str, recording.geometry))
+        shape, calls = " ".join(map(str, recording.geometry)), counted(crashes.calls, "call")
         told = [
             f"{html.escape(self.name)}: geometry {shape}, {counted(len(recording.events), 'event')}.",
             some if whole < moments else "At each moment all choices of lost, torn and arrived were tried.",
-            f"Each tree that is left is what <code>optfs replay</code> printed, in {counted(crashes.calls, 'call')}: crashes of "
-            "one image and of the same floor and top share one.",
+            f"Each tree that is left is what <code>optfs replay</code> printed, in {calls}: crashes of one image and of the "
+            "same floor and top share one.",
             "A dot lies at the point that has the tree, sought among all points.",
             claim,
             left_out if self.chart.left_out else "",
