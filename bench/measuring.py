@@ -85,7 +85,7 @@ def counted(peer, job, folder):
         run(peer, job, folder)
         return Counts(*peer.device_counts(folder))
     calls = ",".join(SYNCS + WRITES + ("openat",))
-    run(peer, job, folder, ["strace", "-f", "-y", "-s", "0", "-o", log, "-e", f"trace={calls}"])
+    run(peer, job, folder, ["strace", "-f", "--seccomp-bpf", "-y", "-s", "0", "-o", log, "-e", f"trace={calls}"])
     return counts_in(log, peer.image(folder))
 
 

@@ -84,7 +84,7 @@ class Optfs(Peer):
 class Ext4(Peer):
     """The system's ext4 in an image, by a loop device: what is counted is what the device is asked for."""
 
-    name, about, promise = "ext4", "kernel ext4 on a loop device, fsync of what was touched", DURABLE
+    name, about, promise = "ext4", "kernel ext4 on a loop device, fsync", DURABLE
 
     def __init__(self, tools):
         super().__init__(tools)

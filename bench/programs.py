@@ -6,6 +6,7 @@ installed is found out beforehand, and told as a reason (`reason_without`), so t
 
 import pathlib
 import shutil
+import signal
 import subprocess
 
 DRIVERS = pathlib.Path(__file__).resolve().parent / "drivers"
@@ -13,6 +14,12 @@ DRIVERS = pathlib.Path(__file__).resolve().parent / "drivers"
 
 class Failed(Exception):
     """A program ended otherwise than it should; the text says which and how."""
+
+
+def end_as_if_interrupted():
+    """Lets a signal that ends this program leave no folder, mount or loop device behind, as Ctrl-C does."""
+    for number in (signal.SIGTERM, signal.SIGHUP):
+        signal.signal(number, signal.default_int_handler)
 
 
 def succeed(command, what, **more):
@@ -47,3 +54,12 @@ def build(driver, folder):
     if not path.exists():
         succeed(["make", "-s", "-C", DRIVERS, f"OUT={folder}", path], f"building {driver}")
     return path
+
+
+def chosen(names, known, what):
+    """The names of a list parted by commas, all of which must be known."""
+    wanted = [name for name in names.split(",") if name]
+    for name in wanted:
+        if name not in known:
+            raise Failed(f"there is no {what} {name}: there are {', '.join(known)}")
+    return wanted

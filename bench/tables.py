@@ -39,46 +39,50 @@ def cells_of(name, result, job):
     return (*cells, f"{priced(result, 1):.3f}", f"{priced(result, 10):.3f}")
 
 
+def aligned(rows):
+    """Rows as lines of text: the first two cells of each begin, and the others end, where those of its column do."""
+    whole = [row for row in rows if len(row) > 2]
+    widths = [max(len(row[place]) for row in whole if place < len(row)) for place in range(len(HEADS))]
+    for row in rows:
+        cells = [cell.ljust(width) if place < 2 else cell.rjust(width) for place, (cell, width) in enumerate(zip(row, widths))]
+        yield "  ".join(["", *cells]).rstrip()
+
+
 def long_table(name, results):
     """The table of one workload, as text."""
     job, rows = results["job"], [HEADS]
-    rows += [tuple(map(str, cells_of(peer, result, job))) for peer, result in results["peers"].items()]
-    widths = [max(len(row[place]) for row in rows if len(row) > 2 and place < len(row)) for place in range(len(HEADS))]
+    for peer, result in results["peers"].items():
+        rows.append(tuple(str(cell) for cell in cells_of(peer, result, job)))
     head = f"{name}: {job['units']} {job['about']}: {job['points']} sync points, {job['user_bytes']} bytes"
-    lines = [head, *("  " + "  ".join(f"{cell:<{width}}" for cell, width in zip(row, widths)).rstrip() for row in rows[:1])]
-    for peer, *cells in rows[1:]:
-        if len(cells) == 1:
-            lines.append(f"  {peer:<{widths[0]}}  {cells[0]}")
-            continue
-        aligned = [f"{cell:>{width}}" for cell, width in zip(cells[1:], widths[2:])]
-        lines.append("  " + "  ".join([f"{peer:<{widths[0]}}", f"{cells[0]:<{widths[1]}}", *aligned]))
-    return "\n".join(lines) + "\n"
+    return "\n".join([head, *aligned(rows)]) + "\n"
 
 
 def rounded(number):
-    """A number with two digits that count, or without a fraction where it has more."""
-    return f"{number:.0f}" if number >= 10 else f"{number:.1f}" if number >= 1 else f"{number:.2g}" if number >= 0.1 else f"{number:.2f}"
+    """A number with two digits that count, or with more before the point and none behind it."""
+    if number >= 10:
+        return f"{number:.0f}"
+    return f"{number:.1f}" if number >= 1 else f"{number:.2f}"
 
 
 def counts_cell(result):
     """Syncs, and MiB written."""
-    return f"{result['syncs']} / {rounded(result['bytes'] / MIB)}"
+    return f"{result['syncs']}/{rounded(result['bytes'] / MIB)}"
 
 
 def seconds_cell(result):
     """Seconds, as they were and with 10 ms for each sync."""
-    return f"{rounded(result['seconds'])} / {rounded(priced(result, 10))}"
+    return f"{rounded(result['seconds'])}/{rounded(priced(result, 10))}"
 
 
 def effort_cell(result):
     """Processor seconds, and peak memory in MiB."""
-    return f"{rounded(result['processor'])} / {rounded(result['memory'] / 1024)}"
+    return f"{rounded(result['processor'])}/{rounded(result['memory'] / 1024)}"
 
 
 SHORT = (
-    ("syncs / MiB written", counts_cell),
-    ("seconds / with 10 ms for each sync", seconds_cell),
-    ("processor seconds / peak MiB", effort_cell),
+    ("syncs/MiB written", counts_cell),
+    ("seconds/with 10 ms more for each sync", seconds_cell),
+    ("processor seconds/peak MiB", effort_cell),
 )
 
 

@@ -40,7 +40,7 @@ OSYNC, DSYNC = Operation("osync"), Operation("dsync")
 class Workload(NamedTuple):
     """How a workload is made: its operations for so many units, and the geometry of its image.
 
-    `units` is how many it has by default, `short` how many in bench/check; both are multiples of `group`.
+    `units` is how many it has by default, `short` how many where trees are compared; both are multiples of `group`.
     """
 
     name: str
@@ -51,9 +51,13 @@ class Workload(NamedTuple):
     group: int
     geometry: floor_plan.Geometry
 
-    def units_at(self, scale):
-        """How many units it has where the default is scaled so."""
-        return max(self.group, int(self.units * scale) // self.group * self.group)
+    def long_form(self, scale):
+        """The workload with so many times the units that it has by default."""
+        return self._replace(units=max(self.group, int(self.units * scale) // self.group * self.group))
+
+    def short_form(self):
+        """The workload with few units, and with a small image whose journal is often full."""
+        return self._replace(units=self.short, geometry=SHORT)
 
 
 def small_files(count, draw, sync=OSYNC, every=1, folders=32):
@@ -113,16 +117,17 @@ def replacements(count, draw):
 MANY_NODES = floor_plan.Geometry(65536, 4096, 8192)
 LARGE = floor_plan.Geometry(131072, 4096, 64)
 SMALL = floor_plan.Geometry(8192, 4096, 64)
+SHORT = floor_plan.Geometry(8192, 256, 512)
 
 WORKLOADS = {
     workload.name: workload
     for workload in (
-        Workload("meta", "files of 100 bytes, an osync after each", small_files, 2000, 200, 1, MANY_NODES),
+        Workload("meta", "files of 100 bytes, an osync after each", small_files, 2000, 100, 1, MANY_NODES),
         Workload("batch", "files of 100 bytes, an osync after 50", grouped_files, 2000, 100, 50, MANY_NODES),
         Workload("dur", "files of 100 bytes, a dsync after each", durable_files, 500, 30, 1, MANY_NODES),
-        Workload("seq", "MiB put into four files, an osync after each", large_files, 64, 8, 4, LARGE),
-        Workload("over", "overwrites of 1 KiB, an osync after each", overwrites, 2000, 200, 1, SMALL),
-        Workload("repl", "files replaced, two osyncs for each", replacements, 1000, 100, 1, SMALL),
+        Workload("seq", "MiB put into four files, an osync after each", large_files, 64, 4, 4, LARGE),
+        Workload("over", "overwrites of 1 KiB, an osync after each", overwrites, 2000, 100, 1, SMALL),
+        Workload("repl", "files replaced, two osyncs for each", replacements, 1000, 60, 1, SMALL),
     )
 }
 
@@ -156,10 +161,9 @@ class Outcome:
 
 
 class Job(NamedTuple):
-    """A workload of some size, written down: its script and its plan for the floor, and what comes of it."""
+    """A workload that is written down: its script and its plan for the floor, and what comes of it."""
 
     workload: Workload
-    units: int
     script: pathlib.Path
     plan: pathlib.Path
     replies: str
@@ -170,16 +174,15 @@ class Job(NamedTuple):
     asks_durable: bool
 
 
-def job_of(workload, units, folder):
-    """Writes a workload of so many units into a folder. Its last command is a dsync, in each workload."""
-    operations = [*workload.operations(units, Random(SEED)), DSYNC]
+def job_of(workload, folder):
+    """Writes a workload into a folder. The last command of each is a dsync."""
+    operations = [*workload.operations(workload.units, Random(SEED)), DSYNC]
     script, plan = folder / f"{workload.name}.script", folder / f"{workload.name}.plan"
     script.write_text("".join(f"{operation.line()}\n" for operation in operations))
     plan.write_text("".join(f"{line}\n" for line in floor_plan.lines_of(operations, workload.geometry)))
     outcome = Outcome(operations)
     return Job(
         workload,
-        units,
         script,
         plan,
         "".join(f"{reply}\n" for reply in outcome.replies),

@@ -1,8 +1,8 @@
 /* posix_tree DIRECTORY < SCRIPT: runs a script on a directory of the host, with files as files.
  *
- * A sync is what a portable program does that wants its changes in order and durable: an fsync of each file that was
- * touched since the last one, and then of each directory whose names were changed. POSIX has nothing weaker that keeps
- * an order, so an osync costs here what a dsync does.
+ * A sync is what a program does that wants its changes in order and durable: an fsync of each file that was touched since
+ * the last one, and then of each directory whose names were changed; or, where these are many, one syncfs. The system
+ * has nothing weaker that keeps an order, so an osync costs here what a dsync does.
  */
 #define _GNU_SOURCE
 #include "script.h"
@@ -12,6 +12,9 @@
 #include <string.h>
 #include <sys/stat.h>
 #include <unistd.h>
+
+/* From so many paths on a syncfs is less than an fsync of each. */
+enum { MANY = 4 };
 
 /* A list of paths, each of them once. */
 struct paths {
@@ -104,18 +107,32 @@ static void rename_file(const char *path, const char *other) {
         }
 }
 
-/* Syncs each path of a list, and empties it. */
-static void sync_all(struct paths *list) {
-    for (size_t place = 0; place < list->count; place++) {
-        int file = openat(root, below_root(list->path[place]), O_RDONLY | O_CLOEXEC);
-        if (file < 0)
-            fail_by_system("open", list->path[place]);
-        if (fsync(file) != 0)
-            fail_by_system("fsync", list->path[place]);
-        close_file(file, list->path[place]);
+static void sync_path(const char *path) {
+    int file = openat(root, below_root(path), O_RDONLY | O_CLOEXEC);
+    if (file < 0)
+        fail_by_system("open", path);
+    if (fsync(file) != 0)
+        fail_by_system("fsync", path);
+    close_file(file, path);
+}
+
+static void forget(struct paths *list) {
+    for (size_t place = 0; place < list->count; place++)
         free(list->path[place]);
-    }
     list->count = 0;
+}
+
+static void sync_tree(uint64_t *point) {
+    size_t count = files.count + directories.count;
+    *point += count > 0;
+    if (count >= MANY && syncfs(root) != 0)
+        fail_by_system("syncfs", "the image");
+    for (size_t place = 0; place < files.count && count < MANY; place++)
+        sync_path(files.path[place]);
+    for (size_t place = 0; place < directories.count && count < MANY; place++)
+        sync_path(directories.path[place]);
+    forget(&files);
+    forget(&directories);
 }
 
 static void obey(const struct command *command, uint64_t *point) {
@@ -135,9 +152,7 @@ static void obey(const struct command *command, uint64_t *point) {
         break;
     case OSYNC:
     case DSYNC:
-        *point += files.count + directories.count > 0;
-        sync_all(&files);
-        sync_all(&directories);
+        sync_tree(point);
         break;
     }
 }

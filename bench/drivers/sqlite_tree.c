@@ -12,6 +12,8 @@
 
 enum { PIECE = 1024 };
 
+static const sqlite3_int64 MOST_PIECES = 1 << 24;
+
 enum statement { BEGIN, COMMIT, ADD, FIND, RESIZE, MOVE, REMOVE, PUT, CLEAR, LIST, PIECES, STATEMENTS };
 
 static const char *const TEXTS[STATEMENTS] = {
@@ -22,15 +24,15 @@ static const char *const TEXTS[STATEMENTS] = {
     [RESIZE] = "UPDATE nodes SET size = ?2 WHERE number = ?1",
     [MOVE] = "UPDATE nodes SET path = ?2 WHERE number = ?1",
     [REMOVE] = "DELETE FROM nodes WHERE number = ?1",
-    [PUT] = "REPLACE INTO pieces (number, place, data) VALUES (?1, ?2, ?3)",
-    [CLEAR] = "DELETE FROM pieces WHERE number = ?1",
+    [PUT] = "REPLACE INTO pieces (id, data) VALUES (?1, ?2)",
+    [CLEAR] = "DELETE FROM pieces WHERE id >= ?1 AND id < ?2",
     [LIST] = "SELECT path, number, size FROM nodes ORDER BY path",
-    [PIECES] = "SELECT data FROM pieces WHERE number = ?1 ORDER BY place",
+    [PIECES] = "SELECT data FROM pieces WHERE id >= ?1 AND id < ?2 ORDER BY id",
 };
 
 static const char TABLES[] =
     "CREATE TABLE nodes (number INTEGER PRIMARY KEY, path TEXT NOT NULL UNIQUE, size INTEGER);"
-    "CREATE TABLE pieces (number INTEGER, place INTEGER, data BLOB NOT NULL, PRIMARY KEY (number, place)) WITHOUT ROWID;";
+    "CREATE TABLE pieces (id INTEGER PRIMARY KEY, data BLOB NOT NULL);";
 
 struct node {
     sqlite3_int64 number;
@@ -75,6 +77,17 @@ static bool has_row(enum statement one) {
 
 static void end(enum statement one) {
     need(sqlite3_reset(prepared[one]), SQLITE_OK, TEXTS[one]);
+}
+
+/* The id of a piece of a file. Those of one file are neighbours. */
+static sqlite3_int64 id_of(sqlite3_int64 number, uint64_t place) {
+    return number * MOST_PIECES + (sqlite3_int64)place;
+}
+
+/* Lets a statement be about all pieces of a file. */
+static void bind_file(enum statement one, sqlite3_int64 number) {
+    bind_number(one, 1, id_of(number, 0));
+    bind_number(one, 2, id_of(number + 1, 0));
 }
 
 /* Runs a statement that has no rows. */
@@ -124,9 +137,8 @@ static void put(const struct command *command) {
         fail("sqlite", command->path, "a write that cuts a piece is no part of a workload");
     for (size_t done = 0; done < command->length; done += PIECE) {
         size_t length = command->length - done < PIECE ? command->length - done : PIECE;
-        bind_number(PUT, 1, node.number);
-        bind_number(PUT, 2, (sqlite3_int64)((command->offset + done) / PIECE));
-        need(sqlite3_bind_blob(prepared[PUT], 3, command->data + done, (int)length, SQLITE_STATIC), SQLITE_OK, TEXTS[PUT]);
+        bind_number(PUT, 1, id_of(node.number, (command->offset + done) / PIECE));
+        need(sqlite3_bind_blob(prepared[PUT], 2, command->data + done, (int)length, SQLITE_STATIC), SQLITE_OK, TEXTS[PUT]);
         run(PUT);
     }
     if (past > node.size) {
@@ -139,7 +151,7 @@ static void put(const struct command *command) {
 static void rename_file(const char *path, const char *other) {
     struct node node = found(path), old;
     if (find(other, &old)) {
-        bind_number(CLEAR, 1, old.number);
+        bind_file(CLEAR, old.number);
         run(CLEAR);
         bind_number(REMOVE, 1, old.number);
         run(REMOVE);
@@ -189,7 +201,7 @@ static void run_script(void) {
 
 static void show_file(sqlite3_int64 number, sqlite3_int64 size) {
     printf(" %lld ", (long long)size);
-    bind_number(PIECES, 1, number);
+    bind_file(PIECES, number);
     while (has_row(PIECES))
         write_hex(sqlite3_column_blob(prepared[PIECES], 0), (size_t)sqlite3_column_bytes(prepared[PIECES], 0));
     end(PIECES);
