@@ -38,7 +38,7 @@ pub fn add_slot<S: Blocks>(
     a_directory_has_whole_slots::<S>();
     a_file_has_its_blocks::<S>();
     slots_follow_the_bytes();
-    settlings_add_up();
+    settlings_add_up::<S>();
     let Some(count) = count_slots(draft, blocks, dir)? else {
         return Ok(());
     };

@@ -2,9 +2,7 @@
 //! anything was done, how many blocks a file has, and how many bytes a directory.
 
 ghost use Rattle.std.specs.Prelude.{◌≡◌, ◌≤◌, ◌+◌, ◌-◌, ◌*◌, ◌/◌, ◌%◌, ◌^◌, ℕ, Bool, false, IsTrue, List, length, Some};
-ghost use Rattle.engine_blocks.specs.Crashes.{Advances};
 ghost use Rattle.engine_blocks.specs.Running.{HasNoBare};
-ghost use Rattle.engine_blocks.specs.State.{State};
 ghost use Rattle.fs_files.specs.Bytes.{blocks_for, met};
 ghost use Rattle.fs_files.specs.Calls.{files_in, places_in, places_of};
 ghost use Rattle.fs_files.specs.Drafts.{DraftState, nothing_drafted};
@@ -14,7 +12,7 @@ ghost use Rattle.layout_bytes.specs.declared.node.NodeKind.TheVariants.{Dir};
 ghost use Rattle.crash_stands.specs.Files.{FileNode, files_of};
 ghost use Rattle.crash_stands.specs.Stands.{AreSound};
 
-use engine_blocks::Blocks;
+use engine_blocks::{Blocks, calls_compose};
 
 /// An empty draft is one of each map of blocks that are sound where they are known, while each block that
 /// was taken is filled or freed. Its files are those of the map, and so are the blocks of each node.
@@ -55,12 +53,15 @@ pub fn bytes_lie_in_blocks()
     ensures most { (lo hi : ℕ) (places : List ℕ) → length (met lo hi places) ≤ blocks_for hi - lo / 1024 }
 {}
 
-/// A call that only looked at blocks is one that may have settled; and such a call that failed nowhere, with another
-/// after it, is one.
-pub fn settlings_add_up()
-    ensures looks { (tells failed : Bool) (s t : State) → s.books.stopped ≡ false → LooksOnly tells failed s t → (IsTrue tells → Advances s t)
-        → LooksAndSettles tells failed false s t }
-    ensures both { (tells read_failed failed : Bool) (s t u : State) → s.books.geom ≡ t.books.geom → LooksAndSettles tells false false s t
-        → LooksAndSettles tells read_failed failed t u → (IsTrue tells → Advances s t → Advances t u → Advances s u)
-        → u.books.turns ≤ s.books.turns + 262144 → LooksAndSettles tells read_failed failed s u }
-{}
+/// Calls that look, and calls that may settle, one after the other: a look is one that may have settled, and so is a
+/// look with such a call after it, or such a call with a look after it.
+pub fn settlings_add_up<S: Blocks>()
+    ensures looks { (failed : Bool) (s t : S) → (S.state s).books.stopped ≡ false → LooksOnly S.tells failed (S.state s) (S.state t)
+        → LooksAndSettles S.tells failed false (S.state s) (S.state t) }
+    ensures after { (read_failed failed : Bool) (s t u : S) → (S.state s).books.stopped ≡ false → LooksOnly S.tells false (S.state s) (S.state t)
+        → LooksAndSettles S.tells read_failed failed (S.state t) (S.state u) → LooksAndSettles S.tells read_failed failed (S.state s) (S.state u) }
+    ensures before { (read_failed : Bool) (s t u : S) → LooksAndSettles S.tells false false (S.state s) (S.state t)
+        → LooksOnly S.tells read_failed (S.state t) (S.state u) → LooksAndSettles S.tells read_failed false (S.state s) (S.state u) }
+{
+    calls_compose::<S>();
+}

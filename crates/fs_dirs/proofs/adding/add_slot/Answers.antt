@@ -27,9 +27,7 @@ returns-in_default g c = record {
   runs = λ told slots is. absurd (none-some _ (sym c.in_default.is ∙ c.in_ok-count.ensures.count told (ADir slots) is));
   alters = λ told slots is. absurd (none-some _ (sym c.in_default.is ∙ c.in_ok-count.ensures.count told (ADir slots) is));
   refused = λ told. tt;
-  settles =
-      let looks = c.in_ok-count.ensures.looks in
-      c.settlings_add_up.ensures.looks g.S.Blocks.tells false (g.S.Blocks.state c.args.blocks.now) (g.S.Blocks.state c.count_slots.new.blocks) c.requires.look.going looks (λ told. c.calls_compose.ensures.rests told c.args.blocks.now c.count_slots.new.blocks (ap (λ (k : Bookkeeping). k.point) looks.books) (ap (λ (k : Bookkeeping). k.floor) looks.books) (looks.crash told));
+  settles = c.settlings_add_up.ensures.looks false c.args.blocks.now c.count_slots.new.blocks c.requires.look.going c.in_ok-count.ensures.looks;
   looks = λ told slots is few. c.in_ok-count.ensures.looks;
 }
 
@@ -120,12 +118,7 @@ returns g c =
           refused_behind _ _ (places_in look c.args.draft.now c.args.dir) (places_in old c.args.draft.now c.args.dir) old.books look.books (g.S.Blocks.state c.write_at.new.blocks).books why
           (same_growth (length r.file.bytes) (length slots) (64 * c.from.result) (length c.as_slice.result.now) r.long (omega (arith, c.from.ensures, many g b told slots is)) size)
           (same_places g.S.Blocks.tells false old look c.args.draft.now c.in_ok-count.ensures.looks c.args.dir told) c.in_ok-count.ensures.looks.books (refused r.file r.is)) (c.write_at.ensures.refused told);
-      settles =
-          let looks = c.in_ok-count.ensures.looks in
-          c.settlings_add_up.ensures.both g.S.Blocks.tells _ _ (s g b) (mid g b) (g.S.Blocks.state c.write_at.new.blocks) (sym (ap (λ (k : Bookkeeping). k.geom) looks.books))
-          (c.settlings_add_up.ensures.looks g.S.Blocks.tells false (s g b) (mid g b) c.requires.look.going looks (λ told. c.calls_compose.ensures.rests told c.args.blocks.now c.count_slots.new.blocks (ap (λ (k : Bookkeeping). k.point) looks.books) (ap (λ (k : Bookkeeping). k.floor) looks.books) (looks.crash told)))
-          c.write_at.ensures.settles (λ told before after. c.calls_compose.ensures.advances c.args.blocks.now c.count_slots.new.blocks c.write_at.new.blocks before after)
-          (omega (arith, c.write_at.ensures.settles.pipeline.turns, ap (λ (k : Bookkeeping). k.turns) looks.books));
+      settles = c.settlings_add_up.ensures.after _ _ c.args.blocks.now c.count_slots.new.blocks c.write_at.new.blocks c.requires.look.going c.in_ok-count.ensures.looks c.write_at.ensures.settles;
       looks = λ told slots is few.
           let size : length c.as_slice.result.now ≡ 64 = search rules in
           let r = node g b told slots is in
