@@ -51,11 +51,11 @@ begins seed s is = record {
 
 -- The same, as the code has them: geometry and behaviour are those of a load.
 module _ (seed : ℕ) (g : Geometry) (b : Behaviour) (geom : g ≡ shape) (asked : b ≡ behaviour_of seed) where
-  so : {P : Setting → Type 0} → P (setting_on g b) → P (setting_on shape (behaviour_of seed))
-  so {P = P} h = subst (λ (k : Geometry). P (setting_on k (behaviour_of seed))) geom (subst (λ (x : Behaviour). P (setting_on g x)) asked h)
+  so : (P : Setting → Type 0) → P (setting_on g b) → P (setting_on shape (behaviour_of seed))
+  so P h = subst (λ (k : Geometry). P (setting_on k (behaviour_of seed))) geom (subst (λ (x : Behaviour). P (setting_on g x)) asked h)
 
   pub never_failed : (d : disk.State) → FailedToMount (setting_on g b) d → ⊥
-  never_failed d f = never_fails seed d (so {P = λ (set : Setting). FailedToMount set d} f)
+  never_failed d f = never_fails seed d (so (λ (set : Setting). FailedToMount set d) f)
 
   pub opened : (s : State) → IsOpened (setting_on g b) s → Serves at_first 0 s
-  opened s is = begins seed s (so {P = λ (set : Setting). IsOpened set s} is)
+  opened s is = begins seed s (so (λ (set : Setting). IsOpened set s) is)
