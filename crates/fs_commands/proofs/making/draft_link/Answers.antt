@@ -11,6 +11,7 @@ use Rattle.fs_files.specs.Effects.{LooksAndSettles}
 use Rattle.fs_dirs.specs.Changing.{Alters, IsWithSlots}
 use Rattle.fs_dirs.specs.Directories.{inodes_in}
 use Rattle.fs_session.specs.Sessions.{inodes}
+use Rattle.fs_files.specs.Sound.{IsDraftOf}
 use Rattle.fs_commands.proofs.Placing.{placed_kept}
 use Rattle.fs_commands.proofs.naming.Drafting.{dir_no_file, name_added}
 use Rattle.fs_commands.proofs.planning.Looking.{looked_after, quiet_settling}
@@ -95,3 +96,13 @@ returns-in-Err-set_links-clause-quiet g c = λ told slots at enough.
     let s = g.S.Blocks.state c.args.blocks.now in
     let looked = c.in-Ok.ensures.looks told slots (subst (λ d. inodes_in s d c.args.dir ≡ Some (ADir slots)) (sym c.new-draft.ensures) at) enough in
     (c.in-Err-set_links.ensures.looks.books ∙ looked.books, (c.in-Err-set_links.ensures.looks.crash told).log ∙ (looked.crash told).log)
+
+pub add_slot-requires-clause-look : goal.add_slot-requires-clause-look
+add_slot-requires-clause-look g c =
+    let s = g.S.Blocks.state c.args.blocks.now in
+    record {
+      going = c.requires.begin.going;
+      from = c.requires.dir.from;
+      upto = c.requires.dir.upto;
+      draft = subst (λ d. IsDraftOf g.S.Blocks.tells s d) (sym c.new-draft.ensures) (c.a_draft_begins.ensures.draft c.requires.begin.none_bare c.requires.begin.sound);
+    }

@@ -15,6 +15,7 @@ use Rattle.fs_dirs.specs.Changing.{Alters, IsWithSlots}
 use Rattle.fs_dirs.specs.Directories.{inodes_in}
 use Rattle.fs_commands.specs.Making.{first_thing}
 use Rattle.fs_session.specs.Sessions.{inodes}
+use Rattle.fs_files.specs.Sound.{IsDraftOf}
 use Rattle.fs_commands.proofs.Placing.{placed_by}
 use Rattle.fs_commands.proofs.looking.Found.{same_files}
 use Rattle.fs_commands.proofs.naming.Drafting.{used_upto, found_is, no_node, first_read, name_added}
@@ -105,3 +106,13 @@ returns-in-Err-new_node-clause-quiet g c = λ told slots at enough.
     let s = g.S.Blocks.state c.args.blocks.now in
     let looked = c.in-Ok.ensures.looks told slots (subst (λ d. inodes_in s d c.args.dir ≡ Some (ADir slots)) (sym c.new-draft.ensures) at) enough in
     (c.in-Err-new_node.ensures.looks.books ∙ looked.books, (c.in-Err-new_node.ensures.looks.crash told).log ∙ (looked.crash told).log)
+
+pub add_slot-requires-clause-look : goal.add_slot-requires-clause-look
+add_slot-requires-clause-look g c =
+    let s = g.S.Blocks.state c.args.blocks.now in
+    record {
+      going = c.requires.may.begin.going;
+      from = c.requires.dir.from;
+      upto = c.requires.dir.upto;
+      draft = subst (λ d. IsDraftOf g.S.Blocks.tells s d) (sym c.new-draft.ensures) (c.a_draft_begins.ensures.draft c.requires.may.begin.none_bare c.requires.may.begin.sound);
+    }

@@ -14,6 +14,7 @@ use Rattle.fs_dirs.specs.Changing.{Alters, IsWithSlots}
 use Rattle.fs_dirs.specs.Directories.{inodes_in}
 use Rattle.fs_session.specs.Commands.{GrowsInRuns, places_of}
 use Rattle.fs_session.specs.Space.{ArePlaced}
+use Rattle.fs_files.specs.Sound.{IsDraftOf}
 use Rattle.fs_commands.proofs.Placing.{placed_cut, placed_grown, placed_then}
 use Rattle.fs_commands.proofs.planning.Looking.{looked_after, cut_growth, quiet_settling}
 use Rattle.fs_commands.proofs.moved.Free.{moves_across, used_across}
@@ -133,3 +134,13 @@ returns-in-Err-take_slot-clause-quiet g c = λ told count name may enough.
     let at = ap (λ d. inodes_in s d c.args.into) c.new-draft.ensures ∙ may.into.dir_is in
     let looked = c.in-Ok.ensures.looks told may.into.slots at (subst (λ n. growth n ≤ length (reusable_blocks s.books)) may.into.many_are enough) in
     (c.in-Err-take_slot.ensures.looks.books ∙ looked.books, (c.in-Err-take_slot.ensures.looks.crash told).log ∙ (looked.crash told).log)
+
+pub add_slot-requires-clause-look : goal.add_slot-requires-clause-look
+add_slot-requires-clause-look g c =
+    let s = g.S.Blocks.state c.args.blocks.now in
+    record {
+      going = c.requires.begin.going;
+      from = c.requires.into.from;
+      upto = c.requires.into.upto;
+      draft = subst (λ d. IsDraftOf g.S.Blocks.tells s d) (sym c.new-draft.ensures) (c.a_draft_begins.ensures.draft c.requires.begin.none_bare c.requires.begin.sound);
+    }

@@ -69,3 +69,14 @@ returns-clause-comes g c = λ told t h.
     comes_inside (files_in s nothing_drafted) c.args.path.now c.names.result.now c.in-Some.name.now c.in-Ok-Some.dir c.in-Some-2.count c.in_ok-entry.entry c.names.ensures (ap option_copied (sym c.in-Some.is) ∙ c.last.ensures.value) ends
     (λ x at. sym c.in-Some-2.is ∙ c.in_ok-count.ensures.count told x (ap (λ files. inodes_of files c.in-Ok-Some.dir) same ∙ at))
     (entry_stays g.S.Blocks.tells s next d c.new-draft.ensures told both c.in-Ok-Some.dir c.in-Some.name.now c.in_ok-entry.entry t map (c.in_ok-entry.ensures.entry told))
+
+pub count_slots-requires : goal.count_slots-requires
+count_slots-requires g c =
+    let s = g.S.Blocks.state c.args.blocks.now in
+    record {
+      going = search rules;
+      from = search rules;
+      upto = search rules;
+      draft = draft_stays g.S.Blocks.tells false s (g.S.Blocks.state c.walk_to_parent.new.blocks) c.new-draft.result c.in_ok-dir.ensures.looks
+          (subst (λ d. IsDraftOf g.S.Blocks.tells s d) (sym c.new-draft.ensures) (c.a_draft_begins.ensures.draft c.requires.begin.none_bare c.requires.begin.sound));
+    }
