@@ -115,6 +115,7 @@ class Replays:
 
     def __exit__(self, *_):
         self.pool.terminate()
+        self.pool.join()
 
     def ask(self, asked):
         """The text of each crash, in the order of their words."""
