@@ -79,7 +79,7 @@ def run(peer, job, folder, before=()):
         raise programs.Failed(f"{where}: it ended with status {status}: {errors}")
     wrong = peer.wrong_output((folder / "output").read_text(), job)
     if wrong:
-        raise programs.Failed(f"{where}: {wrong}; {errors}")
+        raise programs.Failed(f"{where}: {wrong}. On standard error {errors}")
 
 
 def timed(peer, job, scratch):
