@@ -22,7 +22,7 @@ import trial
 LIMIT = 1800
 SYNCS = ("fsync", "fdatasync", "msync", "sync_file_range", "syncfs", "sync")
 WRITES = ("write", "pwrite64", "writev", "pwritev", "pwritev2")
-CALL = re.compile(r"(?m)^\d+ +(\w+)\((.*)\) += (\d+)")
+CALL = re.compile(r"(?m)^(?:\d+ +)?(\w+)\((.*)\) += (\d+)")
 DESCRIPTOR = re.compile(r"(\d+)<([^>]*)>")
 SHARED_MEMORY = "-shm"
 

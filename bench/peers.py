@@ -237,10 +237,14 @@ class Floor(Peer):
     def input_of(self, job):
         return job.plan
 
-    def wrong_output(self, output, job):
-        """It must have written and synced what its plan says."""
+    def planned(self, job):
+        """How many syncs and writes the plan has."""
         lines = [line.split() for line in job.plan.read_text().splitlines()]
-        writes, syncs = sum(int(line[2]) for line in lines if len(line) == 3), lines.count(["sync"])
+        return lines.count(["sync"]), sum(int(line[2]) for line in lines if len(line) == 3)
+
+    def wrong_output(self, output, job):
+        """It must have synced and written what its plan says."""
+        syncs, writes = self.planned(job)
         return "" if output.startswith(f"writes {writes} syncs {syncs} ") else f"it did {output.strip()!r}"
 
 
