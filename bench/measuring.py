@@ -7,19 +7,22 @@ SQLite puts into the memory that its programs share isn't a write.
 """
 
 import contextlib
+import os
 import pathlib
 import re
 import shutil
+import signal
 import subprocess
 import tempfile
 from typing import NamedTuple
 
 import programs
+import trial
 
 LIMIT = 1800
 SYNCS = ("fsync", "fdatasync", "msync", "sync_file_range", "syncfs", "sync")
 WRITES = ("write", "pwrite64", "writev", "pwritev", "pwritev2")
-CALL = re.compile(r"(?m)^\d+ +(\w+)\((.*)\) += (\d+)")
+CALL = re.compile(r"(?m)^(?:\d+ +)?(\w+)\((.*)\) += (\d+)")
 DESCRIPTOR = re.compile(r"(\d+)<([^>]*)>")
 SHARED_MEMORY = "-shm"
 
@@ -52,21 +55,31 @@ def begun(peer, job, scratch):
         shutil.rmtree(folder)
 
 
+def call(words, given, output, where):
+    """The status of a program, and what it wrote on its standard error. Nothing that it started outlives an exception."""
+    program = subprocess.Popen(words, stdin=given, stdout=output, stderr=subprocess.PIPE, start_new_session=True)
+    try:
+        errors = program.communicate(timeout=LIMIT)[1]
+    except BaseException as reason:
+        os.killpg(program.pid, signal.SIGKILL)
+        program.communicate()
+        if isinstance(reason, subprocess.TimeoutExpired):
+            raise programs.Failed(f"{where}: it went on for {LIMIT} seconds") from None
+        raise
+    return program.returncode, programs.said_in(errors.decode(errors="replace"))
+
+
 def run(peer, job, folder, before=()):
     """Runs the peer on its image, behind the words of another program, and looks at what it answers."""
     where = f"{job.workload.name}: {peer.name}"
     words = [str(word) for word in (*before, *peer.command(folder))]
     with open(peer.input_of(job), "rb") as given, open(folder / "output", "wb") as output:
-        try:
-            done = subprocess.run(words, stdin=given, stdout=output, stderr=subprocess.PIPE, timeout=LIMIT)
-        except subprocess.TimeoutExpired:
-            raise programs.Failed(f"{where}: it went on for {LIMIT} seconds") from None
-    errors = done.stderr.decode(errors="replace")
-    if done.returncode != 0:
-        raise programs.Failed(f"{where}: it ended with status {done.returncode}: {programs.said_in(errors)}")
+        status, errors = call(words, given, output, where)
+    if status != 0:
+        raise programs.Failed(f"{where}: it ended with status {status}: {errors}")
     wrong = peer.wrong_output((folder / "output").read_text(), job)
     if wrong:
-        raise programs.Failed(f"{where}: {wrong}; {programs.said_in(errors)}")
+        raise programs.Failed(f"{where}: {wrong}. On standard error {errors}")
 
 
 def timed(peer, job, scratch):
@@ -78,12 +91,17 @@ def timed(peer, job, scratch):
         return Timing(wall / 1e6, (user + system) / 1e6, memory)
 
 
+def can_count(peer):
+    """Whether the syncs and writes of the peer can be counted here."""
+    return peer.has_device or trial.can_trace()
+
+
 def counted(peer, job, folder):
     """The counts of one run on an image that was made in the folder."""
-    log = folder / "strace"
-    if peer.device_counts(folder) is not None:
+    if peer.has_device:
         run(peer, job, folder)
-        return Counts(*peer.device_counts(folder))
+        return Counts(*peer.device_counts())
+    log = folder / "strace"
     calls = ",".join(SYNCS + WRITES + ("openat",))
     run(peer, job, folder, ["strace", "-f", "--seccomp-bpf", "-y", "-s", "0", "-o", log, "-e", f"trace={calls}"])
     return counts_in(log, peer.image(folder))

@@ -3,7 +3,7 @@
 A peer makes an image in a folder (`begin`), says the command that runs the script on it (`command`), lists the tree that
 is in it then (`tree`), and leaves nothing behind (`end`). `reason` says why it can't be had here, or is empty. What it
 promises of an osync is ORDER, that a crash may lose the last points and never one before another, or DURABLE, that it
-loses none. What each promises of a dsync is DURABLE.
+loses none. What each promises of a dsync is DURABLE. Where an image has a device, that counts (`has_device`).
 """
 
 import os
@@ -20,6 +20,7 @@ class Peer:
     """What all peers have in common. The image of each is `img` in its folder; names that begin so are beside it."""
 
     name = about = promise = reason = ""
+    has_device = False
 
     def __init__(self, tools):
         self.tools = tools
@@ -49,9 +50,6 @@ class Peer:
             if given != wanted:
                 return f"command {number} is answered {given[:80]!r}, and not {wanted!r}"
         return "" if output == job.replies else "it has another number of replies than the script has commands"
-
-    def device_counts(self, folder):
-        """Syncs, writes and bytes that the image's device counted, or `None` where strace has to count them."""
 
     def tree(self, folder):
         """The tree in the image: the bytes of each path, or `None` for a directory."""
@@ -85,6 +83,7 @@ class Ext4(Peer):
     """The system's ext4 in an image, by a loop device: what is counted is what the device is asked for."""
 
     name, about, promise = "ext4", "kernel ext4 on a loop device, fsync", DURABLE
+    has_device = True
 
     def __init__(self, tools):
         super().__init__(tools)
@@ -145,7 +144,8 @@ class Ext4(Peer):
         numbers = pathlib.Path(f"/sys/block/{pathlib.Path(self.device).name}/stat").read_text().split()
         return int(numbers[15]), int(numbers[4]), 512 * int(numbers[6])
 
-    def device_counts(self, folder):
+    def device_counts(self):
+        """Syncs, writes and bytes that the device counted since the image was made."""
         return tuple(now - then for now, then in zip(self.device_numbers(), self.before))
 
     def tree(self, folder):
@@ -237,10 +237,14 @@ class Floor(Peer):
     def input_of(self, job):
         return job.plan
 
-    def wrong_output(self, output, job):
-        """It must have written and synced what its plan says."""
+    def planned(self, job):
+        """How many syncs and writes the plan has."""
         lines = [line.split() for line in job.plan.read_text().splitlines()]
-        writes, syncs = sum(int(line[2]) for line in lines if len(line) == 3), lines.count(["sync"])
+        return lines.count(["sync"]), sum(int(line[2]) for line in lines if len(line) == 3)
+
+    def wrong_output(self, output, job):
+        """It must have synced and written what its plan says."""
+        syncs, writes = self.planned(job)
         return "" if output.startswith(f"writes {writes} syncs {syncs} ") else f"it did {output.strip()!r}"
 
 

@@ -8,6 +8,7 @@ import pathlib
 import shutil
 import signal
 import subprocess
+import sys
 
 DRIVERS = pathlib.Path(__file__).resolve().parent / "drivers"
 
@@ -16,10 +17,19 @@ class Failed(Exception):
     """A program ended otherwise than it should; the text says which and how."""
 
 
-def end_as_if_interrupted():
-    """Lets a signal that ends this program leave no folder, mount or loop device behind, as Ctrl-C does."""
+def end_with(name, main):
+    """Runs a program of this folder, and ends with its status, or with a line that says what failed.
+
+    A signal that ends it leaves no folder, mount or loop device behind, as Ctrl-C does.
+    """
     for number in (signal.SIGTERM, signal.SIGHUP):
         signal.signal(number, signal.default_int_handler)
+    try:
+        sys.exit(main())
+    except Failed as failed:
+        sys.exit(f"{name}: {failed}")
+    except KeyboardInterrupt:
+        sys.exit(f"{name}: it was interrupted")
 
 
 def succeed(command, what, **more):

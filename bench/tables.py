@@ -86,10 +86,11 @@ SHORT = (
 )
 
 
-def short_tables(results):
-    """The tables of all workloads, in Markdown: a row for each workload, and a column for each peer."""
+def short_tables(results, facts):
+    """What all workloads came to, in Markdown: a row for each, and a column for each peer, below a line on the machine."""
     names = list(dict.fromkeys(peer for one in results.values() for peer in one["peers"]))
-    tables = []
+    where = f"{facts['processors']} processors ({facts['processor']}), Linux {facts['system']}, load {facts['load']:.1f}"
+    tables = [f"Medians of {facts['runs']} runs, {facts['date'][:10]}: {where}.\n"]
     for head, cell in SHORT:
         lines = ["| " + " | ".join([head, *names]) + " |", "|---" * (len(names) + 1) + "|"]
         for workload, one in results.items():

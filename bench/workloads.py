@@ -117,7 +117,7 @@ def replacements(count, draw):
 MANY_NODES = floor_plan.Geometry(65536, 4096, 8192)
 LARGE = floor_plan.Geometry(131072, 4096, 64)
 SMALL = floor_plan.Geometry(8192, 4096, 64)
-SHORT = floor_plan.Geometry(8192, 256, 512)
+SHORT = floor_plan.Geometry(8192, 384, 512)
 
 WORKLOADS = {
     workload.name: workload
