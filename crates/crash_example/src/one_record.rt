@@ -23,7 +23,7 @@ use crash_argument::{
 use disk_contract::{Disk, DiskFault};
 
 /// The blocks of a record of one descriptor, one payload and one fresh block, and where they go.
-#[derive(Clone, Copy, Debug, PartialEq, Eq)]
+#[derive(Clone, Copy)]
 pub struct OneRecord {
     /// The block of the ring that the commit block goes to.
     pub commit_block: u32,
@@ -38,7 +38,7 @@ pub struct OneRecord {
 }
 
 /// What settles that record: two headers, and between them the write of the payload to its own block.
-#[derive(Clone, Copy, Debug, PartialEq, Eq)]
+#[derive(Clone, Copy)]
 pub struct Settling {
     /// The slot of the header that is durable before.
     pub slot: u32,

@@ -18,7 +18,7 @@ use std::alloc::Global;
 use std::marker::Model;
 
 /// What recovery finds in an image.
-#[derive(Debug, Drop)]
+#[derive(Drop)]
 pub struct Recovered {
     slot: u32,
     header: Header,

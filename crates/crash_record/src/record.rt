@@ -11,7 +11,7 @@ use std::alloc::Global;
 use std::marker::Model;
 
 /// A record of the journal: its number, the ring place at which it begins, and its entries.
-#[derive(Debug, Drop)]
+#[derive(Drop)]
 pub struct Record {
     number: u64,
     place: u32,
@@ -139,7 +139,7 @@ impl Eq for Record {
 }
 
 /// Records in the order of their numbers.
-#[derive(Debug, Drop)]
+#[derive(Drop)]
 pub struct RecordList {
     records: Vec<Record>,
 }

@@ -13,7 +13,7 @@ use std::error::Error;
 use std::fmt;
 
 /// A call of a disk failed, which the disk has counted.
-#[derive(Clone, Copy, Debug, PartialEq, Eq)]
+#[derive(Clone, Copy, Debug)]
 pub struct DiskFault;
 
 impl fmt::Display for DiskFault {

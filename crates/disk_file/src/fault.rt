@@ -4,7 +4,7 @@ use std::alloc::Global;
 use std::{fmt, io};
 
 /// What the system said when it refused a call.
-#[derive(Clone, Copy, Debug, Drop)]
+#[derive(Clone, Copy, Drop)]
 pub(crate) enum Refused {
     /// Of any call but a sync.
     Call(io::Error),

@@ -9,7 +9,7 @@ use std::os::unix::fs::MetadataExt;
 use std::rt::HostRuntime;
 
 /// What a file is opened for.
-#[derive(Clone, Copy, PartialEq, Eq)]
+#[derive(Clone, Copy)]
 pub(crate) enum Access {
     /// It is read, beside other programs that read it.
     Read,

@@ -5,7 +5,7 @@ ghost use Rattle.std.specs.Prelude.{◌≡◌, ◌&&◌, ◌==◌};
 ghost use Rattle.disk_memory.specs.MemDisk.{same_call, is_listed};
 
 /// A kind of call that may fail.
-#[derive(Clone, Copy, PartialEq, Eq)]
+#[derive(Clone, Copy)]
 pub enum DiskCall {
     Read,
     Write,

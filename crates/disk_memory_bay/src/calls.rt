@@ -5,7 +5,7 @@ ghost use Rattle.std.specs.List.{list_any};
 ghost use Rattle.disk_memory_bay.specs.MemBay.{same_call};
 
 /// A kind of call that may fail.
-#[derive(Clone, Copy, PartialEq, Eq)]
+#[derive(Clone, Copy)]
 pub enum BayCall {
     Make,
     Open,

@@ -2,7 +2,7 @@
 //! bookkeeping; what is known beyond numbers has no value here.
 
 /// What a map of blocks tells of itself in numbers.
-#[derive(Clone, Copy, Debug, PartialEq, Eq)]
+#[derive(Clone, Copy)]
 pub struct Figures {
     /// How many data blocks there are.
     pub area: u32,

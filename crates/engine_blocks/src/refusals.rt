@@ -5,7 +5,7 @@ use std::error::Error;
 use std::fmt;
 
 /// Why no list of numbers to take was given.
-#[derive(Clone, Copy, Debug, PartialEq, Eq)]
+#[derive(Clone, Copy, Debug)]
 pub enum LowestRefusal {
     /// Fewer numbers than asked for may be taken, and none waits to be so again.
     Short {
@@ -35,7 +35,7 @@ impl fmt::Display for LowestRefusal {
 impl Error for LowestRefusal {}
 
 /// Why a sync point wasn't made, or isn't known to be durable.
-#[derive(Clone, Copy, Debug, PartialEq, Eq)]
+#[derive(Clone, Copy, Debug)]
 pub enum SyncRefusal {
     /// A write, a poll or a wait of the disk failed, which the disk has counted.
     DiskFault,

@@ -9,7 +9,7 @@ use base_types::{Class, NoMemory};
 use std::alloc::Global;
 
 /// What the running transaction has of a block.
-#[derive(Clone, Copy, Debug, PartialEq, Eq)]
+#[derive(Clone, Copy)]
 pub enum Role {
     /// Nothing: it wasn't changed, or it was freed.
     Untouched,

@@ -14,7 +14,7 @@ use std::alloc::Global;
 use std::collections::HashMap;
 
 /// A payload: the number of its record, and its place among the record's payloads.
-#[derive(Clone, Copy, Debug, PartialEq, Eq)]
+#[derive(Clone, Copy)]
 pub struct Spot {
     pub number: u64,
     pub at: u32,

@@ -35,21 +35,21 @@ use layout_journal::Header;
 use std::collections::VecDeque;
 
 /// A header that was written and isn't known to be durable.
-#[derive(Clone, Copy, Debug, PartialEq, Eq)]
+#[derive(Clone, Copy)]
 pub struct Pending {
     pub header: Header,
     pub ticket: u64,
 }
 
 /// A checkpoint write of the batch.
-#[derive(Clone, Copy, Debug, PartialEq, Eq)]
+#[derive(Clone, Copy)]
 pub struct HomeWrite {
     pub block: u32,
     pub ticket: u64,
 }
 
 /// What was made ready for the next commit: so many records, writes and payloads more.
-#[derive(Clone, Copy, Debug, PartialEq, Eq)]
+#[derive(Clone, Copy)]
 pub struct Ready {
     pub records: u32,
     pub writes: u32,

@@ -20,7 +20,7 @@ use std::alloc::Global;
 use std::marker::Model;
 
 /// What was found on a disk that is to be mounted. `open` goes on from it.
-#[derive(Debug, Drop)]
+#[derive(Drop)]
 pub struct Found {
     run: Run,
     epoch: u64,

@@ -31,7 +31,7 @@ use std::alloc::Global;
 
 /// A mounted disk: the header with which the session begins, and its slot. The last record has the number
 /// `header.sure`.
-#[derive(Clone, Copy, Debug, PartialEq, Eq)]
+#[derive(Clone, Copy)]
 pub struct Mounted {
     pub slot: u32,
     pub header: Header,

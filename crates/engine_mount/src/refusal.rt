@@ -8,7 +8,7 @@ use std::error::Error;
 use std::fmt;
 
 /// Why a disk wasn't mounted.
-#[derive(Clone, Copy, Debug, PartialEq, Eq)]
+#[derive(Clone, Copy, Debug)]
 pub enum MountRefusal {
     /// Neither slot has a header.
     NoHeader,

@@ -28,7 +28,7 @@ use engine_recover::{
 use layout_journal::{Header, journal_blocks_keep_to_their_bounds, unescape};
 
 /// The newest header of a disk, which closes its run, and its slot.
-#[derive(Clone, Copy, Debug, PartialEq, Eq)]
+#[derive(Clone, Copy)]
 pub(crate) struct Closed {
     pub slot: u32,
     pub header: Header,

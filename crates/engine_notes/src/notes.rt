@@ -15,14 +15,14 @@ use std::collections::VecDeque;
 use std::marker::Model;
 
 /// An expected ticket.
-#[derive(Clone, Copy, Debug, PartialEq, Eq)]
+#[derive(Clone, Copy)]
 pub struct Note {
     pub ticket: u64,
     pub noticed: bool,
 }
 
 /// The tickets that are waited for.
-#[derive(Debug, Drop)]
+#[derive(Drop)]
 pub struct Notes {
     notes: VecDeque<Note>,
 }

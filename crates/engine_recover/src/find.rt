@@ -21,7 +21,7 @@ use std::fmt;
 use std::marker::Model;
 
 /// Why no run was found.
-#[derive(Clone, Copy, Debug, PartialEq, Eq)]
+#[derive(Clone, Copy, Debug)]
 pub enum RecoverRefusal {
     /// Neither slot has a header.
     NoHeader,
@@ -47,7 +47,7 @@ impl fmt::Display for RecoverRefusal {
 impl Error for RecoverRefusal {}
 
 /// What recovery finds on a disk.
-#[derive(Debug, Drop)]
+#[derive(Drop)]
 pub struct Run {
     slot: u32,
     header: Header,

@@ -14,7 +14,7 @@ use layout_geometry::Geom;
 const HEADERS: usize = 2;
 
 /// Why a search stopped before its end.
-#[derive(Clone, Copy, Debug, PartialEq, Eq)]
+#[derive(Clone, Copy)]
 pub enum Stop {
     /// A read failed, which the disk has counted.
     ReadFault,

@@ -12,7 +12,7 @@ use crate::numbers::Numbers;
 use std::collections::VecDeque;
 
 /// A freed block, and the number of the record that freed it.
-#[derive(Clone, Copy, Debug, PartialEq, Eq)]
+#[derive(Clone, Copy)]
 pub(crate) struct Freed {
     pub(crate) block: u32,
     pub(crate) number: u64,

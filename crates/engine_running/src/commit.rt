@@ -22,7 +22,7 @@ use std::alloc::Global;
 
 /// A transaction that is issued as a record: its number, its ring places, the tickets of its writes, its
 /// payloads ascending by block, and its fresh and freed blocks.
-#[derive(Debug, Drop)]
+#[derive(Drop)]
 pub struct Committed {
     pub number: u64,
     pub place: u32,
@@ -42,7 +42,7 @@ pub fn places_of(payloads: u32, fresh: u32) -> u32
 }
 
 /// The memory of a commit: room for the tickets of its writes, and the numbers of its fresh blocks.
-#[derive(Debug, Drop)]
+#[derive(Drop)]
 pub struct CommitRoom {
     tickets: Vec<u64>,
     fresh: Vec<u32>,

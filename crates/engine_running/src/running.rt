@@ -16,7 +16,7 @@ use std::marker::Model;
 
 /// The running transaction. Blocks whose bytes will go into the journal and blocks that were taken in it
 /// and will be written in place are kept apart, each ascending by their numbers.
-#[derive(Debug, Drop)]
+#[derive(Drop)]
 pub struct Running {
     pub(crate) paid: Vec<Put>,
     pub(crate) laid: Vec<Put>,

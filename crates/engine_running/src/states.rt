@@ -11,7 +11,7 @@ use crate::{Committed, Put};
 use engine_notes::Notes;
 
 /// None of the record's tickets is open.
-#[derive(Debug, Drop)]
+#[derive(Drop)]
 pub struct Durable {
     pub number: u64,
     pub place: u32,
@@ -22,7 +22,7 @@ pub struct Durable {
 }
 
 /// A durable header says that the record is durable.
-#[derive(Debug, Drop)]
+#[derive(Drop)]
 pub struct Sure {
     pub number: u64,
     pub place: u32,
@@ -33,7 +33,7 @@ pub struct Sure {
 }
 
 /// The record's payloads are at their blocks.
-#[derive(Debug, PartialEq, Eq, Drop)]
+#[derive(Drop)]
 pub struct Placed {
     pub number: u64,
     pub place: u32,
@@ -41,7 +41,7 @@ pub struct Placed {
 }
 
 /// A durable header starts past the record.
-#[derive(Debug, PartialEq, Eq, Drop)]
+#[derive(Drop)]
 pub struct Released {
     pub place: u32,
     pub count: u32,

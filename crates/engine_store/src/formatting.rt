@@ -26,7 +26,7 @@ use std::error::Error;
 use std::fmt;
 
 /// Why a disk wasn't formatted.
-#[derive(Clone, Copy, Debug, PartialEq, Eq)]
+#[derive(Clone, Copy, Debug)]
 pub enum MkfsRefusal {
     /// A write or a wait failed, which the disk has counted.
     DiskFault,
@@ -46,7 +46,7 @@ impl fmt::Display for MkfsRefusal {
 impl Error for MkfsRefusal {}
 
 /// What a row of blocks gets.
-#[derive(Clone, Copy, Debug, PartialEq, Eq)]
+#[derive(Clone, Copy)]
 enum Content {
     Zeros,
     /// What each block has on the formatted disk.

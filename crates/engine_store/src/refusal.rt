@@ -8,7 +8,7 @@ use std::error::Error;
 use std::fmt;
 
 /// Why a store wasn't opened.
-#[derive(Clone, Copy, Debug, PartialEq, Eq)]
+#[derive(Clone, Copy, Debug)]
 pub enum StoreRefusal {
     /// Neither slot has a header.
     NoHeader,

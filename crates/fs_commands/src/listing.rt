@@ -47,7 +47,7 @@ const ROOT: u32 = 1;
 const PIECE: u64 = 65536;
 
 /// Why a listing was refused.
-#[derive(Clone, Copy, Debug, PartialEq, Eq)]
+#[derive(Clone, Copy, Debug)]
 pub enum ListRefusal {
     /// A write, a poll or a wait of the disk failed before, and nothing is read any more.
     Stopped,

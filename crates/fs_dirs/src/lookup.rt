@@ -23,7 +23,7 @@ use layout_bytes::{NodeKind, SLOT_LENGTH};
 use layout_directory::a_name_has_its_first_place;
 
 /// Where a name stands in a directory.
-#[derive(Clone, Copy, Debug, PartialEq, Eq)]
+#[derive(Clone, Copy)]
 pub struct Found {
     /// The place of its slot, from 0 on.
     pub place: u32,

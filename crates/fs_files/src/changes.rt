@@ -14,7 +14,7 @@ use std::collections::BTreeMap;
 use std::marker::Model;
 
 /// The new bytes of a block, and what it holds.
-#[derive(Debug, Drop)]
+#[derive(Drop)]
 pub struct Changed {
     pub class: Class,
     pub bytes: BoxedBlock,

@@ -14,7 +14,7 @@ use engine_blocks::Blocks;
 use layout_node::NodeKind;
 
 /// What a node in use is, but for its bytes.
-#[derive(Clone, Copy, Debug, PartialEq, Eq)]
+#[derive(Clone, Copy)]
 pub struct FileFacts {
     pub kind: NodeKind,
     pub links: u32,

@@ -19,7 +19,7 @@ use std::marker::Model;
 
 /// The blocks of a node, in order, which contracts see as the list of their numbers. They are those of the
 /// draft as it was when they were looked up.
-#[derive(Debug, Drop)]
+#[derive(Drop)]
 pub struct NodeBlocks {
     places: Runs,
 }

@@ -25,7 +25,7 @@ use layout_node::{
 use std::alloc::Global;
 
 /// A node in use with the list of its blocks.
-#[derive(Debug, Drop)]
+#[derive(Drop)]
 pub(crate) struct OpenNode {
     pub kind: NodeKind,
     pub links: u32,

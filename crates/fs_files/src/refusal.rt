@@ -6,7 +6,7 @@ use std::error::Error;
 use std::fmt;
 
 /// Why a call on a file was refused. The draft isn't to be used any more then.
-#[derive(Clone, Copy, Debug, PartialEq, Eq)]
+#[derive(Clone, Copy, Debug)]
 pub enum FileRefusal {
     /// A read of the disk failed, which the disk has counted.
     ReadFault,

@@ -92,7 +92,7 @@ pub struct Stat {
 
 /// Why a command was refused. Each has a number, by which the trace names it. The tree alone refuses with 1 to
 /// 9 and 17; the others come from a file system over a disk.
-#[derive(Clone, Copy, Debug, PartialEq, Eq)]
+#[derive(Clone, Copy, Debug)]
 pub enum Refusal {
     /// 1: a name on the way isn't there.
     NotFound,

@@ -13,7 +13,7 @@ use std::error::Error;
 use std::fmt;
 
 /// The bit of a block is wrong: it's clear before the data, or set past the last block.
-#[derive(Clone, Copy, Debug, PartialEq, Eq)]
+#[derive(Clone, Copy, Debug)]
 pub struct BadBit {
     /// The number that the bit stands for: a block before the data, or a number past the last block.
     pub block: u32,

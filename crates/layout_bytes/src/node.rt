@@ -3,7 +3,7 @@
 use base_types::RunList;
 
 /// What a node stands for.
-#[derive(Clone, Copy, Debug, PartialEq, Eq)]
+#[derive(Clone, Copy)]
 pub enum NodeKind {
     /// Nothing: the node isn't in use.
     Free,
@@ -14,7 +14,7 @@ pub enum NodeKind {
 }
 
 /// A node: its kind, how many directory slots name it, its bytes, and the blocks that hold them.
-#[derive(Debug, PartialEq, Eq, Drop)]
+#[derive(Drop)]
 pub struct Node {
     pub kind: NodeKind,
     pub links: u32,

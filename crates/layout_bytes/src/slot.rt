@@ -8,7 +8,7 @@ use base_types::Name;
 pub const SLOT_LENGTH: usize = 64;
 
 /// An entry of a directory: a name, and the number of the node that it stands for.
-#[derive(Debug, PartialEq, Eq, Drop)]
+#[derive(Drop)]
 pub struct Slot {
     pub node: u32,
     pub name: Name,

@@ -23,7 +23,7 @@ pub(crate) const NAME_AT: usize = 5;
 type Text = ArrayVec<u8, SLOT_LENGTH>;
 
 /// The bytes are no slot's, or no directory block's with so many entries.
-#[derive(Clone, Copy, Debug, PartialEq, Eq)]
+#[derive(Clone, Copy, Debug)]
 pub struct BadSlot;
 
 impl fmt::Display for BadSlot {

@@ -11,7 +11,7 @@ const MOST_SLOTS: usize = 16;
 
 /// At most 16 slots, as a block of a directory has them, which contracts see as their list. They lie in
 /// the value itself, so they take no memory.
-#[derive(Debug, PartialEq, Eq, Drop)]
+#[derive(Drop)]
 pub struct Slots {
     slots: ArrayVec<Slot, MOST_SLOTS>,
 }

@@ -17,7 +17,7 @@ use std::marker::Model;
 const MOST_STRETCHES: u64 = MOST_RUNS as u64;
 
 /// A list would have more stretches of neighbours than the 28 that there is room for.
-#[derive(Clone, Copy, Debug, PartialEq, Eq)]
+#[derive(Clone, Copy, Debug)]
 pub struct Scattered {
     /// How many stretches it would have.
     pub runs: u64,
@@ -37,7 +37,7 @@ impl Error for Scattered {}
 
 /// A list of block numbers, each below 1,048,576, which contracts see as that list. It is kept as at
 /// most 28 runs in the value itself, so it takes no memory.
-#[derive(Debug, PartialEq, Eq, Drop)]
+#[derive(Drop)]
 pub struct Runs {
     list: RunList,
 }

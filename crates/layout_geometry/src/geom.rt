@@ -26,7 +26,7 @@ const NODES_IN_BLOCK: u32 = 4;
 pub const NODE_LENGTH: usize = 256;
 
 /// The numbers are no geometry: one is out of its range, or the areas don't fit.
-#[derive(Clone, Copy, Debug, PartialEq, Eq)]
+#[derive(Clone, Copy, Debug)]
 pub struct BadShape;
 
 impl fmt::Display for BadShape {
@@ -38,7 +38,7 @@ impl fmt::Display for BadShape {
 impl Error for BadShape {}
 
 /// The shape of a disk: so many blocks, journal blocks and nodes, within their limits.
-#[derive(Clone, Copy, Debug, PartialEq, Eq)]
+#[derive(Clone, Copy)]
 pub struct Geom {
     n: u32,
     j: u32,

@@ -6,7 +6,7 @@ use arrayvec::ArrayVec;
 use std::marker::Model;
 
 /// How a record carries a block.
-#[derive(Clone, Copy, Debug, PartialEq, Eq, Default)]
+#[derive(Clone, Copy, PartialEq, Eq, Default)]
 pub enum EntryKind {
     /// Its bytes are in the journal.
     #[default]
@@ -18,7 +18,7 @@ pub enum EntryKind {
 }
 
 /// A block that a record writes. The default one only fills places of `Entries` that aren't in use.
-#[derive(Clone, Copy, Debug, PartialEq, Eq, Default)]
+#[derive(Clone, Copy, PartialEq, Eq, Default)]
 pub struct Entry {
     /// The number of the block.
     pub block: u32,
@@ -35,7 +35,7 @@ pub const MOST_ENTRIES: usize = 24;
 
 /// At most 24 entries, as a descriptor has them, which contracts see as their list. They lie in the value
 /// itself, so they take no memory.
-#[derive(Debug, PartialEq, Eq, Drop)]
+#[derive(Drop)]
 pub struct Entries {
     entries: ArrayVec<Entry, MOST_ENTRIES>,
 }

@@ -12,7 +12,7 @@ use layout_bytes::{has_zeros, number_4};
 use layout_geometry::Geom;
 
 /// Why a block isn't one of the journal. A reader names the first that holds, in this order.
-#[derive(Clone, Copy, Debug, PartialEq, Eq)]
+#[derive(Clone, Copy)]
 pub enum BadRecord {
     /// It isn't sealed: it was never written, or not in whole.
     NotSealed,

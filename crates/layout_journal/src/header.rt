@@ -3,7 +3,7 @@
 use layout_geometry::Geom;
 
 /// What a header says of the journal and the disk.
-#[derive(Clone, Copy, Debug, PartialEq, Eq)]
+#[derive(Clone, Copy)]
 pub struct Header {
     /// Raised by each mount, so that records of earlier sessions can be distinguished.
     pub epoch: u64,

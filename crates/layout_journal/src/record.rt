@@ -3,7 +3,7 @@
 use crate::Entries;
 
 /// What a commit block says of its record.
-#[derive(Clone, Copy, Debug, PartialEq, Eq)]
+#[derive(Clone, Copy)]
 pub struct Commit {
     pub epoch: u64,
     /// The record's number.
@@ -15,7 +15,7 @@ pub struct Commit {
 }
 
 /// What one descriptor of a record says.
-#[derive(Debug, PartialEq, Eq, Drop)]
+#[derive(Drop)]
 pub struct Descriptor {
     pub epoch: u64,
     /// The record's number.

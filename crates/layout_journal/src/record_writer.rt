@@ -16,7 +16,7 @@ use std::marker::Model;
 
 /// A record of so many payloads and fresh blocks, of which some entries have come. Those of the descriptor
 /// that isn't complete are held.
-#[derive(Debug, Drop)]
+#[derive(Drop)]
 pub struct RecordWriter {
     epoch: u64,
     number: u64,

@@ -9,7 +9,7 @@ use layout_geometry::Geom;
 use std::marker::Model;
 
 /// The taken places of the ring, and where the next record will begin.
-#[derive(Clone, Copy, Debug, PartialEq, Eq)]
+#[derive(Clone, Copy)]
 pub struct Ring {
     geom: Geom,
     next: u32,

@@ -20,7 +20,7 @@ use std::error::Error;
 use std::fmt;
 
 /// The bytes are no node's: no node that fits the geometry is spelled so.
-#[derive(Clone, Copy, Debug, PartialEq, Eq)]
+#[derive(Clone, Copy, Debug)]
 pub struct BadNode;
 
 impl fmt::Display for BadNode {
