@@ -3,7 +3,7 @@ use Rattle.std.proofs.Common.{◌≡◌, ℕ, ◌+◌, ◌-◌, ◌/◌, ◌%◌
 use Rattle.std.specs.Int.{bit_at}
 use Rattle.std.proofs.lemmas.Bool.{ltb-true}
 use Rattle.std.proofs.lemmas.Nat.{mod_below}
-use Rattle.layout_journal.proofs.FitEntries.{fresh_below}
+use Rattle.layout_journal.proofs.FitEntries.{fresh_in_disk}
 use Rattle.base_types.specs.Seal.{Blocks, sha256}
 use Rattle.layout_geometry.specs.Geometry.{Geometry, ring_block, bitmap_start, data_start}
 use Rattle.layout_journal.specs.declared.header.Header.{Header}
@@ -39,7 +39,7 @@ whole_alike img other h r size alike w = record {
   commit = ap (commit_of h.geom) (sym (ring r.place)) ∙ w.commit;
   descriptors = λ i lt. ap (descriptor_of h.geom) (sym (ring (r.place + 1 + i))) ∙ w.descriptors i lt;
   payloads = λ i e is. subst (Fits e) (ring (r.place + heads r + i)) (w.payloads i e is);
-  fresh = λ past i e is. ap sha256 (sym (alike e.block (fresh_below h.geom r i e w.fit is))) ∙ w.fresh past i e is;
+  fresh = λ past i e is. ap sha256 (sym (alike e.block (fresh_in_disk h.geom r i e w.fit is).1)) ∙ w.fresh past i e is;
 }
   where
     ring : (p : ℕ) → img (ring_block h.geom p) ≡ other (ring_block h.geom p)

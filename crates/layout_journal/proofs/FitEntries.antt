@@ -29,13 +29,10 @@ fresh_in g ps (a ∷ es) zero e fit is =
     subst (λ (c : Entry). (data_start g ≤ c.block) × (c.block < g.n)) same (parts.low, parts.high)
 fresh_in g ps (a ∷ es) (suc i) e fit is = fresh_in g ps es i e (first_fresh g ps a es fit).others is
 
-pub fresh_data : (g : Geometry) (r : Record) (i : ℕ) (e : Entry) → IsTrue (entries_fit g r) → slice_get r.fresh i ≡ Some e → data_start g ≤ e.block
+-- fresh entries of a record that fits name data blocks
+pub fresh_in_disk : (g : Geometry) (r : Record) (i : ℕ) (e : Entry) → IsTrue (entries_fit g r) → slice_get r.fresh i ≡ Some e → (data_start g ≤ e.block) × (e.block < g.n)
 unfolding entries_fit
-fresh_data g r i e fit is = (fresh_in g r.payloads r.fresh i e (and_parts _ _ (and_parts _ _ fit).1).1 is).0
-
-pub fresh_below : (g : Geometry) (r : Record) (i : ℕ) (e : Entry) → IsTrue (entries_fit g r) → slice_get r.fresh i ≡ Some e → e.block < g.n
-unfolding entries_fit
-fresh_below g r i e fit is = (fresh_in g r.payloads r.fresh i e (and_parts _ _ (and_parts _ _ fit).1).1 is).1
+fresh_in_disk g r i e fit is = fresh_in g r.payloads r.fresh i e (and_parts _ _ (and_parts _ _ fit).1).1 is
 
 above : (low high : ℕ) (es : List Entry) (i : ℕ) (e : Entry) → are_ascending low high es ≡ true → slice_get es i ≡ Some e → (low ≤ e.block) × (e.block < high)
 above low high [] i e fit is = cc

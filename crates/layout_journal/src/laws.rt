@@ -64,7 +64,6 @@ pub fn descriptors_tell_the_entries()
 
 /// The entries of a record that fit name blocks of the disk: payloads those behind the journal, fresh
 /// entries data blocks, which ascend and are none of the payloads'.
-#[tactic(auto, using(crate::proofs::FitEntries::payload_in_disk, crate::proofs::FitEntries::fresh_data, crate::proofs::FitEntries::fresh_below, crate::proofs::FitEntries::fresh_ordered, crate::proofs::FitEntries::fresh_apart))]
 pub fn entries_that_fit_keep_to_the_disk()
     ensures payloads { (g : Geometry) (r : Record) (i : ℕ) (e : Entry) → IsTrue (entries_fit g r) → slice_get r.payloads i ≡ Some e
         → (bitmap_start g ≤ e.block) × (e.block < g.n) }
