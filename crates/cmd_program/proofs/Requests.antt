@@ -100,7 +100,7 @@ ends_so g b SourceFault left left_now told out source source_now sink sink_now s
 ends_so g b SinkFault left left_now told out source source_now sink sink_now some r fault no_source no_sink = no_sink fault
 ends_so g b Usage left left_now told out source source_now sink sink_now some r fault no_source no_sink = absurd r.reads
 ends_so g b BadTrace left left_now told out source source_now sink sink_now some r fault no_source no_sink = absurd r.reads
-ends_so g b Damaged left left_now told out source source_now sink sink_now some r fault no_source no_sink = absurd r.reads
+ends_so g b (Damaged damage) left left_now told out source source_now sink sink_now some r fault no_source no_sink = absurd r.reads
 ends_so g b Spent left left_now told out source source_now sink sink_now some r fault no_source no_sink = absurd r.reads
 ends_so g b NoPrefix left left_now told out source source_now sink sink_now some r fault no_source no_sink = absurd r.reads
 ends_so g b BadShape left left_now told out source source_now sink sink_now some r fault no_source no_sink = absurd r.reads
@@ -234,7 +234,7 @@ ends_crash : (answer : Result Found ReplayRefusal) (status : Status) (told out :
     → ¬ Rose sink sink_now → EndsReplay status
 ends_crash (Ok found) status told out source source_now sink sink_now e fault no_sink = ends_found found status told out source source_now sink sink_now e fault no_sink
 ends_crash (Err crash.Choice) status told out source source_now sink sink_now e fault no_sink = ends_so_behind EndsReplay BadChoice status choice_line told out source source_now sink sink_now tt e fault no_sink
-ends_crash (Err (crash.Damaged damage)) status told out source source_now sink sink_now e fault no_sink = ends_so_behind EndsReplay Damaged status damaged_line told out source source_now sink sink_now tt e fault no_sink
+ends_crash (Err (crash.Damaged damage)) status told out source source_now sink sink_now e fault no_sink = ends_so_behind EndsReplay (Damaged damage) status damaged_line told out source source_now sink sink_now tt e fault no_sink
 ends_crash (Err crash.Spent) status told out source source_now sink sink_now e fault no_sink = ends_so_behind EndsReplay Spent status spent_line told out source source_now sink sink_now tt e fault no_sink
 ends_crash (Err crash.NoMemory) status told out source source_now sink sink_now e fault no_sink = subst EndsReplay (sym e.0) tt
 
@@ -260,7 +260,7 @@ completes_show tells image status m s fault no_sink = by s.answer s.cause s.ends
     by : (answer : Result (Unit {0}) ShowRefusal) → HasShowCause answer m.bay m.bay_now → EndsShowing answer status s.between m.taken_now → EndsShow P status
     by (Ok x) cause e = subst (EndsShow P) (sym e.0) tt
     by (Err show.Fault) cause e = ends_so_behind (EndsShow P) DiskFault status disk_line s.between m.taken_now m.source m.source_now m.sink m.sink_now cause e fault no_sink
-    by (Err (show.Damaged damage)) cause e = ends_so_behind (EndsShow P) Damaged status damaged_line s.between m.taken_now m.source m.source_now m.sink m.sink_now tt e fault no_sink
+    by (Err (show.Damaged damage)) cause e = ends_so_behind (EndsShow P) (Damaged damage) status damaged_line s.between m.taken_now m.source m.source_now m.sink m.sink_now tt e fault no_sink
     by (Err show.Spent) cause e = ends_so_behind (EndsShow P) Spent status spent_line s.between m.taken_now m.source m.source_now m.sink m.sink_now tt e fault no_sink
     by (Err show.SinkFault) cause e = absurd (no_sink (subst (λ (x : Status). HasFault x m.source m.source_now m.sink m.sink_now) e.0 fault))
     by (Err show.NoMemory) cause e = subst (EndsShow P) (sym e.0) tt
@@ -299,7 +299,7 @@ completes_run tells image status m r fault no_source no_sink = by r.answer r.cau
     by (Ok script.SourceFault) cause (inr t) = absurd (no_sink (subst (λ (s : Status). HasFault s m.source m.source_now m.sink m.sink_now) t.0 fault))
     by (Ok script.LongInput) cause e = ends_so_behind (EndsRun P) LongInput status long_line r.between m.taken_now m.source m.source_now m.sink m.sink_now tt e fault no_sink
     by (Err run.Fault) cause e = ends_so_behind (EndsRun P) DiskFault status disk_line r.between m.taken_now m.source m.source_now m.sink m.sink_now cause e fault no_sink
-    by (Err (run.Damaged damage)) cause e = ends_so_behind (EndsRun P) Damaged status damaged_line r.between m.taken_now m.source m.source_now m.sink m.sink_now tt e fault no_sink
+    by (Err (run.Damaged damage)) cause e = ends_so_behind (EndsRun P) (Damaged damage) status damaged_line r.between m.taken_now m.source m.source_now m.sink m.sink_now tt e fault no_sink
     by (Err run.Spent) cause e = ends_so_behind (EndsRun P) Spent status spent_line r.between m.taken_now m.source m.source_now m.sink m.sink_now tt e fault no_sink
     by (Err run.SinkFault) cause e = absurd (no_sink (subst (λ (s : Status). HasFault s m.source m.source_now m.sink m.sink_now) e.0 fault))
     by (Err run.NoMemory) cause e = subst (EndsRun P) (sym e.0) tt

@@ -22,7 +22,7 @@ script_ends (Ok script.End) status told out sink sink_now t = t
 script_ends (Ok script.SourceFault) status told out sink sink_now t = behind SourceFault status source_line told out sink sink_now t
 script_ends (Ok script.LongInput) status told out sink sink_now t = behind LongInput status long_line told out sink sink_now t
 script_ends (Err run.Fault) status told out sink sink_now t = behind DiskFault status disk_line told out sink sink_now t
-script_ends (Err (run.Damaged damage)) status told out sink sink_now t = behind Damaged status damaged_line told out sink sink_now t
+script_ends (Err (run.Damaged damage)) status told out sink sink_now t = behind (Damaged damage) status damaged_line told out sink sink_now t
 script_ends (Err run.Spent) status told out sink sink_now t = behind Spent status spent_line told out sink sink_now t
 script_ends (Err run.SinkFault) status told out sink sink_now t = t
 script_ends (Err run.NoMemory) status told out sink sink_now t = t
@@ -82,7 +82,7 @@ script_fault tells image answer status old new before after out sink_now comes c
     by (Ok script.SourceFault) c s t = told SourceFault source_line (source_rose tells image old new before after c) s t
     by (Ok script.LongInput) c s t = told LongInput long_line tt s t
     by (Err run.Fault) c s t = told DiskFault disk_line tt s t
-    by (Err (run.Damaged damage)) c s t = told Damaged damaged_line tt s t
+    by (Err (run.Damaged damage)) c s t = told (Damaged damage) damaged_line tt s t
     by (Err run.Spent) c s t = told Spent spent_line tt s t
     by (Err run.SinkFault) c s t = subst Fault (sym t.0) (omega (arith, s, le))
     by (Err run.NoMemory) c s t = subst Fault (sym t.0) tt

@@ -119,7 +119,7 @@ abbrev pub EndsShow : Type 0 → Status → Type 0
 EndsShow bay_failed Done = ⊤
 EndsShow bay_failed NoMemory = ⊤
 EndsShow bay_failed DiskFault = bay_failed
-EndsShow bay_failed Damaged = ⊤
+EndsShow bay_failed (Damaged damage) = ⊤
 EndsShow bay_failed Spent = ⊤
 EndsShow bay_failed _ = ⊥
 
@@ -141,7 +141,7 @@ abbrev pub EndsRun : Type 0 → Status → Type 0
 EndsRun bay_failed Done = ⊤
 EndsRun bay_failed NoMemory = ⊤
 EndsRun bay_failed DiskFault = bay_failed
-EndsRun bay_failed Damaged = ⊤
+EndsRun bay_failed (Damaged damage) = ⊤
 EndsRun bay_failed Spent = ⊤
 EndsRun bay_failed LongInput = ⊤
 EndsRun bay_failed _ = ⊥

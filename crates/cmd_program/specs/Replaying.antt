@@ -33,7 +33,7 @@ EndsFound found status taken taken_now =
 abbrev pub EndsCrash : Result Found ReplayRefusal → Status → Option (List ℕ) → Option (List ℕ) → Type 0
 EndsCrash (Ok found) = EndsFound found
 EndsCrash (Err crash.Choice) = EndsBehind BadChoice choice_line
-EndsCrash (Err (crash.Damaged damage)) = EndsBehind Damaged damaged_line
+EndsCrash (Err (crash.Damaged damage)) = EndsBehind (Damaged damage) damaged_line
 EndsCrash (Err crash.Spent) = EndsBehind Spent spent_line
 EndsCrash (Err crash.NoMemory) = EndsSilent NoMemory
 

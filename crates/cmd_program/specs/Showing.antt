@@ -11,7 +11,7 @@ use Rattle.cmd_program.specs.declared.status.Status.TheVariants.{Done, NoMemory,
 abbrev pub EndsShowing : Result (Unit {0}) ShowRefusal → Status → Option (List ℕ) → Option (List ℕ) → Type 0
 EndsShowing (Ok x) = EndsSilent Done
 EndsShowing (Err show.Fault) = EndsBehind DiskFault disk_line
-EndsShowing (Err (show.Damaged damage)) = EndsBehind Damaged damaged_line
+EndsShowing (Err (show.Damaged damage)) = EndsBehind (Damaged damage) damaged_line
 EndsShowing (Err show.Spent) = EndsBehind Spent spent_line
 EndsShowing (Err show.SinkFault) = EndsSilent SinkFault
 EndsShowing (Err show.NoMemory) = EndsSilent NoMemory

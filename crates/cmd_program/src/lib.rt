@@ -13,6 +13,7 @@ mod showing;
 mod status;
 mod telling;
 
+pub use cmd_session::ImageDamage;
 pub use laws::{a_crash_of_a_recording_is_found, no_fault_is_made_where_nothing_fails};
 pub use program::optfs;
 pub use status::Status;

@@ -73,7 +73,7 @@ fn show_crash<K: Sink>(
     match cmd_replay::replay(alloc, trace, moment, choice) {
         Ok(found) => write_found(&found, out),
         Err(ReplayRefusal::Choice) => tell(out, CHOICE, Status::BadChoice),
-        Err(ReplayRefusal::Damaged { .. }) => tell(out, DAMAGED, Status::Damaged),
+        Err(ReplayRefusal::Damaged { damage }) => tell(out, DAMAGED, Status::Damaged(damage)),
         Err(ReplayRefusal::Spent) => tell(out, SPENT, Status::Spent),
         Err(ReplayRefusal::NoMemory) => Status::NoMemory,
     }

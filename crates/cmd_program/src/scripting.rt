@@ -39,7 +39,7 @@ fn end_script<K: Sink>(answer: Result<Ending, RunRefusal>, out: &mut K) -> Statu
         Ok(Ending::SourceFault) => tell(out, SOURCE, Status::SourceFault),
         Ok(Ending::LongInput) => tell(out, LONG, Status::LongInput),
         Err(RunRefusal::Fault) => tell(out, DISK, Status::DiskFault),
-        Err(RunRefusal::Damaged { .. }) => tell(out, DAMAGED, Status::Damaged),
+        Err(RunRefusal::Damaged { damage }) => tell(out, DAMAGED, Status::Damaged(damage)),
         Err(RunRefusal::Spent) => tell(out, SPENT, Status::Spent),
         Err(RunRefusal::SinkFault) => Status::SinkFault,
         Err(RunRefusal::NoMemory) => Status::NoMemory,

@@ -22,7 +22,7 @@ pub fn show<K: Sink, Y: Bay>(alloc: Global, image: &str, out: &mut K, bay: &mut 
     match show_tree(alloc, bay, image, out) {
         Ok(()) => Status::Done,
         Err(ShowRefusal::Fault) => tell(out, DISK, Status::DiskFault),
-        Err(ShowRefusal::Damaged { .. }) => tell(out, DAMAGED, Status::Damaged),
+        Err(ShowRefusal::Damaged { damage }) => tell(out, DAMAGED, Status::Damaged(damage)),
         Err(ShowRefusal::Spent) => tell(out, SPENT, Status::Spent),
         Err(ShowRefusal::SinkFault) => Status::SinkFault,
         Err(ShowRefusal::NoMemory) => Status::NoMemory,

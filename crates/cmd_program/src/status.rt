@@ -4,6 +4,8 @@
 ghost use Rattle.std.specs.Prelude.{◌≡◌};
 ghost use Rattle.cmd_program.specs.Statuses.{status_number};
 
+use cmd_session::ImageDamage;
+
 /// The end of a run. The process exits with its number.
 #[derive(Clone, Copy, Debug, PartialEq, Eq)]
 pub enum Status {
@@ -17,8 +19,8 @@ pub enum Status {
     NoMemory,
     /// 5: a call of the disk failed in the mount.
     DiskFault,
-    /// 6: the image stands for no tree.
-    Damaged,
+    /// 6: the image stands for no tree, since this is broken in it.
+    Damaged(ImageDamage),
     /// 7: the source of the input failed.
     SourceFault,
     /// 8: the sink of the output failed.
@@ -46,7 +48,7 @@ impl Status {
             Status::BadTrace => 3,
             Status::NoMemory => 4,
             Status::DiskFault => 5,
-            Status::Damaged => 6,
+            Status::Damaged(_) => 6,
             Status::SourceFault => 7,
             Status::SinkFault => 8,
             Status::Spent => 9,

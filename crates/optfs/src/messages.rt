@@ -34,6 +34,14 @@ pub(crate) fn say_why(
     match status {
         Status::Usage => say_usage(rt, words),
         Status::DiskFault if bay.why().is_some() => {}
+        Status::Damaged(damage) => {
+            let _ = match words {
+                [command, image] if command.as_str() != "replay" => {
+                    eprintln!(rt; "optfs: {image} stands for no tree: {damage}")
+                }
+                _ => eprintln!(rt; "optfs: the crash leaves no tree: {damage}"),
+            };
+        }
         Status::SourceFault => say_of(rt, "the input can't be read", streams.input_error),
         Status::SinkFault => say_of(rt, "the output can't be written", streams.output_error()),
         status => {
@@ -52,15 +60,16 @@ fn first_failed(streams: &Streams) -> Option<u64> {
 // What a status means that has nothing more to tell.
 fn meaning(status: Status) -> Option<&'static str> {
     match status {
-        Status::Done | Status::Usage | Status::SourceFault | Status::SinkFault => None,
+        Status::Done
+        | Status::Usage
+        | Status::Damaged(_)
+        | Status::SourceFault
+        | Status::SinkFault => None,
         Status::BadTrace => Some(
             "the input is no trace, as the line shows that standard output names",
         ),
         Status::NoMemory => Some("memory ran out"),
         Status::DiskFault => Some("the disk failed in the mount"),
-        Status::Damaged => Some(
-            "the image stands for no tree: it is damaged, or none of this program",
-        ),
         Status::Spent => Some(
             "the numbers of the image's journal are used up: copy its files to a new image",
         ),
