@@ -4,6 +4,7 @@
 ghost use Rattle.std.specs.Prelude.{◌≡◌};
 
 use crate::copy::ImageCopy;
+use crate::device::bytes_in;
 use crate::fault::Refused;
 use base_types::Block;
 use std::alloc::Global;
@@ -12,7 +13,7 @@ use std::io::{self, ErrorKind};
 use std::os::unix::fs::FileExt;
 
 /// The bytes of a block.
-const BLOCK: u64 = 1024;
+pub(crate) const BLOCK: u64 = 1024;
 
 /// How many bytes so many blocks have, which is where the block of this number begins.
 pub(crate) fn length_of(blocks: u32) -> u64 {
@@ -128,9 +129,9 @@ impl ImageBytes {
     }
 }
 
-// How many whole blocks a file has.
+// How many whole blocks a file or a device has.
 fn whole_blocks(file: &File) -> io::Result<u32> {
-    match u32::try_from(file.metadata()?.len() / BLOCK) {
+    match u32::try_from(bytes_in(file)? / BLOCK) {
         Ok(blocks) => Ok(blocks),
         Err(_) => Err(io::Error::from(ErrorKind::FileTooLarge)),
     }
@@ -138,7 +139,7 @@ fn whole_blocks(file: &File) -> io::Result<u32> {
 
 // Looks whether a file still has so many blocks.
 fn check_length(file: &File, blocks: u32) -> io::Result<()> {
-    if file.metadata()?.len() < length_of(blocks) {
+    if bytes_in(file)? < length_of(blocks) {
         let words = "It was cut short while it was in use";
         return Err(io::Error::new(ErrorKind::UnexpectedEof, words));
     }

@@ -6,6 +6,7 @@
 mod bay;
 mod bytes;
 mod copy;
+mod device;
 mod disk;
 mod fault;
 mod making;

@@ -1,7 +1,8 @@
-//! How the file of a new image is made, and what becomes of it where the image is finished or given up. It replaces no
-//! file that has bytes. Nothing here is in a contract.
+//! How the file of a new image is made, or a device taken for one, and what becomes of it where the image is finished or
+//! given up. It replaces no file that has bytes. Nothing here is in a contract.
 
 use crate::bytes::length_of;
+use crate::device::{device_at, is_device};
 use crate::opening::{Access, check_plain, check_same, lock, open};
 use std::fs::{self, File, OpenOptions};
 use std::io::{self, ErrorKind};
@@ -10,19 +11,68 @@ use std::rt::HostRuntime;
 
 /// What has to be known of a new image until it is finished.
 #[derive(Drop)]
-pub(crate) struct NewImage {
-    /// The folder in which it lies.
-    folder: File,
-    /// Whether an empty file was there before.
-    was_there: bool,
+pub(crate) enum NewImage {
+    /// It is in a plain file.
+    InFile {
+        /// The folder in which it lies.
+        folder: File,
+        /// Whether an empty file was there before.
+        was_there: bool,
+    },
+    /// It is on a block device.
+    OnDevice,
 }
 
-/// A file of so many blocks of zeros at a path, where nothing was, or an empty file.
+/// A file of so many blocks of zeros at a path, where nothing was, or an empty file; or the block device there, which has
+/// as many blocks and keeps what they hold until it is written over.
 ///
 /// # Errors
-/// What the system said; that another program has the file; that it isn't empty, or no plain file. What was at the path is
-/// as it was.
+/// What the system said; that another program has the file; that it isn't empty, or neither a plain file nor a device; that
+/// the device is in use, or has another number of blocks. What was at the path is as it was.
 pub(crate) fn new_image(rt: &HostRuntime, path: &str, blocks: u32) -> io::Result<(File, NewImage)> {
+    match fs::metadata(rt, path) {
+        Ok(there) if is_device(&there) => Ok((device_at(rt, path, blocks)?, NewImage::OnDevice)),
+        _ => new_file(rt, path, blocks),
+    }
+}
+
+impl NewImage {
+    /// Makes durable the file, with its length, and that it is in its folder; or the device.
+    ///
+    /// # Errors
+    /// What the system said.
+    pub(crate) fn finish(&self, file: &File) -> io::Result<()> {
+        file.sync_all()?;
+        match self {
+            NewImage::InFile { folder, .. } => folder.sync_all(),
+            NewImage::OnDevice => Ok(()),
+        }
+    }
+
+    /// Leaves nothing of the image: its file is gone, or empty where it was there before. A device keeps what was written,
+    /// which stands for no tree, as a formatting writes the header last.
+    pub(crate) fn give_up(&self, rt: &HostRuntime, path: &str, file: &File) {
+        match self {
+            NewImage::OnDevice => {}
+            NewImage::InFile {
+                was_there: true,
+                ..
+            } => {
+                let _ = file.set_len(0);
+            }
+            NewImage::InFile { .. } => {
+                if let Ok(there) = fs::symlink_metadata(rt, path) {
+                    if check_same(file, &there).is_ok() {
+                        let _ = fs::remove_file(rt, path);
+                    }
+                }
+            }
+        }
+    }
+}
+
+// A file of so many blocks of zeros at a path, where nothing was, or an empty file.
+fn new_file(rt: &HostRuntime, path: &str, blocks: u32) -> io::Result<(File, NewImage)> {
     let mut options = OpenOptions::new();
     options.read(true);
     let folder = open(rt, folder_of(path), &options)?;
@@ -32,7 +82,7 @@ pub(crate) fn new_image(rt: &HostRuntime, path: &str, blocks: u32) -> io::Result
         Err(why) if why.kind() == ErrorKind::AlreadyExists => (open_there(rt, path)?, true),
         Err(why) => return Err(why),
     };
-    let image = NewImage { folder, was_there };
+    let image = NewImage::InFile { folder, was_there };
     if let Err(why) = claim(rt, path, &file) {
         // a file that was there isn't touched, nor one that another program took meanwhile
         let is_ours = !was_there && why.kind() != ErrorKind::ResourceBusy;
@@ -50,30 +100,6 @@ pub(crate) fn new_image(rt: &HostRuntime, path: &str, blocks: u32) -> io::Result
     }
 }
 
-impl NewImage {
-    /// Makes durable the file, with its length, and that it is in its folder.
-    ///
-    /// # Errors
-    /// What the system said.
-    pub(crate) fn finish(&self, file: &File) -> io::Result<()> {
-        file.sync_all()?;
-        self.folder.sync_all()
-    }
-
-    /// Leaves nothing of the image: its file is gone, or empty where it was there before.
-    pub(crate) fn give_up(&self, rt: &HostRuntime, path: &str, file: &File) {
-        if self.was_there {
-            let _ = file.set_len(0);
-            return;
-        }
-        if let Ok(there) = fs::symlink_metadata(rt, path) {
-            if check_same(file, &there).is_ok() {
-                let _ = fs::remove_file(rt, path);
-            }
-        }
-    }
-}
-
 // Opens the plain file at a path, to which no link leads.
 fn open_there(rt: &HostRuntime, path: &str) -> io::Result<File> {
     check_plain(&fs::symlink_metadata(rt, path)?)?;
@@ -85,7 +111,9 @@ fn open_there(rt: &HostRuntime, path: &str) -> io::Result<File> {
 // Locks a file, which must be empty, and the one at the path.
 fn claim(rt: &HostRuntime, path: &str, file: &File) -> io::Result<()> {
     lock(file, Access::Write)?;
-    check_same(file, &fs::symlink_metadata(rt, path)?)?;
+    let there = fs::symlink_metadata(rt, path)?;
+    check_plain(&there)?;
+    check_same(file, &there)?;
     if file.metadata()?.len() == 0 {
         return Ok(());
     }

@@ -1,6 +1,7 @@
 //! How the file of an image is opened, and locked until it is closed. Nothing here is in a contract. How a new image is
 //! made is in the module of the making, and what is read from a file and written to it in that of the bytes.
 
+use crate::device::{check_free, is_device};
 use crate::fault::Refused;
 use std::fs::{self, File, Metadata, OpenOptions, TryLockError};
 use std::io::{self, ErrorKind};
@@ -17,20 +18,26 @@ pub(crate) enum Access {
     Write,
 }
 
-/// Opens the plain file at a path, to which links may lead. Where it is opened for writing, all that an earlier program
-/// wrote to it is durable then.
+/// Opens the plain file or the block device at a path, to which links may lead. Where it is opened for writing, all that
+/// an earlier program wrote to it is durable then, and a device is in no other use.
 ///
 /// # Errors
-/// What the system said; that another program has the file; that the path leads to another file by now, or to no plain one.
+/// What the system said; that another program has the file; that the path leads to another file by now, or to one of
+/// another kind; that a device is in use.
 pub(crate) fn open_image(rt: &HostRuntime, path: &str, access: Access) -> Result<File, Refused> {
-    // a pipe or a device isn't even opened
-    check_plain(&fs::metadata(rt, path)?)?;
+    // a pipe or a terminal isn't even opened
+    check_kind(&fs::metadata(rt, path)?)?;
     let mut options = OpenOptions::new();
     options.read(true).write(access == Access::Write);
     let file = open(rt, path, &options)?;
     lock(&file, access)?;
-    check_same(&file, &fs::metadata(rt, path)?)?;
+    let there = fs::metadata(rt, path)?;
+    check_kind(&there)?;
+    check_same(&file, &there)?;
     if access == Access::Write {
+        if is_device(&there) {
+            check_free(rt, &there)?;
+        }
         file.sync_data().map_err(Refused::Sync)?;
     }
     Ok(file)
@@ -71,14 +78,24 @@ pub(crate) fn lock(file: &File, access: Access) -> io::Result<()> {
 /// Holds an open file against what is known of the one that a path leads to.
 ///
 /// # Errors
-/// What the system said, or that they aren't the same plain file.
+/// What the system said, or that they aren't the same.
 pub(crate) fn check_same(file: &File, there: &Metadata) -> io::Result<()> {
-    check_plain(there)?;
     let opened = file.metadata()?;
     if opened.dev() == there.dev() && opened.ino() == there.ino() {
         return Ok(());
     }
     Err(busy("Another file took its place"))
+}
+
+/// Looks whether it is a plain file or a block device.
+///
+/// # Errors
+/// That it is neither.
+fn check_kind(there: &Metadata) -> io::Result<()> {
+    if is_device(there) {
+        return Ok(());
+    }
+    check_plain(there)
 }
 
 /// Looks whether it is a plain file.
@@ -92,7 +109,7 @@ pub(crate) fn check_plain(there: &Metadata) -> io::Result<()> {
     Err(io::Error::new(ErrorKind::InvalidInput, "Not a plain file"))
 }
 
-// What is said of a file that others have in their hands.
-fn busy(words: &str) -> io::Error {
+/// What is said of a file that others have in their hands.
+pub(crate) fn busy(words: &str) -> io::Error {
     io::Error::new(ErrorKind::ResourceBusy, words)
 }
