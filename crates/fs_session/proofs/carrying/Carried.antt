@@ -39,64 +39,29 @@ use Rattle.fs_session.specs.Space.{ArePlaced}
 use Rattle.fs_session.specs.Staying.{session_stays, session_settles, between_stays, freed_alike}
 
 -- What a draft that is made leaves of the bookkeeping, and one that isn't.
-pub record LeavesRest (s t : State) : Type 0 where
-  pub geom : t.books.geom ≡ s.books.geom
-  pub room : t.books.room ≡ s.books.room
-  pub area : t.books.area ≡ s.books.area
-  pub point : t.books.point ≡ s.books.point
-  pub floor : t.books.floor ≡ s.books.floor
-  pub turns : t.books.turns ≡ s.books.turns
-  pub stopped : t.books.stopped ≡ s.books.stopped
-  pub owed : t.books.owed ≡ s.books.owed
-  pub free_places : t.books.free_places ≡ s.books.free_places
+pub record LeavesRest (k l : Bookkeeping) : Type 0 where
+  pub geom : l.geom ≡ k.geom
+  pub room : l.room ≡ k.room
+  pub area : l.area ≡ k.area
+  pub point : l.point ≡ k.point
+  pub floor : l.floor ≡ k.floor
+  pub turns : l.turns ≡ k.turns
+  pub stopped : l.stopped ≡ k.stopped
+  pub owed : l.owed ≡ k.owed
+  pub free_places : l.free_places ≡ k.free_places
 
-pub made_rests : (tells : Bool) (d : DraftState) (cost : ℕ) (s t : State) → IsCarriedOut tells d cost s t → LeavesRest s t
-made_rests tells d cost s t h = record {
-  geom = ap (λ (b : Bookkeeping). b.geom) h.same;
-  room = ap (λ (b : Bookkeeping). b.room) h.same;
-  area = ap (λ (b : Bookkeeping). b.area) h.same;
-  point = ap (λ (b : Bookkeeping). b.point) h.same;
-  floor = ap (λ (b : Bookkeeping). b.floor) h.same;
-  turns = ap (λ (b : Bookkeeping). b.turns) h.same;
-  stopped = ap (λ (b : Bookkeeping). b.stopped) h.same;
-  owed = ap (λ (b : Bookkeeping). b.owed) h.same;
-  free_places = ap (λ (b : Bookkeeping). b.free_places) h.same;
-}
+pub made_rests : (tells : Bool) (d : DraftState) (cost : ℕ) (s t : State) → IsCarriedOut tells d cost s t → LeavesRest s.books t.books
+made_rests tells d cost s t h = subst (LeavesRest s.books) (sym h.same) assumption
 
-pub kept_rests : (tells : Bool) (s t : State) → KeepsBlocks tells s t → LeavesRest s t
-kept_rests tells s t h = record {
-  geom = ap (λ (b : Bookkeeping). b.geom) h.books;
-  room = ap (λ (b : Bookkeeping). b.room) h.books;
-  area = ap (λ (b : Bookkeeping). b.area) h.books;
-  point = ap (λ (b : Bookkeeping). b.point) h.books;
-  floor = ap (λ (b : Bookkeeping). b.floor) h.books;
-  turns = ap (λ (b : Bookkeeping). b.turns) h.books;
-  stopped = ap (λ (b : Bookkeeping). b.stopped) h.books;
-  owed = ap (λ (b : Bookkeeping). b.owed) h.books;
-  free_places = ap (λ (b : Bookkeeping). b.free_places) h.books;
-}
+pub kept_rests : (tells : Bool) (s t : State) → KeepsBlocks tells s t → LeavesRest s.books t.books
+kept_rests tells s t h = subst (LeavesRest s.books) (sym h.books) assumption
 
 -- a command that only looked, or whose pipeline settled
 pub runs_settled : (tells read_failed failed : Bool) (s t : State) → LooksAndSettles tells read_failed failed s t → RunsCommand tells read_failed failed s t
-runs_settled tells read_failed failed s t h = record {
-  geom = h.pipeline.geom;
-  room = h.pipeline.room;
-  area = h.pipeline.area;
-  point = h.pipeline.point;
-  floor = h.pipeline.floor;
-  free_places = h.pipeline.free_places;
-  turns = h.pipeline.turns;
-  stopped = h.stopped;
-  read_faults = h.read_faults;
-  faults = h.faults;
-  waits = h.waits;
-  ticks = h.ticks;
-  crash = h.crash;
-  writes = h.writes;
-}
+runs_settled tells read_failed failed s t h = assumption
 
 -- one whose draft was made or not, behind that
-pub runs_behind : (tells : Bool) (s t u : State) → LooksAndSettles tells false false s t → LeavesRest t u → LeavesDisk tells t u → (IsTrue tells → Advances s u) → RunsCommand tells false false s u
+pub runs_behind : (tells : Bool) (s t u : State) → LooksAndSettles tells false false s t → LeavesRest t.books u.books → LeavesDisk tells t u → (IsTrue tells → Advances s u) → RunsCommand tells false false s u
 runs_behind tells s t u h rest disk advances = record {
   geom = rest.geom ∙ h.pipeline.geom;
   room = rest.room ∙ h.pipeline.room;
@@ -256,7 +221,7 @@ carried_refusal tells cmd start mid new d cost first why plans refused kept disk
   runs = counted refused (runs_behind tells start mid new plans.settles rest disk advances);
 }
   where
-    rest : LeavesRest mid new
+    rest : LeavesRest mid.books new.books
     rest = kept_rests tells mid new kept
 
     again : ServesAllOrNone start.books mid.books → ServesAllOrNone start.books (record mid.books { spare = new.books.spare })
