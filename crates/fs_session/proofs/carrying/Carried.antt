@@ -1,7 +1,7 @@
 -- A plan carried out: what becomes of the session, and of the bookkeeping.
 use Rattle.std.proofs.lemmas.Bool.{lt-ltb, ltb-true, ltb-false, cases_Bool}
 use Rattle.std.proofs.Math.Seq.{take-append_seam}
-use Rattle.std.proofs.Common.{◌≡◌, ◌⊎◌, inl, inr, ℕ, ◌+◌, nat_lt, Bool, true, false, not, ◌&&◌, ◌||◌, IsTrue, List, ◌++◌, take, length, Ok, Err, refl, sym, subst, ap, ap₂, ◌∙◌, arith}
+use Rattle.std.proofs.Common.{⊎_elim, ◌≡◌, ◌⊎◌, inl, inr, ℕ, ◌+◌, nat_lt, Bool, false, not, ◌&&◌, ◌||◌, IsTrue, List, ◌++◌, take, length, Ok, Err, refl, sym, subst, ap, ap₂, ◌∙◌, arith}
 use Rattle.disk_contract.specs.Disk.{writes_in}
 use Rattle.layout_geometry.specs.Geometry.{Geometry, bitmap_blocks}
 use Rattle.lang_tree.specs.declared.command.Cmd.{Cmd}
@@ -81,11 +81,9 @@ runs_behind tells s t u h rest disk advances = record {
 
 -- a weight to which a cost comes
 weighed : (w c : ℕ) → (nat_lt 0 w || nat_lt 0 c) ≡ nat_lt 0 (w + c)
-weighed w c = by (cases_Bool (nat_lt 0 w))
-  where
-    by : (nat_lt 0 w ≡ true) ⊎ (nat_lt 0 w ≡ false) → (nat_lt 0 w || nat_lt 0 c) ≡ nat_lt 0 (w + c)
-    by (inl t) = ap (λ b. b || nat_lt 0 c) t ∙ sym (lt-ltb 0 (w + c) (omega (arith, ltb-true 0 w t)))
-    by (inr n) = ap (λ b. b || nat_lt 0 c) n ∙ ap (λ k. nat_lt 0 k) {x = c} {y = w + c} (omega (arith, ltb-false 0 w n))
+weighed w c = ⊎_elim
+    (λ t. ap (λ b. b || nat_lt 0 c) t ∙ sym (lt-ltb 0 (w + c) (omega (arith, ltb-true 0 w t))))
+    (λ n. ap (λ b. b || nat_lt 0 c) n ∙ ap (λ k. nat_lt 0 k) {x = c} {y = w + c} (omega (arith, ltb-false 0 w n))) (cases_Bool (nat_lt 0 w))
 
 -- The blocks of a draft that is made stand for the tree of its inode map.
 pub tree_of_draft : (tells : Bool) (d : DraftState) (cost : ℕ) (s t : State) (tree : Tree) → IsTrue tells → IsCarriedOut tells d cost s t → AreSound s.books.geom s.map

@@ -62,11 +62,9 @@ awaits_since old mid new told point first then p t waits = by (then.awaits p t w
 
 -- a tick, which made no point, makes none wait
 still_awaits : (old mid : State) → IsTold mid → mid.books.point ≡ old.books.point → Advances old mid → (p t : ℕ) → mid.crash.awaits p t → old.crash.awaits p t
-still_awaits old mid told point first p t waits = by (first.awaits p t waits)
-  where
-    by : old.crash.awaits p t ⊎ AwaitsSince old p t → old.crash.awaits p t
-    by (inl was) = was
-    by (inr since) = absurd (omega (arith, since.point, (told.awaits p t waits).upto, point))
+still_awaits old mid told point first p t waits = ⊎_elim
+    (λ was. was)
+    (λ since. absurd (omega (arith, since.point, (told.awaits p t waits).upto, point))) (first.awaits p t waits)
 
 -- nothing settles for what is refused for want of room
 abbrev pub SettlesNoneFor : Geometry → Session → RoomOn → RoomOn → Cmd → Reply → Type 0

@@ -51,18 +51,14 @@ tick_failed g f r cmd good = inr (because.DiskFault, inl refl, refl, refl, refl)
 
 -- what a sync leaves of the weight and the held blocks
 weight_after : (r : Running) → (if r.weight == 0 then r else nothing_running).weight ≡ 0
-weight_after r = by (cases_Bool (r.weight == 0))
-  where
-    by : ((r.weight == 0) ≡ true) ⊎ ((r.weight == 0) ≡ false) → (if r.weight == 0 then r else nothing_running).weight ≡ 0
-    by (inl none) = ap (λ (k : Running). k.weight) (cond-true (r.weight == 0) r nothing_running none) ∙ eqb-true r.weight 0 none
-    by (inr some) = ap (λ (k : Running). k.weight) (cond-false (r.weight == 0) r nothing_running some)
+weight_after r = ⊎_elim
+    (λ none. ap (λ (k : Running). k.weight) (cond-true (r.weight == 0) r nothing_running none) ∙ eqb-true r.weight 0 none)
+    (λ some. ap (λ (k : Running). k.weight) (cond-false (r.weight == 0) r nothing_running some)) (cases_Bool (r.weight == 0))
 
 held_after : (r : Running) → (if r.weight == 0 then r else nothing_running).held ≡ (if r.weight == 0 then r.held else 0)
-held_after r = by (cases_Bool (r.weight == 0))
-  where
-    by : ((r.weight == 0) ≡ true) ⊎ ((r.weight == 0) ≡ false) → (if r.weight == 0 then r else nothing_running).held ≡ (if r.weight == 0 then r.held else 0)
-    by (inl none) = ap (λ (k : Running). k.held) (cond-true (r.weight == 0) r nothing_running none) ∙ sym (cond-true (r.weight == 0) r.held 0 none)
-    by (inr some) = ap (λ (k : Running). k.held) (cond-false (r.weight == 0) r nothing_running some) ∙ sym (cond-false (r.weight == 0) r.held 0 some)
+held_after r = ⊎_elim
+    (λ none. ap (λ (k : Running). k.held) (cond-true (r.weight == 0) r nothing_running none) ∙ sym (cond-true (r.weight == 0) r.held 0 none))
+    (λ some. ap (λ (k : Running). k.held) (cond-false (r.weight == 0) r nothing_running some) ∙ sym (cond-false (r.weight == 0) r.held 0 some)) (cases_Bool (r.weight == 0))
 
 module _ {S : Type 0} (tells : Bool) (state : S → State) (known : Known tells state) where
   -- a session's room came back to itself

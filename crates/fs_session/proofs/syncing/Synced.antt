@@ -1,6 +1,6 @@
 -- What a sync makes of the session: a point where something changed, and nothing where nothing did.
 use Rattle.std.proofs.lemmas.Bool.{ltb-true, ltb-false, eq-eqb, ne_eqb, cond-true, cond-false, cases_eq, true≢false, false≢true}
-use Rattle.std.proofs.Common.{◌≡◌, ◌≢◌, ◌⊎◌, inl, inr, ⊎_elim, ℕ, ◌+◌, ◌^◌, ◌≤◌, ◌<◌, ◌==◌, nat_lt, Bool, true, false, IsTrue, zero, suc, is_err, Result, Ok, Err, refl, sym, subst, ap, ◌∙◌, arith}
+use Rattle.std.proofs.Common.{◌≡◌, inl, inr, ⊎_elim, ℕ, ◌+◌, ◌^◌, ◌≤◌, ◌<◌, ◌==◌, nat_lt, Bool, true, false, IsTrue, zero, suc, is_err, Result, Ok, Err, refl, sym, subst, ap, ◌∙◌, arith}
 use Rattle.disk_contract.specs.Disk.{GrowsByWrites}
 use Rattle.layout_geometry.specs.Geometry.{Geometry}
 use Rattle.lang_tree.specs.declared.command.Cmd.{Cmd}
@@ -27,11 +27,9 @@ use Rattle.fs_session.specs.Staying.{tree_stays, session_stays, between_stays}
 
 -- one point more comes at most
 one_more : (k l : Bookkeeping) → IsAfterSync k l → l.point ≤ k.point + 1
-one_more k l after = by (cases_eq k.running.weight 0)
-  where
-    by : (k.running.weight ≡ 0) ⊎ (k.running.weight ≢ 0) → l.point ≤ k.point + 1
-    by (inl none) = omega (arith, after.point, cond-true {A = ℕ} (k.running.weight == 0) 0 1 (eq-eqb k.running.weight 0 none))
-    by (inr some) = omega (arith, after.point, cond-false {A = ℕ} (k.running.weight == 0) 0 1 (ne_eqb k.running.weight 0 some))
+one_more k l after = ⊎_elim
+    (λ none. omega (arith, after.point, cond-true {A = ℕ} (k.running.weight == 0) 0 1 (eq-eqb k.running.weight 0 none)))
+    (λ some. omega (arith, after.point, cond-false {A = ℕ} (k.running.weight == 0) 0 1 (ne_eqb k.running.weight 0 some))) (cases_eq k.running.weight 0)
 
 module _ (tells : Bool) (old new : State) (f : Session) (p : ℕ) (told : IsTrue tells) (going : old.books.stopped ≡ false) (syncs : Syncs tells (Ok p) old new) (below : p < 2 ^ 64) (h : IsSession old f) where
   -- the session after the sync is one of the blocks
