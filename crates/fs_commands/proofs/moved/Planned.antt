@@ -16,9 +16,9 @@ use Rattle.crash_stands.specs.Inodes.{Inodes, ADir}
 use Rattle.crash_stands.specs.Maps.{IsMapOf}
 use Rattle.crash_stands.specs.Walks.{LeadsTo}
 use Rattle.fs_inodes.specs.Changes.{MovesSlot}
-use Rattle.fs_inodes.specs.Figures.{cost, cost_by, move_cost, slots_above, blocks_lost}
+use Rattle.fs_inodes.specs.Figures.{cost_by, move_cost, slots_above, blocks_lost}
 use Rattle.fs_inodes.specs.Lookups.{number_at}
-use Rattle.fs_inodes.specs.Refusals.{reason, rename_reason}
+use Rattle.fs_inodes.specs.Refusals.{rename_reason}
 use Rattle.fs_inodes.specs.Replies.{reply_by}
 use Rattle.engine_blocks.specs.State.{Bookkeeping, State, reusable_blocks}
 use Rattle.fs_files.specs.Calls.{files_in, places_in}

@@ -6,7 +6,7 @@ use Rattle.lang_tree.specs.Conditions.{refusal}
 use Rattle.lang_tree.specs.Figures.{Figures, figures, removing, release}
 use Rattle.lang_tree.specs.Step.{Session}
 use Rattle.crash_stands.specs.Maps.{IsMapOf}
-use Rattle.fs_inodes.specs.Figures.{cost, cost_by}
+use Rattle.fs_inodes.specs.Figures.{cost_by}
 use Rattle.fs_inodes.specs.Refusals.{reason}
 use Rattle.engine_blocks.specs.State.{Bookkeeping, State, reusable_blocks}
 use Rattle.fs_files.specs.Calls.{files_in, places_in}

@@ -4,7 +4,7 @@ use Rattle.std.specs.Ordering.{nat_cmp}
 use Rattle.std.specs.Cmp.Lexicographic.{slice_cmp}
 use Rattle.layout_bytes.specs.declared.slot.Slot.{Slot}
 use Rattle.lang_tree.specs.declared.command.Reply.TheVariants.{Names as NamesReply}
-use Rattle.fs_files.specs.Calls.{is_dir, files_in}
+use Rattle.fs_files.specs.Calls.{files_in}
 use Rattle.fs_files.specs.Content.{fails_reading}
 use Rattle.fs_files.specs.Effects.{LooksOnly}
 use Rattle.fs_files.specs.Drafts.{nothing_drafted}

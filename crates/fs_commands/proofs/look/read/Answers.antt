@@ -1,6 +1,6 @@
-use Rattle.std.proofs.Common.{◌≡◌, ℕ, List, false, Some, IfOk, take, drop, sym, subst, ap, ◌∙◌}
+use Rattle.std.proofs.Common.{◌≡◌, ℕ, List, Some, IfOk, take, drop, sym, subst, ap, ◌∙◌}
 use Rattle.lang_tree.specs.declared.command.Reply.TheVariants.{Bytes}
-use Rattle.fs_files.specs.Calls.{files_in, facts_of, is_dir}
+use Rattle.fs_files.specs.Calls.{files_in, facts_of}
 use Rattle.fs_files.specs.Content.{fails_reading}
 use Rattle.fs_files.specs.Effects.{LooksOnly}
 use Rattle.fs_files.specs.Drafts.{nothing_drafted}

@@ -1,4 +1,4 @@
-use Rattle.std.proofs.Common.{Ok, None, Some, option_map, sym, ◌∙◌, IsTrue, true, false, ◌≡◌}
+use Rattle.std.proofs.Common.{Ok, None, Some, option_map, sym, ◌∙◌, IsTrue, false, ◌≡◌}
 use Rattle.fs_files.specs.Calls.{files_in}
 use Rattle.fs_files.specs.Drafts.{nothing_drafted}
 use Rattle.fs_commands.specs.declared.paths.Entry.{Entry}
