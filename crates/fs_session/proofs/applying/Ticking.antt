@@ -5,7 +5,6 @@ use Rattle.disk_contract.specs.Disk.{Grows}
 use Rattle.lang_tree.specs.declared.command.Cmd.{Cmd}
 use Rattle.lang_tree.specs.declared.command.Cmd.TheVariants.{Osync, Dsync, Durable, Poll}
 use Rattle.lang_tree.specs.declared.command.Refusal.{Refusal}
-use Rattle.lang_tree.specs.declared.command.Refusal.TheVariants as because
 use Rattle.lang_tree.specs.declared.command.Reply.{Reply}
 use Rattle.engine_blocks.specs.Effects.{Ticked}
 use Rattle.engine_blocks.specs.State.{State, Ticking}
